@@ -1,0 +1,53 @@
+// A reader of the standard library as a source.
+
+ghost use Rattle.std.specs.Prelude.{◌≡◌, false};
+
+use crate::device::{Failed, INTERRUPTIONS, Source};
+use std::io::{ErrorKind, Read};
+
+/// A reader of the standard library. It gives just the bytes that the reader inside gives. A read
+/// that is interrupted is tried again, 1,000 times in all; the next interruption and any other error
+/// are a failure, and after a failure the reader inside is not asked again.
+#[derive(Drop)]
+pub struct FromRead<R: Read + Drop> {
+    inner: R,
+    tries: u16,
+    failed: bool,
+}
+
+impl<R: Read + Drop> FromRead<R> {
+    /// A reader that has not failed, over the one inside.
+    pub fn new(inner: R) -> Self
+        ensures bytes { ⟦<FromRead<R> as Source>⟧.left result ≡ R.remaining inner }
+        ensures fresh { ⟦<FromRead<R> as Source>⟧.has_failed result ≡ false }
+    {
+        FromRead {
+            inner,
+            tries: INTERRUPTIONS,
+            failed: false,
+        }
+    }
+}
+
+impl<R: Read + Drop> Source for FromRead<R> {
+    ghost left = { λ reader. R.remaining reader.inner };
+
+    ghost has_failed = { λ reader. reader.failed };
+
+    fn read(&mut self, into: &mut [u8]) -> Result<usize, Failed> {
+        while !self.failed {
+            match self.inner.read(into) {
+                Ok(count) => return Ok(count),
+                Err(error) if error.kind() == ErrorKind::Interrupted && self.tries > 0 => {
+                    self.tries -= 1;
+                }
+                Err(_) => self.failed = true,
+            }
+        }
+        Err(Failed)
+    }
+
+    fn failed(&self) -> bool {
+        self.failed
+    }
+}

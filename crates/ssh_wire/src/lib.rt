@@ -1,0 +1,25 @@
+//! The wire: numbers, strings and multiple precision integers (RFC 4251 section 5), and the
+//! readers and writers that bytes come from and go to.
+#![tactic(auto)]
+
+mod bytes;
+mod cursor;
+mod device;
+mod fault;
+mod from_read;
+pub mod laws;
+mod put;
+mod sending;
+mod to_write;
+
+pub use bytes::Bytes;
+pub use cursor::Cursor;
+pub use device::{Failed, Sink, Source};
+pub use fault::WireFault;
+pub use from_read::FromRead;
+pub use put::{put_byte, put_mpint, put_string, put_u32, put_u64};
+pub use sending::{Sent, send};
+pub use to_write::ToWrite;
+
+#[cfg(test)]
+mod tests;

@@ -1,0 +1,33 @@
+// Writing all of some bytes, in whatever pieces a writer takes them.
+
+ghost use Rattle.std.specs.Prelude.{◌≡◌, ◌<◌, false, length, take, OnOk, IfErr, is_err};
+ghost use Rattle.std.specs.Io.KnownBytes.{Appends};
+
+use crate::device::Sink;
+
+/// A writer failed once it had taken so many bytes.
+#[derive(Clone, Copy, Debug, PartialEq, Eq)]
+pub struct Sent {
+    /// The bytes that went out, counted from the first of those that were to be sent.
+    pub count: usize,
+}
+
+/// Writes all the bytes, in whatever pieces the writer takes them. Where the writer fails, the first
+/// `count` bytes went out and no others. A writer that has failed before may not be handed in.
+pub fn send<W: Sink>(writer: &mut W, bytes: &[u8]) -> Result<(), Sent>
+    requires { W.has_failed writer.old ≡ false }
+    ensures ok { OnOk result (Appends (W.taken writer.old) (W.taken writer.new) bytes.now) }
+    ensures err { IfErr result (λ sent.
+        Appends (W.taken writer.old) (W.taken writer.new) (take sent.count bytes.now)) }
+    ensures short { IfErr result (λ sent. sent.count < length bytes.now) }
+    ensures failed { W.has_failed writer.new ≡ is_err result }
+{
+    let mut count = 0;
+    while count < bytes.len() {
+        match writer.write(&bytes[count..]) {
+            Ok(taken) => count += taken,
+            Err(_) => return Err(Sent { count }),
+        }
+    }
+    Ok(())
+}

@@ -1,0 +1,30 @@
+// What no contract says: the standard's own examples, calls with memory enough, devices that fail.
+
+mod cursor;
+mod put;
+mod reader;
+mod writer;
+
+use crate::{Bytes, WireFault};
+use std::test::*;
+
+#[test]
+fn faults_have_numbers_and_texts(rt: HostRuntime) -> Result<(), Fail> {
+    for (fault, number, text) in [
+        (WireFault::Short, 1, "wire 1 Short"),
+        (WireFault::Negative, 2, "wire 2 Negative"),
+        (WireFault::NotShortest, 3, "wire 3 NotShortest"),
+    ] {
+        assert_eq!(rt; fault.number(), number);
+        assert_eq!(rt; format!(in rt.alloc(); "{fault}")?.as_str(), text);
+    }
+    Ok(())
+}
+
+#[test]
+fn bytes_are_those_of_the_vector(rt: HostRuntime) -> Result<(), Fail> {
+    let bytes = Bytes::from_vec(vec![in rt.alloc(); 7, 8]?);
+    assert_eq!(rt; bytes.as_slice(), [7, 8].as_slice());
+    assert_eq!(rt; bytes.into_vec().as_slice(), [7, 8].as_slice());
+    Ok(())
+}

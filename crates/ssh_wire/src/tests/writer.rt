@@ -1,0 +1,93 @@
+// Writers that are interrupted, take few bytes, or fail.
+
+use crate::{Failed, Sent, Sink, ToWrite, send};
+use std::alloc::Global;
+use std::io::{self, ErrorKind, Write};
+use std::test::*;
+
+/// Takes at most so many bytes at a call, after some interruptions, and fails from the call on that is
+/// to fail.
+#[derive(Drop)]
+struct Device {
+    taken: Vec<u8>,
+    piece: usize,
+    interruptions: u16,
+    calls_before_failure: u8,
+}
+
+impl Write for Device {
+    fn write(&mut self, bytes: &[u8]) -> io::Result<usize> {
+        if self.interruptions > 0 {
+            self.interruptions -= 1;
+            return Err(ErrorKind::Interrupted.into());
+        }
+        if self.calls_before_failure == 0 {
+            return Err(ErrorKind::Other.into());
+        }
+        self.calls_before_failure -= 1;
+        let count = bytes.len().min(self.piece);
+        self.taken.extend_from_slice(&bytes[..count])?;
+        Ok(count)
+    }
+
+    fn flush(&mut self) -> io::Result<()> {
+        Ok(())
+    }
+}
+
+fn fresh(alloc: Global, piece: usize, interruptions: u16, calls_before_failure: u8) -> Device {
+    Device {
+        taken: Vec::new(alloc),
+        piece,
+        interruptions,
+        calls_before_failure,
+    }
+}
+
+const LINE: &[u8] = b"g.pub: REVOKED\n";
+
+#[test]
+fn sends_all_in_pieces(rt: HostRuntime) {
+    let mut inner = fresh(rt.alloc(), 3, 1000, 255);
+    let mut writer = ToWrite::new(&mut inner);
+    assert_eq!(rt; send(&mut writer, LINE), Ok(()));
+    assert!(rt; !writer.failed());
+    drop(writer);
+    assert_eq!(rt; inner.taken.as_slice(), LINE);
+}
+
+#[test]
+fn tells_how_many_bytes_went_out(rt: HostRuntime) {
+    let mut inner = fresh(rt.alloc(), 3, 0, 3);
+    let mut writer = ToWrite::new(&mut inner);
+    assert_eq!(rt; send(&mut writer, LINE), Err(Sent { count: 9 }));
+    assert!(rt; writer.failed());
+    drop(writer);
+    assert_eq!(rt; inner.taken.as_slice(), b"g.pub: RE".as_slice());
+}
+
+#[test]
+fn a_writer_that_takes_nothing_fails(rt: HostRuntime) {
+    let mut inner = fresh(rt.alloc(), 0, 0, 255);
+    let mut writer = ToWrite::new(&mut inner);
+    assert_eq!(rt; writer.write(b""), Ok(0));
+    assert_eq!(rt; send(&mut writer, LINE), Err(Sent { count: 0 }));
+    for _ in 0..3 {
+        assert_eq!(rt; writer.write(b""), Err(Failed));
+        assert!(rt; writer.failed());
+    }
+    drop(writer);
+    assert!(rt; inner.taken.is_empty());
+}
+
+#[test]
+fn one_more_interruption_is_a_failure(rt: HostRuntime) {
+    let mut inner = fresh(rt.alloc(), 3, 1001, 255);
+    let mut writer = ToWrite::new(&mut inner);
+    for _ in 0..3 {
+        assert_eq!(rt; writer.write(LINE), Err(Failed));
+        assert!(rt; writer.failed());
+    }
+    drop(writer);
+    assert!(rt; inner.taken.is_empty());
+}

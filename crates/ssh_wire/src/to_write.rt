@@ -1,0 +1,55 @@
+// A writer of the standard library as a sink.
+
+ghost use Rattle.std.specs.Prelude.{◌≡◌, false};
+
+use crate::device::{Failed, INTERRUPTIONS, Sink};
+use std::io::{ErrorKind, Write};
+
+/// A writer of the standard library. It hands just its bytes to the writer inside. A write that is
+/// interrupted is tried again, 1,000 times in all; the next interruption, any other error, and a write
+/// that takes none of some bytes are a failure, and after a failure the writer inside is not asked
+/// again.
+#[derive(Drop)]
+pub struct ToWrite<W: Write + Drop> {
+    inner: W,
+    tries: u16,
+    failed: bool,
+}
+
+impl<W: Write + Drop> ToWrite<W> {
+    /// A writer that has not failed, over the one inside.
+    pub fn new(inner: W) -> Self
+        ensures bytes { ⟦<ToWrite<W> as Sink>⟧.taken result ≡ W.contents inner }
+        ensures fresh { ⟦<ToWrite<W> as Sink>⟧.has_failed result ≡ false }
+    {
+        ToWrite {
+            inner,
+            tries: INTERRUPTIONS,
+            failed: false,
+        }
+    }
+}
+
+impl<W: Write + Drop> Sink for ToWrite<W> {
+    ghost taken = { λ writer. W.contents writer.inner };
+
+    ghost has_failed = { λ writer. writer.failed };
+
+    fn write(&mut self, bytes: &[u8]) -> Result<usize, Failed> {
+        while !self.failed {
+            match self.inner.write(bytes) {
+                Ok(0) if !bytes.is_empty() => self.failed = true,
+                Ok(count) => return Ok(count),
+                Err(error) if error.kind() == ErrorKind::Interrupted && self.tries > 0 => {
+                    self.tries -= 1;
+                }
+                Err(_) => self.failed = true,
+            }
+        }
+        Err(Failed)
+    }
+
+    fn failed(&self) -> bool {
+        self.failed
+    }
+}
