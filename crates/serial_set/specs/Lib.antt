@@ -1,0 +1,5 @@
+pub mod BitFault
+pub mod BitRuns
+pub mod Finished
+pub mod Laws
+pub mod Span

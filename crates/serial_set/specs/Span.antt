@@ -1,0 +1,37 @@
+-- Intervals of serials, and the one rising list of them that stands for a set.
+use Rattle.std.specs.Prelude.{ℕ, ◌+◌, ◌^◌, ◌≤◌, ◌<◌, ◌⊎◌, ◌↔◌, List, [], ◌∷◌, ⊤}
+use Rattle.std.specs.Coded.{Unit-prop, le_prop}
+use Rattle.serial_set.specs.declared.span.Span.{Span}
+
+-- the span has the number s in it
+abbrev pub Holds : Span → ℕ → Type 0
+Holds span s = (span.lo ≤ s) × (s ≤ span.hi)
+
+-- some span of the list has the number s in it
+abbrev pub Names : List Span → ℕ → Type 0
+Names [] s = ⊥
+Names (span ∷ spans) s = Holds span s ⊎ Names spans s
+
+-- the spans begin at `least` or above, and each next one at least two above the last one's end
+abbrev pub RunsFrom : ℕ → List Span → Type 0
+RunsFrom least [] = ⊤
+RunsFrom least (span ∷ spans) = (least ≤ span.lo) × (span.lo ≤ span.hi) × RunsFrom (span.hi + 2) spans
+
+-- a rising list of intervals of which no two touch
+abbrev pub IsRuns : List Span → Type 0
+IsRuns spans = RunsFrom 0 spans
+
+-- the list of runs whose numbers are the members of a set
+abbrev pub IsRunsOf : List Span → (ℕ → Type 0) → Type 0
+IsRunsOf spans Member = IsRuns spans × ((s : ℕ) → Names spans s ↔ Member s)
+
+-- the numbers are serials: a serial is from 1 to 2^64-1
+abbrev pub AreSerials : List Span → Type 0
+AreSerials spans = (s : ℕ) → Names spans s → (0 < s) × (s < 2 ^ 64)
+
+-- a list rises in one way only, as a ghost field asks of its fact
+pub RunsFrom-prop : (least : ℕ) (spans : List Span) → IsProp (RunsFrom least spans)
+RunsFrom-prop least [] = Unit-prop
+RunsFrom-prop least (span ∷ spans) =
+    let rest : IsProp (RunsFrom (span.hi + 2) spans) = RunsFrom-prop (span.hi + 2) spans in
+    hlevel (le_prop, rest)

@@ -1,0 +1,23 @@
+ghost use Rattle.std.specs.Prelude.{◌≡◌};
+ghost use Rattle.serial_set.specs.BitFault.{fault_number};
+
+/// Why a bitmap is refused.
+#[derive(Clone, Copy, Debug, PartialEq, Eq)]
+pub enum BitFault {
+    /// The first byte is 0x80 or more, so the bitmap's number is below zero.
+    Negative,
+    /// A set bit stands for a number past 2^64-1.
+    Wraps,
+}
+
+impl BitFault {
+    /// The fault's number.
+    pub fn number(self) -> u8
+        ensures { result ≡ fault_number self }
+    {
+        match self {
+            BitFault::Negative => 1,
+            BitFault::Wraps => 2,
+        }
+    }
+}

@@ -1,0 +1,45 @@
+//! What follows from the definitions alone. The functions do nothing.
+ghost use Rattle.std.specs.Prelude.{◌≡◌, ◌+◌, ◌*◌, ◌<◌, ◌≤◌, ◌↔◌, ◌++◌, ◌∷◌, [], ℕ, List, length, All};
+ghost use Rattle.serial_set.specs.declared.span.Span.{Span};
+ghost use Rattle.serial_set.specs.Span.{Names, IsRuns, IsRunsOf, AreSerials};
+ghost use Rattle.serial_set.specs.BitRuns.{Progress, start, lowest, BitNames, big_endian, Feeds, FeedsAll, runs_after};
+ghost use Rattle.serial_set.specs.Laws.{AfterFeeding};
+
+/// A set has one list of runs.
+pub fn runs_are_unique()
+    ensures { (xs ys : List Span) → IsRuns xs → IsRuns ys → ((s : ℕ) → Names xs s ↔ Names ys s)
+        → xs ≡ ys }
+{}
+
+/// No list of intervals with the same members is shorter than the runs.
+pub fn runs_are_fewest()
+    ensures { (runs others : List Span) → IsRuns runs → ((s : ℕ) → Names runs s ↔ Names others s)
+        → length runs ≤ length others }
+{}
+
+/// At each moment the pending run and all that were finished are the runs of the bits that are fed.
+/// They are at most four for each byte.
+pub fn fed_so_far()
+    ensures runs { AfterFeeding (λ offset len bytes after finished.
+        IsRunsOf (runs_after after finished) (λ s. BitNames (lowest after) (big_endian bytes) s)) }
+    ensures serials { AfterFeeding (λ offset len bytes after finished.
+        AreSerials (runs_after after finished)) }
+    ensures four_a_byte { AfterFeeding (λ offset len bytes after finished.
+        length (runs_after after finished) ≤ 4 * length bytes) }
+    ensures place { AfterFeeding (λ offset len bytes after finished.
+        (after.due + length bytes ≡ len) × (after.offset ≡ offset)) }
+{}
+
+/// Feeding all bytes of a bitmap gives just the runs of `offset` + N for each set bit N of its
+/// big-endian number, 0 left out.
+pub fn whole_bitmap()
+    ensures { AfterFeeding (λ offset len bytes after finished. length bytes ≡ len
+        → IsRunsOf (runs_after after finished) (λ s. BitNames offset (big_endian bytes) s)) }
+{}
+
+/// One byte that is fed behind others.
+pub fn one_byte_more()
+    ensures { (before middle after : Progress) (bytes : List ℕ) (byte : ℕ) (finished more : List Span)
+        → FeedsAll before bytes middle finished → Feeds middle byte after more
+        → FeedsAll before (bytes ++ byte ∷ []) after (finished ++ more) }
+{}

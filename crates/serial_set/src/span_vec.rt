@@ -1,0 +1,86 @@
+ghost use Rattle.std.specs.Prelude.{◌≡◌, ◌+◌, ◌<◌, ◌≤◌, ◌⊎◌, ◌∷◌, ◌++◌, length, take, drop, OnOk, OnErr};
+ghost use Rattle.std.specs.Vec.{vec_len};
+ghost use Rattle.serial_set.specs.Span.{Names, IsRuns, IsRunsOf, AreSerials, RunsFrom-prop};
+
+use crate::place::{count_beginning_by, count_ending_before};
+use crate::span::Span;
+use crate::spans::Spans;
+use std::alloc::{AllocError, Global};
+
+/// The runs in one sorted vector. A member and the place of an addition are found by binary search;
+/// an addition moves the spans behind it once.
+#[derive(Drop)]
+pub struct SpanVec {
+    items: Vec<Span>,
+    ghost runs: { IsRuns items.items } by { RunsFrom-prop 0 items.items },
+    ghost serials: { AreSerials items.items },
+}
+
+impl Spans for SpanVec {
+    ghost spans = { λ set. set.items.items };
+
+    ghost law = { λ set. (set.runs, set.serials) };
+
+    fn empty(alloc: Global) -> Result<SpanVec, AllocError> {
+        Ok(SpanVec {
+            items: Vec::new(alloc),
+        })
+    }
+
+    fn add(&mut self, lo: u64, hi: u64) -> Result<(), AllocError> {
+        add_to(&mut self.items, lo, hi)
+    }
+
+    fn has(&self, serial: u64) -> bool {
+        let at = count_ending_before(&self.items, serial);
+        at < self.items.len() && self.items[at].lo <= serial
+    }
+
+    fn len(&self) -> usize {
+        self.items.len()
+    }
+
+    fn get(&self, at: usize) -> Span {
+        self.items[at]
+    }
+
+    fn piece(&self, at: usize) -> &[Span] {
+        &self.items[at..]
+    }
+}
+
+// The spans from `first` up to `end` are those that the new one touches. Where it touches none, the
+// list grows, and nothing is changed before it has.
+fn add_to(items: &mut Vec<Span>, lo: u64, hi: u64) -> Result<(), AllocError>
+    requires runs { IsRuns items.old.items }
+    requires from_one { 0 < lo }
+    requires ordered { lo ≤ hi }
+    ensures runs { OnOk result
+        (IsRunsOf items.new.items (λ s. Names items.old.items s ⊎ ((lo ≤ s) × (s ≤ hi)))) }
+    ensures one_more { length items.new.items ≤ length items.old.items + 1 }
+    ensures refused { OnErr result (items.new.items ≡ items.old.items) }
+{
+    // A span that ends at `lo - 1` touches.
+    let first = count_ending_before(items, lo - 1);
+    let end = count_beginning_by(items, hi);
+    if first < end {
+        let lo = lo.min(items[first].lo);
+        let hi = hi.max(items[end - 1].hi);
+        join(items, first, end, Span { lo, hi });
+        return Ok(());
+    }
+    items.insert(first, Span { lo, hi })?;
+    Ok(())
+}
+
+// Puts one span in place of those from `first` up to `end`, and moves those behind them once.
+fn join(items: &mut Vec<Span>, first: usize, end: usize, span: Span)
+    requires some { first < end }
+    requires within { end ≤ vec_len items.old }
+    ensures { items.new.items ≡ take first items.old.items ++ span ∷ drop end items.old.items }
+{
+    let left = items.len() - (end - first - 1);
+    items[first] = span;
+    items.copy_within(end.., first + 1);
+    items.truncate(left);
+}

@@ -1,0 +1,49 @@
+ghost use Rattle.std.specs.Prelude.{◌≡◌, ◌+◌, ◌<◌, ◌≤◌, ◌⊎◌, ◌↔◌, ℕ, List, [], length, take, drop, Some, slice_get, IsTrue, IfOk, OnOk, OnErr};
+ghost use Rattle.serial_set.specs.declared.span.Span.{Span};
+ghost use Rattle.serial_set.specs.Span.{Names, IsRuns, IsRunsOf, AreSerials};
+
+use crate::span::Span;
+use std::alloc::{AllocError, Global};
+
+/// A set of serials, which are the numbers from 1 to 2^64-1. Contracts see it as the list of its
+/// runs: the one rising list of intervals, no two of which touch, that has just its members.
+pub trait Spans: Drop {
+    ghost spans: { Self → List Span };
+
+    /// A set with no member.
+    fn empty(alloc: Global) -> Result<Self, AllocError>
+        ensures { IfOk result (λ made. spans made ≡ []) };
+
+    /// Adds the serials from `lo` to `hi`. The list gets at most one span longer. Where memory is
+    /// wanting the set stays as it was.
+    fn add(&mut self, lo: u64, hi: u64) -> Result<(), AllocError>
+        requires from_one { 0 < lo }
+        requires ordered { lo ≤ hi }
+        ensures runs { OnOk result
+            (IsRunsOf (spans self.new) (λ s. Names (spans self.old) s ⊎ ((lo ≤ s) × (s ≤ hi)))) }
+        ensures one_more { length (spans self.new) ≤ length (spans self.old) + 1 }
+        ensures refused { OnErr result (spans self.new ≡ spans self.old) };
+
+    /// Whether the serial is a member.
+    fn has(&self, serial: u64) -> bool
+        ensures { IsTrue result ↔ Names (spans self.now) serial };
+
+    /// How many spans the list has.
+    fn len(&self) -> usize
+        ensures { result ≡ length (spans self.now) };
+
+    /// The span at a place of the list.
+    fn get(&self, at: usize) -> Span
+        requires { at < length (spans self.now) }
+        ensures { slice_get (spans self.now) at ≡ Some result };
+
+    /// The spans from a place on, as many as lie together. A loop that goes on behind each piece
+    /// visits the whole list in linear time, whatever the representation.
+    fn piece(&self, at: usize) -> &[Span]
+        requires { at < length (spans self.now) }
+        ensures some { 0 < length result.now }
+        ensures front { result.now ≡ take (length result.now) (drop at (spans self.now)) };
+
+    // What holds of each set, also in code that knows no more than this trait.
+    ghost law: { (set : Self) → IsRuns (spans set) × AreSerials (spans set) };
+}

@@ -1,0 +1,4 @@
+mod adding;
+mod bitmaps;
+mod full;
+mod walk;

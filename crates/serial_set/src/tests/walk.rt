@@ -1,0 +1,53 @@
+// Code over any representation, proved from what `Spans` promises alone.
+ghost use Rattle.std.specs.Prelude.{◌≡◌, ◌<◌, ◌≤◌, length, IsTrue, IfOk};
+
+use crate::{Span, SpanVec, Spans};
+use std::alloc::{AllocError, Global};
+use std::test::Fail;
+
+// Goes over the list in linear time: each piece is visited once.
+pub fn list_of<S: Spans>(alloc: Global, set: &S) -> Result<Vec<Span>, AllocError>
+    ensures { IfOk result (λ list. list.items ≡ S.spans set.now) }
+{
+    let mut list = Vec::new(alloc);
+    let len = set.len();
+    let mut at = 0;
+    while at < len {
+        let piece = set.piece(at);
+        list.extend_from_slice(piece)?;
+        at += piece.len();
+    }
+    Ok(list)
+}
+
+// A run is never empty.
+fn has_start<S: Spans>(set: &S, at: usize) -> bool
+    requires { at < length (S.spans set.now) }
+    ensures { IsTrue result }
+{
+    let span = set.get(at);
+    set.has(span.lo)
+}
+
+fn has_added<S: Spans>(set: &mut S, serial: u64) -> Result<bool, AllocError>
+    requires { 0 < serial }
+    ensures { IfOk result (λ found. IsTrue found) }
+{
+    set.add(serial, serial)?;
+    Ok(set.has(serial))
+}
+
+#[test]
+fn walks_a_vector(rt: HostRuntime) -> Result<(), Fail> {
+    let mut set = SpanVec::empty(rt.alloc())?;
+    assert!(rt; has_added(&mut set, 9)?);
+    assert!(rt; has_added(&mut set, 2)?);
+    assert_eq!(rt; set.len(), 2);
+    assert!(rt; has_start(&set, 0) && has_start(&set, 1));
+    let list = list_of(rt.alloc(), &set)?;
+    assert_eq!(rt;
+        list.as_slice(),
+        [Span { lo: 2, hi: 2 }, Span { lo: 9, hi: 9 }].as_slice()
+    );
+    Ok(())
+}
