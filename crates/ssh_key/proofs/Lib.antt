@@ -1,0 +1,13 @@
+pub mod Names
+pub mod Steps
+pub mod Wire
+pub mod Public
+pub mod Refusals
+pub mod Numbers
+pub mod Keys
+pub mod FirstFaults
+pub mod LineWords
+pub mod LineNames
+pub mod LineBase64
+pub mod LineOptions
+pub mod LineLaws

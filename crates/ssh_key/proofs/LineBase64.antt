@@ -1,0 +1,90 @@
+-- Base64: its words have no blank and are not empty, and decoding undoes it.
+use Rattle.std.proofs.Common.{◌≡◌, ℕ, ◌+◌, ◌*◌, ◌/◌, ◌%◌, ◌<◌, true, List, [], ◌∷◌, Result, Ok, Err, length, replicate, slice_index, refl, ap, arith, inl, inr}
+use Rattle.std.proofs.lemmas.Bool.{cases_lt}
+use Rattle.std.proofs.lemmas.List.{get_or_past, length-append}
+use Rattle.std.proofs.lemmas.List.Elements.{All-append, All-cons, All-nil, All-replicate}
+use Rattle.std.proofs.lemmas.List.Sums.{AllPass-from_list_all}
+use Rattle.std.specs.List.{AllPass}
+use Rattle.base64.proofs.EngineFacts.{decode_of-encode_of, decode_of_strict}
+use Rattle.base64.specs.Engines.{standard}
+use Rattle.base64.specs.GeneralPurpose.{decode_of, engine_symbols}
+use Rattle.base64.specs.Rfc4648.{encode_group, encode_symbols, padding_len}
+use Rattle.base64.specs.declared.decode.DecodeError.{DecodeError}
+use Rattle.ssh_wire.specs.Wire.{IsBytes}
+use Rattle.ssh_key.specs.KeyLine.{base64}
+use Rattle.ssh_key.specs.LineReading.{decoded, or_base64}
+use Rattle.ssh_key.proofs.LineWords.{not_blank}
+
+abbrev table : List ℕ
+table = engine_symbols standard
+
+-- ---- no blank
+
+symbols_pass : AllPass not_blank table
+symbols_pass = AllPass-from_list_all not_blank table refl
+
+symbol : (i : ℕ) → not_blank (slice_index table i) ≡ true
+symbol i = elim (cases_lt i 64) [
+  | inl lt ↦ symbols_pass i 0 lt
+  | inr le ↦ ap not_blank (get_or_past table i 0 le)
+]
+
+abbrev Passes : ℕ → Type 0
+Passes byte = not_blank byte ≡ true
+
+symbol_then : (i : ℕ) (rest : List ℕ) → AllPass not_blank rest → AllPass not_blank (slice_index table i ∷ rest)
+symbol_then i rest each = All-cons Passes (slice_index table i) rest (symbol i) each
+
+two : (i j : ℕ) → AllPass not_blank (slice_index table i ∷ slice_index table j ∷ [])
+two i j = symbol_then i (slice_index table j ∷ []) (symbol_then j [] (All-nil Passes))
+
+three : (i j k : ℕ) → AllPass not_blank (slice_index table i ∷ slice_index table j ∷ slice_index table k ∷ [])
+three i j k = symbol_then i (slice_index table j ∷ slice_index table k ∷ []) (two j k)
+
+four : (i j k l : ℕ) → AllPass not_blank (slice_index table i ∷ slice_index table j ∷ slice_index table k ∷ slice_index table l ∷ [])
+four i j k l = symbol_then i (slice_index table j ∷ slice_index table k ∷ slice_index table l ∷ []) (three j k l)
+
+symbols : (bytes : List ℕ) → AllPass not_blank (encode_symbols table bytes)
+unfolding encode_symbols
+symbols [] = All-nil Passes
+symbols (a ∷ []) = two (a / 4) (a % 4 * 16)
+symbols (a ∷ b ∷ []) = three (a / 4) (a % 4 * 16 + b / 16) (b % 16 * 4)
+symbols (a ∷ b ∷ c ∷ rest) =
+    All-append Passes (encode_group table a b c) (encode_symbols table rest)
+    (four (a / 4) (a % 4 * 16 + b / 16) (b % 16 * 4 + c / 64) (c % 64)) (symbols rest)
+
+pub base64_passes : (bytes : List ℕ) → AllPass not_blank (base64 bytes)
+unfolding base64
+base64_passes bytes =
+    All-append Passes (encode_symbols table bytes) (replicate (padding_len (length bytes)) 61)
+    (symbols bytes) (All-replicate Passes (padding_len (length bytes)) 61 refl)
+
+-- ---- not empty
+
+some_symbols : (byte : ℕ) (bytes : List ℕ) → 0 < length (encode_symbols table (byte ∷ bytes))
+unfolding encode_symbols
+some_symbols a [] = omega arith
+some_symbols a (b ∷ []) = omega arith
+some_symbols a (b ∷ c ∷ rest) = omega arith
+
+pub base64_some : (bytes : List ℕ) → 0 < length bytes → 0 < length (base64 bytes)
+unfolding base64
+base64_some [] some = absurd (omega arith)
+base64_some (byte ∷ bytes) some =
+    let symbols : List ℕ = encode_symbols table (byte ∷ bytes) in
+    let padding : List ℕ = replicate (padding_len (length (byte ∷ bytes))) 61 in
+    omega (arith, some_symbols byte bytes, length-append symbols padding)
+
+-- ---- there and back
+
+pub decoded_again : (bytes : List ℕ) → IsBytes bytes → decoded (base64 bytes) ≡ Ok bytes
+unfolding decoded base64
+decoded_again bytes fits = ap or_base64 (decode_of-encode_of standard bytes refl fits)
+
+or_base64_ok : (read : Result (List ℕ) DecodeError) (bytes : List ℕ) → or_base64 read ≡ Ok bytes → read ≡ Ok bytes
+or_base64_ok (Err error) bytes e = absurd cc
+or_base64_ok (Ok found) bytes e = let same : found ≡ bytes = cc in ap (λ (xs : List ℕ). Ok xs) same
+
+pub decoded_takes : (text bytes : List ℕ) → IsBytes text → decoded text ≡ Ok bytes → text ≡ base64 bytes
+unfolding decoded base64
+decoded_takes text bytes fits e = decode_of_strict standard text bytes (refl, refl) fits (or_base64_ok (decode_of standard text) bytes e)

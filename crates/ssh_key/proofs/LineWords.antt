@@ -1,0 +1,126 @@
+-- Where words and blanks end.
+use Rattle.std.proofs.Common.{◌≡◌, ℕ, ◌+◌, ◌<◌, Bool, true, false, not, List, [], ◌∷◌, ◌++◌, length, take, drop, refl, sym, ap, subst, ◌∙◌, arith, inl, inr}
+use Rattle.std.proofs.lemmas.Bool.{cases_lt, not-false}
+use Rattle.std.proofs.lemmas.List.{drop_all, drop_at, drop_more, get_or_append_left, get_or-take, get_or_at, length-append, length-take, take-append-drop, take_at}
+use Rattle.std.proofs.lemmas.List.Sums.{prefix_len_is, prefix_len_passes, prefix_len_stops}
+use Rattle.std.specs.List.{AllPass, prefix_len}
+use Rattle.ssh_wire.specs.Wire.{IsBytes}
+use Rattle.ssh_wire.proofs.Digits.{IsBytes-drop, IsBytes-take}
+use Rattle.ssh_key.specs.KeyLine.{AreBlanks, BeginsWithNoBlank, Comment, after_blanks, before_ending, comment_after, first_word, is_blank, no_comment, trimmed}
+use Rattle.ssh_key.specs.LineReading.{after_word}
+
+-- xs does not begin with an element that passes
+abbrev pub Stops : (ℕ → Bool) → List ℕ → Type 0
+Stops p [] = Unit {0}
+Stops p (x ∷ xs) = p x ≡ false
+
+abbrev pub not_blank : ℕ → Bool
+not_blank byte = not (is_blank byte)
+
+-- ---- the longest front that passes
+
+pub prefix_len-front : (p : ℕ → Bool) (xs ys : List ℕ) → AllPass p xs → Stops p ys → prefix_len p (xs ++ ys) ≡ length xs
+prefix_len-front p xs [] each stops =
+    prefix_len_is p (xs ++ []) (length xs) 0 (omega (arith, length-append xs []))
+    (λ k h. ap p (get_or_append_left xs [] 0 k h) ∙ each k 0 h)
+    (λ h. absurd (omega (arith, length-append xs [])))
+prefix_len-front p xs (y ∷ ys) each stops =
+    prefix_len_is p (xs ++ y ∷ ys) (length xs) 0 (omega (arith, length-append xs (y ∷ ys)))
+    (λ k h. ap p (get_or_append_left xs (y ∷ ys) 0 k h) ∙ each k 0 h)
+    (λ h. ap p (get_or_at xs y ys 0 (length xs) refl) ∙ stops)
+
+pub stops_behind : (p : ℕ → Bool) (xs : List ℕ) → Stops p (drop (prefix_len p xs) xs)
+stops_behind p xs = elim (cases_lt (prefix_len p xs) (length xs)) [
+  | inl lt ↦ subst (Stops p) (sym (drop_more xs (prefix_len p xs) 0 lt)) (prefix_len_stops p xs 0 lt)
+  | inr le ↦ subst (Stops p) (sym (drop_all (prefix_len p xs) xs le)) tt
+]
+
+pub front_passes : (p : ℕ → Bool) (xs : List ℕ) → AllPass p (take (prefix_len p xs) xs)
+front_passes p xs k d h =
+    let within : k < prefix_len p xs = omega (arith, length-take (prefix_len p xs) xs) in
+    ap p (get_or-take (prefix_len p xs) xs k d within) ∙ prefix_len_passes p xs k d within
+
+-- ---- words and blanks at the front
+
+pub word_front : (word rest : List ℕ) → AllPass not_blank word → Stops not_blank rest → (first_word (word ++ rest) ≡ word) × (after_word (word ++ rest) ≡ rest)
+unfolding first_word after_word
+word_front word rest each ends =
+    let size = prefix_len-front not_blank word rest each ends in
+    (rw size (take_at word rest (length word) refl), rw size (drop_at word rest (length word) refl))
+
+pub blanks_front : (blanks rest : List ℕ) → AllPass is_blank blanks → Stops is_blank rest → after_blanks (blanks ++ rest) ≡ rest
+unfolding after_blanks
+blanks_front blanks rest each ends = rw (prefix_len-front is_blank blanks rest each ends) (drop_at blanks rest (length blanks) refl)
+
+pub word_cut : (text : List ℕ) → (text ≡ first_word text ++ after_word text) × Stops not_blank (after_word text)
+unfolding first_word after_word
+word_cut text = (sym (take-append-drop (prefix_len not_blank text) text), stops_behind not_blank text)
+
+-- the blanks that `after_blanks` leaves out
+abbrev pub leading : List ℕ → List ℕ
+leading text = take (prefix_len is_blank text) text
+
+pub blanks_cut : (text : List ℕ) → (text ≡ leading text ++ after_blanks text) × Stops is_blank (after_blanks text) × AllPass is_blank (leading text)
+unfolding after_blanks
+blanks_cut text = (sym (take-append-drop (prefix_len is_blank text) text), stops_behind is_blank text, front_passes is_blank text)
+
+pub stops_bare : (text : List ℕ) → BeginsWithNoBlank text → Stops is_blank text
+stops_bare [] h = tt
+stops_bare (byte ∷ text) h = h
+
+pub bare_stops : (text : List ℕ) → Stops is_blank text → BeginsWithNoBlank text
+bare_stops [] h = tt
+bare_stops (byte ∷ text) h = h
+
+-- blanks end a word
+pub blanks_stop : (blanks rest : List ℕ) → AreBlanks blanks → Stops not_blank (blanks ++ rest)
+blanks_stop [] rest are = absurd (omega (arith, are.some))
+blanks_stop (byte ∷ blanks) rest are = ap not (are.each 0 0 (omega arith))
+
+-- where a word ends and something stands behind the blanks, there are blanks
+pub gap : (text : List ℕ) → Stops not_blank text → 0 < length (after_blanks text) → AreBlanks (leading text)
+unfolding after_blanks
+gap [] stops some = absurd (omega (arith, some))
+gap (byte ∷ text) stops some =
+    let blank : is_blank byte ≡ true = not-false (is_blank byte) stops in
+    let one : prefix_len is_blank (byte ∷ text) ≡ 1 + prefix_len is_blank text = rw blank refl in
+    record { some = omega (arith, one, length-take (prefix_len is_blank (byte ∷ text)) (byte ∷ text)); each = front_passes is_blank (byte ∷ text) }
+
+-- ---- the comment
+
+pub comment_cut : (end : List ℕ) → Stops not_blank end → Comment end (after_blanks end)
+unfolding after_blanks
+comment_cut [] stops = no_comment
+comment_cut (byte ∷ rest) stops =
+    let blank : is_blank byte ≡ true = not-false (is_blank byte) stops in
+    let one : prefix_len is_blank (byte ∷ rest) ≡ 1 + prefix_len is_blank rest = rw blank refl in
+    let are : AreBlanks (leading (byte ∷ rest)) = record { some = omega (arith, one, length-take (prefix_len is_blank (byte ∷ rest)) (byte ∷ rest)); each = front_passes is_blank (byte ∷ rest) } in
+    let comment : List ℕ = drop (prefix_len is_blank (byte ∷ rest)) (byte ∷ rest) in
+    let bare = bare_stops comment (stops_behind is_blank (byte ∷ rest)) in
+    subst (λ (text : List ℕ). Comment text comment) (take-append-drop (prefix_len is_blank (byte ∷ rest)) (byte ∷ rest)) (comment_after (leading (byte ∷ rest)) comment are bare)
+
+pub comment_stops : (end comment : List ℕ) → Comment end comment → Stops not_blank end × (after_blanks end ≡ comment)
+unfolding after_blanks
+comment_stops end comment no_comment = (tt, refl)
+comment_stops end comment (comment_after blanks comment' are bare) = (blanks_stop blanks comment' are, blanks_again blanks comment' are bare)
+  where
+    blanks_again : (blanks comment : List ℕ) → AreBlanks blanks → BeginsWithNoBlank comment → after_blanks (blanks ++ comment) ≡ comment
+    blanks_again blanks comment are bare = blanks_front blanks comment are.each (stops_bare comment bare)
+
+-- ---- parts of bytes are bytes
+
+pub IsBytes-after_blanks : (text : List ℕ) → IsBytes text → IsBytes (after_blanks text)
+unfolding after_blanks
+IsBytes-after_blanks text fits = IsBytes-drop (prefix_len is_blank text) text fits
+
+pub IsBytes-after_word : (text : List ℕ) → IsBytes text → IsBytes (after_word text)
+unfolding after_word
+IsBytes-after_word text fits = IsBytes-drop (prefix_len not_blank text) text fits
+
+pub IsBytes-first_word : (text : List ℕ) → IsBytes text → IsBytes (first_word text)
+unfolding first_word
+IsBytes-first_word text fits = IsBytes-take (prefix_len not_blank text) text fits
+
+pub IsBytes-trimmed : (text : List ℕ) → IsBytes text → IsBytes (trimmed text)
+unfolding trimmed before_ending
+IsBytes-trimmed text fits = IsBytes-take _ (after_blanks text) (IsBytes-after_blanks text fits)

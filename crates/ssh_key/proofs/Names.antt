@@ -1,0 +1,52 @@
+-- The kind that a type name has.
+use Rattle.std.proofs.Common.{◌≡◌, ℕ, Bool, true, false, cond, List, [], ◌∷◌, Option, Some, None, refl, sym, ap, ◌∙◌}
+use Rattle.std.specs.Prelude.{IfSome}
+use Rattle.std.specs.List.{find}
+use Rattle.std.specs.Str.{bytes_eq}
+use Rattle.std.proofs.lemmas.Slice.Eq.{bytes_eq-Decides}
+use Rattle.ssh_key.specs.declared.kind.Kind.{Kind}
+use Rattle.ssh_key.specs.declared.kind.Kind.TheVariants.{Rsa, Dsa, Ecdsa256, Ecdsa384, Ecdsa521, Ed25519, EcdsaSk, Ed25519Sk}
+use Rattle.ssh_key.specs.Kind.{type_name, kinds, kind_named}
+
+-- what is found passes the test
+chosen_passes : {X : Type 0} (test : X → Bool) (y x : X) (later : Option X) (b : Bool) → test y ≡ b → (later ≡ Some x → test x ≡ true) → cond b (Some y) later ≡ Some x → test x ≡ true
+chosen_passes test y x later true h rest e = let same : y ≡ x = cc in ap test (sym same) ∙ h
+chosen_passes test y x later false h rest e = rest e
+
+find_passes : {X : Type 0} (test : X → Bool) (xs : List X) (x : X) → find test xs ≡ Some x → test x ≡ true
+find_passes test [] x e = absurd cc
+find_passes test (y ∷ ys) x e = chosen_passes test y x (find test ys) (test y) refl (find_passes test ys x) e
+
+pub kind_named-name : (name : List ℕ) (kind : Kind) → kind_named name ≡ Some kind → type_name kind ≡ name
+unfolding kind_named
+kind_named-name name kind e = (bytes_eq-Decides (type_name kind) name).0 (find_passes (λ k. bytes_eq (type_name k) name) kinds kind e)
+
+pub kind_named-type_name : (kind : Kind) → kind_named (type_name kind) ≡ Some kind
+unfolding kind_named
+kind_named-type_name Rsa = refl
+kind_named-type_name Dsa = refl
+kind_named-type_name Ecdsa256 = refl
+kind_named-type_name Ecdsa384 = refl
+kind_named-type_name Ecdsa521 = refl
+kind_named-type_name Ed25519 = refl
+kind_named-type_name EcdsaSk = refl
+kind_named-type_name Ed25519Sk = refl
+
+pub is_named : (r : Option Kind) (name : List ℕ) → r ≡ kind_named name → IfSome r (λ kind. type_name kind ≡ name)
+is_named None name e = tt
+is_named (Some kind) name e = kind_named-name name kind (sym e)
+
+-- no two kinds have one name
+pub type_name-injective : (a b : Kind) → type_name a ≡ type_name b → a ≡ b
+type_name-injective a b e =
+    let both : Some a ≡ Some b = sym (kind_named-type_name a) ∙ ap kind_named e ∙ kind_named-type_name b in
+    cc
+
+-- what `of_name` ensures determines its answer
+pub named_is : (r : Option Kind) (name : List ℕ) → IfSome r (λ kind. type_name kind ≡ name) → ((kind : Kind) → type_name kind ≡ name → r ≡ Some kind) → kind_named name ≡ r
+named_is (Some kind) name found only = ap kind_named (sym found) ∙ kind_named-type_name kind
+named_is None name found only = none (kind_named name) refl
+  where
+    none : (k : Option Kind) → kind_named name ≡ k → k ≡ None
+    none None e = refl
+    none (Some kind) e = let absent : None ≡ Some kind = only kind (kind_named-name name kind e) in absurd cc

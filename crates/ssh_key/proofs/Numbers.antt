@@ -1,0 +1,72 @@
+-- A number has one magnitude, and its bits hold it.
+use Rattle.std.proofs.Common.{◌≡◌, ℕ, zero, suc, ◌+◌, ◌*◌, ◌^◌, ◌<◌, ◌≤◌, List, [], ◌∷◌, ◌++◌, length, Bool, true, false, cond, refl, sym, ap, ◌∙◌, arith}
+use Rattle.std.specs.Prelude.{nat_lt}
+use Rattle.std.proofs.lemmas.Nat.{pow-add, leading_top}
+use Rattle.std.proofs.Math.Nat.{pow-suc, mul-le-mul_left}
+use Rattle.ssh_wire.specs.Wire.{IsBytes, complement, mpint, number, number_of, string}
+use Rattle.ssh_wire.proofs.Digits.{IsBytes-tail}
+use Rattle.ssh_wire.proofs.Magnitudes.{number_of-cons, number_of-lt, same_magnitude}
+use Rattle.ssh_key.specs.Kind.{Field, Positive, Curve, Point, Sized, Text, bit_count}
+use Rattle.ssh_key.specs.Key.{IsPositive, IsValue, AreValues, field_text, fields_text}
+use Rattle.ssh_key.specs.Value.{SameValue, SameValues}
+use Rattle.ssh_key.proofs.Wire.{IsBytes-behind, IsBytes-front, positive_is_magnitude}
+
+-- ---- parts of bytes are bytes
+
+IsBytes-complement : (m : List ℕ) → IsBytes (complement m) → IsBytes m
+unfolding complement
+IsBytes-complement [] h = h
+IsBytes-complement (byte ∷ bytes) h = by_test (nat_lt byte 128) h
+  where
+    by_test : (b : Bool) → IsBytes (cond b (byte ∷ bytes) (0 ∷ byte ∷ bytes)) → IsBytes (byte ∷ bytes)
+    by_test true k = k
+    by_test false k = IsBytes-tail 0 (byte ∷ bytes) k
+
+IsBytes-mpint : (m : List ℕ) → IsBytes (mpint m) → IsBytes m
+unfolding mpint string
+IsBytes-mpint m h = IsBytes-complement m (IsBytes-behind (number 4 (length (complement m))) (complement m) h)
+
+-- ---- values that say the same
+
+value_same : (field : Field) (a b : List ℕ) → IsBytes (field_text field a) → IsBytes (field_text field b) → IsValue field a → IsValue field b → SameValue field a b → a ≡ b
+value_same Positive a b h k p q same = same_magnitude a b (IsBytes-mpint a h) (IsBytes-mpint b k) (positive_is_magnitude a p) (positive_is_magnitude b q) same
+value_same (Curve name) a b h k p q same = same
+value_same (Point size) a b h k p q same = same
+value_same (Sized size) a b h k p q same = same
+value_same Text a b h k p q same = same
+
+pub values_same : (fields : List Field) (left right : List (List ℕ)) → IsBytes (fields_text fields left) → IsBytes (fields_text fields right) → AreValues fields left → AreValues fields right → SameValues fields left right → left ≡ right
+values_same [] [] [] h k p q same = refl
+values_same [] (a ∷ left) right h k p q same = absurd p
+values_same [] [] (b ∷ right) h k p q same = absurd q
+values_same (field ∷ fields) [] right h k p q same = absurd p
+values_same (field ∷ fields) (a ∷ left) [] h k p q same = absurd q
+values_same (field ∷ fields) (a ∷ left) (b ∷ right) h k p q same =
+    let first : a ≡ b = value_same field a b (IsBytes-front (field_text field a) (fields_text fields left) h) (IsBytes-front (field_text field b) (fields_text fields right) k) p.0 q.0 same.0 in
+    let later : left ≡ right = values_same fields left right (IsBytes-behind (field_text field a) (fields_text fields left) h) (IsBytes-behind (field_text field b) (fields_text fields right) k) p.1 q.1 same.1 in
+    cc (first, later)
+
+pub fields_are_bytes : (front fields : List ℕ) → IsBytes (front ++ fields) → IsBytes fields
+fields_are_bytes front fields h = IsBytes-behind front fields h
+
+-- ---- bits
+
+bytes_as_bits : (n : ℕ) → 256 ^ n ≡ 2 ^ (8 * n)
+bytes_as_bits zero = refl
+bytes_as_bits (suc n) =
+    let more : 8 * suc n ≡ 8 * n + 8 = omega arith in
+    pow-suc 256 n ∙ ap (λ (p : ℕ). p * 256) (bytes_as_bits n) ∙ sym (ap (λ (k : ℕ). 2 ^ k) more ∙ pow-add 2 (8 * n) 8)
+
+pub bits_hold : (m : List ℕ) → IsBytes m → IsPositive m → (number_of m < 2 ^ bit_count m) × (2 ^ bit_count m ≤ 2 * number_of m)
+bits_hold [] h p = absurd p
+bits_hold (byte ∷ bytes) h p =
+    let below : byte < 2 ^ 8 = h 0 in
+    let top = leading_top 8 byte p below in
+    let j : ℕ = top.0 in
+    let count : bit_count (byte ∷ bytes) ≡ 8 * length bytes + suc j = omega (arith, top.1) in
+    let size : 2 ^ bit_count (byte ∷ bytes) ≡ 256 ^ length bytes * 2 ^ suc j = ap (λ (k : ℕ). 2 ^ k) count ∙ pow-add 2 (8 * length bytes) (suc j) ∙ ap (λ (q : ℕ). q * 2 ^ suc j) (sym (bytes_as_bits (length bytes))) in
+    let rest : number_of bytes < 256 ^ length bytes = number_of-lt bytes (IsBytes-tail byte bytes h) in
+    let high : byte + 1 ≤ 2 ^ suc j = let lt : byte < 2 ^ suc j = top.3 in omega arith in
+    let low : 2 ^ suc j ≤ 2 * byte = omega (arith, top.2, pow-suc 2 j) in
+    let whole = number_of-cons byte bytes in
+    (omega (arith, whole, size, rest, mul-le-mul_left (256 ^ length bytes) high), omega (arith, whole, size, mul-le-mul_left (256 ^ length bytes) low))

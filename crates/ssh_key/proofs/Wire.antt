@@ -1,0 +1,49 @@
+-- Parts of bytes, numbers above zero, and how long what stands at the front of bytes is.
+use Rattle.std.proofs.Common.{◌≡◌, ℕ, ◌+◌, ◌^◌, ◌<◌, ◌≤◌, Bool, true, false, cond, List, [], ◌∷◌, ◌++◌, length, Ok, refl, ap, subst, ◌∙◌, arith}
+use Rattle.std.specs.Prelude.{nat_lt}
+use Rattle.std.proofs.lemmas.List.{drop_at, length-append, take_at}
+use Rattle.ssh_wire.specs.Wire.{IsBytes, IsMagnitude, complement, mpint, string}
+use Rattle.ssh_wire.specs.Reading.{mpint_at}
+use Rattle.ssh_wire.proofs.Digits.{IsBytes-drop, IsBytes-take}
+use Rattle.ssh_wire.proofs.Fields.{length-string, mpint_again}
+use Rattle.ssh_key.specs.Key.{IsPositive}
+
+pub IsBytes-front : (front behind : List ℕ) → IsBytes (front ++ behind) → IsBytes front
+IsBytes-front front behind fits = subst IsBytes (take_at front behind (length front) refl) (IsBytes-take (length front) (front ++ behind) fits)
+
+pub IsBytes-behind : (front behind : List ℕ) → IsBytes (front ++ behind) → IsBytes behind
+IsBytes-behind front behind fits = subst IsBytes (drop_at front behind (length front) refl) (IsBytes-drop (length front) (front ++ behind) fits)
+
+pub positive_is_magnitude : (magnitude : List ℕ) → IsPositive magnitude → IsMagnitude magnitude
+positive_is_magnitude [] h = tt
+positive_is_magnitude (byte ∷ bytes) h = h
+
+-- a magnitude is empty or above zero
+pub magnitude_is_positive : (magnitude : List ℕ) → IsMagnitude magnitude → (length magnitude ≡ 0 → ⊥) → IsPositive magnitude
+magnitude_is_positive [] h full = absurd (full refl)
+magnitude_is_positive (byte ∷ bytes) h full = h
+
+length-mpint : (magnitude : List ℕ) → length (mpint magnitude) ≡ 4 + length (complement magnitude)
+unfolding mpint
+length-mpint magnitude = length-string (complement magnitude)
+
+pub positive_again : (magnitude rest : List ℕ) → IsPositive magnitude → length (mpint magnitude) < 2 ^ 32 → mpint_at (mpint magnitude ++ rest) ≡ Ok (magnitude, rest)
+positive_again magnitude rest positive lt =
+    mpint_again magnitude rest (positive_is_magnitude magnitude positive) (omega (arith, length-mpint magnitude))
+
+length-complement : (magnitude : List ℕ) → length magnitude ≤ length (complement magnitude)
+unfolding complement
+length-complement [] = omega arith
+length-complement (byte ∷ bytes) = by_test (nat_lt byte 128)
+  where
+    by_test : (b : Bool) → length (byte ∷ bytes) ≤ length (cond b (byte ∷ bytes) (0 ∷ byte ∷ bytes))
+    by_test true = omega arith
+    by_test false = omega arith
+
+pub mpint_within : (bytes magnitude rest : List ℕ) → bytes ≡ mpint magnitude ++ rest → (length magnitude ≤ length bytes) × (length rest ≤ length bytes)
+mpint_within bytes magnitude rest e =
+    let whole : length bytes ≡ length (mpint magnitude) + length rest = ap length e ∙ length-append (mpint magnitude) rest in
+    (omega (arith, whole, length-mpint magnitude, length-complement magnitude), omega (arith, whole))
+
+pub string_within : (bytes text rest : List ℕ) → bytes ≡ string text ++ rest → length rest ≤ length bytes
+string_within bytes text rest e = omega (arith, ap length e, length-append (string text) rest)

@@ -1,0 +1,64 @@
+-- What a public key is, and the one spelling of its blob (RFC 4253 section 6.6, RFC 5656, RFC 8709).
+use Rattle.std.specs.Prelude.{◌≡◌, ℕ, ◌<◌, ◌≤◌, List, [], ◌∷◌, ◌++◌, length}
+use Rattle.ssh_wire.specs.Wire.{mpint, string}
+use Rattle.ssh_key.specs.declared.kind.Kind.{Kind}
+use Rattle.ssh_key.specs.Kind.{Field, Positive, Curve, Point, Sized, Text, type_name, fields_of, bits_of}
+
+-- a key: its kind, the bytes of its public fields, and its size in bits
+pub record Key : Type 0 where
+  pub kind : Kind
+  pub fields : List ℕ
+  pub bits : ℕ
+
+-- the bytes of the longest blob
+abbrev pub longest_blob : ℕ
+longest_blob = 65536
+
+-- the type name, and the public fields
+abbrev pub blob_of : Key → List ℕ
+blob_of key = string (type_name key.kind) ++ key.fields
+
+-- a magnitude above zero, without a leading zero byte
+abbrev pub IsPositive : List ℕ → Type 0
+IsPositive [] = ⊥
+IsPositive (byte ∷ bytes) = 0 < byte
+
+-- the uncompressed form begins with 4
+abbrev pub IsUncompressed : List ℕ → Type 0
+IsUncompressed [] = ⊥
+IsUncompressed (byte ∷ bytes) = byte ≡ 4
+
+-- The value may stand in the field. A number stands there by its magnitude.
+abbrev pub IsValue : Field → List ℕ → Type 0
+IsValue Positive value = IsPositive value
+IsValue (Curve name) value = value ≡ name
+IsValue (Point size) value = (length value ≡ size) × IsUncompressed value
+IsValue (Sized size) value = length value ≡ size
+IsValue Text value = Unit {0}
+
+-- how the value is spelled in the field
+abbrev pub field_text : Field → List ℕ → List ℕ
+field_text Positive value = mpint value
+field_text field value = string value
+
+-- values that may stand in the fields, one for each
+abbrev pub AreValues : List Field → List (List ℕ) → Type 0
+AreValues [] [] = Unit {0}
+AreValues [] (value ∷ values) = ⊥
+AreValues (field ∷ fields) [] = ⊥
+AreValues (field ∷ fields) (value ∷ values) = IsValue field value × AreValues fields values
+
+-- their spellings, one after the other
+abbrev pub fields_text : List Field → List (List ℕ) → List ℕ
+fields_text [] values = []
+fields_text (field ∷ fields) [] = []
+fields_text (field ∷ fields) (value ∷ values) = field_text field value ++ fields_text fields values
+
+-- The blob is that of the key: its type name and its public fields, and nothing more.
+pub record IsKey (blob : List ℕ) (key : Key) : Type 0 where
+  pub values : List (List ℕ)
+  pub allowed : AreValues (fields_of key.kind) values
+  pub fields : key.fields ≡ fields_text (fields_of key.kind) values
+  pub bits : key.bits ≡ bits_of key.kind values
+  pub spelled : blob ≡ blob_of key
+  pub short : length blob ≤ longest_blob

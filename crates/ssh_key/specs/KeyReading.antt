@@ -1,0 +1,82 @@
+-- Reading a key from left to right, with the first fault that is met.
+use Rattle.std.specs.Prelude.{◌≡◌, ℕ, Bool, List, [], ◌∷◌, length, Option, Some, None, Result, Ok, Err, nat_lt, ◌==◌, ◌&&◌, if◌then◌else◌}
+use Rattle.std.specs.Str.{bytes_eq}
+use Rattle.ssh_wire.specs.Reading.{mpint_at, string_at}
+use Rattle.ssh_wire.specs.declared.fault.WireFault.{WireFault}
+use Rattle.ssh_key.specs.declared.fault.KeyFault.{KeyFault}
+use Rattle.ssh_key.specs.declared.fault.KeyFault.TheVariants as faults
+use Rattle.ssh_key.specs.declared.kind.Kind.{Kind}
+use Rattle.ssh_key.specs.Kind.{Field, Positive, Curve, Point, Sized, Text, fields_of, bits_of, kind_named}
+use Rattle.ssh_key.specs.Key.{Key, longest_blob}
+
+infixl 10 ◌>>=◌
+abbrev pub ◌>>=◌ : {A B : Type 0} → Result A KeyFault → (A → Result B KeyFault) → Result B KeyFault
+(Ok x) >>= f = f x
+(Err fault) >>= f = Err fault
+
+-- a fault of the wire is one of the key
+abbrev pub on_wire : {A : Type 0} → Result A WireFault → Result A KeyFault
+on_wire (Ok x) = Ok x
+on_wire (Err fault) = Err (faults.Wire fault)
+
+-- the value at the front, whether or not it may stand there, and the bytes after it
+abbrev pub value_at : Field → List ℕ → Result (List ℕ × List ℕ) KeyFault
+value_at Positive bytes = on_wire (mpint_at bytes)
+value_at field bytes = on_wire (string_at bytes)
+
+abbrev pub begins_with_4 : List ℕ → Bool
+begins_with_4 [] = Bool.false
+begins_with_4 (byte ∷ bytes) = byte == 4
+
+-- why the value may not stand in the field
+abbrev pub fault_in : Field → List ℕ → Option KeyFault
+fault_in Positive value = if length value == 0 then Some faults.Number else None
+fault_in (Curve name) value = if bytes_eq value name then None else Some faults.Curve
+fault_in (Point size) value = if length value == size && begins_with_4 value then None else Some faults.Point
+fault_in (Sized size) value = if length value == size then None else Some faults.Length
+fault_in Text value = None
+
+abbrev pub unless : {A : Type 0} → Option KeyFault → A → Result A KeyFault
+unless None x = Ok x
+unless (Some fault) x = Err fault
+
+unfoldable pub field_at : Field → List ℕ → Result (List ℕ × List ℕ) KeyFault
+field_at field bytes = do
+  read ← value_at field bytes
+  unless (fault_in field read.0) read
+
+-- the values of the fields, one after the other, and the bytes after them
+unfoldable pub fields_at : List Field → List ℕ → Result (List (List ℕ) × List ℕ) KeyFault
+fields_at [] bytes = Ok ([], bytes)
+fields_at (field ∷ fields) bytes = do
+  first ← field_at field bytes
+  others ← fields_at fields first.1
+  Ok (first.0 ∷ others.0, others.1)
+
+abbrev pub known : Option Kind → Result Kind KeyFault
+known None = Err faults.UnknownType
+known (Some kind) = Ok kind
+
+unfoldable pub kind_at : List ℕ → Result (Kind × List ℕ) KeyFault
+kind_at bytes = do
+  name ← on_wire (string_at bytes)
+  kind ← known (kind_named name.0)
+  Ok (kind, name.1)
+
+-- the size in bits that the public fields give, and the bytes after them
+unfoldable pub bits_at : Kind → List ℕ → Result (ℕ × List ℕ) KeyFault
+bits_at kind bytes = do
+  values ← fields_at (fields_of kind) bytes
+  Ok (bits_of kind values.0, values.1)
+
+-- all of the bytes
+unfoldable pub key_at : List ℕ → Result Key KeyFault
+key_at blob = if nat_lt longest_blob (length blob) then Err faults.TooLong else do
+  kind ← kind_at blob
+  bits ← bits_at kind.0 kind.1
+  if length bits.1 == 0 then Ok (record { kind = kind.0; fields = kind.1; bits = bits.0 }) else Err faults.Trailing
+
+-- A read answered what reading gives, and left the bytes after it.
+abbrev pub Reads : {X Y : Type 0} → (X → Y) → Result X KeyFault → List ℕ → Result (Y × List ℕ) KeyFault → Type 0
+Reads view (Ok x) left read = read ≡ Ok (view x, left)
+Reads view (Err fault) left read = read ≡ Err fault

@@ -1,0 +1,12 @@
+pub mod Kind
+pub mod KeyFault
+pub mod Key
+pub mod KeyReading
+pub mod Value
+pub mod FirstFault
+pub mod Fields
+pub mod TypeName
+pub mod LineFault
+pub mod KeyLine
+pub mod LineReading
+pub mod Fingerprints

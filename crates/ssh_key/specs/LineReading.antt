@@ -1,0 +1,97 @@
+-- Reading a key line from left to right, with the first fault that is met.
+use Rattle.std.specs.Prelude.{◌≡◌, ◌≢◌, ℕ, Bool, false, not, ◌==◌, ◌&&◌, List, [], ◌∷◌, drop, Option, Some, None, Result, Ok, Err, if◌then◌else◌}
+use Rattle.std.specs.List.{prefix_len}
+use Rattle.std.specs.Str.{bytes_eq}
+use Rattle.base64.specs.Engines.{standard}
+use Rattle.base64.specs.GeneralPurpose.{decode_of}
+use Rattle.base64.specs.declared.decode.DecodeError.{DecodeError}
+use Rattle.ssh_wire.specs.Reading.{string_at}
+use Rattle.ssh_wire.specs.declared.fault.WireFault.{WireFault}
+use Rattle.ssh_key.specs.declared.line.Line.{Line}
+use Rattle.ssh_key.specs.declared.line_fault.LineFault.{LineFault}
+use Rattle.ssh_key.specs.declared.line_fault.LineFault.TheVariants.{NoKey, Base64, WordDiffers, NoMemory}
+use Rattle.ssh_key.specs.TypeName.{is_type_name}
+use Rattle.ssh_key.specs.KeyLine.{is_blank, after_blanks, backslash, first_word, quote, trimmed}
+
+-- what a line holds
+pub record Content : Type 0 where
+  pub word : List ℕ
+  pub blob : List ℕ
+  pub comment : List ℕ
+
+abbrev pub content : List ℕ → List ℕ → List ℕ → Content
+content word blob comment = record { word = word; blob = blob; comment = comment }
+
+abbrev pub content_of : Line → Content
+content_of line = content line.word.now line.blob line.comment.now
+
+-- What a function returned, seen by view, is what reading gives, unless memory ran out. Where no
+-- key stands, no memory was asked for.
+abbrev pub GivesFault : {Y : Type 0} → LineFault → Result Y LineFault → Type 0
+GivesFault NoMemory read = read ≢ Err NoKey
+GivesFault NoKey read = read ≡ Err NoKey
+GivesFault Base64 read = read ≡ Err Base64
+GivesFault WordDiffers read = read ≡ Err WordDiffers
+
+abbrev pub Gives : {X Y : Type 0} → (X → Y) → Result X LineFault → Result Y LineFault → Type 0
+Gives view (Ok x) read = read ≡ Ok (view x)
+Gives view (Err fault) read = GivesFault fault read
+
+-- what stands after the first word
+unfoldable pub after_word : List ℕ → List ℕ
+after_word text = drop (prefix_len (λ byte. not (is_blank byte)) text) text
+
+-- whether the place behind a byte is between quotes: a quote behind a backslash changes nothing
+abbrev pub quoted_behind : Bool → Bool → ℕ → Bool
+quoted_behind quoted escaped byte = if (byte == quote) && not escaped then not quoted else quoted
+
+-- What stands after an options field. The place is between quotes or not, and behind a backslash
+-- or not.
+unfoldable pub after_options : Bool → Bool → List ℕ → Option (List ℕ)
+after_options quoted escaped [] = if quoted then None else Some []
+after_options quoted escaped (byte ∷ rest) =
+    if is_blank byte && not quoted then Some (byte ∷ rest)
+    else after_options (quoted_behind quoted escaped byte) (byte == backslash) rest
+
+-- the line, if a type name is its first word
+unfoldable pub part_at : List ℕ → Option (List ℕ)
+part_at line = if is_type_name (first_word line) then Some line else None
+
+abbrev pub part_behind : Option (List ℕ) → Option (List ℕ)
+part_behind None = None
+part_behind (Some rest) = part_at (after_blanks rest)
+
+-- the line from its type word on
+unfoldable pub key_part : List ℕ → Option (List ℕ)
+key_part line = if is_type_name (first_word line) then Some line else part_behind (after_options false false line)
+
+abbrev pub or_base64 : Result (List ℕ) DecodeError → Result (List ℕ) LineFault
+or_base64 (Err error) = Err Base64
+or_base64 (Ok bytes) = Ok bytes
+
+unfoldable pub decoded : List ℕ → Result (List ℕ) LineFault
+decoded text = or_base64 (decode_of standard text)
+
+-- the first string of the key is the word
+abbrev pub is_string : List ℕ → Result (List ℕ × List ℕ) WireFault → Bool
+is_string word (Err fault) = false
+is_string word (Ok (first, rest)) = bytes_eq word first
+
+unfoldable pub has_word : List ℕ → List ℕ → Bool
+has_word word blob = is_string word (string_at blob)
+
+abbrev pub checked : List ℕ → Result (List ℕ) LineFault → List ℕ → Result Content LineFault
+checked word (Err fault) comment = Err fault
+checked word (Ok blob) comment = if has_word word blob then Ok (content word blob comment) else Err WordDiffers
+
+-- the base64 word and the comment, behind the type word
+unfoldable pub blob_at : List ℕ → List ℕ → Result Content LineFault
+blob_at word [] = Err NoKey
+blob_at word (byte ∷ bytes) = checked word (decoded (first_word (byte ∷ bytes))) (after_blanks (after_word (byte ∷ bytes)))
+
+abbrev pub content_at : Option (List ℕ) → Result Content LineFault
+content_at None = Err NoKey
+content_at (Some part) = blob_at (first_word part) (after_blanks (after_word part))
+
+unfoldable pub line_at : List ℕ → Result Content LineFault
+line_at text = content_at (key_part (trimmed text))

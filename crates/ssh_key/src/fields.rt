@@ -1,0 +1,148 @@
+// Reading the public fields of a key. A cursor that met a fault is not used again.
+
+ghost use Rattle.std.specs.Prelude.{◌≡◌, ◌≤◌, IfOk, length};
+ghost use Rattle.ssh_key.specs.Kind.{Curve, Point, Positive, Sized, Text, bit_count};
+ghost use Rattle.ssh_key.specs.KeyReading.{Reads, bits_at, field_at};
+ghost use Rattle.ssh_key.specs.Fields.{bits_of_size, IsWithin};
+
+use crate::fault::KeyFault;
+use crate::kind::Kind;
+use ssh_wire::Cursor;
+
+/// The bytes of an Ed25519 key (RFC 8709 section 4).
+const ED25519_SIZE: usize = 32;
+
+/// How large a key is.
+#[derive(Drop)]
+pub enum Size<'a> {
+    /// As every key of its kind: so many bits.
+    Bits(u32),
+    /// As large as the number of this magnitude.
+    Magnitude(&'a [u8]),
+}
+
+/// Reads the public fields of a key of this kind.
+#[tactic(auto, unfolding(crate::specs::KeyReading::bits_at, crate::specs::KeyReading::fields_at))]
+pub fn size_at<'a>(kind: Kind, cursor: &mut Cursor<'a>) -> Result<Size<'a>, KeyFault>
+    ensures read { Reads bits_of_size result cursor.new (bits_at kind cursor.old) }
+    ensures within { IfOk result (λ size. IsWithin size (length cursor.old)) }
+{
+    match kind {
+        Kind::Rsa => Ok(Size::Magnitude(modulus(cursor)?)),
+        Kind::Dsa => Ok(Size::Magnitude(prime(cursor)?)),
+        Kind::Ecdsa256 => {
+            let _curve = curve(cursor, "nistp256")?;
+            let _point = point(cursor, 65)?;
+            Ok(Size::Bits(256))
+        }
+        Kind::Ecdsa384 => {
+            let _curve = curve(cursor, "nistp384")?;
+            let _point = point(cursor, 97)?;
+            Ok(Size::Bits(384))
+        }
+        Kind::Ecdsa521 => {
+            let _curve = curve(cursor, "nistp521")?;
+            let _point = point(cursor, 133)?;
+            Ok(Size::Bits(521))
+        }
+        Kind::Ed25519 => {
+            let _public = sized(cursor, ED25519_SIZE)?;
+            Ok(Size::Bits(256))
+        }
+        Kind::EcdsaSk => {
+            let _curve = curve(cursor, "nistp256")?;
+            let _point = point(cursor, 65)?;
+            let _application = text(cursor)?;
+            Ok(Size::Bits(256))
+        }
+        Kind::Ed25519Sk => {
+            let _public = sized(cursor, ED25519_SIZE)?;
+            let _application = text(cursor)?;
+            Ok(Size::Bits(256))
+        }
+    }
+}
+
+/// Reads the public fields of an RSA key: the exponent, and the modulus, which is answered.
+#[tactic(auto, unfolding(crate::specs::KeyReading::bits_at, crate::specs::KeyReading::fields_at))]
+fn modulus<'a>(cursor: &mut Cursor<'a>) -> Result<&'a [u8], KeyFault>
+    ensures read { Reads (λ modulus. bit_count modulus.now) result cursor.new (bits_at Kind.Rsa cursor.old) }
+    ensures within { IfOk result (λ modulus. length modulus.now ≤ length cursor.old) }
+{
+    let _exponent = positive(cursor)?;
+    let modulus = positive(cursor)?;
+    Ok(modulus)
+}
+
+/// Reads the public fields of a DSA key: the prime, which is answered, and three numbers more.
+#[tactic(auto, unfolding(crate::specs::KeyReading::bits_at, crate::specs::KeyReading::fields_at))]
+fn prime<'a>(cursor: &mut Cursor<'a>) -> Result<&'a [u8], KeyFault>
+    ensures read { Reads (λ prime. bit_count prime.now) result cursor.new (bits_at Kind.Dsa cursor.old) }
+    ensures within { IfOk result (λ prime. length prime.now ≤ length cursor.old) }
+{
+    let prime = positive(cursor)?;
+    let _subprime = positive(cursor)?;
+    let _generator = positive(cursor)?;
+    let _public = positive(cursor)?;
+    Ok(prime)
+}
+
+/// A number above zero: its magnitude.
+#[tactic(auto, unfolding(crate::specs::KeyReading::field_at))]
+fn positive<'a>(cursor: &mut Cursor<'a>) -> Result<&'a [u8], KeyFault>
+    ensures read { Reads (λ value. value.now) result cursor.new (field_at Positive cursor.old) }
+    ensures within { IfOk result (λ value. (length value.now ≤ length cursor.old) × (length cursor.new ≤ length cursor.old)) }
+{
+    let magnitude = cursor.mpint()?;
+    if magnitude.is_empty() {
+        return Err(KeyFault::Number);
+    }
+    Ok(magnitude)
+}
+
+/// The name of a curve.
+#[tactic(auto, unfolding(crate::specs::KeyReading::field_at))]
+fn curve<'a>(cursor: &mut Cursor<'a>, name: &str) -> Result<&'a [u8], KeyFault>
+    ensures { Reads (λ value. value.now) result cursor.new (field_at (Curve name.now) cursor.old) }
+{
+    let string = cursor.string()?;
+    if string != name.as_bytes() {
+        return Err(KeyFault::Curve);
+    }
+    Ok(string)
+}
+
+/// A point of a curve, uncompressed, in so many bytes.
+#[tactic(auto, unfolding(crate::specs::KeyReading::field_at))]
+fn point<'a>(cursor: &mut Cursor<'a>, size: usize) -> Result<&'a [u8], KeyFault>
+    ensures { Reads (λ value. value.now) result cursor.new (field_at (Point size) cursor.old) }
+{
+    let string = cursor.string()?;
+    if string.len() != size {
+        return Err(KeyFault::Point);
+    }
+    match string {
+        [4, ..] => Ok(string),
+        _ => Err(KeyFault::Point),
+    }
+}
+
+/// A string of so many bytes.
+#[tactic(auto, unfolding(crate::specs::KeyReading::field_at))]
+fn sized<'a>(cursor: &mut Cursor<'a>, size: usize) -> Result<&'a [u8], KeyFault>
+    ensures { Reads (λ value. value.now) result cursor.new (field_at (Sized size) cursor.old) }
+{
+    let string = cursor.string()?;
+    if string.len() != size {
+        return Err(KeyFault::Length);
+    }
+    Ok(string)
+}
+
+/// Any string.
+#[tactic(auto, unfolding(crate::specs::KeyReading::field_at))]
+fn text<'a>(cursor: &mut Cursor<'a>) -> Result<&'a [u8], KeyFault>
+    ensures { Reads (λ value. value.now) result cursor.new (field_at Text cursor.old) }
+{
+    Ok(cursor.string()?)
+}

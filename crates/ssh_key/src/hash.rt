@@ -1,0 +1,22 @@
+// The hashes that name a key.
+
+ghost use Rattle.std.specs.Prelude.{◌≡◌};
+ghost use Rattle.sha2.specs.Sha256.{sha256};
+
+use sha2::{Digest, Sha256};
+
+/// The hash of a fingerprint.
+#[derive(Clone, Copy, Debug, PartialEq, Eq)]
+pub enum Hash {
+    /// MD5 (RFC 1321), of the fingerprints before OpenSSH 6.8.
+    Md5,
+    /// SHA-256 (FIPS 180-4).
+    Sha256,
+}
+
+/// The SHA-256 of the bytes (FIPS 180-4), 32 bytes. Takes no memory.
+pub fn sha256_of(bytes: &[u8]) -> [u8; 32]
+    ensures { result ≡ sha256 bytes.now }
+{
+    Sha256::digest(bytes)
+}

@@ -1,0 +1,62 @@
+//! What holds for every key and every list of bytes, each as the contract of a function that does
+//! nothing. `read_key` answers what the reader named here gives, and `plain_blob` the blob.
+
+ghost use Rattle.std.specs.Prelude.{◌≡◌, ◌*◌, ◌^◌, ◌<◌, ◌≤◌, ◌↔◌, ℕ, List, Err, Ok};
+ghost use Rattle.ssh_key.specs.FirstFault.{IsFirstFault};
+ghost use Rattle.ssh_key.specs.Key.{IsKey, IsPositive, Key, blob_of};
+ghost use Rattle.ssh_key.specs.KeyLine.{IsKeyLine};
+ghost use Rattle.ssh_key.specs.KeyReading.{key_at};
+ghost use Rattle.ssh_key.specs.Kind.{bit_count, fields_of, type_name};
+ghost use Rattle.ssh_key.specs.LineReading.{Content, content, line_at};
+ghost use Rattle.ssh_key.specs.Value.{SameValues};
+ghost use Rattle.ssh_key.specs.declared.fault.KeyFault.{KeyFault};
+ghost use Rattle.ssh_key.specs.declared.kind.Kind.{Kind};
+ghost use Rattle.ssh_wire.specs.Wire.{IsBytes, number_of};
+
+/// No two kinds have one type name.
+pub fn names_differ()
+    ensures { (a b : Kind) → type_name a ≡ type_name b → a ≡ b }
+{}
+
+/// Reading gives a key exactly where the bytes are its blob.
+pub fn read_where_spelled()
+    ensures { (blob : List ℕ) (key : Key) → IsBytes blob → (key_at blob ≡ Ok key) ↔ IsKey blob key }
+{}
+
+/// Reading meets a fault exactly where it is the first fault of the bytes.
+pub fn refused_by_first_fault()
+    ensures { (blob : List ℕ) (fault : KeyFault) → IsBytes blob → (key_at blob ≡ Err fault) ↔ IsFirstFault blob fault }
+{}
+
+/// Bytes have one first fault at most, and a blob of a key has none.
+pub fn one_first_fault()
+    ensures one { (blob : List ℕ) (a b : KeyFault) → IsFirstFault blob a → IsFirstFault blob b → a ≡ b }
+    ensures none { (blob : List ℕ) (key : Key) (fault : KeyFault) → IsKey blob key → IsFirstFault blob fault → ⊥ }
+{}
+
+/// A blob is that of one key.
+pub fn one_key()
+    ensures { (blob : List ℕ) (a b : Key) → IsKey blob a → IsKey blob b → a ≡ b }
+{}
+
+/// A key has one blob: where the kind is the same, and the numbers and strings of the public fields
+/// are, so is the blob.
+pub fn one_blob()
+    ensures { (a b : List ℕ) (k l : Key) → IsBytes a → IsBytes b → (p : IsKey a k) (q : IsKey b l) → k.kind ≡ l.kind → SameValues (fields_of k.kind) p.values q.values → a ≡ b }
+{}
+
+/// The size in bits is the least in which the number is held.
+pub fn bits_hold_number()
+    ensures { (magnitude : List ℕ) → IsBytes magnitude → IsPositive magnitude → (number_of magnitude < 2 ^ bit_count magnitude) × (2 ^ bit_count magnitude ≤ 2 * number_of magnitude) }
+{}
+
+/// The blob that is made of a key is the one that it was read from, and is read as that key.
+pub fn blob_read_back()
+    ensures { (blob : List ℕ) (key : Key) → IsKey blob key → (blob_of key ≡ blob) × (key_at (blob_of key) ≡ Ok key) }
+{}
+
+/// Reading gives what a key line holds exactly where the text is one.
+pub fn line_read_where_spelled()
+    ensures read { (text word blob comment : List ℕ) → IsKeyLine text word blob comment → line_at text ≡ Ok (content word blob comment) }
+    ensures spelled { (text : List ℕ) (line : Content) → IsBytes text → IsBytes line.blob → line_at text ≡ Ok line → IsKeyLine text line.word line.blob line.comment }
+{}

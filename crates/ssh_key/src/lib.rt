@@ -1,0 +1,27 @@
+//! Public keys: their blobs (RFC 4253 section 6.6), the lines of key files (sshd(8)), and the
+//! fingerprints that ssh-keygen(1) prints.
+#![tactic(auto)]
+
+mod blob;
+mod fault;
+mod fields;
+mod fingerprints;
+mod hash;
+mod key;
+mod kind;
+pub mod laws;
+mod line;
+mod line_fault;
+mod type_name;
+
+pub use blob::plain_blob;
+pub use fault::KeyFault;
+pub use fingerprints::fingerprint;
+pub use hash::{Hash, sha256_of};
+pub use key::{PublicKey, read_key};
+pub use kind::Kind;
+pub use line::{Line, read_line};
+pub use line_fault::LineFault;
+
+#[cfg(test)]
+mod tests;

@@ -1,0 +1,8 @@
+// Examples from the formats, and the host key that GitHub publishes.
+
+mod fault;
+mod fingerprints;
+mod key;
+mod kind;
+mod lines;
+mod parts;

@@ -1,0 +1,56 @@
+// The texts of faults.
+
+use crate::{KeyFault, LineFault};
+use ssh_wire::WireFault;
+use std::test::Fail;
+
+const KEY_FAULTS: [(KeyFault, u8, &str); 10] = [
+    (
+        KeyFault::Wire(WireFault::Short),
+        1,
+        "key 1 Wire, wire 1 Short",
+    ),
+    (
+        KeyFault::Wire(WireFault::Negative),
+        1,
+        "key 1 Wire, wire 2 Negative",
+    ),
+    (
+        KeyFault::Wire(WireFault::NotShortest),
+        1,
+        "key 1 Wire, wire 3 NotShortest",
+    ),
+    (KeyFault::UnknownType, 2, "key 2 UnknownType"),
+    (KeyFault::Curve, 3, "key 3 Curve"),
+    (KeyFault::Point, 4, "key 4 Point"),
+    (KeyFault::Length, 5, "key 5 Length"),
+    (KeyFault::Number, 6, "key 6 Number"),
+    (KeyFault::Trailing, 7, "key 7 Trailing"),
+    (KeyFault::TooLong, 8, "key 8 TooLong"),
+];
+
+#[test]
+fn faults_of_keys(rt: HostRuntime) -> Result<(), Fail> {
+    for (fault, number, text) in KEY_FAULTS {
+        assert_eq!(rt; fault.number(), number);
+        let printed = format!(in rt.alloc(); "{fault}")?;
+        assert_eq!(rt; printed.as_str(), text);
+    }
+    Ok(())
+}
+
+#[test]
+fn faults_of_lines(rt: HostRuntime) -> Result<(), Fail> {
+    let rows = [
+        (LineFault::NoKey, 1, "line 1 NoKey"),
+        (LineFault::Base64, 2, "line 2 Base64"),
+        (LineFault::WordDiffers, 3, "line 3 WordDiffers"),
+        (LineFault::NoMemory, 4, "line 4 NoMemory"),
+    ];
+    for (fault, number, text) in rows {
+        assert_eq!(rt; fault.number(), number);
+        let printed = format!(in rt.alloc(); "{fault}")?;
+        assert_eq!(rt; printed.as_str(), text);
+    }
+    Ok(())
+}

@@ -1,0 +1,42 @@
+// The names of kinds.
+
+use crate::Kind;
+
+const NAMES: [(Kind, &str, &str); 8] = [
+    (Kind::Rsa, "ssh-rsa", "RSA"),
+    (Kind::Dsa, "ssh-dss", "DSA"),
+    (Kind::Ecdsa256, "ecdsa-sha2-nistp256", "ECDSA"),
+    (Kind::Ecdsa384, "ecdsa-sha2-nistp384", "ECDSA"),
+    (Kind::Ecdsa521, "ecdsa-sha2-nistp521", "ECDSA"),
+    (Kind::Ed25519, "ssh-ed25519", "ED25519"),
+    (
+        Kind::EcdsaSk,
+        "sk-ecdsa-sha2-nistp256@openssh.com",
+        "ECDSA-SK",
+    ),
+    (Kind::Ed25519Sk, "sk-ssh-ed25519@openssh.com", "ED25519-SK"),
+];
+
+#[test]
+fn names(rt: HostRuntime) {
+    for (kind, name, short_name) in NAMES {
+        assert_eq!(rt; kind.name(), name);
+        assert_eq!(rt; kind.short_name(), short_name);
+        assert_eq!(rt; Kind::of_name(name.as_bytes()), Some(kind), "{name}");
+    }
+}
+
+#[test]
+fn other_names(rt: HostRuntime) {
+    for name in [
+        "",
+        "ssh-rs",
+        "ssh-rsa ",
+        "SSH-RSA",
+        "rsa-sha2-256",
+        "ssh-rsa-cert-v01@openssh.com",
+        "ssh-ed25519-cert-v01@openssh.com",
+    ] {
+        assert_eq!(rt; Kind::of_name(name.as_bytes()), None, "{name}");
+    }
+}
