@@ -1,0 +1,23 @@
+-- Listing the keys of a file (ssh-keygen(1), option -l).
+use Rattle.std.specs.Prelude.{ℕ, false, List, [], ◌∷◌, ◌++◌, codes, decimal}
+use Rattle.ssh_key.specs.declared.hash.Hash.{Hash}
+use Rattle.ssh_key.specs.Fingerprints.{fingerprint_text}
+use Rattle.ssh_key.specs.Kind.{short_name_of}
+use Rattle.krl_tool.specs.Escape.{escaped}
+use Rattle.krl_tool.specs.Run.{Answering, File, Item, file_items}
+
+abbrev pub comment_or_none : List ℕ → List ℕ
+comment_or_none [] = codes "no comment"
+comment_or_none (byte ∷ bytes) = escaped (byte ∷ bytes)
+
+-- the size in bits, the fingerprint, the comment and the kind
+abbrev pub list_line : ℕ → List ℕ → List ℕ → List ℕ → List ℕ
+list_line bits print comment kind = decimal bits ++ (codes " " ++ (print ++ (codes " " ++ (comment_or_none comment ++ (codes " (" ++ (kind ++ (codes ")" ++ 10 ∷ [])))))))
+
+-- the answer for a key by its fingerprint
+abbrev pub describe : Hash → Answering
+describe hash name line key = record { line = list_line key.bits (fingerprint_text hash line.blob) line.comment (short_name_of key.kind); revoked = false }
+
+-- Each key of the file gives one line, up to the first fault.
+unfoldable pub list_run_of : Hash → File → List Item
+list_run_of hash file = file_items (describe hash) file

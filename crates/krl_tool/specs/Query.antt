@@ -1,0 +1,48 @@
+-- Asking a list about keys (ssh-keygen(1), KEY REVOCATION LISTS).
+use Rattle.std.specs.Prelude.{◌≡◌, ℕ, Bool, true, false, List, [], ◌∷◌, ◌++◌, map, None, Some, Result, Ok, Err, codes}
+use Rattle.krl_tool.specs.declared.cause.Cause.{Cause}
+use Rattle.krl_tool.specs.declared.cause.Cause.TheVariants as causes
+use Rattle.krl_tool.specs.declared.krl_fault.KrlFault.{KrlFault}
+use Rattle.krl_tool.specs.declared.krl_fault.KrlFault.TheVariants.{NoMemory}
+use Rattle.krl_tool.specs.Entry.{Entry, KeyEntry, Revocations, entries_of, revoked}
+use Rattle.krl_tool.specs.Escape.{escaped}
+use Rattle.krl_tool.specs.Front.{IsFirstFault}
+use Rattle.krl_tool.specs.Krl.{Header, Section, Spells}
+use Rattle.krl_tool.specs.Run.{Answering, File, Item, files_items}
+
+-- a comment behind a file's name, where there is one
+abbrev pub comment_part : List ℕ → List ℕ
+comment_part [] = []
+comment_part (byte ∷ bytes) = codes " (" ++ (escaped (byte ∷ bytes) ++ codes ")")
+
+abbrev pub verdict : Bool → List ℕ
+verdict true = codes ": REVOKED"
+verdict false = codes ": ok"
+
+abbrev pub query_line : List ℕ → List ℕ → Bool → List ℕ
+query_line name comment is_revoked = escaped name ++ (comment_part comment ++ (verdict is_revoked ++ 10 ∷ []))
+
+-- the answer for a key by what the entries name
+abbrev pub ask : List Entry → Answering
+ask entries name line key =
+    let is_revoked = revoked entries line.blob in
+    record { line = query_line name line.comment is_revoked; revoked = is_revoked }
+
+-- what is kept of a list, as entries
+abbrev pub kept_entries : Revocations → List Entry
+kept_entries kept = map KeyEntry kept.keys
+
+-- What reading a list gives: the entries of its sections, or its first fault.
+abbrev pub IsRead : List ℕ → Result (List Entry) KrlFault → Type 0
+IsRead text (Err fault) = IsFirstFault text (Some fault)
+IsRead text (Ok entries) = IsFirstFault text None × ((header : Header) × (sections : List Section) × Spells text header sections × (entries ≡ entries_of sections))
+
+-- The list's first fault ends the run at once; else each key of each file gives one line, up to the first fault.
+unfoldable pub query_run_of : List ℕ → Result (List Entry) KrlFault → List File → List Item
+query_run_of name (Err fault) files = Err (record { name = name; line = None; cause = causes.Krl fault }) ∷ []
+query_run_of name (Ok entries) files = files_items (ask entries) files
+
+-- A want of memory is the run's own.
+abbrev pub krl_cause : KrlFault → Cause
+krl_cause NoMemory = causes.NoMemory
+krl_cause fault = causes.Krl fault

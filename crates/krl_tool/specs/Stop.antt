@@ -1,0 +1,54 @@
+-- Why a run stopped, and the line that tells it.
+use Rattle.std.specs.Prelude.{◌≡◌, ℕ, Bool, true, false, List, [], ◌++◌, Option, Some, None, codes, decimal}
+use Rattle.ssh_key.specs.KeyFault.{key_fault_text}
+use Rattle.ssh_key.specs.LineFault.{fault_text}
+use Rattle.krl_tool.specs.declared.cause.Cause.{Cause}
+use Rattle.krl_tool.specs.declared.cause.Cause.TheVariants.{File, Krl, Line, Subject, NoMemory, Output}
+use Rattle.krl_tool.specs.declared.cause.SubjectFault.{SubjectFault}
+use Rattle.krl_tool.specs.declared.cause.SubjectFault.TheVariants.{Key}
+use Rattle.krl_tool.specs.Escape.{escaped}
+use Rattle.krl_tool.specs.FileFault.{file_fault_text}
+use Rattle.krl_tool.specs.KrlFault.{fault_text as list_fault_text}
+
+-- the name of what was being worked on, the number of its line where there is one, and why
+pub record Stop : Type 0 where
+  pub name : List ℕ
+  pub line : Option ℕ
+  pub cause : Cause
+
+abbrev pub subject_fault_text : SubjectFault → List ℕ
+subject_fault_text (Key fault) = codes "subject 1 Key, " ++ key_fault_text fault
+
+-- the family, the number and the name of the fault, and the same of the fault that it carries
+abbrev pub cause_text : Cause → List ℕ
+cause_text (File fault) = file_fault_text fault
+cause_text (Krl fault) = list_fault_text fault
+cause_text (Line fault) = fault_text fault
+cause_text (Subject fault) = subject_fault_text fault
+cause_text NoMemory = codes "run 1 NoMemory"
+cause_text (Output count) = codes "output 1 Write after " ++ (decimal count ++ codes " bytes")
+
+abbrev pub line_part : Option ℕ → List ℕ
+line_part None = []
+line_part (Some number) = codes "line " ++ (decimal number ++ codes ": ")
+
+-- the line for standard error, without its line feed
+unfoldable pub fault_line : Stop → List ℕ
+fault_line stop = codes "ssh-keygen: " ++ (escaped stop.name ++ (codes ": " ++ (line_part stop.line ++ cause_text stop.cause)))
+
+abbrev pub is_no_memory : Cause → Bool
+is_no_memory NoMemory = true
+is_no_memory (File fault) = false
+is_no_memory (Krl fault) = false
+is_no_memory (Line fault) = false
+is_no_memory (Subject fault) = false
+is_no_memory (Output count) = false
+
+-- A fault of the run itself, told before its output is written. A want of memory names no line.
+abbrev pub IsInside : Cause → Option ℕ → Type 0
+IsInside (Output count) line = ⊥
+IsInside NoMemory line = line ≡ None
+IsInside (File fault) line = Unit {0}
+IsInside (Krl fault) line = Unit {0}
+IsInside (Line fault) line = Unit {0}
+IsInside (Subject fault) line = Unit {0}

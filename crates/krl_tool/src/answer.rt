@@ -1,0 +1,34 @@
+// What a run says of a key.
+
+ghost use Rattle.std.specs.Prelude.{◌≡◌, IfOk};
+ghost use Rattle.ssh_key.specs.LineReading.{content_of};
+
+use ssh_key::{Line, PublicKey};
+use ssh_wire::Bytes;
+use std::alloc::{AllocError, Global};
+
+/// What a run says of a key.
+#[derive(Debug, Drop)]
+pub struct Answer {
+    /// A line of the output, with its line feed.
+    pub line: Bytes,
+    /// Whether it says that the key is revoked.
+    pub revoked: bool,
+}
+
+/// How a run answers for each key of its files.
+pub trait Answers {
+    ghost use Rattle.krl_tool.specs.Run.{Answering};
+
+    // by the name of the file, what the key's line holds, and the key
+    ghost answer_to: { Self → Answering };
+
+    fn answer(
+        &self,
+        alloc: Global,
+        name: &str,
+        line: &Line,
+        key: &PublicKey,
+    ) -> Result<Answer, AllocError>
+        ensures { IfOk result (λ answer. answer ≡ answer_to self.now name.now (content_of line.now) key.now) };
+}

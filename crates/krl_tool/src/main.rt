@@ -1,0 +1,164 @@
+//! Lists public keys, and asks key revocation lists about them, as ssh-keygen(1) does.
+#![tactic(auto)]
+
+mod answer;
+mod cause;
+mod command;
+mod done;
+mod escape;
+mod file_fault;
+mod key_file;
+mod krl_fault;
+pub mod laws;
+mod list;
+mod listing;
+mod named;
+mod query;
+mod report;
+mod run_fault;
+mod split;
+mod walk;
+
+use crate::cause::Cause;
+use crate::command::{CommandFault, Job, Mode, command_of};
+use crate::done::Done;
+use crate::file_fault::FileFault;
+use crate::listing::list_run;
+use crate::named::{Named, load};
+use crate::query::query_run;
+use crate::run_fault::{RunFault, fault_text};
+use ssh_wire::{FromRead, ToWrite, send};
+use std::process::ExitCode;
+use std::{env, fs};
+
+/// The status of a command line that asks for nothing that the program does.
+const MISUSED: u8 = 2;
+
+/// The status of any other fault.
+const FAILED: u8 = 255;
+
+fn main(rt: HostRuntime) -> ExitCode {
+    ExitCode::from(run(&rt))
+}
+
+fn run(rt: &HostRuntime) -> u8 {
+    let Ok(words) = env::args(rt) else {
+        return refuse(rt, &CommandFault::NoMemory);
+    };
+    let Ok(words) = words.collect::<Vec<String>>(rt.alloc()) else {
+        return refuse(rt, &CommandFault::NoMemory);
+    };
+    match command_of(rt.alloc(), words.as_slice()) {
+        Ok(job) => run_job(rt, &job),
+        Err(fault) => refuse(rt, &fault),
+    }
+}
+
+fn run_job(rt: &HostRuntime, job: &Job) -> u8 {
+    match job.mode {
+        Mode::Keys => list_keys(rt, job),
+        Mode::Query => ask_list(rt, job),
+    }
+}
+
+/// `-l`: lists the keys of the file.
+fn list_keys(rt: &HostRuntime, job: &Job) -> u8 {
+    let file = if job.file == "-" {
+        load(rt.alloc(), job.file, &mut FromRead::new(rt.stdin()))
+    } else {
+        open(rt, job.file)
+    };
+    let mut out = ToWrite::new(rt.stdout());
+    end(rt, &list_run(rt.alloc(), job.hash, &file, &mut out))
+}
+
+/// `-Q`: asks the list about the keys of the files.
+fn ask_list(rt: &HostRuntime, job: &Job) -> u8 {
+    let krl = open(rt, job.file);
+    let text = match &krl.content {
+        Ok(text) => text.as_slice(),
+        Err(fault) => return end(rt, &failed(job.file, Cause::File(*fault))),
+    };
+    let mut files = Vec::new(rt.alloc());
+    for name in &job.files {
+        if files.push(open(rt, name)).is_err() {
+            return end(rt, &failed(name, Cause::NoMemory));
+        }
+    }
+    let mut out = ToWrite::new(rt.stdout());
+    let done = query_run(
+        rt.alloc(),
+        job.file,
+        text,
+        false,
+        files.as_slice(),
+        &mut out,
+    );
+    end(rt, &done)
+}
+
+/// The file of this name.
+fn open<'a>(rt: &HostRuntime, name: &'a str) -> Named<'a> {
+    match fs::open(rt, name) {
+        Ok(file) => load(rt.alloc(), name, &mut FromRead::new(file)),
+        Err(_) => Named {
+            name,
+            content: Err(FileFault::Open),
+        },
+    }
+}
+
+/// A run that a file stopped before it began.
+fn failed(name: &str, cause: Cause) -> Done<'_> {
+    Done {
+        status: FAILED,
+        fault: Some(RunFault {
+            name,
+            line: None,
+            cause,
+        }),
+    }
+}
+
+/// Tells why the run stopped, if it did, and gives its status.
+fn end(rt: &HostRuntime, done: &Done) -> u8 {
+    if let Some(fault) = &done.fault
+        && let Ok(text) = fault_text(rt.alloc(), fault)
+    {
+        tell(rt, text.as_slice());
+    }
+    done.status
+}
+
+/// Prints a line on standard error. A fault of standard error cannot be told.
+fn tell(rt: &HostRuntime, line: &[u8]) {
+    let mut err = ToWrite::new(rt.stderr());
+    if send(&mut err, line).is_ok() {
+        let _ = send(&mut err, b"\n");
+    }
+}
+
+/// Prints help, or why the words are refused, and gives the status.
+fn refuse(rt: &HostRuntime, fault: &CommandFault) -> u8 {
+    match fault {
+        CommandFault::Words { help: true, text } => {
+            let _ = send(&mut ToWrite::new(rt.stdout()), text.as_bytes());
+            0
+        }
+        CommandFault::Words { help: false, text } => {
+            let _ = send(&mut ToWrite::new(rt.stderr()), text.as_bytes());
+            MISUSED
+        }
+        CommandFault::Usage => {
+            let _ = rt.eprintln(format_args!("ssh-keygen: {fault}"));
+            MISUSED
+        }
+        CommandFault::NoMemory => {
+            let _ = rt.eprintln(format_args!("ssh-keygen: {fault}"));
+            FAILED
+        }
+    }
+}
+
+#[cfg(test)]
+mod tests;

@@ -1,0 +1,128 @@
+// Asking a list about the keys of files (ssh-keygen(1), KEY REVOCATION LISTS).
+
+ghost use Rattle.std.specs.Prelude.{◌≡◌, ◌++◌, IfErr, IfOk, List, Result, OnOk, false};
+ghost use Rattle.krl_tool.specs.declared.krl_fault.KrlFault.{KrlFault as FaultOf};
+ghost use Rattle.krl_tool.specs.Done.{Ends};
+ghost use Rattle.krl_tool.specs.Entry.{Entry};
+ghost use Rattle.krl_tool.specs.Query.{IsRead, ask, comment_part, kept_entries, krl_cause, query_line, query_run_of, verdict};
+ghost use Rattle.krl_tool.specs.Report.{Carries};
+ghost use Rattle.krl_tool.specs.Stop.{IsInside};
+
+use crate::answer::{Answer, Answers};
+use crate::cause::Cause;
+use crate::done::{Done, finish};
+use crate::escape::push_escaped;
+use crate::krl_fault::KrlFault;
+use crate::list::{RevokedList, read_list};
+use crate::named::Named;
+use crate::report::Report;
+use crate::run_fault::RunFault;
+use crate::walk::answer_files;
+use ssh_key::{Line, PublicKey};
+use ssh_wire::{Bytes, Sink};
+use std::alloc::{AllocError, Global};
+
+/// Says of each key whether a list revokes it.
+#[derive(Drop)]
+struct Query<'q, 'l> {
+    list: &'q RevokedList<'l>,
+}
+
+impl<'q, 'l> Answers for Query<'q, 'l> {
+    ghost answer_to = { λ query. ask (kept_entries query.list.now) };
+
+    fn answer(
+        &self,
+        alloc: Global,
+        name: &str,
+        line: &Line,
+        _key: &PublicKey,
+    ) -> Result<Answer, AllocError> {
+        let revoked = self.list.is_revoked(line.blob.as_slice());
+        let line = query_line(alloc, name, line.comment, revoked)?;
+        Ok(Answer { line, revoked })
+    }
+}
+
+/// The line of a key, with its line feed.
+fn query_line(alloc: Global, name: &str, comment: &[u8], revoked: bool) -> Result<Bytes, AllocError>
+    ensures { IfOk result (λ line. line ≡ query_line name.now comment.now revoked) }
+{
+    let mut text = Vec::new(alloc);
+    push_escaped(&mut text, name.as_bytes())?;
+    push_comment(&mut text, comment)?;
+    text.extend_from_slice(verdict(revoked))?;
+    text.push(b'\n')?;
+    Ok(Bytes::from_vec(text))
+}
+
+fn verdict(revoked: bool) -> &'static [u8]
+    ensures { result.now ≡ verdict revoked }
+{
+    if revoked { b": REVOKED" } else { b": ok" }
+}
+
+fn push_comment(text: &mut Vec<u8>, comment: &[u8]) -> Result<(), AllocError>
+    ensures { OnOk result (text.new.items ≡ text.old.items ++ comment_part comment.now) }
+{
+    if !comment.is_empty() {
+        text.extend_from_slice(b" (")?;
+        push_escaped(text, comment)?;
+        text.extend_from_slice(b")")?;
+    }
+    Ok(())
+}
+
+/// Asks a list about each key of each file, and says of each in a line whether it is revoked. The
+/// list's contents are not printed: `dump` is false.
+pub fn query_run<'a, W: Sink>(
+    alloc: Global,
+    krl_name: &'a str,
+    krl: &[u8],
+    dump: bool,
+    files: &'a [Named<'a>],
+    out: &mut W,
+) -> Done<'a>
+    requires working { W.has_failed out.old ≡ false }
+    requires no_dump { dump ≡ false }
+    ensures { (reading : Result (List Entry) FaultOf) → IsRead krl.now reading →
+        Ends (query_run_of krl_name.now reading files.now) (W.taken out.old) (W.taken out.new)
+        (W.has_failed out.new) result.status result.fault }
+{
+    let _ = dump;
+    let mut report = Report::new(alloc);
+    let stop = ask_list(alloc, krl_name, krl, files, &mut report).err();
+    finish(&report, stop, out)
+}
+
+fn ask_list<'a>(
+    alloc: Global,
+    krl_name: &'a str,
+    krl: &[u8],
+    files: &'a [Named<'a>],
+    report: &mut Report,
+) -> Result<(), RunFault<'a>>
+    ensures says { (reading : Result (List Entry) FaultOf) → IsRead krl.now reading →
+        Carries (query_run_of krl_name.now reading files.now) result report.old report.new }
+    ensures inside { IfErr result (λ stop. IsInside stop.cause stop.line) }
+{
+    match read_list(alloc, krl) {
+        Ok(list) => answer_files(alloc, &Query { list: &list }, files, report),
+        Err(fault) => Err(RunFault {
+            name: krl_name,
+            line: None,
+            cause: cause_of(fault),
+        }),
+    }
+}
+
+/// A want of memory is the run's own.
+fn cause_of(fault: KrlFault) -> Cause
+    ensures { result ≡ krl_cause fault }
+{
+    if fault == KrlFault::NoMemory {
+        Cause::NoMemory
+    } else {
+        Cause::Krl(fault)
+    }
+}

@@ -1,0 +1,90 @@
+# Files: missing, unreadable, too long, or without a key; names with control bytes; outputs that
+# take nothing.
+
+line ssh-ed25519 "$G" >g.pub
+line ssh-ed25519 "$A" >a
+bytes "$H" "$(section "$G")" >r.krl
+mkdir -p folder
+: >empty
+printf '# nothing\n\n \t\r\n' >comments
+listed="256 $(fingerprint "$G") no comment (ED25519)"$'\n'
+
+# fails NAME OUTPUT FAULT WORD..: the run ends with this fault line.
+fails() {
+  expect "$1" 255 "$2" "ssh-keygen: $3"$'\n' "${@:4}"
+}
+fails 'a missing file' $'g.pub: REVOKED\n' 'none: file 1 Open' -Q -f r.krl g.pub none
+fails 'a missing file, the first' '' 'none: file 1 Open' -Q -f r.krl none g.pub
+fails 'a missing list' '' 'none: file 1 Open' -Q -f none g.pub
+fails 'a missing file to list' '' 'none: file 1 Open' -l -f none
+fails 'a path through a file' '' 'g.pub/x: file 1 Open' -l -f g.pub/x
+fails 'a folder for a file' $'a: ok\n' 'folder: file 2 Read' -Q -f r.krl a folder
+fails 'a folder for a list' '' 'folder: file 2 Read' -Q -f folder g.pub
+fails 'a folder to list' '' 'folder: file 2 Read' -l -f folder
+fails 'a folder for standard input' '' '-: file 2 Read' -l -f - <folder
+fails 'an empty key file' $'g.pub: REVOKED\n' 'empty: file 5 NoKeys' -Q -f r.krl g.pub empty g.pub
+fails 'an empty file to list' '' 'empty: file 5 NoKeys' -l -f empty
+fails 'empty standard input' '' '-: file 5 NoKeys' -l -f -
+fails 'a file of comments' '' 'comments: file 5 NoKeys' -l -f comments
+fails 'a hyphen is a name in a query' '' '-: file 1 Open' -Q -f r.krl - <g.pub
+
+# Root may read what no one else may, so root asks as nobody, whom the scratch folder lets in.
+touch closed && chmod 000 closed
+cp "$binary" built && chmod 755 "$scratch" built
+ask=(./built)
+[ "$(id -u)" != 0 ] || ask=(setpriv --reuid=65534 --regid=65534 --clear-groups ./built)
+program=${ask[0]} fails 'a file without leave to read' '' 'closed: file 1 Open' "${ask[@]:1}" -l -f closed
+
+control=$'a\tb\x1b\x7f'
+cp g.pub "$control"
+expect 'a name with control bytes' 1 'a\x09b\x1b\x7f: REVOKED'$'\n' '' -Q -f r.krl "$control"
+fails 'a missing name with control bytes' '' 'no\x0ane: file 1 Open' -Q -f r.krl $'no\nne'
+fails 'a missing list with control bytes' '' '\x01: file 1 Open' -Q -f $'\x01' g.pub
+cp g.pub 'Zoë x'
+expect 'a name in UTF-8 with a blank' 1 $'Zoë x: REVOKED\n' '' -Q -f r.krl 'Zoë x'
+
+# The greatest length: one section of one key of zero bytes fills the list to the limit.
+limit=16777216
+zeros=$((limit - 44 - 9))
+{
+  bytes "$H" 02 "$(printf %08x $((zeros + 4)))" "$(printf %08x $zeros)"
+  head -c $zeros /dev/zero
+} >most.krl
+expect 'a list of the greatest length' 0 $'a: ok\n' '' -Q -f most.krl a
+{ cat most.krl && printf '\0'; } >more.krl
+fails 'a list of one byte more' '' 'more.krl: file 3 TooLong' -Q -f more.krl a
+{ cat g.pub && head -c $((limit - 81)) /dev/zero | tr '\0' '#'; } >most.pub
+expect 'a key file of the greatest length' 0 "$listed" '' -l -f most.pub
+printf '\n' >>most.pub
+fails 'a key file of one byte more' '' 'most.pub: file 3 TooLong' -l -f most.pub
+fails 'standard input of a hundred megabytes' '' '-: file 3 TooLong' -l -f - \
+  < <(head -c 100000000 /dev/zero)
+
+# full NAME STATUS ERROR WORD..: the run's output takes no byte.
+full() {
+  local name=$1 status=$2 error=$3 got
+  shift 3
+  "$program" "$@" >/dev/full 2>"$scratch/error"
+  got=$?
+  judge "$name" "$(
+    differs 'exit status' "$status" $got
+    differs 'standard error' "$error" "$(cat "$scratch/error")"
+  )"
+}
+fault='ssh-keygen: output: output 1 Write after 0 bytes'
+full 'a listing on a full device' 255 "$fault" -l -f g.pub
+full 'a query on a full device' 255 "$fault" -Q -f r.krl g.pub a
+full 'a query of no revoked key on a full device' 255 "$fault" -Q -f r.krl a
+full 'a missing file, told to a full device' 255 "$fault" -Q -f r.krl g.pub none
+full 'nothing to write on a full device' 0 '' -Q -f r.krl
+
+# An output that takes 1,024 bytes and no more: a file at the greatest size that is allowed.
+for _ in {1..20}; do cat g.pub; done >many
+for _ in {1..20}; do printf %s "$listed"; done | head -c 1024 >wanted
+(trap '' XFSZ && ulimit -f 1 && "$program" -l -f many >cut 2>"$scratch/error")
+got=$?
+judge 'an output that fails half way' "$(
+  differs 'exit status' 255 $got
+  differs 'standard error' 'ssh-keygen: output: output 1 Write after 1024 bytes' "$(cat "$scratch/error")"
+  cmp wanted cut 2>&1
+)"

@@ -1,0 +1,58 @@
+# What the parts of tests/run share: running the program and comparing what it did.
+
+passed=0
+failed=0
+
+# expect NAME STATUS OUTPUT ERROR WORD..: runs the program with the words and compares its status
+# and both of its outputs, to the last byte.
+expect() {
+  local name=$1 status=$2 output=$3 error=$4
+  shift 4
+  run "$@"
+  judge "$name" "$(
+    differs 'exit status' "$status" "$got_status"
+    differs 'standard output' "$output" "$got_output"
+    differs 'standard error' "$error" "$got_error"
+  )"
+}
+
+# expect_text NAME STATUS STREAM WORD..: as expect, where the text is the command line library's
+# own: it stands on the named stream (output or error), and nothing on the other.
+expect_text() {
+  local name=$1 status=$2 stream=$3 said silent
+  shift 3
+  run "$@"
+  said=$got_error silent=$got_output
+  [ "$stream" = error ] || { said=$got_output silent=$got_error; }
+  judge "$name" "$(
+    differs 'exit status' "$status" "$got_status"
+    [ -n "$said" ] || printf '  nothing on standard %s\n' "$stream"
+    differs 'the other stream' '' "$silent"
+  )"
+}
+
+# Runs the program with the words; its standard input is the caller's.
+run() {
+  "$program" "$@" >"$scratch/output" 2>"$scratch/error"
+  got_status=$?
+  # The dot keeps the line ends that stand last.
+  got_output=$(tr '\0' '@' <"$scratch/output" && printf .)
+  got_output=${got_output%.}
+  got_error=$(tr '\0' '@' <"$scratch/error" && printf .)
+  got_error=${got_error%.}
+}
+
+differs() {
+  [ "$2" = "$3" ] || printf '  %s: wanted %q, got %q\n' "$1" "$2" "$3"
+}
+
+# judge NAME DIFFERENCES: a test passes where nothing differs.
+judge() {
+  if [ -z "$2" ]; then
+    passed=$((passed + 1))
+    printf 'ok %s\n' "$1"
+  else
+    failed=$((failed + 1))
+    printf 'not ok %s\n%s\n' "$1" "$2"
+  fi
+}
