@@ -19,3 +19,4 @@ pub mod Report
 pub mod Query
 pub mod Done
 pub mod Listing
+pub mod Command

@@ -1,5 +1,8 @@
 // The words of the command line (ssh-keygen(1), SYNOPSIS).
 
+ghost use Rattle.std.specs.Prelude.{◌≡◌};
+ghost use Rattle.krl_tool.specs.Command.{command_fault_number};
+
 use clap::error::ErrorKind;
 use clap::{Arg, ArgAction, ArgMatches, Command, Error};
 use ssh_key::Hash;
@@ -45,7 +48,9 @@ pub enum CommandFault {
 
 impl CommandFault {
     /// The fault's number.
-    pub fn number(&self) -> u8 {
+    pub fn number(&self) -> u8
+        ensures { result ≡ command_fault_number self.now }
+    {
         match self {
             CommandFault::Usage => 1,
             CommandFault::Words { .. } => 2,

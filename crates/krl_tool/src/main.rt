@@ -1,6 +1,9 @@
 //! Lists public keys, and asks key revocation lists about them, as ssh-keygen(1) does.
 #![tactic(auto)]
 
+ghost use Rattle.std.specs.Prelude.{◌≡◌, None, Some};
+ghost use Rattle.krl_tool.specs.Command.{command_fault_status};
+
 mod answer;
 mod cause;
 mod command;
@@ -109,7 +112,10 @@ fn open<'a>(rt: &HostRuntime, name: &'a str) -> Named<'a> {
 }
 
 /// A run that a file stopped before it began.
-fn failed(name: &str, cause: Cause) -> Done<'_> {
+fn failed(name: &str, cause: Cause) -> Done<'_>
+    ensures status { result.status ≡ 255 }
+    ensures fault { result.fault ≡ Some (record { name = name.now; line = None; cause = cause }) }
+{
     Done {
         status: FAILED,
         fault: Some(RunFault {
@@ -121,7 +127,9 @@ fn failed(name: &str, cause: Cause) -> Done<'_> {
 }
 
 /// Tells why the run stopped, if it did, and gives its status.
-fn end(rt: &HostRuntime, done: &Done) -> u8 {
+fn end(rt: &HostRuntime, done: &Done) -> u8
+    ensures { result ≡ done.now.status }
+{
     if let Some(fault) = &done.fault
         && let Ok(text) = fault_text(rt.alloc(), fault)
     {
@@ -139,7 +147,9 @@ fn tell(rt: &HostRuntime, line: &[u8]) {
 }
 
 /// Prints help, or why the words are refused, and gives the status.
-fn refuse(rt: &HostRuntime, fault: &CommandFault) -> u8 {
+fn refuse(rt: &HostRuntime, fault: &CommandFault) -> u8
+    ensures { result ≡ command_fault_status fault.now }
+{
     match fault {
         CommandFault::Words { help: true, text } => {
             let _ = send(&mut ToWrite::new(rt.stdout()), text.as_bytes());
