@@ -8,7 +8,7 @@ use std::test::*;
 
 #[test]
 fn each_key(rt: HostRuntime) -> Result<(), Fail> {
-    // the parts of the file and the output; the fingerprints are those of OpenSSH
+    // the parts of the file and the output; other programs made the fingerprints
     let rows: [(Hash, &[&[u8]], &str); 5] = [
         (
             Hash::Sha256,
