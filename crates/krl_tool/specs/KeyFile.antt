@@ -1,7 +1,7 @@
 -- The lines of a key file that have a key.
 use Rattle.std.specs.Prelude.{ℕ, ◌==◌, ◌&&◌, Bool, false, not, if◌then◌else◌, List, [], ◌∷◌}
 use Rattle.std.specs.List.{list_all}
-use Rattle.ssh_key.specs.KeyLine.{is_blank, is_ending}
+use Rattle.ssh_key.specs.Blanks.{is_blank, is_ending}
 
 abbrev pub is_newline : ℕ → Bool
 is_newline byte = byte == 10

@@ -2,7 +2,7 @@
 
 ghost use Rattle.std.specs.Prelude.{◌≡◌, ◌<◌, IsTrue, length};
 ghost use Rattle.std.specs.List.{list_all};
-ghost use Rattle.ssh_key.specs.KeyLine.{is_blank, is_ending};
+ghost use Rattle.ssh_key.specs.Blanks.{is_blank, is_ending};
 ghost use Rattle.krl_tool.specs.KeyFile.{has_key, is_comment};
 
 /// Whether a line has a key: it is neither empty nor a comment, which begins with `#`. Blanks at

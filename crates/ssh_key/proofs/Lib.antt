@@ -8,6 +8,9 @@ pub mod Keys
 pub mod FirstFaults
 pub mod LineWords
 pub mod LineNames
+pub mod DecodedBytes
 pub mod LineBase64
 pub mod LineOptions
+pub mod TextWords
 pub mod LineLaws
+pub mod LineFaults

@@ -1,5 +1,5 @@
--- Base64: its words have no blank and are not empty, and decoding undoes it.
-use Rattle.std.proofs.Common.{◌≡◌, ℕ, ◌+◌, ◌*◌, ◌/◌, ◌%◌, ◌<◌, true, List, [], ◌∷◌, Result, Ok, Err, length, replicate, slice_index, refl, ap, arith, inl, inr}
+-- Base64: its words have no blank and are not empty, and decoding undoes it and gives bytes.
+use Rattle.std.proofs.Common.{◌≡◌, ℕ, ◌+◌, ◌*◌, ◌/◌, ◌%◌, ◌<◌, true, List, [], ◌∷◌, Result, Ok, Err, length, replicate, slice_index, refl, ap, arith, inl, inr, ◌⊎◌}
 use Rattle.std.proofs.lemmas.Bool.{cases_lt}
 use Rattle.std.proofs.lemmas.List.{get_or_past, length-append}
 use Rattle.std.proofs.lemmas.List.Elements.{All-append, All-cons, All-nil, All-replicate}
@@ -13,6 +13,8 @@ use Rattle.base64.specs.declared.decode.DecodeError.{DecodeError}
 use Rattle.ssh_wire.specs.Wire.{IsBytes}
 use Rattle.ssh_key.specs.KeyLine.{base64}
 use Rattle.ssh_key.specs.LineReading.{decoded, or_base64}
+use Rattle.ssh_key.specs.declared.line_fault.LineFault.TheVariants.{Base64}
+use Rattle.ssh_key.proofs.DecodedBytes.{IsBytes-decoded}
 use Rattle.ssh_key.proofs.LineWords.{not_blank}
 
 abbrev table : List ℕ
@@ -88,3 +90,15 @@ or_base64_ok (Ok found) bytes e = let same : found ≡ bytes = cc in ap (λ (xs 
 pub decoded_takes : (text bytes : List ℕ) → IsBytes text → decoded text ≡ Ok bytes → text ≡ base64 bytes
 unfolding decoded base64
 decoded_takes text bytes fits e = decode_of_strict standard text bytes (refl, refl) fits (or_base64_ok (decode_of standard text) bytes e)
+
+pub decoded_bytes : (text bytes : List ℕ) → IsBytes text → decoded text ≡ Ok bytes → IsBytes bytes
+unfolding decoded
+decoded_bytes text bytes fits e = IsBytes-decoded text bytes fits (or_base64_ok (decode_of standard text) bytes e)
+
+or_base64_cases : (read : Result (List ℕ) DecodeError) → (or_base64 read ≡ Err Base64) ⊎ ((bytes : List ℕ) × (or_base64 read ≡ Ok bytes))
+or_base64_cases (Err error) = inl refl
+or_base64_cases (Ok bytes) = inr (bytes, refl)
+
+pub decoded_cases : (text : List ℕ) → (decoded text ≡ Err Base64) ⊎ ((bytes : List ℕ) × (decoded text ≡ Ok bytes))
+unfolding decoded
+decoded_cases text = or_base64_cases (decode_of standard text)

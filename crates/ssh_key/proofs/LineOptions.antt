@@ -2,7 +2,8 @@
 use Rattle.std.proofs.Common.{◌≡◌, ◌≢◌, ℕ, ◌==◌, ◌&&◌, Bool, true, false, not, cond, List, [], ◌∷◌, ◌++◌, Some, None, refl, sym, ap, subst, ◌∙◌, arith, inl, inr}
 use Rattle.std.proofs.lemmas.Bool.{and_right, both_ways, cases_Bool, cases_eq, eq-eqb, ne_eqb}
 use Rattle.std.proofs.lemmas.List.{append_assoc}
-use Rattle.ssh_key.specs.KeyLine.{IsNoPair, Options, Quoted, is_blank, options_byte, options_end, options_pair, options_quoted, quoted_byte, quoted_end, quoted_pair}
+use Rattle.ssh_key.specs.Blanks.{is_blank}
+use Rattle.ssh_key.specs.KeyLine.{IsNoPair, Options, Quoted, options_byte, options_end, options_pair, options_quoted, quoted_byte, quoted_end, quoted_pair}
 use Rattle.ssh_key.specs.LineReading.{after_options, quoted_behind}
 use Rattle.ssh_key.proofs.LineWords.{Stops, not_blank}
 

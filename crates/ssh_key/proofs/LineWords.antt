@@ -1,12 +1,13 @@
 -- Where words and blanks end.
 use Rattle.std.proofs.Common.{◌≡◌, ℕ, ◌+◌, ◌<◌, Bool, true, false, not, List, [], ◌∷◌, ◌++◌, length, take, drop, refl, sym, ap, subst, ◌∙◌, arith, inl, inr}
-use Rattle.std.proofs.lemmas.Bool.{cases_lt, not-false}
+use Rattle.std.proofs.lemmas.Bool.{cases_lt, not-false, not-true}
 use Rattle.std.proofs.lemmas.List.{drop_all, drop_at, drop_more, get_or_append_left, get_or-take, get_or_at, length-append, length-take, take-append-drop, take_at}
 use Rattle.std.proofs.lemmas.List.Sums.{prefix_len_is, prefix_len_passes, prefix_len_stops}
 use Rattle.std.specs.List.{AllPass, prefix_len}
 use Rattle.ssh_wire.specs.Wire.{IsBytes}
 use Rattle.ssh_wire.proofs.Digits.{IsBytes-drop, IsBytes-take}
-use Rattle.ssh_key.specs.KeyLine.{AreBlanks, BeginsWithNoBlank, Comment, after_blanks, before_ending, comment_after, first_word, is_blank, no_comment, trimmed}
+use Rattle.ssh_key.specs.Blanks.{AreBlanks, IsWord, BeginsWithNoBlank, after_blanks, before_ending, first_word, is_blank, trimmed}
+use Rattle.ssh_key.specs.KeyLine.{Comment, comment_after, no_comment}
 use Rattle.ssh_key.specs.LineReading.{after_word}
 
 -- xs does not begin with an element that passes
@@ -86,6 +87,19 @@ gap (byte ∷ text) stops some =
     let one : prefix_len is_blank (byte ∷ text) ≡ 1 + prefix_len is_blank text = rw blank refl in
     record { some = omega (arith, one, length-take (prefix_len is_blank (byte ∷ text)) (byte ∷ text)); each = front_passes is_blank (byte ∷ text) }
 
+-- a word stands where no blank does
+pub first_word_is : (text : List ℕ) → 0 < length text → Stops is_blank text → IsWord (first_word text)
+unfolding first_word
+first_word_is [] some bare = absurd (omega (arith, some))
+first_word_is (byte ∷ text) some bare =
+    let one : prefix_len not_blank (byte ∷ text) ≡ 1 + prefix_len not_blank text = rw bare refl in
+    record { some = omega (arith, one, length-take (prefix_len not_blank (byte ∷ text)) (byte ∷ text)); each = front_passes not_blank (byte ∷ text) }
+
+-- and a word begins with no blank, whatever stands behind it
+pub word_stops : (word rest : List ℕ) → IsWord word → Stops is_blank (word ++ rest)
+word_stops [] rest is = absurd (omega (arith, is.some))
+word_stops (byte ∷ word) rest is = not-true (is_blank byte) (is.each 0 0 (omega arith))
+
 -- ---- the comment
 
 pub comment_cut : (end : List ℕ) → Stops not_blank end → Comment end (after_blanks end)
@@ -112,14 +126,6 @@ comment_stops end comment (comment_after blanks comment' are bare) = (blanks_sto
 pub IsBytes-after_blanks : (text : List ℕ) → IsBytes text → IsBytes (after_blanks text)
 unfolding after_blanks
 IsBytes-after_blanks text fits = IsBytes-drop (prefix_len is_blank text) text fits
-
-pub IsBytes-after_word : (text : List ℕ) → IsBytes text → IsBytes (after_word text)
-unfolding after_word
-IsBytes-after_word text fits = IsBytes-drop (prefix_len not_blank text) text fits
-
-pub IsBytes-first_word : (text : List ℕ) → IsBytes text → IsBytes (first_word text)
-unfolding first_word
-IsBytes-first_word text fits = IsBytes-take (prefix_len not_blank text) text fits
 
 pub IsBytes-trimmed : (text : List ℕ) → IsBytes text → IsBytes (trimmed text)
 unfolding trimmed before_ending

@@ -1,43 +1,12 @@
 -- The key line of an authorized keys file (sshd(8), AUTHORIZED_KEYS FILE FORMAT), as a relation
 -- between its text and the type word, the key's bytes and the comment.
-use Rattle.std.specs.Prelude.{◌≡◌, ◌≢◌, ℕ, Bool, false, not, ◌-◌, ◌<◌, ◌==◌, ◌||◌, ◌⊎◌, List, [], ◌∷◌, ◌++◌, length, take, drop, Contains}
-use Rattle.std.specs.List.{AllPass, prefix_len, suffix_len, take_while}
+use Rattle.std.specs.Prelude.{◌≡◌, ◌≢◌, ℕ, false, ◌⊎◌, List, [], ◌∷◌, ◌++◌, Contains}
 use Rattle.base64.specs.Engines.{standard}
 use Rattle.base64.specs.GeneralPurpose.{encode_of}
-use Rattle.ssh_wire.specs.Wire.{IsBytes, string}
+use Rattle.ssh_wire.specs.Wire.{IsBytes}
+use Rattle.ssh_key.specs.FirstFault.{BeginsWith}
 use Rattle.ssh_key.specs.TypeName.{type_names}
-
--- a space or a tab
-abbrev pub is_blank : ℕ → Bool
-is_blank byte = (byte == 32) || (byte == 9)
-
--- a blank or a carriage return
-abbrev pub is_ending : ℕ → Bool
-is_ending byte = is_blank byte || (byte == 13)
-
--- without the blanks at its start
-unfoldable pub after_blanks : List ℕ → List ℕ
-after_blanks text = drop (prefix_len is_blank text) text
-
--- without the blanks and carriage returns at its end
-unfoldable pub before_ending : List ℕ → List ℕ
-before_ending text = take (length text - suffix_len is_ending text) text
-
-unfoldable pub trimmed : List ℕ → List ℕ
-trimmed text = before_ending (after_blanks text)
-
--- up to a blank or the end
-unfoldable pub first_word : List ℕ → List ℕ
-first_word text = take_while (λ byte. not (is_blank byte)) text
-
--- one blank or more
-pub record AreBlanks (bytes : List ℕ) : Type 0 where
-  pub some : 0 < length bytes
-  pub each : AllPass is_blank bytes
-
-abbrev pub BeginsWithNoBlank : List ℕ → Type 0
-BeginsWithNoBlank [] = Unit {0}
-BeginsWithNoBlank (byte ∷ bytes) = is_blank byte ≡ false
+use Rattle.ssh_key.specs.Blanks.{AreBlanks, BeginsWithNoBlank, IsWord, first_word, is_blank, trimmed}
 
 abbrev pub backslash : ℕ
 backslash = 92
@@ -73,30 +42,36 @@ pub data Comment : List ℕ → List ℕ → Type 0 where
   no_comment : Comment [] []
   comment_after : (blanks comment : List ℕ) → AreBlanks blanks → BeginsWithNoBlank comment → Comment (blanks ++ comment) comment
 
--- A line from its type word on: a type name, blanks, the base64 of the key, and the comment. The
--- key begins with the string of the type name.
-pub record IsKeyPart (line word blob comment : List ℕ) : Type 0 where
+-- A line from its type word on: a type name, blanks, the word that encodes the key, and the comment.
+pub record AreWords (line word encoded comment : List ℕ) : Type 0 where
   pub name : Contains type_names word
   pub blanks : List ℕ
   pub are_blanks : AreBlanks blanks
-  pub fields : List ℕ
-  pub begins : blob ≡ string word ++ fields
-  pub bytes : IsBytes blob
+  pub is_word : IsWord encoded
   pub end : List ℕ
   pub ended : Comment end comment
-  pub spelled : line ≡ word ++ (blanks ++ (base64 blob ++ end))
+  pub spelled : line ≡ word ++ (blanks ++ (encoded ++ end))
 
--- a line that begins with an options field: its first word is no type name
-pub record IsOptionsLine (line word blob comment : List ℕ) : Type 0 where
+-- the same behind an options field: the first word of the line is no type name
+pub record AreWordsBehindOptions (line word encoded comment : List ℕ) : Type 0 where
   pub other : ¬ Contains type_names (first_word line)
   pub options : List ℕ
   pub are_options : Options options
   pub blanks : List ℕ
   pub are_blanks : AreBlanks blanks
   pub part : List ℕ
-  pub is_part : IsKeyPart part word blob comment
+  pub are_words : AreWords part word encoded comment
   pub spelled : line ≡ options ++ (blanks ++ part)
 
-abbrev pub IsKeyLine : List ℕ → List ℕ → List ℕ → List ℕ → Type 0
-IsKeyLine text word blob comment =
-    IsKeyPart (trimmed text) word blob comment ⊎ IsOptionsLine (trimmed text) word blob comment
+-- the type word of a text, the word behind it and the comment
+abbrev pub HasWords : List ℕ → List ℕ → List ℕ → List ℕ → Type 0
+HasWords text word encoded comment =
+    AreWords (trimmed text) word encoded comment
+    ⊎ AreWordsBehindOptions (trimmed text) word encoded comment
+
+-- The word behind the type word is the base64 of the key. The key begins with the string of the type
+-- word.
+pub record IsKeyLine (text word blob comment : List ℕ) : Type 0 where
+  pub words : HasWords text word (base64 blob) comment
+  pub bytes : IsBytes blob
+  pub begins : BeginsWith blob word

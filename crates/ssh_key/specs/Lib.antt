@@ -7,6 +7,8 @@ pub mod FirstFault
 pub mod Fields
 pub mod TypeName
 pub mod LineFault
+pub mod Blanks
 pub mod KeyLine
 pub mod LineReading
+pub mod LineFaults
 pub mod Fingerprints

@@ -11,7 +11,8 @@ use Rattle.ssh_key.specs.declared.line.Line.{Line}
 use Rattle.ssh_key.specs.declared.line_fault.LineFault.{LineFault}
 use Rattle.ssh_key.specs.declared.line_fault.LineFault.TheVariants.{NoKey, Base64, WordDiffers, NoMemory}
 use Rattle.ssh_key.specs.TypeName.{is_type_name}
-use Rattle.ssh_key.specs.KeyLine.{is_blank, after_blanks, backslash, first_word, quote, trimmed}
+use Rattle.ssh_key.specs.Blanks.{is_blank, after_blanks, first_word, trimmed}
+use Rattle.ssh_key.specs.KeyLine.{backslash, quote}
 
 -- what a line holds
 pub record Content : Type 0 where

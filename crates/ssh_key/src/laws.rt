@@ -1,16 +1,19 @@
 //! What holds for every key and every list of bytes, each as the contract of a function that does
 //! nothing. `read_key` answers what the reader named here gives, and `plain_blob` the blob.
 
-ghost use Rattle.std.specs.Prelude.{◌≡◌, ◌*◌, ◌^◌, ◌<◌, ◌≤◌, ◌↔◌, ℕ, List, Err, Ok};
+ghost use Rattle.std.specs.Prelude.{◌≡◌, ◌*◌, ◌^◌, ◌<◌, ◌≤◌, ◌↔◌, ℕ, List, Err, Ok, length};
+ghost use Rattle.ssh_key.specs.Blanks.{IsWord};
 ghost use Rattle.ssh_key.specs.FirstFault.{IsFirstFault};
 ghost use Rattle.ssh_key.specs.Key.{IsKey, IsPositive, Key, blob_of};
-ghost use Rattle.ssh_key.specs.KeyLine.{IsKeyLine};
+ghost use Rattle.ssh_key.specs.KeyLine.{IsKeyLine, base64};
 ghost use Rattle.ssh_key.specs.KeyReading.{key_at};
 ghost use Rattle.ssh_key.specs.Kind.{bit_count, fields_of, type_name};
+ghost use Rattle.ssh_key.specs.LineFaults.{IsFirstLineFault};
 ghost use Rattle.ssh_key.specs.LineReading.{Content, content, line_at};
 ghost use Rattle.ssh_key.specs.Value.{SameValues};
 ghost use Rattle.ssh_key.specs.declared.fault.KeyFault.{KeyFault};
 ghost use Rattle.ssh_key.specs.declared.kind.Kind.{Kind};
+ghost use Rattle.ssh_key.specs.declared.line_fault.LineFault.{LineFault};
 ghost use Rattle.ssh_wire.specs.Wire.{IsBytes, number_of};
 
 /// No two kinds have one type name.
@@ -58,5 +61,21 @@ pub fn blob_read_back()
 /// Reading gives what a key line holds exactly where the text is one.
 pub fn line_read_where_spelled()
     ensures read { (text word blob comment : List ℕ) → IsKeyLine text word blob comment → line_at text ≡ Ok (content word blob comment) }
-    ensures spelled { (text : List ℕ) (line : Content) → IsBytes text → IsBytes line.blob → line_at text ≡ Ok line → IsKeyLine text line.word line.blob line.comment }
+    ensures spelled { (text : List ℕ) (line : Content) → IsBytes text → line_at text ≡ Ok line → IsKeyLine text line.word line.blob line.comment }
+{}
+
+/// The base64 of a key is always a word, so no key is left out of the key lines for its bytes.
+pub fn base64_is_word()
+    ensures { (blob : List ℕ) → 0 < length blob → IsWord (base64 blob) }
+{}
+
+/// Reading meets a fault exactly where it is the first fault of the text.
+pub fn line_refused_by_first_fault()
+    ensures { (text : List ℕ) (fault : LineFault) → IsBytes text → (line_at text ≡ Err fault) ↔ IsFirstLineFault text fault }
+{}
+
+/// A text has one first fault at most, and a key line has none.
+pub fn one_first_line_fault()
+    ensures one { (text : List ℕ) (a b : LineFault) → IsBytes text → IsFirstLineFault text a → IsFirstLineFault text b → a ≡ b }
+    ensures none { (text word blob comment : List ℕ) (fault : LineFault) → IsBytes text → IsKeyLine text word blob comment → IsFirstLineFault text fault → ⊥ }
 {}

@@ -1,9 +1,11 @@
 // Reading a key line (sshd(8), AUTHORIZED_KEYS FILE FORMAT).
 
-ghost use Rattle.std.specs.Prelude.{◌≡◌, ℕ, List, IfOk, Ok, option_map};
+ghost use Rattle.std.specs.Prelude.{◌≡◌, ℕ, List, IfErr, IfOk, Ok, option_map};
 ghost use Rattle.ssh_wire.specs.Wire.{IsBytes};
-ghost use Rattle.ssh_key.specs.KeyLine.{IsKeyLine, first_word};
+ghost use Rattle.ssh_key.specs.Blanks.{first_word};
+ghost use Rattle.ssh_key.specs.KeyLine.{IsKeyLine};
 ghost use Rattle.ssh_key.specs.TypeName.{is_type_name};
+ghost use Rattle.ssh_key.specs.LineFaults.{IsToldFault};
 ghost use Rattle.ssh_key.specs.LineReading.{Gives, blob_at, content, content_of, decoded, has_word, key_part, line_at};
 
 use crate::line_fault::LineFault;
@@ -45,7 +47,9 @@ pub fn read_line<'a>(alloc: Global, text: &'a [u8]) -> Result<Line<'a>, LineFaul
     // Each key line is read, unless memory runs out.
     ensures only { (word blob comment : List ℕ) → IsKeyLine text.now word blob comment
         → Gives content_of result (Ok (content word blob comment)) }
-    // Which fault it is.
+    // The fault is the first one of the text, unless memory runs out.
+    ensures fault { IfErr result (λ fault. IsToldFault text.now fault) }
+    // The same, for those who compute with the answer.
     ensures exact { Gives content_of result (line_at text.now) }
 {
     read_content(alloc, text)

@@ -1,7 +1,7 @@
 // Words and the blanks between them.
 
 ghost use Rattle.std.specs.Prelude.{◌≡◌};
-ghost use Rattle.ssh_key.specs.KeyLine.{after_blanks, before_ending, first_word, is_blank, is_ending, trimmed};
+ghost use Rattle.ssh_key.specs.Blanks.{after_blanks, before_ending, first_word, is_blank, is_ending, trimmed};
 ghost use Rattle.ssh_key.specs.LineReading.{after_word};
 
 /// Whether a byte is a blank: a space or a tab.
@@ -18,7 +18,7 @@ fn is_ending(byte: u8) -> bool
 }
 
 /// The line without blanks at both ends and carriage returns at its end.
-#[tactic(auto, unfolding(crate::specs::KeyLine::trimmed))]
+#[tactic(auto, unfolding(crate::specs::Blanks::trimmed))]
 pub fn trimmed(line: &[u8]) -> &[u8]
     ensures { result.now ≡ trimmed line.now }
 {
@@ -26,7 +26,7 @@ pub fn trimmed(line: &[u8]) -> &[u8]
 }
 
 /// The first word, up to a blank or the end, and what stands after it.
-#[tactic(auto, unfolding(crate::specs::KeyLine::first_word, crate::specs::LineReading::after_word))]
+#[tactic(auto, unfolding(crate::specs::Blanks::first_word, crate::specs::LineReading::after_word))]
 pub fn split_word(text: &[u8]) -> (&[u8], &[u8])
     ensures word { result.0.now ≡ first_word text.now }
     ensures rest { result.1.now ≡ after_word text.now }
@@ -40,7 +40,7 @@ pub fn split_word(text: &[u8]) -> (&[u8], &[u8])
 }
 
 /// What stands after the blanks at the start.
-#[tactic(auto, unfolding(crate::specs::KeyLine::after_blanks))]
+#[tactic(auto, unfolding(crate::specs::Blanks::after_blanks))]
 pub fn after_blanks(text: &[u8]) -> &[u8]
     ensures { result.now ≡ after_blanks text.now }
 {
@@ -53,7 +53,7 @@ pub fn after_blanks(text: &[u8]) -> &[u8]
 }
 
 /// What stands before the blanks and carriage returns at the end.
-#[tactic(auto, unfolding(crate::specs::KeyLine::before_ending))]
+#[tactic(auto, unfolding(crate::specs::Blanks::before_ending))]
 fn before_ending(text: &[u8]) -> &[u8]
     ensures { result.now ≡ before_ending text.now }
 {

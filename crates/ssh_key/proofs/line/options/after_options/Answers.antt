@@ -1,7 +1,7 @@
 use Rattle.std.proofs.Common.{◌≡◌, ℕ, ◌+◌, ◌&&◌, true, false, not, List, Some, None, [], drop, get_or, refl, sym, ap, ◌∙◌}
 use Rattle.std.proofs.lemmas.Bool.{and_right}
 use Rattle.std.proofs.lemmas.List.{drop_all, drop_more, take_rest}
-use Rattle.ssh_key.specs.KeyLine.{is_blank}
+use Rattle.ssh_key.specs.Blanks.{is_blank}
 use Rattle.ssh_key.specs.LineReading.{after_options}
 use Rattle.ssh_key.proofs.LineOptions.{at_end, ends, goes_on}
 use Rattle.ssh_key.proofs.line.options.after_options.Goals as goal

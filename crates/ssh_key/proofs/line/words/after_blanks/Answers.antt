@@ -1,7 +1,7 @@
 use Rattle.std.proofs.Common.{sym, ◌∙◌, arith}
 use Rattle.std.proofs.lemmas.List.{drop_all, take_rest}
 use Rattle.std.proofs.lemmas.List.Sums.{prefix_len_is}
-use Rattle.ssh_key.specs.KeyLine.{after_blanks, is_blank}
+use Rattle.ssh_key.specs.Blanks.{after_blanks, is_blank}
 use Rattle.ssh_key.proofs.line.words.after_blanks.Goals as goal
 
 pub returns-then-not-is_blank : goal.returns-then-not-is_blank

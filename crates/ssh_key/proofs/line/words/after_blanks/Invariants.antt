@@ -1,5 +1,5 @@
 use Rattle.std.proofs.Common.{◌≡◌, ℕ, ◌<◌, true, get_or}
-use Rattle.ssh_key.specs.KeyLine.{is_blank}
+use Rattle.ssh_key.specs.Blanks.{is_blank}
 use Rattle.ssh_key.proofs.line.words.after_blanks.Given as goal
 
 -- blanks so far

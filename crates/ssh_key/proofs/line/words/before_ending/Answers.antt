@@ -1,7 +1,7 @@
 use Rattle.std.proofs.Common.{◌≡◌, ◌-◌, ◌<◌, false, length, get_or, sym, ◌∙◌, arith}
 use Rattle.std.proofs.lemmas.List.Sums.{suffix_len_is}
 use Rattle.std.specs.List.{suffix_len}
-use Rattle.ssh_key.specs.KeyLine.{before_ending, is_ending}
+use Rattle.ssh_key.specs.Blanks.{before_ending, is_ending}
 use Rattle.ssh_key.proofs.line.words.before_ending.Goals as goal
 use Rattle.ssh_key.proofs.line.words.before_ending.Goals.{then-loop-end-test+else-is_ending, else-loop-end-test}
 

@@ -1,5 +1,5 @@
 use Rattle.std.proofs.Common.{◌≡◌, ℕ, ◌<◌, ◌≤◌, true, length, get_or}
-use Rattle.ssh_key.specs.KeyLine.{is_ending}
+use Rattle.ssh_key.specs.Blanks.{is_ending}
 use Rattle.ssh_key.proofs.line.words.before_ending.Given as goal
 
 -- what is left out so far is ending

@@ -1,7 +1,7 @@
 use Rattle.std.proofs.Common.{not, sym, ap, ◌∙◌, arith}
 use Rattle.std.proofs.lemmas.List.{take_all, drop_all}
 use Rattle.std.proofs.lemmas.List.Sums.{prefix_len_is}
-use Rattle.ssh_key.specs.KeyLine.{first_word, is_blank}
+use Rattle.ssh_key.specs.Blanks.{first_word, is_blank}
 use Rattle.ssh_key.specs.LineReading.{after_word}
 use Rattle.ssh_key.proofs.line.words.split_word.Goals as goal
 

@@ -1,0 +1,111 @@
+-- The fault that reading a line meets is the first one of the text, and the first one is what is met.
+use Rattle.std.proofs.Common.{◌≡◌, ◌≢◌, ℕ, ◌⊎◌, false, List, Result, Ok, Err, IfErr, Contains, refl, sym, ap, subst, ◌∙◌, inl, inr}
+use Rattle.std.proofs.lemmas.Bool.{both_ways, cases_Bool}
+use Rattle.ssh_wire.specs.Wire.{IsBytes}
+use Rattle.ssh_key.specs.declared.line.Line.{Line}
+use Rattle.ssh_key.specs.declared.line_fault.LineFault.{LineFault}
+use Rattle.ssh_key.specs.declared.line_fault.LineFault.TheVariants.{NoKey, Base64, WordDiffers, NoMemory}
+use Rattle.ssh_key.specs.FirstFault.{BeginsWith}
+use Rattle.ssh_key.specs.KeyLine.{HasWords, base64}
+use Rattle.ssh_key.specs.LineFaults.{EncodesOtherKey, HasBadBase64, HasSomeWords, IsFirstLineFault, IsToldFault}
+use Rattle.ssh_key.specs.LineReading.{Gives, checked, content_of, decoded, has_word, line_at}
+use Rattle.ssh_key.specs.TypeName.{type_names}
+use Rattle.ssh_key.proofs.LineBase64.{decoded_again, decoded_bytes, decoded_cases, decoded_takes}
+use Rattle.ssh_key.proofs.LineLaws.{word_again, word_takes}
+use Rattle.ssh_key.proofs.Steps.{err_is, ok_or_err}
+use Rattle.ssh_key.proofs.TextWords.{IsBytes-words, none_or_words, words_name, words_read}
+
+-- ---- what is met is the first fault
+
+-- what the words of a text were refused for
+abbrev Refused : List ℕ → List ℕ → LineFault → Type 0
+Refused word encoded fault =
+    ((decoded encoded ≡ Err Base64) × (fault ≡ Base64))
+    ⊎ ((blob : List ℕ) × (decoded encoded ≡ Ok blob) × (has_word word blob ≡ false) × (fault ≡ WordDiffers))
+
+refused_by : (word encoded comment blob : List ℕ) (fault : LineFault) → decoded encoded ≡ Ok blob → checked word (decoded encoded) comment ≡ Err fault → Refused word encoded fault
+refused_by word encoded comment blob fault read e = elim (cases_Bool (has_word word blob)) [
+  | inl begins ↦ absurd (let h = rw (read, begins) at e in cc)
+  | inr differs ↦ let h = rw (read, differs) at e in let same : fault ≡ WordDiffers = cc in inr (blob, read, differs, same)
+]
+
+refused : (word encoded comment : List ℕ) (fault : LineFault) → checked word (decoded encoded) comment ≡ Err fault → Refused word encoded fault
+refused word encoded comment fault e = elim (decoded_cases encoded) [
+  | inl bad ↦ let h = rw bad at e in let same : fault ≡ Base64 = cc in inl (bad, same)
+  | inr read ↦ refused_by word encoded comment read.0 fault read.1 e
+]
+
+-- words are never refused as no key
+words_key : (text : List ℕ) → HasSomeWords text → line_at text ≡ Err NoKey → ⊥
+words_key text has e = elim (refused has.word has.encoded has.comment NoKey (sym (words_read text has.word has.encoded has.comment has.words) ∙ e)) [
+  | inl bad ↦ let same = bad.1 in cc
+  | inr read ↦ let same = read.3 in cc
+]
+
+no_base64 : (encoded : List ℕ) → decoded encoded ≡ Err Base64 → (blob : List ℕ) → IsBytes blob → base64 blob ≢ encoded
+no_base64 encoded bad blob fits same = ok_or_err blob Base64 (decoded encoded) (ap decoded (sym same) ∙ decoded_again blob fits) bad
+
+other_word : (word blob : List ℕ) → Contains type_names word → has_word word blob ≡ false → ¬ BeginsWith blob word
+other_word word blob name differs begins = both_ways (has_word word blob) differs (word_again word blob name begins)
+
+words_refused : (text : List ℕ) (fault : LineFault) → IsBytes text → HasSomeWords text → line_at text ≡ Err fault → IsFirstLineFault text fault
+words_refused text fault fits has e = elim (refused has.word has.encoded has.comment fault (sym (words_read text has.word has.encoded has.comment has.words) ∙ e)) [
+  | inl bad ↦
+      let is : HasBadBase64 text = record { has = has; none = no_base64 has.encoded bad.0 } in
+      subst (IsFirstLineFault text) (sym bad.1) is
+  | inr read ↦
+      let encoded_fits = IsBytes-words text has.word has.encoded has.comment fits has.words in
+      let spelled : has.encoded ≡ base64 read.0 = decoded_takes has.encoded read.0 encoded_fits read.1 in
+      let is : EncodesOtherKey text = record {
+        word = has.word;
+        blob = read.0;
+        comment = has.comment;
+        words = subst (λ (xs : List ℕ). HasWords text has.word xs has.comment) spelled has.words;
+        bytes = decoded_bytes has.encoded read.0 encoded_fits read.1;
+        differs = other_word has.word read.0 (words_name text has.word has.encoded has.comment has.words) read.2;
+      } in
+      subst (IsFirstLineFault text) (sym read.3) is
+]
+
+pub line_refused : (text : List ℕ) (fault : LineFault) → IsBytes text → line_at text ≡ Err fault → IsFirstLineFault text fault
+line_refused text fault fits e = elim (none_or_words text) [
+  | inl none ↦
+      let same : NoKey ≡ fault = err_is NoKey fault (line_at text) none e in
+      subst (IsFirstLineFault text) same (λ has. words_key text has none)
+  | inr has ↦ words_refused text fault fits has e
+]
+
+-- ---- and a first fault is what is met
+
+pub first_line_fault_met : (text : List ℕ) (fault : LineFault) → IsBytes text → IsFirstLineFault text fault → line_at text ≡ Err fault
+first_line_fault_met text NoKey fits none = elim (none_or_words text) [
+  | inl met ↦ met
+  | inr has ↦ absurd (none has)
+]
+first_line_fault_met text Base64 fits k =
+    let has = k.has in
+    let encoded_fits = IsBytes-words text has.word has.encoded has.comment fits has.words in
+    elim (decoded_cases has.encoded) [
+      | inl bad ↦ words_read text has.word has.encoded has.comment has.words ∙ rw bad refl
+      | inr read ↦ absurd (k.none read.0 (decoded_bytes has.encoded read.0 encoded_fits read.1) (sym (decoded_takes has.encoded read.0 encoded_fits read.1)))
+    ]
+first_line_fault_met text WordDiffers fits k = elim (cases_Bool (has_word k.word k.blob)) [
+  | inl begins ↦ absurd (k.differs (word_takes k.word k.blob k.bytes begins))
+  | inr differs ↦ words_read text k.word (base64 k.blob) k.comment k.words ∙ rw (decoded_again k.blob k.bytes, differs) refl
+]
+first_line_fault_met text NoMemory fits k = absurd k
+
+-- ---- the fault that is told
+
+words_stand : (text : List ℕ) → line_at text ≢ Err NoKey → HasSomeWords text
+words_stand text some = elim (none_or_words text) [
+  | inl none ↦ absurd (some none)
+  | inr has ↦ has
+]
+
+pub is_told : (text : List ℕ) (result : Result Line LineFault) → IsBytes text → Gives content_of result (line_at text) → IfErr result (IsToldFault text)
+is_told text (Ok line) fits exact = tt
+is_told text (Err NoKey) fits exact = line_refused text NoKey fits exact
+is_told text (Err Base64) fits exact = line_refused text Base64 fits exact
+is_told text (Err WordDiffers) fits exact = line_refused text WordDiffers fits exact
+is_told text (Err NoMemory) fits exact = words_stand text exact
