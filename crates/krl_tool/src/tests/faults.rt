@@ -6,102 +6,86 @@ use crate::krl_fault::KrlFault;
 use crate::run_fault::{RunFault, fault_text};
 use ssh_key::{KeyFault, LineFault};
 use ssh_wire::WireFault;
+use std::alloc::{AllocError, Global};
 use std::test::*;
+
+/// Whether a fault of this name, line and cause is told so, behind the name of the program.
+fn is_told(
+    alloc: Global,
+    name: &str,
+    line: Option<u64>,
+    cause: Cause,
+    want: &str,
+) -> Result<bool, AllocError> {
+    let text = fault_text(alloc, &RunFault { name, line, cause })?;
+    let want = format!(in alloc; "ssh-keygen: {want}")?;
+    Ok(text.as_slice() == want.as_bytes())
+}
 
 #[test]
 fn lines(rt: HostRuntime) -> Result<(), Fail> {
+    let early = Cause::Krl(KrlFault::EndsEarly);
+    let differs = Cause::Line(LineFault::WordDiffers);
     let point = Cause::Subject(SubjectFault::Key(KeyFault::Point));
     let short = Cause::Subject(SubjectFault::Key(KeyFault::Wire(WireFault::Short)));
-    let most = Cause::Output { count: u64::MAX };
+    let last = Some(u64::MAX);
     let rows = [
-        (
-            "r.krl",
-            None,
-            Cause::Krl(KrlFault::EndsEarly),
-            "r.krl: krl 3 EndsEarly",
-        ),
-        (
-            "k",
-            Some(1),
-            Cause::Line(LineFault::WordDiffers),
-            "k: line 1: line 3 WordDiffers",
-        ),
+        ("r.krl", None, early, "r.krl: krl 3 EndsEarly"),
+        ("k", Some(1), differs, "k: line 1: line 3 WordDiffers"),
         ("k", Some(1), point, "k: line 1: subject 1 Key, key 4 Point"),
         (
             "k",
-            Some(u64::MAX),
+            last,
             short,
             "k: line 18446744073709551615: subject 1 Key, key 1 Wire, wire 1 Short",
         ),
         (
-            "none",
-            None,
-            Cause::File(FileFault::Open),
-            "none: file 1 Open",
-        ),
-        (
             "a\n\x7f",
             None,
-            Cause::File(FileFault::Read),
-            "a\\x0a\\x7f: file 2 Read",
+            Cause::NoMemory,
+            "a\\x0a\\x7f: run 1 NoMemory",
         ),
-        (
-            "",
-            None,
-            Cause::File(FileFault::TooLong),
-            ": file 3 TooLong",
-        ),
-        (
-            "k",
-            None,
-            Cause::File(FileFault::NoMemory),
-            "k: file 4 NoMemory",
-        ),
-        (
-            "k",
-            None,
-            Cause::File(FileFault::NoKeys),
-            "k: file 5 NoKeys",
-        ),
-        (
-            "k",
-            None,
-            Cause::File(FileFault::NoCertificate),
-            "k: file 6 NoCertificate",
-        ),
-        ("k", None, Cause::NoMemory, "k: run 1 NoMemory"),
-        (
-            "output",
-            None,
-            Cause::Output { count: 0 },
-            "output: output 1 Write after 0 bytes",
-        ),
-        (
-            "output",
-            None,
-            most,
-            "output: output 1 Write after 18446744073709551615 bytes",
-        ),
+        ("", None, Cause::NoMemory, ": run 1 NoMemory"),
     ];
     for (name, line, cause, want) in rows {
-        let text = fault_text(rt.alloc(), &RunFault { name, line, cause })?;
-        let want = format!(in rt.alloc(); "ssh-keygen: {want}")?;
-        assert_eq!(rt; text.as_slice(), want.as_bytes());
+        assert!(rt; is_told(rt.alloc(), name, line, cause, want)?, "{want}");
     }
     Ok(())
 }
 
 #[test]
-fn numbers(rt: HostRuntime) {
-    for (fault, number) in [
-        (FileFault::Open, 1),
-        (FileFault::Read, 2),
-        (FileFault::TooLong, 3),
-        (FileFault::NoMemory, 4),
-        (FileFault::NoKeys, 5),
-        (FileFault::NoCertificate, 6),
-    ] {
+fn lines_of_the_output(rt: HostRuntime) -> Result<(), Fail> {
+    let rows = [
+        (0, "output: output 1 Write after 0 bytes"),
+        (
+            u64::MAX,
+            "output: output 1 Write after 18446744073709551615 bytes",
+        ),
+    ];
+    for (count, want) in rows {
+        let cause = Cause::Output { count };
+        assert!(rt; is_told(rt.alloc(), "output", None, cause, want)?, "{want}");
+    }
+    Ok(())
+}
+
+#[test]
+fn file_faults(rt: HostRuntime) -> Result<(), Fail> {
+    let rows = [
+        (FileFault::Open, 1, "k: file 1 Open"),
+        (FileFault::Read, 2, "k: file 2 Read"),
+        (FileFault::TooLong, 3, "k: file 3 TooLong"),
+        (FileFault::NoMemory, 4, "k: file 4 NoMemory"),
+        (FileFault::NoKeys, 5, "k: file 5 NoKeys"),
+        (FileFault::NoCertificate, 6, "k: file 6 NoCertificate"),
+    ];
+    for (fault, number, want) in rows {
         assert_eq!(rt; fault.number(), number);
+        assert!(rt;
+            is_told(rt.alloc(), "k", None, Cause::File(fault), want)?,
+            "{want}"
+        );
     }
     assert_eq!(rt; SubjectFault::Key(KeyFault::Trailing).number(), 1);
+    Ok(())
 }

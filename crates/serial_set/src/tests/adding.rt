@@ -1,22 +1,26 @@
 ghost use Rattle.std.specs.Prelude.{◌≡◌, ◌<◌, ◌≤◌};
 
-use crate::tests::walk::list_of;
+use crate::tests::walk::{list_of, spans_of};
 use crate::{Held, Span, Spans};
 use std::process::Abort;
 use std::test::Fail;
 
 // Intervals that are added one after the other, the length after each, and the last list.
-#[derive(Drop)]
-struct Row {
-    adds: &'static [Span],
-    lengths: &'static [usize],
-    last: &'static [Span],
-}
+type Row = (
+    &'static [(u64, u64)],
+    &'static [usize],
+    &'static [(u64, u64)],
+);
 
-fn add_all<S: Spans>(rt: &impl Abort, set: &mut S, row: &Row) -> Result<(), Fail> {
-    for (add, length) in row.adds.iter().zip(row.lengths) {
-        assert!(rt; 0 < add.lo && add.lo <= add.hi);
-        set.add(add.lo, add.hi)?;
+fn add_all<S: Spans>(
+    rt: &impl Abort,
+    set: &mut S,
+    adds: &[(u64, u64)],
+    lengths: &[usize],
+) -> Result<(), Fail> {
+    for ((lo, hi), length) in adds.iter().zip(lengths) {
+        assert!(rt; 0 < *lo && *lo <= *hi);
+        set.add(*lo, *hi)?;
         assert_eq!(rt; set.len(), *length);
     }
     Ok(())
@@ -24,51 +28,19 @@ fn add_all<S: Spans>(rt: &impl Abort, set: &mut S, row: &Row) -> Result<(), Fail
 
 #[test]
 fn adds_intervals(rt: HostRuntime) -> Result<(), Fail> {
-    let rows = [
-        Row {
-            adds: &[
-                Span { lo: 5, hi: 5 },
-                Span { lo: 7, hi: 7 },
-                Span { lo: 6, hi: 6 },
-                Span {
-                    lo: 8,
-                    hi: u64::MAX,
-                },
-            ],
-            lengths: &[1, 2, 1, 1],
-            last: &[Span {
-                lo: 5,
-                hi: u64::MAX,
-            }],
-        },
-        Row {
-            adds: &[
-                Span { lo: 5, hi: 5 },
-                Span { lo: 5, hi: 5 },
-                Span { lo: 1, hi: 9 },
-            ],
-            lengths: &[1, 1, 1],
-            last: &[Span { lo: 1, hi: 9 }],
-        },
-        Row {
-            adds: &[
-                Span {
-                    lo: 1,
-                    hi: u64::MAX,
-                },
-                Span { lo: 7, hi: 7 },
-            ],
-            lengths: &[1, 1],
-            last: &[Span {
-                lo: 1,
-                hi: u64::MAX,
-            }],
-        },
+    let rows: [Row; 3] = [
+        (
+            &[(5, 5), (7, 7), (6, 6), (8, u64::MAX)],
+            &[1, 2, 1, 1],
+            &[(5, u64::MAX)],
+        ),
+        (&[(5, 5), (5, 5), (1, 9)], &[1, 1, 1], &[(1, 9)]),
+        (&[(1, u64::MAX), (7, 7)], &[1, 1], &[(1, u64::MAX)]),
     ];
-    for row in &rows {
+    for (adds, lengths, last) in rows {
         let mut set = Held::empty(rt.alloc())?;
-        add_all(&rt, &mut set, row)?;
-        assert_eq!(rt; list_of(rt.alloc(), &set)?.as_slice(), row.last);
+        add_all(&rt, &mut set, adds, lengths)?;
+        assert_eq!(rt; list_of(rt.alloc(), &set)?, spans_of(rt.alloc(), last)?);
     }
     Ok(())
 }

@@ -1,16 +1,12 @@
 ghost use Rattle.std.specs.Prelude.{◌≡◌, ◌+◌, ◌<◌, ◌≤◌, OnSome};
 
-use crate::tests::walk::list_of;
+use crate::tests::walk::{list_of, spans_of};
 use crate::{BitFault, BitRuns, Held, Span, Spans};
 use std::alloc::{AllocError, Global};
 use std::test::Fail;
 
-#[derive(Drop)]
-struct Row {
-    offset: u64,
-    bytes: &'static [u8],
-    runs: Result<&'static [Span], BitFault>,
-}
+// An offset, the bytes of a bitmap, and its runs or why it is refused.
+type Row = (u64, &'static [u8], Result<&'static [(u64, u64)], BitFault>);
 
 // The runs of a bitmap, or why it is refused.
 fn read(alloc: Global, offset: u64, bytes: &[u8]) -> Result<Result<Held, BitFault>, AllocError> {
@@ -37,89 +33,28 @@ fn read(alloc: Global, offset: u64, bytes: &[u8]) -> Result<Result<Held, BitFaul
 
 #[test]
 fn reads_bitmaps(rt: HostRuntime) -> Result<(), Fail> {
-    let rows = [
-        Row {
-            offset: 1,
-            bytes: &[0x55],
-            runs: Ok(&[
-                Span { lo: 1, hi: 1 },
-                Span { lo: 3, hi: 3 },
-                Span { lo: 5, hi: 5 },
-                Span { lo: 7, hi: 7 },
-            ]),
-        },
-        Row {
-            offset: 1,
-            bytes: &[0x01, 0x80],
-            runs: Ok(&[Span { lo: 8, hi: 9 }]),
-        },
-        Row {
-            offset: 1,
-            bytes: &[0x00, 0x01, 0x80],
-            runs: Ok(&[Span { lo: 8, hi: 9 }]),
-        },
-        Row {
-            offset: 0,
-            bytes: &[0x01],
-            runs: Ok(&[]),
-        },
-        Row {
-            offset: 0,
-            bytes: &[0x0f],
-            runs: Ok(&[Span { lo: 1, hi: 3 }]),
-        },
-        Row {
-            offset: u64::MAX,
-            bytes: &[0x01],
-            runs: Ok(&[Span {
-                lo: u64::MAX,
-                hi: u64::MAX,
-            }]),
-        },
-        Row {
-            offset: u64::MAX,
-            bytes: &[0x00, 0x00, 0x01],
-            runs: Ok(&[Span {
-                lo: u64::MAX,
-                hi: u64::MAX,
-            }]),
-        },
-        Row {
-            offset: u64::MAX - 8,
-            bytes: &[0x00, 0x01, 0x00],
-            runs: Ok(&[Span {
-                lo: u64::MAX,
-                hi: u64::MAX,
-            }]),
-        },
-        Row {
-            offset: u64::MAX,
-            bytes: &[0x02],
-            runs: Err(BitFault::Wraps),
-        },
-        Row {
-            offset: u64::MAX,
-            bytes: &[0x80, 0x00],
-            runs: Err(BitFault::Negative),
-        },
-        Row {
-            offset: 1,
-            bytes: &[0x80],
-            runs: Err(BitFault::Negative),
-        },
-        Row {
-            offset: 1,
-            bytes: &[],
-            runs: Ok(&[]),
-        },
+    let last: &[(u64, u64)] = &[(u64::MAX, u64::MAX)];
+    let rows: [Row; 12] = [
+        (1, &[0x55], Ok(&[(1, 1), (3, 3), (5, 5), (7, 7)])),
+        (1, &[0x01, 0x80], Ok(&[(8, 9)])),
+        (1, &[0x00, 0x01, 0x80], Ok(&[(8, 9)])),
+        (0, &[0x01], Ok(&[])),
+        (0, &[0x0f], Ok(&[(1, 3)])),
+        (u64::MAX, &[0x01], Ok(last)),
+        (u64::MAX, &[0x00, 0x00, 0x01], Ok(last)),
+        (u64::MAX - 8, &[0x00, 0x01, 0x00], Ok(last)),
+        (u64::MAX, &[0x02], Err(BitFault::Wraps)),
+        (u64::MAX, &[0x80, 0x00], Err(BitFault::Negative)),
+        (1, &[0x80], Err(BitFault::Negative)),
+        (1, &[], Ok(&[])),
     ];
-    for row in &rows {
-        match (read(rt.alloc(), row.offset, row.bytes)?, row.runs) {
+    for (offset, bytes, due) in rows {
+        match (read(rt.alloc(), offset, bytes)?, due) {
             (Ok(set), Ok(runs)) => {
-                assert_eq!(rt; list_of(rt.alloc(), &set)?.as_slice(), runs);
+                assert_eq!(rt; list_of(rt.alloc(), &set)?, spans_of(rt.alloc(), runs)?);
             }
             (Err(fault), Err(due)) => assert_eq!(rt; fault, due),
-            _ => assert!(rt; false, "at offset {}", row.offset),
+            _ => assert!(rt; false, "at offset {offset}"),
         }
     }
     Ok(())

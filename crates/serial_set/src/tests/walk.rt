@@ -20,6 +20,15 @@ pub fn list_of<S: Spans>(alloc: Global, set: &S) -> Result<Vec<Span>, AllocError
     Ok(list)
 }
 
+// The intervals of these ends.
+pub fn spans_of(alloc: Global, ends: &[(u64, u64)]) -> Result<Vec<Span>, AllocError> {
+    let mut list = Vec::new(alloc);
+    for (lo, hi) in ends {
+        list.push(Span { lo: *lo, hi: *hi })?;
+    }
+    Ok(list)
+}
+
 // A run is never empty.
 fn has_start<S: Spans>(set: &S, at: usize) -> bool
     requires { at < length (S.spans set.now) }
