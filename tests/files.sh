@@ -78,13 +78,23 @@ full 'a query of no revoked key on a full device' 255 "$fault" -Q -f r.krl a
 full 'a missing file, told to a full device' 255 "$fault" -Q -f r.krl g.pub none
 full 'nothing to write on a full device' 0 '' -Q -f r.krl
 
-# An output that takes 1,024 bytes and no more: a file at the greatest size that is allowed.
-for _ in {1..20}; do cat g.pub; done >many
-for _ in {1..20}; do printf %s "$listed"; done | head -c 1024 >wanted
-(trap '' XFSZ && ulimit -f 1 && "$program" -l -f many >cut 2>"$scratch/error")
-got=$?
-judge 'an output that fails half way' "$(
-  differs 'exit status' 255 $got
-  differs 'standard error' 'ssh-keygen: output: output 1 Write after 1024 bytes' "$(cat "$scratch/error")"
-  cmp wanted cut 2>&1
-)"
+# A listing that is written in several pieces: 2,000 lines of 76 bytes.
+for _ in {1..2000}; do cat g.pub; done >many
+for _ in {1..2000}; do printf %s "$listed"; done >wanted
+expect 'a long listing' 0 "$(cat wanted)"$'\n' '' -l -f many
+
+# cut_off NAME SIZE: the output takes so many times 1,024 bytes and no more, as a file does at the
+# greatest size that is allowed.
+cut_off() {
+  local got
+  (trap '' XFSZ && ulimit -f "$2" && "$program" -l -f many >cut 2>"$scratch/error")
+  got=$?
+  judge "$1" "$(
+    differs 'exit status' 255 $got
+    differs 'standard error' "ssh-keygen: output: output 1 Write after $(($2 * 1024)) bytes" \
+      "$(cat "$scratch/error")"
+    cmp <(head -c $(($2 * 1024)) wanted) cut 2>&1
+  )"
+}
+cut_off 'an output that fails in the first piece' 1
+cut_off 'an output that fails in the second piece' 100

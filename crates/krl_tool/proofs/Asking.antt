@@ -8,10 +8,12 @@ use Rattle.krl_tool.specs.declared.krl_fault.KrlFault.TheVariants as faults
 use Rattle.krl_tool.specs.Entry.{Entry, KeyEntry, Means, Revocations, Revoked, entries_of, revoked}
 use Rattle.krl_tool.specs.Front.{IsFirstFault}
 use Rattle.krl_tool.specs.Krl.{Section, Spells}
-use Rattle.krl_tool.specs.Query.{IsRead, ask, kept_entries, krl_cause, query_line, query_run_of}
-use Rattle.krl_tool.specs.Report.{Said, Stops}
-use Rattle.krl_tool.specs.Run.{Answering, File, files_items}
-use Rattle.krl_tool.proofs.Answering.{SaysAll-none}
+use Rattle.krl_tool.specs.Carries.{Carries, SaysAll, Stops}
+use Rattle.krl_tool.specs.Query.{IsRead, ask, kept_entries, krl_cause, no_line, query_line, query_run_of}
+use Rattle.krl_tool.specs.Report.{Progress}
+use Rattle.krl_tool.specs.Run.{Answering, File, Item, files_items}
+use Rattle.krl_tool.specs.Stop.{Stop}
+use Rattle.krl_tool.proofs.Answering.{Carries-then, SaysAll-none}
 use Rattle.krl_tool.proofs.Fronts.{one_told}
 use Rattle.krl_tool.proofs.KeyNames.{named_tested, tested_named}
 use Rattle.krl_tool.proofs.Unique.{spelled_once}
@@ -51,31 +53,36 @@ ask_same kept entries means = λ i. λ name line key.
     record { line = query_line name line.comment (revoked_same kept entries means line.blob i); revoked = revoked_same kept entries means line.blob i }
 
 -- A list that was read and means its sections' entries: the run is that of what is kept.
-pub read_run : (text name : List ℕ) (files : List File) (kept : Revocations) (reading : Result (List Entry) KrlFault)
+pub read_run : {A : Type 0} (text name : List ℕ) (files : List File) (kept : Revocations) (reading : Result (List Entry) KrlFault) (result : Result A Stop) (old new : Progress)
     → ((sections : List Section) × Spells text kept.header sections × Means kept (entries_of sections)) → IsFirstFault text None → IsRead text reading
-    → files_items (ask (kept_entries kept)) files ≡ query_run_of name reading files
+    → Carries (files_items (ask (kept_entries kept)) files) result old new → Carries (query_run_of name reading files) result old new
 unfolding query_run_of
-read_run text name files kept (Err fault) found none reads = let same = one_told text None (Some fault) none reads in absurd cc
-read_run text name files kept (Ok entries) found none reads =
+read_run text name files kept (Err fault) result old new found none reads carries = let same = one_told text None (Some fault) none reads in absurd cc
+read_run text name files kept (Ok entries) result old new found none reads carries =
     let same = spelled_once text kept.header reads.1.0 found.0 reads.1.1 found.1 reads.1.2 in
     let entries_same : entries_of found.0 ≡ entries = ap entries_of same.1 ∙ sym reads.1.3 in
     let means : Means kept entries = subst (λ (es : List Entry). Means kept es) entries_same found.2 in
-    ap (λ (answer : Answering). files_items answer files) (ask_same kept entries means)
+    let answers = ap (λ (answer : Answering). files_items answer files) (ask_same kept entries means) in
+    Carries-then (no_line name ∷ []) (files_items (ask entries) files) result old old new (read_all name old) (subst (λ (items : List Item). Carries items result old new) answers carries)
+  where
+    read_all : (name : List ℕ) (now : Progress) → SaysAll (no_line name ∷ []) now now
+    read_all name now = let none = SaysAll-none now in record { unstopped = refl; holds = none.holds }
 
 -- A list that was refused: the run stops before its first line.
-pub refused_run : (text name : List ℕ) (files : List File) (fault : KrlFault) (reading : Result (List Entry) KrlFault) (said : Said)
+pub refused_run : (text name : List ℕ) (files : List File) (fault : KrlFault) (reading : Result (List Entry) KrlFault) (now : Progress)
     → (fault ≡ faults.NoMemory) ⊎ IsFirstFault text (Some fault) → IsRead text reading
-    → Stops (query_run_of name reading files) (record { name = name; line = None; cause = krl_cause fault }) said said
+    → Stops (query_run_of name reading files) (record { name = name; line = None; cause = krl_cause fault }) now now
 unfolding query_run_of
-refused_run text name files fault reading said (inl no_memory) reads = rw no_memory (record { done = []; later = query_run_of name reading files; parts = refl; all = SaysAll-none said })
-refused_run text name files fault (Ok entries) said (inr first) reads = let same = one_told text None (Some fault) reads.0 first in absurd cc
-refused_run text name files fault (Err first_fault) said (inr first) reads =
+refused_run text name files fault (Err first) now (inl no_memory) reads = rw no_memory (record { done = []; next = Err (record { name = name; line = None; cause = causes.Krl first }); later = []; parts = refl; named = refl; all = SaysAll-none now })
+refused_run text name files fault (Ok entries) now (inl no_memory) reads = rw no_memory (record { done = []; next = no_line name; later = files_items (ask entries) files; parts = refl; named = refl; all = SaysAll-none now })
+refused_run text name files fault (Ok entries) now (inr first) reads = let same = one_told text None (Some fault) reads.0 first in absurd cc
+refused_run text name files fault (Err first_fault) now (inr first) reads =
     let same : first_fault ≡ fault = same_fault first_fault fault (one_told text (Some first_fault) (Some fault) reads first) in
     rw same (stopped fault)
   where
     same_fault : (a b : KrlFault) → Some a ≡ Some b → a ≡ b
     same_fault a b e = cc
 
-    stopped : (fault : KrlFault) → Stops (Err (record { name = name; line = None; cause = causes.Krl fault }) ∷ []) (record { name = name; line = None; cause = krl_cause fault }) said said
-    stopped faults.NoMemory = record { done = []; later = Err (record { name = name; line = None; cause = causes.Krl faults.NoMemory }) ∷ []; parts = refl; all = SaysAll-none said }
-    stopped other = record { stopped = refl; said = (SaysAll-none said).said }
+    stopped : (fault : KrlFault) → Stops (Err (record { name = name; line = None; cause = causes.Krl fault }) ∷ []) (record { name = name; line = None; cause = krl_cause fault }) now now
+    stopped faults.NoMemory = record { done = []; next = Err (record { name = name; line = None; cause = causes.Krl faults.NoMemory }); later = []; parts = refl; named = refl; all = SaysAll-none now }
+    stopped other = let none = SaysAll-none now in record { stopped = refl; holds = none.holds }

@@ -18,6 +18,7 @@ pub mod KeyNames
 pub mod Loading
 pub mod Lines
 pub mod Answering
+pub mod Sending
 pub mod Lined
 pub mod Filed
 pub mod Asking

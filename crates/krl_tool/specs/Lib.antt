@@ -16,6 +16,7 @@ pub mod Stop
 pub mod Run
 pub mod Split
 pub mod Report
+pub mod Carries
 pub mod Query
 pub mod Done
 pub mod Listing

@@ -37,10 +37,14 @@ abbrev pub IsRead : List ℕ → Result (List Entry) KrlFault → Type 0
 IsRead text (Err fault) = IsFirstFault text (Some fault)
 IsRead text (Ok entries) = IsFirstFault text None × ((header : Header) × (sections : List Section) × Spells text header sections × (entries ≡ entries_of sections))
 
+-- Of a list that is read nothing is said.
+abbrev pub no_line : List ℕ → Item
+no_line name = Ok (record { name = name; answer = record { line = []; revoked = false } })
+
 -- The list's first fault ends the run at once; else each key of each file gives one line, up to the first fault.
 unfoldable pub query_run_of : List ℕ → Result (List Entry) KrlFault → List File → List Item
 query_run_of name (Err fault) files = Err (record { name = name; line = None; cause = causes.Krl fault }) ∷ []
-query_run_of name (Ok entries) files = files_items (ask entries) files
+query_run_of name (Ok entries) files = no_line name ∷ files_items (ask entries) files
 
 -- A want of memory is the run's own.
 abbrev pub krl_cause : KrlFault → Cause

@@ -1,44 +1,58 @@
--- What a run has said so far.
-use Rattle.std.specs.Prelude.{◌≡◌, ℕ, ◌||◌, Bool, List, ◌++◌, Some, None, Result, Ok, Err}
-use Rattle.std.specs.Bool.{MatchBool}
+-- What a run has said so far, and how much of it its writer has taken.
+use Rattle.std.specs.Prelude.{◌≡◌, ℕ, ◌-◌, ◌^◌, ◌<◌, ◌||◌, Bool, false, List, [], ◌++◌, Option, length, min, take}
+use Rattle.std.specs.Io.KnownBytes.{Appends}
 use Rattle.krl_tool.specs.declared.answer.Answer.{Answer}
-use Rattle.krl_tool.specs.Run.{Item, Outcome, outcome_of}
-use Rattle.krl_tool.specs.Stop.{Stop, is_no_memory}
+use Rattle.krl_tool.specs.Run.{Outcome}
 
--- the text so far, and whether a line of it says REVOKED
+-- what the writer had taken before the run, the text so far, and whether a line of it says REVOKED
 pub record Said : Type 0 where
+  pub before : Option (List ℕ)
   pub text : List ℕ
   pub revoked : Bool
 
-abbrev pub and_answer : Said → Answer → Said
-and_answer said answer = record { text = said.text ++ answer.line; revoked = said.revoked || answer.revoked }
-
 -- what was said, and then what a part of the run says
 abbrev pub and_then : Said → Outcome → Said
-and_then said part = record { text = said.text ++ part.text; revoked = said.revoked || part.revoked }
+and_then said part = record { before = said.before; text = said.text ++ part.text; revoked = said.revoked || part.revoked }
 
--- New is old and then all that the items say: each of them is an answer.
-pub record SaysAll (items : List Item) (old new : Said) : Type 0 where
-  pub unstopped : (outcome_of items).stop ≡ None
-  pub said : new ≡ and_then old (outcome_of items)
+-- The end of the text, which waits to be sent, the count of the bytes sent, and whether a line of the text says REVOKED.
+pub record Held : Type 0 where
+  pub waiting : List ℕ
+  pub sent : ℕ
+  pub revoked : Bool
 
--- New is old and then what the first items say.
-pub record SaysSome (items : List Item) (old new : Said) : Type 0 where
-  pub done : List Item
-  pub later : List Item
-  pub parts : items ≡ done ++ later
-  pub all : SaysAll done old new
+abbrev pub nothing_held : Held
+nothing_held = record { waiting = []; sent = 0; revoked = false }
 
--- New is old and then what the items say up to this stop.
-pub record SaysUntil (items : List Item) (stop : Stop) (old new : Said) : Type 0 where
-  pub stopped : (outcome_of items).stop ≡ Some stop
-  pub said : new ≡ and_then old (outcome_of items)
+abbrev pub and_answer : Held → Answer → Held
+and_answer held answer = record { waiting = held.waiting ++ answer.line; sent = held.sent; revoked = held.revoked || answer.revoked }
 
--- A part of a run stopped: it said all up to its first fault, or memory ran out between two answers.
-abbrev pub Stops : List Item → Stop → Said → Said → Type 0
-Stops items stop old new = MatchBool (is_no_memory stop.cause) (SaysSome items old new) (SaysUntil items stop old new)
+-- how far a run has come: what its report holds, and what its writer has taken
+pub record Progress : Type 0 where
+  pub held : Held
+  pub taken : Option (List ℕ)
 
--- What a part of a run did: it said all, or stopped.
-abbrev pub Carries : {A : Type 0} → List Item → Result A Stop → Said → Said → Type 0
-Carries items (Ok value) old new = SaysAll items old new
-Carries items (Err stop) old new = Stops items stop old new
+abbrev pub progress : Held → Option (List ℕ) → Progress
+progress held taken = record { held = held; taken = taken }
+
+-- so many bytes of lines are sent together
+abbrev pub chunk : ℕ
+chunk = 65536
+
+-- A count of bytes is told as 2^64-1 where it is greater.
+abbrev pub told_count : ℕ → ℕ
+told_count count = min count (2 ^ 64 - 1)
+
+-- The writer has taken the front of what was said, and the rest waits.
+pub record Holds (now : Progress) (said : Said) : Type 0 where
+  pub gone : List ℕ
+  pub parts : said.text ≡ gone ++ now.held.waiting
+  pub taken : Appends said.before now.taken gone
+  pub counted : now.held.sent ≡ told_count (length gone)
+  pub revoked : now.held.revoked ≡ said.revoked
+
+-- A writer had taken some bytes before, and then so many of a text, but not all.
+pub record IsCut (text : List ℕ) (before after : Option (List ℕ)) (count : ℕ) : Type 0 where
+  pub gone : ℕ
+  pub counted : count ≡ told_count gone
+  pub taken : Appends before after (take gone text)
+  pub short : gone < length text

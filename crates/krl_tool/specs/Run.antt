@@ -19,9 +19,19 @@ pub record File : Type 0 where
   pub name : List ℕ
   pub content : Result (List ℕ) FileFault
 
--- what a run says of a line of a key file, or why it stops there
+-- an answer, and the name of the file at hand
+pub record Reply : Type 0 where
+  pub name : List ℕ
+  pub answer : Answer
+
+-- what a run says of a line of a file, or why it stops there
 abbrev pub Item : Type 0
-Item = Result Answer Stop
+Item = Result Reply Stop
+
+-- the file at hand
+abbrev pub file_of : Item → List ℕ
+file_of (Ok reply) = reply.name
+file_of (Err stop) = stop.name
 
 -- How a run answers: by the name of the file, what a line of it holds, and its key.
 abbrev pub Answering : Type 0
@@ -29,7 +39,7 @@ Answering = List ℕ → Content → Key → Answer
 
 abbrev pub answered : Answering → List ℕ → ℕ → Content → Result Key KeyFault → Item
 answered answer name number line (Err fault) = Err (record { name = name; line = Some number; cause = causes.Subject (subjects.Key fault) })
-answered answer name number line (Ok key) = Ok (answer name line key)
+answered answer name number line (Ok key) = Ok (record { name = name; answer = answer name line key })
 
 abbrev pub on_line : Answering → List ℕ → ℕ → Result Content LineFault → Item
 on_line answer name number (Err fault) = Err (record { name = name; line = Some number; cause = causes.Line fault })
@@ -74,7 +84,7 @@ before answer rest = record { text = answer.line ++ rest.text; revoked = answer.
 abbrev pub outcome_of : List Item → Outcome
 outcome_of [] = record { text = []; revoked = false; stop = None }
 outcome_of (Err stop ∷ items) = record { text = []; revoked = false; stop = Some stop }
-outcome_of (Ok answer ∷ items) = before answer (outcome_of items)
+outcome_of (Ok reply ∷ items) = before reply.answer (outcome_of items)
 
 -- the status that a run ends with
 abbrev pub status_of : Bool → Bool → ℕ

@@ -1,5 +1,5 @@
 -- Why a run stopped, and the line that tells it.
-use Rattle.std.specs.Prelude.{◌≡◌, ℕ, Bool, true, false, List, [], ◌++◌, Option, Some, None, codes, decimal}
+use Rattle.std.specs.Prelude.{ℕ, Bool, true, false, List, [], ◌++◌, Option, Some, None, codes, decimal}
 use Rattle.ssh_key.specs.KeyFault.{key_fault_text}
 use Rattle.ssh_key.specs.LineFault.{fault_text}
 use Rattle.krl_tool.specs.declared.cause.Cause.{Cause}
@@ -36,19 +36,19 @@ line_part (Some number) = codes "line " ++ (decimal number ++ codes ": ")
 unfoldable pub fault_line : Stop → List ℕ
 fault_line stop = codes "ssh-keygen: " ++ (escaped stop.name ++ (codes ": " ++ (line_part stop.line ++ cause_text stop.cause)))
 
-abbrev pub is_no_memory : Cause → Bool
-is_no_memory NoMemory = true
-is_no_memory (File fault) = false
-is_no_memory (Krl fault) = false
-is_no_memory (Line fault) = false
-is_no_memory (Subject fault) = false
-is_no_memory (Output count) = false
+-- The output has no line. So many bytes went out.
+abbrev pub output_stop : ℕ → Stop
+output_stop count = record { name = codes "output"; line = None; cause = Output count }
 
--- A fault of the run itself, told before its output is written. A want of memory names no line.
-abbrev pub IsInside : Cause → Option ℕ → Type 0
-IsInside (Output count) line = ⊥
-IsInside NoMemory line = line ≡ None
-IsInside (File fault) line = Unit {0}
-IsInside (Krl fault) line = Unit {0}
-IsInside (Line fault) line = Unit {0}
-IsInside (Subject fault) line = Unit {0}
+abbrev pub is_output : Cause → Bool
+is_output (Output count) = true
+is_output NoMemory = false
+is_output (File fault) = false
+is_output (Krl fault) = false
+is_output (Line fault) = false
+is_output (Subject fault) = false
+
+-- whether it is the output that stopped a run
+abbrev pub is_lost : Option Stop → Bool
+is_lost None = false
+is_lost (Some stop) = is_output stop.cause

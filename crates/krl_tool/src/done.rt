@@ -1,13 +1,18 @@
 // The end of a run.
 
-ghost use Rattle.std.specs.Prelude.{◌≡◌, false};
+ghost use Rattle.std.specs.Prelude.{◌≡◌, false, true};
 ghost use Rattle.krl_tool.specs.Done.{IsSent};
+ghost use Rattle.krl_tool.specs.Report.{Said, Holds, progress};
 ghost use Rattle.krl_tool.specs.Run.{status_of};
+ghost use Rattle.krl_tool.specs.Stop.{is_lost};
 
 use crate::cause::Cause;
 use crate::report::Report;
 use crate::run_fault::RunFault;
-use ssh_wire::{Sink, send};
+use ssh_wire::Sink;
+
+/// The status of a fault.
+pub const FAILED: u8 = 255;
 
 /// The end of a run.
 #[derive(Debug, Drop)]
@@ -18,29 +23,35 @@ pub struct Done<'a> {
     pub fault: Option<RunFault<'a>>,
 }
 
-/// Writes what a run said, and ends it: with 255 where it stopped, else with 1 where it said of a
-/// key that it is revoked, else with 0.
-pub fn finish<'a, W: Sink>(report: &Report, stop: Option<RunFault<'a>>, out: &mut W) -> Done<'a>
-    requires { W.has_failed out.old ≡ false }
-    ensures { IsSent report.now.text report.now.revoked stop.entry (W.taken out.old) (W.taken out.new)
-        (W.has_failed out.new) result.status result.fault }
+/// Sends the last of what a run said, unless its output has failed, and ends it: with 255 where it
+/// stopped, else with 1 where it said of a key that it is revoked, else with 0.
+pub fn finish<'a, W: Sink>(report: &mut Report, stop: Option<RunFault<'a>>, out: &mut W) -> Done<'a>
+    requires { W.has_failed out.old ≡ is_lost stop }
+    ensures sent { is_lost stop.entry ≡ false → (said : Said) → Holds (progress report.old (W.taken out.old)) said
+        → IsSent said stop.entry (W.taken out.new) (W.has_failed out.new) result.status result.fault }
+    ensures lost { is_lost stop.entry ≡ true → (result.status ≡ 255) × (result.fault ≡ stop.entry)
+        × (W.taken out.new ≡ W.taken out.old) × (W.has_failed out.new ≡ true) }
 {
-    if let Err(sent) = send(out, report.text()) {
-        let fault = RunFault {
-            name: "output",
-            line: None,
-            cause: Cause::Output {
-                count: sent.count as u64,
-            },
-        };
+    if is_lost(&stop) {
         return Done {
-            status: 255,
-            fault: Some(fault),
+            status: FAILED,
+            fault: stop,
         };
     }
+    let fault = report.send(out).err().or(stop);
     Done {
-        status: status(stop.is_some(), report.revoked()),
-        fault: stop,
+        status: status(fault.is_some(), report.revoked()),
+        fault,
+    }
+}
+
+/// Whether it is the output that stopped a run.
+fn is_lost(stop: &Option<RunFault>) -> bool
+    ensures { result ≡ is_lost stop.now }
+{
+    match stop {
+        Some(fault) => matches!(fault.cause, Cause::Output { .. }),
+        None => false,
     }
 }
 
@@ -48,7 +59,7 @@ fn status(stopped: bool, revoked: bool) -> u8
     ensures { result ≡ status_of stopped revoked }
 {
     match (stopped, revoked) {
-        (true, _) => 255,
+        (true, _) => FAILED,
         (false, true) => 1,
         (false, false) => 0,
     }

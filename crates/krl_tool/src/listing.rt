@@ -83,6 +83,6 @@ pub fn list_run<'a, W: Sink>(
         result.status result.fault }
 {
     let mut report = Report::new(alloc);
-    let stop = answer_file(alloc, &Listing { hash }, file, &mut report).err();
-    finish(&report, stop, out)
+    let stop = answer_file(alloc, &Listing { hash }, file, &mut report, out).err();
+    finish(&mut report, stop, out)
 }

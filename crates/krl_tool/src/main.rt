@@ -24,7 +24,7 @@ mod walk;
 
 use crate::cause::Cause;
 use crate::command::{CommandFault, Job, Mode, command_of};
-use crate::done::Done;
+use crate::done::{Done, FAILED};
 use crate::file_fault::FileFault;
 use crate::listing::list_run;
 use crate::named::{Named, load};
@@ -36,9 +36,6 @@ use std::{env, fs};
 
 /// The status of a command line that asks for nothing that the program does.
 const MISUSED: u8 = 2;
-
-/// The status of any other fault.
-const FAILED: u8 = 255;
 
 fn main(rt: HostRuntime) -> ExitCode {
     ExitCode::from(run(&rt))
@@ -118,11 +115,7 @@ fn failed(name: &str, cause: Cause) -> Done<'_>
 {
     Done {
         status: FAILED,
-        fault: Some(RunFault {
-            name,
-            line: None,
-            cause,
-        }),
+        fault: Some(RunFault::whole(name, cause)),
     }
 }
 

@@ -1,12 +1,14 @@
 // Asking a list about the keys of files (ssh-keygen(1), KEY REVOCATION LISTS).
 
-ghost use Rattle.std.specs.Prelude.{◌≡◌, ◌++◌, IfErr, IfOk, List, Result, OnOk, false};
+ghost use Rattle.std.specs.Prelude.{◌≡◌, ◌++◌, IfOk, List, Result, OnOk, false};
+ghost use Rattle.std.specs.Result.{result_err};
 ghost use Rattle.krl_tool.specs.declared.krl_fault.KrlFault.{KrlFault as FaultOf};
+ghost use Rattle.krl_tool.specs.Carries.{Carries};
 ghost use Rattle.krl_tool.specs.Done.{Ends};
 ghost use Rattle.krl_tool.specs.Entry.{Entry};
 ghost use Rattle.krl_tool.specs.Query.{IsRead, ask, comment_part, kept_entries, krl_cause, query_line, query_run_of, verdict};
-ghost use Rattle.krl_tool.specs.Report.{Carries};
-ghost use Rattle.krl_tool.specs.Stop.{IsInside};
+ghost use Rattle.krl_tool.specs.Report.{progress};
+ghost use Rattle.krl_tool.specs.Stop.{is_lost};
 
 use crate::answer::{Answer, Answers};
 use crate::cause::Cause;
@@ -91,28 +93,28 @@ pub fn query_run<'a, W: Sink>(
 {
     let _ = dump;
     let mut report = Report::new(alloc);
-    let stop = ask_list(alloc, krl_name, krl, files, &mut report).err();
-    finish(&report, stop, out)
+    let stop = ask_list(alloc, krl_name, krl, files, &mut report, out).err();
+    finish(&mut report, stop, out)
 }
 
-fn ask_list<'a>(
+/// Asks a list about each key of each file.
+fn ask_list<'a, W: Sink>(
     alloc: Global,
     krl_name: &'a str,
     krl: &[u8],
     files: &'a [Named<'a>],
     report: &mut Report,
+    out: &mut W,
 ) -> Result<(), RunFault<'a>>
+    requires { W.has_failed out.old ≡ false }
     ensures says { (reading : Result (List Entry) FaultOf) → IsRead krl.now reading →
-        Carries (query_run_of krl_name.now reading files.now) result report.old report.new }
-    ensures inside { IfErr result (λ stop. IsInside stop.cause stop.line) }
+        Carries (query_run_of krl_name.now reading files.now) result
+        (progress report.old (W.taken out.old)) (progress report.new (W.taken out.new)) }
+    ensures failed { W.has_failed out.new ≡ is_lost (result_err result) }
 {
     match read_list(alloc, krl) {
-        Ok(list) => answer_files(alloc, &Query { list: &list }, files, report),
-        Err(fault) => Err(RunFault {
-            name: krl_name,
-            line: None,
-            cause: cause_of(fault),
-        }),
+        Ok(list) => answer_files(alloc, &Query { list: &list }, files, report, out),
+        Err(fault) => Err(RunFault::whole(krl_name, cause_of(fault))),
     }
 }
 

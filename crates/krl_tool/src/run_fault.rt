@@ -1,6 +1,6 @@
 // Where and why a run stopped, and the line that tells it.
 
-ghost use Rattle.std.specs.Prelude.{◌≡◌, ◌++◌, IfOk, OnOk};
+ghost use Rattle.std.specs.Prelude.{◌≡◌, ◌++◌, None, Some, IfOk, OnOk};
 ghost use Rattle.krl_tool.specs.Stop.{fault_line, line_part};
 
 use crate::cause::Cause;
@@ -24,6 +24,30 @@ impl<'a> Model for RunFault<'a> {
     ghost Value = { Stop };
 
     ghost view = { λ fault. record { name = fault.name.now; line = fault.line; cause = fault.cause } };
+}
+
+impl<'a> RunFault<'a> {
+    /// Of a file as a whole, or of the output.
+    pub fn whole(name: &'a str, cause: Cause) -> RunFault<'a>
+        ensures { result ≡ record { name = name.now; line = None; cause = cause } }
+    {
+        RunFault {
+            name,
+            line: None,
+            cause,
+        }
+    }
+
+    /// Of a line of a file.
+    pub fn at_line(name: &'a str, number: u64, cause: Cause) -> RunFault<'a>
+        ensures { result ≡ record { name = name.now; line = Some number; cause = cause } }
+    {
+        RunFault {
+            name,
+            line: Some(number),
+            cause,
+        }
+    }
 }
 
 /// The line for standard error, without its line feed: the program, the name with its control

@@ -3,6 +3,7 @@
 
 mod asking;
 mod bytes;
+mod chunks;
 mod describing;
 mod devices;
 mod encoding;

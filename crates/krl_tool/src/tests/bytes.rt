@@ -33,6 +33,16 @@ pub fn joined(alloc: Global, parts: &[&[u8]]) -> Result<Vec<u8>, AllocError> {
     Ok(all)
 }
 
+/// The parts one after the other, so many times.
+pub fn repeated(alloc: Global, parts: &[&[u8]], times: usize) -> Result<Vec<u8>, AllocError> {
+    let once = joined(alloc, parts)?;
+    let mut all = Vec::new(alloc);
+    for _ in 0..times {
+        all.extend_from_slice(&once)?;
+    }
+    Ok(all)
+}
+
 /// The list that names one key.
 pub fn list_of_one(alloc: Global, blob: &[u8]) -> Result<Vec<u8>, AllocError> {
     joined(alloc, &[HEADER.as_slice(), ONE_KEY.as_slice(), blob])

@@ -35,10 +35,20 @@ impl<'a> Read for Giver<'a> {
 
 /// Takes at most so many bytes at a call, and fails from the call on that is to fail.
 #[derive(Drop)]
-struct Taker {
-    taken: Vec<u8>,
+pub struct Taker {
+    pub taken: Vec<u8>,
     piece: usize,
     calls_before_failure: usize,
+}
+
+impl Taker {
+    pub fn new(alloc: Global, piece: usize, calls_before_failure: usize) -> Taker {
+        Taker {
+            taken: Vec::new(alloc),
+            piece,
+            calls_before_failure,
+        }
+    }
 }
 
 impl Write for Taker {
@@ -107,14 +117,6 @@ fn loads_up_to_the_limit(rt: HostRuntime) -> Result<(), Fail> {
     Ok(())
 }
 
-fn fresh(alloc: Global, calls_before_failure: usize) -> Taker {
-    Taker {
-        taken: Vec::new(alloc),
-        piece: 3,
-        calls_before_failure,
-    }
-}
-
 #[test]
 fn the_output_fails(rt: HostRuntime) -> Result<(), Fail> {
     let list = list_of_one(rt.alloc(), &GITHUB)?;
@@ -135,7 +137,7 @@ fn the_output_fails(rt: HostRuntime) -> Result<(), Fail> {
     let files = [file, closed];
     for (calls, is_closed, text, status, fault, count) in rows {
         let asked = &files[..if is_closed { 2 } else { 1 }];
-        let mut device = fresh(rt.alloc(), calls);
+        let mut device = Taker::new(rt.alloc(), 3, calls);
         let mut out = ToWrite::new(&mut device);
         let done = query_run(rt.alloc(), "r.krl", &list, false, asked, &mut out);
         drop(out);
@@ -151,7 +153,7 @@ fn the_output_fails(rt: HostRuntime) -> Result<(), Fail> {
 #[test]
 fn the_output_of_a_listing_fails(rt: HostRuntime) -> Result<(), Fail> {
     let file = named(rt.alloc(), &("g.pub", Some(&[GITHUB_LINE])))?;
-    let mut device = fresh(rt.alloc(), 2);
+    let mut device = Taker::new(rt.alloc(), 3, 2);
     let mut out = ToWrite::new(&mut device);
     let done = list_run(rt.alloc(), Hash::Sha256, &file, &mut out);
     drop(out);
@@ -162,7 +164,7 @@ fn the_output_of_a_listing_fails(rt: HostRuntime) -> Result<(), Fail> {
     assert_eq!(rt; ran.fault.as_slice(), line);
     // where nothing is to be written, nothing fails
     let file = named(rt.alloc(), &("k", Some(&[])))?;
-    let mut device = fresh(rt.alloc(), 0);
+    let mut device = Taker::new(rt.alloc(), 3, 0);
     let mut out = ToWrite::new(&mut device);
     let done = list_run(rt.alloc(), Hash::Sha256, &file, &mut out);
     drop(out);

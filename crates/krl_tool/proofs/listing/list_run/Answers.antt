@@ -8,4 +8,4 @@ unfolding list_run_of
 returns g c =
     let sent = rw c.err-stop.ensures.value at c.finish.ensures in
     let says = rw c.new-report.ensures at c.answer_file.ensures.says in
-    ends_as _ c.answer_file.result _ _ _ _ _ _ says c.answer_file.ensures.inside sent
+    ends_as _ c.answer_file.result _ _ _ _ _ _ says sent.sent sent.lost

@@ -1,8 +1,11 @@
 -- Each line carries the run on, or stops it.
 use Rattle.std.proofs.Common.{rules}
 use Rattle.std.proofs.lemmas.Result.{err_from_is_err_and}
-use Rattle.krl_tool.proofs.Lined.{goes_on, stops, ends}
+use Rattle.krl_tool.proofs.Lined.{is_begun, goes_on, stops, ends}
 use Rattle.krl_tool.proofs.walk.answer_text.Goals as goal
+
+pub loop-is_key-init : goal.loop-is_key-init
+loop-is_key-init g c = record { reached = is_begun _ _ _ _; counted = search rules; working = c.requires }
 
 pub returns-in_err-is_key-clause-says : goal.returns-in_err-is_key-clause-says
 returns-in_err-is_key-clause-says g c =
@@ -17,6 +20,7 @@ loop-is_key-preserved g c =
     record {
       reached = rw (c.in_ok-is_key.ensures.found) (rw c.in-Some.is at next);
       counted = search rules;
+      working = c.in_ok-is_key.ensures.failed;
     }
 
 pub returns-clause-says : goal.returns-clause-says
