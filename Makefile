@@ -6,7 +6,7 @@ PREFIX = /usr/local
 build:
 	./ssh-keygen -h >/dev/null
 
-# All of the checking: the build, each proof from nothing, and the built program beside OpenSSH.
+# All of the checking: each proof from nothing, and the program that was proved beside OpenSSH.
 test:
 	tests/all
 
