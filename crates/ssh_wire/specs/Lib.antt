@@ -4,3 +4,6 @@ pub mod Fault
 pub mod Put
 pub mod Device
 pub mod Laws
+pub mod PullFault
+pub mod Pull
+pub mod Filling

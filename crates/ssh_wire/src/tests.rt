@@ -5,7 +5,7 @@ mod put;
 mod reader;
 mod writer;
 
-use crate::{Bytes, WireFault};
+use crate::{Bytes, PullFault, WireFault};
 use std::test::*;
 
 #[test]
@@ -14,6 +14,20 @@ fn faults_have_numbers_and_texts(rt: HostRuntime) -> Result<(), Fail> {
         (WireFault::Short, 1, "wire 1 Short"),
         (WireFault::Negative, 2, "wire 2 Negative"),
         (WireFault::NotShortest, 3, "wire 3 NotShortest"),
+    ] {
+        assert_eq!(rt; fault.number(), number);
+        assert_eq!(rt; format!(in rt.alloc(); "{fault}")?.as_str(), text);
+    }
+    Ok(())
+}
+
+#[test]
+fn pull_faults_have_numbers_and_texts(rt: HostRuntime) -> Result<(), Fail> {
+    for (fault, number, text) in [
+        (PullFault::EndsEarly, 1, "pull 1 EndsEarly"),
+        (PullFault::TooLong, 2, "pull 2 TooLong"),
+        (PullFault::Read, 3, "pull 3 Read"),
+        (PullFault::NoMemory, 4, "pull 4 NoMemory"),
     ] {
         assert_eq!(rt; fault.number(), number);
         assert_eq!(rt; format!(in rt.alloc(); "{fault}")?.as_str(), text);

@@ -1,0 +1,116 @@
+-- Pieces that a reader gave, one after the other.
+use Rattle.std.proofs.Common.{◌≡◌, ℕ, ◌+◌, ◌-◌, ◌<◌, ◌≤◌, Bool, false, Result, Ok, Err, rules, List, [], ◌∷◌, ◌++◌, length, take, drop, Option, None, Some, refl, sym, ap, ◌∙◌, subst, le_refl, drop_at, length-take-le, length-append, append-nil, slice_set, arith}
+use Rattle.std.proofs.lemmas.Slice.{take-put_mid_below}
+use Rattle.std.proofs.lemmas.List.{drop_all}
+use Rattle.std.specs.Io.KnownBytes.{Consumes, prepend_known}
+use Rattle.std.proofs.KnownBytes.{Consumes-trans}
+use Rattle.ssh_wire.specs.declared.pull_fault.PullFault.{PullFault}
+use Rattle.ssh_wire.specs.declared.pull_fault.PullFault.TheVariants.{EndsEarly, TooLong, Read, NoMemory}
+use Rattle.ssh_wire.specs.Filling.{Fills, Stops, TellsStop, pulled}
+use Rattle.ssh_wire.specs.Pull.{Misses, Pulled, Refuses, Tells, left_of}
+use borrow.Rule.Slice.PartMut.{put_mid, post_of}
+use lib.Seq.{take-add, take-append-le}
+
+-- the front of a slice whose part from a place on was written to
+pub take-put_mid-part : (a k n : ℕ) (xs ys : List ℕ) → a ≤ length xs → n ≤ length ys → take (a + n) (put_mid a k xs ys) ≡ take a xs ++ take n ys
+take-put_mid-part a k n xs ys within fits =
+    let front : take a (put_mid a k xs ys) ≡ take a xs = take-put_mid_below a k xs ys a (le_refl a) within in
+    let back : drop a (put_mid a k xs ys) ≡ ys ++ post_of a k xs = drop_at (take a xs) (ys ++ post_of a k xs) a (length-take-le a xs within) in
+    let part : take n (drop a (put_mid a k xs ys)) ≡ take n ys = ap (take n) back ∙ take-append-le n ys (post_of a k xs) fits in
+    take-add a n (put_mid a k xs ys) ∙ ap (λ (l : List ℕ). l ++ take n (drop a (put_mid a k xs ys))) front ∙ ap (λ (l : List ℕ). take a xs ++ l) part
+
+-- the front of a slice was filled, and then the next of it
+pub Consumes-filled : (first second third : Option (List ℕ)) (into part : List ℕ) (count more : ℕ) → count ≤ length into → more ≤ length part → Consumes first second (take count into) → Consumes second third (take more part) → Consumes first third (take (count + more) (put_mid count (length into - count) into part))
+Consumes-filled first second third into part count more within fits before after =
+    subst (Consumes first third) (sym (take-put_mid-part count (length into - count) more into part within fits)) (Consumes-trans first second third (take count into) (take more part) before after)
+
+-- the byte ahead is the first
+pub Consumes-ahead : (byte : ℕ) (source : Option (List ℕ)) → Consumes (prepend_known (byte ∷ []) source) source (byte ∷ [])
+Consumes-ahead byte None = tt
+Consumes-ahead byte (Some xs) = refl
+
+-- so many bytes came since a count was at its start
+pub record Comes (before after : Option (List ℕ)) (start now : ℕ) : Type 0 where
+  pub came : List ℕ
+  pub bytes : Consumes before after came
+  pub count : start + length came ≡ now
+
+-- a front came, and then less than what was left to come
+pub Stops-after : (fault : PullFault) (before mid after : Option (List ℕ)) (failed : Bool) (front : List ℕ) (part size : ℕ) → Consumes before mid front → Stops fault mid after failed part → length front + part ≤ size → Stops fault before after failed size
+Stops-after fault before mid after failed front part size came stops fits = record {
+  came = front ++ stops.came;
+  bytes = Consumes-trans before mid after front stops.came came stops.bytes;
+  part = omega (arith, length-append front stops.came, stops.part);
+  tells = stops.tells;
+}
+
+-- a slice was filled since, so all of its bytes came
+pub Comes-more : (before mid after : Option (List ℕ)) (start now : ℕ) (slice : List ℕ) (part : ℕ) → Comes before mid start now → Consumes mid after slice → length slice ≡ part → Comes before after start (now + part)
+Comes-more before mid after start now slice part comes more size = record {
+  came = comes.came ++ slice;
+  bytes = Consumes-trans before mid after comes.came slice comes.bytes more;
+  count = omega (arith, length-append comes.came slice, comes.count, size);
+}
+
+Tells-stop : (fault : PullFault) (pull : Pulled) (came : ℕ) → TellsStop fault (left_of pull) pull.failed → Tells fault pull came
+Tells-stop EndsEarly pull came tells = tells
+Tells-stop TooLong pull came tells = absurd tells
+Tells-stop Read pull came tells = tells
+Tells-stop NoMemory pull came tells = absurd tells
+
+-- what came is less than a field that has room
+pub Misses-stop : (old new : Pulled) (fault : PullFault) (room size : ℕ) → Stops fault (left_of old) (left_of new) new.failed room → room ≤ size → old.taken + room ≤ old.limit → Misses old size fault new
+Misses-stop old new fault room size stops fits within = record {
+  came = stops.came;
+  bytes = stops.bytes;
+  part = omega (arith, stops.part);
+  within = omega (arith, stops.part);
+  tells = Tells-stop fault new (length stops.came) stops.tells;
+}
+
+Tells-kept : (fault : PullFault) (new : Pulled) (taken limit came : ℕ) → new.taken ≡ taken → new.limit ≡ limit → Tells fault (pulled new.source new.failed new.ahead taken limit) came → Tells fault new came
+Tells-kept EndsEarly new taken limit came taken_is limit_is tells = tells
+Tells-kept TooLong new taken limit came taken_is limit_is tells = (omega (arith, tells.0), tells.1, tells.2)
+Tells-kept Read new taken limit came taken_is limit_is tells = tells
+Tells-kept NoMemory new taken limit came taken_is limit_is tells = tells
+
+-- the fault that was found is kept
+pub Refuses-misses : (old new : Pulled) (size : ℕ) (fault : PullFault) → Misses (pulled old.source false old.ahead old.taken old.limit) size fault (pulled new.source new.failed new.ahead old.taken old.limit) → new.taken ≡ old.taken → new.limit ≡ old.limit → new.fault ≡ Some fault → Refuses old size fault new
+Refuses-misses old new size fault misses taken_is limit_is fault_is = record {
+  misses = record {
+    came = misses.came;
+    bytes = misses.bytes;
+    part = misses.part;
+    within = misses.within;
+    tells = Tells-kept fault new old.taken old.limit (length misses.came) taken_is limit_is misses.tells;
+  };
+  taken = taken_is;
+  limit = limit_is;
+  fault_is = fault_is;
+}
+
+-- ---- the byte ahead, in front of a slice
+
+-- a slice after its first byte was written to
+put_mid-first : (s part : List ℕ) → 0 < length s → length part ≡ length s - 1 → put_mid 1 (length s - 1) s part ≡ take 1 s ++ part
+put_mid-first [] part some fits = absurd (omega arith)
+put_mid-first (x ∷ xs) part some fits =
+    let all : length xs ≤ length (x ∷ xs) - 1 = omega arith in
+    let none : drop (length (x ∷ xs) - 1) xs ≡ [] = search (rules, drop_all) in
+    ap (λ (l : List ℕ). x ∷ (part ++ l)) none ∙ ap (λ (l : List ℕ). x ∷ l) (append-nil part)
+
+pub take-set_first : (into : List ℕ) (byte : ℕ) → 0 < length into → take 1 (slice_set into 0 byte) ≡ byte ∷ []
+take-set_first [] byte some = absurd (omega arith)
+take-set_first (x ∷ xs) byte some = refl
+
+Stops-ahead : (fault : PullFault) (byte : ℕ) (source after : Option (List ℕ)) (failed : Bool) (part size : ℕ) → Stops fault source after failed part → part + 1 ≤ size → Stops fault (prepend_known (byte ∷ []) source) after failed size
+Stops-ahead fault byte source after failed part size stops fits =
+    Stops-after fault (prepend_known (byte ∷ []) source) source after failed (byte ∷ []) part size (Consumes-ahead byte source) stops (omega arith)
+
+pub Fills-ahead : {A : Type 0} (result : Result A PullFault) (byte : ℕ) (source after : Option (List ℕ)) (failed : Bool) (s part : List ℕ) → 0 < length s → take 1 s ≡ byte ∷ [] → length part ≡ length s - 1 → Fills result source after failed part → Fills result (prepend_known (byte ∷ []) source) after failed (put_mid 1 (length s - 1) s part)
+Fills-ahead (Ok filled) byte source after failed s part some first fits fills =
+    let whole : put_mid 1 (length s - 1) s part ≡ (byte ∷ []) ++ part = put_mid-first s part some fits ∙ ap (λ (l : List ℕ). l ++ part) first in
+    (subst (Consumes (prepend_known (byte ∷ []) source) after) (sym whole) (Consumes-trans _ source after (byte ∷ []) part (Consumes-ahead byte source) fills.0), fills.1)
+Fills-ahead (Err fault) byte source after failed s part some first fits fills =
+    let whole : put_mid 1 (length s - 1) s part ≡ (byte ∷ []) ++ part = put_mid-first s part some fits ∙ ap (λ (l : List ℕ). l ++ part) first in
+    Stops-ahead fault byte source after failed (length part) _ fills (omega (arith, ap length whole))

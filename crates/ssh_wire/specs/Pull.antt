@@ -1,0 +1,75 @@
+-- How far a reader was pulled, and what taking a field from it does.
+use Rattle.std.specs.Prelude.{◌≡◌, ℕ, ◌+◌, ◌≤◌, ◌<◌, Bool, true, false, List, [], ◌∷◌, length}
+use Rattle.std.specs.Prelude.{Option, Some, None, IsSome, MatchBool}
+use Rattle.std.specs.Io.KnownBytes.{Consumes, IsAtEnd, Keeps, prepend_known}
+use Rattle.ssh_wire.specs.declared.pull_fault.PullFault.{PullFault}
+use Rattle.ssh_wire.specs.declared.pull_fault.PullFault.TheVariants.{EndsEarly, TooLong, Read}
+use Rattle.ssh_wire.specs.declared.pull_fault.PullFault.TheVariants.{NoMemory}
+
+-- What the reader has left, where it tells that, and whether it failed; the byte that was looked at
+-- and not taken; how many bytes were taken, and how many may be; the fault that was met.
+pub record Pulled : Type 0 where
+  pub source : Option (List ℕ)
+  pub failed : Bool
+  pub ahead : Option ℕ
+  pub taken : ℕ
+  pub limit : ℕ
+  pub fault : Option PullFault
+
+-- the byte that was looked at, and then what the reader has left
+abbrev pub after_ahead : Option ℕ → Option (List ℕ) → Option (List ℕ)
+after_ahead None source = source
+after_ahead (Some byte) source = prepend_known (byte ∷ []) source
+
+-- The bytes that were not taken yet. The reader gave at most one of them: the one looked at.
+abbrev pub left_of : Pulled → Option (List ℕ)
+left_of pull = after_ahead pull.ahead pull.source
+
+-- nothing was taken of a reader that has these bytes left
+abbrev pub untaken : Option (List ℕ) → ℕ → Pulled
+untaken source limit =
+    record { source = source; failed = false; ahead = None; taken = 0; limit = limit; fault = None }
+
+-- The field was taken: it is the next bytes, within the limit.
+pub record Takes (old : Pulled) (field : List ℕ) (new : Pulled) : Type 0 where
+  pub bytes : Consumes (left_of old) (left_of new) field
+  pub within : old.taken + length field ≤ old.limit
+  pub taken : new.taken ≡ old.taken + length field
+  pub limit : new.limit ≡ old.limit
+  pub working : new.failed ≡ false
+  pub was_faultless : old.fault ≡ None
+  pub is_faultless : new.fault ≡ None
+
+-- What a fault says, where so many bytes of a field came. EndsEarly: no byte is left. TooLong: the
+-- limit is reached, and a byte stands past it. Read: the reader failed.
+abbrev pub Tells : PullFault → Pulled → ℕ → Type 0
+Tells EndsEarly pull came = IsAtEnd (left_of pull) × (pull.failed ≡ false)
+Tells TooLong pull came =
+    (pull.taken + came ≡ pull.limit) × IsSome pull.ahead × (pull.failed ≡ false)
+Tells Read pull came = pull.failed ≡ true
+Tells NoMemory pull came = pull.failed ≡ false
+
+-- Of a field of so many bytes not all came, within the limit, and the fault says why.
+pub record Misses (old : Pulled) (size : ℕ) (fault : PullFault) (new : Pulled) : Type 0 where
+  pub came : List ℕ
+  pub bytes : Consumes (left_of old) (left_of new) came
+  pub part : length came < size
+  pub within : old.taken + length came ≤ old.limit
+  pub tells : Tells fault new (length came)
+
+-- A field of so many bytes was refused. What came of it does not count as taken.
+pub record Refuses (old : Pulled) (size : ℕ) (fault : PullFault) (new : Pulled) : Type 0 where
+  pub misses : Misses old size fault new
+  pub taken : new.taken ≡ old.taken
+  pub limit : new.limit ≡ old.limit
+  pub fault_is : new.fault ≡ Some fault
+
+-- Whether the end is reached was found out, and no byte was taken.
+pub record Looks (old : Pulled) (ended : Bool) (new : Pulled) : Type 0 where
+  pub bytes : Keeps (left_of old) (left_of new)
+  pub answer : MatchBool ended (IsAtEnd (left_of new)) (IsSome new.ahead)
+  pub taken : new.taken ≡ old.taken
+  pub limit : new.limit ≡ old.limit
+  pub working : new.failed ≡ false
+  pub was_faultless : old.fault ≡ None
+  pub is_faultless : new.fault ≡ None

@@ -1,0 +1,50 @@
+// Why bytes could not be pulled from a reader.
+
+ghost use Rattle.std.specs.Prelude.{◌≡◌, Some};
+ghost use Rattle.ssh_wire.specs.PullFault.{pull_fault_number, pull_fault_text};
+
+use std::error::Error;
+use std::fmt;
+
+/// Why the next field of a reader could not be taken.
+#[derive(Clone, Copy, Debug, PartialEq, Eq)]
+pub enum PullFault {
+    /// The reader ended within the field, at the limit at the latest.
+    EndsEarly,
+    /// The field goes past the limit, and so does the reader.
+    TooLong,
+    /// The reader failed.
+    Read,
+    /// Memory for the field was refused.
+    NoMemory,
+}
+
+impl PullFault {
+    /// The fault's number.
+    pub fn number(self) -> u8
+        ensures { result ≡ pull_fault_number self }
+    {
+        match self {
+            PullFault::EndsEarly => 1,
+            PullFault::TooLong => 2,
+            PullFault::Read => 3,
+            PullFault::NoMemory => 4,
+        }
+    }
+}
+
+impl fmt::Display for PullFault {
+    ghost output = { λ fault. Some (pull_fault_text fault) };
+
+    fn fmt<W: fmt::Write>(&self, f: &mut fmt::Formatter<W>) -> fmt::Result {
+        let text = match self {
+            PullFault::EndsEarly => "pull 1 EndsEarly",
+            PullFault::TooLong => "pull 2 TooLong",
+            PullFault::Read => "pull 3 Read",
+            PullFault::NoMemory => "pull 4 NoMemory",
+        };
+        write!(f, "{text}")
+    }
+}
+
+impl Error for PullFault {}
