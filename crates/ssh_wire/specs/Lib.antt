@@ -7,3 +7,7 @@ pub mod Laws
 pub mod PullFault
 pub mod Pull
 pub mod Filling
+pub mod Digits
+pub mod Fields
+pub mod Magnitudes
+pub mod Cut

@@ -1,5 +1,6 @@
 -- Reading a field from the front of bytes: its value and the bytes after it, or why there is none.
-use Rattle.std.specs.Prelude.{◌≡◌, ℕ, zero, suc, List, [], ◌∷◌, length, take, drop, Result, Ok, Err, nat_lt, if◌then◌else◌}
+use Rattle.std.specs.Prelude.{◌≡◌, ℕ, zero, suc, List, [], ◌∷◌, length, take, drop, Result, Ok, Err}
+use Rattle.std.specs.Prelude.{nat_lt, if◌then◌else◌}
 use Rattle.std.specs.Borrow.{Bor}
 use Rattle.byteorder.specs.Endian.{big_number}
 use Rattle.ssh_wire.specs.declared.fault.WireFault.{WireFault}
@@ -7,11 +8,13 @@ use Rattle.ssh_wire.specs.declared.fault.WireFault.TheVariants.{Short, Negative,
 
 -- the number of the first k bytes
 unfoldable pub number_at : ℕ → List ℕ → Result (ℕ × List ℕ) WireFault
-number_at k bytes = if nat_lt (length bytes) k then Err Short else Ok (big_number k bytes, drop k bytes)
+number_at k bytes =
+    if nat_lt (length bytes) k then Err Short else Ok (big_number k bytes, drop k bytes)
 
 -- the first size bytes
 unfoldable pub front_at : ℕ → List ℕ → Result (List ℕ × List ℕ) WireFault
-front_at size bytes = if nat_lt (length bytes) size then Err Short else Ok (take size bytes, drop size bytes)
+front_at size bytes =
+    if nat_lt (length bytes) size then Err Short else Ok (take size bytes, drop size bytes)
 
 -- as many bytes as a length says
 abbrev pub content_at : Result (ℕ × List ℕ) WireFault → Result (List ℕ × List ℕ) WireFault
@@ -26,10 +29,12 @@ unfoldable pub magnitude_of : List ℕ → Result (List ℕ) WireFault
 magnitude_of [] = Ok []
 magnitude_of (zero ∷ []) = Err NotShortest
 magnitude_of (zero ∷ next ∷ bytes) = if nat_lt next 128 then Err NotShortest else Ok (next ∷ bytes)
-magnitude_of (suc byte ∷ bytes) = if nat_lt (suc byte) 128 then Ok (suc byte ∷ bytes) else Err Negative
+magnitude_of (suc byte ∷ bytes) =
+    if nat_lt (suc byte) 128 then Ok (suc byte ∷ bytes) else Err Negative
 
 -- a magnitude before the bytes after its string
-abbrev pub magnitude_before : Result (List ℕ) WireFault → List ℕ → Result (List ℕ × List ℕ) WireFault
+abbrev pub magnitude_before
+    : Result (List ℕ) WireFault → List ℕ → Result (List ℕ × List ℕ) WireFault
 magnitude_before (Err fault) rest = Err fault
 magnitude_before (Ok magnitude) rest = Ok (magnitude, rest)
 
@@ -40,12 +45,32 @@ magnitude_at (Ok (bytes, rest)) = magnitude_before (magnitude_of bytes) rest
 unfoldable pub mpint_at : List ℕ → Result (List ℕ × List ℕ) WireFault
 mpint_at bytes = magnitude_at (string_at bytes)
 
+-- ---- readers with any faults
+
+infixl 10 ◌>>=◌
+-- reading goes on from what was read, and a fault ends it
+abbrev pub ◌>>=◌ : {A B E : Type 0} → Result A E → (A → Result B E) → Result B E
+(Ok x) >>= f = f x
+(Err fault) >>= f = Err fault
+
+-- what was read, or the fault in another's words
+abbrev pub in_fault : {A E F : Type 0} → (E → F) → Result A E → Result A F
+in_fault words (Ok x) = Ok x
+in_fault words (Err fault) = Err (words fault)
+
 -- A read answered what reading gives and left the bytes after it. A refusal left all of them.
-abbrev pub Reads : {X Y : Type 0} → (X → Y) → Result X WireFault → List ℕ → List ℕ → Result (Y × List ℕ) WireFault → Type 0
+abbrev pub Reads
+    : {X Y E : Type 0} → (X → Y) → Result X E → List ℕ → List ℕ → Result (Y × List ℕ) E → Type 0
 Reads view (Ok x) old new read = read ≡ Ok (view x, new)
 Reads view (Err fault) old new read = (read ≡ Err fault) × (new ≡ old)
 
+-- A function answered what reading gives, and handed out the bytes after it.
+abbrev pub Gives
+    : {X Y E : Type 0} → (X → Y) → Result X E → List ℕ → Result (Y × List ℕ) E → Type 0
+Gives view (Ok x) rest read = read ≡ Ok (view x, rest)
+Gives view (Err fault) rest read = read ≡ Err fault
+
 -- A function answered with bytes that it lends what a function on lists gives.
-abbrev pub Lends : Result (Bor (List ℕ)) WireFault → Result (List ℕ) WireFault → Type 0
+abbrev pub Lends : {E : Type 0} → Result (Bor (List ℕ)) E → Result (List ℕ) E → Type 0
 Lends (Ok lent) read = read ≡ Ok lent.now
 Lends (Err fault) read = read ≡ Err fault

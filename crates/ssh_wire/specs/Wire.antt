@@ -1,5 +1,6 @@
 -- How numbers, strings and multiple precision integers are spelled (RFC 4251 section 5).
-use Rattle.std.specs.Prelude.{◌≡◌, ℕ, ◌<◌, ◌≤◌, nat_lt, if◌then◌else◌, List, [], ◌∷◌, ◌++◌, length, slice_index}
+use Rattle.std.specs.Prelude.{◌≡◌, ℕ, ◌<◌, ◌≤◌, ◌^◌, nat_lt, if◌then◌else◌, List, [], ◌∷◌, ◌++◌}
+use Rattle.std.specs.Prelude.{length, slice_index}
 use Rattle.std.specs.List.{flat_map}
 use Rattle.byteorder.specs.Endian.{big_bytes, big_number}
 
@@ -18,6 +19,11 @@ number_of bytes = big_number (length bytes) bytes
 -- four bytes of length, and the bytes
 unfoldable pub string : List ℕ → List ℕ
 string bytes = number 4 (length bytes) ++ bytes
+
+-- The bytes begin with the string of a value.
+pub record BeginsWith (bytes value : List ℕ) : Type 0 where
+  pub rest : List ℕ
+  pub spelled : bytes ≡ string value ++ rest
 
 -- strings, one after the other
 abbrev pub strings : List (List ℕ) → List ℕ
@@ -47,5 +53,6 @@ IsShortest (byte ∷ next ∷ bytes) = (byte < 128) × (byte ≡ 0 → 128 ≤ n
 pub record IsMpint (text : List ℕ) (n : ℕ) : Type 0 where
   pub bytes : List ℕ
   pub spelled : text ≡ string bytes
+  pub fits : length bytes < 2 ^ 32
   pub shortest : IsShortest bytes
   pub value : n ≡ number_of bytes

@@ -1,7 +1,8 @@
 // Reading fields from the front of bytes.
 
 ghost use Rattle.std.specs.Prelude.{◌≡◌, ◌↔◌, ◌∷◌, ◌++◌, [], IfOk, IsTrue};
-ghost use Rattle.ssh_wire.specs.Reading.{Lends, Reads, magnitude_of, mpint_at, number_at, string_at};
+ghost use Rattle.ssh_wire.specs.Reading.{Lends, Reads, magnitude_of, mpint_at, number_at};
+ghost use Rattle.ssh_wire.specs.Reading.{string_at};
 ghost use Rattle.ssh_wire.specs.Wire.{IsMagnitude, mpint, number, string};
 
 use crate::fault::WireFault;
@@ -75,8 +76,8 @@ impl<'a> Cursor<'a> {
         Ok(n)
     }
 
-    /// A `string`: four bytes of length, and that many bytes, which are lent. `Short` where fewer than
-    /// four or than that many are left.
+    /// A `string`: four bytes of length, and that many bytes, which are lent. `Short` where fewer
+    /// than four or than that many are left.
     #[tactic(auto, unfolding(crate::specs::Reading::number_at, crate::specs::Reading::front_at, crate::specs::Reading::string_at))]
     pub fn string(&mut self) -> Result<&'a [u8], WireFault>
         ensures exact { Reads (λ text. text.now) result self.old self.new (string_at self.old) }
@@ -96,11 +97,12 @@ impl<'a> Cursor<'a> {
     }
 
     /// An `mpint` that is not negative: its magnitude, the highest byte first, with no leading zero
-    /// byte. Zero gives the empty slice. `Short` as for a string; then `Negative` where the first byte
-    /// is 128 or more; then `NotShortest` where it is 0 and no byte of 128 or more follows it.
+    /// byte. Zero gives the empty slice. `Short` as for a string; then `Negative` where the first
+    /// byte is 128 or more; then `NotShortest` where it is 0 and no byte of 128 or more follows it.
     #[tactic(auto, unfolding(crate::specs::Reading::mpint_at))]
     pub fn mpint(&mut self) -> Result<&'a [u8], WireFault>
-        ensures exact { Reads (λ magnitude. magnitude.now) result self.old self.new (mpint_at self.old) }
+        ensures exact { Reads (λ magnitude. magnitude.now) result self.old self.new
+            (mpint_at self.old) }
         ensures found { IfOk result (λ magnitude.
             (self.old ≡ mpint magnitude.now ++ self.new) × IsMagnitude magnitude.now) }
     {

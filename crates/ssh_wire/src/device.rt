@@ -4,9 +4,6 @@ ghost use Rattle.std.specs.Prelude.{◌≡◌, ℕ, ◌<◌, List, Option, Bool,
 ghost use Rattle.std.specs.Io.KnownBytes.{ReadConsumes, WriteAppends};
 ghost use Rattle.ssh_wire.specs.Device.{IsPart};
 
-/// How many interruptions of a device of the standard library are passed over, in all.
-pub const INTERRUPTIONS: u16 = 1000;
-
 /// A device failed. It fails from then on.
 #[derive(Clone, Copy, Debug, PartialEq, Eq)]
 pub struct Failed;

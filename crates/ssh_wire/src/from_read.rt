@@ -2,16 +2,17 @@
 
 ghost use Rattle.std.specs.Prelude.{◌≡◌, false};
 
-use crate::device::{Failed, INTERRUPTIONS, Source};
-use std::io::{ErrorKind, Read};
+use crate::device::{Failed, Source};
+use crate::interruptions::Interruptions;
+use std::io::Read;
 
 /// A reader of the standard library. It gives just the bytes that the reader inside gives. A read
-/// that is interrupted is tried again, 1,000 times in all; the next interruption and any other error
-/// are a failure, and after a failure the reader inside is not asked again.
+/// that is interrupted is tried again, 1,000 times in all; the next interruption and any other
+/// error are a failure, and after a failure the reader inside is not asked again.
 #[derive(Drop)]
 pub struct FromRead<R: Read + Drop> {
     inner: R,
-    tries: u16,
+    interruptions: Interruptions,
     failed: bool,
 }
 
@@ -23,7 +24,7 @@ impl<R: Read + Drop> FromRead<R> {
     {
         FromRead {
             inner,
-            tries: INTERRUPTIONS,
+            interruptions: Interruptions::new(),
             failed: false,
         }
     }
@@ -38,10 +39,11 @@ impl<R: Read + Drop> Source for FromRead<R> {
         while !self.failed {
             match self.inner.read(into) {
                 Ok(count) => return Ok(count),
-                Err(error) if error.kind() == ErrorKind::Interrupted && self.tries > 0 => {
-                    self.tries -= 1;
+                Err(error) => {
+                    if !self.interruptions.pass_over(&error) {
+                        self.failed = true;
+                    }
                 }
-                Err(_) => self.failed = true,
             }
         }
         Err(Failed)

@@ -8,6 +8,7 @@ mod device;
 mod fault;
 mod filling;
 mod from_read;
+mod interruptions;
 pub mod laws;
 mod pull;
 mod pull_fault;

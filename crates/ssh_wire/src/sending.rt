@@ -12,8 +12,9 @@ pub struct Sent {
     pub count: usize,
 }
 
-/// Writes all the bytes, in whatever pieces the writer takes them. Where the writer fails, the first
-/// `count` bytes went out and no others. A writer that has failed before may not be handed in.
+/// Writes all the bytes, in whatever pieces the writer takes them. Where the writer fails, the
+/// first `count` bytes went out and no others. A writer that has failed before may not be handed
+/// in.
 pub fn send<W: Sink>(writer: &mut W, bytes: &[u8]) -> Result<(), Sent>
     requires { W.has_failed writer.old ≡ false }
     ensures ok { OnOk result (Appends (W.taken writer.old) (W.taken writer.new) bytes.now) }

@@ -1,6 +1,8 @@
 // What no contract says: the standard's own examples, calls with memory enough, devices that fail.
 
 mod cursor;
+mod once;
+mod pull;
 mod put;
 mod reader;
 mod writer;

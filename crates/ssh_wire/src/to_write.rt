@@ -2,17 +2,18 @@
 
 ghost use Rattle.std.specs.Prelude.{◌≡◌, false};
 
-use crate::device::{Failed, INTERRUPTIONS, Sink};
-use std::io::{ErrorKind, Write};
+use crate::device::{Failed, Sink};
+use crate::interruptions::Interruptions;
+use std::io::Write;
 
 /// A writer of the standard library. It hands just its bytes to the writer inside. A write that is
-/// interrupted is tried again, 1,000 times in all; the next interruption, any other error, and a write
-/// that takes none of some bytes are a failure, and after a failure the writer inside is not asked
-/// again.
+/// interrupted is tried again, 1,000 times in all; the next interruption, any other error, and a
+/// write that takes none of some bytes are a failure, and after a failure the writer inside is not
+/// asked again.
 #[derive(Drop)]
 pub struct ToWrite<W: Write + Drop> {
     inner: W,
-    tries: u16,
+    interruptions: Interruptions,
     failed: bool,
 }
 
@@ -24,7 +25,7 @@ impl<W: Write + Drop> ToWrite<W> {
     {
         ToWrite {
             inner,
-            tries: INTERRUPTIONS,
+            interruptions: Interruptions::new(),
             failed: false,
         }
     }
@@ -40,10 +41,11 @@ impl<W: Write + Drop> Sink for ToWrite<W> {
             match self.inner.write(bytes) {
                 Ok(0) if !bytes.is_empty() => self.failed = true,
                 Ok(count) => return Ok(count),
-                Err(error) if error.kind() == ErrorKind::Interrupted && self.tries > 0 => {
-                    self.tries -= 1;
+                Err(error) => {
+                    if !self.interruptions.pass_over(&error) {
+                        self.failed = true;
+                    }
                 }
-                Err(_) => self.failed = true,
             }
         }
         Err(Failed)

@@ -28,6 +28,7 @@ fn a_long_number_has_eight_bytes(rt: HostRuntime) -> Result<(), Fail> {
 }
 
 #[test]
+#[tactic(auto, using(crate::specs::Magnitudes::complement_fits))]
 fn a_zero_byte_leads_where_the_top_bit_is_set(rt: HostRuntime) -> Result<(), Fail> {
     let rows: [(&[u8], &[u8]); 4] = [
         (b"", b"\0\0\0\0"),
@@ -43,5 +44,58 @@ fn a_zero_byte_leads_where_the_top_bit_is_set(rt: HostRuntime) -> Result<(), Fai
         put_mpint(&mut out, magnitude)?;
         assert_eq!(rt; out.as_slice(), spelled);
     }
+    Ok(())
+}
+
+/// The four bytes of length of a string that is put, once the bytes after them are seen to follow.
+fn length_put(out: &mut Vec<u8>, bytes: &[u8]) -> Result<[u8; 4], Fail> {
+    if bytes.len() > 100_000 {
+        return Err("the string is too long".into());
+    }
+    let before = out.len();
+    put_string(out, bytes)?;
+    let end = out.get(before..).ok_or("the vector is shorter")?;
+    let [a, b, c, d, rest @ ..] = end else {
+        return Err("the string is shorter".into());
+    };
+    if rest != bytes {
+        return Err("other bytes were put".into());
+    }
+    Ok([*a, *b, *c, *d])
+}
+
+#[test]
+fn long_vectors_grow(rt: HostRuntime) -> Result<(), Fail> {
+    let mut out = Vec::new(rt.alloc());
+    for _ in 0..70_000_u32 {
+        put_byte(&mut out, 7)?;
+    }
+    for _ in 0..20_000_u32 {
+        put_u32(&mut out, 7)?;
+        put_u64(&mut out, 7)?;
+    }
+    assert_eq!(rt; out.len(), 310_000);
+    Ok(())
+}
+
+#[test]
+#[tactic(auto, using(crate::specs::Magnitudes::complement_fits))]
+fn long_strings_are_put(rt: HostRuntime) -> Result<(), Fail> {
+    let bytes = vec![in rt.alloc(); 0x81; 70_000]?;
+    let mut out = Vec::new(rt.alloc());
+    for (size, length) in [
+        (4095, [0, 0, 0x0f, 0xff]),
+        (4096, [0, 0, 0x10, 0]),
+        (65_536, [0, 1, 0, 0]),
+        (70_000, [0, 1, 0x11, 0x70]),
+    ] {
+        let string = bytes.get(..size).ok_or("the text is shorter")?;
+        assert_eq!(rt; length_put(&mut out, string)?, length);
+    }
+    let before = out.len();
+    put_mpint(&mut out, &bytes)?;
+    let number = out.get(before..).ok_or("the vector is shorter")?;
+    assert_eq!(rt; number.len(), 70_005);
+    assert!(rt; number.starts_with(b"\0\x01\x11\x71\0\x81"));
     Ok(())
 }

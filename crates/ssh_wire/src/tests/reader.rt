@@ -5,8 +5,8 @@ use std::cell::Cell;
 use std::io::{self, ErrorKind, Read};
 use std::test::*;
 
-/// Gives its bytes at most two at a call, after some interruptions, and fails where it is to, once its
-/// bytes are given.
+/// Gives its bytes at most two at a call, after some interruptions, and fails where it is to, once
+/// its bytes are given.
 #[derive(Drop)]
 struct Device<'a> {
     bytes: &'a [u8],

@@ -5,8 +5,8 @@ use std::alloc::Global;
 use std::io::{self, ErrorKind, Write};
 use std::test::*;
 
-/// Takes at most so many bytes at a call, after some interruptions, and fails from the call on that is
-/// to fail.
+/// Takes at most so many bytes at a call, after some interruptions, and fails from the call on that
+/// is to fail.
 #[derive(Drop)]
 struct Device {
     taken: Vec<u8>,
@@ -90,4 +90,17 @@ fn one_more_interruption_is_a_failure(rt: HostRuntime) {
     }
     drop(writer);
     assert!(rt; inner.taken.is_empty());
+}
+
+#[test]
+fn sends_long_texts(rt: HostRuntime) -> Result<(), Fail> {
+    let text = vec![in rt.alloc(); 7; 70_000]?;
+    for piece in [1000, 4096, 100_000] {
+        let mut inner = fresh(rt.alloc(), piece, 0, 255);
+        let mut writer = ToWrite::new(&mut inner);
+        assert_eq!(rt; send(&mut writer, &text), Ok(()));
+        drop(writer);
+        assert!(rt; inner.taken.as_slice() == text.as_slice());
+    }
+    Ok(())
 }

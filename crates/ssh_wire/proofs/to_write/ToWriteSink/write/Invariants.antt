@@ -10,4 +10,4 @@ invariant-loop-self g l = record {
 }
 
 abbrev pub decreases-loop-self : goal.decreases-loop-self
-decreases-loop-self g l = l.self.tries + cond l.self.failed 0 1
+decreases-loop-self g l = l.self.interruptions.left + cond l.self.failed 0 1

@@ -1,0 +1,6 @@
+-- A front is cut within the length, or after it.
+use Rattle.ssh_wire.specs.Cut.{string-cut}
+use Rattle.ssh_wire.proofs.laws.cut_string_is_short.Goals as goal
+
+pub returns : goal.returns
+returns c = string-cut

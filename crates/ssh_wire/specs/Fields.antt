@@ -1,0 +1,255 @@
+-- Fields at the front of bytes: what a reader took is spelled as its value, and what is spelled so
+-- is
+-- read again.
+use Rattle.std.proofs.Common.{◌≡◌, ℕ, zero, suc, ◌+◌, ◌-◌, ◌^◌, ◌<◌, ◌≤◌, Bool, true, false, cond}
+use Rattle.std.proofs.Common.{ltb, List, [], ◌∷◌, ◌++◌, length, take, drop, Result, Ok, Err, refl}
+use Rattle.std.proofs.Common.{sym, ap, subst, ◌∙◌, append_assoc, arith, inl, inr}
+use Rattle.std.specs.Prelude.{IfOk}
+use Rattle.std.specs.Borrow.{Bor}
+use Rattle.std.proofs.lemmas.Bool.{cases_lt, lt-ltb, ltb-false, le-ltb}
+use Rattle.std.proofs.lemmas.List.{take_at, drop_at, take-append-drop, length-append, length-drop}
+use Rattle.std.proofs.lemmas.List.{length-take, take_all}
+use Rattle.byteorder.specs.Endian.{big_number}
+use Rattle.byteorder.specs.Numbers.{big_from-lt, big_from-take, big_number-reads_back}
+use Rattle.byteorder.specs.Numbers.{length-bytes_high_first}
+use Rattle.ssh_wire.specs.declared.fault.WireFault.{WireFault}
+use Rattle.ssh_wire.specs.declared.fault.WireFault.TheVariants.{Short}
+use Rattle.ssh_wire.specs.Wire.{IsBytes, IsMagnitude, complement, mpint, number, number_of, string}
+use Rattle.ssh_wire.specs.Reading.{Lends, content_at, front_at, magnitude_at, magnitude_before}
+use Rattle.ssh_wire.specs.Reading.{magnitude_of, mpint_at, number_at, string_at}
+use Rattle.ssh_wire.specs.Digits.{IsBytes-drop, big_bytes-number}
+
+-- The bytes are the text and then the rest.
+pub record Takes (bytes text rest : List ℕ) : Type 0 where
+  pub parts : bytes ≡ text ++ rest
+  pub rest_fits : IsBytes rest
+
+pub Takes-then : (a x b y c : List ℕ) → Takes a x b → Takes b y c → Takes a (x ++ y) c
+Takes-then a x b y c p q = record {
+  parts = p.parts ∙ ap (λ (t : List ℕ). x ++ t) q.parts
+      ∙ sym (append_assoc x y c);
+  rest_fits = q.rest_fits;
+}
+
+-- a test that did not fail
+guard_ok : {A : Type 0} (b : Bool) (fault : WireFault) (x y : A) → cond b (Err fault) (Ok x) ≡ Ok y
+    → (b ≡ false) × (x ≡ y)
+guard_ok true fault x y e = absurd cc
+guard_ok false fault x y e = (refl, cc)
+
+abbrev done : {A : Type 0} → A → Result A WireFault
+done x = Ok x
+
+ok_is : {A : Type 0} (x y : A) → done x ≡ done y → x ≡ y
+ok_is x y e = cc
+
+-- ---- numbers
+
+pub length-number : (k n : ℕ) → length (number k n) ≡ k
+unfolding number
+length-number k n = length-bytes_high_first k n
+
+-- the number of the first k bytes
+pub number_of-take : (k : ℕ) (bytes : List ℕ) → k ≤ length bytes
+    → number_of (take k bytes) ≡ big_number k bytes
+unfolding number_of
+number_of-take k bytes long =
+    let len : length (take k bytes) ≡ k = omega (arith, length-take k bytes) in
+    rw len (big_from-take 0 k k bytes (omega arith))
+
+pub number_takes : (k : ℕ) (bytes : List ℕ) (n : ℕ) (rest : List ℕ) → IsBytes bytes
+    → number_at k bytes ≡ Ok (n, rest) → Takes bytes (number k n) rest × (n < 256 ^ k)
+unfolding number_at number
+number_takes k bytes n rest fits e =
+    let g = guard_ok (ltb (length bytes) k) Short (big_number k bytes, drop k bytes) (n, rest) e in
+    let long : k ≤ length bytes = ltb-false _ _ g.0 in
+    let n-is : big_number k bytes ≡ n = ap (λ (p : ℕ × List ℕ). p.0) g.1 in
+    let rest-is : drop k bytes ≡ rest = ap (λ (p : ℕ × List ℕ). p.1) g.1 in
+    let whole : Takes bytes (number k (big_number k bytes)) (drop k bytes) =
+    record {
+      parts = rw (big_bytes-number k bytes long fits)
+          (sym (take-append-drop k bytes));
+      rest_fits = IsBytes-drop k bytes fits;
+    } in
+    subst (λ (p : ℕ × List ℕ). Takes bytes (number k p.0) p.1 × (p.0 < 256 ^ k)) g.1
+    (whole, big_from-lt 0 k bytes fits)
+
+-- bytes by the number of the first k and the slice after them
+pub number_front : (k : ℕ) (bytes : List ℕ) (n : ℕ) → IsBytes bytes → k ≤ length bytes
+    → n ≡ big_number k bytes → bytes ≡ number k n ++ take (length bytes - k) (drop k bytes)
+unfolding number
+number_front k bytes n fits long e =
+    let rest : take (length bytes - k) (drop k bytes) ≡ drop k bytes =
+    take_all _ _ (omega (arith, length-drop k bytes)) in
+    rw (e, big_bytes-number k bytes long fits, rest) (sym (take-append-drop k bytes))
+
+pub number_again : (k n : ℕ) (rest : List ℕ) → n < 256 ^ k
+    → number_at k (number k n ++ rest) ≡ Ok (n, rest)
+unfolding number_at number
+number_again k n rest lt =
+    let len = length-bytes_high_first k n in
+    let long : ltb (length (number k n ++ rest)) k ≡ false =
+    le-ltb _ _ (omega (arith, length-append (number k n) rest)) in
+    rw (long, big_number-reads_back k n rest lt, drop_at (number k n) rest k len) refl
+
+-- ---- strings
+
+pub length-string : (text : List ℕ) → length (string text) ≡ 4 + length text
+unfolding string
+length-string text = omega (
+  arith,
+  length-append (number 4 (length text)) text,
+  length-number 4 (length text),
+)
+
+pub front_takes : (size : ℕ) (bytes text rest : List ℕ) → IsBytes bytes
+    → front_at size bytes ≡ Ok (text, rest) → Takes bytes text rest × (length text ≡ size)
+unfolding front_at
+front_takes size bytes text rest fits e =
+    let g = guard_ok (ltb (length bytes) size) Short (take size bytes, drop size bytes)
+    (text, rest) e in
+    let long : size ≤ length bytes = ltb-false _ _ g.0 in
+    let whole : Takes bytes (take size bytes) (drop size bytes) =
+    record {
+      parts = sym (take-append-drop size bytes);
+      rest_fits =
+          IsBytes-drop size bytes fits;
+    } in
+    subst (λ (p : List ℕ × List ℕ). Takes bytes p.0 p.1 × (length p.0 ≡ size)) g.1
+    (whole, omega (arith, length-take size bytes))
+
+pub front_again : (text rest : List ℕ) → front_at (length text) (text ++ rest) ≡ Ok (text, rest)
+unfolding front_at
+front_again text rest =
+    let long : ltb (length (text ++ rest)) (length text) ≡ false =
+    le-ltb _ _ (omega (arith, length-append text rest)) in
+    rw (long, take_at text rest (length text) refl, drop_at text rest (length text) refl) refl
+
+-- bytes by their string and the slice after it
+pub string_front : (size : ℕ) (bytes text rest : List ℕ) → IsBytes bytes → 4 ≤ length bytes
+    → size ≡ big_number 4 bytes → size ≤ length (take (length bytes - 4) (drop 4 bytes))
+    → text ≡ take size (take (length bytes - 4) (drop 4 bytes))
+    → rest ≡ drop size (take (length bytes - 4) (drop 4 bytes)) → bytes ≡ string text ++ rest
+unfolding string
+string_front size bytes text rest fits long size-is short text-is rest-is =
+    let after : List ℕ = take (length bytes - 4) (drop 4 bytes) in
+    let parts : after ≡ text ++ rest = rw (text-is, rest-is) (sym (take-append-drop size after)) in
+    let len : length text ≡ size = ap length text-is ∙ omega (arith, length-take size after) in
+    number_front 4 bytes size fits long size-is
+    ∙ rw (parts, ← len) (sym (append_assoc (number 4 (length text)) text rest))
+
+content_takes : (bytes text rest : List ℕ) (read : Result (ℕ × List ℕ) WireFault) → IsBytes bytes
+    → number_at 4 bytes ≡ read → content_at read ≡ Ok (text, rest)
+    → Takes bytes (string text) rest × (length text < 2 ^ 32)
+unfolding string
+content_takes bytes text rest (Err fault) fits first second = absurd cc
+content_takes bytes text rest (Ok (size, after)) fits first second =
+    let t = number_takes 4 bytes size after fits first in
+    let u = front_takes size after text rest t.0.rest_fits second in
+    let both = Takes-then bytes (number 4 size) after text rest t.0 u.0 in
+    (subst (λ (k : ℕ). Takes bytes (number 4 k ++ text) rest) (sym u.1) both, omega arith)
+
+pub string_takes : (bytes text rest : List ℕ) → IsBytes bytes → string_at bytes ≡ Ok (text, rest)
+    → Takes bytes (string text) rest × (length text < 2 ^ 32)
+unfolding string_at
+string_takes bytes text rest fits e = content_takes bytes text rest (number_at 4 bytes) fits refl e
+
+pub string_again : (text rest : List ℕ) → length text < 2 ^ 32
+    → string_at (string text ++ rest) ≡ Ok (text, rest)
+unfolding string_at string
+string_again text rest lt =
+    rw (
+      append_assoc (number 4 (length text)) text rest,
+      number_again 4 (length text) (text ++ rest) lt,
+    ) (front_again text rest)
+
+-- ---- multiple precision integers
+
+pub magnitude_takes : (bytes magnitude : List ℕ) → magnitude_of bytes ≡ Ok magnitude
+    → (bytes ≡ complement magnitude) × IsMagnitude magnitude
+unfolding magnitude_of complement
+magnitude_takes [] [] e = (refl, tt)
+magnitude_takes [] (byte ∷ magnitude) e = absurd cc
+magnitude_takes (zero ∷ []) magnitude e = absurd cc
+magnitude_takes (zero ∷ next ∷ bytes) magnitude e =
+    elim (cases_lt next 128) [
+      | inl lt ↦ absurd (let h = rw (lt-ltb next 128 lt) at e in cc)
+      | inr le ↦
+          let test = le-ltb next 128 le in
+          let same : next ∷ bytes ≡ magnitude = let h = rw test at e in cc in
+          subst (λ (m : List ℕ). (0 ∷ next ∷ bytes ≡ complement m) × IsMagnitude m) same
+          (rw test refl, omega arith)
+    ]
+magnitude_takes (suc byte ∷ bytes) magnitude e =
+    elim (cases_lt (suc byte) 128) [
+      | inl lt ↦
+          let test = lt-ltb (suc byte) 128 lt in
+          let same : suc byte ∷ bytes ≡ magnitude = let h = rw test at e in cc in
+          subst (λ (m : List ℕ). (suc byte ∷ bytes ≡ complement m) × IsMagnitude m) same
+          (rw test refl, omega arith)
+      | inr le ↦ absurd (let h = rw (le-ltb (suc byte) 128 le) at e in cc)
+    ]
+
+pub magnitude_again : (magnitude : List ℕ) → IsMagnitude magnitude
+    → magnitude_of (complement magnitude) ≡ Ok magnitude
+unfolding magnitude_of complement
+magnitude_again [] h = refl
+magnitude_again (zero ∷ bytes) h = absurd (omega arith)
+magnitude_again (suc byte ∷ bytes) h =
+    elim (cases_lt (suc byte) 128) [
+      | inl lt ↦ let test = lt-ltb (suc byte) 128 lt in rw (test, test) refl
+      | inr le ↦ let test = le-ltb (suc byte) 128 le in rw (test, test) refl
+    ]
+
+-- bytes by the magnitude of their string
+pub mpint_front : (bytes text rest : List ℕ) (lent : Result (Bor (List ℕ)) WireFault)
+    → bytes ≡ string text ++ rest → Lends lent (magnitude_of text)
+    → IfOk lent (λ magnitude. (bytes ≡ mpint magnitude.now ++ rest) × IsMagnitude magnitude.now)
+unfolding mpint
+mpint_front bytes text rest (Ok magnitude) parts lends =
+    let taken = magnitude_takes text magnitude.now lends in
+    (parts ∙ ap (λ (t : List ℕ). string t ++ rest) taken.0, taken.1)
+mpint_front bytes text rest (Err fault) parts lends = tt
+
+before_takes : (text magnitude after rest : List ℕ) (read : Result (List ℕ) WireFault)
+    → magnitude_of text ≡ read → magnitude_before read after ≡ Ok (magnitude, rest)
+    → (text ≡ complement magnitude) × IsMagnitude magnitude × (after ≡ rest)
+before_takes text magnitude after rest (Err fault) first second = absurd cc
+before_takes text magnitude after rest (Ok found) first second =
+    let same : found ≡ magnitude = ap (λ (p : List ℕ × List ℕ). p.0)
+    (ok_is (found, after) (magnitude, rest) second) in
+    let h = magnitude_takes text magnitude (first ∙ ap (λ (m : List ℕ). Ok m) same) in
+    (h.0, h.1, ap (λ (p : List ℕ × List ℕ). p.1) (ok_is (found, after) (magnitude, rest) second))
+
+at_takes : (bytes magnitude rest : List ℕ) (read : Result (List ℕ × List ℕ) WireFault)
+    → IsBytes bytes → string_at bytes ≡ read → magnitude_at read ≡ Ok (magnitude, rest)
+    → Takes bytes (mpint magnitude) rest × IsMagnitude magnitude
+    × (length (complement magnitude) < 2 ^ 32)
+unfolding mpint
+at_takes bytes magnitude rest (Err fault) fits first second = absurd cc
+at_takes bytes magnitude rest (Ok (text, after)) fits first second =
+    let t = string_takes bytes text after fits first in
+    let u = before_takes text magnitude after rest (magnitude_of text) refl second in
+    let texts : Takes bytes (string (complement magnitude)) after
+    × (length (complement magnitude) < 2 ^ 32) =
+    subst (λ (x : List ℕ). Takes bytes (string x) after × (length x < 2 ^ 32)) u.0 t in (
+      subst (λ (x : List ℕ). Takes bytes (string (complement magnitude)) x) u.2 texts.0,
+      u.1,
+      texts.1,
+    )
+
+pub mpint_takes : (bytes magnitude rest : List ℕ) → IsBytes bytes
+    → mpint_at bytes ≡ Ok (magnitude, rest) → Takes bytes (mpint magnitude) rest
+    × IsMagnitude magnitude × (length (complement magnitude) < 2 ^ 32)
+unfolding mpint_at
+mpint_takes bytes magnitude rest fits e = at_takes bytes magnitude rest
+    (string_at bytes) fits refl e
+
+pub mpint_again : (magnitude rest : List ℕ) → IsMagnitude magnitude
+    → length (complement magnitude) < 2 ^ 32
+    → mpint_at (mpint magnitude ++ rest) ≡ Ok (magnitude, rest)
+unfolding mpint_at mpint
+mpint_again magnitude rest h lt = rw (
+  string_again (complement magnitude) rest lt,
+  magnitude_again magnitude h,
+) refl

@@ -1,0 +1,288 @@
+// Fields from readers that give few bytes at a call, fail, or never end.
+
+use crate::{FromRead, Pull, PullFault};
+use std::alloc::Global;
+use std::io::{self, ErrorKind, Read};
+use std::test::*;
+
+/// What a reader does once its bytes are given.
+#[derive(Clone, Copy)]
+enum Then {
+    Ends,
+    Fails,
+    GivesZeros,
+}
+
+/// Gives its bytes, at most so many at a call.
+#[derive(Drop)]
+struct Giver<'a> {
+    bytes: &'a [u8],
+    piece: usize,
+    then: Then,
+}
+
+impl<'a> Read for Giver<'a> {
+    fn read(&mut self, into: &mut [u8]) -> io::Result<usize> {
+        let count = self.bytes.len().min(into.len()).min(self.piece);
+        if count > 0 || into.is_empty() {
+            into[..count].copy_from_slice(&self.bytes[..count]);
+            self.bytes = &self.bytes[count..];
+            return Ok(count);
+        }
+        match self.then {
+            Then::Ends => Ok(0),
+            Then::Fails => Err(ErrorKind::Other.into()),
+            Then::GivesZeros => {
+                let count = into.len().min(self.piece);
+                into[..count].fill(0);
+                Ok(count)
+            }
+        }
+    }
+}
+
+/// What is asked of a reader, and what it answers.
+#[derive(Clone, Copy)]
+enum Step<'a> {
+    Byte(Result<u8, PullFault>),
+    Array(Result<[u8; 4], PullFault>),
+    Fills(&'a [u8]),
+    Bytes(&'a [u8]),
+    BytesInto(&'a [u8]),
+    Refuses(usize, PullFault),
+    AtEnd(Result<bool, PullFault>),
+    Taken(u64),
+}
+
+use Step::{Array, AtEnd, Byte, Bytes, BytesInto, Fills, Refuses, Taken};
+
+type Reader<'a> = Pull<FromRead<Giver<'a>>>;
+
+fn pull(bytes: &[u8], piece: usize, then: Then, limit: u64) -> Reader<'_> {
+    Pull::new(FromRead::new(Giver { bytes, piece, then }), limit)
+}
+
+/// Whether filling a slice gives these bytes.
+fn fills(reader: &mut Reader<'_>, alloc: Global, field: &[u8]) -> Result<bool, Fail> {
+    let mut into = vec![in alloc; 0; field.len()]?;
+    reader.fill(&mut into)?;
+    Ok(into.as_slice() == field)
+}
+
+/// Whether a vector that held something else holds these bytes.
+fn holds(reader: &mut Reader<'_>, alloc: Global, field: &[u8]) -> Result<bool, Fail> {
+    let mut out = vec![in alloc; 9, 9, 9]?;
+    reader.bytes_into(&mut out, field.len())?;
+    Ok(out.as_slice() == field)
+}
+
+/// Whether a field is refused, with a vector that is left empty and has taken little memory.
+fn refuses(reader: &mut Reader<'_>, alloc: Global, size: usize) -> Result<PullFault, Fail> {
+    let mut out = vec![in alloc; 9, 9, 9]?;
+    let answer = reader.bytes_into(&mut out, size);
+    if !out.is_empty() || out.capacity() > 1000 {
+        return Ok(PullFault::NoMemory);
+    }
+    Ok(answer.err().unwrap_or(PullFault::NoMemory))
+}
+
+fn meets(reader: &mut Reader<'_>, alloc: Global, step: Step<'_>) -> Result<bool, Fail> {
+    Ok(match step {
+        Byte(answer) => reader.byte() == answer,
+        Array(answer) => reader.array() == answer,
+        Fills(field) => fills(reader, alloc, field)?,
+        Bytes(field) => reader.bytes(alloc, field.len())?.as_slice() == field,
+        BytesInto(field) => holds(reader, alloc, field)?,
+        Refuses(size, fault) => refuses(reader, alloc, size)? == fault,
+        AtEnd(answer) => reader.at_end() == answer,
+        Taken(count) => reader.taken() == count,
+    })
+}
+
+/// How many of the steps are answered so, up to the first that is not.
+fn met(reader: &mut Reader<'_>, alloc: Global, steps: &[Step<'_>]) -> Result<usize, Fail> {
+    for (at, step) in steps.iter().enumerate() {
+        if !meets(reader, alloc, *step)? {
+            return Ok(at);
+        }
+    }
+    Ok(steps.len())
+}
+
+const TEXT: &[u8] = b"\x01\0\0\0\x02hi0123456789abcdef";
+
+/// A row of calls on a reader of the text, with what it does then and its limit.
+struct Row<'a> {
+    then: Then,
+    limit: u64,
+    steps: &'a [Step<'a>],
+}
+
+const ROWS: [Row<'static>; 11] = [
+    // Each call takes the next bytes, and looking ahead takes none.
+    Row {
+        then: Then::Ends,
+        limit: 100,
+        steps: &[
+            Taken(0),
+            Byte(Ok(1)),
+            Array(Ok([0, 0, 0, 2])),
+            Taken(5),
+            Bytes(b"hi"),
+            AtEnd(Ok(false)),
+            Taken(7),
+            Byte(Ok(b'0')),
+            AtEnd(Ok(false)),
+            Fills(b"123"),
+            AtEnd(Ok(false)),
+            AtEnd(Ok(false)),
+            Fills(b""),
+            Bytes(b""),
+            BytesInto(b"456789abcd"),
+            Taken(21),
+            BytesInto(b""),
+            AtEnd(Ok(false)),
+            BytesInto(b"ef"),
+            AtEnd(Ok(true)),
+            Taken(23),
+            Byte(Err(PullFault::EndsEarly)),
+            Taken(23),
+            AtEnd(Err(PullFault::EndsEarly)),
+        ],
+    },
+    // A field that is cut off, at the limit and far from it; then the same from each call.
+    Row {
+        then: Then::Ends,
+        limit: 23,
+        steps: &[
+            Bytes(b"\x01\0\0\0\x02hi0123456789abc"),
+            AtEnd(Ok(false)),
+            Array(Err(PullFault::EndsEarly)),
+            Taken(20),
+            AtEnd(Err(PullFault::EndsEarly)),
+            Byte(Err(PullFault::EndsEarly)),
+            Array(Err(PullFault::EndsEarly)),
+            Refuses(0, PullFault::EndsEarly),
+        ],
+    },
+    Row {
+        then: Then::Ends,
+        limit: 24,
+        steps: &[Refuses(24, PullFault::EndsEarly), Taken(0)],
+    },
+    // A length that is not true takes no memory, whether it passes the limit or not.
+    Row {
+        then: Then::Ends,
+        limit: u64::MAX,
+        steps: &[Refuses(usize::MAX, PullFault::EndsEarly)],
+    },
+    Row {
+        then: Then::Ends,
+        limit: 1000,
+        steps: &[
+            Byte(Ok(1)),
+            Refuses(0xffff_ffff, PullFault::EndsEarly),
+            Taken(1),
+        ],
+    },
+    // Bytes past the limit, looked at before or not.
+    Row {
+        then: Then::Ends,
+        limit: 7,
+        steps: &[
+            Fills(b"\x01\0\0\0\x02hi"),
+            Fills(b""),
+            Byte(Err(PullFault::TooLong)),
+            AtEnd(Err(PullFault::TooLong)),
+            Refuses(1, PullFault::TooLong),
+        ],
+    },
+    Row {
+        then: Then::Ends,
+        limit: 7,
+        steps: &[
+            Bytes(b"\x01\0\0\0\x02hi"),
+            AtEnd(Ok(false)),
+            Array(Err(PullFault::TooLong)),
+            Taken(7),
+        ],
+    },
+    Row {
+        then: Then::GivesZeros,
+        limit: 100_000,
+        steps: &[
+            AtEnd(Ok(false)),
+            Byte(Ok(1)),
+            Refuses(100_000, PullFault::TooLong),
+            Taken(1),
+        ],
+    },
+    // A failure is no end, and it hides whether a byte stands past the limit.
+    Row {
+        then: Then::Fails,
+        limit: 100,
+        steps: &[
+            Fills(b"\x01\0\0\0\x02hi0123456789abc"),
+            Array(Err(PullFault::Read)),
+            Taken(20),
+            AtEnd(Err(PullFault::Read)),
+            Byte(Err(PullFault::Read)),
+            Refuses(0, PullFault::Read),
+        ],
+    },
+    Row {
+        then: Then::Fails,
+        limit: 23,
+        steps: &[Bytes(TEXT), AtEnd(Err(PullFault::Read)), Taken(23)],
+    },
+    Row {
+        then: Then::Fails,
+        limit: 23,
+        steps: &[Refuses(24, PullFault::Read)],
+    },
+];
+
+#[test]
+fn answers_do_not_hang_on_the_pieces(rt: HostRuntime) -> Result<(), Fail> {
+    for row in &ROWS {
+        for piece in [1, 3, 7, 64] {
+            let mut reader = pull(TEXT, piece, row.then, row.limit);
+            assert_eq!(rt; met(&mut reader, rt.alloc(), row.steps)?, row.steps.len());
+        }
+    }
+    Ok(())
+}
+
+/// So many bytes, no two next to each other equal.
+fn text_of(alloc: Global, size: u64) -> Result<Vec<u8>, Fail> {
+    let mut text = Vec::new(alloc);
+    for i in 0..size {
+        text.push((i % 251) as u8)?;
+    }
+    Ok(text)
+}
+
+#[test]
+fn large_fields_come_whole(rt: HostRuntime) -> Result<(), Fail> {
+    let text = text_of(rt.alloc(), 70_000)?;
+    for size in [255, 256, 257, 512, 4095, 4096, 4097, 65_535, 65_536, 70_000] {
+        let field = text.get(..size).ok_or("the text is shorter")?;
+        let steps = [AtEnd(Ok(false)), Bytes(field), Taken(size as u64)];
+        for piece in [7, 1000, 100_000] {
+            let mut reader = pull(&text, piece, Then::Ends, 70_000);
+            assert_eq!(rt; met(&mut reader, rt.alloc(), &steps)?, 3);
+        }
+    }
+    Ok(())
+}
+
+#[test]
+fn a_refused_growth_is_answered_again(rt: HostRuntime) {
+    let mut reader = pull(TEXT, 7, Then::Ends, 100);
+    if reader.bytes(rt.alloc(), 20).is_err() {
+        assert_eq!(rt; reader.byte(), Err(PullFault::NoMemory));
+        assert_eq!(rt; reader.taken(), 0);
+    } else {
+        assert_eq!(rt; reader.taken(), 20);
+    }
+}
