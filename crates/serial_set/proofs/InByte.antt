@@ -5,7 +5,7 @@ use Rattle.std.specs.Option.{option_to_list, option_map_or}
 use Rattle.std.proofs.lemmas.Bool.{cases_eq}
 use Rattle.std.proofs.lemmas.List.{append-nil, reverse-append, get_or-reverse, length-reverse}
 use Rattle.serial_set.specs.declared.span.Span.{Span}
-use Rattle.serial_set.specs.Span.{Holds, Names, RunsFrom, IsRuns, IsRunsOf}
+use Rattle.serial_set.specs.Span.{SpanCovers, Covers, RunsFrom, IsRuns, IsRunsOf}
 use Rattle.serial_set.specs.BitRuns.{BitNames, IsInterval, IsInStep}
 use Rattle.serial_set.proofs.Rising.{RunsFrom-weaker, runs_at, names_at}
 use Rattle.serial_set.proofs.Bits.{bit_below}
@@ -18,8 +18,8 @@ OnFrom n (Some run) rest = (run.lo ≡ n) × (0 < run.lo) × RunsFrom n (run ∷
 -- the bits from `bit` on are read
 pub record SoFar (base byte : ℕ) (old : Option Span) (bit : ℕ) (pending : Option Span) (finished : List Span) (count : ℕ) : Type 0 where
   pub on : OnFrom (base + bit) pending (reverse finished)
-  pub only : (s : ℕ) → Names (option_to_list pending ++ reverse finished) s → Names (option_to_list old) s ⊎ BitNames base byte s
-  pub found : (s : ℕ) → Names (option_to_list old) s ⊎ (BitNames base byte s × (base + bit ≤ s)) → Names (option_to_list pending ++ reverse finished) s
+  pub only : (s : ℕ) → Covers (option_to_list pending ++ reverse finished) s → Covers (option_to_list old) s ⊎ BitNames base byte s
+  pub found : (s : ℕ) → Covers (option_to_list old) s ⊎ (BitNames base byte s × (base + bit ≤ s)) → Covers (option_to_list pending ++ reverse finished) s
   pub few : 2 * count + length (option_to_list pending) + bit ≤ 8 + length (option_to_list old)
 
 pub one_at_most : (o : Option Span) → length (option_to_list o) ≤ 1
@@ -47,7 +47,7 @@ OnFrom-extended : (n m : ℕ) (p : Option Span) (f : List Span) → n ≡ m + 1 
 OnFrom-extended n m None f e h r = (refl, h, (omega arith, omega arith, RunsFrom-weaker (n + 1) (m + 2) (reverse f) (omega arith) r))
 OnFrom-extended n m (Some run) f e h r = (refl, h, (omega arith, omega arith, r.2.2))
 
-extended_to : (n m s : ℕ) (p : Option Span) (f : List Span) → n ≡ m + 1 → OnFrom n p (reverse f) → Names (extended m p ∷ reverse f) s → (s ≡ m) ⊎ Names (option_to_list p ++ reverse f) s
+extended_to : (n m s : ℕ) (p : Option Span) (f : List Span) → n ≡ m + 1 → OnFrom n p (reverse f) → Covers (extended m p ∷ reverse f) s → (s ≡ m) ⊎ Covers (option_to_list p ++ reverse f) s
 extended_to n m s None f e r h = elim h [ inl here ↦ inl (omega arith) | inr later ↦ inr later ]
 extended_to n m s (Some run) f e r h =
     elim h [
@@ -55,7 +55,7 @@ extended_to n m s (Some run) f e r h =
       | inr later ↦ inr (inr later)
     ]
 
-extended_from : (n m s : ℕ) (p : Option Span) (f : List Span) → n ≡ m + 1 → OnFrom n p (reverse f) → (s ≡ m) ⊎ Names (option_to_list p ++ reverse f) s → Names (extended m p ∷ reverse f) s
+extended_from : (n m s : ℕ) (p : Option Span) (f : List Span) → n ≡ m + 1 → OnFrom n p (reverse f) → (s ≡ m) ⊎ Covers (option_to_list p ++ reverse f) s → Covers (extended m p ∷ reverse f) s
 extended_from n m s None f e r h = elim h [ inl same ↦ inl (omega arith, omega arith) | inr old ↦ inr old ]
 extended_from n m s (Some run) f e r h =
     elim h [
@@ -66,8 +66,8 @@ extended_from n m s (Some run) f e r h =
 pub SoFar-start : (base byte : ℕ) (old : Option Span) → byte < 256 → IsInStep (base + 8) old → SoFar base byte old 8 old [] 0
 SoFar-start base byte old h step = record {
   on = OnFrom-start (base + 8) old step;
-  only = λ s n. inl (subst (λ l. Names l s) (append-nil (option_to_list old)) n);
-  found = λ s n. subst (λ l. Names l s) (sym (append-nil (option_to_list old))) (elim n [
+  only = λ s n. inl (subst (λ l. Covers l s) (append-nil (option_to_list old)) n);
+  found = λ s n. subst (λ l. Covers l s) (sym (append-nil (option_to_list old))) (elim n [
     | inl before ↦ before
     | inr here ↦ absurd (omega (arith, bit_below byte 8 (s - base) h here.0.2))
   ]);
@@ -77,8 +77,8 @@ SoFar-start base byte old h step = record {
 pub SoFar-unset : (base byte : ℕ) (old : Option Span) (bit next : ℕ) (p : Option Span) (f : List Span) (count : ℕ) → bit ≡ next + 1 → (BitNames base byte (base + next) → ⊥) → SoFar base byte old bit p f count → SoFar base byte old next None (f ++ option_to_list p) (count + length (option_to_list p))
 SoFar-unset base byte old bit next p f count e unset so = record {
   on = subst (RunsFrom (base + next + 1)) (sym (closed-list p f)) (OnFrom-closed (base + bit) (base + next) p f (omega arith) so.on);
-  only = λ s n. so.only s (subst (λ l. Names l s) (closed-list p f) n);
-  found = λ s n. subst (λ l. Names l s) (sym (closed-list p f)) (so.found s (elim n [
+  only = λ s n. so.only s (subst (λ l. Covers l s) (closed-list p f) n);
+  found = λ s n. subst (λ l. Covers l s) (sym (closed-list p f)) (so.found s (elim n [
     | inl before ↦ inl before
     | inr here ↦ elim (cases_eq s (base + next)) [
       | inl same ↦ absurd (unset (subst (λ x. BitNames base byte x) same here.0))
@@ -116,14 +116,14 @@ pub OnFrom-in_step : (n : ℕ) (p : Option Span) (rest : List Span) → OnFrom n
 OnFrom-in_step n None rest r = tt
 OnFrom-in_step n (Some run) rest r = (r.0, (r.1, r.2.1))
 
-pub whole_runs : (base byte : ℕ) (old p : Option Span) (f : List Span) (count : ℕ) → SoFar base byte old 0 p f count → IsRunsOf (option_to_list p ++ reverse f) (λ s. Names (option_to_list old) s ⊎ BitNames base byte s)
+pub whole_runs : (base byte : ℕ) (old p : Option Span) (f : List Span) (count : ℕ) → SoFar base byte old 0 p f count → IsRunsOf (option_to_list p ++ reverse f) (λ s. Covers (option_to_list old) s ⊎ BitNames base byte s)
 whole_runs base byte old p f count so = (
   RunsFrom-weaker (base + 0) 0 _ (omega arith) (OnFrom-runs (base + 0) p (reverse f) so.on),
   λ s. (so.only s, λ n. so.found s (elim n [ inl before ↦ inl before | inr here ↦ inr (here, omega arith) ])),
 )
 
 -- a list read backwards rises from past n, so none of its spans has n in it
-pub none_holds : (n : ℕ) (f : List Span) → RunsFrom (n + 1) (reverse f) → All (λ run. Holds run n → ⊥) f
+pub none_holds : (n : ℕ) (f : List Span) → RunsFrom (n + 1) (reverse f) → All (λ run. SpanCovers run n → ⊥) f
 none_holds n f r k d h held =
     let len = length-reverse f in
     let turned : get_or (reverse f) (length f - 1 - k) d ≡ get_or f k d =
@@ -132,7 +132,7 @@ none_holds n f r k d h held =
     let above : n + 1 ≤ (get_or f k d).lo = subst (λ (t : Span). n + 1 ≤ t.lo) turned at.0 in
     omega (arith, above, held.0)
 
-pub step_positive : (n : ℕ) (old : Option Span) (s : ℕ) → IsInStep n old → Names (option_to_list old) s → 0 < s
+pub step_positive : (n : ℕ) (old : Option Span) (s : ℕ) → IsInStep n old → Covers (option_to_list old) s → 0 < s
 step_positive n None s h e = absurd e
 step_positive n (Some run) s h e = let whole : 0 < run.lo = h.1.0 in elim e [ inl here ↦ omega arith | inr later ↦ absurd later ]
 
@@ -140,11 +140,11 @@ behind_pending : (p : Option Span) (rest : List Span) → IsRuns (option_to_list
 behind_pending None rest r = r
 behind_pending (Some run) rest r = RunsFrom-weaker (run.hi + 2) 0 rest (omega arith) r.2
 
-named_behind : (p : Option Span) (rest : List Span) (s : ℕ) → Names rest s → Names (option_to_list p ++ rest) s
+named_behind : (p : Option Span) (rest : List Span) (s : ℕ) → Covers rest s → Covers (option_to_list p ++ rest) s
 named_behind None rest s n = n
 named_behind (Some run) rest s n = inr n
 
-pub finished_runs : (p : Option Span) (f : List Span) → IsRuns (option_to_list p ++ reverse f) → ((s : ℕ) → Names (option_to_list p ++ reverse f) s → 0 < s) → All IsInterval f
+pub finished_runs : (p : Option Span) (f : List Span) → IsRuns (option_to_list p ++ reverse f) → ((s : ℕ) → Covers (option_to_list p ++ reverse f) s → 0 < s) → All IsInterval f
 finished_runs p f r positive k d h =
     let len = length-reverse f in
     let place = length f - 1 - k in

@@ -4,18 +4,18 @@ use Rattle.std.specs.List.{All}
 use Rattle.std.specs.List.Sorted.{IsNonDecreasingBy}
 use Rattle.std.proofs.lemmas.List.Elements.{All-nil, All-cons, All-head, All-tail}
 use Rattle.serial_set.specs.declared.span.Span.{Span}
-use Rattle.serial_set.specs.Span.{Names, RunsFrom}
+use Rattle.serial_set.specs.Span.{Covers, RunsFrom}
 
-pub names_append : (xs ys : List Span) (s : ℕ) → Names (xs ++ ys) s → Names xs s ⊎ Names ys s
+pub names_append : (xs ys : List Span) (s : ℕ) → Covers (xs ++ ys) s → Covers xs s ⊎ Covers ys s
 names_append [] ys s n = inr n
 names_append (x ∷ xs) ys s n =
     elim n [ inl here ↦ inl (inl here) | inr later ↦ elim (names_append xs ys s later) [ inl l ↦ inl (inr l) | inr r ↦ inr r ] ]
 
-pub names_left : (xs ys : List Span) (s : ℕ) → Names xs s → Names (xs ++ ys) s
+pub names_left : (xs ys : List Span) (s : ℕ) → Covers xs s → Covers (xs ++ ys) s
 names_left [] ys s n = absurd n
 names_left (x ∷ xs) ys s n = elim n [ inl here ↦ inl here | inr later ↦ inr (names_left xs ys s later) ]
 
-pub names_right : (xs ys : List Span) (s : ℕ) → Names ys s → Names (xs ++ ys) s
+pub names_right : (xs ys : List Span) (s : ℕ) → Covers ys s → Covers (xs ++ ys) s
 names_right [] ys s n = n
 names_right (x ∷ xs) ys s n = inr (names_right xs ys s n)
 
@@ -24,7 +24,7 @@ RunsFrom-weaker a b [] h r = tt
 RunsFrom-weaker a b (x ∷ xs) h r = (omega arith, r.1, r.2)
 
 -- what is named is no less than where the list may begin
-pub names_from : (a : ℕ) (xs : List Span) (s : ℕ) → RunsFrom a xs → Names xs s → a ≤ s
+pub names_from : (a : ℕ) (xs : List Span) (s : ℕ) → RunsFrom a xs → Covers xs s → a ≤ s
 names_from a [] s r n = absurd n
 names_from a (x ∷ xs) s r n =
     elim n [ inl here ↦ omega arith | inr later ↦ omega (arith, names_from (x.hi + 2) xs s r.2 later) ]
@@ -80,7 +80,7 @@ starts_rise a (x ∷ xs) r zero (suc j) d h k = let later = runs_at (x.hi + 2) x
 starts_rise a (x ∷ xs) r (suc i) zero d h k = absurd (omega arith)
 starts_rise a (x ∷ xs) r (suc i) (suc j) d h k = starts_rise (x.hi + 2) xs r.2 i j d (omega arith) (omega arith)
 
-pub names_at : (a : ℕ) (xs : List Span) (i : ℕ) (d : Span) → RunsFrom a xs → i < length xs → Names xs (get_or xs i d).lo
+pub names_at : (a : ℕ) (xs : List Span) (i : ℕ) (d : Span) → RunsFrom a xs → i < length xs → Covers xs (get_or xs i d).lo
 names_at a [] i d r h = absurd (omega arith)
 names_at a (x ∷ xs) zero d r h = inl (omega arith, r.1)
 names_at a (x ∷ xs) (suc i) d r h = inr (names_at (x.hi + 2) xs i d r.2 (omega arith))

@@ -2,11 +2,11 @@
 use Rattle.std.proofs.Common.{◌≡◌, ℕ, ◌+◌, ◌-◌, ◌<◌, ◌≤◌, List, [], ◌∷◌, ◌++◌, ◌⊎◌, length, get_or, take, drop, refl, sym, ap, subst, inl, inr, arith, min, max, ◌∙◌, sub-one, add-zero, length-take, length-drop}
 use Rattle.std.specs.List.{All}
 use Rattle.std.proofs.lemmas.Bool.{cases_lt}
-use Rattle.std.proofs.lemmas.List.Elements.{All-nil, All-head, All-tail, All-take, All-drop}
+use Rattle.std.proofs.lemmas.List.Elements.{All-nil, All-head, All-tail, All-take, All-drop, All-append, All-weaker}
 use Rattle.std.proofs.lemmas.List.{drop-drop, take-append-drop, get_or-take, get_or-drop, get_or_default}
 use Rattle.std.proofs.lemmas.Slice.{between_is}
 use Rattle.serial_set.specs.declared.span.Span.{Span}
-use Rattle.serial_set.specs.Span.{Holds, Names, RunsFrom, IsRuns, IsRunsOf}
+use Rattle.serial_set.specs.Span.{SpanCovers, Covers, RunsFrom, IsRuns, IsRunsOf, TouchesNone}
 use Rattle.serial_set.proofs.Rising.{names_append, names_left, names_right, RunsFrom-weaker, runs_front, runs_middle, runs_apart, runs_join}
 
 -- where the last span of `m ∷ ms` ends
@@ -27,7 +27,7 @@ ends_within : (a : ℕ) (m : Span) (ms : List Span) → RunsFrom a (m ∷ ms) �
 ends_within a m [] r = omega arith
 ends_within a m (x ∷ xs) r = let rest = ends_within (m.hi + 2) x xs r.2 in omega arith
 
-names_within : (a : ℕ) (m : Span) (ms : List Span) (s : ℕ) → RunsFrom a (m ∷ ms) → Names (m ∷ ms) s → (m.lo ≤ s) × (s ≤ last_end m ms)
+names_within : (a : ℕ) (m : Span) (ms : List Span) (s : ℕ) → RunsFrom a (m ∷ ms) → Covers (m ∷ ms) s → (m.lo ≤ s) × (s ≤ last_end m ms)
 names_within a m [] s r n = elim n [ inl here ↦ here | inr later ↦ absurd later ]
 names_within a m (x ∷ xs) s r n =
     let whole = ends_within (m.hi + 2) x xs r.2 in
@@ -37,7 +37,7 @@ names_within a m (x ∷ xs) s r n =
     ]
 
 -- past hi and up to the last end lies nothing but the last span, where each begins at hi + 1 at most
-names_past : (hi : ℕ) (m : Span) (ms : List Span) (s : ℕ) → All (λ t. t.lo ≤ hi + 1) (m ∷ ms) → hi < s → s ≤ last_end m ms → Names (m ∷ ms) s
+names_past : (hi : ℕ) (m : Span) (ms : List Span) (s : ℕ) → All (λ t. t.lo ≤ hi + 1) (m ∷ ms) → hi < s → s ≤ last_end m ms → Covers (m ∷ ms) s
 names_past hi m [] s begin h k = let at : m.lo ≤ hi + 1 = All-head (λ t. t.lo ≤ hi + 1) m [] begin in inl (omega arith, k)
 names_past hi m (x ∷ xs) s begin h k = inr (names_past hi x xs s (All-tail (λ t. t.lo ≤ hi + 1) m (x ∷ xs) begin) h k)
 
@@ -54,7 +54,7 @@ runs_back : (a : ℕ) (xs ys : List Span) → RunsFrom a (xs ++ ys) → RunsFrom
 runs_back a [] ys r = RunsFrom-weaker a 0 ys (omega arith) r
 runs_back a (x ∷ xs) ys r = runs_back (x.hi + 2) xs ys r.2
 
-joined_to : (a lo hi : ℕ) (ms : List Span) (s : ℕ) → RunsFrom a ms → All (λ t. lo ≤ t.hi + 1) ms → All (λ t. t.lo ≤ hi + 1) ms → Holds (joined lo hi ms) s → Names ms s ⊎ ((lo ≤ s) × (s ≤ hi))
+joined_to : (a lo hi : ℕ) (ms : List Span) (s : ℕ) → RunsFrom a ms → All (λ t. lo ≤ t.hi + 1) ms → All (λ t. t.lo ≤ hi + 1) ms → SpanCovers (joined lo hi ms) s → Covers ms s ⊎ ((lo ≤ s) × (s ≤ hi))
 joined_to a lo hi [] s r end begin h = inr h
 joined_to a lo hi (m ∷ ms) s r end begin h =
     let reach : lo ≤ m.hi + 1 = All-head (λ t. lo ≤ t.hi + 1) m ms end in
@@ -66,7 +66,7 @@ joined_to a lo hi (m ∷ ms) s r end begin h =
       ]
     ]
 
-joined_from : (a lo hi : ℕ) (ms : List Span) (s : ℕ) → RunsFrom a ms → Names ms s ⊎ ((lo ≤ s) × (s ≤ hi)) → Holds (joined lo hi ms) s
+joined_from : (a lo hi : ℕ) (ms : List Span) (s : ℕ) → RunsFrom a ms → Covers ms s ⊎ ((lo ≤ s) × (s ≤ hi)) → SpanCovers (joined lo hi ms) s
 joined_from a lo hi [] s r n = elim n [ inl old ↦ absurd old | inr new ↦ new ]
 joined_from a lo hi (m ∷ ms) s r n =
     elim n [
@@ -88,7 +88,7 @@ joined_runs lo hi xs (m ∷ ms) ys r h below above =
     (omega arith, omega arith, RunsFrom-weaker _ (max hi (last_end m ms) + 2) ys (omega arith) (runs_above (last_end m ms + 2) (hi + 1) ys behind above))
 
 pub joined_runs_of : (lo hi : ℕ) (xs ms ys : List Span) → RunsFrom 0 (xs ++ (ms ++ ys)) → lo ≤ hi → All (λ t. t.hi + 1 < lo) xs → All (λ t. lo ≤ t.hi + 1) ms → All (λ t. t.lo ≤ hi + 1) ms → All (λ t. hi + 1 < t.lo) ys
-    → IsRunsOf (xs ++ joined lo hi ms ∷ ys) (λ s. Names (xs ++ (ms ++ ys)) s ⊎ ((lo ≤ s) × (s ≤ hi)))
+    → IsRunsOf (xs ++ joined lo hi ms ∷ ys) (λ s. Covers (xs ++ (ms ++ ys)) s ⊎ ((lo ≤ s) × (s ≤ hi)))
 joined_runs_of lo hi xs ms ys r h below end begin above =
     let back = runs_back 0 xs (ms ++ ys) r in
     let inner = runs_front 0 ms ys back in (
@@ -133,18 +133,18 @@ three_parts xs first end h =
     ∙ take-append-drop first xs
 
 added_parts : (xs : List Span) (lo hi first end : ℕ) → first ≤ end → IsRuns xs → lo ≤ hi → All (λ t. t.hi < lo - 1) (take first xs) → All (λ t. lo - 1 ≤ t.hi) (drop first xs) → All (λ t. t.lo ≤ hi + 1) (take end xs) → All (λ t. hi + 1 < t.lo) (drop end xs)
-    → IsRunsOf (take first xs ++ joined lo hi (take (end - first) (drop first xs)) ∷ drop end xs) (λ s. Names xs s ⊎ ((lo ≤ s) × (s ≤ hi)))
+    → IsRunsOf (take first xs ++ joined lo hi (take (end - first) (drop first xs)) ∷ drop end xs) (λ s. Covers xs s ⊎ ((lo ≤ s) × (s ≤ hi)))
 added_parts xs lo hi first end h runs ordered below from begin above =
     let parts = three_parts xs first end h in
     let ms = take (end - first) (drop first xs) in
     let whole : RunsFrom 0 (take first xs ++ (ms ++ drop end xs)) = subst (RunsFrom 0) (sym parts) runs in
-    subst (λ l. IsRunsOf (take first xs ++ joined lo hi ms ∷ drop end xs) (λ s. Names l s ⊎ ((lo ≤ s) × (s ≤ hi)))) parts
+    subst (λ l. IsRunsOf (take first xs ++ joined lo hi ms ∷ drop end xs) (λ s. Covers l s ⊎ ((lo ≤ s) × (s ≤ hi)))) parts
     (joined_runs_of lo hi (take first xs) ms (drop end xs) whole ordered (λ k d q. let at = below k d q in omega arith)
     (λ k d q. let at = All-take (λ t. lo - 1 ≤ t.hi) (end - first) (drop first xs) from k d q in omega arith)
     (subst (All (λ t. t.lo ≤ hi + 1)) (sym (between_is xs first end)) (All-drop (λ t. t.lo ≤ hi + 1) first (take end xs) begin)) above)
 
 pub added_joined : (xs ys : List Span) (lo hi first end : ℕ) (a b : Span) → first < end → end ≤ length xs → IsRuns xs → lo ≤ hi → All (λ t. t.hi < lo - 1) (take first xs) → All (λ t. lo - 1 ≤ t.hi) (drop first xs) → All (λ t. t.lo ≤ hi + 1) (take end xs) → All (λ t. hi + 1 < t.lo) (drop end xs)
-    → a ≡ get_or xs first a → b ≡ get_or xs (end - 1) b → ys ≡ take first xs ++ record { lo = min lo a.lo; hi = max hi b.hi } ∷ drop end xs → IsRunsOf ys (λ s. Names xs s ⊎ ((lo ≤ s) × (s ≤ hi)))
+    → a ≡ get_or xs first a → b ≡ get_or xs (end - 1) b → ys ≡ take first xs ++ record { lo = min lo a.lo; hi = max hi b.hi } ∷ drop end xs → IsRunsOf ys (λ s. Covers xs s ⊎ ((lo ≤ s) × (s ≤ hi)))
 added_joined xs ys lo hi first end a b h within runs ordered below from begin above at_a at_b new =
     let ms = take (end - first) (drop first xs) in
     let len : length ms ≡ end - first = omega (arith, length-take (end - first) (drop first xs), length-drop first xs) in
@@ -159,10 +159,10 @@ added_joined xs ys lo hi first end a b h within runs ordered below from begin ab
     joined-is lo hi ms a (omega arith) ∙ ap (λ (t : Span). record { lo = min lo t.lo; hi = max hi (get_or ms (length ms - 1) a).hi }) begins
     ∙ ap (λ (t : Span). record { lo = min lo a.lo; hi = max hi t.hi }) ends in
     let all : ys ≡ take first xs ++ joined lo hi ms ∷ drop end xs = new ∙ ap (λ t. take first xs ++ t ∷ drop end xs) (sym span) in
-    subst (λ l. IsRunsOf l (λ s. Names xs s ⊎ ((lo ≤ s) × (s ≤ hi)))) (sym all) (added_parts xs lo hi first end (omega arith) runs ordered below from begin above)
+    subst (λ l. IsRunsOf l (λ s. Covers xs s ⊎ ((lo ≤ s) × (s ≤ hi)))) (sym all) (added_parts xs lo hi first end (omega arith) runs ordered below from begin above)
 
 pub added_apart : (xs ys : List Span) (lo hi first end : ℕ) → end ≤ first → IsRuns xs → lo ≤ hi → All (λ t. t.hi < lo - 1) (take first xs) → All (λ t. hi + 1 < t.lo) (drop end xs) → ys ≡ take first xs ++ record { lo = lo; hi = hi } ∷ drop first xs
-    → IsRunsOf ys (λ s. Names xs s ⊎ ((lo ≤ s) × (s ≤ hi)))
+    → IsRunsOf ys (λ s. Covers xs s ⊎ ((lo ≤ s) × (s ≤ hi)))
 added_apart xs ys lo hi first end h runs ordered below above new =
     let place : end + (first - end) ≡ first = omega arith in
     let behind : drop (first - end) (drop end xs) ≡ drop first xs = drop-drop (first - end) end xs ∙ ap (λ n. drop n xs) place in
@@ -170,5 +170,15 @@ added_apart xs ys lo hi first end h runs ordered below above new =
     let parts = take-append-drop first xs in
     let whole : RunsFrom 0 (take first xs ++ drop first xs) = subst (RunsFrom 0) (sym parts) runs in
     let done = joined_runs_of lo hi (take first xs) [] (drop first xs) whole ordered (λ k d q. let at = below k d q in omega arith) (All-nil (λ t. lo ≤ t.hi + 1)) (All-nil (λ t. t.lo ≤ hi + 1)) past in
-    subst (λ l. IsRunsOf l (λ s. Names xs s ⊎ ((lo ≤ s) × (s ≤ hi)))) (sym new)
-    (subst (λ l. IsRunsOf (take first xs ++ record { lo = lo; hi = hi } ∷ drop first xs) (λ s. Names l s ⊎ ((lo ≤ s) × (s ≤ hi)))) parts done)
+    subst (λ l. IsRunsOf l (λ s. Covers xs s ⊎ ((lo ≤ s) × (s ≤ hi)))) (sym new)
+    (subst (λ l. IsRunsOf (take first xs ++ record { lo = lo; hi = hi } ∷ drop first xs) (λ s. Covers l s ⊎ ((lo ≤ s) × (s ≤ hi)))) parts done)
+
+-- what lies between the two places is nothing, so no span touches the interval
+pub apart_touches_none : (xs : List Span) (lo hi first end : ℕ) → end ≤ first → All (λ t. t.hi < lo - 1) (take first xs) → All (λ t. hi + 1 < t.lo) (drop end xs) → TouchesNone xs lo hi
+apart_touches_none xs lo hi first end h below above =
+    let place : end + (first - end) ≡ first = omega arith in
+    let behind : drop (first - end) (drop end xs) ≡ drop first xs = drop-drop (first - end) end xs ∙ ap (λ n. drop n xs) place in
+    let past : All (λ t. hi + 1 < t.lo) (drop first xs) = subst (All (λ t. hi + 1 < t.lo)) behind (All-drop (λ t. hi + 1 < t.lo) (first - end) (drop end xs) above) in
+    subst (λ l. TouchesNone l lo hi) (take-append-drop first xs)
+    (All-append (λ t. (t.hi + 1 < lo) ⊎ (hi + 1 < t.lo)) (take first xs) (drop first xs)
+    (λ k d q. inl (let at = below k d q in omega arith)) (λ k d q. inr (past k d q)))

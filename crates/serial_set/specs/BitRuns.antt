@@ -5,11 +5,11 @@ use Rattle.std.specs.Int.{bit_at}
 use Rattle.serial_set.specs.declared.span.Span.{Span}
 use Rattle.serial_set.specs.declared.bit_fault.BitFault.{BitFault}
 use Rattle.serial_set.specs.declared.bit_fault.BitFault.TheVariants.{Negative, Wraps}
-use Rattle.serial_set.specs.Span.{Holds, Names, IsRunsOf}
+use Rattle.serial_set.specs.Span.{SpanCovers, Covers, IsRunsOf}
 
--- how far a bitmap of `len` bytes is fed: how many of them are due, the run that may still grow, and
--- the fault that was met
-pub record Progress : Type 0 where
+-- how far a bitmap of `len` bytes is fed: how many of them are due, the run that may still grow,
+-- and the fault that was met
+pub record FedBitmap : Type 0 where
   pub offset : ℕ
   pub len : ℕ
   pub due : ℕ
@@ -17,11 +17,11 @@ pub record Progress : Type 0 where
   pub fault : Option BitFault
 
 -- nothing is fed
-abbrev pub start : ℕ → ℕ → Progress
+abbrev pub start : ℕ → ℕ → FedBitmap
 start offset len = record { offset = offset; len = len; due = len; pending = None; fault = None }
 
 -- the number for which the lowest bit stands that is fed so far
-abbrev pub lowest : Progress → ℕ
+abbrev pub lowest : FedBitmap → ℕ
 lowest p = p.offset + 8 * p.due
 
 -- s is a serial, and its bit of `bits` is set, where the lowest bit stands for `base`
@@ -36,47 +36,49 @@ big_endian (byte ∷ bytes) = byte * 256 ^ length bytes + big_endian bytes
 -- ---- faults
 
 -- the byte is the bitmap's first, and its highest bit is set
-abbrev pub IsNegative : Progress → ℕ → Type 0
+abbrev pub IsNegative : FedBitmap → ℕ → Type 0
 IsNegative p byte = (p.due ≡ p.len) × (128 ≤ byte)
 
 -- a set bit of the byte stands for a number past 2^64-1
-abbrev pub PassesEnd : Progress → ℕ → Type 0
+abbrev pub PassesEnd : FedBitmap → ℕ → Type 0
 PassesEnd p byte = (s : ℕ) × ((2 ^ 64 ≤ s) × BitNames (p.offset + 8 * (p.due - 1)) byte s)
 
 -- the fault that a byte shows, of two the first
-abbrev pub ShowsFault : Progress → ℕ → BitFault → Type 0
+abbrev pub ShowsFault : FedBitmap → ℕ → BitFault → Type 0
 ShowsFault p byte Negative = IsNegative p byte
 ShowsFault p byte Wraps = ¬ IsNegative p byte × PassesEnd p byte
 
 -- the fault of feeding a byte: an earlier one again, else the one that the byte shows
-abbrev pub HasFault : Progress → ℕ → BitFault → Type 0
+abbrev pub HasFault : FedBitmap → ℕ → BitFault → Type 0
 HasFault p byte fault = MatchOption p.fault (ShowsFault p byte fault) (λ earlier. fault ≡ earlier)
 
 -- ---- runs
 
 -- the pending run, and then the finished ones from the last to the first
-abbrev pub runs_after : Progress → List Span → List Span
+abbrev pub runs_after : FedBitmap → List Span → List Span
 runs_after p finished = option_to_list p.pending ++ reverse finished
 
 -- a byte without a fault leads from one state to another and finishes these runs
-pub record Feeds (before : Progress) (byte : ℕ) (after : Progress) (finished : List Span) : Type 0 where
+pub record Feeds (before : FedBitmap) (byte : ℕ) (after : FedBitmap) (finished : List Span)
+    : Type 0 where
   pub one_less : after.due + 1 ≡ before.due
   pub same_bitmap : after ≡ record before { due = after.due; pending = after.pending }
   pub no_fault : (fault : BitFault) → ¬ HasFault before byte fault
   -- the runs of what was pending and of the byte's serials
   pub runs : IsRunsOf (runs_after after finished)
-      (λ s. Names (option_to_list before.pending) s ⊎ BitNames (lowest after) byte s)
+      (λ s. Covers (option_to_list before.pending) s ⊎ BitNames (lowest after) byte s)
   -- a run that has the byte's lowest number in it may go on in the next byte, and no other
-  pub goes_on : IfSome after.pending (λ run. Holds run (lowest after))
-  pub ends : All (λ run. ¬ Holds run (lowest after)) finished
+  pub goes_on : IfSome after.pending (λ run. SpanCovers run (lowest after))
+  pub ends : All (λ run. ¬ SpanCovers run (lowest after)) finished
   pub four_more : length (runs_after after finished) ≤ length (option_to_list before.pending) + 4
 
 -- so many bytes, fed one after the other, lead from one state to another and finish these runs
-abbrev pub FeedsAll : Progress → List ℕ → Progress → List Span → Type 0
+abbrev pub FeedsAll : FedBitmap → List ℕ → FedBitmap → List Span → Type 0
 FeedsAll before [] after finished = (after ≡ before) × (finished ≡ [])
 FeedsAll before (byte ∷ bytes) after finished =
-    (middle : Progress) × ((first : List Span) × ((rest : List Span)
-    × (Feeds before byte middle first × FeedsAll middle bytes after rest × (finished ≡ first ++ rest))))
+    (middle : FedBitmap) × ((first : List Span) × ((rest : List Span)
+    × (Feeds before byte middle first × FeedsAll middle bytes after rest
+    × (finished ≡ first ++ rest))))
 
 -- the span is not empty, and 0 is not in it
 abbrev pub IsInterval : Span → Type 0

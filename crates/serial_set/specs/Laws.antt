@@ -1,11 +1,12 @@
 -- What a law on bitmaps speaks of.
 use Rattle.std.specs.Prelude.{ℕ, ◌<◌, List, All}
 use Rattle.serial_set.specs.declared.span.Span.{Span}
-use Rattle.serial_set.specs.BitRuns.{Progress, start, FeedsAll}
+use Rattle.serial_set.specs.BitRuns.{FedBitmap, start, FeedsAll}
 
 -- P holds after any bytes are fed from the start: of the offset, the number of bytes that were due,
 -- the bytes, the state that is reached, and the runs that are finished
-abbrev pub AfterFeeding : (ℕ → ℕ → List ℕ → Progress → List Span → Type 0) → Type 0
+abbrev pub AfterFeeding : (ℕ → ℕ → List ℕ → FedBitmap → List Span → Type 0) → Type 0
 AfterFeeding P =
-    (offset len : ℕ) (bytes : List ℕ) (after : Progress) (finished : List Span) → All (λ byte. byte < 256) bytes
+    (offset len : ℕ) (bytes : List ℕ) (after : FedBitmap) (finished : List Span)
+    → All (λ byte. byte < 256) bytes
     → FeedsAll (start offset len) bytes after finished → P offset len bytes after finished

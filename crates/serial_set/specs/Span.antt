@@ -1,21 +1,22 @@
 -- Intervals of serials, and the one rising list of them that stands for a set.
-use Rattle.std.specs.Prelude.{ℕ, ◌+◌, ◌^◌, ◌≤◌, ◌<◌, ◌⊎◌, ◌↔◌, List, [], ◌∷◌, ⊤}
+use Rattle.std.specs.Prelude.{ℕ, ◌+◌, ◌^◌, ◌≤◌, ◌<◌, ◌⊎◌, ◌↔◌, List, [], ◌∷◌, All, ⊤}
 use Rattle.std.specs.Coded.{Unit-prop, le_prop}
 use Rattle.serial_set.specs.declared.span.Span.{Span}
 
 -- the span has the number s in it
-abbrev pub Holds : Span → ℕ → Type 0
-Holds span s = (span.lo ≤ s) × (s ≤ span.hi)
+abbrev pub SpanCovers : Span → ℕ → Type 0
+SpanCovers span s = (span.lo ≤ s) × (s ≤ span.hi)
 
 -- some span of the list has the number s in it
-abbrev pub Names : List Span → ℕ → Type 0
-Names [] s = ⊥
-Names (span ∷ spans) s = Holds span s ⊎ Names spans s
+abbrev pub Covers : List Span → ℕ → Type 0
+Covers [] s = ⊥
+Covers (span ∷ spans) s = SpanCovers span s ⊎ Covers spans s
 
 -- the spans begin at `least` or above, and each next one at least two above the last one's end
 abbrev pub RunsFrom : ℕ → List Span → Type 0
 RunsFrom least [] = ⊤
-RunsFrom least (span ∷ spans) = (least ≤ span.lo) × (span.lo ≤ span.hi) × RunsFrom (span.hi + 2) spans
+RunsFrom least (span ∷ spans) =
+    (least ≤ span.lo) × (span.lo ≤ span.hi) × RunsFrom (span.hi + 2) spans
 
 -- a rising list of intervals of which no two touch
 abbrev pub IsRuns : List Span → Type 0
@@ -23,11 +24,15 @@ IsRuns spans = RunsFrom 0 spans
 
 -- the list of runs whose numbers are the members of a set
 abbrev pub IsRunsOf : List Span → (ℕ → Type 0) → Type 0
-IsRunsOf spans Member = IsRuns spans × ((s : ℕ) → Names spans s ↔ Member s)
+IsRunsOf spans Member = IsRuns spans × ((s : ℕ) → Covers spans s ↔ Member s)
+
+-- no span of the list has a number in it that is from lo to hi, or beside one of these
+abbrev pub TouchesNone : List Span → ℕ → ℕ → Type 0
+TouchesNone spans lo hi = All (λ span. (span.hi + 1 < lo) ⊎ (hi + 1 < span.lo)) spans
 
 -- the numbers are serials: a serial is from 1 to 2^64-1
 abbrev pub AreSerials : List Span → Type 0
-AreSerials spans = (s : ℕ) → Names spans s → (0 < s) × (s < 2 ^ 64)
+AreSerials spans = (s : ℕ) → Covers spans s → (0 < s) × (s < 2 ^ 64)
 
 -- a list rises in one way only, as a ghost field asks of its fact
 pub RunsFrom-prop : (least : ℕ) (spans : List Span) → IsProp (RunsFrom least spans)

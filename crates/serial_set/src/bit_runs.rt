@@ -1,6 +1,6 @@
 ghost use Rattle.std.specs.Prelude.{◌≡◌, ◌+◌, ◌*◌, ◌^◌, ◌≤◌, ◌<◌, ℕ, ◌↔◌, Some, None, MatchOption, SomeIff, IsTrue, IfOk, IfErr, IfSome, All};
 ghost use Rattle.serial_set.specs.Finished.{finished_of};
-ghost use Rattle.serial_set.specs.BitRuns.{Progress, start, BitNames, HasFault, Feeds, IsInterval, IsInStep};
+ghost use Rattle.serial_set.specs.BitRuns.{FedBitmap, start, BitNames, HasFault, Feeds, IsInterval, IsInStep};
 
 use crate::bit_fault::BitFault;
 use crate::byte_runs::runs_of_byte;
@@ -21,7 +21,7 @@ pub struct BitRuns {
 }
 
 impl Model for BitRuns {
-    ghost Value = { Progress };
+    ghost Value = { FedBitmap };
 
     ghost view = { λ b. record {
       offset = b.offset;

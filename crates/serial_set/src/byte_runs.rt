@@ -1,7 +1,7 @@
 //! The runs of one byte's bits, read from the highest place to the lowest.
 ghost use Rattle.std.specs.Prelude.{◌≡◌, ◌+◌, ◌*◌, ◌^◌, ◌≤◌, ◌<◌, ◌⊎◌, ℕ, ◌++◌, [], ◌∷◌, length, reverse, Some, None, MatchOption, IfSome, SomeIff, All, ⊤};
 ghost use Rattle.std.specs.Option.{option_to_list, option_map_or};
-ghost use Rattle.serial_set.specs.Span.{Holds, Names, IsRunsOf};
+ghost use Rattle.serial_set.specs.Span.{SpanCovers, Covers, IsRunsOf};
 ghost use Rattle.serial_set.specs.Finished.{finished_of};
 ghost use Rattle.serial_set.specs.BitRuns.{BitNames, IsInStep};
 
@@ -18,8 +18,9 @@ pub struct ByteRuns {
 impl ByteRuns {
     // A set bit: its serial is one below the pending run, or begins one.
     fn extend(&mut self, serial: u64)
-        ensures pending { self.new.pending
-            ≡ Some (record { lo = serial; hi = option_map_or (λ run. run.hi) self.old.pending serial }) }
+        ensures pending { self.new.pending ≡ Some (record {
+            lo = serial;
+            hi = option_map_or (λ run. run.hi) self.old.pending serial }) }
         ensures finished { self.new.finished ≡ self.old.finished }
     {
         let hi = match self.pending {
@@ -50,7 +51,8 @@ fn serial_at(offset: u64, place: u64, byte: u8, bit: u8) -> Option<u64>
     requires place { place < 2 ^ 63 }
     requires bit { bit < 8 }
     requires fits { (s : ℕ) → BitNames (offset + place) byte s → s < 2 ^ 64 }
-    ensures { SomeIff result (BitNames (offset + place) byte (offset + place + bit)) (offset + place + bit) }
+    ensures { let serial = offset + place + bit in
+        SomeIff result (BitNames (offset + place) byte serial) serial }
 {
     if byte >> bit & 1 == 0 {
         return None;
@@ -65,10 +67,11 @@ pub fn runs_of_byte(pending: Option<Span>, offset: u64, place: u64, byte: u8) ->
     requires in_step { IsInStep (offset + place + 8) pending }
     requires fits { (s : ℕ) → BitNames (offset + place) byte s → s < 2 ^ 64 }
     ensures runs { IsRunsOf (option_to_list result.pending ++ reverse (finished_of result.finished))
-        (λ s. Names (option_to_list pending) s ⊎ BitNames (offset + place) byte s) }
+        (λ s. Covers (option_to_list pending) s ⊎ BitNames (offset + place) byte s) }
     ensures in_step { IsInStep (offset + place) result.pending }
-    ensures ends { All (λ run. ¬ Holds run (offset + place)) (finished_of result.finished) }
-    ensures four_more { length (finished_of result.finished) + length (option_to_list result.pending)
+    ensures ends { All (λ run. ¬ SpanCovers run (offset + place)) (finished_of result.finished) }
+    ensures four_more {
+        length (finished_of result.finished) + length (option_to_list result.pending)
         ≤ length (option_to_list pending) + 4 }
 {
     let mut runs = ByteRuns {

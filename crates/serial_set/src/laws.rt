@@ -1,19 +1,19 @@
 //! What follows from the definitions alone. The functions do nothing.
 ghost use Rattle.std.specs.Prelude.{◌≡◌, ◌+◌, ◌*◌, ◌<◌, ◌≤◌, ◌↔◌, ◌++◌, ◌∷◌, [], ℕ, List, length, All};
 ghost use Rattle.serial_set.specs.declared.span.Span.{Span};
-ghost use Rattle.serial_set.specs.Span.{Names, IsRuns, IsRunsOf, AreSerials};
-ghost use Rattle.serial_set.specs.BitRuns.{Progress, start, lowest, BitNames, big_endian, Feeds, FeedsAll, runs_after};
+ghost use Rattle.serial_set.specs.Span.{Covers, IsRuns, IsRunsOf, AreSerials};
+ghost use Rattle.serial_set.specs.BitRuns.{FedBitmap, start, lowest, BitNames, big_endian, Feeds, FeedsAll, runs_after};
 ghost use Rattle.serial_set.specs.Laws.{AfterFeeding};
 
 /// A set has one list of runs.
 pub fn runs_are_unique()
-    ensures { (xs ys : List Span) → IsRuns xs → IsRuns ys → ((s : ℕ) → Names xs s ↔ Names ys s)
+    ensures { (xs ys : List Span) → IsRuns xs → IsRuns ys → ((s : ℕ) → Covers xs s ↔ Covers ys s)
         → xs ≡ ys }
 {}
 
 /// No list of intervals with the same members is shorter than the runs.
 pub fn runs_are_fewest()
-    ensures { (runs others : List Span) → IsRuns runs → ((s : ℕ) → Names runs s ↔ Names others s)
+    ensures { (runs others : List Span) → IsRuns runs → ((s : ℕ) → Covers runs s ↔ Covers others s)
         → length runs ≤ length others }
 {}
 
@@ -39,7 +39,8 @@ pub fn whole_bitmap()
 
 /// One byte that is fed behind others.
 pub fn one_byte_more()
-    ensures { (before middle after : Progress) (bytes : List ℕ) (byte : ℕ) (finished more : List Span)
+    ensures { (before middle after : FedBitmap) (bytes : List ℕ) (byte : ℕ)
+        (finished more : List Span)
         → FeedsAll before bytes middle finished → Feeds middle byte after more
         → FeedsAll before (bytes ++ byte ∷ []) after (finished ++ more) }
 {}

@@ -1,6 +1,6 @@
 ghost use Rattle.std.specs.Prelude.{◌≡◌, ◌+◌, ◌<◌, ◌≤◌, ◌⊎◌, ◌∷◌, ◌++◌, length, take, drop, OnOk, OnErr};
-ghost use Rattle.std.specs.Vec.{vec_len};
-ghost use Rattle.serial_set.specs.Span.{Names, IsRuns, IsRunsOf, AreSerials, RunsFrom-prop};
+ghost use Rattle.std.specs.Vec.{vec_len, vec_capacity};
+ghost use Rattle.serial_set.specs.Span.{Covers, IsRuns, IsRunsOf, TouchesNone, AreSerials, RunsFrom-prop};
 
 use crate::place::{count_beginning_by, count_ending_before};
 use crate::span::Span;
@@ -27,7 +27,18 @@ impl Spans for SpanVec {
         })
     }
 
-    fn add(&mut self, lo: u64, hi: u64) -> Result<(), AllocError> {
+    // A refusal is the vector's own: it had no room for one more.
+    fn add(&mut self, lo: u64, hi: u64) -> Result<(), AllocError>
+        requires from_one { 0 < lo }
+        requires ordered { lo ≤ hi }
+        ensures runs { OnOk result
+            (IsRunsOf self.new.items.items
+                (λ s. Covers self.old.items.items s ⊎ ((lo ≤ s) × (s ≤ hi)))) }
+        ensures one_more { vec_len self.new.items ≤ vec_len self.old.items + 1 }
+        ensures refused { OnErr result (self.new.items.items ≡ self.old.items.items) }
+        ensures needs_room { OnErr result (TouchesNone self.old.items.items lo hi) }
+        ensures full { OnErr result (vec_capacity self.old.items ≤ vec_len self.old.items) }
+    {
         add_to(&mut self.items, lo, hi)
     }
 
@@ -56,9 +67,11 @@ fn add_to(items: &mut Vec<Span>, lo: u64, hi: u64) -> Result<(), AllocError>
     requires from_one { 0 < lo }
     requires ordered { lo ≤ hi }
     ensures runs { OnOk result
-        (IsRunsOf items.new.items (λ s. Names items.old.items s ⊎ ((lo ≤ s) × (s ≤ hi)))) }
+        (IsRunsOf items.new.items (λ s. Covers items.old.items s ⊎ ((lo ≤ s) × (s ≤ hi)))) }
     ensures one_more { length items.new.items ≤ length items.old.items + 1 }
     ensures refused { OnErr result (items.new.items ≡ items.old.items) }
+    ensures needs_room { OnErr result (TouchesNone items.old.items lo hi) }
+    ensures full { OnErr result (vec_capacity items.old ≤ vec_len items.old) }
 {
     // A span that ends at `lo - 1` touches.
     let first = count_ending_before(items, lo - 1);

@@ -1,6 +1,6 @@
 ghost use Rattle.std.specs.Prelude.{◌≡◌, ◌+◌, ◌<◌, ◌≤◌, ◌⊎◌, ◌↔◌, ℕ, List, [], length, take, drop, Some, slice_get, IsTrue, IfOk, OnOk, OnErr};
 ghost use Rattle.serial_set.specs.declared.span.Span.{Span};
-ghost use Rattle.serial_set.specs.Span.{Names, IsRuns, IsRunsOf, AreSerials};
+ghost use Rattle.serial_set.specs.Span.{Covers, IsRuns, IsRunsOf, TouchesNone, AreSerials};
 
 use crate::span::Span;
 use std::alloc::{AllocError, Global};
@@ -14,19 +14,21 @@ pub trait Spans: Drop {
     fn empty(alloc: Global) -> Result<Self, AllocError>
         ensures { IfOk result (λ made. spans made ≡ []) };
 
-    /// Adds the serials from `lo` to `hi`. The list gets at most one span longer. Where memory is
-    /// wanting the set stays as it was.
+    /// Adds the serials from `lo` to `hi`. The list gets at most one span longer. Where memory runs
+    /// out the set stays as it was. Joining spans needs no memory, so only an addition that touches
+    /// no span can be refused.
     fn add(&mut self, lo: u64, hi: u64) -> Result<(), AllocError>
         requires from_one { 0 < lo }
         requires ordered { lo ≤ hi }
         ensures runs { OnOk result
-            (IsRunsOf (spans self.new) (λ s. Names (spans self.old) s ⊎ ((lo ≤ s) × (s ≤ hi)))) }
+            (IsRunsOf (spans self.new) (λ s. Covers (spans self.old) s ⊎ ((lo ≤ s) × (s ≤ hi)))) }
         ensures one_more { length (spans self.new) ≤ length (spans self.old) + 1 }
-        ensures refused { OnErr result (spans self.new ≡ spans self.old) };
+        ensures refused { OnErr result (spans self.new ≡ spans self.old) }
+        ensures needs_room { OnErr result (TouchesNone (spans self.old) lo hi) };
 
     /// Whether the serial is a member.
     fn has(&self, serial: u64) -> bool
-        ensures { IsTrue result ↔ Names (spans self.now) serial };
+        ensures { IsTrue result ↔ Covers (spans self.now) serial };
 
     /// How many spans the list has.
     fn len(&self) -> usize

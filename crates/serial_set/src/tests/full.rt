@@ -1,5 +1,6 @@
 // A representation of a test's own, which refuses to grow at a length.
-ghost use Rattle.std.specs.Prelude.{◌≡◌};
+ghost use Rattle.std.specs.Prelude.{◌≡◌, ◌<◌, ◌≤◌, IsTrue};
+ghost use Rattle.serial_set.specs.Span.{TouchesNone};
 
 use crate::{Span, SpanVec, Spans};
 use std::alloc::{AllocError, Global};
@@ -9,6 +10,21 @@ use std::test::Fail;
 struct Full<S: Spans> {
     inner: S,
     limit: usize,
+}
+
+// Whether the interval stands alone: no span of the set has a number of it, or one beside it.
+fn touches_none<S: Spans>(set: &S, lo: u64, hi: u64) -> bool
+    requires from_one { 0 < lo }
+    requires ordered { lo ≤ hi }
+    ensures { IsTrue result → TouchesNone (S.spans set.now) lo hi }
+{
+    for at in 0..set.len() {
+        let span = set.get(at);
+        if span.hi >= lo - 1 && span.lo.saturating_sub(1) <= hi {
+            return false;
+        }
+    }
+    true
 }
 
 impl<S: Spans> Spans for Full<S> {
@@ -24,7 +40,7 @@ impl<S: Spans> Spans for Full<S> {
     }
 
     fn add(&mut self, lo: u64, hi: u64) -> Result<(), AllocError> {
-        if self.inner.len() >= self.limit {
+        if self.inner.len() >= self.limit && touches_none(&self.inner, lo, hi) {
             return Err(AllocError);
         }
         self.inner.add(lo, hi)
@@ -55,5 +71,8 @@ fn a_refusal_changes_nothing(rt: HostRuntime) -> Result<(), Fail> {
     assert_eq!(rt; set.len(), 1);
     assert_eq!(rt; set.get(0), Span { lo: 5, hi: 7 });
     assert!(rt; set.has(5) && set.has(7) && !set.has(4) && !set.has(8) && !set.has(9));
+    // What joins needs no room.
+    set.add(8, 9)?;
+    assert_eq!(rt; set.get(0), Span { lo: 5, hi: 9 });
     Ok(())
 }
