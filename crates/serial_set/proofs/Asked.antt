@@ -7,7 +7,7 @@ use Rattle.serial_set.specs.declared.span.Span.{Span}
 use Rattle.serial_set.specs.Span.{Covers, RunsFrom, IsRuns}
 use Rattle.serial_set.proofs.Rising.{names_append, names_right, names_from, runs_middle}
 
-none_below : (xs : List Span) (s : ℕ) → All (λ t. t.hi < s) xs → Covers xs s → ⊥
+pub none_below : (xs : List Span) (s : ℕ) → All (λ t. t.hi < s) xs → Covers xs s → ⊥
 none_below [] s below n = n
 none_below (x ∷ xs) s below n =
     let at : x.hi < s = All-head (λ t. t.hi < s) x xs below in

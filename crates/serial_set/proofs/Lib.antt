@@ -3,6 +3,10 @@ pub mod Bits
 pub mod Feeding
 pub mod Least
 pub mod InByte
+pub mod InPage
+pub mod InParts
 pub mod Placed
+pub mod PutParts
 pub mod Rising
 pub mod Touching
+pub mod Widening

@@ -19,8 +19,9 @@ impl ByteRuns {
     // A set bit: its serial is one below the pending run, or begins one.
     fn extend(&mut self, serial: u64)
         ensures pending { self.new.pending ≡ Some (record {
-            lo = serial;
-            hi = option_map_or (λ run. run.hi) self.old.pending serial }) }
+          lo = serial;
+          hi = option_map_or (λ run. run.hi) self.old.pending serial;
+        }) }
         ensures finished { self.new.finished ≡ self.old.finished }
     {
         let hi = match self.pending {
@@ -70,8 +71,7 @@ pub fn runs_of_byte(pending: Option<Span>, offset: u64, place: u64, byte: u8) ->
         (λ s. Covers (option_to_list pending) s ⊎ BitNames (offset + place) byte s) }
     ensures in_step { IsInStep (offset + place) result.pending }
     ensures ends { All (λ run. ¬ SpanCovers run (offset + place)) (finished_of result.finished) }
-    ensures four_more {
-        length (finished_of result.finished) + length (option_to_list result.pending)
+    ensures four_more { length (finished_of result.finished) + length (option_to_list result.pending)
         ≤ length (option_to_list pending) + 4 }
 {
     let mut runs = ByteRuns {

@@ -4,13 +4,20 @@
 //! a key revocation list (PROTOCOL.krl) a byte at a time.
 #![tactic(auto)]
 
+mod adding;
 mod bit_fault;
 mod bit_runs;
 mod byte_runs;
 mod finished;
 pub mod laws;
+mod page;
+mod part;
+mod parts;
 mod place;
+mod put_parts;
+mod shelf;
 mod span;
+mod span_pages;
 mod span_vec;
 mod spans;
 
@@ -18,11 +25,12 @@ pub use bit_fault::BitFault;
 pub use bit_runs::BitRuns;
 pub use finished::Finished;
 pub use span::Span;
+pub use span_pages::SpanPages;
 pub use span_vec::SpanVec;
 pub use spans::Spans;
 
 /// The representation of a set of serials that is in use.
-pub type Held = SpanVec;
+pub type Held = SpanPages;
 
 #[cfg(test)]
 mod tests;

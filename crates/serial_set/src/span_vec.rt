@@ -33,7 +33,7 @@ impl Spans for SpanVec {
         requires ordered { lo ≤ hi }
         ensures runs { OnOk result
             (IsRunsOf self.new.items.items
-                (λ s. Covers self.old.items.items s ⊎ ((lo ≤ s) × (s ≤ hi)))) }
+            (λ s. Covers self.old.items.items s ⊎ ((lo ≤ s) × (s ≤ hi)))) }
         ensures one_more { vec_len self.new.items ≤ vec_len self.old.items + 1 }
         ensures refused { OnErr result (self.new.items.items ≡ self.old.items.items) }
         ensures needs_room { OnErr result (TouchesNone self.old.items.items lo hi) }
@@ -87,7 +87,7 @@ fn add_to(items: &mut Vec<Span>, lo: u64, hi: u64) -> Result<(), AllocError>
 }
 
 // Puts one span in place of those from `first` up to `end`, and moves those behind them once.
-fn join(items: &mut Vec<Span>, first: usize, end: usize, span: Span)
+pub fn join(items: &mut Vec<Span>, first: usize, end: usize, span: Span)
     requires some { first < end }
     requires within { end ≤ vec_len items.old }
     ensures { items.new.items ≡ take first items.old.items ++ span ∷ drop end items.old.items }

@@ -1,7 +1,8 @@
 ghost use Rattle.std.specs.Prelude.{◌≡◌, ◌<◌, ◌≤◌};
 
 use crate::tests::walk::{list_of, spans_of};
-use crate::{Held, Span, Spans};
+use crate::{Held, Span, SpanPages, SpanVec, Spans};
+use std::alloc::Global;
 use std::process::Abort;
 use std::test::Fail;
 
@@ -26,8 +27,7 @@ fn add_all<S: Spans>(
     Ok(())
 }
 
-#[test]
-fn adds_intervals(rt: HostRuntime) -> Result<(), Fail> {
+fn adds<S: Spans>(rt: &impl Abort, alloc: Global) -> Result<(), Fail> {
     let rows: [Row; 3] = [
         (
             &[(5, 5), (7, 7), (6, 6), (8, u64::MAX)],
@@ -38,11 +38,17 @@ fn adds_intervals(rt: HostRuntime) -> Result<(), Fail> {
         (&[(1, u64::MAX), (7, 7)], &[1, 1], &[(1, u64::MAX)]),
     ];
     for (adds, lengths, last) in rows {
-        let mut set = Held::empty(rt.alloc())?;
-        add_all(&rt, &mut set, adds, lengths)?;
-        assert_eq!(rt; list_of(rt.alloc(), &set)?, spans_of(rt.alloc(), last)?);
+        let mut set = S::empty(alloc)?;
+        add_all(rt, &mut set, adds, lengths)?;
+        assert_eq!(rt; list_of(alloc, &set)?, spans_of(alloc, last)?);
     }
     Ok(())
+}
+
+#[test]
+fn adds_intervals(rt: HostRuntime) -> Result<(), Fail> {
+    adds::<SpanVec>(&rt, rt.alloc())?;
+    adds::<SpanPages>(&rt, rt.alloc())
 }
 
 #[test]

@@ -1,8 +1,9 @@
 // Code over any representation, proved from what `Spans` promises alone.
 ghost use Rattle.std.specs.Prelude.{◌≡◌, ◌<◌, ◌≤◌, length, IsTrue, IfOk};
 
-use crate::{Span, SpanVec, Spans};
+use crate::{Span, SpanPages, SpanVec, Spans};
 use std::alloc::{AllocError, Global};
+use std::process::Abort;
 use std::test::Fail;
 
 // Goes over the list in linear time: each piece is visited once.
@@ -46,17 +47,24 @@ fn has_added<S: Spans>(set: &mut S, serial: u64) -> Result<bool, AllocError>
     Ok(set.has(serial))
 }
 
-#[test]
-fn walks_a_vector(rt: HostRuntime) -> Result<(), Fail> {
-    let mut set = SpanVec::empty(rt.alloc())?;
+fn walks<S: Spans>(rt: &impl Abort, alloc: Global) -> Result<(), Fail> {
+    let mut set = S::empty(alloc)?;
+    assert_eq!(rt; set.len(), 0);
+    assert!(rt; !set.has(0) && !set.has(2));
     assert!(rt; has_added(&mut set, 9)?);
     assert!(rt; has_added(&mut set, 2)?);
     assert_eq!(rt; set.len(), 2);
     assert!(rt; has_start(&set, 0) && has_start(&set, 1));
-    let list = list_of(rt.alloc(), &set)?;
+    let list = list_of(alloc, &set)?;
     assert_eq!(rt;
         list.as_slice(),
         [Span { lo: 2, hi: 2 }, Span { lo: 9, hi: 9 }].as_slice()
     );
     Ok(())
+}
+
+#[test]
+fn walks_each_representation(rt: HostRuntime) -> Result<(), Fail> {
+    walks::<SpanVec>(&rt, rt.alloc())?;
+    walks::<SpanPages>(&rt, rt.alloc())
 }

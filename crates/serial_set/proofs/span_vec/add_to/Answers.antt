@@ -37,5 +37,5 @@ returns-in_err-insert-clause-needs_room c =
     let first = c.count_ending_before-first in
     let end = c.count_beginning_by-end in
     on_err _ _ (apart_touches_none c.args.items.now.items c.args.lo c.args.hi first.result end.result c.if-first-end.false
-        (subst (λ l. All (λ t. t.hi < c.args.lo - 1) (take first.result l)) c.deref.ensures.value first.ensures.before)
-        (subst (λ l. All (λ t. c.args.hi + 1 < t.lo) (drop end.result l)) c.deref-2.ensures.value end.ensures.rest))
+    (subst (λ l. All (λ t. t.hi < c.args.lo - 1) (take first.result l)) c.deref.ensures.value first.ensures.before)
+    (subst (λ l. All (λ t. c.args.hi + 1 < t.lo) (drop end.result l)) c.deref-2.ensures.value end.ensures.rest))
