@@ -1,5 +1,5 @@
 -- What base64 decodes to are bytes.
-use Rattle.std.proofs.Common.{◌≡◌, ℕ, zero, suc, ◌+◌, ◌*◌, ◌/◌, ◌%◌, ◌<◌, ◌≤◌, Bool, true, List, [], ◌∷◌, ◌++◌, Option, Some, None, Result, Ok, Err, length, drop, slice_index, refl, arith, inl, inr, ◌⊎◌}
+use Rattle.std.proofs.Common.{◌≡◌, ℕ, zero, suc, ◌+◌, ◌*◌, ◌/◌, ◌%◌, ◌<◌, ◌≤◌, Bool, true, List, [], ◌∷◌, Option, Some, None, Result, Ok, Err, length, drop, slice_index, refl, arith, inl, inr, ◌⊎◌}
 use Rattle.std.proofs.lemmas.List.{length-drop}
 use Rattle.base64.proofs.Canonical.{IsScanned-scan}
 use Rattle.base64.proofs.EngineFacts.{decode_of_bytes}
@@ -12,14 +12,8 @@ use Rattle.base64.specs.declared.decode.DecodeError.{DecodeError}
 use Rattle.base64.specs.declared.engine.DecodePaddingMode.{DecodePaddingMode}
 use Rattle.base64.specs.declared.engine.general_purpose.GeneralPurpose.{GeneralPurpose}
 use Rattle.ssh_wire.specs.Wire.{IsBytes}
-use Rattle.ssh_wire.proofs.Digits.{IsBytes-cons, IsBytes-drop, IsBytes-tail, IsBytes-take}
-
-no_bytes : IsBytes []
-no_bytes i = omega arith
-
-IsBytes-append : (xs ys : List ℕ) → IsBytes xs → IsBytes ys → IsBytes (xs ++ ys)
-IsBytes-append [] ys front behind = behind
-IsBytes-append (x ∷ xs) ys front behind = IsBytes-cons x (xs ++ ys) (front 0) (IsBytes-append xs ys (IsBytes-tail x xs front) behind)
+use Rattle.ssh_wire.proofs.Digits.{IsBytes-cons, IsBytes-drop, IsBytes-take}
+use Rattle.ssh_key.proofs.Wire.{IsBytes-append, no_bytes}
 
 -- four values of six bits make three bytes
 IsBytes-group : (a b c d : ℕ) → a < 64 → b < 64 → c < 64 → d < 64 → IsBytes (decode_group a b c d)

@@ -1,5 +1,5 @@
 -- Reading a blob meets its first fault, and no other.
-use Rattle.std.proofs.Common.{◌≡◌, ◌≢◌, ℕ, ◌+◌, ◌^◌, ◌<◌, ◌≤◌, Bool, true, false, cond, eqb, ltb, List, [], ◌∷◌, ◌++◌, length, Option, Some, None, Result, Ok, Err, refl, sym, ap, ◌∙◌, arith, inl, inr}
+use Rattle.std.proofs.Common.{◌≡◌, ◌≢◌, ℕ, ◌+◌, ◌<◌, ◌≤◌, Bool, true, false, cond, eqb, ltb, List, [], ◌∷◌, ◌++◌, length, Option, Some, None, Result, Ok, Err, refl, sym, ap, subst, ◌∙◌, arith, inl, inr}
 use Rattle.std.specs.Prelude.{IfErr}
 use Rattle.std.proofs.lemmas.Bool.{eqb-false, ne_eqb, ltb-true, ltb-false, lt-ltb, le-ltb}
 use Rattle.std.proofs.lemmas.List.{append-nil, length-append}
@@ -11,14 +11,14 @@ use Rattle.ssh_key.specs.declared.fault.KeyFault.{KeyFault}
 use Rattle.ssh_key.specs.declared.fault.KeyFault.TheVariants as faults
 use Rattle.ssh_key.specs.declared.kind.Kind.{Kind}
 use Rattle.ssh_key.specs.Kind.{Field, type_name, fields_of, bits_of, kind_named}
-use Rattle.ssh_key.specs.Key.{Key, AreValues, fields_text}
-use Rattle.ssh_key.specs.KeyReading.{◌>>=◌, on_wire, known, kind_at, fields_at, bits_at, key_at}
-use Rattle.ssh_key.specs.FirstFault.{BeginsWith, Refuses, Reaches, IsFault, no_name, no_kind, in_field, after_fields, IsFirstFault, too_long, not_long}
+use Rattle.ssh_key.specs.Key.{Key, AreValues, BeginsWithFields, blob_of, fields_text}
+use Rattle.ssh_key.specs.KeyReading.{◌>>=◌, before_rest, bits_at, fields_at, key_at, kind_at, known, not_too_long, of_size, on_wire, public_at}
+use Rattle.ssh_key.specs.FirstFault.{BeginsWith, Refuses, Reaches, IsFieldsFault, in_field, long_fields, IsFault, no_name, no_kind, in_fields, after_fields, IsFirstFault, too_long, not_long}
 use Rattle.ssh_key.proofs.Names.{kind_named-name, kind_named-type_name}
 use Rattle.ssh_key.proofs.Steps.{on_wire_ok}
 use Rattle.ssh_key.proofs.Public.{fields_take, fields_again}
-use Rattle.ssh_key.proofs.Keys.{kind_takes, kind_again, bits_ok}
-use Rattle.ssh_key.proofs.Refusals.{bind_err, on_wire_err, never_err, begins, string_read, Stops, fields_refused, stop_read}
+use Rattle.ssh_key.proofs.Keys.{before_is, bits_ok, kind_again, kind_takes, public_found}
+use Rattle.ssh_key.proofs.Refusals.{bind_err, on_wire_err, never_err, string_read, Stops, fields_refused, stop_read}
 
 -- ---- what reading meets is a fault
 
@@ -40,16 +40,13 @@ kind_refused blob fault fits e =
           elim (bind_err (known (kind_named named.0.0)) (λ kind. Ok (kind, named.0.1)) fault named.2) [
             | inl unknown ↦
                 let w = known_err (kind_named named.0.0) fault unknown in
-                let t = (string_takes blob named.0.0 named.0.1 fits (on_wire_ok (string_at blob) named.0 named.1)).0 in
-                no_kind named.0.0 (begins blob named.0.0 named.0.1 t) (named_none named.0.0 w.0) w.1
+                let t = string_takes blob named.0.0 named.0.1 fits (on_wire_ok (string_at blob) named.0 named.1) in
+                no_kind named.0.0 (record { rest = named.0.1; spelled = t.0.parts; fits = t.1 }) (named_none named.0.0 w.0) w.1
             | inr kind ↦ absurd (never_err (kind.0, named.0.1) fault kind.2)
           ]
     ]
 
-stops_in_field : (blob after : List ℕ) (kind : Kind) (fault : KeyFault) → Takes blob (string (type_name kind)) after → Stops (fields_of kind) after fault → IsFault blob fault
-stops_in_field blob after kind fault t s = in_field kind s.field s.later s.rest
-    (record { before = s.before; values = s.values; fields = s.parts; allowed = s.allowed; spelled = t.parts ∙ ap (λ (x : List ℕ). string (type_name kind) ++ x) s.spelled })
-    s.refused
+-- ---- of public fields
 
 bits_refused : (kind : Kind) (bytes : List ℕ) (fault : KeyFault) → IsBytes bytes → bits_at kind bytes ≡ Err fault → Stops (fields_of kind) bytes fault
 unfolding bits_at
@@ -59,29 +56,77 @@ bits_refused kind bytes fault fits e =
       | inr values ↦ absurd (never_err (bits_of kind values.0.0, values.0.1) fault values.2)
     ]
 
-ended_err : (b : Bool) (key : Key) (d : KeyFault) → cond b (Ok key) (Err faults.Trailing) ≡ Err d → (b ≡ false) × (d ≡ faults.Trailing)
-ended_err true key d e = absurd (never_err key d e)
-ended_err false key d e = (refl, cc)
+stops_in_field : (kind : Kind) (bytes : List ℕ) (fault : KeyFault) → Stops (fields_of kind) bytes fault → IsFieldsFault kind bytes fault
+stops_in_field kind bytes fault s = in_field s.field s.later s.rest
+    (record { before = s.before; values = s.values; fields = s.parts; allowed = s.allowed; spelled = s.spelled })
+    s.refused
 
-fields_all_taken : (blob after rest : List ℕ) (kind : Kind) (values : List (List ℕ)) → Takes blob (string (type_name kind)) after → Takes after (fields_text (fields_of kind) values) rest → AreValues (fields_of kind) values → Reaches blob kind [] rest
-fields_all_taken blob after rest kind values first second allowed = record {
+-- a key that is too long
+kept_err : (key : Key) (rest : List ℕ) (d : KeyFault) → not_too_long key rest ≡ Err d → (65536 < length (blob_of key)) × (d ≡ faults.TooLong)
+kept_err key rest d e = by_test (ltb 65536 (length (blob_of key))) refl e
+  where
+    by_test : (b : Bool) → ltb 65536 (length (blob_of key)) ≡ b → cond {A = Result (Key × List ℕ) KeyFault} b (Err faults.TooLong) (Ok (key, rest)) ≡ Err d → (65536 < length (blob_of key)) × (d ≡ faults.TooLong)
+    by_test true test given = (ltb-true _ _ test, cc)
+    by_test false test given = absurd cc
+
+-- how long a blob is that ends before the rest
+without_rest : (name bytes text rest : List ℕ) → bytes ≡ text ++ rest → length (string name ++ text) + length rest ≡ length (string name ++ bytes)
+without_rest name bytes text rest e =
+    let whole : length bytes ≡ length text + length rest = ap length e ∙ length-append text rest in
+    omega (arith, length-append (string name) text, length-append (string name) bytes)
+
+all_reached : (kind : Kind) (bytes rest : List ℕ) (values : List (List ℕ)) → bytes ≡ fields_text (fields_of kind) values ++ rest → AreValues (fields_of kind) values → Reaches kind bytes [] rest
+all_reached kind bytes rest values spelled allowed = record {
   before = fields_of kind;
   values = values;
   fields = sym (append-nil (fields_of kind));
   allowed = allowed;
-  spelled = first.parts ∙ ap (λ (x : List ℕ). string (type_name kind) ++ x) second.parts;
+  spelled = spelled;
 }
+
+long_refused : (kind : Kind) (bytes : List ℕ) (size : ℕ × List ℕ) (fault : KeyFault) → IsBytes bytes → bits_at kind bytes ≡ Ok size → not_too_long (of_size kind bytes size) size.1 ≡ Err fault → IsFieldsFault kind bytes fault
+long_refused kind bytes size fault fits read e =
+    let long = kept_err (of_size kind bytes size) size.1 fault e in
+    let v = bits_ok kind bytes size read in
+    let taken = fields_take (fields_of kind) bytes (v.0, size.1) fits v.1 in
+    let text : List ℕ = fields_text (fields_of kind) v.0 in
+    let before : before_rest bytes size.1 ≡ text = before_is bytes text size.1 taken.0.parts in
+    let lengths = without_rest (type_name kind) bytes text size.1 taken.0.parts in
+    let longer : 65536 < length (string (type_name kind) ++ text) = subst (λ (xs : List ℕ). 65536 < length (string (type_name kind) ++ xs)) before long.0 in
+    long_fields size.1 (all_reached kind bytes size.1 v.0 taken.0.parts taken.1) (omega arith) long.1
+
+pub public_refused : (kind : Kind) (bytes : List ℕ) (fault : KeyFault) → IsBytes bytes → public_at kind bytes ≡ Err fault → IsFieldsFault kind bytes fault
+unfolding public_at
+public_refused kind bytes fault fits e =
+    elim (bind_err (bits_at kind bytes) (λ size. not_too_long (of_size kind bytes size) size.1) fault e) [
+      | inl refused ↦ stops_in_field kind bytes fault (bits_refused kind bytes fault fits refused)
+      | inr size ↦ long_refused kind bytes size.0 fault fits size.1 size.2
+    ]
+
+-- ---- of a whole blob
+
+ended_err : (b : Bool) (key : Key) (d : KeyFault) → cond b (Ok key) (Err faults.Trailing) ≡ Err d → (b ≡ false) × (d ≡ faults.Trailing)
+ended_err true key d e = absurd (never_err key d e)
+ended_err false key d e = (refl, cc)
 
 above_zero : (n : ℕ) → eqb n 0 ≡ false → 0 < n
 above_zero n e = let ne : n ≢ 0 = eqb-false _ _ e in omega arith
 
-end_refused : (blob after : List ℕ) (kind : Kind) (bits : ℕ × List ℕ) (fault : KeyFault) → Takes blob (string (type_name kind)) after → bits_at kind after ≡ Ok bits
-    → cond {A = Result Key KeyFault} (eqb (length bits.1) 0) (Ok (record { kind = kind; fields = after; bits = bits.0 })) (Err faults.Trailing) ≡ Err fault → IsFault blob fault
-end_refused blob after kind bits fault t read e =
-    let w = ended_err (eqb (length bits.1) 0) (record { kind = kind; fields = after; bits = bits.0 }) fault e in
-    let v = bits_ok kind after bits read in
-    let taken = fields_take (fields_of kind) after (v.0, bits.1) t.rest_fits v.1 in
-    after_fields kind bits.1 (fields_all_taken blob after bits.1 kind v.0 t taken.0 taken.1) (above_zero (length bits.1) w.0) w.1
+reached_end : (kind : Kind) (bytes rest : List ℕ) (key : Key) → (key.kind ≡ kind) × BeginsWithFields bytes key rest → Reaches kind bytes [] rest
+reached_end kind bytes rest key found =
+    let is = found.1.is_key in
+    let kinds : fields_of key.kind ≡ fields_of kind = ap fields_of found.0 in
+    let spelled : bytes ≡ fields_text (fields_of key.kind) is.values ++ rest = found.1.spelled ∙ ap (λ (text : List ℕ). text ++ rest) is.fields in
+    all_reached kind bytes rest is.values
+    (subst (λ (fields : List Field). bytes ≡ fields_text fields is.values ++ rest) kinds spelled)
+    (subst (λ (fields : List Field). AreValues fields is.values) kinds is.allowed)
+
+end_refused : (blob fields : List ℕ) (kind : Kind) (found : Key × List ℕ) (fault : KeyFault) → Takes blob (string (type_name kind)) fields → public_at kind fields ≡ Ok found
+    → cond {A = Result Key KeyFault} (eqb (length found.1) 0) (Ok found.0) (Err faults.Trailing) ≡ Err fault → IsFault blob fault
+end_refused blob fields kind found fault t read e =
+    let w = ended_err (eqb (length found.1) 0) found.0 fault e in
+    let taken = public_found kind fields found t.rest_fits read in
+    after_fields kind fields found.1 t.parts (reached_end kind fields found.1 found.0 taken) (above_zero (length found.1) w.0) w.1
 
 long_or_not : (blob : List ℕ) (b : Bool) (r : Result Key KeyFault) (fault : KeyFault) → ltb 65536 (length blob) ≡ b → (r ≡ Err fault → IsFault blob fault) → cond b (Err faults.TooLong) r ≡ Err fault → IsFirstFault blob fault
 long_or_not blob true r fault test later e = let same : fault ≡ faults.TooLong = cc in too_long (ltb-true _ _ test) same
@@ -90,16 +135,16 @@ long_or_not blob false r fault test later e = not_long (ltb-false _ _ test) (lat
 pub key_refused : (blob : List ℕ) (fault : KeyFault) → IsBytes blob → key_at blob ≡ Err fault → IsFirstFault blob fault
 unfolding key_at
 key_refused blob fault fits e =
-    let after = λ (kind : Kind × List ℕ) (bits : ℕ × List ℕ). cond (eqb (length bits.1) 0) (Ok (record { kind = kind.0; fields = kind.1; bits = bits.0 })) (Err faults.Trailing) in
-    let read = kind_at blob >>= λ kind. bits_at kind.0 kind.1 >>= λ bits. after kind bits in
+    let ended = λ (found : Key × List ℕ). cond {A = Result Key KeyFault} (eqb (length found.1) 0) (Ok found.0) (Err faults.Trailing) in
+    let read = kind_at blob >>= λ kind. public_at kind.0 kind.1 >>= ended in
     long_or_not blob (ltb 65536 (length blob)) read fault refl (λ later.
-    elim (bind_err (kind_at blob) (λ kind. bits_at kind.0 kind.1 >>= λ bits. after kind bits) fault later) [
+    elim (bind_err (kind_at blob) (λ kind. public_at kind.0 kind.1 >>= ended) fault later) [
       | inl refused ↦ kind_refused blob fault fits refused
       | inr kind ↦
           let t = kind_takes blob kind.0 fits kind.1 in
-          elim (bind_err (bits_at kind.0.0 kind.0.1) (λ bits. after kind.0 bits) fault kind.2) [
-            | inl refused ↦ stops_in_field blob kind.0.1 kind.0.0 fault t (bits_refused kind.0.0 kind.0.1 fault t.rest_fits refused)
-            | inr bits ↦ end_refused blob kind.0.1 kind.0.0 bits.0 fault t bits.1 bits.2
+          elim (bind_err (public_at kind.0.0 kind.0.1) ended fault kind.2) [
+            | inl refused ↦ in_fields kind.0.0 kind.0.1 t.parts (public_refused kind.0.0 kind.0.1 fault t.rest_fits refused)
+            | inr found ↦ end_refused blob kind.0.1 kind.0.0 found.0 fault t found.1 found.2
           ]
     ]) e
 
@@ -113,26 +158,47 @@ name_cut : (blob : List ℕ) (why : WireFault) → string_at blob ≡ Err why �
 unfolding kind_at
 name_cut blob why e = rw e refl
 
-name_unknown : (blob name : List ℕ) → length blob ≤ 65536 → BeginsWith blob name → ((kind : Kind) → type_name kind ≢ name) → kind_at blob ≡ Err faults.UnknownType
+name_unknown : (blob name : List ℕ) → BeginsWith blob name → ((kind : Kind) → type_name kind ≢ name) → kind_at blob ≡ Err faults.UnknownType
 unfolding kind_at
-name_unknown blob name short b other =
+name_unknown blob name b other =
     let none : kind_named name ≡ None = none_named name other (kind_named name) refl in
-    rw (string_read blob name short b, none) refl
+    rw (string_read blob name b, none) refl
 
-stop_bits : (blob : List ℕ) (kind : Kind) (field : Field) (later : List Field) (rest : List ℕ) (fault : KeyFault) → length blob ≤ 65536 → (r : Reaches blob kind (field ∷ later) rest) → Refuses field rest fault → bits_at kind (fields_text r.before r.values ++ rest) ≡ Err fault
+stop_bits : (kind : Kind) (bytes : List ℕ) (field : Field) (later : List Field) (rest : List ℕ) (fault : KeyFault) → (r : Reaches kind bytes (field ∷ later) rest) → Refuses field rest fault → bits_at kind bytes ≡ Err fault
 unfolding bits_at
-stop_bits blob kind field later rest fault short r refused =
-    let lengths : length blob ≡ length (string (type_name kind)) + length (fields_text r.before r.values ++ rest) = ap length r.spelled ∙ length-append (string (type_name kind)) (fields_text r.before r.values ++ rest) in
-    let fits : length (fields_text r.before r.values ++ rest) ≤ 65536 = omega arith in
-    rw (r.fields, stop_read r.before field later r.values rest fault fits r.allowed refused) refl
+stop_bits kind bytes field later rest fault r refused =
+    rw (r.spelled, r.fields, stop_read r.before field later r.values rest fault r.allowed refused) refl
 
-whole_bits : (blob : List ℕ) (kind : Kind) (rest : List ℕ) → length blob ≤ 65536 → (r : Reaches blob kind [] rest) → bits_at kind (fields_text r.before r.values ++ rest) ≡ Ok (bits_of kind r.values, rest)
+whole_bits : (kind : Kind) (bytes rest : List ℕ) → (r : Reaches kind bytes [] rest) → bits_at kind bytes ≡ Ok (bits_of kind r.values, rest)
 unfolding bits_at
-whole_bits blob kind rest short r =
-    let lengths : length blob ≡ length (string (type_name kind)) + length (fields_text r.before r.values ++ rest) = ap length r.spelled ∙ length-append (string (type_name kind)) (fields_text r.before r.values ++ rest) in
-    let fits : length (fields_text r.before r.values) < 2 ^ 32 = omega (arith, length-append (fields_text r.before r.values) rest) in
+whole_bits kind bytes rest r =
     let all : fields_of kind ≡ r.before = r.fields ∙ append-nil r.before in
-    rw (all, fields_again r.before r.values rest r.allowed fits) refl
+    rw (r.spelled, all, fields_again r.before r.values rest r.allowed) refl
+
+-- the blob without the rest
+whole_length : (kind : Kind) (bytes rest : List ℕ) → (r : Reaches kind bytes [] rest) → length (string (type_name kind) ++ before_rest bytes rest) + length rest ≡ length (string (type_name kind) ++ bytes)
+whole_length kind bytes rest r =
+    let text : List ℕ = fields_text r.before r.values in
+    let before : before_rest bytes rest ≡ text = before_is bytes text rest r.spelled in
+    rw before (without_rest (type_name kind) bytes text rest r.spelled)
+
+pub fields_fault_read : (kind : Kind) (bytes : List ℕ) (fault : KeyFault) → IsFieldsFault kind bytes fault → public_at kind bytes ≡ Err fault
+unfolding public_at
+fields_fault_read kind bytes fault (in_field field later rest r refused) = rw (stop_bits kind bytes field later rest fault r refused) refl
+fields_fault_read kind bytes fault (long_fields rest r long is) =
+    let lengths = whole_length kind bytes rest r in
+    let test : ltb 65536 (length (string (type_name kind) ++ before_rest bytes rest)) ≡ true = lt-ltb _ _ (omega arith) in
+    rw (is, whole_bits kind bytes rest r, test) refl
+
+more_left : (kind : Kind) (bytes rest : List ℕ) → length (string (type_name kind) ++ bytes) ≤ 65536 → (r : Reaches kind bytes [] rest) → public_at kind bytes ≡ Ok (of_size kind bytes (bits_of kind r.values, rest), rest)
+unfolding public_at
+more_left kind bytes rest short r =
+    let lengths = whole_length kind bytes rest r in
+    let test : ltb 65536 (length (string (type_name kind) ++ before_rest bytes rest)) ≡ false = le-ltb _ _ (omega arith) in
+    rw (whole_bits kind bytes rest r, test) refl
+
+named : (blob : List ℕ) (kind : Kind) (fields : List ℕ) → blob ≡ string (type_name kind) ++ fields → kind_at blob ≡ Ok (kind, fields)
+named blob kind fields e = ap kind_at e ∙ kind_again kind fields
 
 fault_read : (blob : List ℕ) (fault : KeyFault) → length blob ≤ 65536 → IsFault blob fault → key_at blob ≡ Err fault
 unfolding key_at
@@ -141,16 +207,15 @@ fault_read blob fault short (no_name why cut is) =
     rw (is, not_long, name_cut blob why cut) refl
 fault_read blob fault short (no_kind name b other is) =
     let not_long : ltb 65536 (length blob) ≡ false = le-ltb _ _ short in
-    rw (is, not_long, name_unknown blob name short b other) refl
-fault_read blob fault short (in_field kind field later rest r refused) =
+    rw (is, not_long, name_unknown blob name b other) refl
+fault_read blob fault short (in_fields kind fields spelled f) =
     let not_long : ltb 65536 (length blob) ≡ false = le-ltb _ _ short in
-    let kind_is : kind_at blob ≡ Ok (kind, fields_text r.before r.values ++ rest) = ap kind_at r.spelled ∙ kind_again kind (fields_text r.before r.values ++ rest) in
-    rw (not_long, kind_is, stop_bits blob kind field later rest fault short r refused) refl
-fault_read blob fault short (after_fields kind rest r more is) =
+    rw (not_long, named blob kind fields spelled, fields_fault_read kind fields fault f) refl
+fault_read blob fault short (after_fields kind fields rest spelled r more is) =
     let not_long : ltb 65536 (length blob) ≡ false = le-ltb _ _ short in
-    let kind_is : kind_at blob ≡ Ok (kind, fields_text r.before r.values ++ rest) = ap kind_at r.spelled ∙ kind_again kind (fields_text r.before r.values ++ rest) in
     let left : eqb (length rest) 0 ≡ false = ne_eqb (length rest) 0 (λ e. omega arith) in
-    rw (is, not_long, kind_is, whole_bits blob kind rest short r, left) refl
+    let whole : length (string (type_name kind) ++ fields) ≤ 65536 = omega (arith, ap length spelled) in
+    rw (is, not_long, named blob kind fields spelled, more_left kind fields rest whole r, left) refl
 
 pub first_fault_read : (blob : List ℕ) (fault : KeyFault) → IsFirstFault blob fault → key_at blob ≡ Err fault
 unfolding key_at

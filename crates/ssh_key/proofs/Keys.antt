@@ -1,9 +1,9 @@
 -- The two laws: what is read is spelled so, and what is spelled so is read.
-use Rattle.std.proofs.Common.{◌≡◌, ℕ, ◌+◌, ◌^◌, ◌<◌, ◌≤◌, Bool, true, false, cond, eqb, ltb, List, [], ◌++◌, length, Option, Some, None, Result, Ok, Err, refl, sym, ap, subst, ◌∙◌, arith}
+use Rattle.std.proofs.Common.{◌≡◌, ℕ, ◌+◌, ◌-◌, ◌<◌, ◌≤◌, Bool, true, false, cond, eqb, ltb, List, [], ◌++◌, length, Option, Some, None, Result, Ok, Err, refl, sym, ap, subst, ◌∙◌, arith}
 use Rattle.std.specs.Prelude.{IfOk}
 use Rattle.std.specs.Option.{ok_or}
 use Rattle.std.proofs.lemmas.Bool.{eqb-true, ltb-false, le-ltb}
-use Rattle.std.proofs.lemmas.List.{append-nil, nil_from_length, length-append}
+use Rattle.std.proofs.lemmas.List.{append-nil, nil_from_length, length-append, take_at}
 use Rattle.ssh_wire.specs.Wire.{IsBytes, string}
 use Rattle.ssh_wire.specs.Reading.{string_at}
 use Rattle.ssh_wire.proofs.Fields.{Takes, string_again, string_takes}
@@ -12,13 +12,14 @@ use Rattle.ssh_key.specs.declared.fault.KeyFault.TheVariants as faults
 use Rattle.ssh_key.specs.declared.kind.Kind.{Kind}
 use Rattle.ssh_key.specs.declared.kind.Kind.TheVariants.{Rsa, Dsa, Ecdsa256, Ecdsa384, Ecdsa521, Ed25519, EcdsaSk, Ed25519Sk}
 use Rattle.ssh_key.specs.Kind.{type_name, fields_of, bits_of, kind_named}
-use Rattle.ssh_key.specs.Key.{Key, IsKey, AreValues, fields_text}
-use Rattle.ssh_key.specs.KeyReading.{◌>>=◌, Reads, on_wire, known, kind_at, fields_at, bits_at, key_at}
+use Rattle.ssh_key.specs.Key.{Key, BeginsWithFields, IsKey, AreValues, blob_of, fields_text}
+use Rattle.ssh_key.specs.KeyReading.{◌>>=◌, Reads, before_rest, bits_at, fields_at, key_at, kind_at, known, IsRead, not_too_long, of_size, on_wire, public_at}
 use Rattle.ssh_key.specs.Value.{SameValues}
 use Rattle.ssh_key.proofs.Names.{kind_named-name, kind_named-type_name}
 use Rattle.ssh_key.proofs.Steps.{bind_ok, on_wire_ok, passed_ok, ok_is}
 use Rattle.ssh_key.proofs.Numbers.{values_same, fields_are_bytes}
 use Rattle.ssh_key.proofs.Public.{fields_take, fields_again}
+use Rattle.ssh_key.proofs.Wire.{IsBytes-append, IsBytes-string, IsBytes-test}
 
 -- ---- the kind
 
@@ -37,7 +38,7 @@ kind_takes bytes x fits e =
     let same : (b.0, a.0.1) ≡ x = cc in
     subst (λ (y : Kind × List ℕ). Takes bytes (string (type_name y.0)) y.1) same spelled
 
-length-type_name : (kind : Kind) → length (type_name kind) < 2 ^ 32
+pub length-type_name : (kind : Kind) → length (type_name kind) < 64
 length-type_name Rsa = omega arith
 length-type_name Dsa = omega arith
 length-type_name Ecdsa256 = omega arith
@@ -47,9 +48,19 @@ length-type_name Ed25519 = omega arith
 length-type_name EcdsaSk = omega arith
 length-type_name Ed25519Sk = omega arith
 
+name_is_bytes : (kind : Kind) → IsBytes (type_name kind)
+name_is_bytes Rsa = IsBytes-test (type_name Rsa) refl
+name_is_bytes Dsa = IsBytes-test (type_name Dsa) refl
+name_is_bytes Ecdsa256 = IsBytes-test (type_name Ecdsa256) refl
+name_is_bytes Ecdsa384 = IsBytes-test (type_name Ecdsa384) refl
+name_is_bytes Ecdsa521 = IsBytes-test (type_name Ecdsa521) refl
+name_is_bytes Ed25519 = IsBytes-test (type_name Ed25519) refl
+name_is_bytes EcdsaSk = IsBytes-test (type_name EcdsaSk) refl
+name_is_bytes Ed25519Sk = IsBytes-test (type_name Ed25519Sk) refl
+
 pub kind_again : (kind : Kind) (rest : List ℕ) → kind_at (string (type_name kind) ++ rest) ≡ Ok (kind, rest)
 unfolding kind_at
-kind_again kind rest = rw (string_again (type_name kind) rest (length-type_name kind), kind_named-type_name kind) refl
+kind_again kind rest = rw (string_again (type_name kind) rest (omega (arith, length-type_name kind)), kind_named-type_name kind) refl
 
 -- what `kind_of` answers
 pub kind_read : (bytes name rest : List ℕ) (named : Option Kind) (r : Result Kind KeyFault) → string_at bytes ≡ Ok (name, rest) → kind_named name ≡ named → r ≡ ok_or named faults.UnknownType → Reads (λ kind. kind) r rest (kind_at bytes)
@@ -57,27 +68,7 @@ unfolding kind_at
 kind_read bytes name rest None r string_read named answer = rw (answer, string_read, named) refl
 kind_read bytes name rest (Some kind) r string_read named answer = rw (answer, string_read, named) refl
 
--- ---- the whole blob
-
--- a blob that is not too long
-short_ok : {A : Type 0} (b : Bool) (r : Result A KeyFault) (y : A) → cond b (Err faults.TooLong) r ≡ Ok y → (b ≡ false) × (r ≡ Ok y)
-short_ok true r y e = absurd cc
-short_ok false r y e = (refl, e)
-
--- the parts of a blob make its key
-parts_are_key : (blob after rest : List ℕ) (kind : Kind) (values : List (List ℕ)) (bits : ℕ) → bits_of kind values ≡ bits → length blob ≤ 65536 → Takes blob (string (type_name kind)) after → Takes after (fields_text (fields_of kind) values) rest → AreValues (fields_of kind) values → length rest ≡ 0
-    → IsKey blob (record { kind = kind; fields = after; bits = bits })
-parts_are_key blob after rest kind values bits counted short first second allowed ended =
-    let text = fields_text (fields_of kind) values in
-    let nothing : rest ≡ [] = nil_from_length rest ended in
-    record {
-      values = values;
-      allowed = allowed;
-      fields = second.parts ∙ ap (λ (r : List ℕ). text ++ r) nothing ∙ append-nil text;
-      bits = sym counted;
-      spelled = first.parts;
-      short = short;
-    }
+-- ---- the public fields at the front of bytes
 
 pub bits_ok : (kind : Kind) (bytes : List ℕ) (x : ℕ × List ℕ) → bits_at kind bytes ≡ Ok x → (values : List (List ℕ)) × (fields_at (fields_of kind) bytes ≡ Ok (values, x.1)) × (bits_of kind values ≡ x.0)
 unfolding bits_at
@@ -86,31 +77,116 @@ bits_ok kind bytes x e =
     let same : (bits_of kind v.0.0, v.0.1) ≡ x = cc in
     (v.0.0, v.1 ∙ ap (λ (p : ℕ × List ℕ). Ok (v.0.0, p.1)) same, ap (λ (p : ℕ × List ℕ). p.0) same)
 
+pub bits_again : (kind : Kind) (values : List (List ℕ)) (rest : List ℕ) → AreValues (fields_of kind) values → bits_at kind (fields_text (fields_of kind) values ++ rest) ≡ Ok (bits_of kind values, rest)
+unfolding bits_at
+bits_again kind values rest allowed = rw (fields_again (fields_of kind) values rest allowed) refl
+
+pub before_is : (bytes text rest : List ℕ) → bytes ≡ text ++ rest → before_rest bytes rest ≡ text
+before_is bytes text rest e =
+    let lengths : length bytes ≡ length text + length rest = ap length e ∙ length-append text rest in
+    let size : length bytes - length rest ≡ length text = omega arith in
+    rw (size, e) (take_at text rest (length text) refl)
+
+-- reading takes bytes from the front
+pub bits_left : (kind : Kind) (bytes : List ℕ) (size : ℕ × List ℕ) → IsBytes bytes → bits_at kind bytes ≡ Ok size → length size.1 ≤ length bytes
+bits_left kind bytes size fits read =
+    let v = bits_ok kind bytes size read in
+    let taken = fields_take (fields_of kind) bytes (v.0, size.1) fits v.1 in
+    omega (arith, ap length taken.0.parts, length-append (fields_text (fields_of kind) v.0) size.1)
+
+-- a key that is not too long
+kept_ok : (key : Key) (rest : List ℕ) (x : Key × List ℕ) → not_too_long key rest ≡ Ok x → (length (blob_of key) ≤ 65536) × ((key, rest) ≡ x)
+kept_ok key rest x e = by_test (ltb 65536 (length (blob_of key))) refl e
+  where
+    by_test : (b : Bool) → ltb 65536 (length (blob_of key)) ≡ b → cond {A = Result (Key × List ℕ) KeyFault} b (Err faults.TooLong) (Ok (key, rest)) ≡ Ok x → (length (blob_of key) ≤ 65536) × ((key, rest) ≡ x)
+    by_test true test given = absurd cc
+    by_test false test given = (ltb-false _ _ test, cc)
+
+values_are_key : (kind : Kind) (bytes rest : List ℕ) (bits : ℕ) (values : List (List ℕ)) → bits_of kind values ≡ bits → AreValues (fields_of kind) values → bytes ≡ fields_text (fields_of kind) values ++ rest → length (blob_of (of_size kind bytes (bits, rest))) ≤ 65536
+    → BeginsWithFields bytes (of_size kind bytes (bits, rest)) rest
+values_are_key kind bytes rest bits values counted allowed spelled short =
+    let before : before_rest bytes rest ≡ fields_text (fields_of kind) values = before_is bytes (fields_text (fields_of kind) values) rest spelled in
+    record {
+      is_key = record { values = values; allowed = allowed; fields = before; bits = sym counted; spelled = refl; short = short };
+      spelled = spelled ∙ ap (λ (text : List ℕ). text ++ rest) (sym before);
+    }
+
+pub public_found : (kind : Kind) (bytes : List ℕ) (x : Key × List ℕ) → IsBytes bytes → public_at kind bytes ≡ Ok x → (x.0.kind ≡ kind) × BeginsWithFields bytes x.0 x.1
+unfolding public_at
+public_found kind bytes x fits e =
+    let size = bind_ok (bits_at kind bytes) (λ size. not_too_long (of_size kind bytes size) size.1) x e in
+    let v = bits_ok kind bytes size.0 size.1 in
+    let taken = fields_take (fields_of kind) bytes (v.0, size.0.1) fits v.1 in
+    let kept = kept_ok (of_size kind bytes size.0) size.0.1 x size.2 in
+    subst (λ (y : Key × List ℕ). (y.0.kind ≡ kind) × BeginsWithFields bytes y.0 y.1) kept.1
+    (refl, values_are_key kind bytes size.0.1 size.0.0 v.0 v.2 taken.1 taken.0.parts kept.0)
+
+kept_again : (key : Key) (rest : List ℕ) → length (blob_of key) ≤ 65536 → not_too_long key rest ≡ Ok (key, rest)
+kept_again key rest short =
+    let not_long : ltb 65536 (length (blob_of key)) ≡ false = le-ltb _ _ short in
+    rw not_long refl
+
+key_again_at : (key : Key) (bytes rest : List ℕ) → BeginsWithFields bytes key rest → public_at key.kind bytes ≡ Ok (key, rest)
+unfolding public_at
+key_again_at key bytes rest begins =
+    let is = begins.is_key in
+    let spelled : bytes ≡ fields_text (fields_of key.kind) is.values ++ rest = begins.spelled ∙ ap (λ (text : List ℕ). text ++ rest) is.fields in
+    let read : bits_at key.kind bytes ≡ Ok (key.bits, rest) = ap (bits_at key.kind) spelled ∙ bits_again key.kind is.values rest is.allowed ∙ ap (λ (bits : ℕ). Ok (bits, rest)) (sym is.bits) in
+    let before : before_rest bytes rest ≡ key.fields = before_is bytes key.fields rest begins.spelled in
+    rw (read, before) (kept_again key rest is.short)
+
+pub public_again : (kind : Kind) (bytes rest : List ℕ) (key : Key) → key.kind ≡ kind → BeginsWithFields bytes key rest → public_at kind bytes ≡ Ok (key, rest)
+public_again kind bytes rest key same begins = ap (λ (k : Kind). public_at k bytes) (sym same) ∙ key_again_at key bytes rest begins
+
+-- ---- the whole blob
+
+-- a blob that is not too long
+short_ok : {A : Type 0} (b : Bool) (r : Result A KeyFault) (y : A) → cond b (Err faults.TooLong) r ≡ Ok y → (b ≡ false) × (r ≡ Ok y)
+short_ok true r y e = absurd cc
+short_ok false r y e = (refl, e)
+
+whole_key : (blob fields rest : List ℕ) (kind : Kind) (key : Key) → Takes blob (string (type_name kind)) fields → (key.kind ≡ kind) × BeginsWithFields fields key rest → length rest ≡ 0 → IsKey blob key
+whole_key blob fields rest kind key named found ended =
+    let nothing : rest ≡ [] = nil_from_length rest ended in
+    let all : fields ≡ key.fields = found.1.spelled ∙ ap (λ (r : List ℕ). key.fields ++ r) nothing ∙ append-nil key.fields in
+    let name : string (type_name kind) ≡ string (type_name key.kind) = ap (λ (k : Kind). string (type_name k)) (sym found.0) in
+    let spelled : blob ≡ blob_of key = named.parts ∙ ap (λ (text : List ℕ). string (type_name kind) ++ text) all ∙ ap (λ (text : List ℕ). text ++ key.fields) name in
+    subst (λ (text : List ℕ). IsKey text key) (sym spelled) found.1.is_key
+
 pub key_found : (blob : List ℕ) (key : Key) → IsBytes blob → key_at blob ≡ Ok key → IsKey blob key
 unfolding key_at
 key_found blob key fits e =
-    let after = λ (kind : Kind × List ℕ) (bits : ℕ × List ℕ). cond (eqb (length bits.1) 0) (Ok (record { kind = kind.0; fields = kind.1; bits = bits.0 })) (Err faults.Trailing) in
-    let s = short_ok (ltb 65536 (length blob)) (kind_at blob >>= λ kind. bits_at kind.0 kind.1 >>= λ bits. after kind bits) key e in
-    let a = bind_ok (kind_at blob) (λ kind. bits_at kind.0 kind.1 >>= λ bits. after kind bits) key s.1 in
-    let b = bind_ok (bits_at a.0.0 a.0.1) (λ bits. after a.0 bits) key a.2 in
-    let g = passed_ok (eqb (length b.0.1) 0) faults.Trailing (record { kind = a.0.0; fields = a.0.1; bits = b.0.0 }) key b.2 in
-    let v = bits_ok a.0.0 a.0.1 b.0 b.1 in
-    let first = kind_takes blob a.0 fits a.1 in
-    let second = fields_take (fields_of a.0.0) a.0.1 (v.0, b.0.1) first.rest_fits v.1 in
-    subst (λ (k : Key). IsKey blob k) {x = record { kind = a.0.0; fields = a.0.1; bits = b.0.0 }} g.1 (parts_are_key blob a.0.1 b.0.1 a.0.0 v.0 b.0.0 v.2 (ltb-false 65536 (length blob) s.0) first second.0 second.1 (eqb-true (length b.0.1) 0 g.0))
+    let ended = λ (found : Key × List ℕ). cond {A = Result Key KeyFault} (eqb (length found.1) 0) (Ok found.0) (Err faults.Trailing) in
+    let s = short_ok (ltb 65536 (length blob)) (kind_at blob >>= λ kind. public_at kind.0 kind.1 >>= ended) key e in
+    let a = bind_ok (kind_at blob) (λ kind. public_at kind.0 kind.1 >>= ended) key s.1 in
+    let b = bind_ok (public_at a.0.0 a.0.1) ended key a.2 in
+    let g = passed_ok (eqb (length b.0.1) 0) faults.Trailing b.0.0 key b.2 in
+    let named = kind_takes blob a.0 fits a.1 in
+    let found = public_found a.0.0 a.0.1 b.0 named.rest_fits b.1 in
+    subst (IsKey blob) g.1 (whole_key blob a.0.1 b.0.1 a.0.0 b.0.0 named found (eqb-true (length b.0.1) 0 g.0))
+
+pub key_begins : (blob : List ℕ) (key : Key) → IsKey blob key → BeginsWithFields key.fields key []
+key_begins blob key is = record { is_key = subst (λ (text : List ℕ). IsKey text key) is.spelled is; spelled = sym (append-nil key.fields) }
 
 pub key_again : (blob : List ℕ) (key : Key) → IsKey blob key → key_at blob ≡ Ok key
-unfolding key_at bits_at
+unfolding key_at
 key_again blob key is =
     let not_long : ltb 65536 (length blob) ≡ false = le-ltb _ _ is.short in
     let kind_read : kind_at blob ≡ Ok (key.kind, key.fields) = ap kind_at is.spelled ∙ kind_again key.kind key.fields in
-    let whole_length : length blob ≡ length (string (type_name key.kind)) + length key.fields = ap length is.spelled ∙ length-append (string (type_name key.kind)) key.fields in
-    let fields_length : length key.fields ≡ length (fields_text (fields_of key.kind) is.values) = ap length is.fields in
-    let fields_short : length (fields_text (fields_of key.kind) is.values) < 2 ^ 32 = omega (arith, is.short) in
-    let fields_read : fields_at (fields_of key.kind) key.fields ≡ Ok (is.values, []) =
-    ap (fields_at (fields_of key.kind)) (is.fields ∙ sym (append-nil (fields_text (fields_of key.kind) is.values)))
-    ∙ fields_again (fields_of key.kind) is.values [] is.allowed fields_short in
-    rw (not_long, kind_read, fields_read, ← is.bits) refl
+    rw (not_long, kind_read, key_again_at key key.fields [] (key_begins blob key is)) refl
+
+-- the public fields that were read make a key that is read again
+pub size_read : (kind : Kind) (bytes : List ℕ) (size : ℕ × List ℕ) → IsBytes bytes → bits_at kind bytes ≡ Ok size → length (blob_of (of_size kind bytes size)) ≤ 65536 → IsRead (of_size kind bytes size)
+size_read kind bytes size fits read short =
+    let v = bits_ok kind bytes size read in
+    let taken = fields_take (fields_of kind) bytes (v.0, size.1) fits v.1 in
+    let is = values_are_key kind bytes size.1 size.0 v.0 v.2 taken.1 taken.0.parts short in
+    key_again (blob_of (of_size kind bytes size)) (of_size kind bytes size) is.is_key
+
+-- a key that is read again is one
+pub read_is_key : (key : Key) → IsBytes key.fields → IsRead key → IsKey (blob_of key) key
+read_is_key key fits read =
+    key_found (blob_of key) key (IsBytes-append (string (type_name key.kind)) key.fields (IsBytes-string (type_name key.kind) (name_is_bytes key.kind)) fits) read
 
 pub is_found : (blob : List ℕ) (r : Result Key KeyFault) → IsBytes blob → r ≡ key_at blob → IfOk r (λ key. IsKey blob key)
 is_found blob (Ok key) fits given = key_found blob key fits (sym given)

@@ -1,5 +1,5 @@
 -- The names of the key types: the test finds them, and they are short words with no blank.
-use Rattle.std.proofs.Common.{◌≡◌, ℕ, suc, ◌<◌, ◌&&◌, ◌||◌, Bool, true, List, [], ◌∷◌, length, map, nat_lt, Contains, is_some, refl, ap, ◌∙◌, arith, inl, inr}
+use Rattle.std.proofs.Common.{◌≡◌, ℕ, suc, ◌<◌, ◌&&◌, ◌||◌, Bool, true, List, [], ◌∷◌, length, map, nat_lt, Contains, is_some, refl, ◌∙◌, arith, inl, inr}
 use Rattle.std.proofs.lemmas.Bool.{and_parts, cases_Bool, ltb-true}
 use Rattle.std.proofs.lemmas.List.Elements.{All-contains}
 use Rattle.std.proofs.lemmas.List.Folds.{list_any-append, list_any_at}
@@ -8,7 +8,7 @@ use Rattle.std.proofs.lemmas.Slice.Eq.{bytes_eq-Decides}
 use Rattle.std.specs.List.{AllPass, find, list_all, list_any}
 use Rattle.std.specs.Str.{bytes_eq}
 use Rattle.ssh_key.specs.declared.kind.Kind.{Kind}
-use Rattle.ssh_key.specs.Kind.{kind_named, kinds, type_name}
+use Rattle.ssh_key.specs.Kind.{certificate_name, kind_certified, kind_named, kinds, type_name}
 use Rattle.ssh_key.specs.TypeName.{certificate_names, is_type_name, plain_names, type_names}
 use Rattle.ssh_key.proofs.LineWords.{not_blank}
 
@@ -41,17 +41,20 @@ name_is_word word h =
     let parts = and_parts (nat_lt (length word) 64) (list_all not_blank word) some.1 in
     (AllPass-from_list_all not_blank word parts.1, ltb-true (length word) 64 parts.0, ltb-true 0 (length word) some.0)
 
--- ---- the name of a plain key is that of a kind
+-- ---- each is the name of a kind
 
-named_or_not : (word : List ℕ) (some : List Kind) → list_any (λ name. bytes_eq name word) (map type_name some) ≡ is_some (find (λ kind. bytes_eq (type_name kind) word) some)
-named_or_not word [] = refl
-named_or_not word (kind ∷ some) = elim (cases_Bool (bytes_eq (type_name kind) word)) [
+named_or_not : (name_of : Kind → List ℕ) (word : List ℕ) (some : List Kind) → list_any (λ name. bytes_eq name word) (map name_of some) ≡ is_some (find (λ kind. bytes_eq (name_of kind) word) some)
+named_or_not name_of word [] = refl
+named_or_not name_of word (kind ∷ some) = elim (cases_Bool (bytes_eq (name_of kind) word)) [
   | inl same ↦ rw same refl
-  | inr other ↦ rw other (named_or_not word some)
+  | inr other ↦ rw other (named_or_not name_of word some)
 ]
 
-pub plain_or_certificate : (word : List ℕ) → is_type_name word ≡ (is_some (kind_named word) || list_any (λ name. bytes_eq name word) certificate_names)
-unfolding is_type_name type_names plain_names kind_named
+both_same : (a b x y : Bool) → a ≡ x → b ≡ y → (a || b) ≡ (x || y)
+both_same a b x y e f = cc
+
+pub plain_or_certificate : (word : List ℕ) → is_type_name word ≡ (is_some (kind_named word) || is_some (kind_certified word))
+unfolding is_type_name type_names plain_names certificate_names kind_named kind_certified
 plain_or_certificate word =
-    list_any-append (λ name. bytes_eq name word) (map type_name kinds) certificate_names
-    ∙ ap (λ (plain : Bool). plain || list_any (λ name. bytes_eq name word) certificate_names) (named_or_not word kinds)
+    list_any-append (λ name. bytes_eq name word) (map type_name kinds) (map certificate_name kinds)
+    ∙ both_same (list_any (λ name. bytes_eq name word) (map type_name kinds)) (list_any (λ name. bytes_eq name word) (map certificate_name kinds)) (is_some (find (λ kind. bytes_eq (type_name kind) word) kinds)) (is_some (find (λ kind. bytes_eq (certificate_name kind) word) kinds)) (named_or_not type_name word kinds) (named_or_not certificate_name word kinds)

@@ -1,12 +1,12 @@
 -- The kind that a type name has.
-use Rattle.std.proofs.Common.{◌≡◌, ℕ, Bool, true, false, cond, List, [], ◌∷◌, Option, Some, None, refl, sym, ap, ◌∙◌}
+use Rattle.std.proofs.Common.{◌≡◌, ◌≢◌, ℕ, Bool, true, false, cond, List, [], ◌∷◌, Option, Some, None, refl, sym, ap, ◌∙◌}
 use Rattle.std.specs.Prelude.{IfSome}
 use Rattle.std.specs.List.{find}
 use Rattle.std.specs.Str.{bytes_eq}
 use Rattle.std.proofs.lemmas.Slice.Eq.{bytes_eq-Decides}
 use Rattle.ssh_key.specs.declared.kind.Kind.{Kind}
 use Rattle.ssh_key.specs.declared.kind.Kind.TheVariants.{Rsa, Dsa, Ecdsa256, Ecdsa384, Ecdsa521, Ed25519, EcdsaSk, Ed25519Sk}
-use Rattle.ssh_key.specs.Kind.{type_name, kinds, kind_named}
+use Rattle.ssh_key.specs.Kind.{certificate_name, kind_certified, kind_named, kinds, type_name}
 
 -- what is found passes the test
 chosen_passes : {X : Type 0} (test : X → Bool) (y x : X) (later : Option X) (b : Bool) → test y ≡ b → (later ≡ Some x → test x ≡ true) → cond b (Some y) later ≡ Some x → test x ≡ true
@@ -41,6 +41,57 @@ pub type_name-injective : (a b : Kind) → type_name a ≡ type_name b → a ≡
 type_name-injective a b e =
     let both : Some a ≡ Some b = sym (kind_named-type_name a) ∙ ap kind_named e ∙ kind_named-type_name b in
     cc
+
+-- the same of the names of certificates
+pub certified-name : (name : List ℕ) (kind : Kind) → kind_certified name ≡ Some kind → certificate_name kind ≡ name
+unfolding kind_certified
+certified-name name kind e = (bytes_eq-Decides (certificate_name kind) name).0 (find_passes (λ k. bytes_eq (certificate_name k) name) kinds kind e)
+
+pub certified-certificate_name : (kind : Kind) → kind_certified (certificate_name kind) ≡ Some kind
+unfolding kind_certified
+certified-certificate_name Rsa = refl
+certified-certificate_name Dsa = refl
+certified-certificate_name Ecdsa256 = refl
+certified-certificate_name Ecdsa384 = refl
+certified-certificate_name Ecdsa521 = refl
+certified-certificate_name Ed25519 = refl
+certified-certificate_name EcdsaSk = refl
+certified-certificate_name Ed25519Sk = refl
+
+pub is_certified : (r : Option Kind) (name : List ℕ) → r ≡ kind_certified name → IfSome r (λ kind. certificate_name kind ≡ name)
+is_certified None name e = tt
+is_certified (Some kind) name e = certified-name name kind (sym e)
+
+pub certificate_name-injective : (a b : Kind) → certificate_name a ≡ certificate_name b → a ≡ b
+certificate_name-injective a b e =
+    let both : Some a ≡ Some b = sym (certified-certificate_name a) ∙ ap kind_certified e ∙ certified-certificate_name b in
+    cc
+
+plain_not_certified : (kind : Kind) → kind_certified (type_name kind) ≡ None
+unfolding kind_certified
+plain_not_certified Rsa = refl
+plain_not_certified Dsa = refl
+plain_not_certified Ecdsa256 = refl
+plain_not_certified Ecdsa384 = refl
+plain_not_certified Ecdsa521 = refl
+plain_not_certified Ed25519 = refl
+plain_not_certified EcdsaSk = refl
+plain_not_certified Ed25519Sk = refl
+
+-- no name is both that of a kind and that of its certificates
+pub names_apart : (a b : Kind) → type_name a ≢ certificate_name b
+names_apart a b e =
+    let both : None ≡ Some b = sym (plain_not_certified a) ∙ ap kind_certified e ∙ certified-certificate_name b in
+    cc
+
+-- what `of_cert_name` ensures determines its answer
+pub certified_is : (r : Option Kind) (name : List ℕ) → IfSome r (λ kind. certificate_name kind ≡ name) → ((kind : Kind) → certificate_name kind ≡ name → r ≡ Some kind) → kind_certified name ≡ r
+certified_is (Some kind) name found only = ap kind_certified (sym found) ∙ certified-certificate_name kind
+certified_is None name found only = none (kind_certified name) refl
+  where
+    none : (k : Option Kind) → kind_certified name ≡ k → k ≡ None
+    none None e = refl
+    none (Some kind) e = let absent : None ≡ Some kind = only kind (certified-name name kind e) in absurd cc
 
 -- what `of_name` ensures determines its answer
 pub named_is : (r : Option Kind) (name : List ℕ) → IfSome r (λ kind. type_name kind ≡ name) → ((kind : Kind) → type_name kind ≡ name → r ≡ Some kind) → kind_named name ≡ r

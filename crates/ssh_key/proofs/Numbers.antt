@@ -43,7 +43,7 @@ values_same (field ∷ fields) [] right h k p q same = absurd p
 values_same (field ∷ fields) (a ∷ left) [] h k p q same = absurd q
 values_same (field ∷ fields) (a ∷ left) (b ∷ right) h k p q same =
     let first : a ≡ b = value_same field a b (IsBytes-front (field_text field a) (fields_text fields left) h) (IsBytes-front (field_text field b) (fields_text fields right) k) p.0 q.0 same.0 in
-    let later : left ≡ right = values_same fields left right (IsBytes-behind (field_text field a) (fields_text fields left) h) (IsBytes-behind (field_text field b) (fields_text fields right) k) p.1 q.1 same.1 in
+    let later : left ≡ right = values_same fields left right (IsBytes-behind (field_text field a) (fields_text fields left) h) (IsBytes-behind (field_text field b) (fields_text fields right) k) p.2 q.2 same.1 in
     cc (first, later)
 
 pub fields_are_bytes : (front fields : List ℕ) → IsBytes (front ++ fields) → IsBytes fields

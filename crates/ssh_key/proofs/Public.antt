@@ -3,18 +3,17 @@ use Rattle.std.proofs.Common.{◌≡◌, ℕ, ◌^◌, ◌<◌, Bool, true, fals
 use Rattle.std.specs.Prelude.{◌&&◌}
 use Rattle.std.specs.Str.{bytes_eq}
 use Rattle.std.proofs.lemmas.Bool.{eqb-true, eq-eqb, ne_eqb}
-use Rattle.std.proofs.lemmas.List.{length-append}
 use Rattle.std.proofs.lemmas.Slice.Eq.{bytes_eq-Decides}
-use Rattle.ssh_wire.specs.Wire.{IsBytes}
+use Rattle.ssh_wire.specs.Wire.{IsBytes, string}
 use Rattle.ssh_wire.specs.Reading.{string_at, mpint_at}
 use Rattle.ssh_wire.proofs.Fields.{Takes, Takes-then, length-string, mpint_takes, string_again, string_takes}
 use Rattle.ssh_key.specs.declared.fault.KeyFault.{KeyFault}
 use Rattle.ssh_key.specs.declared.fault.KeyFault.TheVariants as faults
 use Rattle.ssh_key.specs.Kind.{Field, Positive, Curve, Point, Sized, Text}
-use Rattle.ssh_key.specs.Key.{IsUncompressed, IsValue, AreValues, field_text, fields_text}
+use Rattle.ssh_key.specs.Key.{HasLength, IsUncompressed, IsValue, AreValues, field_text, fields_text}
 use Rattle.ssh_key.specs.KeyReading.{◌>>=◌, value_at, fault_in, begins_with_4, unless, field_at, fields_at}
 use Rattle.ssh_key.proofs.Steps.{bind_ok, on_wire_ok}
-use Rattle.ssh_key.proofs.Wire.{magnitude_is_positive, positive_again}
+use Rattle.ssh_key.proofs.Wire.{magnitude_is_positive, mpint_told, positive_again}
 
 -- ---- one field
 
@@ -60,15 +59,26 @@ value_allowed (Point size) bytes value rest fits e none =
 value_allowed (Sized size) bytes value rest fits e none = eqb-true _ _ (passed (eqb (length value) size) faults.Length none)
 value_allowed Text bytes value rest fits e none = tt
 
-pub field_takes : (field : Field) (bytes value rest : List ℕ) → IsBytes bytes → field_at field bytes ≡ Ok (value, rest) → Takes bytes (field_text field value) rest × IsValue field value
+-- a string whose length is told
+string_told : (value : List ℕ) → length value < 2 ^ 32 → HasLength (string value)
+string_told value lt = omega (arith, length-string value)
+
+pub value_told : (field : Field) (bytes value rest : List ℕ) → IsBytes bytes → value_at field bytes ≡ Ok (value, rest) → HasLength (field_text field value)
+value_told Positive bytes value rest fits e = mpint_told value (mpint_takes bytes value rest fits (on_wire_ok (mpint_at bytes) (value, rest) e)).2
+value_told (Curve name) bytes value rest fits e = string_told value (string_takes bytes value rest fits (on_wire_ok (string_at bytes) (value, rest) e)).1
+value_told (Point size) bytes value rest fits e = string_told value (string_takes bytes value rest fits (on_wire_ok (string_at bytes) (value, rest) e)).1
+value_told (Sized size) bytes value rest fits e = string_told value (string_takes bytes value rest fits (on_wire_ok (string_at bytes) (value, rest) e)).1
+value_told Text bytes value rest fits e = string_told value (string_takes bytes value rest fits (on_wire_ok (string_at bytes) (value, rest) e)).1
+
+pub field_takes : (field : Field) (bytes value rest : List ℕ) → IsBytes bytes → field_at field bytes ≡ Ok (value, rest) → Takes bytes (field_text field value) rest × IsValue field value × HasLength (field_text field value)
 unfolding field_at
 field_takes field bytes value rest fits e =
     let a = bind_ok (value_at field bytes) (λ read. unless (fault_in field read.0) read) (value, rest) e in
     let u = unless_ok (fault_in field a.0.0) a.0 (value, rest) a.2 in
-    subst (λ (x : List ℕ × List ℕ). Takes bytes (field_text field x.0) x.1 × IsValue field x.0) u.1
-    (value_takes field bytes a.0.0 a.0.1 fits a.1, value_allowed field bytes a.0.0 a.0.1 fits a.1 u.0)
+    subst (λ (x : List ℕ × List ℕ). Takes bytes (field_text field x.0) x.1 × IsValue field x.0 × HasLength (field_text field x.0)) u.1
+    (value_takes field bytes a.0.0 a.0.1 fits a.1, value_allowed field bytes a.0.0 a.0.1 fits a.1 u.0, value_told field bytes a.0.0 a.0.1 fits a.1)
 
-value_again : (field : Field) (value rest : List ℕ) → IsValue field value → length (field_text field value) < 2 ^ 32 → value_at field (field_text field value ++ rest) ≡ Ok (value, rest)
+value_again : (field : Field) (value rest : List ℕ) → IsValue field value → HasLength (field_text field value) → value_at field (field_text field value ++ rest) ≡ Ok (value, rest)
 value_again Positive value rest allowed lt = rw (positive_again value rest allowed lt) refl
 value_again (Curve name) value rest allowed lt = let short : length value < 2 ^ 32 = omega (arith, length-string value) in rw (string_again value rest short) refl
 value_again (Point size) value rest allowed lt = let short : length value < 2 ^ 32 = omega (arith, length-string value) in rw (string_again value rest short) refl
@@ -83,7 +93,7 @@ no_fault (Point size) value allowed = rw (eq-eqb (length value) size allowed.0, 
 no_fault (Sized size) value allowed = rw (eq-eqb (length value) size allowed) refl
 no_fault Text value allowed = refl
 
-pub field_again : (field : Field) (value rest : List ℕ) → IsValue field value → length (field_text field value) < 2 ^ 32 → field_at field (field_text field value ++ rest) ≡ Ok (value, rest)
+pub field_again : (field : Field) (value rest : List ℕ) → IsValue field value → HasLength (field_text field value) → field_at field (field_text field value ++ rest) ≡ Ok (value, rest)
 unfolding field_at
 field_again field value rest allowed lt = rw (value_again field value rest allowed lt, no_fault field value allowed) refl
 
@@ -100,16 +110,13 @@ fields_take (field ∷ fields) bytes x fits e =
     let second = fields_take fields a.0.1 b.0 first.0.rest_fits b.1 in
     let both = Takes-then bytes (field_text field a.0.0) a.0.1 (fields_text fields b.0.0) b.0.1 first.0 second.0 in
     let same : (a.0.0 ∷ b.0.0, b.0.1) ≡ x = cc in
-    subst (λ (y : List (List ℕ) × List ℕ). Takes bytes (fields_text (field ∷ fields) y.0) y.1 × AreValues (field ∷ fields) y.0) same (both, (first.1, second.1))
+    subst (λ (y : List (List ℕ) × List ℕ). Takes bytes (fields_text (field ∷ fields) y.0) y.1 × AreValues (field ∷ fields) y.0) same (both, (first.1, first.2, second.1))
 
-pub fields_again : (fields : List Field) (values : List (List ℕ)) (rest : List ℕ) → AreValues fields values → length (fields_text fields values) < 2 ^ 32 → fields_at fields (fields_text fields values ++ rest) ≡ Ok (values, rest)
+pub fields_again : (fields : List Field) (values : List (List ℕ)) (rest : List ℕ) → AreValues fields values → fields_at fields (fields_text fields values ++ rest) ≡ Ok (values, rest)
 unfolding fields_at
-fields_again [] [] rest allowed lt = refl
-fields_again [] (value ∷ values) rest allowed lt = absurd allowed
-fields_again (field ∷ fields) [] rest allowed lt = absurd allowed
-fields_again (field ∷ fields) (value ∷ values) rest allowed lt =
-    let len = length-append (field_text field value) (fields_text fields values) in
-    let first : length (field_text field value) < 2 ^ 32 = omega arith in
-    let second : length (fields_text fields values) < 2 ^ 32 = omega arith in
+fields_again [] [] rest allowed = refl
+fields_again [] (value ∷ values) rest allowed = absurd allowed
+fields_again (field ∷ fields) [] rest allowed = absurd allowed
+fields_again (field ∷ fields) (value ∷ values) rest allowed =
     let regrouped : fields_text (field ∷ fields) (value ∷ values) ++ rest ≡ field_text field value ++ (fields_text fields values ++ rest) = append_assoc (field_text field value) (fields_text fields values) rest in
-    ap (fields_at (field ∷ fields)) regrouped ∙ rw (field_again field value (fields_text fields values ++ rest) allowed.0 first, fields_again fields values rest allowed.1 second) refl
+    ap (fields_at (field ∷ fields)) regrouped ∙ rw (field_again field value (fields_text fields values ++ rest) allowed.0 allowed.1, fields_again fields values rest allowed.2) refl

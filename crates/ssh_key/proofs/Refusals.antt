@@ -1,9 +1,9 @@
 -- The fault that reading meets is the first fault, and the first fault is what reading meets.
-use Rattle.std.proofs.Common.{◌≡◌, ◌≢◌, ℕ, ◌+◌, ◌^◌, ◌<◌, ◌≤◌, Bool, true, false, cond, eqb, List, [], ◌∷◌, ◌++◌, length, Option, Some, None, Result, Ok, Err, refl, sym, ap, subst, ◌∙◌, append_assoc, arith, ◌⊎◌, inl, inr}
+use Rattle.std.proofs.Common.{◌≡◌, ◌≢◌, ℕ, Bool, true, false, cond, eqb, List, [], ◌∷◌, ◌++◌, length, Option, Some, None, Result, Ok, Err, refl, sym, ap, subst, ◌∙◌, append_assoc, arith, ◌⊎◌, inl, inr}
 use Rattle.std.specs.Prelude.{◌&&◌}
 use Rattle.std.specs.Str.{bytes_eq}
 use Rattle.std.proofs.lemmas.Bool.{eqb-true, eqb-false, eq-eqb, ne_eqb}
-use Rattle.std.proofs.lemmas.List.{length-append, nil_from_length}
+use Rattle.std.proofs.lemmas.List.{nil_from_length}
 use Rattle.std.proofs.lemmas.Slice.Eq.{bytes_eq-Decides}
 use Rattle.ssh_wire.specs.declared.fault.WireFault.{WireFault}
 use Rattle.ssh_wire.specs.Wire.{IsBytes, complement, mpint, string}
@@ -13,10 +13,10 @@ use Rattle.ssh_key.specs.declared.fault.KeyFault.{KeyFault}
 use Rattle.ssh_key.specs.declared.fault.KeyFault.TheVariants as faults
 use Rattle.ssh_key.specs.declared.fault.KeyFault.TheVariants.{Wire, UnknownType, Length, Number, Trailing, TooLong}
 use Rattle.ssh_key.specs.Kind.{Field, Positive, Curve, Point, Sized, Text}
-use Rattle.ssh_key.specs.Key.{IsUncompressed, IsValue, AreValues, field_text, fields_text}
+use Rattle.ssh_key.specs.Key.{HasLength, IsUncompressed, IsValue, AreValues, field_text, fields_text}
 use Rattle.ssh_key.specs.KeyReading.{◌>>=◌, on_wire, value_at, fault_in, begins_with_4, unless, field_at, fields_at}
 use Rattle.ssh_key.specs.FirstFault.{BeginsWith, Refuses}
-use Rattle.ssh_key.proofs.Public.{both_true, begins-uncompressed, uncompressed-begins, value_takes, field_takes, field_again}
+use Rattle.ssh_key.proofs.Public.{both_true, begins-uncompressed, uncompressed-begins, value_takes, value_told, field_takes, field_again}
 
 -- a step that failed, or one after it
 pub bind_err : {A B : Type 0} (r : Result A KeyFault) (f : A → Result B KeyFault) (d : KeyFault) → (r >>= f) ≡ Err d → (r ≡ Err d) ⊎ ((x : A) × (r ≡ Ok x) × (f x ≡ Err d))
@@ -46,8 +46,8 @@ mpint-zero : mpint [] ≡ string []
 unfolding mpint complement
 mpint-zero = refl
 
-pub begins : (bytes value rest : List ℕ) → Takes bytes (string value) rest → BeginsWith bytes value
-begins bytes value rest t = record { rest = rest; spelled = t.parts }
+pub begins : (bytes value rest : List ℕ) → Takes bytes (string value) rest → HasLength (string value) → BeginsWith bytes value
+begins bytes value rest t told = record { rest = rest; spelled = t.parts; fits = omega (arith, length-string value) }
 
 -- ---- what is refused
 
@@ -67,30 +67,30 @@ not_both size value e h =
     cc
 
 -- a value that may not stand in the field
-judged_refused : (field : Field) (bytes value rest : List ℕ) (fault : KeyFault) → Takes bytes (field_text field value) rest → fault_in field value ≡ Some fault → Refuses field bytes fault
-judged_refused Positive bytes value rest fault t e =
+judged_refused : (field : Field) (bytes value rest : List ℕ) (fault : KeyFault) → Takes bytes (field_text field value) rest → HasLength (field_text field value) → fault_in field value ≡ Some fault → Refuses field bytes fault
+judged_refused Positive bytes value rest fault t told e =
     let w = some_is (eqb (length value) 0) Number fault e in
     let empty : value ≡ [] = nil_from_length value (eqb-true _ _ w.0) in
     let zero_string : mpint value ≡ string [] = ap mpint empty ∙ mpint-zero in
-    subst (λ (d : KeyFault). Refuses Positive bytes d) w.1 (record { rest = rest; spelled = t.parts ∙ ap (λ (x : List ℕ). x ++ rest) zero_string })
-judged_refused (Curve name) bytes value rest fault t e =
+    subst (λ (d : KeyFault). Refuses Positive bytes d) w.1 (record { rest = rest; spelled = t.parts ∙ ap (λ (x : List ℕ). x ++ rest) zero_string; fits = omega arith })
+judged_refused (Curve name) bytes value rest fault t told e =
     let w = none_is (bytes_eq value name) faults.Curve fault e in
     let differs : value ≢ name = λ same. let h : bytes_eq value name ≡ true = (bytes_eq-Decides value name).1 same in cc in
-    subst (λ (d : KeyFault). Refuses (Curve name) bytes d) w.1 (value, begins bytes value rest t, differs)
-judged_refused (Point size) bytes value rest fault t e =
+    subst (λ (d : KeyFault). Refuses (Curve name) bytes d) w.1 (value, begins bytes value rest t told, differs)
+judged_refused (Point size) bytes value rest fault t told e =
     let w = none_is (eqb (length value) size && begins_with_4 value) faults.Point fault e in
-    subst (λ (d : KeyFault). Refuses (Point size) bytes d) w.1 (value, begins bytes value rest t, not_both size value w.0)
-judged_refused (Sized size) bytes value rest fault t e =
+    subst (λ (d : KeyFault). Refuses (Point size) bytes d) w.1 (value, begins bytes value rest t told, not_both size value w.0)
+judged_refused (Sized size) bytes value rest fault t told e =
     let w = none_is (eqb (length value) size) Length fault e in
-    subst (λ (d : KeyFault). Refuses (Sized size) bytes d) w.1 (value, begins bytes value rest t, eqb-false _ _ w.0)
-judged_refused Text bytes value rest fault t e = absurd cc
+    subst (λ (d : KeyFault). Refuses (Sized size) bytes d) w.1 (value, begins bytes value rest t told, eqb-false _ _ w.0)
+judged_refused Text bytes value rest fault t told e = absurd cc
 
 field_refused : (field : Field) (bytes : List ℕ) (fault : KeyFault) → IsBytes bytes → field_at field bytes ≡ Err fault → Refuses field bytes fault
 unfolding field_at
 field_refused field bytes fault fits e =
     elim (bind_err (value_at field bytes) (λ read. unless (fault_in field read.0) read) fault e) [
       | inl misspelt ↦ value_refused field bytes fault misspelt
-      | inr step ↦ judged_refused field bytes step.0.0 step.0.1 fault (value_takes field bytes step.0.0 step.0.1 fits step.1) (unless_err (fault_in field step.0.0) step.0 fault step.2)
+      | inr step ↦ judged_refused field bytes step.0.0 step.0.1 fault (value_takes field bytes step.0.0 step.0.1 fits step.1) (value_told field bytes step.0.0 step.0.1 fits step.1) (unless_err (fault_in field step.0.0) step.0 fault step.2)
     ]
 
 -- the fields up to the one that is refused
@@ -108,15 +108,15 @@ pub record Stops (fields : List Field) (bytes : List ℕ) (fault : KeyFault) : T
 stops_first : (field : Field) (fields : List Field) (bytes : List ℕ) (fault : KeyFault) → Refuses field bytes fault → Stops (field ∷ fields) bytes fault
 stops_first field fields bytes fault refused = record { before = []; field = field; later = fields; values = []; rest = bytes; parts = refl; allowed = tt; spelled = refl; refused = refused }
 
-stops_later : (field : Field) (fields : List Field) (bytes value after : List ℕ) (fault : KeyFault) → Takes bytes (field_text field value) after → IsValue field value → Stops fields after fault → Stops (field ∷ fields) bytes fault
-stops_later field fields bytes value after fault t allowed s = record {
+stops_later : (field : Field) (fields : List Field) (bytes value after : List ℕ) (fault : KeyFault) → Takes bytes (field_text field value) after → IsValue field value → HasLength (field_text field value) → Stops fields after fault → Stops (field ∷ fields) bytes fault
+stops_later field fields bytes value after fault t allowed told s = record {
   before = field ∷ s.before;
   field = s.field;
   later = s.later;
   values = value ∷ s.values;
   rest = s.rest;
   parts = ap (λ (fs : List Field). field ∷ fs) s.parts;
-  allowed = (allowed, s.allowed);
+  allowed = (allowed, told, s.allowed);
   spelled = t.parts ∙ ap (λ (x : List ℕ). field_text field value ++ x) s.spelled ∙ sym (append_assoc (field_text field value) (fields_text s.before s.values) s.rest);
   refused = s.refused;
 }
@@ -130,22 +130,19 @@ fields_refused (field ∷ fields) bytes fault fits e =
       | inr first ↦
           let t = field_takes field bytes first.0.0 first.0.1 fits first.1 in
           elim (bind_err (fields_at fields first.0.1) (λ others. Ok (first.0.0 ∷ others.0, others.1)) fault first.2) [
-            | inl later ↦ stops_later field fields bytes first.0.0 first.0.1 fault t.0 t.1 (fields_refused fields first.0.1 fault t.0.rest_fits later)
+            | inl later ↦ stops_later field fields bytes first.0.0 first.0.1 fault t.0 t.1 t.2 (fields_refused fields first.0.1 fault t.0.rest_fits later)
             | inr others ↦ absurd (never_err (first.0.0 ∷ others.0.0, others.0.1) fault others.2)
           ]
     ]
 
 -- ---- what is refused is a fault of reading
 
-pub string_read : (bytes value : List ℕ) → length bytes ≤ 65536 → (b : BeginsWith bytes value) → string_at bytes ≡ Ok (value, b.rest)
-string_read bytes value short b =
-    let lengths : length bytes ≡ (4 + length value) + length b.rest = ap length b.spelled ∙ length-append (string value) b.rest ∙ ap (λ (n : ℕ). n + length b.rest) (length-string value) in
-    let fits : length value < 2 ^ 32 = omega arith in
-    ap string_at b.spelled ∙ string_again value b.rest fits
+pub string_read : (bytes value : List ℕ) (b : BeginsWith bytes value) → string_at bytes ≡ Ok (value, b.rest)
+string_read bytes value b = ap string_at b.spelled ∙ string_again value b.rest b.fits
 
-zero_read : (bytes : List ℕ) → length bytes ≤ 65536 → (b : BeginsWith bytes []) → mpint_at bytes ≡ Ok ([], b.rest)
+zero_read : (bytes : List ℕ) (b : BeginsWith bytes []) → mpint_at bytes ≡ Ok ([], b.rest)
 unfolding mpint_at magnitude_of
-zero_read bytes short b = rw (string_read bytes [] short b) refl
+zero_read bytes b = rw (string_read bytes [] b) refl
 
 test_false : (b : Bool) → (b ≡ true → ⊥) → b ≡ false
 test_false true h = absurd (h refl)
@@ -156,29 +153,26 @@ both_false size value h = test_false (eqb (length value) size && begins_with_4 v
     let both = both_true (eqb (length value) size) (begins_with_4 value) e in
     h (eqb-true _ _ both.0, begins-uncompressed value both.1))
 
-pub refusal_read : (field : Field) (bytes : List ℕ) (fault : KeyFault) → length bytes ≤ 65536 → Refuses field bytes fault → field_at field bytes ≡ Err fault
+pub refusal_read : (field : Field) (bytes : List ℕ) (fault : KeyFault) → Refuses field bytes fault → field_at field bytes ≡ Err fault
 unfolding field_at
-refusal_read Positive bytes (Wire why) short r = rw r refl
-refusal_read Positive bytes Number short r = rw (zero_read bytes short r) refl
-refusal_read (Curve name) bytes (Wire why) short r = rw r refl
-refusal_read (Curve name) bytes faults.Curve short r =
+refusal_read Positive bytes (Wire why) r = rw r refl
+refusal_read Positive bytes Number r = rw (zero_read bytes r) refl
+refusal_read (Curve name) bytes (Wire why) r = rw r refl
+refusal_read (Curve name) bytes faults.Curve r =
     let other : bytes_eq r.0 name ≡ false = test_false (bytes_eq r.0 name) (λ e. r.2 ((bytes_eq-Decides r.0 name).0 e)) in
-    rw (string_read bytes r.0 short r.1, other) refl
-refusal_read (Point size) bytes (Wire why) short r = rw r refl
-refusal_read (Point size) bytes faults.Point short r = rw (string_read bytes r.0 short r.1, both_false size r.0 r.2) refl
-refusal_read (Sized size) bytes (Wire why) short r = rw r refl
-refusal_read (Sized size) bytes Length short r = rw (string_read bytes r.0 short r.1, ne_eqb (length r.0) size r.2) refl
-refusal_read Text bytes (Wire why) short r = rw r refl
-refusal_read field bytes fault short r = absurd r
+    rw (string_read bytes r.0 r.1, other) refl
+refusal_read (Point size) bytes (Wire why) r = rw r refl
+refusal_read (Point size) bytes faults.Point r = rw (string_read bytes r.0 r.1, both_false size r.0 r.2) refl
+refusal_read (Sized size) bytes (Wire why) r = rw r refl
+refusal_read (Sized size) bytes Length r = rw (string_read bytes r.0 r.1, ne_eqb (length r.0) size r.2) refl
+refusal_read Text bytes (Wire why) r = rw r refl
+refusal_read field bytes fault r = absurd r
 
-pub stop_read : (before : List Field) (field : Field) (later : List Field) (values : List (List ℕ)) (rest : List ℕ) (fault : KeyFault) → length (fields_text before values ++ rest) ≤ 65536 → AreValues before values → Refuses field rest fault → fields_at (before ++ field ∷ later) (fields_text before values ++ rest) ≡ Err fault
+pub stop_read : (before : List Field) (field : Field) (later : List Field) (values : List (List ℕ)) (rest : List ℕ) (fault : KeyFault) → AreValues before values → Refuses field rest fault → fields_at (before ++ field ∷ later) (fields_text before values ++ rest) ≡ Err fault
 unfolding fields_at
-stop_read [] field later [] rest fault short allowed refused = rw (refusal_read field rest fault short refused) refl
-stop_read [] field later (value ∷ values) rest fault short allowed refused = absurd allowed
-stop_read (first ∷ before) field later [] rest fault short allowed refused = absurd allowed
-stop_read (first ∷ before) field later (value ∷ values) rest fault short allowed refused =
+stop_read [] field later [] rest fault allowed refused = rw (refusal_read field rest fault refused) refl
+stop_read [] field later (value ∷ values) rest fault allowed refused = absurd allowed
+stop_read (first ∷ before) field later [] rest fault allowed refused = absurd allowed
+stop_read (first ∷ before) field later (value ∷ values) rest fault allowed refused =
     let regrouped : fields_text (first ∷ before) (value ∷ values) ++ rest ≡ field_text first value ++ (fields_text before values ++ rest) = append_assoc (field_text first value) (fields_text before values) rest in
-    let lengths : length (fields_text (first ∷ before) (value ∷ values) ++ rest) ≡ length (field_text first value) + length (fields_text before values ++ rest) = ap length regrouped ∙ length-append (field_text first value) (fields_text before values ++ rest) in
-    let head : length (field_text first value) < 2 ^ 32 = omega arith in
-    let tail : length (fields_text before values ++ rest) ≤ 65536 = omega arith in
-    ap (fields_at (first ∷ (before ++ field ∷ later))) regrouped ∙ rw (field_again first value (fields_text before values ++ rest) allowed.0 head, stop_read before field later values rest fault tail allowed.1 refused) refl
+    ap (fields_at (first ∷ (before ++ field ∷ later))) regrouped ∙ rw (field_again first value (fields_text before values ++ rest) allowed.0 allowed.1, stop_read before field later values rest fault allowed.2 refused) refl

@@ -1,5 +1,5 @@
 -- Why a blob is no key: its first fault, by what stands in the blob before it.
-use Rattle.std.specs.Prelude.{◌≡◌, ◌≢◌, ℕ, ◌<◌, ◌≤◌, List, [], ◌∷◌, ◌++◌, length, Err}
+use Rattle.std.specs.Prelude.{◌≡◌, ◌≢◌, ℕ, ◌+◌, ◌^◌, ◌<◌, ◌≤◌, List, [], ◌∷◌, ◌++◌, length, Err}
 use Rattle.ssh_wire.specs.Wire.{string}
 use Rattle.ssh_wire.specs.Reading.{mpint_at, string_at}
 use Rattle.ssh_wire.specs.declared.fault.WireFault.{WireFault}
@@ -13,6 +13,7 @@ use Rattle.ssh_key.specs.Key.{IsValue, AreValues, fields_text, longest_blob}
 pub record BeginsWith (bytes value : List ℕ) : Type 0 where
   pub rest : List ℕ
   pub spelled : bytes ≡ string value ++ rest
+  pub fits : length value < 2 ^ 32
 
 -- What stands at the front of the bytes is no value of the field: it is misspelt, or a number that is
 -- zero, or a string that may not stand there.
@@ -25,21 +26,34 @@ Refuses (Point size) bytes faults.Point = (value : List ℕ) × BeginsWith bytes
 Refuses (Sized size) bytes faults.Length = (value : List ℕ) × BeginsWith bytes value × ¬ IsValue (Sized size) value
 Refuses field bytes fault = ⊥
 
--- The blob has its type name and, with values that may stand there, its public fields before the later
--- ones. These bytes are left.
-pub record Reaches (blob : List ℕ) (kind : Kind) (later : List Field) (rest : List ℕ) : Type 0 where
+-- The bytes are the public fields before the later ones, with values that may stand there, and then
+-- the rest.
+pub record Reaches (kind : Kind) (bytes : List ℕ) (later : List Field) (rest : List ℕ) : Type 0 where
   pub before : List Field
   pub values : List (List ℕ)
   pub fields : fields_of kind ≡ before ++ later
   pub allowed : AreValues before values
-  pub spelled : blob ≡ string (type_name kind) ++ (fields_text before values ++ rest)
+  pub spelled : bytes ≡ fields_text before values ++ rest
+
+-- The first fault of the public fields at the front of bytes. Where each may stand there, the blob of
+-- the type name and the fields, without the rest, is too long.
+pub data IsFieldsFault (kind : Kind) (bytes : List ℕ) (fault : KeyFault) : Type 0 where
+  in_field : (field : Field) (later : List Field) (rest : List ℕ)
+      → Reaches kind bytes (field ∷ later) rest → Refuses field rest fault
+      → IsFieldsFault kind bytes fault
+  long_fields : (rest : List ℕ) → Reaches kind bytes [] rest
+      → longest_blob + length rest < length (string (type_name kind) ++ bytes)
+      → fault ≡ faults.TooLong → IsFieldsFault kind bytes fault
 
 -- the first fault of a blob that is not too long
 pub data IsFault (blob : List ℕ) (fault : KeyFault) : Type 0 where
   no_name : (why : WireFault) → string_at blob ≡ Err why → fault ≡ faults.Wire why → IsFault blob fault
-  no_kind : (name : List ℕ) → BeginsWith blob name → ((kind : Kind) → type_name kind ≢ name) → fault ≡ faults.UnknownType → IsFault blob fault
-  in_field : (kind : Kind) (field : Field) (later : List Field) (rest : List ℕ) → Reaches blob kind (field ∷ later) rest → Refuses field rest fault → IsFault blob fault
-  after_fields : (kind : Kind) (rest : List ℕ) → Reaches blob kind [] rest → 0 < length rest → fault ≡ faults.Trailing → IsFault blob fault
+  no_kind : (name : List ℕ) → BeginsWith blob name → ((kind : Kind) → type_name kind ≢ name)
+      → fault ≡ faults.UnknownType → IsFault blob fault
+  in_fields : (kind : Kind) (fields : List ℕ) → blob ≡ string (type_name kind) ++ fields
+      → IsFieldsFault kind fields fault → IsFault blob fault
+  after_fields : (kind : Kind) (fields rest : List ℕ) → blob ≡ string (type_name kind) ++ fields
+      → Reaches kind fields [] rest → 0 < length rest → fault ≡ faults.Trailing → IsFault blob fault
 
 pub data IsFirstFault (blob : List ℕ) (fault : KeyFault) : Type 0 where
   too_long : longest_blob < length blob → fault ≡ faults.TooLong → IsFirstFault blob fault

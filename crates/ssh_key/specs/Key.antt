@@ -1,5 +1,5 @@
 -- What a public key is, and the one spelling of its blob (RFC 4253 section 6.6, RFC 5656, RFC 8709).
-use Rattle.std.specs.Prelude.{◌≡◌, ℕ, ◌<◌, ◌≤◌, List, [], ◌∷◌, ◌++◌, length}
+use Rattle.std.specs.Prelude.{◌≡◌, ℕ, ◌+◌, ◌^◌, ◌<◌, ◌≤◌, List, [], ◌∷◌, ◌++◌, length}
 use Rattle.ssh_wire.specs.Wire.{mpint, string}
 use Rattle.ssh_key.specs.declared.kind.Kind.{Kind}
 use Rattle.ssh_key.specs.Kind.{Field, Positive, Curve, Point, Sized, Text, type_name, fields_of, bits_of}
@@ -41,12 +41,17 @@ abbrev pub field_text : Field → List ℕ → List ℕ
 field_text Positive value = mpint value
 field_text field value = string value
 
+-- Four bytes of length can tell it: a string with its length has fewer than 2^32 bytes more.
+abbrev pub HasLength : List ℕ → Type 0
+HasLength text = length text < 4 + 2 ^ 32
+
 -- values that may stand in the fields, one for each
 abbrev pub AreValues : List Field → List (List ℕ) → Type 0
 AreValues [] [] = Unit {0}
 AreValues [] (value ∷ values) = ⊥
 AreValues (field ∷ fields) [] = ⊥
-AreValues (field ∷ fields) (value ∷ values) = IsValue field value × AreValues fields values
+AreValues (field ∷ fields) (value ∷ values) =
+    IsValue field value × HasLength (field_text field value) × AreValues fields values
 
 -- their spellings, one after the other
 abbrev pub fields_text : List Field → List (List ℕ) → List ℕ
@@ -62,3 +67,8 @@ pub record IsKey (blob : List ℕ) (key : Key) : Type 0 where
   pub bits : key.bits ≡ bits_of key.kind values
   pub spelled : blob ≡ blob_of key
   pub short : length blob ≤ longest_blob
+
+-- The bytes are the public fields of the key, and then the rest.
+pub record BeginsWithFields (bytes : List ℕ) (key : Key) (rest : List ℕ) : Type 0 where
+  pub is_key : IsKey (blob_of key) key
+  pub spelled : bytes ≡ key.fields ++ rest

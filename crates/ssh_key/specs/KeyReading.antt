@@ -1,5 +1,5 @@
 -- Reading a key from left to right, with the first fault that is met.
-use Rattle.std.specs.Prelude.{◌≡◌, ℕ, Bool, List, [], ◌∷◌, length, Option, Some, None, Result, Ok, Err, nat_lt, ◌==◌, ◌&&◌, if◌then◌else◌}
+use Rattle.std.specs.Prelude.{◌≡◌, ℕ, ◌-◌, Bool, List, [], ◌∷◌, length, take, Option, Some, None, Result, Ok, Err, nat_lt, ◌==◌, ◌&&◌, if◌then◌else◌}
 use Rattle.std.specs.Str.{bytes_eq}
 use Rattle.ssh_wire.specs.Reading.{mpint_at, string_at}
 use Rattle.ssh_wire.specs.declared.fault.WireFault.{WireFault}
@@ -7,7 +7,7 @@ use Rattle.ssh_key.specs.declared.fault.KeyFault.{KeyFault}
 use Rattle.ssh_key.specs.declared.fault.KeyFault.TheVariants as faults
 use Rattle.ssh_key.specs.declared.kind.Kind.{Kind}
 use Rattle.ssh_key.specs.Kind.{Field, Positive, Curve, Point, Sized, Text, fields_of, bits_of, kind_named}
-use Rattle.ssh_key.specs.Key.{Key, longest_blob}
+use Rattle.ssh_key.specs.Key.{Key, blob_of, longest_blob}
 
 infixl 10 ◌>>=◌
 abbrev pub ◌>>=◌ : {A B : Type 0} → Result A KeyFault → (A → Result B KeyFault) → Result B KeyFault
@@ -69,14 +69,41 @@ bits_at kind bytes = do
   values ← fields_at (fields_of kind) bytes
   Ok (bits_of kind values.0, values.1)
 
+-- the bytes before the rest
+abbrev pub before_rest : List ℕ → List ℕ → List ℕ
+before_rest bytes rest = take (length bytes - length rest) bytes
+
+abbrev pub of_size : Kind → List ℕ → ℕ × List ℕ → Key
+of_size kind bytes (bits, rest) = record { kind = kind; fields = before_rest bytes rest; bits = bits }
+
+-- unless its blob is too long
+abbrev pub not_too_long : Key → List ℕ → Result (Key × List ℕ) KeyFault
+not_too_long key rest =
+    if nat_lt longest_blob (length (blob_of key)) then Err faults.TooLong else Ok (key, rest)
+
+-- the key whose public fields stand at the front, and the bytes after them
+unfoldable pub public_at : Kind → List ℕ → Result (Key × List ℕ) KeyFault
+public_at kind bytes = do
+  size ← bits_at kind bytes
+  not_too_long (of_size kind bytes size) size.1
+
 -- all of the bytes
 unfoldable pub key_at : List ℕ → Result Key KeyFault
 key_at blob = if nat_lt longest_blob (length blob) then Err faults.TooLong else do
   kind ← kind_at blob
-  bits ← bits_at kind.0 kind.1
-  if length bits.1 == 0 then Ok (record { kind = kind.0; fields = kind.1; bits = bits.0 }) else Err faults.Trailing
+  key ← public_at kind.0 kind.1
+  if length key.1 == 0 then Ok key.0 else Err faults.Trailing
 
 -- A read answered what reading gives, and left the bytes after it.
 abbrev pub Reads : {X Y : Type 0} → (X → Y) → Result X KeyFault → List ℕ → Result (Y × List ℕ) KeyFault → Type 0
 Reads view (Ok x) left read = read ≡ Ok (view x, left)
 Reads view (Err fault) left read = read ≡ Err fault
+
+-- The same, and a refusal left all of the bytes.
+abbrev pub Takes : {X Y : Type 0} → (X → Y) → Result X KeyFault → List ℕ → List ℕ → Result (Y × List ℕ) KeyFault → Type 0
+Takes view (Ok x) old new read = read ≡ Ok (view x, new)
+Takes view (Err fault) old new read = (read ≡ Err fault) × (new ≡ old)
+
+-- Reading the key's blob gives the key.
+abbrev pub IsRead : Key → Type 0
+IsRead key = key_at (blob_of key) ≡ Ok key

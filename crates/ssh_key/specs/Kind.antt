@@ -26,12 +26,27 @@ short_name_of Ed25519 = codes "ED25519"
 short_name_of EcdsaSk = codes "ECDSA-SK"
 short_name_of Ed25519Sk = codes "ED25519-SK"
 
+-- the type name of the certificates of a kind (OpenSSH's PROTOCOL.certkeys)
+abbrev pub certificate_name : Kind → List ℕ
+certificate_name Rsa = codes "ssh-rsa-cert-v01@openssh.com"
+certificate_name Dsa = codes "ssh-dss-cert-v01@openssh.com"
+certificate_name Ecdsa256 = codes "ecdsa-sha2-nistp256-cert-v01@openssh.com"
+certificate_name Ecdsa384 = codes "ecdsa-sha2-nistp384-cert-v01@openssh.com"
+certificate_name Ecdsa521 = codes "ecdsa-sha2-nistp521-cert-v01@openssh.com"
+certificate_name Ed25519 = codes "ssh-ed25519-cert-v01@openssh.com"
+certificate_name EcdsaSk = codes "sk-ecdsa-sha2-nistp256-cert-v01@openssh.com"
+certificate_name Ed25519Sk = codes "sk-ssh-ed25519-cert-v01@openssh.com"
+
 abbrev pub kinds : List Kind
 kinds = Rsa ∷ Dsa ∷ Ecdsa256 ∷ Ecdsa384 ∷ Ecdsa521 ∷ Ed25519 ∷ EcdsaSk ∷ Ed25519Sk ∷ []
 
 -- the kind of a type name
 unfoldable pub kind_named : List ℕ → Option Kind
 kind_named name = find (λ kind. bytes_eq (type_name kind) name) kinds
+
+-- the kind whose certificates have this type name
+unfoldable pub kind_certified : List ℕ → Option Kind
+kind_certified name = find (λ kind. bytes_eq (certificate_name kind) name) kinds
 
 -- What stands in a public field: a number above zero; the name of the curve; an uncompressed point of
 -- so many bytes; any string of so many bytes; any string.

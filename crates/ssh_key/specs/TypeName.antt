@@ -1,8 +1,8 @@
 -- The names of the key types.
-use Rattle.std.specs.Prelude.{ℕ, Bool, List, [], ◌∷◌, ◌++◌, codes, map}
+use Rattle.std.specs.Prelude.{ℕ, Bool, List, ◌++◌, map}
 use Rattle.std.specs.List.{list_any}
 use Rattle.std.specs.Str.{bytes_eq}
-use Rattle.ssh_key.specs.Kind.{kinds, type_name}
+use Rattle.ssh_key.specs.Kind.{certificate_name, kinds, type_name}
 
 -- the types of plain keys
 unfoldable pub plain_names : List (List ℕ)
@@ -10,15 +10,7 @@ plain_names = map type_name kinds
 
 -- the types of certificates
 unfoldable pub certificate_names : List (List ℕ)
-certificate_names = codes "ssh-rsa-cert-v01@openssh.com"
-    ∷ codes "ssh-dss-cert-v01@openssh.com"
-    ∷ codes "ecdsa-sha2-nistp256-cert-v01@openssh.com"
-    ∷ codes "ecdsa-sha2-nistp384-cert-v01@openssh.com"
-    ∷ codes "ecdsa-sha2-nistp521-cert-v01@openssh.com"
-    ∷ codes "ssh-ed25519-cert-v01@openssh.com"
-    ∷ codes "sk-ecdsa-sha2-nistp256-cert-v01@openssh.com"
-    ∷ codes "sk-ssh-ed25519-cert-v01@openssh.com"
-    ∷ []
+certificate_names = map certificate_name kinds
 
 unfoldable pub type_names : List (List ℕ)
 type_names = plain_names ++ certificate_names

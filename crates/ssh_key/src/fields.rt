@@ -1,6 +1,6 @@
 // Reading the public fields of a key. A cursor that met a fault is not used again.
 
-ghost use Rattle.std.specs.Prelude.{◌≡◌, ◌≤◌, IfOk, length};
+ghost use Rattle.std.specs.Prelude.{◌≡◌, ◌+◌, ◌-◌, ◌≤◌, IfOk, length};
 ghost use Rattle.ssh_key.specs.Kind.{Curve, Point, Positive, Sized, Text, bit_count};
 ghost use Rattle.ssh_key.specs.KeyReading.{Reads, bits_at, field_at};
 ghost use Rattle.ssh_key.specs.Fields.{bits_of_size, IsWithin};
@@ -25,7 +25,7 @@ pub enum Size<'a> {
 #[tactic(auto, unfolding(crate::specs::KeyReading::bits_at, crate::specs::KeyReading::fields_at))]
 pub fn size_at<'a>(kind: Kind, cursor: &mut Cursor<'a>) -> Result<Size<'a>, KeyFault>
     ensures read { Reads bits_of_size result cursor.new (bits_at kind cursor.old) }
-    ensures within { IfOk result (λ size. IsWithin size (length cursor.old)) }
+    ensures within { IfOk result (λ size. IsWithin size (length cursor.old - length cursor.new)) }
 {
     match kind {
         Kind::Rsa => Ok(Size::Magnitude(modulus(cursor)?)),
@@ -67,7 +67,7 @@ pub fn size_at<'a>(kind: Kind, cursor: &mut Cursor<'a>) -> Result<Size<'a>, KeyF
 #[tactic(auto, unfolding(crate::specs::KeyReading::bits_at, crate::specs::KeyReading::fields_at))]
 fn modulus<'a>(cursor: &mut Cursor<'a>) -> Result<&'a [u8], KeyFault>
     ensures read { Reads (λ modulus. bit_count modulus.now) result cursor.new (bits_at Kind.Rsa cursor.old) }
-    ensures within { IfOk result (λ modulus. length modulus.now ≤ length cursor.old) }
+    ensures within { IfOk result (λ modulus. length modulus.now + length cursor.new ≤ length cursor.old) }
 {
     let _exponent = positive(cursor)?;
     let modulus = positive(cursor)?;
@@ -78,7 +78,7 @@ fn modulus<'a>(cursor: &mut Cursor<'a>) -> Result<&'a [u8], KeyFault>
 #[tactic(auto, unfolding(crate::specs::KeyReading::bits_at, crate::specs::KeyReading::fields_at))]
 fn prime<'a>(cursor: &mut Cursor<'a>) -> Result<&'a [u8], KeyFault>
     ensures read { Reads (λ prime. bit_count prime.now) result cursor.new (bits_at Kind.Dsa cursor.old) }
-    ensures within { IfOk result (λ prime. length prime.now ≤ length cursor.old) }
+    ensures within { IfOk result (λ prime. length prime.now + length cursor.new ≤ length cursor.old) }
 {
     let prime = positive(cursor)?;
     let _subprime = positive(cursor)?;
@@ -91,7 +91,7 @@ fn prime<'a>(cursor: &mut Cursor<'a>) -> Result<&'a [u8], KeyFault>
 #[tactic(auto, unfolding(crate::specs::KeyReading::field_at))]
 fn positive<'a>(cursor: &mut Cursor<'a>) -> Result<&'a [u8], KeyFault>
     ensures read { Reads (λ value. value.now) result cursor.new (field_at Positive cursor.old) }
-    ensures within { IfOk result (λ value. (length value.now ≤ length cursor.old) × (length cursor.new ≤ length cursor.old)) }
+    ensures within { IfOk result (λ value. length value.now + length cursor.new ≤ length cursor.old) }
 {
     let magnitude = cursor.mpint()?;
     if magnitude.is_empty() {

@@ -1,10 +1,11 @@
 // Public keys, read from their blobs.
 
-ghost use Rattle.std.specs.Prelude.{◌≡◌, ◌≤◌, IfErr, IfOk, Ok, length};
-ghost use Rattle.ssh_key.specs.FirstFault.{IsFirstFault};
-ghost use Rattle.ssh_key.specs.Key.{IsKey, Key};
-ghost use Rattle.ssh_key.specs.KeyReading.{Reads, key_at, kind_at};
-ghost use Rattle.ssh_key.specs.Kind.{bit_count, short_name_of};
+ghost use Rattle.std.specs.Prelude.{◌≡◌, ◌≤◌, ◌+◌, ℕ, List, IfErr, IfOk, Ok, length};
+ghost use Rattle.ssh_wire.specs.Wire.{IsBytes, string};
+ghost use Rattle.ssh_key.specs.FirstFault.{IsFieldsFault, IsFirstFault};
+ghost use Rattle.ssh_key.specs.Key.{BeginsWithFields, IsKey, Key, blob_of, longest_blob};
+ghost use Rattle.ssh_key.specs.KeyReading.{Reads, Takes, key_at, kind_at, public_at};
+ghost use Rattle.ssh_key.specs.Kind.{bit_count, short_name_of, type_name};
 ghost use Rattle.ssh_key.specs.Fields.{IsWithin, bits_of_size};
 
 use crate::fault::KeyFault;
@@ -16,7 +17,8 @@ use std::marker::Model;
 /// The longest blob that is read, in bytes.
 const LONGEST_BLOB: usize = 65_536;
 
-/// A public key, lent from its blob.
+/// A public key, lent from its blob or from a certificate. Whoever holds one holds a key: see
+/// `has_blob`.
 #[derive(Debug, Drop)]
 pub struct PublicKey<'a> {
     kind: Kind,
@@ -25,11 +27,16 @@ pub struct PublicKey<'a> {
 }
 
 impl<'a> Model for PublicKey<'a> {
-    ghost use Rattle.ssh_key.specs.Key.{Key};
+    ghost use Rattle.std.specs.Prelude.{◌≡◌, Ok};
+    ghost use Rattle.ssh_key.specs.Key.{Key, blob_of};
+    ghost use Rattle.ssh_key.specs.KeyReading.{IsRead};
 
     ghost Value = { Key };
 
     ghost view = { λ key. record { kind = key.kind; fields = key.fields.now; bits = key.bits } };
+
+    ghost invariant = { λ key.
+        IsRead (record { kind = key.kind; fields = key.fields.now; bits = key.bits }) };
 }
 
 impl<'a> PublicKey<'a> {
@@ -60,6 +67,13 @@ impl<'a> PublicKey<'a> {
         ensures { result.now ≡ self.now.fields }
     {
         self.fields
+    }
+
+    /// The key is one: the string of its type name and its public fields are its blob. Does nothing.
+    pub fn has_blob(&self)
+        ensures { IsKey (blob_of self.now) self.now }
+    {
+        are_bytes(self.fields);
     }
 }
 
@@ -92,26 +106,75 @@ fn key_of<'a>(blob: &'a [u8]) -> Result<PublicKey<'a>, KeyFault>
     }
     let mut cursor = Cursor::new(blob);
     let kind = kind_of(&mut cursor)?;
-    let fields = cursor.rest();
-    let size = size_at(kind, &mut cursor)?;
+    let key = public_fields(kind, &mut cursor)?;
     if !cursor.at_end() {
         return Err(KeyFault::Trailing);
     }
-    Ok(PublicKey {
-        kind,
-        bits: bits(size),
-        fields,
-    })
+    Ok(key)
 }
 
 /// The kind by the type name.
 #[tactic(auto, unfolding(crate::specs::KeyReading::kind_at))]
 fn kind_of(cursor: &mut Cursor) -> Result<Kind, KeyFault>
-    ensures read { Reads (λ kind. kind) result cursor.new (kind_at cursor.old) }
-    ensures within { IfOk result (λ _. length cursor.new ≤ length cursor.old) }
+    ensures { Reads (λ kind. kind) result cursor.new (kind_at cursor.old) }
 {
     let name = cursor.string()?;
     Kind::of_name(name).ok_or(KeyFault::UnknownType)
+}
+
+/// Reads the public fields of a key of this kind from the front of the bytes, without the string of
+/// the type name, as they stand in a certificate (OpenSSH's PROTOCOL.certkeys). What follows them is
+/// left. A refusal takes nothing. Takes no memory.
+///
+/// Of several faults the first is told: those of each field, in the order in which they stand, and
+/// then `TooLong` where the blob of the type name and these fields would be longer than 65,536 bytes.
+pub fn read_fields<'a>(kind: Kind, cursor: &mut Cursor<'a>) -> Result<PublicKey<'a>, KeyFault>
+    // What is read stands at the front, and is taken.
+    ensures found { IfOk result (λ key.
+        (key.kind ≡ kind) × BeginsWithFields cursor.old key cursor.new) }
+    // The public fields of a key that stand at the front are read.
+    ensures only { (key : Key) (rest : List ℕ) → key.kind ≡ kind
+        → BeginsWithFields cursor.old key rest → (result ≡ Ok key) × (cursor.new ≡ rest) }
+    // The fault is the first one, and nothing is taken.
+    ensures fault { IfErr result (λ fault. IsFieldsFault kind cursor.old fault) }
+    // The same, for those who compute with the answer.
+    ensures exact { Takes (λ key. key) result cursor.old cursor.new (public_at kind cursor.old) }
+{
+    public_fields(kind, cursor)
+}
+
+#[tactic(auto, unfolding(crate::specs::KeyReading::public_at))]
+fn public_fields<'a>(kind: Kind, cursor: &mut Cursor<'a>) -> Result<PublicKey<'a>, KeyFault>
+    ensures exact { Takes (λ key. key) result cursor.old cursor.new (public_at kind cursor.old) }
+    ensures bytes { IsBytes cursor.old }
+{
+    let bytes = cursor.rest();
+    are_bytes(bytes);
+    let mut ahead = Cursor::new(bytes);
+    let size = size_at(kind, &mut ahead)?;
+    let fields = &bytes[..bytes.len() - ahead.rest().len()];
+    if fields.len() > longest_fields(kind) {
+        return Err(KeyFault::TooLong);
+    }
+    let key = PublicKey {
+        kind,
+        bits: bits(size),
+        fields,
+    };
+    *cursor = ahead;
+    Ok(key)
+}
+
+/// What stands in a slice of bytes are bytes. Does nothing.
+fn are_bytes(bytes: &[u8])
+    ensures { IsBytes bytes.now }
+{}
+
+/// How many bytes the public fields of this kind have in the longest blob.
+fn longest_fields(kind: Kind) -> usize
+    ensures { length (string (type_name kind)) + result ≡ longest_blob }
+{
+    LONGEST_BLOB - 4 - kind.name().len()
 }
 
 fn bits(size: Size) -> u32

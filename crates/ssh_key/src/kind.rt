@@ -1,7 +1,7 @@
 // The kinds of keys.
 
 ghost use Rattle.std.specs.Prelude.{◌≡◌, IfSome};
-ghost use Rattle.ssh_key.specs.Kind.{kind_named, short_name_of, type_name};
+ghost use Rattle.ssh_key.specs.Kind.{certificate_name, kind_certified, kind_named, short_name_of, type_name};
 
 /// The kind of a plain key.
 #[derive(Clone, Copy, Debug, PartialEq, Eq)]
@@ -61,6 +61,30 @@ impl Kind {
         find(name)
     }
 
+    /// The name of the type of this kind's certificates (OpenSSH's PROTOCOL.certkeys).
+    pub fn cert_name(self) -> &'static str
+        ensures { result.now ≡ certificate_name self }
+    {
+        match self {
+            Kind::Rsa => "ssh-rsa-cert-v01@openssh.com",
+            Kind::Dsa => "ssh-dss-cert-v01@openssh.com",
+            Kind::Ecdsa256 => "ecdsa-sha2-nistp256-cert-v01@openssh.com",
+            Kind::Ecdsa384 => "ecdsa-sha2-nistp384-cert-v01@openssh.com",
+            Kind::Ecdsa521 => "ecdsa-sha2-nistp521-cert-v01@openssh.com",
+            Kind::Ed25519 => "ssh-ed25519-cert-v01@openssh.com",
+            Kind::EcdsaSk => "sk-ecdsa-sha2-nistp256-cert-v01@openssh.com",
+            Kind::Ed25519Sk => "sk-ssh-ed25519-cert-v01@openssh.com",
+        }
+    }
+
+    /// The kind whose certificates have this type name. The type name of a plain key has none.
+    pub fn of_cert_name(name: &[u8]) -> Option<Kind>
+        ensures found { IfSome result (λ kind. certificate_name kind ≡ name.now) }
+        ensures only { (kind : Kind) → certificate_name kind ≡ name.now → result ≡ Some kind }
+    {
+        find_certified(name)
+    }
+
     /// The name of the kind in the listings of ssh-keygen(1).
     pub fn short_name(self) -> &'static str
         ensures { result.now ≡ short_name_of self }
@@ -86,4 +110,14 @@ fn find(name: &[u8]) -> Option<Kind>
         .iter()
         .copied()
         .find(|kind| kind.name().as_bytes() == name)
+}
+
+#[tactic(auto, unfolding(crate::specs::Kind::kind_certified))]
+fn find_certified(name: &[u8]) -> Option<Kind>
+    ensures { result ≡ kind_certified name.now }
+{
+    KINDS
+        .iter()
+        .copied()
+        .find(|kind| kind.cert_name().as_bytes() == name)
 }

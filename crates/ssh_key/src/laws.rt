@@ -1,13 +1,13 @@
 //! What holds for every key and every list of bytes, each as the contract of a function that does
 //! nothing. `read_key` answers what the reader named here gives, and `plain_blob` the blob.
 
-ghost use Rattle.std.specs.Prelude.{◌≡◌, ◌*◌, ◌^◌, ◌<◌, ◌≤◌, ◌↔◌, ℕ, List, Err, Ok, length};
+ghost use Rattle.std.specs.Prelude.{◌≡◌, ◌≢◌, ◌*◌, ◌^◌, ◌<◌, ◌≤◌, ◌↔◌, ℕ, List, Err, Ok, length};
 ghost use Rattle.ssh_key.specs.Blanks.{IsWord};
-ghost use Rattle.ssh_key.specs.FirstFault.{IsFirstFault};
-ghost use Rattle.ssh_key.specs.Key.{IsKey, IsPositive, Key, blob_of};
+ghost use Rattle.ssh_key.specs.FirstFault.{IsFieldsFault, IsFirstFault};
+ghost use Rattle.ssh_key.specs.Key.{BeginsWithFields, IsKey, IsPositive, Key, blob_of};
 ghost use Rattle.ssh_key.specs.KeyLine.{IsKeyLine, base64};
-ghost use Rattle.ssh_key.specs.KeyReading.{key_at};
-ghost use Rattle.ssh_key.specs.Kind.{bit_count, fields_of, type_name};
+ghost use Rattle.ssh_key.specs.KeyReading.{key_at, public_at};
+ghost use Rattle.ssh_key.specs.Kind.{bit_count, certificate_name, fields_of, type_name};
 ghost use Rattle.ssh_key.specs.LineFaults.{IsFirstLineFault};
 ghost use Rattle.ssh_key.specs.LineReading.{Content, content, line_at};
 ghost use Rattle.ssh_key.specs.Value.{SameValues};
@@ -16,9 +16,12 @@ ghost use Rattle.ssh_key.specs.declared.kind.Kind.{Kind};
 ghost use Rattle.ssh_key.specs.declared.line_fault.LineFault.{LineFault};
 ghost use Rattle.ssh_wire.specs.Wire.{IsBytes, number_of};
 
-/// No two kinds have one type name.
+/// No two kinds have one type name, nor one name of their certificates, and no name is both a key's
+/// and a certificate's.
 pub fn names_differ()
-    ensures { (a b : Kind) → type_name a ≡ type_name b → a ≡ b }
+    ensures plain { (a b : Kind) → type_name a ≡ type_name b → a ≡ b }
+    ensures certified { (a b : Kind) → certificate_name a ≡ certificate_name b → a ≡ b }
+    ensures apart { (a b : Kind) → type_name a ≢ certificate_name b }
 {}
 
 /// Reading gives a key exactly where the bytes are its blob.
@@ -35,6 +38,28 @@ pub fn refused_by_first_fault()
 pub fn one_first_fault()
     ensures one { (blob : List ℕ) (a b : KeyFault) → IsFirstFault blob a → IsFirstFault blob b → a ≡ b }
     ensures none { (blob : List ℕ) (key : Key) (fault : KeyFault) → IsKey blob key → IsFirstFault blob fault → ⊥ }
+{}
+
+/// Reading public fields gives a key and the rest exactly where the bytes are its public fields and
+/// the rest.
+pub fn fields_read_where_spelled()
+    ensures { (kind : Kind) (bytes rest : List ℕ) (key : Key) → IsBytes bytes
+        → (public_at kind bytes ≡ Ok (key, rest))
+        ↔ ((key.kind ≡ kind) × BeginsWithFields bytes key rest) }
+{}
+
+/// Reading public fields meets a fault exactly where it is the first fault of those fields.
+pub fn fields_refused_by_first_fault()
+    ensures { (kind : Kind) (bytes : List ℕ) (fault : KeyFault) → IsBytes bytes
+        → (public_at kind bytes ≡ Err fault) ↔ IsFieldsFault kind bytes fault }
+{}
+
+/// Public fields have one first fault at most, and those of a key have none.
+pub fn one_fields_fault()
+    ensures one { (kind : Kind) (bytes : List ℕ) (a b : KeyFault)
+        → IsFieldsFault kind bytes a → IsFieldsFault kind bytes b → a ≡ b }
+    ensures none { (key : Key) (bytes rest : List ℕ) (fault : KeyFault)
+        → BeginsWithFields bytes key rest → IsFieldsFault key.kind bytes fault → ⊥ }
 {}
 
 /// A blob is that of one key.

@@ -18,7 +18,7 @@ pub use blob::plain_blob;
 pub use fault::KeyFault;
 pub use fingerprints::fingerprint;
 pub use hash::{Hash, sha256_of};
-pub use key::{PublicKey, read_key};
+pub use key::{PublicKey, read_fields, read_key};
 pub use kind::Kind;
 pub use line::{Line, read_line};
 pub use line_fault::LineFault;

@@ -6,3 +6,4 @@ mod key;
 mod kind;
 mod lines;
 mod parts;
+mod public_fields;

@@ -17,6 +17,17 @@ const NAMES: [(Kind, &str, &str); 8] = [
     (Kind::Ed25519Sk, "sk-ssh-ed25519@openssh.com", "ED25519-SK"),
 ];
 
+const CERTIFICATE_NAMES: [(Kind, &str); 8] = [
+    (Kind::Rsa, "ssh-rsa-cert-v01@openssh.com"),
+    (Kind::Dsa, "ssh-dss-cert-v01@openssh.com"),
+    (Kind::Ecdsa256, "ecdsa-sha2-nistp256-cert-v01@openssh.com"),
+    (Kind::Ecdsa384, "ecdsa-sha2-nistp384-cert-v01@openssh.com"),
+    (Kind::Ecdsa521, "ecdsa-sha2-nistp521-cert-v01@openssh.com"),
+    (Kind::Ed25519, "ssh-ed25519-cert-v01@openssh.com"),
+    (Kind::EcdsaSk, "sk-ecdsa-sha2-nistp256-cert-v01@openssh.com"),
+    (Kind::Ed25519Sk, "sk-ssh-ed25519-cert-v01@openssh.com"),
+];
+
 #[test]
 fn names(rt: HostRuntime) {
     for (kind, name, short_name) in NAMES {
@@ -38,5 +49,27 @@ fn other_names(rt: HostRuntime) {
         "ssh-ed25519-cert-v01@openssh.com",
     ] {
         assert_eq!(rt; Kind::of_name(name.as_bytes()), None, "{name}");
+    }
+}
+
+#[test]
+fn certificate_names(rt: HostRuntime) {
+    for (kind, name) in CERTIFICATE_NAMES {
+        assert_eq!(rt; kind.cert_name(), name);
+        assert_eq!(rt; Kind::of_cert_name(name.as_bytes()), Some(kind), "{name}");
+    }
+}
+
+#[test]
+fn no_certificate_names(rt: HostRuntime) {
+    for name in [
+        "",
+        "ssh-rsa",
+        "ssh-ed25519",
+        "ssh-rsa-cert-v00@openssh.com",
+        "ssh-rsa-cert-v01",
+        "rsa-sha2-256-cert-v01@openssh.com",
+    ] {
+        assert_eq!(rt; Kind::of_cert_name(name.as_bytes()), None, "{name}");
     }
 }
