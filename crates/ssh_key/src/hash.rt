@@ -1,8 +1,10 @@
 // The hashes that name a key.
 
 ghost use Rattle.std.specs.Prelude.{◌≡◌};
+ghost use Rattle.sha1.specs.Sha1.{sha1};
 ghost use Rattle.sha2.specs.Sha256.{sha256};
 
+use sha1::Sha1;
 use sha2::{Digest, Sha256};
 
 /// The hash of a fingerprint.
@@ -12,6 +14,13 @@ pub enum Hash {
     Md5,
     /// SHA-256 (FIPS 180-4).
     Sha256,
+}
+
+/// The SHA-1 of the bytes (FIPS 180-4), 20 bytes. Takes no memory.
+pub fn sha1_of(bytes: &[u8]) -> [u8; 20]
+    ensures { result ≡ sha1 bytes.now }
+{
+    Sha1::digest(bytes)
 }
 
 /// The SHA-256 of the bytes (FIPS 180-4), 32 bytes. Takes no memory.

@@ -17,7 +17,7 @@ mod type_name;
 pub use blob::plain_blob;
 pub use fault::KeyFault;
 pub use fingerprints::fingerprint;
-pub use hash::{Hash, sha256_of};
+pub use hash::{Hash, sha1_of, sha256_of};
 pub use key::{PublicKey, read_fields, read_key};
 pub use kind::Kind;
 pub use line::{Line, read_line};

@@ -1,7 +1,7 @@
 // The published fingerprint, and those of no bytes.
 
 use crate::tests::parts::published_key;
-use crate::{Hash, fingerprint, sha256_of};
+use crate::{Hash, fingerprint, sha1_of, sha256_of};
 use std::test::Fail;
 
 #[test]
@@ -25,5 +25,16 @@ fn of_no_bytes(rt: HostRuntime) -> Result<(), Fail> {
     let sha256 = fingerprint(rt.alloc(), Hash::Sha256, &[])?;
     let expected = b"SHA256:47DEQpj8HBSa+/TImW+5JCeuQeRkm5NMpJWZG3hSuFU";
     assert_eq!(rt; sha256.as_slice(), expected.as_slice());
+    Ok(())
+}
+
+/// The examples of FIPS 180 for SHA-1: one block, and two.
+#[test]
+fn sha1_of_the_standard(rt: HostRuntime) -> Result<(), Fail> {
+    let short = hex::encode(rt.alloc(), &sha1_of(b"abc"))?;
+    assert_eq!(rt; short.as_str(), "a9993e364706816aba3e25717850c26c9cd0d89d");
+    let text = b"abcdbcdecdefdefgefghfghighijhijkijkljklmklmnlmnomnopnopq";
+    let long = hex::encode(rt.alloc(), &sha1_of(text))?;
+    assert_eq!(rt; long.as_str(), "84983e441c3bd26ebaae4aa1f95129e5e54670f1");
     Ok(())
 }
