@@ -56,7 +56,7 @@ bits_refused kind bytes fault fits e =
       | inr values ↦ absurd (never_err (bits_of kind values.0.0, values.0.1) fault values.2)
     ]
 
-stops_in_field : (kind : Kind) (bytes : List ℕ) (fault : KeyFault) → Stops (fields_of kind) bytes fault → IsFieldsFault kind bytes fault
+pub stops_in_field : (kind : Kind) (bytes : List ℕ) (fault : KeyFault) → Stops (fields_of kind) bytes fault → IsFieldsFault kind bytes fault
 stops_in_field kind bytes fault s = in_field s.field s.later s.rest
     (record { before = s.before; values = s.values; fields = s.parts; allowed = s.allowed; spelled = s.spelled })
     s.refused

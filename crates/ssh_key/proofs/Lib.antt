@@ -6,6 +6,7 @@ pub mod Refusals
 pub mod Numbers
 pub mod Keys
 pub mod FirstFaults
+pub mod Cuts
 pub mod LineWords
 pub mod LineNames
 pub mod DecodedBytes

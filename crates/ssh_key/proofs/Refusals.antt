@@ -105,11 +105,11 @@ pub record Stops (fields : List Field) (bytes : List ℕ) (fault : KeyFault) : T
   pub spelled : bytes ≡ fields_text before values ++ rest
   pub refused : Refuses field rest fault
 
-stops_first : (field : Field) (fields : List Field) (bytes : List ℕ) (fault : KeyFault) → Refuses field bytes fault → Stops (field ∷ fields) bytes fault
+pub stops_first : (field : Field) (fields : List Field) (bytes : List ℕ) (fault : KeyFault) → Refuses field bytes fault → Stops (field ∷ fields) bytes fault
 stops_first field fields bytes fault refused = record { before = []; field = field; later = fields; values = []; rest = bytes; parts = refl; allowed = tt; spelled = refl; refused = refused }
 
-stops_later : (field : Field) (fields : List Field) (bytes value after : List ℕ) (fault : KeyFault) → Takes bytes (field_text field value) after → IsValue field value → HasLength (field_text field value) → Stops fields after fault → Stops (field ∷ fields) bytes fault
-stops_later field fields bytes value after fault t allowed told s = record {
+pub stops_later : (field : Field) (fields : List Field) (bytes value after : List ℕ) (fault : KeyFault) → bytes ≡ field_text field value ++ after → IsValue field value → HasLength (field_text field value) → Stops fields after fault → Stops (field ∷ fields) bytes fault
+stops_later field fields bytes value after fault parts allowed told s = record {
   before = field ∷ s.before;
   field = s.field;
   later = s.later;
@@ -117,7 +117,7 @@ stops_later field fields bytes value after fault t allowed told s = record {
   rest = s.rest;
   parts = ap (λ (fs : List Field). field ∷ fs) s.parts;
   allowed = (allowed, told, s.allowed);
-  spelled = t.parts ∙ ap (λ (x : List ℕ). field_text field value ++ x) s.spelled ∙ sym (append_assoc (field_text field value) (fields_text s.before s.values) s.rest);
+  spelled = parts ∙ ap (λ (x : List ℕ). field_text field value ++ x) s.spelled ∙ sym (append_assoc (field_text field value) (fields_text s.before s.values) s.rest);
   refused = s.refused;
 }
 
@@ -130,7 +130,7 @@ fields_refused (field ∷ fields) bytes fault fits e =
       | inr first ↦
           let t = field_takes field bytes first.0.0 first.0.1 fits first.1 in
           elim (bind_err (fields_at fields first.0.1) (λ others. Ok (first.0.0 ∷ others.0, others.1)) fault first.2) [
-            | inl later ↦ stops_later field fields bytes first.0.0 first.0.1 fault t.0 t.1 t.2 (fields_refused fields first.0.1 fault t.0.rest_fits later)
+            | inl later ↦ stops_later field fields bytes first.0.0 first.0.1 fault t.0.parts t.1 t.2 (fields_refused fields first.0.1 fault t.0.rest_fits later)
             | inr others ↦ absurd (never_err (first.0.0 ∷ others.0.0, others.0.1) fault others.2)
           ]
     ]

@@ -1,7 +1,7 @@
 //! What holds for every key and every list of bytes, each as the contract of a function that does
 //! nothing. `read_key` answers what the reader named here gives, and `plain_blob` the blob.
 
-ghost use Rattle.std.specs.Prelude.{◌≡◌, ◌≢◌, ◌*◌, ◌^◌, ◌<◌, ◌≤◌, ◌↔◌, ℕ, List, Err, Ok, length};
+ghost use Rattle.std.specs.Prelude.{◌≡◌, ◌≢◌, ◌*◌, ◌^◌, ◌<◌, ◌≤◌, ◌↔◌, ℕ, List, Err, Ok, length, take};
 ghost use Rattle.ssh_key.specs.Blanks.{IsWord};
 ghost use Rattle.ssh_key.specs.FirstFault.{IsFieldsFault, IsFirstFault};
 ghost use Rattle.ssh_key.specs.Key.{BeginsWithFields, IsKey, IsPositive, Key, blob_of};
@@ -14,7 +14,9 @@ ghost use Rattle.ssh_key.specs.Value.{SameValues};
 ghost use Rattle.ssh_key.specs.declared.fault.KeyFault.{KeyFault};
 ghost use Rattle.ssh_key.specs.declared.kind.Kind.{Kind};
 ghost use Rattle.ssh_key.specs.declared.line_fault.LineFault.{LineFault};
+ghost use Rattle.ssh_key.specs.declared.fault.KeyFault.TheVariants.{Wire};
 ghost use Rattle.ssh_wire.specs.Wire.{IsBytes, number_of};
+ghost use Rattle.ssh_wire.specs.declared.fault.WireFault.TheVariants.{Short};
 
 /// No two kinds have one type name, nor one name of their certificates, and no name is both a key's
 /// and a certificate's.
@@ -60,6 +62,15 @@ pub fn one_fields_fault()
         → IsFieldsFault kind bytes a → IsFieldsFault kind bytes b → a ≡ b }
     ensures none { (key : Key) (bytes rest : List ℕ) (fault : KeyFault)
         → BeginsWithFields bytes key rest → IsFieldsFault key.kind bytes fault → ⊥ }
+{}
+
+/// A blob that is cut short, at whatever byte, is refused as such: its fault is that of a field that
+/// ends too early, and no other. So are public fields alone.
+pub fn cut_key_is_short()
+    ensures blob { (blob : List ℕ) (key : Key) (n : ℕ) → IsKey blob key → n < length blob
+        → IsFirstFault (take n blob) (Wire Short) }
+    ensures fields { (key : Key) (n : ℕ) → IsKey (blob_of key) key → n < length key.fields
+        → IsFieldsFault key.kind (take n key.fields) (Wire Short) }
 {}
 
 /// A blob is that of one key.

@@ -152,6 +152,16 @@ fn bytes_after_the_key(rt: HostRuntime) -> Result<(), Fail> {
 }
 
 #[test]
+fn cut_blobs(rt: HostRuntime) -> Result<(), Fail> {
+    let blob = published_key(rt.alloc())?;
+    let short = KeyFault::Wire(WireFault::Short);
+    for n in 0..blob.len() {
+        assert_eq!(rt; read_key(&blob[..n]).err(), Some(short), "{n}");
+    }
+    Ok(())
+}
+
+#[test]
 fn longest_blob(rt: HostRuntime) -> Result<(), Fail> {
     let alloc = rt.alloc();
     let application = vec![in alloc; b'x'; 65_466]?;
