@@ -95,7 +95,8 @@ no_error : (error : Option DecodeError) (bytes found : List ℕ) → decode_outc
 no_error None bytes found e = refl
 no_error (Some why) bytes found e = absurd cc
 
-engine_fits : (engine : GeneralPurpose) (text bytes : List ℕ) → IsBytes text → decode_of engine text ≡ Ok bytes → IsBytes bytes
+-- what an engine decodes bytes to
+pub engine_fits : (engine : GeneralPurpose) (text bytes : List ℕ) → IsBytes text → decode_of engine text ≡ Ok bytes → IsBytes bytes
 engine_fits engine text bytes fits e =
     let inverse = are_tables_inverse engine.encode_table engine.decode_table engine.padding.value engine.tables in
     let none = no_error _ (decoded_bytes engine.decode_table engine.padding.value text) bytes e in

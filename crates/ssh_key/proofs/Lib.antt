@@ -15,3 +15,4 @@ pub mod LineOptions
 pub mod TextWords
 pub mod LineLaws
 pub mod LineFaults
+pub mod FingerprintLaws

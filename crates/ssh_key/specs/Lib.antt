@@ -12,3 +12,5 @@ pub mod KeyLine
 pub mod LineReading
 pub mod LineFaults
 pub mod Fingerprints
+pub mod FingerprintFault
+pub mod FingerprintReading

@@ -3,6 +3,7 @@
 
 ghost use Rattle.std.specs.Prelude.{◌≡◌, ◌≢◌, ◌*◌, ◌^◌, ◌<◌, ◌≤◌, ◌↔◌, ℕ, List, Err, Ok, length, take};
 ghost use Rattle.ssh_key.specs.Blanks.{IsWord};
+ghost use Rattle.ssh_key.specs.FingerprintReading.{IsFingerprint, IsFingerprintFault, fingerprint_at};
 ghost use Rattle.ssh_key.specs.FirstFault.{IsFieldsFault, IsFirstFault};
 ghost use Rattle.ssh_key.specs.Key.{BeginsWithFields, IsKey, IsPositive, Key, blob_of};
 ghost use Rattle.ssh_key.specs.KeyLine.{IsKeyLine, base64};
@@ -12,6 +13,7 @@ ghost use Rattle.ssh_key.specs.LineFaults.{IsFirstLineFault};
 ghost use Rattle.ssh_key.specs.LineReading.{Content, content, line_at};
 ghost use Rattle.ssh_key.specs.Value.{SameValues};
 ghost use Rattle.ssh_key.specs.declared.fault.KeyFault.{KeyFault};
+ghost use Rattle.ssh_key.specs.declared.fingerprint_fault.FingerprintFault.{FingerprintFault};
 ghost use Rattle.ssh_key.specs.declared.kind.Kind.{Kind};
 ghost use Rattle.ssh_key.specs.declared.line_fault.LineFault.{LineFault};
 ghost use Rattle.ssh_key.specs.declared.fault.KeyFault.TheVariants.{Wire};
@@ -114,4 +116,18 @@ pub fn line_refused_by_first_fault()
 pub fn one_first_line_fault()
     ensures one { (text : List ℕ) (a b : LineFault) → IsBytes text → IsFirstLineFault text a → IsFirstLineFault text b → a ≡ b }
     ensures none { (text word blob comment : List ℕ) (fault : LineFault) → IsBytes text → IsKeyLine text word blob comment → IsFirstLineFault text fault → ⊥ }
+{}
+
+/// Reading a printed fingerprint gives a digest exactly where the text is its fingerprint.
+pub fn fingerprint_read_where_spelled()
+    ensures { (text digest : List ℕ) → IsBytes text
+        → (fingerprint_at text ≡ Ok digest) ↔ IsFingerprint text digest }
+{}
+
+/// A text has one first fault as a fingerprint at most, and a fingerprint has none.
+pub fn one_fingerprint_fault()
+    ensures one { (text : List ℕ) (a b : FingerprintFault) → IsBytes text
+        → IsFingerprintFault text a → IsFingerprintFault text b → a ≡ b }
+    ensures none { (text digest : List ℕ) (fault : FingerprintFault) → IsBytes text
+        → IsFingerprint text digest → IsFingerprintFault text fault → ⊥ }
 {}

@@ -5,6 +5,7 @@
 mod blob;
 mod fault;
 mod fields;
+mod fingerprint_fault;
 mod fingerprints;
 mod hash;
 mod key;
@@ -12,16 +13,19 @@ mod kind;
 pub mod laws;
 mod line;
 mod line_fault;
+mod parsing;
 mod type_name;
 
 pub use blob::plain_blob;
 pub use fault::KeyFault;
+pub use fingerprint_fault::FingerprintFault;
 pub use fingerprints::fingerprint;
 pub use hash::{Hash, sha1_of, sha256_of};
 pub use key::{PublicKey, read_fields, read_key};
 pub use kind::Kind;
 pub use line::{Line, read_line};
 pub use line_fault::LineFault;
+pub use parsing::parse_fingerprint;
 
 #[cfg(test)]
 mod tests;

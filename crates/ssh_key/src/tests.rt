@@ -5,5 +5,6 @@ mod fingerprints;
 mod key;
 mod kind;
 mod lines;
+mod parsing;
 mod parts;
 mod public_fields;

@@ -1,6 +1,6 @@
 // The texts of faults.
 
-use crate::{KeyFault, LineFault};
+use crate::{FingerprintFault, KeyFault, LineFault};
 use ssh_wire::WireFault;
 use std::test::Fail;
 
@@ -46,6 +46,22 @@ fn faults_of_lines(rt: HostRuntime) -> Result<(), Fail> {
         (LineFault::Base64, 2, "line 2 Base64"),
         (LineFault::WordDiffers, 3, "line 3 WordDiffers"),
         (LineFault::NoMemory, 4, "line 4 NoMemory"),
+    ];
+    for (fault, number, text) in rows {
+        assert_eq!(rt; fault.number(), number);
+        let printed = format!(in rt.alloc(); "{fault}")?;
+        assert_eq!(rt; printed.as_str(), text);
+    }
+    Ok(())
+}
+
+#[test]
+fn faults_of_fingerprints(rt: HostRuntime) -> Result<(), Fail> {
+    let rows = [
+        (FingerprintFault::Prefix, 1, "fingerprint 1 Prefix"),
+        (FingerprintFault::Base64, 2, "fingerprint 2 Base64"),
+        (FingerprintFault::Length, 3, "fingerprint 3 Length"),
+        (FingerprintFault::NoMemory, 4, "fingerprint 4 NoMemory"),
     ];
     for (fault, number, text) in rows {
         assert_eq!(rt; fault.number(), number);

@@ -1,0 +1,154 @@
+-- Reading a printed fingerprint and the relation: what is read is one, each one is read, and the fault
+-- that is met is the first.
+use Rattle.std.proofs.Common.{◌≡◌, ◌≢◌, ℕ, Bool, true, false, cond, eqb, List, ◌++◌, Result, Ok, Err, length, drop, nat_eq, refl, sym, ap, subst, ◌∙◌, inl, inr, ◌⊎◌}
+use Rattle.std.specs.Prelude.{IfErr, IfOk}
+use Rattle.std.specs.List.{starts_with}
+use Rattle.std.proofs.lemmas.Bool.{cases_Bool, eq-eqb, eqb-true, eqb-false, ne_eqb}
+use Rattle.std.proofs.lemmas.Bool.Decides.{Decides-eqb}
+use Rattle.std.proofs.lemmas.List.{drop_at}
+use Rattle.std.proofs.lemmas.Slice.Eq.{starts_is}
+use Rattle.base64.proofs.EngineFacts.{decode_of-encode_of, decode_of_strict}
+use Rattle.base64.specs.Engines.{standard_no_pad}
+use Rattle.base64.specs.GeneralPurpose.{decode_of}
+use Rattle.base64.specs.declared.decode.DecodeError.{DecodeError}
+use Rattle.ssh_wire.specs.Wire.{IsBytes}
+use Rattle.ssh_key.specs.Fingerprints.{unpadded}
+use Rattle.ssh_key.specs.FingerprintReading.{Encodes, GivesDigest, HasOtherBase64, IsFingerprint, IsFingerprintFault, IsToldFingerprintFault, fingerprint_at, sha256_prefix, sized}
+use Rattle.ssh_key.specs.declared.fingerprint_fault.FingerprintFault.{FingerprintFault}
+use Rattle.ssh_key.specs.declared.fingerprint_fault.FingerprintFault.TheVariants.{Prefix, Base64, Length, NoMemory}
+use Rattle.ssh_key.proofs.DecodedBytes.{engine_fits}
+use Rattle.ssh_key.proofs.Steps.{err_is, ok_or_err}
+use Rattle.ssh_key.proofs.Wire.{IsBytes-behind}
+
+-- ---- the prefix
+
+prefix_taken : (text : List ℕ) → starts_with nat_eq text sha256_prefix ≡ true → text ≡ sha256_prefix ++ drop 7 text
+prefix_taken text h = (starts_is Decides-eqb text sha256_prefix (starts_with nat_eq text sha256_prefix) refl).0 h
+
+prefix_met : (text rest : List ℕ) → text ≡ sha256_prefix ++ rest → starts_with nat_eq text sha256_prefix ≡ true
+prefix_met text rest e = (starts_is Decides-eqb text sha256_prefix (starts_with nat_eq text sha256_prefix) refl).1 rest e
+
+behind : (text rest : List ℕ) → text ≡ sha256_prefix ++ rest → drop 7 text ≡ rest
+behind text rest e = rw e (drop_at sha256_prefix rest 7 refl)
+
+-- reading goes on behind the prefix, or stops at it
+pub prefixed_at : (text rest : List ℕ) → text ≡ sha256_prefix ++ rest → fingerprint_at text ≡ sized (decode_of standard_no_pad rest)
+unfolding fingerprint_at
+prefixed_at text rest e =
+    let met = prefix_met text rest e in
+    rw met (ap (λ (xs : List ℕ). sized (decode_of standard_no_pad xs)) (behind text rest e))
+
+prefix_or_not : (text : List ℕ) → ((fingerprint_at text ≡ Err Prefix) × ((rest : List ℕ) → text ≢ sha256_prefix ++ rest)) ⊎ ((rest : List ℕ) × (text ≡ sha256_prefix ++ rest))
+unfolding fingerprint_at
+prefix_or_not text = elim (cases_Bool (starts_with nat_eq text sha256_prefix)) [
+  | inl met ↦ inr (drop 7 text, prefix_taken text met)
+  | inr not ↦ inl (rw not refl, λ rest e. let met = prefix_met text rest e in cc)
+]
+
+-- ---- the base64
+
+abbrev done : List ℕ → Result (List ℕ) DecodeError
+done bytes = Ok bytes
+
+sized_ok : (read : Result (List ℕ) DecodeError) (digest : List ℕ) → sized read ≡ Ok digest → (read ≡ Ok digest) × (length digest ≡ 32)
+sized_ok (Err error) digest e = absurd cc
+sized_ok (Ok bytes) digest e = by_test (eqb (length bytes) 32) refl e
+  where
+    by_test : (b : Bool) → eqb (length bytes) 32 ≡ b → cond {A = Result (List ℕ) FingerprintFault} b (Ok bytes) (Err Length) ≡ Ok digest → (done bytes ≡ Ok digest) × (length digest ≡ 32)
+    by_test true test given = let same : bytes ≡ digest = cc in (ap done same, ap length (sym same) ∙ eqb-true _ _ test)
+    by_test false test given = absurd cc
+
+-- what is refused there: no base64, or that of another count of bytes
+Refused : Result (List ℕ) DecodeError → FingerprintFault → Type 0
+Refused read fault =
+    ((error : DecodeError) × (read ≡ Err error) × (fault ≡ Base64))
+    ⊎ ((bytes : List ℕ) × (read ≡ Ok bytes) × (length bytes ≢ 32) × (fault ≡ Length))
+
+sized_err : (read : Result (List ℕ) DecodeError) (fault : FingerprintFault) → sized read ≡ Err fault → Refused read fault
+unfolding Refused
+sized_err (Err error) fault e = let same : fault ≡ Base64 = cc in inl (error, refl, same)
+sized_err (Ok bytes) fault e = by_test (eqb (length bytes) 32) refl e
+  where
+    by_test : (b : Bool) → eqb (length bytes) 32 ≡ b → cond {A = Result (List ℕ) FingerprintFault} b (Ok bytes) (Err Length) ≡ Err fault → Refused (Ok bytes) fault
+    by_test true test given = absurd cc
+    by_test false test given = let same : fault ≡ Length = cc in inr (bytes, refl, eqb-false _ _ test, same)
+
+decoded_encodes : (text rest bytes : List ℕ) → IsBytes text → text ≡ sha256_prefix ++ rest → decode_of standard_no_pad rest ≡ Ok bytes → Encodes text bytes
+unfolding unpadded
+decoded_encodes text rest bytes fits e read =
+    let rest_fits : IsBytes rest = IsBytes-behind sha256_prefix rest (subst IsBytes e fits) in
+    record {
+      spelled = e ∙ ap (λ (xs : List ℕ). sha256_prefix ++ xs) (decode_of_strict standard_no_pad rest bytes (refl, refl) rest_fits read);
+      are_bytes = engine_fits standard_no_pad rest bytes rest_fits read;
+    }
+
+encoded_again : (bytes : List ℕ) → IsBytes bytes → decode_of standard_no_pad (unpadded bytes) ≡ Ok bytes
+unfolding unpadded
+encoded_again bytes fits = decode_of-encode_of standard_no_pad bytes refl fits
+
+-- ---- the whole
+
+pub fingerprint_found : (text digest : List ℕ) → IsBytes text → fingerprint_at text ≡ Ok digest → IsFingerprint text digest
+fingerprint_found text digest fits e = elim (prefix_or_not text) [
+  | inl none ↦ absurd (ok_or_err digest Prefix (fingerprint_at text) e none.0)
+  | inr has ↦
+      let kept = sized_ok (decode_of standard_no_pad has.0) digest (sym (prefixed_at text has.0 has.1) ∙ e) in
+      record { encodes = decoded_encodes text has.0 digest fits has.1 kept.0; size = kept.1 }
+]
+
+pub fingerprint_again : (text digest : List ℕ) → IsFingerprint text digest → fingerprint_at text ≡ Ok digest
+fingerprint_again text digest is =
+    let test : eqb (length digest) 32 ≡ true = eq-eqb (length digest) 32 is.size in
+    prefixed_at text (unpadded digest) is.encodes.spelled ∙ rw (encoded_again digest is.encodes.are_bytes, test) refl
+
+refused_there : (text rest : List ℕ) (fault : FingerprintFault) → IsBytes text → text ≡ sha256_prefix ++ rest → Refused (decode_of standard_no_pad rest) fault → IsFingerprintFault text fault
+unfolding Refused
+refused_there text rest fault fits e (inl bad) =
+    let is : HasOtherBase64 text = record { rest = rest; prefixed = e; none = λ bytes bytes_fit same. ok_or_err bytes bad.0 (decode_of standard_no_pad rest) (ap (decode_of standard_no_pad) (sym same) ∙ encoded_again bytes bytes_fit) bad.1 } in
+    subst (IsFingerprintFault text) (sym bad.2) is
+refused_there text rest fault fits e (inr other) =
+    subst (IsFingerprintFault text) (sym other.3) (other.0, decoded_encodes text rest other.0 fits e other.1, other.2)
+
+pub fingerprint_refused : (text : List ℕ) (fault : FingerprintFault) → IsBytes text → fingerprint_at text ≡ Err fault → IsFingerprintFault text fault
+fingerprint_refused text fault fits e = elim (prefix_or_not text) [
+  | inl none ↦ subst (IsFingerprintFault text) (err_is Prefix fault (fingerprint_at text) none.0 e) none.1
+  | inr has ↦ refused_there text has.0 fault fits has.1 (sized_err (decode_of standard_no_pad has.0) fault (sym (prefixed_at text has.0 has.1) ∙ e))
+]
+
+-- ---- what a function answers
+
+pub is_fingerprint : (text : List ℕ) (result : Result (List ℕ) FingerprintFault) → IsBytes text → GivesDigest result (fingerprint_at text) → IfOk result (IsFingerprint text)
+is_fingerprint text (Ok digest) fits given = fingerprint_found text digest fits given
+is_fingerprint text (Err fault) fits given = tt
+
+prefix_stands : (text : List ℕ) → fingerprint_at text ≢ Err Prefix → (rest : List ℕ) × (text ≡ sha256_prefix ++ rest)
+prefix_stands text some = elim (prefix_or_not text) [
+  | inl none ↦ absurd (some none.0)
+  | inr has ↦ has
+]
+
+pub is_told : (text : List ℕ) (result : Result (List ℕ) FingerprintFault) → IsBytes text → GivesDigest result (fingerprint_at text) → IfErr result (IsToldFingerprintFault text)
+is_told text (Ok digest) fits given = tt
+is_told text (Err Prefix) fits given = fingerprint_refused text Prefix fits given
+is_told text (Err Base64) fits given = fingerprint_refused text Base64 fits given
+is_told text (Err Length) fits given = fingerprint_refused text Length fits given
+is_told text (Err NoMemory) fits given = prefix_stands text given
+
+-- ---- a first fault is what is met
+
+pub fingerprint_fault_met : (text : List ℕ) (fault : FingerprintFault) → IsBytes text → IsFingerprintFault text fault → fingerprint_at text ≡ Err fault
+fingerprint_fault_met text Prefix fits none = elim (prefix_or_not text) [
+  | inl met ↦ met.0
+  | inr has ↦ absurd (none has.0 has.1)
+]
+fingerprint_fault_met text Base64 fits other = prefixed_at text other.rest other.prefixed ∙ refused_base64 (decode_of standard_no_pad other.rest) refl
+  where
+    refused_base64 : (read : Result (List ℕ) DecodeError) → decode_of standard_no_pad other.rest ≡ read → sized read ≡ Err Base64
+    refused_base64 (Err error) e = refl
+    refused_base64 (Ok bytes) e =
+        let is = decoded_encodes text other.rest bytes fits other.prefixed e in
+        absurd (other.none bytes is.are_bytes (sym (behind text (unpadded bytes) is.spelled) ∙ behind text other.rest other.prefixed))
+fingerprint_fault_met text Length fits other =
+    let test : eqb (length other.0) 32 ≡ false = ne_eqb (length other.0) 32 other.2 in
+    prefixed_at text (unpadded other.0) other.1.spelled ∙ rw (encoded_again other.0 other.1.are_bytes, test) refl
+fingerprint_fault_met text NoMemory fits never = absurd never

@@ -1,0 +1,51 @@
+// Reading a printed fingerprint.
+
+ghost use Rattle.std.specs.Prelude.{◌≡◌, ℕ, List, IfErr, IfOk, Ok};
+ghost use Rattle.base64.specs.Engines.{standard_no_pad};
+ghost use Rattle.base64.specs.GeneralPurpose.{decode_of};
+ghost use Rattle.ssh_key.specs.FingerprintReading.{GivesDigest, IsFingerprint, IsToldFingerprintFault, fingerprint_at, sized};
+
+use crate::fingerprint_fault::FingerprintFault;
+use base64::DecodeAllocError;
+use base64::engine::general_purpose::STANDARD_NO_PAD;
+use std::alloc::Global;
+
+/// The digest that a fingerprint names, as `fingerprint` prints it for `Hash::Sha256`: `SHA256:`, and
+/// the base64 of 32 bytes without padding.
+///
+/// Faults come in the order of their numbers. The bytes are decoded into memory that is asked for
+/// before they are judged, so `NoMemory` may stand in place of any answer but `Prefix`.
+pub fn parse_fingerprint(alloc: Global, text: &[u8]) -> Result<[u8; 32], FingerprintFault>
+    // What is read is a fingerprint.
+    ensures found { IfOk result (λ digest. IsFingerprint text.now digest) }
+    // Each fingerprint is read, unless memory runs out.
+    ensures only { (digest : List ℕ) → IsFingerprint text.now digest
+        → GivesDigest result (Ok digest) }
+    // The fault is the first one of the text, unless memory runs out.
+    ensures fault { IfErr result (λ fault. IsToldFingerprintFault text.now fault) }
+    // The same, for those who compute with the answer.
+    ensures exact { GivesDigest result (fingerprint_at text.now) }
+{
+    read_digest(alloc, text)
+}
+
+#[tactic(auto, unfolding(crate::specs::FingerprintReading::fingerprint_at))]
+fn read_digest(alloc: Global, text: &[u8]) -> Result<[u8; 32], FingerprintFault>
+    ensures { GivesDigest result (fingerprint_at text.now) }
+{
+    let prefix = b"SHA256:";
+    if !text.starts_with(prefix) {
+        return Err(FingerprintFault::Prefix);
+    }
+    digest(alloc, &text[7..])
+}
+
+fn digest(alloc: Global, base64: &[u8]) -> Result<[u8; 32], FingerprintFault>
+    ensures { GivesDigest result (sized (decode_of standard_no_pad base64.now)) }
+{
+    match STANDARD_NO_PAD.decode(alloc, base64) {
+        Ok(bytes) => <[u8; 32]>::try_from(bytes.as_slice()).map_err(|_| FingerprintFault::Length),
+        Err(DecodeAllocError::DecodeError(_)) => Err(FingerprintFault::Base64),
+        Err(DecodeAllocError::OutOfMemory) => Err(FingerprintFault::NoMemory),
+    }
+}
