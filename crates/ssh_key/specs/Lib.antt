@@ -14,3 +14,4 @@ pub mod LineFaults
 pub mod Fingerprints
 pub mod FingerprintFault
 pub mod FingerprintReading
+pub mod KeyFile

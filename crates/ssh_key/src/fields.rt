@@ -23,41 +23,41 @@ pub enum Size<'a> {
 
 /// Reads the public fields of a key of this kind.
 #[tactic(auto, unfolding(crate::specs::KeyReading::bits_at, crate::specs::KeyReading::fields_at))]
-pub fn size_at<'a>(kind: Kind, cursor: &mut Cursor<'a>) -> Result<Size<'a>, KeyFault>
+pub fn read_size<'a>(kind: Kind, cursor: &mut Cursor<'a>) -> Result<Size<'a>, KeyFault>
     ensures read { Reads bits_of_size result cursor.new (bits_at kind cursor.old) }
     ensures within { IfOk result (λ size. IsWithin size (length cursor.old - length cursor.new)) }
 {
     match kind {
-        Kind::Rsa => Ok(Size::Magnitude(modulus(cursor)?)),
-        Kind::Dsa => Ok(Size::Magnitude(prime(cursor)?)),
+        Kind::Rsa => Ok(Size::Magnitude(read_modulus(cursor)?)),
+        Kind::Dsa => Ok(Size::Magnitude(read_prime(cursor)?)),
         Kind::Ecdsa256 => {
-            let _curve = curve(cursor, "nistp256")?;
-            let _point = point(cursor, 65)?;
+            let _curve = read_curve(cursor, "nistp256")?;
+            let _point = read_point(cursor, 65)?;
             Ok(Size::Bits(256))
         }
         Kind::Ecdsa384 => {
-            let _curve = curve(cursor, "nistp384")?;
-            let _point = point(cursor, 97)?;
+            let _curve = read_curve(cursor, "nistp384")?;
+            let _point = read_point(cursor, 97)?;
             Ok(Size::Bits(384))
         }
         Kind::Ecdsa521 => {
-            let _curve = curve(cursor, "nistp521")?;
-            let _point = point(cursor, 133)?;
+            let _curve = read_curve(cursor, "nistp521")?;
+            let _point = read_point(cursor, 133)?;
             Ok(Size::Bits(521))
         }
         Kind::Ed25519 => {
-            let _public = sized(cursor, ED25519_SIZE)?;
+            let _public = read_sized(cursor, ED25519_SIZE)?;
             Ok(Size::Bits(256))
         }
         Kind::EcdsaSk => {
-            let _curve = curve(cursor, "nistp256")?;
-            let _point = point(cursor, 65)?;
-            let _application = text(cursor)?;
+            let _curve = read_curve(cursor, "nistp256")?;
+            let _point = read_point(cursor, 65)?;
+            let _application = read_text(cursor)?;
             Ok(Size::Bits(256))
         }
         Kind::Ed25519Sk => {
-            let _public = sized(cursor, ED25519_SIZE)?;
-            let _application = text(cursor)?;
+            let _public = read_sized(cursor, ED25519_SIZE)?;
+            let _application = read_text(cursor)?;
             Ok(Size::Bits(256))
         }
     }
@@ -65,31 +65,31 @@ pub fn size_at<'a>(kind: Kind, cursor: &mut Cursor<'a>) -> Result<Size<'a>, KeyF
 
 /// Reads the public fields of an RSA key: the exponent, and the modulus, which is answered.
 #[tactic(auto, unfolding(crate::specs::KeyReading::bits_at, crate::specs::KeyReading::fields_at))]
-fn modulus<'a>(cursor: &mut Cursor<'a>) -> Result<&'a [u8], KeyFault>
+fn read_modulus<'a>(cursor: &mut Cursor<'a>) -> Result<&'a [u8], KeyFault>
     ensures read { Reads (λ modulus. bit_count modulus.now) result cursor.new (bits_at Kind.Rsa cursor.old) }
     ensures within { IfOk result (λ modulus. length modulus.now + length cursor.new ≤ length cursor.old) }
 {
-    let _exponent = positive(cursor)?;
-    let modulus = positive(cursor)?;
+    let _exponent = read_positive(cursor)?;
+    let modulus = read_positive(cursor)?;
     Ok(modulus)
 }
 
 /// Reads the public fields of a DSA key: the prime, which is answered, and three numbers more.
 #[tactic(auto, unfolding(crate::specs::KeyReading::bits_at, crate::specs::KeyReading::fields_at))]
-fn prime<'a>(cursor: &mut Cursor<'a>) -> Result<&'a [u8], KeyFault>
+fn read_prime<'a>(cursor: &mut Cursor<'a>) -> Result<&'a [u8], KeyFault>
     ensures read { Reads (λ prime. bit_count prime.now) result cursor.new (bits_at Kind.Dsa cursor.old) }
     ensures within { IfOk result (λ prime. length prime.now + length cursor.new ≤ length cursor.old) }
 {
-    let prime = positive(cursor)?;
-    let _subprime = positive(cursor)?;
-    let _generator = positive(cursor)?;
-    let _public = positive(cursor)?;
+    let prime = read_positive(cursor)?;
+    let _subprime = read_positive(cursor)?;
+    let _generator = read_positive(cursor)?;
+    let _public = read_positive(cursor)?;
     Ok(prime)
 }
 
 /// A number above zero: its magnitude.
 #[tactic(auto, unfolding(crate::specs::KeyReading::field_at))]
-fn positive<'a>(cursor: &mut Cursor<'a>) -> Result<&'a [u8], KeyFault>
+fn read_positive<'a>(cursor: &mut Cursor<'a>) -> Result<&'a [u8], KeyFault>
     ensures read { Reads (λ value. value.now) result cursor.new (field_at Positive cursor.old) }
     ensures within { IfOk result (λ value. length value.now + length cursor.new ≤ length cursor.old) }
 {
@@ -102,7 +102,7 @@ fn positive<'a>(cursor: &mut Cursor<'a>) -> Result<&'a [u8], KeyFault>
 
 /// The name of a curve.
 #[tactic(auto, unfolding(crate::specs::KeyReading::field_at))]
-fn curve<'a>(cursor: &mut Cursor<'a>, name: &str) -> Result<&'a [u8], KeyFault>
+fn read_curve<'a>(cursor: &mut Cursor<'a>, name: &str) -> Result<&'a [u8], KeyFault>
     ensures { Reads (λ value. value.now) result cursor.new (field_at (Curve name.now) cursor.old) }
 {
     let string = cursor.string()?;
@@ -114,7 +114,7 @@ fn curve<'a>(cursor: &mut Cursor<'a>, name: &str) -> Result<&'a [u8], KeyFault>
 
 /// A point of a curve, uncompressed, in so many bytes.
 #[tactic(auto, unfolding(crate::specs::KeyReading::field_at))]
-fn point<'a>(cursor: &mut Cursor<'a>, size: usize) -> Result<&'a [u8], KeyFault>
+fn read_point<'a>(cursor: &mut Cursor<'a>, size: usize) -> Result<&'a [u8], KeyFault>
     ensures { Reads (λ value. value.now) result cursor.new (field_at (Point size) cursor.old) }
 {
     let string = cursor.string()?;
@@ -129,7 +129,7 @@ fn point<'a>(cursor: &mut Cursor<'a>, size: usize) -> Result<&'a [u8], KeyFault>
 
 /// A string of so many bytes.
 #[tactic(auto, unfolding(crate::specs::KeyReading::field_at))]
-fn sized<'a>(cursor: &mut Cursor<'a>, size: usize) -> Result<&'a [u8], KeyFault>
+fn read_sized<'a>(cursor: &mut Cursor<'a>, size: usize) -> Result<&'a [u8], KeyFault>
     ensures { Reads (λ value. value.now) result cursor.new (field_at (Sized size) cursor.old) }
 {
     let string = cursor.string()?;
@@ -141,7 +141,7 @@ fn sized<'a>(cursor: &mut Cursor<'a>, size: usize) -> Result<&'a [u8], KeyFault>
 
 /// Any string.
 #[tactic(auto, unfolding(crate::specs::KeyReading::field_at))]
-fn text<'a>(cursor: &mut Cursor<'a>) -> Result<&'a [u8], KeyFault>
+fn read_text<'a>(cursor: &mut Cursor<'a>) -> Result<&'a [u8], KeyFault>
     ensures { Reads (λ value. value.now) result cursor.new (field_at Text cursor.old) }
 {
     Ok(cursor.string()?)

@@ -9,7 +9,7 @@ ghost use Rattle.ssh_key.specs.Kind.{bit_count, short_name_of, type_name};
 ghost use Rattle.ssh_key.specs.Fields.{IsWithin, bits_of_size};
 
 use crate::fault::KeyFault;
-use crate::fields::{Size, size_at};
+use crate::fields::{Size, read_size};
 use crate::kind::Kind;
 use ssh_wire::Cursor;
 use std::marker::Model;
@@ -105,8 +105,8 @@ fn key_of<'a>(blob: &'a [u8]) -> Result<PublicKey<'a>, KeyFault>
         return Err(KeyFault::TooLong);
     }
     let mut cursor = Cursor::new(blob);
-    let kind = kind_of(&mut cursor)?;
-    let key = public_fields(kind, &mut cursor)?;
+    let kind = read_kind(&mut cursor)?;
+    let key = read_public(kind, &mut cursor)?;
     if !cursor.at_end() {
         return Err(KeyFault::Trailing);
     }
@@ -115,7 +115,7 @@ fn key_of<'a>(blob: &'a [u8]) -> Result<PublicKey<'a>, KeyFault>
 
 /// The kind by the type name.
 #[tactic(auto, unfolding(crate::specs::KeyReading::kind_at))]
-fn kind_of(cursor: &mut Cursor) -> Result<Kind, KeyFault>
+fn read_kind(cursor: &mut Cursor) -> Result<Kind, KeyFault>
     ensures { Reads (λ kind. kind) result cursor.new (kind_at cursor.old) }
 {
     let name = cursor.string()?;
@@ -140,18 +140,18 @@ pub fn read_fields<'a>(kind: Kind, cursor: &mut Cursor<'a>) -> Result<PublicKey<
     // The same, for those who compute with the answer.
     ensures exact { Takes (λ key. key) result cursor.old cursor.new (public_at kind cursor.old) }
 {
-    public_fields(kind, cursor)
+    read_public(kind, cursor)
 }
 
 #[tactic(auto, unfolding(crate::specs::KeyReading::public_at))]
-fn public_fields<'a>(kind: Kind, cursor: &mut Cursor<'a>) -> Result<PublicKey<'a>, KeyFault>
+fn read_public<'a>(kind: Kind, cursor: &mut Cursor<'a>) -> Result<PublicKey<'a>, KeyFault>
     ensures exact { Takes (λ key. key) result cursor.old cursor.new (public_at kind cursor.old) }
     ensures bytes { IsBytes cursor.old }
 {
     let bytes = cursor.rest();
     are_bytes(bytes);
     let mut ahead = Cursor::new(bytes);
-    let size = size_at(kind, &mut ahead)?;
+    let size = read_size(kind, &mut ahead)?;
     let fields = &bytes[..bytes.len() - ahead.rest().len()];
     if fields.len() > longest_fields(kind) {
         return Err(KeyFault::TooLong);

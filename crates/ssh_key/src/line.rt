@@ -19,7 +19,8 @@ mod options;
 mod words;
 
 use options::after_options;
-use words::{after_blanks, split_word, trimmed};
+pub use words::trimmed;
+use words::{after_blanks, split_word};
 
 /// What a key line holds.
 #[derive(Debug, Drop)]

@@ -3,7 +3,9 @@
 mod fault;
 mod fingerprints;
 mod key;
+mod key_file;
 mod kind;
+mod large;
 mod lines;
 mod parsing;
 mod parts;

@@ -24,10 +24,10 @@ refused kind old new (Ok key) fits read = tt
 refused kind old new (Err fault) fits read = public_refused kind old fault fits read.0
 
 pub returns-clause-found : goal.returns-clause-found
-returns-clause-found c = found c.args.kind c.args.cursor.now c.public_fields.new.cursor c.public_fields.result c.public_fields.ensures.bytes c.public_fields.ensures.exact
+returns-clause-found c = found c.args.kind c.args.cursor.now c.read_public.new.cursor c.read_public.result c.read_public.ensures.bytes c.read_public.ensures.exact
 
 pub returns-clause-only : goal.returns-clause-only
-returns-clause-only c = λ key rest same begins. read_again c.args.cursor.now c.public_fields.new.cursor rest key c.public_fields.result (public_at c.args.kind c.args.cursor.now) (public_again c.args.kind c.args.cursor.now rest key same begins) c.public_fields.ensures.exact
+returns-clause-only c = λ key rest same begins. read_again c.args.cursor.now c.read_public.new.cursor rest key c.read_public.result (public_at c.args.kind c.args.cursor.now) (public_again c.args.kind c.args.cursor.now rest key same begins) c.read_public.ensures.exact
 
 pub returns-clause-fault : goal.returns-clause-fault
-returns-clause-fault c = refused c.args.kind c.args.cursor.now c.public_fields.new.cursor c.public_fields.result c.public_fields.ensures.bytes c.public_fields.ensures.exact
+returns-clause-fault c = refused c.args.kind c.args.cursor.now c.read_public.new.cursor c.read_public.result c.read_public.ensures.bytes c.read_public.ensures.exact

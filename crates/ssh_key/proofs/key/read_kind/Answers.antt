@@ -1,6 +1,6 @@
 use Rattle.ssh_key.proofs.Names.{named_is}
 use Rattle.ssh_key.proofs.Keys.{kind_read}
-use Rattle.ssh_key.proofs.key.kind_of.Goals as goal
+use Rattle.ssh_key.proofs.key.read_kind.Goals as goal
 
 pub returns : goal.returns
 returns c =

@@ -1,0 +1,84 @@
+// Inputs past every page and limit, with memory enough: none is refused for its size.
+
+use crate::tests::parts::{PUBLISHED, strings};
+use crate::{Hash, KeyFault, fingerprint, plain_blob, read_key, read_line};
+use base64::engine::general_purpose::STANDARD;
+use std::alloc::Global;
+use std::process::Abort;
+use std::test::Fail;
+
+/// A key of a device whose application has so many bytes.
+fn device_key(alloc: Global, size: usize) -> Result<Vec<u8>, Fail> {
+    let application = vec![in alloc; b'x'; size]?;
+    strings(
+        alloc,
+        &[b"sk-ssh-ed25519@openssh.com", &PUBLISHED, &application],
+    )
+}
+
+/// The line of a key and a comment of so many bytes is read.
+fn reads_line(
+    rt: &impl Abort,
+    alloc: Global,
+    application: usize,
+    comment: usize,
+) -> Result<(), Fail> {
+    let blob = device_key(alloc, application)?;
+    let comment = vec![in alloc; b'c'; comment]?;
+    let base64 = STANDARD.encode(alloc, &blob)?;
+    let mut text = vec![in alloc; b' '; 1]?;
+    text.extend_from_slice(b"sk-ssh-ed25519@openssh.com ")?;
+    text.extend_from_slice(base64.as_bytes())?;
+    text.push(b' ')?;
+    text.extend_from_slice(&comment)?;
+    let line = read_line(alloc, &text)?;
+    assert_eq!(rt; line.blob.as_slice(), blob.as_slice());
+    assert_eq!(rt; line.comment, comment.as_slice());
+    Ok(())
+}
+
+#[test]
+fn blobs(rt: HostRuntime) -> Result<(), Fail> {
+    let alloc = rt.alloc();
+    for size in [0, 255, 1_023, 4_000, 4_096, 5_000, 16_384, 65_466] {
+        let blob = device_key(alloc, size)?;
+        let key = read_key(&blob).ok().ok_or("the blob is a key")?;
+        let made = plain_blob(alloc, &key)?;
+        assert_eq!(rt; made.as_slice(), blob.as_slice());
+    }
+    Ok(())
+}
+
+#[test]
+fn lines(rt: HostRuntime) -> Result<(), Fail> {
+    let alloc = rt.alloc();
+    for size in [0, 1_000, 1_025, 4_097, 65_466, 70_000, 300_000] {
+        reads_line(&rt, alloc, size, 1)?;
+        reads_line(&rt, alloc, 1, size)?;
+    }
+    Ok(())
+}
+
+#[test]
+fn long_key_of_a_line(rt: HostRuntime) -> Result<(), Fail> {
+    // A line holds a key of any length: it is the key that is too long, and not the line.
+    let alloc = rt.alloc();
+    let blob = device_key(alloc, 65_467)?;
+    reads_line(&rt, alloc, 65_467, 1)?;
+    assert_eq!(rt; read_key(&blob).err(), Some(KeyFault::TooLong));
+    Ok(())
+}
+
+/// The examples of FIPS 180 and RFC 1321 with a million times the letter a.
+#[test]
+fn fingerprint_of_a_million(rt: HostRuntime) -> Result<(), Fail> {
+    let alloc = rt.alloc();
+    let bytes = vec![in alloc; b'a'; 1_000_000]?;
+    let sha256 = fingerprint(alloc, Hash::Sha256, &bytes)?;
+    let expected = b"SHA256:zcduXJkU+5KBocfihNc+Z/GAmkiklyAOBG05zMcRLNA";
+    assert_eq!(rt; sha256.as_slice(), expected.as_slice());
+    let md5 = fingerprint(alloc, Hash::Md5, &bytes)?;
+    let expected = b"MD5:77:07:d6:ae:4e:02:7c:70:ee:a2:a9:35:c2:29:6f:21";
+    assert_eq!(rt; md5.as_slice(), expected.as_slice());
+    Ok(())
+}
