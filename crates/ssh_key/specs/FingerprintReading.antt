@@ -52,7 +52,8 @@ fingerprint_at text =
 
 -- What a function returned is what reading gives, unless memory ran out. Where the prefix does not
 -- stand, no memory was asked for.
-abbrev pub GivesDigest : Result (List ℕ) FingerprintFault → Result (List ℕ) FingerprintFault → Type 0
+abbrev pub GivesDigest : Result (List ℕ) FingerprintFault → Result (List ℕ) FingerprintFault
+    → Type 0
 GivesDigest (Ok digest) read = read ≡ Ok digest
 GivesDigest (Err NoMemory) read = read ≢ Err Prefix
 GivesDigest (Err fault) read = read ≡ Err fault

@@ -15,28 +15,32 @@ pub record BeginsWith (bytes value : List ℕ) : Type 0 where
   pub spelled : bytes ≡ string value ++ rest
   pub fits : length value < 2 ^ 32
 
--- What stands at the front of the bytes is no value of the field: it is misspelt, or a number that is
--- zero, or a string that may not stand there.
+-- What stands at the front of the bytes is no value of the field: it is misspelt, or a number that
+-- is zero, or a string that may not stand there.
 abbrev pub Refuses : Field → List ℕ → KeyFault → Type 0
 Refuses Positive bytes (faults.Wire fault) = mpint_at bytes ≡ Err fault
 Refuses Positive bytes faults.Number = BeginsWith bytes []
 Refuses field bytes (faults.Wire fault) = string_at bytes ≡ Err fault
-Refuses (Curve name) bytes faults.Curve = (value : List ℕ) × BeginsWith bytes value × ¬ IsValue (Curve name) value
-Refuses (Point size) bytes faults.Point = (value : List ℕ) × BeginsWith bytes value × ¬ IsValue (Point size) value
-Refuses (Sized size) bytes faults.Length = (value : List ℕ) × BeginsWith bytes value × ¬ IsValue (Sized size) value
+Refuses (Curve name) bytes faults.Curve =
+    (value : List ℕ) × BeginsWith bytes value × ¬ IsValue (Curve name) value
+Refuses (Point size) bytes faults.Point =
+    (value : List ℕ) × BeginsWith bytes value × ¬ IsValue (Point size) value
+Refuses (Sized size) bytes faults.Length =
+    (value : List ℕ) × BeginsWith bytes value × ¬ IsValue (Sized size) value
 Refuses field bytes fault = ⊥
 
 -- The bytes are the public fields before the later ones, with values that may stand there, and then
 -- the rest.
-pub record Reaches (kind : Kind) (bytes : List ℕ) (later : List Field) (rest : List ℕ) : Type 0 where
-  pub before : List Field
-  pub values : List (List ℕ)
-  pub fields : fields_of kind ≡ before ++ later
-  pub allowed : AreValues before values
-  pub spelled : bytes ≡ fields_text before values ++ rest
+pub record Reaches (kind : Kind) (bytes : List ℕ) (later : List Field) (rest : List ℕ) : Type 0
+  where
+    pub before : List Field
+    pub values : List (List ℕ)
+    pub fields : fields_of kind ≡ before ++ later
+    pub allowed : AreValues before values
+    pub spelled : bytes ≡ fields_text before values ++ rest
 
--- The first fault of the public fields at the front of bytes. Where each may stand there, the blob of
--- the type name and the fields, without the rest, is too long.
+-- The first fault of the public fields at the front of bytes. Where each may stand there, the blob
+-- of the type name and the fields, without the rest, is too long.
 pub data IsFieldsFault (kind : Kind) (bytes : List ℕ) (fault : KeyFault) : Type 0 where
   in_field : (field : Field) (later : List Field) (rest : List ℕ)
       → Reaches kind bytes (field ∷ later) rest → Refuses field rest fault
@@ -47,7 +51,8 @@ pub data IsFieldsFault (kind : Kind) (bytes : List ℕ) (fault : KeyFault) : Typ
 
 -- the first fault of a blob that is not too long
 pub data IsFault (blob : List ℕ) (fault : KeyFault) : Type 0 where
-  no_name : (why : WireFault) → string_at blob ≡ Err why → fault ≡ faults.Wire why → IsFault blob fault
+  no_name : (why : WireFault) → string_at blob ≡ Err why → fault ≡ faults.Wire why
+      → IsFault blob fault
   no_kind : (name : List ℕ) → BeginsWith blob name → ((kind : Kind) → type_name kind ≢ name)
       → fault ≡ faults.UnknownType → IsFault blob fault
   in_fields : (kind : Kind) (fields : List ℕ) → blob ≡ string (type_name kind) ++ fields

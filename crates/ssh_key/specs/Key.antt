@@ -1,4 +1,5 @@
--- What a public key is, and the one spelling of its blob (RFC 4253 section 6.6, RFC 5656, RFC 8709).
+-- What a public key is, and the one spelling of its blob (RFC 4253 section 6.6, RFC 5656 and
+-- RFC 8709).
 use Rattle.std.specs.Prelude.{◌≡◌, ℕ, ◌+◌, ◌^◌, ◌<◌, ◌≤◌, List, [], ◌∷◌, ◌++◌, length}
 use Rattle.ssh_wire.specs.Wire.{mpint, string}
 use Rattle.ssh_key.specs.declared.kind.Kind.{Kind}

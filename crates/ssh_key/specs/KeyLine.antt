@@ -23,15 +23,18 @@ IsNoPair byte (next ∷ rest) = (byte ≡ backslash) → next ≢ quote
 pub data Quoted : List ℕ → Type 0 where
   quoted_end : Quoted []
   quoted_pair : (rest : List ℕ) → Quoted rest → Quoted (backslash ∷ quote ∷ rest)
-  quoted_byte : (byte : ℕ) (rest : List ℕ) → byte ≢ quote → IsNoPair byte (rest ++ quote ∷ []) → Quoted rest → Quoted (byte ∷ rest)
+  quoted_byte : (byte : ℕ) (rest : List ℕ) → byte ≢ quote → IsNoPair byte (rest ++ quote ∷ [])
+      → Quoted rest → Quoted (byte ∷ rest)
 
 -- An options field is a row of pieces: a pair; another byte, neither a blank nor a quote; or a
 -- quote, what may stand between two, and a quote.
 pub data Options : List ℕ → Type 0 where
   options_end : Options []
   options_pair : (rest : List ℕ) → Options rest → Options (backslash ∷ quote ∷ rest)
-  options_byte : (byte : ℕ) (rest : List ℕ) → byte ≢ quote → is_blank byte ≡ false → IsNoPair byte rest → Options rest → Options (byte ∷ rest)
-  options_quoted : (inner rest : List ℕ) → Quoted inner → Options rest → Options (quote ∷ (inner ++ quote ∷ rest))
+  options_byte : (byte : ℕ) (rest : List ℕ) → byte ≢ quote → is_blank byte ≡ false
+      → IsNoPair byte rest → Options rest → Options (byte ∷ rest)
+  options_quoted : (inner rest : List ℕ) → Quoted inner → Options rest
+      → Options (quote ∷ (inner ++ quote ∷ rest))
 
 -- the bytes in base64 (RFC 4648 section 4), with padding
 unfoldable pub base64 : List ℕ → List ℕ
@@ -40,9 +43,11 @@ base64 bytes = encode_of standard bytes
 -- nothing, or blanks and the comment, which begins with no blank
 pub data Comment : List ℕ → List ℕ → Type 0 where
   no_comment : Comment [] []
-  comment_after : (blanks comment : List ℕ) → AreBlanks blanks → BeginsWithNoBlank comment → Comment (blanks ++ comment) comment
+  comment_after : (blanks comment : List ℕ) → AreBlanks blanks → BeginsWithNoBlank comment
+      → Comment (blanks ++ comment) comment
 
--- A line from its type word on: a type name, blanks, the word that encodes the key, and the comment.
+-- A line from its type word on: a type name, blanks, the word that encodes the key, and the
+-- comment.
 pub record AreWords (line word encoded comment : List ℕ) : Type 0 where
   pub name : Contains type_names word
   pub blanks : List ℕ
@@ -69,8 +74,8 @@ HasWords text word encoded comment =
     AreWords (trimmed text) word encoded comment
     ⊎ AreWordsBehindOptions (trimmed text) word encoded comment
 
--- The word behind the type word is the base64 of the key. The key begins with the string of the type
--- word.
+-- The word behind the type word is the base64 of the key. The key begins with the string of the
+-- type word.
 pub record IsKeyLine (text word blob comment : List ℕ) : Type 0 where
   pub words : HasWords text word (base64 blob) comment
   pub bytes : IsBytes blob

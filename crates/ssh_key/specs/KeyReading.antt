@@ -32,7 +32,8 @@ begins_with_4 (byte ∷ bytes) = byte == 4
 abbrev pub fault_in : Field → List ℕ → Option KeyFault
 fault_in Positive value = if length value == 0 then Some faults.Number else None
 fault_in (Curve name) value = if bytes_eq value name then None else Some faults.Curve
-fault_in (Point size) value = if length value == size && begins_with_4 value then None else Some faults.Point
+fault_in (Point size) value =
+    if length value == size && begins_with_4 value then None else Some faults.Point
 fault_in (Sized size) value = if length value == size then None else Some faults.Length
 fault_in Text value = None
 
@@ -74,7 +75,8 @@ abbrev pub before_rest : List ℕ → List ℕ → List ℕ
 before_rest bytes rest = take (length bytes - length rest) bytes
 
 abbrev pub of_size : Kind → List ℕ → ℕ × List ℕ → Key
-of_size kind bytes (bits, rest) = record { kind = kind; fields = before_rest bytes rest; bits = bits }
+of_size kind bytes (bits, rest) =
+    record { kind = kind; fields = before_rest bytes rest; bits = bits }
 
 -- unless its blob is too long
 abbrev pub not_too_long : Key → List ℕ → Result (Key × List ℕ) KeyFault
@@ -95,12 +97,14 @@ key_at blob = if nat_lt longest_blob (length blob) then Err faults.TooLong else 
   if length key.1 == 0 then Ok key.0 else Err faults.Trailing
 
 -- A read answered what reading gives, and left the bytes after it.
-abbrev pub Reads : {X Y : Type 0} → (X → Y) → Result X KeyFault → List ℕ → Result (Y × List ℕ) KeyFault → Type 0
+abbrev pub Reads : {X Y : Type 0} → (X → Y) → Result X KeyFault → List ℕ
+    → Result (Y × List ℕ) KeyFault → Type 0
 Reads view (Ok x) left read = read ≡ Ok (view x, left)
 Reads view (Err fault) left read = read ≡ Err fault
 
 -- The same, and a refusal left all of the bytes.
-abbrev pub Takes : {X Y : Type 0} → (X → Y) → Result X KeyFault → List ℕ → List ℕ → Result (Y × List ℕ) KeyFault → Type 0
+abbrev pub Takes : {X Y : Type 0} → (X → Y) → Result X KeyFault → List ℕ → List ℕ
+    → Result (Y × List ℕ) KeyFault → Type 0
 Takes view (Ok x) old new read = read ≡ Ok (view x, new)
 Takes view (Err fault) old new read = (read ≡ Err fault) × (new ≡ old)
 

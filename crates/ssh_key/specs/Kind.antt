@@ -1,4 +1,5 @@
--- The kinds of keys: their type names, the short names of listings, their public fields and their sizes.
+-- The kinds of keys: their names, the names of their certificates, the short names of listings,
+-- their public fields and their sizes.
 use Rattle.std.specs.Prelude.{ℕ, ◌-◌, ◌*◌, List, [], ◌∷◌, length, Option, codes, slice_index_or}
 use Rattle.std.specs.Int.{w8, leading_zeros}
 use Rattle.std.specs.List.{find}
@@ -48,8 +49,8 @@ kind_named name = find (λ kind. bytes_eq (type_name kind) name) kinds
 unfoldable pub kind_certified : List ℕ → Option Kind
 kind_certified name = find (λ kind. bytes_eq (certificate_name kind) name) kinds
 
--- What stands in a public field: a number above zero; the name of the curve; an uncompressed point of
--- so many bytes; any string of so many bytes; any string.
+-- What stands in a public field: a number above zero; the name of the curve; an uncompressed point
+-- of so many bytes; any string of so many bytes; any string.
 pub data Field : Type 0 where
   Positive : Field
   Curve : (name : List ℕ) → Field
@@ -72,7 +73,8 @@ abbrev pub bit_count : List ℕ → ℕ
 bit_count [] = 0
 bit_count (byte ∷ bytes) = 8 * length (byte ∷ bytes) - leading_zeros w8 byte
 
--- the size of a key in bits: of n for RSA (the second number), of p for DSA (the first), else the kind's
+-- The size of a key in bits: of n for RSA (the second number), of p for DSA (the first), and else
+-- of the kind.
 abbrev pub bits_of : Kind → List (List ℕ) → ℕ
 bits_of Rsa values = bit_count (slice_index_or values 1 [])
 bits_of Dsa values = bit_count (slice_index_or values 0 [])

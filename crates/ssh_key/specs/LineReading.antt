@@ -64,7 +64,9 @@ part_behind (Some rest) = part_at (after_blanks rest)
 
 -- the line from its type word on
 unfoldable pub key_part : List ℕ → Option (List ℕ)
-key_part line = if is_type_name (first_word line) then Some line else part_behind (after_options false false line)
+key_part line =
+    if is_type_name (first_word line) then Some line
+    else part_behind (after_options false false line)
 
 abbrev pub or_base64 : Result (List ℕ) DecodeError → Result (List ℕ) LineFault
 or_base64 (Err error) = Err Base64
@@ -83,12 +85,14 @@ has_word word blob = is_string word (string_at blob)
 
 abbrev pub checked : List ℕ → Result (List ℕ) LineFault → List ℕ → Result Content LineFault
 checked word (Err fault) comment = Err fault
-checked word (Ok blob) comment = if has_word word blob then Ok (content word blob comment) else Err WordDiffers
+checked word (Ok blob) comment =
+    if has_word word blob then Ok (content word blob comment) else Err WordDiffers
 
 -- the base64 word and the comment, behind the type word
 unfoldable pub blob_at : List ℕ → List ℕ → Result Content LineFault
 blob_at word [] = Err NoKey
-blob_at word (byte ∷ bytes) = checked word (decoded (first_word (byte ∷ bytes))) (after_blanks (after_word (byte ∷ bytes)))
+blob_at word (byte ∷ bytes) =
+    checked word (decoded (first_word (byte ∷ bytes))) (after_blanks (after_word (byte ∷ bytes)))
 
 abbrev pub content_at : Option (List ℕ) → Result Content LineFault
 content_at None = Err NoKey

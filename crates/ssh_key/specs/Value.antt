@@ -12,4 +12,5 @@ abbrev pub SameValues : List Field → List (List ℕ) → List (List ℕ) → T
 SameValues [] left right = Unit {0}
 SameValues (field ∷ fields) [] right = ⊥
 SameValues (field ∷ fields) (a ∷ left) [] = ⊥
-SameValues (field ∷ fields) (a ∷ left) (b ∷ right) = SameValue field a b × SameValues fields left right
+SameValues (field ∷ fields) (a ∷ left) (b ∷ right) =
+    SameValue field a b × SameValues fields left right

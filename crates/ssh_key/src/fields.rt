@@ -66,8 +66,10 @@ pub fn read_size<'a>(kind: Kind, cursor: &mut Cursor<'a>) -> Result<Size<'a>, Ke
 /// Reads the public fields of an RSA key: the exponent, and the modulus, which is answered.
 #[tactic(auto, unfolding(crate::specs::KeyReading::bits_at, crate::specs::KeyReading::fields_at))]
 fn read_modulus<'a>(cursor: &mut Cursor<'a>) -> Result<&'a [u8], KeyFault>
-    ensures read { Reads (λ modulus. bit_count modulus.now) result cursor.new (bits_at Kind.Rsa cursor.old) }
-    ensures within { IfOk result (λ modulus. length modulus.now + length cursor.new ≤ length cursor.old) }
+    ensures read { Reads (λ modulus. bit_count modulus.now) result cursor.new
+        (bits_at Kind.Rsa cursor.old) }
+    ensures within { IfOk result (λ modulus.
+        length modulus.now + length cursor.new ≤ length cursor.old) }
 {
     let _exponent = read_positive(cursor)?;
     let modulus = read_positive(cursor)?;
@@ -77,8 +79,10 @@ fn read_modulus<'a>(cursor: &mut Cursor<'a>) -> Result<&'a [u8], KeyFault>
 /// Reads the public fields of a DSA key: the prime, which is answered, and three numbers more.
 #[tactic(auto, unfolding(crate::specs::KeyReading::bits_at, crate::specs::KeyReading::fields_at))]
 fn read_prime<'a>(cursor: &mut Cursor<'a>) -> Result<&'a [u8], KeyFault>
-    ensures read { Reads (λ prime. bit_count prime.now) result cursor.new (bits_at Kind.Dsa cursor.old) }
-    ensures within { IfOk result (λ prime. length prime.now + length cursor.new ≤ length cursor.old) }
+    ensures read { Reads (λ prime. bit_count prime.now) result cursor.new
+        (bits_at Kind.Dsa cursor.old) }
+    ensures within { IfOk result (λ prime.
+        length prime.now + length cursor.new ≤ length cursor.old) }
 {
     let prime = read_positive(cursor)?;
     let _subprime = read_positive(cursor)?;
@@ -91,7 +95,8 @@ fn read_prime<'a>(cursor: &mut Cursor<'a>) -> Result<&'a [u8], KeyFault>
 #[tactic(auto, unfolding(crate::specs::KeyReading::field_at))]
 fn read_positive<'a>(cursor: &mut Cursor<'a>) -> Result<&'a [u8], KeyFault>
     ensures read { Reads (λ value. value.now) result cursor.new (field_at Positive cursor.old) }
-    ensures within { IfOk result (λ value. length value.now + length cursor.new ≤ length cursor.old) }
+    ensures within { IfOk result (λ value.
+        length value.now + length cursor.new ≤ length cursor.old) }
 {
     let magnitude = cursor.mpint()?;
     if magnitude.is_empty() {

@@ -69,7 +69,8 @@ impl<'a> PublicKey<'a> {
         self.fields
     }
 
-    /// The key is one: the string of its type name and its public fields are its blob. Does nothing.
+    /// The key is one: the string of its type name and its public fields are its blob. Does
+    /// nothing.
     pub fn has_blob(&self)
         ensures { IsKey (blob_of self.now) self.now }
     {
@@ -77,13 +78,13 @@ impl<'a> PublicKey<'a> {
     }
 }
 
-/// The key that a blob spells (RFC 4253 section 6.6, RFC 5656, RFC 8709, PROTOCOL.u2f): the string of
-/// the type name of a plain key, and the public fields of that kind, in at most 65,536 bytes. Each
-/// number is above zero and spelled in as few bytes as can be, so a key has one blob. Takes no memory:
-/// the key is lent from the blob.
+/// The key that a blob spells (RFC 4253 section 6.6, RFC 5656, RFC 8709, PROTOCOL.u2f): the string
+/// of the type name of a plain key, and the public fields of that kind, in at most 65,536 bytes.
+/// Each number is above zero and spelled in as few bytes as can be, so a key has one blob. Takes no
+/// memory: the key is lent from the blob.
 ///
-/// Of several faults the first is told: `TooLong` before all else, then those of the type name and of
-/// each field, in the order in which they stand, and `Trailing` last.
+/// Of several faults the first is told: `TooLong` before all else, then those of the type name and
+/// of each field, in the order in which they stand, and `Trailing` last.
 pub fn read_key<'a>(blob: &'a [u8]) -> Result<PublicKey<'a>, KeyFault>
     // What is read is spelled so.
     ensures found { IfOk result (λ key. IsKey blob.now key) }
@@ -123,11 +124,12 @@ fn read_kind(cursor: &mut Cursor) -> Result<Kind, KeyFault>
 }
 
 /// Reads the public fields of a key of this kind from the front of the bytes, without the string of
-/// the type name, as they stand in a certificate (OpenSSH's PROTOCOL.certkeys). What follows them is
-/// left. A refusal takes nothing. Takes no memory.
+/// the type name, as they stand in a certificate (OpenSSH's PROTOCOL.certkeys). What follows them
+/// is left. A refusal takes nothing. Takes no memory.
 ///
 /// Of several faults the first is told: those of each field, in the order in which they stand, and
-/// then `TooLong` where the blob of the type name and these fields would be longer than 65,536 bytes.
+/// then `TooLong` where the blob of the type name and these fields would be longer than 65,536
+/// bytes.
 pub fn read_fields<'a>(kind: Kind, cursor: &mut Cursor<'a>) -> Result<PublicKey<'a>, KeyFault>
     // What is read stands at the front, and is taken.
     ensures found { IfOk result (λ key.

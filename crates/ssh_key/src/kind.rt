@@ -36,8 +36,8 @@ const KINDS: [Kind; 8] = [
 ];
 
 impl Kind {
-    /// The name of the key type, as blobs and lines have it (RFC 4253 section 6.6, RFC 5656 section 3.1,
-    /// RFC 8709 section 4, PROTOCOL.u2f).
+    /// The name of the key type, as blobs and lines have it (RFC 4253 section 6.6, RFC 5656 section
+    /// 3.1, RFC 8709 section 4, PROTOCOL.u2f).
     pub fn name(self) -> &'static str
         ensures { result.now ≡ type_name self }
     {

@@ -35,13 +35,16 @@ pub fn read_where_spelled()
 
 /// Reading meets a fault exactly where it is the first fault of the bytes.
 pub fn refused_by_first_fault()
-    ensures { (blob : List ℕ) (fault : KeyFault) → IsBytes blob → (key_at blob ≡ Err fault) ↔ IsFirstFault blob fault }
+    ensures { (blob : List ℕ) (fault : KeyFault) → IsBytes blob
+        → (key_at blob ≡ Err fault) ↔ IsFirstFault blob fault }
 {}
 
 /// Bytes have one first fault at most, and a blob of a key has none.
 pub fn one_first_fault()
-    ensures one { (blob : List ℕ) (a b : KeyFault) → IsFirstFault blob a → IsFirstFault blob b → a ≡ b }
-    ensures none { (blob : List ℕ) (key : Key) (fault : KeyFault) → IsKey blob key → IsFirstFault blob fault → ⊥ }
+    ensures one { (blob : List ℕ) (a b : KeyFault) → IsFirstFault blob a → IsFirstFault blob b
+        → a ≡ b }
+    ensures none { (blob : List ℕ) (key : Key) (fault : KeyFault) → IsKey blob key
+        → IsFirstFault blob fault → ⊥ }
 {}
 
 /// Reading public fields gives a key and the rest exactly where the bytes are its public fields and
@@ -66,8 +69,8 @@ pub fn one_fields_fault()
         → BeginsWithFields bytes key rest → IsFieldsFault key.kind bytes fault → ⊥ }
 {}
 
-/// A blob that is cut short, at whatever byte, is refused as such: its fault is that of a field that
-/// ends too early, and no other. So are public fields alone.
+/// A blob that is cut short, at whatever byte, is refused as such: its fault is that of a field
+/// that ends too early, and no other. So are public fields alone.
 pub fn cut_key_is_short()
     ensures blob { (blob : List ℕ) (key : Key) (n : ℕ) → IsKey blob key → n < length blob
         → IsFirstFault (take n blob) (Wire Short) }
@@ -83,23 +86,29 @@ pub fn one_key()
 /// A key has one blob: where the kind is the same, and the numbers and strings of the public fields
 /// are, so is the blob.
 pub fn one_blob()
-    ensures { (a b : List ℕ) (k l : Key) → IsBytes a → IsBytes b → (p : IsKey a k) (q : IsKey b l) → k.kind ≡ l.kind → SameValues (fields_of k.kind) p.values q.values → a ≡ b }
+    ensures { (a b : List ℕ) (k l : Key) → IsBytes a → IsBytes b → (p : IsKey a k) (q : IsKey b l)
+        → k.kind ≡ l.kind → SameValues (fields_of k.kind) p.values q.values → a ≡ b }
 {}
 
 /// The size in bits is the least in which the number is held.
 pub fn bits_hold_number()
-    ensures { (magnitude : List ℕ) → IsBytes magnitude → IsPositive magnitude → (number_of magnitude < 2 ^ bit_count magnitude) × (2 ^ bit_count magnitude ≤ 2 * number_of magnitude) }
+    ensures { (magnitude : List ℕ) → IsBytes magnitude → IsPositive magnitude
+        → (number_of magnitude < 2 ^ bit_count magnitude)
+        × (2 ^ bit_count magnitude ≤ 2 * number_of magnitude) }
 {}
 
 /// The blob that is made of a key is the one that it was read from, and is read as that key.
 pub fn blob_read_back()
-    ensures { (blob : List ℕ) (key : Key) → IsKey blob key → (blob_of key ≡ blob) × (key_at (blob_of key) ≡ Ok key) }
+    ensures { (blob : List ℕ) (key : Key) → IsKey blob key
+        → (blob_of key ≡ blob) × (key_at (blob_of key) ≡ Ok key) }
 {}
 
 /// Reading gives what a key line holds exactly where the text is one.
 pub fn line_read_where_spelled()
-    ensures read { (text word blob comment : List ℕ) → IsKeyLine text word blob comment → line_at text ≡ Ok (content word blob comment) }
-    ensures spelled { (text : List ℕ) (line : Content) → IsBytes text → line_at text ≡ Ok line → IsKeyLine text line.word line.blob line.comment }
+    ensures read { (text word blob comment : List ℕ) → IsKeyLine text word blob comment
+        → line_at text ≡ Ok (content word blob comment) }
+    ensures spelled { (text : List ℕ) (line : Content) → IsBytes text → line_at text ≡ Ok line
+        → IsKeyLine text line.word line.blob line.comment }
 {}
 
 /// The base64 of a key is always a word, so no key is left out of the key lines for its bytes.
@@ -109,13 +118,16 @@ pub fn base64_is_word()
 
 /// Reading meets a fault exactly where it is the first fault of the text.
 pub fn line_refused_by_first_fault()
-    ensures { (text : List ℕ) (fault : LineFault) → IsBytes text → (line_at text ≡ Err fault) ↔ IsFirstLineFault text fault }
+    ensures { (text : List ℕ) (fault : LineFault) → IsBytes text
+        → (line_at text ≡ Err fault) ↔ IsFirstLineFault text fault }
 {}
 
 /// A text has one first fault at most, and a key line has none.
 pub fn one_first_line_fault()
-    ensures one { (text : List ℕ) (a b : LineFault) → IsBytes text → IsFirstLineFault text a → IsFirstLineFault text b → a ≡ b }
-    ensures none { (text word blob comment : List ℕ) (fault : LineFault) → IsBytes text → IsKeyLine text word blob comment → IsFirstLineFault text fault → ⊥ }
+    ensures one { (text : List ℕ) (a b : LineFault) → IsBytes text → IsFirstLineFault text a
+        → IsFirstLineFault text b → a ≡ b }
+    ensures none { (text word blob comment : List ℕ) (fault : LineFault) → IsBytes text
+        → IsKeyLine text word blob comment → IsFirstLineFault text fault → ⊥ }
 {}
 
 /// Reading a printed fingerprint gives a digest exactly where the text is its fingerprint.

@@ -44,7 +44,8 @@ pub struct Line<'a> {
 /// for before they are judged, so `NoMemory` may stand in place of any answer but `NoKey`.
 pub fn read_line<'a>(alloc: Global, text: &'a [u8]) -> Result<Line<'a>, LineFault>
     // What is read is a key line.
-    ensures found { IfOk result (λ line. IsKeyLine text.now line.word.now line.blob line.comment.now) }
+    ensures found { IfOk result (λ line.
+        IsKeyLine text.now line.word.now line.blob line.comment.now) }
     // Each key line is read, unless memory runs out.
     ensures only { (word blob comment : List ℕ) → IsKeyLine text.now word blob comment
         → Gives content_of result (Ok (content word blob comment)) }

@@ -10,8 +10,8 @@ use base64::DecodeAllocError;
 use base64::engine::general_purpose::STANDARD_NO_PAD;
 use std::alloc::Global;
 
-/// The digest that a fingerprint names, as `fingerprint` prints it for `Hash::Sha256`: `SHA256:`, and
-/// the base64 of 32 bytes without padding.
+/// The digest that a fingerprint names, as `fingerprint` prints it for `Hash::Sha256`: `SHA256:`,
+/// and the base64 of 32 bytes without padding.
 ///
 /// Faults come in the order of their numbers. The bytes are decoded into memory that is asked for
 /// before they are judged, so `NoMemory` may stand in place of any answer but `Prefix`.

@@ -5,8 +5,8 @@ ghost use Rattle.ssh_key.specs.LineReading.{after_options, quoted_behind};
 
 use crate::line::words::is_blank;
 
-/// What stands after the options field, which ends at the first blank outside double quotes. A quote
-/// behind a backslash is a byte like any other. None if the text ends inside quotes.
+/// What stands after the options field, which ends at the first blank outside double quotes. A
+/// quote behind a backslash is a byte like any other. None if the text ends inside quotes.
 pub fn after_options(text: &[u8]) -> Option<&[u8]>
     ensures { option_map (λ rest. rest.now) result ≡ after_options false false text.now }
 {
