@@ -1,6 +1,6 @@
 -- Reading a printed fingerprint and the relation: what is read is one, each one is read, and the fault
 -- that is met is the first.
-use Rattle.std.proofs.Common.{◌≡◌, ◌≢◌, ℕ, Bool, true, false, cond, eqb, List, ◌++◌, Result, Ok, Err, length, drop, nat_eq, refl, sym, ap, subst, ◌∙◌, inl, inr, ◌⊎◌}
+use Rattle.std.proofs.Common.{◌≡◌, ◌≢◌, ℕ, zero, suc, Bool, true, false, cond, eqb, List, ◌++◌, Result, Ok, Err, length, drop, slice_index, nat_eq, refl, sym, ap, subst, ◌∙◌, inl, inr, ◌⊎◌}
 use Rattle.std.specs.Prelude.{IfErr, IfOk}
 use Rattle.std.specs.List.{starts_with}
 use Rattle.std.proofs.lemmas.Bool.{cases_Bool, eq-eqb, eqb-true, eqb-false, ne_eqb}
@@ -11,14 +11,19 @@ use Rattle.base64.proofs.EngineFacts.{decode_of-encode_of, decode_of_strict}
 use Rattle.base64.specs.Engines.{standard_no_pad}
 use Rattle.base64.specs.GeneralPurpose.{decode_of}
 use Rattle.base64.specs.declared.decode.DecodeError.{DecodeError}
+use Rattle.std.specs.Int.{to_be_bytes, w32}
+use Rattle.sha2.specs.Sha256.{digest_bytes, final_hash, initial_hash_256, sha256}
+use Rattle.sha2.proofs.Facts256.{length-sha256}
 use Rattle.ssh_wire.specs.Wire.{IsBytes}
-use Rattle.ssh_key.specs.Fingerprints.{unpadded}
+use Rattle.ssh_wire.proofs.Digits.{IsBytes-big}
+use Rattle.ssh_key.specs.declared.hash.Hash.TheVariants.{Sha256}
+use Rattle.ssh_key.specs.Fingerprints.{fingerprint_text, unpadded}
 use Rattle.ssh_key.specs.FingerprintReading.{Encodes, GivesDigest, HasOtherBase64, IsFingerprint, IsFingerprintFault, IsToldFingerprintFault, fingerprint_at, sha256_prefix, sized}
 use Rattle.ssh_key.specs.declared.fingerprint_fault.FingerprintFault.{FingerprintFault}
 use Rattle.ssh_key.specs.declared.fingerprint_fault.FingerprintFault.TheVariants.{Prefix, Base64, Length, NoMemory}
 use Rattle.ssh_key.proofs.DecodedBytes.{engine_fits}
 use Rattle.ssh_key.proofs.Steps.{err_is, ok_or_err}
-use Rattle.ssh_key.proofs.Wire.{IsBytes-behind}
+use Rattle.ssh_key.proofs.Wire.{IsBytes-append, IsBytes-behind, no_bytes}
 
 -- ---- the prefix
 
@@ -152,3 +157,21 @@ fingerprint_fault_met text Length fits other =
     let test : eqb (length other.0) 32 ≡ false = ne_eqb (length other.0) 32 other.2 in
     prefixed_at text (unpadded other.0) other.1.spelled ∙ rw (encoded_again other.0 other.1.are_bytes, test) refl
 fingerprint_fault_met text NoMemory fits never = absurd never
+
+-- ---- a printed fingerprint
+
+digest_are_bytes : (hash : List ℕ) (n : ℕ) → IsBytes (digest_bytes hash n)
+unfolding digest_bytes
+digest_are_bytes hash zero = no_bytes
+digest_are_bytes hash (suc n) = IsBytes-append (digest_bytes hash n) (to_be_bytes w32 (slice_index hash n)) (digest_are_bytes hash n) (IsBytes-big 4 (slice_index hash n))
+
+sha256_are_bytes : (bytes : List ℕ) → IsBytes (sha256 bytes)
+unfolding sha256
+sha256_are_bytes bytes = digest_are_bytes (final_hash initial_hash_256 bytes) 8
+
+pub printed_is_fingerprint : (bytes : List ℕ) → IsFingerprint (fingerprint_text Sha256 bytes) (sha256 bytes)
+unfolding fingerprint_text
+printed_is_fingerprint bytes = record {
+  encodes = record { spelled = refl; are_bytes = sha256_are_bytes bytes };
+  size = length-sha256 bytes;
+}

@@ -2,8 +2,10 @@
 //! nothing. `read_key` answers what the reader named here gives, and `plain_blob` the blob.
 
 ghost use Rattle.std.specs.Prelude.{◌≡◌, ◌≢◌, ◌*◌, ◌^◌, ◌<◌, ◌≤◌, ◌↔◌, ℕ, List, Err, Ok, length, take};
+ghost use Rattle.sha2.specs.Sha256.{sha256};
 ghost use Rattle.ssh_key.specs.Blanks.{IsWord};
 ghost use Rattle.ssh_key.specs.FingerprintReading.{IsFingerprint, IsFingerprintFault, fingerprint_at};
+ghost use Rattle.ssh_key.specs.Fingerprints.{fingerprint_text};
 ghost use Rattle.ssh_key.specs.FirstFault.{IsFieldsFault, IsFirstFault};
 ghost use Rattle.ssh_key.specs.Key.{BeginsWithFields, IsKey, IsPositive, Key, blob_of};
 ghost use Rattle.ssh_key.specs.KeyLine.{IsKeyLine, base64};
@@ -14,6 +16,7 @@ ghost use Rattle.ssh_key.specs.LineReading.{Content, content, line_at};
 ghost use Rattle.ssh_key.specs.Value.{SameValues};
 ghost use Rattle.ssh_key.specs.declared.fault.KeyFault.{KeyFault};
 ghost use Rattle.ssh_key.specs.declared.fingerprint_fault.FingerprintFault.{FingerprintFault};
+ghost use Rattle.ssh_key.specs.declared.hash.Hash.TheVariants.{Sha256};
 ghost use Rattle.ssh_key.specs.declared.kind.Kind.{Kind};
 ghost use Rattle.ssh_key.specs.declared.line_fault.LineFault.{LineFault};
 ghost use Rattle.ssh_key.specs.declared.fault.KeyFault.TheVariants.{Wire};
@@ -142,4 +145,10 @@ pub fn one_fingerprint_fault()
         → IsFingerprintFault text a → IsFingerprintFault text b → a ≡ b }
     ensures none { (text digest : List ℕ) (fault : FingerprintFault) → IsBytes text
         → IsFingerprint text digest → IsFingerprintFault text fault → ⊥ }
+{}
+
+/// The printed SHA-256 fingerprint of any bytes names their SHA-256. So what `fingerprint` prints is
+/// read back by `parse_fingerprint`.
+pub fn fingerprint_names_its_digest()
+    ensures { (bytes : List ℕ) → IsFingerprint (fingerprint_text Sha256 bytes) (sha256 bytes) }
 {}
