@@ -25,7 +25,7 @@ pub use hash::{Hash, sha1_of, sha256_of};
 pub use key::{PublicKey, read_fields, read_key};
 pub use key_file::has_key;
 pub use kind::Kind;
-pub use line::{Line, read_line};
+pub use line::{Line, after_blanks, before_ending, is_ending, read_line};
 pub use line_fault::LineFault;
 pub use parsing::parse_fingerprint;
 

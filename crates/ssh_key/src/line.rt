@@ -19,8 +19,8 @@ mod options;
 mod words;
 
 use options::after_options;
-pub use words::trimmed;
-use words::{after_blanks, split_word};
+use words::split_word;
+pub use words::{after_blanks, before_ending, is_ending, trimmed};
 
 /// What a key line holds.
 #[derive(Debug, Drop)]

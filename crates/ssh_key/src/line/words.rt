@@ -11,7 +11,8 @@ pub fn is_blank(byte: u8) -> bool
     byte == b' ' || byte == b'\t'
 }
 
-fn is_ending(byte: u8) -> bool
+/// Whether a byte goes at the end of a line: a blank or a carriage return.
+pub fn is_ending(byte: u8) -> bool
     ensures { result ≡ is_ending byte }
 {
     is_blank(byte) || byte == b'\r'
@@ -54,7 +55,7 @@ pub fn after_blanks(text: &[u8]) -> &[u8]
 
 /// What stands before the blanks and carriage returns at the end.
 #[tactic(auto, unfolding(crate::specs::Blanks::before_ending))]
-fn before_ending(text: &[u8]) -> &[u8]
+pub fn before_ending(text: &[u8]) -> &[u8]
     ensures { result.now ≡ before_ending text.now }
 {
     let mut end = text.len();
