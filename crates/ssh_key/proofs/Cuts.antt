@@ -1,12 +1,15 @@
 -- A blob that is cut short: what is left of it, and its fault.
-use Rattle.std.proofs.Common.{◌≡◌, ℕ, ◌+◌, ◌-◌, ◌^◌, ◌<◌, ◌≤◌, List, [], ◌∷◌, ◌++◌, length, take, Err, refl, ap, ◌∙◌, append_assoc, arith, inl, inr}
-use Rattle.std.proofs.lemmas.Bool.{cases_lt, lt-ltb}
-use Rattle.std.proofs.lemmas.List.{length-append, length-take}
+use Rattle.std.proofs.Common.{◌≡◌, ℕ, ◌+◌, ◌-◌, ◌^◌, ◌<◌, ◌≤◌, List, [], ◌∷◌, ◌++◌, length, take, Err, refl, ap, ◌∙◌, arith, inl, inr, Result, drop, sym}
+use Rattle.std.proofs.lemmas.Bool.{cases_lt}
+use Rattle.std.proofs.lemmas.List.{length-append, length-drop, length-take, take-append-drop, take-append-le}
 use Rattle.std.proofs.Math.Seq.{take-append-add}
+use Rattle.ssh_wire.specs.declared.fault.WireFault.{WireFault}
 use Rattle.ssh_wire.specs.declared.fault.WireFault.TheVariants.{Short}
-use Rattle.ssh_wire.specs.Wire.{complement, mpint, number, string}
-use Rattle.ssh_wire.specs.Reading.{front_at, mpint_at, number_at, string_at}
-use Rattle.ssh_wire.proofs.Fields.{length-number, length-string, number_again}
+use Rattle.ssh_wire.specs.Wire.{complement, mpint, string}
+use Rattle.ssh_wire.specs.Reading.{mpint_at, string_at}
+use Rattle.ssh_wire.specs.Cut.{mpint-cut, string-cut}
+use Rattle.ssh_wire.specs.Fields.{length-string}
+use Rattle.ssh_wire.specs.Laws.{IsShortWhereCut}
 use Rattle.ssh_key.specs.declared.fault.KeyFault.TheVariants.{Wire}
 use Rattle.ssh_key.specs.Kind.{Field, Positive, Curve, Point, Sized, Text, type_name, fields_of}
 use Rattle.ssh_key.specs.Key.{AreValues, HasLength, IsKey, Key, blob_of, field_text, fields_text}
@@ -24,42 +27,21 @@ cut_behind front behind n le =
 
 -- ---- strings
 
-number_cut : (k : ℕ) (bytes : List ℕ) → length bytes < k → number_at k bytes ≡ Err Short
-unfolding number_at
-number_cut k bytes lt = let test = lt-ltb (length bytes) k lt in rw test refl
-
-front_cut : (size : ℕ) (bytes : List ℕ) → length bytes < size → front_at size bytes ≡ Err Short
-unfolding front_at
-front_cut size bytes lt = let test = lt-ltb (length bytes) size lt in rw test refl
-
--- the four bytes of length are cut
-length_cut : (bytes : List ℕ) → length bytes < 4 → string_at bytes ≡ Err Short
-unfolding string_at
-length_cut bytes lt = rw (number_cut 4 bytes lt) refl
-
--- the bytes behind them are
-content_cut : (size : ℕ) (bytes : List ℕ) → size < 2 ^ 32 → length bytes < size → string_at (number 4 size ++ bytes) ≡ Err Short
-unfolding string_at
-content_cut size bytes fits lt = rw (number_again 4 size bytes fits, front_cut size bytes lt) refl
+-- a front is cut where bytes are missing
+cut_at : (read : List ℕ → Result (List ℕ × List ℕ) WireFault) (text rest : List ℕ) (n : ℕ) → IsShortWhereCut read text → n < length text → read (take n (text ++ rest)) ≡ Err Short
+cut_at read text rest n short lt =
+    let front : take n (text ++ rest) ≡ take n text = take-append-le n text rest (omega arith) in
+    ap read front ∙ short (take n text) (drop n text) (sym (take-append-drop n text)) (omega (arith, length-drop n text))
 
 pub string_cut : (text rest : List ℕ) (n : ℕ) → length text < 2 ^ 32 → n < length (string text) → string_at (take n (string text ++ rest)) ≡ Err Short
-unfolding string
-string_cut text rest n fits lt =
-    let size = length-string text in
-    let told = length-number 4 (length text) in
-    let regrouped = append_assoc (number 4 (length text)) text rest in
-    elim (cases_lt n 4) [
-      | inl early ↦ length_cut (take n (string text ++ rest)) (omega (arith, length-take n (string text ++ rest)))
-      | inr late ↦
-          let parts : take n ((number 4 (length text) ++ text) ++ rest) ≡ number 4 (length text) ++ take (n - length (number 4 (length text))) (text ++ rest) =
-          ap (take n) regrouped ∙ cut_behind (number 4 (length text)) (text ++ rest) n (omega arith) in
-          let left = length-take (n - length (number 4 (length text))) (text ++ rest) in
-          ap string_at parts ∙ content_cut (length text) (take (n - length (number 4 (length text))) (text ++ rest)) fits (omega arith)
-    ]
+string_cut text rest n fits lt = cut_at string_at (string text) rest n (string-cut text fits) lt
+
+length-mpint : (magnitude : List ℕ) → length (mpint magnitude) ≡ 4 + length (complement magnitude)
+unfolding mpint
+length-mpint magnitude = length-string (complement magnitude)
 
 mpint_cut : (magnitude rest : List ℕ) (n : ℕ) → HasLength (mpint magnitude) → n < length (mpint magnitude) → mpint_at (take n (mpint magnitude ++ rest)) ≡ Err Short
-unfolding mpint_at mpint
-mpint_cut magnitude rest n told lt = rw (string_cut (complement magnitude) rest n (omega (arith, length-string (complement magnitude))) lt) refl
+mpint_cut magnitude rest n told lt = cut_at mpint_at (mpint magnitude) rest n (mpint-cut magnitude (omega (arith, length-mpint magnitude))) lt
 
 -- ---- fields
 

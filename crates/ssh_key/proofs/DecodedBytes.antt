@@ -12,7 +12,7 @@ use Rattle.base64.specs.declared.decode.DecodeError.{DecodeError}
 use Rattle.base64.specs.declared.engine.DecodePaddingMode.{DecodePaddingMode}
 use Rattle.base64.specs.declared.engine.general_purpose.GeneralPurpose.{GeneralPurpose}
 use Rattle.ssh_wire.specs.Wire.{IsBytes}
-use Rattle.ssh_wire.proofs.Digits.{IsBytes-cons, IsBytes-drop, IsBytes-take}
+use Rattle.ssh_wire.specs.Digits.{IsBytes-cons, IsBytes-drop, IsBytes-take}
 use Rattle.ssh_key.proofs.Wire.{IsBytes-append, no_bytes}
 
 -- four values of six bits make three bytes

@@ -15,7 +15,7 @@ use Rattle.std.specs.Int.{to_be_bytes, w32}
 use Rattle.sha2.specs.Sha256.{digest_bytes, final_hash, initial_hash_256, sha256}
 use Rattle.sha2.proofs.Facts256.{length-sha256}
 use Rattle.ssh_wire.specs.Wire.{IsBytes}
-use Rattle.ssh_wire.proofs.Digits.{IsBytes-big}
+use Rattle.ssh_wire.specs.Digits.{IsBytes-big}
 use Rattle.ssh_key.specs.declared.hash.Hash.TheVariants.{Sha256}
 use Rattle.ssh_key.specs.Fingerprints.{fingerprint_text, unpadded}
 use Rattle.ssh_key.specs.FingerprintReading.{Encodes, GivesDigest, HasOtherBase64, IsFingerprint, IsFingerprintFault, IsToldFingerprintFault, fingerprint_at, sha256_prefix, sized}

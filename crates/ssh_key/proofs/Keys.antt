@@ -5,15 +5,15 @@ use Rattle.std.specs.Option.{ok_or}
 use Rattle.std.proofs.lemmas.Bool.{eqb-true, ltb-false, le-ltb}
 use Rattle.std.proofs.lemmas.List.{append-nil, nil_from_length, length-append, take_at}
 use Rattle.ssh_wire.specs.Wire.{IsBytes, string}
-use Rattle.ssh_wire.specs.Reading.{string_at}
-use Rattle.ssh_wire.proofs.Fields.{Takes, string_again, string_takes}
+use Rattle.ssh_wire.specs.Reading.{Gives, string_at, ◌>>=◌}
+use Rattle.ssh_wire.specs.Fields.{Takes, string_again, string_takes}
 use Rattle.ssh_key.specs.declared.fault.KeyFault.{KeyFault}
 use Rattle.ssh_key.specs.declared.fault.KeyFault.TheVariants as faults
 use Rattle.ssh_key.specs.declared.kind.Kind.{Kind}
 use Rattle.ssh_key.specs.declared.kind.Kind.TheVariants.{Rsa, Dsa, Ecdsa256, Ecdsa384, Ecdsa521, Ed25519, EcdsaSk, Ed25519Sk}
 use Rattle.ssh_key.specs.Kind.{type_name, fields_of, bits_of, kind_named}
 use Rattle.ssh_key.specs.Key.{Key, BeginsWithFields, IsKey, AreValues, blob_of, fields_text}
-use Rattle.ssh_key.specs.KeyReading.{◌>>=◌, Reads, before_rest, bits_at, fields_at, key_at, kind_at, known, IsRead, not_too_long, of_size, on_wire, public_at}
+use Rattle.ssh_key.specs.KeyReading.{before_rest, bits_at, fields_at, key_at, kind_at, known, IsRead, not_too_long, of_size, on_wire, public_at}
 use Rattle.ssh_key.specs.Value.{SameValues}
 use Rattle.ssh_key.proofs.Names.{kind_named-name, kind_named-type_name}
 use Rattle.ssh_key.proofs.Steps.{bind_ok, on_wire_ok, passed_ok, ok_is}
@@ -63,7 +63,7 @@ unfolding kind_at
 kind_again kind rest = rw (string_again (type_name kind) rest (omega (arith, length-type_name kind)), kind_named-type_name kind) refl
 
 -- what `kind_of` answers
-pub kind_read : (bytes name rest : List ℕ) (named : Option Kind) (r : Result Kind KeyFault) → string_at bytes ≡ Ok (name, rest) → kind_named name ≡ named → r ≡ ok_or named faults.UnknownType → Reads (λ kind. kind) r rest (kind_at bytes)
+pub kind_read : (bytes name rest : List ℕ) (named : Option Kind) (r : Result Kind KeyFault) → string_at bytes ≡ Ok (name, rest) → kind_named name ≡ named → r ≡ ok_or named faults.UnknownType → Gives (λ kind. kind) r rest (kind_at bytes)
 unfolding kind_at
 kind_read bytes name rest None r string_read named answer = rw (answer, string_read, named) refl
 kind_read bytes name rest (Some kind) r string_read named answer = rw (answer, string_read, named) refl

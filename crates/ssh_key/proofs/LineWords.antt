@@ -5,7 +5,7 @@ use Rattle.std.proofs.lemmas.List.{drop_all, drop_at, drop_more, get_or_append_l
 use Rattle.std.proofs.lemmas.List.Sums.{prefix_len_is, prefix_len_passes, prefix_len_stops}
 use Rattle.std.specs.List.{AllPass, prefix_len}
 use Rattle.ssh_wire.specs.Wire.{IsBytes}
-use Rattle.ssh_wire.proofs.Digits.{IsBytes-drop, IsBytes-take}
+use Rattle.ssh_wire.specs.Digits.{IsBytes-drop, IsBytes-take}
 use Rattle.ssh_key.specs.Blanks.{AreBlanks, IsWord, BeginsWithNoBlank, after_blanks, before_ending, first_word, is_blank, trimmed}
 use Rattle.ssh_key.specs.KeyLine.{Comment, comment_after, no_comment}
 use Rattle.ssh_key.specs.LineReading.{after_word}

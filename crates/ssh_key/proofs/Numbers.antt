@@ -4,8 +4,8 @@ use Rattle.std.specs.Prelude.{nat_lt}
 use Rattle.std.proofs.lemmas.Nat.{pow-add, leading_top}
 use Rattle.std.proofs.Math.Nat.{pow-suc, mul-le-mul_left}
 use Rattle.ssh_wire.specs.Wire.{IsBytes, complement, mpint, number, number_of, string}
-use Rattle.ssh_wire.proofs.Digits.{IsBytes-tail}
-use Rattle.ssh_wire.proofs.Magnitudes.{number_of-cons, number_of-lt, same_magnitude}
+use Rattle.ssh_wire.specs.Digits.{IsBytes-tail}
+use Rattle.ssh_wire.specs.Magnitudes.{number_of-cons, number_of-lt, same_magnitude}
 use Rattle.ssh_key.specs.Kind.{Field, Positive, Curve, Point, Sized, Text, bit_count}
 use Rattle.ssh_key.specs.Key.{IsPositive, IsValue, AreValues, field_text, fields_text}
 use Rattle.ssh_key.specs.Value.{SameValue, SameValues}

@@ -5,13 +5,13 @@ use Rattle.std.specs.Str.{bytes_eq}
 use Rattle.std.proofs.lemmas.Bool.{eqb-true, eq-eqb, ne_eqb}
 use Rattle.std.proofs.lemmas.Slice.Eq.{bytes_eq-Decides}
 use Rattle.ssh_wire.specs.Wire.{IsBytes, string}
-use Rattle.ssh_wire.specs.Reading.{string_at, mpint_at}
-use Rattle.ssh_wire.proofs.Fields.{Takes, Takes-then, length-string, mpint_takes, string_again, string_takes}
+use Rattle.ssh_wire.specs.Reading.{mpint_at, string_at, ◌>>=◌}
+use Rattle.ssh_wire.specs.Fields.{Takes, Takes-then, length-string, mpint_takes, string_again, string_takes}
 use Rattle.ssh_key.specs.declared.fault.KeyFault.{KeyFault}
 use Rattle.ssh_key.specs.declared.fault.KeyFault.TheVariants as faults
 use Rattle.ssh_key.specs.Kind.{Field, Positive, Curve, Point, Sized, Text}
 use Rattle.ssh_key.specs.Key.{HasLength, IsUncompressed, IsValue, AreValues, field_text, fields_text}
-use Rattle.ssh_key.specs.KeyReading.{◌>>=◌, value_at, fault_in, begins_with_4, unless, field_at, fields_at}
+use Rattle.ssh_key.specs.KeyReading.{value_at, fault_in, begins_with_4, unless, field_at, fields_at}
 use Rattle.ssh_key.proofs.Steps.{bind_ok, on_wire_ok}
 use Rattle.ssh_key.proofs.Wire.{magnitude_is_positive, mpint_told, positive_again}
 

@@ -6,22 +6,22 @@ use Rattle.std.proofs.lemmas.Bool.{eqb-true, eqb-false, eq-eqb, ne_eqb}
 use Rattle.std.proofs.lemmas.List.{nil_from_length}
 use Rattle.std.proofs.lemmas.Slice.Eq.{bytes_eq-Decides}
 use Rattle.ssh_wire.specs.declared.fault.WireFault.{WireFault}
-use Rattle.ssh_wire.specs.Wire.{IsBytes, complement, mpint, string}
-use Rattle.ssh_wire.specs.Reading.{string_at, mpint_at, magnitude_of}
-use Rattle.ssh_wire.proofs.Fields.{Takes, length-string, string_again}
+use Rattle.ssh_wire.specs.Wire.{BeginsWith, IsBytes, complement, mpint, string}
+use Rattle.ssh_wire.specs.Reading.{magnitude_of, mpint_at, string_at, ◌>>=◌}
+use Rattle.ssh_wire.specs.Fields.{Takes, length-string, string_again}
 use Rattle.ssh_key.specs.declared.fault.KeyFault.{KeyFault}
 use Rattle.ssh_key.specs.declared.fault.KeyFault.TheVariants as faults
 use Rattle.ssh_key.specs.declared.fault.KeyFault.TheVariants.{Wire, UnknownType, Length, Number, Trailing, TooLong}
 use Rattle.ssh_key.specs.Kind.{Field, Positive, Curve, Point, Sized, Text}
 use Rattle.ssh_key.specs.Key.{HasLength, IsUncompressed, IsValue, AreValues, field_text, fields_text}
-use Rattle.ssh_key.specs.KeyReading.{◌>>=◌, on_wire, value_at, fault_in, begins_with_4, unless, field_at, fields_at}
-use Rattle.ssh_key.specs.FirstFault.{BeginsWith, Refuses}
+use Rattle.ssh_key.specs.KeyReading.{on_wire, value_at, fault_in, begins_with_4, unless, field_at, fields_at}
+use Rattle.ssh_key.specs.FirstFault.{Refuses}
 use Rattle.ssh_key.proofs.Public.{both_true, begins-uncompressed, uncompressed-begins, value_takes, value_told, field_takes, field_again}
 
 -- a step that failed, or one after it
-pub bind_err : {A B : Type 0} (r : Result A KeyFault) (f : A → Result B KeyFault) (d : KeyFault) → (r >>= f) ≡ Err d → (r ≡ Err d) ⊎ ((x : A) × (r ≡ Ok x) × (f x ≡ Err d))
+pub bind_err : {A B E : Type 0} (r : Result A E) (f : A → Result B E) (d : E) → (r >>= f) ≡ Err d → (r ≡ Err d) ⊎ ((x : A) × (r ≡ Ok x) × (f x ≡ Err d))
 bind_err (Ok x) f d e = inr (x, refl, e)
-bind_err (Err c) f d e = let same : c ≡ d = cc in inl (ap (λ (k : KeyFault). Err k) same)
+bind_err {E = E} (Err c) f d e = let same : c ≡ d = cc in inl (ap (λ (k : E). Err k) same)
 
 pub on_wire_err : {A : Type 0} (r : Result A WireFault) (d : KeyFault) → on_wire r ≡ Err d → (why : WireFault) × (r ≡ Err why) × (d ≡ Wire why)
 on_wire_err (Ok x) d e = absurd cc
@@ -46,8 +46,8 @@ mpint-zero : mpint [] ≡ string []
 unfolding mpint complement
 mpint-zero = refl
 
-pub begins : (bytes value rest : List ℕ) → Takes bytes (string value) rest → HasLength (string value) → BeginsWith bytes value
-begins bytes value rest t told = record { rest = rest; spelled = t.parts; fits = omega (arith, length-string value) }
+begins : (bytes value rest : List ℕ) → Takes bytes (string value) rest → BeginsWith bytes value
+begins bytes value rest t = record { rest = rest; spelled = t.parts }
 
 -- ---- what is refused
 
@@ -72,17 +72,17 @@ judged_refused Positive bytes value rest fault t told e =
     let w = some_is (eqb (length value) 0) Number fault e in
     let empty : value ≡ [] = nil_from_length value (eqb-true _ _ w.0) in
     let zero_string : mpint value ≡ string [] = ap mpint empty ∙ mpint-zero in
-    subst (λ (d : KeyFault). Refuses Positive bytes d) w.1 (record { rest = rest; spelled = t.parts ∙ ap (λ (x : List ℕ). x ++ rest) zero_string; fits = omega arith })
+    subst (λ (d : KeyFault). Refuses Positive bytes d) w.1 (record { rest = rest; spelled = t.parts ∙ ap (λ (x : List ℕ). x ++ rest) zero_string })
 judged_refused (Curve name) bytes value rest fault t told e =
     let w = none_is (bytes_eq value name) faults.Curve fault e in
     let differs : value ≢ name = λ same. let h : bytes_eq value name ≡ true = (bytes_eq-Decides value name).1 same in cc in
-    subst (λ (d : KeyFault). Refuses (Curve name) bytes d) w.1 (value, begins bytes value rest t told, differs)
+    subst (λ (d : KeyFault). Refuses (Curve name) bytes d) w.1 (record { value = value; begins = begins bytes value rest t; told = told; other = differs })
 judged_refused (Point size) bytes value rest fault t told e =
     let w = none_is (eqb (length value) size && begins_with_4 value) faults.Point fault e in
-    subst (λ (d : KeyFault). Refuses (Point size) bytes d) w.1 (value, begins bytes value rest t told, not_both size value w.0)
+    subst (λ (d : KeyFault). Refuses (Point size) bytes d) w.1 (record { value = value; begins = begins bytes value rest t; told = told; other = not_both size value w.0 })
 judged_refused (Sized size) bytes value rest fault t told e =
     let w = none_is (eqb (length value) size) Length fault e in
-    subst (λ (d : KeyFault). Refuses (Sized size) bytes d) w.1 (value, begins bytes value rest t told, eqb-false _ _ w.0)
+    subst (λ (d : KeyFault). Refuses (Sized size) bytes d) w.1 (record { value = value; begins = begins bytes value rest t; told = told; other = eqb-false _ _ w.0 })
 judged_refused Text bytes value rest fault t told e = absurd cc
 
 field_refused : (field : Field) (bytes : List ℕ) (fault : KeyFault) → IsBytes bytes → field_at field bytes ≡ Err fault → Refuses field bytes fault
@@ -137,12 +137,14 @@ fields_refused (field ∷ fields) bytes fault fits e =
 
 -- ---- what is refused is a fault of reading
 
-pub string_read : (bytes value : List ℕ) (b : BeginsWith bytes value) → string_at bytes ≡ Ok (value, b.rest)
-string_read bytes value b = ap string_at b.spelled ∙ string_again value b.rest b.fits
+pub string_read : (bytes value : List ℕ) (b : BeginsWith bytes value) → HasLength (string value) → string_at bytes ≡ Ok (value, b.rest)
+string_read bytes value b told = ap string_at b.spelled ∙ string_again value b.rest (omega (arith, length-string value))
 
 zero_read : (bytes : List ℕ) (b : BeginsWith bytes []) → mpint_at bytes ≡ Ok ([], b.rest)
 unfolding mpint_at magnitude_of
-zero_read bytes b = rw (string_read bytes [] b) refl
+zero_read bytes b =
+    let told : HasLength (string []) = omega (arith, length-string []) in
+    rw (string_read bytes [] b told) refl
 
 test_false : (b : Bool) → (b ≡ true → ⊥) → b ≡ false
 test_false true h = absurd (h refl)
@@ -159,12 +161,12 @@ refusal_read Positive bytes (Wire why) r = rw r refl
 refusal_read Positive bytes Number r = rw (zero_read bytes r) refl
 refusal_read (Curve name) bytes (Wire why) r = rw r refl
 refusal_read (Curve name) bytes faults.Curve r =
-    let other : bytes_eq r.0 name ≡ false = test_false (bytes_eq r.0 name) (λ e. r.2 ((bytes_eq-Decides r.0 name).0 e)) in
-    rw (string_read bytes r.0 r.1, other) refl
+    let other : bytes_eq r.value name ≡ false = test_false (bytes_eq r.value name) (λ e. r.other ((bytes_eq-Decides r.value name).0 e)) in
+    rw (string_read bytes r.value r.begins r.told, other) refl
 refusal_read (Point size) bytes (Wire why) r = rw r refl
-refusal_read (Point size) bytes faults.Point r = rw (string_read bytes r.0 r.1, both_false size r.0 r.2) refl
+refusal_read (Point size) bytes faults.Point r = rw (string_read bytes r.value r.begins r.told, both_false size r.value r.other) refl
 refusal_read (Sized size) bytes (Wire why) r = rw r refl
-refusal_read (Sized size) bytes Length r = rw (string_read bytes r.0 r.1, ne_eqb (length r.0) size r.2) refl
+refusal_read (Sized size) bytes Length r = rw (string_read bytes r.value r.begins r.told, ne_eqb (length r.value) size r.other) refl
 refusal_read Text bytes (Wire why) r = rw r refl
 refusal_read field bytes fault r = absurd r
 

@@ -1,11 +1,11 @@
 -- Steps that may fail, and what is known where they did not.
 use Rattle.std.proofs.Common.{◌≡◌, Bool, true, false, cond, Result, Ok, Err, refl}
 use Rattle.ssh_wire.specs.declared.fault.WireFault.{WireFault}
-use Rattle.ssh_key.specs.declared.fault.KeyFault.{KeyFault}
-use Rattle.ssh_key.specs.KeyReading.{◌>>=◌, on_wire}
+use Rattle.ssh_wire.specs.Reading.{◌>>=◌}
+use Rattle.ssh_key.specs.KeyReading.{on_wire}
 
 -- the value of a step that did not fail
-pub bind_ok : {A B : Type 0} (r : Result A KeyFault) (f : A → Result B KeyFault) (y : B) → (r >>= f) ≡ Ok y → (x : A) × (r ≡ Ok x) × (f x ≡ Ok y)
+pub bind_ok : {A B E : Type 0} (r : Result A E) (f : A → Result B E) (y : B) → (r >>= f) ≡ Ok y → (x : A) × (r ≡ Ok x) × (f x ≡ Ok y)
 bind_ok (Ok x) f y e = (x, refl, e)
 bind_ok (Err d) f y e = absurd cc
 

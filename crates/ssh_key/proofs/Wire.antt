@@ -6,8 +6,8 @@ use Rattle.std.proofs.lemmas.Bool.{and_parts, ltb-true}
 use Rattle.std.proofs.lemmas.List.{drop_at, length-append, take_at}
 use Rattle.ssh_wire.specs.Wire.{IsBytes, IsMagnitude, complement, mpint, number, string}
 use Rattle.ssh_wire.specs.Reading.{mpint_at}
-use Rattle.ssh_wire.proofs.Digits.{IsBytes-big, IsBytes-cons, IsBytes-drop, IsBytes-tail, IsBytes-take}
-use Rattle.ssh_wire.proofs.Fields.{length-string, mpint_again}
+use Rattle.ssh_wire.specs.Digits.{IsBytes-big, IsBytes-cons, IsBytes-drop, IsBytes-tail, IsBytes-take}
+use Rattle.ssh_wire.specs.Fields.{length-string, mpint_again}
 use Rattle.ssh_key.specs.Key.{HasLength, IsPositive}
 
 pub IsBytes-front : (front behind : List ℕ) → IsBytes (front ++ behind) → IsBytes front

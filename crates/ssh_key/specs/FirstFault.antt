@@ -1,19 +1,20 @@
 -- Why a blob is no key: its first fault, by what stands in the blob before it.
-use Rattle.std.specs.Prelude.{◌≡◌, ◌≢◌, ℕ, ◌+◌, ◌^◌, ◌<◌, ◌≤◌, List, [], ◌∷◌, ◌++◌, length, Err}
-use Rattle.ssh_wire.specs.Wire.{string}
+use Rattle.std.specs.Prelude.{◌≡◌, ◌≢◌, ℕ, ◌+◌, ◌<◌, ◌≤◌, List, [], ◌∷◌, ◌++◌, length, Err}
+use Rattle.ssh_wire.specs.Wire.{BeginsWith, string}
 use Rattle.ssh_wire.specs.Reading.{mpint_at, string_at}
 use Rattle.ssh_wire.specs.declared.fault.WireFault.{WireFault}
 use Rattle.ssh_key.specs.declared.fault.KeyFault.{KeyFault}
 use Rattle.ssh_key.specs.declared.fault.KeyFault.TheVariants as faults
 use Rattle.ssh_key.specs.declared.kind.Kind.{Kind}
 use Rattle.ssh_key.specs.Kind.{Field, Positive, Curve, Point, Sized, type_name, fields_of}
-use Rattle.ssh_key.specs.Key.{IsValue, AreValues, fields_text, longest_blob}
+use Rattle.ssh_key.specs.Key.{HasLength, IsValue, AreValues, fields_text, longest_blob}
 
--- a string at the front of the bytes
-pub record BeginsWith (bytes value : List ℕ) : Type 0 where
-  pub rest : List ℕ
-  pub spelled : bytes ≡ string value ++ rest
-  pub fits : length value < 2 ^ 32
+-- a string at the front of the bytes that may not stand in the field
+pub record BeginsWithOther (field : Field) (bytes : List ℕ) : Type 0 where
+  pub value : List ℕ
+  pub begins : BeginsWith bytes value
+  pub told : HasLength (string value)
+  pub other : ¬ IsValue field value
 
 -- What stands at the front of the bytes is no value of the field: it is misspelt, or a number that
 -- is zero, or a string that may not stand there.
@@ -21,12 +22,9 @@ abbrev pub Refuses : Field → List ℕ → KeyFault → Type 0
 Refuses Positive bytes (faults.Wire fault) = mpint_at bytes ≡ Err fault
 Refuses Positive bytes faults.Number = BeginsWith bytes []
 Refuses field bytes (faults.Wire fault) = string_at bytes ≡ Err fault
-Refuses (Curve name) bytes faults.Curve =
-    (value : List ℕ) × BeginsWith bytes value × ¬ IsValue (Curve name) value
-Refuses (Point size) bytes faults.Point =
-    (value : List ℕ) × BeginsWith bytes value × ¬ IsValue (Point size) value
-Refuses (Sized size) bytes faults.Length =
-    (value : List ℕ) × BeginsWith bytes value × ¬ IsValue (Sized size) value
+Refuses (Curve name) bytes faults.Curve = BeginsWithOther (Curve name) bytes
+Refuses (Point size) bytes faults.Point = BeginsWithOther (Point size) bytes
+Refuses (Sized size) bytes faults.Length = BeginsWithOther (Sized size) bytes
 Refuses field bytes fault = ⊥
 
 -- The bytes are the public fields before the later ones, with values that may stand there, and then

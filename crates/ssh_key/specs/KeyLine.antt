@@ -3,8 +3,7 @@
 use Rattle.std.specs.Prelude.{◌≡◌, ◌≢◌, ℕ, false, ◌⊎◌, List, [], ◌∷◌, ◌++◌, Contains}
 use Rattle.base64.specs.Engines.{standard}
 use Rattle.base64.specs.GeneralPurpose.{encode_of}
-use Rattle.ssh_wire.specs.Wire.{IsBytes}
-use Rattle.ssh_key.specs.FirstFault.{BeginsWith}
+use Rattle.ssh_wire.specs.Wire.{BeginsWith, IsBytes}
 use Rattle.ssh_key.specs.TypeName.{type_names}
 use Rattle.ssh_key.specs.Blanks.{AreBlanks, BeginsWithNoBlank, IsWord, first_word, is_blank, trimmed}
 

@@ -1,7 +1,7 @@
 -- Reading a key from left to right, with the first fault that is met.
 use Rattle.std.specs.Prelude.{◌≡◌, ℕ, ◌-◌, Bool, List, [], ◌∷◌, length, take, Option, Some, None, Result, Ok, Err, nat_lt, ◌==◌, ◌&&◌, if◌then◌else◌}
 use Rattle.std.specs.Str.{bytes_eq}
-use Rattle.ssh_wire.specs.Reading.{mpint_at, string_at}
+use Rattle.ssh_wire.specs.Reading.{◌>>=◌, in_fault, mpint_at, string_at}
 use Rattle.ssh_wire.specs.declared.fault.WireFault.{WireFault}
 use Rattle.ssh_key.specs.declared.fault.KeyFault.{KeyFault}
 use Rattle.ssh_key.specs.declared.fault.KeyFault.TheVariants as faults
@@ -9,15 +9,9 @@ use Rattle.ssh_key.specs.declared.kind.Kind.{Kind}
 use Rattle.ssh_key.specs.Kind.{Field, Positive, Curve, Point, Sized, Text, fields_of, bits_of, kind_named}
 use Rattle.ssh_key.specs.Key.{Key, blob_of, longest_blob}
 
-infixl 10 ◌>>=◌
-abbrev pub ◌>>=◌ : {A B : Type 0} → Result A KeyFault → (A → Result B KeyFault) → Result B KeyFault
-(Ok x) >>= f = f x
-(Err fault) >>= f = Err fault
-
 -- a fault of the wire is one of the key
 abbrev pub on_wire : {A : Type 0} → Result A WireFault → Result A KeyFault
-on_wire (Ok x) = Ok x
-on_wire (Err fault) = Err (faults.Wire fault)
+on_wire = in_fault faults.Wire
 
 -- the value at the front, whether or not it may stand there, and the bytes after it
 abbrev pub value_at : Field → List ℕ → Result (List ℕ × List ℕ) KeyFault
@@ -95,18 +89,6 @@ key_at blob = if nat_lt longest_blob (length blob) then Err faults.TooLong else 
   kind ← kind_at blob
   key ← public_at kind.0 kind.1
   if length key.1 == 0 then Ok key.0 else Err faults.Trailing
-
--- A read answered what reading gives, and left the bytes after it.
-abbrev pub Reads : {X Y : Type 0} → (X → Y) → Result X KeyFault → List ℕ
-    → Result (Y × List ℕ) KeyFault → Type 0
-Reads view (Ok x) left read = read ≡ Ok (view x, left)
-Reads view (Err fault) left read = read ≡ Err fault
-
--- The same, and a refusal left all of the bytes.
-abbrev pub Takes : {X Y : Type 0} → (X → Y) → Result X KeyFault → List ℕ → List ℕ
-    → Result (Y × List ℕ) KeyFault → Type 0
-Takes view (Ok x) old new read = read ≡ Ok (view x, new)
-Takes view (Err fault) old new read = (read ≡ Err fault) × (new ≡ old)
 
 -- Reading the key's blob gives the key.
 abbrev pub IsRead : Key → Type 0

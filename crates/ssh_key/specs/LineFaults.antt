@@ -1,9 +1,8 @@
 -- Why a text is no key line: its first fault, by the words that stand in it.
 use Rattle.std.specs.Prelude.{◌≢◌, ℕ, List}
-use Rattle.ssh_wire.specs.Wire.{IsBytes}
+use Rattle.ssh_wire.specs.Wire.{BeginsWith, IsBytes}
 use Rattle.ssh_key.specs.declared.line_fault.LineFault.{LineFault}
 use Rattle.ssh_key.specs.declared.line_fault.LineFault.TheVariants.{NoKey, Base64, WordDiffers, NoMemory}
-use Rattle.ssh_key.specs.FirstFault.{BeginsWith}
 use Rattle.ssh_key.specs.KeyLine.{HasWords, base64}
 
 -- a type word stands in the text, and behind it a word that may encode a key

@@ -1,8 +1,9 @@
 // Reading the public fields of a key. A cursor that met a fault is not used again.
 
 ghost use Rattle.std.specs.Prelude.{◌≡◌, ◌+◌, ◌-◌, ◌≤◌, IfOk, length};
+ghost use Rattle.ssh_wire.specs.Reading.{Gives};
 ghost use Rattle.ssh_key.specs.Kind.{Curve, Point, Positive, Sized, Text, bit_count};
-ghost use Rattle.ssh_key.specs.KeyReading.{Reads, bits_at, field_at};
+ghost use Rattle.ssh_key.specs.KeyReading.{bits_at, field_at};
 ghost use Rattle.ssh_key.specs.Fields.{bits_of_size, IsWithin};
 
 use crate::fault::KeyFault;
@@ -24,7 +25,7 @@ pub enum Size<'a> {
 /// Reads the public fields of a key of this kind.
 #[tactic(auto, unfolding(crate::specs::KeyReading::bits_at, crate::specs::KeyReading::fields_at))]
 pub fn read_size<'a>(kind: Kind, cursor: &mut Cursor<'a>) -> Result<Size<'a>, KeyFault>
-    ensures read { Reads bits_of_size result cursor.new (bits_at kind cursor.old) }
+    ensures read { Gives bits_of_size result cursor.new (bits_at kind cursor.old) }
     ensures within { IfOk result (λ size. IsWithin size (length cursor.old - length cursor.new)) }
 {
     match kind {
@@ -66,7 +67,7 @@ pub fn read_size<'a>(kind: Kind, cursor: &mut Cursor<'a>) -> Result<Size<'a>, Ke
 /// Reads the public fields of an RSA key: the exponent, and the modulus, which is answered.
 #[tactic(auto, unfolding(crate::specs::KeyReading::bits_at, crate::specs::KeyReading::fields_at))]
 fn read_modulus<'a>(cursor: &mut Cursor<'a>) -> Result<&'a [u8], KeyFault>
-    ensures read { Reads (λ modulus. bit_count modulus.now) result cursor.new
+    ensures read { Gives (λ modulus. bit_count modulus.now) result cursor.new
         (bits_at Kind.Rsa cursor.old) }
     ensures within { IfOk result (λ modulus.
         length modulus.now + length cursor.new ≤ length cursor.old) }
@@ -79,7 +80,7 @@ fn read_modulus<'a>(cursor: &mut Cursor<'a>) -> Result<&'a [u8], KeyFault>
 /// Reads the public fields of a DSA key: the prime, which is answered, and three numbers more.
 #[tactic(auto, unfolding(crate::specs::KeyReading::bits_at, crate::specs::KeyReading::fields_at))]
 fn read_prime<'a>(cursor: &mut Cursor<'a>) -> Result<&'a [u8], KeyFault>
-    ensures read { Reads (λ prime. bit_count prime.now) result cursor.new
+    ensures read { Gives (λ prime. bit_count prime.now) result cursor.new
         (bits_at Kind.Dsa cursor.old) }
     ensures within { IfOk result (λ prime.
         length prime.now + length cursor.new ≤ length cursor.old) }
@@ -94,7 +95,7 @@ fn read_prime<'a>(cursor: &mut Cursor<'a>) -> Result<&'a [u8], KeyFault>
 /// A number above zero: its magnitude.
 #[tactic(auto, unfolding(crate::specs::KeyReading::field_at))]
 fn read_positive<'a>(cursor: &mut Cursor<'a>) -> Result<&'a [u8], KeyFault>
-    ensures read { Reads (λ value. value.now) result cursor.new (field_at Positive cursor.old) }
+    ensures read { Gives (λ value. value.now) result cursor.new (field_at Positive cursor.old) }
     ensures within { IfOk result (λ value.
         length value.now + length cursor.new ≤ length cursor.old) }
 {
@@ -108,7 +109,7 @@ fn read_positive<'a>(cursor: &mut Cursor<'a>) -> Result<&'a [u8], KeyFault>
 /// The name of a curve.
 #[tactic(auto, unfolding(crate::specs::KeyReading::field_at))]
 fn read_curve<'a>(cursor: &mut Cursor<'a>, name: &str) -> Result<&'a [u8], KeyFault>
-    ensures { Reads (λ value. value.now) result cursor.new (field_at (Curve name.now) cursor.old) }
+    ensures { Gives (λ value. value.now) result cursor.new (field_at (Curve name.now) cursor.old) }
 {
     let string = cursor.string()?;
     if string != name.as_bytes() {
@@ -120,7 +121,7 @@ fn read_curve<'a>(cursor: &mut Cursor<'a>, name: &str) -> Result<&'a [u8], KeyFa
 /// A point of a curve, uncompressed, in so many bytes.
 #[tactic(auto, unfolding(crate::specs::KeyReading::field_at))]
 fn read_point<'a>(cursor: &mut Cursor<'a>, size: usize) -> Result<&'a [u8], KeyFault>
-    ensures { Reads (λ value. value.now) result cursor.new (field_at (Point size) cursor.old) }
+    ensures { Gives (λ value. value.now) result cursor.new (field_at (Point size) cursor.old) }
 {
     let string = cursor.string()?;
     if string.len() != size {
@@ -135,7 +136,7 @@ fn read_point<'a>(cursor: &mut Cursor<'a>, size: usize) -> Result<&'a [u8], KeyF
 /// A string of so many bytes.
 #[tactic(auto, unfolding(crate::specs::KeyReading::field_at))]
 fn read_sized<'a>(cursor: &mut Cursor<'a>, size: usize) -> Result<&'a [u8], KeyFault>
-    ensures { Reads (λ value. value.now) result cursor.new (field_at (Sized size) cursor.old) }
+    ensures { Gives (λ value. value.now) result cursor.new (field_at (Sized size) cursor.old) }
 {
     let string = cursor.string()?;
     if string.len() != size {
@@ -147,7 +148,7 @@ fn read_sized<'a>(cursor: &mut Cursor<'a>, size: usize) -> Result<&'a [u8], KeyF
 /// Any string.
 #[tactic(auto, unfolding(crate::specs::KeyReading::field_at))]
 fn read_text<'a>(cursor: &mut Cursor<'a>) -> Result<&'a [u8], KeyFault>
-    ensures { Reads (λ value. value.now) result cursor.new (field_at Text cursor.old) }
+    ensures { Gives (λ value. value.now) result cursor.new (field_at Text cursor.old) }
 {
     Ok(cursor.string()?)
 }

@@ -1,10 +1,11 @@
 // Public keys, read from their blobs.
 
 ghost use Rattle.std.specs.Prelude.{◌≡◌, ◌≤◌, ◌+◌, ℕ, List, IfErr, IfOk, Ok, length};
+ghost use Rattle.ssh_wire.specs.Reading.{Gives, Reads};
 ghost use Rattle.ssh_wire.specs.Wire.{IsBytes, string};
 ghost use Rattle.ssh_key.specs.FirstFault.{IsFieldsFault, IsFirstFault};
 ghost use Rattle.ssh_key.specs.Key.{BeginsWithFields, IsKey, Key, blob_of, longest_blob};
-ghost use Rattle.ssh_key.specs.KeyReading.{Reads, Takes, key_at, kind_at, public_at};
+ghost use Rattle.ssh_key.specs.KeyReading.{key_at, kind_at, public_at};
 ghost use Rattle.ssh_key.specs.Kind.{bit_count, short_name_of, type_name};
 ghost use Rattle.ssh_key.specs.Fields.{IsWithin, bits_of_size};
 
@@ -117,7 +118,7 @@ fn key_of<'a>(blob: &'a [u8]) -> Result<PublicKey<'a>, KeyFault>
 /// The kind by the type name.
 #[tactic(auto, unfolding(crate::specs::KeyReading::kind_at))]
 fn read_kind(cursor: &mut Cursor) -> Result<Kind, KeyFault>
-    ensures { Reads (λ kind. kind) result cursor.new (kind_at cursor.old) }
+    ensures { Gives (λ kind. kind) result cursor.new (kind_at cursor.old) }
 {
     let name = cursor.string()?;
     Kind::of_name(name).ok_or(KeyFault::UnknownType)
@@ -140,14 +141,14 @@ pub fn read_fields<'a>(kind: Kind, cursor: &mut Cursor<'a>) -> Result<PublicKey<
     // The fault is the first one, and nothing is taken.
     ensures fault { IfErr result (λ fault. IsFieldsFault kind cursor.old fault) }
     // The same, for those who compute with the answer.
-    ensures exact { Takes (λ key. key) result cursor.old cursor.new (public_at kind cursor.old) }
+    ensures exact { Reads (λ key. key) result cursor.old cursor.new (public_at kind cursor.old) }
 {
     read_public(kind, cursor)
 }
 
 #[tactic(auto, unfolding(crate::specs::KeyReading::public_at))]
 fn read_public<'a>(kind: Kind, cursor: &mut Cursor<'a>) -> Result<PublicKey<'a>, KeyFault>
-    ensures exact { Takes (λ key. key) result cursor.old cursor.new (public_at kind cursor.old) }
+    ensures exact { Reads (λ key. key) result cursor.old cursor.new (public_at kind cursor.old) }
     ensures bytes { IsBytes cursor.old }
 {
     let bytes = cursor.rest();

@@ -147,8 +147,8 @@ pub fn one_fingerprint_fault()
         → IsFingerprint text digest → IsFingerprintFault text fault → ⊥ }
 {}
 
-/// The printed SHA-256 fingerprint of any bytes names their SHA-256. So what `fingerprint` prints is
-/// read back by `parse_fingerprint`.
+/// The printed SHA-256 fingerprint of any bytes names their SHA-256. So `parse_fingerprint` reads
+/// back what `fingerprint` prints.
 pub fn fingerprint_names_its_digest()
     ensures { (bytes : List ℕ) → IsFingerprint (fingerprint_text Sha256 bytes) (sha256 bytes) }
 {}
