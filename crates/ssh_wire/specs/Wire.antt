@@ -24,6 +24,7 @@ string bytes = number 4 (length bytes) ++ bytes
 pub record BeginsWith (bytes value : List ℕ) : Type 0 where
   pub rest : List ℕ
   pub spelled : bytes ≡ string value ++ rest
+  pub fits : length value < 2 ^ 32
 
 -- strings, one after the other
 abbrev pub strings : List (List ℕ) → List ℕ
