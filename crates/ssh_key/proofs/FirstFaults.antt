@@ -11,7 +11,7 @@ use Rattle.ssh_key.specs.declared.fault.KeyFault.{KeyFault}
 use Rattle.ssh_key.specs.declared.fault.KeyFault.TheVariants as faults
 use Rattle.ssh_key.specs.declared.kind.Kind.{Kind}
 use Rattle.ssh_key.specs.Kind.{Field, type_name, fields_of, bits_of, kind_named}
-use Rattle.ssh_key.specs.Key.{Key, AreValues, HasLength, BeginsWithFields, blob_of, fields_text}
+use Rattle.ssh_key.specs.Key.{Key, AreValues, BeginsWithFields, blob_of, fields_text}
 use Rattle.ssh_key.specs.KeyReading.{before_rest, bits_at, fields_at, key_at, kind_at, known, not_too_long, of_size, on_wire, public_at}
 use Rattle.ssh_key.specs.FirstFault.{Refuses, Reaches, IsFieldsFault, in_field, long_fields, IsFault, no_name, no_kind, in_fields, after_fields, IsFirstFault, too_long, not_long}
 use Rattle.ssh_key.proofs.Names.{kind_named-name, kind_named-type_name}
@@ -41,7 +41,7 @@ kind_refused blob fault fits e =
             | inl unknown ↦
                 let w = known_err (kind_named named.0.0) fault unknown in
                 let t = string_takes blob named.0.0 named.0.1 fits (on_wire_ok (string_at blob) named.0 named.1) in
-                no_kind named.0.0 (record { rest = named.0.1; spelled = t.0.parts }) (named_none named.0.0 w.0) w.1
+                no_kind named.0.0 (record { rest = named.0.1; spelled = t.0.parts; fits = t.1 }) (named_none named.0.0 w.0) w.1
             | inr kind ↦ absurd (never_err (kind.0, named.0.1) fault kind.2)
           ]
     ]
@@ -158,13 +158,11 @@ name_cut : (blob : List ℕ) (why : WireFault) → string_at blob ≡ Err why �
 unfolding kind_at
 name_cut blob why e = rw e refl
 
-name_unknown : (blob name : List ℕ) → length blob ≤ 65536 → BeginsWith blob name → ((kind : Kind) → type_name kind ≢ name) → kind_at blob ≡ Err faults.UnknownType
+name_unknown : (blob name : List ℕ) → BeginsWith blob name → ((kind : Kind) → type_name kind ≢ name) → kind_at blob ≡ Err faults.UnknownType
 unfolding kind_at
-name_unknown blob name short b other =
+name_unknown blob name b other =
     let none : kind_named name ≡ None = none_named name other (kind_named name) refl in
-    let lengths : length blob ≡ length (string name) + length b.rest = ap length b.spelled ∙ length-append (string name) b.rest in
-    let told : HasLength (string name) = omega arith in
-    rw (string_read blob name b told, none) refl
+    rw (string_read blob name b, none) refl
 
 stop_bits : (kind : Kind) (bytes : List ℕ) (field : Field) (later : List Field) (rest : List ℕ) (fault : KeyFault) → (r : Reaches kind bytes (field ∷ later) rest) → Refuses field rest fault → bits_at kind bytes ≡ Err fault
 unfolding bits_at
@@ -209,7 +207,7 @@ fault_read blob fault short (no_name why cut is) =
     rw (is, not_long, name_cut blob why cut) refl
 fault_read blob fault short (no_kind name b other is) =
     let not_long : ltb 65536 (length blob) ≡ false = le-ltb _ _ short in
-    rw (is, not_long, name_unknown blob name short b other) refl
+    rw (is, not_long, name_unknown blob name b other) refl
 fault_read blob fault short (in_fields kind fields spelled f) =
     let not_long : ltb 65536 (length blob) ≡ false = le-ltb _ _ short in
     rw (not_long, named blob kind fields spelled, fields_fault_read kind fields fault f) refl

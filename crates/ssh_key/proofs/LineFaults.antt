@@ -1,5 +1,5 @@
 -- The fault that reading a line meets is the first one of the text, and the first one is what is met.
-use Rattle.std.proofs.Common.{◌≡◌, ◌≢◌, ℕ, ◌⊎◌, false, List, Result, Ok, Err, IfErr, Contains, refl, sym, ap, subst, ◌∙◌, inl, inr}
+use Rattle.std.proofs.Common.{◌≡◌, ◌≢◌, ℕ, ◌⊎◌, false, List, Result, Ok, Err, IfErr, refl, sym, ap, subst, ◌∙◌, inl, inr}
 use Rattle.std.proofs.lemmas.Bool.{both_ways, cases_Bool}
 use Rattle.ssh_key.specs.declared.line.Line.{Line}
 use Rattle.ssh_key.specs.declared.line_fault.LineFault.{LineFault}
@@ -7,11 +7,10 @@ use Rattle.ssh_key.specs.declared.line_fault.LineFault.TheVariants.{NoKey, Base6
 use Rattle.ssh_key.specs.KeyLine.{HasWords, base64}
 use Rattle.ssh_key.specs.LineFaults.{EncodesOtherKey, HasBadBase64, HasSomeWords, IsFirstLineFault, IsToldFault}
 use Rattle.ssh_key.specs.LineReading.{Gives, checked, content_of, decoded, has_word, line_at}
-use Rattle.ssh_key.specs.TypeName.{type_names}
 use Rattle.ssh_key.proofs.LineBase64.{decoded_again, decoded_bytes, decoded_cases, decoded_takes}
 use Rattle.ssh_key.proofs.LineLaws.{word_again, word_takes}
 use Rattle.ssh_key.proofs.Steps.{err_is, ok_or_err}
-use Rattle.ssh_key.proofs.TextWords.{IsBytes-words, none_or_words, words_name, words_read}
+use Rattle.ssh_key.proofs.TextWords.{IsBytes-words, none_or_words, words_read}
 use Rattle.ssh_wire.specs.Wire.{BeginsWith, IsBytes}
 
 -- ---- what is met is the first fault
@@ -44,8 +43,8 @@ words_key text has e = elim (refused has.word has.encoded has.comment NoKey (sym
 no_base64 : (encoded : List ℕ) → decoded encoded ≡ Err Base64 → (blob : List ℕ) → IsBytes blob → base64 blob ≢ encoded
 no_base64 encoded bad blob fits same = ok_or_err blob Base64 (decoded encoded) (ap decoded (sym same) ∙ decoded_again blob fits) bad
 
-other_word : (word blob : List ℕ) → Contains type_names word → has_word word blob ≡ false → ¬ BeginsWith blob word
-other_word word blob name differs begins = both_ways (has_word word blob) differs (word_again word blob name begins)
+other_word : (word blob : List ℕ) → has_word word blob ≡ false → ¬ BeginsWith blob word
+other_word word blob differs begins = both_ways (has_word word blob) differs (word_again word blob begins)
 
 words_refused : (text : List ℕ) (fault : LineFault) → IsBytes text → HasSomeWords text → line_at text ≡ Err fault → IsFirstLineFault text fault
 words_refused text fault fits has e = elim (refused has.word has.encoded has.comment fault (sym (words_read text has.word has.encoded has.comment has.words) ∙ e)) [
@@ -61,7 +60,7 @@ words_refused text fault fits has e = elim (refused has.word has.encoded has.com
         comment = has.comment;
         words = subst (λ (xs : List ℕ). HasWords text has.word xs has.comment) spelled has.words;
         bytes = decoded_bytes has.encoded read.0 encoded_fits read.1;
-        differs = other_word has.word read.0 (words_name text has.word has.encoded has.comment has.words) read.2;
+        differs = other_word has.word read.0 read.2;
       } in
       subst (IsFirstLineFault text) (sym read.3) is
 ]

@@ -1,5 +1,5 @@
 -- Reading a key line and the relation: what is read is a key line, and each key line is read.
-use Rattle.std.proofs.Common.{◌≡◌, ℕ, ◌<◌, ◌^◌, true, List, ◌++◌, Result, Ok, Err, length, Contains, refl, sym, ap, subst, ◌∙◌, arith, inl, inr}
+use Rattle.std.proofs.Common.{◌≡◌, ℕ, ◌<◌, ◌^◌, true, List, ◌++◌, Result, Ok, Err, length, refl, sym, ap, subst, ◌∙◌, inl, inr}
 use Rattle.std.proofs.lemmas.Bool.{cases_Bool}
 use Rattle.std.proofs.lemmas.Slice.Eq.{bytes_eq-Decides}
 use Rattle.ssh_wire.specs.Reading.{string_at}
@@ -8,10 +8,8 @@ use Rattle.ssh_wire.specs.Fields.{string_again, string_takes}
 use Rattle.ssh_key.specs.declared.line_fault.LineFault.{LineFault}
 use Rattle.ssh_key.specs.KeyLine.{HasWords, IsKeyLine, base64}
 use Rattle.ssh_key.specs.LineReading.{Content, checked, content, decoded, has_word, is_string, line_at}
-use Rattle.ssh_key.specs.TypeName.{type_names}
 use Rattle.ssh_key.proofs.LineBase64.{decoded_again, decoded_bytes, decoded_takes}
-use Rattle.ssh_key.proofs.LineNames.{name_is_word}
-use Rattle.ssh_key.proofs.TextWords.{IsBytes-words, none_or_words, words_name, words_read}
+use Rattle.ssh_key.proofs.TextWords.{IsBytes-words, none_or_words, words_read}
 use Rattle.ssh_wire.specs.Wire.{BeginsWith, IsBytes, string}
 
 -- ---- the first string of a key
@@ -23,11 +21,9 @@ has_word_again : (word fields : List ℕ) → length word < 2 ^ 32 → has_word 
 unfolding has_word
 has_word_again word fields lt = rw (string_again word fields lt) ((bytes_eq-Decides word word).1 refl)
 
--- a key that begins with the string of a type name has that word
-pub word_again : (word blob : List ℕ) → Contains type_names word → BeginsWith blob word → has_word word blob ≡ true
-word_again word blob name begins =
-    let is_word = name_is_word word name in
-    ap (has_word word) begins.spelled ∙ has_word_again word begins.rest (omega (arith, is_word.1))
+-- a key that begins with the string of a word has that word
+pub word_again : (word blob : List ℕ) → BeginsWith blob word → has_word word blob ≡ true
+word_again word blob begins = ap (has_word word) begins.spelled ∙ has_word_again word begins.rest begins.fits
 
 is_string_takes : (word : List ℕ) (read : Result Field WireFault) → is_string word read ≡ true → (rest : List ℕ) × (read ≡ Ok (word, rest))
 is_string_takes word (Err fault) e = absurd cc
@@ -39,7 +35,8 @@ pub word_takes : (word blob : List ℕ) → IsBytes blob → has_word word blob 
 unfolding has_word
 word_takes word blob fits e =
     let read = is_string_takes word (string_at blob) e in
-    record { rest = read.0; spelled = (string_takes blob word read.0 fits read.1).0.parts }
+    let taken = string_takes blob word read.0 fits read.1 in
+    record { rest = read.0; spelled = taken.0.parts; fits = taken.1 }
 
 -- ---- what is read is a key line
 
@@ -83,5 +80,5 @@ line_found text parts fits e = elim (none_or_words text) [
 
 pub line_again : (text word blob comment : List ℕ) → IsKeyLine text word blob comment → line_at text ≡ Ok (content word blob comment)
 line_again text word blob comment k =
-    let begins = word_again word blob (words_name text word (base64 blob) comment k.words) k.begins in
+    let begins = word_again word blob k.begins in
     words_read text word (base64 blob) comment k.words ∙ rw (decoded_again blob k.bytes, begins) refl

@@ -46,8 +46,8 @@ mpint-zero : mpint [] ≡ string []
 unfolding mpint complement
 mpint-zero = refl
 
-begins : (bytes value rest : List ℕ) → Takes bytes (string value) rest → BeginsWith bytes value
-begins bytes value rest t = record { rest = rest; spelled = t.parts }
+begins : (bytes value rest : List ℕ) → Takes bytes (string value) rest → HasLength (string value) → BeginsWith bytes value
+begins bytes value rest t told = record { rest = rest; spelled = t.parts; fits = omega (arith, length-string value) }
 
 -- ---- what is refused
 
@@ -72,17 +72,17 @@ judged_refused Positive bytes value rest fault t told e =
     let w = some_is (eqb (length value) 0) Number fault e in
     let empty : value ≡ [] = nil_from_length value (eqb-true _ _ w.0) in
     let zero_string : mpint value ≡ string [] = ap mpint empty ∙ mpint-zero in
-    subst (λ (d : KeyFault). Refuses Positive bytes d) w.1 (record { rest = rest; spelled = t.parts ∙ ap (λ (x : List ℕ). x ++ rest) zero_string })
+    subst (λ (d : KeyFault). Refuses Positive bytes d) w.1 (record { rest = rest; spelled = t.parts ∙ ap (λ (x : List ℕ). x ++ rest) zero_string; fits = omega arith })
 judged_refused (Curve name) bytes value rest fault t told e =
     let w = none_is (bytes_eq value name) faults.Curve fault e in
     let differs : value ≢ name = λ same. let h : bytes_eq value name ≡ true = (bytes_eq-Decides value name).1 same in cc in
-    subst (λ (d : KeyFault). Refuses (Curve name) bytes d) w.1 (record { value = value; begins = begins bytes value rest t; told = told; other = differs })
+    subst (λ (d : KeyFault). Refuses (Curve name) bytes d) w.1 (record { value = value; begins = begins bytes value rest t told; other = differs })
 judged_refused (Point size) bytes value rest fault t told e =
     let w = none_is (eqb (length value) size && begins_with_4 value) faults.Point fault e in
-    subst (λ (d : KeyFault). Refuses (Point size) bytes d) w.1 (record { value = value; begins = begins bytes value rest t; told = told; other = not_both size value w.0 })
+    subst (λ (d : KeyFault). Refuses (Point size) bytes d) w.1 (record { value = value; begins = begins bytes value rest t told; other = not_both size value w.0 })
 judged_refused (Sized size) bytes value rest fault t told e =
     let w = none_is (eqb (length value) size) Length fault e in
-    subst (λ (d : KeyFault). Refuses (Sized size) bytes d) w.1 (record { value = value; begins = begins bytes value rest t; told = told; other = eqb-false _ _ w.0 })
+    subst (λ (d : KeyFault). Refuses (Sized size) bytes d) w.1 (record { value = value; begins = begins bytes value rest t told; other = eqb-false _ _ w.0 })
 judged_refused Text bytes value rest fault t told e = absurd cc
 
 field_refused : (field : Field) (bytes : List ℕ) (fault : KeyFault) → IsBytes bytes → field_at field bytes ≡ Err fault → Refuses field bytes fault
@@ -137,14 +137,12 @@ fields_refused (field ∷ fields) bytes fault fits e =
 
 -- ---- what is refused is a fault of reading
 
-pub string_read : (bytes value : List ℕ) (b : BeginsWith bytes value) → HasLength (string value) → string_at bytes ≡ Ok (value, b.rest)
-string_read bytes value b told = ap string_at b.spelled ∙ string_again value b.rest (omega (arith, length-string value))
+pub string_read : (bytes value : List ℕ) (b : BeginsWith bytes value) → string_at bytes ≡ Ok (value, b.rest)
+string_read bytes value b = ap string_at b.spelled ∙ string_again value b.rest b.fits
 
 zero_read : (bytes : List ℕ) (b : BeginsWith bytes []) → mpint_at bytes ≡ Ok ([], b.rest)
 unfolding mpint_at magnitude_of
-zero_read bytes b =
-    let told : HasLength (string []) = omega (arith, length-string []) in
-    rw (string_read bytes [] b told) refl
+zero_read bytes b = rw (string_read bytes [] b) refl
 
 test_false : (b : Bool) → (b ≡ true → ⊥) → b ≡ false
 test_false true h = absurd (h refl)
@@ -162,11 +160,11 @@ refusal_read Positive bytes Number r = rw (zero_read bytes r) refl
 refusal_read (Curve name) bytes (Wire why) r = rw r refl
 refusal_read (Curve name) bytes faults.Curve r =
     let other : bytes_eq r.value name ≡ false = test_false (bytes_eq r.value name) (λ e. r.other ((bytes_eq-Decides r.value name).0 e)) in
-    rw (string_read bytes r.value r.begins r.told, other) refl
+    rw (string_read bytes r.value r.begins, other) refl
 refusal_read (Point size) bytes (Wire why) r = rw r refl
-refusal_read (Point size) bytes faults.Point r = rw (string_read bytes r.value r.begins r.told, both_false size r.value r.other) refl
+refusal_read (Point size) bytes faults.Point r = rw (string_read bytes r.value r.begins, both_false size r.value r.other) refl
 refusal_read (Sized size) bytes (Wire why) r = rw r refl
-refusal_read (Sized size) bytes Length r = rw (string_read bytes r.value r.begins r.told, ne_eqb (length r.value) size r.other) refl
+refusal_read (Sized size) bytes Length r = rw (string_read bytes r.value r.begins, ne_eqb (length r.value) size r.other) refl
 refusal_read Text bytes (Wire why) r = rw r refl
 refusal_read field bytes fault r = absurd r
 

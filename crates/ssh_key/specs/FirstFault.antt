@@ -7,13 +7,12 @@ use Rattle.ssh_key.specs.declared.fault.KeyFault.{KeyFault}
 use Rattle.ssh_key.specs.declared.fault.KeyFault.TheVariants as faults
 use Rattle.ssh_key.specs.declared.kind.Kind.{Kind}
 use Rattle.ssh_key.specs.Kind.{Field, Positive, Curve, Point, Sized, type_name, fields_of}
-use Rattle.ssh_key.specs.Key.{HasLength, IsValue, AreValues, fields_text, longest_blob}
+use Rattle.ssh_key.specs.Key.{IsValue, AreValues, fields_text, longest_blob}
 
 -- a string at the front of the bytes that may not stand in the field
 pub record BeginsWithOther (field : Field) (bytes : List ℕ) : Type 0 where
   pub value : List ℕ
   pub begins : BeginsWith bytes value
-  pub told : HasLength (string value)
   pub other : ¬ IsValue field value
 
 -- What stands at the front of the bytes is no value of the field: it is misspelt, or a number that
