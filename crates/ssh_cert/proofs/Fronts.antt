@@ -1,0 +1,93 @@
+-- Fields in a row: what is read is spelled so, what is spelled so is read, and the first that is
+-- refused is the fault.
+use Rattle.std.proofs.Common.{◌≡◌, ℕ, List, [], ◌∷◌, ◌++◌, Result, Ok, Err, refl, sym, ap, subst, ◌∙◌, append_assoc, inl, inr}
+use Rattle.ssh_wire.specs.Wire.{IsBytes}
+use Rattle.ssh_wire.specs.Fields.{Takes, Takes-then}
+use Rattle.ssh_cert.specs.declared.fault.CertFault.{CertFault}
+use Rattle.ssh_cert.specs.CertReading.{◌>>=◌, field_at, fields_at}
+use Rattle.ssh_cert.specs.Field.{Field, IsValue, AreValues, ValueOf, ValuesOf, field_text, fields_text}
+use Rattle.ssh_cert.specs.FirstFault.{Refuses}
+use Rattle.ssh_cert.proofs.Steps.{bind_err, bind_ok, never_err}
+use Rattle.ssh_cert.proofs.FieldReads.{field_again, field_takes}
+use Rattle.ssh_cert.proofs.FieldFaults.{field_refused, refusal_read}
+
+-- the fields' values were taken from the front
+pub record TakesFields (fields : List Field) (bytes : List ℕ) (x : ValuesOf fields × List ℕ) : Type 0 where
+  pub takes : Takes bytes (fields_text fields x.0) x.1
+  pub allowed : AreValues fields x.0
+
+abbrev done : (fields : List Field) → ValuesOf fields → List ℕ → Result (ValuesOf fields × List ℕ) CertFault
+done fields values rest = Ok (values, rest)
+
+is_read : (fields : List Field) (values : ValuesOf fields) (rest : List ℕ) (x : ValuesOf fields × List ℕ) → done fields values rest ≡ Ok x → (values, rest) ≡ x
+is_read fields values rest x e = cc
+
+taken : (fields : List Field) (bytes : List ℕ) (values : ValuesOf fields) (rest : List ℕ) (x : ValuesOf fields × List ℕ) → done fields values rest ≡ Ok x → Takes bytes (fields_text fields values) rest → AreValues fields values → TakesFields fields bytes x
+taken fields bytes values rest x e t allowed = subst (λ (y : ValuesOf fields × List ℕ). TakesFields fields bytes y) (is_read fields values rest x e) (record { takes = t; allowed = allowed })
+
+pub fields_take : (fields : List Field) (bytes : List ℕ) (x : ValuesOf fields × List ℕ) → IsBytes bytes → fields_at fields bytes ≡ Ok x → TakesFields fields bytes x
+unfolding fields_at
+fields_take [] bytes x fits e = taken [] bytes tt bytes x e (record { parts = refl; rest_fits = fits }) tt
+fields_take (field ∷ fields) bytes x fits e =
+    let a = bind_ok (field_at field bytes) (λ first. fields_at fields first.1 >>= λ others. Ok ((first.0, others.0), others.1)) x e in
+    let b = bind_ok (fields_at fields a.0.1) (λ others. Ok ((a.0.0, others.0), others.1)) x a.2 in
+    let first = field_takes field bytes a.0 fits a.1 in
+    let second = fields_take fields a.0.1 b.0 first.takes.rest_fits b.1 in
+    let both = Takes-then bytes (field_text field a.0.0) a.0.1 (fields_text fields b.0.0) b.0.1 first.takes second.takes in
+    taken (field ∷ fields) bytes (a.0.0, b.0.0) b.0.1 x b.2 both (first.allowed, second.allowed)
+
+pub fields_again : (fields : List Field) (values : ValuesOf fields) (rest : List ℕ) → AreValues fields values → fields_at fields (fields_text fields values ++ rest) ≡ Ok (values, rest)
+unfolding fields_at
+fields_again [] values rest allowed = refl
+fields_again (field ∷ fields) values rest allowed =
+    ap (fields_at (field ∷ fields)) (append_assoc (field_text field values.0) (fields_text fields values.1) rest)
+    ∙ rw (field_again field values.0 (fields_text fields values.1 ++ rest) allowed.0, fields_again fields values.1 rest allowed.1) refl
+
+-- the fields up to the one that is refused
+pub record Stops (fields : List Field) (bytes : List ℕ) (fault : CertFault) : Type 0 where
+  pub before : List Field
+  pub field : Field
+  pub later : List Field
+  pub values : ValuesOf before
+  pub rest : List ℕ
+  pub parts : fields ≡ before ++ field ∷ later
+  pub allowed : AreValues before values
+  pub spelled : bytes ≡ fields_text before values ++ rest
+  pub refused : Refuses field rest fault
+
+stops_first : (field : Field) (fields : List Field) (bytes : List ℕ) (fault : CertFault) → Refuses field bytes fault → Stops (field ∷ fields) bytes fault
+stops_first field fields bytes fault refused = record { before = []; field = field; later = fields; values = tt; rest = bytes; parts = refl; allowed = tt; spelled = refl; refused = refused }
+
+stops_later : (field : Field) (fields : List Field) (bytes : List ℕ) (value : ValueOf field) (after : List ℕ) (fault : CertFault) → Takes bytes (field_text field value) after → IsValue field value → Stops fields after fault → Stops (field ∷ fields) bytes fault
+stops_later field fields bytes value after fault t allowed s = record {
+  before = field ∷ s.before;
+  field = s.field;
+  later = s.later;
+  values = (value, s.values);
+  rest = s.rest;
+  parts = ap (λ (fs : List Field). field ∷ fs) s.parts;
+  allowed = (allowed, s.allowed);
+  spelled = t.parts ∙ ap (λ (x : List ℕ). field_text field value ++ x) s.spelled ∙ sym (append_assoc (field_text field value) (fields_text s.before s.values) s.rest);
+  refused = s.refused;
+}
+
+pub fields_refused : (fields : List Field) (bytes : List ℕ) (fault : CertFault) → IsBytes bytes → fields_at fields bytes ≡ Err fault → Stops fields bytes fault
+unfolding fields_at
+fields_refused [] bytes fault fits e = absurd cc
+fields_refused (field ∷ fields) bytes fault fits e =
+    elim (bind_err (field_at field bytes) (λ first. fields_at fields first.1 >>= λ others. Ok ((first.0, others.0), others.1)) fault e) [
+      | inl refused ↦ stops_first field fields bytes fault (field_refused field bytes fault fits refused)
+      | inr first ↦
+          let t = field_takes field bytes first.0 fits first.1 in
+          elim (bind_err (fields_at fields first.0.1) (λ others. Ok ((first.0.0, others.0), others.1)) fault first.2) [
+            | inl later ↦ stops_later field fields bytes first.0.0 first.0.1 fault t.takes t.allowed (fields_refused fields first.0.1 fault t.takes.rest_fits later)
+            | inr others ↦ absurd (never_err ((first.0.0, others.0.0), others.0.1) fault others.2)
+          ]
+    ]
+
+pub stop_read : (before : List Field) (field : Field) (later : List Field) (values : ValuesOf before) (rest : List ℕ) (fault : CertFault) → IsBytes rest → AreValues before values → Refuses field rest fault → fields_at (before ++ field ∷ later) (fields_text before values ++ rest) ≡ Err fault
+unfolding fields_at
+stop_read [] field later values rest fault fits allowed refused = rw (refusal_read field rest fault fits refused) refl
+stop_read (first ∷ before) field later values rest fault fits allowed refused =
+    ap (fields_at (first ∷ (before ++ field ∷ later))) (append_assoc (field_text first values.0) (fields_text before values.1) rest)
+    ∙ rw (field_again first values.0 (fields_text before values.1 ++ rest) allowed.0, stop_read before field later values.1 rest fault fits allowed.1 refused) refl

@@ -1,0 +1,10 @@
+pub mod StringLists
+pub mod Steps
+pub mod FieldLemmas
+pub mod FieldReads
+pub mod FieldFaults
+pub mod Fronts
+pub mod Certs
+pub mod OptionLists
+pub mod Asked
+pub mod Cuts

@@ -1,0 +1,9 @@
+use Rattle.std.proofs.Common.{◌≡◌, ◌++◌, map}
+use Rattle.std.specs.List.{flat_map}
+use Rattle.ssh_cert.specs.Escape.{escaped}
+use Rattle.ssh_cert.specs.Listing.{item}
+use Rattle.ssh_cert.proofs.listing.push_principals.Given as goal
+
+-- the items so far, and those that are left
+abbrev pub invariant-loop-principal : goal.invariant-loop-principal
+invariant-loop-principal l = l.out.items ++ flat_map item (map escaped l.principals) ≡ l.initial.out.items ++ flat_map item (map escaped l.initial.principals)

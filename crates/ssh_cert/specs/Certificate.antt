@@ -1,0 +1,77 @@
+-- What a certificate says, and how its blob is spelled (PROTOCOL.certkeys).
+use Rattle.std.specs.Prelude.{◌≡◌, ℕ, ◌<◌, ◌^◌, List, [], ◌∷◌, ◌++◌, length}
+use Rattle.ssh_wire.specs.Wire.{BeginsWith, number, string, strings}
+use Rattle.ssh_key.specs.Key.{IsKey, Key, blob_of}
+use Rattle.ssh_key.specs.Kind.{certificate_name}
+use Rattle.ssh_cert.specs.declared.role.Role.{Role}
+use Rattle.ssh_cert.specs.declared.role.Role.TheVariants.{User, Host}
+use Rattle.ssh_cert.specs.Options.{NamedData, options_text}
+
+-- A certificate's fields, without the reserved one; of the signature only the name of its algorithm.
+pub record Certificate : Type 0 where
+  pub nonce : List ℕ
+  pub key : Key
+  pub serial : ℕ
+  pub role : Role
+  pub key_id : List ℕ
+  pub principals : List (List ℕ)
+  pub after : ℕ
+  pub before : ℕ
+  pub critical : List NamedData
+  pub extensions : List NamedData
+  pub authority : List ℕ
+  pub authority_key : Key
+  pub algorithm : List ℕ
+
+-- SSH_CERT_TYPE_USER and SSH_CERT_TYPE_HOST
+abbrev pub role_number : Role → ℕ
+role_number User = 1
+role_number Host = 2
+
+-- texts, one after the other
+abbrev pub joined : List (List ℕ) → List ℕ
+joined [] = []
+joined (text ∷ texts) = text ++ joined texts
+
+-- the fields in their order: the type name first, the signature last
+abbrev pub certificate_text : Certificate → List ℕ → List ℕ → List ℕ
+certificate_text certificate reserved signature = joined (
+    string (certificate_name certificate.key.kind)
+    ∷ string certificate.nonce
+    ∷ certificate.key.fields
+    ∷ number 8 certificate.serial
+    ∷ number 4 (role_number certificate.role)
+    ∷ string certificate.key_id
+    ∷ string (strings certificate.principals)
+    ∷ number 8 certificate.after
+    ∷ number 8 certificate.before
+    ∷ string (options_text certificate.critical)
+    ∷ string (options_text certificate.extensions)
+    ∷ string reserved
+    ∷ string certificate.authority
+    ∷ string signature
+    ∷ [])
+
+-- Four bytes hold the length of each string, and eight bytes each number.
+pub record HasLengths (certificate : Certificate) (reserved signature : List ℕ) : Type 0 where
+  pub nonce_fits : length certificate.nonce < 2 ^ 32
+  pub serial_fits : certificate.serial < 2 ^ 64
+  pub key_id_fits : length certificate.key_id < 2 ^ 32
+  pub principals_fits : length (strings certificate.principals) < 2 ^ 32
+  pub after_fits : certificate.after < 2 ^ 64
+  pub before_fits : certificate.before < 2 ^ 64
+  pub critical_fits : length (options_text certificate.critical) < 2 ^ 32
+  pub extensions_fits : length (options_text certificate.extensions) < 2 ^ 32
+  pub reserved_fits : length reserved < 2 ^ 32
+  pub signature_fits : length signature < 2 ^ 32
+
+-- The blob is that of the certificate: its fields in their order, and nothing more. The plain key and
+-- the signature key are keys, and the signature begins with the name of its algorithm.
+pub record IsCertificate (blob : List ℕ) (certificate : Certificate) : Type 0 where
+  pub reserved : List ℕ
+  pub signature : List ℕ
+  pub spelled : blob ≡ certificate_text certificate reserved signature
+  pub lengths : HasLengths certificate reserved signature
+  pub key : IsKey (blob_of certificate.key) certificate.key
+  pub authority : IsKey certificate.authority certificate.authority_key
+  pub signed : BeginsWith signature certificate.algorithm

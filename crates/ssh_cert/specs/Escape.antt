@@ -1,0 +1,14 @@
+-- Texts as they are printed: each byte that a terminal would obey stands as its hexadecimal digits.
+use Rattle.std.specs.Prelude.{ℕ, ◌/◌, ◌%◌, ◌==◌, ◌||◌, nat_lt, if◌then◌else◌, List, [], ◌∷◌, slice_index, codes}
+use Rattle.std.specs.List.{flat_map}
+
+-- a digit below 16
+abbrev pub hex_digit : ℕ → ℕ
+hex_digit n = slice_index (codes "0123456789abcdef") n
+
+unfoldable pub escaped_byte : ℕ → List ℕ
+escaped_byte byte =
+    if nat_lt byte 32 || byte == 127 then 92 ∷ 120 ∷ hex_digit (byte / 16) ∷ hex_digit (byte % 16) ∷ [] else byte ∷ []
+
+unfoldable pub escaped : List ℕ → List ℕ
+escaped text = flat_map escaped_byte text

@@ -1,0 +1,15 @@
+pub mod Subject
+pub mod Strings
+pub mod Options
+pub mod CertFault
+pub mod SubjectFault
+pub mod Certificate
+pub mod Field
+pub mod CertReading
+pub mod FirstFault
+pub mod Parts
+pub mod SubjectReading
+pub mod Laws
+pub mod Time
+pub mod Escape
+pub mod Listing

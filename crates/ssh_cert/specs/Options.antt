@@ -1,0 +1,32 @@
+-- The critical options and the extensions of a certificate (PROTOCOL.certkeys): pairs of a name and data.
+use Rattle.std.specs.Prelude.{◌≡◌, ℕ, List, [], ◌∷◌, Option, Some, None, unwrap_or}
+use Rattle.std.specs.List.{flat_map}
+use Rattle.std.specs.Option.{option_map}
+use Rattle.ssh_wire.specs.Wire.{strings}
+
+-- the name of an option or an extension, and its data
+pub record NamedData : Type 0 where
+  pub name : List ℕ
+  pub content : List ℕ
+
+-- the names and the data, in order
+abbrev pub parts_of : List NamedData → List (List ℕ)
+parts_of options = flat_map (λ option. option.name ∷ option.content ∷ []) options
+
+-- the strings of the names and of the data, one after the other
+abbrev pub options_text : List NamedData → List ℕ
+options_text options = strings (parts_of options)
+
+-- strings by two, where none is left over
+abbrev pub pairs_of : List (List ℕ) → Option (List NamedData)
+pairs_of [] = Some []
+pairs_of (name ∷ []) = None
+pairs_of (name ∷ content ∷ rest) =
+    option_map (λ options. record { name = name; content = content } ∷ options) (pairs_of rest)
+
+abbrev pub pairs_in : List (List ℕ) → List NamedData
+pairs_in parts = unwrap_or (pairs_of parts) []
+
+-- Nothing is left over.
+abbrev pub ArePairs : List (List ℕ) → Type 0
+ArePairs parts = parts ≡ parts_of (pairs_in parts)

@@ -1,0 +1,13 @@
+-- What a revocation list is asked about (ssh-keygen(1), KEY REVOCATION LISTS).
+use Rattle.std.specs.Prelude.{ℕ, List, Option}
+
+-- what a list can name of a certificate, beside its plain key
+pub record Names : Type 0 where
+  pub serial : ℕ
+  pub key_id : List ℕ
+  pub authority : List ℕ
+
+-- a plain key by its blob, and for a certificate its names
+pub record Subject : Type 0 where
+  pub plain : List ℕ
+  pub cert : Option Names

@@ -1,0 +1,94 @@
+-- What a blob asks of a revocation list, and why it asks nothing.
+use Rattle.std.specs.Prelude.{◌≡◌, ℕ, Bool, false, List, Some, None, Result, Ok, Err, is_some, if◌then◌else◌}
+use Rattle.ssh_wire.specs.Reading.{string_at}
+use Rattle.ssh_wire.specs.declared.fault.WireFault.{WireFault}
+use Rattle.ssh_wire.specs.Wire.{BeginsWith}
+use Rattle.ssh_key.specs.declared.fault.KeyFault.{KeyFault}
+use Rattle.ssh_key.specs.declared.kind.Kind.{Kind}
+use Rattle.ssh_key.specs.FirstFault.{IsFirstFault as IsKeyFault}
+use Rattle.ssh_key.specs.Key.{IsKey, Key, blob_of}
+use Rattle.ssh_key.specs.KeyReading.{key_at}
+use Rattle.ssh_key.specs.Kind.{certificate_name, kind_certified}
+use Rattle.ssh_cert.specs.declared.fault.CertFault.{CertFault}
+use Rattle.ssh_cert.specs.declared.subject_fault.SubjectFault.{SubjectFault}
+use Rattle.ssh_cert.specs.declared.subject_fault.SubjectFault.TheVariants as faults
+use Rattle.ssh_cert.specs.CertReading.{certificate_at}
+use Rattle.ssh_cert.specs.Certificate.{Certificate, IsCertificate}
+use Rattle.ssh_cert.specs.FirstFault.{IsFirstFault}
+use Rattle.ssh_cert.specs.Subject.{Names, Subject}
+
+abbrev pub names_of : Certificate → Names
+names_of certificate = record {
+  serial = certificate.serial;
+  key_id = certificate.key_id;
+  authority = certificate.authority;
+}
+
+-- a certificate is asked about by its plain key, never by its own blob
+abbrev pub of_certificate : Certificate → Subject
+of_certificate certificate =
+    record { plain = blob_of certificate.key; cert = Some (names_of certificate) }
+
+abbrev pub of_key : List ℕ → Subject
+of_key blob = record { plain = blob; cert = None }
+
+-- The blob is that of a plain key or of a certificate, and this is asked of it.
+pub data IsSubject (blob : List ℕ) (subject : Subject) : Type 0 where
+  plain_key : (key : Key) → IsKey blob key → subject ≡ of_key blob → IsSubject blob subject
+  certified : (certificate : Certificate) → IsCertificate blob certificate
+      → subject ≡ of_certificate certificate → IsSubject blob subject
+
+-- the first string is the type name of a certificate
+pub record HasCertificateName (blob : List ℕ) : Type 0 where
+  pub kind : Kind
+  pub begins : BeginsWith blob (certificate_name kind)
+
+-- The first fault of a blob, as that of a certificate where its first string is the type name of one,
+-- and else as that of a plain key.
+pub data IsSubjectFault (blob : List ℕ) (fault : SubjectFault) : Type 0 where
+  no_key : (why : KeyFault) → ¬ HasCertificateName blob → IsKeyFault blob why
+      → fault ≡ faults.Key why → IsSubjectFault blob fault
+  no_certificate : (why : CertFault) → HasCertificateName blob → IsFirstFault blob why
+      → fault ≡ faults.Cert why → IsSubjectFault blob fault
+
+-- a plain key or a certificate
+pub record HasSubject (blob : List ℕ) : Type 0 where
+  pub subject : Subject
+  pub is : IsSubject blob subject
+
+-- What is told of a blob: its fault, or want of memory for what is asked of it.
+abbrev pub IsToldFault : List ℕ → SubjectFault → Type 0
+IsToldFault blob faults.NoMemory = HasSubject blob
+IsToldFault blob fault = IsSubjectFault blob fault
+
+abbrev pub is_certified : Result (List ℕ × List ℕ) WireFault → Bool
+is_certified (Ok (name, rest)) = is_some (kind_certified name)
+is_certified (Err fault) = false
+
+abbrev pub key_subject : List ℕ → Result Key KeyFault → Result Subject SubjectFault
+key_subject blob (Ok key) = Ok (of_key blob)
+key_subject blob (Err fault) = Err (faults.Key fault)
+
+abbrev pub certificate_subject : Result Certificate CertFault → Result Subject SubjectFault
+certificate_subject (Ok certificate) = Ok (of_certificate certificate)
+certificate_subject (Err fault) = Err (faults.Cert fault)
+
+-- the same as functions that read from left to right
+unfoldable pub is_certificate : List ℕ → Bool
+is_certificate blob = is_certified (string_at blob)
+
+unfoldable pub subject_of : List ℕ → Result Subject SubjectFault
+subject_of blob =
+    if is_certificate blob then certificate_subject (certificate_at blob)
+    else key_subject blob (key_at blob)
+
+-- something is asked
+pub record IsAsked (read : Result Subject SubjectFault) : Type 0 where
+  pub subject : Subject
+  pub read_as : read ≡ Ok subject
+
+-- A function returned what reading gives, or found no memory for what it gives.
+abbrev pub Gives : Result Subject SubjectFault → Result Subject SubjectFault → Type 0
+Gives (Ok subject) read = read ≡ Ok subject
+Gives (Err faults.NoMemory) read = IsAsked read
+Gives (Err fault) read = read ≡ Err fault

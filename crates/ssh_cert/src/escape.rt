@@ -1,0 +1,37 @@
+// Texts of others as they are printed.
+
+ghost use Rattle.std.specs.Prelude.{◌≡◌, ◌++◌, OnOk};
+ghost use Rattle.ssh_cert.specs.Escape.{escaped, escaped_byte};
+
+use std::alloc::AllocError;
+
+const DIGITS: &[u8; 16] = b"0123456789abcdef";
+
+/// Appends the text with each byte below 0x20 and byte 0x7f as `\x` and two hexadecimal digits, so
+/// that nothing printed moves a terminal's cursor or ends a line.
+#[tactic(auto, unfolding(crate::specs::Escape::escaped))]
+pub fn push_escaped(out: &mut Vec<u8>, text: &[u8]) -> Result<(), AllocError>
+    ensures { OnOk result (out.new.items ≡ out.old.items ++ escaped text.now) }
+{
+    for byte in text {
+        push_byte(out, *byte)?;
+    }
+    Ok(())
+}
+
+#[tactic(auto, unfolding(crate::specs::Escape::escaped_byte))]
+fn push_byte(out: &mut Vec<u8>, byte: u8) -> Result<(), AllocError>
+    ensures { OnOk result (out.new.items ≡ out.old.items ++ escaped_byte byte) }
+{
+    if byte < 0x20 || byte == 0x7f {
+        let digits = [
+            b'\\',
+            b'x',
+            DIGITS[(byte / 16) as usize],
+            DIGITS[(byte % 16) as usize],
+        ];
+        return out.extend_from_slice(&digits);
+    }
+    out.push(byte)?;
+    Ok(())
+}

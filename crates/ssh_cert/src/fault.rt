@@ -1,0 +1,82 @@
+// Why blobs are refused.
+
+ghost use Rattle.std.specs.Prelude.{◌≡◌, Some};
+ghost use Rattle.ssh_cert.specs.CertFault.{cert_fault_number, cert_fault_text};
+ghost use Rattle.ssh_cert.specs.declared.fault.CertFault.TheVariants.{Wire};
+
+use ssh_key::KeyFault;
+use ssh_wire::WireFault;
+use std::error::Error;
+use std::fmt;
+
+/// Why a blob is not a certificate. Of several faults the first is told, in the order of the fields.
+/// It prints as `cert`, its number and its name; behind `Key` and `Authority` comes the fault of the
+/// key.
+#[derive(Clone, Copy, Debug, PartialEq, Eq)]
+pub enum CertFault {
+    /// A field outside the public fields of the key is cut short.
+    Wire,
+    /// The type name is not that of a certificate. That of a plain key is not.
+    UnknownType,
+    /// The public fields of the key are not those of its kind, or are cut short.
+    Key(KeyFault),
+    /// The certificate is neither a user's nor a host's.
+    CertType,
+    /// The critical options or the extensions are not pairs of strings.
+    Options,
+    /// The principals are not strings.
+    Principals,
+    /// The signature key is not a plain key.
+    Authority(KeyFault),
+    /// The signature does not begin with the name of its algorithm.
+    Signature,
+    /// Bytes follow the signature.
+    Trailing,
+}
+
+impl CertFault {
+    /// The fault's number, 1 to 9 in the order of the variants.
+    pub fn number(self) -> u8
+        ensures { result ≡ cert_fault_number self }
+    {
+        match self {
+            CertFault::Wire => 1,
+            CertFault::UnknownType => 2,
+            CertFault::Key(_) => 3,
+            CertFault::CertType => 4,
+            CertFault::Options => 5,
+            CertFault::Principals => 6,
+            CertFault::Authority(_) => 7,
+            CertFault::Signature => 8,
+            CertFault::Trailing => 9,
+        }
+    }
+}
+
+impl fmt::Display for CertFault {
+    ghost output = { λ fault. Some (cert_fault_text fault) };
+
+    fn fmt<W: fmt::Write>(&self, f: &mut fmt::Formatter<W>) -> fmt::Result {
+        match self {
+            CertFault::Wire => write!(f, "cert 1 Wire"),
+            CertFault::UnknownType => write!(f, "cert 2 UnknownType"),
+            CertFault::Key(fault) => write!(f, "cert 3 Key, {fault}"),
+            CertFault::CertType => write!(f, "cert 4 CertType"),
+            CertFault::Options => write!(f, "cert 5 Options"),
+            CertFault::Principals => write!(f, "cert 6 Principals"),
+            CertFault::Authority(fault) => write!(f, "cert 7 Authority, {fault}"),
+            CertFault::Signature => write!(f, "cert 8 Signature"),
+            CertFault::Trailing => write!(f, "cert 9 Trailing"),
+        }
+    }
+}
+
+impl Error for CertFault {}
+
+impl From<WireFault> for CertFault {
+    ghost from_gives = { λ _ fault. fault ≡ Wire };
+
+    fn from(_fault: WireFault) -> CertFault {
+        CertFault::Wire
+    }
+}

@@ -1,0 +1,63 @@
+//! What holds for every certificate and every list of bytes, each as the contract of a function that
+//! does nothing. `read_cert` answers what the reader named here gives, and `subject` what is asked.
+
+ghost use Rattle.std.specs.Prelude.{◌≡◌, ◌↔◌, ℕ, List, Err, Ok};
+ghost use Rattle.ssh_cert.specs.CertReading.{certificate_at};
+ghost use Rattle.ssh_cert.specs.Certificate.{Certificate, IsCertificate};
+ghost use Rattle.ssh_cert.specs.FirstFault.{IsFirstFault};
+ghost use Rattle.ssh_cert.specs.Laws.{HasCutFault, IsCut};
+ghost use Rattle.ssh_cert.specs.Subject.{Subject};
+ghost use Rattle.ssh_cert.specs.SubjectReading.{IsSubject, IsSubjectFault, subject_of};
+ghost use Rattle.ssh_cert.specs.declared.fault.CertFault.{CertFault};
+ghost use Rattle.ssh_cert.specs.declared.subject_fault.SubjectFault.{SubjectFault};
+ghost use Rattle.ssh_wire.specs.Wire.{IsBytes};
+
+/// Reading gives a certificate exactly where the bytes are its blob.
+pub fn read_where_spelled()
+    ensures { (blob : List ℕ) (certificate : Certificate) → IsBytes blob
+        → (certificate_at blob ≡ Ok certificate) ↔ IsCertificate blob certificate }
+{}
+
+/// Reading meets a fault exactly where it is the first fault of the bytes.
+pub fn refused_by_first_fault()
+    ensures { (blob : List ℕ) (fault : CertFault) → IsBytes blob
+        → (certificate_at blob ≡ Err fault) ↔ IsFirstFault blob fault }
+{}
+
+/// Bytes have one first fault at most, and a blob of a certificate has none.
+pub fn one_first_fault()
+    ensures one { (blob : List ℕ) (a b : CertFault) → IsBytes blob
+        → IsFirstFault blob a → IsFirstFault blob b → a ≡ b }
+    ensures none { (blob : List ℕ) (certificate : Certificate) (fault : CertFault) → IsBytes blob
+        → IsCertificate blob certificate → IsFirstFault blob fault → ⊥ }
+{}
+
+/// A blob is that of one certificate.
+pub fn one_certificate()
+    ensures { (blob : List ℕ) (a b : Certificate)
+        → IsCertificate blob a → IsCertificate blob b → a ≡ b }
+{}
+
+/// A blob of a certificate that is cut anywhere has the fault that a field is cut short.
+pub fn cut_certificate()
+    ensures { (blob front : List ℕ) (certificate : Certificate) → IsBytes blob
+        → IsCertificate blob certificate → IsCut front blob → HasCutFault front }
+{}
+
+/// Reading gives what is asked exactly where the bytes are those of a plain key or of a certificate of
+/// which it is asked.
+pub fn asked_where_spelled()
+    ensures { (blob : List ℕ) (asked : Subject) → IsBytes blob
+        → (subject_of blob ≡ Ok asked) ↔ IsSubject blob asked }
+{}
+
+/// Nothing is asked exactly where the bytes have a first fault.
+pub fn not_asked_by_first_fault()
+    ensures { (blob : List ℕ) (fault : SubjectFault) → IsBytes blob
+        → (subject_of blob ≡ Err fault) ↔ IsSubjectFault blob fault }
+{}
+
+/// One thing is asked of a blob.
+pub fn one_subject()
+    ensures { (blob : List ℕ) (a b : Subject) → IsSubject blob a → IsSubject blob b → a ≡ b }
+{}

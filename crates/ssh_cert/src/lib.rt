@@ -1,0 +1,32 @@
+//! Certificates (PROTOCOL.certkeys), and what a revocation list is asked about a key.
+#![tactic(auto)]
+
+mod cert;
+mod escape;
+mod fault;
+pub mod laws;
+mod listing;
+mod options;
+mod reading;
+mod role;
+mod strings;
+mod subject_fault;
+mod subject_of;
+mod subjects;
+mod time;
+
+pub use cert::Cert;
+pub use escape::push_escaped;
+pub use fault::CertFault;
+pub use listing::list_cert;
+pub use options::{CertOption, Options};
+pub use reading::read_cert;
+pub use role::Role;
+pub use strings::Strings;
+pub use subject_fault::SubjectFault;
+pub use subject_of::subject;
+pub use subjects::{CertNames, Subject};
+pub use time::{time_text, valid_at};
+
+#[cfg(test)]
+mod tests;

@@ -1,0 +1,326 @@
+// The listing of a certificate (ssh-keygen(1), option -L).
+
+ghost use Rattle.std.specs.Prelude.{◌≡◌, ◌++◌, IfOk, OnOk, codes, map};
+ghost use Rattle.hex.specs.Hex.{encode_lower};
+ghost use Rattle.ssh_wire.specs.Reading.{string_at};
+ghost use Rattle.ssh_cert.specs.Escape.{escaped};
+ghost use Rattle.ssh_cert.specs.Listing.{IsListing, IsPeriod, listing_text, period_of, authority_value, data_text, has_text, id_value, identity_text, item, key_value, line, lines, lists_text, option_item, string_or_hex, terms_text, type_value, valid_value};
+
+use crate::cert::Cert;
+use crate::escape::push_escaped;
+use crate::options::{CertOption, Options};
+use crate::role::Role;
+use crate::strings::Strings;
+use crate::time::{time_text, valid_at};
+use ssh_key::{Hash, PublicKey, fingerprint, plain_blob};
+use ssh_wire::Cursor;
+use std::alloc::{AllocError, Global};
+
+/// Appends a label and its value.
+#[tactic(auto, unfolding(crate::specs::Listing::line))]
+fn push_line(out: &mut Vec<u8>, label: &[u8], value: &[u8]) -> Result<(), AllocError>
+    ensures { OnOk result (out.new.items ≡ out.old.items ++ line label.now value.now) }
+{
+    out.extend_from_slice(b"        ")?;
+    out.extend_from_slice(label)?;
+    out.extend_from_slice(b": ")?;
+    out.extend_from_slice(value)?;
+    out.push(b'\n')?;
+    Ok(())
+}
+
+/// Appends one of several items.
+#[tactic(auto, unfolding(crate::specs::Listing::item))]
+fn push_item(out: &mut Vec<u8>, text: &[u8]) -> Result<(), AllocError>
+    ensures { OnOk result (out.new.items ≡ out.old.items ++ item text.now) }
+{
+    out.extend_from_slice(b"                ")?;
+    out.extend_from_slice(text)?;
+    out.push(b'\n')?;
+    Ok(())
+}
+
+fn type_value(alloc: Global, cert: &Cert) -> Result<Vec<u8>, AllocError>
+    ensures { IfOk result (λ text. text.items ≡ type_value cert.now) }
+{
+    let mut text = Vec::from_slice(alloc, cert.kind().cert_name().as_bytes())?;
+    match cert.role() {
+        Role::User => text.extend_from_slice(b" user certificate")?,
+        Role::Host => text.extend_from_slice(b" host certificate")?,
+    }
+    Ok(text)
+}
+
+fn key_value(alloc: Global, hash: Hash, key: &PublicKey) -> Result<Vec<u8>, AllocError>
+    ensures { IfOk result (λ text. text.items ≡ key_value hash key.now) }
+{
+    let blob = plain_blob(alloc, key)?;
+    let print = fingerprint(alloc, hash, &blob)?;
+    let mut text = Vec::from_slice(alloc, key.short_name().as_bytes())?;
+    text.extend_from_slice(b"-CERT ")?;
+    text.extend_from_slice(&print)?;
+    Ok(text)
+}
+
+fn authority_value(alloc: Global, hash: Hash, cert: &Cert) -> Result<Vec<u8>, AllocError>
+    ensures { IfOk result (λ text. text.items ≡ authority_value hash cert.now) }
+{
+    let print = fingerprint(alloc, hash, cert.authority())?;
+    let mut text = Vec::from_slice(alloc, cert.authority_key().short_name().as_bytes())?;
+    text.extend_from_slice(b" ")?;
+    text.extend_from_slice(&print)?;
+    text.extend_from_slice(b" (using ")?;
+    push_escaped(&mut text, cert.algorithm())?;
+    text.extend_from_slice(b")")?;
+    Ok(text)
+}
+
+fn id_value(alloc: Global, id: &[u8]) -> Result<Vec<u8>, AllocError>
+    ensures { IfOk result (λ text. text.items ≡ id_value id.now) }
+{
+    let mut text = Vec::from_slice(alloc, b"\"")?;
+    push_escaped(&mut text, id)?;
+    text.extend_from_slice(b"\"")?;
+    Ok(text)
+}
+
+fn escaped_text(alloc: Global, bytes: &[u8]) -> Result<Vec<u8>, AllocError>
+    ensures { IfOk result (λ text. text.items ≡ escaped bytes.now) }
+{
+    let mut text = Vec::new(alloc);
+    push_escaped(&mut text, bytes)?;
+    Ok(text)
+}
+
+fn valid_value(cert: &Cert, moment: u64) -> &'static [u8]
+    ensures { result.now ≡ valid_value cert.now moment }
+{
+    if valid_at(cert, moment) {
+        b"yes"
+    } else {
+        b"no"
+    }
+}
+
+/// The data of an option as it is printed behind its name: nothing where it is empty, the text of the
+/// options that have one, and else its hexadecimal digits.
+#[tactic(auto, unfolding(crate::specs::Listing::data_text))]
+fn push_data(
+    alloc: Global,
+    out: &mut Vec<u8>,
+    name: &[u8],
+    content: &[u8],
+) -> Result<(), AllocError>
+    ensures { OnOk result (out.new.items ≡ out.old.items ++ data_text name.now content.now) }
+{
+    if content.is_empty() {
+        return Ok(());
+    }
+    if has_text(name) {
+        return push_text_or_hex(alloc, out, content);
+    }
+    push_hex(alloc, out, content)
+}
+
+fn has_text(name: &[u8]) -> bool
+    ensures { result ≡ has_text name.now }
+{
+    name == b"force-command".as_slice() || name == b"source-address".as_slice()
+}
+
+/// The text of the data where it is just one string, else its hexadecimal digits.
+fn push_text_or_hex(alloc: Global, out: &mut Vec<u8>, content: &[u8]) -> Result<(), AllocError>
+    ensures { OnOk result (out.new.items
+        ≡ out.old.items ++ string_or_hex content.now (string_at content.now)) }
+{
+    let mut cursor = Cursor::new(content);
+    match cursor.string() {
+        Ok(text) if cursor.at_end() => {
+            out.push(b' ')?;
+            push_escaped(out, text)
+        }
+        _ => push_hex(alloc, out, content),
+    }
+}
+
+fn push_hex(alloc: Global, out: &mut Vec<u8>, content: &[u8]) -> Result<(), AllocError>
+    ensures { OnOk result (out.new.items
+        ≡ out.old.items ++ (codes " hex:" ++ encode_lower content.now)) }
+{
+    let digits = hex::encode(alloc, content)?;
+    out.extend_from_slice(b" hex:")?;
+    out.extend_from_slice(digits.as_bytes())
+}
+
+fn option_item(alloc: Global, option: &CertOption) -> Result<Vec<u8>, AllocError>
+    ensures { IfOk result (λ text. text.items ≡ option_item option.now) }
+{
+    let mut text = escaped_text(alloc, option.name)?;
+    push_data(alloc, &mut text, option.name, option.data)?;
+    Ok(text)
+}
+
+/// Appends the principals below their label.
+#[tactic(auto, unfolding(crate::specs::Listing::lines))]
+fn push_principals<'a>(
+    alloc: Global,
+    out: &mut Vec<u8>,
+    mut principals: Strings<'a>,
+) -> Result<(), AllocError>
+    ensures { OnOk result (out.new.items
+        ≡ out.old.items ++ lines (codes "Principals") (map escaped principals.entry)) }
+{
+    let Some(first) = principals.next() else {
+        return push_line(out, b"Principals", b"(none)");
+    };
+    out.extend_from_slice(b"        Principals:\n")?;
+    push_item(out, &escaped_text(alloc, first)?)?;
+    while let Some(principal) = principals.next() {
+        push_item(out, &escaped_text(alloc, principal)?)?;
+    }
+    Ok(())
+}
+
+/// Appends options below their label.
+#[tactic(auto, unfolding(crate::specs::Listing::lines))]
+fn push_options<'a>(
+    alloc: Global,
+    out: &mut Vec<u8>,
+    label: &[u8],
+    mut options: Options<'a>,
+) -> Result<(), AllocError>
+    ensures { OnOk result (out.new.items
+        ≡ out.old.items ++ lines label.now (map option_item options.entry)) }
+{
+    let Some(first) = options.next() else {
+        return push_line(out, label, b"(none)");
+    };
+    out.extend_from_slice(b"        ")?;
+    out.extend_from_slice(label)?;
+    out.extend_from_slice(b":\n")?;
+    push_item(out, &option_item(alloc, &first)?)?;
+    while let Some(option) = options.next() {
+        push_item(out, &option_item(alloc, &option)?)?;
+    }
+    Ok(())
+}
+
+/// The time between two instants, by their texts.
+fn period_text(
+    alloc: Global,
+    after: u64,
+    before: u64,
+    after_text: &[u8],
+    before_text: &[u8],
+) -> Result<Vec<u8>, AllocError>
+    ensures { IfOk result (λ text.
+        text.items ≡ period_of after before after_text.now before_text.now) }
+{
+    if after == 0 {
+        if before == u64::MAX {
+            return Vec::from_slice(alloc, b"forever");
+        }
+        return both(alloc, b"before ", before_text);
+    }
+    if before == u64::MAX {
+        return both(alloc, b"after ", after_text);
+    }
+    let mut text = both(alloc, b"from ", after_text)?;
+    text.extend_from_slice(b" to ")?;
+    text.extend_from_slice(before_text)?;
+    Ok(text)
+}
+
+/// A text and another behind it.
+fn both(alloc: Global, first: &[u8], second: &[u8]) -> Result<Vec<u8>, AllocError>
+    ensures { IfOk result (λ text. text.items ≡ first.now ++ second.now) }
+{
+    let mut text = Vec::from_slice(alloc, first)?;
+    text.extend_from_slice(second)?;
+    Ok(text)
+}
+
+/// The time in which the certificate is valid.
+fn period(alloc: Global, cert: &Cert) -> Result<Vec<u8>, AllocError>
+    ensures { IfOk result (λ text. IsPeriod cert.now text.items) }
+{
+    let after = time_text(alloc, cert.after())?;
+    let before = time_text(alloc, cert.before())?;
+    period_text(alloc, cert.after(), cert.before(), &after, &before)
+}
+
+/// What the certificate is, and whose.
+#[tactic(auto, unfolding(crate::specs::Listing::identity_text))]
+fn push_identity(
+    alloc: Global,
+    out: &mut Vec<u8>,
+    cert: &Cert,
+    hash: Hash,
+) -> Result<(), AllocError>
+    ensures { OnOk result (out.new.items ≡ out.old.items ++ identity_text hash cert.now) }
+{
+    let kind = type_value(alloc, cert)?;
+    let key = key_value(alloc, hash, cert.key())?;
+    let authority = authority_value(alloc, hash, cert)?;
+    push_line(out, b"Type", &kind)?;
+    push_line(out, b"Public key", &key)?;
+    push_line(out, b"Signing CA", &authority)
+}
+
+/// How the certificate is named, and when it is valid.
+#[tactic(auto, unfolding(crate::specs::Listing::terms_text))]
+fn push_terms(
+    alloc: Global,
+    out: &mut Vec<u8>,
+    cert: &Cert,
+    moment: u64,
+    period: &[u8],
+) -> Result<(), AllocError>
+    ensures { OnOk result (out.new.items
+        ≡ out.old.items ++ terms_text cert.now moment period.now) }
+{
+    let id = id_value(alloc, cert.key_id())?;
+    let serial = cert.serial().to_string(alloc)?;
+    push_line(out, b"Key ID", &id)?;
+    push_line(out, b"Serial", serial.as_bytes())?;
+    push_line(out, b"Valid", period)?;
+    push_line(out, b"Valid now", valid_value(cert, moment))
+}
+
+/// For whom the certificate is valid, and for what.
+#[tactic(auto, unfolding(crate::specs::Listing::lists_text))]
+fn push_lists(alloc: Global, out: &mut Vec<u8>, cert: &Cert) -> Result<(), AllocError>
+    ensures { OnOk result (out.new.items ≡ out.old.items ++ lists_text cert.now) }
+{
+    push_principals(alloc, out, cert.principals())?;
+    push_options(alloc, out, b"Critical Options", cert.critical())?;
+    push_options(alloc, out, b"Extensions", cert.extensions())
+}
+
+/// The lines behind the first one, with the time in which the certificate is valid.
+fn listing(
+    alloc: Global,
+    cert: &Cert,
+    hash: Hash,
+    moment: u64,
+    period: &[u8],
+) -> Result<Vec<u8>, AllocError>
+    ensures { IfOk result (λ text.
+        text.items ≡ listing_text hash cert.now moment period.now) }
+{
+    let mut text = Vec::new(alloc);
+    push_identity(alloc, &mut text, cert, hash)?;
+    push_terms(alloc, &mut text, cert, moment, period)?;
+    push_lists(alloc, &mut text, cert)?;
+    Ok(text)
+}
+
+/// The listing of a certificate, in the lines behind its first one, which names the file. The
+/// fingerprints are by this hash, the moment is in seconds from 1970 on, and what others wrote stands
+/// escaped. Fails only where memory runs out.
+pub fn list_cert(alloc: Global, cert: &Cert, hash: Hash, moment: u64) -> Result<Vec<u8>, AllocError>
+    ensures { IfOk result (λ text. IsListing hash cert.now moment text.items) }
+{
+    let period = period(alloc, cert)?;
+    listing(alloc, cert, hash, moment, &period)
+}

@@ -1,0 +1,82 @@
+// The critical options and the extensions of a certificate.
+
+ghost use Rattle.std.specs.Prelude.{◌≡◌};
+ghost use Rattle.ssh_cert.specs.CertReading.{options_of};
+
+use crate::strings::{Strings, count_of, strings_in};
+use std::marker::Model;
+
+/// A critical option or an extension of a certificate: its name and its data, neither of which need be
+/// text.
+#[derive(Debug, Drop)]
+pub struct CertOption<'a> {
+    /// The name.
+    pub name: &'a [u8],
+    /// The data. Of an option with a text it is the text's string; else it is mostly empty.
+    pub data: &'a [u8],
+}
+
+impl<'a> Model for CertOption<'a> {
+    ghost use Rattle.ssh_cert.specs.Options.{NamedData};
+
+    ghost Value = { NamedData };
+
+    ghost view = { λ option. record { name = option.name.now; content = option.data.now } };
+}
+
+/// The critical options or the extensions of a certificate: an iterator, which lends each from the
+/// blob, in the order in which they stand there.
+#[derive(Debug, Drop)]
+pub struct Options<'a> {
+    parts: Strings<'a>,
+}
+
+impl<'a> Model for Options<'a> {
+    ghost use Rattle.std.specs.Prelude.{List};
+    ghost use Rattle.ssh_cert.specs.Options.{NamedData, ArePairs, pairs_in};
+
+    ghost Value = { List NamedData };
+
+    ghost view = { λ options. pairs_in options.parts };
+
+    ghost invariant = { λ options. ArePairs options.parts };
+}
+
+impl<'a> Iterator for Options<'a> {
+    ghost use Rattle.std.specs.Iterator.{YieldsFirst, item_count};
+
+    type Item = CertOption<'a>;
+
+    ghost next_gives = { YieldsFirst (λ options. options) };
+
+    ghost remaining = { item_count (λ options. options) };
+
+    fn next(&mut self) -> Option<CertOption<'a>> {
+        let name = self.parts.next()?;
+        let data = self.parts.next()?;
+        Some(CertOption { name, data })
+    }
+}
+
+impl<'a> Options<'a> {
+    /// The same options, from the same one on.
+    pub(crate) fn again(&self) -> Options<'a>
+        ensures { result ≡ self.now }
+    {
+        Options {
+            parts: self.parts.again(),
+        }
+    }
+}
+
+/// The options whose strings fill the bytes, if some do.
+pub fn options_in<'a>(bytes: &'a [u8]) -> Option<Options<'a>>
+    ensures { result ≡ options_of bytes.entry.now }
+{
+    if count_of(bytes)? % 2 == 1 {
+        return None;
+    }
+    Some(Options {
+        parts: strings_in(bytes)?,
+    })
+}

@@ -1,0 +1,268 @@
+// Reading a certificate, field by field. A cursor that met a fault is not used again.
+
+ghost use Rattle.std.specs.Prelude.{◌≡◌, ℕ, IfErr, IfOk, Ok};
+ghost use Rattle.ssh_cert.specs.Certificate.{Certificate, IsCertificate};
+ghost use Rattle.ssh_cert.specs.CertReading.{Reads, body_at, certificate_at, field_at, fields_at, kind_at};
+ghost use Rattle.ssh_cert.specs.Field.{AuthorityField, NumberField, OptionsField, PrincipalsField, PublicField, RoleField, SignatureField, TextField, closing_fields, naming_fields};
+ghost use Rattle.ssh_cert.specs.FirstFault.{IsFirstFault};
+ghost use Rattle.ssh_cert.specs.Parts.{closing_values, naming_values};
+
+use crate::cert::Cert;
+use crate::fault::CertFault;
+use crate::options::{Options, options_in};
+use crate::role::Role;
+use crate::strings::{Strings, strings_in};
+use ssh_key::{Kind, PublicKey, read_fields, read_key};
+use ssh_wire::Cursor;
+use std::marker::Model;
+
+/// The signature key, and its blob.
+#[derive(Drop)]
+struct Authority<'a> {
+    blob: &'a [u8],
+    key: PublicKey<'a>,
+}
+
+impl<'a> Model for Authority<'a> {
+    ghost use Rattle.ssh_cert.specs.Field.{Authority};
+
+    ghost Value = { Authority };
+
+    ghost view = { λ authority. record { blob = authority.blob.now; key = authority.key } };
+}
+
+/// The signature, and the name of its algorithm.
+#[derive(Drop)]
+struct Signature<'a> {
+    text: &'a [u8],
+    algorithm: &'a [u8],
+}
+
+impl<'a> Model for Signature<'a> {
+    ghost use Rattle.ssh_cert.specs.Field.{Signature};
+
+    ghost Value = { Signature };
+
+    ghost view = { λ signature. record {
+      text = signature.text.now;
+      algorithm = signature.algorithm.now;
+    } };
+}
+
+/// The fields from the critical options on.
+#[derive(Drop)]
+struct Closing<'a> {
+    critical: Options<'a>,
+    extensions: Options<'a>,
+    reserved: &'a [u8],
+    authority: Authority<'a>,
+    signature: Signature<'a>,
+}
+
+/// The fields from the key ID on.
+#[derive(Drop)]
+struct Naming<'a> {
+    key_id: &'a [u8],
+    principals: Strings<'a>,
+    after: u64,
+    before: u64,
+    closing: Closing<'a>,
+}
+
+/// The certificate that a blob spells (PROTOCOL.certkeys): its fields in their order, and nothing
+/// more. The plain key and the signature key are plain keys as `read_key` knows them. Takes no memory:
+/// every part is lent from the blob. The signature is not checked.
+///
+/// Of several faults the first is told, in the order in which the fields stand, and `Trailing` last.
+pub fn read_cert<'a>(blob: &'a [u8]) -> Result<Cert<'a>, CertFault>
+    // What is read is spelled so.
+    ensures found { IfOk result (λ cert. IsCertificate blob.now cert) }
+    // What is spelled so is read.
+    ensures only { (certificate : Certificate) → IsCertificate blob.now certificate
+        → result ≡ Ok certificate }
+    // The fault is the first one.
+    ensures fault { IfErr result (λ fault. IsFirstFault blob.now fault) }
+    // The same, for those who compute with the answer.
+    ensures exact { result ≡ certificate_at blob.now }
+{
+    cert_of(blob)
+}
+
+#[tactic(auto, unfolding(crate::specs::CertReading::certificate_at))]
+fn cert_of<'a>(blob: &'a [u8]) -> Result<Cert<'a>, CertFault>
+    ensures { result ≡ certificate_at blob.now }
+{
+    let mut cursor = Cursor::new(blob);
+    let kind = kind_of(&mut cursor)?;
+    let cert = body_fields(kind, &mut cursor)?;
+    if !cursor.at_end() {
+        return Err(CertFault::Trailing);
+    }
+    Ok(cert)
+}
+
+/// The kind by the type name.
+#[tactic(auto, unfolding(crate::specs::CertReading::kind_at))]
+fn kind_of(cursor: &mut Cursor) -> Result<Kind, CertFault>
+    ensures { Reads (λ kind. kind) result cursor.new (kind_at cursor.old) }
+{
+    let name = cursor.string()?;
+    Kind::of_cert_name(name).ok_or(CertFault::UnknownType)
+}
+
+/// The fields behind the type name.
+#[tactic(auto, unfolding(crate::specs::CertReading::body_at, crate::specs::CertReading::fields_at))]
+fn body_fields<'a>(kind: Kind, cursor: &mut Cursor<'a>) -> Result<Cert<'a>, CertFault>
+    ensures { Reads (λ cert. cert) result cursor.new (body_at kind cursor.old) }
+{
+    let nonce = text_field(cursor)?;
+    let key = public_fields(kind, cursor)?;
+    let serial = number_field(cursor)?;
+    let role = role_field(cursor)?;
+    let Naming {
+        key_id,
+        principals,
+        after,
+        before,
+        closing,
+    } = naming_part(cursor)?;
+    let Closing {
+        critical,
+        extensions,
+        reserved: _,
+        authority,
+        signature,
+    } = closing;
+    Ok(Cert {
+        nonce,
+        key,
+        serial,
+        role,
+        key_id,
+        principals,
+        after,
+        before,
+        critical,
+        extensions,
+        authority: authority.blob,
+        authority_key: authority.key,
+        algorithm: signature.algorithm,
+    })
+}
+
+#[tactic(auto, unfolding(crate::specs::CertReading::fields_at))]
+fn naming_part<'a>(cursor: &mut Cursor<'a>) -> Result<Naming<'a>, CertFault>
+    ensures { Reads naming_values result cursor.new (fields_at naming_fields cursor.old) }
+{
+    let key_id = text_field(cursor)?;
+    let principals = principals_field(cursor)?;
+    let after = number_field(cursor)?;
+    let before = number_field(cursor)?;
+    let closing = closing_part(cursor)?;
+    Ok(Naming {
+        key_id,
+        principals,
+        after,
+        before,
+        closing,
+    })
+}
+
+#[tactic(auto, unfolding(crate::specs::CertReading::fields_at))]
+fn closing_part<'a>(cursor: &mut Cursor<'a>) -> Result<Closing<'a>, CertFault>
+    ensures { Reads closing_values result cursor.new (fields_at closing_fields cursor.old) }
+{
+    let critical = options_field(cursor)?;
+    let extensions = options_field(cursor)?;
+    let reserved = text_field(cursor)?;
+    let authority = authority_field(cursor)?;
+    let signature = signature_field(cursor)?;
+    Ok(Closing {
+        critical,
+        extensions,
+        reserved,
+        authority,
+        signature,
+    })
+}
+
+/// A string.
+#[tactic(auto, unfolding(crate::specs::CertReading::field_at))]
+fn text_field<'a>(cursor: &mut Cursor<'a>) -> Result<&'a [u8], CertFault>
+    ensures { Reads (λ text. text.now) result cursor.new (field_at TextField cursor.old) }
+{
+    Ok(cursor.string()?)
+}
+
+/// The public fields of the plain key.
+#[tactic(auto, unfolding(crate::specs::CertReading::field_at))]
+fn public_fields<'a>(kind: Kind, cursor: &mut Cursor<'a>) -> Result<PublicKey<'a>, CertFault>
+    ensures { Reads (λ key. key) result cursor.new (field_at (PublicField kind) cursor.old) }
+{
+    match read_fields(kind, cursor) {
+        Ok(key) => Ok(key),
+        Err(fault) => Err(CertFault::Key(fault)),
+    }
+}
+
+/// A number of eight bytes.
+#[tactic(auto, unfolding(crate::specs::CertReading::field_at))]
+fn number_field(cursor: &mut Cursor) -> Result<u64, CertFault>
+    ensures { Reads (λ n. n) result cursor.new (field_at NumberField cursor.old) }
+{
+    Ok(cursor.u64()?)
+}
+
+/// What the certificate is for.
+#[tactic(auto, unfolding(crate::specs::CertReading::field_at))]
+fn role_field(cursor: &mut Cursor) -> Result<Role, CertFault>
+    ensures { Reads (λ role. role) result cursor.new (field_at RoleField cursor.old) }
+{
+    match cursor.u32()? {
+        1 => Ok(Role::User),
+        2 => Ok(Role::Host),
+        _ => Err(CertFault::CertType),
+    }
+}
+
+/// The principals.
+#[tactic(auto, unfolding(crate::specs::CertReading::field_at))]
+fn principals_field<'a>(cursor: &mut Cursor<'a>) -> Result<Strings<'a>, CertFault>
+    ensures { Reads (λ list. list) result cursor.new (field_at PrincipalsField cursor.old) }
+{
+    let content = cursor.string()?;
+    strings_in(content).ok_or(CertFault::Principals)
+}
+
+/// The critical options or the extensions.
+#[tactic(auto, unfolding(crate::specs::CertReading::field_at))]
+fn options_field<'a>(cursor: &mut Cursor<'a>) -> Result<Options<'a>, CertFault>
+    ensures { Reads (λ list. list) result cursor.new (field_at OptionsField cursor.old) }
+{
+    let content = cursor.string()?;
+    options_in(content).ok_or(CertFault::Options)
+}
+
+/// The signature key.
+#[tactic(auto, unfolding(crate::specs::CertReading::field_at))]
+fn authority_field<'a>(cursor: &mut Cursor<'a>) -> Result<Authority<'a>, CertFault>
+    ensures { Reads (λ authority. authority) result cursor.new (field_at AuthorityField cursor.old) }
+{
+    let blob = cursor.string()?;
+    match read_key(blob) {
+        Ok(key) => Ok(Authority { blob, key }),
+        Err(fault) => Err(CertFault::Authority(fault)),
+    }
+}
+
+/// The signature, of which the name of its algorithm is read.
+#[tactic(auto, unfolding(crate::specs::CertReading::field_at))]
+fn signature_field<'a>(cursor: &mut Cursor<'a>) -> Result<Signature<'a>, CertFault>
+    ensures { Reads (λ signature. signature) result cursor.new (field_at SignatureField cursor.old) }
+{
+    let text = cursor.string()?;
+    match Cursor::new(text).string() {
+        Ok(algorithm) => Ok(Signature { text, algorithm }),
+        Err(_) => Err(CertFault::Signature),
+    }
+}

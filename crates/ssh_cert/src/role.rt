@@ -1,0 +1,10 @@
+// What a certificate is for.
+
+/// What a certificate is for.
+#[derive(Clone, Copy, Debug, PartialEq, Eq)]
+pub enum Role {
+    /// It names a user.
+    User,
+    /// It names a host.
+    Host,
+}

@@ -1,0 +1,10 @@
+// What no contract says: certificates with known answers, and calls with memory enough.
+
+mod asking;
+mod cut;
+mod fault;
+mod kinds;
+mod listing;
+mod options;
+mod parts;
+mod reading;

@@ -1,0 +1,67 @@
+// Certificates that are cut, and certificates with one byte changed.
+
+use crate::tests::parts::{PARTS, Part, before, certificate, spelled};
+use crate::{CertFault, read_cert, subject};
+use ssh_key::KeyFault;
+use ssh_wire::WireFault;
+use std::test::Fail;
+
+#[test]
+fn cut_to_any_length(rt: HostRuntime) -> Result<(), Fail> {
+    let blob = certificate(rt.alloc())?;
+    let public = CertFault::Key(KeyFault::Wire(WireFault::Short));
+    for size in 0..blob.len() {
+        let fault = if (40..=75).contains(&size) {
+            public
+        } else {
+            CertFault::Wire
+        };
+        assert_eq!(rt;
+            read_cert(&blob[..size]).err(),
+            Some(fault),
+            "cut to {size}"
+        );
+    }
+    Ok(())
+}
+
+#[test]
+fn each_field_without_its_last_byte(rt: HostRuntime) -> Result<(), Fail> {
+    let alloc = rt.alloc();
+    for part in PARTS {
+        let mut blob = before(alloc, part)?;
+        let field = spelled(alloc, part)?;
+        let Some((_last, front)) = field.split_last() else {
+            return Err("the field has bytes".into());
+        };
+        blob.extend_from_slice(front)?;
+        let fault = match part {
+            Part::Public => CertFault::Key(KeyFault::Wire(WireFault::Short)),
+            _ => CertFault::Wire,
+        };
+        assert_eq!(rt; read_cert(&blob).err(), Some(fault), "at {part:?}");
+    }
+    Ok(())
+}
+
+#[test]
+fn any_byte_changed(rt: HostRuntime) -> Result<(), Fail> {
+    let alloc = rt.alloc();
+    let mut blob = certificate(alloc)?;
+    for place in 0..267 {
+        for byte in [0x00, 0x7f, 0x80, 0xff] {
+            let Some(there) = blob.get_mut(place) else {
+                return Err("the certificate has 267 bytes".into());
+            };
+            let kept = *there;
+            *there = byte;
+            let read = read_cert(&blob).is_ok();
+            let asked = subject(alloc, &blob).is_ok();
+            assert_eq!(rt; read, asked, "byte {place} is {byte}");
+            if let Some(there) = blob.get_mut(place) {
+                *there = kept;
+            }
+        }
+    }
+    Ok(())
+}
