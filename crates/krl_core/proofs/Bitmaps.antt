@@ -1,0 +1,118 @@
+-- A bitmap by its bytes.
+use Rattle.std.proofs.Common.{◌≡◌, ℕ, zero, suc, ◌+◌, ◌-◌, ◌*◌, ◌<◌, ◌≤◌, ◌^◌, ◌⊎◌, ◌↔◌, Bool, true, false, cond, eqb, leb, leb-false, List, [], ◌∷◌, ◌++◌, length, get_or, refl, sym, ap, subst, ◌∙◌, arith, inl, inr}
+use Rattle.std.specs.Int.{bit_at}
+use Rattle.std.proofs.lemmas.Bool.{cases_lt, eqb-true}
+use Rattle.std.proofs.lemmas.Nat.Bits.{bit_at-zero, bit_at_above, bit_at_cat_low, bit_at_cat_high}
+use Rattle.std.proofs.Math.Nat.{pow-suc, mul-le-mul_right}
+use Rattle.std.proofs.lemmas.Nat.{pow-add}
+use Rattle.byteorder.specs.Endian.{big_from}
+use Rattle.ssh_wire.specs.Wire.{IsBytes, number_of}
+use Rattle.serial_set.specs.BitRuns.{BitNames}
+use Rattle.krl_core.specs.Entry.{Entry, BitmapEntry}
+use Rattle.krl_core.specs.Naming.{NamesSame, SomeNamesAt}
+use Rattle.krl_core.specs.Place.{highest_bit, passes_end}
+use Rattle.krl_core.proofs.Bits.{bit_below}
+use Rattle.krl_core.proofs.Same.{same_serials}
+
+shifted : (i n : ℕ) (b : ℕ) (xs : List ℕ) → big_from (suc i) n (b ∷ xs) ≡ big_from i n xs
+shifted i zero b xs = refl
+shifted i (suc n) b xs = ap (λ (m : ℕ). get_or xs i 0 * 256 ^ n + m) (shifted (suc i) n b xs)
+
+pub number_of-cons : (b : ℕ) (bits : List ℕ) → number_of (b ∷ bits) ≡ b * 256 ^ length bits + number_of bits
+unfolding number_of
+number_of-cons b bits = ap (λ (m : ℕ). b * 256 ^ length bits + m) (shifted 0 (length bits) b bits)
+
+pow_256 : (n : ℕ) → 256 ^ n ≡ 2 ^ (8 * n)
+pow_256 zero = refl
+pow_256 (suc n) =
+    let e : 8 * suc n ≡ 8 + 8 * n = omega arith in
+    pow-suc 256 n ∙ ap (λ (m : ℕ). m * 256) (pow_256 n) ∙ (let f : 2 ^ (8 * n) * 256 ≡ 2 ^ 8 * 2 ^ (8 * n) = omega arith in f)
+    ∙ sym (pow-add 2 8 (8 * n)) ∙ ap (λ (m : ℕ). 2 ^ m) (sym e)
+
+pub number_of-byte : (b : ℕ) (bits : List ℕ) → number_of (b ∷ bits) ≡ b * 2 ^ (8 * length bits) + number_of bits
+number_of-byte b bits = number_of-cons b bits ∙ ap (λ (m : ℕ). b * m + number_of bits) (pow_256 (length bits))
+
+pub low_more : (b : ℕ) (bits : List ℕ) → b < 256 → number_of bits < 2 ^ (8 * length bits) → number_of (b ∷ bits) < 2 ^ (8 * length (b ∷ bits))
+low_more b bits byte low =
+    let e : 8 * length (b ∷ bits) ≡ 8 + 8 * length bits = omega arith in
+    let p : 2 ^ (8 * length (b ∷ bits)) ≡ 256 * 2 ^ (8 * length bits) = ap (λ (m : ℕ). 2 ^ m) e ∙ pow-add 2 8 (8 * length bits) in
+    let n = number_of-byte b bits in
+    let k : b * 2 ^ (8 * length bits) ≤ 255 * 2 ^ (8 * length bits) = mul-le-mul_right (2 ^ (8 * length bits)) (let le : b ≤ 255 = omega arith in le) in
+    omega (arith, n, p, low, k)
+
+pub low_none : number_of [] < 2 ^ (8 * length {A = ℕ} [])
+unfolding number_of
+low_none = omega arith
+
+pub not_past_at : (base byte : ℕ) → byte < 256 → passes_end base byte ≡ false → (k : ℕ) → bit_at byte k ≡ 1 → base + k < 2 ^ 64
+not_past_at base byte h passes k bit =
+    elim (either_false (eqb byte 0) (leb 18446744073709551616 (base + highest_bit byte)) passes) [
+      | inl none ↦
+          let z = bit_at-zero k in
+          let o : bit_at 0 k ≡ 1 = subst (λ (n : ℕ). bit_at n k ≡ 1) (eqb-true byte 0 none) bit in
+          absurd (omega (arith, z, o))
+      | inr low ↦
+          let top = bit_below byte k h bit in
+          let lt : base + highest_bit byte < 18446744073709551616 = leb-false 18446744073709551616 (base + highest_bit byte) low in
+          omega (arith, top, lt)
+    ]
+  where
+    either_false : (b c : Bool) → cond b false c ≡ false → (b ≡ true) ⊎ (c ≡ false)
+    either_false true c e = inl refl
+    either_false false c e = inr e
+
+-- the bits of a byte, and those of the bytes after it
+pub bit_of-byte : (b : ℕ) (bits : List ℕ) (k : ℕ) → number_of bits < 2 ^ (8 * length bits) → bit_at (number_of (b ∷ bits)) k ≡ 1
+    → ((8 * length bits ≤ k) × (bit_at b (k - 8 * length bits) ≡ 1)) ⊎ (bit_at (number_of bits) k ≡ 1)
+bit_of-byte b bits k low bit =
+    let n = 8 * length bits in
+    let whole : bit_at (b * 2 ^ n + number_of bits) k ≡ 1 = subst (λ (m : ℕ). bit_at m k ≡ 1) (number_of-byte b bits) bit in
+    elim (cases_lt k n) [
+      | inl lt ↦ inr (sym (bit_at_cat_low b n (number_of bits) k lt) ∙ whole)
+      | inr le ↦ inl (le, sym (bit_at_cat_high b n (number_of bits) k low le) ∙ whole)
+    ]
+
+-- a bitmap without bytes names none
+pub same_no_bits : (a : List ℕ) (offset : ℕ) → NamesSame [] (BitmapEntry a offset (number_of []) ∷ [])
+unfolding number_of
+same_no_bits a offset = same_serials [] (BitmapEntry a offset 0 ∷ []) tt (tt, tt) (λ c s. (
+  λ h. absurd h,
+  λ h. elim h [ inl k ↦ let z = bit_at-zero (s - offset) in absurd (omega (arith, z, k.1.2)) | inr none ↦ absurd none ],
+))
+
+pub same_bits : (a : List ℕ) (offset b : ℕ) (bits : List ℕ) → b < 256 → number_of bits < 2 ^ (8 * length bits)
+    → NamesSame (BitmapEntry a (offset + 8 * length bits) b ∷ BitmapEntry a offset (number_of bits) ∷ []) (BitmapEntry a offset (number_of (b ∷ bits)) ∷ [])
+same_bits a offset b bits byte low =
+    let n = 8 * length bits in
+    let whole : (k v : ℕ) → bit_at (b * 2 ^ n + number_of bits) k ≡ v → bit_at (number_of (b ∷ bits)) k ≡ v = λ k v e. subst (λ (m : ℕ). bit_at m k ≡ v) (sym (number_of-byte b bits)) e in
+    same_serials _ _ (tt, (tt, tt)) (tt, tt) (λ c s. (
+      λ h. elim h [
+        | inl k ↦
+            let le : n ≤ s - offset = omega (arith, k.1.1) in
+            let at : s - offset - n ≡ s - (offset + n) = omega arith in
+            inl (k.0, (k.1.0, omega (arith, k.1.1), whole (s - offset) 1 (bit_at_cat_high b n (number_of bits) (s - offset) low le ∙ ap (bit_at b) at ∙ k.1.2)))
+        | inr r ↦ elim r [
+          | inl k ↦ inl (
+            k.0,
+            (
+              k.1.0,
+              k.1.1,
+              elim (cases_lt (s - offset) n) [
+                | inl lt ↦ whole (s - offset) 1 (bit_at_cat_low b n (number_of bits) (s - offset) lt ∙ k.1.2)
+                | inr le ↦ let z = bit_at_above (number_of bits) n (s - offset) low le in absurd (omega (arith, z, k.1.2))
+              ],
+            ),
+          )
+          | inr none ↦ absurd none
+        ]
+      ],
+      λ h. elim h [
+        | inl k ↦ elim (bit_of-byte b bits (s - offset) low k.1.2) [
+          | inl w ↦
+              let at : s - offset - n ≡ s - (offset + n) = omega arith in
+              inl (k.0, (k.1.0, omega (arith, k.1.1, w.0), ap (bit_at b) (sym at) ∙ w.1))
+          | inr w ↦ inr (inl (k.0, (k.1.0, k.1.1, w)))
+        ]
+        | inr none ↦ absurd none
+      ],
+    ))

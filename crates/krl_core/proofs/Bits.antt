@@ -1,0 +1,310 @@
+-- What a byte of a bitmap adds.
+use Rattle.std.proofs.Common.{◌≡◌, ℕ, ◌+◌, ◌-◌, ◌*◌, ◌^◌, ◌<◌, ◌≤◌, ◌⊎◌, ◌↔◌, Bool, true, false, not, cond, eqb, ltb, leb, leb-false, eq-eqb, zero, suc, Option, None, Some, List, [], ◌∷◌, ◌++◌, length, reverse, Result, Ok, Err, refl, sym, ap, subst, ◌∙◌, append_assoc, arith, inl, inr, IsTrue}
+use Rattle.std.specs.Option.{option_to_list}
+use Rattle.std.specs.Int.{bit_at}
+use Rattle.std.proofs.lemmas.Bool.{cases_lt, eqb-true, ne_eqb, ltb-true, ltb-false, lt-ltb, le-ltb}
+use Rattle.std.proofs.lemmas.List.{append-nil, length-append, length-reverse, reverse-append}
+use Rattle.std.proofs.lemmas.Nat.Bits.{bit_at_above, bit_at-zero}
+use Rattle.serial_set.specs.declared.span.Span.{Span}
+use Rattle.serial_set.specs.declared.bit_fault.BitFault.{BitFault}
+use Rattle.serial_set.specs.declared.bit_fault.BitFault.TheVariants.{Negative, Wraps}
+use Rattle.serial_set.specs.Span.{SpanCovers, Covers}
+use Rattle.serial_set.specs.BitRuns.{FedBitmap, BitNames, Feeds, HasFault, ShowsFault, PassesEnd, lowest}
+use Rattle.krl_core.specs.declared.krl_fault.KrlFault.{KrlFault}
+use Rattle.krl_core.specs.declared.krl_fault.KrlFault.TheVariants as faults
+use Rattle.krl_core.specs.declared.place.Place.{Place}
+use Rattle.krl_core.specs.Entry.{Entry, RangeEntry, BitmapEntry}
+use Rattle.krl_core.specs.Naming.{SomeNamesAt, NamesSame}
+use Rattle.krl_core.specs.Contents.{Means, held}
+use Rattle.krl_core.specs.Keeping.{Keeping, IsKept, AddsEntries, Adds, InStep, KeepsBits, KeepsField, Closes, held_with_open, open_run, run_entries}
+use Rattle.ssh_wire.specs.Wire.{number_of}
+use Rattle.krl_core.specs.declared.place.Place.TheVariants.{BitmapByte}
+use Rattle.krl_core.specs.Place.{base_of, bits_judged, judge, next_bits, next_subsection, passes_end, highest_bit}
+use Rattle.krl_core.proofs.Same.{AreSerials, serials_append, same_serials, same_append, same_refl, same_is, same_then, same_swap, some_append}
+use Rattle.krl_core.proofs.Keeping.{open_entries}
+use Rattle.krl_core.proofs.Quiet.{out_step, out_subsection}
+
+-- ---- runs by the numbers in them
+
+names_append : (xs ys : List Span) (s : ℕ) → Covers (xs ++ ys) s ↔ (Covers xs s ⊎ Covers ys s)
+names_append [] ys s = (λ h. inr h, λ h. elim h [ inl none ↦ absurd none | inr k ↦ k ])
+names_append (x ∷ xs) ys s =
+    let more = names_append xs ys s in (
+      λ h. elim h [
+        | inl here ↦ inl (inl here)
+        | inr later ↦ elim (more.0 later) [ inl k ↦ inl (inr k) | inr k ↦ inr k ]
+      ],
+      λ h. elim h [
+        | inl k ↦ elim k [ inl here ↦ inl here | inr later ↦ inr (more.1 (inl later)) ]
+        | inr k ↦ inr (more.1 (inr k))
+      ],
+    )
+
+names_reverse : (xs : List Span) (s : ℕ) → Covers (reverse xs) s ↔ Covers xs s
+names_reverse [] s = (λ h. h, λ h. h)
+names_reverse (x ∷ xs) s =
+    let turned : reverse (x ∷ xs) ≡ reverse xs ++ x ∷ [] = reverse-append (x ∷ []) xs in
+    let both = names_append (reverse xs) (x ∷ []) s in
+    let more = names_reverse xs s in (
+      λ h. elim (both.0 (subst (λ (l : List Span). Covers l s) turned h)) [
+        | inl k ↦ inr (more.0 k)
+        | inr k ↦ elim k [ inl here ↦ inl here | inr none ↦ absurd none ]
+      ],
+      λ h. subst (λ (l : List Span). Covers l s) (sym turned) (elim h [ inl here ↦ both.1 (inr (inl here)) | inr later ↦ both.1 (inl (more.1 later)) ]),
+    )
+
+-- the entries of runs name the numbers in them
+run_entries-name : (a : List ℕ) (runs : List Span) (b : List ℕ) (s : ℕ)
+    → SomeNamesAt (run_entries a runs) b s ↔ ((a ≡ b) × ((0 < s) × Covers runs s))
+run_entries-name a [] b s = (λ h. absurd h, λ h. absurd h.1.1)
+run_entries-name a (run ∷ runs) b s =
+    let more = run_entries-name a runs b s in (
+      λ h. elim h [
+        | inl here ↦ (here.0, (here.1.0, inl here.1.1))
+        | inr later ↦ let k = more.0 later in (k.0, (k.1.0, inr k.1.1))
+      ],
+      λ h. elim h.1.1 [
+        | inl here ↦ inl (h.0, (h.1.0, here))
+        | inr later ↦ inr (more.1 (h.0, (h.1.0, later)))
+      ],
+    )
+
+pub run_entries-serials : (a : List ℕ) (runs : List Span) → AreSerials (run_entries a runs)
+run_entries-serials a [] = tt
+run_entries-serials a (run ∷ runs) = (tt, run_entries-serials a runs)
+
+-- the runs that a byte finished and the one that is open name what was open and the byte's bits
+fed_same : (a : List ℕ) (before : FedBitmap) (byte : ℕ) (after : FedBitmap) (finished : List Span) → Feeds before byte after finished
+    → NamesSame (run_entries a finished ++ run_entries a (option_to_list after.pending))
+    (run_entries a (option_to_list before.pending) ++ BitmapEntry a (lowest after) byte ∷ [])
+fed_same a before byte after finished fed =
+    let F = run_entries a finished in
+    let O = run_entries a (option_to_list after.pending) in
+    let B = run_entries a (option_to_list before.pending) in
+    let E = BitmapEntry a (lowest after) byte ∷ [] in
+    same_serials (F ++ O) (B ++ E)
+    (serials_append F O (run_entries-serials a finished) (run_entries-serials a (option_to_list after.pending)))
+    (serials_append B E (run_entries-serials a (option_to_list before.pending)) (tt, tt))
+    (λ b s.
+    let left = some_append F O b s in
+    let right = some_append B E b s in
+    let runs = fed.runs.1 s in
+    let joined = names_append (option_to_list after.pending) (reverse finished) s in
+    let turned = names_reverse finished s in
+    let given : (a ≡ b) → 0 < s → Covers (option_to_list after.pending ++ reverse finished) s → SomeNamesAt (B ++ E) b s = λ same pos n.
+    elim (runs.0 n) [
+      | inl was ↦ right.1 (inl ((run_entries-name a (option_to_list before.pending) b s).1 (same, (pos, was))))
+      | inr bit ↦ right.1 (inr (inl (same, bit)))
+    ] in
+    let back : (a ≡ b) → 0 < s → Covers (option_to_list before.pending) s ⊎ BitNames (lowest after) byte s → SomeNamesAt (F ++ O) b s = λ same pos m.
+    elim (joined.0 (runs.1 m)) [
+      | inl opened ↦ left.1 (inr ((run_entries-name a (option_to_list after.pending) b s).1 (same, (pos, opened))))
+      | inr done ↦ left.1 (inl ((run_entries-name a finished b s).1 (same, (pos, turned.0 done))))
+    ] in (
+      λ h. elim (left.0 h) [
+        | inl k ↦ let w = (run_entries-name a finished b s).0 k in given w.0 w.1.0 (joined.1 (inr (turned.1 w.1.1)))
+        | inr k ↦ let w = (run_entries-name a (option_to_list after.pending) b s).0 k in given w.0 w.1.0 (joined.1 (inl w.1.1))
+      ],
+      λ h. elim (right.0 h) [
+        | inl k ↦ let w = (run_entries-name a (option_to_list before.pending) b s).0 k in back w.0 w.1.0 (inl w.1.1)
+        | inr k ↦ elim k [ inl here ↦ back here.0 here.1.0 (inr here.1) | inr none ↦ absurd none ]
+      ],
+    ))
+
+-- A byte was fed, and the runs that it finished were added.
+pub bits_kept : (old mid new : Keeping) (byte : ℕ) (finished : List Span) → Feeds old.bitmap byte mid.bitmap finished
+    → mid.contents ≡ old.contents → mid.authority ≡ old.authority → Adds mid (run_entries mid.authority finished) new
+    → AddsEntries old (BitmapEntry old.authority (lowest mid.bitmap) byte ∷ []) new
+bits_kept old mid new byte finished fed contents authority h entries k =
+    let F : List Entry = run_entries mid.authority finished in
+    let O : List Entry = open_entries mid in
+    let E : List Entry = BitmapEntry old.authority (lowest mid.bitmap) byte ∷ [] in
+    let before : IsKept mid (k.closed ++ O) = record {
+      closed = k.closed;
+      means = subst (λ x. Means x k.closed) (sym contents) k.means;
+      same = same_refl (k.closed ++ O);
+    } in
+    let here = h.kept (k.closed ++ O) before in
+    let now : NamesSame (F ++ O) (open_entries old ++ E) =
+    subst (λ (a : List ℕ). NamesSame (F ++ O) (run_entries a (open_run old) ++ BitmapEntry a (lowest mid.bitmap) byte ∷ [])) authority
+    (fed_same mid.authority old.bitmap byte mid.bitmap finished fed) in
+    let C = k.closed in
+    let one = same_is ((C ++ O) ++ F) (C ++ (O ++ F)) (append_assoc C O F) in
+    let two = same_append C (O ++ F) C (F ++ O) (same_refl C) (same_swap O F) in
+    let three = same_append C (F ++ O) C (open_entries old ++ E) (same_refl C) now in
+    let four = same_is (C ++ (open_entries old ++ E)) ((C ++ open_entries old) ++ E) (sym (append_assoc C (open_entries old) E)) in
+    let five = same_append (C ++ open_entries old) E entries E k.same (same_refl E) in
+    let all = same_then ((C ++ O) ++ F) (C ++ (O ++ F)) (entries ++ E) one
+    (same_then (C ++ (O ++ F)) (C ++ (F ++ O)) (entries ++ E) two
+    (same_then (C ++ (F ++ O)) (C ++ (open_entries old ++ E)) (entries ++ E) three
+    (same_then (C ++ (open_entries old ++ E)) ((C ++ open_entries old) ++ E) (entries ++ E) four five))) in
+    record {
+      closed = here.closed;
+      means = here.means;
+      same = same_then (here.closed ++ open_entries new) ((C ++ O) ++ F) (entries ++ E) here.same all;
+    }
+
+lowest_is : (before : FedBitmap) (byte : ℕ) (after : FedBitmap) (finished : List Span) → Feeds before byte after finished
+    → lowest after ≡ base_of before.offset before.due
+lowest_is before byte after finished fed =
+    let offset : after.offset ≡ before.offset = ap (λ p. p.offset) fed.same_bitmap in
+    omega (arith, offset, fed.one_less)
+
+entry_is : (old mid : Keeping) (byte : ℕ) (finished : List Span) → Feeds old.bitmap byte mid.bitmap finished
+    → BitmapEntry old.authority (lowest mid.bitmap) byte ∷ [] ≡ BitmapEntry old.authority (base_of old.bitmap.offset old.bitmap.due) byte ∷ []
+entry_is old mid byte finished fed = ap (λ (n : ℕ). BitmapEntry old.authority n byte ∷ []) (lowest_is old.bitmap byte mid.bitmap finished fed)
+
+pub bits_go_on : (old mid new : Keeping) (byte : ℕ) (last : Bool) (finished : List Span) → last ≡ false → Feeds old.bitmap byte mid.bitmap finished
+    → mid.contents ≡ old.contents → mid.authority ≡ old.authority → mid.header ≡ old.header
+    → Adds mid (run_entries mid.authority finished) new → KeepsBits byte last old new
+bits_go_on old mid new byte last finished off fed contents authority header h = record {
+  kept = subst (λ (e : List Entry). AddsEntries old e new) (entry_is old mid byte finished fed)
+      (bits_kept old mid new byte finished fed contents authority h);
+  authority_is = h.rest.authority_is ∙ authority;
+  header_is = h.rest.header_is ∙ header;
+  closed = λ on. absurd (cc (on, off));
+  goes_on = λ _.
+      let due : mid.bitmap.due ≡ old.bitmap.due - 1 = omega (arith, fed.one_less) in
+      let pending : mid.bitmap.pending ≡ new.bitmap.pending = sym (ap (λ p. p.pending) h.rest.bitmap_is) in
+      h.rest.bitmap_is ∙ fed.same_bitmap
+      ∙ ap (λ (n : ℕ). record old.bitmap { due = n; pending = mid.bitmap.pending }) due
+      ∙ ap (λ (p : Option Span). record old.bitmap { due = old.bitmap.due - 1; pending = p }) pending;
+}
+
+pub bits_close : (old mid new last_one : Keeping) (byte : ℕ) (last : Bool) (finished : List Span) → last ≡ true → Feeds old.bitmap byte mid.bitmap finished
+    → mid.contents ≡ old.contents → mid.authority ≡ old.authority → mid.header ≡ old.header
+    → Adds mid (run_entries mid.authority finished) new → Closes new last_one → KeepsBits byte last old last_one
+bits_close old mid new last_one byte last finished on fed contents authority header h c =
+    let E : List Entry = BitmapEntry old.authority (base_of old.bitmap.offset old.bitmap.due) byte ∷ [] in
+    record {
+      kept = λ entries k.
+          let one : IsKept new (entries ++ E) = subst (λ (e : List Entry). AddsEntries old e new) (entry_is old mid byte finished fed)
+          (bits_kept old mid new byte finished fed contents authority h) entries k in
+          subst (IsKept last_one) (append-nil (entries ++ E)) (c.kept (entries ++ E) one);
+      authority_is = c.authority_is ∙ h.rest.authority_is ∙ authority;
+      header_is = c.header_is ∙ h.rest.header_is ∙ header;
+      closed = λ _. c.closed;
+      goes_on = λ off. absurd (cc (on, off));
+    }
+
+-- a byte makes at most four runs more
+pub bits_held : (old mid new : Keeping) (byte : ℕ) (finished : List Span) → Feeds old.bitmap byte mid.bitmap finished
+    → mid.contents ≡ old.contents → held_with_open new ≤ held_with_open mid + length finished → held_with_open new ≤ held_with_open old + 4
+bits_held old mid new byte finished fed contents h =
+    let same : held mid.contents ≡ held old.contents = ap held contents in
+    omega (arith, fed.four_more, h, same, length-append (option_to_list mid.bitmap.pending) (reverse finished), length-reverse finished)
+
+-- ---- a byte that passes its judgement shows no fault
+
+pub highest_above : (byte : ℕ) → byte < 256 → byte < 2 ^ (highest_bit byte + 1)
+highest_above byte h =
+    elim (cases_lt byte 2) [
+      | inl a ↦ rw (lt-ltb byte 2 a) (omega arith)
+      | inr a' ↦ rw (le-ltb byte 2 a') (elim (cases_lt byte 4) [
+        | inl a ↦ rw (lt-ltb byte 4 a) (omega arith)
+        | inr b' ↦ rw (le-ltb byte 4 b') (elim (cases_lt byte 8) [
+          | inl a ↦ rw (lt-ltb byte 8 a) (omega arith)
+          | inr c' ↦ rw (le-ltb byte 8 c') (elim (cases_lt byte 16) [
+            | inl a ↦ rw (lt-ltb byte 16 a) (omega arith)
+            | inr d' ↦ rw (le-ltb byte 16 d') (elim (cases_lt byte 32) [
+              | inl a ↦ rw (lt-ltb byte 32 a) (omega arith)
+              | inr e' ↦ rw (le-ltb byte 32 e') (elim (cases_lt byte 64) [
+                | inl a ↦ rw (lt-ltb byte 64 a) (omega arith)
+                | inr f' ↦ rw (le-ltb byte 64 f') (elim (cases_lt byte 128) [
+                  | inl a ↦ rw (lt-ltb byte 128 a) (omega arith)
+                  | inr g' ↦ rw (le-ltb byte 128 g') (omega arith)
+                ])
+              ])
+            ])
+          ])
+        ])
+      ])
+    ]
+
+pub bit_below : (byte i : ℕ) → byte < 256 → bit_at byte i ≡ 1 → i ≤ highest_bit byte
+bit_below byte i h b =
+    elim (cases_lt (highest_bit byte) i) [
+      | inl above ↦ let none = bit_at_above byte (highest_bit byte + 1) i (highest_above byte h) (omega arith) in absurd (omega (arith, none, b))
+      | inr below ↦ below
+    ]
+
+pub not_past : (base byte : ℕ) → byte < 256 → passes_end base byte ≡ false → (s : ℕ) → BitNames base byte s → s < 2 ^ 64
+not_past base byte h passes s bit =
+    elim (either_false (eqb byte 0) (leb 18446744073709551616 (base + highest_bit byte)) passes) [
+      | inl none ↦
+          let e : byte ≡ 0 = eqb-true byte 0 none in
+          let z = bit_at-zero (s - base) in
+          let o : bit_at 0 (s - base) ≡ 1 = subst (λ (n : ℕ). bit_at n (s - base) ≡ 1) e bit.2 in
+          absurd (omega (arith, z, o))
+      | inr low ↦
+          let k = bit_below byte (s - base) h bit.2 in
+          let lt : base + highest_bit byte < 18446744073709551616 = leb-false 18446744073709551616 (base + highest_bit byte) low in
+          omega (arith, k, lt, bit.1)
+    ]
+  where
+    either_false : (b c : Bool) → cond b false c ≡ false → (b ≡ true) ⊎ (c ≡ false)
+    either_false true c e = inl refl
+    either_false false c e = inr e
+
+pub judged_parts : (first sign_free past : Bool) (next place : Place)
+    → cond first (cond sign_free (judge (not past) faults.BitmapWraps place) (Err faults.BitmapNegative)) (judge (not past) faults.BitmapWraps place) ≡ Ok next
+    → (first ≡ true → sign_free ≡ true) × (past ≡ false) × (place ≡ next)
+judged_parts true true true next place e = absurd (cc)
+judged_parts true true false next place e = (λ _. refl, refl, cc)
+judged_parts true false past next place e = absurd (cc)
+judged_parts false t true next place e = absurd (cc)
+judged_parts false t false next place e = (λ f. absurd (cc), refl, cc)
+
+pub good_bits : (p : FedBitmap) (offset size left behind byte : ℕ) (next : Place) → byte < 256
+    → p ≡ record { offset = offset; len = size; due = left; pending = p.pending; fault = None }
+    → bits_judged offset size left behind byte ≡ Ok next → (fault : BitFault) → HasFault p byte fault → ⊥
+good_bits p offset size left behind byte next h is judged fault bad =
+    let parts = judged_parts (eqb left size) (ltb byte 128) (passes_end (base_of offset left) byte) next (next_bits offset size (left - 1) behind) judged in
+    let none : p.fault ≡ None = ap (λ x. x.fault) is in
+    let due : p.due ≡ left = ap (λ x. x.due) is in
+    let len : p.len ≡ size = ap (λ x. x.len) is in
+    let at : p.offset ≡ offset = ap (λ x. x.offset) is in
+    shown fault (rw none at bad) (λ n. ltb-true byte 128 (parts.0 (eq-eqb left size (sym due ∙ n ∙ len))))
+    (λ s b. not_past (base_of offset left) byte h parts.1 s (subst (λ (base : ℕ). BitNames base byte s) (let e : p.offset + 8 * (p.due - 1) ≡ base_of offset left = omega (arith, at, due) in e) b))
+  where
+    shown : (fault : BitFault) → ShowsFault p byte fault → (p.due ≡ p.len → byte < 128)
+        → ((s : ℕ) → BitNames (p.offset + 8 * (p.due - 1)) byte s → s < 2 ^ 64) → ⊥
+    shown Negative b low in_range = let lt = low b.0 in omega (arith, lt, b.1)
+    shown Wraps b low in_range = let lt = in_range b.1.0 b.1.1.1 in omega (arith, lt, b.1.1.0)
+
+-- where the next byte of a bitmap is due, the byte before it is fed
+bits_in_step : (before after : FedBitmap) (offset size left behind : ℕ)
+    → before ≡ record { offset = offset; len = size; due = left; pending = before.pending; fault = None }
+    → (eqb left 1 ≡ true → after.pending ≡ None)
+    → (eqb left 1 ≡ false → after ≡ record before { due = before.due - 1; pending = after.pending })
+    → 0 < left → InStep (next_bits offset size (left - 1) behind) after
+bits_in_step before after offset size zero behind is closed opened pos = absurd (omega arith)
+bits_in_step before after offset size (suc zero) behind is closed opened pos = out_step (next_subsection behind) after (out_subsection behind) (closed refl)
+bits_in_step before after offset size (suc (suc left)) behind is closed opened pos =
+    let more : after ≡ record before { due = before.due - 1; pending = after.pending } = opened (ne_eqb (suc (suc left)) 1 (λ e. absurd (omega arith))) in
+    let due : before.due - 1 ≡ suc left = omega (arith, ap (λ x. x.due) is) in
+    let all : record before { due = before.due - 1; pending = after.pending } ≡ record { offset = offset; len = size; due = suc left; pending = after.pending; fault = None } =
+    ap (λ (b : FedBitmap). record b { due = before.due - 1; pending = after.pending }) is
+    ∙ ap (λ (n : ℕ). record { offset = offset; len = size; due = n; pending = after.pending; fault = None }) due in
+    let left_is : suc (suc left) - 1 ≡ suc left = omega arith in
+    subst (λ (n : ℕ). InStep (next_bits offset size n behind) after) (sym left_is) (omega arith, more ∙ all)
+
+pub keeps_bits : (old new : Keeping) (offset size left behind byte : ℕ) (field : List ℕ) (next : Place)
+    → InStep (BitmapByte offset size left behind) old.bitmap → byte ≡ number_of field
+    → bits_judged offset size left behind byte ≡ Ok next
+    → KeepsBits byte (eqb left 1) old new → KeepsField (BitmapByte offset size left behind) field next old new
+keeps_bits old new offset size left behind byte field next step value judged h =
+    let parts = judged_parts (eqb left size) (ltb byte 128) (passes_end (base_of offset left) byte) next (next_bits offset size (left - 1) behind) judged in
+    let due : old.bitmap.due ≡ left = ap (λ x. x.due) step.1 in
+    let at : old.bitmap.offset ≡ offset = ap (λ x. x.offset) step.1 in
+    let entry : BitmapEntry old.authority (base_of old.bitmap.offset old.bitmap.due) byte ∷ [] ≡ BitmapEntry old.authority (base_of offset left) (number_of field) ∷ [] =
+    ap (λ (n : ℕ). BitmapEntry old.authority (base_of n old.bitmap.due) byte ∷ []) at
+    ∙ ap (λ (n : ℕ). BitmapEntry old.authority (base_of offset n) byte ∷ []) due
+    ∙ ap (λ (n : ℕ). BitmapEntry old.authority (base_of offset left) n ∷ []) value in
+    record {
+      kept = subst (λ (e : List Entry). AddsEntries old e new) entry h.kept;
+      authority_is = h.authority_is;
+      header_is = h.header_is;
+      in_step = subst (λ (p : Place). InStep p new.bitmap) parts.2
+          (bits_in_step old.bitmap new.bitmap offset size left behind step.1 h.closed h.goes_on step.0);
+    }

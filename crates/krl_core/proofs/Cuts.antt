@@ -1,0 +1,100 @@
+-- A list that is cut short.
+use Rattle.std.proofs.Common.{◌≡◌, ℕ, ◌+◌, ◌<◌, ◌≤◌, ◌⊎◌, Bool, true, false, ltb, List, [], ◌∷◌, ◌++◌, length, take, Option, Some, None, Result, Ok, Err, refl, sym, ap, subst, ◌∙◌, append_assoc, arith, inl, inr}
+use Rattle.std.specs.List.{concat}
+use Rattle.std.proofs.lemmas.Bool.{le-ltb}
+use Rattle.std.proofs.lemmas.List.{append-nil, length-append, take_all}
+use Rattle.std.proofs.lemmas.List.Folds.{concat-append}
+use Rattle.ssh_wire.specs.Wire.{IsBytes}
+use Rattle.krl_core.specs.declared.header.Header.{Header}
+use Rattle.krl_core.specs.declared.krl_fault.KrlFault.{KrlFault}
+use Rattle.krl_core.specs.declared.krl_fault.KrlFault.TheVariants as faults
+use Rattle.krl_core.specs.declared.place.Place.{Place}
+use Rattle.krl_core.specs.Front.{Spot, start, limit, HasRoom, Passes, Leads, spot_after, IsFirstFault, Told, ended, no_room, refused, too_long, ends_early}
+use Rattle.krl_core.specs.Krl.{Section, Spells}
+use Rattle.krl_core.specs.Place.{due}
+use Rattle.krl_core.proofs.Exists.{each_is_told}
+use Rattle.krl_core.proofs.Fronts.{append_same, end_room, end_size, fronts_compare, leads_to_one, Leads-split}
+use Rattle.krl_core.proofs.Lists.{unfaulted_spelled, unfaulted_row}
+use Rattle.krl_core.proofs.SpelledLists.{spelled_unfaulted}
+
+-- what may be told of a cut
+abbrev IsCutFault : Option KrlFault → Type 0
+IsCutFault fault = (fault ≡ None) ⊎ (fault ≡ Some faults.EndsEarly)
+
+-- where the field that passes is cut, nothing else is told
+cut_field : (p next : Place) (rest more field after : List ℕ) (fault : Option KrlFault) → Passes p field next → rest ++ more ≡ field ++ after → Told p rest false fault → IsCutFault fault
+cut_field p next rest more field after fault pass e (ended at_end off is) = inl is
+cut_field p next rest more field after fault pass e (no_room full is) = absurd (full pass.room)
+cut_field p next rest more field after fault pass e (refused field' after' why room parts size judged is) =
+    let same = append_same field' field (after' ++ more) after (size ∙ sym pass.whole) (sym (append_assoc field' after' more) ∙ ap (λ (l : List ℕ). l ++ more) (sym parts) ∙ e) in
+    let other = sym pass.judged ∙ ap (due p).judged (sym same.0) ∙ judged in
+    absurd (not_both next why other)
+  where
+    not_both : (q : Place) (w : KrlFault) → Ok q ≡ Err w → ⊥
+    not_both q w x = cc
+cut_field p next rest more field after fault pass e (too_long room short on is) = absurd (cc (on))
+cut_field p next rest more field after fault pass e (ends_early room short not_end off is) = inr is
+
+-- at the end of the list nothing is told but its end
+cut_end : (p : Place) (rest : List ℕ) (fault : Option KrlFault) → (due p).may_end ≡ true → rest ≡ [] → Told p rest false fault → IsCutFault fault
+cut_end p rest fault may none (ended at_end off is) = inl is
+cut_end p rest fault may none (no_room full is) = absurd (full (end_room p may))
+cut_end p rest fault may none (refused field after why room parts size judged is) =
+    let len : length rest ≡ 0 = ap length none in
+    absurd (omega (arith, end_size p may, len, size, ap length parts, length-append field after))
+cut_end p rest fault may none (too_long room short on is) = absurd (cc (on))
+cut_end p rest fault may none (ends_early room short not_end off is) = absurd (not_end (may, none))
+
+none_left : (a b : List ℕ) → a ++ b ≡ [] → a ≡ []
+none_left [] b e = refl
+none_left (x ∷ a) b e = absurd (cc)
+
+cut_row : (p q last : Spot) (fields : List (List ℕ)) (rest more : List ℕ) (fault : Option KrlFault) → Leads q fields last → (due last.place).may_end ≡ true → rest ++ more ≡ concat fields
+    → Told q.place rest false fault → IsCutFault fault
+cut_row p q last [] rest more fault leads may e told = cut_end q.place rest fault (subst (λ (s : Spot). (due s.place).may_end ≡ true) (sym leads) may) (none_left rest more e) told
+cut_row p q last (field ∷ fields) rest more fault (next, (pass, leads)) may e told = cut_field q.place next rest more field (concat fields) fault pass e told
+
+-- of a longer row than the whole list the fields after its end would be empty
+cut_longer : (q : Spot) (fields : List (List ℕ)) (last : Spot) (rest more : List ℕ) (fault : Option KrlFault) → Leads q fields last → (due q.place).may_end ≡ true → concat fields ++ (rest ++ more) ≡ []
+    → Told last.place rest false fault → IsCutFault fault
+cut_longer q [] last rest more fault leads may e told =
+    cut_end last.place rest fault (subst (λ (s : Spot). (due s.place).may_end ≡ true) leads may) (none_left rest more e) told
+cut_longer q (field ∷ fields) last rest more fault (next, (pass, leads)) may e told =
+    absurd (omega (arith, end_size q.place may, pass.whole, ap length e, length-append (field ++ concat fields) (rest ++ more), length-append field (concat fields)))
+
+cut_told : (text prefix more : List ℕ) (fields : List (List ℕ)) (last : Spot) (fault : Option KrlFault) → text ≡ prefix ++ more → length text ≤ limit → Leads start fields last
+    → (due last.place).may_end ≡ true → text ≡ concat fields → IsFirstFault prefix fault → IsCutFault fault
+cut_told text prefix more fields last fault parts le leads may all h =
+    let len = ap length parts ∙ length-append prefix more in
+    let short : length prefix ≤ limit = omega (arith, len, le) in
+    let off : ltb limit (length prefix) ≡ false = le-ltb limit (length prefix) short in
+    let told : Told h.spot.place h.rest false fault = subst (λ (b : Bool). Told h.spot.place h.rest b fault) off h.told in
+    let front : prefix ≡ concat h.fields ++ h.rest = sym (take_all limit prefix short) ∙ h.front.front.parts in
+    let whole : concat h.fields ++ (h.rest ++ more) ≡ concat fields ++ [] =
+    sym (append_assoc (concat h.fields) h.rest more) ∙ ap (λ (l : List ℕ). l ++ more) (sym front) ∙ sym parts ∙ all ∙ sym (append-nil (concat fields)) in
+    elim (fronts_compare start h.spot last h.fields fields (h.rest ++ more) [] h.front.front.leads leads whole) [
+      | inl w ↦
+          let split = Leads-split start last h.fields w.0 (subst (λ (l : List (List ℕ)). Leads start l last) w.1 leads) in
+          let same : split.0 ≡ h.spot = leads_to_one start split.0 h.spot h.fields split.1 h.front.front.leads in
+          let rest_leads : Leads h.spot w.0 last = subst (λ (s : Spot). Leads s w.0 last) same split.2 in
+          let e : concat h.fields ++ (h.rest ++ more) ≡ concat h.fields ++ concat w.0 = whole ∙ append-nil (concat fields) ∙ ap concat w.1 ∙ concat-append h.fields w.0 in
+          cut_row start h.spot last w.0 h.rest more fault rest_leads may (append_same (concat h.fields) (concat h.fields) (h.rest ++ more) (concat w.0) refl e).1 told
+      | inr w ↦
+          let split = Leads-split start h.spot fields w.0 (subst (λ (l : List (List ℕ)). Leads start l h.spot) w.1 h.front.front.leads) in
+          let same : split.0 ≡ last = leads_to_one start split.0 last fields split.1 leads in
+          let rest_leads : Leads last w.0 h.spot = subst (λ (s : Spot). Leads s w.0 h.spot) same split.2 in
+          let e : concat fields ++ (concat w.0 ++ (h.rest ++ more)) ≡ concat fields ++ [] =
+          sym (append_assoc (concat fields) (concat w.0) (h.rest ++ more)) ∙ ap (λ (l : List ℕ). l ++ (h.rest ++ more)) (sym (concat-append fields w.0)) ∙ ap (λ (l : List (List ℕ)). concat l ++ (h.rest ++ more)) (sym w.1) ∙ whole in
+          cut_longer last w.0 h.spot h.rest more fault rest_leads may (append_same (concat fields) (concat fields) (concat w.0 ++ (h.rest ++ more)) [] refl e).1 told
+    ]
+
+-- A front of the bytes of a spelled list within the limit is itself spelled, or ends early.
+pub cut_short : (text prefix more : List ℕ) (header : Header) (sections : List Section) → IsBytes text → Spells text header sections → length text ≤ limit → text ≡ prefix ++ more
+    → IsFirstFault prefix None ⊎ IsFirstFault prefix (Some faults.EndsEarly)
+cut_short text prefix more header sections fits h le parts =
+    let row = unfaulted_row text (spelled_unfaulted text header sections fits h le) in
+    let told = each_is_told prefix in
+    elim (cut_told text prefix more row.0 row.1 told.0 parts le row.2.0 row.2.1 row.2.2 told.1) [
+      | inl none ↦ inl (subst (IsFirstFault prefix) none told.1)
+      | inr early ↦ inr (subst (IsFirstFault prefix) early told.1)
+    ]

@@ -1,0 +1,128 @@
+-- From each place, whatever the bytes are, the fields lead to where something is told.
+use Rattle.std.proofs.Common.{◌≡◌, ℕ, zero, suc, ◌+◌, ◌*◌, ◌<◌, ◌≤◌, ◌⊎◌, Bool, true, false, ltb, List, [], ◌∷◌, ◌++◌, length, take, drop, Option, Some, None, Result, Ok, Err, refl, sym, ap, arith, inl, inr}
+use Rattle.std.specs.Prelude.{IfSome}
+use Rattle.std.proofs.lemmas.Bool.{cases_lt}
+use Rattle.std.proofs.lemmas.List.{take-append-drop, length-take, length-drop}
+use Rattle.krl_core.specs.declared.krl_fault.KrlFault.{KrlFault}
+use Rattle.krl_core.specs.declared.krl_fault.KrlFault.TheVariants as faults
+use Rattle.krl_core.specs.declared.place.Place.{Place}
+use Rattle.krl_core.specs.declared.place.Place.TheVariants.{Reserved, Comment, SignatureKey, Signature, Key, Authority, SectionReserved, Id, ExtensionName, ExtensionContents, SectionType, SignatureLength, CommentLength, SectionReservedLength, ExtensionCritical}
+use Rattle.krl_core.specs.Place.{due, next_key, next_id, next_subsection}
+use Rattle.krl_core.specs.Front.{Spot, start, spot_after, HasRoom, Told, ended, no_room, refused, too_long, ends_early, IsFirstFault, limit}
+use Rattle.krl_core.specs.Walk.{Stops}
+use Rattle.krl_core.proofs.Fronts.{first_fault_is}
+use Rattle.krl_core.proofs.Walks.{walks_one, walks_from, stops_here, stops_then}
+
+room_or_not : (size : ℕ) (room : Option ℕ) → IfSome room (λ left. size ≤ left) ⊎ (IfSome room (λ left. size ≤ left) → ⊥)
+room_or_not size None = inl tt
+room_or_not size (Some left) = elim (cases_lt left size) [ inl lt ↦ inr (λ h. absurd (omega arith)) | inr le ↦ inl le ]
+
+is_true : (b : Bool) → (b ≡ true) ⊎ (b ≡ true → ⊥)
+is_true true = inl refl
+is_true false = inr (λ e. cc)
+
+-- a field that is not whole is told
+short_told : (p : Place) (rest : List ℕ) (goes_on : Bool) → HasRoom (due p) → length rest < (due p).size → (fault : Option KrlFault) × Told p rest goes_on fault
+short_told p rest true room short = (Some faults.TooLong, too_long room short refl refl)
+short_told p [] false room short =
+    elim (is_true (due p).may_end) [
+      | inl here ↦ (None, ended (here, refl) refl refl)
+      | inr other ↦ (Some faults.EndsEarly, ends_early room short (λ at. other at.0) refl refl)
+    ]
+short_told p (x ∷ rest) false room short = (Some faults.EndsEarly, ends_early room short (λ at. let none = at.1 in absurd cc) refl refl)
+
+-- where a field may be empty, the next one is not
+abbrev pub weight : Place → ℕ
+weight (Reserved n) = 1
+weight (Comment n) = 1
+weight (SignatureKey n) = 1
+weight (Signature n) = 1
+weight (Key n m) = 1
+weight (Authority n m) = 1
+weight (SectionReserved n m) = 1
+weight (Id n m k) = 1
+weight (ExtensionName n m k) = 1
+weight (ExtensionContents n m) = 1
+weight _ = 0
+
+weight_below : (p : Place) → weight p < 2
+weight_below (Reserved n) = omega arith
+weight_below (Comment n) = omega arith
+weight_below (SignatureKey n) = omega arith
+weight_below (Signature n) = omega arith
+weight_below (Key n m) = omega arith
+weight_below (Authority n m) = omega arith
+weight_below (SectionReserved n m) = omega arith
+weight_below (Id n m k) = omega arith
+weight_below (ExtensionName n m k) = omega arith
+weight_below (ExtensionContents n m) = omega arith
+weight_below _ = omega arith
+
+weight-next_key : (left : ℕ) → weight (next_key left) ≡ 0
+weight-next_key zero = refl
+weight-next_key (suc left) = refl
+
+weight-next_subsection : (left : ℕ) → weight (next_subsection left) ≡ 0
+weight-next_subsection zero = refl
+weight-next_subsection (suc left) = refl
+
+weight-next_id : (left behind : ℕ) → weight (next_id left behind) ≡ 0
+weight-next_id zero behind = weight-next_subsection behind
+weight-next_id (suc left) behind = refl
+
+abbrev done : Place → Result Place KrlFault
+done p = Ok p
+
+same_weight : (p q : Place) → done p ≡ done q → weight p ≡ weight q
+same_weight p q e = let same : p ≡ q = cc in ap weight same
+
+-- each field brings the end nearer
+pub nearer : (p q : Place) (field : List ℕ) → (due p).judged field ≡ Ok q → weight q < 2 * (due p).size + weight p
+nearer (Reserved n) q field e = omega (arith, same_weight CommentLength q e)
+nearer (Comment n) q field e = omega (arith, same_weight (SectionType false) q e)
+nearer (SignatureKey n) q field e = omega (arith, same_weight SignatureLength q e)
+nearer (Signature n) q field e = omega (arith, same_weight (SectionType true) q e)
+nearer (Key n m) q field e = omega (arith, same_weight (next_key m) q e, weight-next_key m)
+nearer (Authority n m) q field e = omega (arith, same_weight (SectionReservedLength m) q e)
+nearer (SectionReserved n m) q field e = omega (arith, same_weight (next_subsection m) q e, weight-next_subsection m)
+nearer (Id n m k) q field e = omega (arith, same_weight (next_id m k) q e, weight-next_id m k)
+nearer (ExtensionName n m k) q field e = omega (arith, same_weight (ExtensionCritical m k) q e)
+nearer (ExtensionContents n m) q field e = omega (arith, same_weight (next_subsection m) q e, weight-next_subsection m)
+nearer _ q field e = omega (arith, weight_below q)
+
+outcome_of : (r : Result Place KrlFault) → ((q : Place) × (r ≡ Ok q)) ⊎ ((why : KrlFault) × (r ≡ Err why))
+outcome_of (Ok q) = inl (q, refl)
+outcome_of (Err why) = inr (why, refl)
+
+pub told_from : (n : ℕ) (p : Spot) (bytes : List ℕ) (goes_on : Bool) → 2 * length bytes + weight p.place < n → (fault : Option KrlFault) × Stops p bytes goes_on fault
+told_from zero p bytes goes_on lt = absurd (omega arith)
+told_from (suc n) p bytes goes_on lt =
+    elim (room_or_not (due p.place).size (due p.place).room) [
+      | inr full ↦ (Some faults.Length, stops_here p bytes goes_on (Some faults.Length) (no_room full refl))
+      | inl room ↦
+          elim (cases_lt (length bytes) (due p.place).size) [
+            | inl short ↦ let t = short_told p.place bytes goes_on room short in (t.0, stops_here p bytes goes_on t.0 t.1)
+            | inr enough ↦
+                let field : List ℕ = take (due p.place).size bytes in
+                let rest : List ℕ = drop (due p.place).size bytes in
+                let parts : bytes ≡ field ++ rest = sym (take-append-drop (due p.place).size bytes) in
+                let size : length field ≡ (due p.place).size = omega (arith, length-take (due p.place).size bytes) in
+                let left : length rest + (due p.place).size ≡ length bytes = omega (arith, length-drop (due p.place).size bytes) in
+                elim (outcome_of ((due p.place).judged field)) [
+                  | inl w ↦
+                      let near = nearer p.place w.0 field w.1 in
+                      let t = told_from n (spot_after p field w.0) rest goes_on (omega (arith, near, left, lt)) in (
+                        t.0,
+                        stops_then p (spot_after p field w.0) bytes rest goes_on t.0
+                            (walks_from p (spot_after p field w.0) bytes (field ++ rest) rest parts
+                            (walks_one p w.0 field rest (record { room = room; whole = size; judged = w.1 }))) t.1,
+                      )
+                  | inr w ↦ (Some w.0, stops_here p bytes goes_on (Some w.0) (refused field rest w.0 room parts size w.1 refl))
+                ]
+          ]
+    ]
+
+pub each_is_told : (text : List ℕ) → (fault : Option KrlFault) × IsFirstFault text fault
+each_is_told text =
+    let t = told_from (suc (2 * length (take limit text) + weight start.place)) start (take limit text) (ltb limit (length text)) (omega arith) in
+    (t.0, first_fault_is text t.0 t.1)

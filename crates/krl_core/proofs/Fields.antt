@@ -1,0 +1,291 @@
+-- The field that is due, in front of what is spelled after it.
+use Rattle.std.proofs.Common.{◌≡◌, ℕ, zero, suc, ◌+◌, ◌-◌, ◌*◌, ◌%◌, ◌==◌, ◌<◌, ◌≤◌, ◌^◌, ◌⊎◌, Bool, true, false, not, cond, eqb, ltb, leb, leb-true, eq-eqb, List, [], ◌∷◌, ◌++◌, length, get_or, Option, Some, None, Result, Ok, Err, refl, sym, ap, subst, ◌∙◌, append_assoc, arith, inl, inr}
+use Rattle.std.specs.List.{concat}
+use Rattle.std.specs.Str.{bytes_eq}
+use Rattle.std.proofs.lemmas.Bool.{cases_lt, eqb-true, ltb-true}
+use Rattle.std.proofs.lemmas.List.{append-nil, get_or-append-add, get_or_append_left, get_or_past}
+use Rattle.std.proofs.lemmas.Slice.Eq.{bytes_eq-Decides}
+use Rattle.ssh_wire.specs.Wire.{IsBytes, number, number_of, string}
+use Rattle.krl_core.specs.declared.krl_fault.KrlFault.TheVariants as faults
+use Rattle.krl_core.specs.declared.header.Header.{Header}
+use Rattle.krl_core.specs.declared.place.Place.{Place}
+use Rattle.krl_core.specs.declared.place.Place.TheVariants as places
+use Rattle.krl_core.specs.Entry.{Entry, SerialsEntry, RangeEntry, BitmapEntry, IdEntry, KeyEntry, Sha1Entry, Sha256Entry}
+use Rattle.krl_core.specs.Front.{Spot, Passes, Leads, spot_after}
+use Rattle.krl_core.specs.Krl.{magic}
+use Rattle.krl_core.specs.Place.{due, judge, names, authority_after, header_after, next_key, next_sha1, next_sha256, next_subsection, next_serial, next_id, next_bits, section_of_type, subsection_of_type, base_of, passes_end}
+use Rattle.krl_core.proofs.Bits.{judged_parts}
+use Rattle.krl_core.proofs.Completes.{same_place, passed, fits_within, chosen, one_byte, number_front, length_front, content_front, item_front, string_more, serial_more, keys_from, sha1s_from, sha256s_from, subsections_from, subsections_none, serials_from, ids_from, sections_from, keys_section, sha1s_section, sha256s_section, certificates_section, extension_section, signature_section, subsections_more, reserved_front, certificates_front, extension_front, contents_front, range_front, serials_part, ids_part, range_part, bitmap_part, extension_part, bits_from, bits_more, bitmap_front, offset_front}
+use Rattle.krl_core.proofs.Fronts.{end_size}
+use Rattle.krl_core.proofs.Numbers.{number_back4, number_back8}
+use Rattle.krl_core.proofs.Same.{same_refl}
+use Rattle.krl_core.proofs.Rests.{FromItem, FromBits, FromSections, FromText, FromLength, FromContent, FromExtension, FromCritical, FromMax, FromComment, FromHeaderReserved, FromFlags, FromDate, FromVersion, FromFormat, FromSubsections, FromReserved, FromCertificates, FromPart, Completes, Any, HasSize, KeyItems, Sha1Items, Sha256Items, SerialItems, IdItems}
+
+-- what is spelled from the place after a field is spelled from the same place by another name
+along : (last h : Header) (a : List ℕ) (p q : Place) (bytes : List ℕ) (more : List Entry) → p ≡ q → Completes last h a q bytes more → Completes last h a p bytes more
+along last h a p q bytes more e k = subst (λ (x : Place). Completes last h a x bytes more) (sym e) k
+
+section_front : (last h : Header) (signed : Bool) (q : Place) (n : ℕ) (tail : List ℕ) (more : List Entry) → section_of_type signed n ≡ Ok q
+    → Completes last h [] q tail more → FromSections signed (last ≡ h) (n ∷ tail) more
+section_front last h signed q n tail more e k =
+    elim (chosen (eqb n 4) places.SignatureKeyLength _ q e) [
+      | inl w ↦ byte 4 (eqb-true n 4 w.0) (signature_section (last ≡ h) signed tail more (along last h [] places.SignatureKeyLength q tail more w.1 k))
+      | inr w0 ↦ let s = unsigned signed _ q w0.1 in
+          elim (chosen (eqb n 1) places.CertificatesLength _ q s.1) [
+            | inl w ↦ byte 1 (eqb-true n 1 w.0) (certificates_section (last ≡ h) signed tail more s.0 (along last h [] places.CertificatesLength q tail more w.1 k))
+            | inr w1 ↦ elim (chosen (eqb n 2) places.KeysLength _ q w1.1) [
+              | inl w ↦ byte 2 (eqb-true n 2 w.0) (keys_section (last ≡ h) signed tail more s.0 (along last h [] places.KeysLength q tail more w.1 k))
+              | inr w2 ↦ elim (chosen (eqb n 3) places.Sha1sLength _ q w2.1) [
+                | inl w ↦ byte 3 (eqb-true n 3 w.0) (sha1s_section (last ≡ h) signed tail more s.0 (along last h [] places.Sha1sLength q tail more w.1 k))
+                | inr w3 ↦ elim (chosen (eqb n 5) places.Sha256sLength _ q w3.1) [
+                  | inl w ↦ byte 5 (eqb-true n 5 w.0) (sha256s_section (last ≡ h) signed tail more s.0 (along last h [] places.Sha256sLength q tail more w.1 k))
+                  | inr w4 ↦ elim (chosen (eqb n 255) places.ExtensionLength _ q w4.1) [
+                    | inl w ↦ byte 255 (eqb-true n 255 w.0) (extension_section (last ≡ h) signed tail more s.0 (along last h [] places.ExtensionLength q tail more w.1 k))
+                    | inr w5 ↦ let no_one = w5.1 in absurd (cc)
+                  ]
+                ]
+              ]
+            ]
+          ]
+    ]
+  where
+    byte : (m : ℕ) → n ≡ m → FromSections signed (last ≡ h) (m ∷ tail) more → FromSections signed (last ≡ h) (n ∷ tail) more
+    byte m same f = subst (λ (x : ℕ). FromSections signed (last ≡ h) (x ∷ tail) more) (sym same) f
+
+    unsigned : (b : Bool) (x : _) (r : Place) → cond b (Err faults.AfterSignature) x ≡ Ok r → (b ≡ false) × (x ≡ Ok r)
+    unsigned true x r f = absurd (cc)
+    unsigned false x r f = (refl, f)
+
+subsection_front : (last h : Header) (a : List ℕ) (left : ℕ) (q : Place) (n : ℕ) (tail : List ℕ) (more : List Entry) → 1 ≤ left → subsection_of_type (left - 1) n ≡ Ok q
+    → Completes last h a q tail more → FromSubsections (last ≡ h) a left (n ∷ tail) more
+subsection_front last h a left q n tail more room e k =
+    elim (chosen (eqb n 0x20) (places.SerialsLength (left - 1)) _ q e) [
+      | inl w ↦ byte 0x20 (eqb-true n 0x20 w.0) (along last h a (places.SerialsLength (left - 1)) q tail more w.1 k)
+      | inr w1 ↦ elim (chosen (eqb n 0x21) (places.RangeLength (left - 1)) _ q w1.1) [
+        | inl w ↦ byte 0x21 (eqb-true n 0x21 w.0) (along last h a (places.RangeLength (left - 1)) q tail more w.1 k)
+        | inr w2 ↦ elim (chosen (eqb n 0x22) (places.BitmapLength (left - 1)) _ q w2.1) [
+          | inl w ↦ byte 0x22 (eqb-true n 0x22 w.0) (along last h a (places.BitmapLength (left - 1)) q tail more w.1 k)
+          | inr w3 ↦ elim (chosen (eqb n 0x23) (places.IdsLength (left - 1)) _ q w3.1) [
+            | inl w ↦ byte 0x23 (eqb-true n 0x23 w.0) (along last h a (places.IdsLength (left - 1)) q tail more w.1 k)
+            | inr w4 ↦ elim (chosen (eqb n 0x39) (places.SubsectionExtensionLength (left - 1)) _ q w4.1) [
+              | inl w ↦ byte 0x39 (eqb-true n 0x39 w.0) (along last h a (places.SubsectionExtensionLength (left - 1)) q tail more w.1 k)
+              | inr w5 ↦ let no_one = w5.1 in absurd (cc)
+            ]
+          ]
+        ]
+      ]
+    ]
+  where
+    byte : (m : ℕ) → n ≡ m → FromPart (last ≡ h) a m (left - 1) tail more → FromSubsections (last ≡ h) a left (n ∷ tail) more
+    byte m same f = subst (λ (x : ℕ). FromSubsections (last ≡ h) a left (x ∷ tail) more) (sym same) (subsections_more (last ≡ h) a m left tail more f room)
+
+pub field_front : (last h : Header) (a : List ℕ) (p q : Place) (field tail : List ℕ) (more : List Entry) → IsBytes field → Passes p field q
+    → Completes last (header_after p h field) (authority_after p a field) q tail more → Completes last h a p (field ++ tail) (names p a field ++ more)
+field_front last h a places.Magic q field tail more fits pass k =
+    let w = passed (bytes_eq field magic) faults.Magic places.FormatVersion q pass.judged in
+    record { rest = tail; parts = ap (λ (x : List ℕ). x ++ tail) ((bytes_eq-Decides field magic).0 w.0); then_is = along last h a places.FormatVersion q tail more w.1 k }
+field_front last h a places.FormatVersion q field tail more fits pass k =
+    let w = passed (eqb (number_of field) 1) faults.FormatVersion places.Version q pass.judged in
+    let n = number_back4 field pass.whole fits in
+    record { rest = tail; parts = ap (λ (x : List ℕ). x ++ tail) (sym n.0 ∙ ap (number 4) (eqb-true (number_of field) 1 w.0)); then_is = along last h a places.Version q tail more w.1 k }
+field_front last h a places.Version q field tail more fits pass k =
+    number_front (λ v. FromDate last (record h { version = v })) field tail more fits pass.whole
+    (along last (record h { version = number_of field }) a places.Date q tail more (same_place places.Date q pass.judged) k)
+field_front last h a places.Date q field tail more fits pass k =
+    number_front (λ d. FromFlags last (record h { date = d })) field tail more fits pass.whole
+    (along last (record h { date = number_of field }) a places.Flags q tail more (same_place places.Flags q pass.judged) k)
+field_front last h a places.Flags q field tail more fits pass k =
+    number_front (λ f. FromHeaderReserved last h) field tail more fits pass.whole (along last h a places.ReservedLength q tail more (same_place places.ReservedLength q pass.judged) k)
+field_front last h a places.ReservedLength q field tail more fits pass k =
+    length_front (λ n. FromContent n (λ r. FromComment last h)) field tail more fits pass.whole (along last h a (places.Reserved (number_of field)) q tail more (same_place (places.Reserved (number_of field)) q pass.judged) k)
+field_front last h a (places.Reserved n) q field tail more fits pass k = content_front n (λ r. FromComment last h) field tail more pass.whole (along last h a places.CommentLength q tail more (same_place places.CommentLength q pass.judged) k)
+field_front last h a places.CommentLength q field tail more fits pass k =
+    length_front (λ n. FromContent n (λ c. FromSections false (last ≡ record h { comment = c }))) field tail more fits pass.whole (along last h a (places.Comment (number_of field)) q tail more (same_place (places.Comment (number_of field)) q pass.judged) k)
+field_front last h a (places.Comment n) q field tail more fits pass k =
+    content_front n (λ c. FromSections false (last ≡ record h { comment = c })) field tail more pass.whole
+    (along last (record h { comment = field }) a (places.SectionType false) q tail more (same_place (places.SectionType false) q pass.judged) k)
+field_front last h a (places.SectionType signed) q field tail more fits pass k =
+    subst (λ (x : List ℕ). FromSections signed (last ≡ h) (x ++ tail) more) (sym (one_byte field pass.whole)) (section_front last h signed q (number_of field) tail more pass.judged k)
+field_front last h a places.SignatureKeyLength q field tail more fits pass k =
+    length_front (λ n. FromContent n (λ k. FromLength (λ m. FromContent m (λ s. FromSections true (last ≡ h))))) field tail more fits pass.whole (along last h a (places.SignatureKey (number_of field)) q tail more (same_place (places.SignatureKey (number_of field)) q pass.judged) k)
+field_front last h a (places.SignatureKey n) q field tail more fits pass k = content_front n (λ k. FromLength (λ m. FromContent m (λ s. FromSections true (last ≡ h)))) field tail more pass.whole (along last h a places.SignatureLength q tail more (same_place places.SignatureLength q pass.judged) k)
+field_front last h a places.SignatureLength q field tail more fits pass k =
+    length_front (λ m. FromContent m (λ s. FromSections true (last ≡ h))) field tail more fits pass.whole (along last h a (places.Signature (number_of field)) q tail more (same_place (places.Signature (number_of field)) q pass.judged) k)
+field_front last h a (places.Signature n) q field tail more fits pass k = content_front n (λ s. FromSections true (last ≡ h)) field tail more pass.whole (along last h a (places.SectionType true) q tail more (same_place (places.SectionType true) q pass.judged) k)
+field_front last h a places.KeysLength q field tail more fits pass k =
+    length_front (KeyItems (last ≡ h)) field tail more fits pass.whole (keys_from last h a (number_of field) tail more (along last h a (next_key (number_of field)) q tail more (same_place (next_key (number_of field)) q pass.judged) k))
+field_front last h a (places.KeyLength left) q field tail more fits pass k =
+    let w = fits_within left (λ size. Ok (places.Key size (left - 4 - size))) (number_of field) q pass.judged in
+    let room : 4 ≤ left = pass.room in
+    string_more Any KeyEntry left (FromSections false (last ≡ h)) field tail more (left - 4 - number_of field) fits pass.whole (omega (arith, w.0, room))
+    (along last h a (places.Key (number_of field) (left - 4 - number_of field)) q tail more (same_place (places.Key (number_of field) (left - 4 - number_of field)) q w.1) k) tt
+field_front last h a (places.Key n behind) q field tail more fits pass k =
+    item_front n KeyEntry (KeyItems (last ≡ h) behind) field tail more pass.whole (keys_from last h a behind tail more (along last h a (next_key behind) q tail more (same_place (next_key behind) q pass.judged) k))
+field_front last h a places.Sha1sLength q field tail more fits pass k =
+    length_front (Sha1Items (last ≡ h)) field tail more fits pass.whole (sha1s_from last h a (number_of field) tail more (along last h a (next_sha1 (number_of field)) q tail more (same_place (next_sha1 (number_of field)) q pass.judged) k))
+field_front last h a (places.Sha1Length left) q field tail more fits pass k =
+    let w = fits_within left (λ size. judge (size == 20) faults.HashLength (places.Sha1 (left - 4 - size))) (number_of field) q pass.judged in
+    let v = passed (eqb (number_of field) 20) faults.HashLength (places.Sha1 (left - 4 - number_of field)) q w.1 in
+    let size : number_of field ≡ 20 = eqb-true (number_of field) 20 v.0 in
+    let room : 4 ≤ left = pass.room in
+    let one = along last h a (places.Sha1 (left - 4 - number_of field)) q tail more v.1 k in
+    let item = subst (λ (m : ℕ). FromItem m Sha1Entry (Sha1Items (last ≡ h) (left - 4 - number_of field)) tail more) (sym size) one in
+    string_more (HasSize 20) Sha1Entry left (FromSections false (last ≡ h)) field tail more (left - 4 - number_of field) fits pass.whole (omega (arith, w.0, room)) item (item.size_is ∙ size)
+field_front last h a (places.Sha1 behind) q field tail more fits pass k =
+    item_front 20 Sha1Entry (Sha1Items (last ≡ h) behind) field tail more pass.whole (sha1s_from last h a behind tail more (along last h a (next_sha1 behind) q tail more (same_place (next_sha1 behind) q pass.judged) k))
+field_front last h a places.Sha256sLength q field tail more fits pass k =
+    length_front (Sha256Items (last ≡ h)) field tail more fits pass.whole (sha256s_from last h a (number_of field) tail more (along last h a (next_sha256 (number_of field)) q tail more (same_place (next_sha256 (number_of field)) q pass.judged) k))
+field_front last h a (places.Sha256Length left) q field tail more fits pass k =
+    let w = fits_within left (λ size. judge (size == 32) faults.HashLength (places.Sha256 (left - 4 - size))) (number_of field) q pass.judged in
+    let v = passed (eqb (number_of field) 32) faults.HashLength (places.Sha256 (left - 4 - number_of field)) q w.1 in
+    let size : number_of field ≡ 32 = eqb-true (number_of field) 32 v.0 in
+    let room : 4 ≤ left = pass.room in
+    let one = along last h a (places.Sha256 (left - 4 - number_of field)) q tail more v.1 k in
+    let item = subst (λ (m : ℕ). FromItem m Sha256Entry (Sha256Items (last ≡ h) (left - 4 - number_of field)) tail more) (sym size) one in
+    string_more (HasSize 32) Sha256Entry left (FromSections false (last ≡ h)) field tail more (left - 4 - number_of field) fits pass.whole (omega (arith, w.0, room)) item (item.size_is ∙ size)
+field_front last h a (places.Sha256 behind) q field tail more fits pass k =
+    item_front 32 Sha256Entry (Sha256Items (last ≡ h) behind) field tail more pass.whole (sha256s_from last h a behind tail more (along last h a (next_sha256 behind) q tail more (same_place (next_sha256 behind) q pass.judged) k))
+field_front last h a places.CertificatesLength q field tail more fits pass k =
+    length_front (FromCertificates (last ≡ h)) field tail more fits pass.whole (along last h a (places.AuthorityLength (number_of field)) q tail more (same_place (places.AuthorityLength (number_of field)) q pass.judged) k)
+field_front last h a (places.AuthorityLength left) q field tail more fits pass k =
+    let w = fits_within left (λ size. Ok (places.Authority size (left - 4 - size))) (number_of field) q pass.judged in
+    certificates_front (last ≡ h) left field tail more fits pass.whole pass.room w.0
+    (along last h a (places.Authority (number_of field) (left - 4 - number_of field)) q tail more (same_place (places.Authority (number_of field) (left - 4 - number_of field)) q w.1) k)
+field_front last h a (places.Authority n behind) q field tail more fits pass k =
+    content_front n (λ b. FromReserved (last ≡ h) b behind) field tail more pass.whole (along last h field (places.SectionReservedLength behind) q tail more (same_place (places.SectionReservedLength behind) q pass.judged) k)
+field_front last h a (places.SectionReservedLength left) q field tail more fits pass k =
+    let w = fits_within left (λ size. Ok (places.SectionReserved size (left - 4 - size))) (number_of field) q pass.judged in
+    reserved_front (last ≡ h) a left field tail more fits pass.whole pass.room w.0
+    (along last h a (places.SectionReserved (number_of field) (left - 4 - number_of field)) q tail more (same_place (places.SectionReserved (number_of field) (left - 4 - number_of field)) q w.1) k)
+field_front last h a (places.SectionReserved n behind) q field tail more fits pass k =
+    content_front n (λ r. FromSubsections (last ≡ h) a behind) field tail more pass.whole (subsections_from last h a behind tail more (along last h a (next_subsection behind) q tail more (same_place (next_subsection behind) q pass.judged) k))
+field_front last h a (places.SubsectionType left) q field tail more fits pass k =
+    subst (λ (x : List ℕ). FromSubsections (last ≡ h) a left (x ++ tail) more) (sym (one_byte field pass.whole)) (subsection_front last h a left q (number_of field) tail more pass.room pass.judged k)
+field_front last h a (places.SerialsLength left) q field tail more fits pass k =
+    let n = number_of field in
+    let w = fits_within left (λ size. judge (size % 8 == 0) faults.Length (next_serial size (left - 4 - size))) n q pass.judged in
+    let v = passed (n % 8 == 0) faults.Length (next_serial n (left - 4 - n)) q w.1 in
+    serials_part (last ≡ h) a left field tail more fits pass.whole pass.room w.0
+    (serials_from last h a n (left - 4 - n) tail more (along last h a (next_serial n (left - 4 - n)) q tail more v.1 k))
+field_front last h a (places.Serial left behind) q field tail more fits pass k =
+    serial_more (last ≡ h) a left behind field tail more fits pass.whole pass.room
+    (serials_from last h a (left - 8) behind tail more (along last h a (next_serial (left - 8) behind) q tail more (same_place (next_serial (left - 8) behind) q pass.judged) k))
+field_front last h a (places.RangeLength left) q field tail more fits pass k =
+    let n = number_of field in
+    let w = fits_within left (λ size. judge (size == 16) faults.Length (places.RangeMin (left - 4 - size))) n q pass.judged in
+    let v = passed (eqb n 16) faults.Length (places.RangeMin (left - 4 - n)) q w.1 in
+    range_part (last ≡ h) a left field tail more fits pass.whole pass.room w.0 (eqb-true n 16 v.0) (along last h a (places.RangeMin (left - 4 - n)) q tail more v.1 k)
+field_front last h a (places.RangeMin behind) q field tail more fits pass k =
+    range_front (last ≡ h) a behind field tail more fits pass.whole
+    (along last h a (places.RangeMax (number_of field) behind) q tail more (same_place (places.RangeMax (number_of field) behind) q pass.judged) k)
+field_front last h a (places.RangeMax min behind) q field tail more fits pass k =
+    let w = passed (leb min (number_of field)) faults.RangeReversed (next_subsection behind) q pass.judged in
+    let n = number_back8 field pass.whole fits in
+    record {
+      max = number_of field;
+      rest = tail;
+      others = more;
+      parts = ap (λ (x : List ℕ). x ++ tail) (sym n.0);
+      ordered = leb-true min (number_of field) w.0;
+      fits = n.1;
+      named = refl;
+      then_is = subsections_from last h a behind tail more (along last h a (next_subsection behind) q tail more w.1 k);
+    }
+field_front last h a (places.BitmapLength left) q field tail more fits pass k =
+    let w = fits_within left (λ size. Ok (places.BitmapOffset size (left - 4 - size))) (number_of field) q pass.judged in
+    bitmap_part (last ≡ h) a left field tail more fits pass.whole pass.room w.0
+    (along last h a (places.BitmapOffset (number_of field) (left - 4 - number_of field)) q tail more (same_place (places.BitmapOffset (number_of field) (left - 4 - number_of field)) q w.1) k)
+field_front last h a (places.BitmapOffset left behind) q field tail more fits pass k =
+    offset_front (last ≡ h) a left behind field tail more fits pass.whole pass.room
+    (along last h a (places.BitmapSize (number_of field) (left - 8) behind) q tail more (same_place (places.BitmapSize (number_of field) (left - 8) behind) q pass.judged) k)
+field_front last h a (places.BitmapSize offset left behind) q field tail more fits pass k =
+    let w = passed (eqb (number_of field) (left - 4)) faults.Length (next_bits offset (left - 4) (left - 4) behind) q pass.judged in
+    bitmap_front (last ≡ h) a offset left behind field tail more fits pass.whole pass.room (eqb-true (number_of field) (left - 4) w.0)
+    (bits_from last h a offset (left - 4) (left - 4) behind tail more (along last h a (next_bits offset (left - 4) (left - 4) behind) q tail more w.1 k))
+field_front last h a (places.BitmapByte offset size left behind) q field tail more fits pass k = λ pos.
+    let n = number_of field in
+    let one = one_byte field pass.whole in
+    let byte : n < 256 = subst (λ (m : ℕ). m < 256) (ap (λ (l : List ℕ). get_or l 0 0) one) (fits 0) in
+    let w = judged_parts (eqb left size) (ltb n 128) (passes_end (base_of offset left) n) q (next_bits offset size (left - 1) behind) pass.judged in
+    subst (λ (x : List ℕ). FromBits (last ≡ h) a offset size left behind (x ++ tail) (BitmapEntry a (base_of offset left) n ∷ more)) (sym one)
+    (bits_more (last ≡ h) a offset size left behind n tail more byte pos (λ e. ltb-true n 128 (w.0 (eq-eqb left size e))) w.1
+    (bits_from last h a offset size (left - 1) behind tail more (along last h a (next_bits offset size (left - 1) behind) q tail more w.2 k)))
+field_front last h a (places.IdsLength left) q field tail more fits pass k =
+    let n = number_of field in
+    let w = fits_within left (λ size. Ok (next_id size (left - 4 - size))) n q pass.judged in
+    ids_part (last ≡ h) a left field tail more fits pass.whole pass.room w.0
+    (ids_from last h a n (left - 4 - n) tail more (along last h a (next_id n (left - 4 - n)) q tail more (same_place (next_id n (left - 4 - n)) q w.1) k))
+field_front last h a (places.IdLength left behind) q field tail more fits pass k =
+    let w = fits_within left (λ size. Ok (places.Id size (left - 4 - size) behind)) (number_of field) q pass.judged in
+    let room : 4 ≤ left = pass.room in
+    string_more Any (IdEntry a) left (FromSubsections (last ≡ h) a behind) field tail more (left - 4 - number_of field) fits pass.whole (omega (arith, w.0, room))
+    (along last h a (places.Id (number_of field) (left - 4 - number_of field) behind) q tail more (same_place (places.Id (number_of field) (left - 4 - number_of field) behind) q w.1) k) tt
+field_front last h a (places.Id n left behind) q field tail more fits pass k =
+    item_front n (IdEntry a) (IdItems (last ≡ h) a left behind) field tail more pass.whole
+    (ids_from last h a left behind tail more (along last h a (next_id left behind) q tail more (same_place (next_id left behind) q pass.judged) k))
+field_front last h a places.ExtensionLength q field tail more fits pass k =
+    let n = number_of field in
+    let x = along last h a (places.ExtensionNameLength n 0) q tail more (same_place (places.ExtensionNameLength n 0) q pass.judged) k in
+    length_front (λ m. FromExtension m (FromSections false (last ≡ h))) field tail more fits pass.whole
+    (record { content = x.content; rest = x.rest; parts = x.parts; size_is = x.size_is; spelled = x.spelled; then_is = sections_from (last ≡ h) a x.rest more x.then_is })
+field_front last h a (places.SubsectionExtensionLength left) q field tail more fits pass k =
+    let w = fits_within left (λ size. Ok (places.ExtensionNameLength size (left - 4 - size))) (number_of field) q pass.judged in
+    extension_part (last ≡ h) a left field tail more fits pass.whole pass.room w.0
+    (along last h a (places.ExtensionNameLength (number_of field) (left - 4 - number_of field)) q tail more (same_place (places.ExtensionNameLength (number_of field) (left - 4 - number_of field)) q w.1) k)
+field_front last h a (places.ExtensionNameLength left behind) q field tail more fits pass k =
+    let w = fits_within left (λ size. Ok (places.ExtensionName size (left - 4 - size) behind)) (number_of field) q pass.judged in
+    extension_front left (FromSubsections (last ≡ h) a behind) field tail more fits pass.whole pass.room w.0
+    (along last h a (places.ExtensionName (number_of field) (left - 4 - number_of field) behind) q tail more (same_place (places.ExtensionName (number_of field) (left - 4 - number_of field) behind) q w.1) k)
+field_front last h a (places.ExtensionName n left behind) q field tail more fits pass k =
+    content_front n (λ n. FromCritical left (FromSubsections (last ≡ h) a behind)) field tail more pass.whole
+    (along last h a (places.ExtensionCritical left behind) q tail more (same_place (places.ExtensionCritical left behind) q pass.judged) k)
+field_front last h a (places.ExtensionCritical left behind) q field tail more fits pass k =
+    let w = passed (eqb (number_of field) 0) faults.CriticalExtension (places.ExtensionContentsLength (left - 1) behind) q pass.judged in
+    let zero_byte : field ≡ 0 ∷ [] = one_byte field pass.whole ∙ ap (λ (n : ℕ). n ∷ []) (eqb-true (number_of field) 0 w.0) in
+    let x = along last h a (places.ExtensionContentsLength (left - 1) behind) q tail more w.1 k in
+    let room : 1 ≤ left = pass.room in
+    record {
+      contents = x.contents;
+      rest = x.rest;
+      parts = ap (λ (l : List ℕ). l ++ tail) zero_byte ∙ ap (λ (l : List ℕ). 0 ∷ l) x.parts;
+      size_is = omega (arith, x.size_is, room);
+      then_is = x.then_is;
+    }
+field_front last h a (places.ExtensionContentsLength left behind) q field tail more fits pass k =
+    let w = passed (eqb (number_of field) (left - 4)) faults.Length (places.ExtensionContents (left - 4) behind) q pass.judged in
+    contents_front left (FromSubsections (last ≡ h) a behind) field tail more fits pass.whole pass.room (eqb-true (number_of field) (left - 4) w.0)
+    (along last h a (places.ExtensionContents (left - 4) behind) q tail more w.1 k)
+field_front last h a (places.ExtensionContents n behind) q field tail more fits pass k =
+    content_front n (λ c. FromSubsections (last ≡ h) a behind) field tail more pass.whole
+    (subsections_from last h a behind tail more (along last h a (next_subsection behind) q tail more (same_place (next_subsection behind) q pass.judged) k))
+
+-- ---- a row of fields
+
+bytes_front : (xs ys : List ℕ) → IsBytes (xs ++ ys) → IsBytes xs
+bytes_front xs ys h i =
+    elim (cases_lt i (length xs)) [
+      | inl lt ↦ subst (λ (n : ℕ). n < 256) (get_or_append_left xs ys 0 i lt) (h i)
+      | inr le ↦ subst (λ (n : ℕ). n < 256) (sym (get_or_past xs i 0 le)) (omega arith)
+    ]
+
+bytes_rest : (xs ys : List ℕ) → IsBytes (xs ++ ys) → IsBytes ys
+bytes_rest xs ys h i = subst (λ (n : ℕ). n < 256) (get_or-append-add xs ys i 0) (h (length xs + i))
+
+ends_here : (last h : Header) (a : List ℕ) (p : Place) → last ≡ h → (due p).may_end ≡ true → Completes last h a p [] []
+ends_here last h a (places.SectionType true) e may = record { sections = []; spelled = refl; last = tt; named = same_refl []; known = e }
+ends_here last h a (places.SectionType false) e may = record { sections = []; spelled = refl; last = tt; named = same_refl []; known = e }
+ends_here last h a _ e may = absurd (cc)
+
+pub completes : (s : Spot) (fields : List (List ℕ)) (last : Spot) → Leads s fields last → (due last.place).may_end ≡ true → IsBytes (concat fields)
+    → (more : List Entry) × (last.entries ≡ s.entries ++ more) × Completes last.header s.header s.authority s.place (concat fields) more
+completes s [] last leads may fits = (
+  [],
+  ap (λ (x : Spot). x.entries) (sym leads) ∙ sym (append-nil s.entries),
+  ends_here last.header s.header s.authority s.place (ap (λ (x : Spot). x.header) (sym leads)) (subst (λ (x : Spot). (due x.place).may_end ≡ true) (sym leads) may),
+)
+completes s (field ∷ fields) last (next, (pass, leads)) may fits =
+    let w = completes (spot_after s field next) fields last leads may (bytes_rest field (concat fields) fits) in (
+      names s.place s.authority field ++ w.0,
+      w.1 ∙ append_assoc s.entries (names s.place s.authority field) w.0,
+      field_front last.header s.header s.authority s.place next field (concat fields) w.0 (bytes_front field (concat fields) fits) pass w.2,
+    )

@@ -1,0 +1,61 @@
+-- Rows of fields by their places alone.
+use Rattle.std.proofs.Common.{◌≡◌, ℕ, List, [], ◌∷◌, ◌++◌, length, Option, Ok, refl, sym, ap, subst, ◌∙◌, append_assoc}
+use Rattle.std.specs.List.{concat}
+use Rattle.std.proofs.lemmas.List.{append-nil}
+use Rattle.std.proofs.lemmas.List.Folds.{concat-append}
+use Rattle.krl_core.specs.declared.place.Place.{Place}
+use Rattle.krl_core.specs.Front.{Spot, Passes, HasRoom, spot_after, Leads}
+use Rattle.krl_core.specs.Place.{due}
+use Rattle.krl_core.specs.Walk.{Walks}
+
+-- from the place some fields lead to the last place, and leave the rest of the bytes
+abbrev pub Along : Place → List (List ℕ) → Place → Type 0
+Along place [] last = place ≡ last
+Along place (field ∷ fields) last = (next : Place) × (Passes place field next × Along next fields last)
+
+pub record Goes (place : Place) (bytes : List ℕ) (last : Place) (rest : List ℕ) : Type 0 where
+  pub fields : List (List ℕ)
+  pub along : Along place fields last
+  pub parts : bytes ≡ concat fields ++ rest
+
+pub goes_none : (p : Place) (bytes : List ℕ) → Goes p bytes p bytes
+goes_none p bytes = record { fields = []; along = refl; parts = refl }
+
+pub goes_one : (p q : Place) (field rest : List ℕ) → HasRoom (due p) → length field ≡ (due p).size → (due p).judged field ≡ Ok q → Goes p (field ++ rest) q rest
+goes_one p q field rest room size judged = record {
+  fields = field ∷ [];
+  along = (q, (record { room = room; whole = size; judged = judged }, refl));
+  parts = ap (λ (x : List ℕ). x ++ rest) (sym (append-nil field));
+}
+
+along_append : (p q r : Place) (fields more : List (List ℕ)) → Along p fields q → Along q more r → Along p (fields ++ more) r
+along_append p q r [] more h k = subst (λ (x : Place). Along x more r) (sym h) k
+along_append p q r (field ∷ fields) more h k = (h.0, (h.1.0, along_append h.0 q r fields more h.1.1 k))
+
+pub goes_then : (p q r : Place) (a b c : List ℕ) → Goes p a q b → Goes q b r c → Goes p a r c
+goes_then p q r a b c h k = record {
+  fields = h.fields ++ k.fields;
+  along = along_append p q r h.fields k.fields h.along k.along;
+  parts = h.parts ∙ ap (λ (x : List ℕ). concat h.fields ++ x) k.parts ∙ sym (append_assoc (concat h.fields) (concat k.fields) c)
+      ∙ ap (λ (x : List ℕ). x ++ c) (sym (concat-append h.fields k.fields));
+}
+
+pub goes_from : (p q : Place) (a b rest : List ℕ) → a ≡ b → Goes p b q rest → Goes p a q rest
+goes_from p q a b rest e w = subst (λ (x : List ℕ). Goes p x q rest) (sym e) w
+
+-- the same from a spot
+pub record Arrives (spot : Spot) (bytes : List ℕ) (place : Place) (rest : List ℕ) : Type 0 where
+  pub last : Spot
+  pub place_is : last.place ≡ place
+  pub walks : Walks spot bytes last rest
+
+leads_along : (s : Spot) (p : Place) (fields : List (List ℕ)) (q : Place) → s.place ≡ p → Along p fields q → (last : Spot) × (last.place ≡ q) × Leads s fields last
+leads_along s p [] q e h = (s, e ∙ h, refl)
+leads_along s p (field ∷ fields) q e (next, (pass, h)) =
+    let w = leads_along (spot_after s field next) next fields q refl h in
+    (w.0, w.1, (next, (subst (λ (x : Place). Passes x field next) (sym e) pass, w.2)))
+
+pub arrives : (s : Spot) (p q : Place) (bytes rest : List ℕ) → s.place ≡ p → Goes p bytes q rest → Arrives s bytes q rest
+arrives s p q bytes rest e h =
+    let w = leads_along s p h.fields q e h.along in
+    record { last = w.0; place_is = w.1; walks = record { fields = h.fields; leads = w.2; parts = h.parts } }

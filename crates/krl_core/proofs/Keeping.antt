@@ -1,0 +1,164 @@
+-- What is kept after one entry or another is added.
+use Rattle.std.proofs.Common.{◌≡◌, ℕ, ◌+◌, ◌-◌, ◌*◌, ◌<◌, ◌≤◌, ◌⊎◌, ◌↔◌, Option, None, Some, List, [], ◌∷◌, ◌++◌, length, reverse, take, get_or, refl, sym, ap, subst, ◌∙◌, append_assoc, arith, inl, inr}
+use Rattle.std.specs.Option.{option_to_list}
+use Rattle.std.proofs.lemmas.List.{append-nil, take_more}
+use Rattle.serial_set.specs.declared.span.Span.{Span}
+use Rattle.krl_core.specs.Contents.{Means}
+use Rattle.krl_core.specs.Entry.{Entry, RangeEntry, SerialsEntry}
+use Rattle.krl_core.specs.Naming.{NamesSame}
+use Rattle.krl_core.specs.Keeping.{Keeping, IsKept, Adds, AddsEntries, KeepsRest, Closes, KeepsStored, GrowsWithin, IsStoredWithin, held_with_open, open_run, run_entries}
+use Rattle.krl_core.proofs.Same.{same_refl, same_is, same_then, same_append, same_between, same_serial, same_zero, same_none, same_from_one}
+
+abbrev pub open_entries : Keeping → List Entry
+open_entries keeping = run_entries keeping.authority (open_run keeping)
+
+-- nothing changed but what is held, so the open run is the same
+open_same : (old new : Keeping) → KeepsRest old new → open_entries new ≡ open_entries old
+open_same old new rest =
+    ap (λ (a : List ℕ). run_entries a (open_run new)) rest.authority_is
+    ∙ ap (λ (p : Option Span). run_entries old.authority (option_to_list p)) (ap (λ b. b.pending) rest.bitmap_is)
+
+-- what is held means one entry more
+pub adds_one : (old new : Keeping) (entry : Entry) → KeepsRest old new
+    → ((entries : List Entry) → Means old.contents entries → Means new.contents (entries ++ entry ∷ [])) → Adds old (entry ∷ []) new
+adds_one old new entry rest means = record {
+  kept = λ entries k. record {
+    closed = k.closed ++ entry ∷ [];
+    means = means k.closed k.means;
+    same = subst (λ (xs : List Entry). NamesSame ((k.closed ++ entry ∷ []) ++ xs) (entries ++ entry ∷ []))
+        (sym (open_same old new rest)) (same_between k.closed (open_entries old) (entry ∷ []) entries k.same);
+  };
+  rest = rest;
+}
+
+-- other entries that name the same were added
+pub adds_same : (old new : Keeping) (xs ys : List Entry) → NamesSame xs ys → Adds old xs new → Adds old ys new
+adds_same old new xs ys same h = record {
+  kept = λ entries k.
+      let here = h.kept entries k in record {
+        closed = here.closed;
+        means = here.means;
+        same = same_then (here.closed ++ open_entries new) (entries ++ xs) (entries ++ ys) here.same
+            (same_append entries xs entries ys (same_refl entries) same);
+      };
+  rest = h.rest;
+}
+
+pub rest_refl : (k : Keeping) → KeepsRest k k
+rest_refl k = record { authority_is = refl; header_is = refl; bitmap_is = refl }
+
+pub rest_then : (a b c : Keeping) → KeepsRest a b → KeepsRest b c → KeepsRest a c
+rest_then a b c h k = record {
+  authority_is = k.authority_is ∙ h.authority_is;
+  header_is = k.header_is ∙ h.header_is;
+  bitmap_is = k.bitmap_is ∙ h.bitmap_is;
+}
+
+pub adds_none : (k : Keeping) → Adds k [] k
+adds_none k = record {
+  kept = λ entries h. subst (IsKept k) (sym (append-nil entries)) h;
+  rest = rest_refl k;
+}
+
+pub adds_then : (a b c : Keeping) (xs ys : List Entry) → Adds a xs b → Adds b ys c → Adds a (xs ++ ys) c
+adds_then a b c xs ys h k = record {
+  kept = λ entries kept. subst (IsKept c) (append_assoc entries xs ys) (k.kept (entries ++ xs) (h.kept entries kept));
+  rest = rest_then a b c h.rest k.rest;
+}
+
+-- a serial 0 adds nothing
+pub adds_zero : (k : Keeping) (n : ℕ) → n ≡ 0 → Adds k (SerialsEntry k.authority (n ∷ []) ∷ []) k
+adds_zero k n e = subst (λ (x : ℕ). Adds k (SerialsEntry k.authority (x ∷ []) ∷ []) k) (sym e)
+    (adds_same k k [] (SerialsEntry k.authority (0 ∷ []) ∷ []) (same_zero k.authority) (adds_none k))
+
+pub adds_to_zero : (k : Keeping) (min max : ℕ) → max ≡ 0 → Adds k (RangeEntry k.authority min max ∷ []) k
+adds_to_zero k min max e = subst (λ (x : ℕ). Adds k (RangeEntry k.authority min x ∷ []) k) (sym e)
+    (adds_same k k [] (RangeEntry k.authority min 0 ∷ []) (same_none k.authority min) (adds_none k))
+
+pub grows_one : (old new : Keeping) (n : ℕ) → held_with_open new ≤ held_with_open old + n → n ≤ 4 → KeepsStored old new → GrowsWithin 1 old new
+grows_one old new n held le stored = record {
+  held_is = omega arith;
+  stored_is = λ m h. more m (stored m h);
+}
+  where
+    more : (m : ℕ) → IsStoredWithin new m → IsStoredWithin new (m + 1)
+    more m h = record {
+      now = omega (arith, h.now);
+      next = elim h.next [ inl named ↦ inl named | inr le ↦ inr (omega (arith, le)) ];
+    }
+
+pub stored_same : (old new : Keeping) → new.contents ≡ old.contents → new.authority ≡ old.authority → KeepsStored old new
+stored_same old new e a m h = record {
+  now = rw e h.now;
+  next = rw (e, a) h.next;
+}
+
+pub stored_then : (a b c : Keeping) → KeepsStored a b → KeepsStored b c → KeepsStored a c
+stored_then a b c h k m s = k m (h m s)
+
+-- ---- runs
+
+pub run_entries-append : (a : List ℕ) (xs ys : List Span) → run_entries a (xs ++ ys) ≡ run_entries a xs ++ run_entries a ys
+run_entries-append a [] ys = refl
+run_entries-append a (x ∷ xs) ys = ap (λ (es : List Entry). RangeEntry a x.lo x.hi ∷ es) (run_entries-append a xs ys)
+
+pub adds_run : (old mid new : Keeping) (runs : List Span) (run : Span) → Adds old (run_entries old.authority runs) mid
+    → Adds mid (RangeEntry mid.authority run.lo run.hi ∷ []) new → Adds old (run_entries old.authority (runs ++ run ∷ [])) new
+adds_run old mid new runs run h k =
+    let same : RangeEntry mid.authority run.lo run.hi ∷ [] ≡ run_entries old.authority (run ∷ []) = ap (λ (a : List ℕ). RangeEntry a run.lo run.hi ∷ []) h.rest.authority_is in
+    let next : Adds mid (run_entries old.authority (run ∷ [])) new = subst (λ (xs : List Entry). Adds mid xs new) same k in
+    subst (λ (xs : List Entry). Adds old xs new) (sym (run_entries-append old.authority runs (run ∷ [])))
+    (adds_then old mid new (run_entries old.authority runs) (run_entries old.authority (run ∷ [])) h next)
+
+-- the open run becomes one that is held
+pub closes_run : (old mid new : Keeping) (run : Span) → old.bitmap.pending ≡ Some run → mid.contents ≡ old.contents → mid.authority ≡ old.authority
+    → mid.header ≡ old.header → mid.bitmap.pending ≡ None → Adds mid (RangeEntry mid.authority run.lo run.hi ∷ []) new → Closes old new
+closes_run old mid new run is contents authority header none h = record {
+  kept = λ entries k.
+      let before : IsKept mid k.closed = record {
+        closed = k.closed;
+        means = subst (λ x. Means x k.closed) (sym contents) k.means;
+        same = same_is (k.closed ++ open_entries mid) k.closed
+            (ap (λ (p : Option Span). k.closed ++ run_entries mid.authority (option_to_list p)) none ∙ append-nil k.closed);
+      } in
+      let here = h.kept k.closed before in
+      let opened : open_entries old ≡ RangeEntry mid.authority run.lo run.hi ∷ [] =
+      ap (λ (p : Option Span). run_entries old.authority (option_to_list p)) is ∙ ap (λ (a : List ℕ). RangeEntry a run.lo run.hi ∷ []) (sym authority) in
+      let all : NamesSame (k.closed ++ RangeEntry mid.authority run.lo run.hi ∷ []) entries = subst (λ (xs : List Entry). NamesSame (k.closed ++ xs) entries) opened k.same in
+      subst (IsKept new) (sym (append-nil entries)) (record {
+        closed = here.closed;
+        means = here.means;
+        same = same_then (here.closed ++ open_entries new) (k.closed ++ RangeEntry mid.authority run.lo run.hi ∷ []) entries here.same all;
+      });
+  authority_is = h.rest.authority_is ∙ authority;
+  header_is = h.rest.header_is ∙ header;
+  closed = ap (λ b. b.pending) h.rest.bitmap_is ∙ none;
+}
+
+-- the first spans were added
+pub record AddsFirst (old : Keeping) (spans : List Span) (count : ℕ) (new : Keeping) : Type 0 where
+  pub adds : Adds old (run_entries old.authority (take count spans)) new
+  pub held_is : held_with_open new ≤ held_with_open old + count
+  pub stored_is : KeepsStored old new
+
+pub adds_first_more : (old mid new : Keeping) (spans : List Span) (count : ℕ) (d : Span) → count < length spans → AddsFirst old spans count mid
+    → Adds mid (RangeEntry mid.authority (get_or spans count d).lo (get_or spans count d).hi ∷ []) new
+    → held_with_open new ≤ held_with_open mid + 1 → KeepsStored mid new → AddsFirst old spans (count + 1) new
+adds_first_more old mid new spans count d lt h k held stored = record {
+  adds = subst (λ (xs : List Span). Adds old (run_entries old.authority xs) new) (sym (take_more spans count d lt))
+      (adds_run old mid new (take count spans) (get_or spans count d) h.adds k);
+  held_is = omega (arith, h.held_is, held);
+  stored_is = stored_then old mid new h.stored_is stored;
+}
+
+pub grows_more : (old new : Keeping) (n m : ℕ) → n ≤ m → GrowsWithin n old new → GrowsWithin m old new
+grows_more old new n m le h = record {
+  held_is = omega (arith, h.held_is);
+  stored_is = λ k s. wider k (h.stored_is k s);
+}
+  where
+    wider : (k : ℕ) → IsStoredWithin new (k + n) → IsStoredWithin new (k + m)
+    wider k s = record {
+      now = omega (arith, s.now);
+      next = elim s.next [ inl named ↦ inl named | inr fits ↦ inr (omega (arith, fits)) ];
+    }

@@ -1,0 +1,121 @@
+-- A whole list is spelled, and means what its sections name.
+use Rattle.std.proofs.Common.{◌≡◌, ℕ, ◌<◌, ◌≤◌, ◌^◌, Bool, true, false, ltb, List, ◌++◌, length, Option, None, refl, sym, ap, subst, ◌∙◌, append_assoc}
+use Rattle.std.specs.List.{concat}
+use Rattle.ssh_wire.specs.Wire.{IsBytes, number, string}
+use Rattle.krl_core.specs.declared.header.Header.{Header}
+use Rattle.krl_core.specs.Contents.{Contents, Means}
+use Rattle.krl_core.specs.Entry.{Entry}
+use Rattle.krl_core.specs.Entries.{entries_of}
+use Rattle.std.proofs.lemmas.Bool.{ltb-false}
+use Rattle.std.proofs.lemmas.List.{append-nil, take_all}
+use Rattle.krl_core.specs.declared.krl_fault.KrlFault.{KrlFault}
+use Rattle.krl_core.specs.declared.place.Place.{Place}
+use Rattle.krl_core.specs.Front.{Spot, start, Leads, limit, IsEnd, IsFirstFault, Told, ended, no_room, refused, too_long, ends_early}
+use Rattle.krl_core.specs.Krl.{Section, Spells, header_text, magic}
+use Rattle.krl_core.specs.Naming.{NamesSame}
+use Rattle.krl_core.specs.Place.{due}
+use Rattle.krl_core.specs.Reading.{IsWhole, IsList}
+use Rattle.krl_core.proofs.Fields.{completes}
+use Rattle.krl_core.proofs.Rests.{FromText, FromFormat}
+use Rattle.krl_core.proofs.Whole.{means_same}
+
+-- the fields of a header and what follows it, one after the other
+pub header_parts : (header : Header) (flags : ℕ) (reserved rest : List ℕ) → header_text header flags reserved ++ rest
+    ≡ magic ++ (number 4 1 ++ (number 8 header.version ++ (number 8 header.date ++ (number 8 flags ++ (string reserved ++ (string header.comment ++ rest))))))
+header_parts header flags reserved rest = simp append_assoc
+
+-- a header and sections spell the text, and the sections name the same as the entries
+pub record SpelledBy (text : List ℕ) (header : Header) (entries : List Entry) : Type 0 where
+  pub sections : List Section
+  pub spelled : Spells text header sections
+  pub named : NamesSame entries (entries_of sections)
+
+whole_string : (size : ℕ) (content rest after bytes : List ℕ) → bytes ≡ number 4 size ++ after → after ≡ content ++ rest → length content ≡ size → bytes ≡ string content ++ rest
+unfolding string
+whole_string size content rest after bytes e f len =
+    e ∙ ap (λ (n : ℕ). number 4 n ++ after) (sym len) ∙ ap (λ (x : List ℕ). number 4 (length content) ++ x) f ∙ sym (append_assoc (number 4 (length content)) content rest)
+
+spelled_from : (text : List ℕ) (last h : Header) (more : List Entry) → FromText magic (FromFormat last h) text more → SpelledBy text last more
+spelled_from text last h more h0 =
+    let h1 = h0.then_is in
+    let h2 = h1.then_is in
+    let h3 = h2.then_is in
+    let h4 = h3.then_is in
+    let h5 = h4.then_is in
+    let r5 = h5.then_is in
+    let h6 = r5.then_is in
+    let r6 = h6.then_is in
+    let h7 = r6.then_is in
+    let header : Header = record { version = h2.value; date = h3.value; comment = r6.content } in
+    let e5 = whole_string h5.size r5.content r5.rest h5.rest h4.rest h5.parts r5.parts r5.size_is in
+    let e6 = whole_string h6.size r6.content r6.rest h6.rest r5.rest h6.parts r6.parts r6.size_is in
+    let spelled : Spells text header h7.sections = record {
+      flags = h4.value;
+      reserved = r5.content;
+      body = r6.rest;
+      spelled =
+          h0.parts ∙ ap (λ (x : List ℕ). magic ++ x) (h1.parts ∙ ap (λ (x : List ℕ). number 4 1 ++ x) (h2.parts ∙ ap (λ (x : List ℕ). number 8 h2.value ++ x) (h3.parts ∙ ap (λ (x : List ℕ). number 8 h3.value ++ x)
+          (h4.parts ∙ ap (λ (x : List ℕ). number 8 h4.value ++ x) (e5 ∙ ap (λ (x : List ℕ). string r5.content ++ x) e6)))))
+          ∙ sym (header_parts header h4.value r5.content r6.rest);
+      version_fits = h2.fits;
+      date_fits = h3.fits;
+      flags_fit = h4.fits;
+      reserved_fits = subst (λ (n : ℕ). n < 2 ^ 32) (sym r5.size_is) h5.fits;
+      comment_fits = subst (λ (n : ℕ). n < 2 ^ 32) (sym r6.size_is) h6.fits;
+      sections_are = h7.spelled;
+      signatures_last = h7.last;
+    } in
+    record {
+      sections = h7.sections;
+      spelled = subst (λ (x : Header). Spells text x h7.sections) (sym h7.known) spelled;
+      named = h7.named;
+    }
+
+-- what a row of fields names that leads to the end of a list
+pub row_spelled : (fields : List (List ℕ)) (last : Spot) → Leads start fields last → (due last.place).may_end ≡ true → IsBytes (concat fields)
+    → SpelledBy (concat fields) last.header last.entries
+row_spelled fields last leads may fits =
+    let w = completes start fields last leads may fits in
+    let k = spelled_from (concat fields) last.header start.header w.0 w.2 in
+    record {
+      sections = k.sections;
+      spelled = k.spelled;
+      named = subst (λ (x : List Entry). NamesSame x (entries_of k.sections)) (sym w.1) k.named;
+    }
+
+pub list_of_whole : (text : List ℕ) (header : Header) (contents : Contents) → IsWhole text header contents → IsList text header contents
+list_of_whole text header contents h =
+    let k = row_spelled h.fields h.spot h.leads h.may_end (subst IsBytes h.text_is h.are_bytes) in
+    let at_text : Spells text h.spot.header k.sections = subst (λ (x : List ℕ). Spells x h.spot.header k.sections) (sym h.text_is) k.spelled in
+    record {
+      sections = k.sections;
+      spelled = subst (λ (x : Header). Spells text x k.sections) (sym h.header_is) at_text;
+      within = h.within;
+      means = means_same contents h.spot.entries (entries_of k.sections) h.means k.named;
+      held_is = h.held_is;
+      stored_is = h.stored_is;
+    }
+
+is_end : (p : Place) (rest : List ℕ) (goes_on : Bool) (fault : Option KrlFault) → fault ≡ None → Told p rest goes_on fault → IsEnd p rest × (goes_on ≡ false)
+is_end p rest goes_on fault e (ended at_end off is) = (at_end, off)
+is_end p rest goes_on fault e (no_room full is) = absurd (cc (e, is))
+is_end p rest goes_on fault e (refused field after why room parts size judged is) = absurd (cc (e, is))
+is_end p rest goes_on fault e (too_long room short on is) = absurd (cc (e, is))
+is_end p rest goes_on fault e (ends_early room short not_end off is) = absurd (cc (e, is))
+
+-- the fields of a text without a fault
+pub unfaulted_row : (text : List ℕ) → IsFirstFault text None
+    → (fields : List (List ℕ)) × (last : Spot) × (Leads start fields last × ((due last.place).may_end ≡ true) × (text ≡ concat fields) × (length text ≤ limit))
+unfaulted_row text h =
+    let w = is_end h.spot.place h.rest (ltb limit (length text)) None refl h.told in
+    let le : length text ≤ limit = ltb-false limit (length text) w.1 in
+    let whole : text ≡ concat h.fields = sym (take_all limit text le) ∙ h.front.front.parts ∙ ap (λ (x : List ℕ). concat h.fields ++ x) w.0.1 ∙ append-nil (concat h.fields) in
+    (h.fields, h.spot, (h.front.front.leads, w.0.0, whole, le))
+
+-- a text without a fault leads to the end of a list
+pub unfaulted_spelled : (text : List ℕ) → IsBytes text → IsFirstFault text None
+    → (length text ≤ limit) × ((header : Header) × ((sections : List Section) × Spells text header sections))
+unfaulted_spelled text fits h =
+    let row = unfaulted_row text h in
+    let k = row_spelled row.0 row.1 row.2.0 row.2.1 (subst IsBytes row.2.2 fits) in
+    (row.2.3, (row.1.header, (k.sections, subst (λ (x : List ℕ). Spells x row.1.header k.sections) (sym row.2.2) k.spelled)))

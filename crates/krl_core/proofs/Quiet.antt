@@ -1,0 +1,209 @@
+-- The places whose fields name nothing and change nothing that is kept.
+use Rattle.std.proofs.Common.{◌≡◌, ℕ, zero, suc, ◌-◌, ◌%◌, ◌==◌, Bool, true, false, cond, ltb, List, [], ◌∷◌, ◌++◌, None, Result, Ok, Err, refl, sym, subst}
+use Rattle.std.proofs.lemmas.List.{append-nil}
+use Rattle.serial_set.specs.BitRuns.{FedBitmap}
+use Rattle.ssh_wire.specs.Wire.{number_of}
+use Rattle.krl_core.specs.declared.krl_fault.KrlFault.{KrlFault}
+use Rattle.krl_core.specs.declared.krl_fault.KrlFault.TheVariants as faults
+use Rattle.krl_core.specs.declared.place.Place.{Place}
+use Rattle.krl_core.specs.declared.place.Place.TheVariants.{Magic, FormatVersion, Flags, ReservedLength, Reserved, CommentLength, SignatureKeyLength, SignatureKey, SignatureLength, Signature, KeysLength, KeyLength, Sha1sLength, Sha1Length, Sha256sLength, Sha256Length, CertificatesLength, AuthorityLength, SectionReservedLength, SectionReserved, SubsectionType, SerialsLength, RangeLength, RangeMin, BitmapLength, BitmapOffset, IdsLength, IdLength, ExtensionLength, SubsectionExtensionLength, ExtensionNameLength, ExtensionName, ExtensionCritical, ExtensionContentsLength, ExtensionContents, Version, Date, Comment, SectionType, Authority, Serial, RangeMax, BitmapSize, BitmapByte, Id, Key, Sha1, Sha256}
+use Rattle.krl_core.specs.Entry.{Entry}
+use Rattle.krl_core.specs.Keeping.{Keeping, InStep, IsKept, KeepsField}
+use Rattle.krl_core.specs.Place.{due, judge, within, next_id, next_key, next_serial, next_sha1, next_sha256, next_subsection, subsection_of_type}
+
+abbrev pub IsQuiet : Place → Type 0
+IsQuiet Version = ⊥
+IsQuiet Date = ⊥
+IsQuiet (Comment n) = ⊥
+IsQuiet (SectionType b) = ⊥
+IsQuiet (Authority n m) = ⊥
+IsQuiet (Serial n m) = ⊥
+IsQuiet (RangeMax n m) = ⊥
+IsQuiet (BitmapSize n m k) = ⊥
+IsQuiet (BitmapByte n m k l) = ⊥
+IsQuiet (Id n m k) = ⊥
+IsQuiet (Key n m) = ⊥
+IsQuiet (Sha1 n) = ⊥
+IsQuiet (Sha256 n) = ⊥
+IsQuiet _ = Unit {0}
+
+-- no byte of a bitmap is due
+abbrev pub IsOut : Place → Type 0
+IsOut (BitmapByte n m k l) = ⊥
+IsOut _ = Unit {0}
+
+pub out_step : (p : Place) (bitmap : FedBitmap) → IsOut p → bitmap.pending ≡ None → InStep p bitmap
+out_step (BitmapByte n m k l) bitmap out none = absurd out
+out_step _ bitmap out none = none
+
+pub out_subsection : (left : ℕ) → IsOut (next_subsection left)
+out_subsection zero = tt
+out_subsection (suc left) = tt
+
+out_key : (left : ℕ) → IsOut (next_key left)
+out_key zero = tt
+out_key (suc left) = tt
+
+out_sha1 : (left : ℕ) → IsOut (next_sha1 left)
+out_sha1 zero = tt
+out_sha1 (suc left) = tt
+
+out_sha256 : (left : ℕ) → IsOut (next_sha256 left)
+out_sha256 zero = tt
+out_sha256 (suc left) = tt
+
+out_serial : (left behind : ℕ) → IsOut (next_serial left behind)
+out_serial zero behind = out_subsection behind
+out_serial (suc left) behind = tt
+
+out_id : (left behind : ℕ) → IsOut (next_id left behind)
+out_id zero behind = out_subsection behind
+out_id (suc left) behind = tt
+
+abbrev Outs : Result Place KrlFault → Type 0
+Outs (Ok p) = IsOut p
+Outs (Err why) = Unit {0}
+
+outs_cond : (b : Bool) (x y : Result Place KrlFault) → Outs x → Outs y → Outs (cond b x y)
+outs_cond true x y h k = h
+outs_cond false x y h k = k
+
+outs_judge : (b : Bool) (why : KrlFault) (p : Place) → IsOut p → Outs (judge b why p)
+outs_judge b why p h = outs_cond b (Ok p) (Err why) h tt
+
+outs_within : (left : ℕ) (next : ℕ → Result Place KrlFault) (size : ℕ) → Outs (next size) → Outs (within left next size)
+outs_within left next size h = outs_cond (ltb (left - 4) size) (Err faults.Length) (next size) tt h
+
+outs_type : (left n : ℕ) → Outs (subsection_of_type left n)
+outs_type left n =
+    outs_cond (n == 0x20) _ _ tt (outs_cond (n == 0x21) _ _ tt (outs_cond (n == 0x22) _ _ tt
+    (outs_cond (n == 0x23) _ _ tt (outs_cond (n == 0x39) _ _ tt tt))))
+
+outs : (p : Place) (field : List ℕ) → IsQuiet p → Outs ((due p).judged field)
+outs Magic field quiet = outs_judge _ faults.Magic FormatVersion tt
+outs FormatVersion field quiet = outs_judge _ faults.FormatVersion Version tt
+outs KeysLength field quiet = out_key (number_of field)
+outs (KeyLength n) field quiet = outs_within n (λ size. Ok (Key size (n - 4 - size))) (number_of field) tt
+outs Sha1sLength field quiet = out_sha1 (number_of field)
+outs (Sha1Length n) field quiet = outs_within n (λ size. judge (size == 20) faults.HashLength (Sha1 (n - 4 - size))) (number_of field) (outs_judge _ faults.HashLength _ tt)
+outs Sha256sLength field quiet = out_sha256 (number_of field)
+outs (Sha256Length n) field quiet = outs_within n (λ size. judge (size == 32) faults.HashLength (Sha256 (n - 4 - size))) (number_of field) (outs_judge _ faults.HashLength _ tt)
+outs (AuthorityLength n) field quiet = outs_within n (λ size. Ok (Authority size (n - 4 - size))) (number_of field) tt
+outs (SectionReservedLength n) field quiet = outs_within n (λ size. Ok (SectionReserved size (n - 4 - size))) (number_of field) tt
+outs (SectionReserved n m) field quiet = out_subsection m
+outs (SubsectionType n) field quiet = outs_type (n - 1) (number_of field)
+outs (SerialsLength n) field quiet = outs_within n (λ size. judge (size % 8 == 0) faults.Length (next_serial size (n - 4 - size))) (number_of field) (outs_judge _ faults.Length (next_serial (number_of field) (n - 4 - number_of field)) (out_serial (number_of field) (n - 4 - number_of field)))
+outs (RangeLength n) field quiet = outs_within n (λ size. judge (size == 16) faults.Length (RangeMin (n - 4 - size))) (number_of field) (outs_judge _ faults.Length _ tt)
+outs (BitmapLength n) field quiet = outs_within n (λ size. Ok (BitmapOffset size (n - 4 - size))) (number_of field) tt
+outs (IdsLength n) field quiet = outs_within n (λ size. Ok (next_id size (n - 4 - size))) (number_of field) (out_id (number_of field) (n - 4 - number_of field))
+outs (IdLength n m) field quiet = outs_within n (λ size. Ok (Id size (n - 4 - size) m)) (number_of field) tt
+outs (SubsectionExtensionLength n) field quiet = outs_within n (λ size. Ok (ExtensionNameLength size (n - 4 - size))) (number_of field) tt
+outs (ExtensionNameLength n m) field quiet = outs_within n (λ size. Ok (ExtensionName size (n - 4 - size) m)) (number_of field) tt
+outs (ExtensionCritical n m) field quiet = outs_judge _ faults.CriticalExtension (ExtensionContentsLength (n - 1) m) tt
+outs (ExtensionContentsLength n m) field quiet = outs_judge _ faults.Length (ExtensionContents (n - 4) m) tt
+outs (ExtensionContents n m) field quiet = out_subsection m
+outs Version field quiet = absurd quiet
+outs Date field quiet = absurd quiet
+outs (Comment n) field quiet = absurd quiet
+outs (SectionType b) field quiet = absurd quiet
+outs (Authority n m) field quiet = absurd quiet
+outs (Serial n m) field quiet = absurd quiet
+outs (RangeMax n m) field quiet = absurd quiet
+outs (BitmapSize n m k) field quiet = absurd quiet
+outs (BitmapByte n m k l) field quiet = absurd quiet
+outs (Id n m k) field quiet = absurd quiet
+outs (Key n m) field quiet = absurd quiet
+outs (Sha1 n) field quiet = absurd quiet
+outs (Sha256 n) field quiet = absurd quiet
+outs _ field quiet = tt
+
+is_out : (p next : Place) (field : List ℕ) → IsQuiet p → (due p).judged field ≡ Ok next → IsOut next
+is_out p next field quiet judged = subst Outs judged (outs p field quiet)
+
+kept_still : (k : Keeping) (entries : List Entry) → IsKept k entries → IsKept k (entries ++ [])
+kept_still k entries h = subst (IsKept k) (sym (append-nil entries)) h
+
+pub keeps_quiet : (k : Keeping) (p next : Place) (field : List ℕ) → IsQuiet p → (due p).judged field ≡ Ok next → InStep p k.bitmap → KeepsField p field next k k
+keeps_quiet kept Version next field quiet judged step = absurd quiet
+keeps_quiet kept Date next field quiet judged step = absurd quiet
+keeps_quiet kept (Comment n) next field quiet judged step = absurd quiet
+keeps_quiet kept (SectionType b) next field quiet judged step = absurd quiet
+keeps_quiet kept (Authority n m) next field quiet judged step = absurd quiet
+keeps_quiet kept (Serial n m) next field quiet judged step = absurd quiet
+keeps_quiet kept (RangeMax n m) next field quiet judged step = absurd quiet
+keeps_quiet kept (BitmapSize n m k) next field quiet judged step = absurd quiet
+keeps_quiet kept (BitmapByte n m k l) next field quiet judged step = absurd quiet
+keeps_quiet kept (Id n m k) next field quiet judged step = absurd quiet
+keeps_quiet kept (Key n m) next field quiet judged step = absurd quiet
+keeps_quiet kept (Sha1 n) next field quiet judged step = absurd quiet
+keeps_quiet kept (Sha256 n) next field quiet judged step = absurd quiet
+keeps_quiet kept Magic next field quiet judged step =
+    record { kept = kept_still kept; authority_is = refl; header_is = refl; in_step = out_step next kept.bitmap (is_out Magic next field quiet judged) step }
+keeps_quiet kept FormatVersion next field quiet judged step =
+    record { kept = kept_still kept; authority_is = refl; header_is = refl; in_step = out_step next kept.bitmap (is_out FormatVersion next field quiet judged) step }
+keeps_quiet kept Flags next field quiet judged step =
+    record { kept = kept_still kept; authority_is = refl; header_is = refl; in_step = out_step next kept.bitmap (is_out Flags next field quiet judged) step }
+keeps_quiet kept ReservedLength next field quiet judged step =
+    record { kept = kept_still kept; authority_is = refl; header_is = refl; in_step = out_step next kept.bitmap (is_out ReservedLength next field quiet judged) step }
+keeps_quiet kept (Reserved n) next field quiet judged step =
+    record { kept = kept_still kept; authority_is = refl; header_is = refl; in_step = out_step next kept.bitmap (is_out (Reserved n) next field quiet judged) step }
+keeps_quiet kept CommentLength next field quiet judged step =
+    record { kept = kept_still kept; authority_is = refl; header_is = refl; in_step = out_step next kept.bitmap (is_out CommentLength next field quiet judged) step }
+keeps_quiet kept SignatureKeyLength next field quiet judged step =
+    record { kept = kept_still kept; authority_is = refl; header_is = refl; in_step = out_step next kept.bitmap (is_out SignatureKeyLength next field quiet judged) step }
+keeps_quiet kept (SignatureKey n) next field quiet judged step =
+    record { kept = kept_still kept; authority_is = refl; header_is = refl; in_step = out_step next kept.bitmap (is_out (SignatureKey n) next field quiet judged) step }
+keeps_quiet kept SignatureLength next field quiet judged step =
+    record { kept = kept_still kept; authority_is = refl; header_is = refl; in_step = out_step next kept.bitmap (is_out SignatureLength next field quiet judged) step }
+keeps_quiet kept (Signature n) next field quiet judged step =
+    record { kept = kept_still kept; authority_is = refl; header_is = refl; in_step = out_step next kept.bitmap (is_out (Signature n) next field quiet judged) step }
+keeps_quiet kept KeysLength next field quiet judged step =
+    record { kept = kept_still kept; authority_is = refl; header_is = refl; in_step = out_step next kept.bitmap (is_out KeysLength next field quiet judged) step }
+keeps_quiet kept (KeyLength n) next field quiet judged step =
+    record { kept = kept_still kept; authority_is = refl; header_is = refl; in_step = out_step next kept.bitmap (is_out (KeyLength n) next field quiet judged) step }
+keeps_quiet kept Sha1sLength next field quiet judged step =
+    record { kept = kept_still kept; authority_is = refl; header_is = refl; in_step = out_step next kept.bitmap (is_out Sha1sLength next field quiet judged) step }
+keeps_quiet kept (Sha1Length n) next field quiet judged step =
+    record { kept = kept_still kept; authority_is = refl; header_is = refl; in_step = out_step next kept.bitmap (is_out (Sha1Length n) next field quiet judged) step }
+keeps_quiet kept Sha256sLength next field quiet judged step =
+    record { kept = kept_still kept; authority_is = refl; header_is = refl; in_step = out_step next kept.bitmap (is_out Sha256sLength next field quiet judged) step }
+keeps_quiet kept (Sha256Length n) next field quiet judged step =
+    record { kept = kept_still kept; authority_is = refl; header_is = refl; in_step = out_step next kept.bitmap (is_out (Sha256Length n) next field quiet judged) step }
+keeps_quiet kept CertificatesLength next field quiet judged step =
+    record { kept = kept_still kept; authority_is = refl; header_is = refl; in_step = out_step next kept.bitmap (is_out CertificatesLength next field quiet judged) step }
+keeps_quiet kept (AuthorityLength n) next field quiet judged step =
+    record { kept = kept_still kept; authority_is = refl; header_is = refl; in_step = out_step next kept.bitmap (is_out (AuthorityLength n) next field quiet judged) step }
+keeps_quiet kept (SectionReservedLength n) next field quiet judged step =
+    record { kept = kept_still kept; authority_is = refl; header_is = refl; in_step = out_step next kept.bitmap (is_out (SectionReservedLength n) next field quiet judged) step }
+keeps_quiet kept (SectionReserved n m) next field quiet judged step =
+    record { kept = kept_still kept; authority_is = refl; header_is = refl; in_step = out_step next kept.bitmap (is_out (SectionReserved n m) next field quiet judged) step }
+keeps_quiet kept (SubsectionType n) next field quiet judged step =
+    record { kept = kept_still kept; authority_is = refl; header_is = refl; in_step = out_step next kept.bitmap (is_out (SubsectionType n) next field quiet judged) step }
+keeps_quiet kept (SerialsLength n) next field quiet judged step =
+    record { kept = kept_still kept; authority_is = refl; header_is = refl; in_step = out_step next kept.bitmap (is_out (SerialsLength n) next field quiet judged) step }
+keeps_quiet kept (RangeLength n) next field quiet judged step =
+    record { kept = kept_still kept; authority_is = refl; header_is = refl; in_step = out_step next kept.bitmap (is_out (RangeLength n) next field quiet judged) step }
+keeps_quiet kept (RangeMin n) next field quiet judged step =
+    record { kept = kept_still kept; authority_is = refl; header_is = refl; in_step = out_step next kept.bitmap (is_out (RangeMin n) next field quiet judged) step }
+keeps_quiet kept (BitmapLength n) next field quiet judged step =
+    record { kept = kept_still kept; authority_is = refl; header_is = refl; in_step = out_step next kept.bitmap (is_out (BitmapLength n) next field quiet judged) step }
+keeps_quiet kept (BitmapOffset n m) next field quiet judged step =
+    record { kept = kept_still kept; authority_is = refl; header_is = refl; in_step = out_step next kept.bitmap (is_out (BitmapOffset n m) next field quiet judged) step }
+keeps_quiet kept (IdsLength n) next field quiet judged step =
+    record { kept = kept_still kept; authority_is = refl; header_is = refl; in_step = out_step next kept.bitmap (is_out (IdsLength n) next field quiet judged) step }
+keeps_quiet kept (IdLength n m) next field quiet judged step =
+    record { kept = kept_still kept; authority_is = refl; header_is = refl; in_step = out_step next kept.bitmap (is_out (IdLength n m) next field quiet judged) step }
+keeps_quiet kept ExtensionLength next field quiet judged step =
+    record { kept = kept_still kept; authority_is = refl; header_is = refl; in_step = out_step next kept.bitmap (is_out ExtensionLength next field quiet judged) step }
+keeps_quiet kept (SubsectionExtensionLength n) next field quiet judged step =
+    record { kept = kept_still kept; authority_is = refl; header_is = refl; in_step = out_step next kept.bitmap (is_out (SubsectionExtensionLength n) next field quiet judged) step }
+keeps_quiet kept (ExtensionNameLength n m) next field quiet judged step =
+    record { kept = kept_still kept; authority_is = refl; header_is = refl; in_step = out_step next kept.bitmap (is_out (ExtensionNameLength n m) next field quiet judged) step }
+keeps_quiet kept (ExtensionName n m k) next field quiet judged step =
+    record { kept = kept_still kept; authority_is = refl; header_is = refl; in_step = out_step next kept.bitmap (is_out (ExtensionName n m k) next field quiet judged) step }
+keeps_quiet kept (ExtensionCritical n m) next field quiet judged step =
+    record { kept = kept_still kept; authority_is = refl; header_is = refl; in_step = out_step next kept.bitmap (is_out (ExtensionCritical n m) next field quiet judged) step }
+keeps_quiet kept (ExtensionContentsLength n m) next field quiet judged step =
+    record { kept = kept_still kept; authority_is = refl; header_is = refl; in_step = out_step next kept.bitmap (is_out (ExtensionContentsLength n m) next field quiet judged) step }
+keeps_quiet kept (ExtensionContents n m) next field quiet judged step =
+    record { kept = kept_still kept; authority_is = refl; header_is = refl; in_step = out_step next kept.bitmap (is_out (ExtensionContents n m) next field quiet judged) step }

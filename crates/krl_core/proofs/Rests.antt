@@ -1,0 +1,308 @@
+-- What is spelled from each place on, where a row of fields leads to the end of a list and uses up the
+-- bytes, and what it names.
+use Rattle.std.proofs.Common.{◌≡◌, ℕ, zero, suc, ◌+◌, ◌-◌, ◌*◌, ◌<◌, ◌≤◌, ◌^◌, Bool, true, false, List, [], ◌∷◌, ◌++◌, length, map}
+use Rattle.std.specs.List.{flat_map, AllByRecursion}
+use Rattle.std.specs.Int.{bit_at}
+use Rattle.ssh_wire.specs.Wire.{number, number_of, string}
+use Rattle.krl_core.specs.declared.header.Header.{Header}
+use Rattle.krl_core.specs.declared.place.Place.{Place}
+use Rattle.krl_core.specs.declared.place.Place.TheVariants as places
+use Rattle.krl_core.specs.Entry.{Entry, SerialsEntry, RangeEntry, BitmapEntry, IdEntry, KeyEntry, Sha1Entry, Sha256Entry}
+use Rattle.krl_core.specs.Entries.{entries_of, subsection_entries}
+use Rattle.krl_core.specs.Krl.{Section, Subsection, SpellsEach, SpellsSection, SpellsSubsection, SubsectionContent, SpellsExtension, SpellsBitmap, SignaturesLast, IsSignature, IsPositive, subsection_type, magic}
+use Rattle.krl_core.specs.Naming.{NamesSame}
+
+-- what holds of the bytes that are left and of what their fields name
+abbrev pub Rest : Type 1
+Rest = List ℕ → List Entry → Type 0
+
+abbrev pub LastFor : Bool → List Section → Type 0
+LastFor true sections = AllByRecursion IsSignature sections
+LastFor false sections = SignaturesLast sections
+
+pub record FromSections (signed : Bool) (K : Type 0) (bytes : List ℕ) (more : List Entry) : Type 0 where
+  pub sections : List Section
+  pub spelled : SpellsEach SpellsSection bytes sections
+  pub last : LastFor signed sections
+  pub named : NamesSame more (entries_of sections)
+  pub known : K
+
+pub record FromText (text : List ℕ) (Then : Rest) (bytes : List ℕ) (more : List Entry) : Type 0 where
+  pub rest : List ℕ
+  pub parts : bytes ≡ text ++ rest
+  pub then_is : Then rest more
+
+pub record FromNumber (Then : ℕ → Rest) (bytes : List ℕ) (more : List Entry) : Type 0 where
+  pub value : ℕ
+  pub rest : List ℕ
+  pub parts : bytes ≡ number 8 value ++ rest
+  pub fits : value < 2 ^ 64
+  pub then_is : Then value rest more
+
+-- a length, and what it counts
+pub record FromLength (Then : ℕ → Rest) (bytes : List ℕ) (more : List Entry) : Type 0 where
+  pub size : ℕ
+  pub rest : List ℕ
+  pub parts : bytes ≡ number 4 size ++ rest
+  pub fits : size < 2 ^ 32
+  pub then_is : Then size rest more
+
+pub record FromContent (size : ℕ) (Then : List ℕ → Rest) (bytes : List ℕ) (more : List Entry) : Type 0 where
+  pub content : List ℕ
+  pub rest : List ℕ
+  pub parts : bytes ≡ content ++ rest
+  pub size_is : length content ≡ size
+  pub then_is : Then content rest more
+
+-- items that fill what is left of a section or subsection
+pub record FromItems {X : Type 0} (spell : X → List ℕ) (Good : X → Type 0) (entry : X → Entry) (left : ℕ) (Then : Rest) (bytes : List ℕ) (more : List Entry) : Type 0 where
+  pub items : List X
+  pub rest : List ℕ
+  pub others : List Entry
+  pub parts : bytes ≡ flat_map spell items ++ rest
+  pub size_is : length (flat_map spell items) ≡ left
+  pub good : AllByRecursion Good items
+  pub named : more ≡ map entry items ++ others
+  pub then_is : Then rest others
+
+-- the bytes of an item
+pub record FromItem (size : ℕ) (entry : List ℕ → Entry) (Then : Rest) (bytes : List ℕ) (more : List Entry) : Type 0 where
+  pub content : List ℕ
+  pub rest : List ℕ
+  pub others : List Entry
+  pub parts : bytes ≡ content ++ rest
+  pub size_is : length content ≡ size
+  pub named : more ≡ entry content ∷ others
+  pub then_is : Then rest others
+
+abbrev pub Any : List ℕ → Type 0
+Any item = Unit {0}
+
+abbrev pub HasSize : ℕ → List ℕ → Type 0
+HasSize size item = length item ≡ size
+
+abbrev pub KeyItems : Type 0 → ℕ → Rest
+KeyItems K left = FromItems string Any KeyEntry left (FromSections false K)
+
+abbrev pub Sha1Items : Type 0 → ℕ → Rest
+Sha1Items K left = FromItems string (HasSize 20) Sha1Entry left (FromSections false K)
+
+abbrev pub Sha256Items : Type 0 → ℕ → Rest
+Sha256Items K left = FromItems string (HasSize 32) Sha256Entry left (FromSections false K)
+
+-- subsections that fill what is left of their section
+pub record FromSubsections (K : Type 0) (a : List ℕ) (left : ℕ) (bytes : List ℕ) (more : List Entry) : Type 0 where
+  pub subsections : List Subsection
+  pub body : List ℕ
+  pub rest : List ℕ
+  pub others : List Entry
+  pub parts : bytes ≡ body ++ rest
+  pub size_is : length body ≡ left
+  pub spelled : SpellsEach SpellsSubsection body subsections
+  pub named : NamesSame more (flat_map (subsection_entries a) subsections ++ others)
+  pub then_is : FromSections false K rest others
+
+-- a reserved string and the subsections
+pub record FromReserved (K : Type 0) (a : List ℕ) (left : ℕ) (bytes : List ℕ) (more : List Entry) : Type 0 where
+  pub reserved : List ℕ
+  pub body : List ℕ
+  pub subsections : List Subsection
+  pub rest : List ℕ
+  pub others : List Entry
+  pub parts : bytes ≡ (string reserved ++ body) ++ rest
+  pub size_is : length (string reserved ++ body) ≡ left
+  pub spelled : SpellsEach SpellsSubsection body subsections
+  pub named : NamesSame more (flat_map (subsection_entries a) subsections ++ others)
+  pub then_is : FromSections false K rest others
+
+-- the content of a section of certificates
+pub record FromCertificates (K : Type 0) (left : ℕ) (bytes : List ℕ) (more : List Entry) : Type 0 where
+  pub authority : List ℕ
+  pub reserved : List ℕ
+  pub body : List ℕ
+  pub subsections : List Subsection
+  pub rest : List ℕ
+  pub others : List Entry
+  pub parts : bytes ≡ (string authority ++ (string reserved ++ body)) ++ rest
+  pub size_is : length (string authority ++ (string reserved ++ body)) ≡ left
+  pub spelled : SpellsEach SpellsSubsection body subsections
+  pub named : NamesSame more (flat_map (subsection_entries authority) subsections ++ others)
+  pub then_is : FromSections false K rest others
+
+-- the content of a subsection as a string, where so many bytes are left of the section, and what follows it
+pub record FromPart (K : Type 0) (a : List ℕ) (type_byte left : ℕ) (bytes : List ℕ) (more : List Entry) : Type 0 where
+  pub subsection : Subsection
+  pub content : List ℕ
+  pub rest : List ℕ
+  pub others : List Entry
+  pub type_is : subsection_type subsection ≡ type_byte
+  pub parts : bytes ≡ string content ++ rest
+  pub fits : length content < 2 ^ 32
+  pub room : 4 + length content ≤ left
+  pub content_is : SubsectionContent content subsection
+  pub named : NamesSame more (subsection_entries a subsection ++ others)
+  pub then_is : FromSubsections K a (left - 4 - length content) rest others
+
+abbrev pub SerialItems : Type 0 → List ℕ → ℕ → ℕ → Rest
+SerialItems K a left behind =
+    FromItems (number 8) (λ n. n < 2 ^ 64) (λ n. SerialsEntry a (n ∷ [])) left (FromSubsections K a behind)
+
+abbrev pub IdItems : Type 0 → List ℕ → ℕ → ℕ → Rest
+IdItems K a left behind = FromItems string Any (IdEntry a) left (FromSubsections K a behind)
+
+pub record FromRange (K : Type 0) (a : List ℕ) (behind : ℕ) (bytes : List ℕ) (more : List Entry) : Type 0 where
+  pub min : ℕ
+  pub max : ℕ
+  pub rest : List ℕ
+  pub others : List Entry
+  pub parts : bytes ≡ (number 8 min ++ number 8 max) ++ rest
+  pub ordered : min ≤ max
+  pub fits : max < 2 ^ 64
+  pub named : more ≡ RangeEntry a min max ∷ others
+  pub then_is : FromSubsections K a behind rest others
+
+pub record FromMax (K : Type 0) (a : List ℕ) (min behind : ℕ) (bytes : List ℕ) (more : List Entry) : Type 0 where
+  pub max : ℕ
+  pub rest : List ℕ
+  pub others : List Entry
+  pub parts : bytes ≡ number 8 max ++ rest
+  pub ordered : min ≤ max
+  pub fits : max < 2 ^ 64
+  pub named : more ≡ RangeEntry a min max ∷ others
+  pub then_is : FromSubsections K a behind rest others
+
+-- the last `left` of the `size` bytes of a bitmap
+pub record FromBits (K : Type 0) (a : List ℕ) (offset size left behind : ℕ) (bytes : List ℕ) (more : List Entry) : Type 0 where
+  pub bits : List ℕ
+  pub rest : List ℕ
+  pub others : List Entry
+  pub parts : bytes ≡ bits ++ rest
+  pub size_is : length bits ≡ left
+  pub low : number_of bits < 2 ^ (8 * length bits)
+  pub positive : left ≡ size → IsPositive bits
+  pub within : (bit : ℕ) → bit_at (number_of bits) bit ≡ 1 → offset + bit < 2 ^ 64
+  pub named : NamesSame more (BitmapEntry a offset (number_of bits) ∷ others)
+  pub then_is : FromSubsections K a behind rest others
+
+-- a bitmap as a string that fills what is left of its subsection
+pub record FromBitmap (K : Type 0) (a : List ℕ) (offset left behind : ℕ) (bytes : List ℕ) (more : List Entry) : Type 0 where
+  pub bits : List ℕ
+  pub rest : List ℕ
+  pub others : List Entry
+  pub parts : bytes ≡ string bits ++ rest
+  pub size_is : length (string bits) ≡ left
+  pub positive : IsPositive bits
+  pub within : (bit : ℕ) → bit_at (number_of bits) bit ≡ 1 → offset + bit < 2 ^ 64
+  pub named : NamesSame more (BitmapEntry a offset (number_of bits) ∷ others)
+  pub then_is : FromSubsections K a behind rest others
+
+-- an offset and a bitmap
+pub record FromOffset (K : Type 0) (a : List ℕ) (left behind : ℕ) (bytes : List ℕ) (more : List Entry) : Type 0 where
+  pub content : List ℕ
+  pub offset : ℕ
+  pub value : ℕ
+  pub rest : List ℕ
+  pub others : List Entry
+  pub parts : bytes ≡ content ++ rest
+  pub size_is : length content ≡ left
+  pub spelled : SpellsBitmap content offset value
+  pub named : NamesSame more (BitmapEntry a offset value ∷ others)
+  pub then_is : FromSubsections K a behind rest others
+
+-- an extension from its name on, from its critical byte on, and from its contents' length on
+pub record FromExtension (left : ℕ) (Then : Rest) (bytes : List ℕ) (more : List Entry) : Type 0 where
+  pub content : List ℕ
+  pub rest : List ℕ
+  pub parts : bytes ≡ content ++ rest
+  pub size_is : length content ≡ left
+  pub spelled : SpellsExtension content
+  pub then_is : Then rest more
+
+pub record FromCritical (left : ℕ) (Then : Rest) (bytes : List ℕ) (more : List Entry) : Type 0 where
+  pub contents : List ℕ
+  pub rest : List ℕ
+  pub parts : bytes ≡ (0 ∷ string contents) ++ rest
+  pub size_is : length (0 ∷ string contents) ≡ left
+  pub then_is : Then rest more
+
+pub record FromContents (left : ℕ) (Then : Rest) (bytes : List ℕ) (more : List Entry) : Type 0 where
+  pub contents : List ℕ
+  pub rest : List ℕ
+  pub parts : bytes ≡ string contents ++ rest
+  pub size_is : length (string contents) ≡ left
+  pub then_is : Then rest more
+
+-- ---- the header, of which the last is known as `last`
+
+abbrev pub FromComment : Header → Header → Rest
+FromComment last h = FromLength (λ n. FromContent n (λ c. FromSections false (last ≡ record h { comment = c })))
+
+abbrev pub FromHeaderReserved : Header → Header → Rest
+FromHeaderReserved last h = FromLength (λ n. FromContent n (λ r. FromComment last h))
+
+abbrev pub FromFlags : Header → Header → Rest
+FromFlags last h = FromNumber (λ f. FromHeaderReserved last h)
+
+abbrev pub FromDate : Header → Header → Rest
+FromDate last h = FromNumber (λ d. FromFlags last (record h { date = d }))
+
+abbrev pub FromVersion : Header → Header → Rest
+FromVersion last h = FromNumber (λ v. FromDate last (record h { version = v }))
+
+abbrev pub FromFormat : Header → Header → Rest
+FromFormat last h = FromText (number 4 1) (FromVersion last h)
+
+-- ---- all places, under an authority, where h is known of the header
+
+abbrev pub Completes : Header → Header → List ℕ → Place → Rest
+Completes last h a places.Magic = FromText magic (FromFormat last h)
+Completes last h a places.FormatVersion = FromFormat last h
+Completes last h a places.Version = FromVersion last h
+Completes last h a places.Date = FromDate last h
+Completes last h a places.Flags = FromFlags last h
+Completes last h a places.ReservedLength = FromHeaderReserved last h
+Completes last h a (places.Reserved size) = FromContent size (λ r. FromComment last h)
+Completes last h a places.CommentLength = FromComment last h
+Completes last h a (places.Comment size) = FromContent size (λ c. FromSections false (last ≡ record h { comment = c }))
+Completes last h a (places.SectionType signed) = FromSections signed (last ≡ h)
+Completes last h a places.SignatureKeyLength =
+    FromLength (λ n. FromContent n (λ k. FromLength (λ m. FromContent m (λ s. FromSections true (last ≡ h)))))
+Completes last h a (places.SignatureKey size) =
+    FromContent size (λ k. FromLength (λ m. FromContent m (λ s. FromSections true (last ≡ h))))
+Completes last h a places.SignatureLength = FromLength (λ m. FromContent m (λ s. FromSections true (last ≡ h)))
+Completes last h a (places.Signature size) = FromContent size (λ s. FromSections true (last ≡ h))
+Completes last h a places.KeysLength = FromLength (KeyItems (last ≡ h))
+Completes last h a (places.KeyLength left) = KeyItems (last ≡ h) left
+Completes last h a (places.Key size behind) = FromItem size KeyEntry (KeyItems (last ≡ h) behind)
+Completes last h a places.Sha1sLength = FromLength (Sha1Items (last ≡ h))
+Completes last h a (places.Sha1Length left) = Sha1Items (last ≡ h) left
+Completes last h a (places.Sha1 behind) = FromItem 20 Sha1Entry (Sha1Items (last ≡ h) behind)
+Completes last h a places.Sha256sLength = FromLength (Sha256Items (last ≡ h))
+Completes last h a (places.Sha256Length left) = Sha256Items (last ≡ h) left
+Completes last h a (places.Sha256 behind) = FromItem 32 Sha256Entry (Sha256Items (last ≡ h) behind)
+Completes last h a places.CertificatesLength = FromLength (FromCertificates (last ≡ h))
+Completes last h a (places.AuthorityLength left) = FromCertificates (last ≡ h) left
+Completes last h a (places.Authority size behind) = FromContent size (λ b. FromReserved (last ≡ h) b behind)
+Completes last h a (places.SectionReservedLength left) = FromReserved (last ≡ h) a left
+Completes last h a (places.SectionReserved size behind) = FromContent size (λ r. FromSubsections (last ≡ h) a behind)
+Completes last h a (places.SubsectionType left) = FromSubsections (last ≡ h) a left
+Completes last h a (places.SerialsLength left) = FromPart (last ≡ h) a 0x20 left
+Completes last h a (places.Serial left behind) = SerialItems (last ≡ h) a left behind
+Completes last h a (places.RangeLength left) = FromPart (last ≡ h) a 0x21 left
+Completes last h a (places.RangeMin behind) = FromRange (last ≡ h) a behind
+Completes last h a (places.RangeMax min behind) = FromMax (last ≡ h) a min behind
+Completes last h a (places.BitmapLength left) = FromPart (last ≡ h) a 0x22 left
+Completes last h a (places.BitmapOffset left behind) = FromOffset (last ≡ h) a left behind
+Completes last h a (places.BitmapSize offset left behind) = FromBitmap (last ≡ h) a offset left behind
+Completes last h a (places.BitmapByte offset size left behind) =
+    λ bytes more. 0 < left → FromBits (last ≡ h) a offset size left behind bytes more
+Completes last h a (places.IdsLength left) = FromPart (last ≡ h) a 0x23 left
+Completes last h a (places.IdLength left behind) = IdItems (last ≡ h) a left behind
+Completes last h a (places.Id size left behind) = FromItem size (IdEntry a) (IdItems (last ≡ h) a left behind)
+Completes last h a places.ExtensionLength = FromLength (λ n. FromExtension n (FromSections false (last ≡ h)))
+Completes last h a (places.SubsectionExtensionLength left) = FromPart (last ≡ h) a 0x39 left
+Completes last h a (places.ExtensionNameLength left behind) = FromExtension left (FromSubsections (last ≡ h) a behind)
+Completes last h a (places.ExtensionName size left behind) = FromContent size (λ n. FromCritical left (FromSubsections (last ≡ h) a behind))
+Completes last h a (places.ExtensionCritical left behind) = FromCritical left (FromSubsections (last ≡ h) a behind)
+Completes last h a (places.ExtensionContentsLength left behind) = FromContents left (FromSubsections (last ≡ h) a behind)
+Completes last h a (places.ExtensionContents size behind) = FromContent size (λ c. FromSubsections (last ≡ h) a behind)

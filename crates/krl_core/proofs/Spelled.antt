@@ -1,0 +1,446 @@
+-- What is spelled is walked.
+use Rattle.std.proofs.Common.{◌≡◌, ℕ, zero, suc, ◌+◌, ◌-◌, ◌*◌, ◌%◌, ◌/◌, ◌==◌, ◌<◌, ◌≤◌, ◌^◌, ◌⊎◌, Bool, true, false, not, cond, eqb, ltb, leb, eq-eqb, List, [], ◌∷◌, ◌++◌, length, take, Option, Some, None, Result, Ok, Err, refl, sym, ap, subst, ◌∙◌, append_assoc, arith, inl, inr}
+use Rattle.std.specs.List.{concat, flat_map, AllByRecursion}
+use Rattle.std.specs.Int.{bit_at}
+use Rattle.std.proofs.lemmas.Bool.{cases_lt, le-ltb, lt-ltb, le-leb, lt-leb, ne_eqb, eqb-true}
+use Rattle.std.proofs.lemmas.List.{append-nil, length-append, take_all, get_or-append-add, get_or_append_left, get_or_past}
+use Rattle.ssh_wire.specs.Wire.{IsBytes, number, number_of, string, strings}
+use Rattle.krl_core.specs.declared.krl_fault.KrlFault.{KrlFault}
+use Rattle.krl_core.specs.declared.krl_fault.KrlFault.TheVariants as faults
+use Rattle.krl_core.specs.declared.header.Header.{Header}
+use Rattle.krl_core.specs.declared.place.Place.{Place}
+use Rattle.krl_core.specs.declared.place.Place.TheVariants as places
+use Rattle.krl_core.specs.Front.{HasRoom, start, limit, IsFirstFault, ended}
+use Rattle.krl_core.specs.Krl.{Section, Certificates, Keys, Sha1s, Sha256s, Signature, Extension, Subsection, Serials, Range, Bitmap, Ids, SubsectionExtension, Spells, SpellsEach, SpellsSection, SpellsSubsection, SpellsBitmap, SpellsExtension, SubsectionContent, SignaturesLast, IsSignature, IsPositive, magic, header_text, numbers_text}
+use Rattle.krl_core.specs.Place.{Due, due, judge, within, next_key, next_sha1, next_sha256, next_subsection, next_serial, next_id, next_bits, base_of, bits_judged, passes_end, highest_bit}
+use Rattle.std.proofs.Math.Nat.{div-eq_of_lt-le}
+use Rattle.std.proofs.lemmas.Nat.{pow-add}
+use Rattle.std.proofs.lemmas.Nat.Bits.{bit_at_above, bit_at_cat_low, bit_at_cat_high}
+use Rattle.krl_core.proofs.Bitmaps.{number_of-byte, low_more, low_none}
+use Rattle.krl_core.proofs.Bits.{highest_above}
+use Rattle.krl_core.proofs.Completes.{length-string}
+use Rattle.krl_core.proofs.Fronts.{first_fault_is}
+use Rattle.krl_core.proofs.Goes.{Goes, goes_none, goes_one, goes_then, goes_from, arrives}
+use Rattle.krl_core.proofs.Lists.{header_parts}
+use Rattle.krl_core.proofs.Numbers.{length-number4, length-number8, number_again4, number_again8, number_of-one}
+
+-- ---- a field, and what follows it
+
+-- a length where the length is judged so
+length_goes : (p : Place) (q : ℕ → Place) (n : ℕ) (rest : List ℕ) → HasRoom (due p) → (due p).size ≡ 4 → n < 2 ^ 32
+    → ((m : ℕ) (field : List ℕ) → number_of field ≡ m → m ≡ n → (due p).judged field ≡ Ok (q m)) → Goes p (number 4 n ++ rest) (q n) rest
+length_goes p q n rest room size fits judged =
+    goes_one p (q n) (number 4 n) rest room (length-number4 n ∙ sym size) (judged n (number 4 n) (number_again4 n fits) refl)
+
+-- a string: its length, and its content
+pub string_goes : (p : Place) (q : Place) (r : Place) (content rest : List ℕ) → HasRoom (due p) → (due p).size ≡ 4 → length content < 2 ^ 32
+    → ((field : List ℕ) → number_of field ≡ length content → (due p).judged field ≡ Ok q)
+    → HasRoom (due q) → length content ≡ (due q).size → (due q).judged content ≡ Ok r → Goes p (string content ++ rest) r rest
+unfolding string
+string_goes p q r content rest room size fits judged room' size' judged' =
+    goes_from p r (string content ++ rest) (number 4 (length content) ++ (content ++ rest)) rest (append_assoc (number 4 (length content)) content rest)
+    (goes_then p q r (number 4 (length content) ++ (content ++ rest)) (content ++ rest) rest
+    (goes_one p q (number 4 (length content)) (content ++ rest) room (length-number4 (length content) ∙ sym size) (judged (number 4 (length content)) (number_again4 (length content) fits)))
+    (goes_one q r content rest room' size' judged'))
+
+-- a length of content that is read in parts
+pub content_goes : (p q r : Place) (content rest : List ℕ) → HasRoom (due p) → (due p).size ≡ 4 → length content < 2 ^ 32
+    → ((field : List ℕ) → number_of field ≡ length content → (due p).judged field ≡ Ok q) → Goes q (content ++ rest) r rest → Goes p (string content ++ rest) r rest
+unfolding string
+content_goes p q r content rest room size fits judged w =
+    goes_from p r (string content ++ rest) (number 4 (length content) ++ (content ++ rest)) rest (append_assoc (number 4 (length content)) content rest)
+    (goes_then p q r (number 4 (length content) ++ (content ++ rest)) (content ++ rest) rest
+    (goes_one p q (number 4 (length content)) (content ++ rest) room (length-number4 (length content) ∙ sym size) (judged (number 4 (length content)) (number_again4 (length content) fits))) w)
+
+-- a length that fits is judged by what follows
+pub within_is : (left : ℕ) (next : ℕ → Result Place KrlFault) (size n : ℕ) → size ≡ n → n ≤ left - 4 → within left next size ≡ next n
+within_is left next size n e le =
+    let f : ltb (left - 4) size ≡ false = le-ltb (left - 4) size (omega arith) in
+    ap (λ (b : Bool). cond b (Err faults.Length) (next size)) f ∙ ap next e
+
+judge_is : (b : Bool) (why : KrlFault) (p : Place) → b ≡ true → judge b why p ≡ Ok p
+judge_is b why p e = ap (λ (x : Bool). judge x why p) e
+
+-- ---- the header
+
+pub header_goes : (header : Header) (flags : ℕ) (reserved rest : List ℕ) → length reserved < 2 ^ 32 → length header.comment < 2 ^ 32
+    → Goes places.Magic (header_text header flags reserved ++ rest) (places.SectionType false) rest
+unfolding number number_of
+header_goes header flags reserved rest fits fits' =
+    let r1 : List ℕ = string header.comment ++ rest in
+    let r2 : List ℕ = string reserved ++ r1 in
+    let r3 : List ℕ = number 8 flags ++ r2 in
+    let r4 : List ℕ = number 8 header.date ++ r3 in
+    let r5 : List ℕ = number 8 header.version ++ r4 in
+    let r6 : List ℕ = number 4 1 ++ r5 in
+    let w0 = string_goes places.CommentLength (places.Comment (length header.comment)) (places.SectionType false) header.comment rest tt refl fits'
+    (λ field e. ap (λ (n : ℕ). Ok (places.Comment n)) e) tt refl refl in
+    let w1 = goes_then places.ReservedLength places.CommentLength (places.SectionType false) r2 r1 rest
+    (string_goes places.ReservedLength (places.Reserved (length reserved)) places.CommentLength reserved r1 tt refl fits
+    (λ field e. ap (λ (n : ℕ). Ok (places.Reserved n)) e) tt refl refl) w0 in
+    let w2 = goes_then places.Flags places.ReservedLength (places.SectionType false) r3 r2 rest (goes_one places.Flags places.ReservedLength (number 8 flags) r2 tt (length-number8 flags) refl) w1 in
+    let w3 = goes_then places.Date places.Flags (places.SectionType false) r4 r3 rest (goes_one places.Date places.Flags (number 8 header.date) r3 tt (length-number8 header.date) refl) w2 in
+    let w4 = goes_then places.Version places.Date (places.SectionType false) r5 r4 rest (goes_one places.Version places.Date (number 8 header.version) r4 tt (length-number8 header.version) refl) w3 in
+    let w5 = goes_then places.FormatVersion places.Version (places.SectionType false) r6 r5 rest (goes_one places.FormatVersion places.Version (number 4 1) r5 tt refl refl) w4 in
+    goes_from places.Magic (places.SectionType false) (header_text header flags reserved ++ rest) (magic ++ r6) rest (header_parts header flags reserved rest)
+    (goes_then places.Magic places.FormatVersion (places.SectionType false) (magic ++ r6) r6 rest (goes_one places.Magic places.FormatVersion magic r6 tt refl refl) w5)
+
+-- ---- strings that fill a section
+
+key_goes : (total left : ℕ) (item rest : List ℕ) → total ≡ 4 + length item + left → total < 2 ^ 32 → Goes (next_key total) (string item ++ rest) (next_key left) rest
+key_goes zero left item rest e fits = absurd (omega arith)
+key_goes (suc k) left item rest e fits =
+    let after : suc k - 4 - length item ≡ left = omega arith in
+    let room : 4 ≤ suc k = omega arith in
+    string_goes (places.KeyLength (suc k)) (places.Key (length item) left) (next_key left) item rest room refl (omega arith)
+    (λ field e'. within_is (suc k) (λ size. Ok (places.Key size (suc k - 4 - size))) (number_of field) (length item) e' (omega arith) ∙ ap (λ (m : ℕ). Ok (places.Key (length item) m)) after) tt refl refl
+
+pub keys_go : (items : List (List ℕ)) (total left : ℕ) (rest : List ℕ) → total ≡ length (strings items) + left → total < 2 ^ 32 → Goes (next_key total) (strings items ++ rest) (next_key left) rest
+keys_go [] total left rest e fits = subst (λ (m : ℕ). Goes (next_key total) rest (next_key m) rest) (let same : total ≡ left = omega arith in same) (goes_none (next_key total) rest)
+keys_go (item ∷ items) total left rest e fits =
+    let mid : ℕ = length (strings items) + left in
+    let whole : length (strings (item ∷ items)) ≡ 4 + length item + length (strings items) = omega (arith, length-append (string item) (strings items), length-string item) in
+    goes_from (next_key total) (next_key left) (strings (item ∷ items) ++ rest) (string item ++ (strings items ++ rest)) rest (append_assoc (string item) (strings items) rest)
+    (goes_then (next_key total) (next_key mid) (next_key left) (string item ++ (strings items ++ rest)) (strings items ++ rest) rest
+    (key_goes total mid item (strings items ++ rest) (omega arith) fits) (keys_go items mid left rest refl (omega arith)))
+
+sha1_goes : (total left : ℕ) (item rest : List ℕ) → total ≡ 4 + length item + left → total < 2 ^ 32 → length item ≡ 20 → Goes (next_sha1 total) (string item ++ rest) (next_sha1 left) rest
+sha1_goes zero left item rest e fits size = absurd (omega arith)
+sha1_goes (suc k) left item rest e fits size =
+    let after : suc k - 4 - length item ≡ left = omega arith in
+    let room : 4 ≤ suc k = omega arith in
+    string_goes (places.Sha1Length (suc k)) (places.Sha1 left) (next_sha1 left) item rest room refl (omega arith)
+    (λ field e'. within_is (suc k) (λ size. judge (size == 20) faults.HashLength (places.Sha1 (suc k - 4 - size))) (number_of field) (length item) e' (omega arith)
+    ∙ judge_is (eqb (length item) 20) faults.HashLength (places.Sha1 (suc k - 4 - length item)) (eq-eqb (length item) 20 size) ∙ ap (λ (m : ℕ). Ok (places.Sha1 m)) after) tt size refl
+
+pub sha1s_go : (items : List (List ℕ)) (total left : ℕ) (rest : List ℕ) → total ≡ length (strings items) + left → total < 2 ^ 32 → AllByRecursion (λ item. length item ≡ 20) items
+    → Goes (next_sha1 total) (strings items ++ rest) (next_sha1 left) rest
+sha1s_go [] total left rest e fits sizes = subst (λ (m : ℕ). Goes (next_sha1 total) rest (next_sha1 m) rest) (let same : total ≡ left = omega arith in same) (goes_none (next_sha1 total) rest)
+sha1s_go (item ∷ items) total left rest e fits sizes =
+    let mid : ℕ = length (strings items) + left in
+    let whole : length (strings (item ∷ items)) ≡ 4 + length item + length (strings items) = omega (arith, length-append (string item) (strings items), length-string item) in
+    goes_from (next_sha1 total) (next_sha1 left) (strings (item ∷ items) ++ rest) (string item ++ (strings items ++ rest)) rest (append_assoc (string item) (strings items) rest)
+    (goes_then (next_sha1 total) (next_sha1 mid) (next_sha1 left) (string item ++ (strings items ++ rest)) (strings items ++ rest) rest
+    (sha1_goes total mid item (strings items ++ rest) (omega arith) fits sizes.0) (sha1s_go items mid left rest refl (omega arith) sizes.1))
+
+sha256_goes : (total left : ℕ) (item rest : List ℕ) → total ≡ 4 + length item + left → total < 2 ^ 32 → length item ≡ 32 → Goes (next_sha256 total) (string item ++ rest) (next_sha256 left) rest
+sha256_goes zero left item rest e fits size = absurd (omega arith)
+sha256_goes (suc k) left item rest e fits size =
+    let after : suc k - 4 - length item ≡ left = omega arith in
+    let room : 4 ≤ suc k = omega arith in
+    string_goes (places.Sha256Length (suc k)) (places.Sha256 left) (next_sha256 left) item rest room refl (omega arith)
+    (λ field e'. within_is (suc k) (λ size. judge (size == 32) faults.HashLength (places.Sha256 (suc k - 4 - size))) (number_of field) (length item) e' (omega arith)
+    ∙ judge_is (eqb (length item) 32) faults.HashLength (places.Sha256 (suc k - 4 - length item)) (eq-eqb (length item) 32 size) ∙ ap (λ (m : ℕ). Ok (places.Sha256 m)) after) tt size refl
+
+pub sha256s_go : (items : List (List ℕ)) (total left : ℕ) (rest : List ℕ) → total ≡ length (strings items) + left → total < 2 ^ 32 → AllByRecursion (λ item. length item ≡ 32) items
+    → Goes (next_sha256 total) (strings items ++ rest) (next_sha256 left) rest
+sha256s_go [] total left rest e fits sizes = subst (λ (m : ℕ). Goes (next_sha256 total) rest (next_sha256 m) rest) (let same : total ≡ left = omega arith in same) (goes_none (next_sha256 total) rest)
+sha256s_go (item ∷ items) total left rest e fits sizes =
+    let mid : ℕ = length (strings items) + left in
+    let whole : length (strings (item ∷ items)) ≡ 4 + length item + length (strings items) = omega (arith, length-append (string item) (strings items), length-string item) in
+    goes_from (next_sha256 total) (next_sha256 left) (strings (item ∷ items) ++ rest) (string item ++ (strings items ++ rest)) rest (append_assoc (string item) (strings items) rest)
+    (goes_then (next_sha256 total) (next_sha256 mid) (next_sha256 left) (string item ++ (strings items ++ rest)) (strings items ++ rest) rest
+    (sha256_goes total mid item (strings items ++ rest) (omega arith) fits sizes.0) (sha256s_go items mid left rest refl (omega arith) sizes.1))
+
+id_goes : (total left behind : ℕ) (item rest : List ℕ) → total ≡ 4 + length item + left → total < 2 ^ 32 → Goes (next_id total behind) (string item ++ rest) (next_id left behind) rest
+id_goes zero left behind item rest e fits = absurd (omega arith)
+id_goes (suc k) left behind item rest e fits =
+    let after : suc k - 4 - length item ≡ left = omega arith in
+    let room : 4 ≤ suc k = omega arith in
+    string_goes (places.IdLength (suc k) behind) (places.Id (length item) left behind) (next_id left behind) item rest room refl (omega arith)
+    (λ field e'. within_is (suc k) (λ size. Ok (places.Id size (suc k - 4 - size) behind)) (number_of field) (length item) e' (omega arith) ∙ ap (λ (m : ℕ). Ok (places.Id (length item) m behind)) after) tt refl refl
+
+ids_go : (items : List (List ℕ)) (total left behind : ℕ) (rest : List ℕ) → total ≡ length (strings items) + left → total < 2 ^ 32 → Goes (next_id total behind) (strings items ++ rest) (next_id left behind) rest
+ids_go [] total left behind rest e fits = subst (λ (m : ℕ). Goes (next_id total behind) rest (next_id m behind) rest) (let same : total ≡ left = omega arith in same) (goes_none (next_id total behind) rest)
+ids_go (item ∷ items) total left behind rest e fits =
+    let mid : ℕ = length (strings items) + left in
+    let whole : length (strings (item ∷ items)) ≡ 4 + length item + length (strings items) = omega (arith, length-append (string item) (strings items), length-string item) in
+    goes_from (next_id total behind) (next_id left behind) (strings (item ∷ items) ++ rest) (string item ++ (strings items ++ rest)) rest (append_assoc (string item) (strings items) rest)
+    (goes_then (next_id total behind) (next_id mid behind) (next_id left behind) (string item ++ (strings items ++ rest)) (strings items ++ rest) rest
+    (id_goes total mid behind item (strings items ++ rest) (omega arith) fits) (ids_go items mid left behind rest refl (omega arith)))
+
+serial_goes : (total left behind n : ℕ) (rest : List ℕ) → total ≡ 8 + left → Goes (next_serial total behind) (number 8 n ++ rest) (next_serial left behind) rest
+serial_goes zero left behind n rest e = absurd (omega arith)
+serial_goes (suc k) left behind n rest e =
+    let after : suc k - 8 ≡ left = omega arith in
+    let room : 8 ≤ suc k = omega arith in
+    goes_one (places.Serial (suc k) behind) (next_serial left behind) (number 8 n) rest room (length-number8 n) (ap (λ (m : ℕ). Ok (next_serial m behind)) after)
+
+serials_go : (items : List ℕ) (total left behind : ℕ) (rest : List ℕ) → total ≡ length (numbers_text items) + left → Goes (next_serial total behind) (numbers_text items ++ rest) (next_serial left behind) rest
+serials_go [] total left behind rest e = subst (λ (m : ℕ). Goes (next_serial total behind) rest (next_serial m behind) rest) (let same : total ≡ left = omega arith in same) (goes_none (next_serial total behind) rest)
+serials_go (n ∷ items) total left behind rest e =
+    let mid : ℕ = length (numbers_text items) + left in
+    let whole : length (numbers_text (n ∷ items)) ≡ 8 + length (numbers_text items) = omega (arith, length-append (number 8 n) (numbers_text items), length-number8 n) in
+    goes_from (next_serial total behind) (next_serial left behind) (numbers_text (n ∷ items) ++ rest) (number 8 n ++ (numbers_text items ++ rest)) rest (append_assoc (number 8 n) (numbers_text items) rest)
+    (goes_then (next_serial total behind) (next_serial mid behind) (next_serial left behind) (number 8 n ++ (numbers_text items ++ rest)) (numbers_text items ++ rest) rest
+    (serial_goes total mid behind n (numbers_text items ++ rest) (omega arith)) (serials_go items mid left behind rest refl))
+
+-- as many bytes as eight a number
+serials_size : (items : List ℕ) → length (numbers_text items) ≡ 8 * length items
+serials_size [] = refl
+serials_size (n ∷ items) = omega (arith, length-append (number 8 n) (numbers_text items), length-number8 n, serials_size items)
+
+eights : (n m : ℕ) → n ≡ 8 * m → n % 8 ≡ 0
+eights n m e = omega (arith, e)
+
+-- ---- the bytes of a bitmap
+
+highest_below : (byte : ℕ) → 0 < byte → 2 ^ highest_bit byte ≤ byte
+highest_below byte h =
+    elim (cases_lt byte 2) [
+      | inl a ↦ rw (lt-ltb byte 2 a) (omega arith)
+      | inr a' ↦ rw (le-ltb byte 2 a') (elim (cases_lt byte 4) [
+        | inl a ↦ rw (lt-ltb byte 4 a) (omega arith)
+        | inr b' ↦ rw (le-ltb byte 4 b') (elim (cases_lt byte 8) [
+          | inl a ↦ rw (lt-ltb byte 8 a) (omega arith)
+          | inr c' ↦ rw (le-ltb byte 8 c') (elim (cases_lt byte 16) [
+            | inl a ↦ rw (lt-ltb byte 16 a) (omega arith)
+            | inr d' ↦ rw (le-ltb byte 16 d') (elim (cases_lt byte 32) [
+              | inl a ↦ rw (lt-ltb byte 32 a) (omega arith)
+              | inr e' ↦ rw (le-ltb byte 32 e') (elim (cases_lt byte 64) [
+                | inl a ↦ rw (lt-ltb byte 64 a) (omega arith)
+                | inr f' ↦ rw (le-ltb byte 64 f') (elim (cases_lt byte 128) [
+                  | inl a ↦ rw (lt-ltb byte 128 a) (omega arith)
+                  | inr g' ↦ rw (le-ltb byte 128 g') (omega arith)
+                ])
+              ])
+            ])
+          ])
+        ])
+      ])
+    ]
+
+-- the highest bit that is set is set
+highest_set : (byte : ℕ) → 0 < byte → byte < 256 → bit_at byte (highest_bit byte) ≡ 1
+highest_set byte pos lt =
+    let j = highest_bit byte in
+    let low = highest_below byte pos in
+    let high = highest_above byte lt in
+    let one : 1 * 2 ^ j ≤ byte = omega (arith, low) in
+    let double : 2 ^ (j + 1) ≡ 2 * 2 ^ j = pow-add 2 j 1 ∙ (let e : 2 ^ j * 2 ^ 1 ≡ 2 * 2 ^ j = omega arith in e) in
+    let two : byte < (1 + 1) * 2 ^ j = omega (arith, high, double) in
+    ap (λ (q : ℕ). q % 2) (div-eq_of_lt-le {k = 1} (2 ^ j) {m = byte} one two)
+
+-- no set bit stands for a number past the last one
+not_passes : (base byte : ℕ) → byte < 256 → ((k : ℕ) → bit_at byte k ≡ 1 → base + k < 2 ^ 64) → passes_end base byte ≡ false
+not_passes base zero lt within = refl
+not_passes base (suc b) lt within =
+    let top = within (highest_bit (suc b)) (highest_set (suc b) (omega arith) lt) in
+    rw (lt-leb 18446744073709551616 (base + highest_bit (suc b)) (omega (arith, top))) (elim_same (eqb (suc b) 0))
+  where
+    elim_same : (c : Bool) → cond c false false ≡ false
+    elim_same true = refl
+    elim_same false = refl
+
+bits_pass : (offset size left behind byte : ℕ) → (left ≡ size → byte < 128) → passes_end (base_of offset left) byte ≡ false
+    → bits_judged offset size left behind byte ≡ Ok (next_bits offset size (left - 1) behind)
+bits_pass offset size left behind byte sign passes =
+    decide (eqb left size) (ltb byte 128) (judge (not (passes_end (base_of offset left) byte)) faults.BitmapWraps (next_bits offset size (left - 1) behind))
+    (λ e. lt-ltb byte 128 (sign (eqb-true left size e)))
+    (ap (λ (b : Bool). judge (not b) faults.BitmapWraps (next_bits offset size (left - 1) behind)) passes)
+  where
+    decide : (e t : Bool) (w : Result Place KrlFault) → (e ≡ true → t ≡ true) → w ≡ Ok (next_bits offset size (left - 1) behind)
+        → cond e (cond t w (Err faults.BitmapNegative)) w ≡ Ok (next_bits offset size (left - 1) behind)
+    decide true true w h k = k
+    decide true false w h k = let c = h refl in absurd (cc)
+    decide false t w h k = k
+
+low_bytes : (bits : List ℕ) → IsBytes bits → number_of bits < 2 ^ (8 * length bits)
+low_bytes [] fits = low_none
+low_bytes (b ∷ bits) fits = low_more b bits (fits 0) (low_bytes bits (λ i. fits (suc i)))
+
+bits_go : (bits : List ℕ) (offset size behind : ℕ) (rest : List ℕ) → IsBytes bits → length bits ≤ size → (length bits ≡ size → IsPositive bits)
+    → ((k : ℕ) → bit_at (number_of bits) k ≡ 1 → offset + k < 2 ^ 64)
+    → Goes (next_bits offset size (length bits) behind) (bits ++ rest) (next_subsection behind) rest
+bits_go [] offset size behind rest fits le sign within = goes_none (next_subsection behind) rest
+bits_go (b ∷ bits) offset size behind rest fits le sign within =
+    let n = 8 * length bits in
+    let byte : b < 256 = fits 0 in
+    let tail_fits : IsBytes bits = λ i. fits (suc i) in
+    let low = low_bytes bits tail_fits in
+    let whole : (k : ℕ) → bit_at (b * 2 ^ n + number_of bits) k ≡ 1 → bit_at (number_of (b ∷ bits)) k ≡ 1 = λ k e. subst (λ (m : ℕ). bit_at m k ≡ 1) (sym (number_of-byte b bits)) e in
+    let base : base_of offset (suc (length bits)) ≡ offset + n = omega arith in
+    let passes : passes_end (base_of offset (suc (length bits))) b ≡ false = not_passes (base_of offset (suc (length bits))) b byte
+    (λ k set.
+    let le' : n ≤ n + k = omega arith in
+    let at : n + k - n ≡ k = omega arith in
+    let high = within (n + k) (whole (n + k) (bit_at_cat_high b n (number_of bits) (n + k) low le' ∙ ap (bit_at b) at ∙ set)) in
+    omega (arith, high, base)) in
+    let one : number_of (b ∷ []) ≡ b = number_of-one b in
+    let judged : bits_judged offset size (suc (length bits)) behind (number_of (b ∷ [])) ≡ Ok (next_bits offset size (suc (length bits) - 1) behind) =
+    ap (bits_judged offset size (suc (length bits)) behind) one ∙ bits_pass offset size (suc (length bits)) behind b (λ e. sign e) passes in
+    let less : suc (length bits) - 1 ≡ length bits = omega arith in
+    goes_then (places.BitmapByte offset size (suc (length bits)) behind) (next_bits offset size (length bits) behind) (next_subsection behind) (b ∷ (bits ++ rest)) (bits ++ rest) rest
+    (goes_one (places.BitmapByte offset size (suc (length bits)) behind) (next_bits offset size (length bits) behind) (b ∷ []) (bits ++ rest) tt refl
+    (judged ∙ ap (λ (m : ℕ). Ok (next_bits offset size m behind)) less))
+    (bits_go bits offset size behind rest tail_fits (omega arith) (λ e. absurd (omega arith))
+    (λ k set. within k (elim (cases_lt k n) [
+      | inl lt ↦ whole k (bit_at_cat_low b n (number_of bits) k lt ∙ set)
+      | inr ge ↦ let z = bit_at_above (number_of bits) n k low ge in absurd (omega (arith, z, set))
+    ])))
+
+-- ---- subsections
+
+pub bytes_tail : (a b : List ℕ) → IsBytes (a ++ b) → IsBytes b
+bytes_tail a b h i = subst (λ (n : ℕ). n < 256) (get_or-append-add a b i 0) (h (length a + i))
+
+pub bytes_head : (a b : List ℕ) → IsBytes (a ++ b) → IsBytes a
+bytes_head a b h i =
+    elim (cases_lt i (length a)) [
+      | inl lt ↦ subst (λ (n : ℕ). n < 256) (get_or_append_left a b 0 i lt) (h i)
+      | inr le ↦ subst (λ (n : ℕ). n < 256) (sym (get_or_past a i 0 le)) (omega arith)
+    ]
+
+pub string_bytes : (content : List ℕ) → IsBytes (string content) → IsBytes content
+unfolding string
+string_bytes content h = bytes_tail (number 4 (length content)) content h
+
+-- an extension that fills what has as many bytes left
+pub extension_goes : (left behind : ℕ) (content rest : List ℕ) → SpellsExtension content → left ≡ length content → left < 2 ^ 32
+    → Goes (places.ExtensionNameLength left behind) (content ++ rest) (next_subsection behind) rest
+unfolding number_of
+extension_goes left behind content rest h size fits =
+    let name = h.name in
+    let contents = h.contents in
+    let n = length contents in
+    let all : length content ≡ 4 + length name + (1 + (4 + n)) =
+    ap length h.spelled ∙ length-append (string name) (0 ∷ string contents) ∙ (let e : length (string name) + length (0 ∷ string contents) ≡ 4 + length name + (1 + (4 + n)) = omega (arith, length-string name, length-string contents) in e) in
+    let after : left - 4 - length name ≡ 5 + n = omega (arith, all, size) in
+    let room : 4 ≤ left = omega (arith, all, size) in
+    let r1 : List ℕ = string contents ++ rest in
+    let last = string_goes (places.ExtensionContentsLength (4 + n) behind) (places.ExtensionContents n behind) (next_subsection behind) contents rest (let r : 4 ≤ 4 + n = omega arith in r) refl (omega (arith, all, size, fits))
+    (λ field e. let four : 4 + n - 4 ≡ n = omega arith in
+    judge_is (eqb (number_of field) (4 + n - 4)) faults.Length (places.ExtensionContents (4 + n - 4) behind) (eq-eqb (number_of field) (4 + n - 4) (e ∙ sym four)) ∙ ap (λ (m : ℕ). Ok (places.ExtensionContents m behind)) four) tt refl refl in
+    let critical = goes_then (places.ExtensionCritical (5 + n) behind) (places.ExtensionContentsLength (4 + n) behind) (next_subsection behind) (0 ∷ r1) r1 rest
+    (goes_one (places.ExtensionCritical (5 + n) behind) (places.ExtensionContentsLength (4 + n) behind) (0 ∷ []) r1 (let r : 1 ≤ 5 + n = omega arith in r) refl
+    (ap (λ (m : ℕ). Ok (places.ExtensionContentsLength m behind)) (let e : 5 + n - 1 ≡ 4 + n = omega arith in e))) last in
+    let start_parts : content ++ rest ≡ string name ++ (0 ∷ r1) = ap (λ (x : List ℕ). x ++ rest) h.spelled ∙ append_assoc (string name) (0 ∷ string contents) rest in
+    goes_from (places.ExtensionNameLength left behind) (next_subsection behind) (content ++ rest) (string name ++ (0 ∷ r1)) rest start_parts
+    (goes_then (places.ExtensionNameLength left behind) (places.ExtensionCritical (5 + n) behind) (next_subsection behind) (string name ++ (0 ∷ r1)) (0 ∷ r1) rest
+    (string_goes (places.ExtensionNameLength left behind) (places.ExtensionName (length name) (5 + n) behind) (places.ExtensionCritical (5 + n) behind) name (0 ∷ r1) room refl (omega (arith, all, size, fits))
+    (λ field e. within_is left (λ m. Ok (places.ExtensionName m (left - 4 - m) behind)) (number_of field) (length name) e (omega (arith, all, size)) ∙ ap (λ (m : ℕ). Ok (places.ExtensionName (length name) m behind)) after) tt refl refl)
+    critical)
+
+-- the length of a subsection's content, and the content
+part_goes : (p q : Place) (left : ℕ) (next : ℕ → Result Place KrlFault) (content rest : List ℕ) → due p ≡ record { size = 4; room = Some left; may_end = false; judged = λ field. within left next (number_of field) }
+    → 4 + length content ≤ left → length content < 2 ^ 32 → next (length content) ≡ Ok q → (r : Place) → Goes q (content ++ rest) r rest → Goes p (string content ++ rest) r rest
+part_goes p q left next content rest is room fits judged r w =
+    content_goes p q r content rest (subst (λ (d : Due). HasRoom d) (sym is) (let e : 4 ≤ left = omega arith in e)) (ap (λ (d : Due). d.size) is) fits
+    (λ field e. ap (λ (d : Due). d.judged field) is ∙ within_is left next (number_of field) (length content) e (omega arith) ∙ judged) w
+
+subsection_goes : (left : ℕ) (sub : Subsection) (text rest : List ℕ) → SpellsSubsection text sub → length text ≤ left → IsBytes text
+    → Goes (places.SubsectionType left) (text ++ rest) (next_subsection (left - length text)) rest
+unfolding number_of
+subsection_goes left (Serials numbers) text rest h le fits =
+    let content = h.content in
+    let n = length content in
+    let size : length text ≡ 5 + n = ap length h.spelled ∙ (let e : length (0x20 ∷ string content) ≡ 5 + n = omega (arith, length-string content) in e) in
+    let behind : left - 1 - 4 - n ≡ left - length text = omega (arith, size) in
+    let room : 1 ≤ left = omega (arith, size) in
+    let all : n ≡ length (numbers_text numbers) = ap length h.content_is.0 in
+    let eight : n % 8 ≡ 0 = eights n (length numbers) (all ∙ serials_size numbers) in
+    let walk = serials_go numbers n 0 (left - length text) rest (omega (arith, all)) in
+    goes_from (places.SubsectionType left) (next_subsection (left - length text)) (text ++ rest) (0x20 ∷ (string content ++ rest)) rest (ap (λ (x : List ℕ). x ++ rest) h.spelled)
+    (goes_then (places.SubsectionType left) (places.SerialsLength (left - 1)) (next_subsection (left - length text)) (0x20 ∷ (string content ++ rest)) (string content ++ rest) rest
+    (goes_one (places.SubsectionType left) (places.SerialsLength (left - 1)) (0x20 ∷ []) (string content ++ rest) room refl refl)
+    (part_goes (places.SerialsLength (left - 1)) (next_serial n (left - length text)) (left - 1) (λ size. judge (size % 8 == 0) faults.Length (next_serial size (left - 1 - 4 - size))) content rest refl
+    (omega (arith, size)) h.fits (judge_is (eqb (n % 8) 0) faults.Length (next_serial n (left - 1 - 4 - n)) (eq-eqb (n % 8) 0 eight) ∙ ap (λ (m : ℕ). Ok (next_serial n m)) behind)
+    (next_subsection (left - length text)) (goes_from (next_serial n (left - length text)) (next_subsection (left - length text)) (content ++ rest) (numbers_text numbers ++ rest) rest (ap (λ (x : List ℕ). x ++ rest) h.content_is.0) walk)))
+subsection_goes left (Range min max) text rest h le fits =
+    let content = h.content in
+    let n = length content in
+    let size : length text ≡ 5 + n = ap length h.spelled ∙ (let e : length (0x21 ∷ string content) ≡ 5 + n = omega (arith, length-string content) in e) in
+    let behind : left - 1 - 4 - n ≡ left - length text = omega (arith, size) in
+    let room : 1 ≤ left = omega (arith, size) in
+    let all : n ≡ 16 = ap length h.content_is.0 ∙ length-append (number 8 min) (number 8 max) ∙ (let e : length (number 8 min) + length (number 8 max) ≡ 16 = omega (arith, length-number8 min, length-number8 max) in e) in
+    let b = left - length text in
+    let low : number_of (number 8 min) ≡ min = number_again8 min (omega (arith, h.content_is.1, h.content_is.2)) in
+    let high : number_of (number 8 max) ≡ max = number_again8 max h.content_is.2 in
+    let second = goes_one (places.RangeMax min b) (next_subsection b) (number 8 max) rest tt (length-number8 max)
+    (judge_is (leb min (number_of (number 8 max))) faults.RangeReversed (next_subsection b) (le-leb min (number_of (number 8 max)) (omega (arith, high, h.content_is.1)))) in
+    let first = goes_one (places.RangeMin b) (places.RangeMax min b) (number 8 min) (number 8 max ++ rest) tt (length-number8 min) (ap (λ (m : ℕ). Ok (places.RangeMax m b)) low) in
+    let parts : content ++ rest ≡ number 8 min ++ (number 8 max ++ rest) = ap (λ (x : List ℕ). x ++ rest) h.content_is.0 ∙ append_assoc (number 8 min) (number 8 max) rest in
+    let walk = goes_from (places.RangeMin b) (next_subsection b) (content ++ rest) (number 8 min ++ (number 8 max ++ rest)) rest parts
+    (goes_then (places.RangeMin b) (places.RangeMax min b) (next_subsection b) (number 8 min ++ (number 8 max ++ rest)) (number 8 max ++ rest) rest first second) in
+    goes_from (places.SubsectionType left) (next_subsection b) (text ++ rest) (0x21 ∷ (string content ++ rest)) rest (ap (λ (x : List ℕ). x ++ rest) h.spelled)
+    (goes_then (places.SubsectionType left) (places.RangeLength (left - 1)) (next_subsection b) (0x21 ∷ (string content ++ rest)) (string content ++ rest) rest
+    (goes_one (places.SubsectionType left) (places.RangeLength (left - 1)) (0x21 ∷ []) (string content ++ rest) room refl refl)
+    (part_goes (places.RangeLength (left - 1)) (places.RangeMin b) (left - 1) (λ size. judge (size == 16) faults.Length (places.RangeMin (left - 1 - 4 - size))) content rest refl
+    (omega (arith, size)) h.fits (judge_is (eqb n 16) faults.Length (places.RangeMin (left - 1 - 4 - n)) (eq-eqb n 16 all) ∙ ap (λ (m : ℕ). Ok (places.RangeMin m)) behind)
+    (next_subsection b) walk))
+subsection_goes left (Bitmap offset value) text rest h le fits =
+    let content = h.content in
+    let n = length content in
+    let m = h.content_is in
+    let bits = m.bytes in
+    let size : length text ≡ 5 + n = ap length h.spelled ∙ (let e : length (0x22 ∷ string content) ≡ 5 + n = omega (arith, length-string content) in e) in
+    let behind : left - 1 - 4 - n ≡ left - length text = omega (arith, size) in
+    let room : 1 ≤ left = omega (arith, size) in
+    let b = left - length text in
+    let all : n ≡ 8 + (4 + length bits) = ap length m.spelled ∙ length-append (number 8 offset) (string bits) ∙ (let e : length (number 8 offset) + length (string bits) ≡ 8 + (4 + length bits) = omega (arith, length-number8 offset, length-string bits) in e) in
+    let content_bytes : IsBytes content = string_bytes content (bytes_tail (0x22 ∷ []) (string content) (subst IsBytes h.spelled fits)) in
+    let bits_bytes : IsBytes bits = string_bytes bits (bytes_tail (number 8 offset) (string bits) (subst IsBytes m.spelled content_bytes)) in
+    let less : n - 8 ≡ 4 + length bits = omega (arith, all) in
+    let fewer : n - 8 - 4 ≡ length bits = omega (arith, all) in
+    let within' : (k : ℕ) → bit_at (number_of bits) k ≡ 1 → offset + k < 2 ^ 64 = λ k set. m.within k (subst (λ (v : ℕ). bit_at v k ≡ 1) (sym m.value_is) set) in
+    let walk_bits = bits_go bits offset (length bits) b rest bits_bytes (omega arith) (λ e. m.positive) within' in
+    let sized = content_goes (places.BitmapSize offset (n - 8) b) (next_bits offset (length bits) (length bits) b) (next_subsection b) bits rest (let r : 4 ≤ n - 8 = omega (arith, all) in r) refl (omega (arith, all, h.fits))
+    (λ field e. judge_is (eqb (number_of field) (n - 8 - 4)) faults.Length (next_bits offset (n - 8 - 4) (n - 8 - 4) b) (eq-eqb (number_of field) (n - 8 - 4) (e ∙ sym fewer))
+    ∙ ap (λ (k : ℕ). Ok (next_bits offset k k b)) fewer) walk_bits in
+    let first = goes_one (places.BitmapOffset n b) (places.BitmapSize offset (n - 8) b) (number 8 offset) (string bits ++ rest) (let r : 8 ≤ n = omega (arith, all) in r) (length-number8 offset)
+    (ap (λ (k : ℕ). Ok (places.BitmapSize k (n - 8) b)) (number_again8 offset m.offset_fits)) in
+    let parts : content ++ rest ≡ number 8 offset ++ (string bits ++ rest) = ap (λ (x : List ℕ). x ++ rest) m.spelled ∙ append_assoc (number 8 offset) (string bits) rest in
+    let walk = goes_from (places.BitmapOffset n b) (next_subsection b) (content ++ rest) (number 8 offset ++ (string bits ++ rest)) rest parts
+    (goes_then (places.BitmapOffset n b) (places.BitmapSize offset (n - 8) b) (next_subsection b) (number 8 offset ++ (string bits ++ rest)) (string bits ++ rest) rest first sized) in
+    goes_from (places.SubsectionType left) (next_subsection b) (text ++ rest) (0x22 ∷ (string content ++ rest)) rest (ap (λ (x : List ℕ). x ++ rest) h.spelled)
+    (goes_then (places.SubsectionType left) (places.BitmapLength (left - 1)) (next_subsection b) (0x22 ∷ (string content ++ rest)) (string content ++ rest) rest
+    (goes_one (places.SubsectionType left) (places.BitmapLength (left - 1)) (0x22 ∷ []) (string content ++ rest) room refl refl)
+    (part_goes (places.BitmapLength (left - 1)) (places.BitmapOffset n b) (left - 1) (λ size. Ok (places.BitmapOffset size (left - 1 - 4 - size))) content rest refl
+    (omega (arith, size)) h.fits (ap (λ (k : ℕ). Ok (places.BitmapOffset n k)) behind) (next_subsection b) walk))
+subsection_goes left (Ids texts) text rest h le fits =
+    let content = h.content in
+    let n = length content in
+    let size : length text ≡ 5 + n = ap length h.spelled ∙ (let e : length (0x23 ∷ string content) ≡ 5 + n = omega (arith, length-string content) in e) in
+    let behind : left - 1 - 4 - n ≡ left - length text = omega (arith, size) in
+    let room : 1 ≤ left = omega (arith, size) in
+    let b = left - length text in
+    let all : n ≡ length (strings texts) = ap length h.content_is in
+    let walk = goes_from (next_id n b) (next_subsection b) (content ++ rest) (strings texts ++ rest) rest (ap (λ (x : List ℕ). x ++ rest) h.content_is) (ids_go texts n 0 b rest (omega (arith, all)) h.fits) in
+    goes_from (places.SubsectionType left) (next_subsection b) (text ++ rest) (0x23 ∷ (string content ++ rest)) rest (ap (λ (x : List ℕ). x ++ rest) h.spelled)
+    (goes_then (places.SubsectionType left) (places.IdsLength (left - 1)) (next_subsection b) (0x23 ∷ (string content ++ rest)) (string content ++ rest) rest
+    (goes_one (places.SubsectionType left) (places.IdsLength (left - 1)) (0x23 ∷ []) (string content ++ rest) room refl refl)
+    (part_goes (places.IdsLength (left - 1)) (next_id n b) (left - 1) (λ size. Ok (next_id size (left - 1 - 4 - size))) content rest refl
+    (omega (arith, size)) h.fits (ap (λ (k : ℕ). Ok (next_id n k)) behind) (next_subsection b) walk))
+subsection_goes left SubsectionExtension text rest h le fits =
+    let content = h.content in
+    let n = length content in
+    let size : length text ≡ 5 + n = ap length h.spelled ∙ (let e : length (0x39 ∷ string content) ≡ 5 + n = omega (arith, length-string content) in e) in
+    let behind : left - 1 - 4 - n ≡ left - length text = omega (arith, size) in
+    let room : 1 ≤ left = omega (arith, size) in
+    let b = left - length text in
+    goes_from (places.SubsectionType left) (next_subsection b) (text ++ rest) (0x39 ∷ (string content ++ rest)) rest (ap (λ (x : List ℕ). x ++ rest) h.spelled)
+    (goes_then (places.SubsectionType left) (places.SubsectionExtensionLength (left - 1)) (next_subsection b) (0x39 ∷ (string content ++ rest)) (string content ++ rest) rest
+    (goes_one (places.SubsectionType left) (places.SubsectionExtensionLength (left - 1)) (0x39 ∷ []) (string content ++ rest) room refl refl)
+    (part_goes (places.SubsectionExtensionLength (left - 1)) (places.ExtensionNameLength n b) (left - 1) (λ size. Ok (places.ExtensionNameLength size (left - 1 - 4 - size))) content rest refl
+    (omega (arith, size)) h.fits (ap (λ (k : ℕ). Ok (places.ExtensionNameLength n k)) behind) (next_subsection b) (extension_goes n b content rest h.content_is refl h.fits)))
+
+-- a subsection is not empty
+subsection_some : (sub : Subsection) (text : List ℕ) → SpellsSubsection text sub → 0 < length text
+subsection_some sub text h = omega (arith, ap length h.spelled)
+
+pub subsections_go : (subs : List Subsection) (body rest : List ℕ) (total : ℕ) → SpellsEach SpellsSubsection body subs → total ≡ length body → IsBytes body
+    → Goes (next_subsection total) (body ++ rest) (places.SectionType false) rest
+subsections_go [] body rest total h e fits =
+    let none : total ≡ 0 = e ∙ ap length h in
+    goes_from (next_subsection total) (places.SectionType false) (body ++ rest) rest rest (ap (λ (x : List ℕ). x ++ rest) h)
+    (subst (λ (m : ℕ). Goes (next_subsection m) rest (places.SectionType false) rest) (sym none) (goes_none (places.SectionType false) rest))
+subsections_go (sub ∷ subs) body rest zero (first, (later, (parts, spelled, others))) e fits =
+    absurd (omega (arith, e, ap length parts, length-append first later, subsection_some sub first spelled))
+subsections_go (sub ∷ subs) body rest (suc k) (first, (later, (parts, spelled, others))) e fits =
+    let len = length-append first later in
+    let all = subst IsBytes parts fits in
+    let left : suc k - length first ≡ length later = omega (arith, e, ap length parts, len) in
+    goes_from (places.SubsectionType (suc k)) (places.SectionType false) (body ++ rest) (first ++ (later ++ rest)) rest (ap (λ (x : List ℕ). x ++ rest) parts ∙ append_assoc first later rest)
+    (goes_then (places.SubsectionType (suc k)) (next_subsection (suc k - length first)) (places.SectionType false) (first ++ (later ++ rest)) (later ++ rest) rest
+    (subsection_goes (suc k) sub first (later ++ rest) spelled (omega (arith, e, ap length parts, len)) (bytes_head first later all))
+    (subsections_go subs later rest (suc k - length first) others left (bytes_tail first later all)))

@@ -1,0 +1,161 @@
+-- A list that is spelled has no fault, where it is within the limit.
+use Rattle.std.proofs.Common.{◌≡◌, ℕ, ◌+◌, ◌-◌, ◌<◌, ◌≤◌, ◌^◌, ◌⊎◌, Bool, true, false, ltb, List, [], ◌∷◌, ◌++◌, length, take, Option, Some, None, Ok, refl, sym, ap, subst, ◌∙◌, append_assoc, arith, inl, inr}
+use Rattle.std.specs.List.{AllByRecursion}
+use Rattle.std.proofs.lemmas.Bool.{le-ltb}
+use Rattle.std.proofs.lemmas.List.{append-nil, length-append, take_all}
+use Rattle.ssh_wire.specs.Wire.{IsBytes, number_of, string, strings}
+use Rattle.krl_core.specs.declared.krl_fault.KrlFault.{KrlFault}
+use Rattle.krl_core.specs.declared.krl_fault.KrlFault.TheVariants as faults
+use Rattle.krl_core.specs.declared.header.Header.{Header}
+use Rattle.krl_core.specs.declared.place.Place.{Place}
+use Rattle.krl_core.specs.declared.place.Place.TheVariants as places
+use Rattle.krl_core.specs.Front.{start, limit, IsFirstFault, Told, ended}
+use Rattle.krl_core.specs.Krl.{Section, Certificates, Keys, Sha1s, Sha256s, Signature, Extension, Spells, SpellsEach, SpellsSection, SignaturesLast, IsSignature, header_text}
+use Rattle.krl_core.specs.Place.{due, next_key, next_sha1, next_sha256, next_subsection}
+use Rattle.krl_core.specs.Reading.{Says, starved, failed_read, first}
+use Rattle.krl_core.proofs.Completes.{length-string}
+use Rattle.krl_core.proofs.Fronts.{first_fault_is, one_told}
+use Rattle.krl_core.proofs.Goes.{Goes, goes_none, goes_one, goes_then, goes_from, arrives}
+use Rattle.krl_core.proofs.Rests.{LastFor}
+use Rattle.krl_core.proofs.Spelled.{string_goes, content_goes, within_is, header_goes, keys_go, sha1s_go, sha256s_go, extension_goes, subsections_go, bytes_head, bytes_tail, string_bytes}
+
+abbrev signed_after : Section → Bool
+signed_after Signature = true
+signed_after _ = false
+
+-- a section of another type than a signature, from its type byte on
+typed_goes : (signed : Bool) (n : ℕ) (q : Place) (content rest : List ℕ) → signed ≡ false → length content < 2 ^ 32
+    → (due (places.SectionType false)).judged (n ∷ []) ≡ Ok q → ((r : Place) → Goes q (string content ++ rest) r rest → Goes (places.SectionType false) (n ∷ (string content ++ rest)) r rest)
+typed_goes signed n q content rest off fits judged r w =
+    goes_then (places.SectionType false) q r (n ∷ (string content ++ rest)) (string content ++ rest) rest
+    (goes_one (places.SectionType false) q (n ∷ []) (string content ++ rest) tt refl judged) w
+
+certificates_go : (content rest authority reserved body : List ℕ) (total : ℕ) → content ≡ string authority ++ (string reserved ++ body) → total ≡ length content → total < 2 ^ 32
+    → Goes (next_subsection (length body)) (body ++ rest) (places.SectionType false) rest → Goes (places.AuthorityLength total) (content ++ rest) (places.SectionType false) rest
+certificates_go content rest authority reserved body total parts size fits w =
+    let len = ap length parts ∙ length-append (string authority) (string reserved ++ body) in
+    let len' = length-append (string reserved) body in
+    let a = length-string authority in
+    let r = length-string reserved in
+    let l1 : ℕ = 4 + length reserved + length body in
+    let first_left : total - 4 - length authority ≡ l1 = omega (arith, len, len', a, r, size) in
+    let second_left : l1 - 4 - length reserved ≡ length body = omega arith in
+    let r1 : List ℕ = string reserved ++ (body ++ rest) in
+    let second = goes_then (places.SectionReservedLength l1) (next_subsection (length body)) (places.SectionType false) r1 (body ++ rest) rest
+    (string_goes (places.SectionReservedLength l1) (places.SectionReserved (length reserved) (length body)) (next_subsection (length body)) reserved (body ++ rest) (let e : 4 ≤ l1 = omega arith in e) refl
+    (omega (arith, len, len', a, r, size))
+    (λ field e. within_is l1 (λ m. Ok (places.SectionReserved m (l1 - 4 - m))) (number_of field) (length reserved) e (omega arith) ∙ ap (λ (m : ℕ). Ok (places.SectionReserved (length reserved) m)) second_left) tt refl refl) w in
+    goes_from (places.AuthorityLength total) (places.SectionType false) (content ++ rest) (string authority ++ r1) rest
+    (ap (λ (x : List ℕ). x ++ rest) parts ∙ append_assoc (string authority) (string reserved ++ body) rest ∙ ap (λ (x : List ℕ). string authority ++ x) (append_assoc (string reserved) body rest))
+    (goes_then (places.AuthorityLength total) (places.SectionReservedLength l1) (places.SectionType false) (string authority ++ r1) r1 rest
+    (string_goes (places.AuthorityLength total) (places.Authority (length authority) l1) (places.SectionReservedLength l1) authority r1 (let e : 4 ≤ total = omega (arith, len, a, size) in e) refl
+    (omega (arith, len, len', a, r, size))
+    (λ field e. within_is total (λ m. Ok (places.Authority m (total - 4 - m))) (number_of field) (length authority) e (omega (arith, len, len', a, r, size)) ∙ ap (λ (m : ℕ). Ok (places.Authority (length authority) m)) first_left) tt refl refl) second)
+
+section_goes : (section : Section) (signed : Bool) (text rest : List ℕ) → SpellsSection text section → LastFor signed (section ∷ []) → IsBytes text
+    → Goes (places.SectionType signed) (text ++ rest) (places.SectionType (signed_after section)) rest
+unfolding number_of
+section_goes (Certificates authority subs) true text rest h last fits = absurd last.0
+section_goes (Certificates authority subs) false text rest h last fits =
+    let c = h.content_is in
+    let all = string_bytes h.content (bytes_tail (1 ∷ []) (string h.content) (subst IsBytes h.spelled fits)) in
+    let body_bytes = bytes_tail (string c.reserved) c.body (bytes_tail (string authority) (string c.reserved ++ c.body) (subst IsBytes c.spelled all)) in
+    goes_from (places.SectionType false) (places.SectionType false) (text ++ rest) (1 ∷ (string h.content ++ rest)) rest (ap (λ (x : List ℕ). x ++ rest) h.spelled)
+    (typed_goes false 1 places.CertificatesLength h.content rest refl h.fits refl (places.SectionType false)
+    (content_goes places.CertificatesLength (places.AuthorityLength (length h.content)) (places.SectionType false) h.content rest tt refl h.fits (λ field e. ap (λ (n : ℕ). Ok (places.AuthorityLength n)) e)
+    (certificates_go h.content rest authority c.reserved c.body (length h.content) c.spelled refl h.fits (subsections_go subs c.body rest (length c.body) c.subsections_are refl body_bytes))))
+section_goes (Keys blobs) true text rest h last fits = absurd last.0
+section_goes (Keys blobs) false text rest h last fits =
+    let all : length h.content ≡ length (strings blobs) = ap length h.content_is in
+    goes_from (places.SectionType false) (places.SectionType false) (text ++ rest) (2 ∷ (string h.content ++ rest)) rest (ap (λ (x : List ℕ). x ++ rest) h.spelled)
+    (typed_goes false 2 places.KeysLength h.content rest refl h.fits refl (places.SectionType false)
+    (content_goes places.KeysLength (next_key (length h.content)) (places.SectionType false) h.content rest tt refl h.fits (λ field e. ap (λ (n : ℕ). Ok (next_key n)) e)
+    (goes_from (next_key (length h.content)) (places.SectionType false) (h.content ++ rest) (strings blobs ++ rest) rest (ap (λ (x : List ℕ). x ++ rest) h.content_is)
+    (keys_go blobs (length h.content) 0 rest (omega (arith, all)) h.fits))))
+section_goes (Sha1s hashes) true text rest h last fits = absurd last.0
+section_goes (Sha1s hashes) false text rest h last fits =
+    let all : length h.content ≡ length (strings hashes) = ap length h.content_is.0 in
+    goes_from (places.SectionType false) (places.SectionType false) (text ++ rest) (3 ∷ (string h.content ++ rest)) rest (ap (λ (x : List ℕ). x ++ rest) h.spelled)
+    (typed_goes false 3 places.Sha1sLength h.content rest refl h.fits refl (places.SectionType false)
+    (content_goes places.Sha1sLength (next_sha1 (length h.content)) (places.SectionType false) h.content rest tt refl h.fits (λ field e. ap (λ (n : ℕ). Ok (next_sha1 n)) e)
+    (goes_from (next_sha1 (length h.content)) (places.SectionType false) (h.content ++ rest) (strings hashes ++ rest) rest (ap (λ (x : List ℕ). x ++ rest) h.content_is.0)
+    (sha1s_go hashes (length h.content) 0 rest (omega (arith, all)) h.fits h.content_is.1))))
+section_goes (Sha256s hashes) true text rest h last fits = absurd last.0
+section_goes (Sha256s hashes) false text rest h last fits =
+    let all : length h.content ≡ length (strings hashes) = ap length h.content_is.0 in
+    goes_from (places.SectionType false) (places.SectionType false) (text ++ rest) (5 ∷ (string h.content ++ rest)) rest (ap (λ (x : List ℕ). x ++ rest) h.spelled)
+    (typed_goes false 5 places.Sha256sLength h.content rest refl h.fits refl (places.SectionType false)
+    (content_goes places.Sha256sLength (next_sha256 (length h.content)) (places.SectionType false) h.content rest tt refl h.fits (λ field e. ap (λ (n : ℕ). Ok (next_sha256 n)) e)
+    (goes_from (next_sha256 (length h.content)) (places.SectionType false) (h.content ++ rest) (strings hashes ++ rest) rest (ap (λ (x : List ℕ). x ++ rest) h.content_is.0)
+    (sha256s_go hashes (length h.content) 0 rest (omega (arith, all)) h.fits h.content_is.1))))
+section_goes Extension true text rest h last fits = absurd last.0
+section_goes Extension false text rest h last fits =
+    goes_from (places.SectionType false) (places.SectionType false) (text ++ rest) (255 ∷ (string h.content ++ rest)) rest (ap (λ (x : List ℕ). x ++ rest) h.spelled)
+    (typed_goes false 255 places.ExtensionLength h.content rest refl h.fits refl (places.SectionType false)
+    (content_goes places.ExtensionLength (places.ExtensionNameLength (length h.content) 0) (places.SectionType false) h.content rest tt refl h.fits (λ field e. ap (λ (n : ℕ). Ok (places.ExtensionNameLength n 0)) e)
+    (extension_goes (length h.content) 0 h.content rest h.content_is refl h.fits)))
+section_goes Signature signed text rest h last fits =
+    let r1 : List ℕ = string h.signature ++ rest in
+    goes_from (places.SectionType signed) (places.SectionType true) (text ++ rest) (4 ∷ (string h.key ++ r1)) rest
+    (ap (λ (x : List ℕ). x ++ rest) h.spelled ∙ ap (λ (x : List ℕ). 4 ∷ x) (append_assoc (string h.key) (string h.signature) rest))
+    (goes_then (places.SectionType signed) places.SignatureKeyLength (places.SectionType true) (4 ∷ (string h.key ++ r1)) (string h.key ++ r1) rest
+    (goes_one (places.SectionType signed) places.SignatureKeyLength (4 ∷ []) (string h.key ++ r1) tt refl refl)
+    (goes_then places.SignatureKeyLength places.SignatureLength (places.SectionType true) (string h.key ++ r1) r1 rest
+    (string_goes places.SignatureKeyLength (places.SignatureKey (length h.key)) places.SignatureLength h.key r1 tt refl h.key_fits (λ field e. ap (λ (n : ℕ). Ok (places.SignatureKey n)) e) tt refl refl)
+    (string_goes places.SignatureLength (places.Signature (length h.signature)) (places.SectionType true) h.signature rest tt refl h.signature_fits (λ field e. ap (λ (n : ℕ). Ok (places.Signature n)) e) tt refl refl)))
+
+last_first : (signed : Bool) (section : Section) (sections : List Section) → LastFor signed (section ∷ sections) → LastFor signed (section ∷ []) × LastFor (signed_after section) sections
+last_first true Signature sections h = ((tt, tt), h.1)
+last_first true (Certificates a s) sections h = absurd h.0
+last_first true (Keys b) sections h = absurd h.0
+last_first true (Sha1s b) sections h = absurd h.0
+last_first true (Sha256s b) sections h = absurd h.0
+last_first true Extension sections h = absurd h.0
+last_first false Signature sections h = (tt, h)
+last_first false (Certificates a s) sections h = (tt, h)
+last_first false (Keys b) sections h = (tt, h)
+last_first false (Sha1s b) sections h = (tt, h)
+last_first false (Sha256s b) sections h = (tt, h)
+last_first false Extension sections h = (tt, h)
+
+sections_go : (sections : List Section) (signed : Bool) (body : List ℕ) → SpellsEach SpellsSection body sections → LastFor signed sections → IsBytes body
+    → (b : Bool) × Goes (places.SectionType signed) body (places.SectionType b) []
+sections_go [] signed body h last fits = (signed, goes_from (places.SectionType signed) (places.SectionType signed) body [] [] h (goes_none (places.SectionType signed) []))
+sections_go (section ∷ sections) signed body (first_one, (later, (parts, spelled, others))) last fits =
+    let all = subst IsBytes parts fits in
+    let both = last_first signed section sections last in
+    let one = section_goes section signed first_one later spelled both.0 (bytes_head first_one later all) in
+    let more = sections_go sections (signed_after section) later others both.1 (bytes_tail first_one later all) in (
+      more.0,
+      goes_from (places.SectionType signed) (places.SectionType more.0) body (first_one ++ later) [] parts
+          (goes_then (places.SectionType signed) (places.SectionType (signed_after section)) (places.SectionType more.0) (first_one ++ later) later [] one more.1),
+    )
+
+-- what is spelled within the limit has no fault
+pub spelled_unfaulted : (text : List ℕ) (header : Header) (sections : List Section) → IsBytes text → Spells text header sections → length text ≤ limit → IsFirstFault text None
+spelled_unfaulted text header sections fits h le =
+    let body_bytes = bytes_tail (header_text header h.flags h.reserved) h.body (subst IsBytes h.spelled fits) in
+    let rest = sections_go sections false h.body h.sections_are h.signatures_last body_bytes in
+    let walk = goes_from places.Magic (places.SectionType rest.0) text (header_text header h.flags h.reserved ++ h.body) [] h.spelled
+    (goes_then places.Magic (places.SectionType false) (places.SectionType rest.0) (header_text header h.flags h.reserved ++ h.body) h.body []
+    (header_goes header h.flags h.reserved h.body h.reserved_fits h.comment_fits) rest.1) in
+    let whole : take limit text ≡ text = take_all limit text le in
+    let off : ltb limit (length text) ≡ false = le-ltb limit (length text) le in
+    let a = arrives start places.Magic (places.SectionType rest.0) (take limit text) [] refl (goes_from places.Magic (places.SectionType rest.0) (take limit text) text [] whole walk) in
+    first_fault_is text None (record {
+      last = a.last;
+      rest = [];
+      walks = a.walks;
+      told = subst (λ (p : Place). Told p [] (ltb limit (length text)) None) (sym a.place_is) (ended (refl, refl) off refl);
+    })
+
+not_some : (fault : KrlFault) → Some fault ≡ None → ⊥
+not_some fault e = cc
+
+-- what is spelled is refused only where memory ran out or the reader failed
+pub only_starved : (fault : KrlFault) (failed : Bool) (text : List ℕ) (header : Header) (sections : List Section) → Says fault text failed → IsBytes text → Spells text header sections → length text ≤ limit
+    → (fault ≡ faults.NoMemory) ⊎ (fault ≡ faults.Read)
+only_starved fault failed text header sections (starved is) fits h le = inl is
+only_starved fault failed text header sections (failed_read is given) fits h le = inr is
+only_starved fault failed text header sections (first told works) fits h le =
+    absurd (not_some fault (one_told text (Some fault) None told (spelled_unfaulted text header sections fits h le)))

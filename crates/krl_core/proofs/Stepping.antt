@@ -1,0 +1,291 @@
+-- What a step of a reading did to the fields that were read, and what its faults say of the text.
+use Rattle.std.proofs.Common.{◌≡◌, ℕ, zero, suc, ◌+◌, ◌-◌, ◌*◌, ◌<◌, ◌≤◌, ◌⊎◌, Bool, true, false, ltb, List, [], ◌∷◌, ◌++◌, length, take, get_or, Option, Some, None, Result, Ok, Err, refl, sym, ap, subst, ◌∙◌, append_assoc, arith, inl, inr, IsSome}
+use Rattle.std.specs.List.{concat}
+use Rattle.std.specs.Io.KnownBytes.{Consumes, IsAtEnd, Keeps}
+use Rattle.std.proofs.lemmas.Bool.{cases_lt, le-ltb, lt-ltb}
+use Rattle.std.proofs.lemmas.List.{append-nil, length-append, take_all, get_or-append-add, get_or_append_left}
+use Rattle.std.proofs.lemmas.List.Folds.{concat-append}
+use Rattle.std.proofs.Math.Seq.{take-append_seam}
+use Rattle.ssh_wire.specs.Wire.{IsBytes}
+use Rattle.ssh_wire.specs.Pull.{Pulled, Looks, Takes, Refuses, left_of}
+use Rattle.ssh_wire.specs.declared.pull_fault.PullFault.{PullFault}
+use Rattle.ssh_wire.specs.declared.pull_fault.PullFault.TheVariants as pulls
+use Rattle.krl_core.specs.declared.krl_fault.KrlFault.{KrlFault}
+use Rattle.krl_core.specs.declared.krl_fault.KrlFault.TheVariants as faults
+use Rattle.krl_core.specs.declared.place.Place.{Place}
+use Rattle.krl_core.specs.Front.{Spot, start, spot_after, Leads, Passes, HasRoom, IsEnd, Told, ended, no_room, refused, too_long, ends_early, IsFirstFault, limit}
+use Rattle.krl_core.specs.Keeping.{Keeping, IsKept, KeepsField, GrowsWithin, IsStoredWithin}
+use Rattle.krl_core.specs.Place.{due, names, authority_after, header_after}
+use Rattle.krl_core.specs.Reading.{Position, working, HasRead, IsBounded, LooksFor, Missed, no_room as room_missed, cut, Says, starved, failed_read, first, FailsAfter, Refused, told_as}
+use Rattle.krl_core.specs.Walk.{Walks}
+use Rattle.krl_core.proofs.Fronts.{first_fault_is, end_size, end_room}
+use Rattle.krl_core.proofs.Walks.{Leads-push}
+
+-- ---- what a reader has left
+
+pub consumes_some : (a b : Option (List ℕ)) (rest field : List ℕ) → a ≡ Some rest → Consumes a b field
+    → (after : List ℕ) × (b ≡ Some after) × (rest ≡ field ++ after)
+consumes_some None b rest field e h = absurd (cc)
+consumes_some (Some xs) None rest field e h = absurd h
+consumes_some (Some xs) (Some ys) rest field e h = let same : xs ≡ rest = cc in (ys, refl, sym same ∙ h)
+
+pub keeps_some : (a b : Option (List ℕ)) (rest : List ℕ) → a ≡ Some rest → Keeps a b → b ≡ Some rest
+keeps_some None b rest e h = absurd (cc)
+keeps_some (Some xs) None rest e h = absurd h
+keeps_some (Some xs) (Some ys) rest e h = let same : xs ≡ rest = cc in ap (λ (l : List ℕ). Some l) (h ∙ same)
+
+pub at_end_none : (a : Option (List ℕ)) (rest : List ℕ) → a ≡ Some rest → IsAtEnd a → rest ≡ []
+at_end_none None rest e h = absurd (cc)
+at_end_none (Some xs) rest e h = let same : xs ≡ rest = cc in sym same ∙ h
+
+ahead_left : (ahead : Option ℕ) (source : Option (List ℕ)) (rest : List ℕ) (p : Pulled) → p.ahead ≡ ahead → p.source ≡ source
+    → left_of p ≡ Some rest → IsSome p.ahead → rest ≡ [] → ⊥
+ahead_left None source rest p e f left some none = let s = rw e at some in absurd (cc)
+ahead_left (Some byte) None rest p e f left some none = let l = rw (e, f) at left in absurd (cc)
+ahead_left (Some byte) (Some xs) rest p e f left some none = let l = rw (e, f) at left in absurd (cc)
+
+-- a byte that was looked at is left
+pub ahead_some : (p : Pulled) (rest : List ℕ) → left_of p ≡ Some rest → IsSome p.ahead → rest ≡ [] → ⊥
+ahead_some p rest left some none = ahead_left p.ahead p.source rest p refl refl left some none
+
+-- ---- the front that was read
+
+pub take_front : (done rest : List ℕ) (n : ℕ) → length done ≤ n → take n (done ++ rest) ≡ done ++ take (n - length done) rest
+take_front [] rest n le = ap (λ (k : ℕ). take k rest) (let e : n ≡ n - 0 = omega arith in e)
+take_front (x ∷ done) rest zero le = absurd (omega arith)
+take_front (x ∷ done) rest (suc n) le =
+    ap (λ (l : List ℕ). x ∷ l) (take_front done rest n (omega arith))
+    ∙ ap (λ (k : ℕ). x ∷ (done ++ take k rest)) (let e : n - length done ≡ suc n - suc (length done) = omega arith in e)
+
+-- what is told at the place that was reached is the first fault
+pub told_there : (text : List ℕ) (fields : List (List ℕ)) (p : Position) (h : HasRead text fields p) (fault : Option KrlFault)
+    → length (concat fields) ≤ limit
+    → Told p.place (take (limit - length (concat fields)) h.rest) (ltb limit (length text)) fault → IsFirstFault text fault
+told_there text fields p h fault le told =
+    let parts : take limit text ≡ concat fields ++ take (limit - length (concat fields)) h.rest =
+    ap (take limit) h.parts ∙ take_front (concat fields) h.rest limit le in
+    first_fault_is text fault (record {
+      last = h.spot;
+      rest = take (limit - length (concat fields)) h.rest;
+      walks = record { fields = fields; leads = h.leads; parts = parts };
+      told = subst (λ (place : Place). Told place (take (limit - length (concat fields)) h.rest) (ltb limit (length text)) fault) h.place_is told;
+    })
+
+-- the same of other bytes that begin with the fields
+told_given : (fields : List (List ℕ)) (spot : Spot) (came : List ℕ) (fault : Option KrlFault) → Leads start fields spot
+    → length (concat fields) + length came ≤ limit → Told spot.place came false fault → IsFirstFault (concat fields ++ came) fault
+told_given fields spot came fault leads le told =
+    let len = length-append (concat fields) came in
+    let whole : take limit (concat fields ++ came) ≡ concat fields ++ came = take_all limit (concat fields ++ came) (omega (arith, len)) in
+    let off : ltb limit (length (concat fields ++ came)) ≡ false = le-ltb limit (length (concat fields ++ came)) (omega (arith, len)) in
+    first_fault_is (concat fields ++ came) fault (record {
+      last = spot;
+      rest = came;
+      walks = record { fields = fields; leads = leads; parts = whole };
+      told = subst (λ (b : Bool). Told spot.place came b fault) (sym off) told;
+    })
+
+is_true : (b : Bool) → (b ≡ true) ⊎ (b ≡ true → ⊥)
+is_true true = inl refl
+is_true false = inr (λ e. cc)
+
+-- what is told where the bytes that came are less than the field
+end_or_early : (place : Place) (came : List ℕ) → HasRoom (due place) → length came < (due place).size
+    → Told place came false None ⊎ Told place came false (Some faults.EndsEarly)
+end_or_early place [] room short =
+    elim (is_true (due place).may_end) [
+      | inl here ↦ inl (ended (here, refl) refl refl)
+      | inr other ↦ inr (ends_early room short (λ at_end. other at_end.0) refl refl)
+    ]
+end_or_early place (x ∷ came) room short = inr (ends_early room short (λ at_end. let none = at_end.1 in absurd cc) refl refl)
+
+-- ---- faults
+
+says_as : (a b : KrlFault) (text : List ℕ) (failed : Bool) → b ≡ a → Says a text failed → Says b text failed
+says_as a b text failed e h = subst (λ (f : KrlFault). Says f text failed) (sym e) h
+
+-- the reader failed in a field, or where the end was looked for
+pub says_read : (old : Position) (mid new : Pulled) (text : List ℕ) (fields : List (List ℕ)) → IsBounded old.pull old.keeping
+    → HasRead text fields old → Keeps (left_of old.pull) (left_of mid) → mid.taken ≡ old.pull.taken → mid.limit ≡ old.pull.limit
+    → HasRoom (due old.place) → Refuses mid (due old.place).size pulls.Read new → Says faults.Read text new.failed
+says_read old mid new text fields bounded h keeps taken limit_is room r =
+    let left = keeps_some (left_of old.pull) (left_of mid) h.rest h.left_is keeps in
+    let m = r.misses in
+    let after = consumes_some (left_of mid) (left_of new) h.rest m.came left m.bytes in
+    let le : length (concat fields) + length m.came ≤ limit = omega (arith, m.within, taken, limit_is, bounded.limit_is, h.taken_is) in
+    let room' : HasRoom (due h.spot.place) = subst (λ (p : Place). HasRoom (due p)) h.place_is room in
+    let short : length m.came < (due h.spot.place).size = subst (λ (p : Place). length m.came < (due p).size) h.place_is m.part in
+    failed_read refl (record {
+      given = concat fields ++ m.came;
+      later = after.0;
+      parts = h.parts ∙ ap (λ (l : List ℕ). concat fields ++ l) after.2 ∙ sym (append_assoc (concat fields) m.came after.0);
+      failed_is = m.tells;
+      told = elim (end_or_early h.spot.place m.came room' short) [
+        | inl t ↦ inl (told_given fields h.spot m.came None h.leads le t)
+        | inr t ↦ inr (told_given fields h.spot m.came (Some faults.EndsEarly) h.leads le t)
+      ];
+    })
+
+says_early : (old : Position) (mid new : Pulled) (text : List ℕ) (fields : List (List ℕ)) → IsBounded old.pull old.keeping
+    → HasRead text fields old → LooksFor old.place old.pull false mid
+    → HasRoom (due old.place) → Refuses mid (due old.place).size pulls.EndsEarly new → Says faults.EndsEarly text new.failed
+says_early old mid new text fields bounded h looks room r =
+    let left = keeps_some (left_of old.pull) (left_of mid) h.rest h.left_is looks.bytes in
+    let m = r.misses in
+    let after = consumes_some (left_of mid) (left_of new) h.rest m.came left m.bytes in
+    let none : after.0 ≡ [] = at_end_none (left_of new) after.0 after.1 m.tells.0 in
+    let all : h.rest ≡ m.came = after.2 ∙ ap (λ (l : List ℕ). m.came ++ l) none ∙ append-nil m.came in
+    let len : length h.rest ≡ length m.came = ap length all in
+    let total : length text ≡ length (concat fields) + length h.rest = ap length h.parts ∙ length-append (concat fields) h.rest in
+    let le : length (concat fields) + length h.rest ≤ limit = omega (arith, len, m.within, looks.taken, looks.limit_is, bounded.limit_is, h.taken_is) in
+    let off : ltb limit (length text) ≡ false = le-ltb limit (length text) (omega (arith, total)) in
+    let whole : take (limit - length (concat fields)) h.rest ≡ h.rest = take_all (limit - length (concat fields)) h.rest (omega arith) in
+    let told : Told old.place h.rest false (Some faults.EndsEarly) =
+    ends_early room (omega (arith, m.part, len)) (λ at_end. ahead_some mid h.rest left (looks.goes_on refl at_end.0) at_end.1) refl refl in
+    first (told_there text fields old h (Some faults.EndsEarly) (omega arith)
+    (rw (whole, off) told)) m.tells.1
+
+says_long : (old : Position) (mid new : Pulled) (text : List ℕ) (fields : List (List ℕ)) → IsBounded old.pull old.keeping
+    → HasRead text fields old → LooksFor old.place old.pull false mid
+    → HasRoom (due old.place) → Refuses mid (due old.place).size pulls.TooLong new → Says faults.TooLong text new.failed
+says_long old mid new text fields bounded h looks room r =
+    let left = keeps_some (left_of old.pull) (left_of mid) h.rest h.left_is looks.bytes in
+    let m = r.misses in
+    let after = consumes_some (left_of mid) (left_of new) h.rest m.came left m.bytes in
+    let some : 0 < length after.0 = not_empty after.0 (ahead_some new after.0 after.1 m.tells.1) in
+    let len : length h.rest ≡ length m.came + length after.0 = ap length after.2 ∙ length-append m.came after.0 in
+    let total : length text ≡ length (concat fields) + length h.rest = ap length h.parts ∙ length-append (concat fields) h.rest in
+    let full : length (concat fields) + length m.came ≡ limit = omega (arith, m.tells.0, r.taken, r.limit, looks.taken, looks.limit_is, bounded.limit_is, h.taken_is) in
+    let on : ltb limit (length text) ≡ true = lt-ltb limit (length text) (omega (arith, total, len, full, some)) in
+    let left_size : limit - length (concat fields) ≡ length m.came = omega arith in
+    let front : take (limit - length (concat fields)) h.rest ≡ m.came =
+    ap (λ (n : ℕ). take n h.rest) left_size ∙ ap (take (length m.came)) after.2 ∙ take-append_seam m.came after.0 in
+    let told : Told old.place m.came true (Some faults.TooLong) = too_long room m.part refl refl in
+    first (told_there text fields old h (Some faults.TooLong) (omega arith) (rw (front, on) told)) m.tells.2
+  where
+    not_empty : (l : List ℕ) → (l ≡ [] → ⊥) → 0 < length l
+    not_empty [] h = absurd (h refl)
+    not_empty (x ∷ l) h = omega arith
+
+says_cut : (old : Position) (mid new : Pulled) (text : List ℕ) (fields : List (List ℕ)) (why : PullFault) → IsBounded old.pull old.keeping
+    → HasRead text fields old → LooksFor old.place old.pull false mid
+    → HasRoom (due old.place) → Refuses mid (due old.place).size why new → Says (told_as why) text new.failed
+says_cut old mid new text fields pulls.EndsEarly bounded h looks room r = says_early old mid new text fields bounded h looks room r
+says_cut old mid new text fields pulls.TooLong bounded h looks room r = says_long old mid new text fields bounded h looks room r
+says_cut old mid new text fields pulls.Read bounded h looks room r =
+    says_read old mid new text fields bounded h looks.bytes looks.taken looks.limit_is room r
+says_cut old mid new text fields pulls.NoMemory bounded h looks room r = starved refl
+
+-- a field that was not taken
+pub missed_says : (old : Position) (mid new : Pulled) (fault : KrlFault) → IsBounded old.pull old.keeping
+    → LooksFor old.place old.pull false mid → Missed old.place mid fault new → Refused fault old new
+missed_says old mid new fault bounded looks (room_missed full is same) text fields h =
+    let le : length (concat fields) ≤ limit = omega (arith, bounded.within, h.taken_is) in
+    says_as faults.Length fault text new.failed is
+    (first (told_there text fields old h (Some faults.Length) le (no_room full refl)) (ap (λ p. p.failed) same ∙ looks.works h.works))
+missed_says old mid new fault bounded looks (cut why room r is) text fields h =
+    says_as (told_as why) fault text new.failed is (says_cut old mid new text fields why bounded h looks room r)
+
+-- a field that was refused
+pub refused_says : (old : Position) (mid new : Pulled) (field : List ℕ) (fault : KrlFault) → IsBounded old.pull old.keeping
+    → LooksFor old.place old.pull false mid → Takes mid field new → HasRoom (due old.place) → length field ≡ (due old.place).size
+    → (fault ≡ faults.NoMemory) ⊎ ((due old.place).judged field ≡ Err fault) → Refused fault old new
+refused_says old mid new field fault bounded looks takes room size (inl none) text fields h = starved none
+refused_says old mid new field fault bounded looks takes room size (inr judged) text fields h =
+    let left = keeps_some (left_of old.pull) (left_of mid) h.rest h.left_is looks.bytes in
+    let after = consumes_some (left_of mid) (left_of new) h.rest field left takes.bytes in
+    let within : length (concat fields) + length field ≤ limit = omega (arith, takes.within, looks.taken, looks.limit_is, bounded.limit_is, h.taken_is) in
+    let front : take (limit - length (concat fields)) h.rest ≡ field ++ take (limit - length (concat fields) - length field) after.0 =
+    ap (take (limit - length (concat fields))) after.2 ∙ take_front field after.0 (limit - length (concat fields)) (omega arith) in
+    first (told_there text fields old h (Some fault) (omega arith)
+    (refused field (take (limit - length (concat fields) - length field) after.0) fault room front size judged refl)) takes.working
+
+-- ---- one field more
+
+bytes_append : (xs ys : List ℕ) → IsBytes xs → IsBytes ys → IsBytes (xs ++ ys)
+bytes_append xs ys h k i =
+    elim (cases_lt i (length xs)) [
+      | inl lt ↦ subst (λ (n : ℕ). n < 256) (sym (get_or_append_left xs ys 0 i lt)) (h i)
+      | inr le ↦
+          let e : i ≡ length xs + (i - length xs) = omega arith in
+          subst (λ (n : ℕ). n < 256) (sym (ap (λ (j : ℕ). get_or (xs ++ ys) j 0) e ∙ get_or-append-add xs ys (i - length xs) 0)) (k (i - length xs))
+    ]
+
+pub one_more : (old : Position) (mid new : Pulled) (place : Place) (keeping : Keeping) (field : List ℕ) → old.fault ≡ None
+    → LooksFor old.place old.pull false mid → Takes mid field new → Passes old.place field place → IsBytes field
+    → KeepsField old.place field place old.keeping keeping → (text : List ℕ) (fields : List (List ℕ)) → HasRead text fields old
+    → (f : List ℕ) × HasRead text (fields ++ f ∷ []) (working new place keeping)
+one_more old mid new place keeping field faultless looks takes passes bytes keeps text fields h =
+    let left = keeps_some (left_of old.pull) (left_of mid) h.rest h.left_is looks.bytes in
+    let after = consumes_some (left_of mid) (left_of new) h.rest field left takes.bytes in
+    let pass : Passes h.spot.place field place = subst (λ (p : Place). Passes p field place) h.place_is passes in
+    let joined : concat (fields ++ field ∷ []) ≡ concat fields ++ field = concat-append fields (field ∷ []) ∙ ap (λ (l : List ℕ). concat fields ++ l) (append-nil field) in
+    let place_is = h.place_is in
+    let authority_is = h.authority_is in
+    let header_is = h.header_is in
+    let named : names old.place old.keeping.authority field ≡ names h.spot.place h.spot.authority field = cc in
+    let authority : authority_after old.place old.keeping.authority field ≡ authority_after h.spot.place h.spot.authority field = cc in
+    let header : header_after old.place old.keeping.header field ≡ header_after h.spot.place h.spot.header field = cc in (
+      field,
+      record {
+        spot = spot_after h.spot field place;
+        leads = Leads-push start h.spot fields field place h.leads pass;
+        place_is = refl;
+        authority_is = keeps.authority_is ∙ authority;
+        header_is = keeps.header_is ∙ header;
+        kept = subst (λ n. IsKept keeping (h.spot.entries ++ n)) named (keeps.kept h.spot.entries h.kept);
+        are_bytes = subst IsBytes (sym joined) (bytes_append (concat fields) field h.are_bytes bytes);
+        rest = after.0;
+        left_is = after.1;
+        parts = h.parts ∙ ap (λ (l : List ℕ). concat fields ++ l) after.2 ∙ sym (append_assoc (concat fields) field after.0) ∙ ap (λ (l : List ℕ). l ++ after.0) (sym joined);
+        taken_is = omega (arith, takes.taken, looks.taken, h.taken_is, ap length joined, length-append (concat fields) field);
+        works = takes.working;
+        faultless = refl;
+      },
+    )
+
+pub bounded_more : (old : Position) (mid new : Pulled) (keeping : Keeping) (field : List ℕ) → IsBounded old.pull old.keeping
+    → LooksFor old.place old.pull false mid → Takes mid field new → GrowsWithin (length field) old.keeping keeping → IsBounded new keeping
+bounded_more old mid new keeping field b looks takes grows =
+    let taken : new.taken ≡ old.pull.taken + length field = omega (arith, takes.taken, looks.taken) in
+    record {
+      limit_is = takes.limit ∙ looks.limit_is ∙ b.limit_is;
+      within = omega (arith, takes.within, takes.taken, looks.limit_is, b.limit_is);
+      held_is = omega (arith, grows.held_is, b.held_is, taken);
+      stored_is = subst (λ (n : ℕ). IsStoredWithin keeping n) (sym taken) (grows.stored_is old.pull.taken b.stored_is);
+    }
+
+-- ---- the parts of a step
+
+pub keeps_refl : (a : Option (List ℕ)) → Keeps a a
+keeps_refl None = tt
+keeps_refl (Some xs) = refl
+
+pub looks_at : (place : Place) (old new : Pulled) (is_end : Bool) → (due place).may_end ≡ true → Looks old is_end new → LooksFor place old is_end new
+looks_at place old new true may h = record {
+  bytes = h.bytes;
+  taken = h.taken;
+  limit_is = h.limit;
+  works = λ _. h.working;
+  faultless = h.is_faultless;
+  at_end = λ _. (may, h.answer);
+  goes_on = λ off. absurd (cc);
+}
+looks_at place old new false may h = record {
+  bytes = h.bytes;
+  taken = h.taken;
+  limit_is = h.limit;
+  works = λ _. h.working;
+  faultless = h.is_faultless;
+  at_end = λ on. absurd (cc);
+  goes_on = λ _ _. h.answer;
+}
+
+-- the reader failed where the end was looked for
+pub end_refused : (old : Position) (new : Pulled) (fault : KrlFault) → IsBounded old.pull old.keeping → fault ≡ faults.Read
+    → (due old.place).may_end ≡ true → Refuses old.pull 1 pulls.Read new → Refused fault old new
+end_refused old new fault bounded is may r text fields h =
+    let one : (due old.place).size ≡ 1 = end_size old.place may in
+    let refuses : Refuses old.pull (due old.place).size pulls.Read new = subst (λ (n : ℕ). Refuses old.pull n pulls.Read new) (sym one) r in
+    says_as faults.Read fault text new.failed is
+    (says_read old old.pull new text fields bounded h (keeps_refl (left_of old.pull)) refl refl (end_room old.place may) refuses)

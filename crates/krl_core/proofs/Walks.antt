@@ -1,0 +1,49 @@
+-- Rows of fields joined, and a stop behind a row.
+use Rattle.std.proofs.Common.{◌≡◌, ℕ, Bool, List, [], ◌∷◌, ◌++◌, Option, refl, sym, ap, subst, ◌∙◌, append_assoc}
+use Rattle.std.specs.List.{concat}
+use Rattle.std.proofs.lemmas.List.{append-nil}
+use Rattle.std.proofs.lemmas.List.Folds.{concat-append}
+use Rattle.krl_core.specs.declared.krl_fault.KrlFault.{KrlFault}
+use Rattle.krl_core.specs.declared.place.Place.{Place}
+use Rattle.krl_core.specs.Front.{Spot, Passes, spot_after, Leads, Told}
+use Rattle.krl_core.specs.Walk.{Walks, Stops}
+
+pub Leads-append : (p q r : Spot) (fields more : List (List ℕ)) → Leads p fields q → Leads q more r → Leads p (fields ++ more) r
+Leads-append p q r [] more h k = subst (λ (x : Spot). Leads x more r) (sym h) k
+Leads-append p q r (field ∷ fields) more h k = (h.0, (h.1.0, Leads-append (spot_after p field h.0) q r fields more h.1.1 k))
+
+-- one field more
+pub Leads-push : (p q : Spot) (fields : List (List ℕ)) (field : List ℕ) (next : Place) → Leads p fields q
+    → Passes q.place field next → Leads p (fields ++ field ∷ []) (spot_after q field next)
+Leads-push p q fields field next h k =
+    Leads-append p q (spot_after q field next) fields (field ∷ []) h (next, (k, refl))
+
+pub walks_none : (p : Spot) (bytes : List ℕ) → Walks p bytes p bytes
+walks_none p bytes = record { fields = []; leads = refl; parts = refl }
+
+-- one whole field that passes its judgement
+pub walks_one : (p : Spot) (next : Place) (field rest : List ℕ) → Passes p.place field next
+    → Walks p (field ++ rest) (spot_after p field next) rest
+walks_one p next field rest pass = record {
+  fields = field ∷ [];
+  leads = (next, (pass, refl));
+  parts = ap (λ (x : List ℕ). x ++ rest) (sym (append-nil field));
+}
+
+pub walks_then : (p q r : Spot) (a b c : List ℕ) → Walks p a q b → Walks q b r c → Walks p a r c
+walks_then p q r a b c h k = record {
+  fields = h.fields ++ k.fields;
+  leads = Leads-append p q r h.fields k.fields h.leads k.leads;
+  parts = h.parts ∙ ap (λ (x : List ℕ). concat h.fields ++ x) k.parts ∙ sym (append_assoc (concat h.fields) (concat k.fields) c)
+      ∙ ap (λ (x : List ℕ). x ++ c) (sym (concat-append h.fields k.fields));
+}
+
+pub walks_from : (p q : Spot) (a b rest : List ℕ) → a ≡ b → Walks p b q rest → Walks p a q rest
+walks_from p q a b rest e w = subst (λ (x : List ℕ). Walks p x q rest) (sym e) w
+
+pub stops_then : (p q : Spot) (a b : List ℕ) (goes_on : Bool) (fault : Option KrlFault) → Walks p a q b → Stops q b goes_on fault → Stops p a goes_on fault
+stops_then p q a b goes_on fault h k =
+    record { last = k.last; rest = k.rest; walks = walks_then p q k.last a b k.rest h k.walks; told = k.told }
+
+pub stops_here : (p : Spot) (bytes : List ℕ) (goes_on : Bool) (fault : Option KrlFault) → Told p.place bytes goes_on fault → Stops p bytes goes_on fault
+stops_here p bytes goes_on fault told = record { last = p; rest = bytes; walks = walks_none p bytes; told = told }

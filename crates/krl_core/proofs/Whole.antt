@@ -1,0 +1,87 @@
+-- A whole list, read field by field.
+use Rattle.std.proofs.Common.{◌≡◌, ℕ, ◌+◌, ◌-◌, ◌*◌, ◌<◌, ◌≤◌, ◌↔◌, Bool, true, false, ltb, take, List, [], ◌++◌, length, Option, Some, None, refl, sym, ap, subst, ◌∙◌, arith}
+use Rattle.std.specs.List.{concat}
+use Rattle.std.specs.Option.{option_to_list}
+use Rattle.std.proofs.lemmas.List.{append-nil, take_all}
+use Rattle.std.proofs.lemmas.Bool.{le-ltb}
+use Rattle.serial_set.specs.declared.span.Span.{Span}
+use Rattle.ssh_wire.specs.Wire.{IsBytes}
+use Rattle.krl_core.specs.declared.header.Header.{Header}
+use Rattle.krl_core.specs.declared.place.Place.{Place}
+use Rattle.krl_core.specs.declared.place.Place.TheVariants.{SectionType}
+use Rattle.krl_core.specs.Contents.{Contents, Means, held, stored}
+use Rattle.krl_core.specs.Entry.{Entry}
+use Rattle.krl_core.specs.Front.{limit, IsFirstFault, Told, ended}
+use Rattle.krl_core.specs.Keeping.{Keeping, IsKept, InStep, run_entries, open_run}
+use Rattle.krl_core.specs.Naming.{NamesSame}
+use Rattle.krl_core.specs.Place.{due}
+use Rattle.krl_core.specs.Reading.{Position, HasRead, Follows, IsBounded, IsSound, IsWhole}
+use Rattle.krl_core.proofs.Exists.{weight, nearer}
+use Rattle.krl_core.proofs.Fronts.{first_fault_is}
+use Rattle.krl_core.proofs.Same.{same_is, same_sym, same_then}
+
+-- some fields of what the reader had were read, without a fault
+pub record Follow (left : Option (List ℕ)) (position : Position) : Type 0 where
+  pub reads : (text : List ℕ) → left ≡ Some text → (fields : List (List ℕ)) × HasRead text fields position
+  pub faultless : position.fault ≡ None
+  pub within : position.pull.taken ≤ limit
+
+-- each step brings the end nearer
+pub step_nearer : (old new : Position) → Follows old new
+    → 2 * (limit - new.pull.taken) + weight new.place < 2 * (limit - old.pull.taken) + weight old.place
+step_nearer old new h =
+    let near = nearer old.place new.place h.field h.passes.judged in
+    omega (arith, near, h.taken, h.within, h.passes.whole)
+
+iff_then : {A B C : Type 0} → (A ↔ B) → (B ↔ C) → (A ↔ C)
+iff_then h k = (λ x. k.0 (h.0 x), λ x. h.1 (k.1 x))
+
+-- what names the same is meant too
+pub means_same : (r : Contents) (xs ys : List Entry) → Means r xs → NamesSame xs ys → Means r ys
+means_same r xs ys h k = record {
+  orderly = h.orderly;
+  serials = λ a s. iff_then (h.serials a s) (k.serials a s);
+  ids = λ a text. iff_then (h.ids a text) (k.ids a text);
+  keys = λ blob. iff_then (h.keys blob) (k.keys blob);
+  sha1s = λ hash. iff_then (h.sha1s hash) (k.sha1s hash);
+  sha256s = λ hash. iff_then (h.sha256s hash) (k.sha256s hash);
+}
+
+-- where the list may end no run is open
+pub none_open : (p : Place) (keeping : Keeping) → (due p).may_end ≡ true → InStep p keeping.bitmap → keeping.bitmap.pending ≡ None
+none_open (SectionType signed) keeping may step = step
+none_open _ keeping may step = absurd (cc)
+
+pub whole_list : (text : List ℕ) (fields : List (List ℕ)) (p : Position) → IsSound p → HasRead text fields p → text ≡ concat fields
+    → (due p.place).may_end ≡ true → IsWhole text p.keeping.header p.keeping.contents
+whole_list text fields p sound h all may =
+    let none = none_open p.place p.keeping may (sound.in_step h.faultless) in
+    let size : p.pull.taken ≡ length text = h.taken_is ∙ sym (ap length all) in
+    let open_none : h.kept.closed ++ run_entries p.keeping.authority (open_run p.keeping) ≡ h.kept.closed =
+    ap (λ (o : Option Span). h.kept.closed ++ run_entries p.keeping.authority (option_to_list o)) none ∙ append-nil h.kept.closed in
+    record {
+      fields = fields;
+      spot = h.spot;
+      leads = h.leads;
+      text_is = all;
+      within = omega (arith, size, sound.bounded.within);
+      are_bytes = subst IsBytes (sym all) h.are_bytes;
+      may_end = subst (λ (q : Place). (due q).may_end ≡ true) h.place_is may;
+      header_is = h.header_is;
+      means = means_same p.keeping.contents h.kept.closed h.spot.entries h.kept.means
+          (subst (λ (xs : List Entry). NamesSame xs h.spot.entries) open_none h.kept.same);
+      held_is = omega (arith, sound.bounded.held_is, size);
+      stored_is = omega (arith, sound.bounded.stored_is.now, size);
+    }
+
+-- what leads to the end of a list has no fault
+pub whole_unfaulted : (text : List ℕ) (header : Header) (contents : Contents) → IsWhole text header contents → IsFirstFault text None
+whole_unfaulted text header contents h =
+    let all : take limit text ≡ text = take_all limit text h.within in
+    let off : ltb limit (length text) ≡ false = le-ltb limit (length text) h.within in
+    first_fault_is text None (record {
+      last = h.spot;
+      rest = [];
+      walks = record { fields = h.fields; leads = h.leads; parts = all ∙ h.text_is ∙ sym (append-nil (concat h.fields)) };
+      told = ended (h.may_end, refl) off refl;
+    })

@@ -1,0 +1,8 @@
+use Rattle.std.proofs.Common.{sym, ◌∙◌}
+use Rattle.krl_core.specs.Front.{start}
+use Rattle.krl_core.proofs.Fronts.{fronts_compare}
+use Rattle.krl_core.proofs.laws.lists.one_front_begins_the_other.Goals as goal
+
+pub returns : goal.returns
+returns c = λ text one other spot spot' rest rest' h k.
+    fronts_compare start spot spot' one other rest rest' h.leads k.leads (sym h.parts ∙ k.parts)

@@ -1,0 +1,6 @@
+use Rattle.krl_core.specs.Reading.{cut}
+use Rattle.krl_core.proofs.reading.take.Goals as goal
+
+pub returns-in-Err-clause-err : goal.returns-in-Err-clause-err
+returns-in-Err-clause-err g c =
+    cut c.in-Err.missed (c.has_room.ensures.0 c.if-not-has_room.false) (rw c.size.ensures at (c.in-Err.ensures.err c.requires)) c.told.ensures

@@ -1,0 +1,58 @@
+-- What an addition changes.
+use Rattle.std.specs.Prelude.{◌≡◌, ℕ, ◌+◌, ◌<◌, ◌≤◌, ◌⊎◌, List, [], ◌∷◌, ◌++◌, length, Contains, ⊤}
+use Rattle.serial_set.specs.Span.{Covers, IsRunsOf}
+use Rattle.krl_core.specs.declared.addition.Addition.{Addition}
+use Rattle.krl_core.specs.declared.addition.Addition.TheVariants.{Serials, Id}
+use Rattle.krl_core.specs.Contents.{Section}
+use Rattle.krl_core.specs.Inserting.{Inserts}
+
+-- the list with the bytes, which stay where they were or are put in
+abbrev pub Puts : (old : List (List ℕ)) (text : List ℕ) (new : List (List ℕ)) → Type 0
+Puts old text new = ((new ≡ old) × Contains old text) ⊎ Inserts (λ bytes. bytes) old text new
+
+-- the section with the serials from lo to hi
+pub record TakesSerials (lo hi : ℕ) (from to : Section) : Type 0 where
+  pub same : to ≡ record from { spans = to.spans }
+  pub runs : IsRunsOf to.spans (λ s. Covers from.spans s ⊎ ((lo ≤ s) × (s ≤ hi)))
+  pub one_more : length to.spans ≤ length from.spans + 1
+
+-- the section with the key ID
+pub record TakesId (text : List ℕ) (from to : Section) : Type 0 where
+  pub same : to ≡ record from { ids = to.ids }
+  pub put : Puts from.ids text to.ids
+
+-- the section with what is added
+abbrev pub Takes : Addition → Section → Section → Type 0
+Takes (Serials lo hi) from to = TakesSerials lo hi from to
+Takes (Id text) from to = TakesId text.now from to
+
+-- the numbers are serials in order
+abbrev pub IsSound : Addition → Type 0
+IsSound (Serials lo hi) = (0 < lo) × (lo ≤ hi)
+IsSound (Id text) = ⊤
+
+-- a section without anything
+abbrev pub empty_section : List ℕ → Section
+empty_section authority = record { authority = authority; spans = []; ids = [] }
+
+-- one section under the authority is changed, and the others stay
+pub record ChangesOne (Change : Section → Section → Type 0) (authority : List ℕ) (old new : List Section) : Type 0 where
+  pub front : List Section
+  pub back : List Section
+  pub from : Section
+  pub to : Section
+  pub before : old ≡ front ++ from ∷ back
+  pub after : new ≡ front ++ to ∷ back
+  pub under : from.authority ≡ authority
+  pub changed : Change from to
+
+-- a section that holds just the addition is put in
+pub record Starts (addition : Addition) (authority : List ℕ) (old new : List Section) : Type 0 where
+  pub section : Section
+  pub takes : Takes addition (empty_section authority) section
+  pub put : Inserts (λ section. section.authority) old section new
+
+-- what is added stands under the authority, in the section that there was or in a new one
+abbrev pub AddsTo : Addition → List ℕ → (old new : List Section) → Type 0
+AddsTo addition authority old new =
+    ChangesOne (Takes addition) authority old new ⊎ Starts addition authority old new

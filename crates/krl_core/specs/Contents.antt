@@ -1,0 +1,99 @@
+-- What revocations hold, as lists, and which entries they mean.
+use Rattle.std.specs.Prelude.{◌≡◌, ℕ, ◌+◌, ◌<◌, ◌⊎◌, ◌↔◌, List, [], ◌∷◌, length, sum_by, All, Contains}
+use Rattle.serial_set.specs.declared.span.Span.{Span}
+use Rattle.serial_set.specs.Span.{Covers, IsRuns, AreSerials}
+use Rattle.krl_core.specs.Entry.{Entry, IdEntry, KeyEntry, Sha1Entry, Sha256Entry}
+use Rattle.krl_core.specs.Naming.{SomeNamesAt}
+use Rattle.krl_core.specs.Rising.{Rises, RisesBy}
+
+-- what is held under one authority, by its bytes, or under all where there are none
+pub record Section : Type 0 where
+  pub authority : List ℕ
+  pub spans : List Span
+  pub ids : List (List ℕ)
+
+-- all that is held
+pub record Contents : Type 0 where
+  pub sections : List Section
+  pub keys : List (List ℕ)
+  pub sha1s : List (List ℕ)
+  pub sha256s : List (List ℕ)
+
+abbrev pub contents_of : List Section → (keys sha1s sha256s : List (List ℕ)) → Contents
+contents_of sections keys sha1s sha256s =
+    record { sections = sections; keys = keys; sha1s = sha1s; sha256s = sha256s }
+
+-- nothing is held
+abbrev pub nothing : Contents
+nothing = contents_of [] [] [] []
+
+-- ---- what is held under an authority
+
+-- something holds of some section
+abbrev pub SomeSection : (Section → Type 0) → List Section → Type 0
+SomeSection P [] = ⊥
+SomeSection P (section ∷ sections) = P section ⊎ SomeSection P sections
+
+-- the spans under just this authority have the number s in them
+abbrev pub HoldsSerial : List Section → List ℕ → ℕ → Type 0
+HoldsSerial sections a s =
+    SomeSection (λ section. (section.authority ≡ a) × Covers section.spans s) sections
+
+-- the text is a key ID under just this authority
+abbrev pub HoldsId : List Section → List ℕ → List ℕ → Type 0
+HoldsId sections a text =
+    SomeSection (λ section. (section.authority ≡ a) × Contains section.ids text) sections
+
+-- some section stands under just this authority
+abbrev pub IsNamed : Contents → List ℕ → Type 0
+IsNamed r a = SomeSection (λ section. section.authority ≡ a) r.sections
+
+-- ---- the order of what is held
+
+-- the spans are the runs of their serials, the IDs stand in order, and there is a span or an ID
+pub record IsListed (section : Section) : Type 0 where
+  pub runs : IsRuns section.spans
+  pub serials : AreSerials section.spans
+  pub ids_rise : Rises section.ids
+  pub some : (0 < length section.spans) ⊎ (0 < length section.ids)
+
+-- Each authority stands once and by its bytes, so that all authorities come first. Keys and hashes
+-- stand by their bytes, each once.
+pub record IsOrderly (r : Contents) : Type 0 where
+  pub authorities_rise : RisesBy (λ section. section.authority) r.sections
+  pub listed : All IsListed r.sections
+  pub keys_rise : Rises r.keys
+  pub sha1s_rise : Rises r.sha1s
+  pub sha256s_rise : Rises r.sha256s
+  pub sha1_size : All (λ hash. length hash ≡ 20) r.sha1s
+  pub sha256_size : All (λ hash. length hash ≡ 32) r.sha256s
+
+-- ---- what it means
+
+-- just what the entries name is held, in order
+pub record Means (r : Contents) (entries : List Entry) : Type 0 where
+  pub orderly : IsOrderly r
+  pub serials : (a : List ℕ) (s : ℕ) → HoldsSerial r.sections a s ↔ SomeNamesAt entries a s
+  pub ids : (a text : List ℕ) → HoldsId r.sections a text ↔ Contains entries (IdEntry a text)
+  pub keys : (blob : List ℕ) → Contains r.keys blob ↔ Contains entries (KeyEntry blob)
+  pub sha1s : (hash : List ℕ) → Contains r.sha1s hash ↔ Contains entries (Sha1Entry hash)
+  pub sha256s : (hash : List ℕ) → Contains r.sha256s hash ↔ Contains entries (Sha256Entry hash)
+
+-- ---- how much it is
+
+-- how many spans are held
+abbrev pub held : Contents → ℕ
+held r = sum_by (λ section. length section.spans) r.sections
+
+-- how many bytes some texts have
+abbrev pub size_of : List (List ℕ) → ℕ
+size_of texts = sum_by (λ text. length text) texts
+
+-- how many bytes the authority and the key IDs of a section have
+abbrev pub section_size : Section → ℕ
+section_size section = length section.authority + size_of section.ids
+
+-- how many bytes the named authorities, key IDs, keys and hashes have, each counted once
+abbrev pub stored : Contents → ℕ
+stored r =
+    sum_by section_size r.sections + size_of r.keys + size_of r.sha1s + size_of r.sha256s

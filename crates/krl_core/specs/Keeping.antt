@@ -1,0 +1,107 @@
+-- What a reading keeps of the fields that it has read.
+use Rattle.std.specs.Prelude.{◌≡◌, ℕ, ◌+◌, ◌-◌, ◌<◌, Bool, true, false, ◌*◌, ◌≤◌, ◌⊎◌, Option, None, Some, List, [], ◌∷◌, ◌++◌, length}
+use Rattle.std.specs.Option.{option_to_list}
+use Rattle.serial_set.specs.declared.span.Span.{Span}
+use Rattle.serial_set.specs.BitRuns.{FedBitmap}
+use Rattle.krl_core.specs.declared.header.Header.{Header}
+use Rattle.krl_core.specs.declared.place.Place.{Place}
+use Rattle.krl_core.specs.declared.place.Place.TheVariants.{BitmapByte}
+use Rattle.krl_core.specs.Contents.{Contents, IsNamed, Means, held, stored}
+use Rattle.krl_core.specs.Entry.{Entry, RangeEntry, BitmapEntry}
+use Rattle.krl_core.specs.Naming.{NamesSame}
+use Rattle.krl_core.specs.Place.{names, authority_after, header_after, base_of}
+
+-- What is known of the header, the authority in force, what is held, and how far the bitmap at hand
+-- is read.
+pub record Keeping : Type 0 where
+  pub header : Header
+  pub authority : List ℕ
+  pub contents : Contents
+  pub bitmap : FedBitmap
+
+-- the run of the bitmap at hand with which its next byte may go on
+abbrev pub open_run : Keeping → List Span
+open_run keeping = option_to_list keeping.bitmap.pending
+
+abbrev pub run_entries : List ℕ → List Span → List Entry
+run_entries authority [] = []
+run_entries authority (run ∷ runs) = RangeEntry authority run.lo run.hi ∷ run_entries authority runs
+
+-- What is held means some entries, which with the open run name the same as these.
+pub record IsKept (keeping : Keeping) (entries : List Entry) : Type 0 where
+  pub closed : List Entry
+  pub means : Means keeping.contents closed
+  pub same : NamesSame (closed ++ run_entries keeping.authority (open_run keeping)) entries
+
+-- at a byte of a bitmap the bytes before it are fed, and elsewhere no run is open
+abbrev pub InStep : Place → FedBitmap → Type 0
+InStep (BitmapByte offset size left behind) bitmap =
+    (0 < left)
+    × (bitmap ≡ record {
+      offset = offset;
+      len = size;
+      due = left;
+      pending = bitmap.pending;
+      fault = None;
+    })
+InStep _ bitmap = bitmap.pending ≡ None
+
+-- how many spans are held, the open run as one more
+abbrev pub held_with_open : Keeping → ℕ
+held_with_open keeping = held keeping.contents + length (open_run keeping)
+
+-- What is stored has at most n bytes, and so it has where the authority in force is counted too.
+pub record IsStoredWithin (keeping : Keeping) (n : ℕ) : Type 0 where
+  pub now : stored keeping.contents ≤ n
+  pub next : IsNamed keeping.contents keeping.authority
+      ⊎ (stored keeping.contents + length keeping.authority ≤ n)
+
+-- nothing changed but what is held
+pub record KeepsRest (old new : Keeping) : Type 0 where
+  pub authority_is : new.authority ≡ old.authority
+  pub header_is : new.header ≡ old.header
+  pub bitmap_is : new.bitmap ≡ old.bitmap
+
+-- These entries are kept too.
+abbrev pub AddsEntries : Keeping → List Entry → Keeping → Type 0
+AddsEntries old named new =
+    (entries : List Entry) → IsKept old entries → IsKept new (entries ++ named)
+
+-- these entries were added, and nothing else changed
+pub record Adds (old : Keeping) (named : List Entry) (new : Keeping) : Type 0 where
+  pub kept : AddsEntries old named new
+  pub rest : KeepsRest old new
+
+-- What a field names was added, and the authority, the header and the bitmap are as after it.
+pub record KeepsField (place : Place) (field : List ℕ) (next : Place) (old new : Keeping)
+    : Type 0 where
+  pub kept : AddsEntries old (names place old.authority field) new
+  pub authority_is : new.authority ≡ authority_after place old.authority field
+  pub header_is : new.header ≡ header_after place old.header field
+  pub in_step : InStep next new.bitmap
+
+-- What a byte of the bitmap at hand names was added. After the last one no run is open.
+pub record KeepsBits (byte : ℕ) (last : Bool) (old new : Keeping) : Type 0 where
+  pub kept : AddsEntries old
+      (BitmapEntry old.authority (base_of old.bitmap.offset old.bitmap.due) byte ∷ []) new
+  pub authority_is : new.authority ≡ old.authority
+  pub header_is : new.header ≡ old.header
+  pub closed : last ≡ true → new.bitmap.pending ≡ None
+  pub goes_on : last ≡ false → new.bitmap
+      ≡ record old.bitmap { due = old.bitmap.due - 1; pending = new.bitmap.pending }
+
+-- The same is kept, and no run is open.
+pub record Closes (old new : Keeping) : Type 0 where
+  pub kept : AddsEntries old [] new
+  pub authority_is : new.authority ≡ old.authority
+  pub header_is : new.header ≡ old.header
+  pub closed : new.bitmap.pending ≡ None
+
+-- What is stored stays within any number that it is within.
+abbrev pub KeepsStored : Keeping → Keeping → Type 0
+KeepsStored old new = (m : ℕ) → IsStoredWithin old m → IsStoredWithin new m
+
+-- At most n bytes of the list made it grow, also where memory ran out in between.
+pub record GrowsWithin (n : ℕ) (old new : Keeping) : Type 0 where
+  pub held_is : held_with_open new ≤ held_with_open old + 4 * n
+  pub stored_is : (m : ℕ) → IsStoredWithin old m → IsStoredWithin new (m + n)

@@ -1,0 +1,168 @@
+-- A key revocation list (PROTOCOL.krl): its header, its sections, and how they are spelled.
+use Rattle.std.specs.Prelude.{◌≡◌, ℕ, ◌+◌, ◌<◌, ◌≤◌, ◌^◌, List, [], ◌∷◌, ◌++◌, length}
+use Rattle.std.specs.List.{flat_map, AllByRecursion}
+use Rattle.std.specs.Int.{bit_at}
+use Rattle.ssh_wire.specs.Wire.{number, number_of, string, strings}
+use Rattle.krl_core.specs.declared.header.Header.{Header}
+
+-- a part of a certificate section
+pub data Subsection : Type 0 where
+  -- each of the serials
+  Serials : (numbers : List ℕ) → Subsection
+  -- the serials from the first to the last
+  Range : (min max : ℕ) → Subsection
+  -- the serial offset + N for each bit N of the number that is set
+  Bitmap : (offset number : ℕ) → Subsection
+  -- key IDs
+  Ids : (texts : List (List ℕ)) → Subsection
+  -- an extension that may be passed over
+  SubsectionExtension : Subsection
+
+-- a section of a list
+pub data Section : Type 0 where
+  -- what is revoked of an authority, or of all authorities where its bytes are none
+  Certificates : (authority : List ℕ) (subsections : List Subsection) → Section
+  -- explicit keys, each a blob
+  Keys : (blobs : List (List ℕ)) → Section
+  -- hashes of keys
+  Sha1s : (hashes : List (List ℕ)) → Section
+  Sha256s : (hashes : List (List ℕ)) → Section
+  -- a signature, of which nothing is read
+  Signature : Section
+  -- an extension that may be passed over
+  Extension : Section
+
+-- `SSHKRL`, a line feed and a zero byte
+abbrev pub magic : List ℕ
+magic = 0x53 ∷ 0x53 ∷ 0x48 ∷ 0x4b ∷ 0x52 ∷ 0x4c ∷ 0x0a ∷ 0x00 ∷ []
+
+-- The magic, format version 1, the list's version and date, flags, a reserved string and a comment.
+abbrev pub header_text : Header → ℕ → List ℕ → List ℕ
+header_text header flags reserved =
+    magic ++ (number 4 1 ++ (number 8 header.version ++ (number 8 header.date
+    ++ (number 8 flags ++ (string reserved ++ string header.comment)))))
+
+-- The text is the spellings of the items, one after the other.
+abbrev pub SpellsEach : {X : Type 0} → (List ℕ → X → Type 0) → List ℕ → List X → Type 0
+SpellsEach Spelling text [] = text ≡ []
+SpellsEach Spelling text (item ∷ items) =
+    (first : List ℕ) × ((rest : List ℕ) × ((text ≡ first ++ rest)
+    × Spelling first item × SpellsEach Spelling rest items))
+
+-- The text is a string whose content is short enough for one.
+pub record IsString (text content : List ℕ) : Type 0 where
+  pub spelled : text ≡ string content
+  pub fits : length content < 2 ^ 32
+
+-- numbers of eight bytes, one after the other
+abbrev pub numbers_text : List ℕ → List ℕ
+numbers_text numbers = flat_map (number 8) numbers
+
+-- the bytes of a bitmap are two's complement of a number that is not negative
+abbrev pub IsPositive : List ℕ → Type 0
+IsPositive [] = Unit {0}
+IsPositive (byte ∷ bytes) = byte < 128
+
+-- A bitmap: an offset, and a number with any zero bytes before it. No bit that is set stands for a
+-- number past 2^64-1.
+pub record SpellsBitmap (content : List ℕ) (offset value : ℕ) : Type 0 where
+  pub bytes : List ℕ
+  pub spelled : content ≡ number 8 offset ++ string bytes
+  pub positive : IsPositive bytes
+  pub value_is : value ≡ number_of bytes
+  pub offset_fits : offset < 2 ^ 64
+  pub within : (bit : ℕ) → bit_at value bit ≡ 1 → offset + bit < 2 ^ 64
+
+-- A name, a zero byte for "not critical", and contents.
+pub record SpellsExtension (content : List ℕ) : Type 0 where
+  pub name : List ℕ
+  pub contents : List ℕ
+  pub spelled : content ≡ string name ++ 0 ∷ string contents
+
+-- the content of a part of a certificate section
+abbrev pub SubsectionContent : List ℕ → Subsection → Type 0
+SubsectionContent content (Serials numbers) =
+    (content ≡ numbers_text numbers) × AllByRecursion (λ n. n < 2 ^ 64) numbers
+SubsectionContent content (Range min max) =
+    (content ≡ number 8 min ++ number 8 max) × (min ≤ max) × (max < 2 ^ 64)
+SubsectionContent content (Bitmap offset value) = SpellsBitmap content offset value
+SubsectionContent content (Ids texts) = content ≡ strings texts
+SubsectionContent content SubsectionExtension = SpellsExtension content
+
+abbrev pub subsection_type : Subsection → ℕ
+subsection_type (Serials numbers) = 0x20
+subsection_type (Range min max) = 0x21
+subsection_type (Bitmap offset value) = 0x22
+subsection_type (Ids texts) = 0x23
+subsection_type SubsectionExtension = 0x39
+
+-- the type byte, and the content as a string
+pub record SpellsSubsection (text : List ℕ) (subsection : Subsection) : Type 0 where
+  pub content : List ℕ
+  pub spelled : text ≡ subsection_type subsection ∷ string content
+  pub fits : length content < 2 ^ 32
+  pub content_is : SubsectionContent content subsection
+
+-- the authority, a reserved string, and the subsections
+pub record SpellsCertificates (content authority : List ℕ) (subsections : List Subsection)
+    : Type 0 where
+  pub reserved : List ℕ
+  pub body : List ℕ
+  pub spelled : content ≡ string authority ++ (string reserved ++ body)
+  pub subsections_are : SpellsEach SpellsSubsection body subsections
+
+-- strings, of which each is a hash of this size
+abbrev pub SpellsHashes : ℕ → List ℕ → List (List ℕ) → Type 0
+SpellsHashes size content hashes =
+    (content ≡ strings hashes) × AllByRecursion (λ hash. length hash ≡ size) hashes
+
+-- a section's type byte, and its content as a string
+pub record SpellsContent (type_byte : ℕ) (Content : List ℕ → Type 0) (text : List ℕ) : Type 0 where
+  pub content : List ℕ
+  pub spelled : text ≡ type_byte ∷ string content
+  pub fits : length content < 2 ^ 32
+  pub content_is : Content content
+
+-- a signature's type byte, a key and a signature
+pub record SpellsSignature (text : List ℕ) : Type 0 where
+  pub key : List ℕ
+  pub signature : List ℕ
+  pub spelled : text ≡ 4 ∷ (string key ++ string signature)
+  pub key_fits : length key < 2 ^ 32
+  pub signature_fits : length signature < 2 ^ 32
+
+abbrev pub SpellsSection : List ℕ → Section → Type 0
+SpellsSection text (Certificates authority subsections) =
+    SpellsContent 1 (λ content. SpellsCertificates content authority subsections) text
+SpellsSection text (Keys blobs) = SpellsContent 2 (λ content. content ≡ strings blobs) text
+SpellsSection text (Sha1s hashes) =
+    SpellsContent 3 (λ content. SpellsHashes 20 content hashes) text
+SpellsSection text Signature = SpellsSignature text
+SpellsSection text (Sha256s hashes) =
+    SpellsContent 5 (λ content. SpellsHashes 32 content hashes) text
+SpellsSection text Extension = SpellsContent 255 SpellsExtension text
+
+abbrev pub IsSignature : Section → Type 0
+IsSignature Signature = Unit {0}
+IsSignature _ = ⊥
+
+-- signatures stand last
+abbrev pub SignaturesLast : List Section → Type 0
+SignaturesLast [] = Unit {0}
+SignaturesLast (Signature ∷ sections) = AllByRecursion IsSignature sections
+SignaturesLast (section ∷ sections) = SignaturesLast sections
+
+-- The text is the header, then the sections one after the other. Flags and the reserved string may
+-- be any.
+pub record Spells (text : List ℕ) (header : Header) (sections : List Section) : Type 0 where
+  pub flags : ℕ
+  pub reserved : List ℕ
+  pub body : List ℕ
+  pub spelled : text ≡ header_text header flags reserved ++ body
+  pub version_fits : header.version < 2 ^ 64
+  pub date_fits : header.date < 2 ^ 64
+  pub flags_fit : flags < 2 ^ 64
+  pub reserved_fits : length reserved < 2 ^ 32
+  pub comment_fits : length header.comment < 2 ^ 32
+  pub sections_are : SpellsEach SpellsSection body sections
+  pub signatures_last : SignaturesLast sections

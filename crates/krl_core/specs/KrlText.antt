@@ -1,0 +1,93 @@
+-- The text of a list that is written, and the sections that it spells.
+use Rattle.std.specs.Prelude.{◌≡◌, ℕ, ◌+◌, ◌*◌, List, [], ◌∷◌, ◌++◌, take, drop}
+use Rattle.serial_set.specs.declared.span.Span.{Span}
+use Rattle.ssh_wire.specs.Wire.{string, strings}
+use Rattle.krl_core.specs.declared.header.Header.{Header}
+use Rattle.krl_core.specs.declared.plan.group.Sort.{Sort}
+use Rattle.krl_core.specs.declared.plan.group.Sort.TheVariants as sorts
+use Rattle.krl_core.specs.declared.plan.group.Group.{Group}
+use Rattle.krl_core.specs.Contents.{Contents, Section as Listed}
+use Rattle.krl_core.specs.Krl.{Section, Certificates, Keys, Sha1s, Sha256s, Subsection, Serials, Range, Bitmap, Ids, header_text}
+use Rattle.krl_core.specs.Plan.{IsLeastPlan, reach}
+use Rattle.krl_core.specs.Written.{bitmap_size, bits_of, first_of, plan_text, serials_of}
+
+-- ---- texts
+
+-- a type byte and strings as a string, where there are any
+abbrev pub listed_text : ℕ → List (List ℕ) → List ℕ
+listed_text type_byte [] = []
+listed_text type_byte (text ∷ texts) = type_byte ∷ string (strings (text ∷ texts))
+
+-- what the section of an authority has in it
+abbrev pub authority_content : List Group → Listed → List ℕ
+authority_content plan listed =
+    string listed.authority ++ (string [] ++ (plan_text listed.spans plan ++ listed_text 0x23 listed.ids))
+
+-- the section of an authority
+abbrev pub authority_text : List Group → Listed → List ℕ
+authority_text plan listed = 1 ∷ string (authority_content plan listed)
+
+-- the sections of some authorities, with a plan for each
+abbrev pub authorities_text : List (List Group) → List Listed → List ℕ
+authorities_text [] listed = []
+authorities_text (plan ∷ plans) [] = []
+authorities_text (plan ∷ plans) (first ∷ listed) =
+    authority_text plan first ++ authorities_text plans listed
+
+-- all sections
+abbrev pub sections_text : List (List Group) → Contents → List ℕ
+sections_text plans r =
+    authorities_text plans r.sections
+    ++ (listed_text 2 r.keys ++ (listed_text 3 r.sha1s ++ listed_text 5 r.sha256s))
+
+-- the list of a header and of what is held, with a plan for each authority
+abbrev pub text_of : Header → List (List Group) → Contents → List ℕ
+text_of header plans r = header_text header 0 [] ++ sections_text plans r
+
+-- there is a plan of each authority's runs
+abbrev pub EachPlan : (List Span → List Group → Type 0) → List (List Group) → List Listed → Type 0
+EachPlan Holds [] [] = Unit {0}
+EachPlan Holds [] (first ∷ listed) = ⊥
+EachPlan Holds (plan ∷ plans) [] = ⊥
+EachPlan Holds (plan ∷ plans) (first ∷ listed) = Holds first.spans plan × EachPlan Holds plans listed
+
+-- The text is the list that is written: each authority's serials by the least plan of its runs.
+pub record IsKrlText (header : Header) (r : Contents) (text : List ℕ) : Type 0 where
+  pub plans : List (List Group)
+  pub least : EachPlan IsLeastPlan plans r.sections
+  pub text_is : text ≡ text_of header plans r
+
+-- ---- sections
+
+-- the subsection that names a group's runs
+abbrev pub group_subsection : Sort → List Span → Subsection
+group_subsection sorts.Serials runs = Serials (serials_of runs)
+group_subsection sorts.Range runs = Range (first_of runs) (first_of runs + reach runs)
+group_subsection sorts.Bitmap runs =
+    Bitmap (first_of runs) (bits_of runs (first_of runs) (8 * bitmap_size runs))
+
+abbrev pub plan_subsections : List Span → List Group → List Subsection
+plan_subsections runs [] = []
+plan_subsections runs (group ∷ groups) =
+    group_subsection group.sort (take group.count runs) ∷ plan_subsections (drop group.count runs) groups
+
+abbrev pub ids_subsections : List (List ℕ) → List Subsection
+ids_subsections [] = []
+ids_subsections (id ∷ ids) = Ids (id ∷ ids) ∷ []
+
+abbrev pub authority_sections : List (List Group) → List Listed → List Section
+authority_sections [] listed = []
+authority_sections (plan ∷ plans) [] = []
+authority_sections (plan ∷ plans) (first ∷ listed) =
+    Certificates first.authority (plan_subsections first.spans plan ++ ids_subsections first.ids)
+    ∷ authority_sections plans listed
+
+abbrev pub listed_sections : (List (List ℕ) → Section) → List (List ℕ) → List Section
+listed_sections section [] = []
+listed_sections section (text ∷ texts) = section (text ∷ texts) ∷ []
+
+-- the sections that the text spells
+abbrev pub sections_of : List (List Group) → Contents → List Section
+sections_of plans r =
+    authority_sections plans r.sections
+    ++ (listed_sections Keys r.keys ++ (listed_sections Sha1s r.sha1s ++ listed_sections Sha256s r.sha256s))

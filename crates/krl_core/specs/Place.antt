@@ -1,0 +1,280 @@
+-- The places in a list where a field can be due, and the table of what is due at each
+-- (PROTOCOL.krl).
+use Rattle.std.specs.Prelude.{ℕ, zero, suc, ◌+◌, ◌-◌, ◌*◌, ◌%◌, ◌==◌, nat_lt, nat_le, if◌then◌else◌, Bool, true, false, not, List, [], ◌∷◌, Option, Some, None, Result, Ok, Err}
+use Rattle.std.specs.Str.{bytes_eq}
+use Rattle.ssh_wire.specs.Wire.{number_of}
+use Rattle.krl_core.specs.declared.krl_fault.KrlFault.{KrlFault}
+use Rattle.krl_core.specs.declared.krl_fault.KrlFault.TheVariants as faults
+use Rattle.krl_core.specs.declared.header.Header.{Header}
+use Rattle.krl_core.specs.declared.place.Place.{Place}
+use Rattle.krl_core.specs.declared.place.Place.TheVariants.{Magic, FormatVersion, Version, Date, Flags, ReservedLength, Reserved, CommentLength, Comment, SectionType, SignatureKeyLength, SignatureKey, SignatureLength, Signature, KeysLength, KeyLength, Key, Sha1sLength, Sha1Length, Sha1, Sha256sLength, Sha256Length, Sha256, CertificatesLength, AuthorityLength, Authority, SectionReservedLength, SectionReserved, SubsectionType, SerialsLength, Serial, RangeLength, RangeMin, RangeMax, BitmapLength, BitmapOffset, BitmapSize, BitmapByte, IdsLength, IdLength, Id, ExtensionLength, SubsectionExtensionLength, ExtensionNameLength, ExtensionName, ExtensionCritical, ExtensionContentsLength, ExtensionContents}
+use Rattle.krl_core.specs.Entry.{Entry, SerialsEntry, RangeEntry, BitmapEntry, IdEntry, KeyEntry, Sha1Entry, Sha256Entry}
+use Rattle.krl_core.specs.Krl.{magic}
+
+-- A field that is due: how many bytes it has; how many bytes what it stands in has left for it,
+-- where it stands in something and no length before it has told; whether the list may end in its
+-- place; and what the whole field is judged to be: the place after it, or why it is refused.
+pub record Due : Type 0 where
+  pub size : ℕ
+  pub room : Option ℕ
+  pub may_end : Bool
+  pub judged : List ℕ → Result Place KrlFault
+
+abbrev pub judge : Bool → KrlFault → Place → Result Place KrlFault
+judge good fault next = if good then Ok next else Err fault
+
+-- ---- kinds of fields
+
+-- a field that may be any bytes, as many as there is room for
+abbrev pub any_bytes : ℕ → Place → Due
+any_bytes size next =
+    record { size = size; room = None; may_end = false; judged = λ field. Ok next }
+
+-- the length of a string that stands in no other
+abbrev pub any_length : (ℕ → Place) → Due
+any_length next =
+    record { size = 4; room = None; may_end = false; judged = λ field. Ok (next (number_of field)) }
+
+-- a length that is passed where what it stands in has as many bytes left after it
+abbrev pub within : ℕ → (ℕ → Result Place KrlFault) → ℕ → Result Place KrlFault
+within left next size = if nat_lt (left - 4) size then Err faults.Length else next size
+
+abbrev pub length_within : ℕ → (ℕ → Result Place KrlFault) → Due
+length_within left next = record {
+  size = 4;
+  room = Some left;
+  may_end = false;
+  judged = λ field. within left next (number_of field);
+}
+
+-- a number in what has as many bytes left
+abbrev pub number_within : ℕ → (ℕ → Place) → Due
+number_within left next = record {
+  size = 8;
+  room = Some left;
+  may_end = false;
+  judged = λ field. Ok (next (number_of field));
+}
+
+-- a byte in what has as many bytes left
+abbrev pub byte_within : ℕ → (ℕ → Result Place KrlFault) → Due
+byte_within left judged = record {
+  size = 1;
+  room = Some left;
+  may_end = false;
+  judged = λ field. judged (number_of field);
+}
+
+-- ---- what comes next where a part may be at its end
+
+-- another subsection, or the end of the section
+abbrev pub next_subsection : ℕ → Place
+next_subsection zero = SectionType false
+next_subsection (suc left) = SubsectionType (suc left)
+
+abbrev pub next_key : ℕ → Place
+next_key zero = SectionType false
+next_key (suc left) = KeyLength (suc left)
+
+abbrev pub next_sha1 : ℕ → Place
+next_sha1 zero = SectionType false
+next_sha1 (suc left) = Sha1Length (suc left)
+
+abbrev pub next_sha256 : ℕ → Place
+next_sha256 zero = SectionType false
+next_sha256 (suc left) = Sha256Length (suc left)
+
+abbrev pub next_serial : ℕ → ℕ → Place
+next_serial zero behind = next_subsection behind
+next_serial (suc left) behind = Serial (suc left) behind
+
+abbrev pub next_id : ℕ → ℕ → Place
+next_id zero behind = next_subsection behind
+next_id (suc left) behind = IdLength (suc left) behind
+
+-- `left` of the `size` bytes of a bitmap are due
+abbrev pub next_bits : (offset size left behind : ℕ) → Place
+next_bits offset size zero behind = next_subsection behind
+next_bits offset size (suc left) behind = BitmapByte offset size (suc left) behind
+
+-- ---- judgements
+
+abbrev pub section_of_type : Bool → ℕ → Result Place KrlFault
+section_of_type signed type_byte =
+    if type_byte == 4 then Ok SignatureKeyLength
+    else if signed then Err faults.AfterSignature
+    else if type_byte == 1 then Ok CertificatesLength
+    else if type_byte == 2 then Ok KeysLength
+    else if type_byte == 3 then Ok Sha1sLength
+    else if type_byte == 5 then Ok Sha256sLength
+    else if type_byte == 255 then Ok ExtensionLength
+    else Err faults.UnknownSection
+
+-- a subsection of a section that has `left` bytes after the type byte
+abbrev pub subsection_of_type : ℕ → ℕ → Result Place KrlFault
+subsection_of_type left type_byte =
+    if type_byte == 0x20 then Ok (SerialsLength left)
+    else if type_byte == 0x21 then Ok (RangeLength left)
+    else if type_byte == 0x22 then Ok (BitmapLength left)
+    else if type_byte == 0x23 then Ok (IdsLength left)
+    else if type_byte == 0x39 then Ok (SubsectionExtensionLength left)
+    else Err faults.UnknownCertSection
+
+-- the place of the highest bit of a byte that is set
+abbrev pub highest_bit : ℕ → ℕ
+highest_bit byte =
+    if nat_lt byte 2 then 0 else if nat_lt byte 4 then 1 else if nat_lt byte 8 then 2
+    else if nat_lt byte 16 then 3 else if nat_lt byte 32 then 4 else if nat_lt byte 64 then 5
+    else if nat_lt byte 128 then 6 else 7
+
+-- whether a bit of the byte that is set stands for a number past 2^64-1, where the lowest stands
+-- for `base`
+abbrev pub passes_end : ℕ → ℕ → Bool
+passes_end base byte =
+    if byte == 0 then false else nat_le 18446744073709551616 (base + highest_bit byte)
+
+-- what the lowest bit stands for of the byte of a bitmap of which `left` bytes are due
+abbrev pub base_of : (offset left : ℕ) → ℕ
+base_of offset left = offset + 8 * (left - 1)
+
+abbrev pub bits_within : (offset size left behind byte : ℕ) → Result Place KrlFault
+bits_within offset size left behind byte =
+    judge (not (passes_end (base_of offset left) byte)) faults.BitmapWraps
+    (next_bits offset size (left - 1) behind)
+
+-- of a bitmap's first byte the highest bit is its sign
+abbrev pub bits_judged : (offset size left behind byte : ℕ) → Result Place KrlFault
+bits_judged offset size left behind byte =
+    if left == size then (if nat_lt byte 128 then bits_within offset size left behind byte
+    else Err faults.BitmapNegative) else bits_within offset size left behind byte
+
+-- ---- the format's page as a table
+abbrev pub due : Place → Due
+due Magic = record {
+  size = 8;
+  room = None;
+  may_end = false;
+  judged = λ field. judge (bytes_eq field magic) faults.Magic FormatVersion;
+}
+due FormatVersion = record {
+  size = 4;
+  room = None;
+  may_end = false;
+  judged = λ field. judge (number_of field == 1) faults.FormatVersion Version;
+}
+due Version = any_bytes 8 Date
+due Date = any_bytes 8 Flags
+due Flags = any_bytes 8 ReservedLength
+due ReservedLength = any_length Reserved
+due (Reserved size) = any_bytes size CommentLength
+due CommentLength = any_length Comment
+due (Comment size) = any_bytes size (SectionType false)
+due (SectionType signed) = record {
+  size = 1;
+  room = None;
+  may_end = true;
+  judged = λ field. section_of_type signed (number_of field);
+}
+due SignatureKeyLength = any_length SignatureKey
+due (SignatureKey size) = any_bytes size SignatureLength
+due SignatureLength = any_length Signature
+due (Signature size) = any_bytes size (SectionType true)
+due KeysLength = any_length next_key
+due (KeyLength left) = length_within left (λ size. Ok (Key size (left - 4 - size)))
+due (Key size behind) = any_bytes size (next_key behind)
+due Sha1sLength = any_length next_sha1
+due (Sha1Length left) =
+    length_within left (λ size. judge (size == 20) faults.HashLength (Sha1 (left - 4 - size)))
+due (Sha1 behind) = any_bytes 20 (next_sha1 behind)
+due Sha256sLength = any_length next_sha256
+due (Sha256Length left) =
+    length_within left (λ size. judge (size == 32) faults.HashLength (Sha256 (left - 4 - size)))
+due (Sha256 behind) = any_bytes 32 (next_sha256 behind)
+due CertificatesLength = any_length AuthorityLength
+due (AuthorityLength left) = length_within left (λ size. Ok (Authority size (left - 4 - size)))
+due (Authority size behind) = any_bytes size (SectionReservedLength behind)
+due (SectionReservedLength left) =
+    length_within left (λ size. Ok (SectionReserved size (left - 4 - size)))
+due (SectionReserved size behind) = any_bytes size (next_subsection behind)
+due (SubsectionType left) = byte_within left (subsection_of_type (left - 1))
+due (SerialsLength left) =
+    length_within left
+    (λ size. judge (size % 8 == 0) faults.Length (next_serial size (left - 4 - size)))
+due (Serial left behind) = number_within left (λ serial. next_serial (left - 8) behind)
+due (RangeLength left) =
+    length_within left (λ size. judge (size == 16) faults.Length (RangeMin (left - 4 - size)))
+due (RangeMin behind) = record {
+  size = 8;
+  room = None;
+  may_end = false;
+  judged = λ field. Ok (RangeMax (number_of field) behind);
+}
+due (RangeMax min behind) = record {
+  size = 8;
+  room = None;
+  may_end = false;
+  judged = λ field.
+      judge (nat_le min (number_of field)) faults.RangeReversed (next_subsection behind);
+}
+due (BitmapLength left) = length_within left (λ size. Ok (BitmapOffset size (left - 4 - size)))
+due (BitmapOffset left behind) = number_within left (λ offset. BitmapSize offset (left - 8) behind)
+due (BitmapSize offset left behind) = record {
+  size = 4;
+  room = Some left;
+  may_end = false;
+  judged = λ field. judge (number_of field == left - 4) faults.Length
+      (next_bits offset (left - 4) (left - 4) behind);
+}
+due (BitmapByte offset size left behind) = record {
+  size = 1;
+  room = None;
+  may_end = false;
+  judged = λ field. bits_judged offset size left behind (number_of field);
+}
+due (IdsLength left) = length_within left (λ size. Ok (next_id size (left - 4 - size)))
+due (IdLength left behind) = length_within left (λ size. Ok (Id size (left - 4 - size) behind))
+due (Id size left behind) = any_bytes size (next_id left behind)
+due ExtensionLength = any_length (λ size. ExtensionNameLength size 0)
+due (SubsectionExtensionLength left) =
+    length_within left (λ size. Ok (ExtensionNameLength size (left - 4 - size)))
+due (ExtensionNameLength left behind) =
+    length_within left (λ size. Ok (ExtensionName size (left - 4 - size) behind))
+due (ExtensionName size left behind) = any_bytes size (ExtensionCritical left behind)
+due (ExtensionCritical left behind) =
+    byte_within left (λ critical. judge (critical == 0) faults.CriticalExtension
+    (ExtensionContentsLength (left - 1) behind))
+due (ExtensionContentsLength left behind) = record {
+  size = 4;
+  room = Some left;
+  may_end = false;
+  judged = λ field.
+      judge (number_of field == left - 4) faults.Length (ExtensionContents (left - 4) behind);
+}
+due (ExtensionContents size behind) = any_bytes size (next_subsection behind)
+
+-- ---- what fields name
+
+-- what a field at a place names, under the authority in force
+abbrev pub names : Place → (authority field : List ℕ) → List Entry
+names (Serial left behind) authority field = SerialsEntry authority (number_of field ∷ []) ∷ []
+names (RangeMax min behind) authority field = RangeEntry authority min (number_of field) ∷ []
+names (BitmapByte offset size left behind) authority field =
+    BitmapEntry authority (base_of offset left) (number_of field) ∷ []
+names (Id size left behind) authority field = IdEntry authority field ∷ []
+names (Key size behind) authority field = KeyEntry field ∷ []
+names (Sha1 behind) authority field = Sha1Entry field ∷ []
+names (Sha256 behind) authority field = Sha256Entry field ∷ []
+names _ authority field = []
+
+-- The authority in force after a field. A section begins without one.
+abbrev pub authority_after : Place → (authority field : List ℕ) → List ℕ
+authority_after (Authority size behind) authority field = field
+authority_after (SectionType signed) authority field = []
+authority_after _ authority field = authority
+
+-- what is known of the header after a field
+abbrev pub header_after : Place → Header → List ℕ → Header
+header_after Version header field = record header { version = number_of field }
+header_after Date header field = record header { date = number_of field }
+header_after (Comment size) header field = record header { comment = field }
+header_after _ header field = header

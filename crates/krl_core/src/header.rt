@@ -1,0 +1,12 @@
+// What a list says of itself.
+
+use ssh_wire::Bytes;
+
+/// The header of a revocation list: its version, when it was made in seconds since 1970, and a
+/// comment, which may be any bytes.
+#[derive(Drop)]
+pub struct Header {
+    pub version: u64,
+    pub date: u64,
+    pub comment: Bytes,
+}

@@ -1,0 +1,326 @@
+// Keeping what the fields of a list name.
+
+ghost use Rattle.std.specs.Prelude.{◌≡◌, ◌+◌, ◌*◌, ◌^◌, ◌<◌, ◌≤◌, ◌++◌, ◌∷◌, [], ℕ, None, List, OnOk, OnErr, length, All};
+ghost use Rattle.serial_set.specs.declared.bit_fault.BitFault.{BitFault as BitFaultOf};
+ghost use Rattle.serial_set.specs.BitRuns.{Feeds, HasFault, IsInterval};
+ghost use Rattle.serial_set.specs.Finished.{finished_of};
+ghost use Rattle.krl_core.specs.Authority.{IsAuthority, authority_bytes};
+ghost use Rattle.krl_core.specs.Entry.{SerialsEntry, RangeEntry, IdEntry, KeyEntry, Sha1Entry, Sha256Entry};
+ghost use Rattle.krl_core.specs.Front.{Passes, start};
+ghost use Rattle.krl_core.specs.Keeping.{Adds, Closes, GrowsWithin, InStep, IsKept, IsStoredWithin, KeepsBits, KeepsField, KeepsRest, KeepsStored, held_with_open, run_entries};
+
+use crate::field::{byte_of, u64_of};
+use crate::header::Header;
+use crate::place::Place;
+use crate::revocations::Revocations;
+use serial_set::{BitRuns, Finished, Span, Spans};
+use ssh_wire::Bytes;
+use std::alloc::{AllocError, Global};
+use std::marker::Model;
+
+/// What is kept of a list while it is read.
+#[derive(Drop)]
+pub struct Keeper<S: Spans> {
+    version: u64,
+    date: u64,
+    comment: Vec<u8>,
+    // the authority in force, empty for all authorities
+    authority: Vec<u8>,
+    held: Revocations<S>,
+    bitmap: BitRuns,
+}
+
+impl<S: Spans> Model for Keeper<S> {
+    ghost use Rattle.krl_core.specs.Keeping.{Keeping};
+
+    ghost Value = { Keeping };
+
+    ghost view = { λ keeper. record {
+      header = record {
+        version = keeper.version;
+        date = keeper.date;
+        comment = keeper.comment.items;
+      };
+      authority = keeper.authority.items;
+      contents = keeper.held;
+      bitmap = keeper.bitmap;
+    } };
+}
+
+impl<S: Spans> Keeper<S> {
+    /// Nothing is kept yet.
+    pub fn new(alloc: Global) -> Self
+        ensures kept { IsKept result [] }
+        ensures start { (result.authority ≡ []) × (result.header ≡ start.header) }
+        ensures in_step { result.bitmap.pending ≡ None }
+        ensures held { held_with_open result ≡ 0 }
+        ensures stored { IsStoredWithin result 0 }
+    {
+        Keeper {
+            version: 0,
+            date: 0,
+            comment: Vec::new(alloc),
+            authority: Vec::new(alloc),
+            held: Revocations::new(alloc),
+            bitmap: BitRuns::new(0, 0),
+        }
+    }
+
+    /// How many spans are held, with the run that may still grow.
+    pub fn held(&self) -> u128
+        requires { held_with_open self.now < 2 ^ 64 }
+        ensures { result ≡ held_with_open self.now }
+    {
+        let open = match self.bitmap.pending() {
+            Some(_) => 1,
+            None => 0,
+        };
+        self.held.held() + open
+    }
+
+    /// What was kept.
+    pub fn done(self) -> (Header, Revocations<S>)
+        ensures header { result.0 ≡ self.header }
+        ensures contents { result.1 ≡ self.contents }
+    {
+        let header = Header {
+            version: self.version,
+            date: self.date,
+            comment: Bytes::from_vec(self.comment),
+        };
+        (header, self.held)
+    }
+
+    /// Keeps what a field names, where it is due and passes its judgement.
+    pub fn keep(&mut self, place: Place, field: &[u8], next: Place) -> Result<(), AllocError>
+        requires passes { Passes place field.now next }
+        requires in_step { InStep place self.old.bitmap }
+        ensures kept { OnOk result (KeepsField place field.now next self.old self.new) }
+        ensures grows { GrowsWithin (length field.now) self.old self.new }
+    {
+        match place {
+            Place::Version => {
+                self.version = u64_of(field);
+                Ok(())
+            }
+            Place::Date => {
+                self.date = u64_of(field);
+                Ok(())
+            }
+            Place::Comment { .. } => self.set_comment(field),
+            Place::SectionType { .. } => {
+                self.authority.clear();
+                Ok(())
+            }
+            Place::Authority { .. } => self.set_authority(field),
+            Place::Serial { .. } => self.add_serial(u64_of(field)),
+            Place::RangeMax { min, .. } => self.add_range(min, u64_of(field)),
+            Place::BitmapSize { offset, left, .. } => {
+                self.bitmap = BitRuns::new(offset, left - 4);
+                Ok(())
+            }
+            Place::BitmapByte { left, .. } => self.add_bits(byte_of(field), left == 1),
+            Place::Id { .. } => self.add_id(field),
+            Place::Key { .. } => self.add_key(field),
+            Place::Sha1 { .. } => self.add_sha1(field),
+            Place::Sha256 { .. } => self.add_sha256(field),
+            Place::Magic
+            | Place::FormatVersion
+            | Place::Flags
+            | Place::ReservedLength
+            | Place::Reserved { .. }
+            | Place::CommentLength
+            | Place::SignatureKeyLength
+            | Place::SignatureKey { .. }
+            | Place::SignatureLength
+            | Place::Signature { .. }
+            | Place::KeysLength
+            | Place::KeyLength { .. }
+            | Place::Sha1sLength
+            | Place::Sha1Length { .. }
+            | Place::Sha256sLength
+            | Place::Sha256Length { .. }
+            | Place::CertificatesLength
+            | Place::AuthorityLength { .. }
+            | Place::SectionReservedLength { .. }
+            | Place::SectionReserved { .. }
+            | Place::SubsectionType { .. }
+            | Place::SerialsLength { .. }
+            | Place::RangeLength { .. }
+            | Place::RangeMin { .. }
+            | Place::BitmapLength { .. }
+            | Place::BitmapOffset { .. }
+            | Place::IdsLength { .. }
+            | Place::IdLength { .. }
+            | Place::ExtensionLength
+            | Place::SubsectionExtensionLength { .. }
+            | Place::ExtensionNameLength { .. }
+            | Place::ExtensionName { .. }
+            | Place::ExtensionCritical { .. }
+            | Place::ExtensionContentsLength { .. }
+            | Place::ExtensionContents { .. } => Ok(()),
+        }
+    }
+
+    fn set_comment(&mut self, comment: &[u8]) -> Result<(), AllocError>
+        ensures set { OnOk result (self.new ≡ record self.old {
+          header = record self.old.header { comment = comment.now };
+        }) }
+        ensures grows { (n : ℕ) → GrowsWithin n self.old self.new }
+    {
+        self.comment.clear();
+        self.comment.extend_from_slice(comment)
+    }
+
+    fn set_authority(&mut self, authority: &[u8]) -> Result<(), AllocError>
+        ensures set { OnOk result (self.new ≡ record self.old { authority = authority.now }) }
+        ensures grows { GrowsWithin (length authority.now) self.old self.new }
+    {
+        self.authority.clear();
+        self.authority.extend_from_slice(authority)
+    }
+
+    // Adds a serial. 0 names nothing.
+    fn add_serial(&mut self, serial: u64) -> Result<(), AllocError>
+        ensures adds { OnOk result
+            (Adds self.old (SerialsEntry self.old.authority (serial ∷ []) ∷ []) self.new) }
+        ensures grows { GrowsWithin 1 self.old self.new }
+    {
+        if serial == 0 {
+            return Ok(());
+        }
+        self.add_span(serial, serial)
+    }
+
+    // Adds the serials of a range, which may begin at 0.
+    fn add_range(&mut self, min: u64, max: u64) -> Result<(), AllocError>
+        requires { min ≤ max }
+        ensures adds { OnOk result
+            (Adds self.old (RangeEntry self.old.authority min max ∷ []) self.new) }
+        ensures grows { GrowsWithin 1 self.old self.new }
+    {
+        if max == 0 {
+            return Ok(());
+        }
+        self.add_span(min.max(1), max)
+    }
+
+    fn add_span(&mut self, lo: u64, hi: u64) -> Result<(), AllocError>
+        requires from_one { 0 < lo }
+        requires ordered { lo ≤ hi }
+        ensures adds { OnOk result
+            (Adds self.old (RangeEntry self.old.authority lo hi ∷ []) self.new) }
+        ensures held { held_with_open self.new ≤ held_with_open self.old + 1 }
+        ensures stored { KeepsStored self.old self.new }
+        ensures rest { KeepsRest self.old self.new }
+    {
+        self.held
+            .add_serials(under(self.authority.as_slice()), lo, hi)
+    }
+
+    fn add_id(&mut self, id: &[u8]) -> Result<(), AllocError>
+        ensures adds { OnOk result
+            (Adds self.old (IdEntry self.old.authority id.now ∷ []) self.new) }
+        ensures grows { GrowsWithin (length id.now) self.old self.new }
+    {
+        self.held.add_id(under(self.authority.as_slice()), id)
+    }
+
+    fn add_key(&mut self, blob: &[u8]) -> Result<(), AllocError>
+        ensures adds { OnOk result (Adds self.old (KeyEntry blob.now ∷ []) self.new) }
+        ensures grows { GrowsWithin (length blob.now) self.old self.new }
+    {
+        self.held.add_key(blob)
+    }
+
+    fn add_sha1(&mut self, hash: &[u8]) -> Result<(), AllocError>
+        requires { length hash.now ≡ 20 }
+        ensures adds { OnOk result (Adds self.old (Sha1Entry hash.now ∷ []) self.new) }
+        ensures grows { GrowsWithin (length hash.now) self.old self.new }
+    {
+        self.held.add_sha1(&array_of(hash))
+    }
+
+    fn add_sha256(&mut self, hash: &[u8]) -> Result<(), AllocError>
+        requires { length hash.now ≡ 32 }
+        ensures adds { OnOk result (Adds self.old (Sha256Entry hash.now ∷ []) self.new) }
+        ensures grows { GrowsWithin (length hash.now) self.old self.new }
+    {
+        self.held.add_sha256(&array_of(hash))
+    }
+
+    // Feeds a byte to the bitmap at hand, and adds the runs that it finishes. With the last byte
+    // the open run is finished too.
+    fn add_bits(&mut self, byte: u8, last: bool) -> Result<(), AllocError>
+        requires due { 0 < self.old.bitmap.due }
+        requires good { (fault : BitFaultOf) → HasFault self.old.bitmap byte fault → ⊥ }
+        ensures kept { OnOk result (KeepsBits byte last self.old self.new) }
+        ensures grows { GrowsWithin 1 self.old self.new }
+    {
+        let finished = self.feed(byte);
+        self.add_spans(finished.as_slice())?;
+        if last { self.close() } else { Ok(()) }
+    }
+
+    fn feed(&mut self, byte: u8) -> Finished
+        requires due { 0 < self.old.bitmap.due }
+        requires good { (fault : BitFaultOf) → HasFault self.old.bitmap byte fault → ⊥ }
+        ensures fed { Feeds self.old.bitmap byte self.new.bitmap (finished_of result) }
+        ensures runs { All IsInterval (finished_of result) }
+        ensures rest { self.new ≡ record self.old { bitmap = self.new.bitmap } }
+    {
+        match self.bitmap.feed(byte) {
+            Ok(finished) => finished,
+            Err(_) => unreachable!(),
+        }
+    }
+
+    fn add_spans(&mut self, spans: &[Span]) -> Result<(), AllocError>
+        requires { All IsInterval spans.now }
+        ensures adds { OnOk result
+            (Adds self.old (run_entries self.old.authority spans.now) self.new) }
+        ensures held { held_with_open self.new ≤ held_with_open self.old + length spans.now }
+        ensures stored { KeepsStored self.old self.new }
+        ensures rest { KeepsRest self.old self.new }
+    {
+        for span in spans {
+            self.add_span(span.lo, span.hi)?;
+        }
+        Ok(())
+    }
+
+    // Adds the open run of the bitmap, which is at its end.
+    fn close(&mut self) -> Result<(), AllocError>
+        ensures closes { OnOk result (Closes self.old self.new) }
+        ensures held { held_with_open self.new ≤ held_with_open self.old }
+        ensures stored { KeepsStored self.old self.new }
+    {
+        if let Some(run) = self.bitmap.pending() {
+            self.bitmap = BitRuns::new(0, 0);
+            return self.add_span(run.lo, run.hi);
+        }
+        self.bitmap = BitRuns::new(0, 0);
+        Ok(())
+    }
+}
+
+// The authority that some bytes name: none name all authorities.
+fn under(authority: &[u8]) -> Option<&[u8]>
+    ensures bytes { authority_bytes result ≡ authority.now }
+    ensures authority { IsAuthority result }
+{
+    if authority.is_empty() {
+        None
+    } else {
+        Some(authority)
+    }
+}
+
+fn array_of<const N: usize>(field: &[u8]) -> [u8; N]
+    requires { length field.now ≡ N }
+    ensures { result ≡ field.now }
+{
+    let mut array = [0; N];
+    array.copy_from_slice(field);
+    array
+}

@@ -1,0 +1,15 @@
+//! Laws of the definitions. Each function does nothing: its contract is the law.
+
+mod lists;
+mod naming;
+mod written;
+
+pub use lists::{
+    a_cut_ends_early, each_text_is_told, no_fault_where_spelled, one_first_fault,
+    one_front_begins_the_other,
+};
+pub use naming::{meaning_decides_naming, naming_decides_meaning};
+pub use written::{
+    one_least_plan, plan_has_its_bytes, sections_mean_what_is_held, text_is_spelled,
+    written_list_names_what_is_held,
+};

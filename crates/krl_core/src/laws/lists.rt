@@ -1,0 +1,47 @@
+// Laws of what a list spells, of its first fault and of what its fields name. Each function does
+// nothing: its contract is the law.
+
+ghost use Rattle.std.specs.Prelude.{◌≡◌, ◌≤◌, ◌⊎◌, ◌++◌, ℕ, List, None, Some, Option, length};
+ghost use Rattle.krl_core.specs.declared.krl_fault.KrlFault.TheVariants.{EndsEarly};
+ghost use Rattle.ssh_wire.specs.Wire.{IsBytes};
+ghost use Rattle.krl_core.specs.declared.header.Header.{Header};
+ghost use Rattle.krl_core.specs.Krl.{Section, Spells};
+ghost use Rattle.krl_core.specs.declared.krl_fault.KrlFault.{KrlFault};
+ghost use Rattle.krl_core.specs.Front.{Spot, IsFirstFault, IsFront, limit};
+
+/// Of two fronts of a text one is the beginning of the other.
+pub fn one_front_begins_the_other()
+    ensures { (text : List ℕ) (one other : List (List ℕ)) (spot spot' : Spot) (rest rest' : List ℕ)
+        → IsFront text one spot rest → IsFront text other spot' rest'
+        → ((more : List (List ℕ)) × (other ≡ one ++ more))
+        ⊎ ((more : List (List ℕ)) × (one ≡ other ++ more)) }
+{}
+
+/// A text has at most one first fault.
+pub fn one_first_fault()
+    ensures { (text : List ℕ) (fault fault' : Option KrlFault)
+        → IsFirstFault text fault → IsFirstFault text fault' → fault ≡ fault' }
+{}
+
+/// Each text has a first fault, or is told to have none.
+pub fn each_text_is_told()
+    ensures { (text : List ℕ) → (fault : Option KrlFault) × IsFirstFault text fault }
+{}
+
+/// A text of bytes has no fault just where a header and sections spell it within the limit.
+pub fn no_fault_where_spelled()
+    ensures spelled { (text : List ℕ) (header : Header) (sections : List Section) → IsBytes text
+        → Spells text header sections → length text ≤ limit → IsFirstFault text None }
+    ensures unfaulted { (text : List ℕ) → IsBytes text → IsFirstFault text None
+        → (length text ≤ limit)
+        × ((header : Header) × ((sections : List Section) × Spells text header sections)) }
+{}
+
+/// A spelled list within the limit that is cut short at any byte is itself spelled, so that it has
+/// no fault, or ends early.
+pub fn a_cut_ends_early()
+    ensures { (text prefix more : List ℕ) (header : Header) (sections : List Section)
+        → IsBytes text → Spells text header sections → length text ≤ limit
+        → text ≡ prefix ++ more
+        → IsFirstFault prefix None ⊎ IsFirstFault prefix (Some EndsEarly) }
+{}

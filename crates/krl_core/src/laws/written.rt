@@ -1,0 +1,53 @@
+// Laws of the lists that are written. Each function does nothing: its contract is the law.
+
+ghost use Rattle.std.specs.Prelude.{◌≡◌, ◌≤◌, ◌<◌, ◌*◌, ◌^◌, ℕ, List, length};
+ghost use Rattle.serial_set.specs.declared.span.Span.{Span};
+ghost use Rattle.serial_set.specs.Span.{IsRuns};
+ghost use Rattle.krl_core.specs.Front.{limit};
+ghost use Rattle.krl_core.specs.declared.plan.group.Group.{Group};
+ghost use Rattle.krl_core.specs.Contents.{Contents, IsOrderly, Means};
+ghost use Rattle.krl_core.specs.declared.header.Header.{Header};
+ghost use Rattle.krl_core.specs.Krl.{Section, Spells};
+ghost use Rattle.krl_core.specs.Entries.{entries_of};
+ghost use Rattle.krl_core.specs.KrlText.{EachPlan, IsKrlText, sections_of, text_of};
+ghost use Rattle.krl_core.specs.Plan.{IsCheapest, IsLeastPlan, IsPlan, cost};
+ghost use Rattle.krl_core.specs.Written.{plan_text};
+
+/// The text of a list within the limit is spelled, whatever plans its serials are written by.
+pub fn text_is_spelled()
+    ensures { (header : Header) (plans : List (List Group)) (r : Contents)
+        → header.version < 2 ^ 64 → header.date < 2 ^ 64 → IsOrderly r
+        → EachPlan IsPlan plans r.sections → length (text_of header plans r) ≤ limit
+        → Spells (text_of header plans r) header (sections_of plans r) }
+{}
+
+/// What the sections of a written list name is what is held, whatever plans its serials are written
+/// by.
+pub fn sections_mean_what_is_held()
+    ensures { (plans : List (List Group)) (r : Contents) → IsOrderly r
+        → EachPlan IsPlan plans r.sections → Means r (entries_of (sections_of plans r)) }
+{}
+
+/// A list of runs has one least plan.
+pub fn one_least_plan()
+    ensures { (runs : List Span) (one other : List Group) → IsLeastPlan runs one
+        → IsLeastPlan runs other → one ≡ other }
+{}
+
+/// The subsections of a plan have as many bytes as it costs, and those of a cheapest plan at most 21
+/// a run.
+pub fn plan_has_its_bytes()
+    ensures bytes { (runs : List Span) (plan : List Group) → IsRuns runs → IsPlan runs plan
+        → length (plan_text runs plan) ≡ cost runs plan }
+    ensures few { (runs : List Span) (plan : List Group) → IsCheapest runs plan
+        → cost runs plan ≤ 21 * length runs }
+{}
+
+/// The list that is written of what is held is spelled, where it is within the limit, and what its
+/// sections name is what is held.
+pub fn written_list_names_what_is_held()
+    ensures { (header : Header) (r : Contents) (text : List ℕ) → IsKrlText header r text
+        → length text ≤ limit → header.version < 2 ^ 64 → header.date < 2 ^ 64 → IsOrderly r
+        → (sections : List Section) × (Spells text header sections
+        × Means r (entries_of sections)) }
+{}

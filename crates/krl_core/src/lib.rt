@@ -1,0 +1,46 @@
+//! Key revocation lists (PROTOCOL.krl).
+#![tactic(auto)]
+
+mod addition;
+mod field;
+mod getters;
+mod growth;
+mod header;
+mod keeper;
+mod keyed;
+mod krl_fault;
+pub mod laws;
+mod listed;
+mod page;
+mod place;
+mod plan;
+mod query;
+mod read;
+mod reading;
+mod revocations;
+mod rows;
+mod shelf;
+mod shelves;
+mod spot;
+mod text;
+mod texts;
+mod walk;
+mod writing;
+
+pub use header::Header;
+pub use keyed::Keyed;
+pub use krl_fault::KrlFault;
+pub use listed::{Authorities, Listed};
+pub use place::Place;
+pub use plan::group::{Group, Sort};
+pub use plan::planner::least_plan;
+pub use read::read_krl;
+pub use reading::{LIMIT, Reading};
+pub use revocations::Revocations;
+pub use text::Text;
+pub use walk::Texts;
+pub use writing::krl_text::{WriteFault, krl_text, write_krl};
+pub use writing::text_fault::TextFault;
+
+#[cfg(test)]
+mod tests;

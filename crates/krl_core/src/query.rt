@@ -1,0 +1,91 @@
+// The question of whether a key or a certificate is revoked.
+ghost use Rattle.std.specs.Prelude.{◌↔◌, IsTrue, List, Contains};
+ghost use Rattle.sha1.specs.Sha1.{sha1};
+ghost use Rattle.sha2.specs.Sha256.{sha256};
+ghost use Rattle.krl_core.specs.Asked.{HoldsKey, HoldsUnder, HoldsCert};
+ghost use Rattle.krl_core.specs.Contents.{Means};
+ghost use Rattle.krl_core.specs.Entry.{Entry};
+ghost use Rattle.krl_core.specs.Revoked.{Revoked};
+ghost use Rattle.krl_core.specs.Shelf.{sections_of};
+
+use crate::revocations::Revocations;
+use crate::rows::Rows;
+use crate::shelf::Shelf;
+use serial_set::Spans;
+use ssh_cert::{CertNames, Subject};
+use ssh_key::{sha1_of, sha256_of};
+
+impl<S: Spans> Revocations<S> {
+    /// Whether a plain key or a certificate is revoked (ssh-keygen(1), KEY REVOCATION LISTS). Takes
+    /// no memory. A hash is computed only where there are hashes of its kind.
+    pub fn query(&self, subject: &Subject) -> bool
+        ensures { (entries : List Entry) → Means self.now entries
+            → (IsTrue result ↔ Revoked entries subject.now) }
+    {
+        if self.has_key(subject.plain.as_slice()) {
+            return true;
+        }
+        match &subject.cert {
+            None => false,
+            Some(cert) => self.has_cert(cert),
+        }
+    }
+
+    fn has_cert(&self, cert: &CertNames) -> bool
+        ensures { IsTrue result ↔ HoldsCert self.now cert.now }
+    {
+        if self.has_key(cert.authority) {
+            return true;
+        }
+        if has_under(&self.shelves, &[], cert.key_id, cert.serial) {
+            return true;
+        }
+        has_under(&self.shelves, cert.authority, cert.key_id, cert.serial)
+    }
+
+    fn has_key(&self, blob: &[u8]) -> bool
+        ensures { IsTrue result ↔ HoldsKey self.now blob.now }
+    {
+        if self.keys.has(blob) {
+            return true;
+        }
+        if has_sha1(&self.sha1s, blob) {
+            return true;
+        }
+        has_sha256(&self.sha256s, blob)
+    }
+}
+
+// Whether the SHA-1 of the bytes is among the hashes. It is not computed where there are none.
+fn has_sha1(hashes: &Rows<[u8; 20]>, bytes: &[u8]) -> bool
+    ensures { IsTrue result ↔ Contains hashes.now (sha1 bytes.now) }
+{
+    if hashes.len() == 0 {
+        return false;
+    }
+    hashes.has(&sha1_of(bytes))
+}
+
+// Whether the SHA-256 of the bytes is among the hashes. It is not computed where there are none.
+fn has_sha256(hashes: &Rows<[u8; 32]>, bytes: &[u8]) -> bool
+    ensures { IsTrue result ↔ Contains hashes.now (sha256 bytes.now) }
+{
+    if hashes.len() == 0 {
+        return false;
+    }
+    hashes.has(&sha256_of(bytes))
+}
+
+// Whether a key ID or a serial number is held under just this authority.
+fn has_under<S: Spans>(shelves: &Rows<Shelf<S>>, authority: &[u8], id: &[u8], serial: u64) -> bool
+    ensures { IsTrue result
+        ↔ HoldsUnder (sections_of S.spans shelves.now) authority.now id.now serial }
+{
+    let Some(shelf) = shelves.find(authority) else {
+        return false;
+    };
+    if shelf.ids.has(id) {
+        return true;
+    }
+    shelf.spans.has(serial)
+}

@@ -1,0 +1,243 @@
+// Reading a list in one pass, a field at a time.
+
+ghost use Rattle.std.specs.Prelude.{◌≡◌, ◌+◌, ◌*◌, ◌≤◌, ◌⊎◌, ℕ, Bool, false, true, None, Some, Ok, Err, List, [], IfOk, IfErr, IfSome, IsTrue, OnOk, length};
+ghost use Rattle.std.specs.List.{concat};
+ghost use Rattle.ssh_wire.specs.Wire.{IsBytes};
+ghost use Rattle.ssh_wire.specs.Pull.{Refuses, Takes, untaken};
+ghost use Rattle.ssh_wire.specs.declared.pull_fault.PullFault.TheVariants as pulls;
+ghost use Rattle.krl_core.specs.declared.krl_fault.KrlFault.TheVariants.{NoMemory, Read};
+ghost use Rattle.krl_core.specs.Front.{HasRoom, Passes, limit};
+ghost use Rattle.krl_core.specs.Keeping.{GrowsWithin, InStep, KeepsField, IsStoredWithin, held_with_open};
+ghost use Rattle.krl_core.specs.Place.{due};
+ghost use Rattle.krl_core.specs.Reading.{Ends, Follows, HasRead, IsBounded, IsSound, IsList, IsWhole, LooksFor, Missed, ReadsOneMore, Refused, told_as, working};
+
+use crate::header::Header;
+use crate::keeper::Keeper;
+use crate::krl_fault::KrlFault;
+use crate::place::Place;
+use crate::revocations::Revocations;
+use serial_set::Spans;
+use ssh_wire::{Pull, PullFault, Source};
+use std::alloc::Global;
+use std::marker::Model;
+
+/// At most so many bytes of a list are read.
+pub const LIMIT: u64 = 67_108_864;
+
+/// A list that is read from a reader in one pass. No more of it is held than the field at hand, and
+/// of a bitmap only the byte at hand.
+#[derive(Drop)]
+pub struct Reading<S: Spans, R: Source + Drop> {
+    pull: Pull<R>,
+    place: Place,
+    keeper: Keeper<S>,
+    // the field at hand
+    field: Vec<u8>,
+    fault: Option<KrlFault>,
+}
+
+impl<S: Spans, R: Source + Drop> Model for Reading<S, R> {
+    ghost use Rattle.krl_core.specs.Reading.{Position, IsSound as Sound};
+
+    ghost Value = { Position };
+
+    ghost view = { λ reading. record {
+      pull = reading.pull;
+      place = reading.place;
+      keeping = reading.keeper;
+      fault = reading.fault;
+    } };
+
+    ghost invariant = { λ reading. Sound (record {
+      pull = reading.pull;
+      place = reading.place;
+      keeping = reading.keeper;
+      fault = reading.fault;
+    }) };
+}
+
+impl<S: Spans, R: Source + Drop> Reading<S, R> {
+    /// Nothing is read yet. The reader may not have failed before.
+    pub fn new(alloc: Global, reader: R) -> Self
+        requires { R.has_failed reader ≡ false }
+        ensures start { (text : List ℕ) → R.left reader ≡ Some text → HasRead text [] result }
+        ensures bounds { IsBounded result.pull result.keeping }
+        ensures faultless { result.fault ≡ None }
+    {
+        Reading {
+            pull: Pull::new(reader, LIMIT),
+            place: Place::Magic,
+            keeper: Keeper::new(alloc),
+            field: Vec::new(alloc),
+            fault: None,
+        }
+    }
+
+    /// Reads the next field of the list. It answers false at the list's end, and from then on. After
+    /// a fault it answers that fault from then on.
+    pub fn step(&mut self) -> Result<bool, KrlFault>
+        ensures more { IfOk result (λ more. IsTrue more → ReadsOneMore self.old self.new) }
+        ensures follows { IfOk result (λ more. IsTrue more → Follows self.old self.new) }
+        ensures ends { IfOk result (λ more. more ≡ false → Ends self.old self.new) }
+        ensures fault { self.old.fault ≡ None
+            → IfErr result (λ fault. Refused fault self.old self.new.pull) }
+        ensures stays { IfErr result (λ fault. self.new.fault ≡ Some fault) }
+        ensures again { IfSome self.old.fault (λ fault.
+            (result ≡ Err fault) × (self.new ≡ self.old)) }
+        ensures working { OnOk result (self.new.fault ≡ None) }
+        ensures bounds { IsBounded self.new.pull self.new.keeping }
+    {
+        if let Some(fault) = self.fault {
+            return Err(fault);
+        }
+        match advance(
+            &mut self.pull,
+            &mut self.place,
+            &mut self.keeper,
+            &mut self.field,
+        ) {
+            Ok(more) => Ok(more),
+            Err(fault) => {
+                self.fault = Some(fault);
+                Err(fault)
+            }
+        }
+    }
+
+    /// How many spans are held of the list so far, with the run of a bitmap that may still grow.
+    pub fn held(&self) -> u128
+        ensures value { result ≡ held_with_open self.now.keeping }
+        ensures four_a_byte { result ≤ 4 * self.now.pull.taken }
+    {
+        self.keeper.held()
+    }
+
+    /// What was read, after a step that answered false.
+    pub fn done(self) -> (Header, Revocations<S>)
+        ensures whole { (text : List ℕ) → (fields : List (List ℕ)) → HasRead text fields self
+            → text ≡ concat fields → (due self.place).may_end ≡ true
+            → IsWhole text result.0 result.1 }
+        ensures list { (text : List ℕ) → (fields : List (List ℕ)) → HasRead text fields self
+            → text ≡ concat fields → (due self.place).may_end ≡ true
+            → IsList text result.0 result.1 }
+    {
+        self.keeper.done()
+    }
+
+    /// How many bytes of the list were taken.
+    pub fn taken(&self) -> u64
+        ensures value { result ≡ self.now.pull.taken }
+        ensures within { result ≤ limit }
+    {
+        self.pull.taken()
+    }
+}
+
+// What a fault of the reader is told as.
+fn told(fault: PullFault) -> KrlFault
+    ensures { result ≡ told_as fault }
+{
+    match fault {
+        PullFault::EndsEarly => KrlFault::EndsEarly,
+        PullFault::TooLong => KrlFault::TooLong,
+        PullFault::Read => KrlFault::Read,
+        PullFault::NoMemory => KrlFault::NoMemory,
+    }
+}
+
+// Whether the list ends here.
+fn ends<R: Source + Drop>(pull: &mut Pull<R>, place: Place) -> Result<bool, KrlFault>
+    requires { pull.old.fault ≡ None }
+    ensures ok { IfOk result (λ ended. LooksFor place pull.old ended pull.new) }
+    ensures err { IfErr result (λ fault. (fault ≡ Read) × ((due place).may_end ≡ true)
+        × Refuses pull.old 1 pulls.Read pull.new) }
+{
+    if !place.may_end() {
+        return Ok(false);
+    }
+    match pull.at_end() {
+        Ok(ended) => Ok(ended),
+        Err(fault) => Err(told(fault)),
+    }
+}
+
+// Takes the field that is due.
+fn take<R: Source + Drop>(
+    pull: &mut Pull<R>,
+    place: Place,
+    field: &mut Vec<u8>,
+) -> Result<(), KrlFault>
+    requires { pull.old.fault ≡ None }
+    ensures ok { OnOk result (Takes pull.old field.new.items pull.new) }
+    ensures room { OnOk result (HasRoom (due place)) }
+    ensures size { OnOk result (length field.new.items ≡ (due place).size) }
+    ensures err { IfErr result (λ fault. Missed place pull.old fault pull.new) }
+{
+    if !place.has_room() {
+        return Err(KrlFault::Length);
+    }
+    match pull.bytes_into(field, place.size() as usize) {
+        Ok(()) => Ok(()),
+        Err(missed) => Err(told(missed)),
+    }
+}
+
+// Judges the field that was taken, and keeps what it names.
+fn pass<S: Spans>(place: &mut Place, keeper: &mut Keeper<S>, field: &[u8]) -> Result<(), KrlFault>
+    requires room { HasRoom (due place.old) }
+    requires size { length field.now ≡ (due place.old).size }
+    requires in_step { InStep place.old keeper.old.bitmap }
+    ensures passes { OnOk result (Passes place.old field.now place.new) }
+    ensures kept { OnOk result
+        (KeepsField place.old field.now place.new keeper.old keeper.new) }
+    ensures bytes { IsBytes field.now }
+    ensures grows { GrowsWithin (length field.now) keeper.old keeper.new }
+    ensures err { IfErr result (λ fault. (fault ≡ NoMemory)
+        ⊎ ((due place.old).judged field.now ≡ Err fault)) }
+{
+    let next = match place.after(field) {
+        Ok(next) => next,
+        Err(fault) => return Err(fault),
+    };
+    match keeper.keep(*place, field, next) {
+        Ok(()) => {
+            *place = next;
+            Ok(())
+        }
+        Err(_) => Err(KrlFault::NoMemory),
+    }
+}
+
+// Reads a field, or finds that the list is at its end.
+fn advance<S: Spans, R: Source + Drop>(
+    pull: &mut Pull<R>,
+    place: &mut Place,
+    keeper: &mut Keeper<S>,
+    field: &mut Vec<u8>,
+) -> Result<bool, KrlFault>
+    requires { IsSound (working pull.old place.old keeper.old) }
+    ensures more { IfOk result (λ more. IsTrue more → ReadsOneMore
+        (working pull.old place.old keeper.old) (working pull.new place.new keeper.new)) }
+    ensures follows { IfOk result (λ more. IsTrue more → Follows
+        (working pull.old place.old keeper.old) (working pull.new place.new keeper.new)) }
+    ensures ends { IfOk result (λ more. more ≡ false → Ends
+        (working pull.old place.old keeper.old) (working pull.new place.new keeper.new)) }
+    ensures fault { IfErr result (λ fault. Refused fault
+        (working pull.old place.old keeper.old) pull.new) }
+    ensures sound { OnOk result (IsSound (working pull.new place.new keeper.new)) }
+    ensures bounds { IsBounded pull.new keeper.new }
+{
+    match ends(pull, *place) {
+        Ok(true) => return Ok(false),
+        Ok(false) => {}
+        Err(fault) => return Err(fault),
+    }
+    match take(pull, *place, field) {
+        Ok(()) => {}
+        Err(fault) => return Err(fault),
+    }
+    match pass(place, keeper, field.as_slice()) {
+        Ok(()) => Ok(true),
+        Err(fault) => Err(fault),
+    }
+}

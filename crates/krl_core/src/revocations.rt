@@ -1,0 +1,172 @@
+// What is revoked.
+ghost use Rattle.std.specs.Prelude.{◌≡◌, ◌+◌, ◌<◌, ◌≤◌, ◌∷◌, ◌++◌, [], List, length, OnOk, OnErr};
+ghost use Rattle.krl_core.specs.Authority.{authority_bytes, IsAuthority};
+ghost use Rattle.krl_core.specs.Contents.{IsNamed, Means, nothing, held, stored};
+ghost use Rattle.krl_core.specs.Entry.{Entry, RangeEntry, IdEntry, KeyEntry, Sha1Entry, Sha256Entry};
+
+use crate::addition::Addition;
+use crate::rows::Rows;
+use crate::shelf::Shelf;
+use crate::shelves::add_under;
+use crate::spot::Spot;
+use crate::text::Text;
+use crate::texts::{add_hash, add_text};
+use serial_set::Spans;
+use std::alloc::{AllocError, Global};
+use std::marker::Model;
+
+/// What is revoked: serial numbers and key IDs under an authority or under all, and keys by their
+/// blobs or hashes. Contracts see the sections of the authorities and the lists of keys and hashes,
+/// each in the order of their bytes.
+#[derive(Drop)]
+pub struct Revocations<S: Spans> {
+    alloc: Global,
+    pub(crate) shelves: Rows<Shelf<S>>,
+    // where the last addition under an authority was made
+    recent: Spot,
+    pub(crate) keys: Rows<Text>,
+    pub(crate) sha1s: Rows<[u8; 20]>,
+    pub(crate) sha256s: Rows<[u8; 32]>,
+}
+
+impl<S: Spans> Model for Revocations<S> {
+    ghost use Rattle.std.specs.Prelude.{map};
+    ghost use Rattle.krl_core.specs.Contents.{Contents, contents_of, IsOrderly};
+    ghost use Rattle.krl_core.specs.Shelf.{sections_of};
+    ghost use Rattle.krl_core.specs.Text.{bytes_of};
+
+    ghost Value = { Contents };
+
+    ghost view = { λ r.
+        contents_of (sections_of S.spans r.shelves) (map bytes_of r.keys) r.sha1s r.sha256s };
+
+    ghost invariant = { λ r. IsOrderly
+        (contents_of (sections_of S.spans r.shelves) (map bytes_of r.keys) r.sha1s r.sha256s) };
+}
+
+impl<S: Spans> Revocations<S> {
+    /// No revocations. Takes no memory.
+    pub fn new(alloc: Global) -> Revocations<S>
+        ensures nothing { result ≡ nothing }
+        ensures means { Means result [] }
+    {
+        Revocations {
+            alloc,
+            shelves: Rows::new(alloc),
+            recent: Spot { page: 0, at: 0 },
+            keys: Rows::new(alloc),
+            sha1s: Rows::new(alloc),
+            sha256s: Rows::new(alloc),
+        }
+    }
+
+    /// Revokes the serials from `lo` to `hi` of an authority, or of all authorities. Fails only
+    /// where memory runs out, and changes nothing then.
+    pub fn add_serials(
+        &mut self,
+        authority: Option<&[u8]>,
+        lo: u64,
+        hi: u64,
+    ) -> Result<(), AllocError>
+        requires from_one { 0 < lo }
+        requires ordered { lo ≤ hi }
+        requires authority { IsAuthority authority }
+        ensures means { OnOk result ((entries : List Entry) → Means self.old entries
+            → Means self.new (entries ++ RangeEntry (authority_bytes authority.entry) lo hi ∷ [])) }
+        ensures refused { OnErr result (self.new ≡ self.old) }
+        ensures held { held self.new ≤ held self.old + 1 }
+        ensures stored { stored self.new
+            ≤ stored self.old + length (authority_bytes authority.entry) }
+        ensures known { IsNamed self.old (authority_bytes authority.entry)
+            → stored self.new ≤ stored self.old }
+        ensures named { OnOk result (IsNamed self.new (authority_bytes authority.entry)) }
+    {
+        let bytes = bytes_or_none(authority);
+        let addition = Addition::Serials { lo, hi };
+        add_under(
+            self.alloc,
+            &mut self.shelves,
+            &mut self.recent,
+            bytes,
+            addition,
+        )?;
+        Ok(())
+    }
+
+    /// Revokes the certificates with a key ID of an authority, or of all authorities. Fails only
+    /// where memory runs out, and changes nothing then.
+    pub fn add_id(&mut self, authority: Option<&[u8]>, id: &[u8]) -> Result<(), AllocError>
+        requires { IsAuthority authority }
+        ensures means { OnOk result ((entries : List Entry) → Means self.old entries
+            → Means self.new (entries ++ IdEntry (authority_bytes authority.entry) id.now ∷ [])) }
+        ensures refused { OnErr result (self.new ≡ self.old) }
+        ensures held { held self.new ≡ held self.old }
+        ensures stored { stored self.new
+            ≤ stored self.old + length (authority_bytes authority.entry) + length id.now }
+        ensures known { IsNamed self.old (authority_bytes authority.entry)
+            → stored self.new ≤ stored self.old + length id.now }
+        ensures named { OnOk result (IsNamed self.new (authority_bytes authority.entry)) }
+    {
+        let bytes = bytes_or_none(authority);
+        let addition = Addition::Id(id);
+        add_under(
+            self.alloc,
+            &mut self.shelves,
+            &mut self.recent,
+            bytes,
+            addition,
+        )?;
+        Ok(())
+    }
+
+    /// Revokes a key by its blob. Fails only where memory runs out, and changes nothing then.
+    pub fn add_key(&mut self, blob: &[u8]) -> Result<(), AllocError>
+        ensures means { OnOk result ((entries : List Entry) → Means self.old entries
+            → Means self.new (entries ++ KeyEntry blob.now ∷ [])) }
+        ensures refused { OnErr result (self.new ≡ self.old) }
+        ensures held { held self.new ≡ held self.old }
+        ensures stored { stored self.new ≤ stored self.old + length blob.now }
+        ensures sections { self.new.sections ≡ self.old.sections }
+    {
+        add_text(self.alloc, &mut self.keys, blob)?;
+        Ok(())
+    }
+
+    /// Revokes a key by the SHA-1 of its blob. Fails only where memory runs out, and changes nothing
+    /// then.
+    pub fn add_sha1(&mut self, hash: &[u8; 20]) -> Result<(), AllocError>
+        ensures means { OnOk result ((entries : List Entry) → Means self.old entries
+            → Means self.new (entries ++ Sha1Entry hash.now ∷ [])) }
+        ensures refused { OnErr result (self.new ≡ self.old) }
+        ensures held { held self.new ≡ held self.old }
+        ensures stored { stored self.new ≤ stored self.old + 20 }
+        ensures sections { self.new.sections ≡ self.old.sections }
+    {
+        add_hash(self.alloc, &mut self.sha1s, hash)?;
+        Ok(())
+    }
+
+    /// Revokes a key by the SHA-256 of its blob. Fails only where memory runs out, and changes
+    /// nothing then.
+    pub fn add_sha256(&mut self, hash: &[u8; 32]) -> Result<(), AllocError>
+        ensures means { OnOk result ((entries : List Entry) → Means self.old entries
+            → Means self.new (entries ++ Sha256Entry hash.now ∷ [])) }
+        ensures refused { OnErr result (self.new ≡ self.old) }
+        ensures held { held self.new ≡ held self.old }
+        ensures stored { stored self.new ≤ stored self.old + 32 }
+        ensures sections { self.new.sections ≡ self.old.sections }
+    {
+        add_hash(self.alloc, &mut self.sha256s, hash)?;
+        Ok(())
+    }
+}
+
+// The bytes of an authority, and none for all authorities.
+fn bytes_or_none<'a>(authority: Option<&'a [u8]>) -> &'a [u8]
+    ensures { result.now ≡ authority_bytes authority.entry }
+{
+    match authority {
+        None => &[],
+        Some(bytes) => bytes,
+    }
+}

@@ -1,0 +1,78 @@
+// The text of what is held, and its way out.
+
+ghost use Rattle.std.specs.Prelude.{◌≡◌, false};
+ghost use Rattle.krl_core.specs.Within.{IsWritten, Writes, write_fault_number};
+
+use crate::header::Header;
+use crate::revocations::Revocations;
+use crate::writing::text_fault::TextFault;
+use crate::writing::whole::{Parts, list_text};
+use serial_set::Spans;
+use ssh_wire::{Sink, send};
+use std::alloc::Global;
+
+/// The text of a revocation list: its header, then what is held, all authorities first and each
+/// authority by its bytes, then keys and hashes. Each authority's serials stand in the fewest bytes
+/// that lists, ranges and bitmaps can name them in. What would be empty is left out.
+pub fn krl_text<S: Spans>(
+    alloc: Global,
+    header: &Header,
+    revocations: &Revocations<S>,
+) -> Result<Vec<u8>, TextFault>
+    ensures { IsWritten (λ made. made.items) result header.now revocations.now }
+{
+    let parts = Parts {
+        authorities: revocations.walk_authorities(),
+        keys: revocations.walk_keys(),
+        sha1s: revocations.walk_sha1s(),
+        sha256s: revocations.walk_sha256s(),
+    };
+    list_text(alloc, header, parts)
+}
+
+/// Why a list was not written.
+#[derive(Clone, Copy, Debug, PartialEq, Eq)]
+pub enum WriteFault {
+    /// The writer failed once it had taken so many bytes.
+    Write { count: usize },
+    /// There was no memory. Nothing was written.
+    NoMemory,
+    /// The text is longer than 67,108,864 bytes, so it could not be read. Nothing was written.
+    TooLong,
+}
+
+impl WriteFault {
+    /// The fault's number.
+    pub fn number(self) -> u8
+        ensures { result ≡ write_fault_number self }
+    {
+        match self {
+            WriteFault::Write { count: _ } => 1,
+            WriteFault::NoMemory => 2,
+            WriteFault::TooLong => 3,
+        }
+    }
+}
+
+/// Writes the text of a revocation list. The whole text stands in memory before the first byte goes
+/// out.
+pub fn write_krl<S: Spans, W: Sink>(
+    alloc: Global,
+    header: &Header,
+    revocations: &Revocations<S>,
+    writer: &mut W,
+) -> Result<(), WriteFault>
+    requires { W.has_failed writer.old ≡ false }
+    ensures { Writes result header.now revocations.now
+        (W.taken writer.old) (W.taken writer.new) (W.has_failed writer.new) }
+{
+    let text = match krl_text(alloc, header, revocations) {
+        Ok(text) => text,
+        Err(TextFault::NoMemory) => return Err(WriteFault::NoMemory),
+        Err(TextFault::TooLong) => return Err(WriteFault::TooLong),
+    };
+    match send(writer, &text) {
+        Ok(()) => Ok(()),
+        Err(sent) => Err(WriteFault::Write { count: sent.count }),
+    }
+}

@@ -1,0 +1,34 @@
+// The walks over what is held, as the parts of a list.
+
+ghost use Rattle.std.specs.Prelude.{◌≡◌, ◌∷◌, [], MatchOption};
+
+use crate::keyed::Keyed;
+use crate::listed;
+use crate::text::Text;
+use crate::walk::Texts;
+use crate::writing::authorities::{Authorities, Authority};
+use crate::writing::strings::Strings;
+use serial_set::Spans;
+
+impl<'a, T: Keyed> Strings<'a> for Texts<'a, T> {
+    ghost left = { λ texts. texts };
+
+    fn next_string(&mut self) -> Option<&'a [u8]> {
+        self.next()
+    }
+}
+
+impl<'a, S: Spans> Authorities<'a, S, Texts<'a, Text>> for listed::Authorities<'a, S> {
+    ghost left = { λ authorities. authorities };
+
+    fn next_authority(&mut self) -> Option<Authority<'a, S, Texts<'a, Text>>> {
+        match self.next() {
+            None => None,
+            Some(first) => Some(Authority {
+                bytes: first.authority().unwrap_or(&[]),
+                spans: first.spans(),
+                ids: first.walk_ids(),
+            }),
+        }
+    }
+}
