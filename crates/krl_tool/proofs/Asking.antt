@@ -8,15 +8,15 @@ use Rattle.krl_tool.specs.declared.krl_fault.KrlFault.TheVariants as faults
 use Rattle.krl_tool.specs.Entry.{Entry, KeyEntry, Means, Revocations, Revoked, entries_of, revoked}
 use Rattle.krl_tool.specs.Front.{IsFirstFault}
 use Rattle.krl_tool.specs.Krl.{Section, Spells}
-use Rattle.krl_tool.specs.Carries.{Carries, SaysAll, Stops}
-use Rattle.krl_tool.specs.Query.{IsRead, ask, kept_entries, krl_cause, no_line, query_line, query_run_of}
-use Rattle.krl_tool.specs.Report.{Progress}
-use Rattle.krl_tool.specs.Run.{Answering, File, Item, files_items}
-use Rattle.krl_tool.specs.Stop.{Stop}
-use Rattle.krl_tool.proofs.Answering.{Carries-then, SaysAll-none}
-use Rattle.krl_tool.proofs.Fronts.{one_told}
+use Rattle.krl_tool.specs.Bytes.{AreBytes}
+use Rattle.krl_tool.specs.Carries.{Carries}
+use Rattle.krl_tool.specs.Printer.{Printed}
+use Rattle.krl_tool.specs.Query.{IsRead, ask, kept_entries, krl_cause, query_line, query_run_of}
+use Rattle.krl_tool.specs.Run.{Answering, File, Item, Passed, Stopped, files_items}
+use Rattle.krl_tool.specs.Stop.{Stop, stop_of}
+use Rattle.krl_tool.proofs.Carrying.{carries_more, carries_passed, carries_then, carries_withheld}
 use Rattle.krl_tool.proofs.KeyNames.{named_tested, tested_named}
-use Rattle.krl_tool.proofs.Unique.{spelled_once}
+use Rattle.krl_tool.proofs.Readings.{some_reading}
 
 same_test : (a b : Bool) → (IsTrue a → IsTrue b) → (IsTrue b → IsTrue a) → a ≡ b
 same_test true b there back = sym (there refl)
@@ -50,39 +50,44 @@ revoked_same kept entries means blob =
 -- what is kept gives the answers of the entries
 ask_same : (kept : Revocations) (entries : List Entry) → Means kept entries → ask (kept_entries kept) ≡ ask entries
 ask_same kept entries means = λ i. λ name line key.
-    record { line = query_line name line.comment (revoked_same kept entries means line.blob i); revoked = revoked_same kept entries means line.blob i }
+    record { text = query_line name line.comment (revoked_same kept entries means line.blob i); revoked = revoked_same kept entries means line.blob i }
 
--- A list that was read and means its sections' entries: the run is that of what is kept.
-pub read_run : {A : Type 0} (text name : List ℕ) (files : List File) (kept : Revocations) (reading : Result (List Entry) KrlFault) (result : Result A Stop) (old new : Progress)
-    → ((sections : List Section) × Spells text kept.header sections × Means kept (entries_of sections)) → IsFirstFault text None → IsRead text reading
-    → Carries (files_items (ask (kept_entries kept)) files) result old new → Carries (query_run_of name reading files) result old new
+-- A list that was read: nothing is said of it, and the files are asked about by what is kept.
+pub read_run : {A : Type 0} (text name : List ℕ) (files : List File) (kept : Revocations) (result : Result A Stop) (old new : Printed) → old.failed ≡ false
+    → ((sections : List Section) × Spells text kept.header sections × Means kept (entries_of sections)) → IsFirstFault text None
+    → Carries (files_items (ask (kept_entries kept)) files) result old new
+    → (reading : Result (List Entry) KrlFault) × IsRead text reading × Carries (query_run_of name reading files) result old new
 unfolding query_run_of
-read_run text name files kept (Err fault) result old new found none reads carries = let same = one_told text None (Some fault) none reads in absurd cc
-read_run text name files kept (Ok entries) result old new found none reads carries =
-    let same = spelled_once text kept.header reads.1.0 found.0 reads.1.1 found.1 reads.1.2 in
-    let entries_same : entries_of found.0 ≡ entries = ap entries_of same.1 ∙ sym reads.1.3 in
-    let means : Means kept entries = subst (λ (es : List Entry). Means kept es) entries_same found.2 in
-    let answers = ap (λ (answer : Answering). files_items answer files) (ask_same kept entries means) in
-    Carries-then (no_line name ∷ []) (files_items (ask entries) files) result old old new (read_all name old) (subst (λ (items : List Item). Carries items result old new) answers carries)
-  where
-    read_all : (name : List ℕ) (now : Progress) → SaysAll (no_line name ∷ []) now now
-    read_all name now = let none = SaysAll-none now in record { unstopped = refl; holds = none.holds }
+read_run text name files kept result old new working found none carries =
+    let entries = entries_of found.0 in
+    let answers = ap (λ (answer : Answering). files_items answer files) (ask_same kept entries found.2) in
+    let carried = subst (λ (items : List Item). Carries items result old new) answers carries in
+    (Ok entries, (none, (kept.header, found.0, found.1, refl)), carries_then (Passed name ∷ []) (files_items (ask entries) files) tt result old old new (carries_passed name old working) carried)
 
--- A list that was refused: the run stops before its first line.
-pub refused_run : (text name : List ℕ) (files : List File) (fault : KrlFault) (reading : Result (List Entry) KrlFault) (now : Progress)
-    → (fault ≡ faults.NoMemory) ⊎ IsFirstFault text (Some fault) → IsRead text reading
-    → Stops (query_run_of name reading files) (record { name = name; line = None; cause = krl_cause fault }) now now
-unfolding query_run_of
-refused_run text name files fault (Err first) now (inl no_memory) reads = rw no_memory (record { done = []; next = Err (record { name = name; line = None; cause = causes.Krl first }); later = []; parts = refl; named = refl; all = SaysAll-none now })
-refused_run text name files fault (Ok entries) now (inl no_memory) reads = rw no_memory (record { done = []; next = no_line name; later = files_items (ask entries) files; parts = refl; named = refl; all = SaysAll-none now })
-refused_run text name files fault (Ok entries) now (inr first) reads = let same = one_told text None (Some fault) reads.0 first in absurd cc
-refused_run text name files fault (Err first_fault) now (inr first) reads =
-    let same : first_fault ≡ fault = same_fault first_fault fault (one_told text (Some first_fault) (Some fault) reads first) in
-    rw same (stopped fault)
-  where
-    same_fault : (a b : KrlFault) → Some a ≡ Some b → a ≡ b
-    same_fault a b e = cc
+-- the run of a list that was refused
+Refused : List ℕ → List ℕ → List File → KrlFault → Printed → Type 0
+Refused text name files fault now =
+    (reading : Result (List Entry) KrlFault) × IsRead text reading × Carries {A = Unit {0}} (query_run_of name reading files) (Err (stop_of name (krl_cause fault))) now now
 
-    stopped : (fault : KrlFault) → Stops (Err (record { name = name; line = None; cause = causes.Krl fault }) ∷ []) (record { name = name; line = None; cause = krl_cause fault }) now now
-    stopped faults.NoMemory = record { done = []; next = Err (record { name = name; line = None; cause = causes.Krl faults.NoMemory }); later = []; parts = refl; named = refl; all = SaysAll-none now }
-    stopped other = let none = SaysAll-none now in record { stopped = refl; holds = none.holds }
+-- memory ran out
+unread_run : (text name : List ℕ) (files : List File) (now : Printed) → now.failed ≡ false → (reading : Result (List Entry) KrlFault) → IsRead text reading → Refused text name files faults.NoMemory now
+unfolding query_run_of Refused
+unread_run text name files now working (Err fault) reads =
+    let item = Stopped (stop_of name (causes.Krl fault)) in
+    (Err fault, reads, carries_withheld (Some item) name (stop_of name causes.NoMemory) now working (refl, (item, refl, refl)))
+unread_run text name files now working (Ok entries) reads =
+    let first = carries_withheld {A = Unit {0}} (Some (Passed name)) name (stop_of name causes.NoMemory) now working (refl, (Passed name, refl, refl)) in
+    (Ok entries, reads, carries_more (Passed name ∷ []) (files_items (ask entries) files) (stop_of name causes.NoMemory) now now first)
+
+-- the list's fault stopped the run, before anything was said
+faulty_run : (text name : List ℕ) (files : List File) (fault : KrlFault) (now : Printed) → now.failed ≡ false → IsFirstFault text (Some fault) → Refused text name files fault now
+unfolding query_run_of Refused
+faulty_run text name files faults.NoMemory now working first = unread_run text name files now working (Err faults.NoMemory) first
+faulty_run text name files fault now working first =
+    (Err fault, first, carries_withheld (Some (Stopped (stop_of name (causes.Krl fault)))) name (stop_of name (causes.Krl fault)) now working refl)
+
+pub refused_run : (text name : List ℕ) (files : List File) (fault : KrlFault) (now : Printed) → now.failed ≡ false → AreBytes text → (fault ≡ faults.NoMemory) ⊎ IsFirstFault text (Some fault)
+    → (reading : Result (List Entry) KrlFault) × IsRead text reading × Carries {A = Unit {0}} (query_run_of name reading files) (Err (stop_of name (krl_cause fault))) now now
+unfolding Refused
+refused_run text name files fault now working bytes (inl no_memory) = let some = some_reading text bytes in rw no_memory (unread_run text name files now working some.0 some.1)
+refused_run text name files fault now working bytes (inr first) = faulty_run text name files fault now working first

@@ -17,10 +17,9 @@ pub mod Completes
 pub mod KeyNames
 pub mod Loading
 pub mod Lines
-pub mod Answering
-pub mod Sending
-pub mod Lined
-pub mod Filed
-pub mod Asking
+pub mod Saying
+pub mod Carrying
 pub mod Ending
+pub mod Answering
+pub mod Asking
 pub mod Readings

@@ -1,52 +1,50 @@
--- What a part of a run does: it says all, or stops.
-use Rattle.std.specs.Prelude.{◌≡◌, ℕ, List, ◌∷◌, ◌++◌, None, Some, Result, Ok, Err}
-use Rattle.krl_tool.specs.declared.cause.Cause.{Cause}
-use Rattle.krl_tool.specs.declared.cause.Cause.TheVariants.{File, Krl, Line, Subject, NoMemory, Output}
-use Rattle.krl_tool.specs.Report.{Said, Progress, Holds, IsCut, and_then}
-use Rattle.krl_tool.specs.Run.{Item, file_of, outcome_of}
-use Rattle.krl_tool.specs.Stop.{Stop, output_stop}
+-- What a part of a run does: it says all of its items, or it ends the run.
+use Rattle.std.specs.Prelude.{◌≡◌, ℕ, true, List, ◌∷◌, ◌++◌, Option, None, Some, Result}
+use Rattle.std.specs.Result.{result_err}
+use Rattle.krl_tool.specs.declared.cause.Cause.TheVariants.{NoMemory}
+use Rattle.krl_tool.specs.Printer.{Printed, HasSaid, IsCut}
+use Rattle.krl_tool.specs.Run.{Item, Stopped, name_of, outcome_of}
+use Rattle.krl_tool.specs.Stop.{Stop, Ender, ByOutput, ByMemory, ByInput, ender_of, is_lost, output_stop, stop_of}
 
--- All that the items say was said: each of them is an answer.
-pub record SaysAll (items : List Item) (old new : Progress) : Type 0 where
-  pub unstopped : (outcome_of items).stop ≡ None
-  pub holds : (said : Said) → Holds old said → Holds new (and_then said (outcome_of items))
+-- The next item ends the run: all before it was said.
+pub record IsStopped (before : Option (List ℕ)) (items : List Item) (stop : Stop) (now : Printed) : Type 0 where
+  pub said : List Item
+  pub later : List Item
+  pub parts : items ≡ said ++ Stopped stop ∷ later
+  pub has_said : HasSaid before said now
 
--- All that the items say up to this stop was said.
-pub record SaysUntil (items : List Item) (stop : Stop) (old new : Progress) : Type 0 where
-  pub stopped : (outcome_of items).stop ≡ Some stop
-  pub holds : (said : Said) → Holds old said → Holds new (and_then said (outcome_of items))
-
--- What the first items say was said, and memory ran out at the next one: the stop names the file at hand, and no line.
-pub record IsStarvedAt (items : List Item) (stop : Stop) (old new : Progress) : Type 0 where
-  pub done : List Item
+-- Memory ran out at the next item: all before it was said. What is at hand is named, and no line.
+pub record IsStarved (before : Option (List ℕ)) (items : List Item) (stop : Stop) (now : Printed) : Type 0 where
+  pub said : List Item
   pub next : Item
   pub later : List Item
-  pub parts : items ≡ done ++ next ∷ later
-  pub named : stop ≡ record { name = file_of next; line = None; cause = NoMemory }
-  pub all : SaysAll done old new
+  pub parts : items ≡ said ++ next ∷ later
+  pub named : stop ≡ stop_of (name_of next) NoMemory
+  pub has_said : HasSaid before said now
 
 -- The output failed within what the first items say.
-pub record IsLostAt (items : List Item) (stop : Stop) (count : ℕ) (old new : Progress) : Type 0 where
-  pub done : List Item
+pub record IsLost (before : Option (List ℕ)) (items : List Item) (count : ℕ) (stop : Stop) (now : Printed) : Type 0 where
+  pub said : List Item
   pub later : List Item
-  pub parts : items ≡ done ++ later
+  pub parts : items ≡ said ++ later
+  pub unstopped : (outcome_of said).stop ≡ None
   pub named : stop ≡ output_stop count
-  pub unstopped : (outcome_of done).stop ≡ None
-  pub cut : (said : Said) → Holds old said → IsCut (said.text ++ (outcome_of done).text) said.before new.taken count
+  pub cut : IsCut (outcome_of said).text before now.taken count
+  pub broken : now.failed ≡ true
 
-abbrev pub StopsBy : Cause → List Item → Stop → Progress → Progress → Type 0
-StopsBy NoMemory items stop old new = IsStarvedAt items stop old new
-StopsBy (Output count) items stop old new = IsLostAt items stop count old new
-StopsBy (File fault) items stop old new = SaysUntil items stop old new
-StopsBy (Krl fault) items stop old new = SaysUntil items stop old new
-StopsBy (Line fault) items stop old new = SaysUntil items stop old new
-StopsBy (Subject fault) items stop old new = SaysUntil items stop old new
+abbrev pub IsEnded : Ender → Option (List ℕ) → List Item → Stop → Printed → Type 0
+IsEnded (ByOutput count) before items stop now = IsLost before items count stop now
+IsEnded ByMemory before items stop now = IsStarved before items stop now
+IsEnded ByInput before items stop now = IsStopped before items stop now
 
--- A part of a run stopped: at its first fault, or before it where memory ran out or the output failed.
-abbrev pub Stops : List Item → Stop → Progress → Progress → Type 0
-Stops items stop old new = StopsBy stop.cause items stop old new
+-- How far a run came: it has said all of these items, or stopped within them.
+abbrev pub Reaches : Option (List ℕ) → List Item → Option Stop → Printed → Type 0
+Reaches before items None now = HasSaid before items now
+Reaches before items (Some stop) now = IsEnded (ender_of stop.cause) before items stop now
 
--- What a part of a run did: it said all, or stopped.
-abbrev pub Carries : {A : Type 0} → List Item → Result A Stop → Progress → Progress → Type 0
-Carries items (Ok value) old new = SaysAll items old new
-Carries items (Err stop) old new = Stops items stop old new
+-- A part of a run says its items after whatever was said before, or stops within them.
+pub record Carries {A : Type 0} (items : List Item) (result : Result A Stop) (old new : Printed) : Type 0 where
+  pub says : (before : Option (List ℕ)) (said : List Item) → HasSaid before said old
+      → Reaches before (said ++ items) (result_err result) new
+  pub failed : new.failed ≡ is_lost (result_err result)
+  pub writer : new.writer ≡ old.writer

@@ -15,7 +15,7 @@ pub mod Named
 pub mod Stop
 pub mod Run
 pub mod Split
-pub mod Report
+pub mod Printer
 pub mod Carries
 pub mod Query
 pub mod Done

@@ -12,11 +12,16 @@ comment_or_none (byte ∷ bytes) = escaped (byte ∷ bytes)
 
 -- the size in bits, the fingerprint, the comment and the kind
 abbrev pub list_line : ℕ → List ℕ → List ℕ → List ℕ → List ℕ
-list_line bits print comment kind = decimal bits ++ (codes " " ++ (print ++ (codes " " ++ (comment_or_none comment ++ (codes " (" ++ (kind ++ (codes ")" ++ 10 ∷ [])))))))
+list_line bits print comment kind =
+    decimal bits
+    ++ (codes " " ++ (print ++ (codes " " ++ (comment_or_none comment
+    ++ (codes " (" ++ (kind ++ (codes ")" ++ 10 ∷ [])))))))
 
 -- the answer for a key by its fingerprint
 abbrev pub describe : Hash → Answering
-describe hash name line key = record { line = list_line key.bits (fingerprint_text hash line.blob) line.comment (short_name_of key.kind); revoked = false }
+describe hash name line key =
+    let print = fingerprint_text hash line.blob in
+    record { text = list_line key.bits print line.comment (short_name_of key.kind); revoked = false }
 
 -- Each key of the file gives one line, up to the first fault.
 unfoldable pub list_run_of : Hash → File → List Item

@@ -8,9 +8,10 @@ use Rattle.krl_tool.specs.Entry.{Entry, KeyEntry, Revocations, entries_of, revok
 use Rattle.krl_tool.specs.Escape.{escaped}
 use Rattle.krl_tool.specs.Front.{IsFirstFault}
 use Rattle.krl_tool.specs.Krl.{Header, Section, Spells}
-use Rattle.krl_tool.specs.Run.{Answering, File, Item, files_items}
+use Rattle.krl_tool.specs.Run.{Answering, File, Item, Passed, Stopped, files_items}
+use Rattle.krl_tool.specs.Stop.{stop_of}
 
--- a comment behind a file's name, where there is one
+-- a comment after a file's name, where there is one
 abbrev pub comment_part : List ℕ → List ℕ
 comment_part [] = []
 comment_part (byte ∷ bytes) = codes " (" ++ (escaped (byte ∷ bytes) ++ codes ")")
@@ -26,7 +27,7 @@ query_line name comment is_revoked = escaped name ++ (comment_part comment ++ (v
 abbrev pub ask : List Entry → Answering
 ask entries name line key =
     let is_revoked = revoked entries line.blob in
-    record { line = query_line name line.comment is_revoked; revoked = is_revoked }
+    record { text = query_line name line.comment is_revoked; revoked = is_revoked }
 
 -- what is kept of a list, as entries
 abbrev pub kept_entries : Revocations → List Entry
@@ -37,16 +38,13 @@ abbrev pub IsRead : List ℕ → Result (List Entry) KrlFault → Type 0
 IsRead text (Err fault) = IsFirstFault text (Some fault)
 IsRead text (Ok entries) = IsFirstFault text None × ((header : Header) × (sections : List Section) × Spells text header sections × (entries ≡ entries_of sections))
 
--- Of a list that is read nothing is said.
-abbrev pub no_line : List ℕ → Item
-no_line name = Ok (record { name = name; answer = record { line = []; revoked = false } })
-
--- The list's first fault ends the run at once; else each key of each file gives one line, up to the first fault.
+-- The list's first fault ends the run at once. Else nothing is said of the list, and each key of each
+-- file gives one line, up to the first fault.
 unfoldable pub query_run_of : List ℕ → Result (List Entry) KrlFault → List File → List Item
-query_run_of name (Err fault) files = Err (record { name = name; line = None; cause = causes.Krl fault }) ∷ []
-query_run_of name (Ok entries) files = no_line name ∷ files_items (ask entries) files
+query_run_of name (Err fault) files = Stopped (stop_of name (causes.Krl fault)) ∷ []
+query_run_of name (Ok entries) files = Passed name ∷ files_items (ask entries) files
 
--- A want of memory is the run's own.
+-- Where memory runs out, it is for the run itself.
 abbrev pub krl_cause : KrlFault → Cause
 krl_cause NoMemory = causes.NoMemory
 krl_cause fault = causes.Krl fault

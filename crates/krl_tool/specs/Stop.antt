@@ -1,14 +1,14 @@
 -- Why a run stopped, and the line that tells it.
 use Rattle.std.specs.Prelude.{ℕ, Bool, true, false, List, [], ◌++◌, Option, Some, None, codes, decimal}
 use Rattle.ssh_key.specs.KeyFault.{key_fault_text}
-use Rattle.ssh_key.specs.LineFault.{fault_text}
+use Rattle.ssh_key.specs.LineFault.{fault_text as line_fault_text}
 use Rattle.krl_tool.specs.declared.cause.Cause.{Cause}
 use Rattle.krl_tool.specs.declared.cause.Cause.TheVariants.{File, Krl, Line, Subject, NoMemory, Output}
 use Rattle.krl_tool.specs.declared.cause.SubjectFault.{SubjectFault}
 use Rattle.krl_tool.specs.declared.cause.SubjectFault.TheVariants.{Key}
 use Rattle.krl_tool.specs.Escape.{escaped}
 use Rattle.krl_tool.specs.FileFault.{file_fault_text}
-use Rattle.krl_tool.specs.KrlFault.{fault_text as list_fault_text}
+use Rattle.krl_tool.specs.KrlFault.{fault_text as krl_fault_text}
 
 -- the name of what was being worked on, the number of its line where there is one, and why
 pub record Stop : Type 0 where
@@ -22,8 +22,8 @@ subject_fault_text (Key fault) = codes "subject 1 Key, " ++ key_fault_text fault
 -- the family, the number and the name of the fault, and the same of the fault that it carries
 abbrev pub cause_text : Cause → List ℕ
 cause_text (File fault) = file_fault_text fault
-cause_text (Krl fault) = list_fault_text fault
-cause_text (Line fault) = fault_text fault
+cause_text (Krl fault) = krl_fault_text fault
+cause_text (Line fault) = line_fault_text fault
 cause_text (Subject fault) = subject_fault_text fault
 cause_text NoMemory = codes "run 1 NoMemory"
 cause_text (Output count) = codes "output 1 Write after " ++ (decimal count ++ codes " bytes")
@@ -34,21 +34,41 @@ line_part (Some number) = codes "line " ++ (decimal number ++ codes ": ")
 
 -- the line for standard error, without its line feed
 unfoldable pub fault_line : Stop → List ℕ
-fault_line stop = codes "ssh-keygen: " ++ (escaped stop.name ++ (codes ": " ++ (line_part stop.line ++ cause_text stop.cause)))
+fault_line stop =
+    codes "ssh-keygen: "
+    ++ (escaped stop.name ++ (codes ": " ++ (line_part stop.line ++ cause_text stop.cause)))
 
--- The output has no line. So many bytes went out.
+-- A fault of a whole file, or of the list.
+abbrev pub stop_of : List ℕ → Cause → Stop
+stop_of name cause = record { name = name; line = None; cause = cause }
+
+-- The output failed after so many bytes. It has no line.
 abbrev pub output_stop : ℕ → Stop
-output_stop count = record { name = codes "output"; line = None; cause = Output count }
+output_stop count = stop_of (codes "output") (Output count)
 
-abbrev pub is_output : Cause → Bool
-is_output (Output count) = true
-is_output NoMemory = false
-is_output (File fault) = false
-is_output (Krl fault) = false
-is_output (Line fault) = false
-is_output (Subject fault) = false
+-- what ended a run before its end
+pub data Ender : Type 0 where
+  -- the output, after so many bytes
+  ByOutput : ℕ → Ender
+  -- memory, which ran out
+  ByMemory : Ender
+  -- what the run was given: a file, a list, a line or its key
+  ByInput : Ender
 
--- whether it is the output that stopped a run
+abbrev pub ender_of : Cause → Ender
+ender_of (File fault) = ByInput
+ender_of (Krl fault) = ByInput
+ender_of (Line fault) = ByInput
+ender_of (Subject fault) = ByInput
+ender_of NoMemory = ByMemory
+ender_of (Output count) = ByOutput count
+
+abbrev pub is_by_output : Ender → Bool
+is_by_output (ByOutput count) = true
+is_by_output ByMemory = false
+is_by_output ByInput = false
+
+-- whether it is the output that ended a run
 abbrev pub is_lost : Option Stop → Bool
 is_lost None = false
-is_lost (Some stop) = is_output stop.cause
+is_lost (Some stop) = is_by_output (ender_of stop.cause)

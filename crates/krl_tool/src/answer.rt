@@ -7,12 +7,12 @@ use ssh_key::{Line, PublicKey};
 use ssh_wire::Bytes;
 use std::alloc::{AllocError, Global};
 
-/// What a run says of a key.
+/// What a run says of a key, or of a list.
 #[derive(Debug, Drop)]
 pub struct Answer {
-    /// A line of the output, with its line feed.
-    pub line: Bytes,
-    /// Whether it says that the key is revoked.
+    /// Whole lines of the output, each with its line feed.
+    pub text: Bytes,
+    /// Whether they say that a key is revoked.
     pub revoked: bool,
 }
 
@@ -30,5 +30,6 @@ pub trait Answers {
         line: &Line,
         key: &PublicKey,
     ) -> Result<Answer, AllocError>
-        ensures { IfOk result (λ answer. answer ≡ answer_to self.now name.now (content_of line.now) key.now) };
+        ensures { IfOk result (λ answer.
+            answer ≡ answer_to self.now name.now (content_of line.now) key.now) };
 }

@@ -6,11 +6,11 @@ ghost use Rattle.krl_tool.specs.Done.{Ends};
 ghost use Rattle.krl_tool.specs.Listing.{comment_or_none, describe, list_line, list_run_of};
 
 use crate::answer::{Answer, Answers};
-use crate::done::{Done, finish};
+use crate::done::Done;
 use crate::escape::push_escaped;
 use crate::named::Named;
-use crate::report::Report;
-use crate::walk::answer_file;
+use crate::printer::Printer;
+use crate::walk::print_file;
 use ssh_key::{Hash, Line, PublicKey, fingerprint};
 use ssh_wire::{Bytes, Sink};
 use std::alloc::{AllocError, Global};
@@ -32,9 +32,9 @@ impl Answers for Listing {
         key: &PublicKey,
     ) -> Result<Answer, AllocError> {
         let print = fingerprint(alloc, self.hash, line.blob.as_slice())?;
-        let line = list_line(alloc, key, print.as_slice(), line.comment)?;
+        let text = list_line(alloc, key, print.as_slice(), line.comment)?;
         Ok(Answer {
-            line,
+            text,
             revoked: false,
         })
     }
@@ -47,7 +47,8 @@ fn list_line(
     print: &[u8],
     comment: &[u8],
 ) -> Result<Bytes, AllocError>
-    ensures { IfOk result (λ line. line ≡ list_line key.now.bits print.now comment.now (short_name_of key.now.kind)) }
+    ensures { IfOk result (λ text.
+        text ≡ list_line key.now.bits print.now comment.now (short_name_of key.now.kind)) }
 {
     let bits = key.bits().to_string(alloc)?;
     let mut text = Vec::from_slice(alloc, bits.as_bytes())?;
@@ -79,10 +80,13 @@ pub fn list_run<'a, W: Sink>(
     out: &mut W,
 ) -> Done<'a>
     requires { W.has_failed out.old ≡ false }
-    ensures { Ends (list_run_of hash file.now) (W.taken out.old) (W.taken out.new) (W.has_failed out.new)
-        result.status result.fault }
+    ensures { Ends (list_run_of hash file.now) (W.taken out.old) (W.taken out.new)
+        (W.has_failed out.new) result.status result.fault }
 {
-    let mut report = Report::new(alloc);
-    let stop = answer_file(alloc, &Listing { hash }, file, &mut report, out).err();
-    finish(&mut report, stop, out)
+    let mut page = Vec::new(alloc);
+    let mut printer = Printer::new(&mut page, out);
+    let stop = print_file(alloc, &Listing { hash }, file, &mut printer).err();
+    let done = printer.finish(stop);
+    let Printer { out: _out, .. } = printer;
+    done
 }

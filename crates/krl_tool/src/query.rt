@@ -1,25 +1,22 @@
 // Asking a list about the keys of files (ssh-keygen(1), KEY REVOCATION LISTS).
 
 ghost use Rattle.std.specs.Prelude.{◌≡◌, ◌++◌, IfOk, List, Result, OnOk, false};
-ghost use Rattle.std.specs.Result.{result_err};
 ghost use Rattle.krl_tool.specs.declared.krl_fault.KrlFault.{KrlFault as FaultOf};
 ghost use Rattle.krl_tool.specs.Carries.{Carries};
 ghost use Rattle.krl_tool.specs.Done.{Ends};
 ghost use Rattle.krl_tool.specs.Entry.{Entry};
 ghost use Rattle.krl_tool.specs.Query.{IsRead, ask, comment_part, kept_entries, krl_cause, query_line, query_run_of, verdict};
-ghost use Rattle.krl_tool.specs.Report.{progress};
-ghost use Rattle.krl_tool.specs.Stop.{is_lost};
 
 use crate::answer::{Answer, Answers};
 use crate::cause::Cause;
-use crate::done::{Done, finish};
+use crate::done::Done;
 use crate::escape::push_escaped;
 use crate::krl_fault::KrlFault;
 use crate::list::{RevokedList, read_list};
 use crate::named::Named;
-use crate::report::Report;
+use crate::printer::Printer;
 use crate::run_fault::RunFault;
-use crate::walk::answer_files;
+use crate::walk::print_files;
 use ssh_key::{Line, PublicKey};
 use ssh_wire::{Bytes, Sink};
 use std::alloc::{AllocError, Global};
@@ -41,14 +38,14 @@ impl<'q, 'l> Answers for Query<'q, 'l> {
         _key: &PublicKey,
     ) -> Result<Answer, AllocError> {
         let revoked = self.list.is_revoked(line.blob.as_slice());
-        let line = query_line(alloc, name, line.comment, revoked)?;
-        Ok(Answer { line, revoked })
+        let text = query_line(alloc, name, line.comment, revoked)?;
+        Ok(Answer { text, revoked })
     }
 }
 
 /// The line of a key, with its line feed.
 fn query_line(alloc: Global, name: &str, comment: &[u8], revoked: bool) -> Result<Bytes, AllocError>
-    ensures { IfOk result (λ line. line ≡ query_line name.now comment.now revoked) }
+    ensures { IfOk result (λ text. text ≡ query_line name.now comment.now revoked) }
 {
     let mut text = Vec::new(alloc);
     push_escaped(&mut text, name.as_bytes())?;
@@ -87,14 +84,17 @@ pub fn query_run<'a, W: Sink>(
 ) -> Done<'a>
     requires working { W.has_failed out.old ≡ false }
     requires no_dump { dump ≡ false }
-    ensures { (reading : Result (List Entry) FaultOf) → IsRead krl.now reading →
-        Ends (query_run_of krl_name.now reading files.now) (W.taken out.old) (W.taken out.new)
+    ensures { (reading : Result (List Entry) FaultOf) × IsRead krl.now reading
+        × Ends (query_run_of krl_name.now reading files.now) (W.taken out.old) (W.taken out.new)
         (W.has_failed out.new) result.status result.fault }
 {
     let _ = dump;
-    let mut report = Report::new(alloc);
-    let stop = ask_list(alloc, krl_name, krl, files, &mut report, out).err();
-    finish(&mut report, stop, out)
+    let mut page = Vec::new(alloc);
+    let mut printer = Printer::new(&mut page, out);
+    let stop = ask_list(alloc, krl_name, krl, files, &mut printer).err();
+    let done = printer.finish(stop);
+    let Printer { out: _out, .. } = printer;
+    done
 }
 
 /// Asks a list about each key of each file.
@@ -103,22 +103,19 @@ fn ask_list<'a, W: Sink>(
     krl_name: &'a str,
     krl: &[u8],
     files: &'a [Named<'a>],
-    report: &mut Report,
-    out: &mut W,
+    printer: &mut Printer<W>,
 ) -> Result<(), RunFault<'a>>
-    requires { W.has_failed out.old ≡ false }
-    ensures says { (reading : Result (List Entry) FaultOf) → IsRead krl.now reading →
-        Carries (query_run_of krl_name.now reading files.now) result
-        (progress report.old (W.taken out.old)) (progress report.new (W.taken out.new)) }
-    ensures failed { W.has_failed out.new ≡ is_lost (result_err result) }
+    requires { printer.old.failed ≡ false }
+    ensures { (reading : Result (List Entry) FaultOf) × IsRead krl.now reading
+        × Carries (query_run_of krl_name.now reading files.now) result printer.old printer.new }
 {
     match read_list(alloc, krl) {
-        Ok(list) => answer_files(alloc, &Query { list: &list }, files, report, out),
+        Ok(list) => print_files(alloc, &Query { list: &list }, files, printer),
         Err(fault) => Err(RunFault::whole(krl_name, cause_of(fault))),
     }
 }
 
-/// A want of memory is the run's own.
+/// Where memory runs out, it is for the run itself.
 fn cause_of(fault: KrlFault) -> Cause
     ensures { result ≡ krl_cause fault }
 {

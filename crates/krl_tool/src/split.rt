@@ -5,11 +5,12 @@ ghost use Rattle.std.specs.List.{slice_split};
 ghost use Rattle.krl_tool.specs.KeyFile.{is_newline};
 ghost use Rattle.krl_tool.specs.Split.{lines_of};
 
-/// The first line of a text without its line feed, and the text behind the line feed, if there is
+/// The first line of a text without its line feed, and the text after the line feed, if there is
 /// one.
 pub fn split_line(text: &[u8]) -> (&[u8], Option<&[u8]>)
     ensures lines { slice_split is_newline text.now ≡ result.0.now ∷ lines_of result.1 }
-    ensures shorter { IfSome result.1 (λ rest. length result.0.now + length rest.now + 1 ≤ length text.now) }
+    ensures shorter { IfSome result.1 (λ rest.
+        length result.0.now + length rest.now + 1 ≤ length text.now) }
     ensures within { length result.0.now ≤ length text.now }
 {
     for (i, byte) in text.iter().enumerate() {

@@ -1,9 +1,10 @@
 -- What was said is sent, and the end of the run told.
-use Rattle.krl_tool.proofs.Ending.{ends_as}
+use Rattle.std.proofs.Common.{rules}
+use Rattle.krl_tool.proofs.Ending.{ends_known}
 use Rattle.krl_tool.proofs.query.query_run.Goals as goal
 
 pub returns : goal.returns
-returns g c = λ reading reads.
-    let sent = rw c.err-stop.ensures.value at c.finish.ensures in
-    let says = rw c.new-report.ensures at (c.ask_list.ensures.says reading reads) in
-    ends_as _ c.ask_list.result _ _ _ _ _ _ says sent.sent sent.lost
+returns g c =
+    let reading = c.ask_list.ensures in
+    let carries = rw (c.new-printer.ensures, c.requires.working) at reading.2 in
+    (reading.0, reading.1, ends_known _ c.ask_list.result _ _ _ _ _ _ _ _ _ _ carries c.err-stop.ensures.value c.finish-done.ensures.ends (search rules) (search rules))

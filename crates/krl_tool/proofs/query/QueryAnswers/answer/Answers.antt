@@ -7,4 +7,4 @@ pub returns : goal.returns
 returns c =
     let revoked = kept_answers c.args.self.now.list.now c.as_slice.result.now c.is_revoked-revoked.result c.is_revoked-revoked.ensures in
     let blob = c.as_slice.ensures in
-    rw (c.in_ok-line.ensures, revoked, blob) refl
+    rw (c.in_ok-text.ensures, revoked, blob) refl
