@@ -14,6 +14,8 @@ expect 'a query does not list' 2 '' "$usage" -Q -l -f r.krl
 expect 'a query takes no hash' 2 '' "$usage" -Q -E md5 -f r.krl g.pub
 expect 'a hash of another name' 2 '' "$usage" -l -E sha1 -f g.pub
 expect 'an empty hash' 2 '' "$usage" -l -E '' -f g.pub
+expect 'a file name that is not UTF-8' 2 '' "$usage" -l -f $'\xff'
+expect 'a word that is not UTF-8' 2 '' "$usage" $'-\xc0'
 
 expect_text 'help' 0 output -h
 expect_text 'help beside other options' 0 output -Q -h

@@ -4,9 +4,13 @@ use Rattle.std.specs.Prelude.{is_some}
 use Rattle.std.specs.Option.{option_to_list}
 use Rattle.std.proofs.lemmas.List.{append-nil, take_more, take-append-drop}
 use Rattle.std.proofs.lemmas.List.Concat.{flat_map-append}
-use Rattle.krl_tool.specs.declared.cause.Cause.TheVariants.{File, NoMemory}
+use Rattle.krl_tool.specs.declared.cause.Cause.TheVariants.{File, NoMemory, Subject as Subjects}
+use Rattle.ssh_cert.specs.Subject.{Subject}
+use Rattle.ssh_cert.specs.SubjectReading.{subject_of}
+use Rattle.ssh_cert.specs.declared.subject_fault.SubjectFault.{SubjectFault}
+use Rattle.ssh_cert.specs.declared.subject_fault.SubjectFault.TheVariants.{Key as KeyFaults}
 use Rattle.krl_tool.specs.declared.file_fault.FileFault.TheVariants.{NoKeys}
-use Rattle.krl_tool.specs.KeyFile.{has_key}
+use Rattle.ssh_key.specs.KeyFile.{has_key}
 use Rattle.ssh_key.specs.Key.{Key}
 use Rattle.ssh_key.specs.KeyReading.{key_at}
 use Rattle.ssh_key.specs.LineReading.{Content, line_at}
@@ -14,31 +18,52 @@ use Rattle.ssh_key.specs.declared.fault.KeyFault.{KeyFault}
 use Rattle.ssh_key.specs.declared.line_fault.LineFault.{LineFault}
 use Rattle.krl_tool.specs.Carries.{Carries}
 use Rattle.krl_tool.specs.Printer.{Printed}
-use Rattle.krl_tool.specs.Run.{File as FileOf, Item, Answered, Answering, Stopped, IsWithheld, name_of, content_item, key_item, file_items, files_items, item_of, line_items, or_no_keys}
+use Rattle.krl_tool.specs.Run.{File as FileOf, Item, Answered, Answering, Stopped, IsWithheld, name_of, content_item, key_item, stop_at, subject_item, file_items, files_items, item_of, line_items, or_no_keys}
 use Rattle.krl_tool.specs.Stop.{Stop, ByMemory, ender_of, stop_of}
 use Rattle.krl_tool.proofs.Carrying.{carries_more, carries_none, carries_then, carries_withheld, no_item}
 
 -- ---- a line
 
+key_item-name : (answer : Answering) (name : List ℕ) (number : ℕ) (content : Content) (asked : Subject) (key : Result Key KeyFault) → name_of (key_item answer name number content asked key) ≡ name
+key_item-name answer name number content asked (Ok key) = refl
+key_item-name answer name number content asked (Err fault) = refl
+
+subject_item-name : (answer : Answering) (name : List ℕ) (number : ℕ) (content : Content) (read : Result Subject SubjectFault) → name_of (subject_item answer name number content read) ≡ name
+subject_item-name answer name number content (Ok asked) = key_item-name answer name number content asked (key_at asked.plain)
+subject_item-name answer name number content (Err fault) = refl
+
 content_item-name : (answer : Answering) (name : List ℕ) (number : ℕ) (read : Result Content LineFault) → name_of (content_item answer name number read) ≡ name
+content_item-name answer name number (Ok content) = subject_item-name answer name number content (subject_of content.blob)
 content_item-name answer name number (Err fault) = refl
-content_item-name answer name number (Ok content) = of_key (key_at content.blob)
-  where
-    of_key : (key : Result Key KeyFault) → name_of (key_item answer name number content key) ≡ name
-    of_key (Ok key) = refl
-    of_key (Err fault) = refl
 
 -- memory ran out before a line was answered
 pub starved : (answer : Answering) (name : List ℕ) (number : ℕ) (line : List ℕ) → has_key line ≡ true → IsWithheld ByMemory (item_of answer name number line) name (stop_of name NoMemory)
 unfolding item_of
 starved answer name number line has = rw has (refl, (content_item answer name number (line_at line), refl, content_item-name answer name number (line_at line)))
 
--- a line was answered
-pub answered : (answer : Answering) (name : List ℕ) (number : ℕ) (line : List ℕ) (content : Content) (key : Key) → has_key line ≡ true → line_at line ≡ Ok content → key_at content.blob ≡ Ok key
-    → item_of answer name number line ≡ Some (Answered name (answer name content key))
+-- or before a blob was answered
+pub blob_starved : (answer : Answering) (name : List ℕ) (number : ℕ) (content : Content) (read : Result Subject SubjectFault) → IsWithheld ByMemory (Some (subject_item answer name number content read)) name (stop_of name NoMemory)
+blob_starved answer name number content read = (refl, (subject_item answer name number content read, refl, subject_item-name answer name number content read))
+
+-- a blob was answered
+pub blob_answered : (answer : Answering) (name : List ℕ) (number : ℕ) (content : Content) (asked : Subject) (key : Key) → subject_of content.blob ≡ Ok asked → key_at asked.plain ≡ Ok key
+    → subject_item answer name number content (subject_of content.blob) ≡ Answered name (answer name content asked key)
+blob_answered answer name number content asked key is_asked is_key = ap (subject_item answer name number content) is_asked ∙ ap (key_item answer name number content asked) is_key
+
+-- a blob has a first fault
+pub blob_refused : (answer : Answering) (name : List ℕ) (number : ℕ) (content : Content) (fault : SubjectFault) → subject_of content.blob ≡ Err fault
+    → subject_item answer name number content (subject_of content.blob) ≡ Stopped (stop_at name number (Subjects fault))
+blob_refused answer name number content fault is_fault = ap (subject_item answer name number content) is_fault
+
+pub key_refused : (answer : Answering) (name : List ℕ) (number : ℕ) (content : Content) (asked : Subject) (fault : KeyFault) → subject_of content.blob ≡ Ok asked → key_at asked.plain ≡ Err fault
+    → subject_item answer name number content (subject_of content.blob) ≡ Stopped (stop_at name number (Subjects (KeyFaults fault)))
+key_refused answer name number content asked fault is_asked is_fault = ap (subject_item answer name number content) is_asked ∙ ap (key_item answer name number content asked) is_fault
+
+-- the item of a line is that of what it holds
+pub line_item : (answer : Answering) (name : List ℕ) (number : ℕ) (line : List ℕ) (content : Content) → has_key line ≡ true → line_at line ≡ Ok content
+    → item_of answer name number line ≡ Some (subject_item answer name number content (subject_of content.blob))
 unfolding item_of
-answered answer name number line content key has is_line is_key =
-    rw has (ap Some (ap (content_item answer name number) is_line ∙ ap (key_item answer name number content) is_key))
+line_item answer name number line content has is_line = rw has (ap Some (ap (content_item answer name number) is_line))
 
 -- ---- the lines of a text
 

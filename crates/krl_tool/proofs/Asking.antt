@@ -1,13 +1,14 @@
 -- What is kept of a list answers as its entries do.
-use Rattle.std.proofs.Common.{◌≡◌, ◌⊎◌, inl, inr, ℕ, Bool, true, false, List, [], ◌∷◌, None, Some, Result, Ok, Err, refl, sym, ap, subst, ◌∙◌}
+use Rattle.std.proofs.Common.{◌≡◌, ◌⊎◌, inl, inr, ℕ, ◌||◌, Bool, true, false, List, [], ◌∷◌, Option, None, Some, Result, Ok, Err, refl, sym, ap, subst, ◌∙◌}
 use Rattle.std.specs.Prelude.{IsTrue, ◌↔◌}
 use Rattle.std.proofs.Math.ListN.{get_or-map, length-map}
 use Rattle.krl_tool.specs.declared.cause.Cause.TheVariants as causes
 use Rattle.krl_tool.specs.declared.krl_fault.KrlFault.{KrlFault}
 use Rattle.krl_tool.specs.declared.krl_fault.KrlFault.TheVariants as faults
-use Rattle.krl_tool.specs.Entry.{Entry, KeyEntry, Means, Revocations, Revoked, entries_of, revoked}
+use Rattle.krl_tool.specs.Entry.{Entry, KeyEntry, KeyNamed, Means, Revocations, authority_named, entries_of, key_named, revoked}
 use Rattle.krl_tool.specs.Front.{IsFirstFault}
 use Rattle.krl_tool.specs.Krl.{Section, Spells}
+use Rattle.ssh_cert.specs.Subject.{Names, Subject}
 use Rattle.krl_tool.specs.Bytes.{AreBytes}
 use Rattle.krl_tool.specs.Carries.{Carries}
 use Rattle.krl_tool.specs.Printer.{Printed}
@@ -34,23 +35,51 @@ kept_means kept blob = (
     same_blob a b e = cc
 
 -- an answer that is right for all entries that are meant is that of what is kept
-pub kept_answers : (kept : Revocations) (blob : List ℕ) (answer : Bool) → ((entries : List Entry) → Means kept entries → (IsTrue answer ↔ Revoked entries blob)) → answer ≡ revoked (kept_entries kept) blob
-kept_answers kept blob answer right =
+pub kept_names : (kept : Revocations) (blob : List ℕ) (answer : Bool) → ((entries : List Entry) → Means kept entries → (IsTrue answer ↔ KeyNamed entries blob)) → answer ≡ key_named (kept_entries kept) blob
+kept_names kept blob answer right =
     let own = right (kept_entries kept) (kept_means kept) in
-    same_test answer (revoked (kept_entries kept) blob) (λ yes. tested_named (kept_entries kept) blob (own.0 yes)) (λ yes. own.1 (named_tested (kept_entries kept) blob yes))
+    same_test answer (key_named (kept_entries kept) blob) (λ yes. tested_named (kept_entries kept) blob (own.0 yes)) (λ yes. own.1 (named_tested (kept_entries kept) blob yes))
 
-revoked_same : (kept : Revocations) (entries : List Entry) → Means kept entries → (blob : List ℕ) → revoked (kept_entries kept) blob ≡ revoked entries blob
-revoked_same kept entries means blob =
+-- the plain key is named
+pub plain_named : (kept : Revocations) (asked : Subject) (blob : List ℕ) (answer : Bool) → ((entries : List Entry) → Means kept entries → (IsTrue answer ↔ KeyNamed entries blob)) → blob ≡ asked.plain → answer ≡ true
+    → true ≡ revoked (kept_entries kept) asked
+plain_named kept asked blob answer right same is_named =
+    let named : key_named (kept_entries kept) asked.plain ≡ true = ap (key_named (kept_entries kept)) (sym same) ∙ sym (kept_names kept blob answer right) ∙ is_named in
+    sym (ap (λ (b : Bool). b || authority_named (kept_entries kept) asked.cert) named)
+
+-- it is not, and the answer is that for the authority
+pub plain_unnamed : (kept : Revocations) (asked : Subject) (blob : List ℕ) (answer : Bool) → ((entries : List Entry) → Means kept entries → (IsTrue answer ↔ KeyNamed entries blob)) → blob ≡ asked.plain → answer ≡ false
+    → authority_named (kept_entries kept) asked.cert ≡ revoked (kept_entries kept) asked
+plain_unnamed kept asked blob answer right same not_named =
+    let named : key_named (kept_entries kept) asked.plain ≡ false = ap (key_named (kept_entries kept)) (sym same) ∙ sym (kept_names kept blob answer right) ∙ not_named in
+    sym (ap (λ (b : Bool). b || authority_named (kept_entries kept) asked.cert) named)
+
+-- the authority's key is named, or not
+pub by_authority : (kept : Revocations) (cert : Option Names) (names : Names) (blob : List ℕ) (answer : Bool) → ((entries : List Entry) → Means kept entries → (IsTrue answer ↔ KeyNamed entries blob)) → cert ≡ Some names → blob ≡ names.authority
+    → answer ≡ authority_named (kept_entries kept) cert
+by_authority kept cert names blob answer right certified same =
+    kept_names kept blob answer right ∙ ap (key_named (kept_entries kept)) same ∙ ap (authority_named (kept_entries kept)) (sym certified)
+
+named_same : (kept : Revocations) (entries : List Entry) → Means kept entries → (blob : List ℕ) → key_named (kept_entries kept) blob ≡ key_named entries blob
+named_same kept entries means blob =
     let own = kept_means kept blob in
     let meant = means blob in
-    same_test (revoked (kept_entries kept) blob) (revoked entries blob)
+    same_test (key_named (kept_entries kept) blob) (key_named entries blob)
     (λ yes. tested_named entries blob (meant.0 (own.1 (named_tested (kept_entries kept) blob yes))))
     (λ yes. tested_named (kept_entries kept) blob (own.0 (meant.1 (named_tested entries blob yes))))
 
+revoked_same : (kept : Revocations) (entries : List Entry) → Means kept entries → (asked : Subject) → revoked (kept_entries kept) asked ≡ revoked entries asked
+revoked_same kept entries means asked =
+    ap (λ (b : Bool). b || authority_named (kept_entries kept) asked.cert) (named_same kept entries means asked.plain) ∙ ap (λ (b : Bool). key_named entries asked.plain || b) (of_cert asked.cert)
+  where
+    of_cert : (cert : Option Names) → authority_named (kept_entries kept) cert ≡ authority_named entries cert
+    of_cert None = refl
+    of_cert (Some names) = named_same kept entries means names.authority
+
 -- what is kept gives the answers of the entries
 ask_same : (kept : Revocations) (entries : List Entry) → Means kept entries → ask (kept_entries kept) ≡ ask entries
-ask_same kept entries means = λ i. λ name line key.
-    record { text = query_line name line.comment (revoked_same kept entries means line.blob i); revoked = revoked_same kept entries means line.blob i }
+ask_same kept entries means = λ i. λ name line asked key.
+    record { text = query_line name line.comment (revoked_same kept entries means asked i); revoked = revoked_same kept entries means asked i }
 
 -- A list that was read: nothing is said of it, and the files are asked about by what is kept.
 pub read_run : {A : Type 0} (text name : List ℕ) (files : List File) (kept : Revocations) (result : Result A Stop) (old new : Printed) → old.failed ≡ false

@@ -1,5 +1,5 @@
 -- The entries of a list name the keys of its sections.
-use Rattle.std.proofs.Common.{◌≡◌, ℕ, zero, suc, ◌<◌, ◌↔◌, ◌⊎◌, Bool, true, false, ◌||◌, List, [], ◌∷◌, ◌++◌, length, get_or, map, refl, sym, ap, subst, ◌∙◌, arith, inl, inr, IsTrue}
+use Rattle.std.proofs.Common.{◌≡◌, ℕ, zero, suc, ◌<◌, ◌↔◌, ◌⊎◌, Bool, true, false, ◌||◌, List, [], ◌∷◌, ◌++◌, length, get_or, map, Option, Some, None, refl, sym, ap, subst, ◌∙◌, arith, inl, inr, IsTrue}
 use Rattle.std.specs.Borrow.{Bor}
 use Rattle.std.specs.List.{Contains}
 use Rattle.std.specs.List.Sorted.{IsPermutation}
@@ -9,7 +9,8 @@ use Rattle.std.proofs.lemmas.List.{length-map, map-append}
 use Rattle.std.proofs.lemmas.List.Sorted.{IsPermutation-map, IsPermutation-sym, Contains-permutation}
 use Rattle.std.proofs.lemmas.Slice.Eq.{bytes_eq-Decides}
 use Rattle.krl_tool.specs.Krl.{Header, Section, Keys}
-use Rattle.krl_tool.specs.Entry.{Entry, KeyEntry, KeyNamed, Means, entries_of, key_named}
+use Rattle.krl_tool.specs.Entry.{AuthorityNamed, Entry, KeyEntry, KeyNamed, Means, Revoked, authority_named, entries_of, key_named, revoked}
+use Rattle.ssh_cert.specs.Subject.{Names, Subject}
 use Rattle.krl_tool.specs.Sections.{blobs_of, keys_of}
 
 entries_are : (sections : List Section) → entries_of sections ≡ map KeyEntry (keys_of sections)
@@ -74,3 +75,22 @@ tested_named (KeyEntry key ∷ entries) blob w =
       | inl same ↦ or_left (bytes_eq key blob) (key_named entries blob) ((bytes_eq-Decides key blob).1 (same_key key blob same))
       | inr more ↦ or_right (bytes_eq key blob) (key_named entries blob) (tested_named entries blob more)
     ]
+
+pub revoked_tested : (entries : List Entry) (asked : Subject) → IsTrue (revoked entries asked) → Revoked entries asked
+revoked_tested entries asked e =
+    elim (or_cases (key_named entries asked.plain) (authority_named entries asked.cert) e) [
+      | inl plain ↦ inl (named_tested entries asked.plain plain)
+      | inr authority ↦ inr (of_cert asked.cert authority)
+    ]
+  where
+    of_cert : (cert : Option Names) → IsTrue (authority_named entries cert) → AuthorityNamed entries cert
+    of_cert None named = absurd (cc)
+    of_cert (Some names) named = named_tested entries names.authority named
+
+pub tested_revoked : (entries : List Entry) (asked : Subject) → Revoked entries asked → IsTrue (revoked entries asked)
+tested_revoked entries asked (inl plain) = or_left (key_named entries asked.plain) (authority_named entries asked.cert) (tested_named entries asked.plain plain)
+tested_revoked entries asked (inr authority) = or_right (key_named entries asked.plain) (authority_named entries asked.cert) (of_cert asked.cert authority)
+  where
+    of_cert : (cert : Option Names) → AuthorityNamed entries cert → IsTrue (authority_named entries cert)
+    of_cert None named = absurd named
+    of_cert (Some names) named = tested_named entries names.authority named

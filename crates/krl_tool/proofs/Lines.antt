@@ -2,7 +2,7 @@
 use Rattle.std.proofs.Common.{◌≡◌, ℕ, zero, suc, ◌+◌, ◌-◌, ◌<◌, ◌==◌, true, false, List, [], ◌∷◌, length, take, drop, get_or, refl, arith}
 use Rattle.std.proofs.lemmas.List.{take_all, length-drop}
 use Rattle.std.specs.List.{slice_split}
-use Rattle.krl_tool.specs.KeyFile.{is_newline}
+use Rattle.krl_tool.specs.Split.{is_newline}
 
 pub only_line : (text : List ℕ) → ((k : ℕ) → k < length text → (get_or text k 0 == 10) ≡ false) → slice_split is_newline text ≡ text ∷ []
 only_line [] no_feed = refl

@@ -21,9 +21,9 @@ passes_limit first second third content piece count failed p q within past worki
 }
 
 -- there was no memory for what a read took
-pub lacks_memory : (first second third : Option (List ℕ)) (content piece : List ℕ) (count : ℕ) (failed : Bool) → Consumes first second content → Consumes second third (take count piece) → length content + count ≤ limit → failed ≡ false → IsLoaded first third failed (Err NoMemory)
-lacks_memory first second third content piece count failed p q within working = record {
+pub lacks_memory : (first second third : Option (List ℕ)) (content piece : List ℕ) (count : ℕ) (failed : Bool) → Consumes first second content → Consumes second third (take count piece) → 0 < count → count ≤ length piece → length content + count ≤ limit → failed ≡ false → IsLoaded first third failed (Err NoMemory)
+lacks_memory first second third content piece count failed p q some part within working = record {
   taken = content ++ take count piece;
   consumed = Consumes-append first second third content (take count piece) p q;
-  made = (omega (arith, length-append content (take count piece), length-take count piece), working);
+  made = (omega (arith, length-append content (take count piece), length-take count piece), omega (arith, length-append content (take count piece), length-take count piece), working);
 }

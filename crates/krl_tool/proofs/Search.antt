@@ -13,7 +13,7 @@ use Rattle.std.proofs.lemmas.List.{length-map}
 use Rattle.std.proofs.Math.ListN.{get_or-map}
 use Rattle.std.proofs.lemmas.List.Sorted.{searchable_from_sorted}
 use Rattle.std.proofs.lemmas.Map.Lookups.{exact_bytes}
-use Rattle.krl_tool.specs.Entry.{Entry, Revocations, Means, Revoked}
+use Rattle.krl_tool.specs.Entry.{Entry, Revocations, Means, KeyNamed}
 use Rattle.krl_tool.specs.Kept.{IsSearchable, kept}
 use Rattle.krl_tool.specs.Sections.{blobs_of}
 
@@ -51,7 +51,7 @@ search_finds keys blob (Err i) sorted range found =
 -- what the search answers for every list of entries that the keys mean
 pub search_answers : (version date : ℕ) (comment : List ℕ) (keys : List (Bor (List ℕ))) (list : Revocations) (blob : Bor (List ℕ)) (r : Result ℕ ℕ) (answer : Bool) → kept version date comment keys ≡ list → IsSearchable keys
     → IsSearchInRange r (length keys) → IsBinarySearchResult (λ y. slice_cmp nat_cmp y.now blob.now) keys r → answer ≡ is_ok r
-    → (entries : List Entry) → Means list entries → (IsTrue answer ↔ Revoked entries blob.now)
+    → (entries : List Entry) → Means list entries → (IsTrue answer ↔ KeyNamed entries blob.now)
 search_answers version date comment keys list blob r answer view sorted range found is entries means =
     let named = subst (λ (x : Revocations). Means x entries) (sym view) means blob.now in
     let finds = search_finds keys blob r sorted range found in (

@@ -7,14 +7,16 @@ use Rattle.krl_tool.specs.Run.{Item, Stopped, name_of, outcome_of}
 use Rattle.krl_tool.specs.Stop.{Stop, Ender, ByOutput, ByMemory, ByInput, ender_of, is_lost, output_stop, stop_of}
 
 -- The next item ends the run: all before it was said.
-pub record IsStopped (before : Option (List ℕ)) (items : List Item) (stop : Stop) (now : Printed) : Type 0 where
+pub record IsStopped (before : Option (List ℕ)) (items : List Item) (stop : Stop)
+    (now : Printed) : Type 0 where
   pub said : List Item
   pub later : List Item
   pub parts : items ≡ said ++ Stopped stop ∷ later
   pub has_said : HasSaid before said now
 
 -- Memory ran out at the next item: all before it was said. What is at hand is named, and no line.
-pub record IsStarved (before : Option (List ℕ)) (items : List Item) (stop : Stop) (now : Printed) : Type 0 where
+pub record IsStarved (before : Option (List ℕ)) (items : List Item) (stop : Stop)
+    (now : Printed) : Type 0 where
   pub said : List Item
   pub next : Item
   pub later : List Item
@@ -23,7 +25,8 @@ pub record IsStarved (before : Option (List ℕ)) (items : List Item) (stop : St
   pub has_said : HasSaid before said now
 
 -- The output failed within what the first items say.
-pub record IsLost (before : Option (List ℕ)) (items : List Item) (count : ℕ) (stop : Stop) (now : Printed) : Type 0 where
+pub record IsLost (before : Option (List ℕ)) (items : List Item) (count : ℕ) (stop : Stop)
+    (now : Printed) : Type 0 where
   pub said : List Item
   pub later : List Item
   pub parts : items ≡ said ++ later
@@ -43,7 +46,8 @@ Reaches before items None now = HasSaid before items now
 Reaches before items (Some stop) now = IsEnded (ender_of stop.cause) before items stop now
 
 -- A part of a run says its items after whatever was said before, or stops within them.
-pub record Carries {A : Type 0} (items : List Item) (result : Result A Stop) (old new : Printed) : Type 0 where
+pub record Carries {A : Type 0} (items : List Item) (result : Result A Stop)
+    (old new : Printed) : Type 0 where
   pub says : (before : Option (List ℕ)) (said : List Item) → HasSaid before said old
       → Reaches before (said ++ items) (result_err result) new
   pub failed : new.failed ≡ is_lost (result_err result)

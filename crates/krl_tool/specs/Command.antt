@@ -1,4 +1,5 @@
--- The faults of the command line: their numbers, and the statuses that they end with (ssh-keygen(1)).
+-- The faults of the command line: their numbers, and the statuses that they end with
+-- (ssh-keygen(1)).
 use Rattle.std.specs.Prelude.{ℕ, Bool, true, false}
 use Rattle.krl_tool.specs.declared.command.CommandFault.{CommandFault}
 use Rattle.krl_tool.specs.declared.command.CommandFault.TheVariants.{Usage, Words, NoMemory}

@@ -7,20 +7,23 @@ use Rattle.krl_tool.specs.Run.{Item, name_of, outcome_of, status_of}
 use Rattle.krl_tool.specs.Stop.{Stop, Ender, ByOutput, ByMemory, ByInput, ender_of, output_stop, stop_of}
 
 -- All of the run's text was taken, and the run's own end is told.
-pub record IsWhole (run : List Item) (before after : Option (List ℕ)) (failed : Bool) (stop : Option Stop) : Type 0 where
+pub record IsWhole (run : List Item) (before after : Option (List ℕ)) (failed : Bool)
+    (stop : Option Stop) : Type 0 where
   pub told : (outcome_of run).stop ≡ stop
   pub taken : Appends before after (outcome_of run).text
   pub working : failed ≡ false
 
 -- The writer failed after so many bytes of the run's text.
-pub record IsCutOff (run : List Item) (before after : Option (List ℕ)) (failed : Bool) (stop : Stop) (count : ℕ) : Type 0 where
+pub record IsCutOff (run : List Item) (before after : Option (List ℕ)) (failed : Bool)
+    (stop : Stop) (count : ℕ) : Type 0 where
   pub named : stop ≡ output_stop count
   pub cut : IsCut (outcome_of run).text before after count
   pub broken : failed ≡ true
 
 -- Memory ran out. The whole lines of the run's first answers were taken; what is at hand is named,
 -- and no line of it.
-pub record IsBrokenOff (run : List Item) (before after : Option (List ℕ)) (failed : Bool) (stop : Stop) : Type 0 where
+pub record IsBrokenOff (run : List Item) (before after : Option (List ℕ)) (failed : Bool)
+    (stop : Stop) : Type 0 where
   pub done : List Item
   pub next : Item
   pub later : List Item

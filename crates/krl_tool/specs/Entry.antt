@@ -1,7 +1,9 @@
--- The entries of a list, and the answer that they give for a key (ssh-keygen(1), KEY REVOCATION LISTS).
-use Rattle.std.specs.Prelude.{ℕ, ◌↔◌, Bool, List, map}
+-- The entries of a list, and the answer that they give for a key (ssh-keygen(1),
+-- KEY REVOCATION LISTS).
+use Rattle.std.specs.Prelude.{ℕ, ◌↔◌, ◌⊎◌, ◌||◌, Bool, false, List, map, Option, Some, None}
 use Rattle.std.specs.List.{flat_map, list_any, Contains}
 use Rattle.std.specs.Str.{bytes_eq}
+use Rattle.ssh_cert.specs.Subject.{Names, Subject}
 use Rattle.krl_tool.specs.Krl.{Header, Section, Keys}
 
 -- what a section names
@@ -20,9 +22,14 @@ entries_of sections = flat_map section_entries sections
 abbrev pub KeyNamed : List Entry → List ℕ → Type 0
 KeyNamed entries blob = Contains entries (KeyEntry blob)
 
--- a plain key is revoked where an entry names it
-abbrev pub Revoked : List Entry → List ℕ → Type 0
-Revoked entries blob = KeyNamed entries blob
+abbrev pub AuthorityNamed : List Entry → Option Names → Type 0
+AuthorityNamed entries None = ⊥
+AuthorityNamed entries (Some names) = KeyNamed entries names.authority
+
+-- A key is revoked where an entry names it. A certificate is revoked where its plain key is, or where
+-- an entry names the key of its authority.
+abbrev pub Revoked : List Entry → Subject → Type 0
+Revoked entries asked = KeyNamed entries asked.plain ⊎ AuthorityNamed entries asked.cert
 
 -- the same as a test
 abbrev pub is_entry_of : Entry → List ℕ → Bool
@@ -31,8 +38,12 @@ is_entry_of (KeyEntry key) blob = bytes_eq key blob
 abbrev pub key_named : List Entry → List ℕ → Bool
 key_named entries blob = list_any (λ entry. is_entry_of entry blob) entries
 
-abbrev pub revoked : List Entry → List ℕ → Bool
-revoked entries blob = key_named entries blob
+abbrev pub authority_named : List Entry → Option Names → Bool
+authority_named entries None = false
+authority_named entries (Some names) = key_named entries names.authority
+
+abbrev pub revoked : List Entry → Subject → Bool
+revoked entries asked = key_named entries asked.plain || authority_named entries asked.cert
 
 -- what a reader keeps of a list
 pub record Revocations : Type 0 where

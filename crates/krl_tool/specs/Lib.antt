@@ -10,11 +10,11 @@ pub mod Sections
 pub mod Kept
 pub mod Escape
 pub mod FileFault
-pub mod KeyFile
 pub mod Named
+pub mod Split
 pub mod Stop
 pub mod Run
-pub mod Split
+pub mod Items
 pub mod Printer
 pub mod Carries
 pub mod Query

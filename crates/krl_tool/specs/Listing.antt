@@ -1,5 +1,6 @@
 -- Listing the keys of a file (ssh-keygen(1), option -l).
-use Rattle.std.specs.Prelude.{ℕ, false, List, [], ◌∷◌, ◌++◌, codes, decimal}
+use Rattle.std.specs.Prelude.{ℕ, false, List, [], ◌∷◌, ◌++◌, Option, Some, None, codes, decimal}
+use Rattle.ssh_cert.specs.Subject.{Names}
 use Rattle.ssh_key.specs.declared.hash.Hash.{Hash}
 use Rattle.ssh_key.specs.Fingerprints.{fingerprint_text}
 use Rattle.ssh_key.specs.Kind.{short_name_of}
@@ -17,11 +18,17 @@ list_line bits print comment kind =
     ++ (codes " " ++ (print ++ (codes " " ++ (comment_or_none comment
     ++ (codes " (" ++ (kind ++ (codes ")" ++ 10 ∷ [])))))))
 
--- the answer for a key by its fingerprint
+-- what stands after the kind of a certificate
+abbrev pub certificate_mark : Option Names → List ℕ
+certificate_mark None = []
+certificate_mark (Some names) = codes "-CERT"
+
+-- the answer for a key, or for a certificate by its plain key
 abbrev pub describe : Hash → Answering
-describe hash name line key =
-    let print = fingerprint_text hash line.blob in
-    record { text = list_line key.bits print line.comment (short_name_of key.kind); revoked = false }
+describe hash name line asked key =
+    let print = fingerprint_text hash asked.plain in
+    let kind = short_name_of key.kind ++ certificate_mark asked.cert in
+    record { text = list_line key.bits print line.comment kind; revoked = false }
 
 -- Each key of the file gives one line, up to the first fault.
 unfoldable pub list_run_of : Hash → File → List Item

@@ -6,7 +6,7 @@ use Rattle.krl_tool.specs.Run.{Item, outcome_of}
 use Rattle.krl_tool.specs.Stop.{Stop, output_stop}
 
 -- The end of the text, which waits to be sent; the count of the bytes that were sent; whether some
--- line says REVOKED; and of the writer what it has taken, whether it has failed, and which one it is.
+-- line says REVOKED; and of the writer what it has taken, whether it has failed, and which it is.
 pub record Printed : Type 0 where
   pub waiting : List ℕ
   pub sent : ℕ
@@ -17,7 +17,14 @@ pub record Printed : Type 0 where
 
 abbrev pub nothing_printed : Option (List ℕ) → Bool → ℕ → Printed
 nothing_printed taken failed writer =
-    record { waiting = []; sent = 0; revoked = false; taken = taken; failed = failed; writer = writer }
+    record {
+      waiting = [];
+      sent = 0;
+      revoked = false;
+      taken = taken;
+      failed = failed;
+      writer = writer;
+    }
 
 abbrev pub and_answer : Printed → Answer → Printed
 and_answer old answer =
@@ -51,8 +58,8 @@ abbrev pub Sends : {A : Type 0} → Result A Stop → Printed → Printed → Ty
 Sends (Ok value) old new = IsSent old new
 Sends (Err stop) old new = IsPartSent stop old new
 
--- A printer has said just these items, over a writer that had taken some bytes before: the writer has
--- taken the front of their text, and less than a chunk of it waits.
+-- A printer has said just these items, over a writer that had taken some bytes before: the writer
+-- has taken the front of their text, and less than a chunk of it waits.
 pub record HasSaid (before : Option (List ℕ)) (items : List Item) (now : Printed) : Type 0 where
   pub unstopped : (outcome_of items).stop ≡ None
   pub gone : List ℕ

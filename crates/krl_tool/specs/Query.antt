@@ -21,12 +21,13 @@ verdict true = codes ": REVOKED"
 verdict false = codes ": ok"
 
 abbrev pub query_line : List ℕ → List ℕ → Bool → List ℕ
-query_line name comment is_revoked = escaped name ++ (comment_part comment ++ (verdict is_revoked ++ 10 ∷ []))
+query_line name comment is_revoked =
+    escaped name ++ (comment_part comment ++ (verdict is_revoked ++ 10 ∷ []))
 
 -- the answer for a key by what the entries name
 abbrev pub ask : List Entry → Answering
-ask entries name line key =
-    let is_revoked = revoked entries line.blob in
+ask entries name line asked key =
+    let is_revoked = revoked entries asked in
     record { text = query_line name line.comment is_revoked; revoked = is_revoked }
 
 -- what is kept of a list, as entries
@@ -36,7 +37,10 @@ kept_entries kept = map KeyEntry kept.keys
 -- What reading a list gives: the entries of its sections, or its first fault.
 abbrev pub IsRead : List ℕ → Result (List Entry) KrlFault → Type 0
 IsRead text (Err fault) = IsFirstFault text (Some fault)
-IsRead text (Ok entries) = IsFirstFault text None × ((header : Header) × (sections : List Section) × Spells text header sections × (entries ≡ entries_of sections))
+IsRead text (Ok entries) =
+    IsFirstFault text None
+    × ((header : Header) × (sections : List Section) × Spells text header sections
+    × (entries ≡ entries_of sections))
 
 -- The list's first fault ends the run at once. Else nothing is said of the list, and each key of each
 -- file gives one line, up to the first fault.

@@ -1,8 +1,10 @@
--- The lines that are left.
-use Rattle.std.specs.Prelude.{ℕ, List, [], Option, Some, None}
+-- The lines of a text.
+use Rattle.std.specs.Prelude.{ℕ, ◌==◌, Bool, List, [], Option, Some, None}
 use Rattle.std.specs.Borrow.{Bor}
 use Rattle.std.specs.List.{slice_split}
-use Rattle.krl_tool.specs.KeyFile.{is_newline}
+
+abbrev pub is_newline : ℕ → Bool
+is_newline byte = byte == 10
 
 -- the lines of a text, where one is left
 abbrev pub lines_of : Option (Bor (List ℕ)) → List (List ℕ)

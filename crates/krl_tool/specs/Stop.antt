@@ -1,14 +1,12 @@
 -- Why a run stopped, and the line that tells it.
 use Rattle.std.specs.Prelude.{ℕ, Bool, true, false, List, [], ◌++◌, Option, Some, None, codes, decimal}
-use Rattle.ssh_key.specs.KeyFault.{key_fault_text}
-use Rattle.ssh_key.specs.LineFault.{fault_text as line_fault_text}
+use Rattle.ssh_key.specs.LineFault.{fault_number as line_fault_number, fault_text as line_fault_text}
+use Rattle.ssh_cert.specs.SubjectFault.{subject_fault_number, subject_fault_text}
 use Rattle.krl_tool.specs.declared.cause.Cause.{Cause}
 use Rattle.krl_tool.specs.declared.cause.Cause.TheVariants.{File, Krl, Line, Subject, NoMemory, Output}
-use Rattle.krl_tool.specs.declared.cause.SubjectFault.{SubjectFault}
-use Rattle.krl_tool.specs.declared.cause.SubjectFault.TheVariants.{Key}
 use Rattle.krl_tool.specs.Escape.{escaped}
-use Rattle.krl_tool.specs.FileFault.{file_fault_text}
-use Rattle.krl_tool.specs.KrlFault.{fault_text as krl_fault_text}
+use Rattle.krl_tool.specs.FileFault.{file_fault_number, file_fault_text}
+use Rattle.krl_tool.specs.KrlFault.{fault_number as krl_fault_number, fault_text as krl_fault_text}
 
 -- the name of what was being worked on, the number of its line where there is one, and why
 pub record Stop : Type 0 where
@@ -16,8 +14,14 @@ pub record Stop : Type 0 where
   pub line : Option ℕ
   pub cause : Cause
 
-abbrev pub subject_fault_text : SubjectFault → List ℕ
-subject_fault_text (Key fault) = codes "subject 1 Key, " ++ key_fault_text fault
+-- the number of the fault in its family
+abbrev pub cause_number : Cause → ℕ
+cause_number (File fault) = file_fault_number fault
+cause_number (Krl fault) = krl_fault_number fault
+cause_number (Line fault) = line_fault_number fault
+cause_number (Subject fault) = subject_fault_number fault
+cause_number NoMemory = 1
+cause_number (Output count) = 1
 
 -- the family, the number and the name of the fault, and the same of the fault that it carries
 abbrev pub cause_text : Cause → List ℕ

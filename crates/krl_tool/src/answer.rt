@@ -3,6 +3,7 @@
 ghost use Rattle.std.specs.Prelude.{◌≡◌, IfOk};
 ghost use Rattle.ssh_key.specs.LineReading.{content_of};
 
+use ssh_cert::Subject;
 use ssh_key::{Line, PublicKey};
 use ssh_wire::Bytes;
 use std::alloc::{AllocError, Global};
@@ -20,7 +21,8 @@ pub struct Answer {
 pub trait Answers {
     ghost use Rattle.krl_tool.specs.Run.{Answering};
 
-    // by the name of the file, what the key's line holds, and the key
+    // by the name of the file, what the key's line holds, what its blob asks of a list, and the plain
+    // key
     ghost answer_to: { Self → Answering };
 
     fn answer(
@@ -28,8 +30,9 @@ pub trait Answers {
         alloc: Global,
         name: &str,
         line: &Line,
+        asked: &Subject,
         key: &PublicKey,
     ) -> Result<Answer, AllocError>
         ensures { IfOk result (λ answer.
-            answer ≡ answer_to self.now name.now (content_of line.now) key.now) };
+            answer ≡ answer_to self.now name.now (content_of line.now) asked.now key.now) };
 }

@@ -1,43 +1,13 @@
 // Why a run stops.
 
 ghost use Rattle.std.specs.Prelude.{◌≡◌, Some};
-ghost use Rattle.krl_tool.specs.Stop.{cause_text, subject_fault_text};
+ghost use Rattle.krl_tool.specs.Stop.{cause_number, cause_text};
 
 use crate::file_fault::FileFault;
 use crate::krl_fault::KrlFault;
-use ssh_key::{KeyFault, LineFault};
-use std::error::Error;
+use ssh_cert::SubjectFault;
+use ssh_key::LineFault;
 use std::fmt;
-
-/// Why a blob is nothing that a list can be asked about.
-#[derive(Clone, Copy, Debug, PartialEq, Eq)]
-pub enum SubjectFault {
-    /// It is no plain key.
-    Key(KeyFault),
-}
-
-impl SubjectFault {
-    /// The fault's number.
-    pub fn number(self) -> u8
-        ensures { result ≡ 1 }
-    {
-        match self {
-            SubjectFault::Key(_) => 1,
-        }
-    }
-}
-
-impl fmt::Display for SubjectFault {
-    ghost output = { λ fault. Some (subject_fault_text fault) };
-
-    fn fmt<W: fmt::Write>(&self, f: &mut fmt::Formatter<W>) -> fmt::Result {
-        match self {
-            SubjectFault::Key(fault) => write!(f, "subject 1 Key, {fault}"),
-        }
-    }
-}
-
-impl Error for SubjectFault {}
 
 /// What stopped a run.
 #[derive(Clone, Copy, Debug, PartialEq, Eq)]
@@ -48,8 +18,24 @@ pub enum Cause {
     Subject(SubjectFault),
     /// No memory was left for the run itself.
     NoMemory,
-    /// The output failed once it had taken so many bytes.
+    /// The output failed once it had taken that many bytes.
     Output { count: u64 },
+}
+
+impl Cause {
+    /// The number of the fault in its family.
+    pub fn number(self) -> u8
+        ensures { result ≡ cause_number self }
+    {
+        match self {
+            Cause::File(fault) => fault.number(),
+            Cause::Krl(fault) => fault.number(),
+            Cause::Line(fault) => fault.number(),
+            Cause::Subject(fault) => fault.number(),
+            Cause::NoMemory => 1,
+            Cause::Output { .. } => 1,
+        }
+    }
 }
 
 impl fmt::Display for Cause {

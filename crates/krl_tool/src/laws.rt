@@ -1,13 +1,31 @@
-//! Laws of what a list spells and of its first fault. Each function does nothing: its contract is the law.
+//! Laws of what a list spells and of its first fault, and of what a run says of a line. Each function
+//! does nothing: its contract is the law.
 
-ghost use Rattle.std.specs.Prelude.{◌≡◌, ◌≤◌, ◌↔◌, ◌⊎◌, ◌++◌, ℕ, IsTrue, List, Option, None, Result, length};
+ghost use Rattle.std.specs.Prelude.{◌≡◌, ◌≤◌, ◌↔◌, ◌⊎◌, ◌++◌, ℕ, IsTrue, true, false, List, Option, Some, None, Result, length};
 ghost use Rattle.krl_tool.specs.declared.krl_fault.KrlFault.{KrlFault};
 ghost use Rattle.krl_tool.specs.Krl.{Header, Section, Spells};
 ghost use Rattle.krl_tool.specs.Place.{Place};
 ghost use Rattle.krl_tool.specs.Front.{IsFirstFault, IsFront, limit};
 ghost use Rattle.krl_tool.specs.Entry.{Entry, Revoked, revoked};
+ghost use Rattle.ssh_cert.specs.Subject.{Subject};
 ghost use Rattle.krl_tool.specs.Bytes.{AreBytes};
 ghost use Rattle.krl_tool.specs.Query.{IsRead};
+ghost use Rattle.ssh_wire.specs.Wire.{IsBytes};
+ghost use Rattle.ssh_key.specs.Key.{Key};
+ghost use Rattle.ssh_key.specs.KeyFile.{has_key};
+ghost use Rattle.ssh_key.specs.KeyLine.{IsKeyLine};
+ghost use Rattle.ssh_key.specs.LineFaults.{IsFirstLineFault};
+ghost use Rattle.ssh_key.specs.LineReading.{Content};
+ghost use Rattle.ssh_key.specs.declared.line_fault.LineFault.{LineFault};
+ghost use Rattle.ssh_cert.specs.SubjectReading.{IsSubjectFault};
+ghost use Rattle.ssh_cert.specs.declared.subject_fault.SubjectFault.{SubjectFault};
+ghost use Rattle.krl_tool.specs.declared.answer.Answer.{Answer};
+ghost use Rattle.krl_tool.specs.declared.cause.Cause.TheVariants.{Line, Subject as Subjects};
+ghost use Rattle.krl_tool.specs.Items.{SpellsKey};
+ghost use Rattle.krl_tool.specs.Run.{Answered, Answering, Stopped, item_of, stop_at};
+
+use ssh_cert::laws::{asked_where_spelled, not_asked_by_first_fault};
+use ssh_key::laws::{blob_read_back, line_read_where_spelled, line_refused_by_first_fault};
 
 /// Of two fronts of a text one is the beginning of the other.
 pub fn one_front_begins_the_other()
@@ -39,7 +57,8 @@ pub fn one_spelling()
 
 /// The test agrees with what it tests.
 pub fn revoked_is_tested()
-    ensures { (entries : List Entry) (blob : List ℕ) → (IsTrue (revoked entries blob) ↔ Revoked entries blob) }
+    ensures { (entries : List Entry) (asked : Subject)
+        → (IsTrue (revoked entries asked) ↔ Revoked entries asked) }
 {}
 
 /// A text of bytes is read in one way: as the entries of its sections, or with its first fault.
@@ -47,3 +66,32 @@ pub fn one_reading()
     ensures some { (text : List ℕ) → AreBytes text → (reading : Result (List Entry) KrlFault) × IsRead text reading }
     ensures one { (text : List ℕ) (reading reading' : Result (List Entry) KrlFault) → IsRead text reading → IsRead text reading' → reading ≡ reading' }
 {}
+
+/// Nothing is said of a line without a key. A line with a key is answered exactly where it spells the
+/// key of a plain key or of a certificate; else its first fault, or that of its blob, ends the run.
+pub fn items_by_what_is_spelled()
+    ensures none { (answer : Answering) (name : List ℕ) (number : ℕ) (text : List ℕ)
+        → has_key text ≡ false → item_of answer name number text ≡ None }
+    ensures answered { (answer : Answering) (name : List ℕ) (number : ℕ) (text : List ℕ)
+        (line : Content) (asked : Subject) (key : Key)
+        → has_key text ≡ true → SpellsKey text line asked key
+        → item_of answer name number text ≡ Some (Answered name (answer name line asked key)) }
+    ensures only { (answer : Answering) (name : List ℕ) (number : ℕ) (text : List ℕ)
+        (other : List ℕ) (reply : Answer) → IsBytes text
+        → item_of answer name number text ≡ Some (Answered other reply)
+        → (line : Content) × (asked : Subject) × (key : Key) × SpellsKey text line asked key
+        × (reply ≡ answer name line asked key) }
+    ensures line_fault { (answer : Answering) (name : List ℕ) (number : ℕ) (text : List ℕ)
+        (fault : LineFault) → IsBytes text → has_key text ≡ true → IsFirstLineFault text fault
+        → item_of answer name number text ≡ Some (Stopped (stop_at name number (Line fault))) }
+    ensures blob_fault { (answer : Answering) (name : List ℕ) (number : ℕ)
+        (text word blob comment : List ℕ) (fault : SubjectFault)
+        → has_key text ≡ true → IsKeyLine text word blob comment → IsSubjectFault blob fault
+        → item_of answer name number text ≡ Some (Stopped (stop_at name number (Subjects fault))) }
+{
+    line_read_where_spelled();
+    line_refused_by_first_fault();
+    blob_read_back();
+    asked_where_spelled();
+    not_asked_by_first_fault();
+}

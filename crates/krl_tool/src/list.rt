@@ -3,7 +3,7 @@
 ghost use Rattle.std.specs.Prelude.{◌≡◌, ◌↔◌, ◌⊎◌, ◌≤◌, IsTrue, IfErr, IfOk, List, None, Some, length, take};
 ghost use Rattle.krl_tool.specs.Krl.{Header as HeaderOf, Section, Spells};
 ghost use Rattle.krl_tool.specs.Front.{IsFirstFault, limit};
-ghost use Rattle.krl_tool.specs.Entry.{Entry, Means, Revoked, entries_of};
+ghost use Rattle.krl_tool.specs.Entry.{Entry, KeyNamed, Means, entries_of};
 ghost use Rattle.krl_tool.specs.declared.krl_fault.KrlFault.TheVariants.{NoMemory};
 
 mod fields;
@@ -63,9 +63,10 @@ impl<'a> RevokedList<'a> {
         self.comment
     }
 
-    /// Whether the list revokes the plain key of this blob. It searches the sorted keys.
-    pub fn is_revoked(&self, blob: &[u8]) -> bool
-        ensures { (entries : List Entry) → Means self.now entries → (IsTrue result ↔ Revoked entries blob.now) }
+    /// Whether the list names the plain key of this blob. It searches the sorted keys.
+    pub fn names_key(&self, blob: &[u8]) -> bool
+        ensures { (entries : List Entry) → Means self.now entries
+            → (IsTrue result ↔ KeyNamed entries blob.now) }
     {
         self.keys.binary_search(&blob).is_ok()
     }

@@ -3,7 +3,7 @@
 ghost use Rattle.std.specs.Prelude.{◌≡◌, ◌++◌, IfOk, OnOk, decimal, false};
 ghost use Rattle.ssh_key.specs.Kind.{short_name_of};
 ghost use Rattle.krl_tool.specs.Done.{Ends};
-ghost use Rattle.krl_tool.specs.Listing.{comment_or_none, describe, list_line, list_run_of};
+ghost use Rattle.krl_tool.specs.Listing.{certificate_mark, comment_or_none, describe, list_line, list_run_of};
 
 use crate::answer::{Answer, Answers};
 use crate::done::Done;
@@ -11,6 +11,7 @@ use crate::escape::push_escaped;
 use crate::named::Named;
 use crate::printer::Printer;
 use crate::walk::print_file;
+use ssh_cert::Subject;
 use ssh_key::{Hash, Line, PublicKey, fingerprint};
 use ssh_wire::{Bytes, Sink};
 use std::alloc::{AllocError, Global};
@@ -29,10 +30,12 @@ impl Answers for Listing {
         alloc: Global,
         _name: &str,
         line: &Line,
+        asked: &Subject,
         key: &PublicKey,
     ) -> Result<Answer, AllocError> {
-        let print = fingerprint(alloc, self.hash, line.blob.as_slice())?;
-        let text = list_line(alloc, key, print.as_slice(), line.comment)?;
+        let print = fingerprint(alloc, self.hash, asked.plain.as_slice())?;
+        let mark = certificate_mark(asked);
+        let text = list_line(alloc, key, mark, print.as_slice(), line.comment)?;
         Ok(Answer {
             text,
             revoked: false,
@@ -40,15 +43,27 @@ impl Answers for Listing {
     }
 }
 
+/// What stands after the kind: a mark of certificates.
+fn certificate_mark(asked: &Subject) -> &'static [u8]
+    ensures { result.now ≡ certificate_mark asked.now.cert }
+{
+    match asked.cert {
+        Some(_) => b"-CERT",
+        None => b"",
+    }
+}
+
 /// The line of a key, with its line feed: its size in bits, fingerprint, comment and kind.
 fn list_line(
     alloc: Global,
     key: &PublicKey,
+    mark: &[u8],
     print: &[u8],
     comment: &[u8],
 ) -> Result<Bytes, AllocError>
     ensures { IfOk result (λ text.
-        text ≡ list_line key.now.bits print.now comment.now (short_name_of key.now.kind)) }
+        text ≡ list_line key.now.bits print.now comment.now
+        (short_name_of key.now.kind ++ mark.now)) }
 {
     let bits = key.bits().to_string(alloc)?;
     let mut text = Vec::from_slice(alloc, bits.as_bytes())?;
@@ -58,6 +73,7 @@ fn list_line(
     push_comment(&mut text, comment)?;
     text.extend_from_slice(b" (")?;
     text.extend_from_slice(key.short_name().as_bytes())?;
+    text.extend_from_slice(mark)?;
     text.extend_from_slice(b")\n")?;
     Ok(Bytes::from_vec(text))
 }

@@ -10,7 +10,6 @@ mod command;
 mod done;
 mod escape;
 mod file_fault;
-mod key_file;
 mod krl_fault;
 pub mod laws;
 mod list;
@@ -31,6 +30,7 @@ use crate::named::{Named, load};
 use crate::query::query_run;
 use crate::run_fault::{RunFault, fault_text};
 use ssh_wire::{FromRead, ToWrite, send};
+use std::io::{self, ErrorKind};
 use std::process::ExitCode;
 use std::{env, fs};
 
@@ -42,8 +42,9 @@ fn main(rt: HostRuntime) -> ExitCode {
 }
 
 fn run(rt: &HostRuntime) -> u8 {
-    let Ok(words) = env::args(rt) else {
-        return refuse(rt, &CommandFault::NoMemory);
+    let words = match env::args(rt) {
+        Ok(words) => words,
+        Err(error) => return refuse(rt, &fault_of_words(&error)),
     };
     let Ok(words) = words.collect::<Vec<String>>(rt.alloc()) else {
         return refuse(rt, &CommandFault::NoMemory);
@@ -51,6 +52,15 @@ fn run(rt: &HostRuntime) -> u8 {
     match command_of(rt.alloc(), words.as_slice()) {
         Ok(job) => run_job(rt, &job),
         Err(fault) => refuse(rt, &fault),
+    }
+}
+
+/// Words that are not text are a misuse; else memory ran out.
+fn fault_of_words(error: &io::Error) -> CommandFault {
+    if error.kind() == ErrorKind::OutOfMemory {
+        CommandFault::NoMemory
+    } else {
+        CommandFault::Usage
     }
 }
 

@@ -27,7 +27,7 @@ impl<'a> Model for Named<'a> {
 }
 
 /// Reads a file to its end. It is `TooLong` where the reader gives a byte past 16,777,216, `Read`
-/// where it fails before that, and `NoMemory` where a growth is refused.
+/// where it fails before that, and `NoMemory` where memory for bytes that were read is refused.
 pub fn load<'a, R: Source>(alloc: Global, name: &'a str, reader: &mut R) -> Named<'a>
     requires { R.has_failed reader.old ≡ false }
     ensures name { result.name ≡ name.now }

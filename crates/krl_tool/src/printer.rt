@@ -46,7 +46,8 @@ impl<'w, W: Sink> Model for Printer<'w, W> {
 impl<'w, W: Sink> Printer<'w, W> {
     /// A printer that has printed nothing. What stands on the page is thrown away.
     pub fn new(page: &'w mut Vec<u8>, out: &'w mut W) -> Self
-        ensures { result ≡ nothing_printed (W.taken out.old) (W.has_failed out.old) out.entry.ghost_name }
+        ensures { result ≡ nothing_printed (W.taken out.old) (W.has_failed out.old)
+            out.entry.ghost_name }
     {
         page.clear();
         Printer {

@@ -4,7 +4,7 @@ ghost use Rattle.std.specs.Prelude.{◌≡◌, ◌++◌, IfOk, List, Result, OnO
 ghost use Rattle.krl_tool.specs.declared.krl_fault.KrlFault.{KrlFault as FaultOf};
 ghost use Rattle.krl_tool.specs.Carries.{Carries};
 ghost use Rattle.krl_tool.specs.Done.{Ends};
-ghost use Rattle.krl_tool.specs.Entry.{Entry};
+ghost use Rattle.krl_tool.specs.Entry.{Entry, revoked};
 ghost use Rattle.krl_tool.specs.Query.{IsRead, ask, comment_part, kept_entries, krl_cause, query_line, query_run_of, verdict};
 
 use crate::answer::{Answer, Answers};
@@ -17,6 +17,7 @@ use crate::named::Named;
 use crate::printer::Printer;
 use crate::run_fault::RunFault;
 use crate::walk::print_files;
+use ssh_cert::Subject;
 use ssh_key::{Line, PublicKey};
 use ssh_wire::{Bytes, Sink};
 use std::alloc::{AllocError, Global};
@@ -35,11 +36,25 @@ impl<'q, 'l> Answers for Query<'q, 'l> {
         alloc: Global,
         name: &str,
         line: &Line,
+        asked: &Subject,
         _key: &PublicKey,
     ) -> Result<Answer, AllocError> {
-        let revoked = self.list.is_revoked(line.blob.as_slice());
+        let revoked = is_revoked(self.list, asked);
         let text = query_line(alloc, name, line.comment, revoked)?;
         Ok(Answer { text, revoked })
+    }
+}
+
+/// Whether a list revokes a key, or a certificate: by its plain key or by the key of its authority.
+fn is_revoked(list: &RevokedList, asked: &Subject) -> bool
+    ensures { result ≡ revoked (kept_entries list.now) asked.now }
+{
+    if list.names_key(asked.plain.as_slice()) {
+        return true;
+    }
+    match &asked.cert {
+        Some(cert) => list.names_key(cert.authority),
+        None => false,
     }
 }
 

@@ -23,7 +23,11 @@ impl<'a> Model for RunFault<'a> {
 
     ghost Value = { Stop };
 
-    ghost view = { λ fault. record { name = fault.name.now; line = fault.line; cause = fault.cause } };
+    ghost view = { λ fault. record {
+      name = fault.name.now;
+      line = fault.line;
+      cause = fault.cause;
+    } };
 }
 
 impl<'a> RunFault<'a> {

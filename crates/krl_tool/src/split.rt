@@ -2,8 +2,7 @@
 
 ghost use Rattle.std.specs.Prelude.{◌≡◌, ◌∷◌, ◌+◌, ◌≤◌, IfSome, length};
 ghost use Rattle.std.specs.List.{slice_split};
-ghost use Rattle.krl_tool.specs.KeyFile.{is_newline};
-ghost use Rattle.krl_tool.specs.Split.{lines_of};
+ghost use Rattle.krl_tool.specs.Split.{is_newline, lines_of};
 
 /// The first line of a text without its line feed, and the text after the line feed, if there is
 /// one.

@@ -1,8 +1,9 @@
-// What no clause says: the rows of the format's worked examples, and a plain, slow program beside the
-// reader.
+// What no clause says: the rows of the format's worked examples, and a plain, slow program beside
+// the reader.
 
 mod asking;
 mod bytes;
+mod certificates;
 mod chunks;
 mod describing;
 mod devices;

@@ -2,17 +2,19 @@
 
 ghost use Rattle.std.specs.Prelude.{◌≡◌, ◌+◌, false};
 ghost use Rattle.krl_tool.specs.Carries.{Carries};
-ghost use Rattle.krl_tool.specs.Run.{Gives, content_items, file_items, files_items, item_of};
+ghost use Rattle.ssh_key.specs.LineReading.{content_of};
+ghost use Rattle.ssh_cert.specs.SubjectReading.{subject_of};
+ghost use Rattle.krl_tool.specs.Run.{Gives, GivesAnswer, content_items, file_items, files_items, item_of, subject_item};
 
 use crate::answer::{Answer, Answers};
-use crate::cause::{Cause, SubjectFault};
+use crate::cause::Cause;
 use crate::file_fault::FileFault;
-use crate::key_file::has_key;
 use crate::named::Named;
 use crate::printer::Printer;
 use crate::run_fault::RunFault;
 use crate::split::split_line;
-use ssh_key::{LineFault, read_key, read_line};
+use ssh_cert::{SubjectFault, subject};
+use ssh_key::{Line, LineFault, has_key, read_key, read_line};
 use ssh_wire::Sink;
 use std::alloc::Global;
 
@@ -103,15 +105,37 @@ fn answer_line<'a, A: Answers>(
         Err(LineFault::NoMemory) => return Err(RunFault::whole(name, Cause::NoMemory)),
         Err(fault) => return Err(RunFault::at_line(name, number, Cause::Line(fault))),
     };
-    let key = match read_key(line.blob.as_slice()) {
+    match answer_blob(alloc, answers, name, number, &line) {
+        Ok(answer) => Ok(Some(answer)),
+        Err(stop) => Err(stop),
+    }
+}
+
+/// What a run says of what such a line holds.
+fn answer_blob<'a, A: Answers>(
+    alloc: Global,
+    answers: &A,
+    name: &'a str,
+    number: u64,
+    line: &Line,
+) -> Result<Answer, RunFault<'a>>
+    ensures { GivesAnswer (subject_item (A.answer_to answers.now) name.now number
+        (content_of line.now) (subject_of line.now.blob)) name.now result }
+{
+    let asked = match subject(alloc, line.blob.as_slice()) {
+        Ok(asked) => asked,
+        Err(SubjectFault::NoMemory) => return Err(RunFault::whole(name, Cause::NoMemory)),
+        Err(fault) => return Err(RunFault::at_line(name, number, Cause::Subject(fault))),
+    };
+    let key = match read_key(asked.plain.as_slice()) {
         Ok(key) => key,
         Err(fault) => {
             let cause = Cause::Subject(SubjectFault::Key(fault));
             return Err(RunFault::at_line(name, number, cause));
         }
     };
-    match answers.answer(alloc, name, &line, &key) {
-        Ok(answer) => Ok(Some(answer)),
+    match answers.answer(alloc, name, line, &asked, &key) {
+        Ok(answer) => Ok(answer),
         Err(_) => Err(RunFault::whole(name, Cause::NoMemory)),
     }
 }

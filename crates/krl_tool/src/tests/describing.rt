@@ -75,14 +75,14 @@ fn refused(rt: HostRuntime) -> Result<(), Fail> {
 }
 
 #[test]
-fn a_certificate_is_refused(rt: HostRuntime) -> Result<(), Fail> {
+fn a_cut_certificate_is_refused(rt: HostRuntime) -> Result<(), Fail> {
     let line = key_line(rt.alloc(), &[b"ssh-ed25519-cert-v01@openssh.com"])?;
     let text = joined(rt.alloc(), &[GITHUB_LINE, b"\n\n", &line, b" c"])?;
     let parts = [text.as_slice()];
     let ran = listed(rt.alloc(), Hash::Sha256, &("k", Some(parts.as_slice())))?;
     assert_eq!(rt; ran.text.as_slice(), LISTING.as_bytes());
     assert_eq!(rt; ran.status, 255);
-    let line = b"ssh-keygen: k: line 3: subject 1 Key, key 2 UnknownType".as_slice();
+    let line = b"ssh-keygen: k: line 3: subject 2 Cert, cert 1 Wire".as_slice();
     assert_eq!(rt; ran.fault.as_slice(), line);
     Ok(())
 }

@@ -6,7 +6,7 @@ use std::test::Fail;
 const DIGITS: &[u8; 64] = b"ABCDEFGHIJKLMNOPQRSTUVWXYZabcdefghijklmnopqrstuvwxyz0123456789+/";
 
 /// Strings, one after the other.
-fn strings(alloc: Global, list: &[&[u8]]) -> Result<Vec<u8>, Fail> {
+pub fn strings(alloc: Global, list: &[&[u8]]) -> Result<Vec<u8>, Fail> {
     let mut bytes = Vec::new(alloc);
     for string in list {
         let size = u32::try_from(string.len())?;
@@ -17,7 +17,7 @@ fn strings(alloc: Global, list: &[&[u8]]) -> Result<Vec<u8>, Fail> {
 }
 
 /// The base64 of some bytes, with padding.
-fn base64(alloc: Global, bytes: &[u8]) -> Result<Vec<u8>, Fail> {
+pub fn base64(alloc: Global, bytes: &[u8]) -> Result<Vec<u8>, Fail> {
     let mut text = Vec::new(alloc);
     for part in bytes.chunks(3) {
         let [one, two, three] = [0, 1, 2].map(|i| part.get(i).copied().unwrap_or(0));

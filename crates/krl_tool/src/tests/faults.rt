@@ -1,9 +1,10 @@
 // The lines that tell why a run stopped.
 
-use crate::cause::{Cause, SubjectFault};
+use crate::cause::Cause;
 use crate::file_fault::FileFault;
 use crate::krl_fault::KrlFault;
 use crate::run_fault::{RunFault, fault_text};
+use ssh_cert::{CertFault, SubjectFault};
 use ssh_key::{KeyFault, LineFault};
 use ssh_wire::WireFault;
 use std::alloc::{AllocError, Global};
@@ -86,6 +87,53 @@ fn file_faults(rt: HostRuntime) -> Result<(), Fail> {
             "{want}"
         );
     }
-    assert_eq!(rt; SubjectFault::Key(KeyFault::Trailing).number(), 1);
+    Ok(())
+}
+
+#[test]
+fn numbers_and_carried_faults(rt: HostRuntime) -> Result<(), Fail> {
+    let authority = CertFault::Authority(KeyFault::Wire(WireFault::Short));
+    let rows: [(Cause, u8, &str); 6] = [
+        (
+            Cause::File(FileFault::NoKeys),
+            5,
+            "c: line 3: file 5 NoKeys",
+        ),
+        (Cause::Krl(KrlFault::Length), 6, "c: line 3: krl 6 Length"),
+        (
+            Cause::Line(LineFault::Base64),
+            2,
+            "c: line 3: line 2 Base64",
+        ),
+        (
+            Cause::Subject(SubjectFault::Cert(authority)),
+            2,
+            "c: line 3: subject 2 Cert, cert 7 Authority, key 1 Wire, wire 1 Short",
+        ),
+        (Cause::NoMemory, 1, "c: line 3: run 1 NoMemory"),
+        (
+            Cause::Output { count: 9 },
+            1,
+            "c: line 3: output 1 Write after 9 bytes",
+        ),
+    ];
+    for (cause, number, want) in rows {
+        assert_eq!(rt; cause.number(), number, "{want}");
+        assert!(rt; is_told(rt.alloc(), "c", Some(3), cause, want)?, "{want}");
+    }
+    Ok(())
+}
+
+// A body that is out of memory above some size meets the contract. It fails here.
+#[test]
+fn a_long_name(rt: HostRuntime) -> Result<(), Fail> {
+    let mut name = String::new(rt.alloc());
+    for _ in 0..10_000 {
+        name.push_str("a\x7f")?;
+    }
+    let fault = RunFault::whole(name.as_str(), Cause::NoMemory);
+    let text = fault_text(rt.alloc(), &fault)?;
+    assert_eq!(rt; text.len(), 12 + 10_000 * 5 + 2 + 14);
+    assert!(rt; text.as_slice().ends_with(b"a\\x7f: run 1 NoMemory"));
     Ok(())
 }

@@ -98,8 +98,7 @@ fn stopped_at_a_line(rt: HostRuntime) -> Result<(), Fail> {
 /// The fields of a blob, its type name first, and why it is refused.
 type Refused<'a> = (&'a [&'a [u8]], &'a str);
 
-const REFUSED: [Refused<'static>; 7] = [
-    (&[b"ssh-ed25519-cert-v01@openssh.com"], "key 2 UnknownType"),
+const REFUSED: [Refused<'static>; 6] = [
     (&[b"ecdsa-sha2-nistp256", b"nistp384"], "key 3 Curve"),
     (
         &[b"ecdsa-sha2-nistp256", b"nistp256", &[2; 65]],

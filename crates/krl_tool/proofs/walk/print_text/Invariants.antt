@@ -1,7 +1,7 @@
 -- The lines so far are answered, and the others are left.
 use Rattle.std.proofs.Common.{◌+◌, ◌≤◌, length}
 use Rattle.std.specs.List.{slice_split}
-use Rattle.krl_tool.specs.KeyFile.{is_newline}
+use Rattle.krl_tool.specs.Split.{is_newline}
 use Rattle.krl_tool.specs.Run.{line_items}
 use Rattle.krl_tool.proofs.Answering.{IsReached}
 use Rattle.krl_tool.proofs.walk.print_text.Given as goal

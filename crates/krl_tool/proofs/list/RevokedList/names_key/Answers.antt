@@ -3,7 +3,7 @@ use Rattle.std.specs.Ordering.{nat_cmp}
 use Rattle.std.specs.Cmp.Lexicographic.{slice_cmp}
 use Rattle.std.specs.List.Sorted.{IsBinarySearchResult, IsSearchInRange}
 use Rattle.krl_tool.proofs.Search.{search_answers}
-use Rattle.krl_tool.proofs.list.RevokedList.is_revoked.Goals as goal
+use Rattle.krl_tool.proofs.list.RevokedList.names_key.Goals as goal
 
 pub returns : goal.returns
 returns c =

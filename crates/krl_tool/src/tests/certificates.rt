@@ -1,0 +1,126 @@
+// Certificates in the files of the runs.
+
+use crate::tests::bytes::{GITHUB, HEADER, ONE_KEY, even_key, joined, list_of_one};
+use crate::tests::encoding::{base64, strings};
+use crate::tests::runs::{GITHUB_LINE, asked, listed};
+use ssh_key::Hash;
+use std::alloc::Global;
+use std::test::*;
+
+const NAME: &[u8] = b"ssh-ed25519-cert-v01@openssh.com";
+
+/// Where the public field of an Ed25519 blob begins: its length and its 32 bytes.
+const FIELD: usize = 15;
+
+/// The blob of a certificate for users, of an Ed25519 key by an Ed25519 authority, that is always
+/// valid and has neither principals nor options. Its signature is 64 zero bytes.
+fn certificate(
+    alloc: Global,
+    key: &[u8],
+    authority: &[u8],
+    serial: u64,
+    id: &[u8],
+) -> Result<Vec<u8>, Fail> {
+    let signature = strings(alloc, &[b"ssh-ed25519", &[0; 64]])?;
+    let name_and_nonce = strings(alloc, &[NAME, b""])?;
+    let id_and_principals = strings(alloc, &[id, b""])?;
+    let options_and_authority = strings(alloc, &[b"", b"", b"", authority])?;
+    let signed = strings(alloc, &[&signature])?;
+    let number = serial.to_be_bytes();
+    let parts: [&[u8]; 9] = [
+        &name_and_nonce,
+        &key[FIELD..],
+        &number,
+        &[0, 0, 0, 1],
+        &id_and_principals,
+        &[0; 8],
+        &[0xff; 8],
+        &options_and_authority,
+        &signed,
+    ];
+    Ok(joined(alloc, &parts)?)
+}
+
+fn line_of(alloc: Global, blob: &[u8]) -> Result<Vec<u8>, Fail> {
+    let encoded = base64(alloc, blob)?;
+    Ok(joined(alloc, &[NAME, b" ", &encoded, b"\n"])?)
+}
+
+#[test]
+fn its_plain_key_is_listed(rt: HostRuntime) -> Result<(), Fail> {
+    let authority = even_key(rt.alloc(), 0x11)?;
+    let blob = certificate(rt.alloc(), &GITHUB, &authority, 7, b"a")?;
+    assert_eq!(rt; blob.len(), 267);
+    let line = line_of(rt.alloc(), &blob)?;
+    let ran = listed(rt.alloc(), Hash::Sha256, &("c.pub", Some(&[&line])))?;
+    let text = "256 SHA256:+DiY3wvvV6TuJJhbpZisF/zLDA0zPMSvHdkr4UvCOqU no comment (ED25519-CERT)\n";
+    assert_eq!(rt; ran.text.as_slice(), text.as_bytes());
+    assert_eq!(rt; ran.status, 0);
+    Ok(())
+}
+
+#[test]
+fn asked_by_its_keys(rt: HostRuntime) -> Result<(), Fail> {
+    let authority = even_key(rt.alloc(), 0x11)?;
+    let other = even_key(rt.alloc(), 0x22)?;
+    let blob = certificate(rt.alloc(), &GITHUB, &authority, 7, b"a")?;
+    let line = line_of(rt.alloc(), &blob)?;
+    let file = joined(rt.alloc(), &[&line, GITHUB_LINE])?;
+    // the explicit key of a list, and what is said of the certificate and of its plain key
+    let rows: [(&[u8], &str, u8); 4] = [
+        (&GITHUB, "f: REVOKED\nf: REVOKED\n", 1),
+        (&authority, "f: REVOKED\nf: ok\n", 1),
+        (&other, "f: ok\nf: ok\n", 0),
+        (&blob, "f: ok\nf: ok\n", 0),
+    ];
+    for (i, (key, text, status)) in rows.iter().enumerate() {
+        let list = if key.len() == 51 {
+            list_of_one(rt.alloc(), *key)?
+        } else {
+            joined(rt.alloc(), &[&HEADER, &[2, 0, 0, 1, 15, 0, 0, 1, 11], *key])?
+        };
+        let ran = asked(rt.alloc(), &list, &[("f", Some(&[&file]))])?;
+        assert_eq!(rt; ran.text.as_slice(), text.as_bytes(), "in row {i}");
+        assert_eq!(rt; ran.status, *status, "in row {i}");
+        assert!(rt; ran.fault.is_empty(), "in row {i}");
+    }
+    Ok(())
+}
+
+#[test]
+fn refused(rt: HostRuntime) -> Result<(), Fail> {
+    let authority = even_key(rt.alloc(), 0x11)?;
+    let blob = certificate(rt.alloc(), &GITHUB, &authority, 7, b"a")?;
+    let longer = joined(rt.alloc(), &[&blob, b"\0"])?;
+    let rows: [(&[u8], &str); 3] = [
+        (
+            &blob[..266],
+            "ssh-keygen: f: line 2: subject 2 Cert, cert 1 Wire",
+        ),
+        (
+            &blob[..75],
+            "ssh-keygen: f: line 2: subject 2 Cert, cert 3 Key, key 1 Wire, wire 1 Short",
+        ),
+        (
+            &longer,
+            "ssh-keygen: f: line 2: subject 2 Cert, cert 9 Trailing",
+        ),
+    ];
+    let list = joined(rt.alloc(), &[&HEADER, &ONE_KEY, &GITHUB])?;
+    for (i, (blob, fault)) in rows.iter().enumerate() {
+        let line = line_of(rt.alloc(), *blob)?;
+        let ran = asked(
+            rt.alloc(),
+            &list,
+            &[("f", Some(&[GITHUB_LINE, b"\n", &line]))],
+        )?;
+        assert_eq!(rt;
+            ran.text.as_slice(),
+            b"f: REVOKED\n".as_slice(),
+            "in row {i}"
+        );
+        assert_eq!(rt; ran.status, 255, "in row {i}");
+        assert_eq!(rt; ran.fault.as_slice(), fault.as_bytes(), "in row {i}");
+    }
+    Ok(())
+}
