@@ -34,12 +34,16 @@ lists $type "$(words $type nistp256 && string "04$(repeat 64 5a)" && words ssh:)
 type=sk-ssh-ed25519@openssh.com
 lists $type "$(words $type && string "$github" && words '')" '256 ED25519-SK'
 
-# refuses_key FAULT NAME TYPE DIGITS: the key that the digits spell is refused so.
-refuses_key() {
+# refuses SUBJECT_FAULT NAME TYPE DIGITS: the blob that the digits spell is refused so.
+refuses() {
   line "$3" "$4" >key
-  expect "a key with $2" 255 '' "ssh-keygen: key: line 1: subject 1 Key, key $1"$'\n' -l -f key
-  expect "a query of a key with $2" 255 '' "ssh-keygen: key: line 1: subject 1 Key, key $1"$'\n' \
-    -Q -f h.krl key
+  expect "a key with $2" 255 '' "ssh-keygen: key: line 1: subject $1"$'\n' -l -f key
+  expect "a query of a key with $2" 255 '' "ssh-keygen: key: line 1: subject $1"$'\n' -Q -f h.krl key
+}
+
+# refuses_key FAULT NAME TYPE DIGITS: the same, of a plain key.
+refuses_key() {
+  refuses "1 Key, key $1" "$2" "$3" "$4"
 }
 bytes "$H" >h.krl
 refuses_key '1 Wire, wire 1 Short' 'its last byte cut off' ssh-ed25519 "${G%??}"
@@ -56,5 +60,7 @@ refuses_key '8 TooLong' '65,537 bytes' ssh-rsa "$(rsa $three "0000ffed01$(repeat
 for type in ssh-rsa ssh-dss ecdsa-sha2-nistp256 ecdsa-sha2-nistp384 ecdsa-sha2-nistp521 ssh-ed25519 \
   sk-ecdsa-sha2-nistp256 sk-ssh-ed25519; do
   type=$type-cert-v01@openssh.com
-  refuses_key '2 UnknownType' "the type $type" $type "$(words $type '')"
+  refuses '2 Cert, cert 1 Wire' "the type $type alone" $type "$(words $type)"
+  refuses '2 Cert, cert 3 Key, key 1 Wire, wire 1 Short' "the type $type and a nonce" \
+    $type "$(words $type '')"
 done
