@@ -19,7 +19,7 @@ fails 'a missing list' '' 'none: file 1 Open' -Q -f none g.pub
 fails 'a missing file to list' '' 'none: file 1 Open' -l -f none
 fails 'a path through a file' '' 'g.pub/x: file 1 Open' -l -f g.pub/x
 fails 'a folder for a file' $'a: ok\n' 'folder: file 2 Read' -Q -f r.krl a folder
-fails 'a folder for a list' '' 'folder: file 2 Read' -Q -f folder g.pub
+fails 'a folder for a list' '' 'folder: krl 13 Read' -Q -f folder g.pub
 fails 'a folder to list' '' 'folder: file 2 Read' -l -f folder
 fails 'a folder for standard input' '' '-: file 2 Read' -l -f - <folder
 fails 'an empty key file' $'g.pub: REVOKED\n' 'empty: file 5 NoKeys' -Q -f r.krl g.pub empty g.pub
@@ -44,15 +44,15 @@ cp g.pub 'Zoë x'
 expect 'a name in UTF-8 with a blank' 1 $'Zoë x: REVOKED\n' '' -Q -f r.krl 'Zoë x'
 
 # The greatest length: one section of one key of zero bytes fills the list to the limit.
-limit=16777216
-zeros=$((limit - 44 - 9))
+zeros=$((67108864 - 44 - 9))
 {
   bytes "$H" 02 "$(printf %08x $((zeros + 4)))" "$(printf %08x $zeros)"
   head -c $zeros /dev/zero
 } >most.krl
 expect 'a list of the greatest length' 0 $'a: ok\n' '' -Q -f most.krl a
 { cat most.krl && printf '\0'; } >more.krl
-fails 'a list of one byte more' '' 'more.krl: file 3 TooLong' -Q -f more.krl a
+fails 'a list of one byte more' '' 'more.krl: krl 12 TooLong' -Q -f more.krl a
+limit=16777216
 { cat g.pub && head -c $((limit - 81)) /dev/zero | tr '\0' '#'; } >most.pub
 expect 'a key file of the greatest length' 0 "$listed" '' -l -f most.pub
 printf '\n' >>most.pub

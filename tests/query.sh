@@ -1,4 +1,4 @@
-# Queries: lists of explicit keys, each fault of a list, and what is printed for each key.
+# Queries: lists of each sort of entry, each fault of a list, and what is printed for each key.
 
 line ssh-ed25519 "$G" >g.pub
 line ssh-ed25519 "$A" 'x y' >a
@@ -45,14 +45,54 @@ refuses '3 EndsEarly' 'no bytes' ''
 refuses '3 EndsEarly' 'three bytes' 000000
 refuses '3 EndsEarly' 'a comment that passes its end' "${H:0:80}00000001"
 refuses '3 EndsEarly' 'a section that passes its end' "$H" 02 00000009 00000001 00
-for type in 00 01 03 04 05 06 99 ff; do
+for type in 00 06 99 fe; do
   refuses '4 UnknownSection' "section type 0x$type" "$H" "$(section "$G")" $type
+done
+for type in 01 02 03 04 05 ff; do
+  refuses '3 EndsEarly' "section type 0x$type alone" "$H" "$(section "$G")" $type
 done
 refuses '6 Length' 'a key that passes its section' "$H" 02 00000005 00000002 00
 refuses '6 Length' 'a section with room for no length' "$H" 02 00000003 000000
 refuses '6 Length' 'three bytes after a key' "$H" 02 00000008 00000001 00 000000
 refuses '6 Length' 'three bytes due after a key' "$H" 02 00000008 00000001 00
 refuses '6 Length' 'a key due that passes its section' "$H" 02 00000005 00000002
+
+# certificates DIGITS: a section of certificates under all authorities, of these subsections.
+certificates() {
+  printf 01
+  string "$(words '' '')$1"
+}
+first=0000000000000001
+last=ffffffffffffffff
+extension=$(string "$(words name)00$(words contents)")
+critical=$(string "$(words name)01$(words contents)")
+signature=04$(words key signature)
+accepts 'serials' "$H" "$(certificates "20$(string $last$first)")"
+accepts 'a range' "$H" "$(certificates "21$(string $first$last)")"
+accepts 'a bitmap' "$H" "$(certificates "22$(string "$first$(string 0155)")")"
+accepts 'key IDs' "$H" "$(certificates "23$(string "$(words one two)")")"
+accepts 'extensions' "$H" "$(certificates "39$extension")" "ff$extension"
+accepts 'signatures' "$H" "$(section "$G")" "$signature" "$signature"
+accepts 'hashes of no key' "$H" "03$(string)" "05$(string)"
+# names NAME TYPE SUM: the list of the hash of the key that SUM computes names it.
+names() {
+  bytes "$H" "$2$(string "$(string "$(bytes "$A" | $3 | cut -d ' ' -f 1)")")" >made.krl
+  expect "a key by its $1" 1 $'a (x y): REVOKED\n' '' -Q -f made.krl a
+  expect "another key than that of a $1" 0 $'g.pub: ok\n' '' -Q -f made.krl g.pub
+}
+names SHA-1 03 sha1sum
+names SHA-256 05 sha256sum
+refuses '5 UnknownCertSection' 'subsection type 0x24' "$H" "$(certificates 24)"
+refuses '6 Length' 'a serial that is cut' "$H" "$(certificates "20$(string 00)")"
+refuses '7 RangeReversed' 'a range that ends before it begins' "$H" "$(certificates "21$(string $last$first)")"
+refuses '8 BitmapNegative' 'a bitmap below zero' "$H" "$(certificates "22$(string "$first$(string 80)")")"
+refuses '9 BitmapWraps' 'a bitmap past the greatest serial' "$H" \
+  "$(certificates "22$(string "$last$(string 02)")")"
+refuses '10 HashLength' 'a SHA-1 of 19 bytes' "$H" "03$(string "$(string "$(repeat 19 00)")")"
+refuses '10 HashLength' 'a SHA-256 of 20 bytes' "$H" "05$(string "$(string "$(repeat 20 00)")")"
+refuses '11 AfterSignature' 'keys behind a signature' "$H" "$signature" "$(section "$G")"
+refuses '15 CriticalExtension' 'a critical extension' "$H" "ff$critical"
+refuses '15 CriticalExtension' 'a critical extension of certificates' "$H" "$(certificates "39$critical")"
 
 for ((size = 0; size <= 104; size++)); do
   head -c "$size" r.krl >cut.krl

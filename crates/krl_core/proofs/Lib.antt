@@ -51,3 +51,4 @@ pub mod Shelving
 pub mod SomeSections
 pub mod Spots
 pub mod Limits
+pub mod Tested

@@ -24,3 +24,4 @@ pub mod Search
 pub mod Written
 pub mod KrlText
 pub mod Within
+pub mod Tested

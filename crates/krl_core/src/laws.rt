@@ -1,9 +1,11 @@
 //! Laws of the definitions. Each function does nothing: its contract is the law.
 
+mod asked;
 mod lists;
 mod naming;
 mod written;
 
+pub use asked::revokes_what_is_meant;
 pub use lists::{
     a_cut_ends_early, each_text_is_told, no_fault_where_spelled, one_first_fault,
     one_front_begins_the_other,

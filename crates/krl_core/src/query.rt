@@ -1,5 +1,5 @@
 // The question of whether a key or a certificate is revoked.
-ghost use Rattle.std.specs.Prelude.{◌↔◌, IsTrue, List, Contains};
+ghost use Rattle.std.specs.Prelude.{◌≡◌, ◌↔◌, IsTrue, List, Contains};
 ghost use Rattle.sha1.specs.Sha1.{sha1};
 ghost use Rattle.sha2.specs.Sha256.{sha256};
 ghost use Rattle.krl_core.specs.Asked.{HoldsKey, HoldsUnder, HoldsCert};
@@ -7,6 +7,7 @@ ghost use Rattle.krl_core.specs.Contents.{Means};
 ghost use Rattle.krl_core.specs.Entry.{Entry};
 ghost use Rattle.krl_core.specs.Revoked.{Revoked};
 ghost use Rattle.krl_core.specs.Shelf.{sections_of};
+ghost use Rattle.krl_core.specs.Tested.{revokes};
 
 use crate::revocations::Revocations;
 use crate::rows::Rows;
@@ -19,8 +20,9 @@ impl<S: Spans> Revocations<S> {
     /// Whether a plain key or a certificate is revoked (ssh-keygen(1), KEY REVOCATION LISTS). Takes
     /// no memory. A hash is computed only where there are hashes of its kind.
     pub fn query(&self, subject: &Subject) -> bool
-        ensures { (entries : List Entry) → Means self.now entries
+        ensures revoked { (entries : List Entry) → Means self.now entries
             → (IsTrue result ↔ Revoked entries subject.now) }
+        ensures tested { result ≡ revokes self.now subject.now }
     {
         if self.has_key(subject.plain.as_slice()) {
             return true;

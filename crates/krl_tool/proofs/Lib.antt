@@ -1,20 +1,3 @@
-pub mod Walks
-pub mod Numbers
-pub mod Fronts
-pub mod Bytes
-pub mod Views
-pub mod Spelled
-pub mod Outcomes
-pub mod Header
-pub mod Keys
-pub mod Sections
-pub mod Lists
-pub mod Search
-pub mod Whole
-pub mod Unique
-pub mod Exists
-pub mod Completes
-pub mod KeyNames
 pub mod Loading
 pub mod Lines
 pub mod Saying
@@ -23,4 +6,3 @@ pub mod Ending
 pub mod Answering
 pub mod Items
 pub mod Asking
-pub mod Readings

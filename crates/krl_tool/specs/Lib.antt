@@ -1,13 +1,3 @@
-pub mod Bytes
-pub mod KrlFault
-pub mod Krl
-pub mod Place
-pub mod Front
-pub mod Entry
-pub mod Walk
-pub mod Reading
-pub mod Sections
-pub mod Kept
 pub mod Escape
 pub mod FileFault
 pub mod Named

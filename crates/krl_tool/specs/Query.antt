@@ -1,13 +1,19 @@
 -- Asking a list about keys (ssh-keygen(1), KEY REVOCATION LISTS).
-use Rattle.std.specs.Prelude.{◌≡◌, ℕ, Bool, true, false, List, [], ◌∷◌, ◌++◌, map, None, Some, Result, Ok, Err, codes}
+use Rattle.std.specs.Prelude.{◌≡◌, ◌↔◌, ℕ, Bool, true, false, List, [], ◌∷◌, ◌++◌, None, Some, Result, Ok, Err, IsTrue, codes}
+use Rattle.krl_core.specs.Contents.{Contents, Means}
+use Rattle.krl_core.specs.Entries.{entries_of}
+use Rattle.krl_core.specs.Front.{IsFirstFault}
+use Rattle.krl_core.specs.Krl.{Section, Spells}
+use Rattle.krl_core.specs.Reading.{Says}
+use Rattle.krl_core.specs.Revoked.{Revoked}
+use Rattle.krl_core.specs.Tested.{revokes}
+use Rattle.krl_core.specs.declared.header.Header.{Header}
+use Rattle.krl_core.specs.declared.krl_fault.KrlFault.{KrlFault}
+use Rattle.krl_core.specs.declared.krl_fault.KrlFault.TheVariants.{NoMemory}
+use Rattle.ssh_cert.specs.Subject.{Subject}
 use Rattle.krl_tool.specs.declared.cause.Cause.{Cause}
 use Rattle.krl_tool.specs.declared.cause.Cause.TheVariants as causes
-use Rattle.krl_tool.specs.declared.krl_fault.KrlFault.{KrlFault}
-use Rattle.krl_tool.specs.declared.krl_fault.KrlFault.TheVariants.{NoMemory}
-use Rattle.krl_tool.specs.Entry.{Entry, KeyEntry, Revocations, entries_of, revoked}
 use Rattle.krl_tool.specs.Escape.{escaped}
-use Rattle.krl_tool.specs.Front.{IsFirstFault}
-use Rattle.krl_tool.specs.Krl.{Header, Section, Spells}
 use Rattle.krl_tool.specs.Run.{Answering, File, Item, Passed, Stopped, files_items}
 use Rattle.krl_tool.specs.Stop.{stop_of}
 
@@ -24,31 +30,35 @@ abbrev pub query_line : List ℕ → List ℕ → Bool → List ℕ
 query_line name comment is_revoked =
     escaped name ++ (comment_part comment ++ (verdict is_revoked ++ 10 ∷ []))
 
--- the answer for a key by what the entries name
-abbrev pub ask : List Entry → Answering
-ask entries name line asked key =
-    let is_revoked = revoked entries asked in
+-- the answer for a key by what is held of a list
+abbrev pub ask : Contents → Answering
+ask contents name line asked key =
+    let is_revoked = revokes contents asked in
     record { text = query_line name line.comment is_revoked; revoked = is_revoked }
 
--- what is kept of a list, as entries
-abbrev pub kept_entries : Revocations → List Entry
-kept_entries kept = map KeyEntry kept.keys
+-- The text is a list without a fault: a header and sections spell it, what is held means what the
+-- sections name, and the answers are just those of what they name.
+pub record IsHeld (text : List ℕ) (contents : Contents) : Type 0 where
+  pub header : Header
+  pub sections : List Section
+  pub spelled : Spells text header sections
+  pub no_fault : IsFirstFault text None
+  pub means : Means contents (entries_of sections)
+  pub answers : (asked : Subject)
+      → IsTrue (revokes contents asked) ↔ Revoked (entries_of sections) asked
 
--- What reading a list gives: the entries of its sections, or its first fault.
-abbrev pub IsRead : List ℕ → Result (List Entry) KrlFault → Type 0
-IsRead text (Err fault) = IsFirstFault text (Some fault)
-IsRead text (Ok entries) =
-    IsFirstFault text None
-    × ((header : Header) × (sections : List Section) × Spells text header sections
-    × (entries ≡ entries_of sections))
-
--- The list's first fault ends the run at once. Else nothing is said of the list, and each key of each
--- file gives one line, up to the first fault.
-unfoldable pub query_run_of : List ℕ → Result (List Entry) KrlFault → List File → List Item
-query_run_of name (Err fault) files = Stopped (stop_of name (causes.Krl fault)) ∷ []
-query_run_of name (Ok entries) files = Passed name ∷ files_items (ask entries) files
+-- What reading a list gives: what is held of it, or its fault, by whether its reader failed.
+abbrev pub IsRead : List ℕ → Bool → Result Contents KrlFault → Type 0
+IsRead text failed (Ok contents) = IsHeld text contents
+IsRead text failed (Err fault) = Says fault text failed
 
 -- Where memory runs out, it is for the run itself.
 abbrev pub krl_cause : KrlFault → Cause
 krl_cause NoMemory = causes.NoMemory
 krl_cause fault = causes.Krl fault
+
+-- The list's first fault ends the run at once. Else nothing is said of the list, and each key of
+-- each file gives one line, up to the first fault.
+unfoldable pub query_run_of : List ℕ → Result Contents KrlFault → List File → List Item
+query_run_of name (Err fault) files = Stopped (stop_of name (krl_cause fault)) ∷ []
+query_run_of name (Ok contents) files = Passed name ∷ files_items (ask contents) files

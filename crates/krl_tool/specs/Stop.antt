@@ -1,12 +1,12 @@
 -- Why a run stopped, and the line that tells it.
 use Rattle.std.specs.Prelude.{ℕ, Bool, true, false, List, [], ◌++◌, Option, Some, None, codes, decimal}
 use Rattle.ssh_key.specs.LineFault.{fault_number as line_fault_number, fault_text as line_fault_text}
+use Rattle.krl_core.specs.KrlFault.{fault_number as krl_fault_number, fault_text as krl_fault_text}
 use Rattle.ssh_cert.specs.SubjectFault.{subject_fault_number, subject_fault_text}
 use Rattle.krl_tool.specs.declared.cause.Cause.{Cause}
 use Rattle.krl_tool.specs.declared.cause.Cause.TheVariants.{File, Krl, Line, Subject, NoMemory, Output}
 use Rattle.krl_tool.specs.Escape.{escaped}
 use Rattle.krl_tool.specs.FileFault.{file_fault_number, file_fault_text}
-use Rattle.krl_tool.specs.KrlFault.{fault_number as krl_fault_number, fault_text as krl_fault_text}
 
 -- the name of what was being worked on, the number of its line where there is one, and why
 pub record Stop : Type 0 where

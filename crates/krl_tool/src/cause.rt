@@ -4,7 +4,7 @@ ghost use Rattle.std.specs.Prelude.{◌≡◌, Some};
 ghost use Rattle.krl_tool.specs.Stop.{cause_number, cause_text};
 
 use crate::file_fault::FileFault;
-use crate::krl_fault::KrlFault;
+use krl_core::KrlFault;
 use ssh_cert::SubjectFault;
 use ssh_key::LineFault;
 use std::fmt;

@@ -10,9 +10,7 @@ mod command;
 mod done;
 mod escape;
 mod file_fault;
-mod krl_fault;
 pub mod laws;
-mod list;
 mod listing;
 mod named;
 mod printer;
@@ -30,12 +28,16 @@ use crate::named::{Named, load};
 use crate::query::query_run;
 use crate::run_fault::{RunFault, fault_text};
 use ssh_wire::{FromRead, ToWrite, send};
-use std::io::{self, ErrorKind};
+use std::env;
+use std::fs::{self, File};
+use std::io::{self, BufReader, ErrorKind};
 use std::process::ExitCode;
-use std::{env, fs};
 
 /// The status of a command line that asks for nothing that the program does.
 const MISUSED: u8 = 2;
+
+/// How many bytes of a list are read ahead.
+const BUFFER: usize = 65_536;
 
 fn main(rt: HostRuntime) -> ExitCode {
     ExitCode::from(run(&rt))
@@ -84,10 +86,9 @@ fn list_keys(rt: &HostRuntime, job: &Job) -> u8 {
 
 /// `-Q`: asks the list about the keys of the files.
 fn ask_list(rt: &HostRuntime, job: &Job) -> u8 {
-    let krl = open(rt, job.file);
-    let text = match &krl.content {
-        Ok(text) => text.as_slice(),
-        Err(fault) => return end(rt, &failed(job.file, Cause::File(*fault))),
+    let krl = match open_list(rt, job.file) {
+        Ok(krl) => krl,
+        Err(cause) => return end(rt, &failed(job.file, cause)),
     };
     let mut files = Vec::new(rt.alloc());
     for name in &job.files {
@@ -99,12 +100,23 @@ fn ask_list(rt: &HostRuntime, job: &Job) -> u8 {
     let done = query_run(
         rt.alloc(),
         job.file,
-        text,
+        FromRead::new(krl),
         false,
         files.as_slice(),
         &mut out,
     );
     end(rt, &done)
+}
+
+/// The list of this name, behind a buffer: it is read a field at a time.
+fn open_list(rt: &HostRuntime, name: &str) -> Result<BufReader<File>, Cause> {
+    let Ok(file) = fs::open(rt, name) else {
+        return Err(Cause::File(FileFault::Open));
+    };
+    match BufReader::with_capacity(rt.alloc(), BUFFER, file) {
+        Ok(list) => Ok(list),
+        Err(_) => Err(Cause::NoMemory),
+    }
 }
 
 /// The file of this name.

@@ -1,35 +1,36 @@
 // Asking a list about the keys of files (ssh-keygen(1), KEY REVOCATION LISTS).
 
-ghost use Rattle.std.specs.Prelude.{◌≡◌, ◌++◌, IfOk, List, Result, OnOk, false};
-ghost use Rattle.krl_tool.specs.declared.krl_fault.KrlFault.{KrlFault as FaultOf};
+ghost use Rattle.std.specs.Prelude.{◌≡◌, ◌++◌, ℕ, Bool, IfOk, List, Result, OnOk, Some, false, true};
+ghost use Rattle.krl_core.specs.Contents.{Contents};
+ghost use Rattle.krl_core.specs.declared.krl_fault.KrlFault.{KrlFault as FaultOf};
 ghost use Rattle.krl_tool.specs.Carries.{Carries};
 ghost use Rattle.krl_tool.specs.Done.{Ends};
-ghost use Rattle.krl_tool.specs.Entry.{Entry, revoked};
-ghost use Rattle.krl_tool.specs.Query.{IsRead, ask, comment_part, kept_entries, krl_cause, query_line, query_run_of, verdict};
+ghost use Rattle.krl_tool.specs.Query.{IsRead, ask, comment_part, krl_cause, query_line, query_run_of, verdict};
 
 use crate::answer::{Answer, Answers};
 use crate::cause::Cause;
 use crate::done::Done;
 use crate::escape::push_escaped;
-use crate::krl_fault::KrlFault;
-use crate::list::{RevokedList, read_list};
 use crate::named::Named;
 use crate::printer::Printer;
 use crate::run_fault::RunFault;
 use crate::walk::print_files;
+use krl_core::laws::revokes_what_is_meant;
+use krl_core::{KrlFault, Revocations, read_krl};
+use serial_set::Held;
 use ssh_cert::Subject;
 use ssh_key::{Line, PublicKey};
-use ssh_wire::{Bytes, Sink};
+use ssh_wire::{Bytes, Sink, Source};
 use std::alloc::{AllocError, Global};
 
 /// Says of each key whether a list revokes it.
 #[derive(Drop)]
-struct Query<'q, 'l> {
-    list: &'q RevokedList<'l>,
+struct Query<'q> {
+    list: &'q Revocations<Held>,
 }
 
-impl<'q, 'l> Answers for Query<'q, 'l> {
-    ghost answer_to = { λ query. ask (kept_entries query.list.now) };
+impl<'q> Answers for Query<'q> {
+    ghost answer_to = { λ query. ask query.list.now };
 
     fn answer(
         &self,
@@ -39,22 +40,9 @@ impl<'q, 'l> Answers for Query<'q, 'l> {
         asked: &Subject,
         _key: &PublicKey,
     ) -> Result<Answer, AllocError> {
-        let revoked = is_revoked(self.list, asked);
+        let revoked = self.list.query(asked);
         let text = query_line(alloc, name, line.comment, revoked)?;
         Ok(Answer { text, revoked })
-    }
-}
-
-/// Whether a list revokes a key, or a certificate: by its plain key or by the key of its authority.
-fn is_revoked(list: &RevokedList, asked: &Subject) -> bool
-    ensures { result ≡ revoked (kept_entries list.now) asked.now }
-{
-    if list.names_key(asked.plain.as_slice()) {
-        return true;
-    }
-    match &asked.cert {
-        Some(cert) => list.names_key(cert.authority),
-        None => false,
     }
 }
 
@@ -87,19 +75,23 @@ fn push_comment(text: &mut Vec<u8>, comment: &[u8]) -> Result<(), AllocError>
     Ok(())
 }
 
-/// Asks a list about each key of each file, and says of each in a line whether it is revoked. The
-/// list's contents are not printed: `dump` is false.
-pub fn query_run<'a, W: Sink>(
+/// Reads a list, asks it about each key of each file, and says of each in a line whether it is
+/// revoked. The list's contents are not printed: `dump` is false.
+pub fn query_run<'a, R: Source + Drop, W: Sink>(
     alloc: Global,
     krl_name: &'a str,
-    krl: &[u8],
+    krl: R,
     dump: bool,
     files: &'a [Named<'a>],
     out: &mut W,
 ) -> Done<'a>
+    requires fresh { R.has_failed krl ≡ false }
     requires working { W.has_failed out.old ≡ false }
     requires no_dump { dump ≡ false }
-    ensures { (reading : Result (List Entry) FaultOf) × IsRead krl.now reading
+    // Whether the reader failed, which is not said where it did not.
+    ensures { (reading : Result Contents FaultOf) × (failed : Bool)
+        × (failed ≡ true → (last : R) × (R.has_failed last ≡ true))
+        × ((text : List ℕ) → R.left krl ≡ Some text → IsRead text failed reading)
         × Ends (query_run_of krl_name.now reading files.now) (W.taken out.old) (W.taken out.new)
         (W.has_failed out.new) result.status result.fault }
 {
@@ -112,20 +104,24 @@ pub fn query_run<'a, W: Sink>(
     done
 }
 
-/// Asks a list about each key of each file.
-fn ask_list<'a, W: Sink>(
+/// Reads a list and asks it about each key of each file.
+fn ask_list<'a, R: Source + Drop, W: Sink>(
     alloc: Global,
     krl_name: &'a str,
-    krl: &[u8],
+    krl: R,
     files: &'a [Named<'a>],
     printer: &mut Printer<W>,
 ) -> Result<(), RunFault<'a>>
-    requires { printer.old.failed ≡ false }
-    ensures { (reading : Result (List Entry) FaultOf) × IsRead krl.now reading
+    requires fresh { R.has_failed krl ≡ false }
+    requires working { printer.old.failed ≡ false }
+    ensures { (reading : Result Contents FaultOf) × (failed : Bool)
+        × (failed ≡ true → (last : R) × (R.has_failed last ≡ true))
+        × ((text : List ℕ) → R.left krl ≡ Some text → IsRead text failed reading)
         × Carries (query_run_of krl_name.now reading files.now) result printer.old printer.new }
 {
-    match read_list(alloc, krl) {
-        Ok(list) => print_files(alloc, &Query { list: &list }, files, printer),
+    revokes_what_is_meant();
+    match read_krl::<Held, R>(alloc, krl) {
+        Ok((_, list)) => print_files(alloc, &Query { list: &list }, files, printer),
         Err(fault) => Err(RunFault::whole(krl_name, cause_of(fault))),
     }
 }

@@ -1,5 +1,4 @@
-// What no clause says: the rows of the format's worked examples, and a plain, slow program beside
-// the reader.
+// What no clause says: the rows of the format's worked examples.
 
 mod asking;
 mod bytes;
@@ -10,7 +9,5 @@ mod devices;
 mod encoding;
 mod faults;
 mod key_files;
-mod list;
-mod plain;
 mod runs;
 mod words;

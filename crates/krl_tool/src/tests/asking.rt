@@ -15,7 +15,7 @@ type Row<'a> = (&'a [&'a [u8]], &'a [File<'a>], &'a str, u8, &'a str);
 
 const ONE: &[&[u8]] = &[&HEADER, &ONE_KEY, &GITHUB];
 
-const ROWS: [Row<'static>; 12] = [
+const ROWS: [Row<'static>; 15] = [
     (&[&HEADER], &[FILE], "g.pub: ok\n", 0, ""),
     (ONE, &[FILE], "g.pub: REVOKED\n", 1, ""),
     (ONE, &[OTHER], "a (x y): ok\n", 0, ""),
@@ -63,6 +63,35 @@ const ROWS: [Row<'static>; 12] = [
         "",
         255,
         "ssh-keygen: r.krl: krl 4 UnknownSection",
+    ),
+    // a serial under all authorities, a critical extension, and a range that ends before it begins
+    (
+        &[
+            &HEADER,
+            b"\x01\0\0\0\x15\0\0\0\0\0\0\0\0\x20\0\0\0\x08\0\0\0\0\0\0\0\x07",
+        ],
+        &[FILE],
+        "g.pub: ok\n",
+        0,
+        "",
+    ),
+    (
+        &[&HEADER, b"\xff\0\0\0\x0a\0\0\0\x01a\x01\0\0\0\0"],
+        &[FILE],
+        "",
+        255,
+        "ssh-keygen: r.krl: krl 15 CriticalExtension",
+    ),
+    (
+        &[
+            &HEADER,
+            b"\x01\0\0\0\x1d\0\0\0\0\0\0\0\0\x21\0\0\0\x10",
+            b"\0\0\0\0\0\0\0\x02\0\0\0\0\0\0\0\x01",
+        ],
+        &[FILE],
+        "",
+        255,
+        "ssh-keygen: r.krl: krl 7 RangeReversed",
     ),
 ];
 

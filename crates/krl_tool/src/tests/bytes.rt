@@ -18,12 +18,6 @@ pub const GITHUB: [u8; 51] = [
 /// What stands before the blob of a section with one key of 51 bytes.
 pub const ONE_KEY: [u8; 9] = [2, 0, 0, 0, 0x37, 0, 0, 0, 0x33];
 
-/// Three sections: keys `abc` and `de`; none; one empty key.
-pub const SHORT_KEYS: [u8; 32] = [
-    2, 0, 0, 0, 13, 0, 0, 0, 3, 0x61, 0x62, 0x63, 0, 0, 0, 2, 0x64, 0x65, 2, 0, 0, 0, 0, 2, 0, 0,
-    0, 4, 0, 0, 0, 0,
-];
-
 /// The parts one after the other.
 pub fn joined(alloc: Global, parts: &[&[u8]]) -> Result<Vec<u8>, AllocError> {
     let mut all = Vec::new(alloc);

@@ -1,8 +1,8 @@
 // Certificates in the files of the runs.
 
-use crate::tests::bytes::{GITHUB, HEADER, ONE_KEY, even_key, joined, list_of_one};
+use crate::tests::bytes::{GITHUB, HEADER, even_key, joined, list_of_one};
 use crate::tests::encoding::{base64, strings};
-use crate::tests::runs::{GITHUB_LINE, asked, listed};
+use crate::tests::runs::{GITHUB_LINE, Ran, asked, listed};
 use ssh_key::Hash;
 use std::alloc::Global;
 use std::test::*;
@@ -27,9 +27,14 @@ fn certificate(
     let options_and_authority = strings(alloc, &[b"", b"", b"", authority])?;
     let signed = strings(alloc, &[&signature])?;
     let number = serial.to_be_bytes();
+    let public = if key.len() < FIELD {
+        key
+    } else {
+        &key[FIELD..]
+    };
     let parts: [&[u8]; 9] = [
         &name_and_nonce,
-        &key[FIELD..],
+        public,
         &number,
         &[0, 0, 0, 1],
         &id_and_principals,
@@ -44,6 +49,20 @@ fn certificate(
 fn line_of(alloc: Global, blob: &[u8]) -> Result<Vec<u8>, Fail> {
     let encoded = base64(alloc, blob)?;
     Ok(joined(alloc, &[NAME, b" ", &encoded, b"\n"])?)
+}
+
+/// What is said of a file of key lines by this list.
+fn asked_about(alloc: Global, list: &[u8], file: &[u8]) -> Result<Ran, Fail> {
+    Ok(asked(alloc, list, &[("f", Some(&[file]))])?)
+}
+
+/// A list of one explicit key.
+fn list_of(alloc: Global, key: &[u8]) -> Result<Vec<u8>, Fail> {
+    if key.len() == 51 {
+        Ok(list_of_one(alloc, key)?)
+    } else {
+        Ok(joined(alloc, &[&HEADER, &[2, 0, 0, 1, 15, 0, 0, 1, 11], key])?)
+    }
 }
 
 #[test]
@@ -74,12 +93,8 @@ fn asked_by_its_keys(rt: HostRuntime) -> Result<(), Fail> {
         (&blob, "f: ok\nf: ok\n", 0),
     ];
     for (i, (key, text, status)) in rows.iter().enumerate() {
-        let list = if key.len() == 51 {
-            list_of_one(rt.alloc(), *key)?
-        } else {
-            joined(rt.alloc(), &[&HEADER, &[2, 0, 0, 1, 15, 0, 0, 1, 11], *key])?
-        };
-        let ran = asked(rt.alloc(), &list, &[("f", Some(&[&file]))])?;
+        let list = list_of(rt.alloc(), key)?;
+        let ran = asked_about(rt.alloc(), &list, &file)?;
         assert_eq!(rt; ran.text.as_slice(), text.as_bytes(), "in row {i}");
         assert_eq!(rt; ran.status, *status, "in row {i}");
         assert!(rt; ran.fault.is_empty(), "in row {i}");
@@ -88,39 +103,40 @@ fn asked_by_its_keys(rt: HostRuntime) -> Result<(), Fail> {
 }
 
 #[test]
-fn refused(rt: HostRuntime) -> Result<(), Fail> {
+fn asked_by_its_names(rt: HostRuntime) -> Result<(), Fail> {
     let authority = even_key(rt.alloc(), 0x11)?;
     let blob = certificate(rt.alloc(), &GITHUB, &authority, 7, b"a")?;
-    let longer = joined(rt.alloc(), &[&blob, b"\0"])?;
-    let rows: [(&[u8], &str); 3] = [
+    let line = line_of(rt.alloc(), &blob)?;
+    let file = joined(rt.alloc(), &[&line, GITHUB_LINE])?;
+    // a serial or a key ID under all authorities, and what is said of the certificate
+    let rows: [(&[u8], &str, u8); 4] = [
         (
-            &blob[..266],
-            "ssh-keygen: f: line 2: subject 2 Cert, cert 1 Wire",
+            b"\x15\0\0\0\0\0\0\0\0\x20\0\0\0\x08\0\0\0\0\0\0\0\x07",
+            "f: REVOKED\nf: ok\n",
+            1,
         ),
         (
-            &blob[..75],
-            "ssh-keygen: f: line 2: subject 2 Cert, cert 3 Key, key 1 Wire, wire 1 Short",
+            b"\x15\0\0\0\0\0\0\0\0\x20\0\0\0\x08\0\0\0\0\0\0\0\x08",
+            "f: ok\nf: ok\n",
+            0,
         ),
         (
-            &longer,
-            "ssh-keygen: f: line 2: subject 2 Cert, cert 9 Trailing",
+            b"\x12\0\0\0\0\0\0\0\0\x23\0\0\0\x05\0\0\0\x01a",
+            "f: REVOKED\nf: ok\n",
+            1,
+        ),
+        (
+            b"\x12\0\0\0\0\0\0\0\0\x23\0\0\0\x05\0\0\0\x01b",
+            "f: ok\nf: ok\n",
+            0,
         ),
     ];
-    let list = joined(rt.alloc(), &[&HEADER, &ONE_KEY, &GITHUB])?;
-    for (i, (blob, fault)) in rows.iter().enumerate() {
-        let line = line_of(rt.alloc(), *blob)?;
-        let ran = asked(
-            rt.alloc(),
-            &list,
-            &[("f", Some(&[GITHUB_LINE, b"\n", &line]))],
-        )?;
-        assert_eq!(rt;
-            ran.text.as_slice(),
-            b"f: REVOKED\n".as_slice(),
-            "in row {i}"
-        );
-        assert_eq!(rt; ran.status, 255, "in row {i}");
-        assert_eq!(rt; ran.fault.as_slice(), fault.as_bytes(), "in row {i}");
+    for (i, (section, text, status)) in rows.iter().enumerate() {
+        let list = joined(rt.alloc(), &[&HEADER, b"\x01\0\0\0", *section])?;
+        let ran = asked_about(rt.alloc(), &list, &file)?;
+        assert_eq!(rt; ran.text.as_slice(), text.as_bytes(), "in row {i}");
+        assert_eq!(rt; ran.status, *status, "in row {i}");
+        assert!(rt; ran.fault.is_empty(), "in row {i}");
     }
     Ok(())
 }

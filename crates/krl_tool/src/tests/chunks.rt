@@ -8,7 +8,7 @@ use crate::tests::bytes::{GITHUB, list_of_one, repeated};
 use crate::tests::devices::Taker;
 use crate::tests::runs::{GITHUB_LINE, Ran, told};
 use ssh_key::Hash;
-use ssh_wire::{Bytes, ToWrite};
+use ssh_wire::{Bytes, FromRead, ToWrite};
 use std::alloc::{AllocError, Global};
 use std::test::*;
 
@@ -36,7 +36,8 @@ fn asked_often(alloc: Global, writes_before_failure: usize) -> Result<Ran, Alloc
     let mut device = Taker::new(alloc, 1_000_000, writes_before_failure);
     let mut out = ToWrite::new(&mut device);
     let files = [often, closed];
-    let done = query_run(alloc, "r.krl", &list, false, &files, &mut out);
+    let krl = FromRead::new(list.as_slice());
+    let done = query_run(alloc, "r.krl", krl, false, &files, &mut out);
     drop(out);
     told(alloc, device.taken, &done)
 }

@@ -118,6 +118,45 @@ fn loads_up_to_the_limit(rt: HostRuntime) -> Result<(), Fail> {
 }
 
 #[test]
+fn the_list_fails(rt: HostRuntime) -> Result<(), Fail> {
+    let list = list_of_one(rt.alloc(), &GITHUB)?;
+    let file = named(rt.alloc(), &("g.pub", Some(&[GITHUB_LINE])))?;
+    let files = [file];
+    let read = "ssh-keygen: r.krl: krl 13 Read";
+    let magic = "ssh-keygen: r.krl: krl 1 Magic";
+    // where the first byte is another, how many calls come before the failure, what is said, the
+    // status and the fault: the last call gives no byte, since the list is at its end
+    let rows: [(usize, usize, &str, u8, &str); 6] = [
+        (200, 0, "", 255, read),
+        (200, 44, "", 255, read),
+        (200, 104, "", 255, read),
+        (200, 105, "g.pub: REVOKED\n", 1, ""),
+        (0, 7, "", 255, read),
+        (0, 8, "", 255, magic),
+    ];
+    for (place, calls_before_failure, text, status, fault) in rows {
+        let mut bytes = Vec::from_slice(rt.alloc(), &list)?;
+        if let Some(byte) = bytes.get_mut(place) {
+            *byte = 0;
+        }
+        let krl = FromRead::new(Giver {
+            bytes: &bytes,
+            piece: 1,
+            calls_before_failure,
+        });
+        let mut device = Taker::new(rt.alloc(), 100, 10);
+        let mut out = ToWrite::new(&mut device);
+        let done = query_run(rt.alloc(), "r.krl", krl, false, &files, &mut out);
+        drop(out);
+        let ran = told(rt.alloc(), device.taken, &done)?;
+        assert_eq!(rt; ran.text.as_slice(), text.as_bytes());
+        assert_eq!(rt; ran.status, status);
+        assert_eq!(rt; ran.fault.as_slice(), fault.as_bytes());
+    }
+    Ok(())
+}
+
+#[test]
 fn the_output_fails(rt: HostRuntime) -> Result<(), Fail> {
     let list = list_of_one(rt.alloc(), &GITHUB)?;
     let full = "ssh-keygen: output: output 1 Write after ";
@@ -139,7 +178,8 @@ fn the_output_fails(rt: HostRuntime) -> Result<(), Fail> {
         let asked = &files[..if is_closed { 2 } else { 1 }];
         let mut device = Taker::new(rt.alloc(), 3, calls);
         let mut out = ToWrite::new(&mut device);
-        let done = query_run(rt.alloc(), "r.krl", &list, false, asked, &mut out);
+        let krl = FromRead::new(list.as_slice());
+        let done = query_run(rt.alloc(), "r.krl", krl, false, asked, &mut out);
         drop(out);
         let ran = told(rt.alloc(), device.taken, &done)?;
         assert_eq!(rt; ran.text.as_slice(), text.as_bytes(), "at {calls}");

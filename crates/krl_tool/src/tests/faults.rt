@@ -2,8 +2,8 @@
 
 use crate::cause::Cause;
 use crate::file_fault::FileFault;
-use crate::krl_fault::KrlFault;
 use crate::run_fault::{RunFault, fault_text};
+use krl_core::KrlFault;
 use ssh_cert::{CertFault, SubjectFault};
 use ssh_key::{KeyFault, LineFault};
 use ssh_wire::WireFault;

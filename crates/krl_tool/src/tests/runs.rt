@@ -8,7 +8,7 @@ use crate::query::query_run;
 use crate::run_fault::fault_text;
 use crate::tests::bytes::joined;
 use ssh_key::Hash;
-use ssh_wire::{Bytes, ToWrite};
+use ssh_wire::{Bytes, FromRead, ToWrite};
 use std::alloc::{AllocError, Global};
 
 /// The line of GitHub's published Ed25519 host key.
@@ -65,7 +65,7 @@ pub fn asked(alloc: Global, krl: &[u8], files: &[File]) -> Result<Ran, AllocErro
 pub fn asked_of<'a>(alloc: Global, krl: &[u8], files: &'a [Named<'a>]) -> Result<Ran, AllocError> {
     let mut text = Vec::new(alloc);
     let mut out = ToWrite::new(&mut text);
-    let done = query_run(alloc, "r.krl", krl, false, files, &mut out);
+    let done = query_run(alloc, "r.krl", FromRead::new(krl), false, files, &mut out);
     drop(out);
     told(alloc, text, &done)
 }
