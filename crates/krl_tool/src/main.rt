@@ -4,29 +4,12 @@
 ghost use Rattle.std.specs.Prelude.{◌≡◌, None, Some};
 ghost use Rattle.krl_tool.specs.Command.{command_fault_status};
 
-mod answer;
-mod cause;
 mod command;
-mod done;
-mod escape;
-mod file_fault;
-pub mod laws;
-mod listing;
-mod named;
-mod printer;
-mod query;
-mod run_fault;
-mod split;
-mod walk;
 
-use crate::cause::Cause;
 use crate::command::{CommandFault, Job, Mode, command_of};
-use crate::done::{Done, FAILED};
-use crate::file_fault::FileFault;
-use crate::listing::list_run;
-use crate::named::{Named, load};
-use crate::query::query_run;
-use crate::run_fault::{RunFault, fault_text};
+use krl_runs::{
+    Cause, Done, FAILED, FileFault, Named, RunFault, fault_text, list_run, load, query_run,
+};
 use ssh_wire::{FromRead, ToWrite, send};
 use std::env;
 use std::fs::{self, File};

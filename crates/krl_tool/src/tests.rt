@@ -1,13 +1,3 @@
-// What no clause says: the rows of the format's worked examples.
+// Which words give which command.
 
-mod asking;
-mod bytes;
-mod certificates;
-mod chunks;
-mod describing;
-mod devices;
-mod encoding;
-mod faults;
-mod key_files;
-mod runs;
 mod words;

@@ -1,0 +1,219 @@
+-- Answering for the lines of a text, and for files, one after the other.
+use Rattle.std.proofs.Common.{◌≡◌, ℕ, ◌+◌, ◌<◌, ◌||◌, Bool, true, false, List, [], ◌∷◌, ◌++◌, length, take, drop, get_or, Option, None, Some, Result, Ok, Err, refl, sym, ap, subst, ◌∙◌, append_assoc}
+use Rattle.std.specs.Prelude.{is_some}
+use Rattle.std.specs.Option.{option_to_list}
+use Rattle.std.proofs.lemmas.List.{append-nil, take_more, take-append-drop}
+use Rattle.std.proofs.lemmas.List.Concat.{flat_map-append}
+use Rattle.krl_runs.specs.declared.output.cause.Cause.TheVariants.{File, NoMemory, Subject as Subjects}
+use Rattle.ssh_cert.specs.Subject.{Subject}
+use Rattle.ssh_cert.specs.SubjectReading.{subject_of}
+use Rattle.ssh_cert.specs.declared.subject_fault.SubjectFault.{SubjectFault}
+use Rattle.ssh_cert.specs.declared.subject_fault.SubjectFault.TheVariants.{Key as KeyFaults}
+use Rattle.krl_runs.specs.declared.input.file_fault.FileFault.TheVariants.{NoKeys}
+use Rattle.ssh_key.specs.KeyFile.{has_key}
+use Rattle.ssh_key.specs.Key.{Key}
+use Rattle.ssh_key.specs.KeyReading.{key_at}
+use Rattle.ssh_key.specs.LineReading.{Content, line_at}
+use Rattle.ssh_key.specs.declared.fault.KeyFault.{KeyFault}
+use Rattle.ssh_key.specs.declared.line_fault.LineFault.{LineFault}
+use Rattle.krl_runs.specs.Carries.{Carries}
+use Rattle.krl_runs.specs.Printer.{Printed}
+use Rattle.krl_runs.specs.Run.{File as FileOf, Item, Answered, Answering, Stopped, IsWithheld, name_of, content_item, key_item, stop_at, subject_item, file_items, files_items, item_of, line_items, or_no_keys}
+use Rattle.krl_runs.specs.Stop.{Stop, ByMemory, ender_of, stop_of}
+use Rattle.krl_runs.proofs.Carrying.{carries_more, carries_none, carries_then, carries_withheld, no_item}
+
+-- ---- a line
+
+key_item-name : (answer : Answering) (name : List ℕ) (number : ℕ) (content : Content) (asked : Subject) (key : Result Key KeyFault) → name_of (key_item answer name number content asked key) ≡ name
+key_item-name answer name number content asked (Ok key) = refl
+key_item-name answer name number content asked (Err fault) = refl
+
+subject_item-name : (answer : Answering) (name : List ℕ) (number : ℕ) (content : Content) (read : Result Subject SubjectFault) → name_of (subject_item answer name number content read) ≡ name
+subject_item-name answer name number content (Ok asked) = key_item-name answer name number content asked (key_at asked.plain)
+subject_item-name answer name number content (Err fault) = refl
+
+content_item-name : (answer : Answering) (name : List ℕ) (number : ℕ) (read : Result Content LineFault) → name_of (content_item answer name number read) ≡ name
+content_item-name answer name number (Ok content) = subject_item-name answer name number content (subject_of content.blob)
+content_item-name answer name number (Err fault) = refl
+
+-- memory ran out before a line was answered
+pub starved : (answer : Answering) (name : List ℕ) (number : ℕ) (line : List ℕ) → has_key line ≡ true → IsWithheld ByMemory (item_of answer name number line) name (stop_of name NoMemory)
+unfolding item_of
+starved answer name number line has = rw has (refl, (content_item answer name number (line_at line), refl, content_item-name answer name number (line_at line)))
+
+-- or before a blob was answered
+pub blob_starved : (answer : Answering) (name : List ℕ) (number : ℕ) (content : Content) (read : Result Subject SubjectFault) → IsWithheld ByMemory (Some (subject_item answer name number content read)) name (stop_of name NoMemory)
+blob_starved answer name number content read = (refl, (subject_item answer name number content read, refl, subject_item-name answer name number content read))
+
+-- a blob was answered
+pub blob_answered : (answer : Answering) (name : List ℕ) (number : ℕ) (content : Content) (asked : Subject) (key : Key) → subject_of content.blob ≡ Ok asked → key_at asked.plain ≡ Ok key
+    → subject_item answer name number content (subject_of content.blob) ≡ Answered name (answer name content asked key)
+blob_answered answer name number content asked key is_asked is_key = ap (subject_item answer name number content) is_asked ∙ ap (key_item answer name number content asked) is_key
+
+-- a blob has a first fault
+pub blob_refused : (answer : Answering) (name : List ℕ) (number : ℕ) (content : Content) (fault : SubjectFault) → subject_of content.blob ≡ Err fault
+    → subject_item answer name number content (subject_of content.blob) ≡ Stopped (stop_at name number (Subjects fault))
+blob_refused answer name number content fault is_fault = ap (subject_item answer name number content) is_fault
+
+pub key_refused : (answer : Answering) (name : List ℕ) (number : ℕ) (content : Content) (asked : Subject) (fault : KeyFault) → subject_of content.blob ≡ Ok asked → key_at asked.plain ≡ Err fault
+    → subject_item answer name number content (subject_of content.blob) ≡ Stopped (stop_at name number (Subjects (KeyFaults fault)))
+key_refused answer name number content asked fault is_asked is_fault = ap (subject_item answer name number content) is_asked ∙ ap (key_item answer name number content asked) is_fault
+
+-- the item of a line is that of what it holds
+pub line_item : (answer : Answering) (name : List ℕ) (number : ℕ) (line : List ℕ) (content : Content) → has_key line ≡ true → line_at line ≡ Ok content
+    → item_of answer name number line ≡ Some (subject_item answer name number content (subject_of content.blob))
+unfolding item_of
+line_item answer name number line content has is_line = rw has (ap Some (ap (content_item answer name number) is_line))
+
+-- ---- the lines of a text
+
+abbrev pub is_any : List Item → Bool
+is_any [] = false
+is_any (item ∷ items) = true
+
+is_any-append : (items : List Item) (item : Option Item) → is_any items || is_some item ≡ is_any (items ++ option_to_list item)
+is_any-append [] None = refl
+is_any-append [] (Some item) = refl
+is_any-append (first ∷ items) item = refl
+
+-- All the items are those that were said so far and then those of the lines that are left, of which the
+-- first has this number.
+pub record IsReached (answer : Answering) (name : List ℕ) (items : List Item) (number : ℕ) (lines : List (List ℕ)) (found : Bool) (old now : Printed) : Type 0 where
+  pub done : List Item
+  pub parts : items ≡ done ++ line_items answer name number lines
+  pub carried : Carries done (Ok (tt {0})) old now
+  pub any : found ≡ is_any done
+
+pub none_reached : (answer : Answering) (name : List ℕ) (lines : List (List ℕ)) (now : Printed) → now.failed ≡ false → IsReached answer name (line_items answer name 1 lines) 1 lines false now now
+none_reached answer name lines now working = record { done = []; parts = refl; carried = carries_none tt now working; any = refl }
+
+-- the item of the next line stands after what was said
+parts_next : (answer : Answering) (name : List ℕ) (items : List Item) (number : ℕ) (line : List ℕ) (lines : List (List ℕ)) (found : Bool) (old now : Printed)
+    → (reached : IsReached answer name items number (line ∷ lines) found old now)
+    → items ≡ (reached.done ++ option_to_list (item_of answer name number line)) ++ line_items answer name (number + 1) lines
+parts_next answer name items number line lines found old now reached =
+    reached.parts ∙ sym (append_assoc reached.done (option_to_list (item_of answer name number line)) (line_items answer name (number + 1) lines))
+
+one_reached : (answer : Answering) (name : List ℕ) (items : List Item) (number : ℕ) (line : List ℕ) (lines : List (List ℕ)) (found : Bool) (old now new : Printed)
+    → IsReached answer name items number (line ∷ lines) found old now
+    → Carries (option_to_list (item_of answer name number line)) (Ok (tt {0})) now new
+    → IsReached answer name items (number + 1) lines (found || is_some (item_of answer name number line)) old new
+one_reached answer name items number line lines found old now new reached carries = record {
+  done = reached.done ++ option_to_list (item_of answer name number line);
+  parts = parts_next answer name items number line lines found old now reached;
+  carried = carries_then reached.done (option_to_list (item_of answer name number line)) tt (Ok tt) old now new reached.carried carries;
+  any = ap (λ (b : Bool). b || is_some (item_of answer name number line)) reached.any ∙ is_any-append reached.done (item_of answer name number line);
+}
+
+or_true : (b : Bool) → b || true ≡ true
+or_true true = refl
+or_true false = refl
+
+or_false : (b : Bool) → b || false ≡ b
+or_false true = refl
+or_false false = refl
+
+-- the next line has no key
+pub line_passed : (answer : Answering) (name : List ℕ) (items : List Item) (number : ℕ) (line : List ℕ) (lines : List (List ℕ)) (found : Bool) (old now : Printed)
+    → IsReached answer name items number (line ∷ lines) found old now → item_of answer name number line ≡ None
+    → IsReached answer name items (number + 1) lines found old now
+line_passed answer name items number line lines found old now reached none =
+    let carries : Carries (option_to_list (item_of answer name number line)) (Ok (tt {0})) now now = rw none (carries_none tt now reached.carried.failed) in
+    let next = one_reached answer name items number line lines found old now now reached carries in
+    let same : found || is_some (item_of answer name number line) ≡ found = ap (λ (item : Option Item). found || is_some item) none ∙ or_false found in
+    subst (λ (b : Bool). IsReached answer name items (number + 1) lines b old now) same next
+
+-- the next line is answered
+pub line_answered : (answer : Answering) (name : List ℕ) (items : List Item) (number : ℕ) (line : List ℕ) (lines : List (List ℕ)) (found : Bool) (item : Item) (old now new : Printed)
+    → IsReached answer name items number (line ∷ lines) found old now → item_of answer name number line ≡ Some item → Carries (item ∷ []) (Ok (tt {0})) now new
+    → IsReached answer name items (number + 1) lines true old new
+line_answered answer name items number line lines found item old now new reached is_item carries =
+    let carried : Carries (option_to_list (item_of answer name number line)) (Ok (tt {0})) now new = rw is_item carries in
+    let next = one_reached answer name items number line lines found old now new reached carried in
+    let same : found || is_some (item_of answer name number line) ≡ true = ap (λ (i : Option Item). found || is_some i) is_item ∙ or_true found in
+    subst (λ (b : Bool). IsReached answer name items (number + 1) lines b old new) same next
+
+-- where a line has a key, the file's items are those of its lines
+or_no_keys-any : (name : List ℕ) (items : List Item) → is_any items ≡ true → or_no_keys name items ≡ items
+or_no_keys-any name [] any = absurd cc
+or_no_keys-any name (item ∷ items) any = refl
+
+is_any-front : (front later : List Item) → is_any front ≡ true → is_any (front ++ later) ≡ true
+is_any-front [] later any = absurd cc
+is_any-front (item ∷ front) later any = refl
+
+is_any-last : (front : List Item) (item : Item) → is_any (front ++ item ∷ []) ≡ true
+is_any-last [] item = refl
+is_any-last (first ∷ front) item = refl
+
+-- the next line stopped the run
+pub line_stops : {A B : Type 0} (answer : Answering) (name : List ℕ) (items : List Item) (number : ℕ) (line : List ℕ) (lines : List (List ℕ)) (found : Bool) (item : Item) (stop : Stop) (old now new : Printed)
+    → IsReached answer name items number (line ∷ lines) found old now → item_of answer name number line ≡ Some item → Carries {A = A} (item ∷ []) (Err stop) now new
+    → Carries {A = B} (or_no_keys name items) (Err stop) old new
+line_stops {A} {B} answer name items number line lines found item stop old now new reached is_item carries =
+    let later = line_items answer name (number + 1) lines in
+    let parts : items ≡ (reached.done ++ item ∷ []) ++ later = parts_next answer name items number line lines found old now reached ∙ ap (λ (i : Option Item). (reached.done ++ option_to_list i) ++ later) is_item in
+    let all : is_any items ≡ true = ap is_any parts ∙ is_any-front (reached.done ++ item ∷ []) later (is_any-last reached.done item) in
+    let whole = or_no_keys-any name items all ∙ parts in
+    let front = carries_then {B = A} reached.done (item ∷ []) tt (Err stop) old now new reached.carried carries in
+    subst (λ (xs : List Item). Carries {A = B} xs (Err stop) old new) (sym whole) (carries_more {A = A} {B = B} (reached.done ++ item ∷ []) later stop old new front)
+
+-- the item of the next line was not given
+pub line_withheld : {B : Type 0} (answer : Answering) (name : List ℕ) (items : List Item) (number : ℕ) (line : List ℕ) (lines : List (List ℕ)) (found : Bool) (stop : Stop) (old now : Printed)
+    → IsReached answer name items number (line ∷ lines) found old now → IsWithheld (ender_of stop.cause) (item_of answer name number line) name stop
+    → Carries {A = B} (or_no_keys name items) (Err stop) old now
+line_withheld {B} answer name items number line lines found stop old now reached withheld =
+    of_item (item_of answer name number line) refl withheld
+  where
+    of_item : (item : Option Item) → item_of answer name number line ≡ item → IsWithheld (ender_of stop.cause) item name stop → Carries {A = B} (or_no_keys name items) (Err stop) old now
+    of_item None same held = absurd (no_item (ender_of stop.cause) name stop held)
+    of_item (Some item) same held =
+        line_stops {A = B} answer name items number line lines found item stop old now now reached same (carries_withheld (Some item) name stop now reached.carried.failed held)
+
+-- all lines are answered, and one has a key
+pub text_ends : (answer : Answering) (name : List ℕ) (items : List Item) (number : ℕ) (found : Bool) (old now : Printed) → IsReached answer name items number [] found old now → found ≡ true
+    → Carries (or_no_keys name items) (Ok (tt {0})) old now
+text_ends answer name items number found old now reached is_found =
+    let whole : items ≡ reached.done = reached.parts ∙ append-nil reached.done in
+    rw whole (rw (or_no_keys-any name reached.done (sym reached.any ∙ is_found)) reached.carried)
+
+-- none has a key
+pub text_has_none : {A : Type 0} (answer : Answering) (name : List ℕ) (items : List Item) (number : ℕ) (found : Bool) (old now : Printed) → IsReached answer name items number [] found old now → found ≡ false
+    → Carries {A = A} (or_no_keys name items) (Err (stop_of name (File NoKeys))) old now
+text_has_none {A} answer name items number found old now reached not_found =
+    let whole : items ≡ reached.done = reached.parts ∙ append-nil reached.done in
+    rw whole (none reached.done (sym reached.any ∙ not_found) reached.carried)
+  where
+    none : (done : List Item) → is_any done ≡ false → Carries done (Ok (tt {0})) old now → Carries {A = A} (or_no_keys name done) (Err (stop_of name (File NoKeys))) old now
+    none (item ∷ done) any carried = absurd cc
+    none [] any carried =
+        carries_then [] (Stopped (stop_of name (File NoKeys)) ∷ []) tt (Err (stop_of name (File NoKeys))) old now now carried
+        (carries_withheld (Some (Stopped (stop_of name (File NoKeys)))) name (stop_of name (File NoKeys)) now carried.failed refl)
+
+-- ---- files
+
+pub none_answered : (answer : Answering) (now : Printed) → now.failed ≡ false → Carries (files_items answer []) (Ok (tt {0})) now now
+unfolding files_items
+none_answered answer now working = carries_none tt now working
+
+files_items-take : (answer : Answering) (files : List FileOf) (i : ℕ) (file : FileOf) → i < length files → file ≡ get_or files i file → files_items answer (take (i + 1) files) ≡ files_items answer (take i files) ++ file_items answer file
+unfolding files_items
+files_items-take answer files i file lt item =
+    let more : take (i + 1) files ≡ take i files ++ file ∷ [] = take_more files i file lt ∙ ap (λ (x : FileOf). take i files ++ x ∷ []) (sym item) in
+    rw more (flat_map-append (file_items answer) (take i files) (file ∷ []) ∙ ap (λ (xs : List _). files_items answer (take i files) ++ xs) (append-nil (file_items answer file)))
+
+pub file_carried : (answer : Answering) (files : List FileOf) (i : ℕ) (file : FileOf) (old mid new : Printed) → i < length files → file ≡ get_or files i file
+    → Carries (files_items answer (take i files)) (Ok (tt {0})) old mid → Carries (file_items answer file) (Ok (tt {0})) mid new → Carries (files_items answer (take (i + 1) files)) (Ok (tt {0})) old new
+file_carried answer files i file old mid new lt item first second =
+    rw (files_items-take answer files i file lt item) (carries_then (files_items answer (take i files)) (file_items answer file) tt (Ok tt) old mid new first second)
+
+files_items-split : (answer : Answering) (files : List FileOf) (i : ℕ) → files_items answer files ≡ files_items answer (take i files) ++ files_items answer (drop i files)
+unfolding files_items
+files_items-split answer files i = ap (files_items answer) (sym (take-append-drop i files)) ∙ flat_map-append (file_items answer) (take i files) (drop i files)
+
+pub file_stops : {A B : Type 0} (answer : Answering) (files : List FileOf) (i : ℕ) (file : FileOf) (stop : Stop) (old mid new : Printed) → i < length files → file ≡ get_or files i file
+    → Carries (files_items answer (take i files)) (Ok (tt {0})) old mid → Carries {A = A} (file_items answer file) (Err stop) mid new → Carries {A = B} (files_items answer files) (Err stop) old new
+file_stops {A} {B} answer files i file stop old mid new lt item first second =
+    let front = carries_then {B = A} (files_items answer (take i files)) (file_items answer file) tt (Err stop) old mid new first second in
+    let whole = carries_more {A = A} {B = B} (files_items answer (take (i + 1) files)) (files_items answer (drop (i + 1) files)) stop old new (rw (files_items-take answer files i file lt item) front) in
+    rw (files_items-split answer files (i + 1)) whole

@@ -1,0 +1,125 @@
+-- Parts of a run, one after the other.
+use Rattle.std.proofs.Common.{◌≡◌, ℕ, ◌<◌, false, List, [], ◌∷◌, ◌++◌, length, Option, None, Some, Result, Ok, Err, refl, sym, ap, subst, ◌∙◌, append_assoc, lit<}
+use Rattle.std.specs.Option.{option_to_list}
+use Rattle.std.specs.Result.{result_err}
+use Rattle.std.proofs.lemmas.List.{append-nil}
+use Rattle.krl_runs.specs.declared.output.answer.Answer.{Answer}
+use Rattle.krl_runs.specs.declared.output.cause.Cause.TheVariants.{NoMemory}
+use Rattle.krl_runs.specs.Carries.{Carries, IsEnded, Reaches}
+use Rattle.krl_runs.specs.Printer.{Printed, HasSaid, Sends, and_answer, chunk, nothing_printed}
+use Rattle.krl_runs.specs.Run.{Item, Answered, Passed, Stopped, IsWithheld, name_of}
+use Rattle.krl_runs.specs.Stop.{Stop, Ender, ByOutput, ByMemory, ByInput, ender_of, is_by_output, stop_of}
+use Rattle.krl_runs.proofs.Saying.{Appends-none, added, passed, sent_all, sent_part, waits}
+
+-- nothing was said yet
+pub begun : (taken : Option (List ℕ)) (writer : ℕ) → HasSaid taken [] (nothing_printed taken false writer)
+begun taken writer =
+    record { unstopped = refl; gone = []; parts = refl; short = lit< tt; taken = Appends-none taken; counted = refl; revoked = refl; working = refl }
+
+pub carries_none : {A : Type 0} (value : A) (now : Printed) → now.failed ≡ false → Carries [] (Ok value) now now
+carries_none value now working = record {
+  says = λ before said has. subst (λ (items : List Item). HasSaid before items now) (sym (append-nil said)) has;
+  failed = working;
+  writer = refl;
+}
+
+-- one part after another
+pub carries_then : {A B : Type 0} (xs ys : List Item) (value : A) (result : Result B Stop) (old mid new : Printed)
+    → Carries xs (Ok value) old mid → Carries ys result mid new → Carries (xs ++ ys) result old new
+carries_then xs ys value result old mid new first second = record {
+  says = λ before said has.
+      subst (λ (items : List Item). Reaches before items (result_err result) new) (append_assoc said xs ys) (second.says before (said ++ xs) (first.says before said has));
+  failed = second.failed;
+  writer = second.writer ∙ first.writer;
+}
+
+-- What stands behind an end does not count.
+ended_more : (ender : Ender) (before : Option (List ℕ)) (items more : List Item) (stop : Stop) (now : Printed) → IsEnded ender before items stop now → IsEnded ender before (items ++ more) stop now
+ended_more (ByOutput count) before items more stop now p =
+    record { said = p.said; later = p.later ++ more; parts = ap (λ (xs : List Item). xs ++ more) p.parts ∙ append_assoc p.said p.later more; unstopped = p.unstopped; named = p.named; cut = p.cut; broken = p.broken }
+ended_more ByMemory before items more stop now p =
+    record { said = p.said; next = p.next; later = p.later ++ more; parts = ap (λ (xs : List Item). xs ++ more) p.parts ∙ append_assoc p.said (p.next ∷ p.later) more; named = p.named; has_said = p.has_said }
+ended_more ByInput before items more stop now p =
+    record { said = p.said; later = p.later ++ more; parts = ap (λ (xs : List Item). xs ++ more) p.parts ∙ append_assoc p.said (Stopped stop ∷ p.later) more; has_said = p.has_said }
+
+pub carries_more : {A B : Type 0} (xs ys : List Item) (stop : Stop) (old new : Printed) → Carries {A = A} xs (Err stop) old new → Carries {A = B} (xs ++ ys) (Err stop) old new
+carries_more xs ys stop old new first = record {
+  says = λ before said has.
+      subst (λ (items : List Item). IsEnded (ender_of stop.cause) before items stop new) (append_assoc said xs ys) (ended_more (ender_of stop.cause) before (said ++ xs) ys stop new (first.says before said has));
+  failed = first.failed;
+  writer = first.writer;
+}
+
+-- the item at hand ends the run
+ends_here : (ender : Ender) (item : Item) (name : List ℕ) (stop : Stop) (now : Printed) → IsWithheld ender (Some item) name stop
+    → ((before : Option (List ℕ)) (said : List Item) → HasSaid before said now → IsEnded ender before (said ++ item ∷ []) stop now) × (is_by_output ender ≡ false)
+ends_here (ByOutput count) item name stop now withheld = absurd withheld
+ends_here ByMemory item name stop now withheld =
+    let found : item ≡ withheld.1.0 = same item withheld.1.0 withheld.1.1 in
+    let named : name ≡ name_of item = sym withheld.1.2 ∙ ap name_of (sym found) in
+    (λ before said has. record { said = said; next = item; later = []; parts = refl; named = withheld.0 ∙ ap (λ (n : List ℕ). stop_of n NoMemory) named; has_said = has }, refl)
+  where
+    same : (a b : Item) → Some a ≡ Some b → a ≡ b
+    same a b e = cc
+ends_here ByInput item name stop now withheld =
+    (λ before said has. record { said = said; later = []; parts = ap (λ (i : Item). said ++ i ∷ []) (same item (Stopped stop) withheld); has_said = has }, refl)
+  where
+    same : (a b : Item) → Some a ≡ Some b → a ≡ b
+    same a b e = cc
+
+pub no_item : (ender : Ender) (name : List ℕ) (stop : Stop) → IsWithheld ender None name stop → ⊥
+no_item (ByOutput count) name stop withheld = withheld
+no_item ByMemory name stop withheld = let none = withheld.1.1 in absurd cc
+no_item ByInput name stop withheld = absurd cc
+
+-- an item that was not given
+pub carries_withheld : {A : Type 0} (item : Option Item) (name : List ℕ) (stop : Stop) (now : Printed) → now.failed ≡ false
+    → IsWithheld (ender_of stop.cause) item name stop → Carries {A = A} (option_to_list item) (Err stop) now now
+carries_withheld None name stop now working withheld = absurd (no_item (ender_of stop.cause) name stop withheld)
+carries_withheld (Some item) name stop now working withheld =
+    let ends = ends_here (ender_of stop.cause) item name stop now withheld in
+    record { says = ends.0; failed = working ∙ sym ends.1; writer = refl }
+
+-- something of which nothing is said
+pub carries_passed : (name : List ℕ) (now : Printed) → now.failed ≡ false → Carries (Passed name ∷ []) (Ok (tt {0})) now now
+carries_passed name now working = record { says = λ before said has. passed before said name now has; failed = working; writer = refl }
+
+-- an answer for which no memory was left
+pub carries_refused : {A : Type 0} (name : List ℕ) (answer : Answer) (now : Printed) → now.failed ≡ false
+    → Carries {A = A} (Answered name answer ∷ []) (Err (stop_of name NoMemory)) now now
+carries_refused name answer now working =
+    carries_withheld (Some (Answered name answer)) name (stop_of name NoMemory) now working (refl, (Answered name answer, refl, refl))
+
+-- an answer that waits
+pub carries_added : {A : Type 0} (value : A) (name : List ℕ) (answer : Answer) (old : Printed) → old.failed ≡ false → length (and_answer old answer).waiting < chunk
+    → Carries (Answered name answer ∷ []) (Ok value) old (and_answer old answer)
+carries_added value name answer old working short = record {
+  says = λ before said has. waits before (said ++ Answered name answer ∷ []) (and_answer old answer) (added before said name answer old has) short;
+  failed = working;
+  writer = refl;
+}
+
+-- an answer that fills a chunk
+pub carries_sent : {A : Type 0} (result : Result A Stop) (name : List ℕ) (answer : Answer) (old new : Printed) → Sends result (and_answer old answer) new → new.writer ≡ old.writer
+    → Carries (Answered name answer ∷ []) result old new
+carries_sent (Ok value) name answer old new sends writer = record {
+  says = λ before said has. sent_all before (said ++ Answered name answer ∷ []) (and_answer old answer) new (added before said name answer old has) sends;
+  failed = sends.working;
+  writer = writer;
+}
+carries_sent (Err stop) name answer old new sends writer =
+    rw sends.named (record {
+      says = λ before said has.
+          let whole = added before said name answer old has in
+          record {
+            said = said ++ Answered name answer ∷ [];
+            later = [];
+            parts = sym (append-nil (said ++ Answered name answer ∷ []));
+            unstopped = whole.unstopped;
+            named = refl;
+            cut = sent_part before (said ++ Answered name answer ∷ []) stop (and_answer old answer) new whole sends;
+            broken = sends.broken;
+          };
+      failed = sends.broken;
+      writer = writer;
+    })

@@ -1,0 +1,16 @@
+-- Each file carries the run on, or stops it.
+use Rattle.std.proofs.lemmas.Result.{err_from_is_err_and}
+use Rattle.krl_runs.proofs.Answering.{none_answered, file_carried, file_stops}
+use Rattle.krl_runs.proofs.keys.walk.print_files.Goals as goal
+
+pub loop-file-init : goal.loop-file-init
+loop-file-init g c = none_answered _ _ c.requires
+
+pub returns-in_err-print_file : goal.returns-in_err-print_file
+returns-in_err-print_file g c =
+    let p = err_from_is_err_and c.from_residual.result c.from_residual.ensures.1 in
+    rw (p.1, p.2) (file_stops _ c.args.files.now c.loop-file.file-index c.file-item.result _ _ _ _ c.loop-file-test.true c.file-item.is c.loop-file.invariant c.in_err-print_file.ensures)
+
+pub loop-file-preserved : goal.loop-file-preserved
+loop-file-preserved g c =
+    file_carried _ c.args.files.now c.loop-file.file-index c.file-item.result _ _ _ c.loop-file-test.true c.file-item.is c.loop-file.invariant c.in_ok-print_file.ensures

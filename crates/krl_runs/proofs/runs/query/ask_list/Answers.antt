@@ -1,0 +1,19 @@
+-- The list is read, or refused.
+use Rattle.std.proofs.Common.{◌≡◌, false, true, Ok, Err}
+use Rattle.std.proofs.lemmas.Bool.{false≢true}
+use Rattle.krl_runs.proofs.Asking.{held, read_run, refused_run}
+use Rattle.krl_runs.proofs.runs.query.ask_list.Goals as goal
+
+pub returns-in-Ok : goal.returns-in-Ok
+returns-in-Ok g c = (
+  Ok c.in-Ok.list,
+  false,
+  λ on. absurd (false≢true on),
+  λ text e. held text _ c.in-Ok.list c.revokes_what_is_meant.ensures (c.in-Ok.ensures.found text e) (c.in-Ok.ensures.no_fault text e),
+  read_run c.args.krl_name.now c.args.files.now c.in-Ok.list _ _ _ c.requires.working c.print_files.ensures,
+)
+
+pub returns : goal.returns
+returns g c =
+    let says = c.in-Err.ensures.fault in
+    (Err c.in-Err.fault, says.0, says.1, says.2, rw (c.whole.ensures, c.cause_of.ensures) (refused_run c.args.krl_name.now c.args.files.now c.in-Err.fault _ c.requires.working))

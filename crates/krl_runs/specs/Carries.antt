@@ -1,0 +1,54 @@
+-- What a part of a run does: it says all of its items, or it ends the run.
+use Rattle.std.specs.Prelude.{◌≡◌, ℕ, true, List, ◌∷◌, ◌++◌, Option, None, Some, Result}
+use Rattle.std.specs.Result.{result_err}
+use Rattle.krl_runs.specs.declared.output.cause.Cause.TheVariants.{NoMemory}
+use Rattle.krl_runs.specs.Printer.{Printed, HasSaid, IsCut}
+use Rattle.krl_runs.specs.Run.{Item, Stopped, name_of, outcome_of}
+use Rattle.krl_runs.specs.Stop.{Stop, Ender, ByOutput, ByMemory, ByInput, ender_of, is_lost, output_stop, stop_of}
+
+-- The next item ends the run: all before it was said.
+pub record IsStopped (before : Option (List ℕ)) (items : List Item) (stop : Stop)
+    (now : Printed) : Type 0 where
+  pub said : List Item
+  pub later : List Item
+  pub parts : items ≡ said ++ Stopped stop ∷ later
+  pub has_said : HasSaid before said now
+
+-- Memory ran out at the next item: all before it was said. What is at hand is named, and no line.
+pub record IsStarved (before : Option (List ℕ)) (items : List Item) (stop : Stop)
+    (now : Printed) : Type 0 where
+  pub said : List Item
+  pub next : Item
+  pub later : List Item
+  pub parts : items ≡ said ++ next ∷ later
+  pub named : stop ≡ stop_of (name_of next) NoMemory
+  pub has_said : HasSaid before said now
+
+-- The output failed within what the first items say.
+pub record IsLost (before : Option (List ℕ)) (items : List Item) (count : ℕ) (stop : Stop)
+    (now : Printed) : Type 0 where
+  pub said : List Item
+  pub later : List Item
+  pub parts : items ≡ said ++ later
+  pub unstopped : (outcome_of said).stop ≡ None
+  pub named : stop ≡ output_stop count
+  pub cut : IsCut (outcome_of said).text before now.taken count
+  pub broken : now.failed ≡ true
+
+abbrev pub IsEnded : Ender → Option (List ℕ) → List Item → Stop → Printed → Type 0
+IsEnded (ByOutput count) before items stop now = IsLost before items count stop now
+IsEnded ByMemory before items stop now = IsStarved before items stop now
+IsEnded ByInput before items stop now = IsStopped before items stop now
+
+-- How far a run came: it has said all of these items, or stopped within them.
+abbrev pub Reaches : Option (List ℕ) → List Item → Option Stop → Printed → Type 0
+Reaches before items None now = HasSaid before items now
+Reaches before items (Some stop) now = IsEnded (ender_of stop.cause) before items stop now
+
+-- A part of a run says its items after whatever was said before, or stops within them.
+pub record Carries {A : Type 0} (items : List Item) (result : Result A Stop)
+    (old new : Printed) : Type 0 where
+  pub says : (before : Option (List ℕ)) (said : List Item) → HasSaid before said old
+      → Reaches before (said ++ items) (result_err result) new
+  pub failed : new.failed ≡ is_lost (result_err result)
+  pub writer : new.writer ≡ old.writer

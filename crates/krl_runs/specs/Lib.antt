@@ -1,0 +1,11 @@
+pub mod FileFault
+pub mod Named
+pub mod Split
+pub mod Stop
+pub mod Run
+pub mod Items
+pub mod Printer
+pub mod Carries
+pub mod Query
+pub mod Done
+pub mod Listing

@@ -1,0 +1,28 @@
+-- What loading a file gives.
+use Rattle.std.specs.Prelude.{◌≡◌, ℕ, ◌≤◌, ◌<◌, Bool, true, false, List, length, Option, Result, Ok, Err}
+use Rattle.std.specs.Io.KnownBytes.{Consumes, IsAtEnd}
+use Rattle.krl_runs.specs.declared.input.file_fault.FileFault.{FileFault}
+use Rattle.krl_runs.specs.declared.input.file_fault.FileFault.TheVariants.{Open, Read, TooLong, NoMemory, NoKeys, NoCertificate}
+
+-- how many bytes a file may have
+abbrev pub limit : ℕ
+limit = 16777216
+
+-- What was made of the bytes taken, of the bytes left after them and of whether the reader failed.
+-- Memory does not run out before a byte was read.
+abbrev pub IsContent : List ℕ → Option (List ℕ) → Bool → Result (List ℕ) FileFault → Type 0
+IsContent taken left failed (Ok bytes) = (bytes ≡ taken) × (length taken ≤ limit) × IsAtEnd left × (failed ≡ false)
+IsContent taken left failed (Err TooLong) = (limit < length taken) × (failed ≡ false)
+IsContent taken left failed (Err Read) = (length taken ≤ limit) × (failed ≡ true)
+IsContent taken left failed (Err NoMemory) =
+    (0 < length taken) × (length taken ≤ limit) × (failed ≡ false)
+IsContent taken left failed (Err Open) = ⊥
+IsContent taken left failed (Err NoKeys) = ⊥
+IsContent taken left failed (Err NoCertificate) = ⊥
+
+-- A reader had these bytes left, then those, and failed or not; this was made of the bytes between.
+pub record IsLoaded (before after : Option (List ℕ)) (failed : Bool)
+    (content : Result (List ℕ) FileFault) : Type 0 where
+  pub taken : List ℕ
+  pub consumed : Consumes before after taken
+  pub made : IsContent taken after failed content

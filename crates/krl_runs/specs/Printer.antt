@@ -1,0 +1,78 @@
+-- What a printer has at hand, and what it has printed in all.
+use Rattle.std.specs.Prelude.{◌≡◌, ℕ, ◌+◌, ◌-◌, ◌^◌, ◌<◌, ◌||◌, Bool, true, false, List, [], ◌++◌, Option, None, Result, Ok, Err, length, min, take}
+use Rattle.std.specs.Io.KnownBytes.{Appends}
+use Rattle.krl_runs.specs.declared.output.answer.Answer.{Answer}
+use Rattle.krl_runs.specs.Run.{Item, outcome_of}
+use Rattle.krl_runs.specs.Stop.{Stop, output_stop}
+
+-- The end of the text, which waits to be sent; the count of the bytes that were sent; whether some
+-- line says REVOKED; and of the writer what it has taken, whether it has failed, and which it is.
+pub record Printed : Type 0 where
+  pub waiting : List ℕ
+  pub sent : ℕ
+  pub revoked : Bool
+  pub taken : Option (List ℕ)
+  pub failed : Bool
+  pub writer : ℕ
+
+abbrev pub nothing_printed : Option (List ℕ) → Bool → ℕ → Printed
+nothing_printed taken failed writer =
+    record {
+      waiting = [];
+      sent = 0;
+      revoked = false;
+      taken = taken;
+      failed = failed;
+      writer = writer;
+    }
+
+abbrev pub and_answer : Printed → Answer → Printed
+and_answer old answer =
+    record old { waiting = old.waiting ++ answer.text; revoked = old.revoked || answer.revoked }
+
+-- as many bytes of whole lines are sent together, but for the last ones
+abbrev pub chunk : ℕ
+chunk = 65536
+
+-- a count of bytes as it is told: one past 2^64-1 as that number
+abbrev pub told_count : ℕ → ℕ
+told_count count = min count (2 ^ 64 - 1)
+
+-- All that waited was sent.
+pub record IsSent (old new : Printed) : Type 0 where
+  pub none_waits : new.waiting ≡ []
+  pub counted : new.sent ≡ told_count (old.sent + length old.waiting)
+  pub revoked : new.revoked ≡ old.revoked
+  pub taken : Appends old.taken new.taken old.waiting
+  pub working : new.failed ≡ false
+
+-- The writer failed after some of the bytes that waited.
+pub record IsPartSent (stop : Stop) (old new : Printed) : Type 0 where
+  pub count : ℕ
+  pub short : count < length old.waiting
+  pub named : stop ≡ output_stop (told_count (old.sent + count))
+  pub taken : Appends old.taken new.taken (take count old.waiting)
+  pub broken : new.failed ≡ true
+
+abbrev pub Sends : {A : Type 0} → Result A Stop → Printed → Printed → Type 0
+Sends (Ok value) old new = IsSent old new
+Sends (Err stop) old new = IsPartSent stop old new
+
+-- A printer has said just these items, over a writer that had taken some bytes before: the writer
+-- has taken the front of their text, and less than a chunk of it waits.
+pub record HasSaid (before : Option (List ℕ)) (items : List Item) (now : Printed) : Type 0 where
+  pub unstopped : (outcome_of items).stop ≡ None
+  pub gone : List ℕ
+  pub parts : (outcome_of items).text ≡ gone ++ now.waiting
+  pub short : length now.waiting < chunk
+  pub taken : Appends before now.taken gone
+  pub counted : now.sent ≡ told_count (length gone)
+  pub revoked : now.revoked ≡ (outcome_of items).revoked
+  pub working : now.failed ≡ false
+
+-- A writer had taken some bytes before, and then the beginning of a text, but not all of it.
+pub record IsCut (text : List ℕ) (before after : Option (List ℕ)) (count : ℕ) : Type 0 where
+  pub gone : ℕ
+  pub counted : count ≡ told_count gone
+  pub taken : Appends before after (take gone text)
+  pub short : gone < length text

@@ -1,0 +1,142 @@
+-- A run over key files: what it says of each key, and where it stops.
+use Rattle.std.specs.Prelude.{◌≡◌, ℕ, ◌+◌, ◌||◌, Bool, true, false, if◌then◌else◌, List, [], ◌∷◌, ◌++◌, Option, Some, None, Result, Ok, Err}
+use Rattle.std.specs.List.{flat_map, slice_split}
+use Rattle.std.specs.Option.{option_to_list}
+use Rattle.ssh_key.specs.Key.{Key}
+use Rattle.ssh_key.specs.KeyReading.{key_at}
+use Rattle.ssh_key.specs.KeyFile.{has_key}
+use Rattle.ssh_key.specs.LineReading.{Content, line_at}
+use Rattle.ssh_key.specs.declared.fault.KeyFault.{KeyFault}
+use Rattle.ssh_key.specs.declared.line_fault.LineFault.{LineFault}
+use Rattle.ssh_cert.specs.Subject.{Subject}
+use Rattle.ssh_cert.specs.SubjectReading.{subject_of}
+use Rattle.ssh_cert.specs.declared.subject_fault.SubjectFault.{SubjectFault}
+use Rattle.ssh_cert.specs.declared.subject_fault.SubjectFault.TheVariants as subjects
+use Rattle.krl_runs.specs.declared.output.answer.Answer.{Answer}
+use Rattle.krl_runs.specs.declared.output.cause.Cause.{Cause}
+use Rattle.krl_runs.specs.declared.output.cause.Cause.TheVariants as causes
+use Rattle.krl_runs.specs.declared.input.file_fault.FileFault.{FileFault}
+use Rattle.krl_runs.specs.declared.input.file_fault.FileFault.TheVariants as files
+use Rattle.krl_runs.specs.Split.{is_newline}
+use Rattle.krl_runs.specs.Stop.{Stop, Ender, ByOutput, ByMemory, ByInput, ender_of, stop_of}
+
+-- a file's name, and its bytes or why there are none
+pub record File : Type 0 where
+  pub name : List ℕ
+  pub content : Result (List ℕ) FileFault
+
+-- A step of a run. What it is about has a name: that of a file, or of the list.
+pub data Item : Type 0 where
+  -- an answer is said
+  Answered : List ℕ → Answer → Item
+  -- this was read, and nothing is said of it
+  Passed : List ℕ → Item
+  -- the run ends here
+  Stopped : Stop → Item
+
+-- the name of what is at hand
+abbrev pub name_of : Item → List ℕ
+name_of (Answered name answer) = name
+name_of (Passed name) = name
+name_of (Stopped stop) = stop.name
+
+-- How a run answers: by the name of the file, what a line of it holds, what its blob asks of a list,
+-- and the plain key.
+abbrev pub Answering : Type 0
+Answering = List ℕ → Content → Subject → Key → Answer
+
+-- a fault of a line
+abbrev pub stop_at : List ℕ → ℕ → Cause → Stop
+stop_at name number cause = record { name = name; line = Some number; cause = cause }
+
+-- The plain key of what is asked is always read.
+abbrev pub key_item : Answering → List ℕ → ℕ → Content → Subject → Result Key KeyFault → Item
+key_item answer name number line asked (Err fault) =
+    Stopped (stop_at name number (causes.Subject (subjects.Key fault)))
+key_item answer name number line asked (Ok key) = Answered name (answer name line asked key)
+
+abbrev pub subject_item : Answering → List ℕ → ℕ → Content → Result Subject SubjectFault → Item
+subject_item answer name number line (Err fault) =
+    Stopped (stop_at name number (causes.Subject fault))
+subject_item answer name number line (Ok asked) =
+    key_item answer name number line asked (key_at asked.plain)
+
+abbrev pub content_item : Answering → List ℕ → ℕ → Result Content LineFault → Item
+content_item answer name number (Err fault) =
+    Stopped (stop_at name number (causes.Line fault))
+content_item answer name number (Ok line) =
+    subject_item answer name number line (subject_of line.blob)
+
+-- what a run says of a line by its number: nothing where the line has no key
+unfoldable pub item_of : Answering → List ℕ → ℕ → List ℕ → Option Item
+item_of answer name number line =
+    if has_key line then Some (content_item answer name number (line_at line)) else None
+
+-- what it says of lines, of which the first has this number
+abbrev pub line_items : Answering → List ℕ → ℕ → List (List ℕ) → List Item
+line_items answer name number [] = []
+line_items answer name number (line ∷ lines) =
+    option_to_list (item_of answer name number line) ++ line_items answer name (number + 1) lines
+
+-- a file has a key
+abbrev pub or_no_keys : List ℕ → List Item → List Item
+or_no_keys name [] = Stopped (stop_of name (causes.File files.NoKeys)) ∷ []
+or_no_keys name (item ∷ items) = item ∷ items
+
+abbrev pub content_items : Answering → List ℕ → Result (List ℕ) FileFault → List Item
+content_items answer name (Err fault) = Stopped (stop_of name (causes.File fault)) ∷ []
+content_items answer name (Ok text) =
+    or_no_keys name (line_items answer name 1 (slice_split is_newline text))
+
+unfoldable pub file_items : Answering → File → List Item
+file_items answer file = content_items answer file.name file.content
+
+unfoldable pub files_items : Answering → List File → List Item
+files_items answer files = flat_map (file_items answer) files
+
+-- What a run says in all: its text, whether some line says REVOKED, and why it stopped before its
+-- end.
+pub record Outcome : Type 0 where
+  pub text : List ℕ
+  pub revoked : Bool
+  pub stop : Option Stop
+
+-- an answer before the rest of a run
+abbrev pub before : Answer → Outcome → Outcome
+before answer rest =
+    record {
+      text = answer.text ++ rest.text;
+      revoked = answer.revoked || rest.revoked;
+      stop = rest.stop;
+    }
+
+-- the run's first fault ends it
+abbrev pub outcome_of : List Item → Outcome
+outcome_of [] = record { text = []; revoked = false; stop = None }
+outcome_of (Answered name answer ∷ items) = before answer (outcome_of items)
+outcome_of (Passed name ∷ items) = outcome_of items
+outcome_of (Stopped stop ∷ items) = record { text = []; revoked = false; stop = Some stop }
+
+-- the status that a run ends with
+abbrev pub status_of : Bool → Bool → ℕ
+status_of true revoked = 255
+status_of false true = 1
+status_of false false = 0
+
+-- The item of a line was not given: it stops the run, or memory ran out.
+abbrev pub IsWithheld : Ender → Option Item → List ℕ → Stop → Type 0
+IsWithheld ByInput item name stop = item ≡ Some (Stopped stop)
+IsWithheld ByMemory item name stop =
+    (stop ≡ stop_of name causes.NoMemory)
+    × ((next : Item) × (item ≡ Some next) × (name_of next ≡ name))
+IsWithheld (ByOutput count) item name stop = ⊥
+
+-- What was found out of a line of a file of this name is its item, unless memory ran out.
+abbrev pub Gives : Option Item → List ℕ → Result (Option Answer) Stop → Type 0
+Gives item name (Ok None) = item ≡ None
+Gives item name (Ok (Some answer)) = item ≡ Some (Answered name answer)
+Gives item name (Err stop) = IsWithheld (ender_of stop.cause) item name stop
+
+abbrev pub GivesAnswer : Item → List ℕ → Result Answer Stop → Type 0
+GivesAnswer item name (Ok answer) = item ≡ Answered name answer
+GivesAnswer item name (Err stop) = IsWithheld (ender_of stop.cause) (Some item) name stop

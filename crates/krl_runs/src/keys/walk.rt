@@ -1,0 +1,142 @@
+// Going over the keys of files.
+
+ghost use Rattle.std.specs.Prelude.{◌≡◌, ◌+◌, false};
+ghost use Rattle.krl_runs.specs.Carries.{Carries};
+ghost use Rattle.ssh_key.specs.LineReading.{content_of};
+ghost use Rattle.ssh_cert.specs.SubjectReading.{subject_of};
+ghost use Rattle.krl_runs.specs.Run.{Gives, GivesAnswer, content_items, file_items, files_items, item_of, subject_item};
+
+use crate::input::file_fault::FileFault;
+use crate::input::named::Named;
+use crate::input::split::split_line;
+use crate::keys::answers::Answers;
+use crate::output::answer::Answer;
+use crate::output::cause::Cause;
+use crate::output::printer::Printer;
+use crate::output::run_fault::RunFault;
+use ssh_cert::{SubjectFault, subject};
+use ssh_key::{Line, LineFault, has_key, read_key, read_line};
+use ssh_wire::Sink;
+use std::alloc::Global;
+
+/// Prints the answers for each key of each file, up to the first fault.
+pub fn print_files<'a, A: Answers, W: Sink>(
+    alloc: Global,
+    answers: &A,
+    files: &'a [Named<'a>],
+    printer: &mut Printer<W>,
+) -> Result<(), RunFault<'a>>
+    requires { printer.old.failed ≡ false }
+    ensures { Carries (files_items (A.answer_to answers.now) files.now) result
+        printer.old printer.new }
+{
+    for file in files {
+        print_file(alloc, answers, file, printer)?;
+    }
+    Ok(())
+}
+
+/// Prints the answers for each key of a file.
+#[tactic(auto, unfolding(crate::specs::Run::file_items))]
+pub fn print_file<'a, A: Answers, W: Sink>(
+    alloc: Global,
+    answers: &A,
+    file: &'a Named<'a>,
+    printer: &mut Printer<W>,
+) -> Result<(), RunFault<'a>>
+    requires { printer.old.failed ≡ false }
+    ensures { Carries (file_items (A.answer_to answers.now) file.now) result
+        printer.old printer.new }
+{
+    match &file.content {
+        Err(fault) => Err(RunFault::whole(file.name, Cause::File(*fault))),
+        Ok(text) => print_text(alloc, answers, file.name, text.as_slice(), printer),
+    }
+}
+
+/// Prints the answers for each key of a file's text.
+fn print_text<'a, A: Answers, W: Sink>(
+    alloc: Global,
+    answers: &A,
+    name: &'a str,
+    text: &[u8],
+    printer: &mut Printer<W>,
+) -> Result<(), RunFault<'a>>
+    requires { printer.old.failed ≡ false }
+    ensures { Carries (content_items (A.answer_to answers.now) name.now (Ok text.now)) result
+        printer.old printer.new }
+{
+    let mut rest = text;
+    let mut passed = 0;
+    let mut found = false;
+    loop {
+        let (line, after) = split_line(rest);
+        if let Some(answer) = answer_line(alloc, answers, name, passed + 1, line)? {
+            printer.print(name, &answer)?;
+            found = true;
+        }
+        let Some(after) = after else {
+            break;
+        };
+        rest = after;
+        passed += 1;
+    }
+    if !found {
+        return Err(RunFault::whole(name, Cause::File(FileFault::NoKeys)));
+    }
+    Ok(())
+}
+
+/// What a run says of the line of a file that has this number: nothing where it has no key.
+#[tactic(auto, unfolding(crate::specs::Run::item_of))]
+fn answer_line<'a, A: Answers>(
+    alloc: Global,
+    answers: &A,
+    name: &'a str,
+    number: u64,
+    text: &[u8],
+) -> Result<Option<Answer>, RunFault<'a>>
+    ensures { Gives (item_of (A.answer_to answers.now) name.now number text.now) name.now result }
+{
+    if !has_key(text) {
+        return Ok(None);
+    }
+    let line = match read_line(alloc, text) {
+        Ok(line) => line,
+        Err(LineFault::NoMemory) => return Err(RunFault::whole(name, Cause::NoMemory)),
+        Err(fault) => return Err(RunFault::at_line(name, number, Cause::Line(fault))),
+    };
+    match answer_blob(alloc, answers, name, number, &line) {
+        Ok(answer) => Ok(Some(answer)),
+        Err(stop) => Err(stop),
+    }
+}
+
+/// What a run says of what such a line holds.
+fn answer_blob<'a, A: Answers>(
+    alloc: Global,
+    answers: &A,
+    name: &'a str,
+    number: u64,
+    line: &Line,
+) -> Result<Answer, RunFault<'a>>
+    ensures { GivesAnswer (subject_item (A.answer_to answers.now) name.now number
+        (content_of line.now) (subject_of line.now.blob)) name.now result }
+{
+    let asked = match subject(alloc, line.blob.as_slice()) {
+        Ok(asked) => asked,
+        Err(SubjectFault::NoMemory) => return Err(RunFault::whole(name, Cause::NoMemory)),
+        Err(fault) => return Err(RunFault::at_line(name, number, Cause::Subject(fault))),
+    };
+    let key = match read_key(asked.plain.as_slice()) {
+        Ok(key) => key,
+        Err(fault) => {
+            let cause = Cause::Subject(SubjectFault::Key(fault));
+            return Err(RunFault::at_line(name, number, cause));
+        }
+    };
+    match answers.answer(alloc, name, line, &asked, &key) {
+        Ok(answer) => Ok(answer),
+        Err(_) => Err(RunFault::whole(name, Cause::NoMemory)),
+    }
+}

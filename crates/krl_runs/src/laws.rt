@@ -1,0 +1,49 @@
+//! Laws of what a run says of a line. Each function does nothing: its contract is the law.
+
+ghost use Rattle.std.specs.Prelude.{◌≡◌, ℕ, true, false, List, Some, None};
+ghost use Rattle.ssh_wire.specs.Wire.{IsBytes};
+ghost use Rattle.ssh_cert.specs.Subject.{Subject};
+ghost use Rattle.ssh_key.specs.Key.{Key};
+ghost use Rattle.ssh_key.specs.KeyFile.{has_key};
+ghost use Rattle.ssh_key.specs.KeyLine.{IsKeyLine};
+ghost use Rattle.ssh_key.specs.LineFaults.{IsFirstLineFault};
+ghost use Rattle.ssh_key.specs.LineReading.{Content};
+ghost use Rattle.ssh_key.specs.declared.line_fault.LineFault.{LineFault};
+ghost use Rattle.ssh_cert.specs.SubjectReading.{IsSubjectFault};
+ghost use Rattle.ssh_cert.specs.declared.subject_fault.SubjectFault.{SubjectFault};
+ghost use Rattle.krl_runs.specs.declared.output.answer.Answer.{Answer};
+ghost use Rattle.krl_runs.specs.declared.output.cause.Cause.TheVariants.{Line, Subject as Subjects};
+ghost use Rattle.krl_runs.specs.Items.{SpellsKey};
+ghost use Rattle.krl_runs.specs.Run.{Answered, Answering, Stopped, item_of, stop_at};
+
+use ssh_cert::laws::{asked_where_spelled, not_asked_by_first_fault};
+use ssh_key::laws::{blob_read_back, line_read_where_spelled, line_refused_by_first_fault};
+
+/// Nothing is said of a line without a key. A line with a key is answered exactly where it spells the
+/// key of a plain key or of a certificate; else its first fault, or that of its blob, ends the run.
+pub fn items_by_what_is_spelled()
+    ensures none { (answer : Answering) (name : List ℕ) (number : ℕ) (text : List ℕ)
+        → has_key text ≡ false → item_of answer name number text ≡ None }
+    ensures answered { (answer : Answering) (name : List ℕ) (number : ℕ) (text : List ℕ)
+        (line : Content) (asked : Subject) (key : Key)
+        → has_key text ≡ true → SpellsKey text line asked key
+        → item_of answer name number text ≡ Some (Answered name (answer name line asked key)) }
+    ensures only { (answer : Answering) (name : List ℕ) (number : ℕ) (text : List ℕ)
+        (other : List ℕ) (reply : Answer) → IsBytes text
+        → item_of answer name number text ≡ Some (Answered other reply)
+        → (line : Content) × (asked : Subject) × (key : Key) × SpellsKey text line asked key
+        × (reply ≡ answer name line asked key) }
+    ensures line_fault { (answer : Answering) (name : List ℕ) (number : ℕ) (text : List ℕ)
+        (fault : LineFault) → IsBytes text → has_key text ≡ true → IsFirstLineFault text fault
+        → item_of answer name number text ≡ Some (Stopped (stop_at name number (Line fault))) }
+    ensures blob_fault { (answer : Answering) (name : List ℕ) (number : ℕ)
+        (text word blob comment : List ℕ) (fault : SubjectFault)
+        → has_key text ≡ true → IsKeyLine text word blob comment → IsSubjectFault blob fault
+        → item_of answer name number text ≡ Some (Stopped (stop_at name number (Subjects fault))) }
+{
+    line_read_where_spelled();
+    line_refused_by_first_fault();
+    blob_read_back();
+    asked_where_spelled();
+    not_asked_by_first_fault();
+}

@@ -1,0 +1,20 @@
+//! What the program's runs do: they list keys, and ask key revocation lists about them, as
+//! ssh-keygen(1) does.
+#![tactic(auto)]
+
+mod input;
+mod keys;
+pub mod laws;
+mod output;
+mod runs;
+
+pub use input::file_fault::FileFault;
+pub use input::named::{Named, load};
+pub use output::cause::Cause;
+pub use output::done::{Done, FAILED};
+pub use output::run_fault::{RunFault, fault_text};
+pub use runs::listing::list_run;
+pub use runs::query::query_run;
+
+#[cfg(test)]
+mod tests;

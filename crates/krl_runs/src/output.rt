@@ -1,0 +1,7 @@
+// What a run prints, and how it ends.
+
+pub(crate) mod answer;
+pub mod cause;
+pub mod done;
+pub mod printer;
+pub mod run_fault;

@@ -1,0 +1,54 @@
+// Why a run stops.
+
+ghost use Rattle.std.specs.Prelude.{◌≡◌, Some};
+ghost use Rattle.krl_runs.specs.Stop.{cause_number, cause_text};
+
+use crate::input::file_fault::FileFault;
+use krl_core::KrlFault;
+use ssh_cert::SubjectFault;
+use ssh_key::LineFault;
+use std::fmt;
+
+/// What stopped a run.
+#[derive(Clone, Copy, Debug, PartialEq, Eq)]
+pub enum Cause {
+    File(FileFault),
+    Krl(KrlFault),
+    Line(LineFault),
+    Subject(SubjectFault),
+    /// No memory was left for the run itself.
+    NoMemory,
+    /// The output failed once it had taken that many bytes.
+    Output { count: u64 },
+}
+
+impl Cause {
+    /// The number of the fault in its family.
+    pub fn number(self) -> u8
+        ensures { result ≡ cause_number self }
+    {
+        match self {
+            Cause::File(fault) => fault.number(),
+            Cause::Krl(fault) => fault.number(),
+            Cause::Line(fault) => fault.number(),
+            Cause::Subject(fault) => fault.number(),
+            Cause::NoMemory => 1,
+            Cause::Output { .. } => 1,
+        }
+    }
+}
+
+impl fmt::Display for Cause {
+    ghost output = { λ cause. Some (cause_text cause) };
+
+    fn fmt<W: fmt::Write>(&self, f: &mut fmt::Formatter<W>) -> fmt::Result {
+        match self {
+            Cause::File(fault) => write!(f, "{fault}"),
+            Cause::Krl(fault) => write!(f, "{fault}"),
+            Cause::Line(fault) => write!(f, "{fault}"),
+            Cause::Subject(fault) => write!(f, "{fault}"),
+            Cause::NoMemory => write!(f, "run 1 NoMemory"),
+            Cause::Output { count } => write!(f, "output 1 Write after {count} bytes"),
+        }
+    }
+}

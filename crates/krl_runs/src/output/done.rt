@@ -1,0 +1,15 @@
+// The end of a run.
+
+use crate::output::run_fault::RunFault;
+
+/// The status of a fault.
+pub const FAILED: u8 = 255;
+
+/// The end of a run.
+#[derive(Debug, Drop)]
+pub struct Done<'a> {
+    /// The status that the program ends with.
+    pub status: u8,
+    /// Why the run stopped before its end.
+    pub fault: Option<RunFault<'a>>,
+}

@@ -1,0 +1,148 @@
+// What prints: lines are gathered to chunks, and what the writer took is counted.
+
+ghost use Rattle.std.specs.Prelude.{◌≡◌, ◌<◌, ◌↔◌, ℕ, IsTrue, List, [], ◌∷◌, Option, false, length, OnErr, OnOk};
+ghost use Rattle.krl_runs.specs.Carries.{Carries, Reaches};
+ghost use Rattle.krl_runs.specs.Done.{Ends};
+ghost use Rattle.krl_runs.specs.Printer.{Sends, and_answer, chunk, nothing_printed};
+ghost use Rattle.krl_runs.specs.Run.{Answered, Item, status_of};
+ghost use Rattle.krl_runs.specs.Stop.{is_lost};
+
+use crate::output::answer::Answer;
+use crate::output::cause::Cause;
+use crate::output::done::{Done, FAILED};
+use crate::output::run_fault::RunFault;
+use ssh_wire::{Sink, send};
+use std::alloc::AllocError;
+use std::marker::Model;
+
+/// How many bytes of lines are sent together, but for the last ones.
+const CHUNK: usize = 65_536;
+
+/// What prints, over a writer. Whole lines wait on a page until they fill a chunk.
+#[derive(Drop)]
+pub struct Printer<'w, W: Sink> {
+    // A run takes the printer apart at its end, so that what it left of its writer is known.
+    pub(crate) out: &'w mut W,
+    page: &'w mut Vec<u8>,
+    sent: u64,
+    revoked: bool,
+}
+
+impl<'w, W: Sink> Model for Printer<'w, W> {
+    ghost use Rattle.krl_runs.specs.Printer.{Printed};
+
+    ghost Value = { Printed };
+
+    ghost view = { λ printer. record {
+      waiting = printer.page.now.items;
+      sent = printer.sent;
+      revoked = printer.revoked;
+      taken = W.taken printer.out.now;
+      failed = W.has_failed printer.out.now;
+      writer = printer.out.ghost_name;
+    } };
+}
+
+impl<'w, W: Sink> Printer<'w, W> {
+    /// A printer that has printed nothing. What stands on the page is thrown away.
+    pub fn new(page: &'w mut Vec<u8>, out: &'w mut W) -> Self
+        ensures { result ≡ nothing_printed (W.taken out.old) (W.has_failed out.old)
+            out.entry.ghost_name }
+    {
+        page.clear();
+        Printer {
+            out,
+            page,
+            sent: 0,
+            revoked: false,
+        }
+    }
+
+    /// Prints what a run says of the file or the list of this name.
+    pub fn print<'a>(&mut self, name: &'a str, answer: &Answer) -> Result<(), RunFault<'a>>
+        requires { self.old.failed ≡ false }
+        ensures { Carries (Answered name.now answer.now ∷ []) result self.old self.new }
+    {
+        let Ok(()) = self.add(answer) else {
+            return Err(RunFault::whole(name, Cause::NoMemory));
+        };
+        if self.is_short() {
+            return Ok(());
+        }
+        self.send()
+    }
+
+    /// Whether less than a chunk waits.
+    fn is_short(&self) -> bool
+        ensures { IsTrue result ↔ (length self.now.waiting < chunk) }
+    {
+        self.page.len() < CHUNK
+    }
+
+    /// Adds an answer to what waits. A refusal changes nothing.
+    fn add(&mut self, answer: &Answer) -> Result<(), AllocError>
+        ensures ok { OnOk result (self.new ≡ and_answer self.old answer.now) }
+        ensures err { OnErr result (self.new ≡ self.old) }
+    {
+        self.page.extend_from_slice(answer.text.as_slice())?;
+        self.revoked |= answer.revoked;
+        Ok(())
+    }
+
+    /// Sends all that waits.
+    fn send<'a>(&mut self) -> Result<(), RunFault<'a>>
+        requires { self.old.failed ≡ false }
+        ensures sends { Sends result self.old self.new }
+        ensures writer { self.new.writer ≡ self.old.writer }
+    {
+        if let Err(part) = send(self.out, self.page.as_slice()) {
+            let count = self.sent.saturating_add(part.count as u64);
+            return Err(RunFault::whole("output", Cause::Output { count }));
+        }
+        self.sent = self.sent.saturating_add(self.page.len() as u64);
+        self.page.clear();
+        Ok(())
+    }
+
+    /// Ends a run: sends what waits, unless the output has failed. The status is 255 where the run
+    /// stopped, else 1 where it said of a key that it is revoked, else 0.
+    pub fn finish<'a>(&mut self, stop: Option<RunFault<'a>>) -> Done<'a>
+        requires { self.old.failed ≡ is_lost stop }
+        ensures ends { (before : Option (List ℕ)) (run : List Item)
+            → Reaches before run stop.entry self.old
+            → Ends run before self.new.taken self.new.failed result.status result.fault }
+        ensures writer { self.new.writer ≡ self.old.writer }
+    {
+        if is_lost(&stop) {
+            return Done {
+                status: FAILED,
+                fault: stop,
+            };
+        }
+        let fault = self.send().err().or(stop);
+        Done {
+            status: status(fault.is_some(), self.revoked),
+            fault,
+        }
+    }
+}
+
+/// Whether it is the output that stopped a run.
+fn is_lost(stop: &Option<RunFault>) -> bool
+    ensures { result ≡ is_lost stop.now }
+{
+    match stop {
+        Some(fault) => matches!(fault.cause, Cause::Output { .. }),
+        None => false,
+    }
+}
+
+fn status(stopped: bool, revoked: bool) -> u8
+    ensures { result ≡ status_of stopped revoked }
+{
+    match (stopped, revoked) {
+        (true, _) => FAILED,
+        (false, true) => 1,
+        (false, false) => 0,
+    }
+}

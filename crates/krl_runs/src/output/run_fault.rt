@@ -1,0 +1,80 @@
+// Where and why a run stopped, and the line that tells it.
+
+ghost use Rattle.std.specs.Prelude.{◌≡◌, ◌++◌, None, Some, IfOk, OnOk};
+ghost use Rattle.krl_runs.specs.Stop.{fault_line, line_part};
+
+use crate::output::cause::Cause;
+use ssh_cert::push_escaped;
+use std::alloc::{AllocError, Global};
+use std::marker::Model;
+
+/// What a run was working on, and why it stopped there.
+#[derive(Debug, Drop)]
+pub struct RunFault<'a> {
+    /// The name of the file, or `output`.
+    pub name: &'a str,
+    /// The line of the file, counted from 1.
+    pub line: Option<u64>,
+    pub cause: Cause,
+}
+
+impl<'a> Model for RunFault<'a> {
+    ghost use Rattle.krl_runs.specs.Stop.{Stop};
+
+    ghost Value = { Stop };
+
+    ghost view = { λ fault. record {
+      name = fault.name.now;
+      line = fault.line;
+      cause = fault.cause;
+    } };
+}
+
+impl<'a> RunFault<'a> {
+    /// Of a file as a whole, or of the output.
+    pub fn whole(name: &'a str, cause: Cause) -> RunFault<'a>
+        ensures { result ≡ record { name = name.now; line = None; cause = cause } }
+    {
+        RunFault {
+            name,
+            line: None,
+            cause,
+        }
+    }
+
+    /// Of a line of a file.
+    pub fn at_line(name: &'a str, number: u64, cause: Cause) -> RunFault<'a>
+        ensures { result ≡ record { name = name.now; line = Some number; cause = cause } }
+    {
+        RunFault {
+            name,
+            line: Some(number),
+            cause,
+        }
+    }
+}
+
+/// The line for standard error, without its line feed: the program, the name with its control
+/// bytes escaped, the line of the file, and the fault.
+#[tactic(auto, unfolding(crate::specs::Stop::fault_line))]
+pub fn fault_text(alloc: Global, fault: &RunFault) -> Result<Vec<u8>, AllocError>
+    ensures { IfOk result (λ text. text.items ≡ fault_line fault.now) }
+{
+    let mut text = Vec::from_slice(alloc, b"ssh-keygen: ")?;
+    push_escaped(&mut text, fault.name.as_bytes())?;
+    text.extend_from_slice(b": ")?;
+    push_line(alloc, &mut text, fault.line)?;
+    let cause = fault.cause.to_string(alloc)?;
+    text.extend_from_slice(cause.as_bytes())?;
+    Ok(text)
+}
+
+fn push_line(alloc: Global, text: &mut Vec<u8>, line: Option<u64>) -> Result<(), AllocError>
+    ensures { OnOk result (text.new.items ≡ text.old.items ++ line_part line) }
+{
+    if let Some(number) = line {
+        let part = format!(in alloc; "line {number}: ")?;
+        text.extend_from_slice(part.as_bytes())?;
+    }
+    Ok(())
+}

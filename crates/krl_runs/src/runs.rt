@@ -1,0 +1,4 @@
+// The runs of the program.
+
+pub mod listing;
+pub mod query;

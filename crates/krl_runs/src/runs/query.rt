@@ -1,0 +1,138 @@
+// Asking a list about the keys of files (ssh-keygen(1), KEY REVOCATION LISTS).
+
+ghost use Rattle.std.specs.Prelude.{◌≡◌, ◌++◌, ℕ, Bool, IfOk, List, Result, OnOk, Some, false, true};
+ghost use Rattle.krl_core.specs.Contents.{Contents};
+ghost use Rattle.krl_core.specs.declared.krl_fault.KrlFault.{KrlFault as FaultOf};
+ghost use Rattle.krl_runs.specs.Carries.{Carries};
+ghost use Rattle.krl_runs.specs.Done.{Ends};
+ghost use Rattle.krl_runs.specs.Query.{IsRead, ask, comment_part, krl_cause, query_line, query_run_of, verdict};
+
+use crate::input::named::Named;
+use crate::keys::answers::Answers;
+use crate::keys::walk::print_files;
+use crate::output::answer::Answer;
+use crate::output::cause::Cause;
+use crate::output::done::Done;
+use crate::output::printer::Printer;
+use crate::output::run_fault::RunFault;
+use krl_core::laws::revokes_what_is_meant;
+use krl_core::{KrlFault, Revocations, read_krl};
+use serial_set::Held;
+use ssh_cert::{Subject, push_escaped};
+use ssh_key::{Line, PublicKey};
+use ssh_wire::{Bytes, Sink, Source};
+use std::alloc::{AllocError, Global};
+
+/// Says of each key whether a list revokes it.
+#[derive(Drop)]
+struct Query<'q> {
+    list: &'q Revocations<Held>,
+}
+
+impl<'q> Answers for Query<'q> {
+    ghost answer_to = { λ query. ask query.list.now };
+
+    fn answer(
+        &self,
+        alloc: Global,
+        name: &str,
+        line: &Line,
+        asked: &Subject,
+        _key: &PublicKey,
+    ) -> Result<Answer, AllocError> {
+        let revoked = self.list.query(asked);
+        let text = query_line(alloc, name, line.comment, revoked)?;
+        Ok(Answer { text, revoked })
+    }
+}
+
+/// The line of a key, with its line feed.
+fn query_line(alloc: Global, name: &str, comment: &[u8], revoked: bool) -> Result<Bytes, AllocError>
+    ensures { IfOk result (λ text. text ≡ query_line name.now comment.now revoked) }
+{
+    let mut text = Vec::new(alloc);
+    push_escaped(&mut text, name.as_bytes())?;
+    push_comment(&mut text, comment)?;
+    text.extend_from_slice(verdict(revoked))?;
+    text.push(b'\n')?;
+    Ok(Bytes::from_vec(text))
+}
+
+fn verdict(revoked: bool) -> &'static [u8]
+    ensures { result.now ≡ verdict revoked }
+{
+    if revoked { b": REVOKED" } else { b": ok" }
+}
+
+fn push_comment(text: &mut Vec<u8>, comment: &[u8]) -> Result<(), AllocError>
+    ensures { OnOk result (text.new.items ≡ text.old.items ++ comment_part comment.now) }
+{
+    if !comment.is_empty() {
+        text.extend_from_slice(b" (")?;
+        push_escaped(text, comment)?;
+        text.extend_from_slice(b")")?;
+    }
+    Ok(())
+}
+
+/// Reads a list, asks it about each key of each file, and says of each in a line whether it is
+/// revoked. The list's contents are not printed: `dump` is false.
+pub fn query_run<'a, R: Source + Drop, W: Sink>(
+    alloc: Global,
+    krl_name: &'a str,
+    krl: R,
+    dump: bool,
+    files: &'a [Named<'a>],
+    out: &mut W,
+) -> Done<'a>
+    requires fresh { R.has_failed krl ≡ false }
+    requires working { W.has_failed out.old ≡ false }
+    requires no_dump { dump ≡ false }
+    // Whether the reader failed, which is not said where it did not.
+    ensures { (reading : Result Contents FaultOf) × (failed : Bool)
+        × (failed ≡ true → (last : R) × (R.has_failed last ≡ true))
+        × ((text : List ℕ) → R.left krl ≡ Some text → IsRead text failed reading)
+        × Ends (query_run_of krl_name.now reading files.now) (W.taken out.old) (W.taken out.new)
+        (W.has_failed out.new) result.status result.fault }
+{
+    let _ = dump;
+    let mut page = Vec::new(alloc);
+    let mut printer = Printer::new(&mut page, out);
+    let stop = ask_list(alloc, krl_name, krl, files, &mut printer).err();
+    let done = printer.finish(stop);
+    let Printer { out: _out, .. } = printer;
+    done
+}
+
+/// Reads a list and asks it about each key of each file.
+fn ask_list<'a, R: Source + Drop, W: Sink>(
+    alloc: Global,
+    krl_name: &'a str,
+    krl: R,
+    files: &'a [Named<'a>],
+    printer: &mut Printer<W>,
+) -> Result<(), RunFault<'a>>
+    requires fresh { R.has_failed krl ≡ false }
+    requires working { printer.old.failed ≡ false }
+    ensures { (reading : Result Contents FaultOf) × (failed : Bool)
+        × (failed ≡ true → (last : R) × (R.has_failed last ≡ true))
+        × ((text : List ℕ) → R.left krl ≡ Some text → IsRead text failed reading)
+        × Carries (query_run_of krl_name.now reading files.now) result printer.old printer.new }
+{
+    revokes_what_is_meant();
+    match read_krl::<Held, R>(alloc, krl) {
+        Ok((_, list)) => print_files(alloc, &Query { list: &list }, files, printer),
+        Err(fault) => Err(RunFault::whole(krl_name, cause_of(fault))),
+    }
+}
+
+/// Where memory runs out, it is for the run itself.
+fn cause_of(fault: KrlFault) -> Cause
+    ensures { result ≡ krl_cause fault }
+{
+    if fault == KrlFault::NoMemory {
+        Cause::NoMemory
+    } else {
+        Cause::Krl(fault)
+    }
+}

@@ -1,0 +1,12 @@
+// What no clause says: the rows of the format's worked examples.
+
+mod asking;
+mod bytes;
+mod certificates;
+mod chunks;
+mod describing;
+mod devices;
+mod encoding;
+mod faults;
+mod key_files;
+mod runs;

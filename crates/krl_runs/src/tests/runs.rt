@@ -1,0 +1,81 @@
+// Runs over files that the tests make, and what they answer.
+
+use crate::input::file_fault::FileFault;
+use crate::input::named::Named;
+use crate::output::done::Done;
+use crate::output::run_fault::fault_text;
+use crate::runs::listing::list_run;
+use crate::runs::query::query_run;
+use crate::tests::bytes::joined;
+use ssh_key::Hash;
+use ssh_wire::{Bytes, FromRead, ToWrite};
+use std::alloc::{AllocError, Global};
+
+/// The line of GitHub's published Ed25519 host key.
+pub const GITHUB_LINE: &[u8] =
+    b"ssh-ed25519 AAAAC3NzaC1lZDI1NTE5AAAAIOMqqnkVzrm0SdG6UOoqKLsabgH5C9okWi0dh2l9GKJl";
+
+/// The line of the Ed25519 key of 32 bytes 0x11.
+pub const OTHER_LINE: &[u8] =
+    b"ssh-ed25519 AAAAC3NzaC1lZDI1NTE5AAAAIBERERERERERERERERERERERERERERERERERERERERER";
+
+/// A file's name and the parts of its text; none where it cannot be opened.
+pub type File<'a> = (&'a str, Option<&'a [&'a [u8]]>);
+
+/// What a run printed, its status, and the line of its fault, which is empty where it has none.
+#[derive(Debug, Drop)]
+pub struct Ran {
+    pub text: Vec<u8>,
+    pub status: u8,
+    pub fault: Vec<u8>,
+}
+
+pub fn named<'a>(alloc: Global, file: &File<'a>) -> Result<Named<'a>, AllocError> {
+    let (name, parts) = *file;
+    let content = match parts {
+        Some(parts) => Ok(Bytes::from_vec(joined(alloc, parts)?)),
+        None => Err(FileFault::Open),
+    };
+    Ok(Named { name, content })
+}
+
+/// What is said of a run's end.
+pub fn told(alloc: Global, text: Vec<u8>, done: &Done) -> Result<Ran, AllocError> {
+    let fault = match &done.fault {
+        Some(fault) => fault_text(alloc, fault)?,
+        None => Vec::new(alloc),
+    };
+    Ok(Ran {
+        text,
+        status: done.status,
+        fault,
+    })
+}
+
+/// Asks the list `r.krl` about the files.
+pub fn asked(alloc: Global, krl: &[u8], files: &[File]) -> Result<Ran, AllocError> {
+    let mut read = Vec::new(alloc);
+    for file in files {
+        read.push(named(alloc, file)?)?;
+    }
+    asked_of(alloc, krl, read.as_slice())
+}
+
+/// The same, of files that are read.
+pub fn asked_of<'a>(alloc: Global, krl: &[u8], files: &'a [Named<'a>]) -> Result<Ran, AllocError> {
+    let mut text = Vec::new(alloc);
+    let mut out = ToWrite::new(&mut text);
+    let done = query_run(alloc, "r.krl", FromRead::new(krl), false, files, &mut out);
+    drop(out);
+    told(alloc, text, &done)
+}
+
+/// Lists the keys of the file.
+pub fn listed(alloc: Global, hash: Hash, file: &File) -> Result<Ran, AllocError> {
+    let read = named(alloc, file)?;
+    let mut text = Vec::new(alloc);
+    let mut out = ToWrite::new(&mut text);
+    let done = list_run(alloc, hash, &read, &mut out);
+    drop(out);
+    told(alloc, text, &done)
+}

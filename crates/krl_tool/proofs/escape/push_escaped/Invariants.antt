@@ -1,8 +1,0 @@
--- The bytes so far stand escaped.
-use Rattle.std.proofs.Common.{◌≡◌, ◌++◌, take}
-use Rattle.std.specs.List.{flat_map}
-use Rattle.krl_tool.specs.Escape.{escaped_byte}
-use Rattle.krl_tool.proofs.escape.push_escaped.Given as goal
-
-abbrev pub invariant-loop-byte : goal.invariant-loop-byte
-invariant-loop-byte l = l.out.items ≡ l.initial.out.items ++ flat_map escaped_byte (take l.byte-index l.text)
