@@ -11,7 +11,8 @@ limit = 16777216
 -- What was made of the bytes taken, of the bytes left after them and of whether the reader failed.
 -- Memory does not run out before a byte was read.
 abbrev pub IsContent : List ℕ → Option (List ℕ) → Bool → Result (List ℕ) FileFault → Type 0
-IsContent taken left failed (Ok bytes) = (bytes ≡ taken) × (length taken ≤ limit) × IsAtEnd left × (failed ≡ false)
+IsContent taken left failed (Ok bytes) =
+    (bytes ≡ taken) × (length taken ≤ limit) × IsAtEnd left × (failed ≡ false)
 IsContent taken left failed (Err TooLong) = (limit < length taken) × (failed ≡ false)
 IsContent taken left failed (Err Read) = (length taken ≤ limit) × (failed ≡ true)
 IsContent taken left failed (Err NoMemory) =

@@ -40,8 +40,8 @@ name_of (Answered name answer) = name
 name_of (Passed name) = name
 name_of (Stopped stop) = stop.name
 
--- How a run answers: by the name of the file, what a line of it holds, what its blob asks of a list,
--- and the plain key.
+-- How a run answers: by the name of the file, what a line of it holds, what its blob asks of a
+-- list, and the plain key.
 abbrev pub Answering : Type 0
 Answering = List ℕ → Content → Subject → Key → Answer
 

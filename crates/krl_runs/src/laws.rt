@@ -19,8 +19,9 @@ ghost use Rattle.krl_runs.specs.Run.{Answered, Answering, Stopped, item_of, stop
 use ssh_cert::laws::{asked_where_spelled, not_asked_by_first_fault};
 use ssh_key::laws::{blob_read_back, line_read_where_spelled, line_refused_by_first_fault};
 
-/// Nothing is said of a line without a key. A line with a key is answered exactly where it spells the
-/// key of a plain key or of a certificate; else its first fault, or that of its blob, ends the run.
+/// Nothing is said of a line without a key. A line with a key is answered exactly where it spells
+/// the key of a plain key or of a certificate; else its first fault, or that of its blob, ends the
+/// run.
 pub fn items_by_what_is_spelled()
     ensures none { (answer : Answering) (name : List ℕ) (number : ℕ) (text : List ℕ)
         → has_key text ≡ false → item_of answer name number text ≡ None }

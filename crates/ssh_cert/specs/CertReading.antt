@@ -18,7 +18,8 @@ use Rattle.ssh_cert.specs.Options.{NamedData, pairs_of}
 use Rattle.ssh_cert.specs.Strings.{strings_of}
 
 infixl 10 ◌>>=◌
-abbrev pub ◌>>=◌ : {A B : Type 0} → Result A CertFault → (A → Result B CertFault) → Result B CertFault
+abbrev pub ◌>>=◌ : {A B : Type 0}
+    → Result A CertFault → (A → Result B CertFault) → Result B CertFault
 (Ok x) >>= f = f x
 (Err fault) >>= f = Err fault
 
@@ -81,7 +82,8 @@ field_at SignatureField bytes = do
   Ok (signature, text.1)
 
 -- the values of the fields, one after the other, and the bytes after them
-unfoldable pub fields_at : (fields : List Field) → List ℕ → Result (ValuesOf fields × List ℕ) CertFault
+unfoldable pub fields_at : (fields : List Field) → List ℕ
+    → Result (ValuesOf fields × List ℕ) CertFault
 fields_at [] bytes = Ok (tt, bytes)
 fields_at (field ∷ fields) bytes = do
   first ← field_at field bytes
@@ -97,7 +99,34 @@ kind_at bytes = do
 
 -- the certificate of the values, without those of the reserved field and the signature
 abbrev pub certificate_of : (kind : Kind) → ValuesOf (fields_of kind) → Certificate
-certificate_of kind (nonce, (key, (serial, (role, (key_id, (principals, (after, (before, (critical, (extensions, (reserved, (authority, (signature, end))))))))))))) = record {
+certificate_of kind (
+  nonce,
+  (
+    key,
+    (
+      serial,
+      (
+        role,
+        (
+          key_id,
+          (
+            principals,
+            (
+              after,
+              (
+                before,
+                (
+                  critical,
+                  (extensions, (reserved, (authority, (signature, end)))),
+                ),
+              ),
+            ),
+          ),
+        ),
+      ),
+    ),
+  ),
+) = record {
   nonce = nonce;
   key = key;
   serial = serial;
@@ -127,6 +156,7 @@ certificate_at blob = do
   if length body.1 == 0 then Ok body.0 else Err faults.Trailing
 
 -- A read answered what reading gives, and left the bytes after it.
-abbrev pub Reads : {X Y : Type 0} → (X → Y) → Result X CertFault → List ℕ → Result (Y × List ℕ) CertFault → Type 0
+abbrev pub Reads : {X Y : Type 0}
+    → (X → Y) → Result X CertFault → List ℕ → Result (Y × List ℕ) CertFault → Type 0
 Reads view (Ok x) left read = read ≡ Ok (view x, left)
 Reads view (Err fault) left read = read ≡ Err fault

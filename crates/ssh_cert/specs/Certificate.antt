@@ -7,7 +7,8 @@ use Rattle.ssh_cert.specs.declared.role.Role.{Role}
 use Rattle.ssh_cert.specs.declared.role.Role.TheVariants.{User, Host}
 use Rattle.ssh_cert.specs.Options.{NamedData, options_text}
 
--- A certificate's fields, without the reserved one; of the signature only the name of its algorithm.
+-- A certificate's fields, without the reserved one; of the signature only the name of its
+-- algorithm.
 pub record Certificate : Type 0 where
   pub nonce : List ℕ
   pub key : Key
@@ -65,8 +66,8 @@ pub record HasLengths (certificate : Certificate) (reserved signature : List ℕ
   pub reserved_fits : length reserved < 2 ^ 32
   pub signature_fits : length signature < 2 ^ 32
 
--- The blob is that of the certificate: its fields in their order, and nothing more. The plain key and
--- the signature key are keys, and the signature begins with the name of its algorithm.
+-- The blob is that of the certificate: its fields in their order, and nothing more. The plain key
+-- and the signature key are keys, and the signature begins with the name of its algorithm.
 pub record IsCertificate (blob : List ℕ) (certificate : Certificate) : Type 0 where
   pub reserved : List ℕ
   pub signature : List ℕ

@@ -8,7 +8,9 @@ hex_digit n = slice_index (codes "0123456789abcdef") n
 
 unfoldable pub escaped_byte : ℕ → List ℕ
 escaped_byte byte =
-    if nat_lt byte 32 || byte == 127 then 92 ∷ 120 ∷ hex_digit (byte / 16) ∷ hex_digit (byte % 16) ∷ [] else byte ∷ []
+    if nat_lt byte 32 || byte == 127
+    then 92 ∷ 120 ∷ hex_digit (byte / 16) ∷ hex_digit (byte % 16) ∷ []
+    else byte ∷ []
 
 unfoldable pub escaped : List ℕ → List ℕ
 escaped text = flat_map escaped_byte text

@@ -7,8 +7,8 @@ use Rattle.ssh_cert.specs.declared.role.Role.{Role}
 use Rattle.ssh_cert.specs.Certificate.{role_number}
 use Rattle.ssh_cert.specs.Options.{NamedData, options_text}
 
--- a string; the public fields of a key of the kind; a number of eight bytes; what the certificate is
--- for; the principals; options or extensions; the signature key; the signature
+-- a string; the public fields of a key of the kind; a number of eight bytes; what the certificate
+-- is for; the principals; options or extensions; the signature key; the signature
 pub data Field : Type 0 where
   TextField : Field
   PublicField : Kind → Field

@@ -20,8 +20,8 @@ pub record HasOtherRole (bytes : List ℕ) : Type 0 where
   pub no_user : role ≢ 1
   pub no_host : role ≢ 2
 
--- What stands at the front of the bytes is no value of the field: it is cut short, or a string whose
--- content may not stand there.
+-- What stands at the front of the bytes is no value of the field: it is cut short, or a string
+-- whose content may not stand there.
 abbrev pub Refuses : Field → List ℕ → CertFault → Type 0
 Refuses (PublicField kind) bytes (faults.Key fault) = IsFieldsFault kind bytes fault
 Refuses (PublicField kind) bytes fault = ⊥
@@ -44,8 +44,8 @@ Refuses SignatureField bytes faults.Signature =
     × ((algorithm : List ℕ) → ¬ BeginsWith signature algorithm)
 Refuses field bytes fault = ⊥
 
--- The blob has its type name and, with values that may stand there, its fields before the later ones.
--- These bytes are left.
+-- The blob has its type name and, with values that may stand there, its fields before the later
+-- ones. These bytes are left.
 pub record Reaches (blob : List ℕ) (kind : Kind) (later : List Field) (rest : List ℕ) : Type 0 where
   pub before : List Field
   pub values : ValuesOf before

@@ -120,7 +120,8 @@ listing_text hash certificate moment period =
     ++ (terms_text certificate moment period ++ lists_text certificate)
 
 -- The text lists the certificate at the moment, with the fingerprints by the hash.
-pub record IsListing (hash : Hash) (certificate : Certificate) (moment : ℕ) (text : List ℕ) : Type 0 where
+pub record IsListing (hash : Hash) (certificate : Certificate) (moment : ℕ) (text : List ℕ)
+    : Type 0 where
   pub period : List ℕ
   pub is_period : IsPeriod certificate period
   pub spelled : text ≡ listing_text hash certificate moment period

@@ -1,4 +1,5 @@
--- The critical options and the extensions of a certificate (PROTOCOL.certkeys): pairs of a name and data.
+-- The critical options and the extensions of a certificate (PROTOCOL.certkeys): pairs of a name and
+-- data.
 use Rattle.std.specs.Prelude.{◌≡◌, ℕ, List, [], ◌∷◌, Option, Some, None, unwrap_or}
 use Rattle.std.specs.List.{flat_map}
 use Rattle.std.specs.Option.{option_map}

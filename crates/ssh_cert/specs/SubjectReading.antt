@@ -43,8 +43,8 @@ pub record HasCertificateName (blob : List ℕ) : Type 0 where
   pub kind : Kind
   pub begins : BeginsWith blob (certificate_name kind)
 
--- The first fault of a blob, as that of a certificate where its first string is the type name of one,
--- and else as that of a plain key.
+-- The first fault of a blob, as that of a certificate where its first string is the type name of
+-- one, and else as that of a plain key.
 pub data IsSubjectFault (blob : List ℕ) (fault : SubjectFault) : Type 0 where
   no_key : (why : KeyFault) → ¬ HasCertificateName blob → IsKeyFault blob why
       → fault ≡ faults.Key why → IsSubjectFault blob fault

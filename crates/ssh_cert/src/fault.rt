@@ -9,9 +9,9 @@ use ssh_wire::WireFault;
 use std::error::Error;
 use std::fmt;
 
-/// Why a blob is not a certificate. Of several faults the first is told, in the order of the fields.
-/// It prints as `cert`, its number and its name; behind `Key` and `Authority` comes the fault of the
-/// key.
+/// Why a blob is not a certificate. Of several faults the first is told, in the order of the
+/// fields. It prints as `cert`, its number and its name; behind `Key` and `Authority` comes the
+/// fault of the key.
 #[derive(Clone, Copy, Debug, PartialEq, Eq)]
 pub enum CertFault {
     /// A field outside the public fields of the key is cut short.

@@ -1,5 +1,6 @@
-//! What holds for every certificate and every list of bytes, each as the contract of a function that
-//! does nothing. `read_cert` answers what the reader named here gives, and `subject` what is asked.
+//! What holds for every certificate and every list of bytes, each as the contract of a function
+//! that does nothing. `read_cert` answers what the reader named here gives, and `subject` what is
+//! asked.
 
 ghost use Rattle.std.specs.Prelude.{◌≡◌, ◌↔◌, ℕ, List, Err, Ok};
 ghost use Rattle.ssh_cert.specs.CertReading.{certificate_at};
@@ -44,8 +45,8 @@ pub fn cut_certificate()
         → IsCertificate blob certificate → IsCut front blob → HasCutFault front }
 {}
 
-/// Reading gives what is asked exactly where the bytes are those of a plain key or of a certificate of
-/// which it is asked.
+/// Reading gives what is asked exactly where the bytes are those of a plain key or of a certificate
+/// of which it is asked.
 pub fn asked_where_spelled()
     ensures { (blob : List ℕ) (asked : Subject) → IsBytes blob
         → (subject_of blob ≡ Ok asked) ↔ IsSubject blob asked }

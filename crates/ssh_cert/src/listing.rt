@@ -102,8 +102,8 @@ fn valid_value(cert: &Cert, moment: u64) -> &'static [u8]
     }
 }
 
-/// The data of an option as it is printed behind its name: nothing where it is empty, the text of the
-/// options that have one, and else its hexadecimal digits.
+/// The data of an option as it is printed behind its name: nothing where it is empty, the text of
+/// the options that have one, and else its hexadecimal digits.
 #[tactic(auto, unfolding(crate::specs::Listing::data_text))]
 fn push_data(
     alloc: Global,
@@ -316,8 +316,8 @@ fn listing(
 }
 
 /// The listing of a certificate, in the lines behind its first one, which names the file. The
-/// fingerprints are by this hash, the moment is in seconds from 1970 on, and what others wrote stands
-/// escaped. Fails only where memory runs out.
+/// fingerprints are by this hash, the moment is in seconds from 1970 on, and what others wrote
+/// stands escaped. Fails only where memory runs out.
 pub fn list_cert(alloc: Global, cert: &Cert, hash: Hash, moment: u64) -> Result<Vec<u8>, AllocError>
     ensures { IfOk result (λ text. IsListing hash cert.now moment text.items) }
 {

@@ -6,8 +6,8 @@ ghost use Rattle.ssh_cert.specs.CertReading.{options_of};
 use crate::strings::{Strings, count_of, strings_in};
 use std::marker::Model;
 
-/// A critical option or an extension of a certificate: its name and its data, neither of which need be
-/// text.
+/// A critical option or an extension of a certificate: its name and its data, neither of which need
+/// be text.
 #[derive(Debug, Drop)]
 pub struct CertOption<'a> {
     /// The name.

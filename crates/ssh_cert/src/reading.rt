@@ -70,10 +70,11 @@ struct Naming<'a> {
 }
 
 /// The certificate that a blob spells (PROTOCOL.certkeys): its fields in their order, and nothing
-/// more. The plain key and the signature key are plain keys as `read_key` knows them. Takes no memory:
-/// every part is lent from the blob. The signature is not checked.
+/// more. The plain key and the signature key are plain keys as `read_key` knows them. Takes no
+/// memory: every part is lent from the blob. The signature is not checked.
 ///
-/// Of several faults the first is told, in the order in which the fields stand, and `Trailing` last.
+/// Of several faults the first is told, in the order in which the fields stand, and `Trailing`
+/// last.
 pub fn read_cert<'a>(blob: &'a [u8]) -> Result<Cert<'a>, CertFault>
     // What is read is spelled so.
     ensures found { IfOk result (λ cert. IsCertificate blob.now cert) }
@@ -246,7 +247,8 @@ fn options_field<'a>(cursor: &mut Cursor<'a>) -> Result<Options<'a>, CertFault>
 /// The signature key.
 #[tactic(auto, unfolding(crate::specs::CertReading::field_at))]
 fn authority_field<'a>(cursor: &mut Cursor<'a>) -> Result<Authority<'a>, CertFault>
-    ensures { Reads (λ authority. authority) result cursor.new (field_at AuthorityField cursor.old) }
+    ensures { Reads (λ authority. authority) result cursor.new
+        (field_at AuthorityField cursor.old) }
 {
     let blob = cursor.string()?;
     match read_key(blob) {
@@ -258,7 +260,8 @@ fn authority_field<'a>(cursor: &mut Cursor<'a>) -> Result<Authority<'a>, CertFau
 /// The signature, of which the name of its algorithm is read.
 #[tactic(auto, unfolding(crate::specs::CertReading::field_at))]
 fn signature_field<'a>(cursor: &mut Cursor<'a>) -> Result<Signature<'a>, CertFault>
-    ensures { Reads (λ signature. signature) result cursor.new (field_at SignatureField cursor.old) }
+    ensures { Reads (λ signature. signature) result cursor.new
+        (field_at SignatureField cursor.old) }
 {
     let text = cursor.string()?;
     match Cursor::new(text).string() {

@@ -13,9 +13,9 @@ use ssh_key::{Kind, plain_blob, read_key};
 use ssh_wire::{Bytes, Cursor};
 use std::alloc::Global;
 
-/// What a revocation list is asked about a blob (ssh-keygen(1), KEY REVOCATION LISTS): of a plain key
-/// the blob, and of a certificate the blob of its plain key, its serial number, its key ID and its
-/// authority's blob. A blob whose first string is the type name of a certificate is read as a
+/// What a revocation list is asked about a blob (ssh-keygen(1), KEY REVOCATION LISTS): of a plain
+/// key the blob, and of a certificate the blob of its plain key, its serial number, its key ID and
+/// its authority's blob. A blob whose first string is the type name of a certificate is read as a
 /// certificate, any other as a plain key.
 pub fn subject<'a>(alloc: Global, blob: &'a [u8]) -> Result<Subject<'a>, SubjectFault>
     // What is asked is that of a plain key or of a certificate.

@@ -19,8 +19,8 @@ pub fn valid_at(cert: &Cert, moment: u64) -> bool
     cert.after() <= moment && moment < cert.before()
 }
 
-/// An instant in UTC, as `YYYY-MM-DDTHH:MM:SSZ`, by its seconds from 1970 on. From the year 9999 on it
-/// is `@` and the number. Fails only where memory runs out.
+/// An instant in UTC, as `YYYY-MM-DDTHH:MM:SSZ`, by its seconds from 1970 on. From the year 9999 on
+/// it is `@` and the number. Fails only where memory runs out.
 pub fn time_text(alloc: Global, seconds: u64) -> Result<Vec<u8>, AllocError>
     ensures { IfOk result (λ text. IsTimeText seconds text.items) }
 {

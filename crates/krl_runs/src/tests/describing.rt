@@ -28,7 +28,8 @@ fn each_key(rt: HostRuntime) -> Result<(), Fail> {
         (
             Hash::Md5,
             &[OTHER_LINE, b" x y\n# c\n", GITHUB_LINE, b" \x1f\x7f"],
-            "256 MD5:94:76:ac:2c:a5:3f:05:76:18:bf:9c:b0:12:de:ae:7d x y (ED25519)\n256 MD5:65:96:2d:fc:e8:d5:a9:11:64:0c:0f:ea:00:6e:5b:bd \\x1f\\x7f (ED25519)\n",
+            "256 MD5:94:76:ac:2c:a5:3f:05:76:18:bf:9c:b0:12:de:ae:7d x y (ED25519)\n\
+             256 MD5:65:96:2d:fc:e8:d5:a9:11:64:0c:0f:ea:00:6e:5b:bd \\x1f\\x7f (ED25519)\n",
         ),
         (
             Hash::Sha256,

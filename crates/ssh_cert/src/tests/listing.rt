@@ -41,8 +41,17 @@ fn a_plain_listing(rt: HostRuntime) -> Result<(), Fail> {
     let alloc = rt.alloc();
     let blob = by_itself(alloc, Part::Nonce, &[0; 4])?;
     assert_eq!(rt; blob.len(), 267);
-    let wanted =
-        "        Type: ssh-ed25519-cert-v01@openssh.com user certificate\n        Public key: ED25519-CERT SHA256:+DiY3wvvV6TuJJhbpZisF/zLDA0zPMSvHdkr4UvCOqU\n        Signing CA: ED25519 SHA256:+DiY3wvvV6TuJJhbpZisF/zLDA0zPMSvHdkr4UvCOqU (using ssh-ed25519)\n        Key ID: \"a\"\n        Serial: 7\n        Valid: forever\n        Valid now: yes\n        Principals: (none)\n        Critical Options: (none)\n        Extensions: (none)\n";
+    let wanted = "        Type: ssh-ed25519-cert-v01@openssh.com user certificate\n\
+         \x20       Public key: ED25519-CERT SHA256:+DiY3wvvV6TuJJhbpZisF/zLDA0zPMSvHdkr4UvCOqU\n\
+         \x20       Signing CA: ED25519 SHA256:+DiY3wvvV6TuJJhbpZisF/zLDA0zPMSvHdkr4UvCOqU \
+         (using ssh-ed25519)\n\
+         \x20       Key ID: \"a\"\n\
+         \x20       Serial: 7\n\
+         \x20       Valid: forever\n\
+         \x20       Valid now: yes\n\
+         \x20       Principals: (none)\n\
+         \x20       Critical Options: (none)\n\
+         \x20       Extensions: (none)\n";
     let cert = read_cert(&blob).ok().ok_or("the blob is a certificate")?;
     let text = list_cert(alloc, &cert, Hash::Sha256, 0)?;
     assert_eq!(rt; text.as_slice(), wanted.as_bytes());
@@ -55,13 +64,16 @@ fn options_are_listed(rt: HostRuntime) -> Result<(), Fail> {
     let id = strings(alloc, &[b"id"])?;
     let field = strings(alloc, &[&strings(alloc, &[b"force-command", &id])?])?;
     let blob = changed(alloc, Part::Critical, &field)?;
-    let wanted =
-        "        Principals: (none)\n        Critical Options:\n                force-command id\n        Extensions: (none)\n";
+    let wanted = "        Principals: (none)\n\
+         \x20       Critical Options:\n\
+         \x20               force-command id\n\
+         \x20       Extensions: (none)\n";
     lists(&rt, alloc, &blob, Hash::Sha256, wanted)?;
     let other = strings(alloc, &[&strings(alloc, &[b"force-command", &[0xff]])?])?;
     let blob = changed(alloc, Part::Critical, &other)?;
-    let wanted =
-        "        Critical Options:\n                force-command hex:ff\n        Extensions: (none)\n";
+    let wanted = "        Critical Options:\n\
+         \x20               force-command hex:ff\n\
+         \x20       Extensions: (none)\n";
     lists(&rt, alloc, &blob, Hash::Md5, wanted)?;
     let pty = strings(
         alloc,
@@ -77,8 +89,10 @@ fn principals_are_listed(rt: HostRuntime) -> Result<(), Fail> {
     let alloc = rt.alloc();
     let field = [0, 0, 0, 8, 0, 0, 0, 4, 0x72, 0x6f, 0x6f, 0x74];
     let blob = changed(alloc, Part::Principals, &field)?;
-    let wanted =
-        "        Principals:\n                root\n        Critical Options: (none)\n        Extensions: (none)\n";
+    let wanted = "        Principals:\n\
+         \x20               root\n\
+         \x20       Critical Options: (none)\n\
+         \x20       Extensions: (none)\n";
     lists(&rt, alloc, &blob, Hash::Sha256, wanted)
 }
 
@@ -91,8 +105,9 @@ fn lasts(
     lines: &str,
 ) -> Result<(), Fail> {
     let blob = changed(alloc, part, &seconds.to_be_bytes())?;
-    let end =
-        "        Principals: (none)\n        Critical Options: (none)\n        Extensions: (none)\n";
+    let end = "        Principals: (none)\n\
+         \x20       Critical Options: (none)\n\
+         \x20       Extensions: (none)\n";
     let wanted = format!(in alloc; "{lines}{end}")?;
     lists(rt, alloc, &blob, Hash::Sha256, wanted.as_str())
 }

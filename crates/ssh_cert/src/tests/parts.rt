@@ -63,8 +63,9 @@ pub fn plain(alloc: Global, public: &[u8]) -> Result<Vec<u8>, AllocError> {
     strings(alloc, &[b"ssh-ed25519", public])
 }
 
-/// How a field stands in the certificate of the published key by the authority, for a user, with the
-/// serial number 7 and the key ID `a`, valid for ever, with no principals, options or extensions.
+/// How a field stands in the certificate of the published key by the authority, for a user, with
+/// the serial number 7 and the key ID `a`, valid for ever, with no principals, options or
+/// extensions.
 pub fn spelled(alloc: Global, part: Part) -> Result<Vec<u8>, AllocError> {
     match part {
         Part::Type => strings(alloc, &[b"ssh-ed25519-cert-v01@openssh.com"]),
