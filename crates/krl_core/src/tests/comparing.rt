@@ -1,0 +1,155 @@
+// Random questions about random entries, answered as a plain model answers them.
+
+ghost use Rattle.std.specs.Prelude.{◌≤◌, ◌<◌};
+
+use crate::Revocations;
+use crate::tests::plain_model::{Asked, Names, Said, add, is_revoked, subject_of};
+use crate::tests::random::Random;
+use serial_set::{Held, SpanVec, Spans};
+use ssh_key::{sha1_of, sha256_of};
+use std::alloc::{AllocError, Global};
+use std::process::Abort;
+use std::test::Fail;
+
+// No bytes stand for all authorities; the others are keys too.
+const AUTHORITIES: [&[u8]; 4] = [b"", b"a", b"ab", b"b"];
+
+const KEYS: [&[u8]; 4] = [b"a", b"ab", b"b", b"k"];
+
+const IDS: [&[u8]; 4] = [b"", b"i", b"ij", b"j"];
+
+/// The hashes of the keys.
+#[derive(Clone, Copy)]
+struct Hashes {
+    sha1s: [[u8; 20]; 4],
+    sha256s: [[u8; 32]; 4],
+}
+
+impl Hashes {
+    fn new() -> Hashes {
+        Hashes {
+            sha1s: [
+                sha1_of(KEYS[0]),
+                sha1_of(KEYS[1]),
+                sha1_of(KEYS[2]),
+                sha1_of(KEYS[3]),
+            ],
+            sha256s: [
+                sha256_of(KEYS[0]),
+                sha256_of(KEYS[1]),
+                sha256_of(KEYS[2]),
+                sha256_of(KEYS[3]),
+            ],
+        }
+    }
+}
+
+// Mostly a few serials, now and then many.
+fn some_serials<'a>(random: &mut Random) -> Said<'a> {
+    let authority = random.text(&AUTHORITIES);
+    let lo = random.serial();
+    let hi = if random.below(10) == 0 {
+        lo.max(random.serial())
+    } else {
+        lo.saturating_add(random.below(4))
+    };
+    Said::Serials { authority, lo, hi }
+}
+
+fn some_id<'a>(random: &mut Random) -> Said<'a> {
+    let authority = random.text(&AUTHORITIES);
+    let id = random.text(&IDS);
+    Said::Id { authority, id }
+}
+
+fn some_entry<'a>(random: &mut Random, hashes: &'a Hashes) -> Said<'a> {
+    let at = random.below(4) as usize;
+    let sort = random.below(20);
+    if sort == 0 {
+        return Said::Key(KEYS[at]);
+    }
+    if sort == 1 {
+        return Said::Sha1(&hashes.sha1s[at]);
+    }
+    if sort == 2 {
+        return Said::Sha256(&hashes.sha256s[at]);
+    }
+    if sort < 9 {
+        some_id(random)
+    } else {
+        some_serials(random)
+    }
+}
+
+fn some_question<'a>(random: &mut Random) -> Asked<'a> {
+    let key = random.text(&KEYS);
+    if random.below(6) == 0 {
+        return Asked { key, cert: None };
+    }
+    let at = random.below(3) as usize;
+    let serial = if random.below(10) == 0 {
+        0
+    } else {
+        random.serial()
+    };
+    Asked {
+        key,
+        cert: Some(Names {
+            authority: AUTHORITIES[at + 1],
+            serial,
+            id: random.text(&IDS),
+        }),
+    }
+}
+
+// The answer of what is held is that of the model.
+fn agree<S: Spans>(
+    rt: &impl Abort,
+    alloc: Global,
+    r: &Revocations<S>,
+    all: &[Said<'_>],
+    asked: Asked<'_>,
+) -> Result<(), AllocError> {
+    let subject = subject_of(alloc, asked)?;
+    assert_eq!(rt; r.query(&subject), is_revoked(all, asked));
+    Ok(())
+}
+
+fn compare<S: Spans>(
+    rt: &impl Abort,
+    alloc: Global,
+    random: &mut Random,
+    hashes: &Hashes,
+) -> Result<(), AllocError> {
+    let mut r: Revocations<S> = Revocations::new(alloc);
+    let mut all = Vec::new(alloc);
+    for _ in 0..random.below(10) {
+        let said = some_entry(random, hashes);
+        add(&mut r, said)?;
+        all.push(said)?;
+    }
+    for _ in 0..200 {
+        agree(rt, alloc, &r, &all, some_question(random))?;
+    }
+    Ok(())
+}
+
+#[test]
+fn random_questions_over_pages(rt: HostRuntime) -> Result<(), Fail> {
+    let hashes = Hashes::new();
+    let mut random = Random::new(2026);
+    for _ in 0..500 {
+        compare::<Held>(&rt, rt.alloc(), &mut random, &hashes)?;
+    }
+    Ok(())
+}
+
+#[test]
+fn random_questions_over_a_vector(rt: HostRuntime) -> Result<(), Fail> {
+    let hashes = Hashes::new();
+    let mut random = Random::new(7);
+    for _ in 0..100 {
+        compare::<SpanVec>(&rt, rt.alloc(), &mut random, &hashes)?;
+    }
+    Ok(())
+}

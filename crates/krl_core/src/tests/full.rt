@@ -1,0 +1,104 @@
+// Sets of serials of the tests: one that refuses at a length, and one that counts its additions.
+
+ghost use Rattle.std.specs.Prelude.{◌≡◌, ◌<◌, ◌≤◌, IsTrue};
+ghost use Rattle.serial_set.specs.Span.{TouchesNone};
+
+use serial_set::{Span, Spans};
+use std::alloc::{AllocError, Global};
+
+/// Refuses an addition that stands alone where it has `AT` spans.
+#[derive(Drop)]
+pub struct Full<S: Spans, const AT: usize> {
+    inner: S,
+}
+
+// Whether the interval stands alone: no span of the set has a number of it, or one beside it.
+fn touches_none<S: Spans>(set: &S, lo: u64, hi: u64) -> bool
+    requires from_one { 0 < lo }
+    requires ordered { lo ≤ hi }
+    ensures { IsTrue result → TouchesNone (S.spans set.now) lo hi }
+{
+    for at in 0..set.len() {
+        let span = set.get(at);
+        if span.hi >= lo - 1 && span.lo.saturating_sub(1) <= hi {
+            return false;
+        }
+    }
+    true
+}
+
+impl<S: Spans, const AT: usize> Spans for Full<S, AT> {
+    ghost spans = { λ full. S.spans full.inner };
+
+    ghost law = { λ full. S.law full.inner };
+
+    fn empty(alloc: Global) -> Result<Full<S, AT>, AllocError> {
+        Ok(Full {
+            inner: S::empty(alloc)?,
+        })
+    }
+
+    fn add(&mut self, lo: u64, hi: u64) -> Result<(), AllocError> {
+        if self.inner.len() == AT && touches_none(&self.inner, lo, hi) {
+            return Err(AllocError);
+        }
+        self.inner.add(lo, hi)
+    }
+
+    fn has(&self, serial: u64) -> bool {
+        self.inner.has(serial)
+    }
+
+    fn len(&self) -> usize {
+        self.inner.len()
+    }
+
+    fn get(&self, at: usize) -> Span {
+        self.inner.get(at)
+    }
+
+    fn piece(&self, at: usize) -> &[Span] {
+        self.inner.piece(at)
+    }
+}
+
+/// Counts how often it was added to.
+#[derive(Drop)]
+pub struct Counted<S: Spans> {
+    inner: S,
+    pub additions: u64,
+}
+
+impl<S: Spans> Spans for Counted<S> {
+    ghost spans = { λ counted. S.spans counted.inner };
+
+    ghost law = { λ counted. S.law counted.inner };
+
+    fn empty(alloc: Global) -> Result<Counted<S>, AllocError> {
+        Ok(Counted {
+            inner: S::empty(alloc)?,
+            additions: 0,
+        })
+    }
+
+    fn add(&mut self, lo: u64, hi: u64) -> Result<(), AllocError> {
+        self.additions = self.additions.saturating_add(1);
+        self.inner.add(lo, hi)
+    }
+
+    fn has(&self, serial: u64) -> bool {
+        self.inner.has(serial)
+    }
+
+    fn len(&self) -> usize {
+        self.inner.len()
+    }
+
+    fn get(&self, at: usize) -> Span {
+        self.inner.get(at)
+    }
+
+    fn piece(&self, at: usize) -> &[Span] {
+        self.inner.piece(at)
+    }
+}

@@ -1,0 +1,34 @@
+// What the tests ask about.
+
+use ssh_cert::{CertNames, Subject};
+use ssh_wire::Bytes;
+use std::alloc::{AllocError, Global};
+
+/// The blob of a key. It need not be that of a real one, since blobs are only compared and hashed.
+pub const G: &[u8] = b"G, the key of a certificate";
+
+/// The blob of an authority's key.
+pub const A: &[u8] = b"A, an authority";
+
+/// The blob of another authority's key.
+pub const B: &[u8] = b"B, another authority";
+
+/// A plain key.
+pub fn plain<'a>(alloc: Global, blob: &[u8]) -> Result<Subject<'a>, AllocError> {
+    Ok(Subject {
+        plain: Bytes::from_vec(Vec::from_slice(alloc, blob)?),
+        cert: None,
+    })
+}
+
+/// The certificate of a key.
+pub fn certificate<'a>(
+    alloc: Global,
+    blob: &[u8],
+    cert: CertNames<'a>,
+) -> Result<Subject<'a>, AllocError> {
+    Ok(Subject {
+        plain: Bytes::from_vec(Vec::from_slice(alloc, blob)?),
+        cert: Some(cert),
+    })
+}
