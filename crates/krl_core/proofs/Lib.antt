@@ -52,3 +52,7 @@ pub mod SomeSections
 pub mod Spots
 pub mod Limits
 pub mod Tested
+pub mod OneSpelling
+pub mod OneMeaning
+pub mod Sizes
+pub mod ReadBack

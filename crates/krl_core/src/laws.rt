@@ -8,10 +8,11 @@ mod written;
 pub use asked::revokes_what_is_meant;
 pub use lists::{
     a_cut_ends_early, each_text_is_told, no_fault_where_spelled, one_first_fault,
-    one_front_begins_the_other,
+    one_front_begins_the_other, one_spelling,
 };
-pub use naming::{meaning_decides_naming, naming_decides_meaning};
+pub use naming::{entries_decide_what_is_held, meaning_decides_naming, naming_decides_meaning};
 pub use written::{
-    one_least_plan, plan_has_its_bytes, sections_mean_what_is_held, text_is_spelled,
+    one_least_plan, plan_has_its_bytes, sections_mean_what_is_held, text_has_its_size,
+    text_is_spelled, written_list_has_no_fault, written_list_is_read_back,
     written_list_names_what_is_held,
 };

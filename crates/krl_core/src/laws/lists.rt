@@ -45,3 +45,10 @@ pub fn a_cut_ends_early()
         → text ≡ prefix ++ more
         → IsFirstFault prefix None ⊎ IsFirstFault prefix (Some EndsEarly) }
 {}
+
+/// The header and the sections that a text spells are the only ones.
+pub fn one_spelling()
+    ensures { (text : List ℕ) (header other : Header) (sections others : List Section)
+        → Spells text header sections → Spells text other others
+        → (header ≡ other) × (sections ≡ others) }
+{}

@@ -16,3 +16,9 @@ pub fn meaning_decides_naming()
     ensures { (r : Contents) (entries others : List Entry) → Means r entries → Means r others
         → NamesSame entries others }
 {}
+
+/// The entries decide what is held: what means the same entries is the same.
+pub fn entries_decide_what_is_held()
+    ensures { (r other : Contents) (entries : List Entry) → Means r entries → Means other entries
+        → r ≡ other }
+{}

@@ -1,9 +1,10 @@
 // Laws of the lists that are written. Each function does nothing: its contract is the law.
 
-ghost use Rattle.std.specs.Prelude.{◌≡◌, ◌≤◌, ◌<◌, ◌*◌, ◌^◌, ℕ, List, length};
+ghost use Rattle.std.specs.Prelude.{◌≡◌, ◌≤◌, ◌<◌, ◌+◌, ◌*◌, ◌^◌, ℕ, List, None, length};
 ghost use Rattle.serial_set.specs.declared.span.Span.{Span};
 ghost use Rattle.serial_set.specs.Span.{IsRuns};
-ghost use Rattle.krl_core.specs.Front.{limit};
+ghost use Rattle.ssh_wire.specs.Wire.{IsBytes};
+ghost use Rattle.krl_core.specs.Front.{IsFirstFault, limit};
 ghost use Rattle.krl_core.specs.declared.plan.group.Group.{Group};
 ghost use Rattle.krl_core.specs.Contents.{Contents, IsOrderly, Means};
 ghost use Rattle.krl_core.specs.declared.header.Header.{Header};
@@ -11,6 +12,8 @@ ghost use Rattle.krl_core.specs.Krl.{Section, Spells};
 ghost use Rattle.krl_core.specs.Entries.{entries_of};
 ghost use Rattle.krl_core.specs.KrlText.{EachPlan, IsKrlText, sections_of, text_of};
 ghost use Rattle.krl_core.specs.Plan.{IsCheapest, IsLeastPlan, IsPlan, cost};
+ghost use Rattle.krl_core.specs.Reading.{IsList};
+ghost use Rattle.krl_core.specs.Size.{text_size};
 ghost use Rattle.krl_core.specs.Written.{plan_text};
 
 /// The text of a list within the limit is spelled, whatever plans its serials are written by.
@@ -50,4 +53,26 @@ pub fn written_list_names_what_is_held()
         → length text ≤ limit → header.version < 2 ^ 64 → header.date < 2 ^ 64 → IsOrderly r
         → (sections : List Section) × (Spells text header sections
         × Means r (entries_of sections)) }
+{}
+
+/// Whatever is read of a list that was written is its header and just what was held.
+pub fn written_list_is_read_back()
+    ensures { (header read : Header) (r held : Contents) (text : List ℕ) → IsKrlText header r text
+        → length text ≤ limit → header.version < 2 ^ 64 → header.date < 2 ^ 64 → IsOrderly r
+        → IsList text read held → (read ≡ header) × (held ≡ r) }
+{}
+
+/// A list that was written has no fault, so that reading it fails only where memory runs out or the
+/// reader fails.
+pub fn written_list_has_no_fault()
+    ensures { (header : Header) (r : Contents) (text : List ℕ) → IsKrlText header r text
+        → length text ≤ limit → header.version < 2 ^ 64 → header.date < 2 ^ 64 → IsOrderly r
+        → IsBytes text → IsFirstFault text None }
+{}
+
+/// The exact length of a list that is written: its parts and what its plans cost.
+pub fn text_has_its_size()
+    ensures { (header : Header) (plans : List (List Group)) (r : Contents) → IsOrderly r
+        → EachPlan IsPlan plans r.sections
+        → length (text_of header plans r) ≡ text_size header plans r }
 {}
