@@ -1,13 +1,16 @@
 // What no contract says: worked lists and plans, calls with ample memory, devices that fail.
 
 mod asking;
+mod beside;
 mod comparing;
 mod devices;
 mod full;
 mod holding;
 mod plain_model;
+mod plain_reader;
 mod planning;
 mod random;
+mod random_lists;
 mod reading;
 mod rows;
 mod subjects;
