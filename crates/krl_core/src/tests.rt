@@ -6,6 +6,7 @@ mod comparing;
 mod devices;
 mod full;
 mod holding;
+mod hostile;
 mod plain_model;
 mod plain_reader;
 mod planning;

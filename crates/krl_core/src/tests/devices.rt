@@ -38,3 +38,25 @@ impl<'a> Read for Giver<'a> {
         Ok(count)
     }
 }
+
+/// Gives some bytes, and so many zero bytes after them.
+#[derive(Drop)]
+pub struct Zeros<'a> {
+    pub first: &'a [u8],
+    pub zeros: usize,
+}
+
+impl<'a> Read for Zeros<'a> {
+    fn read(&mut self, into: &mut [u8]) -> io::Result<usize> {
+        if self.first.is_empty() {
+            let count = self.zeros.min(into.len());
+            into[..count].fill(0);
+            self.zeros -= count;
+            return Ok(count);
+        }
+        let count = self.first.len().min(into.len());
+        into[..count].copy_from_slice(&self.first[..count]);
+        self.first = &self.first[count..];
+        Ok(count)
+    }
+}
