@@ -56,3 +56,5 @@ pub mod OneSpelling
 pub mod OneMeaning
 pub mod Sizes
 pub mod ReadBack
+pub mod Intervals
+pub mod FourAByte

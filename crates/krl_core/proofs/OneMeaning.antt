@@ -33,7 +33,7 @@ placed_by a b Greater e = second (nat_list_cmp_total.antisymm b a ∙ ap orderin
 placed : (a b : List ℕ) → Placed a b
 placed a b = placed_by a b (bytes_cmp a b) refl
 
-not_before_itself : (a : List ℕ) → bytes_cmp a a ≡ Less → ⊥
+pub not_before_itself : (a : List ℕ) → bytes_cmp a a ≡ Less → ⊥
 not_before_itself a less = let e : Less ≡ Equal = sym less ∙ tied_itself nat_list_cmp_total a in cc
 
 -- ---- byte strings in order
@@ -78,11 +78,11 @@ same_texts (x ∷ xs) (y ∷ ys) r t to from =
 
 -- ---- sections in order
 
-abbrev authority_of : Section → List ℕ
+abbrev pub authority_of : Section → List ℕ
 authority_of section = section.authority
 
 -- something is held under some authority of sections that come after it
-above_held : (P : Section → Type 0) (a b : List ℕ) (xs : List Section) → AllAbove authority_of a xs → SomeSection (λ section. (section.authority ≡ b) × P section) xs → bytes_cmp a b ≡ Less
+pub above_held : (P : Section → Type 0) (a b : List ℕ) (xs : List Section) → AllAbove authority_of a xs → SomeSection (λ section. (section.authority ≡ b) × P section) xs → bytes_cmp a b ≡ Less
 above_held P a b [] above h = absurd h
 above_held P a b (x ∷ xs) above h =
     elim h [
@@ -91,7 +91,7 @@ above_held P a b (x ∷ xs) above h =
     ]
 
 -- what is held under the authority of the first section is held in it
-held_first : (P : Section → Type 0) (x : Section) (xs : List Section) → AllAbove authority_of x.authority xs → SomeSection (λ section. (section.authority ≡ x.authority) × P section) (x ∷ xs) → P x
+pub held_first : (P : Section → Type 0) (x : Section) (xs : List Section) → AllAbove authority_of x.authority xs → SomeSection (λ section. (section.authority ≡ x.authority) × P section) (x ∷ xs) → P x
 held_first P x xs above h =
     elim h [
       | inl here ↦ here.1

@@ -1,10 +1,12 @@
 // Laws of what a list spells, of its first fault and of what its fields name. Each function does
 // nothing: its contract is the law.
 
-ghost use Rattle.std.specs.Prelude.{◌≡◌, ◌≤◌, ◌⊎◌, ◌++◌, ℕ, List, None, Some, Option, length};
+ghost use Rattle.std.specs.Prelude.{◌≡◌, ◌≤◌, ◌*◌, ◌⊎◌, ◌++◌, ℕ, List, None, Some, Option, length};
 ghost use Rattle.krl_core.specs.declared.krl_fault.KrlFault.TheVariants.{EndsEarly};
 ghost use Rattle.ssh_wire.specs.Wire.{IsBytes};
 ghost use Rattle.krl_core.specs.declared.header.Header.{Header};
+ghost use Rattle.std.specs.List.{concat};
+ghost use Rattle.krl_core.specs.Contents.{Contents, Means, held};
 ghost use Rattle.krl_core.specs.Krl.{Section, Spells};
 ghost use Rattle.krl_core.specs.declared.krl_fault.KrlFault.{KrlFault};
 ghost use Rattle.krl_core.specs.Front.{Spot, IsFirstFault, IsFront, limit};
@@ -51,4 +53,13 @@ pub fn one_spelling()
     ensures { (text : List ℕ) (header other : Header) (sections others : List Section)
         → Spells text header sections → Spells text other others
         → (header ≡ other) × (sections ≡ others) }
+{}
+
+/// What the fields of a front name has at most four intervals of serials for each byte of the
+/// front, summed over the authorities. Of a bitmap that is read in part, the bits that were read
+/// count too.
+pub fn four_intervals_a_byte()
+    ensures { (text : List ℕ) (fields : List (List ℕ)) (spot : Spot) (rest : List ℕ) (r : Contents)
+        → IsBytes text → IsFront text fields spot rest → Means r spot.entries
+        → held r ≤ 4 * length (concat fields) }
 {}

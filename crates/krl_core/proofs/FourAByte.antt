@@ -1,0 +1,240 @@
+-- What the fields of a front name has at most four intervals for each of their bytes.
+use Rattle.std.proofs.Common.{◌≡◌, ℕ, zero, suc, ◌+◌, ◌-◌, ◌*◌, ◌<◌, ◌≤◌, ◌⊎◌, Bool, true, false, List, [], ◌∷◌, ◌++◌, length, refl, sym, ap, subst, ◌∙◌, inl, inr, arith, length-append, append_assoc}
+use Rattle.std.specs.Prelude.{◌↔◌, sum_by}
+use Rattle.std.specs.List.{All, AllByRecursion, concat}
+use Rattle.std.specs.Str.{bytes_eq}
+use Rattle.std.specs.declared.cmp.Ordering.TheVariants.{Less}
+use Rattle.std.proofs.lemmas.Bool.{false≢true}
+use Rattle.std.proofs.lemmas.List.{append-nil}
+use Rattle.std.proofs.lemmas.List.Sums.{sum_by-cons, sum_by-append}
+use Rattle.std.proofs.lemmas.Slice.Eq.{bytes_eq-Decides}
+use Rattle.serial_set.specs.declared.span.Span.{Span}
+use Rattle.serial_set.specs.Span.{Covers}
+use Rattle.serial_set.proofs.Least.{runs_least}
+use Rattle.serial_set.proofs.Rising.{names_append, names_left, names_right}
+use Rattle.ssh_wire.specs.Wire.{IsBytes, number_of}
+use Rattle.krl_core.specs.declared.place.Place.{Place}
+use Rattle.krl_core.specs.declared.place.Place.TheVariants as places
+use Rattle.krl_core.specs.Contents.{Contents, HoldsSerial, IsListed, Means, Section, SomeSection, held}
+use Rattle.krl_core.specs.Entry.{Entry}
+use Rattle.krl_core.specs.Front.{Leads, Passes, Spot, spot_after, start}
+use Rattle.krl_core.specs.Naming.{NamesAt, SomeNamesAt}
+use Rattle.krl_core.specs.Place.{due, names}
+use Rattle.krl_core.specs.Rising.{AllAbove, RisesBy, bytes_cmp}
+use Rattle.krl_core.proofs.Intervals.{IsByteOnly, authority_of, intervals_name, intervals_of, length-intervals, most, names_intervals}
+use Rattle.krl_core.proofs.Numbers.{number_of-one}
+use Rattle.krl_core.proofs.OneMeaning.{above_held, held_first, not_before_itself}
+use Rattle.krl_core.proofs.Sections.{All-tail}
+use Rattle.krl_core.proofs.Spelled.{bytes_head, bytes_tail}
+
+-- ---- the intervals of entries under one authority
+
+pub if_under : Bool → List Span → List Span
+if_under true spans = spans
+if_under false spans = []
+
+pub under : List ℕ → Entry → List Span
+under a entry = if_under (bytes_eq (authority_of entry) a) (intervals_of entry)
+
+pub all_under : List ℕ → List Entry → List Span
+all_under a [] = []
+all_under a (entry ∷ entries) = under a entry ++ all_under a entries
+
+if_under-covers : (b : Bool) (spans : List Span) (s : ℕ) → Covers (if_under b spans) s → (b ≡ true) × Covers spans s
+unfolding if_under
+if_under-covers true spans s h = (refl, h)
+if_under-covers false spans s h = absurd h
+
+covers-if_under : (b : Bool) (spans : List Span) (s : ℕ) → b ≡ true → Covers spans s → Covers (if_under b spans) s
+unfolding if_under
+covers-if_under true spans s e h = h
+covers-if_under false spans s e h = absurd (false≢true e)
+
+under_names : (a : List ℕ) (entry : Entry) (s : ℕ) → Covers (under a entry) s → NamesAt entry a s
+unfolding under
+under_names a entry s h =
+    let w = if_under-covers (bytes_eq (authority_of entry) a) (intervals_of entry) s h in
+    intervals_name entry a s ((bytes_eq-Decides (authority_of entry) a).0 w.0) w.1
+
+names_under : (a : List ℕ) (entry : Entry) (s : ℕ) → IsByteOnly entry → NamesAt entry a s → Covers (under a entry) s
+unfolding under
+names_under a entry s small h =
+    let w = names_intervals entry a s small h in
+    covers-if_under (bytes_eq (authority_of entry) a) (intervals_of entry) s ((bytes_eq-Decides (authority_of entry) a).1 w.0) w.1
+
+all_under-names : (a : List ℕ) (entries : List Entry) (s : ℕ) → Covers (all_under a entries) s → SomeNamesAt entries a s
+unfolding all_under
+all_under-names a [] s h = absurd h
+all_under-names a (entry ∷ entries) s h =
+    elim (names_append (under a entry) (all_under a entries) s h) [
+      | inl here ↦ inl (under_names a entry s here)
+      | inr later ↦ inr (all_under-names a entries s later)
+    ]
+
+names-all_under : (a : List ℕ) (entries : List Entry) (s : ℕ) → AllByRecursion IsByteOnly entries → SomeNamesAt entries a s → Covers (all_under a entries) s
+unfolding all_under
+names-all_under a [] s small h = absurd h
+names-all_under a (entry ∷ entries) s small h =
+    elim h [
+      | inl here ↦ names_left (under a entry) (all_under a entries) s (names_under a entry s small.0 here)
+      | inr later ↦ names_right (under a entry) (all_under a entries) s (names-all_under a entries s small.1 later)
+    ]
+
+-- ---- how many they are over all authorities
+
+abbrev key_of : Section → List ℕ
+key_of section = section.authority
+
+abbrev count_under : Entry → Section → ℕ
+count_under entry section = length (under section.authority entry)
+
+-- under an authority that comes later an entry names nothing
+none_under : (a : List ℕ) (entry : Entry) → (authority_of entry ≡ a → ⊥) → length (under a entry) ≡ 0
+unfolding under if_under
+none_under a entry apart = none_if (bytes_eq (authority_of entry) a) (λ e. apart ((bytes_eq-Decides (authority_of entry) a).0 e))
+  where
+    none_if : (b : Bool) → (b ≡ true → ⊥) → length (if_under b (intervals_of entry)) ≡ 0
+    none_if true no_way = absurd (no_way refl)
+    none_if false no_way = refl
+
+under_most : (a : List ℕ) (entry : Entry) → length (under a entry) ≤ most entry
+unfolding under if_under
+under_most a entry = most_if (bytes_eq (authority_of entry) a)
+  where
+    most_if : (b : Bool) → length (if_under b (intervals_of entry)) ≤ most entry
+    most_if true = length-intervals entry
+    most_if false = omega arith
+
+none_later : (entry : Entry) (sections : List Section) → AllAbove key_of (authority_of entry) sections → sum_by (count_under entry) sections ≡ 0
+none_later entry [] above = refl
+none_later entry (x ∷ xs) above =
+    let apart : authority_of entry ≡ x.authority → ⊥ = λ e. not_before_itself x.authority (subst (λ (t : List ℕ). bytes_cmp t x.authority ≡ Less) e above.0) in
+    omega (arith, sum_by-cons (count_under entry) x xs, none_under x.authority entry apart, none_later entry xs above.1)
+
+once_more : (entry : Entry) (x : Section) (xs : List Section) (b : Bool) → bytes_eq (authority_of entry) x.authority ≡ b → RisesBy key_of (x ∷ xs) → sum_by (count_under entry) xs ≤ most entry
+    → sum_by (count_under entry) (x ∷ xs) ≤ most entry
+once_more entry x xs true e rise rest =
+    let same = (bytes_eq-Decides (authority_of entry) x.authority).0 e in
+    let above : AllAbove key_of (authority_of entry) xs = subst (λ (t : List ℕ). AllAbove key_of t xs) (sym same) rise.0 in
+    omega (arith, sum_by-cons (count_under entry) x xs, under_most x.authority entry, none_later entry xs above)
+once_more entry x xs false e rise rest =
+    let apart : authority_of entry ≡ x.authority → ⊥ = λ same. false≢true (sym e ∙ (bytes_eq-Decides (authority_of entry) x.authority).1 same) in
+    omega (arith, sum_by-cons (count_under entry) x xs, none_under x.authority entry apart, rest)
+
+-- an entry names something under one authority only
+once : (entry : Entry) (sections : List Section) → RisesBy key_of sections → sum_by (count_under entry) sections ≤ most entry
+once entry [] rise = omega arith
+once entry (x ∷ xs) rise = once_more entry x xs (bytes_eq (authority_of entry) x.authority) refl rise (once entry xs rise.1)
+
+abbrev count_all : List Entry → Section → ℕ
+count_all entries section = length (all_under section.authority entries)
+
+count_none : (sections : List Section) → sum_by (count_all []) sections ≡ 0
+unfolding all_under
+count_none [] = refl
+count_none (x ∷ xs) = omega (arith, sum_by-cons (count_all []) x xs, count_none xs)
+
+count_more : (entry : Entry) (entries : List Entry) (sections : List Section) → sum_by (count_all (entry ∷ entries)) sections ≡ sum_by (count_under entry) sections + sum_by (count_all entries) sections
+unfolding all_under
+count_more entry entries [] = refl
+count_more entry entries (x ∷ xs) =
+    omega (
+      arith,
+      sum_by-cons (count_all (entry ∷ entries)) x xs,
+      sum_by-cons (count_under entry) x xs,
+      sum_by-cons (count_all entries) x xs,
+      length-append (under x.authority entry) (all_under x.authority entries),
+      count_more entry entries xs,
+    )
+
+count_most : (entries : List Entry) (sections : List Section) → RisesBy key_of sections → sum_by (count_all entries) sections ≤ sum_by most entries
+count_most [] sections rise = omega (arith, count_none sections)
+count_most (entry ∷ entries) sections rise =
+    omega (arith, count_more entry entries sections, once entry sections rise, count_most entries sections rise, sum_by-cons most entry entries)
+
+-- ---- what is held
+
+above_named : (a b : List ℕ) (xs : List Section) → AllAbove key_of a xs → SomeSection (λ section. section.authority ≡ b) xs → bytes_cmp a b ≡ Less
+above_named a b [] above h = absurd h
+above_named a b (x ∷ xs) above h =
+    elim h [
+      | inl here ↦ subst (λ (t : List ℕ). bytes_cmp a t ≡ Less) here above.0
+      | inr later ↦ above_named a b xs above.1 later
+    ]
+
+-- under the authorities of the sections just the serials are held that the entries name
+abbrev AreHeld : List Section → List Entry → Type 0
+AreHeld sections entries =
+    (a : List ℕ) (s : ℕ) → SomeSection (λ section. section.authority ≡ a) sections → HoldsSerial sections a s ↔ SomeNamesAt entries a s
+
+held_later : (x : Section) (xs : List Section) (entries : List Entry) → AllAbove key_of x.authority xs → AreHeld (x ∷ xs) entries → AreHeld xs entries
+held_later x xs entries above h a s some = (
+  λ k. (h a s (inr some)).0 (inr k),
+  λ n. elim ((h a s (inr some)).1 n) [
+    | inl here ↦ absurd (not_before_itself x.authority (subst (λ (t : List ℕ). bytes_cmp x.authority t ≡ Less) (sym here.0) (above_named x.authority a xs above some)))
+    | inr later ↦ later
+  ],
+)
+
+abbrev spans_held : Section → ℕ
+spans_held section = length section.spans
+
+held_few : (sections : List Section) (entries : List Entry) → AllByRecursion IsByteOnly entries → RisesBy key_of sections → All IsListed sections → AreHeld sections entries
+    → sum_by spans_held sections ≤ sum_by (count_all entries) sections
+held_few [] entries small rise listed h = omega arith
+held_few (x ∷ xs) entries small rise listed h =
+    let is : IsListed x = listed 0 x (omega arith) in
+    let here = runs_least x.spans (all_under x.authority entries) is.runs (λ s. (
+      λ c. names-all_under x.authority entries s small ((h x.authority s (inl refl)).0 (inl (refl, c))),
+      λ n. held_first (λ section. Covers section.spans s) x xs rise.0 ((h x.authority s (inl refl)).1 (all_under-names x.authority entries s n)),
+    )) in
+    let rest = held_few xs entries small rise.1 (All-tail IsListed x xs listed) (held_later x xs entries rise.0 h) in
+    omega (arith, sum_by-cons spans_held x xs, sum_by-cons (count_all entries) x xs)
+
+-- ---- fields
+
+field_few : (place next : Place) (authority field : List ℕ) → Passes place field next → sum_by most (names place authority field) ≤ 4 * length field
+field_few (places.Serial left behind) next authority field p = omega (arith, p.whole)
+field_few (places.RangeMax min behind) next authority field p = omega (arith, p.whole)
+field_few (places.BitmapByte offset size left behind) next authority field p = omega (arith, p.whole)
+field_few place next authority field p = omega arith
+
+byte_number : (field : List ℕ) → length field ≡ 1 → IsBytes field → number_of field < 256
+byte_number [] size fits = absurd (omega arith)
+byte_number (byte ∷ []) size fits = omega (arith, number_of-one byte, fits 0)
+byte_number (byte ∷ (other ∷ rest)) size fits = absurd (omega arith)
+
+field_bytes : (place next : Place) (authority field : List ℕ) → Passes place field next → IsBytes field → AllByRecursion IsByteOnly (names place authority field)
+field_bytes (places.Serial left behind) next authority field p fits = (tt, tt)
+field_bytes (places.RangeMax min behind) next authority field p fits = (tt, tt)
+field_bytes (places.BitmapByte offset size left behind) next authority field p fits = (byte_number field p.whole fits, tt)
+field_bytes (places.Id size left behind) next authority field p fits = (tt, tt)
+field_bytes (places.Key size behind) next authority field p fits = (tt, tt)
+field_bytes (places.Sha1 behind) next authority field p fits = (tt, tt)
+field_bytes (places.Sha256 behind) next authority field p fits = (tt, tt)
+field_bytes place next authority field p fits = tt
+
+all_append : (xs ys : List Entry) → AllByRecursion IsByteOnly xs → AllByRecursion IsByteOnly ys → AllByRecursion IsByteOnly (xs ++ ys)
+all_append [] ys a b = b
+all_append (x ∷ xs) ys a b = (a.0, all_append xs ys a.1 b)
+
+fields_few : (fields : List (List ℕ)) (spot last : Spot) → Leads spot fields last → sum_by most last.entries ≤ sum_by most spot.entries + 4 * length (concat fields)
+fields_few [] spot last leads = omega (arith, ap (λ (s : Spot). sum_by most s.entries) leads)
+fields_few (field ∷ fields) spot last leads =
+    let named : List Entry = names spot.place spot.authority field in
+    let rest = fields_few fields (spot_after spot field leads.0) last leads.1.1 in
+    omega (arith, rest, sum_by-append most spot.entries named, field_few spot.place leads.0 spot.authority field leads.1.0, length-append field (concat fields))
+
+fields_bytes : (fields : List (List ℕ)) (spot last : Spot) → Leads spot fields last → IsBytes (concat fields) → AllByRecursion IsByteOnly spot.entries → AllByRecursion IsByteOnly last.entries
+fields_bytes [] spot last leads fits all = subst (λ (s : Spot). AllByRecursion IsByteOnly s.entries) leads all
+fields_bytes (field ∷ fields) spot last leads fits all =
+    let named : List Entry = names spot.place spot.authority field in
+    let here = field_bytes spot.place leads.0 spot.authority field leads.1.0 (bytes_head field (concat fields) fits) in
+    fields_bytes fields (spot_after spot field leads.0) last leads.1.1 (bytes_tail field (concat fields) fits) (all_append spot.entries named all here)
+
+pub four_a_byte : (fields : List (List ℕ)) (spot : Spot) (r : Contents) → Leads start fields spot → IsBytes (concat fields) → Means r spot.entries → held r ≤ 4 * length (concat fields)
+four_a_byte fields spot r leads fits means =
+    let small = fields_bytes fields start spot leads fits tt in
+    let few = held_few r.sections spot.entries small means.orderly.authorities_rise means.orderly.listed (λ a s some. means.serials a s) in
+    let counted = count_most spot.entries r.sections means.orderly.authorities_rise in
+    omega (arith, few, counted, fields_few fields start spot leads)
