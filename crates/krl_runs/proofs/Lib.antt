@@ -6,3 +6,6 @@ pub mod Ending
 pub mod Answering
 pub mod Items
 pub mod Asking
+pub mod SpecAdds
+pub mod SpecDigits
+pub mod SpecLines

@@ -9,3 +9,10 @@ pub mod Carries
 pub mod Query
 pub mod Done
 pub mod Listing
+pub mod SpecBlanks
+pub mod SpecNumber
+pub mod SpecAdding
+pub mod SpecCause
+pub mod SpecEntry
+pub mod SpecFile
+pub mod SpecLine

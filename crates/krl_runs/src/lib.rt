@@ -7,6 +7,7 @@ mod keys;
 pub mod laws;
 mod output;
 mod runs;
+mod spec_file;
 
 pub use input::file_fault::FileFault;
 pub use input::named::{Named, load};
@@ -15,6 +16,10 @@ pub use output::done::{Done, FAILED};
 pub use output::run_fault::{RunFault, fault_text};
 pub use runs::listing::list_run;
 pub use runs::query::query_run;
+pub use spec_file::lines::read_spec;
+pub use spec_file::spec_cause::{KeyCause, SpecCause};
+pub use spec_file::spec_fault::SpecFault;
+pub use spec_file::under::Under;
 
 #[cfg(test)]
 mod tests;

@@ -10,3 +10,4 @@ mod encoding;
 mod faults;
 mod key_files;
 mod runs;
+mod spec_files;

@@ -14,7 +14,7 @@ const FIELD: usize = 15;
 
 /// The blob of a certificate for users, of an Ed25519 key by an Ed25519 authority, that is always
 /// valid and has neither principals nor options. Its signature is 64 zero bytes.
-fn certificate(
+pub fn certificate(
     alloc: Global,
     key: &[u8],
     authority: &[u8],
@@ -46,7 +46,7 @@ fn certificate(
     Ok(joined(alloc, &parts)?)
 }
 
-fn line_of(alloc: Global, blob: &[u8]) -> Result<Vec<u8>, Fail> {
+pub fn line_of(alloc: Global, blob: &[u8]) -> Result<Vec<u8>, Fail> {
     let encoded = base64(alloc, blob)?;
     Ok(joined(alloc, &[NAME, b" ", &encoded, b"\n"])?)
 }

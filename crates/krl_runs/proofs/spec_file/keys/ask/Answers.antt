@@ -1,0 +1,6 @@
+-- What is asked is that of a key or of a certificate.
+use Rattle.krl_runs.proofs.SpecAdds.{has_authority}
+use Rattle.krl_runs.proofs.spec_file.keys.ask.Goals as goal
+
+pub returns-in-Ok-clause-authority : goal.returns-in-Ok-clause-authority
+returns-in-Ok-clause-authority c = has_authority _ _ c.in-Ok.ensures.found

@@ -1,0 +1,61 @@
+// What counts of a line.
+
+ghost use Rattle.std.specs.Prelude.{◌≡◌, ◌==◌, ◌≤◌, length};
+ghost use Rattle.std.specs.List.{position_or_len};
+ghost use Rattle.ssh_key.specs.Blanks.{is_blank};
+ghost use Rattle.krl_runs.specs.SpecBlanks.{after_endings, before_blanks};
+ghost use Rattle.krl_runs.specs.SpecLine.{bare_line};
+
+use ssh_key::{before_ending, is_ending};
+
+/// What counts of a line: neither a `#` nor what stands after it, nor the blanks and carriage
+/// returns at both ends.
+#[tactic(auto, unfolding(crate::specs::SpecLine::bare_line))]
+pub fn bare_line(line: &[u8]) -> &[u8]
+    ensures { result.now ≡ bare_line line.now }
+{
+    before_ending(after_endings(&line[..position_of(line, b'#')]))
+}
+
+/// The place of the first such byte, or the length where there is none.
+pub fn position_of(text: &[u8], sought: u8) -> usize
+    ensures place { result ≡ position_or_len (λ byte. byte == sought) text.now }
+    ensures within { result ≤ length text.now }
+{
+    for (at, byte) in text.iter().enumerate() {
+        if *byte == sought {
+            return at;
+        }
+    }
+    text.len()
+}
+
+fn after_endings(text: &[u8]) -> &[u8]
+    ensures { result.now ≡ after_endings text.now }
+{
+    for (at, byte) in text.iter().enumerate() {
+        if !is_ending(*byte) {
+            return &text[at..];
+        }
+    }
+    &[]
+}
+
+/// What stands before the blanks at the end.
+#[tactic(auto, unfolding(crate::specs::SpecBlanks::before_blanks))]
+pub fn before_blanks(text: &[u8]) -> &[u8]
+    ensures { result.now ≡ before_blanks text.now }
+{
+    let mut end = text.len();
+    while end > 0 && is_blank(text[end - 1]) {
+        end -= 1;
+    }
+    &text[..end]
+}
+
+/// Whether a byte is a space or a tab.
+fn is_blank(byte: u8) -> bool
+    ensures { result ≡ is_blank byte }
+{
+    byte == b' ' || byte == b'\t'
+}
