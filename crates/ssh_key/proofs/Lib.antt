@@ -16,3 +16,10 @@ pub mod TextWords
 pub mod LineLaws
 pub mod LineFaults
 pub mod FingerprintLaws
+pub mod RowLaws
+pub mod ListLaws
+pub mod ContainerLaws
+pub mod ArmourLaws
+pub mod PrivateLaws
+pub mod LineSplits
+pub mod ContainerReads

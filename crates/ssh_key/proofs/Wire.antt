@@ -66,3 +66,9 @@ pub mpint_within : (bytes magnitude rest : List ℕ) → bytes ≡ mpint magnitu
 mpint_within bytes magnitude rest e =
     let whole : length bytes ≡ length (mpint magnitude) + length rest = ap length e ∙ length-append (mpint magnitude) rest in
     omega (arith, whole, length-mpint magnitude, length-complement magnitude)
+
+-- the bytes of a string at the front
+pub IsBytes-content : (text rest : List ℕ) → IsBytes (string text ++ rest) → IsBytes text
+unfolding string
+IsBytes-content text rest fits =
+    IsBytes-behind (number 4 (length text)) text (IsBytes-front (number 4 (length text) ++ text) rest fits)

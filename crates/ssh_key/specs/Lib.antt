@@ -15,3 +15,9 @@ pub mod Fingerprints
 pub mod FingerprintFault
 pub mod FingerprintReading
 pub mod KeyFile
+pub mod PrivateFault
+pub mod Lines
+pub mod Armour
+pub mod Rows
+pub mod Container
+pub mod ContainerReading

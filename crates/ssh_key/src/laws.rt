@@ -4,6 +4,8 @@
 ghost use Rattle.std.specs.Prelude.{◌≡◌, ◌≢◌, ◌*◌, ◌^◌, ◌<◌, ◌≤◌, ◌↔◌, ℕ, List, Err, Ok, length, take};
 ghost use Rattle.sha2.specs.Sha256.{sha256};
 ghost use Rattle.ssh_key.specs.Blanks.{IsWord};
+ghost use Rattle.ssh_key.specs.Container.{IsContainer, IsPrivateFault};
+ghost use Rattle.ssh_key.specs.ContainerReading.{private_at};
 ghost use Rattle.ssh_key.specs.FingerprintReading.{IsFingerprint, IsFingerprintFault, fingerprint_at};
 ghost use Rattle.ssh_key.specs.Fingerprints.{fingerprint_text};
 ghost use Rattle.ssh_key.specs.FirstFault.{IsFieldsFault, IsFirstFault};
@@ -20,6 +22,7 @@ ghost use Rattle.ssh_key.specs.declared.hash.Hash.TheVariants.{Sha256};
 ghost use Rattle.ssh_key.specs.declared.kind.Kind.{Kind};
 ghost use Rattle.ssh_key.specs.declared.line_fault.LineFault.{LineFault};
 ghost use Rattle.ssh_key.specs.declared.fault.KeyFault.TheVariants.{Wire};
+ghost use Rattle.ssh_key.specs.declared.private_fault.PrivateFault.{PrivateFault};
 ghost use Rattle.ssh_wire.specs.Wire.{IsBytes, number_of};
 ghost use Rattle.ssh_wire.specs.declared.fault.WireFault.TheVariants.{Short};
 
@@ -151,4 +154,25 @@ pub fn one_fingerprint_fault()
 /// back what `fingerprint` prints.
 pub fn fingerprint_names_its_digest()
     ensures { (bytes : List ℕ) → IsFingerprint (fingerprint_text Sha256 bytes) (sha256 bytes) }
+{}
+
+/// Reading gives a public blob and a comment exactly where the text is their container.
+pub fn private_read_where_spelled()
+    ensures { (text blob comment : List ℕ) → IsBytes text
+        → (private_at text ≡ Ok (record { blob = blob; comment = comment }))
+        ↔ IsContainer text blob comment }
+{}
+
+/// Reading meets a fault exactly where it is the first fault of the text as a container.
+pub fn private_refused_by_first_fault()
+    ensures { (text : List ℕ) (fault : PrivateFault) → IsBytes text
+        → (private_at text ≡ Err fault) ↔ IsPrivateFault text fault }
+{}
+
+/// A text has one first fault as a container at most, and a container has none.
+pub fn one_private_fault()
+    ensures one { (text : List ℕ) (a b : PrivateFault) → IsBytes text
+        → IsPrivateFault text a → IsPrivateFault text b → a ≡ b }
+    ensures none { (text blob comment : List ℕ) (fault : PrivateFault) → IsBytes text
+        → IsContainer text blob comment → IsPrivateFault text fault → ⊥ }
 {}

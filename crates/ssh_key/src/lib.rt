@@ -3,6 +3,7 @@
 #![tactic(auto)]
 
 mod blob;
+mod container;
 mod fault;
 mod fields;
 mod fingerprint_fault;
@@ -14,10 +15,13 @@ mod kind;
 pub mod laws;
 mod line;
 mod line_fault;
+mod lines;
 mod parsing;
+mod private_fault;
 mod type_name;
 
 pub use blob::plain_blob;
+pub use container::{Private, is_container, read_private};
 pub use fault::KeyFault;
 pub use fingerprint_fault::FingerprintFault;
 pub use fingerprints::fingerprint;
@@ -28,6 +32,7 @@ pub use kind::Kind;
 pub use line::{Line, after_blanks, before_ending, is_ending, read_line};
 pub use line_fault::LineFault;
 pub use parsing::parse_fingerprint;
+pub use private_fault::PrivateFault;
 
 #[cfg(test)]
 mod tests;

@@ -1,5 +1,6 @@
 // Examples from the formats, and the host key that GitHub publishes.
 
+mod containers;
 mod fault;
 mod fingerprints;
 mod key;

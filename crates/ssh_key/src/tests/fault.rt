@@ -1,6 +1,6 @@
 // The texts of faults.
 
-use crate::{FingerprintFault, KeyFault, LineFault};
+use crate::{FingerprintFault, KeyFault, LineFault, PrivateFault};
 use ssh_wire::WireFault;
 use std::test::Fail;
 
@@ -68,5 +68,40 @@ fn faults_of_fingerprints(rt: HostRuntime) -> Result<(), Fail> {
         let printed = format!(in rt.alloc(); "{fault}")?;
         assert_eq!(rt; printed.as_str(), text);
     }
+    Ok(())
+}
+
+#[test]
+fn faults_of_containers(rt: HostRuntime) -> Result<(), Fail> {
+    let rows = [
+        (PrivateFault::Armour, 1, "private 1 Armour"),
+        (PrivateFault::Base64, 2, "private 2 Base64"),
+        (PrivateFault::Magic, 3, "private 3 Magic"),
+        (PrivateFault::Encrypted, 4, "private 4 Encrypted"),
+        (PrivateFault::KeyCount, 5, "private 5 KeyCount"),
+        (PrivateFault::Check, 6, "private 6 Check"),
+        (PrivateFault::PublicDiffers, 8, "private 8 PublicDiffers"),
+        (PrivateFault::Padding, 9, "private 9 Padding"),
+        (PrivateFault::Trailing, 10, "private 10 Trailing"),
+        (PrivateFault::NoMemory, 12, "private 12 NoMemory"),
+    ];
+    for (fault, number, text) in rows {
+        assert_eq!(rt; fault.number(), number);
+        let printed = format!(in rt.alloc(); "{fault}")?;
+        assert_eq!(rt; printed.as_str(), text);
+    }
+    Ok(())
+}
+
+#[test]
+fn faults_that_containers_carry(rt: HostRuntime) -> Result<(), Fail> {
+    let fault = PrivateFault::Key(KeyFault::Point);
+    assert_eq!(rt; fault.number(), 7);
+    let printed = format!(in rt.alloc(); "{fault}")?;
+    assert_eq!(rt; printed.as_str(), "private 7 Key, key 4 Point");
+    let fault = PrivateFault::Wire(WireFault::Short);
+    assert_eq!(rt; fault.number(), 11);
+    let printed = format!(in rt.alloc(); "{fault}")?;
+    assert_eq!(rt; printed.as_str(), "private 11 Wire, wire 1 Short");
     Ok(())
 }

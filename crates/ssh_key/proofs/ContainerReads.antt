@@ -1,0 +1,166 @@
+-- What the fields of a container give, read one after the other.
+use Rattle.std.proofs.Common.{◌≡◌, ◌≢◌, ℕ, ◌+◌, ◌-◌, ◌<◌, ◌≤◌, ◌==◌, ◌&&◌, Bool, true, false, List, [], ◌∷◌, ◌++◌, length, take, drop, get_or, codes, map, nat_eq, Option, Some, None, Ok, Err, Decides, refl, sym, ap, inl, inr, ◌∙◌, arith, append_assoc}
+use Rattle.std.specs.Prelude.{option_map}
+use Rattle.std.specs.List.{slice_split, starts_with, suffix_len}
+use Rattle.std.specs.Str.{bytes_eq}
+use Rattle.std.proofs.lemmas.Bool.{cases_Bool, eqb-true}
+use Rattle.std.proofs.lemmas.Bool.Decides.{same_from_decides}
+use Rattle.std.proofs.lemmas.List.{append_cancel_left, ext_get_or, get_or_append_left, get_or-take, length-append, length-drop, length-take, nil_from_length, take-append-drop, take_all}
+use Rattle.std.proofs.lemmas.List.FromFn.{get_or-range_with_len, length-range_with_len}
+use Rattle.std.proofs.lemmas.Slice.Eq.{bytes_eq-Decides}
+use Rattle.base64.specs.Engines.{standard}
+use Rattle.base64.specs.GeneralPurpose.{decode_of}
+use Rattle.base64.specs.declared.decode.DecodeError.{DecodeError}
+use Rattle.ssh_wire.specs.declared.fault.WireFault.{WireFault}
+use Rattle.ssh_wire.specs.Wire.{mpint, string}
+use Rattle.ssh_wire.specs.Reading.{mpint_at, number_at, string_at}
+use Rattle.ssh_key.specs.Armour.{body_of, end_line, lines_of}
+use Rattle.ssh_key.specs.Blanks.{before_ending, is_ending}
+use Rattle.ssh_key.specs.Lines.{is_newline}
+use Rattle.ssh_key.specs.Container.{all_padding, beginning, is_plain, magic, outer}
+use Rattle.ssh_key.specs.ContainerReading.{body_at, bytes_at, decoded_at, ended, inside_at, list_at, plain_values, same_at}
+use Rattle.ssh_key.specs.Key.{Key}
+use Rattle.ssh_key.specs.KeyReading.{key_at}
+use Rattle.ssh_key.specs.Rows.{row_at}
+use Rattle.ssh_key.specs.declared.kind.Kind.TheVariants.{Dsa, EcdsaSk, Ed25519Sk, Rsa}
+use Rattle.ssh_key.specs.declared.private_fault.PrivateFault.{PrivateFault}
+use Rattle.ssh_key.specs.declared.private_fault.PrivateFault.TheVariants.{Base64, Wire}
+use Rattle.ssh_key.proofs.ListLaws.{front_met, not_front}
+
+-- ---- the parts
+
+both : (a b : Bool) → (a && b) ≡ true → (a ≡ true) × (b ≡ true)
+both true b e = (refl, e)
+both false b e = absurd cc
+
+plain_is : (cipher derivation options : List ℕ) → is_plain cipher derivation options ≡ true → (cipher ≡ codes "none") × (derivation ≡ codes "none") × (options ≡ [])
+plain_is cipher derivation options plain =
+    let first = both (bytes_eq cipher (codes "none")) (bytes_eq derivation (codes "none") && length options == 0) plain in
+    let others = both (bytes_eq derivation (codes "none")) (length options == 0) first.1 in (
+      (bytes_eq-Decides cipher (codes "none")).0 first.0,
+      (bytes_eq-Decides derivation (codes "none")).0 others.0,
+      nil_from_length options (eqb-true _ _ others.1),
+    )
+
+pub parts_read : (bytes cipher r1 derivation r2 options r3 r4 blob r5 list r6 : List ℕ) (key : Key) → string_at bytes ≡ Ok (cipher, r1) → string_at r1 ≡ Ok (derivation, r2) → string_at r2 ≡ Ok (options, r3) → is_plain cipher derivation options ≡ true → number_at 4 r3 ≡ Ok (1, r4) → string_at r4 ≡ Ok (blob, r5) → key_at blob ≡ Ok key → string_at r5 ≡ Ok (list, r6) → row_at outer [] bytes ≡ Ok (plain_values blob list, r6)
+unfolding row_at
+parts_read bytes cipher r1 derivation r2 options r3 r4 blob r5 list r6 key e1 e2 e3 plain e4 e5 k e6 =
+    let is = plain_is cipher derivation options plain in
+    rw (e1, e2, e3, plain, e4, e5, k, e6) cc
+
+-- ---- the public fields among the private ones
+
+pub spelled_three : (bytes a r1 b r2 c r3 : List ℕ) → bytes ≡ a ++ r1 → r1 ≡ b ++ r2 → r2 ≡ c ++ r3 → bytes ≡ (a ++ (b ++ (c ++ []))) ++ r3
+spelled_three bytes a r1 b r2 c r3 e1 e2 e3 = rw (e1, e2, e3) (sym (simp append_assoc))
+
+pub dsa_same : (public bytes p r1 q r2 g r3 y r4 x r5 : List ℕ) → mpint_at bytes ≡ Ok (p, r1) → mpint_at r1 ≡ Ok (q, r2) → mpint_at r2 ≡ Ok (g, r3) → mpint_at r3 ≡ Ok (y, r4) → mpint_at r4 ≡ Ok (x, r5) → same_at Dsa public bytes ≡ Ok (bytes_eq (mpint p ++ (mpint q ++ (mpint g ++ (mpint y ++ [])))) public, r5)
+unfolding same_at row_at
+dsa_same public bytes p r1 q r2 g r3 y r4 x r5 e1 e2 e3 e4 e5 = rw (e1, e2, e3, e4, e5) refl
+
+pub spelled_four : (bytes a r1 b r2 c r3 d r4 : List ℕ) → bytes ≡ a ++ r1 → r1 ≡ b ++ r2 → r2 ≡ c ++ r3 → r3 ≡ d ++ r4 → bytes ≡ (a ++ (b ++ (c ++ (d ++ [])))) ++ r4
+spelled_four bytes a r1 b r2 c r3 d r4 e1 e2 e3 e4 = rw (e1, e2, e3, e4) (sym (simp append_assoc))
+
+pub ecdsa_device_same : (public bytes c r1 q r2 a r3 : List ℕ) (flags : ℕ) (r4 h r5 s r6 : List ℕ) → string_at bytes ≡ Ok (c, r1) → string_at r1 ≡ Ok (q, r2) → string_at r2 ≡ Ok (a, r3) → number_at 1 r3 ≡ Ok (flags, r4) → string_at r4 ≡ Ok (h, r5) → string_at r5 ≡ Ok (s, r6) → same_at EcdsaSk public bytes ≡ Ok (bytes_eq (string c ++ (string q ++ (string a ++ []))) public, r6)
+unfolding same_at row_at
+ecdsa_device_same public bytes c r1 q r2 a r3 flags r4 h r5 s r6 e1 e2 e3 e4 e5 e6 = rw (e1, e2, e3, e4, e5, e6) refl
+
+pub spelled_two : (bytes a r1 b r2 : List ℕ) → bytes ≡ a ++ r1 → r1 ≡ b ++ r2 → bytes ≡ (a ++ (b ++ [])) ++ r2
+spelled_two bytes a r1 b r2 e1 e2 = rw (e1, e2) (sym (simp append_assoc))
+
+pub ed25519_device_same : (public bytes k r1 a r2 : List ℕ) (flags : ℕ) (r3 h r4 s r5 : List ℕ) → string_at bytes ≡ Ok (k, r1) → string_at r1 ≡ Ok (a, r2) → number_at 1 r2 ≡ Ok (flags, r3) → string_at r3 ≡ Ok (h, r4) → string_at r4 ≡ Ok (s, r5) → same_at Ed25519Sk public bytes ≡ Ok (bytes_eq (string k ++ (string a ++ [])) public, r5)
+unfolding same_at row_at
+ed25519_device_same public bytes k r1 a r2 flags r3 h r4 s r5 e1 e2 e3 e4 e5 = rw (e1, e2, e3, e4, e5) refl
+
+pub rsa_same : (public bytes n r1 e r2 d r3 i r4 p r5 q r6 : List ℕ) → mpint_at bytes ≡ Ok (n, r1) → mpint_at r1 ≡ Ok (e, r2) → mpint_at r2 ≡ Ok (d, r3) → mpint_at r3 ≡ Ok (i, r4) → mpint_at r4 ≡ Ok (p, r5) → mpint_at r5 ≡ Ok (q, r6) → same_at Rsa public bytes ≡ Ok (bytes_eq (mpint e ++ (mpint n ++ [])) public, r6)
+unfolding same_at row_at
+rsa_same public bytes n r1 e r2 d r3 i r4 p r5 q r6 e1 e2 e3 e4 e5 e6 = rw (e1, e2, e3, e4, e5, e6) refl
+
+-- ---- two parts
+
+pub joined_same : (first second bytes rest : List ℕ) → bytes ≡ first ++ rest → bytes_eq rest second ≡ bytes_eq (first ++ second) bytes
+joined_same first second bytes rest e =
+    let whole = bytes_eq-Decides (first ++ second) bytes in
+    let after : Decides (bytes_eq (first ++ second) bytes) (rest ≡ second) = (λ b. sym (append_cancel_left first second rest (whole.0 b ∙ e)), λ same. whole.1 (ap (λ (t : List ℕ). first ++ t) (sym same) ∙ sym e)) in
+    same_from_decides (bytes_eq rest second) (bytes_eq (first ++ second) bytes) (bytes_eq-Decides rest second) after
+
+pub joined_other : (first second bytes : List ℕ) → ((rest : List ℕ) → bytes ≢ first ++ rest) → false ≡ bytes_eq (first ++ second) bytes
+joined_other first second bytes none = elim (cases_Bool (bytes_eq (first ++ second) bytes)) [
+  | inl same ↦ absurd (none second (sym ((bytes_eq-Decides (first ++ second) bytes).0 same)))
+  | inr not ↦ sym not
+]
+
+-- ---- the padding
+
+length-all_padding : length all_padding ≡ 254
+unfolding all_padding
+length-all_padding = length-range_with_len 1 254
+
+all_padding_at : (i : ℕ) → i < 254 → get_or all_padding i 0 ≡ i + 1
+unfolding all_padding
+all_padding_at i lt = let at = get_or-range_with_len 1 254 i 0 lt in omega arith
+
+pub padding_too_long : (bytes : List ℕ) → 254 < length bytes → false ≡ starts_with nat_eq all_padding bytes
+padding_too_long bytes long = sym (not_front all_padding bytes (λ rest e. let same = ap length e in let parts = length-append bytes rest in let all = length-all_padding in omega arith))
+
+pub padding_other : (bytes : List ℕ) (i : ℕ) → i < length bytes → length bytes ≤ 254 → get_or bytes i 0 ≢ i + 1 → false ≡ starts_with nat_eq all_padding bytes
+padding_other bytes i lt short other = sym (not_front all_padding bytes (λ rest e. other (sym (get_or_append_left bytes rest 0 i lt) ∙ ap (λ (l : List ℕ). get_or l i 0) (sym e) ∙ all_padding_at i (omega arith))))
+
+pub padding_whole : (bytes : List ℕ) → length bytes ≤ 254 → ((k : ℕ) → k < length bytes → get_or bytes k 0 ≡ k + 1) → true ≡ starts_with nat_eq all_padding bytes
+padding_whole bytes short each =
+    let size : length bytes ≡ length (take (length bytes) all_padding) = omega (arith, length-take (length bytes) all_padding, length-all_padding) in
+    let front : bytes ≡ take (length bytes) all_padding =
+    ext_get_or 0 bytes (take (length bytes) all_padding) size (λ i lt. each i lt ∙ sym (get_or-take (length bytes) all_padding i 0 lt ∙ all_padding_at i (omega arith))) in
+    sym (front_met all_padding bytes (drop (length bytes) all_padding) (sym (take-append-drop (length bytes) all_padding) ∙ ap (λ (l : List ℕ). l ++ drop (length bytes) all_padding) (sym front)))
+
+-- ---- the private list
+
+pub list_no_head : (key : Key) (list : List ℕ) (fault : PrivateFault) → row_at (beginning key.kind) [] list ≡ Err fault → list_at key list ≡ Err fault
+unfolding list_at
+list_no_head key list fault e = rw e refl
+
+pub list_no_secret : (key : Key) (list : List ℕ) (head : List (List ℕ) × List ℕ) (fault : PrivateFault) → row_at (beginning key.kind) [] list ≡ Ok head → same_at key.kind key.fields head.1 ≡ Err fault → list_at key list ≡ Err fault
+unfolding list_at
+list_no_secret key list head fault e1 e2 = rw (e1, e2) refl
+
+pub list_no_comment : (key : Key) (list rest : List ℕ) (same : Bool) (head : List (List ℕ) × List ℕ) (why : WireFault) → row_at (beginning key.kind) [] list ≡ Ok head → same_at key.kind key.fields head.1 ≡ Ok (same, rest) → string_at rest ≡ Err why → list_at key list ≡ Err (Wire why)
+unfolding list_at
+list_no_comment key list rest same head why e1 e2 e3 = rw (e1, e2, e3) refl
+
+pub list_ended : (key : Key) (list rest comment padding : List ℕ) (same : Bool) (head : List (List ℕ) × List ℕ) → row_at (beginning key.kind) [] list ≡ Ok head → same_at key.kind key.fields head.1 ≡ Ok (same, rest) → string_at rest ≡ Ok (comment, padding) → list_at key list ≡ ended same comment padding
+unfolding list_at
+list_ended key list rest comment padding same head e1 e2 e3 = rw (e1, e2, e3) refl
+
+-- ---- the lines between those of the armour
+
+pub line_goes_on : (text line after : List ℕ) → slice_split is_newline text ≡ line ∷ slice_split is_newline after → bytes_eq (before_ending line) end_line ≡ false → body_of (lines_of text) ≡ option_map (λ body. before_ending line ++ body) (body_of (lines_of after))
+line_goes_on text line after split other = ap (λ (lines : List (List ℕ)). body_of (map before_ending lines)) split ∙ rw other refl
+
+pub size_grows : (line : List ℕ) (n : ℕ) (o : Option (List ℕ)) → option_map (λ k. n + k) (option_map length (option_map (λ body. line ++ body) o)) ≡ option_map (λ k. (n + length line) + k) (option_map length o)
+size_grows line n None = refl
+size_grows line n (Some body) = ap (λ (k : ℕ). Some k) (omega (arith, length-append line body))
+
+pub counted_within : (n : ℕ) (line : List ℕ) (after rest whole : ℕ) → n + rest ≤ whole → length line + after + 1 ≤ rest → n + length (before_ending line) + after ≤ whole
+unfolding before_ending
+counted_within n line after rest whole within shorter = omega (arith, length-take (length line - suffix_len is_ending line) line)
+
+pub body_grows : (done line : List ℕ) (o : Option (List ℕ)) → option_map (λ body. done ++ body) (option_map (λ body. line ++ body) o) ≡ option_map (λ body. (done ++ line) ++ body) o
+body_grows done line None = refl
+body_grows done line (Some body) = ap (λ (b : List ℕ). Some b) (sym (append_assoc done line body))
+
+-- ---- the base64
+
+pub body_read : (body bytes : List ℕ) → decode_of standard body ≡ Ok bytes → body_at body ≡ bytes_at bytes
+unfolding body_at decoded_at
+body_read body bytes e = rw e refl
+
+pub body_refused : (body : List ℕ) (error : DecodeError) → decode_of standard body ≡ Err error → body_at body ≡ Err Base64
+unfolding body_at decoded_at
+body_refused body error e = rw e refl
+
+-- ---- what follows the name of the format
+
+pub bytes_inside : (bytes : List ℕ) → starts_with nat_eq bytes magic ≡ true → inside_at (take (length bytes - 15) (drop 15 bytes)) ≡ bytes_at bytes
+unfolding bytes_at
+bytes_inside bytes met =
+    let rest : take (length bytes - 15) (drop 15 bytes) ≡ drop 15 bytes = take_all _ _ (omega (arith, length-drop 15 bytes)) in
+    rw (rest, met) refl
