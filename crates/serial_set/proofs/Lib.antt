@@ -1,3 +1,4 @@
+pub mod Apart
 pub mod Asked
 pub mod Bits
 pub mod Feeding

@@ -1,5 +1,5 @@
 //! Membership and additions, over whatever keeps the list.
-ghost use Rattle.std.specs.Prelude.{◌≡◌, ◌+◌, ◌^◌, ◌<◌, ◌≤◌, ◌⊎◌, ◌↔◌, ℕ, length, All, IsTrue, OnOk, OnErr};
+ghost use Rattle.std.specs.Prelude.{◌≡◌, ◌+◌, ◌^◌, ◌<◌, ◌≤◌, ◌⊎◌, ◌↔◌, ℕ, length, false, All, IsTrue, OnOk, OnErr};
 ghost use Rattle.serial_set.specs.Span.{Covers, IsRuns, IsRunsOf, TouchesNone, AreSerials};
 ghost use Rattle.serial_set.specs.Pages.{replaced, CutsNone, IsWidened};
 
@@ -21,8 +21,43 @@ pub fn has_in<P: Part>(part: &P, serial: u64) -> bool
     }
 }
 
-// Room is made only where the first try was refused, and without a change to the list.
+// Most additions touch no span, and one search finds their place.
 pub fn add_to<P: Part>(part: &mut P, lo: u64, hi: u64) -> Result<(), AllocError>
+    requires runs { IsRuns (P.spans part.old) }
+    requires serials { AreSerials (P.spans part.old) }
+    requires from_one { 0 < lo }
+    requires ordered { lo ≤ hi }
+    ensures runs { OnOk result
+        (IsRunsOf (P.spans part.new) (λ s. Covers (P.spans part.old) s ⊎ ((lo ≤ s) × (s ≤ hi)))) }
+    ensures one_more { length (P.spans part.new) ≤ length (P.spans part.old) + 1 }
+    ensures refused { OnErr result (P.spans part.new ≡ P.spans part.old) }
+    ensures needs_room { OnErr result (TouchesNone (P.spans part.old) lo hi) }
+{
+    if add_apart(part, lo, hi) {
+        return Ok(());
+    }
+    add_widened(part, lo, hi)
+}
+
+// Adds a span that touches none, where there is room, and else changes nothing.
+fn add_apart<P: Part>(part: &mut P, lo: u64, hi: u64) -> bool
+    requires runs { IsRuns (P.spans part.old) }
+    requires serials { AreSerials (P.spans part.old) }
+    requires from_one { 0 < lo }
+    requires ordered { lo ≤ hi }
+    ensures runs { IsTrue result
+        → IsRunsOf (P.spans part.new) (λ s. Covers (P.spans part.old) s ⊎ ((lo ≤ s) × (s ≤ hi))) }
+    ensures one_more { length (P.spans part.new) ≤ length (P.spans part.old) + 1 }
+    ensures same { result ≡ false → P.spans part.new ≡ P.spans part.old }
+{
+    if lo == 1 {
+        return false;
+    }
+    part.put_apart(Span { lo, hi })
+}
+
+// Room is made only where the first try was refused, and without a change to the list.
+fn add_widened<P: Part>(part: &mut P, lo: u64, hi: u64) -> Result<(), AllocError>
     requires runs { IsRuns (P.spans part.old) }
     requires serials { AreSerials (P.spans part.old) }
     requires from_one { 0 < lo }

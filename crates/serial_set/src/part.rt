@@ -1,6 +1,6 @@
-ghost use Rattle.std.specs.Prelude.{◌≡◌, ◌+◌, ◌^◌, ◌<◌, ◌≤◌, ◌⊎◌, ◌++◌, [], ◌∷◌, List, Bool, length, take, drop, All, IsTrue, IfOk, OnOk, OnErr};
+ghost use Rattle.std.specs.Prelude.{◌≡◌, ◌+◌, ◌^◌, ◌<◌, ◌≤◌, ◌⊎◌, ◌++◌, [], ◌∷◌, List, Bool, false, length, take, drop, All, IsTrue, IfOk, OnOk, OnErr};
 ghost use Rattle.serial_set.specs.declared.span.Span.{Span};
-ghost use Rattle.serial_set.specs.Span.{IsRuns};
+ghost use Rattle.serial_set.specs.Span.{IsRuns, TouchesNone};
 ghost use Rattle.serial_set.specs.Pages.{above, replaced, CutsNone, MissesAll, end_of, IsFirstFrom};
 
 use crate::span::Span;
@@ -46,6 +46,17 @@ pub trait Part: Drop {
         ensures one_more { length (spans self.new) ≤ length (spans self.old) + 1 }
         ensures refused { OnErr result (spans self.new ≡ spans self.old) }
         ensures misses { OnErr result (MissesAll new (spans self.old)) };
+
+    /// Puts a span where it touches none, if there is room. Else nothing changes.
+    fn put_apart(&mut self, new: Span) -> bool
+        requires runs { IsRuns (spans self.old) }
+        requires few { length (spans self.old) + 1 < 2 ^ 64 }
+        requires span { (1 < new.lo) × (new.lo ≤ new.hi) }
+        ensures put { IsTrue result → spans self.new ≡ replaced (spans self.old) new }
+        ensures apart { IsTrue result → TouchesNone (spans self.old) new.lo new.hi }
+        ensures one_more { IsTrue result
+            → length (spans self.new) ≡ length (spans self.old) + 1 }
+        ensures same { result ≡ false → spans self.new ≡ spans self.old };
 
     /// Removes the spans up to a number that cuts none of them, and says how many these were.
     fn cut_front(&mut self, number: u64) -> usize

@@ -1,8 +1,8 @@
 //! Puts a span into parts in a row, and makes room for it.
-ghost use Rattle.std.specs.Prelude.{◌≡◌, ◌+◌, ◌^◌, ◌<◌, ◌≤◌, ◌⊎◌, ◌∷◌, ◌++◌, length, take, drop, slice_index_or, All, IsTrue, IfOk, OnOk, OnErr};
+ghost use Rattle.std.specs.Prelude.{◌≡◌, ◌+◌, ◌^◌, ◌<◌, ◌≤◌, ◌⊎◌, ◌∷◌, ◌++◌, length, take, drop, slice_index_or, false, All, IsTrue, IfOk, OnOk, OnErr};
 ghost use Rattle.std.specs.List.{flat_map};
 ghost use Rattle.std.specs.Vec.{vec_len};
-ghost use Rattle.serial_set.specs.Span.{IsRuns};
+ghost use Rattle.serial_set.specs.Span.{IsRuns, TouchesNone};
 ghost use Rattle.serial_set.specs.Pages.{above, replaced, CutsNone, MissesAll, end_of};
 
 use crate::part::Part;
@@ -76,6 +76,26 @@ fn cut_past<P: Part>(parts: &mut Vec<P>, at: usize, number: u64) -> usize
         return 0;
     }
     cut_from(parts, at + 1, number)
+}
+
+// Puts a span where it touches none, in the first part that does not end before it.
+pub fn put_apart_in_parts<P: Part>(parts: &mut Vec<P>, new: Span) -> bool
+    requires some { 0 < length parts.old.items }
+    requires runs { IsRuns (flat_map P.spans parts.old.items) }
+    requires few { length (flat_map P.spans parts.old.items) + 1 < 2 ^ 64 }
+    requires span { (1 < new.lo) × (new.lo ≤ new.hi) }
+    ensures some { 0 < length parts.new.items }
+    ensures put { IsTrue result → flat_map P.spans parts.new.items
+        ≡ replaced (flat_map P.spans parts.old.items) new }
+    ensures apart { IsTrue result
+        → TouchesNone (flat_map P.spans parts.old.items) new.lo new.hi }
+    ensures one_more { IsTrue result → length (flat_map P.spans parts.new.items)
+        ≡ length (flat_map P.spans parts.old.items) + 1 }
+    ensures same { result ≡ false
+        → flat_map P.spans parts.new.items ≡ flat_map P.spans parts.old.items }
+{
+    let at = part_for(parts, new.lo - 1);
+    parts[at].put_apart(new)
 }
 
 // Splits what is full where a span at `lo` would stand.

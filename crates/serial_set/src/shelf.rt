@@ -7,7 +7,7 @@ ghost use Rattle.serial_set.specs.Pages.{above, end_of, flat_some};
 use crate::part::Part;
 use crate::parts::{cut_from, locate, part_for, parts_ending_by, span_count};
 use crate::place::cut_place;
-use crate::put_parts::{make_room_in, put_in_parts};
+use crate::put_parts::{make_room_in, put_apart_in_parts, put_in_parts};
 use crate::span::Span;
 use std::alloc::{AllocError, Global};
 
@@ -68,6 +68,15 @@ impl<P: Part> Part for Shelf<P> {
         self.count = count + 1 - gone;
         self.end = self.end.max(new.hi);
         Ok(())
+    }
+
+    fn put_apart(&mut self, new: Span) -> bool {
+        if !put_apart_in_parts(&mut self.parts, new) {
+            return false;
+        }
+        self.count += 1;
+        self.end = self.end.max(new.hi);
+        true
     }
 
     fn cut_front(&mut self, number: u64) -> usize {

@@ -1,7 +1,7 @@
 use Rattle.std.proofs.Common.{◌≡◌, length, ap, subst, arith, Result, Ok, Err, OnErr, OnOk}
 use Rattle.serial_set.specs.Pages.{replaced}
 use Rattle.serial_set.proofs.Widening.{few_runs, widened_runs, widened_touches}
-use Rattle.serial_set.proofs.adding.add_to.Goals as goal
+use Rattle.serial_set.proofs.adding.add_widened.Goals as goal
 
 on_err : {A E : Type 0} (r : Result A E) (P : Type 0) → P → OnErr r P
 on_err (Ok x) P p = tt
