@@ -14,7 +14,7 @@ pub trait Keyed: Drop {
 }
 
 impl<const N: usize> Keyed for [u8; N] {
-    const PAGE: usize = 512;
+    const PAGE: usize = 256;
 
     ghost key = { λ bytes. bytes };
 

@@ -1,5 +1,5 @@
 // Values in order of their bytes, each bytes once.
-ghost use Rattle.std.specs.Prelude.{◌≡◌, ◌+◌, ◌<◌, ◌≤◌, ◌↔◌, ◌++◌, List, [], length, map, IfOk, IfSome, IfNone, Some, Contains, IsTrue, OnOk, OnErr, slice_get};
+ghost use Rattle.std.specs.Prelude.{◌≡◌, ◌+◌, ◌<◌, ◌≤◌, ◌⊎◌, ◌↔◌, ◌++◌, List, [], false, length, map, IfOk, IfSome, IfNone, Some, Contains, IsTrue, OnOk, OnErr, slice_get};
 ghost use Rattle.krl_core.specs.Asked.{Stands};
 ghost use Rattle.krl_core.specs.Rising.{RisesBy};
 ghost use Rattle.krl_core.specs.Inserting.{Inserts};
@@ -84,6 +84,27 @@ impl<T: Keyed> Rows<T> {
         self.count += 1;
         Ok(spot)
     }
+
+    /// Adds a value, unless one has its bytes.
+    pub(crate) fn add_new(&mut self, alloc: Global, value: T) -> Result<(), AllocError>
+        ensures ok { OnOk result
+            (((self.new ≡ self.old) × Contains (map T.key self.old) (T.key value))
+            ⊎ Inserts T.key self.old value self.new) }
+        ensures err { OnErr result (self.new ≡ self.old) }
+    {
+        // No machine has memory for so many.
+        if self.count == usize::MAX {
+            return Err(AllocError);
+        }
+        match add_into(alloc, &mut self.pages, value) {
+            Ok(true) => {
+                self.count += 1;
+                Ok(())
+            }
+            Ok(false) => Ok(()),
+            Err(fault) => Err(fault),
+        }
+    }
 }
 
 fn has_in<T: Keyed>(pages: &[Page<T>], bytes: &[u8]) -> bool
@@ -134,18 +155,59 @@ fn insert_into<T: Keyed>(
         (Inserts T.key (joined pages.old.items) value (joined pages.new.items)) }
     ensures err { OnErr result (joined pages.new.items ≡ joined pages.old.items) }
 {
-    let spot = roomy_spot(pages, value.key())?;
+    let spot = spot_of(pages, value.key());
+    insert_near(alloc, pages, spot, value)
+}
+
+// Puts in a value, unless one has its bytes, and says whether it did. One search tells.
+fn add_into<T: Keyed>(alloc: Global, pages: &mut Vec<Page<T>>, value: T) -> Result<bool, AllocError>
+    requires { RisesBy T.key (joined pages.old.items) }
+    ensures added { IfOk result (λ added. IsTrue added
+        → Inserts T.key (joined pages.old.items) value (joined pages.new.items)) }
+    ensures there { IfOk result (λ added. added ≡ false
+        → Contains (map T.key (joined pages.old.items)) (T.key value)) }
+    ensures same { IfOk result (λ added. added ≡ false
+        → joined pages.new.items ≡ joined pages.old.items) }
+    ensures err { OnErr result (joined pages.new.items ≡ joined pages.old.items) }
+{
+    let spot = spot_of(pages, value.key());
+    if stands_at(pages, spot, value.key()) {
+        return Ok(false);
+    }
+    insert_near(alloc, pages, spot, value)?;
+    Ok(true)
+}
+
+// Puts in a value whose spot is known.
+fn insert_near<T: Keyed>(
+    alloc: Global,
+    pages: &mut Vec<Page<T>>,
+    spot: Spot,
+    value: T,
+) -> Result<Spot, AllocError>
+    requires rises { RisesBy T.key (joined pages.old.items) }
+    requires spot { IsSpot T.key pages.old.items (T.key value) spot.page spot.at }
+    requires absent { ¬ Contains (map T.key (joined pages.old.items)) (T.key value) }
+    ensures ok { OnOk result
+        (Inserts T.key (joined pages.old.items) value (joined pages.new.items)) }
+    ensures err { OnErr result (joined pages.new.items ≡ joined pages.old.items) }
+{
+    let spot = roomy_spot(pages, spot, value.key())?;
     put_at(alloc, pages, spot, value)
 }
 
-// The spot of some bytes, in a page that is not full.
-fn roomy_spot<T: Keyed>(pages: &mut Vec<Page<T>>, bytes: &[u8]) -> Result<Spot, AllocError>
-    requires { RisesBy T.key (joined pages.old.items) }
+// The spot of some bytes in a page that is not full, where it is known in the pages as they are.
+fn roomy_spot<T: Keyed>(
+    pages: &mut Vec<Page<T>>,
+    spot: Spot,
+    bytes: &[u8],
+) -> Result<Spot, AllocError>
+    requires rises { RisesBy T.key (joined pages.old.items) }
+    requires spot { IsSpot T.key pages.old.items bytes.now spot.page spot.at }
     ensures spot { IfOk result (λ spot.
         IsSpot T.key pages.new.items bytes.now spot.page spot.at) }
     ensures same { joined pages.new.items ≡ joined pages.old.items }
 {
-    let spot = spot_of(pages, bytes);
     if !is_full(pages, spot.page) {
         return Ok(spot);
     }

@@ -19,7 +19,7 @@ pub struct Shelf<S: Spans> {
 }
 
 impl<S: Spans> Keyed for Shelf<S> {
-    const PAGE: usize = 128;
+    const PAGE: usize = 64;
 
     ghost key = { λ shelf. shelf.authority.items };
 

@@ -16,11 +16,7 @@ pub(crate) fn add_text(
     ensures ok { OnOk result (Puts (map bytes_of texts.old) bytes.now (map bytes_of texts.new)) }
     ensures err { OnErr result (texts.new ≡ texts.old) }
 {
-    if texts.has(bytes) {
-        return Ok(());
-    }
-    texts.insert(alloc, Text::new(alloc, bytes)?)?;
-    Ok(())
+    texts.add_new(alloc, Text::new(alloc, bytes)?)
 }
 
 // Adds a hash, if it is not there.
@@ -32,9 +28,5 @@ pub(crate) fn add_hash<const N: usize>(
     ensures ok { OnOk result (Puts hashes.old hash.now hashes.new) }
     ensures err { OnErr result (hashes.new ≡ hashes.old) }
 {
-    if hashes.has(hash) {
-        return Ok(());
-    }
-    hashes.insert(alloc, *hash)?;
-    Ok(())
+    hashes.add_new(alloc, *hash)
 }
