@@ -57,6 +57,12 @@ def falling_serials(size):
     return of_serials(range(size // 4 - 1, 0, -2))
 
 
+def alternating_serials(size):
+    """Odd serials, the lowest and the highest in turn."""
+    rising, falling = range(1, size // 4, 2), range(size // 4 - 1, 0, -2)
+    return of_serials([it for pair in zip(rising, falling) for it in pair][: size // 8])
+
+
 def ranges(size):
     source = random.Random(size)
     starts = [source.randrange(1, 1 << 63) for _ in range(size // 21)]
@@ -119,14 +125,19 @@ def sha256s(size):
     return hashes(b"\5", 32, size)
 
 
-SHAPES = {
+SERIALS = {
     "random serials": random_serials,
     "odd serials, rising": odd_serials,
     "odd serials, falling": falling_serials,
+    "serials from both ends": alternating_serials,
     "ranges": ranges,
     "bitmaps of each second serial": bitmaps,
     "small bitmaps, rising": rising_bitmaps,
     "small bitmaps, falling": falling_bitmaps,
+}
+
+SHAPES = {
+    **SERIALS,
     "key IDs": ids,
     "many authorities": authorities,
     "explicit keys": keys,
