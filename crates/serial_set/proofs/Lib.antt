@@ -1,5 +1,6 @@
 pub mod Apart
 pub mod Asked
+pub mod Behind
 pub mod Bits
 pub mod Feeding
 pub mod Least

@@ -1,7 +1,7 @@
 -- What a new span leaves of a list of spans, and where a list ends.
-use Rattle.std.specs.Prelude.{◌≡◌, ℕ, ◌+◌, ◌≤◌, ◌<◌, ◌⊎◌, List, [], ◌∷◌, ◌++◌, Option, Some, None, nat_lt, filter, max, All, length}
+use Rattle.std.specs.Prelude.{◌≡◌, ℕ, ◌+◌, ◌≤◌, ◌<◌, ◌⊎◌, List, [], ◌∷◌, ◌++◌, Option, Some, None, nat_lt, filter, max, All, length, drop}
 use Rattle.std.specs.List.{flat_map}
-use Rattle.std.proofs.Common.{arith, length-append}
+use Rattle.std.proofs.Common.{arith, length-append, length-drop}
 use Rattle.serial_set.specs.declared.span.Span.{Span}
 use Rattle.serial_set.specs.Span.{Covers}
 
@@ -53,3 +53,7 @@ pub flat_some : {X : Type 0} (f : X → List Span) → ((x : X) → 0 < length (
 flat_some f some [] h = absurd (omega arith)
 flat_some f some (x ∷ xs) h =
     let this = some x in omega (arith, length-append (f x) (flat_map f xs))
+
+-- spans behind a gap that does not fill the vector
+pub spans_some : (xs : List Span) (gap : ℕ) → gap < length xs → 0 < length (drop gap xs)
+spans_some xs gap h = omega (arith, length-drop gap xs)

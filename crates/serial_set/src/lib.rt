@@ -9,6 +9,7 @@ mod bit_fault;
 mod bit_runs;
 mod byte_runs;
 mod finished;
+mod gap;
 pub mod laws;
 mod page;
 mod part;

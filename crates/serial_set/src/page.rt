@@ -1,8 +1,9 @@
-ghost use Rattle.std.specs.Prelude.{◌≡◌, ◌+◌, ◌<◌, ◌≤◌, ◌⊎◌, ◌∷◌, ◌++◌, length, take, drop, nat_le, false, IsTrue, All, OnOk, OnErr};
+ghost use Rattle.std.specs.Prelude.{◌≡◌, ◌+◌, ◌-◌, ◌<◌, ◌≤◌, ◌⊎◌, ◌∷◌, ◌++◌, length, take, drop, nat_le, false, IsTrue, All, IfOk, IfSome, OnOk, OnErr};
 ghost use Rattle.std.specs.Vec.{vec_len, vec_capacity};
 ghost use Rattle.serial_set.specs.Span.{IsRuns, TouchesNone};
-ghost use Rattle.serial_set.specs.Pages.{above, replaced, CutsNone, MissesAll, end_of};
+ghost use Rattle.serial_set.specs.Pages.{above, replaced, CutsNone, MissesAll, end_of, IsFirstFrom, spans_some};
 
+use crate::gap::put_behind;
 use crate::part::Part;
 use crate::place::{count_beginning_by, count_ending_before, cut_place};
 use crate::span::Span;
@@ -12,34 +13,54 @@ use std::alloc::{AllocError, Global};
 /// How many spans a page has at most.
 pub const PAGE_LEN: usize = 256;
 
-/// From one to 256 spans in a row, and where the last of them ends.
+/// From one to 256 spans in a row behind a gap, and where the last of them ends.
 #[derive(Drop)]
 pub struct Page {
     items: Vec<Span>,
+    gap: usize,
     end: u64,
-    ghost filled: { 0 < length items.items },
+    ghost filled: { gap < length items.items },
     ghost within: { vec_len items ≤ 256 },
-    ghost ending: { end ≡ end_of items.items },
+    ghost ending: { end ≡ end_of (drop gap items.items) },
+}
+
+impl Page {
+    fn as_slice(&self) -> &[Span]
+        ensures { result.now ≡ drop self.now.gap self.now.items.items }
+    {
+        &self.items[self.gap..]
+    }
+
+    // Moves the spans to the front.
+    fn close_gap(&mut self)
+        ensures gap { self.new.gap ≡ 0 }
+        ensures same { self.new.items.items ≡ drop self.old.gap self.old.items.items }
+        ensures end { self.new.end ≡ self.old.end }
+    {
+        self.items.drain(..self.gap);
+        self.gap = 0;
+    }
 }
 
 impl Part for Page {
-    ghost spans = { λ page. page.items.items };
+    ghost spans = { λ page. drop page.gap page.items.items };
 
-    ghost is_full = { λ page. nat_le 256 (vec_len page.items) };
+    ghost is_full = { λ page. nat_le 256 (vec_len page.items - page.gap) };
 
-    ghost filled = { λ page. page.filled };
+    ghost filled = { λ page. spans_some page.items.items page.gap page.filled };
 
     fn of(alloc: Global, span: Span) -> Result<Page, AllocError> {
-        let mut items = Vec::new(alloc);
+        let mut items = Vec::with_capacity(alloc, 1)?;
         items.push(span)?;
         Ok(Page {
             items,
+            gap: 0,
             end: span.hi,
         })
     }
 
     fn len(&self) -> usize {
-        self.items.len()
+        self.items.len() - self.gap
     }
 
     fn end(&self) -> u64 {
@@ -47,46 +68,47 @@ impl Part for Page {
     }
 
     fn first_from(&self, number: u64) -> Option<Span> {
-        let at = count_ending_before(&self.items, number);
-        if at < self.items.len() {
-            Some(self.items[at])
-        } else {
-            None
-        }
+        first_in(self.as_slice(), number)
     }
 
     fn piece(&self, at: usize) -> &[Span] {
-        &self.items[at..]
+        &self.items[self.gap + at..]
     }
 
     fn put(&mut self, new: Span) -> Result<(), AllocError> {
+        self.close_gap();
         put_in(&mut self.items, new)?;
         self.end = self.end.max(new.hi);
         Ok(())
     }
 
     fn put_apart(&mut self, new: Span) -> bool {
-        if !put_apart_in(&mut self.items, new) {
+        let Some(at) = apart_place(self.as_slice(), new) else {
             return false;
-        }
+        };
+        let Ok(gap) = put_behind(&mut self.items, self.gap, at, new) else {
+            return false;
+        };
+        self.gap = gap;
         self.end = self.end.max(new.hi);
         true
     }
 
     fn cut_front(&mut self, number: u64) -> usize {
+        self.close_gap();
         cut_front_of(&mut self.items, number)
     }
 
     fn is_full(&self) -> bool {
-        self.items.len() >= PAGE_LEN
+        self.len() >= PAGE_LEN
     }
 
     fn split(&mut self, lo: u64) -> Result<Page, AllocError> {
+        self.close_gap();
         let at = cut_place(count_ending_before(&self.items, lo), self.items.len());
-        let mut back = Vec::with_capacity(*self.items.allocator(), PAGE_LEN)?;
-        back.extend_from_slice(&self.items[at..])?;
         let back = Page {
-            items: back,
+            items: copy_from(&self.items, at)?,
+            gap: 0,
             end: self.end,
         };
         self.items.truncate(at);
@@ -126,25 +148,45 @@ fn put_in(items: &mut Vec<Span>, new: Span) -> Result<(), AllocError>
     Ok(())
 }
 
-// Puts the span before the first that ends at its beginning or past that, where it touches none.
-fn put_apart_in(items: &mut Vec<Span>, new: Span) -> bool
-    requires runs { IsRuns items.old.items }
-    requires within { vec_len items.old ≤ 256 }
-    requires span { (1 < new.lo) × (new.lo ≤ new.hi) }
-    ensures put { IsTrue result → items.new.items ≡ replaced items.old.items new }
-    ensures apart { IsTrue result → TouchesNone items.old.items new.lo new.hi }
-    ensures one_more { IsTrue result → vec_len items.new ≡ vec_len items.old + 1 }
-    ensures within { vec_len items.new ≤ 256 }
-    ensures same { result ≡ false → items.new.items ≡ items.old.items }
+// The spans from a place on, with room for as many as a page has.
+fn copy_from(items: &Vec<Span>, at: usize) -> Result<Vec<Span>, AllocError>
+    requires { at ≤ vec_len items.now }
+    ensures { IfOk result (λ back. back.items ≡ drop at items.now.items) }
 {
-    if items.len() >= PAGE_LEN {
-        return false;
+    let mut back = Vec::with_capacity(*items.allocator(), PAGE_LEN)?;
+    back.extend_from_slice(&items[at..])?;
+    Ok(back)
+}
+
+// The first span that ends at a number or past it.
+fn first_in(spans: &[Span], number: u64) -> Option<Span>
+    requires runs { IsRuns spans.now }
+    requires positive { 0 < number }
+    ensures { IsFirstFrom spans.now number result }
+{
+    let at = count_ending_before(spans, number);
+    if at < spans.len() {
+        Some(spans[at])
+    } else {
+        None
     }
-    let at = count_ending_before(items, new.lo - 1);
-    if !is_past(items, at, new.hi) {
-        return false;
+}
+
+// Where a span stands that touches none.
+fn apart_place(spans: &[Span], new: Span) -> Option<usize>
+    requires runs { IsRuns spans.now }
+    requires span { (1 < new.lo) × (new.lo ≤ new.hi) }
+    ensures within { IfSome result (λ at. at ≤ length spans.now) }
+    ensures apart { IfSome result (λ _. TouchesNone spans.now new.lo new.hi) }
+    ensures place { IfSome result (λ at.
+        replaced spans.now new ≡ take at spans.now ++ new ∷ drop at spans.now) }
+{
+    let at = count_ending_before(spans, new.lo - 1);
+    if is_past(spans, at, new.hi) {
+        Some(at)
+    } else {
+        None
     }
-    items.insert(at, new).is_ok()
 }
 
 // Whether the spans from a place on begin past the number behind `number`.

@@ -31,7 +31,7 @@ impl<P: Part> Part for Shelf<P> {
     ghost is_full = { λ shelf. nat_le 512 (vec_len shelf.parts) };
 
     fn of(alloc: Global, span: Span) -> Result<Shelf<P>, AllocError> {
-        let mut parts = Vec::new(alloc);
+        let mut parts = Vec::with_capacity(alloc, 1)?;
         parts.push(P::of(alloc, span)?)?;
         Ok(Shelf {
             parts,

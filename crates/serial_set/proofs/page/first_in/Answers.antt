@@ -1,18 +1,18 @@
-use Rattle.std.proofs.Common.{◌<◌, ◌≤◌, subst, take, drop, arith}
-use Rattle.std.specs.List.{All}
+use Rattle.std.proofs.Common.{get_or, arith}
+use Rattle.std.proofs.lemmas.List.{get_or_default}
+use Rattle.serial_set.specs.declared.span.Span.{Span}
 use Rattle.serial_set.proofs.InPage.{first_at, none_from}
-use Rattle.serial_set.proofs.page.PagePart.first_from.Goals as goal
+use Rattle.serial_set.proofs.page.first_in.Goals as goal
 
-pub returns-then-at-len : goal.returns-then-at-len
-returns-then-at-len c =
-    let xs = c.args.self.now.items.items in
+pub returns-then-at-spans : goal.returns-then-at-spans
+returns-then-at-spans c =
+    let xs = c.args.spans.now in
     let at = c.count_ending_before-at in
-    first_at xs c.args.number at.result c.index.result.now (omega arith)
-    (subst (λ l. All (λ t. t.hi < c.args.number) (take at.result l)) c.deref.ensures.value at.ensures.before)
-    (subst (λ l. All (λ t. c.args.number ≤ t.hi) (drop at.result l)) c.deref.ensures.value at.ensures.rest) c.index.ensures
+    let none : Span = record { lo = 0; hi = 0 } in
+    let x = get_or xs at.result none in
+    first_at xs c.args.number at.result x (omega arith) at.ensures.before at.ensures.rest (get_or_default xs at.result none x (omega arith))
 
-pub returns-else-at-len : goal.returns-else-at-len
-returns-else-at-len c =
-    let xs = c.args.self.now.items.items in
+pub returns-else-at-spans : goal.returns-else-at-spans
+returns-else-at-spans c =
     let at = c.count_ending_before-at in
-    none_from xs c.args.number at.result (omega arith) (subst (λ l. All (λ t. t.hi < c.args.number) (take at.result l)) c.deref.ensures.value at.ensures.before)
+    none_from c.args.spans.now c.args.number at.result (omega arith) at.ensures.before
