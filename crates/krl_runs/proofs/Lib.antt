@@ -9,3 +9,4 @@ pub mod Asking
 pub mod SpecAdds
 pub mod SpecDigits
 pub mod SpecLines
+pub mod MadeLists

@@ -16,3 +16,4 @@ pub mod SpecCause
 pub mod SpecEntry
 pub mod SpecFile
 pub mod SpecLine
+pub mod Making

@@ -126,6 +126,6 @@ counted_entry authority [] = None
 counted_entry authority (byte ∷ bytes) =
     Some (text_entry authority (byte ∷ bytes) (order_in (byte ∷ bytes)))
 
--- The authority at hand is none that is given, or one by its bytes, which all authorities have none of.
+-- The authority at hand is not given, or stands here by its bytes. All authorities have none.
 unfoldable pub line_entry : Option (List ℕ) → List ℕ → Option (Result Entry SpecCause)
 line_entry authority line = counted_entry authority (bare_line line)

@@ -34,8 +34,8 @@ unfoldable pub lines_of : Option (List ℕ) → List ℕ → Named
 lines_of authority text = lines_from authority 1 (slice_split is_newline text)
 
 -- Memory ran out at a line: those before it have no fault, and what they name was added.
-pub record StarvesAt (authority : Option (List ℕ)) (lines : List (List ℕ)) (number : ℕ) (old new : Contents)
-    : Type 0 where
+pub record StarvesAt (authority : Option (List ℕ)) (lines : List (List ℕ)) (number : ℕ)
+    (old new : Contents) : Type 0 where
   pub before : List (List ℕ)
   pub line : List ℕ
   pub after : List (List ℕ)
@@ -53,8 +53,8 @@ StopsAt authority text number cause old new =
     × AddsEntries old new (lines_of authority text).entries
 
 -- All that the lines name was added, and they have no fault; or reading stopped at one.
-abbrev pub ReadsSpec : {A : Type 0} → Option (List ℕ) → List ℕ → Result A SpecFault → Contents → Contents
-    → Type 0
+abbrev pub ReadsSpec : {A : Type 0} → Option (List ℕ) → List ℕ → Result A SpecFault
+    → Contents → Contents → Type 0
 ReadsSpec authority text (Ok done) old new =
     ((lines_of authority text).fault ≡ None) × AddsEntries old new (lines_of authority text).entries
 ReadsSpec authority text (Err fault) old new = StopsAt authority text fault.line fault.cause old new

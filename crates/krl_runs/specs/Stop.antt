@@ -4,9 +4,10 @@ use Rattle.ssh_key.specs.LineFault.{fault_number as line_fault_number, fault_tex
 use Rattle.krl_core.specs.KrlFault.{fault_number as krl_fault_number, fault_text as krl_fault_text}
 use Rattle.ssh_cert.specs.SubjectFault.{subject_fault_number, subject_fault_text}
 use Rattle.krl_runs.specs.declared.output.cause.Cause.{Cause}
-use Rattle.krl_runs.specs.declared.output.cause.Cause.TheVariants.{File, Krl, Line, Subject, NoMemory, Output}
+use Rattle.krl_runs.specs.declared.output.cause.Cause.TheVariants.{File, Krl, Line, Subject, Spec, NoMemory, VersionFull, TextTooLong, Output}
 use Rattle.ssh_cert.specs.Escape.{escaped}
 use Rattle.krl_runs.specs.FileFault.{file_fault_number, file_fault_text}
+use Rattle.krl_runs.specs.SpecCause.{spec_cause_number, spec_cause_text}
 
 -- the name of what was being worked on, the number of its line where there is one, and why
 pub record Stop : Type 0 where
@@ -20,7 +21,10 @@ cause_number (File fault) = file_fault_number fault
 cause_number (Krl fault) = krl_fault_number fault
 cause_number (Line fault) = line_fault_number fault
 cause_number (Subject fault) = subject_fault_number fault
+cause_number (Spec cause) = spec_cause_number cause
 cause_number NoMemory = 1
+cause_number VersionFull = 2
+cause_number TextTooLong = 3
 cause_number (Output count) = 1
 
 -- the family, the number and the name of the fault, and the same of the fault that it carries
@@ -29,7 +33,10 @@ cause_text (File fault) = file_fault_text fault
 cause_text (Krl fault) = krl_fault_text fault
 cause_text (Line fault) = line_fault_text fault
 cause_text (Subject fault) = subject_fault_text fault
+cause_text (Spec cause) = spec_cause_text cause
 cause_text NoMemory = codes "run 1 NoMemory"
+cause_text VersionFull = codes "run 2 VersionFull"
+cause_text TextTooLong = codes "run 3 TextTooLong"
 cause_text (Output count) = codes "output 1 Write after " ++ (decimal count ++ codes " bytes")
 
 abbrev pub line_part : Option ℕ → List ℕ
@@ -64,7 +71,10 @@ ender_of (File fault) = ByInput
 ender_of (Krl fault) = ByInput
 ender_of (Line fault) = ByInput
 ender_of (Subject fault) = ByInput
+ender_of (Spec cause) = ByInput
 ender_of NoMemory = ByMemory
+ender_of VersionFull = ByInput
+ender_of TextTooLong = ByInput
 ender_of (Output count) = ByOutput count
 
 abbrev pub is_by_output : Ender → Bool

@@ -5,12 +5,15 @@
 mod input;
 mod keys;
 pub mod laws;
+mod make;
 mod output;
 mod runs;
 mod spec_file;
 
 pub use input::file_fault::FileFault;
 pub use input::named::{Named, load};
+pub use make::authority::Authority;
+pub use make::run::{Old, make_run};
 pub use output::cause::Cause;
 pub use output::done::{Done, FAILED};
 pub use output::run_fault::{RunFault, fault_text};

@@ -9,5 +9,6 @@ mod devices;
 mod encoding;
 mod faults;
 mod key_files;
+mod making;
 mod runs;
 mod spec_files;

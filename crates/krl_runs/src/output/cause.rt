@@ -4,6 +4,7 @@ ghost use Rattle.std.specs.Prelude.{◌≡◌, Some};
 ghost use Rattle.krl_runs.specs.Stop.{cause_number, cause_text};
 
 use crate::input::file_fault::FileFault;
+use crate::spec_file::spec_cause::SpecCause;
 use krl_core::KrlFault;
 use ssh_cert::SubjectFault;
 use ssh_key::LineFault;
@@ -16,8 +17,13 @@ pub enum Cause {
     Krl(KrlFault),
     Line(LineFault),
     Subject(SubjectFault),
+    Spec(SpecCause),
     /// No memory was left for the run itself.
     NoMemory,
+    /// The old list has the greatest version.
+    VersionFull,
+    /// The list would be too long to be read.
+    TextTooLong,
     /// The output failed once it had taken that many bytes.
     Output { count: u64 },
 }
@@ -32,7 +38,10 @@ impl Cause {
             Cause::Krl(fault) => fault.number(),
             Cause::Line(fault) => fault.number(),
             Cause::Subject(fault) => fault.number(),
+            Cause::Spec(cause) => cause.number(),
             Cause::NoMemory => 1,
+            Cause::VersionFull => 2,
+            Cause::TextTooLong => 3,
             Cause::Output { .. } => 1,
         }
     }
@@ -47,7 +56,10 @@ impl fmt::Display for Cause {
             Cause::Krl(fault) => write!(f, "{fault}"),
             Cause::Line(fault) => write!(f, "{fault}"),
             Cause::Subject(fault) => write!(f, "{fault}"),
+            Cause::Spec(cause) => write!(f, "{cause}"),
             Cause::NoMemory => write!(f, "run 1 NoMemory"),
+            Cause::VersionFull => write!(f, "run 2 VersionFull"),
+            Cause::TextTooLong => write!(f, "run 3 TextTooLong"),
             Cause::Output { count } => write!(f, "output 1 Write after {count} bytes"),
         }
     }

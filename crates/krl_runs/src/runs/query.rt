@@ -127,7 +127,7 @@ fn ask_list<'a, R: Source + Drop, W: Sink>(
 }
 
 /// Where memory runs out, it is for the run itself.
-fn cause_of(fault: KrlFault) -> Cause
+pub(crate) fn cause_of(fault: KrlFault) -> Cause
     ensures { result ≡ krl_cause fault }
 {
     if fault == KrlFault::NoMemory {

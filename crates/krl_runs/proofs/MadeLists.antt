@@ -1,0 +1,247 @@
+-- Making a list: what is read of the old one, of the authority's file and of the files.
+use Rattle.std.proofs.Common.{◌≡◌, ◌↔◌, ℕ, zero, suc, ◌+◌, ◌^◌, ◌<◌, ◌≤◌, Bool, false, List, [], ◌∷◌, ◌++◌, length, take, drop, get_or, map, Option, Some, None, Result, Ok, Err, inl, inr, refl, sym, ap, ◌∙◌, arith, append_assoc}
+use Rattle.std.specs.Prelude.{IsTrue}
+use Rattle.std.specs.List.{Contains}
+use Rattle.std.proofs.lemmas.List.{append-nil, get_or-map, length-append, length-map, take_more, take-append-drop}
+use Rattle.ssh_wire.specs.Fields.{length-string}
+use Rattle.ssh_wire.specs.Wire.{string}
+use Rattle.ssh_key.specs.Kind.{type_name}
+use Rattle.ssh_cert.specs.Subject.{Subject}
+use Rattle.ssh_cert.specs.SubjectReading.{IsSubject, plain_key, certified}
+use Rattle.krl_core.specs.Contents.{Contents, IsOrderly, Means}
+use Rattle.krl_core.specs.Entries.{entries_of}
+use Rattle.krl_core.specs.Entry.{Entry}
+use Rattle.krl_core.specs.Front.{IsFirstFault, limit}
+use Rattle.krl_core.specs.Krl.{Section, Spells}
+use Rattle.krl_core.specs.KrlText.{IsKrlText}
+use Rattle.krl_core.specs.Reading.{IsList, Says}
+use Rattle.krl_core.specs.Revoked.{Revoked}
+use Rattle.krl_core.specs.Tested.{revokes}
+use Rattle.krl_core.specs.declared.header.Header.{Header}
+use Rattle.krl_core.specs.declared.krl_fault.KrlFault.{KrlFault}
+use Rattle.krl_runs.specs.declared.make.base.Base.{Base}
+use Rattle.krl_runs.specs.Making.{IsMade, IsOldRead, IsStop, Made, Makes, WritesList, after_version, authority_names, authority_of, base_of, content_entries, file_entries, files_entries, made_of, make_run_of, run_names, then_entries, version_of}
+use Rattle.krl_runs.specs.Query.{krl_cause}
+use Rattle.krl_runs.specs.declared.make.authority.Authority.{Authority}
+use Rattle.krl_core.specs.declared.krl_fault.KrlFault.TheVariants as faults
+use Rattle.std.proofs.lemmas.List.Elements.{Contains-append_left, Contains-append_right}
+use Rattle.krl_runs.specs.Run.{File}
+use Rattle.krl_runs.specs.SpecAdding.{AddsEntries}
+use Rattle.krl_runs.specs.SpecFile.{ReadsSpec, lines_of}
+use Rattle.krl_runs.specs.Stop.{Stop, Ender, ByInput, ByMemory, ByOutput, ender_of, stop_of}
+
+-- ---- the old list
+
+pub old_read : (left : Option (List ℕ)) (header : Header) (contents : Contents)
+    → ((text : List ℕ) → left ≡ Some text → IsList text header contents)
+    → ((text : List ℕ) → left ≡ Some text → IsFirstFault text None)
+    → IsOldRead (Some left) false (Ok (base_of header contents))
+old_read None header contents list none = tt
+old_read (Some text) header contents list none =
+    let is = list text refl in
+    record {
+      header = header;
+      sections = is.sections;
+      spelled = is.spelled;
+      no_fault = none text refl;
+      means = is.means;
+      version_is = refl;
+      comment_is = refl;
+    }
+
+pub old_refused : (left : Option (List ℕ)) (failed : Bool) (fault : KrlFault)
+    → ((text : List ℕ) → left ≡ Some text → Says fault text failed)
+    → IsOldRead (Some left) failed (Err fault)
+old_refused None failed fault says = tt
+old_refused (Some text) failed fault says = says text refl
+
+-- ---- the authority
+
+-- the plain key of what is asked has some bytes
+pub plain_has_bytes : (blob : List ℕ) (asked : Subject) → IsSubject blob asked → 0 < length asked.plain
+plain_has_bytes blob asked (plain_key key is same) =
+    rw same (omega (arith, ap length is.spelled, length-append (string (type_name key.kind)) key.fields, length-string (type_name key.kind)))
+plain_has_bytes blob asked (certified certificate is same) =
+    rw same (omega (arith, length-append (string (type_name certificate.key.kind)) certificate.key.fields, length-string (type_name certificate.key.kind)))
+
+-- ---- the files
+
+-- what was read of files was added
+abbrev pub Added : Result (List Entry) Stop → Contents → Contents → Type 0
+Added read old new = (entries : List Entry) × ((read ≡ Ok entries) × AddsEntries old new entries)
+
+pub text_added : (authority : Option (List ℕ)) (name text : List ℕ) (old new : Contents)
+    → ReadsSpec authority text (Ok (tt {0})) old new
+    → Added (content_entries authority name (Ok text)) old new
+text_added authority name text old new reads =
+    ((lines_of authority text).entries, (rw reads.0 refl, reads.1))
+
+nothing_before : (read : Result (List Entry) Stop) → read ≡ then_entries (Ok []) read
+nothing_before (Ok entries) = refl
+nothing_before (Err stop) = refl
+
+regrouped : (a b c : Result (List Entry) Stop)
+    → then_entries a (then_entries b c) ≡ then_entries (then_entries a b) c
+regrouped (Ok a) (Ok b) (Ok c) = ap (λ (x : List Entry). Ok x) (sym (append_assoc a b c))
+regrouped (Ok a) (Ok b) (Err c) = refl
+regrouped (Ok a) (Err b) c = refl
+regrouped (Err a) b c = refl
+
+files_parts : (authority : Option (List ℕ)) (front back : List File)
+    → files_entries authority (front ++ back) ≡ then_entries (files_entries authority front) (files_entries authority back)
+files_parts authority [] back = nothing_before (files_entries authority back)
+files_parts authority (file ∷ front) back =
+    ap (then_entries (file_entries authority file)) (files_parts authority front back) ∙ regrouped (file_entries authority file) (files_entries authority front) (files_entries authority back)
+
+one_file : (authority : Option (List ℕ)) (file : File) (read : Result (List Entry) Stop) → then_entries read (Ok []) ≡ read
+one_file authority file (Ok entries) = ap (λ (x : List Entry). Ok x) (append-nil entries)
+one_file authority file (Err stop) = refl
+
+files_take : (authority : Option (List ℕ)) (files : List File) (i : ℕ) (file : File) → i < length files → file ≡ get_or files i file
+    → files_entries authority (take (i + 1) files) ≡ then_entries (files_entries authority (take i files)) (file_entries authority file)
+files_take authority files i file lt item =
+    let more : take (i + 1) files ≡ take i files ++ file ∷ [] = take_more files i file lt ∙ ap (λ (x : File). take i files ++ x ∷ []) (sym item) in
+    rw more (files_parts authority (take i files) (file ∷ []) ∙ ap (then_entries (files_entries authority (take i files))) (one_file authority file (file_entries authority file)))
+
+pub no_files : (r : Contents) → Added (Ok []) r r
+no_files r = ([], (refl, λ entries means. rw (append-nil entries) means))
+
+pub file_added : (authority : Option (List ℕ)) (files : List File) (i : ℕ) (file : File) (old mid new : Contents)
+    → i < length files → file ≡ get_or files i file
+    → Added (files_entries authority (take i files)) old mid
+    → Added (file_entries authority file) mid new
+    → Added (files_entries authority (take (i + 1) files)) old new
+file_added authority files i file old mid new lt item (front, (read, adds)) (named, (read', adds')) = (
+  front ++ named,
+  (
+    rw (files_take authority files i file lt item, read, read') refl,
+    λ entries means. rw (← append_assoc entries front named) (adds' (entries ++ front) (adds entries means)),
+  ),
+)
+
+-- ---- what stopped the run
+
+-- A stop of a part is one of the whole, where the names of the part are among those of the whole.
+pub stop_of_part : {X Y : Type 0} (ender : Ender) (names others : List (List ℕ)) (read : Result X Stop) (whole : Result Y Stop) (stop : Stop)
+    → ((name : List ℕ) → Contains names name → Contains others name)
+    → (read ≡ Err stop → whole ≡ Err stop) → IsStop ender names read stop → IsStop ender others whole stop
+stop_of_part ByInput names others read whole stop more same is = same is
+stop_of_part ByMemory names others read whole stop more same (name, (among, is)) = (name, (more name among, is))
+stop_of_part (ByOutput count) names others read whole stop more same is = absurd is
+
+stopped_at : (authority : Option (List ℕ)) (files : List File) (i : ℕ) (file : File) (front : List Entry) (stop : Stop) → i < length files → file ≡ get_or files i file
+    → files_entries authority (take i files) ≡ Ok front → file_entries authority file ≡ Err stop → files_entries authority files ≡ Err stop
+stopped_at authority files i file front stop lt item read read' =
+    let first : files_entries authority (take (i + 1) files) ≡ Err stop = rw (files_take authority files i file lt item, read, read') refl in
+    ap (files_entries authority) (sym (take-append-drop (i + 1) files)) ∙ files_parts authority (take (i + 1) files) (drop (i + 1) files) ∙ ap (λ (x : Result (List Entry) Stop). then_entries x (files_entries authority (drop (i + 1) files))) first
+
+only_one : (x y : List ℕ) → Contains (x ∷ []) y → x ≡ y
+only_one x y (zero, lt, same) = same
+only_one x y (suc k, lt, same) = absurd (omega arith)
+
+name_among : (files : List File) (i : ℕ) (file : File) (name : List ℕ) → i < length files → file ≡ get_or files i file
+    → Contains (file.name ∷ []) name → Contains (map (λ (f : File). f.name) files) name
+name_among files i file name lt item among =
+    let size : i < length (map (λ (f : File). f.name) files) = omega (arith, length-map files (λ (f : File). f.name)) in
+    (i, size, get_or-map (λ (f : File). f.name) files i file name lt ∙ ap (λ (f : File). f.name) (sym item) ∙ only_one file.name name among)
+
+pub file_stops : (authority : Option (List ℕ)) (files : List File) (i : ℕ) (file : File) (stop : Stop) (old mid : Contents)
+    → i < length files → file ≡ get_or files i file
+    → Added (files_entries authority (take i files)) old mid
+    → IsStop (ender_of stop.cause) (file.name ∷ []) (file_entries authority file) stop
+    → IsStop (ender_of stop.cause) (map (λ (f : File). f.name) files) (files_entries authority files) stop
+file_stops authority files i file stop old mid lt item (front, (read, adds)) is =
+    stop_of_part (ender_of stop.cause) (file.name ∷ []) (map (λ (f : File). f.name) files) (file_entries authority file) (files_entries authority files) stop
+    (λ name among. name_among files i file name lt item among)
+    (λ same. stopped_at authority files i file front stop lt item read same)
+    is
+
+-- ---- the list that is written
+
+-- the law that a written list names what is held
+abbrev pub WrittenNames : Type 0
+WrittenNames =
+    (header : Header) (r : Contents) (text : List ℕ) → IsKrlText header r text → length text ≤ limit → header.version < 2 ^ 64 → header.date < 2 ^ 64 → IsOrderly r
+    → (sections : List Section) × (Spells text header sections × Means r (entries_of sections))
+
+-- the law that what is held revokes what is meant
+abbrev pub HeldRevokes : Type 0
+HeldRevokes = (r : Contents) (entries : List Entry) (subject : Subject) → Means r entries → (IsTrue (revokes r subject) ↔ Revoked entries subject)
+
+both_ways : {P Q R : Type 0} → (P ↔ Q) → (P ↔ R) → (Q ↔ R)
+both_ways to from = (λ q. from.0 (to.1 q), λ r. to.0 (from.1 r))
+
+pub is_made : (made : Made) (contents : Contents) (text : List ℕ) → AddsEntries made.old contents made.entries
+    → IsKrlText made.header contents text → length text ≤ limit → made.header.version < 2 ^ 64 → made.header.date < 2 ^ 64
+    → WrittenNames → HeldRevokes → IsMade made text
+is_made made contents text adds written within version date spelled law = record {
+  contents = contents;
+  adds = adds;
+  written = written;
+  within = within;
+  names = λ olds means.
+      let m = adds olds means in
+      let w = spelled made.header contents text written within version date m.orderly in
+      record {
+        sections = w.0;
+        spelled = w.1.0;
+        same = λ asked. both_ways (law contents (entries_of w.0) asked w.1.1) (law contents (olds ++ made.entries) asked m);
+      };
+}
+
+-- ---- the run
+
+own_name : (name : List ℕ) (names : List (List ℕ)) → Contains (name ∷ names) name
+own_name name names = (0, omega arith, refl)
+
+-- The fault of the old list stops the run.
+pub base_refused : (name : List ℕ) (authority : Authority) (version : Option ℕ) (files : List File) (moment : ℕ) (fault : KrlFault)
+    → IsStop (ender_of (krl_cause fault)) (run_names name authority files) (make_run_of name (Err fault) authority version files moment) (stop_of name (krl_cause fault))
+unfolding make_run_of
+base_refused name authority version files moment faults.NoMemory =
+    (name, (own_name name (authority_names authority ++ map (λ (f : File). f.name) files), refl))
+base_refused name authority version files moment fault = refl
+
+-- The fault of the authority's file stops the run.
+pub signer_stops : (name : List ℕ) (given : Option ℕ) (authority : Authority) (moment : ℕ) (base : Base) (files : List File) (version : ℕ) (stop : Stop)
+    → version_of given base.version ≡ Some version
+    → IsStop (ender_of stop.cause) (authority_names authority) (authority_of authority) stop
+    → IsStop (ender_of stop.cause) (run_names name authority files) (after_version name (version_of given base.version) authority moment base files) stop
+signer_stops name given authority moment base files version stop is stops =
+    let names = map (λ (f : File). f.name) files in
+    stop_of_part (ender_of stop.cause) (authority_names authority) (run_names name authority files) (authority_of authority) (after_version name (version_of given base.version) authority moment base files) stop
+    (λ other among. Contains-append_right (name ∷ []) (authority_names authority ++ names) other (Contains-append_left (authority_names authority) names other among))
+    (λ same. rw (is, same) refl)
+    stops
+
+-- The fault of a file or of a line stops the run.
+pub files_stop : (name : List ℕ) (given : Option ℕ) (authority : Authority) (moment : ℕ) (base : Base) (files : List File) (version : ℕ) (signer : Option (List ℕ)) (stop : Stop)
+    → version_of given base.version ≡ Some version → authority_of authority ≡ Ok signer
+    → IsStop (ender_of stop.cause) (map (λ (f : File). f.name) files) (files_entries signer files) stop
+    → IsStop (ender_of stop.cause) (run_names name authority files) (after_version name (version_of given base.version) authority moment base files) stop
+files_stop name given authority moment base files version signer stop is signed stops =
+    let names = map (λ (f : File). f.name) files in
+    stop_of_part (ender_of stop.cause) names (run_names name authority files) (files_entries signer files) (after_version name (version_of given base.version) authority moment base files) stop
+    (λ other among. Contains-append_right (name ∷ []) (authority_names authority ++ names) other (Contains-append_right (authority_names authority) names other among))
+    (λ same. rw (is, signed, same) refl)
+    stops
+
+-- The list is written, or the run stops there.
+pub list_written : {X : Type 0} (view : X → List ℕ) (name : List ℕ) (given : Option ℕ) (authority : Authority) (moment : ℕ) (base : Base) (files : List File) (version : ℕ) (signer : Option (List ℕ)) (contents : Contents) (result : Result X Stop)
+    → version_of given base.version ≡ Some version → authority_of authority ≡ Ok signer → Added (files_entries signer files) base.revocations contents
+    → version < 2 ^ 64 → moment < 2 ^ 64 → WrittenNames → HeldRevokes
+    → WritesList view name (record { version = version; date = moment; comment = base.comment }) contents result
+    → Makes view name (run_names name authority files) (after_version name (version_of given base.version) authority moment base files) result
+list_written view name given authority moment base files version signer contents (Ok text) is signed (entries, (read, adds)) fits later spelled law (written, within) =
+    let made = made_of version moment base entries in
+    (made, (rw (is, signed, read) refl, is_made made contents (view text) adds written within fits later spelled law))
+list_written view name given authority moment base files version signer contents (Err stop) is signed (entries, (read, adds)) fits later spelled law (inl starved) =
+    let names = authority_names authority ++ map (λ (f : File). f.name) files in
+    inl (rw starved (name, (own_name name names, refl)))
+list_written view name given authority moment base files version signer contents (Err stop) is signed (entries, (read, adds)) fits later spelled law (inr (told, long)) =
+    inr (record {
+      made = made_of version moment base entries;
+      read_as = rw (is, signed, read) refl;
+      long = record { contents = contents; adds = adds; long = long };
+      stop_is = told;
+    })

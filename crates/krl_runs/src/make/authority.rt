@@ -1,0 +1,107 @@
+// The authority of serials and key IDs that name none themselves.
+
+ghost use Rattle.std.specs.Prelude.{◌≡◌, ◌∷◌, ◌<◌, [], Some, IfOk, length};
+ghost use Rattle.krl_runs.specs.Making.{IsSigner, Returns, authority_names, authority_of, first_key_of, line_key, signer_authority};
+ghost use Rattle.krl_runs.specs.SpecEntry.{IsUnder, authority_under};
+
+use crate::input::file_fault::FileFault;
+use crate::input::named::Named;
+use crate::input::split::split_line;
+use crate::output::cause::Cause;
+use crate::output::run_fault::RunFault;
+use crate::spec_file::under::Under;
+use ssh_cert::{Subject, SubjectFault, subject};
+use ssh_key::{LineFault, has_key, read_line};
+use ssh_wire::Bytes;
+use std::alloc::Global;
+
+/// What `-s` names.
+#[derive(Debug, Drop)]
+pub enum Authority<'a> {
+    NotGiven,
+    /// All authorities.
+    All,
+    /// The authority whose key is the first one of the file.
+    File(Named<'a>),
+}
+
+/// The same, with the blob of the key.
+#[derive(Debug, Drop)]
+pub enum Signer {
+    NotGiven,
+    All,
+    Of(Bytes),
+}
+
+impl Signer {
+    /// What lines stand under.
+    pub fn under(&self) -> Under<'_>
+        requires { IsSigner self.now }
+        ensures authority { authority_under result ≡ signer_authority self.now }
+        ensures some { IsUnder result }
+    {
+        match self {
+            Signer::NotGiven => Under::NotGiven,
+            Signer::All => Under::All,
+            Signer::Of(blob) => Under::Of(blob.as_slice()),
+        }
+    }
+}
+
+/// The authority that is named. Of its file only the first key is read.
+pub fn signer_of<'a>(alloc: Global, authority: &'a Authority<'a>) -> Result<Signer, RunFault<'a>>
+    ensures read { Returns signer_authority (authority_names authority.now)
+        (authority_of authority.now) result }
+    ensures some { IfOk result IsSigner }
+{
+    match authority {
+        Authority::NotGiven => Ok(Signer::NotGiven),
+        Authority::All => Ok(Signer::All),
+        Authority::File(file) => match &file.content {
+            Ok(text) => Ok(Signer::Of(first_key(alloc, file.name, text.as_slice())?)),
+            Err(fault) => Err(RunFault::whole(file.name, Cause::File(*fault))),
+        },
+    }
+}
+
+/// The blob of the first key of a file's text.
+#[tactic(auto, unfolding(crate::specs::Making::first_key_of))]
+fn first_key<'a>(alloc: Global, name: &'a str, text: &[u8]) -> Result<Bytes, RunFault<'a>>
+    ensures read { Returns (λ blob. blob) (name.now ∷ []) (first_key_of name.now text.now) result }
+    ensures some { IfOk result (λ blob. 0 < length blob) }
+{
+    let mut rest = text;
+    let mut passed = 0;
+    'lines: loop {
+        let (line, after) = split_line(rest);
+        if has_key(line) {
+            return key_of(alloc, name, passed + 1, line);
+        }
+        let Some(after) = after else {
+            return Err(RunFault::whole(name, Cause::File(FileFault::NoKeys)));
+        };
+        rest = after;
+        passed += 1;
+    }
+}
+
+/// The blob of the plain key of a line.
+fn key_of<'a>(alloc: Global, name: &'a str, number: u64, text: &[u8]) -> Result<Bytes, RunFault<'a>>
+    ensures read { Returns (λ blob. blob) (name.now ∷ [])
+        (line_key name.now number text.now) result }
+    ensures some { IfOk result (λ blob. 0 < length blob) }
+{
+    let line = match read_line(alloc, text) {
+        Ok(line) => line,
+        Err(LineFault::NoMemory) => return Err(RunFault::whole(name, Cause::NoMemory)),
+        Err(fault) => return Err(RunFault::at_line(name, number, Cause::Line(fault))),
+    };
+    match subject(alloc, line.blob.as_slice()) {
+        Ok(asked) => {
+            let Subject { plain, cert: _ } = asked;
+            Ok(plain)
+        }
+        Err(SubjectFault::NoMemory) => Err(RunFault::whole(name, Cause::NoMemory)),
+        Err(fault) => Err(RunFault::at_line(name, number, Cause::Subject(fault))),
+    }
+}

@@ -1,0 +1,82 @@
+// What specification files add to a list.
+
+ghost use Rattle.std.specs.Prelude.{◌≡◌, ◌∷◌, [], Ok, map};
+ghost use Rattle.krl_runs.specs.Making.{AddsFiles, cause_stop, content_entries, file_entries, files_entries};
+ghost use Rattle.krl_runs.specs.SpecEntry.{IsUnder, authority_under};
+
+use crate::input::named::Named;
+use crate::output::cause::Cause;
+use crate::output::run_fault::RunFault;
+use crate::spec_file::lines::read_spec;
+use crate::spec_file::spec_cause::SpecCause;
+use crate::spec_file::spec_fault::SpecFault;
+use crate::spec_file::under::Under;
+use krl_core::Revocations;
+use serial_set::Spans;
+use std::alloc::Global;
+
+/// Adds what the lines of each file name, up to the first fault.
+pub fn add_files<'a, S: Spans>(
+    alloc: Global,
+    revocations: &mut Revocations<S>,
+    under: Under,
+    files: &'a [Named<'a>],
+) -> Result<(), RunFault<'a>>
+    requires { IsUnder under }
+    ensures { AddsFiles (map (λ file. file.name) files.now)
+        (files_entries (authority_under under.entry) files.now) result
+        revocations.old revocations.new }
+{
+    for file in files {
+        add_file(alloc, revocations, under, file)?;
+    }
+    Ok(())
+}
+
+/// Adds what the lines of a file name.
+#[tactic(auto, unfolding(crate::specs::Making::file_entries))]
+fn add_file<'a, S: Spans>(
+    alloc: Global,
+    revocations: &mut Revocations<S>,
+    under: Under,
+    file: &'a Named<'a>,
+) -> Result<(), RunFault<'a>>
+    requires { IsUnder under }
+    ensures { AddsFiles (file.now.name ∷ []) (file_entries (authority_under under.entry) file.now)
+        result revocations.old revocations.new }
+{
+    match &file.content {
+        Ok(text) => add_text(alloc, revocations, under, file.name, text.as_slice()),
+        Err(fault) => Err(RunFault::whole(file.name, Cause::File(*fault))),
+    }
+}
+
+/// Adds what the lines of a file's text name.
+fn add_text<'a, S: Spans>(
+    alloc: Global,
+    revocations: &mut Revocations<S>,
+    under: Under,
+    name: &'a str,
+    text: &[u8],
+) -> Result<(), RunFault<'a>>
+    requires { IsUnder under }
+    ensures { AddsFiles (name.now ∷ [])
+        (content_entries (authority_under under.entry) name.now (Ok text.now))
+        result revocations.old revocations.new }
+{
+    match read_spec(alloc, revocations, under, text) {
+        Ok(()) => Ok(()),
+        Err(fault) => Err(stop_at(name, fault)),
+    }
+}
+
+/// Where memory runs out, it is for the run itself, and no line is told.
+fn stop_at<'a>(name: &'a str, fault: SpecFault) -> RunFault<'a>
+    ensures { result ≡ cause_stop name.now fault.line fault.cause }
+{
+    if fault.cause == SpecCause::NoMemory {
+        RunFault::whole(name, Cause::NoMemory)
+    } else {
+        RunFault::at_line(name, fault.line, Cause::Spec(fault.cause))
+    }
+}

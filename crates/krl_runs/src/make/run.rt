@@ -1,0 +1,104 @@
+// Making a list of an old one and of specification files.
+
+ghost use Rattle.std.specs.Prelude.{◌≡◌, Bool, Ok, Result, false, option_map, true};
+ghost use Rattle.std.specs.Option.{ForSome};
+ghost use Rattle.krl_core.specs.declared.krl_fault.KrlFault.{KrlFault as FaultOf};
+ghost use Rattle.krl_runs.specs.Making.{IsOldRead, Makes, WritesList, after_old, make_run_of, run_names};
+ghost use Rattle.krl_runs.specs.declared.make.base.Base.{Base as BaseOf};
+
+use crate::input::named::Named;
+use crate::make::authority::{Authority, signer_of};
+use crate::make::base::{Base, next_version, read_base};
+use crate::make::files::add_files;
+use crate::output::cause::Cause;
+use crate::output::run_fault::RunFault;
+use krl_core::laws::{revokes_what_is_meant, written_list_names_what_is_held};
+use krl_core::{Header, Revocations, TextFault, krl_text};
+use serial_set::Held;
+use ssh_wire::Source;
+use std::alloc::Global;
+
+/// The list that is made: its name, and where it is updated the reader of the old one.
+#[derive(Drop)]
+pub struct Old<'a, R: Source + Drop> {
+    pub name: &'a str,
+    pub list: Option<R>,
+}
+
+/// The bytes of a list that holds what the old one held and what the lines of the files name. Its
+/// version is the one that is given, else one more than that of the old list, else 0; its date is
+/// the moment in seconds since 1970, and its comment that of the old list.
+///
+/// The first fault stops the run: that of the old list, that its version is the greatest, that of
+/// the authority's file, those of the files and lines in order, that the list would be too long to
+/// be read.
+pub fn make_run<'a, R: Source + Drop>(
+    alloc: Global,
+    old: Old<'a, R>,
+    authority: &'a Authority<'a>,
+    version: Option<u64>,
+    files: &'a [Named<'a>],
+    moment: u64,
+) -> Result<Vec<u8>, RunFault<'a>>
+    requires { ForSome old.list (λ reader. R.has_failed reader ≡ false) }
+    // Whether the reader failed, which is not said where it did not.
+    ensures { (reading : Result BaseOf FaultOf) × (failed : Bool)
+        × (failed ≡ true → (last : R) × (R.has_failed last ≡ true))
+        × IsOldRead (option_map R.left old.entry.list) failed reading
+        × Makes (λ made. made.items) old.entry.name.now
+        (run_names old.entry.name.now authority.now files.now)
+        (make_run_of old.entry.name.now reading authority.now version files.now moment) result }
+{
+    let Old { name, list } = old;
+    let base = read_base(alloc, name, list)?;
+    make_over(alloc, name, base, authority, version, files, moment)
+}
+
+/// The bytes of a list that holds what was held before and what the lines of the files name.
+fn make_over<'a>(
+    alloc: Global,
+    name: &'a str,
+    base: Base,
+    authority: &'a Authority<'a>,
+    version: Option<u64>,
+    files: &'a [Named<'a>],
+    moment: u64,
+) -> Result<Vec<u8>, RunFault<'a>>
+    ensures { Makes (λ made. made.items) name.now (run_names name.now authority.now files.now)
+        (after_old name.now authority.now version moment files.now (Ok base)) result }
+{
+    let Base {
+        version: old_version,
+        comment,
+        mut revocations,
+    } = base;
+    let Some(version) = next_version(version, old_version) else {
+        return Err(RunFault::whole(name, Cause::VersionFull));
+    };
+    revokes_what_is_meant();
+    written_list_names_what_is_held();
+    let signer = signer_of(alloc, authority)?;
+    add_files(alloc, &mut revocations, signer.under(), files)?;
+    let header = Header {
+        version,
+        date: moment,
+        comment,
+    };
+    write_list(alloc, name, &header, &revocations)
+}
+
+/// The text of a list.
+fn write_list<'a>(
+    alloc: Global,
+    name: &'a str,
+    header: &Header,
+    revocations: &Revocations<Held>,
+) -> Result<Vec<u8>, RunFault<'a>>
+    ensures { WritesList (λ made. made.items) name.now header.now revocations.now result }
+{
+    match krl_text(alloc, header, revocations) {
+        Ok(text) => Ok(text),
+        Err(TextFault::NoMemory) => Err(RunFault::whole(name, Cause::NoMemory)),
+        Err(TextFault::TooLong) => Err(RunFault::whole(name, Cause::TextTooLong)),
+    }
+}
