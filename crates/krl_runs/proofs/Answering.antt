@@ -4,7 +4,7 @@ use Rattle.std.specs.Prelude.{is_some}
 use Rattle.std.specs.Option.{option_to_list}
 use Rattle.std.proofs.lemmas.List.{append-nil, take_more, take-append-drop}
 use Rattle.std.proofs.lemmas.List.Concat.{flat_map-append}
-use Rattle.krl_runs.specs.declared.output.cause.Cause.TheVariants.{File, NoMemory, Subject as Subjects}
+use Rattle.krl_runs.specs.declared.output.cause.Cause.TheVariants.{File, NoMemory, Private}
 use Rattle.ssh_cert.specs.Subject.{Subject}
 use Rattle.ssh_cert.specs.SubjectReading.{subject_of}
 use Rattle.ssh_cert.specs.declared.subject_fault.SubjectFault.{SubjectFault}
@@ -13,27 +13,29 @@ use Rattle.krl_runs.specs.declared.input.file_fault.FileFault.TheVariants.{NoKey
 use Rattle.ssh_key.specs.KeyFile.{has_key}
 use Rattle.ssh_key.specs.Key.{Key}
 use Rattle.ssh_key.specs.KeyReading.{key_at}
+use Rattle.ssh_key.specs.ContainerReading.{Opened}
 use Rattle.ssh_key.specs.LineReading.{Content, line_at}
 use Rattle.ssh_key.specs.declared.fault.KeyFault.{KeyFault}
 use Rattle.ssh_key.specs.declared.line_fault.LineFault.{LineFault}
+use Rattle.ssh_key.specs.declared.private_fault.PrivateFault.{PrivateFault}
 use Rattle.krl_runs.specs.Carries.{Carries}
 use Rattle.krl_runs.specs.Printer.{Printed}
-use Rattle.krl_runs.specs.Run.{File as FileOf, Item, Answered, Answering, Stopped, IsWithheld, name_of, content_item, key_item, stop_at, subject_item, file_items, files_items, item_of, line_items, or_no_keys}
+use Rattle.krl_runs.specs.Run.{File as FileOf, Item, Answered, Answering, Stopped, IsWithheld, name_of, content_item, container_item, key_item, stop_in, subject_item, file_items, files_items, held_by, item_of, line_items, or_no_keys}
 use Rattle.krl_runs.specs.Stop.{Stop, ByMemory, ender_of, stop_of}
 use Rattle.krl_runs.proofs.Carrying.{carries_more, carries_none, carries_then, carries_withheld, no_item}
 
 -- ---- a line
 
-key_item-name : (answer : Answering) (name : List ℕ) (number : ℕ) (content : Content) (asked : Subject) (key : Result Key KeyFault) → name_of (key_item answer name number content asked key) ≡ name
+key_item-name : (answer : Answering) (name : List ℕ) (number : Option ℕ) (content : Content) (asked : Subject) (key : Result Key KeyFault) → name_of (key_item answer name number content asked key) ≡ name
 key_item-name answer name number content asked (Ok key) = refl
 key_item-name answer name number content asked (Err fault) = refl
 
-subject_item-name : (answer : Answering) (name : List ℕ) (number : ℕ) (content : Content) (read : Result Subject SubjectFault) → name_of (subject_item answer name number content read) ≡ name
+subject_item-name : (answer : Answering) (name : List ℕ) (number : Option ℕ) (content : Content) (read : Result Subject SubjectFault) → name_of (subject_item answer name number content read) ≡ name
 subject_item-name answer name number content (Ok asked) = key_item-name answer name number content asked (key_at asked.plain)
 subject_item-name answer name number content (Err fault) = refl
 
 content_item-name : (answer : Answering) (name : List ℕ) (number : ℕ) (read : Result Content LineFault) → name_of (content_item answer name number read) ≡ name
-content_item-name answer name number (Ok content) = subject_item-name answer name number content (subject_of content.blob)
+content_item-name answer name number (Ok content) = subject_item-name answer name (Some number) content (subject_of content.blob)
 content_item-name answer name number (Err fault) = refl
 
 -- memory ran out before a line was answered
@@ -42,28 +44,42 @@ unfolding item_of
 starved answer name number line has = rw has (refl, (content_item answer name number (line_at line), refl, content_item-name answer name number (line_at line)))
 
 -- or before a blob was answered
-pub blob_starved : (answer : Answering) (name : List ℕ) (number : ℕ) (content : Content) (read : Result Subject SubjectFault) → IsWithheld ByMemory (Some (subject_item answer name number content read)) name (stop_of name NoMemory)
+pub blob_starved : (answer : Answering) (name : List ℕ) (number : Option ℕ) (content : Content) (read : Result Subject SubjectFault) → IsWithheld ByMemory (Some (subject_item answer name number content read)) name (stop_of name NoMemory)
 blob_starved answer name number content read = (refl, (subject_item answer name number content read, refl, subject_item-name answer name number content read))
 
 -- a blob was answered
-pub blob_answered : (answer : Answering) (name : List ℕ) (number : ℕ) (content : Content) (asked : Subject) (key : Key) → subject_of content.blob ≡ Ok asked → key_at asked.plain ≡ Ok key
+pub blob_answered : (answer : Answering) (name : List ℕ) (number : Option ℕ) (content : Content) (asked : Subject) (key : Key) → subject_of content.blob ≡ Ok asked → key_at asked.plain ≡ Ok key
     → subject_item answer name number content (subject_of content.blob) ≡ Answered name (answer name content asked key)
 blob_answered answer name number content asked key is_asked is_key = ap (subject_item answer name number content) is_asked ∙ ap (key_item answer name number content asked) is_key
 
 -- a blob has a first fault
-pub blob_refused : (answer : Answering) (name : List ℕ) (number : ℕ) (content : Content) (fault : SubjectFault) → subject_of content.blob ≡ Err fault
-    → subject_item answer name number content (subject_of content.blob) ≡ Stopped (stop_at name number (Subjects fault))
+pub blob_refused : (answer : Answering) (name : List ℕ) (number : Option ℕ) (content : Content) (fault : SubjectFault) → subject_of content.blob ≡ Err fault
+    → subject_item answer name number content (subject_of content.blob) ≡ Stopped (stop_in name number fault)
 blob_refused answer name number content fault is_fault = ap (subject_item answer name number content) is_fault
 
-pub key_refused : (answer : Answering) (name : List ℕ) (number : ℕ) (content : Content) (asked : Subject) (fault : KeyFault) → subject_of content.blob ≡ Ok asked → key_at asked.plain ≡ Err fault
-    → subject_item answer name number content (subject_of content.blob) ≡ Stopped (stop_at name number (Subjects (KeyFaults fault)))
+pub key_refused : (answer : Answering) (name : List ℕ) (number : Option ℕ) (content : Content) (asked : Subject) (fault : KeyFault) → subject_of content.blob ≡ Ok asked → key_at asked.plain ≡ Err fault
+    → subject_item answer name number content (subject_of content.blob) ≡ Stopped (stop_in name number (KeyFaults fault))
 key_refused answer name number content asked fault is_asked is_fault = ap (subject_item answer name number content) is_asked ∙ ap (key_item answer name number content asked) is_fault
 
 -- the item of a line is that of what it holds
 pub line_item : (answer : Answering) (name : List ℕ) (number : ℕ) (line : List ℕ) (content : Content) → has_key line ≡ true → line_at line ≡ Ok content
-    → item_of answer name number line ≡ Some (subject_item answer name number content (subject_of content.blob))
+    → item_of answer name number line ≡ Some (subject_item answer name (Some number) content (subject_of content.blob))
 unfolding item_of
 line_item answer name number line content has is_line = rw has (ap Some (ap (content_item answer name number) is_line))
+
+-- ---- a container
+
+container_item-name : (answer : Answering) (name : List ℕ) (read : Result Opened PrivateFault) → name_of (container_item answer name read) ≡ name
+container_item-name answer name (Ok opened) = subject_item-name answer name None (held_by opened) (subject_of opened.blob)
+container_item-name answer name (Err fault) = refl
+
+-- memory ran out before a container was answered
+pub container_starved : (answer : Answering) (name : List ℕ) (read : Result Opened PrivateFault) → IsWithheld ByMemory (Some (container_item answer name read)) name (stop_of name NoMemory)
+container_starved answer name read = (refl, (container_item answer name read, refl, container_item-name answer name read))
+
+-- a container has a first fault
+pub container_refused : (answer : Answering) (name : List ℕ) (fault : PrivateFault) (read : Result Opened PrivateFault) → read ≡ Err fault → Some (container_item answer name read) ≡ Some (Stopped (stop_of name (Private fault)))
+container_refused answer name fault read is = ap (λ (r : Result Opened PrivateFault). Some (container_item answer name r)) is
 
 -- ---- the lines of a text
 

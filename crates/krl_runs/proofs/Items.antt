@@ -45,12 +45,12 @@ same_reply name other a b e = cc
 from_line : (answer : Answering) (name : List ℕ) (number : ℕ) (text other : List ℕ) (reply : Answer) → content_item answer name number (line_at text) ≡ Answered other reply → FromLine answer name text reply
 from_line answer name number text other reply item = of_line (line_at text) refl item
   where
-    of_key : (line : Content) (asked : Subject) (read : Result Key KeyFault) → line_at text ≡ Ok line → subject_of line.blob ≡ Ok asked → key_at asked.plain ≡ read → key_item answer name number line asked read ≡ Answered other reply → FromLine answer name text reply
+    of_key : (line : Content) (asked : Subject) (read : Result Key KeyFault) → line_at text ≡ Ok line → subject_of line.blob ≡ Ok asked → key_at asked.plain ≡ read → key_item answer name (Some number) line asked read ≡ Answered other reply → FromLine answer name text reply
     of_key line asked (Ok key) is_line is_asked is_key e =
         record { line = line; asked = asked; key = key; is_line = is_line; is_asked = is_asked; is_key = is_key; is_reply = same_reply name other (answer name line asked key) reply e }
     of_key line asked (Err fault) is_line is_asked is_key e = absurd cc
 
-    of_blob : (line : Content) (read : Result Subject SubjectFault) → line_at text ≡ Ok line → subject_of line.blob ≡ read → subject_item answer name number line read ≡ Answered other reply → FromLine answer name text reply
+    of_blob : (line : Content) (read : Result Subject SubjectFault) → line_at text ≡ Ok line → subject_of line.blob ≡ read → subject_item answer name (Some number) line read ≡ Answered other reply → FromLine answer name text reply
     of_blob line (Ok asked) is_line is_asked e = of_key line asked (key_at asked.plain) is_line is_asked refl e
     of_blob line (Err fault) is_line is_asked e = absurd cc
 

@@ -5,9 +5,12 @@ use Rattle.std.specs.Option.{option_to_list}
 use Rattle.ssh_key.specs.Key.{Key}
 use Rattle.ssh_key.specs.KeyReading.{key_at}
 use Rattle.ssh_key.specs.KeyFile.{has_key}
-use Rattle.ssh_key.specs.LineReading.{Content, line_at}
+use Rattle.ssh_key.specs.Armour.{begins_container}
+use Rattle.ssh_key.specs.ContainerReading.{Opened, private_at}
+use Rattle.ssh_key.specs.LineReading.{Content, content, line_at}
 use Rattle.ssh_key.specs.declared.fault.KeyFault.{KeyFault}
 use Rattle.ssh_key.specs.declared.line_fault.LineFault.{LineFault}
+use Rattle.ssh_key.specs.declared.private_fault.PrivateFault.{PrivateFault}
 use Rattle.ssh_cert.specs.Subject.{Subject}
 use Rattle.ssh_cert.specs.SubjectReading.{subject_of}
 use Rattle.ssh_cert.specs.declared.subject_fault.SubjectFault.{SubjectFault}
@@ -49,15 +52,21 @@ Answering = List ℕ → Content → Subject → Key → Answer
 abbrev pub stop_at : List ℕ → ℕ → Cause → Stop
 stop_at name number cause = record { name = name; line = Some number; cause = cause }
 
+-- a fault of a blob, in a line by its number or in a container, which has no lines
+abbrev pub stop_in : List ℕ → Option ℕ → SubjectFault → Stop
+stop_in name number fault =
+    record { name = name; line = number; cause = causes.Subject fault }
+
 -- The plain key of what is asked is always read.
-abbrev pub key_item : Answering → List ℕ → ℕ → Content → Subject → Result Key KeyFault → Item
+abbrev pub key_item : Answering → List ℕ → Option ℕ → Content → Subject → Result Key KeyFault
+    → Item
 key_item answer name number line asked (Err fault) =
-    Stopped (stop_at name number (causes.Subject (subjects.Key fault)))
+    Stopped (stop_in name number (subjects.Key fault))
 key_item answer name number line asked (Ok key) = Answered name (answer name line asked key)
 
-abbrev pub subject_item : Answering → List ℕ → ℕ → Content → Result Subject SubjectFault → Item
-subject_item answer name number line (Err fault) =
-    Stopped (stop_at name number (causes.Subject fault))
+abbrev pub subject_item : Answering → List ℕ → Option ℕ → Content → Result Subject SubjectFault
+    → Item
+subject_item answer name number line (Err fault) = Stopped (stop_in name number fault)
 subject_item answer name number line (Ok asked) =
     key_item answer name number line asked (key_at asked.plain)
 
@@ -65,7 +74,7 @@ abbrev pub content_item : Answering → List ℕ → ℕ → Result Content Line
 content_item answer name number (Err fault) =
     Stopped (stop_at name number (causes.Line fault))
 content_item answer name number (Ok line) =
-    subject_item answer name number line (subject_of line.blob)
+    subject_item answer name (Some number) line (subject_of line.blob)
 
 -- what a run says of a line by its number: nothing where the line has no key
 unfoldable pub item_of : Answering → List ℕ → ℕ → List ℕ → Option Item
@@ -83,10 +92,21 @@ abbrev pub or_no_keys : List ℕ → List Item → List Item
 or_no_keys name [] = Stopped (stop_of name (causes.File files.NoKeys)) ∷ []
 or_no_keys name (item ∷ items) = item ∷ items
 
+-- what a container holds, as a line would: there is no type word
+abbrev pub held_by : Opened → Content
+held_by opened = content [] opened.blob opened.comment
+
+-- what a run says of a container
+abbrev pub container_item : Answering → List ℕ → Result Opened PrivateFault → Item
+container_item answer name (Err fault) = Stopped (stop_of name (causes.Private fault))
+container_item answer name (Ok opened) =
+    subject_item answer name None (held_by opened) (subject_of opened.blob)
+
 abbrev pub content_items : Answering → List ℕ → Result (List ℕ) FileFault → List Item
 content_items answer name (Err fault) = Stopped (stop_of name (causes.File fault)) ∷ []
 content_items answer name (Ok text) =
-    or_no_keys name (line_items answer name 1 (slice_split is_newline text))
+    if begins_container text then container_item answer name (private_at text) ∷ []
+    else or_no_keys name (line_items answer name 1 (slice_split is_newline text))
 
 unfoldable pub file_items : Answering → File → List Item
 file_items answer file = content_items answer file.name file.content

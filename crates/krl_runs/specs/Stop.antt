@@ -1,10 +1,11 @@
 -- Why a run stopped, and the line that tells it.
 use Rattle.std.specs.Prelude.{ℕ, Bool, true, false, List, [], ◌++◌, Option, Some, None, codes, decimal}
 use Rattle.ssh_key.specs.LineFault.{fault_number as line_fault_number, fault_text as line_fault_text}
+use Rattle.ssh_key.specs.PrivateFault.{private_fault_number, private_fault_text}
 use Rattle.krl_core.specs.KrlFault.{fault_number as krl_fault_number, fault_text as krl_fault_text}
 use Rattle.ssh_cert.specs.SubjectFault.{subject_fault_number, subject_fault_text}
 use Rattle.krl_runs.specs.declared.output.cause.Cause.{Cause}
-use Rattle.krl_runs.specs.declared.output.cause.Cause.TheVariants.{File, Krl, Line, Subject, Spec, NoMemory, VersionFull, TextTooLong, Output}
+use Rattle.krl_runs.specs.declared.output.cause.Cause.TheVariants.{File, Krl, Line, Private, Subject, Spec, NoMemory, VersionFull, TextTooLong, Output}
 use Rattle.ssh_cert.specs.Escape.{escaped}
 use Rattle.krl_runs.specs.FileFault.{file_fault_number, file_fault_text}
 use Rattle.krl_runs.specs.SpecCause.{spec_cause_number, spec_cause_text}
@@ -20,6 +21,7 @@ abbrev pub cause_number : Cause → ℕ
 cause_number (File fault) = file_fault_number fault
 cause_number (Krl fault) = krl_fault_number fault
 cause_number (Line fault) = line_fault_number fault
+cause_number (Private fault) = private_fault_number fault
 cause_number (Subject fault) = subject_fault_number fault
 cause_number (Spec cause) = spec_cause_number cause
 cause_number NoMemory = 1
@@ -32,6 +34,7 @@ abbrev pub cause_text : Cause → List ℕ
 cause_text (File fault) = file_fault_text fault
 cause_text (Krl fault) = krl_fault_text fault
 cause_text (Line fault) = line_fault_text fault
+cause_text (Private fault) = private_fault_text fault
 cause_text (Subject fault) = subject_fault_text fault
 cause_text (Spec cause) = spec_cause_text cause
 cause_text NoMemory = codes "run 1 NoMemory"
@@ -63,13 +66,14 @@ pub data Ender : Type 0 where
   ByOutput : ℕ → Ender
   -- memory, which ran out
   ByMemory : Ender
-  -- what the run was given: a file, a list, a line or its key
+  -- what the run was given: a file, a list, a line or a container, or its key
   ByInput : Ender
 
 abbrev pub ender_of : Cause → Ender
 ender_of (File fault) = ByInput
 ender_of (Krl fault) = ByInput
 ender_of (Line fault) = ByInput
+ender_of (Private fault) = ByInput
 ender_of (Subject fault) = ByInput
 ender_of (Spec cause) = ByInput
 ender_of NoMemory = ByMemory

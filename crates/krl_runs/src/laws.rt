@@ -1,23 +1,30 @@
-//! Laws of what a run says of a line. Each function does nothing: its contract is the law.
+//! Laws of what a run says of a line or of a container. Each function does nothing: its contract is the law.
 
-ghost use Rattle.std.specs.Prelude.{◌≡◌, ℕ, true, false, List, Some, None};
+ghost use Rattle.std.specs.Prelude.{◌≡◌, ℕ, [], true, false, List, Some, None};
 ghost use Rattle.ssh_wire.specs.Wire.{IsBytes};
 ghost use Rattle.ssh_cert.specs.Subject.{Subject};
-ghost use Rattle.ssh_key.specs.Key.{Key};
+ghost use Rattle.ssh_key.specs.Container.{IsContainer, IsPrivateFault};
+ghost use Rattle.ssh_key.specs.ContainerReading.{private_at};
+ghost use Rattle.ssh_key.specs.Key.{IsKey, Key};
 ghost use Rattle.ssh_key.specs.KeyFile.{has_key};
 ghost use Rattle.ssh_key.specs.KeyLine.{IsKeyLine};
 ghost use Rattle.ssh_key.specs.LineFaults.{IsFirstLineFault};
-ghost use Rattle.ssh_key.specs.LineReading.{Content};
+ghost use Rattle.ssh_key.specs.LineReading.{Content, content};
 ghost use Rattle.ssh_key.specs.declared.line_fault.LineFault.{LineFault};
-ghost use Rattle.ssh_cert.specs.SubjectReading.{IsSubjectFault};
+ghost use Rattle.ssh_key.specs.declared.private_fault.PrivateFault.{PrivateFault};
+ghost use Rattle.ssh_cert.specs.SubjectReading.{IsSubject, IsSubjectFault};
 ghost use Rattle.ssh_cert.specs.declared.subject_fault.SubjectFault.{SubjectFault};
 ghost use Rattle.krl_runs.specs.declared.output.answer.Answer.{Answer};
-ghost use Rattle.krl_runs.specs.declared.output.cause.Cause.TheVariants.{Line, Subject as Subjects};
+ghost use Rattle.krl_runs.specs.declared.output.cause.Cause.TheVariants.{Line, Private, Subject as Subjects};
 ghost use Rattle.krl_runs.specs.Items.{SpellsKey};
-ghost use Rattle.krl_runs.specs.Run.{Answered, Answering, Stopped, item_of, stop_at};
+ghost use Rattle.krl_runs.specs.Run.{Answered, Answering, Stopped, container_item, item_of, stop_at};
+ghost use Rattle.krl_runs.specs.Stop.{stop_of};
 
 use ssh_cert::laws::{asked_where_spelled, not_asked_by_first_fault};
-use ssh_key::laws::{blob_read_back, line_read_where_spelled, line_refused_by_first_fault};
+use ssh_key::laws::{
+    blob_read_back, line_read_where_spelled, line_refused_by_first_fault,
+    private_read_where_spelled, private_refused_by_first_fault,
+};
 
 /// Nothing is said of a line without a key. A line with a key is answered exactly where it spells
 /// the key of a plain key or of a certificate; else its first fault, or that of its blob, ends the
@@ -47,4 +54,22 @@ pub fn items_by_what_is_spelled()
     blob_read_back();
     asked_where_spelled();
     not_asked_by_first_fault();
+}
+
+/// A container is answered by its public key and its comment; else its first fault ends the run.
+pub fn containers_by_what_is_spelled()
+    ensures answered { (answer : Answering) (name text blob comment : List ℕ) (asked : Subject)
+        (key : Key) → IsBytes text → IsBytes blob → IsContainer text blob comment
+        → IsSubject blob asked → IsKey asked.plain key
+        → container_item answer name (private_at text)
+        ≡ Answered name (answer name (content [] blob comment) asked key) }
+    ensures fault { (answer : Answering) (name text : List ℕ) (fault : PrivateFault)
+        → IsBytes text → IsPrivateFault text fault
+        → container_item answer name (private_at text)
+        ≡ Stopped (stop_of name (Private fault)) }
+{
+    private_read_where_spelled();
+    private_refused_by_first_fault();
+    blob_read_back();
+    asked_where_spelled();
 }

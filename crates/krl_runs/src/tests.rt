@@ -4,6 +4,7 @@ mod asking;
 mod bytes;
 mod certificates;
 mod chunks;
+mod containers;
 mod describing;
 mod devices;
 mod encoding;

@@ -1,10 +1,13 @@
 // Going over the keys of files.
 
-ghost use Rattle.std.specs.Prelude.{◌≡◌, ◌+◌, false};
+ghost use Rattle.std.specs.Prelude.{◌≡◌, ◌∷◌, ◌+◌, [], false};
+ghost use Rattle.std.specs.List.{slice_split};
 ghost use Rattle.krl_runs.specs.Carries.{Carries};
+ghost use Rattle.ssh_key.specs.ContainerReading.{private_at};
 ghost use Rattle.ssh_key.specs.LineReading.{content_of};
 ghost use Rattle.ssh_cert.specs.SubjectReading.{subject_of};
-ghost use Rattle.krl_runs.specs.Run.{Gives, GivesAnswer, content_items, file_items, files_items, item_of, subject_item};
+ghost use Rattle.krl_runs.specs.Run.{Gives, GivesAnswer, container_item, content_items, file_items, files_items, item_of, line_items, or_no_keys, stop_in, subject_item};
+ghost use Rattle.krl_runs.specs.Split.{is_newline};
 
 use crate::input::file_fault::FileFault;
 use crate::input::named::Named;
@@ -15,7 +18,10 @@ use crate::output::cause::Cause;
 use crate::output::printer::Printer;
 use crate::output::run_fault::RunFault;
 use ssh_cert::{SubjectFault, subject};
-use ssh_key::{Line, LineFault, has_key, read_key, read_line};
+use ssh_key::{
+    Line, LineFault, Private, PrivateFault, has_key, is_container, read_key, read_line,
+    read_private,
+};
 use ssh_wire::Sink;
 use std::alloc::Global;
 
@@ -66,6 +72,64 @@ fn print_text<'a, A: Answers, W: Sink>(
     ensures { Carries (content_items (A.answer_to answers.now) name.now (Ok text.now)) result
         printer.old printer.new }
 {
+    if is_container(text) {
+        print_container(alloc, answers, name, text, printer)
+    } else {
+        print_lines(alloc, answers, name, text, printer)
+    }
+}
+
+/// Prints the answer for the key of a container.
+fn print_container<'a, A: Answers, W: Sink>(
+    alloc: Global,
+    answers: &A,
+    name: &'a str,
+    text: &[u8],
+    printer: &mut Printer<W>,
+) -> Result<(), RunFault<'a>>
+    requires { printer.old.failed ≡ false }
+    ensures { Carries (container_item (A.answer_to answers.now) name.now (private_at text.now)
+        ∷ []) result printer.old printer.new }
+{
+    let answer = answer_container(alloc, answers, name, text)?;
+    printer.print(name, &answer)
+}
+
+/// What a run says of a container. A fault of it has no line.
+fn answer_container<'a, A: Answers>(
+    alloc: Global,
+    answers: &A,
+    name: &'a str,
+    text: &[u8],
+) -> Result<Answer, RunFault<'a>>
+    ensures { GivesAnswer (container_item (A.answer_to answers.now) name.now
+        (private_at text.now)) name.now result }
+{
+    let Private { blob, comment } = match read_private(alloc, text) {
+        Ok(private) => private,
+        Err(PrivateFault::NoMemory) => return Err(RunFault::whole(name, Cause::NoMemory)),
+        Err(fault) => return Err(RunFault::whole(name, Cause::Private(fault))),
+    };
+    let line = Line {
+        word: b"",
+        blob,
+        comment: comment.as_slice(),
+    };
+    answer_blob(alloc, answers, name, None, &line)
+}
+
+/// Prints the answers for each key of a text's lines.
+fn print_lines<'a, A: Answers, W: Sink>(
+    alloc: Global,
+    answers: &A,
+    name: &'a str,
+    text: &[u8],
+    printer: &mut Printer<W>,
+) -> Result<(), RunFault<'a>>
+    requires { printer.old.failed ≡ false }
+    ensures { Carries (or_no_keys name.now (line_items (A.answer_to answers.now) name.now 1
+        (slice_split is_newline text.now))) result printer.old printer.new }
+{
     let mut rest = text;
     let mut passed = 0;
     let mut found = false;
@@ -106,18 +170,18 @@ fn answer_line<'a, A: Answers>(
         Err(LineFault::NoMemory) => return Err(RunFault::whole(name, Cause::NoMemory)),
         Err(fault) => return Err(RunFault::at_line(name, number, Cause::Line(fault))),
     };
-    match answer_blob(alloc, answers, name, number, &line) {
+    match answer_blob(alloc, answers, name, Some(number), &line) {
         Ok(answer) => Ok(Some(answer)),
         Err(stop) => Err(stop),
     }
 }
 
-/// What a run says of what such a line holds.
+/// What a run says of what such a line or a container holds.
 fn answer_blob<'a, A: Answers>(
     alloc: Global,
     answers: &A,
     name: &'a str,
-    number: u64,
+    number: Option<u64>,
     line: &Line,
 ) -> Result<Answer, RunFault<'a>>
     ensures { GivesAnswer (subject_item (A.answer_to answers.now) name.now number
@@ -126,17 +190,25 @@ fn answer_blob<'a, A: Answers>(
     let asked = match subject(alloc, line.blob.as_slice()) {
         Ok(asked) => asked,
         Err(SubjectFault::NoMemory) => return Err(RunFault::whole(name, Cause::NoMemory)),
-        Err(fault) => return Err(RunFault::at_line(name, number, Cause::Subject(fault))),
+        Err(fault) => return Err(refused(name, number, fault)),
     };
     let key = match read_key(asked.plain.as_slice()) {
         Ok(key) => key,
-        Err(fault) => {
-            let cause = Cause::Subject(SubjectFault::Key(fault));
-            return Err(RunFault::at_line(name, number, cause));
-        }
+        Err(fault) => return Err(refused(name, number, SubjectFault::Key(fault))),
     };
     match answers.answer(alloc, name, line, &asked, &key) {
         Ok(answer) => Ok(answer),
         Err(_) => Err(RunFault::whole(name, Cause::NoMemory)),
+    }
+}
+
+/// A fault of a blob, in a line by its number or in a container.
+fn refused(name: &str, number: Option<u64>, fault: SubjectFault) -> RunFault
+    ensures { result ≡ stop_in name.now number fault }
+{
+    RunFault {
+        name,
+        line: number,
+        cause: Cause::Subject(fault),
     }
 }

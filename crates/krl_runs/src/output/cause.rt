@@ -7,7 +7,7 @@ use crate::input::file_fault::FileFault;
 use crate::spec_file::spec_cause::SpecCause;
 use krl_core::KrlFault;
 use ssh_cert::SubjectFault;
-use ssh_key::LineFault;
+use ssh_key::{LineFault, PrivateFault};
 use std::fmt;
 
 /// What stopped a run.
@@ -16,6 +16,7 @@ pub enum Cause {
     File(FileFault),
     Krl(KrlFault),
     Line(LineFault),
+    Private(PrivateFault),
     Subject(SubjectFault),
     Spec(SpecCause),
     /// No memory was left for the run itself.
@@ -37,6 +38,7 @@ impl Cause {
             Cause::File(fault) => fault.number(),
             Cause::Krl(fault) => fault.number(),
             Cause::Line(fault) => fault.number(),
+            Cause::Private(fault) => fault.number(),
             Cause::Subject(fault) => fault.number(),
             Cause::Spec(cause) => cause.number(),
             Cause::NoMemory => 1,
@@ -55,6 +57,7 @@ impl fmt::Display for Cause {
             Cause::File(fault) => write!(f, "{fault}"),
             Cause::Krl(fault) => write!(f, "{fault}"),
             Cause::Line(fault) => write!(f, "{fault}"),
+            Cause::Private(fault) => write!(f, "{fault}"),
             Cause::Subject(fault) => write!(f, "{fault}"),
             Cause::Spec(cause) => write!(f, "{cause}"),
             Cause::NoMemory => write!(f, "run 1 NoMemory"),

@@ -5,7 +5,7 @@ use crate::output::cause::Cause;
 use crate::output::run_fault::{RunFault, fault_text};
 use krl_core::KrlFault;
 use ssh_cert::{CertFault, SubjectFault};
-use ssh_key::{KeyFault, LineFault};
+use ssh_key::{KeyFault, LineFault, PrivateFault};
 use ssh_wire::WireFault;
 use std::alloc::{AllocError, Global};
 use std::test::*;
@@ -29,8 +29,10 @@ fn lines(rt: HostRuntime) -> Result<(), Fail> {
     let differs = Cause::Line(LineFault::WordDiffers);
     let point = Cause::Subject(SubjectFault::Key(KeyFault::Point));
     let short = Cause::Subject(SubjectFault::Key(KeyFault::Wire(WireFault::Short)));
+    let check = Cause::Private(PrivateFault::Check);
     let last = Some(u64::MAX);
     let rows = [
+        ("id", None, check, "id: private 6 Check"),
         ("r.krl", None, early, "r.krl: krl 3 EndsEarly"),
         ("k", Some(1), differs, "k: line 1: line 3 WordDiffers"),
         ("k", Some(1), point, "k: line 1: subject 1 Key, key 4 Point"),

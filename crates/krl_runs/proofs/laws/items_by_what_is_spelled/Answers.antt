@@ -15,7 +15,7 @@ returns-clause-answered c = λ answer name number text line asked key has spells
     let is_asked = (c.asked_where_spelled.ensures line.blob asked spells.is_line.bytes).1 spells.is_asked in
     let read = c.blob_read_back.ensures asked.plain key spells.is_key in
     let is_key = sym (ap key_at read.0) ∙ read.1 in
-    line_item answer name number text line has is_line ∙ ap Some (blob_answered answer name number line asked key is_asked is_key)
+    line_item answer name number text line has is_line ∙ ap Some (blob_answered answer name (Some number) line asked key is_asked is_key)
 
 pub returns-clause-only : goal.returns-clause-only
 returns-clause-only c = λ answer name number text other reply bytes item.
@@ -33,4 +33,4 @@ pub returns-clause-blob_fault : goal.returns-clause-blob_fault
 returns-clause-blob_fault c = λ answer name number text word blob comment fault has is_line first.
     let line = content word blob comment in
     let is_fault = (c.not_asked_by_first_fault.ensures blob fault is_line.bytes).1 first in
-    line_item answer name number text line has (c.line_read_where_spelled.ensures.read text word blob comment is_line) ∙ ap Some (blob_refused answer name number line fault is_fault)
+    line_item answer name number text line has (c.line_read_where_spelled.ensures.read text word blob comment is_line) ∙ ap Some (blob_refused answer name (Some number) line fault is_fault)

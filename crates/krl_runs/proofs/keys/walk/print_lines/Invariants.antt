@@ -4,7 +4,7 @@ use Rattle.std.specs.List.{slice_split}
 use Rattle.krl_runs.specs.Split.{is_newline}
 use Rattle.krl_runs.specs.Run.{line_items}
 use Rattle.krl_runs.proofs.Answering.{IsReached}
-use Rattle.krl_runs.proofs.keys.walk.print_text.Given as goal
+use Rattle.krl_runs.proofs.keys.walk.print_lines.Given as goal
 
 abbrev pub invariant-loop-answer : goal.invariant-loop-answer
 invariant-loop-answer g l = record {

@@ -2,8 +2,8 @@
 use Rattle.std.proofs.Common.{rules}
 use Rattle.std.proofs.lemmas.Result.{err_from_is_err_and}
 use Rattle.krl_runs.proofs.Answering.{line_answered, line_passed, line_stops, line_withheld}
-use Rattle.krl_runs.proofs.keys.walk.print_text.Goals as goal
-use Rattle.krl_runs.proofs.keys.walk.print_text.Goals.{in-Some+in_ok-print, in_default}
+use Rattle.krl_runs.proofs.keys.walk.print_lines.Goals as goal
+use Rattle.krl_runs.proofs.keys.walk.print_lines.Goals.{in-Some+in_ok-print, in_default}
 
 pub returns-in_err-answer : goal.returns-in_err-answer
 returns-in_err-answer g c =
