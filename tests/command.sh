@@ -10,7 +10,7 @@ expect 'a list for a query of files is missing' 2 '' "$usage" -Q g.pub
 expect 'a file to list is missing' 2 '' "$usage" -l
 expect 'neither a listing nor a query' 2 '' "$usage" -f g.pub
 expect 'a listing takes no further file' 2 '' "$usage" -l -f g.pub g.pub
-expect 'a query does not list' 2 '' "$usage" -Q -l -f r.krl
+expect 'contents are printed by no hash' 2 '' "$usage" -Q -l -E md5 -f r.krl
 expect 'a query takes no hash' 2 '' "$usage" -Q -E md5 -f r.krl g.pub
 expect 'a hash of another name' 2 '' "$usage" -l -E sha1 -f g.pub
 expect 'an empty hash' 2 '' "$usage" -l -E '' -f g.pub

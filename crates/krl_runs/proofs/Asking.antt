@@ -1,6 +1,7 @@
 -- A run by what is held of a list, or by why the list is refused.
-use Rattle.std.proofs.Common.{◌≡◌, ℕ, false, List, [], ◌∷◌, Bool, Some, None, Result, Ok, Err, refl}
+use Rattle.std.proofs.Common.{◌≡◌, ℕ, true, false, List, [], ◌∷◌, ◌++◌, Bool, Some, None, Result, Ok, Err, refl, sym, ap, ◌∙◌, append_assoc}
 use Rattle.std.specs.Prelude.{IsTrue, ◌↔◌}
+use Rattle.std.specs.List.{concat}
 use Rattle.krl_core.specs.Contents.{Contents, Means}
 use Rattle.krl_core.specs.Entries.{entries_of}
 use Rattle.krl_core.specs.Entry.{Entry}
@@ -14,17 +15,20 @@ use Rattle.krl_core.specs.declared.krl_fault.KrlFault.TheVariants as faults
 use Rattle.ssh_cert.specs.Subject.{Subject}
 use Rattle.krl_runs.specs.Carries.{Carries}
 use Rattle.krl_runs.specs.Printer.{Printed}
+use Rattle.krl_runs.specs.Contents.{Known, all_said, contents_items, dump_text, known_lines}
 use Rattle.krl_runs.specs.Query.{IsHeld, ask, krl_cause, query_run_of}
-use Rattle.krl_runs.specs.Run.{File, Item, Passed, Stopped, files_items}
+use Rattle.krl_runs.specs.Run.{File, Item, Outcome, Passed, Stopped, before, files_items, outcome_of}
 use Rattle.krl_runs.specs.Stop.{Stop, stop_of}
-use Rattle.krl_runs.proofs.Carrying.{carries_passed, carries_then, carries_withheld}
+use Rattle.krl_runs.proofs.Carrying.{carries_more, carries_passed, carries_then, carries_withheld}
+
+abbrev pub known_of : Header → List ℕ → Contents → Known
+known_of header date contents = record { header = header; date = date; contents = contents }
 
 -- A list that was read is held.
 pub held : (text : List ℕ) (header : Header) (contents : Contents)
     → ((r : Contents) (entries : List Entry) (subject : Subject) → Means r entries → (IsTrue (revokes r subject) ↔ Revoked entries subject))
-    → IsList text header contents → IsFirstFault text None → IsHeld text contents
-held text header contents law list none = record {
-  header = header;
+    → IsList text header contents → IsFirstFault text None → (date : List ℕ) → IsHeld text (known_of header date contents)
+held text header contents law list none date = record {
   sections = list.sections;
   spelled = list.spelled;
   no_fault = none;
@@ -32,19 +36,49 @@ held text header contents law list none = record {
   answers = λ asked. law contents (entries_of list.sections) asked list.means;
 }
 
--- Nothing is said of the list, and the files are asked about by what is held.
-pub read_run : {A : Type 0} (name : List ℕ) (files : List File) (contents : Contents) (result : Result A Stop) (old new : Printed) → old.failed ≡ false
-    → Carries (files_items (ask contents) files) result old new → Carries (query_run_of name (Ok contents) files) result old new
+-- The contents are said where they are asked for, and the files are asked about by what is held.
+pub read_run : {A : Type 0} (name : List ℕ) (dump : Bool) (files : List File) (known : Known) (result : Result A Stop) (old mid new : Printed) → old.failed ≡ false
+    → Carries (contents_items name dump known) (Ok (tt {0})) old mid → Carries (files_items (ask known.contents) files) result mid new
+    → Carries (query_run_of name (Ok known) dump files) result old new
 unfolding query_run_of
-read_run name files contents result old new working carries =
-    carries_then (Passed name ∷ []) (files_items (ask contents) files) tt result old old new (carries_passed name old working) carries
+read_run name dump files known result old mid new working first second =
+    carries_then (Passed name ∷ []) (contents_items name dump known ++ files_items (ask known.contents) files) tt result old old new (carries_passed name old working)
+    (carries_then (contents_items name dump known) (files_items (ask known.contents) files) tt result old mid new first second)
+
+-- The run ended within the contents.
+pub dump_stops : {A B : Type 0} (name : List ℕ) (dump : Bool) (files : List File) (known : Known) (stop : Stop) (old new : Printed) → old.failed ≡ false
+    → Carries {A = A} (contents_items name dump known) (Err stop) old new → Carries {A = B} (query_run_of name (Ok known) dump files) (Err stop) old new
+unfolding query_run_of
+dump_stops {A} {B} name dump files known stop old new working first =
+    carries_then (Passed name ∷ []) (contents_items name dump known ++ files_items (ask known.contents) files) tt (Err stop) old old new (carries_passed name old working)
+    (carries_more {A = A} {B = B} (contents_items name dump known) (files_items (ask known.contents) files) stop old new first)
 
 -- The list's fault, or a want of memory, ended the run before anything was said.
-pub refused_run : (name : List ℕ) (files : List File) (fault : KrlFault) (now : Printed) → now.failed ≡ false
-    → Carries {A = Unit {0}} (query_run_of name (Err fault) files) (Err (stop_of name (krl_cause fault))) now now
+pub refused_run : (name : List ℕ) (dump : Bool) (files : List File) (fault : KrlFault) (now : Printed) → now.failed ≡ false
+    → Carries {A = Unit {0}} (query_run_of name (Err fault) dump files) (Err (stop_of name (krl_cause fault))) now now
 unfolding query_run_of
-refused_run name files faults.NoMemory now working =
+refused_run name dump files faults.NoMemory now working =
     let item = Stopped (stop_of name (krl_cause faults.NoMemory)) in
     carries_withheld (Some item) name (stop_of name (krl_cause faults.NoMemory)) now working (refl, (item, refl, refl))
-refused_run name files fault now working =
+refused_run name dump files fault now working =
     carries_withheld (Some (Stopped (stop_of name (krl_cause fault)))) name (stop_of name (krl_cause fault)) now working refl
+
+-- Lines that are said of a list make one text, before what follows.
+lines_first : (name : List ℕ) (lines : List (List ℕ)) (items : List Item)
+    → outcome_of (all_said name lines ++ items) ≡ before (record { text = concat lines; revoked = false }) (outcome_of items)
+lines_first name [] items = refl
+lines_first name (line ∷ lines) items =
+    let rest = outcome_of items in
+    let text : line ++ (concat lines ++ rest.text) ≡ (line ++ concat lines) ++ rest.text = sym (append_assoc line (concat lines) rest.text) in
+    ap (before (record { text = line; revoked = false })) (lines_first name lines items)
+    ∙ ap (λ (t : List ℕ). let o : Outcome = record { text = t; revoked = rest.revoked; stop = rest.stop } in o) text
+
+pub dump_first : (name : List ℕ) (known : Known) (files : List File)
+    → outcome_of (query_run_of name (Ok known) true files) ≡ before (record { text = dump_text known; revoked = false }) (outcome_of (files_items (ask known.contents) files))
+unfolding query_run_of contents_items
+dump_first name known files = lines_first name (known_lines known) (files_items (ask known.contents) files)
+
+pub nothing_first : (name : List ℕ) (known : Known) (files : List File)
+    → outcome_of (query_run_of name (Ok known) false files) ≡ outcome_of (files_items (ask known.contents) files)
+unfolding query_run_of contents_items
+nothing_first name known files = refl

@@ -10,3 +10,4 @@ pub mod SpecAdds
 pub mod SpecDigits
 pub mod SpecLines
 pub mod MadeLists
+pub mod Telling

@@ -1,5 +1,5 @@
 -- Asking a list about keys (ssh-keygen(1), KEY REVOCATION LISTS).
-use Rattle.std.specs.Prelude.{◌≡◌, ◌↔◌, ℕ, Bool, true, false, List, [], ◌∷◌, ◌++◌, None, Some, Result, Ok, Err, IsTrue, codes}
+use Rattle.std.specs.Prelude.{◌↔◌, ℕ, Bool, true, false, List, [], ◌∷◌, ◌++◌, None, Result, Ok, Err, IfOk, IsTrue, codes}
 use Rattle.krl_core.specs.Contents.{Contents, Means}
 use Rattle.krl_core.specs.Entries.{entries_of}
 use Rattle.krl_core.specs.Front.{IsFirstFault}
@@ -7,13 +7,14 @@ use Rattle.krl_core.specs.Krl.{Section, Spells}
 use Rattle.krl_core.specs.Reading.{Says}
 use Rattle.krl_core.specs.Revoked.{Revoked}
 use Rattle.krl_core.specs.Tested.{revokes}
-use Rattle.krl_core.specs.declared.header.Header.{Header}
 use Rattle.krl_core.specs.declared.krl_fault.KrlFault.{KrlFault}
 use Rattle.krl_core.specs.declared.krl_fault.KrlFault.TheVariants.{NoMemory}
 use Rattle.ssh_cert.specs.Subject.{Subject}
 use Rattle.krl_runs.specs.declared.output.cause.Cause.{Cause}
 use Rattle.krl_runs.specs.declared.output.cause.Cause.TheVariants as causes
 use Rattle.ssh_cert.specs.Escape.{escaped}
+use Rattle.ssh_cert.specs.Time.{IsTimeText}
+use Rattle.krl_runs.specs.Contents.{Known, contents_items}
 use Rattle.krl_runs.specs.Run.{Answering, File, Item, Passed, Stopped, files_items}
 use Rattle.krl_runs.specs.Stop.{stop_of}
 
@@ -38,27 +39,31 @@ ask contents name line asked key =
 
 -- The text is a list without a fault: a header and sections spell it, what is held means what the
 -- sections name, and the answers are just those of what they name.
-pub record IsHeld (text : List ℕ) (contents : Contents) : Type 0 where
-  pub header : Header
+pub record IsHeld (text : List ℕ) (known : Known) : Type 0 where
   pub sections : List Section
-  pub spelled : Spells text header sections
+  pub spelled : Spells text known.header sections
   pub no_fault : IsFirstFault text None
-  pub means : Means contents (entries_of sections)
+  pub means : Means known.contents (entries_of sections)
   pub answers : (asked : Subject)
-      → IsTrue (revokes contents asked) ↔ Revoked (entries_of sections) asked
+      → IsTrue (revokes known.contents asked) ↔ Revoked (entries_of sections) asked
 
--- What reading a list gives: what is held of it, or its fault, by whether its reader failed.
-abbrev pub IsRead : List ℕ → Bool → Result Contents KrlFault → Type 0
-IsRead text failed (Ok contents) = IsHeld text contents
+-- What reading a list gives: what is known of it, or its fault, by whether its reader failed.
+abbrev pub IsRead : List ℕ → Bool → Result Known KrlFault → Type 0
+IsRead text failed (Ok known) = IsHeld text known
 IsRead text failed (Err fault) = Says fault text failed
+
+-- what is known of a list has the text of its date
+abbrev pub IsDated : Result Known KrlFault → Type 0
+IsDated reading = IfOk reading (λ known. IsTimeText known.header.date known.date)
 
 -- Where memory runs out, it is for the run itself.
 abbrev pub krl_cause : KrlFault → Cause
 krl_cause NoMemory = causes.NoMemory
 krl_cause fault = causes.Krl fault
 
--- The list's first fault ends the run at once. Else nothing is said of the list, and each key of
--- each file gives one line, up to the first fault.
-unfoldable pub query_run_of : List ℕ → Result Contents KrlFault → List File → List Item
-query_run_of name (Err fault) files = Stopped (stop_of name (krl_cause fault)) ∷ []
-query_run_of name (Ok contents) files = Passed name ∷ files_items (ask contents) files
+-- The list's first fault ends the run at once. Else its contents are printed where they are asked
+-- for, and then each key of each file gives one line, up to the first fault.
+unfoldable pub query_run_of : List ℕ → Result Known KrlFault → Bool → List File → List Item
+query_run_of name (Err fault) dump files = Stopped (stop_of name (krl_cause fault)) ∷ []
+query_run_of name (Ok known) dump files =
+    Passed name ∷ (contents_items name dump known ++ files_items (ask known.contents) files)

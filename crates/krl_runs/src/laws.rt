@@ -1,6 +1,6 @@
-//! Laws of what a run says of a line or of a container. Each function does nothing: its contract is the law.
+//! Laws of what runs say. Each function does nothing: its contract is the law.
 
-ghost use Rattle.std.specs.Prelude.{◌≡◌, ℕ, [], true, false, List, Some, None};
+ghost use Rattle.std.specs.Prelude.{◌≡◌, ℕ, [], true, false, List, Ok, Some, None};
 ghost use Rattle.ssh_wire.specs.Wire.{IsBytes};
 ghost use Rattle.ssh_cert.specs.Subject.{Subject};
 ghost use Rattle.ssh_key.specs.Container.{IsContainer, IsPrivateFault};
@@ -16,8 +16,10 @@ ghost use Rattle.ssh_cert.specs.SubjectReading.{IsSubject, IsSubjectFault};
 ghost use Rattle.ssh_cert.specs.declared.subject_fault.SubjectFault.{SubjectFault};
 ghost use Rattle.krl_runs.specs.declared.output.answer.Answer.{Answer};
 ghost use Rattle.krl_runs.specs.declared.output.cause.Cause.TheVariants.{Line, Private, Subject as Subjects};
+ghost use Rattle.krl_runs.specs.Contents.{Known, dump_text};
 ghost use Rattle.krl_runs.specs.Items.{SpellsKey};
-ghost use Rattle.krl_runs.specs.Run.{Answered, Answering, Stopped, container_item, item_of, stop_at};
+ghost use Rattle.krl_runs.specs.Query.{ask, query_run_of};
+ghost use Rattle.krl_runs.specs.Run.{Answered, Answering, File, Stopped, before, container_item, files_items, item_of, outcome_of, stop_at};
 ghost use Rattle.krl_runs.specs.Stop.{stop_of};
 
 use ssh_cert::laws::{asked_where_spelled, not_asked_by_first_fault};
@@ -73,3 +75,15 @@ pub fn containers_by_what_is_spelled()
     blob_read_back();
     asked_where_spelled();
 }
+
+/// Where a list's contents are asked for, their text stands before all that is said of files; else
+/// nothing is said of the list.
+pub fn contents_stand_first()
+    ensures asked { (name : List ℕ) (known : Known) (files : List File)
+        → outcome_of (query_run_of name (Ok known) true files)
+        ≡ before (record { text = dump_text known; revoked = false })
+        (outcome_of (files_items (ask known.contents) files)) }
+    ensures unasked { (name : List ℕ) (known : Known) (files : List File)
+        → outcome_of (query_run_of name (Ok known) false files)
+        ≡ outcome_of (files_items (ask known.contents) files) }
+{}

@@ -1,4 +1,5 @@
 // The runs of the program.
 
+pub(crate) mod contents;
 pub mod listing;
 pub mod query;

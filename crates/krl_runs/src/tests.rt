@@ -5,6 +5,7 @@ mod bytes;
 mod certificates;
 mod chunks;
 mod containers;
+mod contents;
 mod describing;
 mod devices;
 mod encoding;

@@ -11,7 +11,7 @@ use std::alloc::{AllocError, Global};
 use std::convert::AsStr;
 use thiserror::Error as ErrorText;
 
-const USAGE: &str = "ssh-keygen -l [-E hash] -f file\n       ssh-keygen -Q -f krl [file ...]";
+const USAGE: &str = "ssh-keygen -l [-E hash] -f file\n       ssh-keygen -Q [-l] -f krl [file ...]";
 
 /// What a run of the program does.
 #[derive(Clone, Copy, Debug, PartialEq, Eq)]
@@ -28,6 +28,8 @@ pub struct Job<'a> {
     pub mode: Mode,
     /// The file of `-f`.
     pub file: &'a str,
+    /// Whether the contents of the list are printed.
+    pub dump: bool,
     /// How fingerprints are printed.
     pub hash: Hash,
     /// The files that follow the options.
@@ -81,7 +83,7 @@ pub fn command_of<'a, S: AsStr>(alloc: Global, words: &'a [S]) -> Result<Job<'a>
 fn command<'a>(alloc: Global) -> Result<Command<'a>, AllocError> {
     let list = Arg::new(alloc, "list")
         .short('l')
-        .help("List the keys of a file")
+        .help("List the keys of a file; with -Q print what the list holds")
         .action(ArgAction::SetTrue);
     let query = Arg::new(alloc, "query")
         .short('Q')
@@ -140,6 +142,7 @@ fn job_of<'a>(alloc: Global, matches: &ArgMatches<'a>) -> Result<Job<'a>, Comman
     Ok(Job {
         mode,
         file,
+        dump: mode == Mode::Query && matches.get_flag("list"),
         hash,
         files,
     })
@@ -151,7 +154,7 @@ fn mode_of(matches: &ArgMatches) -> Option<Mode> {
     let has_files = matches.contains_id("files");
     match (matches.get_flag("list"), matches.get_flag("query")) {
         (true, false) if !has_files => Some(Mode::Keys),
-        (false, true) if !has_hash => Some(Mode::Query),
+        (_, true) if !has_hash => Some(Mode::Query),
         _ => None,
     }
 }

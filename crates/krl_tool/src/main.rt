@@ -67,7 +67,8 @@ fn list_keys(rt: &HostRuntime, job: &Job) -> u8 {
     end(rt, &list_run(rt.alloc(), job.hash, &file, &mut out))
 }
 
-/// `-Q`: asks the list about the keys of the files.
+/// `-Q`: prints what the list holds, where `-l` asks for it, and asks it about the keys of the
+/// files.
 fn ask_list(rt: &HostRuntime, job: &Job) -> u8 {
     let krl = match open_list(rt, job.file) {
         Ok(krl) => krl,
@@ -84,7 +85,7 @@ fn ask_list(rt: &HostRuntime, job: &Job) -> u8 {
         rt.alloc(),
         job.file,
         FromRead::new(krl),
-        false,
+        job.dump,
         files.as_slice(),
         &mut out,
     );

@@ -63,7 +63,21 @@ impl<'w, W: Sink> Printer<'w, W> {
         requires { self.old.failed ≡ false }
         ensures { Carries (Answered name.now answer.now ∷ []) result self.old self.new }
     {
-        let Ok(()) = self.add(answer) else {
+        self.say(name, answer.text.as_slice(), answer.revoked)
+    }
+
+    /// Prints whole lines, and keeps account of whether they say of a key that it is revoked.
+    pub fn say<'a>(
+        &mut self,
+        name: &'a str,
+        lines: &[u8],
+        revoked: bool,
+    ) -> Result<(), RunFault<'a>>
+        requires { self.old.failed ≡ false }
+        ensures { Carries (Answered name.now (record { text = lines.now; revoked = revoked }) ∷ [])
+            result self.old self.new }
+    {
+        let Ok(()) = self.add(lines, revoked) else {
             return Err(RunFault::whole(name, Cause::NoMemory));
         };
         if self.is_short() {
@@ -79,13 +93,14 @@ impl<'w, W: Sink> Printer<'w, W> {
         self.page.len() < CHUNK
     }
 
-    /// Adds an answer to what waits. A refusal changes nothing.
-    fn add(&mut self, answer: &Answer) -> Result<(), AllocError>
-        ensures ok { OnOk result (self.new ≡ and_answer self.old answer.now) }
+    /// Adds lines to what waits. A refusal changes nothing.
+    fn add(&mut self, lines: &[u8], revoked: bool) -> Result<(), AllocError>
+        ensures ok { OnOk result (self.new
+            ≡ and_answer self.old (record { text = lines.now; revoked = revoked })) }
         ensures err { OnErr result (self.new ≡ self.old) }
     {
-        self.page.extend_from_slice(answer.text.as_slice())?;
-        self.revoked |= answer.revoked;
+        self.page.extend_from_slice(lines)?;
+        self.revoked |= revoked;
         Ok(())
     }
 

@@ -1,11 +1,11 @@
 // Asking a list about the keys of files (ssh-keygen(1), KEY REVOCATION LISTS).
 
 ghost use Rattle.std.specs.Prelude.{◌≡◌, ◌++◌, ℕ, Bool, IfOk, List, Result, OnOk, Some, false, true};
-ghost use Rattle.krl_core.specs.Contents.{Contents};
 ghost use Rattle.krl_core.specs.declared.krl_fault.KrlFault.{KrlFault as FaultOf};
 ghost use Rattle.krl_runs.specs.Carries.{Carries};
+ghost use Rattle.krl_runs.specs.Contents.{Known};
 ghost use Rattle.krl_runs.specs.Done.{Ends};
-ghost use Rattle.krl_runs.specs.Query.{IsRead, ask, comment_part, krl_cause, query_line, query_run_of, verdict};
+ghost use Rattle.krl_runs.specs.Query.{IsDated, IsRead, ask, comment_part, krl_cause, query_line, query_run_of, verdict};
 
 use crate::input::named::Named;
 use crate::keys::answers::Answers;
@@ -15,6 +15,7 @@ use crate::output::cause::Cause;
 use crate::output::done::Done;
 use crate::output::printer::Printer;
 use crate::output::run_fault::RunFault;
+use crate::runs::contents::print_contents;
 use krl_core::laws::revokes_what_is_meant;
 use krl_core::{KrlFault, Revocations, read_krl};
 use serial_set::Held;
@@ -75,8 +76,8 @@ fn push_comment(text: &mut Vec<u8>, comment: &[u8]) -> Result<(), AllocError>
     Ok(())
 }
 
-/// Reads a list, asks it about each key of each file, and says of each in a line whether it is
-/// revoked. The list's contents are not printed: `dump` is false.
+/// Reads a list, prints its contents where `dump` is true, asks it about each key of each file, and
+/// says of each in a line whether it is revoked.
 pub fn query_run<'a, R: Source + Drop, W: Sink>(
     alloc: Global,
     krl_name: &'a str,
@@ -87,18 +88,17 @@ pub fn query_run<'a, R: Source + Drop, W: Sink>(
 ) -> Done<'a>
     requires fresh { R.has_failed krl ≡ false }
     requires working { W.has_failed out.old ≡ false }
-    requires no_dump { dump ≡ false }
     // Whether the reader failed, which is not said where it did not.
-    ensures { (reading : Result Contents FaultOf) × (failed : Bool)
+    ensures { (reading : Result Known FaultOf) × (failed : Bool)
         × (failed ≡ true → (last : R) × (R.has_failed last ≡ true))
         × ((text : List ℕ) → R.left krl ≡ Some text → IsRead text failed reading)
-        × Ends (query_run_of krl_name.now reading files.now) (W.taken out.old) (W.taken out.new)
-        (W.has_failed out.new) result.status result.fault }
+        × IsDated reading
+        × Ends (query_run_of krl_name.now reading dump files.now) (W.taken out.old)
+        (W.taken out.new) (W.has_failed out.new) result.status result.fault }
 {
-    let _ = dump;
     let mut page = Vec::new(alloc);
     let mut printer = Printer::new(&mut page, out);
-    let stop = ask_list(alloc, krl_name, krl, files, &mut printer).err();
+    let stop = ask_list(alloc, krl_name, krl, dump, files, &mut printer).err();
     let done = printer.finish(stop);
     let Printer { out: _out, .. } = printer;
     done
@@ -109,19 +109,25 @@ fn ask_list<'a, R: Source + Drop, W: Sink>(
     alloc: Global,
     krl_name: &'a str,
     krl: R,
+    dump: bool,
     files: &'a [Named<'a>],
     printer: &mut Printer<W>,
 ) -> Result<(), RunFault<'a>>
     requires fresh { R.has_failed krl ≡ false }
     requires working { printer.old.failed ≡ false }
-    ensures { (reading : Result Contents FaultOf) × (failed : Bool)
+    ensures { (reading : Result Known FaultOf) × (failed : Bool)
         × (failed ≡ true → (last : R) × (R.has_failed last ≡ true))
         × ((text : List ℕ) → R.left krl ≡ Some text → IsRead text failed reading)
-        × Carries (query_run_of krl_name.now reading files.now) result printer.old printer.new }
+        × IsDated reading
+        × Carries (query_run_of krl_name.now reading dump files.now) result
+        printer.old printer.new }
 {
     revokes_what_is_meant();
     match read_krl::<Held, R>(alloc, krl) {
-        Ok((_, list)) => print_files(alloc, &Query { list: &list }, files, printer),
+        Ok((header, list)) => {
+            print_contents(alloc, krl_name, dump, &header, &list, printer)?;
+            print_files(alloc, &Query { list: &list }, files, printer)
+        }
         Err(fault) => Err(RunFault::whole(krl_name, cause_of(fault))),
     }
 }

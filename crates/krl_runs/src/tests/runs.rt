@@ -70,6 +70,20 @@ pub fn asked_of<'a>(alloc: Global, krl: &[u8], files: &'a [Named<'a>]) -> Result
     told(alloc, text, &done)
 }
 
+/// Prints what the list `r.krl` holds, and asks it about the files.
+pub fn dumped(alloc: Global, krl: &[u8], files: &[File]) -> Result<Ran, AllocError> {
+    let mut read = Vec::new(alloc);
+    for file in files {
+        read.push(named(alloc, file)?)?;
+    }
+    let mut text = Vec::new(alloc);
+    let mut out = ToWrite::new(&mut text);
+    let krl = FromRead::new(krl);
+    let done = query_run(alloc, "r.krl", krl, true, read.as_slice(), &mut out);
+    drop(out);
+    told(alloc, text, &done)
+}
+
 /// Lists the keys of the file.
 pub fn listed(alloc: Global, hash: Hash, file: &File) -> Result<Ran, AllocError> {
     let read = named(alloc, file)?;

@@ -79,6 +79,26 @@ fn jobs(rt: HostRuntime) -> Result<(), Fail> {
 }
 
 #[test]
+fn contents_are_asked_for(rt: HostRuntime) -> Result<(), Fail> {
+    let rows: [(&[&str], bool); 5] = [
+        (&["-Q", "-f", "k"], false),
+        (&["-Q", "-l", "-f", "k"], true),
+        (&["-lQf", "k", "a"], true),
+        (&["a", "-l", "-f", "k", "-Q"], true),
+        (&["-l", "-f", "k"], false),
+    ];
+    for (i, (words, dump)) in rows.iter().enumerate() {
+        let mut all = Vec::from_slice(rt.alloc(), &["ssh-keygen"])?;
+        all.extend_from_slice(*words)?;
+        let job = command_of(rt.alloc(), all.as_slice())
+            .ok()
+            .ok_or("the words ask for a job")?;
+        assert_eq!(rt; job.dump, *dump, "in row {i}");
+    }
+    Ok(())
+}
+
+#[test]
 fn misused(rt: HostRuntime) -> Result<(), Fail> {
     let rows: [&[&str]; 13] = [
         &[],
@@ -87,8 +107,8 @@ fn misused(rt: HostRuntime) -> Result<(), Fail> {
         &["-f", "k"],
         &["a"],
         &["-Q", "a", "b"],
-        &["-Q", "-l", "-f", "k"],
-        &["-Q", "-l", "-f", "k", "a"],
+        &["-Q", "-l"],
+        &["-Q", "-l", "-E", "md5", "-f", "k"],
         &["-l", "-f", "k", "a"],
         &["-Q", "-E", "md5", "-f", "k"],
         &["-l", "-E", "sha1", "-f", "k"],

@@ -2,7 +2,7 @@
 use Rattle.std.proofs.Common.{ap, ◌∙◌}
 use Rattle.krl_runs.specs.Printer.{Printed}
 use Rattle.krl_runs.proofs.Carrying.{carries_added, carries_sent}
-use Rattle.krl_runs.proofs.output.printer.Printer.print.Goals as goal
+use Rattle.krl_runs.proofs.output.printer.Printer.say.Goals as goal
 
 pub returns-then-is_short : goal.returns-then-is_short
 returns-then-is_short g c =

@@ -1,0 +1,159 @@
+-- How far the lines of a list's contents are said.
+use Rattle.std.proofs.Common.{◌≡◌, ℕ, ◌+◌, ◌<◌, ◌≤◌, ◌==◌, Bool, true, false, List, [], ◌∷◌, ◌++◌, length, map, take, drop, get_or, Result, Ok, Err, refl, sym, ap, subst, ◌∙◌, append_assoc, add-one, arith, length-take, length-drop}
+use Rattle.std.specs.Prelude.{OnOk}
+use Rattle.std.specs.List.{flat_map}
+use Rattle.std.specs.declared.alloc.AllocError.{AllocError}
+use Rattle.std.proofs.lemmas.List.{append-nil, map-append, take-append-drop, drop-drop}
+use Rattle.std.proofs.Math.Seq.{drop-cons}
+use Rattle.std.proofs.lemmas.Bool.Decides.{nat_tests}
+use Rattle.serial_set.specs.declared.span.Span.{Span}
+use Rattle.krl_runs.specs.Carries.{Carries}
+use Rattle.krl_core.specs.Contents.{Contents, Section}
+use Rattle.krl_core.specs.declared.header.Header.{Header}
+use Rattle.krl_runs.specs.Contents.{Known, all_said, authority_line, comment_line, comment_lines, contents_items, contents_lines, date_line, fact_line, header_lines, said_of, section_lines, serials_line, version_line}
+use Rattle.krl_runs.specs.declared.runs.contents.fact.Fact.TheVariants.{Id, Key, Sha1, Hash}
+use Rattle.krl_runs.specs.Printer.{Printed}
+use Rattle.krl_runs.specs.Run.{Item}
+use Rattle.krl_runs.specs.Stop.{Stop}
+use Rattle.krl_runs.proofs.Carrying.{carries_more, carries_none, carries_then}
+
+abbrev said : Result (Unit {0}) Stop
+said = Ok tt
+
+-- All the lines are those that were said so far and those that are left.
+pub record IsSaid (name : List ℕ) (all left : List (List ℕ)) (old now : Printed) : Type 0 where
+  pub done : List (List ℕ)
+  pub parts : all ≡ done ++ left
+  pub carried : Carries (all_said name done) said old now
+
+pub none_said : (name : List ℕ) (all : List (List ℕ)) (now : Printed) → now.failed ≡ false → IsSaid name all all now now
+none_said name all now working = record { done = []; parts = refl; carried = carries_none tt now working }
+
+both_said : (name : List ℕ) (xs ys : List (List ℕ)) → all_said name (xs ++ ys) ≡ all_said name xs ++ all_said name ys
+both_said name xs ys = map-append (said_of name) xs ys
+
+-- some more lines are said
+pub more_said : (name : List ℕ) (all lines left : List (List ℕ)) (old mid new : Printed) → IsSaid name all (lines ++ left) old mid
+    → Carries (all_said name lines) said mid new → IsSaid name all left old new
+more_said name all lines left old mid new is carries = record {
+  done = is.done ++ lines;
+  parts = is.parts ∙ sym (append_assoc is.done lines left);
+  carried =
+      subst (λ (items : List Item). Carries items said old new) (sym (both_said name is.done lines)) (carries_then (all_said name is.done) (all_said name lines) tt said old mid new is.carried carries);
+}
+
+-- all of them are said
+pub whole_said : (name : List ℕ) (all left : List (List ℕ)) (old now : Printed) → IsSaid name all left old now → left ≡ [] → Carries (all_said name all) said old now
+whole_said name all left old now is none =
+    let whole : all ≡ is.done = is.parts ∙ ap (λ (lines : List (List ℕ)). is.done ++ lines) none ∙ append-nil is.done in
+    subst (λ (lines : List (List ℕ)). Carries (all_said name lines) said old now) (sym whole) is.carried
+
+-- the next of them ended the run
+pub saying_stops : {A B : Type 0} (name : List ℕ) (all lines left : List (List ℕ)) (stop : Stop) (old mid new : Printed) → IsSaid name all (lines ++ left) old mid
+    → Carries {A = A} (all_said name lines) (Err stop) mid new → Carries {A = B} (all_said name all) (Err stop) old new
+saying_stops {A} {B} name all lines left stop old mid new is carries =
+    let front = carries_then {B = A} (all_said name is.done) (all_said name lines) tt (Err stop) old mid new is.carried carries in
+    let more = carries_more {A = A} {B = B} (all_said name is.done ++ all_said name lines) (all_said name left) stop old new front in
+    let items : all_said name all ≡ (all_said name is.done ++ all_said name lines) ++ all_said name left =
+    ap (all_said name) is.parts ∙ both_said name is.done (lines ++ left) ∙ ap (λ (items : List Item). all_said name is.done ++ items) (both_said name lines left)
+    ∙ sym (append_assoc (all_said name is.done) (all_said name lines) (all_said name left)) in
+    subst (λ (items : List Item). Carries {A = B} items (Err stop) old new) (sym items) more
+
+-- the last of them, whatever becomes of it
+pub last_said : {B : Type 0} (name : List ℕ) (all lines : List (List ℕ)) (result : Result B Stop) (old mid new : Printed) → IsSaid name all lines old mid
+    → Carries (all_said name lines) result mid new → Carries (all_said name all) result old new
+last_said {B} name all lines result old mid new is carries =
+    let items : all_said name all ≡ all_said name is.done ++ all_said name lines = ap (all_said name) is.parts ∙ both_said name is.done lines in
+    subst (λ (items : List Item). Carries {A = B} items result old new) (sym items) (carries_then (all_said name is.done) (all_said name lines) tt result old mid new is.carried carries)
+
+-- the lines of some authorities, and of the keys and the hashes
+abbrev pub held_lines : List Section → Contents → List (List ℕ)
+held_lines sections r =
+    flat_map section_lines sections ++ (map (fact_line Key) r.keys ++ (map (fact_line Sha1) r.sha1s ++ map (fact_line Hash) r.sha256s))
+
+pub held_first : (name : List ℕ) (r : Contents) (now : Printed) → now.failed ≡ false → IsSaid name (contents_lines r) (held_lines r.sections r) now now
+unfolding contents_lines
+held_first name r now working = none_said name (contents_lines r) now working
+
+-- the lines of a header are those of its version, its date and its comment
+pub header_started : (name : List ℕ) (header : Header) (date : List ℕ) (now : Printed) → now.failed ≡ false
+    → IsSaid name (header_lines header date) (version_line header.version ∷ date_line date ∷ comment_lines header.comment) now now
+unfolding header_lines
+header_started name header date now working = none_said name (header_lines header date) now working
+
+-- a line that was made stands in the bytes that are lent
+pub line_is : (made : Result (Unit {0}) AllocError) (lent items text : List ℕ) → lent ≡ items → OnOk made (items ≡ text) → OnOk made (lent ≡ text)
+line_is made lent items text same is = rw same is
+
+pub line_is_itself : (made : Result (Unit {0}) AllocError) (lent : List ℕ) → OnOk made (lent ≡ lent)
+line_is_itself (Ok value) lent = refl
+line_is_itself (Err fault) lent = tt
+
+-- the line of a date, by the date's text
+pub dated_line : (Q : List ℕ → Type 0) (made : Result (Unit {0}) AllocError) (lent items text : List ℕ) → lent ≡ items
+    → OnOk made ((t : List ℕ) → Q t → items ≡ date_line t) → Q text → OnOk made (lent ≡ date_line text)
+dated_line Q (Ok value) lent items text same is dated = same ∙ is text dated
+dated_line Q (Err fault) lent items text same is dated = tt
+
+-- a comment without bytes has no line, and any other has its own
+pub no_comment : (comment : List ℕ) → (length comment == 0) ≡ true → comment_lines comment ≡ []
+no_comment [] none = refl
+no_comment (byte ∷ bytes) none = absurd (grind (arith, nat_tests))
+
+pub some_comment : (comment : List ℕ) → (length comment == 0) ≡ false → comment_lines comment ≡ comment_line comment ∷ []
+some_comment [] some = absurd cc
+some_comment (byte ∷ bytes) some = refl
+
+-- the spans from a place on are the one there and the others
+pub spans_next : (spans : List Span) (i : ℕ) (d : Span) → i < length spans
+    → map serials_line (drop i spans) ≡ serials_line (get_or spans i d) ∷ map serials_line (drop (i + 1) spans)
+spans_next spans i d lt =
+    let parts : drop i spans ≡ get_or spans i d ∷ drop (i + 1) spans = rw add-one (drop-cons spans i d lt) in
+    ap (λ (xs : List Span). map serials_line xs) parts
+
+-- or those of a piece and the others
+pub piece_next : (spans piece : List Span) (at : ℕ) → piece ≡ take (length piece) (drop at spans)
+    → map serials_line (drop at spans) ≡ map serials_line piece ++ map serials_line (drop (at + length piece) spans)
+piece_next spans piece at front =
+    let n = length piece in
+    let parts : drop at spans ≡ piece ++ drop (at + n) spans =
+    sym (take-append-drop n (drop at spans)) ∙ ap (λ (xs : List Span). xs ++ drop n (drop at spans)) (sym front) ∙ ap (λ (xs : List Span). piece ++ xs) (drop-drop n at spans) in
+    ap (λ (xs : List Span). map serials_line xs) parts ∙ map-append serials_line piece (drop (at + n) spans)
+
+pub piece_within : (spans piece : List Span) (at : ℕ) → at ≤ length spans → piece ≡ take (length piece) (drop at spans) → at + length piece ≤ length spans
+piece_within spans piece at within front =
+    omega (arith, ap (λ (xs : List Span). length xs) front, length-take (length piece) (drop at spans), length-drop at spans)
+
+-- the lines of an authority and those of the others
+pub held_next : (section : Section) (rest : List Section) (r : Contents) → held_lines (section ∷ rest) r ≡ section_lines section ++ held_lines rest r
+held_next section rest r =
+    append_assoc (section_lines section) (flat_map section_lines rest) (map (fact_line Key) r.keys ++ (map (fact_line Sha1) r.sha1s ++ map (fact_line Hash) r.sha256s))
+
+pub section_started : (name : List ℕ) (section : Section) (now : Printed) → now.failed ≡ false
+    → IsSaid name (section_lines section) (authority_line section.authority ∷ (map serials_line section.spans ++ map (fact_line Id) section.ids)) now now
+unfolding section_lines
+section_started name section now working = none_said name (section_lines section) now working
+
+-- ---- the contents, where they are asked for
+
+pub not_asked : (name : List ℕ) (dump : Bool) (known : Known) (now : Printed) → dump ≡ false → now.failed ≡ false → Carries (contents_items name dump known) said now now
+unfolding contents_items
+not_asked name false known now asked working = carries_none tt now working
+not_asked name true known now asked working = absurd cc
+
+pub contents_said : {B : Type 0} (name : List ℕ) (dump : Bool) (known : Known) (result : Result B Stop) (old mid new : Printed) → dump ≡ true
+    → Carries (all_said name (header_lines known.header known.date)) said old mid → Carries (all_said name (contents_lines known.contents)) result mid new
+    → Carries (contents_items name dump known) result old new
+unfolding contents_items
+contents_said name false known result old mid new asked first second = absurd cc
+contents_said {B} name true known result old mid new asked first second =
+    subst (λ (items : List Item). Carries {A = B} items result old new) (sym (both_said name (header_lines known.header known.date) (contents_lines known.contents)))
+    (carries_then (all_said name (header_lines known.header known.date)) (all_said name (contents_lines known.contents)) tt result old mid new first second)
+
+pub contents_stop : {A B : Type 0} (name : List ℕ) (dump : Bool) (known : Known) (stop : Stop) (old new : Printed) → dump ≡ true
+    → Carries {A = A} (all_said name (header_lines known.header known.date)) (Err stop) old new → Carries {A = B} (contents_items name dump known) (Err stop) old new
+unfolding contents_items
+contents_stop name false known stop old new asked first = absurd cc
+contents_stop {A} {B} name true known stop old new asked first =
+    subst (λ (items : List Item). Carries {A = B} items (Err stop) old new) (sym (both_said name (header_lines known.header known.date) (contents_lines known.contents)))
+    (carries_more {A = A} {B = B} (all_said name (header_lines known.header known.date)) (all_said name (contents_lines known.contents)) stop old new first)

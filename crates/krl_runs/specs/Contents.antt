@@ -1,0 +1,110 @@
+-- What a list holds, as it is printed (ssh-keygen(1), options -Q and -l): a line for each fact.
+use Rattle.std.specs.Prelude.{ℕ, ◌==◌, if◌then◌else◌, Bool, true, false, List, [], ◌∷◌, ◌++◌, codes, decimal, map}
+use Rattle.std.specs.List.{concat, flat_map}
+use Rattle.base64.specs.Engines.{standard}
+use Rattle.base64.specs.GeneralPurpose.{encode_of}
+use Rattle.hex.specs.Hex.{encode_lower}
+use Rattle.serial_set.specs.declared.span.Span.{Span}
+use Rattle.ssh_key.specs.declared.hash.Hash.TheVariants.{Sha256}
+use Rattle.ssh_key.specs.Fingerprints.{fingerprint_text, unpadded}
+use Rattle.ssh_cert.specs.Escape.{escaped}
+use Rattle.krl_core.specs.Contents.{Contents, Section}
+use Rattle.krl_core.specs.declared.header.Header.{Header}
+use Rattle.krl_runs.specs.declared.runs.contents.fact.Fact.{Fact}
+use Rattle.krl_runs.specs.declared.runs.contents.fact.Fact.TheVariants.{Id, Key, Sha1, Hash}
+use Rattle.krl_runs.specs.Run.{Item, Answered}
+
+-- What was read of a list: its header, the text of its date, and what is held of it.
+pub record Known : Type 0 where
+  pub header : Header
+  pub date : List ℕ
+  pub contents : Contents
+
+-- a label and its text
+abbrev pub line : List ℕ → List ℕ → List ℕ
+line label text = label ++ (text ++ 10 ∷ [])
+
+unfoldable pub version_line : ℕ → List ℕ
+version_line version = line (codes "# KRL version ") (decimal version)
+
+unfoldable pub date_line : List ℕ → List ℕ
+date_line date = line (codes "# Generated at ") date
+
+unfoldable pub comment_line : List ℕ → List ℕ
+comment_line comment = line (codes "# Comment: ") (escaped comment)
+
+-- a line for a comment, where there is one
+abbrev pub comment_lines : List ℕ → List (List ℕ)
+comment_lines [] = []
+comment_lines (byte ∷ bytes) = comment_line (byte ∷ bytes) ∷ []
+
+-- an authority by the fingerprint of its bytes
+abbrev pub authority_text : List ℕ → List ℕ
+authority_text [] = codes "all"
+authority_text (byte ∷ bytes) = fingerprint_text Sha256 (byte ∷ bytes)
+
+unfoldable pub authority_line : List ℕ → List ℕ
+authority_line authority = line (codes "# CA ") (authority_text authority)
+
+-- one serial, or the first and the last of several
+abbrev pub serials_text : Span → List ℕ
+serials_text span =
+    if span.lo == span.hi then decimal span.lo
+    else decimal span.lo ++ (codes "-" ++ decimal span.hi)
+
+unfoldable pub serials_line : Span → List ℕ
+serials_line span = line (codes "serial: ") (serials_text span)
+
+-- how the line of a key ID, a key or a hash begins
+abbrev pub label_of : Fact → List ℕ
+label_of Id = codes "id: "
+label_of Key = codes "key: "
+label_of Sha1 = codes "sha1: "
+label_of Hash = codes "hash: SHA256:"
+
+-- its bytes, as they are printed
+abbrev pub fact_text : Fact → List ℕ → List ℕ
+fact_text Id bytes = escaped bytes
+fact_text Key bytes = encode_of standard bytes
+fact_text Sha1 bytes = encode_lower bytes
+fact_text Hash bytes = unpadded bytes
+
+unfoldable pub fact_line : Fact → List ℕ → List ℕ
+fact_line fact bytes = line (label_of fact) (fact_text fact bytes)
+
+unfoldable pub header_lines : Header → List ℕ → List (List ℕ)
+header_lines header date =
+    version_line header.version ∷ date_line date ∷ comment_lines header.comment
+
+-- an authority, its serials and its key IDs
+unfoldable pub section_lines : Section → List (List ℕ)
+section_lines section =
+    authority_line section.authority
+    ∷ (map serials_line section.spans ++ map (fact_line Id) section.ids)
+
+-- all authorities, keys and hashes
+unfoldable pub contents_lines : Contents → List (List ℕ)
+contents_lines contents =
+    flat_map section_lines contents.sections
+    ++ (map (fact_line Key) contents.keys
+    ++ (map (fact_line Sha1) contents.sha1s
+    ++ map (fact_line Hash) contents.sha256s))
+
+abbrev pub known_lines : Known → List (List ℕ)
+known_lines known = header_lines known.header known.date ++ contents_lines known.contents
+
+-- the lines of a list's contents, one after the other
+abbrev pub dump_text : Known → List ℕ
+dump_text known = concat (known_lines known)
+
+-- each line is said of the list
+abbrev pub said_of : List ℕ → List ℕ → Item
+said_of name text = Answered name (record { text = text; revoked = false })
+
+abbrev pub all_said : List ℕ → List (List ℕ) → List Item
+all_said name lines = map (said_of name) lines
+
+-- the items of a list's contents, where they are asked for
+unfoldable pub contents_items : List ℕ → Bool → Known → List Item
+contents_items name false known = []
+contents_items name true known = all_said name (known_lines known)
