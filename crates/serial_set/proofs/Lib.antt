@@ -2,6 +2,7 @@ pub mod Apart
 pub mod Asked
 pub mod Behind
 pub mod Bits
+pub mod Ends
 pub mod Feeding
 pub mod Least
 pub mod InByte

@@ -1,5 +1,5 @@
 -- What a new span leaves of a list of spans, and where a list ends.
-use Rattle.std.specs.Prelude.{◌≡◌, ℕ, ◌+◌, ◌≤◌, ◌<◌, ◌⊎◌, List, [], ◌∷◌, ◌++◌, Option, Some, None, nat_lt, filter, max, All, length, drop}
+use Rattle.std.specs.Prelude.{◌≡◌, ℕ, ◌+◌, ◌≤◌, ◌<◌, ◌⊎◌, List, [], ◌∷◌, ◌++◌, Option, Some, None, nat_lt, filter, max, All, length, take, drop}
 use Rattle.std.specs.List.{flat_map}
 use Rattle.std.proofs.Common.{arith, length-append, length-drop}
 use Rattle.serial_set.specs.declared.span.Span.{Span}
@@ -37,6 +37,12 @@ IsFirstFrom spans number None = All (λ span. span.hi < number) spans
 IsFirstFrom spans number (Some span) =
     (front : List Span) × ((rest : List Span) × ((spans ≡ front ++ span ∷ rest)
     × All (λ t. t.hi < number) front × (number ≤ span.hi)))
+
+-- so many spans end before a number
+pub record IsCountBefore (spans : List Span) (number count : ℕ) : Type 0 where
+  pub within : count ≤ length spans
+  pub before : All (λ t. t.hi < number) (take count spans)
+  pub rest : All (λ t. number ≤ t.hi) (drop count spans)
 
 -- the new span is the numbers from lo to hi with all spans that they touch
 pub record IsWidened (spans : List Span) (lo hi : ℕ) (new : Span) : Type 0 where

@@ -1,7 +1,7 @@
 ghost use Rattle.std.specs.Prelude.{◌≡◌, ◌+◌, ◌-◌, ◌<◌, ◌≤◌, ◌⊎◌, ◌∷◌, ◌++◌, length, take, drop, nat_le, false, IsTrue, All, IfOk, IfSome, OnOk, OnErr};
 ghost use Rattle.std.specs.Vec.{vec_len, vec_capacity};
 ghost use Rattle.serial_set.specs.Span.{IsRuns, TouchesNone};
-ghost use Rattle.serial_set.specs.Pages.{above, replaced, CutsNone, MissesAll, end_of, IsFirstFrom, spans_some};
+ghost use Rattle.serial_set.specs.Pages.{above, replaced, CutsNone, MissesAll, end_of, IsCountBefore, IsFirstFrom, spans_some};
 
 use crate::gap::put_behind;
 use crate::part::Part;
@@ -29,6 +29,22 @@ impl Page {
         ensures { result.now ≡ drop self.now.gap self.now.items.items }
     {
         &self.items[self.gap..]
+    }
+
+    // How many spans end before a number. The last span tells it, or the first one behind a gap,
+    // where spans come in order.
+    fn count_before(&self, number: u64) -> usize
+        requires { IsRuns (drop self.now.gap self.now.items.items) }
+        ensures { IsCountBefore (drop self.now.gap self.now.items.items) number result }
+    {
+        let spans = self.as_slice();
+        if self.end < number {
+            return spans.len();
+        }
+        if self.gap > 0 && number <= spans[0].hi {
+            return 0;
+        }
+        count_ending_before(spans, number)
     }
 
     // Moves the spans to the front.
@@ -83,7 +99,8 @@ impl Part for Page {
     }
 
     fn put_apart(&mut self, new: Span) -> bool {
-        let Some(at) = apart_place(self.as_slice(), new) else {
+        let count = self.count_before(new.lo - 1);
+        let Some(at) = apart_place(self.as_slice(), count, new) else {
             return false;
         };
         let Ok(gap) = put_behind(&mut self.items, self.gap, at, new) else {
@@ -172,16 +189,16 @@ fn first_in(spans: &[Span], number: u64) -> Option<Span>
     }
 }
 
-// Where a span stands that touches none.
-fn apart_place(spans: &[Span], new: Span) -> Option<usize>
+// Where a span stands that touches none, after those that end before what it touches.
+fn apart_place(spans: &[Span], at: usize, new: Span) -> Option<usize>
     requires runs { IsRuns spans.now }
+    requires count { IsCountBefore spans.now (new.lo - 1) at }
     requires span { (1 < new.lo) × (new.lo ≤ new.hi) }
     ensures within { IfSome result (λ at. at ≤ length spans.now) }
     ensures apart { IfSome result (λ _. TouchesNone spans.now new.lo new.hi) }
     ensures place { IfSome result (λ at.
         replaced spans.now new ≡ take at spans.now ++ new ∷ drop at spans.now) }
 {
-    let at = count_ending_before(spans, new.lo - 1);
     if is_past(spans, at, new.hi) {
         Some(at)
     } else {

@@ -1,5 +1,5 @@
 //! Parts in a row, one after the other.
-ghost use Rattle.std.specs.Prelude.{◌≡◌, ◌+◌, ◌^◌, ◌<◌, ◌≤◌, ◌⊎◌, ◌∷◌, ◌++◌, length, take, drop, nat_le, slice_index_or, All, IsTrue, OnOk, OnErr};
+ghost use Rattle.std.specs.Prelude.{◌≡◌, ◌+◌, ◌^◌, ◌<◌, ◌≤◌, ◌⊎◌, ◌∷◌, ◌++◌, length, take, drop, nat_le, slice_index_or, All, IfSome, IsTrue, OnOk, OnErr};
 ghost use Rattle.std.specs.List.{flat_map};
 ghost use Rattle.std.specs.Vec.{vec_len};
 ghost use Rattle.serial_set.specs.Span.{IsRuns};
@@ -14,11 +14,36 @@ pub fn parts_ending_by<P: Part>(parts: &[P], number: u64) -> usize
     ensures by { All (λ span. span.hi ≤ number) (flat_map P.spans (take result parts.now)) }
     ensures rest { All (λ part. number < end_of (P.spans part)) (drop result parts.now) }
 {
+    if let Some(count) = told_by_ends(parts, number) {
+        return count;
+    }
     parts.partition_point(
         |part: &P| -> bool
             ensures { result ≡ nat_le (end_of (P.spans part.now)) number }
         { part.end() <= number },
     )
+}
+
+// The same, where the last part tells it or the first one, as they do for spans in order.
+fn told_by_ends<P: Part>(parts: &[P], number: u64) -> Option<usize>
+    requires { IsRuns (flat_map P.spans parts.now) }
+    ensures within { IfSome result (λ count. count ≤ length parts.now) }
+    ensures by { IfSome result (λ count.
+        All (λ part. end_of (P.spans part) ≤ number) (take count parts.now)) }
+    ensures rest { IfSome result (λ count.
+        All (λ part. number < end_of (P.spans part)) (drop count parts.now)) }
+{
+    let len = parts.len();
+    if len == 0 {
+        return None;
+    }
+    if parts[len - 1].end() <= number {
+        return Some(len);
+    }
+    if number < parts[0].end() {
+        return Some(0);
+    }
+    None
 }
 
 // The part to which a span at `lo` belongs: the first that does not end before, or the last one.

@@ -25,3 +25,6 @@ returns-clause-rest g c =
     let sorted = IsPartitionedBy-leb (λ p. end_of (spans p)) xs n (parts_rise spans g.met.P.Part.filled 0 xs c.requires) in
     let point = IsPartitionPoint-from_clause (λ p. leb (end_of (spans p)) n) xs c.partition_point.result c.partition_point.ensures.partitioned sorted (λ a r f k. search rules) in
     All-weaker (λ p. leb (end_of (spans p)) n ≡ false) (λ p. n < end_of (spans p)) (λ p h. leb-false _ _ h) _ (All-back (λ p. leb (end_of (spans p)) n ≡ false) _ _ point.1)
+
+pub returns-in-Some-clause-by : goal.returns-in-Some-clause-by
+returns-in-Some-clause-by g c = parts_by g.P.Part.spans c.args.number _ c.in-Some.ensures.by
