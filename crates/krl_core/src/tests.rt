@@ -14,6 +14,6 @@ mod random;
 mod random_lists;
 mod reading;
 mod rows;
+mod sending;
 mod subjects;
-mod subsections;
 mod writing;

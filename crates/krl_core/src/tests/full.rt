@@ -1,4 +1,4 @@
-// Sets of serials of the tests: one that refuses at a length, and one that counts its additions.
+// A set of serials of the tests' own, which refuses at a length and counts its additions.
 
 ghost use Rattle.std.specs.Prelude.{◌≡◌, ◌<◌, ◌≤◌, IsTrue};
 ghost use Rattle.serial_set.specs.Span.{TouchesNone};
@@ -10,6 +10,8 @@ use std::alloc::{AllocError, Global};
 #[derive(Drop)]
 pub struct Full<S: Spans, const AT: usize> {
     inner: S,
+    /// How often it was added to.
+    pub additions: u64,
 }
 
 // Whether the interval stands alone: no span of the set has a number of it, or one beside it.
@@ -35,6 +37,7 @@ impl<S: Spans, const AT: usize> Spans for Full<S, AT> {
     fn empty(alloc: Global) -> Result<Full<S, AT>, AllocError> {
         Ok(Full {
             inner: S::empty(alloc)?,
+            additions: 0,
         })
     }
 
@@ -42,46 +45,6 @@ impl<S: Spans, const AT: usize> Spans for Full<S, AT> {
         if self.inner.len() == AT && touches_none(&self.inner, lo, hi) {
             return Err(AllocError);
         }
-        self.inner.add(lo, hi)
-    }
-
-    fn has(&self, serial: u64) -> bool {
-        self.inner.has(serial)
-    }
-
-    fn len(&self) -> usize {
-        self.inner.len()
-    }
-
-    fn get(&self, at: usize) -> Span {
-        self.inner.get(at)
-    }
-
-    fn piece(&self, at: usize) -> &[Span] {
-        self.inner.piece(at)
-    }
-}
-
-/// Counts how often it was added to.
-#[derive(Drop)]
-pub struct Counted<S: Spans> {
-    inner: S,
-    pub additions: u64,
-}
-
-impl<S: Spans> Spans for Counted<S> {
-    ghost spans = { λ counted. S.spans counted.inner };
-
-    ghost law = { λ counted. S.law counted.inner };
-
-    fn empty(alloc: Global) -> Result<Counted<S>, AllocError> {
-        Ok(Counted {
-            inner: S::empty(alloc)?,
-            additions: 0,
-        })
-    }
-
-    fn add(&mut self, lo: u64, hi: u64) -> Result<(), AllocError> {
         self.additions = self.additions.saturating_add(1);
         self.inner.add(lo, hi)
     }

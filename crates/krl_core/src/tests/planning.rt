@@ -1,5 +1,6 @@
 // The least plan of worked lists of runs, and its cost beside that of every plan of short lists.
 
+use crate::tests::writing::{has_length, of_runs};
 use crate::{Group, Sort, least_plan};
 use serial_set::{Held, Span, Spans};
 use std::alloc::{AllocError, Global};
@@ -124,13 +125,17 @@ fn plans_worked_lists(rt: HostRuntime) -> Result<(), Fail> {
     Ok(())
 }
 
-// What a set's least plan costs is what the cheapest of all plans costs.
+// What a set's least plan costs is what the cheapest of all plans costs, and the list that is
+// written has just so many bytes more than its header and the front of its one section.
 fn costs_least(rt: &impl Abort, alloc: Global, runs: &[Span]) -> Result<(), AllocError> {
     let plan = least_plan(alloc, &set_of(alloc, runs)?)?;
     let cost = cost_of(&plan, runs);
     assert!(rt; cost.is_some());
-    assert_eq!(rt; cost, least_cost(runs));
-    Ok(())
+    let least = least_cost(runs);
+    assert_eq!(rt; cost, least);
+    let front = if runs.is_empty() { 44 } else { 57 };
+    let length = least.unwrap_or(0).saturating_add(front);
+    has_length(rt, alloc, &of_runs(alloc, runs)?, length)
 }
 
 #[test]
