@@ -36,7 +36,8 @@ abbrev pub empty_section : List ℕ → Section
 empty_section authority = record { authority = authority; spans = []; ids = [] }
 
 -- one section under the authority is changed, and the others stay
-pub record ChangesOne (Change : Section → Section → Type 0) (authority : List ℕ) (old new : List Section) : Type 0 where
+pub record ChangesOne (Change : Section → Section → Type 0) (authority : List ℕ)
+    (old new : List Section) : Type 0 where
   pub front : List Section
   pub back : List Section
   pub from : Section

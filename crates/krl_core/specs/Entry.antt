@@ -1,8 +1,9 @@
--- What a list or a line of a specification file names (PROTOCOL.krl; ssh-keygen(1), KEY REVOCATION LISTS).
+-- What a list or a line of a specification file names (PROTOCOL.krl; ssh-keygen(1), KEY REVOCATION
+-- LISTS).
 use Rattle.std.specs.Prelude.{ℕ, List}
 
--- What is named. A serial number and a key ID stand under an authority, named by its bytes, or under all
--- authorities where there are none.
+-- What is named. A serial number and a key ID stand under an authority, named by its bytes, or
+-- under all authorities where there are none.
 pub data Entry : Type 0 where
   -- each of the numbers
   SerialsEntry : (authority numbers : List ℕ) → Entry

@@ -21,7 +21,8 @@ listed_text type_byte (text ∷ texts) = type_byte ∷ string (strings (text ∷
 -- what the section of an authority has in it
 abbrev pub authority_content : List Group → Listed → List ℕ
 authority_content plan listed =
-    string listed.authority ++ (string [] ++ (plan_text listed.spans plan ++ listed_text 0x23 listed.ids))
+    string listed.authority
+    ++ (string [] ++ (plan_text listed.spans plan ++ listed_text 0x23 listed.ids))
 
 -- the section of an authority
 abbrev pub authority_text : List Group → Listed → List ℕ
@@ -49,7 +50,8 @@ abbrev pub EachPlan : (List Span → List Group → Type 0) → List (List Group
 EachPlan Holds [] [] = Unit {0}
 EachPlan Holds [] (first ∷ listed) = ⊥
 EachPlan Holds (plan ∷ plans) [] = ⊥
-EachPlan Holds (plan ∷ plans) (first ∷ listed) = Holds first.spans plan × EachPlan Holds plans listed
+EachPlan Holds (plan ∷ plans) (first ∷ listed) =
+    Holds first.spans plan × EachPlan Holds plans listed
 
 -- The text is the list that is written: each authority's serials by the least plan of its runs.
 pub record IsKrlText (header : Header) (r : Contents) (text : List ℕ) : Type 0 where
@@ -69,7 +71,8 @@ group_subsection sorts.Bitmap runs =
 abbrev pub plan_subsections : List Span → List Group → List Subsection
 plan_subsections runs [] = []
 plan_subsections runs (group ∷ groups) =
-    group_subsection group.sort (take group.count runs) ∷ plan_subsections (drop group.count runs) groups
+    group_subsection group.sort (take group.count runs)
+    ∷ plan_subsections (drop group.count runs) groups
 
 abbrev pub ids_subsections : List (List ℕ) → List Subsection
 ids_subsections [] = []
@@ -90,4 +93,5 @@ listed_sections section (text ∷ texts) = section (text ∷ texts) ∷ []
 abbrev pub sections_of : List (List Group) → Contents → List Section
 sections_of plans r =
     authority_sections plans r.sections
-    ++ (listed_sections Keys r.keys ++ (listed_sections Sha1s r.sha1s ++ listed_sections Sha256s r.sha256s))
+    ++ (listed_sections Keys r.keys
+    ++ (listed_sections Sha1s r.sha1s ++ listed_sections Sha256s r.sha256s))

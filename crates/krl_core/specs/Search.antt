@@ -9,13 +9,15 @@ use Rattle.krl_core.specs.Plan.{IsGroup, IsPlan, IsLeastPlan, cost, group_cost}
 
 -- the one group comes before the other or is the same
 abbrev pub IsAtOrBefore : Group → Group → Type 0
-IsAtOrBefore a b = (place a.sort < place b.sort) ⊎ ((place a.sort ≡ place b.sort) × (b.count ≤ a.count))
+IsAtOrBefore a b =
+    (place a.sort < place b.sort) ⊎ ((place a.sort ≡ place b.sort) × (b.count ≤ a.count))
 
 -- the one costs less, or as much with a group that is not behind the other's
 abbrev pub Wins : Cell → Cell → Type 0
 Wins a b = (a.cost < b.cost) ⊎ ((a.cost ≡ b.cost) × IsAtOrBefore a.group b.group)
 
--- what the runs behind the first `count` ones cost at least, where the costs end with those of all but the first run
+-- what the runs behind the first `count` ones cost at least, where the costs end with those of all
+-- but the first run
 abbrev pub rest_cost : List ℕ → ℕ → ℕ
 rest_cost costs count = slice_index costs (length costs - count)
 
@@ -54,7 +56,8 @@ abbrev pub IsFirst : List Span → Group → Type 0
 IsFirst runs group =
     (rest : List Group) → IsLeastPlan (drop group.count runs) rest → IsLeastPlan runs (group ∷ rest)
 
--- The costs end with that of the runs, and before it stands that of all but the first run, and so on.
+-- The costs end with that of the runs, and before it stands that of all but the first run, and so
+-- on.
 -- The choices are one for each run, that of the first run last.
 pub record IsTable (runs : List Span) (costs : List ℕ) (choices : List Group) : Type 0 where
   pub costs_are : (k : ℕ) → k < length costs → IsLeastCost (drop k runs) (rest_cost costs (k + 1))
@@ -62,7 +65,8 @@ pub record IsTable (runs : List Span) (costs : List ℕ) (choices : List Group) 
   pub choices_are : (k : ℕ) (d : Group) → k < length choices
       → IsFirst (drop (length choices - 1 - k) runs) (get_or choices k d)
 
--- Costs are there for as many runs as a group can have, and none is large. No choice has more runs than there are.
+-- Costs are there for as many runs as a group can have, and none is large. No choice has more runs
+-- than there are.
 pub record IsReady (costs : List ℕ) (choices : List Group) : Type 0 where
   pub bounded : (k : ℕ) → slice_index costs k ≤ 21 * length choices
   pub enough : min (length choices + 1) 1024 ≤ length costs

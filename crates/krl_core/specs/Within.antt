@@ -33,7 +33,8 @@ AddsAuthority (Err TooLong) old new listed =
     → limit < length old + length (authority_text plan listed)
 
 -- The same for the sections of some authorities.
-abbrev pub AddsAuthorities : {A : Type 0} → Result A TextFault → List ℕ → List ℕ → List Listed → Type 0
+abbrev pub AddsAuthorities : {A : Type 0}
+    → Result A TextFault → List ℕ → List ℕ → List Listed → Type 0
 AddsAuthorities (Ok done) old new listed =
     (plans : List (List Group)) × (EachPlan IsLeastPlan plans listed
     × ((new ≡ old ++ authorities_text plans listed) × (length new ≤ limit)))
@@ -54,9 +55,11 @@ write_fault_number (Write count) = 1
 write_fault_number NoMemory' = 2
 write_fault_number TooLong' = 3
 
--- The list went out, or on a fault its first bytes and no others, or it has no text and nothing did.
+-- The list went out, or on a fault its first bytes and no others, or it has no text and nothing
+-- did.
 -- The writer has failed just where it is at fault.
-abbrev pub Writes : {A : Type 0} → Result A WriteFault → Header → Contents → Option (List ℕ) → Option (List ℕ) → Bool → Type 0
+abbrev pub Writes : {A : Type 0} → Result A WriteFault → Header → Contents
+    → Option (List ℕ) → Option (List ℕ) → Bool → Type 0
 Writes (Ok done) header r old new failed =
     (text : List ℕ) × (IsKrlText header r text × (Appends old new text × (failed ≡ false)))
 Writes (Err (Write count)) header r old new failed =
@@ -64,4 +67,5 @@ Writes (Err (Write count)) header r old new failed =
     × ((count < length text) × (failed ≡ true))))
 Writes (Err NoMemory') header r old new failed = (new ≡ old) × (failed ≡ false)
 Writes (Err TooLong') header r old new failed =
-    ((text : List ℕ) → IsKrlText header r text → limit < length text) × ((new ≡ old) × (failed ≡ false))
+    ((text : List ℕ) → IsKrlText header r text → limit < length text)
+    × ((new ≡ old) × (failed ≡ false))

@@ -29,10 +29,12 @@ abbrev pub has : List Span → ℕ → Bool
 has [] serial = false
 has (run ∷ runs) serial = (nat_le run.lo serial && nat_le serial run.hi) || has runs serial
 
--- the number whose bit N says whether the runs have the serial that is N above the first, of so many bits
+-- the number, of so many bits, whose bit N says whether the runs have the serial that is N above
+-- the first
 abbrev pub bits_of : List Span → ℕ → ℕ → ℕ
 bits_of runs first zero = 0
-bits_of runs first (suc count) = (if has runs first then 1 else 0) + 2 * bits_of runs (first + 1) count
+bits_of runs first (suc count) =
+    (if has runs first then 1 else 0) + 2 * bits_of runs (first + 1) count
 
 -- the bits of so many bytes, the highest byte first
 abbrev pub bitmap_of : List Span → ℕ → ℕ → List ℕ
@@ -70,4 +72,5 @@ plan_text runs (group ∷ groups) =
 -- All but the first `left` of the runs begin at the serial or above.
 pub record Above (runs : List Span) (left serial : ℕ) : Type 0 where
   pub within : left ≤ length runs
-  pub above : (k : ℕ) (d : Span) → left ≤ k → k < length runs → serial ≤ (slice_index_or runs k d).lo
+  pub above : (k : ℕ) (d : Span) → left ≤ k → k < length runs
+      → serial ≤ (slice_index_or runs k d).lo

@@ -132,8 +132,8 @@ impl<S: Spans> Revocations<S> {
         Ok(())
     }
 
-    /// Revokes a key by the SHA-1 of its blob. Fails only where memory runs out, and changes nothing
-    /// then.
+    /// Revokes a key by the SHA-1 of its blob. Fails only where memory runs out, and changes
+    /// nothing then.
     pub fn add_sha1(&mut self, hash: &[u8; 20]) -> Result<(), AllocError>
         ensures means { OnOk result ((entries : List Entry) → Means self.old entries
             → Means self.new (entries ++ Sha1Entry hash.now ∷ [])) }

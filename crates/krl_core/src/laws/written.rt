@@ -37,8 +37,8 @@ pub fn one_least_plan()
         → IsLeastPlan runs other → one ≡ other }
 {}
 
-/// The subsections of a plan have as many bytes as it costs, and those of a cheapest plan at most 21
-/// a run.
+/// The subsections of a plan have as many bytes as it costs, and those of a cheapest plan at most
+/// 21 a run.
 pub fn plan_has_its_bytes()
     ensures bytes { (runs : List Span) (plan : List Group) → IsRuns runs → IsPlan runs plan
         → length (plan_text runs plan) ≡ cost runs plan }

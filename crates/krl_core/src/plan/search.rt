@@ -16,8 +16,8 @@ pub(crate) const MOST: usize = 1024;
 // The bytes that the bitmap's first and last serial may be apart.
 const FARTHEST: u64 = 2047;
 
-// The group that a least plan of the runs begins with, and the cost of that plan. The costs end with
-// what the runs behind the first one cost at least.
+// The group that a least plan of the runs begins with, and the cost of that plan. The costs end
+// with what the runs behind the first one cost at least.
 pub(crate) fn best(runs: &[Span], costs: &[u128]) -> Cell
     requires some { 0 < length runs.now }
     requires rising { IsRuns runs.now }

@@ -14,8 +14,8 @@ use std::alloc::{AllocError, Global};
 // What is known of the last runs of a list.
 #[derive(Drop)]
 pub(crate) struct Table {
-    // What the runs cost at least, then all but the first run, and so on. Costs that no group reaches
-    // any more are dropped.
+    // What the runs cost at least, then all but the first run, and so on. Costs that no group
+    // reaches any more are dropped.
     costs: Vec<u128>,
     // The first group of each least plan, that of the first run last.
     choices: Vec<Group>,
@@ -36,8 +36,8 @@ impl Table {
         })
     }
 
-    // Takes the runs in front of those that it knows, from the last one to the first. The window has
-    // them and as many of the known ones as a group can have.
+    // Takes the runs in front of those that it knows, from the last one to the first. The window
+    // has them and as many of the known ones as a group can have.
     pub(crate) fn add_all(&mut self, window: &[Span], some: usize) -> Result<(), AllocError>
         requires rising { IsRuns window.now }
         requires some { some ≤ length window.now }
