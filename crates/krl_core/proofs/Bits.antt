@@ -20,6 +20,7 @@ use Rattle.krl_core.specs.Keeping.{Keeping, IsKept, AddsEntries, Adds, InStep, K
 use Rattle.ssh_wire.specs.Wire.{number_of}
 use Rattle.krl_core.specs.declared.place.Place.TheVariants.{BitmapByte}
 use Rattle.krl_core.specs.Place.{base_of, bits_judged, judge, next_bits, next_subsection, passes_end, highest_bit}
+use Rattle.serial_set.proofs.Rising.{names_append as either, names_left, names_right}
 use Rattle.krl_core.proofs.Same.{AreSerials, serials_append, same_serials, same_append, same_refl, same_is, same_then, same_swap, some_append}
 use Rattle.krl_core.proofs.Keeping.{open_entries}
 use Rattle.krl_core.proofs.Quiet.{out_step, out_subsection}
@@ -27,18 +28,8 @@ use Rattle.krl_core.proofs.Quiet.{out_step, out_subsection}
 -- ---- runs by the numbers in them
 
 names_append : (xs ys : List Span) (s : ℕ) → Covers (xs ++ ys) s ↔ (Covers xs s ⊎ Covers ys s)
-names_append [] ys s = (λ h. inr h, λ h. elim h [ inl none ↦ absurd none | inr k ↦ k ])
-names_append (x ∷ xs) ys s =
-    let more = names_append xs ys s in (
-      λ h. elim h [
-        | inl here ↦ inl (inl here)
-        | inr later ↦ elim (more.0 later) [ inl k ↦ inl (inr k) | inr k ↦ inr k ]
-      ],
-      λ h. elim h [
-        | inl k ↦ elim k [ inl here ↦ inl here | inr later ↦ inr (more.1 (inl later)) ]
-        | inr k ↦ inr (more.1 (inr k))
-      ],
-    )
+names_append xs ys s =
+    (either xs ys s, λ h. elim h [ inl l ↦ names_left xs ys s l | inr r ↦ names_right xs ys s r ])
 
 names_reverse : (xs : List Span) (s : ℕ) → Covers (reverse xs) s ↔ Covers xs s
 names_reverse [] s = (λ h. h, λ h. h)
@@ -196,23 +187,24 @@ bits_held old mid new byte finished fed contents h =
 
 -- ---- a byte that passes its judgement shows no fault
 
-pub highest_above : (byte : ℕ) → byte < 256 → byte < 2 ^ (highest_bit byte + 1)
-highest_above byte h =
+-- a number that is not 0 is no less than its highest bit, and a byte is below twice that
+pub highest_around : (byte : ℕ) → (0 < byte → 2 ^ highest_bit byte ≤ byte) × (byte < 256 → byte < 2 ^ (highest_bit byte + 1))
+highest_around byte =
     elim (cases_lt byte 2) [
-      | inl a ↦ rw (lt-ltb byte 2 a) (omega arith)
+      | inl a ↦ rw (lt-ltb byte 2 a) (λ some. omega arith, λ small. omega arith)
       | inr a' ↦ rw (le-ltb byte 2 a') (elim (cases_lt byte 4) [
-        | inl a ↦ rw (lt-ltb byte 4 a) (omega arith)
+        | inl a ↦ rw (lt-ltb byte 4 a) (λ some. omega arith, λ small. omega arith)
         | inr b' ↦ rw (le-ltb byte 4 b') (elim (cases_lt byte 8) [
-          | inl a ↦ rw (lt-ltb byte 8 a) (omega arith)
+          | inl a ↦ rw (lt-ltb byte 8 a) (λ some. omega arith, λ small. omega arith)
           | inr c' ↦ rw (le-ltb byte 8 c') (elim (cases_lt byte 16) [
-            | inl a ↦ rw (lt-ltb byte 16 a) (omega arith)
+            | inl a ↦ rw (lt-ltb byte 16 a) (λ some. omega arith, λ small. omega arith)
             | inr d' ↦ rw (le-ltb byte 16 d') (elim (cases_lt byte 32) [
-              | inl a ↦ rw (lt-ltb byte 32 a) (omega arith)
+              | inl a ↦ rw (lt-ltb byte 32 a) (λ some. omega arith, λ small. omega arith)
               | inr e' ↦ rw (le-ltb byte 32 e') (elim (cases_lt byte 64) [
-                | inl a ↦ rw (lt-ltb byte 64 a) (omega arith)
+                | inl a ↦ rw (lt-ltb byte 64 a) (λ some. omega arith, λ small. omega arith)
                 | inr f' ↦ rw (le-ltb byte 64 f') (elim (cases_lt byte 128) [
-                  | inl a ↦ rw (lt-ltb byte 128 a) (omega arith)
-                  | inr g' ↦ rw (le-ltb byte 128 g') (omega arith)
+                  | inl a ↦ rw (lt-ltb byte 128 a) (λ some. omega arith, λ small. omega arith)
+                  | inr g' ↦ rw (le-ltb byte 128 g') (λ some. omega arith, λ small. omega arith)
                 ])
               ])
             ])
@@ -224,7 +216,7 @@ highest_above byte h =
 pub bit_below : (byte i : ℕ) → byte < 256 → bit_at byte i ≡ 1 → i ≤ highest_bit byte
 bit_below byte i h b =
     elim (cases_lt (highest_bit byte) i) [
-      | inl above ↦ let none = bit_at_above byte (highest_bit byte + 1) i (highest_above byte h) (omega arith) in absurd (omega (arith, none, b))
+      | inl above ↦ let none = bit_at_above byte (highest_bit byte + 1) i ((highest_around byte).1 h) (omega arith) in absurd (omega (arith, none, b))
       | inr below ↦ below
     ]
 

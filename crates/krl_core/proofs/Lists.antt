@@ -17,7 +17,7 @@ use Rattle.krl_core.specs.Place.{due}
 use Rattle.krl_core.specs.Reading.{IsWhole, IsList}
 use Rattle.krl_core.proofs.Fields.{completes}
 use Rattle.krl_core.proofs.Rests.{FromText, FromFormat}
-use Rattle.krl_core.proofs.Whole.{means_same}
+use Rattle.krl_core.proofs.SameMeaning.{same_meaning}
 
 -- the fields of a header and what follows it, one after the other
 pub header_parts : (header : Header) (flags : ℕ) (reserved rest : List ℕ) → header_text header flags reserved ++ rest
@@ -91,7 +91,7 @@ list_of_whole text header contents h =
       sections = k.sections;
       spelled = subst (λ (x : Header). Spells text x k.sections) (sym h.header_is) at_text;
       within = h.within;
-      means = means_same contents h.spot.entries (entries_of k.sections) h.means k.named;
+      means = same_meaning contents h.spot.entries (entries_of k.sections) h.means k.named;
       held_is = h.held_is;
       stored_is = h.stored_is;
     }

@@ -17,7 +17,7 @@ use Rattle.std.proofs.Math.Nat.{div-eq_of_lt-le}
 use Rattle.std.proofs.lemmas.Nat.{pow-add}
 use Rattle.std.proofs.lemmas.Nat.Bits.{bit_at_above, bit_at_cat_low, bit_at_cat_high}
 use Rattle.krl_core.proofs.Bitmaps.{number_of-byte, low_more, low_none}
-use Rattle.krl_core.proofs.Bits.{highest_above}
+use Rattle.krl_core.proofs.Bits.{highest_around}
 use Rattle.krl_core.proofs.Completes.{length-string}
 use Rattle.krl_core.proofs.Fronts.{first_fault_is}
 use Rattle.krl_core.proofs.Goes.{Goes, goes_none, goes_one, goes_then, goes_from, arrives}
@@ -185,37 +185,12 @@ eights n m e = omega (arith, e)
 
 -- ---- the bytes of a bitmap
 
-highest_below : (byte : ℕ) → 0 < byte → 2 ^ highest_bit byte ≤ byte
-highest_below byte h =
-    elim (cases_lt byte 2) [
-      | inl a ↦ rw (lt-ltb byte 2 a) (omega arith)
-      | inr a' ↦ rw (le-ltb byte 2 a') (elim (cases_lt byte 4) [
-        | inl a ↦ rw (lt-ltb byte 4 a) (omega arith)
-        | inr b' ↦ rw (le-ltb byte 4 b') (elim (cases_lt byte 8) [
-          | inl a ↦ rw (lt-ltb byte 8 a) (omega arith)
-          | inr c' ↦ rw (le-ltb byte 8 c') (elim (cases_lt byte 16) [
-            | inl a ↦ rw (lt-ltb byte 16 a) (omega arith)
-            | inr d' ↦ rw (le-ltb byte 16 d') (elim (cases_lt byte 32) [
-              | inl a ↦ rw (lt-ltb byte 32 a) (omega arith)
-              | inr e' ↦ rw (le-ltb byte 32 e') (elim (cases_lt byte 64) [
-                | inl a ↦ rw (lt-ltb byte 64 a) (omega arith)
-                | inr f' ↦ rw (le-ltb byte 64 f') (elim (cases_lt byte 128) [
-                  | inl a ↦ rw (lt-ltb byte 128 a) (omega arith)
-                  | inr g' ↦ rw (le-ltb byte 128 g') (omega arith)
-                ])
-              ])
-            ])
-          ])
-        ])
-      ])
-    ]
-
 -- the highest bit that is set is set
 highest_set : (byte : ℕ) → 0 < byte → byte < 256 → bit_at byte (highest_bit byte) ≡ 1
 highest_set byte pos lt =
     let j = highest_bit byte in
-    let low = highest_below byte pos in
-    let high = highest_above byte lt in
+    let low = (highest_around byte).0 pos in
+    let high = (highest_around byte).1 lt in
     let one : 1 * 2 ^ j ≤ byte = omega (arith, low) in
     let double : 2 ^ (j + 1) ≡ 2 * 2 ^ j = pow-add 2 j 1 ∙ (let e : 2 ^ j * 2 ^ 1 ≡ 2 * 2 ^ j = omega arith in e) in
     let two : byte < (1 + 1) * 2 ^ j = omega (arith, high, double) in

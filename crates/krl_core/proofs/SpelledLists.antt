@@ -153,9 +153,15 @@ not_some : (fault : KrlFault) → Some fault ≡ None → ⊥
 not_some fault e = cc
 
 -- what is spelled is refused only where memory ran out or the reader failed
+-- of a list that is spelled nothing else is said than that memory ran out or that the reader failed
+pub only_broken_off : (fault : KrlFault) (failed : Bool) (text : List ℕ) (header : Header) (sections : List Section) → Says fault text failed → IsBytes text → Spells text header sections → length text ≤ limit
+    → (fault ≡ faults.NoMemory) ⊎ ((fault ≡ faults.Read) × (failed ≡ true))
+only_broken_off fault failed text header sections (starved is) fits h le = inl is
+only_broken_off fault failed text header sections (failed_read is given) fits h le = inr (is, given.failed_is)
+only_broken_off fault failed text header sections (first told works) fits h le =
+    absurd (not_some fault (one_told text (Some fault) None told (spelled_unfaulted text header sections fits h le)))
+
 pub only_starved : (fault : KrlFault) (failed : Bool) (text : List ℕ) (header : Header) (sections : List Section) → Says fault text failed → IsBytes text → Spells text header sections → length text ≤ limit
     → (fault ≡ faults.NoMemory) ⊎ (fault ≡ faults.Read)
-only_starved fault failed text header sections (starved is) fits h le = inl is
-only_starved fault failed text header sections (failed_read is given) fits h le = inr is
-only_starved fault failed text header sections (first told works) fits h le =
-    absurd (not_some fault (one_told text (Some fault) None told (spelled_unfaulted text header sections fits h le)))
+only_starved fault failed text header sections says fits h le =
+    elim (only_broken_off fault failed text header sections says fits h le) [ inl memory ↦ inl memory | inr read ↦ inr read.0 ]

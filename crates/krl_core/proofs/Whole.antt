@@ -18,6 +18,7 @@ use Rattle.krl_core.specs.Place.{due}
 use Rattle.krl_core.specs.Reading.{Position, HasRead, Follows, IsBounded, IsSound, IsWhole}
 use Rattle.krl_core.proofs.Exists.{weight, nearer}
 use Rattle.krl_core.proofs.Fronts.{first_fault_is}
+use Rattle.krl_core.proofs.SameMeaning.{same_meaning}
 use Rattle.krl_core.proofs.Same.{same_is, same_sym, same_then}
 
 -- some fields of what the reader had were read, without a fault
@@ -32,20 +33,6 @@ pub step_nearer : (old new : Position) → Follows old new
 step_nearer old new h =
     let near = nearer old.place new.place h.field h.passes.judged in
     omega (arith, near, h.taken, h.within, h.passes.whole)
-
-iff_then : {A B C : Type 0} → (A ↔ B) → (B ↔ C) → (A ↔ C)
-iff_then h k = (λ x. k.0 (h.0 x), λ x. h.1 (k.1 x))
-
--- what names the same is meant too
-pub means_same : (r : Contents) (xs ys : List Entry) → Means r xs → NamesSame xs ys → Means r ys
-means_same r xs ys h k = record {
-  orderly = h.orderly;
-  serials = λ a s. iff_then (h.serials a s) (k.serials a s);
-  ids = λ a text. iff_then (h.ids a text) (k.ids a text);
-  keys = λ blob. iff_then (h.keys blob) (k.keys blob);
-  sha1s = λ hash. iff_then (h.sha1s hash) (k.sha1s hash);
-  sha256s = λ hash. iff_then (h.sha256s hash) (k.sha256s hash);
-}
 
 -- where the list may end no run is open
 pub none_open : (p : Place) (keeping : Keeping) → (due p).may_end ≡ true → InStep p keeping.bitmap → keeping.bitmap.pending ≡ None
@@ -68,7 +55,7 @@ whole_list text fields p sound h all may =
       are_bytes = subst IsBytes (sym all) h.are_bytes;
       may_end = subst (λ (q : Place). (due q).may_end ≡ true) h.place_is may;
       header_is = h.header_is;
-      means = means_same p.keeping.contents h.kept.closed h.spot.entries h.kept.means
+      means = same_meaning p.keeping.contents h.kept.closed h.spot.entries h.kept.means
           (subst (λ (xs : List Entry). NamesSame xs h.spot.entries) open_none h.kept.same);
       held_is = omega (arith, sound.bounded.held_is, size);
       stored_is = omega (arith, sound.bounded.stored_is.now, size);

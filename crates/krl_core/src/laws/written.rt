@@ -1,6 +1,6 @@
 // Laws of the lists that are written. Each function does nothing: its contract is the law.
 
-ghost use Rattle.std.specs.Prelude.{◌≡◌, ◌≤◌, ◌<◌, ◌+◌, ◌*◌, ◌^◌, ℕ, List, None, length};
+ghost use Rattle.std.specs.Prelude.{◌≡◌, ◌≤◌, ◌<◌, ◌*◌, ◌^◌, ◌⊎◌, ℕ, Bool, true, List, None, length};
 ghost use Rattle.serial_set.specs.declared.span.Span.{Span};
 ghost use Rattle.serial_set.specs.Span.{IsRuns};
 ghost use Rattle.ssh_wire.specs.Wire.{IsBytes};
@@ -12,7 +12,9 @@ ghost use Rattle.krl_core.specs.Krl.{Section, Spells};
 ghost use Rattle.krl_core.specs.Entries.{entries_of};
 ghost use Rattle.krl_core.specs.KrlText.{EachPlan, IsKrlText, sections_of, text_of};
 ghost use Rattle.krl_core.specs.Plan.{IsCheapest, IsLeastPlan, IsPlan, cost};
-ghost use Rattle.krl_core.specs.Reading.{IsList};
+ghost use Rattle.krl_core.specs.declared.krl_fault.KrlFault.{KrlFault};
+ghost use Rattle.krl_core.specs.declared.krl_fault.KrlFault.TheVariants.{NoMemory, Read};
+ghost use Rattle.krl_core.specs.Reading.{IsList, Says};
 ghost use Rattle.krl_core.specs.Size.{text_size};
 ghost use Rattle.krl_core.specs.Written.{plan_text};
 
@@ -62,12 +64,18 @@ pub fn written_list_is_read_back()
         → IsList text read held → (read ≡ header) × (held ≡ r) }
 {}
 
-/// A list that was written has no fault, so that reading it fails only where memory runs out or the
-/// reader fails.
+/// A list that was written has no fault. What is said of it where it is not read is that memory ran
+/// out, or that the reader failed.
 pub fn written_list_has_no_fault()
-    ensures { (header : Header) (r : Contents) (text : List ℕ) → IsKrlText header r text
-        → length text ≤ limit → header.version < 2 ^ 64 → header.date < 2 ^ 64 → IsOrderly r
+    ensures unfaulted { (header : Header) (r : Contents) (text : List ℕ)
+        → IsKrlText header r text → length text ≤ limit
+        → header.version < 2 ^ 64 → header.date < 2 ^ 64 → IsOrderly r
         → IsBytes text → IsFirstFault text None }
+    ensures refused { (header : Header) (r : Contents) (text : List ℕ)
+        → IsKrlText header r text → length text ≤ limit
+        → header.version < 2 ^ 64 → header.date < 2 ^ 64 → IsOrderly r
+        → IsBytes text → (fault : KrlFault) (failed : Bool) → Says fault text failed
+        → (fault ≡ NoMemory) ⊎ ((fault ≡ Read) × (failed ≡ true)) }
 {}
 
 /// The exact length of a list that is written: its parts and what its plans cost.
