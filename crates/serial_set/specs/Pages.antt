@@ -1,5 +1,5 @@
 -- What a new span leaves of a list of spans, and where a list ends.
-use Rattle.std.specs.Prelude.{◌≡◌, ℕ, ◌+◌, ◌≤◌, ◌<◌, ◌⊎◌, List, [], ◌∷◌, ◌++◌, Option, Some, None, nat_lt, filter, max, All, length, take, drop}
+use Rattle.std.specs.Prelude.{◌≡◌, ℕ, ◌+◌, ◌≤◌, ◌<◌, ◌⊎◌, List, [], ◌∷◌, ◌++◌, Option, Some, None, nat_lt, filter, max, All, length, take, drop, slice_index_or}
 use Rattle.std.specs.List.{flat_map}
 use Rattle.std.proofs.Common.{arith, length-append, length-drop}
 use Rattle.serial_set.specs.declared.span.Span.{Span}
@@ -52,6 +52,14 @@ pub record IsWidened (spans : List Span) (lo hi : ℕ) (new : Span) : Type 0 whe
   pub apart : All (λ span. (span.hi + 1 < new.lo)
       ⊎ (((new.lo ≤ span.lo) × (span.hi ≤ new.hi)) ⊎ (new.hi + 1 < span.lo))) spans
   pub joins : (s : ℕ) → new.lo ≤ s → s ≤ new.hi → Covers spans s ⊎ ((lo ≤ s) × (s ≤ hi))
+
+-- one of the parts in a row has room, and a span at a number would stand in it
+pub record HasRoomFor {X : Type 0} (spans_in : X → List Span) (HasRoom : X → ℕ → Type 0) (parts : List X) (number : ℕ) : Type 0 where
+  pub at : ℕ
+  pub within : at < length parts
+  pub before : All (λ t. t.hi < number) (flat_map spans_in (take at parts))
+  pub rest : All (λ t. number ≤ t.lo) (flat_map spans_in (drop (at + 1) parts))
+  pub room : (d : X) → HasRoom (slice_index_or parts at d) number
 
 -- parts in a row have a span, where no part is empty and there is one
 pub flat_some : {X : Type 0} (f : X → List Span) → ((x : X) → 0 < length (f x)) → (xs : List X)

@@ -63,6 +63,8 @@ impl Part for Page {
 
     ghost is_full = { λ page. nat_le 256 (vec_len page.items - page.gap) };
 
+    ghost has_room = { λ page _. vec_len page.items - page.gap < 256 };
+
     ghost filled = { λ page. spans_some page.items.items page.gap page.filled };
 
     fn of(alloc: Global, span: Span) -> Result<Page, AllocError> {
@@ -133,7 +135,11 @@ impl Part for Page {
         Ok(back)
     }
 
+    // Its shelf has split it by then, if it was full.
     fn make_room(&mut self, _lo: u64) -> Result<(), AllocError> {
+        if self.is_full() {
+            return Err(AllocError);
+        }
         Ok(())
     }
 }

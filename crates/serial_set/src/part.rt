@@ -1,4 +1,4 @@
-ghost use Rattle.std.specs.Prelude.{◌≡◌, ◌+◌, ◌^◌, ◌<◌, ◌≤◌, ◌⊎◌, ◌++◌, [], ◌∷◌, List, Bool, false, length, take, drop, All, IsTrue, IfOk, OnOk, OnErr};
+ghost use Rattle.std.specs.Prelude.{ℕ, ◌≡◌, ◌+◌, ◌^◌, ◌<◌, ◌≤◌, ◌⊎◌, ◌++◌, [], ◌∷◌, List, Bool, false, length, take, drop, All, IsTrue, IfOk, OnOk, OnErr};
 ghost use Rattle.serial_set.specs.declared.span.Span.{Span};
 ghost use Rattle.serial_set.specs.Span.{IsRuns, TouchesNone};
 ghost use Rattle.serial_set.specs.Pages.{above, replaced, CutsNone, MissesAll, end_of, IsFirstFrom};
@@ -11,6 +11,9 @@ pub trait Part: Drop {
     ghost spans: { Self → List Span };
 
     ghost is_full: { Self → Bool };
+
+    // Whether one more span fits where one at a number would stand.
+    ghost has_room: { Self → ℕ → Type 0 };
 
     /// One span alone.
     fn of(alloc: Global, span: Span) -> Result<Self, AllocError>
@@ -84,7 +87,8 @@ pub trait Part: Drop {
     fn make_room(&mut self, lo: u64) -> Result<(), AllocError>
         requires runs { IsRuns (spans self.old) }
         requires positive { 0 < lo }
-        ensures { spans self.new ≡ spans self.old };
+        ensures same { spans self.new ≡ spans self.old }
+        ensures room { OnOk result (has_room self.new lo) };
 
     // No part is empty.
     ghost filled: { (part : Self) → 0 < length (spans part) };

@@ -3,7 +3,7 @@ ghost use Rattle.std.specs.Prelude.{◌≡◌, ◌+◌, ◌^◌, ◌<◌, ◌≤
 ghost use Rattle.std.specs.List.{flat_map};
 ghost use Rattle.std.specs.Vec.{vec_len};
 ghost use Rattle.serial_set.specs.Span.{IsRuns, TouchesNone};
-ghost use Rattle.serial_set.specs.Pages.{above, replaced, CutsNone, MissesAll, end_of};
+ghost use Rattle.serial_set.specs.Pages.{above, replaced, CutsNone, MissesAll, end_of, HasRoomFor};
 
 use crate::part::Part;
 use crate::parts::{cut_from, part_for};
@@ -105,6 +105,7 @@ pub fn make_room_in<P: Part>(parts: &mut Vec<P>, lo: u64) -> Result<(), AllocErr
     requires positive { 0 < lo }
     ensures same { flat_map P.spans parts.new.items ≡ flat_map P.spans parts.old.items }
     ensures some { 0 < length parts.new.items }
+    ensures room { OnOk result (HasRoomFor P.spans P.has_room parts.new.items lo) }
 {
     let full = part_for(parts, lo);
     split_full(parts, full, lo)?;

@@ -2,7 +2,7 @@ ghost use Rattle.std.specs.Prelude.{◌≡◌, ◌+◌, ◌^◌, ◌<◌, ◌≤
 ghost use Rattle.std.specs.List.{flat_map};
 ghost use Rattle.std.specs.Vec.{vec_len, vec_capacity};
 ghost use Rattle.serial_set.specs.Span.{IsRuns};
-ghost use Rattle.serial_set.specs.Pages.{above, end_of, flat_some};
+ghost use Rattle.serial_set.specs.Pages.{above, end_of, flat_some, HasRoomFor};
 
 use crate::part::Part;
 use crate::parts::{cut_from, locate, part_for, parts_ending_by, span_count};
@@ -27,6 +27,8 @@ pub struct Shelf<P: Part> {
 
 impl<P: Part> Part for Shelf<P> {
     ghost spans = { λ shelf. flat_map P.spans shelf.parts.items };
+
+    ghost has_room = { λ shelf lo. HasRoomFor P.spans P.has_room shelf.parts.items lo };
 
     ghost is_full = { λ shelf. nat_le 512 (vec_len shelf.parts) };
 
