@@ -1,1 +1,4 @@
+pub mod Options
+pub mod Given
+pub mod Job
 pub mod Command

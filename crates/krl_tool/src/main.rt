@@ -5,8 +5,12 @@ ghost use Rattle.std.specs.Prelude.{◌≡◌, None, Some};
 ghost use Rattle.krl_tool.specs.Command.{command_fault_status};
 
 mod command;
+mod given;
+mod job;
+mod options;
 
-use crate::command::{CommandFault, Job, Mode, command_of};
+use crate::command::{CommandFault, command_of};
+use crate::job::{Job, Mode};
 use krl_runs::{
     Cause, Done, FAILED, FileFault, Named, RunFault, fault_text, list_run, load, query_run,
 };
@@ -52,6 +56,7 @@ fn fault_of_words(error: &io::Error) -> CommandFault {
 fn run_job(rt: &HostRuntime, job: &Job) -> u8 {
     match job.mode {
         Mode::Keys => list_keys(rt, job),
+        Mode::Certs | Mode::Make => refuse(rt, &CommandFault::Usage),
         Mode::Query => ask_list(rt, job),
     }
 }

@@ -1,0 +1,77 @@
+-- The options that the program has (ssh-keygen(1), SYNOPSIS), and what words hold of them.
+use Rattle.std.specs.Prelude.{ℕ, Bool, false, List, [], ◌∷◌, Option, Some, codes, unwrap_or}
+use Rattle.std.specs.Option.{option_map_or}
+use Rattle.std.specs.Str.{bytes_eq}
+use Rattle.clap.specs.Lexer.{usize_max}
+use Rattle.clap.specs.Simple.{App, matches_of, new_rule, new_shape}
+use Rattle.clap.specs.Walk.{Row, Rule, all_of, first_of}
+use Rattle.clap.specs.declared.builder.action.ArgAction.TheVariants.{Append, Set, SetTrue}
+
+-- an option without a value, by its letter
+abbrev pub flag_rule : List ℕ → ℕ → Rule
+flag_rule id letter = record (new_rule id) { short = Some letter; action = Some SetTrue }
+
+-- an option with one value
+abbrev pub value_rule : List ℕ → ℕ → Rule
+value_rule id letter =
+    record (new_rule id) { short = Some letter; action = Some Set; value_names = 1 }
+
+-- any number of files
+abbrev pub files_rule : Rule
+files_rule = record (new_rule (codes "files")) {
+  action = Some Append;
+  range = Some (record { start_inclusive = 0; end_inclusive = usize_max });
+  value_names = 1;
+}
+
+-- -l, -L, -k, -Q, -f, -E, -u, -s and -z
+abbrev pub rules : List Rule
+rules =
+    flag_rule (codes "list") 108
+    ∷ flag_rule (codes "certificates") 76
+    ∷ flag_rule (codes "make") 107
+    ∷ flag_rule (codes "query") 81
+    ∷ value_rule (codes "file") 102
+    ∷ value_rule (codes "hash") 69
+    ∷ flag_rule (codes "update") 117
+    ∷ value_rule (codes "authority") 115
+    ∷ value_rule (codes "version") 122
+    ∷ files_rule ∷ []
+
+abbrev pub program : App
+program = record { top = record (new_shape (codes "ssh-keygen")) { rules = rules }; subs = [] }
+
+-- What words hold: which of the options without a value are given, the values of the others, and
+-- the files.
+pub record Given : Type 0 where
+  pub list : Bool
+  pub certificates : Bool
+  pub make : Bool
+  pub query : Bool
+  pub update : Bool
+  pub file : Option (List ℕ)
+  pub hash : Option (List ℕ)
+  pub authority : Option (List ℕ)
+  pub version : Option (List ℕ)
+  pub files : List (List ℕ)
+
+abbrev pub is_set : List ℕ → List Row → Bool
+is_set id rows = option_map_or (λ text. bytes_eq text (codes "true")) (first_of id rows) false
+
+abbrev pub given_of : List Row → Given
+given_of rows = record {
+  list = is_set (codes "list") rows;
+  certificates = is_set (codes "certificates") rows;
+  make = is_set (codes "make") rows;
+  query = is_set (codes "query") rows;
+  update = is_set (codes "update") rows;
+  file = first_of (codes "file") rows;
+  hash = first_of (codes "hash") rows;
+  authority = first_of (codes "authority") rows;
+  version = first_of (codes "version") rows;
+  files = unwrap_or (all_of (codes "files") rows) [];
+}
+
+-- what these words hold, the program's name before them
+unfoldable pub given_in : List (List ℕ) → Given
+given_in words = given_of (matches_of program words)
