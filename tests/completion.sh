@@ -1,0 +1,42 @@
+# What bash is offered for the words of the command.
+
+touch one.pub two.krl 'a b.pub'
+
+# offers NAME WANTED WORD..: for the last of the words bash is offered just the wanted ones.
+offers() {
+  local name=$1 wanted=$2 got
+  shift 2
+  got=$(bash --norc -c '. "$0" && COMP_WORDS=("$@") COMP_CWORD=$(($# - 1)) &&
+    _krl_keygen && printf "%s\n" "${COMPREPLY[@]}"' \
+    "$top/completions/ssh-keygen.bash" ssh-keygen "$@" 2>&1 | sort | paste -sd ,)
+  judge "bash is offered $name" "$(differs words "$wanted" "$got")"
+}
+every=$(printf '%s\n' 'a b.pub' one.pub two.krl | sort | paste -sd ,)
+offers 'all options to begin with' -E,-L,-Q,-f,-h,-k,-l,-s,-u,-z -
+offers 'no file before the mode is known' '' ''
+offers 'the options of a listing' -E,-Q,-f -l -
+offers 'no mode that does not fit a hash' -L,-f,-l -E md5 -
+offers 'the options of certificates' -E,-f -L -
+offers 'no option twice' -f -L -E md5 -
+offers 'the options of a list to make' -f,-s,-u,-z -k -
+offers 'what is left of them' -s,-z -kuf two.krl -
+offers 'the options of a question' -f,-l -Q -
+offers 'what is left of those' '' -Qlf two.krl -
+offers 'how a list is made, where an authority is given' -f,-k,-u,-z -s none -
+offers 'the modes after a file' -E,-L,-Q,-k,-l,-s,-u,-z -f one.pub -
+offers 'hashes' md5,sha256 -l -E ''
+offers 'the hash that was begun' sha256 -l -E s
+offers 'files where the file stands' "$every" -l -f ''
+offers 'the file that was begun' one.pub -Qf o
+offers 'a file with a blank' 'a b.pub' -Q -f a
+offers 'no number' '' -k -z ''
+offers 'authorities' "$(printf '%s\n' none 'a b.pub' one.pub two.krl | sort | paste -sd ,)" -k -s ''
+offers 'the authority that was begun' none -k -s n
+offers 'another authority' one.pub -k -s o
+offers 'files to ask about' "$every" -Q -f two.krl ''
+offers 'files to make a list of' "$every" -k -f two.krl one.pub ''
+offers 'no file after a listing' '' -l -f one.pub ''
+offers 'no option after two hyphens' '' -Q -f two.krl -- -
+got=$(bash --norc -c '. "$0" && complete -p ssh-keygen' "$top/completions/ssh-keygen.bash")
+judge 'bash asks for the words of the program' \
+  "$(differs 'what is said of it' 'complete -F _krl_keygen ssh-keygen' "$got")"
