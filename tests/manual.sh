@@ -1,0 +1,24 @@
+# The manual page: well formed, with the forms of use that --help tells, and examples that were run.
+
+. "$tests/needs.sh"
+. "$tests/transcript.sh"
+page=$top/docs/ssh-keygen.1
+
+need mandoc mandoc || judge 'mandoc is there' '  install it, on Debian by apt-get install mandoc'
+# Which other pages are installed is no matter of this one.
+judge 'mandoc finds nothing in the manual page' \
+  "$(mandoc -T lint "$page" 2>&1 | grep -v -e 'referenced manual not found' -e 'outdated mandoc.db')"
+
+# rendered SECTION: the text of a section of the page, without its indentation.
+rendered() {
+  mandoc -T ascii -O width=200 "$page" | sed 's/.\x08//g' |
+    awk -v section="$1" '/^[A-Z]/ { on = $0 == section; next } on && NF { sub(/^ +/, ""); print }'
+}
+told=$("$program" --help |
+  awk '/^Usage:/ { on = 1; sub(/^Usage:/, "") } on && !NF { exit } on { sub(/^ +/, ""); print }')
+judge 'the synopsis is what --help tells' "$(differs 'forms of use' "$told" "$(rendered SYNOPSIS)")"
+
+cp -r "$top/demo" demo && cd demo || exit 1
+transcript 'the examples of the manual page' < <(sed -n '/^\.Sh EXAMPLES/,/^\.Sh DIAGNOSTICS/p' "$page" |
+  awk '/^\.Bd/ { on = 1; next } /^\.Ed/ { on = 0 } on' | sed 's/\\e/\\/g')
+cd ..

@@ -1,0 +1,27 @@
+# Examples of documents, run as they stand there.
+
+# transcript NAME: standard input has lines that begin with '$ ', each followed by what it prints. They
+# are run in one shell in the folder at hand, where the program is ssh-keygen. Times may differ.
+transcript() {
+  local wanted got
+  wanted=$(timeless)
+  mkdir -p "$scratch/bin" && ln -sfn "$program" "$scratch/bin/ssh-keygen"
+  got=$(PATH=$scratch/bin:$PATH follow <<<"$wanted" | timeless)
+  judge "$1" "$(diff <(printf '%s\n' "$wanted") <(printf '%s\n' "$got"))"
+}
+
+timeless() {
+  sed 's/^# Generated at .*/# Generated at TIME/'
+}
+
+# Each command of the transcript, and below it what it prints now.
+follow() {
+  local line status=0
+  while IFS= read -r line; do
+    [[ $line == '$ '* ]] || continue
+    printf '%s\n' "$line"
+    # The first command sees the status of the one before it.
+    eval "(exit $status)"$'\n'"${line:2}" 2>&1 </dev/null
+    status=$?
+  done
+}
