@@ -1,6 +1,8 @@
 PREFIX = /usr/local
+# The name under which the program is installed; beside OpenSSH's, krl-keygen is a good one.
+NAME = ssh-keygen
 
-.PHONY: build test bench install
+.PHONY: build test bench install uninstall deb
 
 # Proves and builds the program.
 build:
@@ -14,6 +16,14 @@ test:
 bench: build
 	bench/run
 
-# The built program alone: it needs nothing of this folder.
+# The built program, its manual page and its completions: they need nothing of this folder. A program
+# that is not ours is left as it is, unless FORCE=1 is given.
 install: build
-	install -D built/ssh-keygen $(DESTDIR)$(PREFIX)/bin/ssh-keygen
+	packaging/install '$(DESTDIR)' '$(PREFIX)' '$(NAME)' '$(FORCE)'
+
+uninstall:
+	packaging/uninstall '$(DESTDIR)' '$(PREFIX)' '$(NAME)'
+
+# A Debian package krl-keygen, beside OpenSSH's ssh-keygen.
+deb: build
+	packaging/deb

@@ -1,0 +1,68 @@
+# make install, make uninstall and make deb, into folders of the tests' own.
+
+root=$scratch/root
+# made NAME STATUS TARGET WORD..: make ends with this status.
+made() {
+  local name=$1 wanted=$2 got
+  shift 2
+  PROGRAM=$binary make -s -C "$top" -o build "$@" DESTDIR="$root" >"$scratch/output" 2>&1
+  got=$?
+  judge "$name" "$(differs 'exit status' "$wanted" $got; [ $got = "$wanted" ] || cat "$scratch/output")"
+}
+# runs NAME PROGRAM: the program that was installed answers.
+runs() {
+  program=$2 expect "$1" 1 "$top/demo/g.pub: REVOKED"$'\n' '' -Q -f "$top/demo/r.krl" "$top/demo/g.pub"
+}
+# holds NAME FILE..: just these files are there.
+holds() {
+  judge "$1" "$(differs files "$(printf '%s\n' "${@:2}" | sort)" "$(cd "$root" && find . -type f | sort)")"
+}
+# of NAME PREFIX: the files that are installed.
+of() {
+  printf "./$2/%s\n" "bin/$1" "share/man/man1/$1.1" "share/bash-completion/completions/$1" \
+    "share/zsh/site-functions/_$1" "share/fish/vendor_completions.d/$1.fish" "share/krl-keygen/$1.sha256"
+}
+
+made 'make install' 0 install
+holds 'what is installed' $(of ssh-keygen usr/local)
+runs 'the installed program' "$root/usr/local/bin/ssh-keygen"
+judge 'the manual page is installed' "$(cmp "$top/docs/ssh-keygen.1" "$root/usr/local/share/man/man1/ssh-keygen.1" 2>&1)"
+made 'make install once more' 0 install
+made 'make install under another name' 0 install PREFIX=/opt/krl NAME=krl-keygen
+runs 'the program of another name' "$root/opt/krl/bin/krl-keygen"
+holds 'what is installed by then' $(of ssh-keygen usr/local) $(of krl-keygen opt/krl)
+judge 'the manual page has the other name' \
+  "$(grep -n -e 'Nm ssh-keygen' -e 'SSH-KEYGEN' -e '[$|].* ssh-keygen -' "$root/opt/krl/share/man/man1/krl-keygen.1")"
+for file in bash-completion/completions/krl-keygen zsh/site-functions/_krl-keygen \
+  fish/vendor_completions.d/krl-keygen.fish; do
+  judge "the other name in $file" "$(grep -n ssh-keygen "$root/opt/krl/share/$file")"
+done
+made 'make uninstall of another name' 0 uninstall PREFIX=/opt/krl NAME=krl-keygen
+holds 'what is left' $(of ssh-keygen usr/local)
+made 'make uninstall of what is not there' 2 uninstall PREFIX=/opt/krl NAME=krl-keygen
+
+echo changed >>"$root/usr/local/share/man/man1/ssh-keygen.1"
+made 'make install over a page that was changed' 2 install
+made 'make uninstall of the rest' 0 uninstall
+holds 'the page that was changed' ./usr/local/share/man/man1/ssh-keygen.1
+rm -r "$root"
+
+mkdir -p "$root/usr/bin" && echo another >"$root/usr/bin/ssh-keygen"
+made 'make install over another program' 2 install PREFIX=/usr
+judge 'the other program and where it stands are told' \
+  "$(grep -q "^packaging/install: $root/usr/bin/ssh-keygen$" "$scratch/output" || cat "$scratch/output")"
+judge 'the other program is left' "$(differs content another "$(cat "$root/usr/bin/ssh-keygen")")"
+holds 'nothing beside the other program' ./usr/bin/ssh-keygen
+made 'make install over another program where it is told to' 0 install PREFIX=/usr FORCE=1
+runs 'the program in place of the other' "$root/usr/bin/ssh-keygen"
+rm -r "$root"
+
+PROGRAM=$binary "$top/packaging/deb" "$scratch" >"$scratch/output" 2>&1
+judge 'a Debian package is made' "$([ $? = 0 ] || cat "$scratch/output")"
+package=$(tail -n 1 "$scratch/output")
+judge 'the name of the package' "$(differs name krl-keygen "$(dpkg-deb --field "$package" Package 2>&1)")"
+dpkg-deb --extract "$package" "$root"
+runs 'the program of the package' "$root/usr/bin/krl-keygen"
+holds 'what the package holds' $(of krl-keygen usr | grep -v -e sha256 -e /man1/) \
+  ./usr/share/man/man1/krl-keygen.1.gz ./usr/share/doc/krl-keygen/README.md
+rm -r "$root"
