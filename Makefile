@@ -1,8 +1,10 @@
 PREFIX = /usr/local
 # The name under which the program is installed; beside OpenSSH's, krl-keygen is a good one.
 NAME = ssh-keygen
+# How long make fuzz goes on.
+SECONDS = 60
 
-.PHONY: build test bench install uninstall deb
+.PHONY: build test fuzz bench install uninstall deb
 
 # Proves and builds the program.
 build:
@@ -11,6 +13,10 @@ build:
 # All of the checking: each proof from nothing, and the program that was proved beside OpenSSH.
 test:
 	tests/all
+
+# Files changed at random, beside OpenSSH.
+fuzz: build
+	tests/fuzz --seconds $(SECONDS)
 
 # Time and memory beside OpenSSH, as ratios.
 bench: build
