@@ -1,0 +1,75 @@
+"""Time and memory of programs, and the programs that are measured."""
+
+import os
+import resource
+import subprocess
+import sys
+
+TOP = os.path.dirname(os.path.dirname(os.path.abspath(__file__)))
+OURS = os.path.abspath(os.environ.get("PROGRAM", os.path.join(TOP, "built", "ssh-keygen")))
+THEIRS = os.environ.get("OPENSSH", "ssh-keygen")
+# A program that takes longer, in seconds, is ended.
+LIMIT = int(os.environ.get("LIMIT", "100"))
+
+
+def build():
+    """The launcher builds the program, where it is not built."""
+    if "PROGRAM" not in os.environ:
+        subprocess.run(
+            [os.path.join(TOP, "ssh-keygen"), "-h"], stdout=subprocess.DEVNULL, check=True
+        )
+
+
+def plain_rust():
+    """The plain reader of lists, compiled in the folder at hand."""
+    plain = os.path.join(os.getcwd(), "plain")
+    subprocess.run(
+        ["rustc", "-O", "-o", plain, os.path.join(TOP, "bench", "plain", "main.rs")], check=True
+    )
+    return plain
+
+
+def children_seconds():
+    """The processor seconds of all commands that have ended."""
+    used = resource.getrusage(resource.RUSAGE_CHILDREN)
+    return used.ru_utime + used.ru_stime
+
+
+def measure(words, statuses=(0, 1)):
+    """The processor seconds and the most memory, in KiB, of a command; none where it took too long."""
+    # GNU time starts the command from a small process, so that this one's memory is not counted.
+    timed = ["timeout", str(LIMIT), "time", "--quiet", "-f", "%M", "-o", "memory"] + words
+    errors = subprocess.DEVNULL if 255 in statuses else None
+    start = children_seconds()
+    status = subprocess.run(timed, stdout=subprocess.DEVNULL, stderr=errors).returncode
+    taken = children_seconds() - start
+    if status == 124:
+        return None
+    if status not in statuses:
+        sys.exit("%s ended with status %d" % (" ".join(words), status))
+    with open("memory") as memory:
+        return taken, int(memory.read())
+
+
+def least(words, prepare=lambda: None, statuses=(0, 1)):
+    """The same, the least of three runs where they are short, each after what prepares it."""
+    prepare()
+    first = measure(words, statuses)
+    if first is None or first[0] > 2:
+        return first
+    others = []
+    for _ in range(2):
+        prepare()
+        others.append(measure(words, statuses))
+    return min([first] + others)
+
+
+def over(other, ours):
+    """The columns of a program beside ours."""
+    if other is None:
+        return "%7s %7s" % ("> %.0f" % (LIMIT / ours[0]), "-")
+    return "%7.1f %7.2f" % (other[0] / ours[0], other[1] / ours[1])
+
+
+def own(ours):
+    return "%8.3f %6.0f" % (ours[0], ours[1] / 1024)

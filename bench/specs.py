@@ -1,0 +1,70 @@
+"""Key lines, and specification files of every shape."""
+
+import base64
+import random
+
+import lists
+
+
+def key_line(number):
+    return "ssh-ed25519 %s key %d\n" % (base64.b64encode(lists.key(number)).decode(), number)
+
+
+def random_serials(count, source):
+    return ["serial: %d\n" % source.randrange(1, 1 << 64) for _ in range(count)]
+
+
+def rising_serials(count, source):
+    """Each second number or so, in order."""
+    at, lines = 0, []
+    for _ in range(count):
+        at += source.randrange(2, 40)
+        lines.append("serial: %d\n" % at)
+    return lines
+
+
+def keys(count, source):
+    return [key_line(source.randrange(1 << 64)) for _ in range(count)]
+
+
+def dense_serials(count, source):
+    """Half of the numbers from 1 on."""
+    return ["serial: %d\n" % number for number in source.sample(range(1, 2 * count), count)]
+
+
+def clustered_serials(count, source):
+    """Fifty of a hundred numbers in a row, at random places."""
+    lines = []
+    for _ in range(count // 50):
+        at = source.randrange(1, 1 << 48)
+        lines += ["serial: %d\n" % (at + number) for number in source.sample(range(100), 50)]
+    return lines
+
+
+def neighbouring_serials(count, source):
+    """Numbers that a busy authority gave within an hour: two to ten in a row, then a gap."""
+    at, lines = 1, []
+    while len(lines) < count:
+        at += source.randrange(2, 200)
+        for _ in range(source.randrange(2, 11)):
+            lines.append("serial: %d\n" % at)
+            at += 1
+    return lines[:count]
+
+
+SHAPES = {
+    "dense": dense_serials,
+    "sparse": random_serials,
+    "clustered": clustered_serials,
+    "in short rows": neighbouring_serials,
+}
+
+
+def write(lines, count, files):
+    """The names of so many files, each with so many lines of the shape."""
+    source = random.Random(count)
+    names = ["spec%d" % at for at in range(files)]
+    for name in names:
+        with open(name, "w") as out:
+            out.writelines(lines(count, source))
+    return names

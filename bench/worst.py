@@ -1,0 +1,117 @@
+"""Lists that make a reader work the most for their bytes."""
+
+import struct
+
+from lists import BITMAP, HEADER, bitmap, certificates, key, of_strings, shuffled, string
+
+
+def alternating_bitmaps(size):
+    """Each second serial in large bitmaps, in no order: four intervals a byte."""
+    content = b"\x55" * BITMAP
+    parts = (bitmap(1 + 8 * BITMAP * at, content) for at in shuffled(size // (BITMAP + 17)))
+    return HEADER + certificates(b"", b"".join(parts))
+
+
+def short_ids(size):
+    """Key IDs of one byte: five bytes each, of which only 256 differ."""
+    return HEADER + certificates(
+        b"", b"\x23" + string(b"".join(string(bytes([at % 256])) for at in range(size // 5)))
+    )
+
+
+def three_byte_ids(size):
+    """Key IDs of three bytes, in no order: the shortest that all differ."""
+    numbers = shuffled(min(size // 7, 1 << 24))
+    return HEADER + certificates(
+        b"", b"\x23" + string(b"".join(string(struct.pack(">I", at)[1:]) for at in numbers))
+    )
+
+
+def empty_keys(size):
+    return of_strings(b"\2", [b""] * (size // 4))
+
+
+def short_keys(size):
+    return of_strings(
+        b"\2", [struct.pack(">I", at)[1:] for at in shuffled(min(size // 7, 1 << 24))]
+    )
+
+
+def short_authorities(size):
+    """Authorities of three bytes, each with one serial."""
+    serial = b"\x20" + string(struct.pack(">Q", 1))
+    numbers = shuffled(min(size // 29, 1 << 24))
+    return HEADER + b"".join(certificates(struct.pack(">I", at)[1:], serial) for at in numbers)
+
+
+def same_authority(size):
+    """One authority in a section for each serial."""
+    return HEADER + b"".join(
+        certificates(key(0), b"\x20" + string(struct.pack(">Q", 2 * at + 1)))
+        for at in shuffled(size // 81)
+    )
+
+
+def merged_ranges(size):
+    """Ranges that do not touch, and one at the end that joins them all."""
+    count = size // 21 - 1
+    parts = [b"\x21" + string(struct.pack(">QQ", 8 * at + 1, 8 * at + 3)) for at in shuffled(count)]
+    return HEADER + certificates(
+        b"", b"".join(parts) + b"\x21" + string(struct.pack(">QQ", 1, 8 * count))
+    )
+
+
+def merged_one_by_one(size):
+    """Each second serial, and then those between, so that each of these joins two intervals."""
+    count = size // 16
+    odd = struct.pack(">%dQ" % count, *range(1, 2 * count, 2))
+    even = struct.pack(">%dQ" % count, *(2 * at + 2 for at in shuffled(count)))
+    return HEADER + certificates(b"", b"\x20" + string(odd) + b"\x20" + string(even))
+
+
+def empty_sections(size):
+    """Sections and subsections without anything in them."""
+    return HEADER + (
+        certificates(b"", b"\x20" + string(b"") + b"\x23" + string(b"")) + b"\2" + string(b"")
+    ) * (size // 28)
+
+
+def lying_section(size):
+    """A section that tells more bytes than the list has, of keys that fill it."""
+    return HEADER + b"\2\xff\xff\xff\xff" + string(b"\0" * 60) * (size // 64)
+
+
+def lying_key(size):
+    return HEADER + b"\2\xff\xff\xff\xff" + b"\xff\xff\xff\xf0" + b"\0" * size
+
+
+def lying_bitmap(size):
+    length = struct.pack(">I", 0xFFFFFF00)
+    inner = struct.pack(">I", 0xFFFFFF00 - 12)
+    head = (
+        b"\1\xff\xff\xff\xff"
+        + string(b"")
+        + string(b"")
+        + b"\x22"
+        + length
+        + struct.pack(">Q", 1)
+        + inner
+    )
+    return HEADER + head + b"\x55" * size
+
+
+SHAPES = {
+    "bitmaps of 0x55, in no order": alternating_bitmaps,
+    "key IDs of one byte": short_ids,
+    "key IDs of three bytes": three_byte_ids,
+    "keys of no byte": empty_keys,
+    "keys of three bytes": short_keys,
+    "authorities of three bytes": short_authorities,
+    "sections of one authority": same_authority,
+    "ranges that one range joins": merged_ranges,
+    "serials that fill gaps": merged_one_by_one,
+    "sections of nothing": empty_sections,
+    "a section that is not whole": lying_section,
+    "a key that is not whole": lying_key,
+    "a bitmap that is not whole": lying_bitmap,
+}
