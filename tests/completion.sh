@@ -1,5 +1,6 @@
 # What bash is offered for the words of the command.
 
+mkdir words && cd words || exit 1
 touch one.pub two.krl 'a b.pub'
 
 # offers NAME WANTED WORD..: for the last of the words bash is offered just the wanted ones.
@@ -40,3 +41,4 @@ offers 'no option after two hyphens' '' -Q -f two.krl -- -
 got=$(bash --norc -c '. "$0" && complete -p ssh-keygen' "$top/completions/ssh-keygen.bash")
 judge 'bash asks for the words of the program' \
   "$(differs 'what is said of it' 'complete -F _krl_keygen ssh-keygen' "$got")"
+cd ..
