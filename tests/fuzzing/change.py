@@ -234,9 +234,11 @@ def change_list(source, content, other):
         return head + joined([source.choice(more)]) + rest
     at = source.randrange(len(pieces))
     sort, inner = pieces[at]
-    what = source.randrange(8)
+    what = source.randrange(9)
     if what == 0:
         source.shuffle(pieces)
+    elif what == 8:
+        pieces.insert(at, (255, extension(source)))
     elif what == 1:
         pieces.insert(at, source.choice(more))
     elif what == 2:
@@ -278,10 +280,18 @@ def change_certificates(source, inner, other):
     return string(authority) + string(reserved) + joined(subsections) + last
 
 
+def extension(source):
+    """What an extension holds; it must not be understood more often than it must."""
+    critical = source.choice([b"\0", b"\0", b"\0", b"\1", b"\2", b""])
+    return string(b"name") + critical + string(b"contents")
+
+
 def new_subsection(source):
     """A subsection of numbers that lie at some end."""
     near = source.choice(LARGE) ^ source.choice([0, 0, 1, 2, 3])
-    sort = source.randrange(4)
+    sort = source.randrange(5)
+    if sort == 4:
+        return 0x39, extension(source)
     if sort == 0:
         count = source.choice([0, 1, 2, 50])
         return 0x20, struct.pack(

@@ -16,14 +16,12 @@ CERTS = [
 ]
 
 
-def made(openssh, folder, words):
-    """Whether OpenSSH's program did what the words say."""
-    return (
-        subprocess.run(
-            [openssh, "-q"] + words, cwd=folder, capture_output=True, stdin=subprocess.DEVNULL
-        ).returncode
-        == 0
+def made(program, folder, words):
+    """Whether the program did what the words say."""
+    done = subprocess.run(
+        [program] + words, cwd=folder, capture_output=True, stdin=subprocess.DEVNULL
     )
+    return done.returncode == 0
 
 
 def make_keys(openssh, folder):
@@ -84,7 +82,8 @@ def directives(folder, source):
     return lines
 
 
-def make_lists(openssh, folder):
+def make_lists(openssh, program, folder):
+    """Lists that OpenSSH's program makes, and ours where it can."""
     source = random.Random(4711)
     for number in range(40):
         spec, krl = "spec%d" % number, "list%d.krl" % number
@@ -96,17 +95,19 @@ def make_lists(openssh, folder):
             folder,
             words + ["-s", source.choice(["ca-one.pub", "ca-two.pub", "none"]), spec],
         )
+        if program and number % 2 == 0:
+            made(program, folder, ["-k", "-f", "own%d.krl" % number, "-s", "none", spec])
         if number % 3 == 0:
             made(openssh, folder, words + ["-u", "-s", "ca-three.pub", spec])
 
 
-def make(openssh, folder):
-    """The folder, filled."""
+def make(openssh, program, folder):
+    """The folder, filled; with lists of our program, if one is given."""
     if not os.path.exists(os.path.join(folder, "whole")):
         os.makedirs(folder, exist_ok=True)
         make_keys(openssh, folder)
         make_certs(openssh, folder)
-        make_lists(openssh, folder)
+        make_lists(openssh, program, folder)
         open(os.path.join(folder, "whole"), "w").close()
 
 

@@ -136,17 +136,22 @@ def has_zero_at_end(line):
     return False
 
 
+def is_taken(run):
+    """Whether OpenSSH's program took the files; of a file that it cannot read -L may print nothing."""
+    return run.status in (0, 1) and (run.words[0] != "-L" or bool(run.output))
+
+
 def compared(case, ours, theirs):
     """What is wrong beside OpenSSH's program, which took the same files."""
     if case.kind == "lists_asked":
-        if theirs[0].status not in (0, 1):
+        if not is_taken(theirs[0]):
             return None
         if ours[0].status == 255:
             return refused(case, ours[0].fault())
         return None if answers(ours[0]) == answers(theirs[0]) else "other answers than OpenSSH's"
     if case.kind == "lists_made":
         return compared_lists(case, ours, theirs)
-    if not case.is_single or theirs[0].status not in (0, 1) or not theirs[0].output:
+    if not case.is_single or not is_taken(theirs[0]):
         return None
     if ours[0].status == 255:
         return refused(case, ours[0].fault())
