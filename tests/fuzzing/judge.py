@@ -137,7 +137,7 @@ def has_zero_at_end(line):
 
 
 def is_taken(run):
-    """Whether OpenSSH's program took the files; of a file that it cannot read -L may print nothing."""
+    """Whether OpenSSH took the files; -L may print nothing of a file that it cannot read."""
     return run.status in (0, 1) and (run.words[0] != "-L" or bool(run.output))
 
 
