@@ -5,7 +5,7 @@ root=$scratch/root
 made() {
   local name=$1 wanted=$2 got
   shift 2
-  PROGRAM=$binary make -s -C "$top" -o build "$@" DESTDIR="$root" >"$scratch/output" 2>&1
+  PROGRAM=$binary command make -s -C "$top" -o build "$@" DESTDIR="$root" >"$scratch/output" 2>&1
   got=$?
   judge "$name" "$(differs 'exit status' "$wanted" $got; [ $got = "$wanted" ] || cat "$scratch/output")"
 }
