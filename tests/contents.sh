@@ -83,18 +83,18 @@ ours() {
   local word text
   "$program" -Q -l -f "$1" | while read -r word text; do
     case $word in
-      key:) echo "key $(printf %s "$text" | basenc -d --base64 | fingerprint)" ;;
-      hash:) echo "sha256 $(printf '%s=' "${text#SHA256:}" | digits)" ;;
+      key:) echo "key $(printf %s "$text" | basenc -d --base64 | hashed)" ;;
+      hash:) echo "sha256 $(printf '%s=' "${text#SHA256:}" | digits_of)" ;;
       sha1:) echo "sha1 $text" ;;
       '#') [ "${text%% *}" = CA ] && echo "$text" ;;
       *) echo "$word $text" ;;
     esac
   done | under | sort
 }
-fingerprint() {
-  printf 'SHA256:%s' "$(openssl dgst -sha256 -binary | basenc --base64 | tr -d =)"
+hashed() {
+  printf 'SHA256:%s' "$(bytes "$(sha256sum | cut -c1-64)" | base64 | tr -d =)"
 }
-digits() {
+digits_of() {
   basenc -d --base64 | od -An -v -tx1 | tr -d ' \n'
 }
 # puts the authority before each of its serials and key IDs
