@@ -14,7 +14,7 @@ use Rattle.ssh_cert.specs.declared.role.Role.TheVariants.{User, Host}
 use Rattle.ssh_cert.specs.Certificate.{Certificate}
 use Rattle.ssh_cert.specs.Escape.{escaped}
 use Rattle.ssh_cert.specs.Options.{NamedData}
-use Rattle.ssh_cert.specs.Time.{IsTimeText}
+use Rattle.ssh_cert.specs.Time.{instant_text, IsTimeText}
 
 -- a label and its value
 unfoldable pub line : List ℕ → List ℕ → List ℕ
@@ -86,7 +86,13 @@ data_text name (byte ∷ bytes) =
 abbrev pub option_item : NamedData → List ℕ
 option_item option = escaped option.name ++ data_text option.name option.content
 
--- the texts of the time in which the certificate is valid
+-- the time in which the certificate is valid
+abbrev pub valid_period : Certificate → List ℕ
+valid_period certificate =
+    period_of certificate.after certificate.before
+    (instant_text certificate.after) (instant_text certificate.before)
+
+-- The text is the time in which the certificate is valid, by some texts of its two instants.
 pub record IsPeriod (certificate : Certificate) (text : List ℕ) : Type 0 where
   pub after : List ℕ
   pub before : List ℕ
@@ -118,6 +124,11 @@ abbrev pub listing_text : Hash → Certificate → ℕ → List ℕ → List ℕ
 listing_text hash certificate moment period =
     identity_text hash certificate
     ++ (terms_text certificate moment period ++ lists_text certificate)
+
+-- The listing of the certificate at the moment, with the fingerprints by the hash.
+unfoldable pub listing_of : Hash → Certificate → ℕ → List ℕ
+listing_of hash certificate moment =
+    listing_text hash certificate moment (valid_period certificate)
 
 -- The text lists the certificate at the moment, with the fingerprints by the hash.
 pub record IsListing (hash : Hash) (certificate : Certificate) (moment : ℕ) (text : List ℕ)

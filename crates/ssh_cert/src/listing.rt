@@ -4,7 +4,7 @@ ghost use Rattle.std.specs.Prelude.{◌≡◌, ◌++◌, IfOk, OnOk, codes, map}
 ghost use Rattle.hex.specs.Hex.{encode_lower};
 ghost use Rattle.ssh_wire.specs.Reading.{string_at};
 ghost use Rattle.ssh_cert.specs.Escape.{escaped};
-ghost use Rattle.ssh_cert.specs.Listing.{IsListing, IsPeriod, listing_text, period_of, authority_value, data_text, has_text, id_value, identity_text, item, key_value, line, lines, lists_text, option_item, string_or_hex, terms_text, type_value, valid_value};
+ghost use Rattle.ssh_cert.specs.Listing.{listing_of, listing_text, period_of, valid_period, authority_value, data_text, has_text, id_value, identity_text, item, key_value, line, lines, lists_text, option_item, string_or_hex, terms_text, type_value, valid_value};
 
 use crate::cert::Cert;
 use crate::escape::push_escaped;
@@ -242,7 +242,7 @@ fn both(alloc: Global, first: &[u8], second: &[u8]) -> Result<Vec<u8>, AllocErro
 
 /// The time in which the certificate is valid.
 fn period(alloc: Global, cert: &Cert) -> Result<Vec<u8>, AllocError>
-    ensures { IfOk result (λ text. IsPeriod cert.now text.items) }
+    ensures { IfOk result (λ text. text.items ≡ valid_period cert.now) }
 {
     let after = time_text(alloc, cert.after())?;
     let before = time_text(alloc, cert.before())?;
@@ -318,8 +318,9 @@ fn listing(
 /// The listing of a certificate, in the lines behind its first one, which names the file. The
 /// fingerprints are by this hash, the moment is in seconds from 1970 on, and what others wrote
 /// stands escaped. Fails only where memory runs out.
+#[tactic(auto, unfolding(crate::specs::Listing::listing_of))]
 pub fn list_cert(alloc: Global, cert: &Cert, hash: Hash, moment: u64) -> Result<Vec<u8>, AllocError>
-    ensures { IfOk result (λ text. IsListing hash cert.now moment text.items) }
+    ensures { IfOk result (λ text. text.items ≡ listing_of hash cert.now moment) }
 {
     let period = period(alloc, cert)?;
     listing(alloc, cert, hash, moment, &period)

@@ -1,7 +1,7 @@
 // Instants as they are printed, and when a certificate is valid.
 
-ghost use Rattle.std.specs.Prelude.{◌↔◌, IfOk, IsTrue};
-ghost use Rattle.ssh_cert.specs.Time.{IsTimeText, IsValidAt};
+ghost use Rattle.std.specs.Prelude.{◌≡◌, ◌↔◌, IfOk, IsTrue};
+ghost use Rattle.ssh_cert.specs.Time.{IsValidAt, instant_text};
 
 use crate::cert::Cert;
 use jiff::Timestamp;
@@ -22,7 +22,7 @@ pub fn valid_at(cert: &Cert, moment: u64) -> bool
 /// An instant in UTC, as `YYYY-MM-DDTHH:MM:SSZ`, by its seconds from 1970 on. From the year 9999 on
 /// it is `@` and the number. Fails only where memory runs out.
 pub fn time_text(alloc: Global, seconds: u64) -> Result<Vec<u8>, AllocError>
-    ensures { IfOk result (λ text. IsTimeText seconds text.items) }
+    ensures { IfOk result (λ text. text.items ≡ instant_text seconds) }
 {
     if seconds >= YEAR_9999 {
         return Ok(format!(in alloc; "@{seconds}")?.into_bytes());
