@@ -21,14 +21,14 @@ use Rattle.krl_runs.specs.Run.{File, Item, Outcome, Passed, Stopped, before, fil
 use Rattle.krl_runs.specs.Stop.{Stop, stop_of}
 use Rattle.krl_runs.proofs.Carrying.{carries_more, carries_passed, carries_then, carries_withheld}
 
-abbrev pub known_of : Header → List ℕ → Contents → Known
-known_of header date contents = record { header = header; date = date; contents = contents }
+abbrev pub known_of : Header → Contents → Known
+known_of header contents = record { header = header; contents = contents }
 
 -- A list that was read is held.
 pub held : (text : List ℕ) (header : Header) (contents : Contents)
     → ((r : Contents) (entries : List Entry) (subject : Subject) → Means r entries → (IsTrue (revokes r subject) ↔ Revoked entries subject))
-    → IsList text header contents → IsFirstFault text None → (date : List ℕ) → IsHeld text (known_of header date contents)
-held text header contents law list none date = record {
+    → IsList text header contents → IsFirstFault text None → IsHeld text (known_of header contents)
+held text header contents law list none = record {
   sections = list.sections;
   spelled = list.spelled;
   no_fault = none;

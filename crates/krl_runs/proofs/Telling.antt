@@ -76,10 +76,10 @@ unfolding contents_lines
 held_first name r now working = none_said name (contents_lines r) now working
 
 -- the lines of a header are those of its version, its date and its comment
-pub header_started : (name : List ℕ) (header : Header) (date : List ℕ) (now : Printed) → now.failed ≡ false
-    → IsSaid name (header_lines header date) (version_line header.version ∷ date_line date ∷ comment_lines header.comment) now now
+pub header_started : (name : List ℕ) (header : Header) (now : Printed) → now.failed ≡ false
+    → IsSaid name (header_lines header) (version_line header.version ∷ date_line header.date ∷ comment_lines header.comment) now now
 unfolding header_lines
-header_started name header date now working = none_said name (header_lines header date) now working
+header_started name header now working = none_said name (header_lines header) now working
 
 -- a line that was made stands in the bytes that are lent
 pub line_is : (made : Result (Unit {0}) AllocError) (lent items text : List ℕ) → lent ≡ items → OnOk made (items ≡ text) → OnOk made (lent ≡ text)
@@ -88,12 +88,6 @@ line_is made lent items text same is = rw same is
 pub line_is_itself : (made : Result (Unit {0}) AllocError) (lent : List ℕ) → OnOk made (lent ≡ lent)
 line_is_itself (Ok value) lent = refl
 line_is_itself (Err fault) lent = tt
-
--- the line of a date, by the date's text
-pub dated_line : (Q : List ℕ → Type 0) (made : Result (Unit {0}) AllocError) (lent items text : List ℕ) → lent ≡ items
-    → OnOk made ((t : List ℕ) → Q t → items ≡ date_line t) → Q text → OnOk made (lent ≡ date_line text)
-dated_line Q (Ok value) lent items text same is dated = same ∙ is text dated
-dated_line Q (Err fault) lent items text same is dated = tt
 
 -- a comment without bytes has no line, and any other has its own
 pub no_comment : (comment : List ℕ) → (length comment == 0) ≡ true → comment_lines comment ≡ []
@@ -142,18 +136,18 @@ not_asked name false known now asked working = carries_none tt now working
 not_asked name true known now asked working = absurd cc
 
 pub contents_said : {B : Type 0} (name : List ℕ) (dump : Bool) (known : Known) (result : Result B Stop) (old mid new : Printed) → dump ≡ true
-    → Carries (all_said name (header_lines known.header known.date)) said old mid → Carries (all_said name (contents_lines known.contents)) result mid new
+    → Carries (all_said name (header_lines known.header)) said old mid → Carries (all_said name (contents_lines known.contents)) result mid new
     → Carries (contents_items name dump known) result old new
 unfolding contents_items
 contents_said name false known result old mid new asked first second = absurd cc
 contents_said {B} name true known result old mid new asked first second =
-    subst (λ (items : List Item). Carries {A = B} items result old new) (sym (both_said name (header_lines known.header known.date) (contents_lines known.contents)))
-    (carries_then (all_said name (header_lines known.header known.date)) (all_said name (contents_lines known.contents)) tt result old mid new first second)
+    subst (λ (items : List Item). Carries {A = B} items result old new) (sym (both_said name (header_lines known.header) (contents_lines known.contents)))
+    (carries_then (all_said name (header_lines known.header)) (all_said name (contents_lines known.contents)) tt result old mid new first second)
 
 pub contents_stop : {A B : Type 0} (name : List ℕ) (dump : Bool) (known : Known) (stop : Stop) (old new : Printed) → dump ≡ true
-    → Carries {A = A} (all_said name (header_lines known.header known.date)) (Err stop) old new → Carries {A = B} (contents_items name dump known) (Err stop) old new
+    → Carries {A = A} (all_said name (header_lines known.header)) (Err stop) old new → Carries {A = B} (contents_items name dump known) (Err stop) old new
 unfolding contents_items
 contents_stop name false known stop old new asked first = absurd cc
 contents_stop {A} {B} name true known stop old new asked first =
-    subst (λ (items : List Item). Carries {A = B} items (Err stop) old new) (sym (both_said name (header_lines known.header known.date) (contents_lines known.contents)))
-    (carries_more {A = A} {B = B} (all_said name (header_lines known.header known.date)) (all_said name (contents_lines known.contents)) stop old new first)
+    subst (λ (items : List Item). Carries {A = B} items (Err stop) old new) (sym (both_said name (header_lines known.header) (contents_lines known.contents)))
+    (carries_more {A = A} {B = B} (all_said name (header_lines known.header)) (all_said name (contents_lines known.contents)) stop old new first)

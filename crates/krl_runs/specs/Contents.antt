@@ -8,16 +8,16 @@ use Rattle.serial_set.specs.declared.span.Span.{Span}
 use Rattle.ssh_key.specs.declared.hash.Hash.TheVariants.{Sha256}
 use Rattle.ssh_key.specs.Fingerprints.{fingerprint_text, unpadded}
 use Rattle.ssh_cert.specs.Escape.{escaped}
+use Rattle.ssh_cert.specs.Time.{instant_text}
 use Rattle.krl_core.specs.Contents.{Contents, Section}
 use Rattle.krl_core.specs.declared.header.Header.{Header}
 use Rattle.krl_runs.specs.declared.runs.contents.fact.Fact.{Fact}
 use Rattle.krl_runs.specs.declared.runs.contents.fact.Fact.TheVariants.{Id, Key, Sha1, Hash}
 use Rattle.krl_runs.specs.Run.{Item, Answered}
 
--- What was read of a list: its header, the text of its date, and what is held of it.
+-- What was read of a list: its header, and what is held of it.
 pub record Known : Type 0 where
   pub header : Header
-  pub date : List ℕ
   pub contents : Contents
 
 -- a label and its text
@@ -27,8 +27,8 @@ line label text = label ++ (text ++ 10 ∷ [])
 unfoldable pub version_line : ℕ → List ℕ
 version_line version = line (codes "# KRL version ") (decimal version)
 
-unfoldable pub date_line : List ℕ → List ℕ
-date_line date = line (codes "# Generated at ") date
+unfoldable pub date_line : ℕ → List ℕ
+date_line date = line (codes "# Generated at ") (instant_text date)
 
 unfoldable pub comment_line : List ℕ → List ℕ
 comment_line comment = line (codes "# Comment: ") (escaped comment)
@@ -72,9 +72,9 @@ fact_text Hash bytes = unpadded bytes
 unfoldable pub fact_line : Fact → List ℕ → List ℕ
 fact_line fact bytes = line (label_of fact) (fact_text fact bytes)
 
-unfoldable pub header_lines : Header → List ℕ → List (List ℕ)
-header_lines header date =
-    version_line header.version ∷ date_line date ∷ comment_lines header.comment
+unfoldable pub header_lines : Header → List (List ℕ)
+header_lines header =
+    version_line header.version ∷ date_line header.date ∷ comment_lines header.comment
 
 -- an authority, its serials and its key IDs
 unfoldable pub section_lines : Section → List (List ℕ)
@@ -91,7 +91,7 @@ contents_lines contents =
     ++ map (fact_line Hash) contents.sha256s))
 
 abbrev pub known_lines : Known → List (List ℕ)
-known_lines known = header_lines known.header known.date ++ contents_lines known.contents
+known_lines known = header_lines known.header ++ contents_lines known.contents
 
 -- the lines of a list's contents, one after the other
 abbrev pub dump_text : Known → List ℕ

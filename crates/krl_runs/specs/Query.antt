@@ -1,5 +1,5 @@
 -- Asking a list about keys (ssh-keygen(1), KEY REVOCATION LISTS).
-use Rattle.std.specs.Prelude.{◌↔◌, ℕ, Bool, true, false, List, [], ◌∷◌, ◌++◌, None, Result, Ok, Err, IfOk, IsTrue, codes}
+use Rattle.std.specs.Prelude.{◌↔◌, ℕ, Bool, true, false, List, [], ◌∷◌, ◌++◌, None, Result, Ok, Err, IsTrue, codes}
 use Rattle.krl_core.specs.Contents.{Contents, Means}
 use Rattle.krl_core.specs.Entries.{entries_of}
 use Rattle.krl_core.specs.Front.{IsFirstFault}
@@ -13,7 +13,6 @@ use Rattle.ssh_cert.specs.Subject.{Subject}
 use Rattle.krl_runs.specs.declared.output.cause.Cause.{Cause}
 use Rattle.krl_runs.specs.declared.output.cause.Cause.TheVariants as causes
 use Rattle.ssh_cert.specs.Escape.{escaped}
-use Rattle.ssh_cert.specs.Time.{IsTimeText}
 use Rattle.krl_runs.specs.Contents.{Known, contents_items}
 use Rattle.krl_runs.specs.Run.{Answering, File, Item, Passed, Stopped, files_items}
 use Rattle.krl_runs.specs.Stop.{stop_of}
@@ -51,10 +50,6 @@ pub record IsHeld (text : List ℕ) (known : Known) : Type 0 where
 abbrev pub IsRead : List ℕ → Bool → Result Known KrlFault → Type 0
 IsRead text failed (Ok known) = IsHeld text known
 IsRead text failed (Err fault) = Says fault text failed
-
--- what is known of a list has the text of its date
-abbrev pub IsDated : Result Known KrlFault → Type 0
-IsDated reading = IfOk reading (λ known. IsTimeText known.header.date known.date)
 
 -- Where memory runs out, it is for the run itself.
 abbrev pub krl_cause : KrlFault → Cause

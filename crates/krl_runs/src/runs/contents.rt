@@ -2,18 +2,15 @@
 
 ghost use Rattle.std.specs.Prelude.{◌≡◌, ◌∷◌, ◌<◌, [], ℕ, List, IfOk, OnOk, false, length, map};
 ghost use Rattle.std.specs.List.{flat_map};
-ghost use Rattle.ssh_cert.specs.Time.{IsTimeText};
 ghost use Rattle.krl_runs.specs.Carries.{Carries};
 ghost use Rattle.krl_runs.specs.Contents.{all_said, contents_items, contents_lines, fact_line, header_lines, said_of, section_lines, serials_line};
 
-pub(crate) mod date;
 pub(crate) mod fact;
 pub(crate) mod lines;
 
 use crate::output::cause::Cause;
 use crate::output::printer::Printer;
 use crate::output::run_fault::RunFault;
-use crate::runs::contents::date::date_text;
 use crate::runs::contents::fact::Fact;
 use crate::runs::contents::lines::{
     write_authority, write_comment, write_date, write_serials, write_version,
@@ -34,17 +31,14 @@ pub fn print_contents<'a, S: Spans, W: Sink>(
     printer: &mut Printer<W>,
 ) -> Result<(), RunFault<'a>>
     requires { printer.old.failed ≡ false }
-    ensures { (date : List ℕ) × IsTimeText header.now.date date
-        × Carries (contents_items name.now dump
-        (record { header = header.now; date = date; contents = list.now }))
-        result printer.old printer.new }
+    ensures { Carries (contents_items name.now dump
+        (record { header = header.now; contents = list.now })) result printer.old printer.new }
 {
-    let date = date_text(alloc, header.date);
     if !dump {
         return Ok(());
     }
     let mut line = Vec::new(alloc);
-    print_header(name, header, &date, &mut line, printer)?;
+    print_header(alloc, name, header, &mut line, printer)?;
     print_held(alloc, name, list, &mut line, printer)
 }
 
@@ -66,20 +60,19 @@ fn print_line<'a, W: Sink>(
 }
 
 fn print_header<'a, W: Sink>(
+    alloc: Global,
     name: &'a str,
     header: &Header,
-    date: &Result<Vec<u8>, AllocError>,
     line: &mut Vec<u8>,
     printer: &mut Printer<W>,
 ) -> Result<(), RunFault<'a>>
     requires { printer.old.failed ≡ false }
-    ensures { (text : List ℕ) → IfOk date.now (λ made. made.items ≡ text)
-        → Carries (all_said name.now (header_lines header.now text)) result
+    ensures { Carries (all_said name.now (header_lines header.now)) result
         printer.old printer.new }
 {
     let made = write_version(header.version, line);
     print_line(name, made, line, printer)?;
-    let made = write_date(date, line);
+    let made = write_date(alloc, header.date, line);
     print_line(name, made, line, printer)?;
     if header.comment.as_slice().is_empty() {
         return Ok(());

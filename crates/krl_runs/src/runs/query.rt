@@ -5,7 +5,7 @@ ghost use Rattle.krl_core.specs.declared.krl_fault.KrlFault.{KrlFault as FaultOf
 ghost use Rattle.krl_runs.specs.Carries.{Carries};
 ghost use Rattle.krl_runs.specs.Contents.{Known};
 ghost use Rattle.krl_runs.specs.Done.{Ends};
-ghost use Rattle.krl_runs.specs.Query.{IsDated, IsRead, ask, comment_part, krl_cause, query_line, query_run_of, verdict};
+ghost use Rattle.krl_runs.specs.Query.{IsRead, ask, comment_part, krl_cause, query_line, query_run_of, verdict};
 
 use crate::input::named::Named;
 use crate::keys::answers::Answers;
@@ -92,7 +92,6 @@ pub fn query_run<'a, R: Source + Drop, W: Sink>(
     ensures { (reading : Result Known FaultOf) × (failed : Bool)
         × (failed ≡ true → (last : R) × (R.has_failed last ≡ true))
         × ((text : List ℕ) → R.left krl ≡ Some text → IsRead text failed reading)
-        × IsDated reading
         × Ends (query_run_of krl_name.now reading dump files.now) (W.taken out.old)
         (W.taken out.new) (W.has_failed out.new) result.status result.fault }
 {
@@ -118,7 +117,6 @@ fn ask_list<'a, R: Source + Drop, W: Sink>(
     ensures { (reading : Result Known FaultOf) × (failed : Bool)
         × (failed ≡ true → (last : R) × (R.has_failed last ≡ true))
         × ((text : List ℕ) → R.left krl ≡ Some text → IsRead text failed reading)
-        × IsDated reading
         × Carries (query_run_of krl_name.now reading dump files.now) result
         printer.old printer.new }
 {

@@ -6,7 +6,7 @@ ghost use Rattle.krl_runs.specs.Contents.{authority_line, authority_text, commen
 
 use itoa::Buffer;
 use serial_set::Span;
-use ssh_cert::push_escaped;
+use ssh_cert::{push_escaped, time_text};
 use ssh_key::{Hash, fingerprint};
 use std::alloc::{AllocError, Global};
 
@@ -22,15 +22,12 @@ pub fn write_version(version: u64, line: &mut Vec<u8>) -> Result<(), AllocError>
     Ok(())
 }
 
-/// Makes the line of a list's date, by the date's text.
+/// Makes the line of a list's date.
 #[tactic(auto, unfolding(crate::specs::Contents::date_line))]
-pub fn write_date(date: &Result<Vec<u8>, AllocError>, line: &mut Vec<u8>) -> Result<(), AllocError>
-    ensures { OnOk result ((text : List ℕ) → IfOk date.now (λ made. made.items ≡ text)
-        → line.new.items ≡ date_line text) }
+pub fn write_date(alloc: Global, date: u64, line: &mut Vec<u8>) -> Result<(), AllocError>
+    ensures { OnOk result (line.new.items ≡ date_line date) }
 {
-    let Ok(text) = date else {
-        return Err(AllocError);
-    };
+    let text = time_text(alloc, date)?;
     line.clear();
     line.extend_from_slice(b"# Generated at ")?;
     line.extend_from_slice(text.as_slice())?;

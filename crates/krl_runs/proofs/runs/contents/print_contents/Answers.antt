@@ -4,17 +4,13 @@ use Rattle.krl_runs.proofs.Telling.{contents_said, contents_stop, not_asked}
 use Rattle.krl_runs.proofs.runs.contents.print_contents.Goals as goal
 
 pub returns-then-not-dump : goal.returns-then-not-dump
-returns-then-not-dump g c =
-    let dated = c.date_text-date.ensures in
-    (dated.0, dated.1, not_asked _ _ _ _ c.if-not-dump.true c.requires)
+returns-then-not-dump g c = not_asked _ _ _ _ c.if-not-dump.true c.requires
 
 pub returns-in_err-print_header : goal.returns-in_err-print_header
 returns-in_err-print_header g c =
     let p = err_from_is_err_and c.from_residual.result c.from_residual.ensures.1 in
-    let dated = c.date_text-date.ensures in
-    (dated.0, dated.1, rw (p.1, p.2) (contents_stop _ _ _ _ _ _ c.if-not-dump.false (c.in_err-print_header.ensures dated.0 dated.2)))
+    rw (p.1, p.2) (contents_stop _ _ _ _ _ _ c.if-not-dump.false c.in_err-print_header.ensures)
 
 pub returns : goal.returns
 returns g c =
-    let dated = c.date_text-date.ensures in
-    (dated.0, dated.1, contents_said _ _ _ _ _ _ _ c.if-not-dump.false (c.in_ok-print_header.ensures dated.0 dated.2) c.print_held.ensures)
+    contents_said _ _ _ _ _ _ _ c.if-not-dump.false c.in_ok-print_header.ensures c.print_held.ensures
