@@ -2,10 +2,12 @@
 #![tactic(auto)]
 
 mod addition;
+mod due;
 mod field;
 mod getters;
 mod growth;
 mod header;
+mod judging;
 mod keeper;
 mod keyed;
 mod krl_fault;

@@ -1,0 +1,188 @@
+// What follows a field of a list, or why it is refused.
+
+ghost use Rattle.std.specs.Prelude.{◌≡◌, ◌-◌, ◌<◌, ◌≤◌};
+ghost use Rattle.krl_core.specs.Place.{judge as judged_by, within as within_of, base_of, bits_judged as bits_judged_of, passes_end as passes_end_of, highest_bit as highest_bit_of, next_bits as bits_after, next_id as id_after, next_key as key_after, next_serial as serial_after, next_sha1 as sha1_after, next_sha256 as sha256_after, next_subsection as subsection_after, section_of_type as section_of, subsection_of_type as subsection_of};
+
+use crate::krl_fault::KrlFault;
+use crate::place::Place;
+
+// The next place where a field is good, else its fault.
+pub(crate) fn judge(good: bool, fault: KrlFault, next: Place) -> Result<Place, KrlFault>
+    ensures { result ≡ judged_by good fault next }
+{
+    if good { Ok(next) } else { Err(fault) }
+}
+
+// What follows a length, unless it counts more bytes than are left after it.
+pub(crate) fn within(left: u32, size: u32, next: Result<Place, KrlFault>) -> Result<Place, KrlFault>
+    requires { 4 ≤ left }
+    ensures { result ≡ within_of left (λ _. next) size }
+{
+    if size > left - 4 {
+        Err(KrlFault::Length)
+    } else {
+        next
+    }
+}
+
+// What is left after a length and the bytes that it counts.
+pub(crate) fn rest(left: u32, size: u32) -> u32
+    ensures { result ≡ left - 4 - size }
+{
+    left.saturating_sub(4).saturating_sub(size)
+}
+
+// A subsection, or the end of the section.
+pub(crate) fn next_subsection(left: u32) -> Place
+    ensures { result ≡ subsection_after left }
+{
+    if left == 0 {
+        Place::SectionType { signed: false }
+    } else {
+        Place::SubsectionType { left }
+    }
+}
+
+pub(crate) fn next_key(left: u32) -> Place
+    ensures { result ≡ key_after left }
+{
+    if left == 0 {
+        Place::SectionType { signed: false }
+    } else {
+        Place::KeyLength { left }
+    }
+}
+
+pub(crate) fn next_sha1(left: u32) -> Place
+    ensures { result ≡ sha1_after left }
+{
+    if left == 0 {
+        Place::SectionType { signed: false }
+    } else {
+        Place::Sha1Length { left }
+    }
+}
+
+pub(crate) fn next_sha256(left: u32) -> Place
+    ensures { result ≡ sha256_after left }
+{
+    if left == 0 {
+        Place::SectionType { signed: false }
+    } else {
+        Place::Sha256Length { left }
+    }
+}
+
+pub(crate) fn next_serial(left: u32, behind: u32) -> Place
+    ensures { result ≡ serial_after left behind }
+{
+    if left == 0 {
+        next_subsection(behind)
+    } else {
+        Place::Serial { left, behind }
+    }
+}
+
+pub(crate) fn next_id(left: u32, behind: u32) -> Place
+    ensures { result ≡ id_after left behind }
+{
+    if left == 0 {
+        next_subsection(behind)
+    } else {
+        Place::IdLength { left, behind }
+    }
+}
+
+pub(crate) fn next_bits(offset: u64, size: u32, left: u32, behind: u32) -> Place
+    ensures { result ≡ bits_after offset size left behind }
+{
+    if left == 0 {
+        next_subsection(behind)
+    } else {
+        Place::BitmapByte {
+            offset,
+            size,
+            left,
+            behind,
+        }
+    }
+}
+
+// The content of a section by its type byte.
+pub(crate) fn section_of_type(signed: bool, type_byte: u8) -> Result<Place, KrlFault>
+    ensures { result ≡ section_of signed type_byte }
+{
+    if type_byte == 4 {
+        return Ok(Place::SignatureKeyLength);
+    }
+    if signed {
+        return Err(KrlFault::AfterSignature);
+    }
+    match type_byte {
+        1 => Ok(Place::CertificatesLength),
+        2 => Ok(Place::KeysLength),
+        3 => Ok(Place::Sha1sLength),
+        5 => Ok(Place::Sha256sLength),
+        255 => Ok(Place::ExtensionLength),
+        _ => Err(KrlFault::UnknownSection),
+    }
+}
+
+// The content of a subsection by its type byte.
+pub(crate) fn subsection_of_type(left: u32, type_byte: u8) -> Result<Place, KrlFault>
+    ensures { result ≡ subsection_of left type_byte }
+{
+    match type_byte {
+        0x20 => Ok(Place::SerialsLength { left }),
+        0x21 => Ok(Place::RangeLength { left }),
+        0x22 => Ok(Place::BitmapLength { left }),
+        0x23 => Ok(Place::IdsLength { left }),
+        0x39 => Ok(Place::SubsectionExtensionLength { left }),
+        _ => Err(KrlFault::UnknownCertSection),
+    }
+}
+
+// Judges a byte of a bitmap, of whose `size` bytes `left` are due with it.
+pub(crate) fn bits_judged(
+    offset: u64,
+    size: u32,
+    left: u32,
+    behind: u32,
+    byte: u8,
+) -> Result<Place, KrlFault>
+    ensures { result ≡ bits_judged_of offset size left behind byte }
+{
+    if left == size && byte >= 128 {
+        return Err(KrlFault::BitmapNegative);
+    }
+    if passes_end(offset, left, byte) {
+        return Err(KrlFault::BitmapWraps);
+    }
+    Ok(next_bits(offset, size, left.saturating_sub(1), behind))
+}
+
+/// Whether a bit of the byte that is set stands for a number past 2^64-1. The byte is the highest
+/// of the `left` last bytes of a bitmap.
+pub(crate) fn passes_end(offset: u64, left: u32, byte: u8) -> bool
+    ensures { result ≡ passes_end_of (base_of offset left) byte }
+{
+    let place = 8 * u64::from(left.saturating_sub(1));
+    byte != 0 && place + highest_bit(byte) > u64::MAX - offset
+}
+
+// The place of the highest bit that is set.
+pub(crate) fn highest_bit(byte: u8) -> u64
+    ensures value { result ≡ highest_bit_of byte }
+    ensures below { result < 8 }
+{
+    match byte {
+        0..2 => 0,
+        2..4 => 1,
+        4..8 => 2,
+        8..16 => 3,
+        16..32 => 4,
+        32..64 => 5,
+        64..128 => 6,
+        _ => 7,
+    }
+}
