@@ -5,8 +5,8 @@ use Rattle.std.proofs.lemmas.Bool.{cases_lt}
 use Rattle.std.proofs.lemmas.List.{drop_more, drop_all, take-append-drop}
 use Rattle.std.proofs.lemmas.List.Elements.{All-nil, All-cons, All-head, All-tail, All-append}
 use Rattle.serial_set.specs.declared.span.Span.{Span}
-use Rattle.serial_set.specs.Span.{Covers, RunsFrom, IsRuns, IsRunsOf, TouchesNone}
-use Rattle.serial_set.specs.Pages.{above, replaced, CutsNone, end_of, IsWidened}
+use Rattle.serial_set.specs.Span.{Covers, IsRuns, IsRunsOf, TouchesNone}
+use Rattle.serial_set.specs.Pages.{replaced, CutsNone, end_of, IsWidened}
 use Rattle.serial_set.proofs.InPage.{runs_each, replaced_at, end-replaced, above_all, replaced_middle}
 use Rattle.serial_set.proofs.InParts.{runs_right, runs_part, runs_take, past_part, flat_at, flat_set}
 use Rattle.serial_set.proofs.Rising.{runs_front}

@@ -1,5 +1,5 @@
 -- Spans behind a gap.
-use Rattle.std.proofs.Common.{◌≡◌, ℕ, ◌+◌, ◌≤◌, List, ◌∷◌, ◌++◌, length, take, drop, ap, sym, subst, ◌∙◌, arith}
+use Rattle.std.proofs.Common.{◌≡◌, ℕ, ◌+◌, ◌≤◌, List, ◌∷◌, ◌++◌, length, take, drop, ap, sym, ◌∙◌, arith}
 use Rattle.std.proofs.lemmas.List.{drop-take, drop-drop, drop-append-le, length-take-le}
 
 pub put_within : {X : Type 0} (xs : List X) (gap at : ℕ) (x : X) → gap + at ≤ length xs → drop gap (take (gap + at) xs ++ x ∷ drop (gap + at) xs) ≡ take at (drop gap xs) ++ x ∷ drop at (drop gap xs)

@@ -54,7 +54,8 @@ pub record IsWidened (spans : List Span) (lo hi : ℕ) (new : Span) : Type 0 whe
   pub joins : (s : ℕ) → new.lo ≤ s → s ≤ new.hi → Covers spans s ⊎ ((lo ≤ s) × (s ≤ hi))
 
 -- one of the parts in a row has room, and a span at a number would stand in it
-pub record HasRoomFor {X : Type 0} (spans_in : X → List Span) (HasRoom : X → ℕ → Type 0) (parts : List X) (number : ℕ) : Type 0 where
+pub record HasRoomFor {X : Type 0} (spans_in : X → List Span) (HasRoom : X → ℕ → Type 0)
+    (parts : List X) (number : ℕ) : Type 0 where
   pub at : ℕ
   pub within : at < length parts
   pub before : All (λ t. t.hi < number) (flat_map spans_in (take at parts))

@@ -12,7 +12,7 @@ use std::alloc::{AllocError, Global};
 
 type Root = Shelf<Shelf<Page>>;
 
-/// The runs in pages of at most 512, and the pages on shelves. An addition moves the spans of one
+/// The runs in pages of at most 256, and the pages on shelves. An addition moves the spans of one
 /// page, whatever the order of the additions, and a page that is filled in order stays full.
 #[derive(Drop)]
 pub struct SpanPages {

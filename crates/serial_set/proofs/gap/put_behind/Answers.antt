@@ -1,4 +1,4 @@
-use Rattle.std.proofs.Common.{◌≡◌, ◌+◌, ◌∷◌, ◌++◌, List, take, drop, ap, sym, ◌∙◌, arith}
+use Rattle.std.proofs.Common.{drop, ap, ◌∙◌}
 use Rattle.serial_set.proofs.Behind.{put_within}
 use Rattle.serial_set.proofs.gap.put_behind.Goals as goal
 

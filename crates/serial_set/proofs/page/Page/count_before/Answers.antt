@@ -1,6 +1,5 @@
-use Rattle.std.proofs.Common.{◌<◌, ◌≤◌, length, get_or, drop, subst, ap, arith, length-drop}
+use Rattle.std.proofs.Common.{◌≤◌, length, get_or, drop, subst, ap, arith, length-drop}
 use Rattle.serial_set.specs.declared.span.Span.{Span}
-use Rattle.serial_set.specs.Pages.{end_of}
 use Rattle.serial_set.proofs.Ends.{count_all, count_none}
 use Rattle.serial_set.proofs.page.Page.count_before.Goals as goal
 

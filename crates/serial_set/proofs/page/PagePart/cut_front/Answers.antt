@@ -1,4 +1,4 @@
-use Rattle.std.proofs.Common.{◌<◌, length, drop, subst, sym, ap, ◌∙◌, arith}
+use Rattle.std.proofs.Common.{length, drop, sym, ap, ◌∙◌, arith}
 use Rattle.serial_set.specs.Pages.{above, end_of}
 use Rattle.serial_set.proofs.InPage.{above_end, above_some, runs_each}
 use Rattle.serial_set.proofs.page.PagePart.cut_front.Goals as goal

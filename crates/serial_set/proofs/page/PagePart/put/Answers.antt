@@ -1,4 +1,4 @@
-use Rattle.std.proofs.Common.{◌<◌, length, drop, subst, sym, ap, ◌∙◌, max, arith}
+use Rattle.std.proofs.Common.{length, drop, subst, sym, ap, ◌∙◌, max, arith}
 use Rattle.serial_set.specs.Pages.{end_of, CutsNone}
 use Rattle.serial_set.specs.Span.{IsRuns}
 use Rattle.serial_set.proofs.InPage.{end-replaced, replaced_some}
