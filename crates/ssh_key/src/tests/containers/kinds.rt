@@ -121,3 +121,22 @@ fn ed25519_of_a_device(rt: HostRuntime) -> Result<(), Fail> {
     let other = strings(alloc, &[name, &[0x11; 32], b"ssh:"])?;
     differs(&rt, alloc, &blob, &of_device(alloc, &other)?)
 }
+
+/// The blob of an Ed25519 key of a device whose application has so many bytes.
+fn ed25519_blob(alloc: Global, size: usize) -> Result<Vec<u8>, Fail> {
+    let application = vec![in alloc; b'x'; size]?;
+    strings(
+        alloc,
+        &[b"sk-ssh-ed25519@openssh.com", &PUBLISHED, &application],
+    )
+}
+
+#[test]
+fn large_applications(rt: HostRuntime) -> Result<(), Fail> {
+    let alloc = rt.alloc();
+    for size in [255, 1_025, 4_097, 65_466] {
+        let blob = ed25519_blob(alloc, size)?;
+        reads(&rt, alloc, &blob, &of_device(alloc, &blob)?)?;
+    }
+    Ok(())
+}

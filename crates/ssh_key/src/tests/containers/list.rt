@@ -116,6 +116,16 @@ fn paddings(rt: HostRuntime) -> Result<(), Fail> {
     padded(&rt, alloc, b"a", &rising(alloc, 254)?)
 }
 
+#[test]
+fn large_comments(rt: HostRuntime) -> Result<(), Fail> {
+    let alloc = rt.alloc();
+    for size in [255, 1_025, 4_097, 65_536, 300_000] {
+        let comment = vec![in alloc; b'c'; size]?;
+        padded(&rt, alloc, &comment, &[1, 2])?;
+    }
+    Ok(())
+}
+
 /// The container of the published key with this padding is refused.
 fn badly_padded(rt: &impl Abort, alloc: Global, padding: &[u8]) -> Result<(), Fail> {
     let fields = published_fields(alloc)?;
