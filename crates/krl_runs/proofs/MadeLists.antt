@@ -5,6 +5,7 @@ use Rattle.std.specs.List.{Contains}
 use Rattle.std.proofs.lemmas.List.{append-nil, get_or-map, length-append, length-map, take_more, take-append-drop}
 use Rattle.ssh_wire.specs.Fields.{length-string}
 use Rattle.ssh_wire.specs.Wire.{string}
+use Rattle.ssh_key.specs.Container.{IsContainer}
 use Rattle.ssh_key.specs.Kind.{type_name}
 use Rattle.ssh_cert.specs.Subject.{Subject}
 use Rattle.ssh_cert.specs.SubjectReading.{IsSubject, plain_key, certified}
@@ -63,6 +64,11 @@ plain_has_bytes blob asked (plain_key key is same) =
     rw same (omega (arith, ap length is.spelled, length-append (string (type_name key.kind)) key.fields, length-string (type_name key.kind)))
 plain_has_bytes blob asked (certified certificate is same) =
     rw same (omega (arith, length-append (string (type_name certificate.key.kind)) certificate.key.fields, length-string (type_name certificate.key.kind)))
+
+-- the key of a container has some bytes
+pub inside_has_bytes : (text blob comment : List ℕ) → IsContainer text blob comment → 0 < length blob
+inside_has_bytes text blob comment is =
+    omega (arith, ap length is.is_key.spelled, length-append (string (type_name is.key.kind)) is.key.fields, length-string (type_name is.key.kind))
 
 -- ---- the files
 

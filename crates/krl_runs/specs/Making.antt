@@ -11,9 +11,12 @@ use Rattle.krl_core.specs.Reading.{Says}
 use Rattle.krl_core.specs.Revoked.{Revoked}
 use Rattle.krl_core.specs.declared.header.Header.{Header}
 use Rattle.krl_core.specs.declared.krl_fault.KrlFault.{KrlFault}
+use Rattle.ssh_key.specs.Armour.{begins_container}
+use Rattle.ssh_key.specs.ContainerReading.{Opened, private_at}
 use Rattle.ssh_key.specs.KeyFile.{has_key}
 use Rattle.ssh_key.specs.LineReading.{Content, line_at}
 use Rattle.ssh_key.specs.declared.line_fault.LineFault.{LineFault}
+use Rattle.ssh_key.specs.declared.private_fault.PrivateFault.{PrivateFault}
 use Rattle.ssh_cert.specs.Subject.{Subject}
 use Rattle.ssh_cert.specs.SubjectReading.{subject_of}
 use Rattle.ssh_cert.specs.declared.subject_fault.SubjectFault.{SubjectFault}
@@ -55,9 +58,16 @@ first_key_from name number [] = Err (stop_of name (causes.File files.NoKeys))
 first_key_from name number (line ∷ lines) =
     if has_key line then line_key name number line else first_key_from name (number + 1) lines
 
+-- the key of a container, whose faults have no line
+abbrev pub inside_key : List ℕ → Result Opened PrivateFault → Result (List ℕ) Stop
+inside_key name (Ok opened) = Ok opened.blob
+inside_key name (Err fault) = Err (stop_of name (causes.Private fault))
+
 -- the first key of a file's text
 unfoldable pub first_key_of : List ℕ → List ℕ → Result (List ℕ) Stop
-first_key_of name text = first_key_from name 1 (slice_split is_newline text)
+first_key_of name text =
+    if begins_container text then inside_key name (private_at text)
+    else first_key_from name 1 (slice_split is_newline text)
 
 abbrev pub content_first_key : List ℕ → Result (List ℕ) FileFault → Result (List ℕ) Stop
 content_first_key name (Ok text) = first_key_of name text

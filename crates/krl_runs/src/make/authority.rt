@@ -1,8 +1,11 @@
 // The authority of serials and key IDs that name none themselves.
 
 ghost use Rattle.std.specs.Prelude.{◌≡◌, ◌∷◌, ◌<◌, [], Some, IfOk, length};
-ghost use Rattle.krl_runs.specs.Making.{IsSigner, Returns, authority_names, authority_of, first_key_of, line_key, signer_authority};
+ghost use Rattle.std.specs.List.{slice_split};
+ghost use Rattle.ssh_key.specs.ContainerReading.{private_at};
+ghost use Rattle.krl_runs.specs.Making.{IsSigner, Returns, authority_names, authority_of, first_key_from, first_key_of, inside_key, line_key, signer_authority};
 ghost use Rattle.krl_runs.specs.SpecEntry.{IsUnder, authority_under};
+ghost use Rattle.krl_runs.specs.Split.{is_newline};
 
 use crate::input::file_fault::FileFault;
 use crate::input::named::Named;
@@ -11,7 +14,7 @@ use crate::output::cause::Cause;
 use crate::output::run_fault::RunFault;
 use crate::spec_file::under::Under;
 use ssh_cert::{Subject, SubjectFault, subject};
-use ssh_key::{LineFault, has_key, read_line};
+use ssh_key::{LineFault, PrivateFault, has_key, is_container, read_line, read_private};
 use ssh_wire::Bytes;
 use std::alloc::Global;
 
@@ -68,6 +71,32 @@ pub fn signer_of<'a>(alloc: Global, authority: &'a Authority<'a>) -> Result<Sign
 #[tactic(auto, unfolding(crate::specs::Making::first_key_of))]
 fn first_key<'a>(alloc: Global, name: &'a str, text: &[u8]) -> Result<Bytes, RunFault<'a>>
     ensures read { Returns (λ blob. blob) (name.now ∷ []) (first_key_of name.now text.now) result }
+    ensures some { IfOk result (λ blob. 0 < length blob) }
+{
+    if is_container(text) {
+        key_inside(alloc, name, text)
+    } else {
+        first_line_key(alloc, name, text)
+    }
+}
+
+/// The blob of the key of a container. A fault of it has no line.
+fn key_inside<'a>(alloc: Global, name: &'a str, text: &[u8]) -> Result<Bytes, RunFault<'a>>
+    ensures read { Returns (λ blob. blob) (name.now ∷ [])
+        (inside_key name.now (private_at text.now)) result }
+    ensures some { IfOk result (λ blob. 0 < length blob) }
+{
+    match read_private(alloc, text) {
+        Ok(private) => Ok(private.blob),
+        Err(PrivateFault::NoMemory) => Err(RunFault::whole(name, Cause::NoMemory)),
+        Err(fault) => Err(RunFault::whole(name, Cause::Private(fault))),
+    }
+}
+
+/// The blob of the first key of a text's lines.
+fn first_line_key<'a>(alloc: Global, name: &'a str, text: &[u8]) -> Result<Bytes, RunFault<'a>>
+    ensures read { Returns (λ blob. blob) (name.now ∷ [])
+        (first_key_from name.now 1 (slice_split is_newline text.now)) result }
     ensures some { IfOk result (λ blob. 0 < length blob) }
 {
     let mut rest = text;

@@ -10,14 +10,14 @@ use std::test::*;
 
 /// The private list of the published key and the comment `a`, with its second check word and its
 /// last byte.
-fn list(alloc: Global, again: u8, last: u8) -> Result<Vec<u8>, Fail> {
+pub fn list(alloc: Global, again: u8, last: u8) -> Result<Vec<u8>, Fail> {
     let fields = strings(alloc, &[&[0; 64], b"a"])?;
     let checks = [0, 0, 0, 1, 0, 0, 0, again];
     Ok(joined(alloc, &[&checks, &GITHUB, &fields, &[1, 2, 3, last]])?)
 }
 
 /// A file of the container with this cipher and this private list.
-fn container(alloc: Global, cipher: &str, list: &[u8]) -> Result<Vec<u8>, Fail> {
+pub fn container(alloc: Global, cipher: &str, list: &[u8]) -> Result<Vec<u8>, Fail> {
     let names = strings(alloc, &[cipher.as_bytes(), b"none", b""])?;
     let keys = strings(alloc, &[&GITHUB, list])?;
     let bytes = joined(alloc, &[b"openssh-key-v1\0", &names, &[0, 0, 0, 1], &keys])?;

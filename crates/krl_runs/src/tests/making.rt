@@ -7,6 +7,7 @@ use crate::make::run::{Old, make_run};
 use crate::output::run_fault::fault_text;
 use crate::tests::bytes::{GITHUB, HEADER, ONE_KEY, even_key, joined, repeated};
 use crate::tests::certificates::{certificate, line_of};
+use crate::tests::containers::{container, list};
 use crate::tests::runs::{File, GITHUB_LINE, OTHER_LINE, named};
 use ssh_wire::{Bytes, FromRead};
 use std::alloc::Global;
@@ -67,9 +68,13 @@ fn made_of<'a>(
 /// The lines make a list of version 1 under all authorities with these sections.
 fn makes(rt: &impl Abort, alloc: Global, lines: &[u8], sections: &[u8]) -> Result<(), Fail> {
     let want = joined(alloc, &[&HEADER, sections])?;
-    let parts = [lines];
-    let file = ("s", Some(parts.as_slice()));
-    let made = made(alloc, None, Authority::All, Some(1), &[file])?;
+    let made = made(
+        alloc,
+        None,
+        Authority::All,
+        Some(1),
+        &[("s", Some(&[lines]))],
+    )?;
     assert_eq!(rt; made.fault.as_slice(), b"".as_slice());
     assert_eq!(rt; made.list.as_slice(), want.as_slice());
     Ok(())
@@ -85,9 +90,7 @@ fn refuses(
     fault: &str,
 ) -> Result<(), Fail> {
     let want = format!(in alloc; "ssh-keygen: {fault}")?;
-    let parts = [lines];
-    let file = ("s", Some(parts.as_slice()));
-    let made = made(alloc, old, authority, None, &[file])?;
+    let made = made(alloc, old, authority, None, &[("s", Some(&[lines]))])?;
     assert_eq!(rt; made.fault.as_slice(), want.as_bytes());
     Ok(())
 }
@@ -100,9 +103,13 @@ fn updates(
     lines: &[u8],
     want: &[u8],
 ) -> Result<(), Fail> {
-    let parts = [lines];
-    let file = ("s", Some(parts.as_slice()));
-    let made = made(alloc, Some(old), Authority::All, None, &[file])?;
+    let made = made(
+        alloc,
+        Some(old),
+        Authority::All,
+        None,
+        &[("s", Some(&[lines]))],
+    )?;
     assert_eq!(rt; made.fault.as_slice(), b"".as_slice());
     assert_eq!(rt; made.list.as_slice(), want);
     Ok(())
@@ -329,6 +336,38 @@ fn the_first_key_of_the_file_is_the_authority(rt: HostRuntime) -> Result<(), Fai
     assert_eq!(rt; made.fault.as_slice(), b"".as_slice());
     assert_eq!(rt; made.list.as_slice(), want.as_slice());
     Ok(())
+}
+
+#[test]
+fn the_key_of_a_container_is_the_authority(rt: HostRuntime) -> Result<(), Fail> {
+    let alloc = rt.alloc();
+    let text = container(alloc, "none", &list(alloc, 1, 4)?)?;
+    let sections: [&[u8]; 4] = [
+        &HEADER,
+        b"\x01\0\0\0\x48\0\0\0\x33",
+        &GITHUB,
+        b"\0\0\0\0\x20\0\0\0\x08\0\0\0\0\0\0\0\x05",
+    ];
+    let want = joined(alloc, &sections)?;
+    let authority = authority_in(alloc, &text)?;
+    let made = made(
+        alloc,
+        None,
+        authority,
+        Some(1),
+        &[("s", Some(&[b"serial: 5"]))],
+    )?;
+    assert_eq!(rt; made.fault.as_slice(), b"".as_slice());
+    assert_eq!(rt; made.list.as_slice(), want.as_slice());
+    Ok(())
+}
+
+#[test]
+fn a_container_that_is_none(rt: HostRuntime) -> Result<(), Fail> {
+    let alloc = rt.alloc();
+    let text = container(alloc, "none", &list(alloc, 2, 4)?)?;
+    let authority = authority_in(alloc, &text)?;
+    refuses(&rt, alloc, None, authority, b"x", "ca: private 6 Check")
 }
 
 #[test]

@@ -1,13 +1,13 @@
 -- The lines so far have no key.
 use Rattle.std.proofs.Common.{◌≡◌, ◌+◌, ◌≤◌, length}
 use Rattle.std.specs.List.{slice_split}
-use Rattle.krl_runs.specs.Making.{first_key_from, first_key_of}
+use Rattle.krl_runs.specs.Making.{first_key_from}
 use Rattle.krl_runs.specs.Split.{is_newline}
-use Rattle.krl_runs.proofs.make.authority.first_key.Given as goal
+use Rattle.krl_runs.proofs.make.authority.first_line_key.Given as goal
 
 abbrev pub invariant-lines : goal.invariant-lines
 invariant-lines l = record {
-  same : first_key_of l.name l.fn.text ≡ first_key_from l.name (l.passed + 1) (slice_split is_newline l.rest);
+  same : first_key_from l.name 1 (slice_split is_newline l.fn.text) ≡ first_key_from l.name (l.passed + 1) (slice_split is_newline l.rest);
   counted : l.passed + length l.rest ≤ length l.fn.text;
 }
 
