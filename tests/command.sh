@@ -14,6 +14,65 @@ expect 'contents are printed by no hash' 2 '' "$usage" -Q -l -E md5 -f r.krl
 expect 'a query takes no hash' 2 '' "$usage" -Q -E md5 -f r.krl g.pub
 expect 'a hash of another name' 2 '' "$usage" -l -E sha1 -f g.pub
 expect 'an empty hash' 2 '' "$usage" -l -E '' -f g.pub
+expect 'making without a list' 2 '' "$usage" -k g.pub
+expect 'making and asking' 2 '' "$usage" -k -Q -f r.krl
+expect 'making and listing' 2 '' "$usage" -k -l -f r.krl
+expect 'keys and certificates' 2 '' "$usage" -l -L -f g.pub
+expect 'certificates and a query' 2 '' "$usage" -Q -L -f r.krl
+expect 'making takes no hash' 2 '' "$usage" -k -E md5 -f made.krl
+expect 'a query updates nothing' 2 '' "$usage" -Q -u -f r.krl
+expect 'a query takes no authority' 2 '' "$usage" -Q -s none -f r.krl
+expect 'a listing takes no version' 2 '' "$usage" -l -z 1 -f g.pub
+for version in '' +1 0x1 1a 18446744073709551616 000000000000000000001; do
+  expect "the version '$version'" 2 '' "$usage" -k -f made.krl -z "$version"
+done
+judge 'nothing is made of a misuse' "$(ls made.krl 2>/dev/null)"
+
+# list_of DIGITS: the bytes of the list that was made, but for its date.
+list_of() {
+  local digits
+  digits=$(od -An -v -tx1 made.krl | tr -d ' \n')
+  printf %s "${digits:0:40}${digits:56}"
+}
+# makes NAME DIGITS WORD..: a list is made, with these bytes but for its date.
+makes() {
+  local name=$1 digits=$2
+  shift 2
+  expect "$name" 0 '' '' -k -f made.krl "$@"
+  judge "$name: the list" "$(differs 'the list' "$digits" "$(list_of)")"
+}
+five=01000000150000000000000000200000000800000000000000 && five+=05
+head=${H:0:24}
+rest=${H:56}
+printf 'serial: 5\n' >five
+printf 'serial: 6\n' >six
+makes 'a list of one serial' "${head}0000000000000001$rest$five" -s none -z 1 five
+makes 'a list of no file' "${head}0000000000000000$rest"
+makes 'an authority for all in capitals' "${head}0000000000000000$rest$five" -s NONE five
+exec <five
+makes 'a list of standard input' "${head}0000000000000014$rest$five" \
+  -z 00000000000000000020 -s none -
+exec </dev/null
+six=010000001a000000000000000022 && six+=0000000d00000000000000050000000103
+makes 'an update' "${head}0000000000000015$rest$six" -u -s none six
+makes 'an update with a version' "${head}ffffffffffffffff$rest$six" \
+  -u -z 18446744073709551615 -s none
+expect 'an update past the greatest version' 255 '' \
+  $'ssh-keygen: made.krl: run 2 VersionFull\n' -k -u -f made.krl -s none six
+expect 'a line without an authority' 255 '' $'ssh-keygen: six: line 1: spec 4 NoAuthority\n' \
+  -k -f made.krl six
+expect 'a specification file that is not there' 255 '' $'ssh-keygen: none: file 1 Open\n' \
+  -k -f made.krl -s none none
+judge 'a refused list is not written' "$(
+  differs 'the list' "${head}ffffffffffffffff$rest$six" "$(list_of)"
+)"
+expect 'an update of a list that is not there' 255 '' $'ssh-keygen: new.krl: file 1 Open\n' \
+  -k -u -f new.krl -s none six
+judge 'nothing is made of it' "$(ls new.krl 2>/dev/null)"
+expect 'a list in a folder that is not there' 255 '' $'ssh-keygen: no/l: file 1 Open\n' -k -f no/l
+expect 'a full device' 255 '' $'ssh-keygen: /dev/full: output 1 Write after 0 bytes\n' \
+  -k -f /dev/full
+rm made.krl
 expect 'a file name that is not UTF-8' 2 '' "$usage" -l -f $'\xff'
 expect 'a word that is not UTF-8' 2 '' "$usage" $'-\xc0'
 

@@ -1,30 +1,31 @@
-//! Lists public keys, and asks key revocation lists about them, as ssh-keygen(1) does.
+//! Lists keys, and makes, prints and asks key revocation lists, as ssh-keygen(1) does.
 #![tactic(auto)]
 
-ghost use Rattle.std.specs.Prelude.{◌≡◌, None, Some};
+ghost use Rattle.std.specs.Prelude.{◌≡◌, None, Some, false};
+ghost use Rattle.std.specs.Option.{ForSome};
 ghost use Rattle.krl_tool.specs.Command.{command_fault_status};
 
 mod command;
+mod files;
 mod given;
 mod job;
 mod options;
 
 use crate::command::{CommandFault, command_of};
+use crate::files::{open, open_authority, open_inputs, open_list, open_or_input};
 use crate::job::{Job, Mode};
 use krl_runs::{
-    Cause, Done, FAILED, FileFault, Named, RunFault, fault_text, list_run, load, query_run,
+    Cause, Done, FAILED, FileFault, Old, RunFault, fault_text, list_run, make_run, query_run,
 };
-use ssh_wire::{FromRead, ToWrite, send};
+use ssh_wire::{FromRead, Source, ToWrite, send};
 use std::env;
 use std::fs::{self, File};
 use std::io::{self, BufReader, ErrorKind};
 use std::process::ExitCode;
+use std::time::{SystemTime, UNIX_EPOCH};
 
 /// The status of a command line that asks for nothing that the program does.
 const MISUSED: u8 = 2;
-
-/// How many bytes of a list are read ahead.
-const BUFFER: usize = 65_536;
 
 fn main(rt: HostRuntime) -> ExitCode {
     ExitCode::from(run(&rt))
@@ -56,18 +57,16 @@ fn fault_of_words(error: &io::Error) -> CommandFault {
 fn run_job(rt: &HostRuntime, job: &Job) -> u8 {
     match job.mode {
         Mode::Keys => list_keys(rt, job),
-        Mode::Certs | Mode::Make => refuse(rt, &CommandFault::Usage),
+        // Certificates are not listed yet.
+        Mode::Certs => refuse(rt, &CommandFault::Usage),
+        Mode::Make => make_list(rt, job),
         Mode::Query => ask_list(rt, job),
     }
 }
 
 /// `-l`: lists the keys of the file.
 fn list_keys(rt: &HostRuntime, job: &Job) -> u8 {
-    let file = if job.file == "-" {
-        load(rt.alloc(), job.file, &mut FromRead::new(rt.stdin()))
-    } else {
-        open(rt, job.file)
-    };
+    let file = open_or_input(rt, job.file);
     let mut out = ToWrite::new(rt.stdout());
     end(rt, &list_run(rt.alloc(), job.hash, &file, &mut out))
 }
@@ -97,25 +96,76 @@ fn ask_list(rt: &HostRuntime, job: &Job) -> u8 {
     end(rt, &done)
 }
 
-/// The list of this name, behind a buffer: it is read a field at a time.
-fn open_list(rt: &HostRuntime, name: &str) -> Result<BufReader<File>, Cause> {
-    let Ok(file) = fs::open(rt, name) else {
-        return Err(Cause::File(FileFault::Open));
-    };
-    match BufReader::with_capacity(rt.alloc(), BUFFER, file) {
-        Ok(list) => Ok(list),
-        Err(_) => Err(Cause::NoMemory),
+/// `-k`: makes a list, of the old one where `-u` is given.
+fn make_list(rt: &HostRuntime, job: &Job) -> u8 {
+    if !job.update {
+        return write_over(rt, job, None::<FromRead<BufReader<File>>>);
+    }
+    match open_list(rt, job.file) {
+        Ok(list) => write_over(rt, job, Some(FromRead::new(list))),
+        Err(cause) => end(rt, &failed(job.file, cause)),
     }
 }
 
-/// The file of this name.
-fn open<'a>(rt: &HostRuntime, name: &'a str) -> Named<'a> {
-    match fs::open(rt, name) {
-        Ok(file) => load(rt.alloc(), name, &mut FromRead::new(file)),
-        Err(_) => Named {
-            name,
-            content: Err(FileFault::Open),
+/// Makes the list over an old one, and writes it once all of it is made.
+fn write_over<R: Source + Drop>(rt: &HostRuntime, job: &Job, list: Option<R>) -> u8
+    requires { ForSome list (λ reader. R.has_failed reader ≡ false) }
+{
+    let authority = open_authority(rt, &job.authority);
+    let files = match open_inputs(rt, job.files.as_slice()) {
+        Ok(files) => files,
+        Err(fault) => return end(rt, &stopped(fault)),
+    };
+    let old = Old {
+        name: job.file,
+        list,
+    };
+    match make_run(
+        rt.alloc(),
+        old,
+        &authority,
+        job.version,
+        files.as_slice(),
+        moment(rt),
+    ) {
+        Ok(text) => write(rt, job.file, &text),
+        Err(fault) => end(rt, &stopped(fault)),
+    }
+}
+
+/// The seconds since 1970. A clock that cannot be read, or shows an earlier time, counts as 0.
+fn moment(rt: &HostRuntime) -> u64 {
+    match SystemTime::now(rt) {
+        Ok(now) => match now.duration_since(UNIX_EPOCH) {
+            Ok(passed) => passed.as_secs(),
+            Err(_) => 0,
         },
+        Err(_) => 0,
+    }
+}
+
+/// Writes the file of this name, in place of what it held.
+fn write(rt: &HostRuntime, name: &str, text: &[u8]) -> u8 {
+    let Ok(file) = fs::create(rt, name) else {
+        return end(rt, &failed(name, Cause::File(FileFault::Open)));
+    };
+    match send(&mut ToWrite::new(file), text) {
+        Ok(()) => 0,
+        Err(part) => {
+            let count = part.count as u64;
+            end(rt, &failed(name, Cause::Output { count }))
+        }
+    }
+}
+
+/// A run that ended with a fault and said nothing.
+fn stopped(fault: RunFault<'_>) -> Done<'_>
+    ensures status { result.status ≡ 255 }
+    ensures fault { result.fault ≡ Some fault.entry }
+{
+    Done {
+        status: FAILED,
+        fault: Some(fault),
     }
 }
 
@@ -124,10 +174,7 @@ fn failed(name: &str, cause: Cause) -> Done<'_>
     ensures status { result.status ≡ 255 }
     ensures fault { result.fault ≡ Some (record { name = name.now; line = None; cause = cause }) }
 {
-    Done {
-        status: FAILED,
-        fault: Some(RunFault::whole(name, cause)),
-    }
+    stopped(RunFault::whole(name, cause))
 }
 
 /// Tells why the run stopped, if it did, and gives its status.

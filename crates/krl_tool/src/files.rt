@@ -1,0 +1,65 @@
+// The files that the command names.
+
+use crate::job::AuthorityName;
+use krl_runs::{Authority, Cause, FileFault, Named, RunFault, load};
+use ssh_wire::FromRead;
+use std::fs::{self, File};
+use std::io::BufReader;
+
+/// How many bytes of a list are read ahead.
+const BUFFER: usize = 65_536;
+
+/// The list of this name, behind a buffer: it is read a field at a time.
+pub fn open_list(rt: &HostRuntime, name: &str) -> Result<BufReader<File>, Cause> {
+    let Ok(file) = fs::open(rt, name) else {
+        return Err(Cause::File(FileFault::Open));
+    };
+    match BufReader::with_capacity(rt.alloc(), BUFFER, file) {
+        Ok(list) => Ok(list),
+        Err(_) => Err(Cause::NoMemory),
+    }
+}
+
+/// The file of this name.
+pub fn open<'a>(rt: &HostRuntime, name: &'a str) -> Named<'a> {
+    match fs::open(rt, name) {
+        Ok(file) => load(rt.alloc(), name, &mut FromRead::new(file)),
+        Err(_) => Named {
+            name,
+            content: Err(FileFault::Open),
+        },
+    }
+}
+
+/// The file of this name, or standard input where the name is `-`.
+pub fn open_or_input<'a>(rt: &HostRuntime, name: &'a str) -> Named<'a> {
+    if name == "-" {
+        load(rt.alloc(), name, &mut FromRead::new(rt.stdin()))
+    } else {
+        open(rt, name)
+    }
+}
+
+/// The files of these names, each `-` standard input.
+pub fn open_inputs<'a>(
+    rt: &HostRuntime,
+    names: &[&'a str],
+) -> Result<Vec<Named<'a>>, RunFault<'a>> {
+    let mut files = Vec::new(rt.alloc());
+    for name in names {
+        let name = *name;
+        if files.push(open_or_input(rt, name)).is_err() {
+            return Err(RunFault::whole(name, Cause::NoMemory));
+        }
+    }
+    Ok(files)
+}
+
+/// What `-s` names: its file is read.
+pub fn open_authority<'a>(rt: &HostRuntime, name: &AuthorityName<'a>) -> Authority<'a> {
+    match name {
+        AuthorityName::NotGiven => Authority::NotGiven,
+        AuthorityName::All => Authority::All,
+        AuthorityName::File(name) => Authority::File(open(rt, *name)),
+    }
+}
