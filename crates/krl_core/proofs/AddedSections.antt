@@ -1,23 +1,17 @@
 -- Additions keep the order of what is held, and mean one entry more.
-use Rattle.std.proofs.Common.{◌≡◌, ℕ, ◌+◌, ◌<◌, ◌≤◌, ◌^◌, ◌⊎◌, List, [], ◌∷◌, ◌++◌, length, map, refl, sym, ap, subst, ◌∙◌, inl, inr, arith}
-use Rattle.std.specs.Prelude.{◌↔◌, sum_by, ⊤}
+use Rattle.std.proofs.Common.{◌≡◌, ℕ, ◌+◌, ◌<◌, ◌≤◌, ◌^◌, ◌⊎◌, List, [], ◌∷◌, ◌++◌, length, sym, ap, subst, inl, inr, arith}
 use Rattle.std.specs.List.{Contains, All}
-use Rattle.std.proofs.lemmas.List.{append-nil}
-use Rattle.std.proofs.lemmas.List.Elements.{All-append, All-cons, All-head, All-tail, All-take, All-drop, Contains-push, Contains-push_cases, Contains-append_left, Contains-append_right, Contains-append_cases}
+use Rattle.std.proofs.lemmas.List.Elements.{All-cons, All-head, All-tail, Contains-append_left, Contains-append_right, Contains-append_cases}
 use Rattle.std.proofs.lemmas.List.Sums.{sum_by-cons, sum_by-append}
 use Rattle.serial_set.specs.declared.span.Span.{Span}
 use Rattle.serial_set.specs.Span.{Covers, IsRuns, AreSerials}
 use Rattle.krl_core.specs.declared.addition.Addition.{Addition}
-use Rattle.krl_core.specs.declared.addition.Addition.TheVariants.{Serials, Id}
+use Rattle.krl_core.specs.declared.addition.Addition.TheVariants.{Serials}
 use Rattle.krl_core.specs.Rising.{RisesBy, Rises}
-use Rattle.krl_core.specs.Inserting.{Inserts}
-use Rattle.krl_core.specs.Changes.{Takes, TakesSerials, TakesId, ChangesOne, Starts, AddsTo, Puts, empty_section}
-use Rattle.krl_core.specs.Contents.{Section, SomeSection, IsListed, size_of, section_size}
-use Rattle.krl_core.specs.Entry.{Entry, SerialsEntry, RangeEntry, BitmapEntry, IdEntry, KeyEntry, Sha1Entry, Sha256Entry}
-use Rattle.krl_core.specs.Naming.{NamesAt, SomeNamesAt}
+use Rattle.krl_core.specs.Changes.{Takes, TakesSerials, TakesId, AddsTo, Puts, empty_section}
+use Rattle.krl_core.specs.Contents.{Section, IsListed, size_of}
 use Rattle.krl_core.proofs.Members.{inserts_rise, contains_none, contains_here, contains_cases}
-use Rattle.krl_core.proofs.Shelving.{takes_authority, rises_changed, changes_rise}
-use Rattle.krl_core.proofs.SomeSections.{Step, sum_adds}
+use Rattle.krl_core.proofs.Shelving.{changes_rise}
 
 -- ---- byte strings that are put in
 

@@ -1,20 +1,16 @@
 -- What an addition does to all that is held.
-use Rattle.std.proofs.Common.{◌≡◌, ℕ, ◌+◌, ◌<◌, ◌≤◌, ◌^◌, ◌⊎◌, List, [], ◌∷◌, ◌++◌, Bor, length, map, refl, sym, ap, subst, ◌∙◌, inl, inr, arith}
-use Rattle.std.specs.Prelude.{◌↔◌, sum_by}
+use Rattle.std.proofs.Common.{◌≡◌, ℕ, ◌<◌, ◌≤◌, ◌^◌, ◌⊎◌, List, [], ◌∷◌, ◌++◌, Bor, subst, inl, inr}
+use Rattle.std.specs.Prelude.{◌↔◌}
 use Rattle.std.specs.List.{Contains, All}
 use Rattle.serial_set.specs.Span.{Covers}
-use Rattle.krl_core.specs.declared.addition.Addition.{Addition}
 use Rattle.krl_core.specs.declared.addition.Addition.TheVariants.{Serials, Id}
-use Rattle.krl_core.specs.Rising.{RisesBy, Rises}
-use Rattle.krl_core.specs.Inserting.{Inserts}
-use Rattle.krl_core.specs.Changes.{Takes, AddsTo, Puts, empty_section}
-use Rattle.krl_core.specs.Contents.{Section, Contents, contents_of, SomeSection, HoldsSerial, HoldsId, IsNamed, IsListed, IsOrderly, Means, held, stored, size_of, section_size}
-use Rattle.krl_core.specs.Entry.{Entry, SerialsEntry, RangeEntry, BitmapEntry, IdEntry, KeyEntry, Sha1Entry, Sha256Entry}
+use Rattle.krl_core.specs.Rising.{RisesBy}
+use Rattle.krl_core.specs.Changes.{AddsTo}
+use Rattle.krl_core.specs.Contents.{Section, contents_of, IsListed, IsOrderly, Means}
+use Rattle.krl_core.specs.Entry.{Entry, RangeEntry, IdEntry, KeyEntry, Sha1Entry, Sha256Entry}
 use Rattle.krl_core.specs.Naming.{NamesAt, SomeNamesAt}
-use Rattle.krl_core.proofs.Members.{contains_here, contains_later, absent_parts}
-use Rattle.krl_core.proofs.Shelving.{takes_authority}
-use Rattle.krl_core.proofs.AddedSections.{put_rises, put_to, put_from, put_size, adds_rise, adds_listed, serials_listed, takes_id_listed}
-use Rattle.krl_core.proofs.SomeSections.{Step, some_adds, some_at, sum_adds, sum_middle}
+use Rattle.krl_core.proofs.AddedSections.{adds_rise, adds_listed, serials_listed, takes_id_listed}
+use Rattle.krl_core.proofs.SomeSections.{some_adds}
 use Rattle.krl_core.proofs.Entries.{names_to, names_from, other_entry, serials_step, serials_ids_step, id_step, id_serials_step}
 use Rattle.std.proofs.lemmas.List.Elements.{Contains-push, Contains-push_cases, Contains-append_left}
 

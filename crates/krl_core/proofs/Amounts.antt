@@ -1,12 +1,11 @@
 -- How much more an addition holds and stores.
-use Rattle.std.proofs.Common.{◌≡◌, ℕ, ◌+◌, ◌<◌, ◌≤◌, ◌⊎◌, List, [], ◌∷◌, ◌++◌, Bor, length, map, refl, sym, ap, subst, ◌∙◌, inl, inr, arith}
+use Rattle.std.proofs.Common.{◌≡◌, ℕ, ◌+◌, ◌≤◌, List, [], ◌∷◌, ◌++◌, Bor, length, map, refl, sym, ap, subst, ◌∙◌, inl, inr, arith}
 use Rattle.std.specs.Prelude.{sum_by}
 use Rattle.std.specs.List.{Contains}
 use Rattle.krl_core.specs.declared.addition.Addition.{Addition}
 use Rattle.krl_core.specs.declared.addition.Addition.TheVariants.{Serials, Id}
-use Rattle.krl_core.specs.Rising.{RisesBy}
-use Rattle.krl_core.specs.Changes.{Takes, AddsTo, Puts, empty_section}
-use Rattle.krl_core.specs.Contents.{Section, Contents, contents_of, SomeSection, IsNamed, held, stored, size_of, section_size}
+use Rattle.krl_core.specs.Changes.{Takes, AddsTo, empty_section}
+use Rattle.krl_core.specs.Contents.{Section, contents_of, SomeSection, IsNamed, held, stored, section_size}
 use Rattle.krl_core.proofs.Members.{contains_here, contains_later, absent_parts}
 use Rattle.krl_core.proofs.Shelving.{takes_authority}
 use Rattle.krl_core.proofs.AddedSections.{put_size}

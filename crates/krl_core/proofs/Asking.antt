@@ -2,14 +2,13 @@
 use Rattle.std.proofs.Common.{◌≡◌, ℕ, Bool, true, false, ◌⊎◌, List, [], ◌∷◌, refl, sym, subst, ◌∙◌, inl, inr}
 use Rattle.std.specs.Prelude.{◌↔◌, Option, Some, None, IsTrue}
 use Rattle.std.proofs.lemmas.Bool.{false≢true}
-use Rattle.std.specs.List.{Contains}
 use Rattle.sha1.specs.Sha1.{sha1}
 use Rattle.sha2.specs.Sha256.{sha256}
-use Rattle.ssh_cert.specs.Subject.{Subject, Names}
-use Rattle.krl_core.specs.Asked.{HoldsKey, HoldsUnder, HoldsCert}
-use Rattle.krl_core.specs.Contents.{Contents, HoldsSerial, HoldsId, Means}
-use Rattle.krl_core.specs.Entry.{Entry, IdEntry, KeyEntry, Sha1Entry, Sha256Entry}
-use Rattle.krl_core.specs.Naming.{NamesAt, NamesSerial, SomeNamesAt, SomeNamesSerial, SomeNamesId, KeyNamed}
+use Rattle.ssh_cert.specs.Subject.{Names}
+use Rattle.krl_core.specs.Asked.{HoldsKey, HoldsCert}
+use Rattle.krl_core.specs.Contents.{Contents, Means}
+use Rattle.krl_core.specs.Entry.{Entry}
+use Rattle.krl_core.specs.Naming.{SomeNamesAt, SomeNamesSerial, KeyNamed}
 use Rattle.krl_core.specs.Revoked.{Revoked, CertRevoked}
 
 serial_to : (entries : List Entry) (a : List ℕ) (s : ℕ) → SomeNamesSerial entries a s → SomeNamesAt entries a s ⊎ SomeNamesAt entries [] s

@@ -1,19 +1,17 @@
 -- What a bitmap that is written names, and the number that its bytes are.
-use Rattle.std.proofs.Common.{◌≡◌, ℕ, zero, suc, ◌+◌, ◌-◌, ◌*◌, ◌/◌, ◌%◌, ◌^◌, ◌<◌, ◌≤◌, ◌⊎◌, inl, inr, Bool, true, false, leb, cond, List, [], ◌∷◌, ◌++◌, length, refl, sym, ap, subst, ◌∙◌, arith}
-use Rattle.std.specs.Prelude.{◌&&◌, ◌||◌, ◌↔◌}
+use Rattle.std.proofs.Common.{◌≡◌, ℕ, zero, suc, ◌+◌, ◌*◌, ◌/◌, ◌^◌, ◌<◌, ◌≤◌, inl, inr, Bool, true, false, leb, cond, List, [], ◌∷◌, length, refl, sym, ap, subst, ◌∙◌, arith}
+use Rattle.std.specs.Prelude.{◌&&◌, ◌||◌}
 use Rattle.std.specs.Int.{bit_at}
 use Rattle.std.proofs.Math.Nat.{mul_assoc, mul_comm, pow-succ'}
 use Rattle.std.proofs.lemmas.Nat.{pow-add}
-use Rattle.std.proofs.lemmas.Bool.{cases_lt, le-leb, lt-leb}
+use Rattle.std.proofs.lemmas.Bool.{cases_lt, le-leb}
 use Rattle.std.proofs.lemmas.Nat.Bits.{bit_at-suc, bit_at-zero, bit_at_lowest}
 use Rattle.serial_set.specs.declared.span.Span.{Span}
 use Rattle.serial_set.specs.Span.{SpanCovers, IsRuns, Covers, RunsFrom}
-use Rattle.serial_set.specs.BitRuns.{BitNames}
 use Rattle.ssh_wire.specs.Wire.{number_of}
 use Rattle.ssh_wire.proofs.Magnitudes.{number_of-cons}
-use Rattle.krl_core.specs.Krl.{IsPositive}
 use Rattle.krl_core.specs.Plan.{end_of, reach}
-use Rattle.krl_core.specs.Written.{bitmap_of, bitmap_size, bits_of, first_of, has}
+use Rattle.krl_core.specs.Written.{bitmap_of, bits_of, first_of, has}
 use Rattle.krl_core.proofs.BitmapBits.{bits_of_lt, has_before, has_past}
 use Rattle.krl_core.proofs.GroupTexts.{length-bitmap_of}
 

@@ -1,15 +1,14 @@
 -- A bitmap by its bytes.
-use Rattle.std.proofs.Common.{◌≡◌, ℕ, zero, suc, ◌+◌, ◌-◌, ◌*◌, ◌<◌, ◌≤◌, ◌^◌, ◌⊎◌, ◌↔◌, Bool, true, false, cond, eqb, leb, leb-false, List, [], ◌∷◌, ◌++◌, length, get_or, refl, sym, ap, subst, ◌∙◌, arith, inl, inr}
+use Rattle.std.proofs.Common.{◌≡◌, ℕ, zero, suc, ◌+◌, ◌-◌, ◌*◌, ◌<◌, ◌≤◌, ◌^◌, ◌⊎◌, Bool, true, false, cond, eqb, leb, leb-false, List, [], ◌∷◌, length, get_or, refl, sym, ap, subst, ◌∙◌, arith, inl, inr}
 use Rattle.std.specs.Int.{bit_at}
 use Rattle.std.proofs.lemmas.Bool.{cases_lt, eqb-true}
 use Rattle.std.proofs.lemmas.Nat.Bits.{bit_at-zero, bit_at_above, bit_at_cat_low, bit_at_cat_high}
 use Rattle.std.proofs.Math.Nat.{pow-suc, mul-le-mul_right}
 use Rattle.std.proofs.lemmas.Nat.{pow-add}
 use Rattle.byteorder.specs.Endian.{big_from}
-use Rattle.ssh_wire.specs.Wire.{IsBytes, number_of}
-use Rattle.serial_set.specs.BitRuns.{BitNames}
-use Rattle.krl_core.specs.Entry.{Entry, BitmapEntry}
-use Rattle.krl_core.specs.Naming.{NamesSame, SomeNamesAt}
+use Rattle.ssh_wire.specs.Wire.{number_of}
+use Rattle.krl_core.specs.Entry.{BitmapEntry}
+use Rattle.krl_core.specs.Naming.{NamesSame}
 use Rattle.krl_core.specs.Place.{highest_bit, passes_end}
 use Rattle.krl_core.proofs.Bits.{bit_below}
 use Rattle.krl_core.proofs.Same.{same_serials}

@@ -1,19 +1,18 @@
 -- What a byte of a bitmap adds.
-use Rattle.std.proofs.Common.{◌≡◌, ℕ, ◌+◌, ◌-◌, ◌*◌, ◌^◌, ◌<◌, ◌≤◌, ◌⊎◌, ◌↔◌, Bool, true, false, not, cond, eqb, ltb, leb, leb-false, eq-eqb, zero, suc, Option, None, Some, List, [], ◌∷◌, ◌++◌, length, reverse, Result, Ok, Err, refl, sym, ap, subst, ◌∙◌, append_assoc, arith, inl, inr, IsTrue}
+use Rattle.std.proofs.Common.{◌≡◌, ℕ, ◌+◌, ◌-◌, ◌*◌, ◌^◌, ◌<◌, ◌≤◌, ◌⊎◌, ◌↔◌, Bool, true, false, not, cond, eqb, ltb, leb, leb-false, eq-eqb, zero, suc, Option, None, List, [], ◌∷◌, ◌++◌, length, reverse, Ok, Err, refl, sym, ap, subst, ◌∙◌, append_assoc, arith, inl, inr}
 use Rattle.std.specs.Option.{option_to_list}
 use Rattle.std.specs.Int.{bit_at}
-use Rattle.std.proofs.lemmas.Bool.{cases_lt, eqb-true, ne_eqb, ltb-true, ltb-false, lt-ltb, le-ltb}
+use Rattle.std.proofs.lemmas.Bool.{cases_lt, eqb-true, ne_eqb, ltb-true, lt-ltb, le-ltb}
 use Rattle.std.proofs.lemmas.List.{append-nil, length-append, length-reverse, reverse-append}
 use Rattle.std.proofs.lemmas.Nat.Bits.{bit_at_above, bit_at-zero}
 use Rattle.serial_set.specs.declared.span.Span.{Span}
 use Rattle.serial_set.specs.declared.bit_fault.BitFault.{BitFault}
 use Rattle.serial_set.specs.declared.bit_fault.BitFault.TheVariants.{Negative, Wraps}
-use Rattle.serial_set.specs.Span.{SpanCovers, Covers}
-use Rattle.serial_set.specs.BitRuns.{FedBitmap, BitNames, Feeds, HasFault, ShowsFault, PassesEnd, lowest}
-use Rattle.krl_core.specs.declared.krl_fault.KrlFault.{KrlFault}
+use Rattle.serial_set.specs.Span.{Covers}
+use Rattle.serial_set.specs.BitRuns.{FedBitmap, BitNames, Feeds, HasFault, ShowsFault, lowest}
 use Rattle.krl_core.specs.declared.krl_fault.KrlFault.TheVariants as faults
 use Rattle.krl_core.specs.declared.place.Place.{Place}
-use Rattle.krl_core.specs.Entry.{Entry, RangeEntry, BitmapEntry}
+use Rattle.krl_core.specs.Entry.{Entry, BitmapEntry}
 use Rattle.krl_core.specs.Naming.{SomeNamesAt, NamesSame}
 use Rattle.krl_core.specs.Contents.{Means, held}
 use Rattle.krl_core.specs.Keeping.{Keeping, IsKept, AddsEntries, Adds, InStep, KeepsBits, KeepsField, Closes, held_with_open, open_run, run_entries}

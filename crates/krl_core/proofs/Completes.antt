@@ -1,28 +1,24 @@
 -- A row of fields that leads to the end of a list is spelled, and names what its sections name.
-use Rattle.std.proofs.Common.{◌≡◌, ℕ, zero, suc, ◌+◌, ◌-◌, ◌*◌, ◌%◌, ◌<◌, ◌≤◌, ◌^◌, ◌⊎◌, Bool, true, false, not, cond, eqb, ltb, leb, leb-true, List, [], ◌∷◌, ◌++◌, length, map, Option, Some, None, Result, Ok, Err, refl, sym, ap, subst, ◌∙◌, append_assoc, arith, inl, inr}
-use Rattle.std.specs.List.{concat, flat_map, AllByRecursion}
-use Rattle.std.specs.Str.{bytes_eq}
+use Rattle.std.proofs.Common.{◌≡◌, ℕ, zero, suc, ◌+◌, ◌-◌, ◌*◌, ◌<◌, ◌≤◌, ◌^◌, ◌⊎◌, Bool, true, false, cond, ltb, List, [], ◌∷◌, ◌++◌, length, map, Result, Ok, Err, refl, sym, ap, subst, ◌∙◌, append_assoc, arith, inl, inr}
+use Rattle.std.specs.List.{flat_map, AllByRecursion}
 use Rattle.std.specs.Int.{bit_at}
-use Rattle.std.proofs.lemmas.Bool.{cases_lt, eqb-true, ltb-true, ltb-false}
-use Rattle.std.proofs.lemmas.List.{append-nil, length-append}
+use Rattle.std.proofs.lemmas.Bool.{ltb-false}
+use Rattle.std.proofs.lemmas.List.{length-append}
 use Rattle.std.proofs.lemmas.Nat.Bits.{bit_at-zero}
-use Rattle.std.proofs.lemmas.Slice.Eq.{bytes_eq-Decides}
-use Rattle.ssh_wire.specs.Wire.{IsBytes, number, number_of, string, strings}
+use Rattle.ssh_wire.specs.Wire.{IsBytes, number, number_of, string}
 use Rattle.krl_core.specs.declared.krl_fault.KrlFault.{KrlFault}
 use Rattle.krl_core.specs.declared.krl_fault.KrlFault.TheVariants as faults
 use Rattle.krl_core.specs.declared.header.Header.{Header}
 use Rattle.krl_core.specs.declared.place.Place.{Place}
-use Rattle.krl_core.specs.declared.place.Place.TheVariants as places
 use Rattle.krl_core.specs.Entry.{Entry, SerialsEntry, RangeEntry, BitmapEntry, IdEntry, KeyEntry, Sha1Entry, Sha256Entry}
 use Rattle.krl_core.specs.Entries.{entries_of, section_entries, subsection_entries}
-use Rattle.krl_core.specs.Front.{Spot, Passes, HasRoom, Leads, spot_after}
-use Rattle.krl_core.specs.Krl.{Section, Certificates, Keys, Sha1s, Sha256s, Signature, Extension, Subsection, Serials, Range, Bitmap, Ids, SubsectionExtension, SpellsEach, SpellsSection, SpellsSubsection, SpellsBitmap, SpellsExtension, SubsectionContent, SignaturesLast, IsSignature, IsPositive, magic, numbers_text, subsection_type}
+use Rattle.krl_core.specs.Krl.{Section, Certificates, Keys, Sha1s, Sha256s, Signature, Extension, Subsection, Serials, Range, Bitmap, Ids, SubsectionExtension, SpellsEach, SpellsSection, SpellsSubsection, SubsectionContent, SignaturesLast, IsSignature, subsection_type}
 use Rattle.krl_core.specs.Naming.{NamesSame, SomeNamesAt}
-use Rattle.krl_core.specs.Place.{due, judge, within, names, authority_after, header_after, next_key, next_sha1, next_sha256, next_subsection, next_serial, next_id, next_bits, section_of_type, subsection_of_type, base_of, bits_judged, passes_end}
+use Rattle.krl_core.specs.Place.{judge, within, next_key, next_sha1, next_sha256, next_subsection, next_serial, next_id, next_bits, base_of, passes_end}
 use Rattle.krl_core.proofs.Numbers.{number_back4, number_back8, number_of-one, length-number4, length-number8}
-use Rattle.krl_core.proofs.Rests.{Rest, LastFor, FromSections, FromText, FromNumber, FromLength, FromContent, FromItems, FromItem, FromSubsections, FromReserved, FromCertificates, FromPart, FromRange, FromMax, FromBits, FromBitmap, FromOffset, FromExtension, FromCritical, FromContents, Completes, Any, HasSize, KeyItems, Sha1Items, Sha256Items, SerialItems, IdItems}
-use Rattle.krl_core.proofs.Bitmaps.{number_of-byte, low_more, low_none, not_past_at, bit_of-byte, same_no_bits, same_bits}
-use Rattle.krl_core.proofs.Same.{AreSerials, same_serials, contains_one, same_refl, same_is, same_sym, same_then, same_append}
+use Rattle.krl_core.proofs.Rests.{Rest, LastFor, FromSections, FromNumber, FromLength, FromContent, FromItems, FromItem, FromSubsections, FromReserved, FromCertificates, FromPart, FromRange, FromMax, FromBits, FromBitmap, FromOffset, FromExtension, FromCritical, FromContents, Completes, Any, HasSize, KeyItems, Sha1Items, Sha256Items, SerialItems, IdItems}
+use Rattle.krl_core.proofs.Bitmaps.{low_more, low_none, not_past_at, bit_of-byte, same_no_bits, same_bits}
+use Rattle.krl_core.proofs.Same.{AreSerials, same_serials, contains_one, same_refl, same_is, same_then, same_append}
 
 -- ---- judgements that passed
 

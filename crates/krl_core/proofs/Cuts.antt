@@ -1,5 +1,5 @@
 -- A list that is cut short.
-use Rattle.std.proofs.Common.{◌≡◌, ℕ, ◌+◌, ◌<◌, ◌≤◌, ◌⊎◌, Bool, true, false, ltb, List, [], ◌∷◌, ◌++◌, length, take, Option, Some, None, Result, Ok, Err, refl, sym, ap, subst, ◌∙◌, append_assoc, arith, inl, inr}
+use Rattle.std.proofs.Common.{◌≡◌, ℕ, ◌≤◌, ◌⊎◌, Bool, true, false, ltb, List, [], ◌∷◌, ◌++◌, length, Option, Some, None, Ok, Err, refl, sym, ap, subst, ◌∙◌, append_assoc, arith, inl, inr}
 use Rattle.std.specs.List.{concat}
 use Rattle.std.proofs.lemmas.Bool.{le-ltb}
 use Rattle.std.proofs.lemmas.List.{append-nil, length-append, take_all}
@@ -9,12 +9,12 @@ use Rattle.krl_core.specs.declared.header.Header.{Header}
 use Rattle.krl_core.specs.declared.krl_fault.KrlFault.{KrlFault}
 use Rattle.krl_core.specs.declared.krl_fault.KrlFault.TheVariants as faults
 use Rattle.krl_core.specs.declared.place.Place.{Place}
-use Rattle.krl_core.specs.Front.{Spot, start, limit, HasRoom, Passes, Leads, spot_after, IsFirstFault, Told, ended, no_room, refused, too_long, ends_early}
+use Rattle.krl_core.specs.Front.{Spot, start, limit, Passes, Leads, IsFirstFault, Told, ended, no_room, refused, too_long, ends_early}
 use Rattle.krl_core.specs.Krl.{Section, Spells}
 use Rattle.krl_core.specs.Place.{due}
 use Rattle.krl_core.proofs.Exists.{each_is_told}
 use Rattle.krl_core.proofs.Fronts.{append_same, end_room, end_size, fronts_compare, leads_to_one, Leads-split}
-use Rattle.krl_core.proofs.Lists.{unfaulted_spelled, unfaulted_row}
+use Rattle.krl_core.proofs.Lists.{unfaulted_row}
 use Rattle.krl_core.proofs.SpelledLists.{spelled_unfaulted}
 
 -- what may be told of a cut

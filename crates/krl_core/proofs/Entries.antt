@@ -1,14 +1,14 @@
 -- What one entry more names, and which sections it asks of.
-use Rattle.std.proofs.Common.{◌≡◌, ℕ, ◌+◌, ◌<◌, ◌≤◌, ◌⊎◌, List, [], ◌∷◌, ◌++◌, Bor, length, refl, sym, ap, subst, ◌∙◌, inl, inr, arith}
+use Rattle.std.proofs.Common.{◌≡◌, ℕ, ◌<◌, ◌⊎◌, List, [], ◌∷◌, ◌++◌, Bor, sym, ap, subst, ◌∙◌, inl, inr, arith}
 use Rattle.std.specs.Prelude.{◌↔◌}
 use Rattle.std.specs.List.{Contains}
-use Rattle.std.proofs.lemmas.List.Elements.{Contains-push, Contains-push_cases, Contains-append_left}
+use Rattle.std.proofs.lemmas.List.Elements.{Contains-push_cases, Contains-append_left}
 use Rattle.serial_set.specs.Span.{Covers}
 use Rattle.krl_core.specs.declared.addition.Addition.{Addition}
 use Rattle.krl_core.specs.declared.addition.Addition.TheVariants.{Serials, Id}
-use Rattle.krl_core.specs.Changes.{Takes, TakesSerials, TakesId, Puts, empty_section}
+use Rattle.krl_core.specs.Changes.{Takes}
 use Rattle.krl_core.specs.Contents.{Section}
-use Rattle.krl_core.specs.Entry.{Entry, SerialsEntry, RangeEntry, BitmapEntry, IdEntry, KeyEntry, Sha1Entry, Sha256Entry}
+use Rattle.krl_core.specs.Entry.{Entry, RangeEntry, IdEntry}
 use Rattle.krl_core.specs.Naming.{NamesAt, SomeNamesAt}
 use Rattle.krl_core.proofs.Members.{contains_none}
 use Rattle.krl_core.proofs.AddedSections.{put_to, put_from}

@@ -1,25 +1,24 @@
 -- The field that is due, in front of what is spelled after it.
-use Rattle.std.proofs.Common.{◌≡◌, ℕ, zero, suc, ◌+◌, ◌-◌, ◌*◌, ◌%◌, ◌==◌, ◌<◌, ◌≤◌, ◌^◌, ◌⊎◌, Bool, true, false, not, cond, eqb, ltb, leb, leb-true, eq-eqb, List, [], ◌∷◌, ◌++◌, length, get_or, Option, Some, None, Result, Ok, Err, refl, sym, ap, subst, ◌∙◌, append_assoc, arith, inl, inr}
+use Rattle.std.proofs.Common.{◌≡◌, ℕ, ◌+◌, ◌-◌, ◌%◌, ◌==◌, ◌<◌, ◌≤◌, Bool, true, false, cond, eqb, ltb, leb, leb-true, eq-eqb, List, [], ◌∷◌, ◌++◌, length, get_or, Ok, Err, refl, sym, ap, subst, ◌∙◌, append_assoc, arith, inl, inr}
 use Rattle.std.specs.List.{concat}
 use Rattle.std.specs.Str.{bytes_eq}
 use Rattle.std.proofs.lemmas.Bool.{cases_lt, eqb-true, ltb-true}
 use Rattle.std.proofs.lemmas.List.{append-nil, get_or-append-add, get_or_append_left, get_or_past}
 use Rattle.std.proofs.lemmas.Slice.Eq.{bytes_eq-Decides}
-use Rattle.ssh_wire.specs.Wire.{IsBytes, number, number_of, string}
+use Rattle.ssh_wire.specs.Wire.{IsBytes, number, number_of}
 use Rattle.krl_core.specs.declared.krl_fault.KrlFault.TheVariants as faults
 use Rattle.krl_core.specs.declared.header.Header.{Header}
 use Rattle.krl_core.specs.declared.place.Place.{Place}
 use Rattle.krl_core.specs.declared.place.Place.TheVariants as places
-use Rattle.krl_core.specs.Entry.{Entry, SerialsEntry, RangeEntry, BitmapEntry, IdEntry, KeyEntry, Sha1Entry, Sha256Entry}
+use Rattle.krl_core.specs.Entry.{Entry, BitmapEntry, IdEntry, KeyEntry, Sha1Entry, Sha256Entry}
 use Rattle.krl_core.specs.Front.{Spot, Passes, Leads, spot_after}
 use Rattle.krl_core.specs.Krl.{magic}
 use Rattle.krl_core.specs.Place.{due, judge, names, authority_after, header_after, next_key, next_sha1, next_sha256, next_subsection, next_serial, next_id, next_bits, section_of_type, subsection_of_type, base_of, passes_end}
 use Rattle.krl_core.proofs.Bits.{judged_parts}
-use Rattle.krl_core.proofs.Completes.{same_place, passed, fits_within, chosen, one_byte, number_front, length_front, content_front, item_front, string_more, serial_more, keys_from, sha1s_from, sha256s_from, subsections_from, subsections_none, serials_from, ids_from, sections_from, keys_section, sha1s_section, sha256s_section, certificates_section, extension_section, signature_section, subsections_more, reserved_front, certificates_front, extension_front, contents_front, range_front, serials_part, ids_part, range_part, bitmap_part, extension_part, bits_from, bits_more, bitmap_front, offset_front}
-use Rattle.krl_core.proofs.Fronts.{end_size}
+use Rattle.krl_core.proofs.Completes.{same_place, passed, fits_within, chosen, one_byte, number_front, length_front, content_front, item_front, string_more, serial_more, keys_from, sha1s_from, sha256s_from, subsections_from, serials_from, ids_from, sections_from, keys_section, sha1s_section, sha256s_section, certificates_section, extension_section, signature_section, subsections_more, reserved_front, certificates_front, extension_front, contents_front, range_front, serials_part, ids_part, range_part, bitmap_part, extension_part, bits_from, bits_more, bitmap_front, offset_front}
 use Rattle.krl_core.proofs.Numbers.{number_back4, number_back8}
 use Rattle.krl_core.proofs.Same.{same_refl}
-use Rattle.krl_core.proofs.Rests.{FromItem, FromBits, FromSections, FromText, FromLength, FromContent, FromExtension, FromCritical, FromMax, FromComment, FromHeaderReserved, FromFlags, FromDate, FromVersion, FromFormat, FromSubsections, FromReserved, FromCertificates, FromPart, Completes, Any, HasSize, KeyItems, Sha1Items, Sha256Items, SerialItems, IdItems}
+use Rattle.krl_core.proofs.Rests.{FromItem, FromBits, FromSections, FromLength, FromContent, FromExtension, FromCritical, FromComment, FromHeaderReserved, FromFlags, FromDate, FromSubsections, FromReserved, FromCertificates, FromPart, Completes, Any, HasSize, KeyItems, Sha1Items, Sha256Items, IdItems}
 
 -- what is spelled from the place after a field is spelled from the same place by another name
 along : (last h : Header) (a : List ℕ) (p q : Place) (bytes : List ℕ) (more : List Entry) → p ≡ q → Completes last h a q bytes more → Completes last h a p bytes more

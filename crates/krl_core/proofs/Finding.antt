@@ -1,5 +1,5 @@
 -- The one section of an authority.
-use Rattle.std.proofs.Common.{◌≡◌, ℕ, ◌+◌, ◌<◌, ◌⊎◌, List, [], ◌∷◌, ◌++◌, length, map, get_or, drop, refl, sym, ap, subst, ◌∙◌, inl, inr, arith}
+use Rattle.std.proofs.Common.{◌≡◌, ℕ, ◌+◌, ◌<◌, ◌⊎◌, List, [], ◌∷◌, ◌++◌, length, map, get_or, drop, sym, ap, subst, ◌∙◌, inl, inr}
 use Rattle.std.specs.Prelude.{◌↔◌}
 use Rattle.std.specs.List.{Contains}
 use Rattle.std.proofs.lemmas.List.{map-append}
@@ -12,13 +12,12 @@ use Rattle.serial_set.specs.Span.{Covers}
 use Rattle.krl_core.specs.Asked.{Stands, HoldsUnder}
 use Rattle.krl_core.specs.Text.{bytes_of}
 use Rattle.krl_core.specs.Contents.{Section, SomeSection}
-use Rattle.krl_core.specs.Pages.{joined, first_items, front_of, back_of}
+use Rattle.krl_core.specs.Pages.{joined, first_items, front_of}
 use Rattle.krl_core.specs.Shelf.{section_of, sections_of}
 use Rattle.krl_core.proofs.Members.{absent_below, absent_above, contains_here, contains_later}
 use Rattle.krl_core.proofs.Paged.{cut_at}
 use Rattle.krl_core.proofs.Spots.{first_back}
 use Rattle.krl_core.proofs.SomeSections.{some_to, some_at}
-use Rattle.krl_core.proofs.Amounts.{some_contains}
 
 module _ {X : Type 0} (key : X → List ℕ) where
   above_at : (bytes : List ℕ) (front : List X) (x : X) (back : List X) → AllAbove key bytes (front ++ x ∷ back) → bytes_cmp bytes (key x) ≡ Less

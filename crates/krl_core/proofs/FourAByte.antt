@@ -1,11 +1,10 @@
 -- What the fields of a front name has at most four intervals for each of their bytes.
-use Rattle.std.proofs.Common.{◌≡◌, ℕ, zero, suc, ◌+◌, ◌-◌, ◌*◌, ◌<◌, ◌≤◌, ◌⊎◌, Bool, true, false, List, [], ◌∷◌, ◌++◌, length, refl, sym, ap, subst, ◌∙◌, inl, inr, arith, length-append, append_assoc}
+use Rattle.std.proofs.Common.{◌≡◌, ℕ, ◌+◌, ◌*◌, ◌<◌, ◌≤◌, Bool, true, false, List, [], ◌∷◌, ◌++◌, length, refl, sym, ap, subst, ◌∙◌, inl, inr, arith, length-append}
 use Rattle.std.specs.Prelude.{◌↔◌, sum_by}
 use Rattle.std.specs.List.{All, AllByRecursion, concat}
 use Rattle.std.specs.Str.{bytes_eq}
 use Rattle.std.specs.declared.cmp.Ordering.TheVariants.{Less}
 use Rattle.std.proofs.lemmas.Bool.{false≢true}
-use Rattle.std.proofs.lemmas.List.{append-nil}
 use Rattle.std.proofs.lemmas.List.Sums.{sum_by-cons, sum_by-append}
 use Rattle.std.proofs.lemmas.Slice.Eq.{bytes_eq-Decides}
 use Rattle.serial_set.specs.declared.span.Span.{Span}
@@ -19,11 +18,11 @@ use Rattle.krl_core.specs.Contents.{Contents, HoldsSerial, IsListed, Means, Sect
 use Rattle.krl_core.specs.Entry.{Entry}
 use Rattle.krl_core.specs.Front.{Leads, Passes, Spot, spot_after, start}
 use Rattle.krl_core.specs.Naming.{NamesAt, SomeNamesAt}
-use Rattle.krl_core.specs.Place.{due, names}
+use Rattle.krl_core.specs.Place.{names}
 use Rattle.krl_core.specs.Rising.{AllAbove, RisesBy, bytes_cmp}
 use Rattle.krl_core.proofs.Intervals.{IsByteOnly, authority_of, intervals_name, intervals_of, length-intervals, most, names_intervals}
 use Rattle.krl_core.proofs.Numbers.{number_of-one}
-use Rattle.krl_core.proofs.OneMeaning.{above_held, held_first, not_before_itself}
+use Rattle.krl_core.proofs.OneMeaning.{held_first, not_before_itself}
 use Rattle.krl_core.proofs.Sections.{All-tail}
 use Rattle.krl_core.proofs.Spelled.{bytes_head, bytes_tail}
 

@@ -1,13 +1,11 @@
 -- The bytes of a subsection, put one field behind the other.
-use Rattle.std.proofs.Common.{◌≡◌, ℕ, zero, suc, ◌+◌, ◌-◌, ◌*◌, ◌/◌, ◌<◌, ◌≤◌, List, [], ◌∷◌, ◌++◌, length, take, get_or, refl, sym, ap, ◌∙◌, arith, append_assoc, length-append}
+use Rattle.std.proofs.Common.{◌≡◌, ℕ, zero, suc, ◌+◌, ◌-◌, ◌<◌, List, [], ◌∷◌, ◌++◌, length, take, get_or, refl, sym, ap, ◌∙◌, arith, append_assoc, length-append}
 use Rattle.std.proofs.lemmas.List.{take_all}
 use Rattle.serial_set.specs.declared.span.Span.{Span}
-use Rattle.serial_set.specs.Span.{IsRuns}
 use Rattle.ssh_wire.specs.Wire.{number, string}
 use Rattle.ssh_wire.proofs.Fields.{length-number, length-string}
-use Rattle.krl_core.specs.declared.plan.group.Sort.TheVariants.{Serials, Range, Bitmap}
 use Rattle.krl_core.specs.Plan.{reach}
-use Rattle.krl_core.specs.Written.{bitmap_of, bitmap_size, first_of, group_text}
+use Rattle.krl_core.specs.Written.{bitmap_of, first_of}
 use Rattle.krl_core.proofs.Loops.{reach-take}
 
 pub first-get : (runs : List Span) (d : Span) → 0 < length runs → first_of runs ≡ (get_or runs 0 d).lo

@@ -1,10 +1,10 @@
 -- What a change of one page does to the values of all pages.
-use Rattle.std.proofs.Common.{◌≡◌, ℕ, ◌+◌, ◌-◌, ◌<◌, ◌≤◌, List, [], ◌∷◌, ◌++◌, length, get_or, set, take, drop, refl, sym, ap, subst, ◌∙◌, arith, zero, suc, add-one, append_assoc}
+use Rattle.std.proofs.Common.{◌≡◌, ℕ, ◌+◌, ◌<◌, ◌≤◌, List, [], ◌∷◌, ◌++◌, length, set, take, drop, sym, ap, ◌∙◌, arith, suc, add-one, append_assoc}
 use Rattle.std.specs.Prelude.{insert}
-use Rattle.std.proofs.lemmas.List.{set_split, take_more_set, drop-set-lt, append-nil, take_all, drop_all}
+use Rattle.std.proofs.lemmas.List.{set_split, take_more_set, drop-set-lt, append-nil, drop_all}
 use Rattle.krl_core.specs.declared.page.Page.{Page}
 use Rattle.krl_core.specs.Pages.{joined, first_items, front_of, back_of}
-use Rattle.krl_core.proofs.Paged.{joined-append, first_at, rest_of, cut_at, joined_past}
+use Rattle.krl_core.proofs.Paged.{joined-append, cut_at, joined_past}
 
 module _ {X : Type 0} (key : X → List ℕ) where
   pub joined-set : (pages : List (Page X)) (n : ℕ) (page : Page X) → n < length pages → joined (set pages n page) ≡ joined (take n pages) ++ (page.items.items ++ joined (drop (n + 1) pages))

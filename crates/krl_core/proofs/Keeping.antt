@@ -1,13 +1,13 @@
 -- What is kept after one entry or another is added.
-use Rattle.std.proofs.Common.{◌≡◌, ℕ, ◌+◌, ◌-◌, ◌*◌, ◌<◌, ◌≤◌, ◌⊎◌, ◌↔◌, Option, None, Some, List, [], ◌∷◌, ◌++◌, length, reverse, take, get_or, refl, sym, ap, subst, ◌∙◌, append_assoc, arith, inl, inr}
+use Rattle.std.proofs.Common.{◌≡◌, ℕ, ◌+◌, ◌<◌, ◌≤◌, Option, None, Some, List, [], ◌∷◌, ◌++◌, length, take, get_or, refl, sym, ap, subst, ◌∙◌, append_assoc, arith, inl, inr}
 use Rattle.std.specs.Option.{option_to_list}
 use Rattle.std.proofs.lemmas.List.{append-nil, take_more}
 use Rattle.serial_set.specs.declared.span.Span.{Span}
 use Rattle.krl_core.specs.Contents.{Means}
 use Rattle.krl_core.specs.Entry.{Entry, RangeEntry, SerialsEntry}
 use Rattle.krl_core.specs.Naming.{NamesSame}
-use Rattle.krl_core.specs.Keeping.{Keeping, IsKept, Adds, AddsEntries, KeepsRest, Closes, KeepsStored, GrowsWithin, IsStoredWithin, held_with_open, open_run, run_entries}
-use Rattle.krl_core.proofs.Same.{same_refl, same_is, same_then, same_append, same_between, same_serial, same_zero, same_none, same_from_one}
+use Rattle.krl_core.specs.Keeping.{Keeping, IsKept, Adds, KeepsRest, Closes, KeepsStored, GrowsWithin, IsStoredWithin, held_with_open, open_run, run_entries}
+use Rattle.krl_core.proofs.Same.{same_refl, same_is, same_then, same_append, same_between, same_zero, same_none}
 
 abbrev pub open_entries : Keeping → List Entry
 open_entries keeping = run_entries keeping.authority (open_run keeping)

@@ -1,14 +1,12 @@
 -- What a key or a hash more means, in all that is held.
-use Rattle.std.proofs.Common.{◌≡◌, ℕ, ◌+◌, ◌≤◌, ◌⊎◌, List, [], ◌∷◌, ◌++◌, length, sym, ap, subst, ◌∙◌, inl, inr, arith}
+use Rattle.std.proofs.Common.{◌≡◌, ℕ, ◌⊎◌, List, [], ◌∷◌, ◌++◌, length, sym, ap, subst, inl, inr}
 use Rattle.std.specs.Prelude.{◌↔◌}
 use Rattle.std.specs.List.{Contains, All}
 use Rattle.std.proofs.lemmas.List.Elements.{All-cons, All-head, All-tail}
-use Rattle.krl_core.specs.Rising.{Rises}
-use Rattle.krl_core.specs.Inserting.{Inserts}
 use Rattle.krl_core.specs.Changes.{Puts}
-use Rattle.krl_core.specs.Contents.{Section, Contents, contents_of, IsOrderly, Means, stored, size_of}
+use Rattle.krl_core.specs.Contents.{Section, contents_of, IsOrderly, Means}
 use Rattle.krl_core.specs.Entry.{Entry, IdEntry, KeyEntry, Sha1Entry, Sha256Entry}
-use Rattle.krl_core.proofs.AddedSections.{put_rises, put_to, put_from, put_size}
+use Rattle.krl_core.proofs.AddedSections.{put_rises, put_to, put_from}
 use Rattle.krl_core.proofs.Entries.{other_entry}
 use Rattle.krl_core.proofs.Adding.{no_serial, same_side, pushed, widened}
 

@@ -1,5 +1,5 @@
 -- What is known of a text when an addition is too long, and when the length of a string is put in.
-use Rattle.std.proofs.Common.{◌≡◌, ℕ, ◌+◌, ◌-◌, ◌<◌, ◌≤◌, List, [], ◌∷◌, ◌++◌, length, take, drop, Result, Ok, Err, refl, sym, ap, ◌∙◌, arith, append_assoc, length-append}
+use Rattle.std.proofs.Common.{◌≡◌, ℕ, ◌+◌, ◌≤◌, List, [], ◌∷◌, ◌++◌, length, take, drop, Result, Err, sym, ap, ◌∙◌, arith, append_assoc, length-append}
 use Rattle.ssh_wire.specs.Wire.{number, string, strings}
 use Rattle.ssh_wire.proofs.Fields.{length-number, length-string}
 use Rattle.krl_core.specs.Front.{limit}

@@ -3,7 +3,7 @@ use Rattle.std.proofs.Common.{◌≡◌, ℕ, ◌<◌, ◌≤◌, ◌^◌, Bool,
 use Rattle.std.specs.List.{concat}
 use Rattle.ssh_wire.specs.Wire.{IsBytes, number, string}
 use Rattle.krl_core.specs.declared.header.Header.{Header}
-use Rattle.krl_core.specs.Contents.{Contents, Means}
+use Rattle.krl_core.specs.Contents.{Contents}
 use Rattle.krl_core.specs.Entry.{Entry}
 use Rattle.krl_core.specs.Entries.{entries_of}
 use Rattle.std.proofs.lemmas.Bool.{ltb-false}

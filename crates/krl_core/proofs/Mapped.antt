@@ -1,8 +1,7 @@
 -- Rising lists seen by their bytes.
-use Rattle.std.proofs.Common.{◌≡◌, ℕ, List, [], ◌∷◌, ◌++◌, map, refl, sym, ap, subst, ◌∙◌, inl, inr}
-use Rattle.std.specs.List.{Contains}
-use Rattle.std.proofs.lemmas.List.{map-append, map-id}
-use Rattle.krl_core.specs.Rising.{bytes_cmp, AllBelow, AllAbove, RisesBy, Rises}
+use Rattle.std.proofs.Common.{◌≡◌, ℕ, List, [], ◌∷◌, ◌++◌, map, ap, subst, ◌∙◌}
+use Rattle.std.proofs.lemmas.List.{map-append}
+use Rattle.krl_core.specs.Rising.{AllBelow, AllAbove, RisesBy, Rises}
 use Rattle.krl_core.specs.Inserting.{Inserts}
 
 module _ {X : Type 0} (key : X → List ℕ) where

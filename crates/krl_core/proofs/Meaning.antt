@@ -1,28 +1,21 @@
 -- What the sections of a list that is written name is what is held.
-use Rattle.std.proofs.Common.{◌≡◌, ℕ, zero, suc, ◌+◌, ◌-◌, ◌*◌, ◌/◌, ◌^◌, ◌<◌, ◌≤◌, ◌⊎◌, inl, inr, List, [], ◌∷◌, ◌++◌, length, take, drop, get_or, map, refl, sym, ap, subst, ◌∙◌, arith}
-use Rattle.std.specs.Prelude.{◌↔◌}
-use Rattle.std.specs.Int.{bit_at}
-use Rattle.std.specs.List.{All, AllByRecursion, Contains, flat_map}
+use Rattle.std.proofs.Common.{◌≡◌, ℕ, zero, suc, ◌+◌, ◌-◌, ◌*◌, ◌<◌, ◌≤◌, ◌⊎◌, inl, inr, List, [], ◌∷◌, ◌++◌, length, take, drop, map, refl, sym, ap, subst, ◌∙◌, arith}
+use Rattle.std.specs.List.{Contains, flat_map}
 use Rattle.std.proofs.lemmas.Bool.{cases_lt}
-use Rattle.std.proofs.lemmas.Grind.{flat_map-append}
-use Rattle.std.proofs.lemmas.List.{append-nil, length-take-le}
 use Rattle.std.proofs.lemmas.List.Elements.{Contains-append_cases, Contains-append_left, Contains-append_right}
 use Rattle.serial_set.specs.declared.span.Span.{Span}
-use Rattle.serial_set.specs.Span.{AreSerials, SpanCovers as Holds, IsRuns, Covers as Names, RunsFrom}
+use Rattle.serial_set.specs.Span.{AreSerials, IsRuns, Covers as Names, RunsFrom}
 use Rattle.krl_core.specs.declared.plan.group.Sort.{Sort}
 use Rattle.krl_core.specs.declared.plan.group.Sort.TheVariants as sorts
 use Rattle.krl_core.specs.declared.plan.group.Group.{Group}
-use Rattle.krl_core.specs.Contents.{Contents, HoldsId, HoldsSerial, IsListed, IsOrderly, Means, Section as Listed}
 use Rattle.krl_core.specs.Entry.{Entry, SerialsEntry, RangeEntry, BitmapEntry, IdEntry, KeyEntry, Sha1Entry, Sha256Entry}
-use Rattle.krl_core.specs.Krl.{Keys, Section, Sha1s, Sha256s, Subsection}
-use Rattle.krl_core.specs.Entries.{entries_of, section_entries, subsection_entries}
-use Rattle.krl_core.specs.KrlText.{EachPlan, authority_sections, group_subsection, ids_subsections, listed_sections, plan_subsections, sections_of}
+use Rattle.krl_core.specs.Entries.{subsection_entries}
+use Rattle.krl_core.specs.KrlText.{group_subsection, plan_subsections}
 use Rattle.krl_core.specs.Naming.{NamesAt, SomeNamesAt}
-use Rattle.krl_core.specs.Plan.{Covers, IsGroup, IsPlan, end_of, reach}
-use Rattle.krl_core.specs.Written.{bitmap_size, bits_of, first_of, serials_from, serials_of}
+use Rattle.krl_core.specs.Plan.{Covers, IsGroup, IsPlan}
+use Rattle.krl_core.specs.Written.{bitmap_size, first_of, serials_from, serials_of}
 use Rattle.krl_core.proofs.BitmapNames.{bits-names, names-bits, names_within}
 use Rattle.krl_core.proofs.Chosen.{IsRuns-drop, RunsFrom-take}
-use Rattle.krl_core.proofs.Sections.{All-tail}
 use Rattle.krl_core.proofs.Spelling.{AreSerials-drop, AreSerials-take, names-drop, names-take}
 
 -- ---- elements

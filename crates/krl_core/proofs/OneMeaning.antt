@@ -1,5 +1,5 @@
 -- What is held is one for the entries that it means.
-use Rattle.std.proofs.Common.{◌≡◌, ℕ, ◌<◌, ◌≤◌, List, [], ◌∷◌, length, refl, sym, ap, subst, ◌∙◌, inl, inr, ◌⊎◌, arith, zero, suc}
+use Rattle.std.proofs.Common.{◌≡◌, ℕ, ◌<◌, List, [], ◌∷◌, length, refl, sym, ap, subst, ◌∙◌, inl, inr, arith}
 use Rattle.std.specs.Prelude.{◌↔◌}
 use Rattle.std.specs.List.{Contains, All}
 use Rattle.std.specs.declared.cmp.Ordering.{Ordering}
@@ -10,7 +10,7 @@ use Rattle.std.proofs.lemmas.Map.Lookups.{exact_bytes}
 use Rattle.serial_set.specs.declared.span.Span.{Span}
 use Rattle.serial_set.specs.Span.{Covers, IsRuns}
 use Rattle.serial_set.proofs.Least.{runs_unique}
-use Rattle.krl_core.specs.Contents.{Contents, HoldsId, HoldsSerial, IsListed, IsOrderly, Means, Section, SomeSection}
+use Rattle.krl_core.specs.Contents.{Contents, HoldsId, HoldsSerial, IsListed, Means, Section, SomeSection}
 use Rattle.krl_core.specs.Entry.{Entry}
 use Rattle.krl_core.specs.Rising.{bytes_cmp, AllAbove, Rises, RisesBy}
 use Rattle.krl_core.proofs.Members.{contains_cases, contains_here, contains_later, contains_none}

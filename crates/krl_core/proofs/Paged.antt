@@ -1,17 +1,16 @@
 -- Rising lists in pages.
-use Rattle.std.proofs.Common.{◌≡◌, ℕ, ◌+◌, ◌-◌, ◌<◌, ◌≤◌, Bool, true, false, List, [], ◌∷◌, ◌++◌, length, get_or, take, drop, refl, sym, ap, subst, ◌∙◌, inl, inr, arith, zero, suc, add-one, append_assoc}
-use Rattle.std.specs.Prelude.{⊤, Some}
+use Rattle.std.proofs.Common.{◌≡◌, ℕ, ◌+◌, ◌-◌, ◌<◌, ◌≤◌, false, List, [], ◌∷◌, ◌++◌, length, get_or, take, drop, refl, sym, ap, subst, ◌∙◌, inl, inr, arith, zero, suc, add-one, append_assoc}
+use Rattle.std.specs.Prelude.{Some}
 use Rattle.std.specs.List.{slice_get}
-use Rattle.std.specs.declared.cmp.Ordering.{Ordering}
-use Rattle.std.specs.declared.cmp.Ordering.TheVariants.{Less, Equal, Greater}
+use Rattle.std.specs.declared.cmp.Ordering.TheVariants.{Less}
 use Rattle.std.specs.Ordering.{is_lt}
 use Rattle.std.proofs.lemmas.Bool.{cases_lt}
-use Rattle.std.proofs.lemmas.List.{take-append-drop, drop_more, append-nil, take_all, drop_all}
+use Rattle.std.proofs.lemmas.List.{take-append-drop, take_all, drop_all}
 use Rattle.krl_core.specs.declared.page.Page.{Page}
 use Rattle.krl_core.specs.Rising.{bytes_cmp, AllBelow, AllAbove, NoneBelow, RisesBy}
 use Rattle.krl_core.specs.Inserting.{last_key}
-use Rattle.krl_core.specs.Pages.{joined, first_items, front_of, back_of, IsSpot}
-use Rattle.krl_core.proofs.Orders.{before_trans, not_is_lt, not_before_later, NoneBelow-above}
+use Rattle.krl_core.specs.Pages.{joined, first_items, front_of, back_of}
+use Rattle.krl_core.proofs.Orders.{before_trans, not_is_lt, NoneBelow-above}
 
 module _ {X : Type 0} (key : X → List ℕ) where
   -- ---- lists that follow each other

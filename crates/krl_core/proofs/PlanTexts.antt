@@ -1,8 +1,7 @@
 -- A plan's subsections, put one after the other.
-use Rattle.std.proofs.Common.{◌≡◌, ℕ, zero, suc, ◌+◌, ◌-◌, ◌<◌, ◌≤◌, List, [], ◌∷◌, ◌++◌, length, take, drop, get_or, refl, sym, ap, subst, ◌∙◌, arith, append_assoc, length-drop}
-use Rattle.std.proofs.lemmas.List.{append-nil, drop-drop, drop_all, drop_more, length-take-le}
+use Rattle.std.proofs.Common.{◌≡◌, ℕ, ◌+◌, ◌<◌, ◌≤◌, List, [], ◌∷◌, ◌++◌, length, take, drop, get_or, refl, sym, ap, subst, ◌∙◌, arith, append_assoc, length-drop}
+use Rattle.std.proofs.lemmas.List.{append-nil, drop-drop, drop_all, drop_more}
 use Rattle.serial_set.specs.declared.span.Span.{Span}
-use Rattle.serial_set.specs.Span.{IsRuns}
 use Rattle.krl_core.specs.declared.plan.group.Group.{Group}
 use Rattle.krl_core.specs.Plan.{IsGroup, IsPlan}
 use Rattle.krl_core.specs.Written.{group_text, plan_text}

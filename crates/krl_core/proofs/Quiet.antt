@@ -1,5 +1,5 @@
 -- The places whose fields name nothing and change nothing that is kept.
-use Rattle.std.proofs.Common.{◌≡◌, ℕ, zero, suc, ◌-◌, ◌%◌, ◌==◌, Bool, true, false, cond, ltb, List, [], ◌∷◌, ◌++◌, None, Result, Ok, Err, refl, sym, subst}
+use Rattle.std.proofs.Common.{◌≡◌, ℕ, zero, suc, ◌-◌, ◌%◌, ◌==◌, Bool, true, false, cond, ltb, List, [], ◌++◌, None, Result, Ok, Err, refl, sym, subst}
 use Rattle.std.proofs.lemmas.List.{append-nil}
 use Rattle.serial_set.specs.BitRuns.{FedBitmap}
 use Rattle.ssh_wire.specs.Wire.{number_of}

@@ -1,14 +1,13 @@
 -- The sections of a list that is written are spelled, one behind the other.
-use Rattle.std.proofs.Common.{◌≡◌, ℕ, zero, suc, ◌+◌, ◌-◌, ◌*◌, ◌^◌, ◌<◌, ◌≤◌, List, [], ◌∷◌, ◌++◌, length, get_or, refl, sym, ap, subst, ◌∙◌, arith, append_assoc, length-append}
+use Rattle.std.proofs.Common.{◌≡◌, ℕ, suc, ◌+◌, ◌^◌, ◌<◌, ◌≤◌, List, [], ◌∷◌, ◌++◌, length, refl, arith, length-append}
 use Rattle.std.specs.List.{All, AllByRecursion}
-use Rattle.serial_set.specs.declared.span.Span.{Span}
 use Rattle.ssh_wire.specs.Wire.{number, string, strings}
 use Rattle.ssh_wire.proofs.Fields.{length-number, length-string}
 use Rattle.krl_core.specs.Front.{limit}
 use Rattle.krl_core.specs.declared.plan.group.Group.{Group}
 use Rattle.krl_core.specs.declared.header.Header.{Header}
 use Rattle.krl_core.specs.Contents.{Contents, IsListed, IsOrderly, Section as Listed}
-use Rattle.krl_core.specs.Krl.{Certificates, Ids, Keys, Section, Sha1s, Sha256s, SignaturesLast, Spells, SpellsCertificates, SpellsContent, SpellsEach, SpellsSection, SpellsSubsection, Subsection, header_text, magic}
+use Rattle.krl_core.specs.Krl.{Certificates, Ids, Keys, Section, Sha1s, Sha256s, SignaturesLast, Spells, SpellsEach, SpellsSection, SpellsSubsection, header_text}
 use Rattle.krl_core.specs.KrlText.{EachPlan, authorities_text, authority_content, authority_sections, authority_text, ids_subsections, listed_sections, listed_text, plan_subsections, sections_of, sections_text, text_of}
 use Rattle.krl_core.specs.Plan.{IsPlan}
 use Rattle.krl_core.specs.Written.{plan_text}

@@ -1,5 +1,5 @@
 -- What an addition to one shelf does to the sections of all.
-use Rattle.std.proofs.Common.{◌≡◌, ℕ, ◌+◌, ◌<◌, ◌≤◌, List, [], ◌∷◌, ◌++◌, length, map, get_or, set, take, drop, refl, sym, ap, subst, ◌∙◌, arith, suc, add-one, append_assoc, Ok, Err}
+use Rattle.std.proofs.Common.{◌≡◌, ℕ, ◌+◌, ◌<◌, List, [], ◌∷◌, ◌++◌, length, map, get_or, set, take, drop, refl, sym, ap, subst, ◌∙◌, add-one, append_assoc, Ok, Err}
 use Rattle.std.specs.Prelude.{Result, MatchResult, OnErr, Option, Some, None, IsNone}
 use Rattle.std.specs.declared.alloc.AllocError.{AllocError}
 use Rattle.std.proofs.lemmas.List.{set_split, map-append, length-map, length-append, get_or_default}
@@ -14,7 +14,7 @@ use Rattle.krl_core.specs.Inserting.{Inserts}
 use Rattle.krl_core.specs.Changes.{Takes, ChangesOne}
 use Rattle.krl_core.specs.Contents.{Section}
 use Rattle.krl_core.specs.Shelf.{section_of, sections_of, AddsAt}
-use Rattle.krl_core.specs.Pages.{joined, first_items, front_of, back_of, StandsAt}
+use Rattle.krl_core.specs.Pages.{joined, first_items, front_of, StandsAt}
 use Rattle.krl_core.proofs.Paged.{cut_at}
 use Rattle.krl_core.proofs.Spots.{first_back}
 use Rattle.krl_core.proofs.Grown.{joined-set}

@@ -1,5 +1,5 @@
 -- The length of a list that is written.
-use Rattle.std.proofs.Common.{◌≡◌, ℕ, zero, suc, ◌+◌, ◌-◌, ◌*◌, ◌<◌, ◌≤◌, List, [], ◌∷◌, ◌++◌, length, refl, sym, ap, subst, ◌∙◌, arith, length-append}
+use Rattle.std.proofs.Common.{◌≡◌, ℕ, ◌+◌, ◌*◌, List, [], ◌∷◌, ◌++◌, length, refl, ◌∙◌, arith, length-append}
 use Rattle.std.specs.List.{All}
 use Rattle.ssh_wire.specs.Wire.{string, strings}
 use Rattle.ssh_wire.proofs.Fields.{length-string}
@@ -8,9 +8,8 @@ use Rattle.krl_core.specs.declared.plan.group.Group.{Group}
 use Rattle.krl_core.specs.Contents.{Contents, IsListed, IsOrderly, Section as Listed}
 use Rattle.krl_core.specs.Krl.{header_text}
 use Rattle.krl_core.specs.KrlText.{EachPlan, authorities_text, authority_content, authority_text, listed_text, sections_text, text_of}
-use Rattle.krl_core.specs.Plan.{IsPlan, cost}
+use Rattle.krl_core.specs.Plan.{IsPlan}
 use Rattle.krl_core.specs.Size.{authorities_size, authority_size, hashes_size, listed_size, strings_size, text_size}
-use Rattle.krl_core.specs.Written.{plan_text}
 use Rattle.krl_core.proofs.OnePlan.{length-plan}
 use Rattle.krl_core.proofs.Sections.{All-tail, length-authority, length-header}
 

@@ -1,14 +1,10 @@
 -- What holds of some section after an addition, how much is held, and in what order.
-use Rattle.std.proofs.Common.{◌≡◌, ℕ, ◌+◌, ◌<◌, ◌≤◌, ◌⊎◌, List, [], ◌∷◌, ◌++◌, length, map, refl, sym, ap, subst, ◌∙◌, inl, inr, arith}
-use Rattle.std.specs.Prelude.{◌↔◌, sum_by, ⊤}
-use Rattle.std.specs.List.{Contains, All}
+use Rattle.std.proofs.Common.{◌≡◌, ℕ, ◌+◌, ◌≤◌, ◌⊎◌, List, [], ◌∷◌, ◌++◌, refl, sym, ap, subst, inl, inr, arith}
+use Rattle.std.specs.Prelude.{◌↔◌, sum_by}
 use Rattle.std.proofs.lemmas.List.Sums.{sum_by-cons, sum_by-append}
-use Rattle.serial_set.specs.Span.{Covers, IsRuns, AreSerials}
 use Rattle.krl_core.specs.declared.addition.Addition.{Addition}
-use Rattle.krl_core.specs.declared.addition.Addition.TheVariants.{Serials, Id}
-use Rattle.krl_core.specs.Changes.{Takes, TakesSerials, TakesId, ChangesOne, AddsTo, Puts, empty_section}
+use Rattle.krl_core.specs.Changes.{Takes, AddsTo, empty_section}
 use Rattle.krl_core.specs.Contents.{Section, SomeSection}
-use Rattle.krl_core.specs.Inserting.{Inserts}
 
 -- ---- some section
 

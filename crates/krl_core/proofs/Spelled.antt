@@ -1,17 +1,17 @@
 -- What is spelled is walked.
-use Rattle.std.proofs.Common.{◌≡◌, ℕ, zero, suc, ◌+◌, ◌-◌, ◌*◌, ◌%◌, ◌/◌, ◌==◌, ◌<◌, ◌≤◌, ◌^◌, ◌⊎◌, Bool, true, false, not, cond, eqb, ltb, leb, eq-eqb, List, [], ◌∷◌, ◌++◌, length, take, Option, Some, None, Result, Ok, Err, refl, sym, ap, subst, ◌∙◌, append_assoc, arith, inl, inr}
-use Rattle.std.specs.List.{concat, flat_map, AllByRecursion}
+use Rattle.std.proofs.Common.{◌≡◌, ℕ, zero, suc, ◌+◌, ◌-◌, ◌*◌, ◌%◌, ◌==◌, ◌<◌, ◌≤◌, ◌^◌, Bool, true, false, not, cond, eqb, ltb, leb, eq-eqb, List, [], ◌∷◌, ◌++◌, length, Some, Result, Ok, Err, refl, sym, ap, subst, ◌∙◌, append_assoc, arith, inl, inr}
+use Rattle.std.specs.List.{AllByRecursion}
 use Rattle.std.specs.Int.{bit_at}
-use Rattle.std.proofs.lemmas.Bool.{cases_lt, le-ltb, lt-ltb, le-leb, lt-leb, ne_eqb, eqb-true}
-use Rattle.std.proofs.lemmas.List.{append-nil, length-append, take_all, get_or-append-add, get_or_append_left, get_or_past}
+use Rattle.std.proofs.lemmas.Bool.{cases_lt, le-ltb, lt-ltb, le-leb, lt-leb, eqb-true}
+use Rattle.std.proofs.lemmas.List.{length-append, get_or-append-add, get_or_append_left, get_or_past}
 use Rattle.ssh_wire.specs.Wire.{IsBytes, number, number_of, string, strings}
 use Rattle.krl_core.specs.declared.krl_fault.KrlFault.{KrlFault}
 use Rattle.krl_core.specs.declared.krl_fault.KrlFault.TheVariants as faults
 use Rattle.krl_core.specs.declared.header.Header.{Header}
 use Rattle.krl_core.specs.declared.place.Place.{Place}
 use Rattle.krl_core.specs.declared.place.Place.TheVariants as places
-use Rattle.krl_core.specs.Front.{HasRoom, start, limit, IsFirstFault, ended}
-use Rattle.krl_core.specs.Krl.{Section, Certificates, Keys, Sha1s, Sha256s, Signature, Extension, Subsection, Serials, Range, Bitmap, Ids, SubsectionExtension, Spells, SpellsEach, SpellsSection, SpellsSubsection, SpellsBitmap, SpellsExtension, SubsectionContent, SignaturesLast, IsSignature, IsPositive, magic, header_text, numbers_text}
+use Rattle.krl_core.specs.Front.{HasRoom}
+use Rattle.krl_core.specs.Krl.{Subsection, Serials, Range, Bitmap, Ids, SubsectionExtension, SpellsEach, SpellsSubsection, SpellsExtension, IsPositive, magic, header_text, numbers_text}
 use Rattle.krl_core.specs.Place.{Due, due, judge, within, next_key, next_sha1, next_sha256, next_subsection, next_serial, next_id, next_bits, base_of, bits_judged, passes_end, highest_bit}
 use Rattle.std.proofs.Math.Nat.{div-eq_of_lt-le}
 use Rattle.std.proofs.lemmas.Nat.{pow-add}
@@ -19,8 +19,7 @@ use Rattle.std.proofs.lemmas.Nat.Bits.{bit_at_above, bit_at_cat_low, bit_at_cat_
 use Rattle.krl_core.proofs.Bitmaps.{number_of-byte, low_more, low_none}
 use Rattle.krl_core.proofs.Bits.{highest_around}
 use Rattle.krl_core.proofs.Completes.{length-string}
-use Rattle.krl_core.proofs.Fronts.{first_fault_is}
-use Rattle.krl_core.proofs.Goes.{Goes, goes_none, goes_one, goes_then, goes_from, arrives}
+use Rattle.krl_core.proofs.Goes.{Goes, goes_none, goes_one, goes_then, goes_from}
 use Rattle.krl_core.proofs.Lists.{header_parts}
 use Rattle.krl_core.proofs.Numbers.{length-number4, length-number8, number_again4, number_again8, number_of-one}
 

@@ -1,8 +1,7 @@
 -- A list that is spelled has no fault, where it is within the limit.
-use Rattle.std.proofs.Common.{◌≡◌, ℕ, ◌+◌, ◌-◌, ◌<◌, ◌≤◌, ◌^◌, ◌⊎◌, Bool, true, false, ltb, List, [], ◌∷◌, ◌++◌, length, take, Option, Some, None, Ok, refl, sym, ap, subst, ◌∙◌, append_assoc, arith, inl, inr}
-use Rattle.std.specs.List.{AllByRecursion}
+use Rattle.std.proofs.Common.{◌≡◌, ℕ, ◌+◌, ◌-◌, ◌<◌, ◌≤◌, ◌^◌, ◌⊎◌, Bool, true, false, ltb, List, [], ◌∷◌, ◌++◌, length, take, Some, None, Ok, refl, sym, ap, subst, ◌∙◌, append_assoc, arith, inl, inr}
 use Rattle.std.proofs.lemmas.Bool.{le-ltb}
-use Rattle.std.proofs.lemmas.List.{append-nil, length-append, take_all}
+use Rattle.std.proofs.lemmas.List.{length-append, take_all}
 use Rattle.ssh_wire.specs.Wire.{IsBytes, number_of, string, strings}
 use Rattle.krl_core.specs.declared.krl_fault.KrlFault.{KrlFault}
 use Rattle.krl_core.specs.declared.krl_fault.KrlFault.TheVariants as faults
@@ -10,7 +9,7 @@ use Rattle.krl_core.specs.declared.header.Header.{Header}
 use Rattle.krl_core.specs.declared.place.Place.{Place}
 use Rattle.krl_core.specs.declared.place.Place.TheVariants as places
 use Rattle.krl_core.specs.Front.{start, limit, IsFirstFault, Told, ended}
-use Rattle.krl_core.specs.Krl.{Section, Certificates, Keys, Sha1s, Sha256s, Signature, Extension, Spells, SpellsEach, SpellsSection, SignaturesLast, IsSignature, header_text}
+use Rattle.krl_core.specs.Krl.{Section, Certificates, Keys, Sha1s, Sha256s, Signature, Extension, Spells, SpellsEach, SpellsSection, header_text}
 use Rattle.krl_core.specs.Place.{due, next_key, next_sha1, next_sha256, next_subsection}
 use Rattle.krl_core.specs.Reading.{Says, starved, failed_read, first}
 use Rattle.krl_core.proofs.Completes.{length-string}

@@ -1,23 +1,20 @@
 -- The text of a list that is written is spelled.
-use Rattle.std.proofs.Common.{◌≡◌, ℕ, zero, suc, ◌+◌, ◌-◌, ◌*◌, ◌/◌, ◌^◌, ◌<◌, ◌≤◌, ◌⊎◌, inl, inr, Bool, true, false, leb, cond, List, [], ◌∷◌, ◌++◌, length, take, drop, refl, sym, ap, subst, ◌∙◌, arith, append_assoc, length-append}
-use Rattle.std.specs.Int.{bit_at}
-use Rattle.std.specs.List.{AllByRecursion, flat_map}
-use Rattle.std.proofs.lemmas.Bool.{cases_lt}
-use Rattle.std.proofs.lemmas.List.{append-nil, length-take-le}
+use Rattle.std.proofs.Common.{◌≡◌, ℕ, zero, suc, ◌+◌, ◌-◌, ◌*◌, ◌/◌, ◌^◌, ◌<◌, ◌≤◌, inl, inr, List, [], ◌∷◌, ◌++◌, length, take, drop, refl, sym, ap, subst, ◌∙◌, arith, append_assoc, length-append}
+use Rattle.std.specs.List.{AllByRecursion}
+use Rattle.std.proofs.lemmas.List.{append-nil}
 use Rattle.serial_set.specs.declared.span.Span.{Span}
 use Rattle.serial_set.specs.Span.{AreSerials, IsRuns, Covers as Names, RunsFrom}
-use Rattle.ssh_wire.specs.Wire.{number, number_of, string, strings}
+use Rattle.ssh_wire.specs.Wire.{number, string}
 use Rattle.ssh_wire.proofs.Fields.{length-number, length-string}
 use Rattle.krl_core.specs.declared.plan.group.Sort.{Sort}
 use Rattle.krl_core.specs.declared.plan.group.Sort.TheVariants as sorts
 use Rattle.krl_core.specs.declared.plan.group.Group.{Group}
-use Rattle.krl_core.specs.Krl.{IsPositive, Section, SpellsBitmap, SpellsCertificates, SpellsContent, SpellsEach, SpellsSection, SpellsSubsection, Spells, Subsection, Ids, Keys, Sha1s, Sha256s, Certificates, SignaturesLast, IsSignature}
-use Rattle.krl_core.specs.Plan.{Covers, IsGroup, IsPlan, IsSmall, end_of, reach, serial_count}
+use Rattle.krl_core.specs.Krl.{IsPositive, SpellsBitmap, SpellsEach, SpellsSubsection}
+use Rattle.krl_core.specs.Plan.{Covers, IsGroup, IsPlan, end_of, reach}
 use Rattle.krl_core.specs.Written.{bitmap_of, bitmap_size, bits_of, content_of, first_of, group_text, plan_text, serials_from, serials_of}
 use Rattle.krl_core.specs.KrlText.{group_subsection, plan_subsections}
-use Rattle.krl_core.proofs.BitmapBits.{bits_of_lt}
 use Rattle.krl_core.proofs.BitmapNames.{bits-names, number-bitmap, top_bit_clear}
-use Rattle.krl_core.proofs.Chosen.{IsRuns-drop, RunsFrom-take, RunsFrom-zero}
+use Rattle.krl_core.proofs.Chosen.{IsRuns-drop, RunsFrom-take}
 use Rattle.krl_core.proofs.GroupTexts.{length-bitmap_of}
 use Rattle.krl_core.proofs.ListTexts.{length-listed, small_few}
 

@@ -1,12 +1,11 @@
 -- What stands at the spot of some bytes, and what is put there.
-use Rattle.std.proofs.Common.{◌≡◌, ℕ, ◌+◌, ◌<◌, ◌≤◌, Bool, true, false, List, [], ◌∷◌, ◌++◌, length, map, get_or, take, drop, refl, sym, ap, subst, ◌∙◌, inl, inr, arith, suc}
+use Rattle.std.proofs.Common.{◌≡◌, ℕ, ◌+◌, ◌<◌, ◌≤◌, Bool, true, false, List, [], ◌∷◌, ◌++◌, length, map, get_or, drop, refl, sym, ap, subst, ◌∙◌, inl, inr, arith}
 use Rattle.std.specs.List.{Contains}
-use Rattle.std.specs.Ordering.{is_lt}
 use Rattle.std.proofs.lemmas.Bool.{cases_lt, false≢true}
 use Rattle.std.specs.Prelude.{IsTrue}
 use Rattle.std.proofs.lemmas.List.{drop_more, drop_all, length-append, get_or_default}
 use Rattle.krl_core.specs.declared.page.Page.{Page}
-use Rattle.krl_core.specs.Rising.{bytes_cmp, AllBelow, AllAbove, NoneBelow, RisesBy}
+use Rattle.krl_core.specs.Rising.{AllAbove, NoneBelow, RisesBy}
 use Rattle.krl_core.specs.Inserting.{Inserts}
 use Rattle.krl_core.specs.Pages.{joined, first_items, front_of, back_of, IsSpot, StandsAt}
 use Rattle.krl_core.proofs.Paged.{cut_at, first_past, joined_past, rises_right}

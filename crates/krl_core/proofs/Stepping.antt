@@ -1,5 +1,5 @@
 -- What a step of a reading did to the fields that were read, and what its faults say of the text.
-use Rattle.std.proofs.Common.{◌≡◌, ℕ, zero, suc, ◌+◌, ◌-◌, ◌*◌, ◌<◌, ◌≤◌, ◌⊎◌, Bool, true, false, ltb, List, [], ◌∷◌, ◌++◌, length, take, get_or, Option, Some, None, Result, Ok, Err, refl, sym, ap, subst, ◌∙◌, append_assoc, arith, inl, inr, IsSome}
+use Rattle.std.proofs.Common.{◌≡◌, ℕ, zero, suc, ◌+◌, ◌-◌, ◌<◌, ◌≤◌, ◌⊎◌, Bool, true, false, ltb, List, [], ◌∷◌, ◌++◌, length, take, get_or, Option, Some, None, Err, refl, sym, ap, subst, ◌∙◌, append_assoc, arith, inl, inr, IsSome}
 use Rattle.std.specs.List.{concat}
 use Rattle.std.specs.Io.KnownBytes.{Consumes, IsAtEnd, Keeps}
 use Rattle.std.proofs.lemmas.Bool.{cases_lt, le-ltb, lt-ltb}
@@ -13,11 +13,10 @@ use Rattle.ssh_wire.specs.declared.pull_fault.PullFault.TheVariants as pulls
 use Rattle.krl_core.specs.declared.krl_fault.KrlFault.{KrlFault}
 use Rattle.krl_core.specs.declared.krl_fault.KrlFault.TheVariants as faults
 use Rattle.krl_core.specs.declared.place.Place.{Place}
-use Rattle.krl_core.specs.Front.{Spot, start, spot_after, Leads, Passes, HasRoom, IsEnd, Told, ended, no_room, refused, too_long, ends_early, IsFirstFault, limit}
+use Rattle.krl_core.specs.Front.{Spot, start, spot_after, Leads, Passes, HasRoom, Told, ended, no_room, refused, too_long, ends_early, IsFirstFault, limit}
 use Rattle.krl_core.specs.Keeping.{Keeping, IsKept, KeepsField, GrowsWithin, IsStoredWithin}
 use Rattle.krl_core.specs.Place.{due, names, authority_after, header_after}
-use Rattle.krl_core.specs.Reading.{Position, working, HasRead, IsBounded, LooksFor, Missed, no_room as room_missed, cut, Says, starved, failed_read, first, FailsAfter, Refused, told_as}
-use Rattle.krl_core.specs.Walk.{Walks}
+use Rattle.krl_core.specs.Reading.{Position, working, HasRead, IsBounded, LooksFor, Missed, no_room as room_missed, cut, Says, starved, failed_read, first, Refused, told_as}
 use Rattle.krl_core.proofs.Fronts.{first_fault_is, end_size, end_room}
 use Rattle.krl_core.proofs.Walks.{Leads-push}
 

@@ -1,5 +1,5 @@
 -- A whole list, read field by field.
-use Rattle.std.proofs.Common.{◌≡◌, ℕ, ◌+◌, ◌-◌, ◌*◌, ◌<◌, ◌≤◌, ◌↔◌, Bool, true, false, ltb, take, List, [], ◌++◌, length, Option, Some, None, refl, sym, ap, subst, ◌∙◌, arith}
+use Rattle.std.proofs.Common.{◌≡◌, ℕ, ◌+◌, ◌-◌, ◌*◌, ◌<◌, ◌≤◌, true, false, ltb, take, List, [], ◌++◌, length, Option, Some, None, refl, sym, ap, subst, ◌∙◌, arith}
 use Rattle.std.specs.List.{concat}
 use Rattle.std.specs.Option.{option_to_list}
 use Rattle.std.proofs.lemmas.List.{append-nil, take_all}
@@ -9,17 +9,16 @@ use Rattle.ssh_wire.specs.Wire.{IsBytes}
 use Rattle.krl_core.specs.declared.header.Header.{Header}
 use Rattle.krl_core.specs.declared.place.Place.{Place}
 use Rattle.krl_core.specs.declared.place.Place.TheVariants.{SectionType}
-use Rattle.krl_core.specs.Contents.{Contents, Means, held, stored}
+use Rattle.krl_core.specs.Contents.{Contents}
 use Rattle.krl_core.specs.Entry.{Entry}
-use Rattle.krl_core.specs.Front.{limit, IsFirstFault, Told, ended}
-use Rattle.krl_core.specs.Keeping.{Keeping, IsKept, InStep, run_entries, open_run}
+use Rattle.krl_core.specs.Front.{limit, IsFirstFault, ended}
+use Rattle.krl_core.specs.Keeping.{Keeping, InStep, run_entries, open_run}
 use Rattle.krl_core.specs.Naming.{NamesSame}
 use Rattle.krl_core.specs.Place.{due}
-use Rattle.krl_core.specs.Reading.{Position, HasRead, Follows, IsBounded, IsSound, IsWhole}
+use Rattle.krl_core.specs.Reading.{Position, HasRead, Follows, IsSound, IsWhole}
 use Rattle.krl_core.proofs.Exists.{weight, nearer}
 use Rattle.krl_core.proofs.Fronts.{first_fault_is}
 use Rattle.krl_core.proofs.SameMeaning.{same_meaning}
-use Rattle.krl_core.proofs.Same.{same_is, same_sym, same_then}
 
 -- some fields of what the reader had were read, without a fault
 pub record Follow (left : Option (List ℕ)) (position : Position) : Type 0 where

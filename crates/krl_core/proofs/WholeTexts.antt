@@ -1,7 +1,6 @@
 -- A whole list, put part behind part.
-use Rattle.std.proofs.Common.{◌≡◌, ℕ, ◌+◌, ◌<◌, ◌≤◌, List, [], ◌∷◌, ◌++◌, length, Result, Err, refl, sym, ap, subst, ◌∙◌, arith, append_assoc, length-append}
+use Rattle.std.proofs.Common.{◌≡◌, ℕ, ◌+◌, ◌<◌, ◌≤◌, List, [], ◌∷◌, ◌++◌, length, Result, Err, refl, ap, ◌∙◌, arith, append_assoc, length-append}
 use Rattle.ssh_wire.specs.Wire.{number, string}
-use Rattle.ssh_wire.proofs.Fields.{length-number, length-string}
 use Rattle.krl_core.specs.Front.{limit}
 use Rattle.krl_core.specs.declared.header.Header.{Header}
 use Rattle.krl_core.specs.declared.writing.text_fault.TextFault.{TextFault}
@@ -13,7 +12,6 @@ use Rattle.krl_core.specs.KrlText.{EachPlan, IsKrlText, authorities_text, listed
 use Rattle.krl_core.specs.Plan.{IsLeastPlan}
 use Rattle.krl_core.specs.Within.{AddsAuthorities, AddsWithin, IsWritten}
 use Rattle.krl_core.proofs.OnePlan.{one_plan}
-use Rattle.krl_core.proofs.Sections.{length-header}
 
 abbrev refused : TextFault → Result (Unit {0}) TextFault
 refused fault = Err fault

@@ -5,7 +5,7 @@ use Rattle.std.specs.declared.alloc.AllocError.{AllocError}
 use Rattle.serial_set.specs.declared.span.Span.{Span}
 use Rattle.krl_core.specs.declared.addition.Addition.{Addition}
 use Rattle.krl_core.specs.declared.shelf.Shelf.{Shelf}
-use Rattle.krl_core.specs.Changes.{Takes, ChangesOne}
+use Rattle.krl_core.specs.Changes.{Takes}
 use Rattle.krl_core.specs.Contents.{Section}
 use Rattle.krl_core.specs.Text.{bytes_of}
 

@@ -1,8 +1,8 @@
 -- The bytes of a list that is written: its subsections by a plan for each authority.
-use Rattle.std.specs.Prelude.{◌≡◌, ℕ, zero, suc, ◌+◌, ◌-◌, ◌*◌, ◌/◌, ◌≤◌, ◌<◌, Bool, true, false, ◌&&◌, ◌||◌, nat_le, if◌then◌else◌, List, [], ◌∷◌, ◌++◌, length, take, drop, slice_index_or}
+use Rattle.std.specs.Prelude.{ℕ, zero, suc, ◌+◌, ◌-◌, ◌*◌, ◌/◌, ◌≤◌, ◌<◌, Bool, false, ◌&&◌, ◌||◌, nat_le, if◌then◌else◌, List, [], ◌∷◌, ◌++◌, length, take, drop, slice_index_or}
 use Rattle.std.specs.List.{flat_map}
 use Rattle.serial_set.specs.declared.span.Span.{Span}
-use Rattle.ssh_wire.specs.Wire.{number, string, strings}
+use Rattle.ssh_wire.specs.Wire.{number, string}
 use Rattle.krl_core.specs.declared.plan.group.Sort.{Sort}
 use Rattle.krl_core.specs.declared.plan.group.Sort.TheVariants.{Serials, Range, Bitmap}
 use Rattle.krl_core.specs.declared.plan.group.Group.{Group}

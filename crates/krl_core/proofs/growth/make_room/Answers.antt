@@ -1,4 +1,4 @@
-use Rattle.std.proofs.Common.{◌≡◌, ◌+◌, ◌<◌, ◌++◌, length, get_or, set, drop, ap, sym, subst, ◌∙◌, arith}
+use Rattle.std.proofs.Common.{◌≡◌, ◌+◌, get_or, set, drop, ap, sym, ◌∙◌}
 use Rattle.std.specs.Prelude.{insert}
 use Rattle.krl_core.specs.Pages.{joined, first_items}
 use Rattle.krl_core.proofs.Paged.{first_at}

@@ -1,5 +1,5 @@
-use Rattle.std.proofs.Common.{◌≡◌, ◌-◌, ◌+◌, ◌<◌, ◌≤◌, [], ◌∷◌, ◌++◌, length, drop, ap, sym, ◌∙◌, arith}
-use Rattle.krl_core.specs.Pages.{joined, first_items, front_of, back_of}
+use Rattle.std.proofs.Common.{◌≡◌, ◌-◌, ◌<◌, ◌∷◌, ◌++◌, length, drop, ap, sym, ◌∙◌, arith}
+use Rattle.krl_core.specs.Pages.{joined, first_items, back_of}
 use Rattle.krl_core.proofs.Paged.{first_at}
 use Rattle.krl_core.proofs.Grown.{joined_push, ends_all}
 use Rattle.krl_core.proofs.growth.put_last.Goals as goal

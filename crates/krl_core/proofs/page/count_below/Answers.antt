@@ -1,6 +1,5 @@
-use Rattle.std.proofs.Common.{◌≡◌, ◌+◌, ◌<◌, ◌≤◌, ◌-◌, ◌/◌, length, take, get_or, subst, ap, sym, ◌∙◌, arith, add-one, false}
+use Rattle.std.proofs.Common.{◌≡◌, ◌+◌, ◌<◌, ◌-◌, ◌/◌, length, take, get_or, subst, ap, sym, ◌∙◌, arith, add-one}
 use Rattle.std.specs.declared.cmp.Ordering.TheVariants.{Less}
-use Rattle.std.specs.Ordering.{is_lt}
 use Rattle.krl_core.specs.Rising.{AllBelow, bytes_cmp}
 use Rattle.krl_core.proofs.Orders.{before_upto, none_before_from, is_lt-not}
 use Rattle.krl_core.proofs.page.count_below.Goals as goal

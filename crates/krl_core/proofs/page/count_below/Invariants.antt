@@ -1,5 +1,5 @@
 use Rattle.std.proofs.Common.{◌-◌, ◌≤◌, length, take, drop}
-use Rattle.krl_core.specs.Rising.{RisesBy, AllBelow, NoneBelow}
+use Rattle.krl_core.specs.Rising.{AllBelow, NoneBelow}
 use Rattle.krl_core.proofs.page.count_below.Given as goal
 
 abbrev pub invariant-loop-low : goal.invariant-loop-low

@@ -1,6 +1,5 @@
-use Rattle.std.proofs.Common.{◌≡◌, ℕ, ◌+◌, ◌-◌, ◌*◌, List, Some, None}
+use Rattle.std.proofs.Common.{◌+◌, ◌-◌, ◌*◌}
 use Rattle.krl_core.specs.Front.{limit}
-use Rattle.krl_core.specs.Reading.{HasRead, Position}
 use Rattle.krl_core.proofs.Exists.{weight}
 use Rattle.krl_core.proofs.Whole.{Follow}
 use Rattle.krl_core.proofs.read.read_krl.Given as goal

@@ -1,6 +1,6 @@
-use Rattle.std.proofs.Common.{◌≡◌, ◌+◌, ◌<◌, ◌≤◌, [], ◌++◌, length, take, drop, get_or, suc, add-one, ap, sym, subst, ◌∙◌, arith, refl}
+use Rattle.std.proofs.Common.{◌≡◌, ◌+◌, ◌<◌, ◌≤◌, [], length, take, drop, add-one, sym, subst, ◌∙◌, arith}
 use Rattle.krl_core.specs.Rising.{RisesBy, AllBelow, NoneBelow}
-use Rattle.krl_core.specs.Pages.{joined, first_items, front_of, back_of}
+use Rattle.krl_core.specs.Pages.{joined, first_items}
 use Rattle.krl_core.proofs.Paged.{pages_rise, first_rises, first_at, first_past, joined_past, pages_before, pages_after, ends_inside, AllBelow-append, NoneBelow-append}
 use Rattle.krl_core.proofs.spot.spot_of.Goals as goal
 

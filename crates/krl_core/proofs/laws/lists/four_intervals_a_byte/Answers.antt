@@ -1,4 +1,4 @@
-use Rattle.std.proofs.Common.{ℕ, List, take, subst, ◌++◌}
+use Rattle.std.proofs.Common.{subst, ◌++◌}
 use Rattle.std.specs.List.{concat}
 use Rattle.ssh_wire.specs.Digits.{IsBytes-take}
 use Rattle.ssh_wire.specs.Wire.{IsBytes}

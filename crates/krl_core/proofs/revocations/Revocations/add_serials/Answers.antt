@@ -1,8 +1,8 @@
-use Rattle.std.proofs.Common.{◌≡◌, ◌<◌, ◌≤◌, ◌+◌, ◌^◌, length, map, sym, subst, arith}
+use Rattle.std.proofs.Common.{◌<◌, ◌≤◌, ◌+◌, ◌^◌, length, map, sym, subst, arith}
 use Rattle.krl_core.specs.declared.addition.Addition.TheVariants.{Serials}
 use Rattle.krl_core.specs.Authority.{authority_bytes}
 use Rattle.krl_core.specs.Changes.{AddsTo}
-use Rattle.krl_core.specs.Contents.{Contents, contents_of, IsNamed, Means, held, stored}
+use Rattle.krl_core.specs.Contents.{contents_of, IsNamed, Means, held, stored}
 use Rattle.krl_core.specs.Shelf.{sections_of}
 use Rattle.krl_core.specs.Text.{bytes_of}
 use Rattle.krl_core.proofs.Adding.{serials_orderly, serials_mean}

@@ -1,4 +1,4 @@
-use Rattle.std.proofs.Common.{◌≡◌, false, true, sym, subst}
+use Rattle.std.proofs.Common.{◌≡◌, false, true, subst}
 use Rattle.std.specs.Prelude.{◌↔◌, IsTrue}
 use Rattle.krl_core.specs.Asked.{HoldsKey}
 use Rattle.krl_core.specs.Revoked.{Revoked}

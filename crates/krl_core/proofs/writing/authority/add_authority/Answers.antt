@@ -1,8 +1,7 @@
-use Rattle.std.proofs.Common.{◌≡◌, ◌+◌, ◌++◌, ◌≤◌, ◌<◌, ◌∷◌, [], List, ℕ, ap, arith, length, length-append}
+use Rattle.std.proofs.Common.{◌≡◌, ◌∷◌, [], List, ℕ, ap, arith, length, length-append}
 use Rattle.std.proofs.lemmas.Result.{err_from_is_err_and}
 use Rattle.serial_set.specs.declared.span.Span.{Span}
-use Rattle.ssh_wire.specs.Wire.{number, string}
-use Rattle.krl_core.specs.declared.plan.group.Group.{Group}
+use Rattle.ssh_wire.specs.Wire.{string}
 use Rattle.krl_core.specs.Contents.{Section as Listed}
 use Rattle.krl_core.specs.KrlText.{authority_content, listed_text}
 use Rattle.krl_core.specs.Written.{plan_text}

@@ -1,6 +1,6 @@
-use Rattle.std.proofs.Common.{◌≡◌, ◌+◌, ◌-◌, ◌*◌, ◌≤◌, ◌<◌, ◌^◌, Bool, true, false, cond, ℕ, refl, ap, sym, ◌∙◌, arith}
+use Rattle.std.proofs.Common.{◌≡◌, ◌+◌, ◌-◌, ◌≤◌, Bool, true, false, cond, ℕ, refl, ap, ◌∙◌, arith}
 use mir.Val.{bool_byte}
-use Rattle.krl_core.specs.Written.{bits_of, has}
+use Rattle.krl_core.specs.Written.{has}
 use Rattle.krl_core.proofs.BitmapBits.{Above-less, bits_more, byte_small}
 use Rattle.krl_core.proofs.writing.bitmap.byte_at.Goals as goal
 

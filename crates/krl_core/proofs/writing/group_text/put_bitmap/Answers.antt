@@ -1,7 +1,6 @@
-use Rattle.std.proofs.Common.{◌≡◌, ◌+◌, ◌-◌, ◌/◌, ◌++◌, ◌∷◌, [], ℕ, List, arith, get_or, length, sym, ap, ◌∙◌}
+use Rattle.std.proofs.Common.{◌≡◌, ◌+◌, ◌/◌, ◌++◌, ◌∷◌, ℕ, get_or, sym, ap, ◌∙◌}
 use Rattle.serial_set.specs.declared.span.Span.{Span}
 use Rattle.ssh_wire.specs.Wire.{number, string}
-use Rattle.krl_core.specs.Plan.{reach}
 use Rattle.krl_core.specs.Written.{bitmap_of, bitmap_size, first_of}
 use Rattle.krl_core.proofs.GroupTexts.{bitmap_put, first-get, length-bitmap_of}
 use Rattle.krl_core.proofs.writing.group_text.put_bitmap.Goals as goal

@@ -1,12 +1,11 @@
-use Rattle.std.proofs.Common.{◌≡◌, ◌+◌, ◌-◌, ◌≤◌, ◌<◌, ◌++◌, ℕ, List, arith, ap, drop, get_or, length, length-drop, subst, sym, take, ◌∙◌}
+use Rattle.std.proofs.Common.{◌≡◌, ◌+◌, ◌-◌, ◌++◌, ℕ, List, arith, ap, drop, get_or, length-drop, subst, sym, take, ◌∙◌}
 use Rattle.serial_set.specs.declared.span.Span.{Span}
-use Rattle.serial_set.specs.Span.{IsRuns}
 use Rattle.krl_core.specs.declared.plan.group.Sort.TheVariants.{Serials}
 use Rattle.krl_core.specs.declared.plan.group.Group.{Group}
 use Rattle.krl_core.specs.Plan.{Covers, IsGroup}
 use Rattle.krl_core.specs.Written.{group_text}
 use Rattle.krl_core.proofs.Chosen.{IsRuns-drop, RunsFrom-take}
-use Rattle.krl_core.proofs.PlanTexts.{Putting, Putting-group, Putting-more}
+use Rattle.krl_core.proofs.PlanTexts.{Putting-group, Putting-more}
 use Rattle.krl_core.proofs.writing.plan_text.put_plan.Goals as goal
 
 abbrev zero_group : Group

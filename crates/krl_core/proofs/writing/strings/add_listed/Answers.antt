@@ -1,6 +1,6 @@
-use Rattle.std.proofs.Common.{◌≡◌, ◌+◌, ◌++◌, ◌≤◌, ◌∷◌, [], List, ℕ, ap, arith, length, length-append}
+use Rattle.std.proofs.Common.{◌≡◌, ◌++◌, ◌∷◌, [], ap, arith, length, length-append}
 use Rattle.std.proofs.lemmas.Result.{err_from_is_err_and}
-use Rattle.ssh_wire.specs.Wire.{number, string, strings}
+use Rattle.ssh_wire.specs.Wire.{string, strings}
 use Rattle.krl_core.specs.KrlText.{listed_text}
 use Rattle.krl_core.proofs.Limits.{length-put, listed_front, listed_rest, put_done, put_two, too_long}
 use Rattle.krl_core.proofs.writing.strings.add_listed.Goals as goal

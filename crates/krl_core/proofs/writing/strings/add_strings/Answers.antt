@@ -1,8 +1,7 @@
-use Rattle.std.proofs.Common.{◌≡◌, ◌++◌, ◌≤◌, ◌∷◌, [], List, ℕ, ap, arith, length, sym, ◌∙◌}
+use Rattle.std.proofs.Common.{◌≡◌, ◌++◌, [], List, ℕ, ap, sym, ◌∙◌}
 use Rattle.std.proofs.lemmas.List.{append-nil}
 use Rattle.std.proofs.lemmas.Result.{err_from_is_err_and}
 use Rattle.ssh_wire.specs.Wire.{string, strings}
-use Rattle.krl_core.specs.Front.{limit}
 use Rattle.krl_core.proofs.Limits.{strings_front, strings_more, too_long}
 use Rattle.krl_core.proofs.writing.strings.add_strings.Goals as goal
 

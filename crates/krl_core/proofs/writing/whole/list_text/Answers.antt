@@ -2,7 +2,6 @@ use Rattle.std.proofs.Common.{◌≡◌, [], List, ℕ}
 use Rattle.std.proofs.lemmas.Result.{err_from_is_err_and}
 use Rattle.krl_core.specs.Contents.{Contents, Section as Listed}
 use Rattle.krl_core.specs.Krl.{header_text}
-use Rattle.krl_core.specs.KrlText.{listed_text}
 use Rattle.krl_core.proofs.WholeTexts.{authorities_long, behind_none, header_long, keys_long, sha1s_long, sha256s_long, whole_put}
 use Rattle.krl_core.proofs.writing.whole.list_text.Goals as goal
 
