@@ -1,4 +1,4 @@
-# Keys, lines and lists, built from their parts. All but the last three functions give
+# Keys, certificates, lines and lists, built from their parts. All but the last three functions give
 # hexadecimal digits.
 
 # A string of the SSH formats: its length in four bytes, and the bytes.
@@ -47,9 +47,26 @@ section() {
   string "$(for blob; do string "$blob"; done)"
 }
 
+# certificate KEY AUTHORITY SERIAL ID [PRINCIPALS AFTER BEFORE CRITICAL EXTENSIONS]: a certificate of a
+# user. KEY and AUTHORITY are Ed25519 blobs, ID is a text; the serial number and the times have sixteen
+# digits, and the last two and PRINCIPALS are rows of strings. Without the last five it is for ever.
+certificate() {
+  words ssh-ed25519-cert-v01@openssh.com ''
+  printf '00000020%s%s00000001' "${1: -64}" "$3"
+  words "$4"
+  string "${5:-}"
+  printf %s "${6:-0000000000000000}" "${7:-ffffffffffffffff}"
+  string "${8:-}"
+  string "${9:-}"
+  words ''
+  string "$2"
+  string "$(words ssh-ed25519 && string "$(repeat 64 00)")"
+}
+
 github=e32aaa7915ceb9b449d1ba50ea2a28bb1a6e01f90bda245a2d1d87697d18a265
 G=$(ed25519 $github)
 A=$(ed25519 "$(repeat 32 11)")
+B=$(ed25519 "$(repeat 32 22)")
 # The header of a list of version 1, from the first second of 1970.
 H=5353484b524c0a00000000010000000000000001000000000000000000000000000000000000000000000000
 

@@ -1,0 +1,137 @@
+# A real sshd on the loopback, whose RevokedKeys are lists that the program made: who logs in with a key
+# or a certificate is let in or refused as -Q answers about it.
+
+. "$tests/needs.sh"
+need sshd openssh-server || judge 'sshd is there' '  install it, on Debian by apt-get install openssh-server'
+daemon=$(command -v sshd || echo /usr/sbin/sshd)
+room=$scratch/sshd
+mkdir -p "$room"
+user=$(id -un)
+
+# made_key NAME TYPE
+made_key() {
+  "$openssh" -q -t "$2" -N '' -C "$1" -f "$room/$1"
+}
+made_key host ed25519
+made_key one ed25519
+made_key two ecdsa
+made_key user ed25519
+made_key ca-a ed25519
+made_key ca-b ecdsa
+highest=18446744073709551615
+# Certificates of one key, which is let in by them alone: NAME is that of its authority and its serial.
+for name in a0 a5 a6 a7 a300 a$highest b5 b6; do
+  "$openssh" -q -s "$room/ca-${name:0:1}" -I "id of $name" -z "${name:1}" -n "$user" "$room/user.pub"
+  mv "$room/user-cert.pub" "$room/$name.pub"
+done
+cat "$room/ca-a.pub" "$room/ca-b.pub" >"$room/authorities"
+cat "$room/one.pub" "$room/two.pub" >"$room/allowed"
+
+# listen PORT: starts sshd, and tells whether it listens. It ends by itself after five minutes.
+listen() {
+  cat >"$room/config" <<END
+Port $1
+ListenAddress 127.0.0.1
+HostKey $room/host
+PidFile none
+AuthorizedKeysFile $room/allowed
+TrustedUserCAKeys $room/authorities
+RevokedKeys $room/revoked.krl
+ForceCommand echo let in
+StrictModes no
+UsePAM no
+PermitRootLogin yes
+UseDNS no
+PasswordAuthentication no
+KbdInteractiveAuthentication no
+MaxStartups 100
+END
+  timeout 300 "$daemon" -D -e -f "$room/config" 2>"$room/log" &
+  server=$!
+  for _ in {1..100}; do
+    kill -0 $server 2>/dev/null || return
+    (: >"/dev/tcp/127.0.0.1/$1") 2>/dev/null && return
+    sleep 0.1
+  done
+}
+
+ends() {
+  kill "$server" 2>/dev/null
+  wait "$server" 2>/dev/null
+  [ -z "$made_folder" ] || rmdir /run/sshd 2>/dev/null
+}
+
+# A sshd of root wants an empty folder of its own.
+made_folder=
+if [ "$(id -u)" = 0 ] && [ ! -d /run/sshd ]; then
+  mkdir /run/sshd
+  made_folder=yes
+fi
+trap 'ends; rm -rf "$scratch"' EXIT
+for _ in {1..5}; do
+  port=$((20000 + RANDOM % 10000))
+  listen $port
+  kill -0 "$server" 2>/dev/null && break
+done
+judge 'sshd listens' "$(kill -0 "$server" 2>&1 || cat "$room/log")"
+
+# enters NAME: whether sshd lets in who has this key, or the key user with this certificate.
+enters() {
+  local words=(-i "$room/$1")
+  [ -f "$room/$1" ] || words=(-i "$room/user" -o CertificateFile="$room/$1.pub")
+  timeout 20 ssh -F none -p "$port" -o IdentitiesOnly=yes -o IdentityAgent=none -o BatchMode=yes \
+    -o StrictHostKeyChecking=no -o GSSAPIAuthentication=no -o UserKnownHostsFile=/dev/null -o LogLevel=ERROR \
+    "${words[@]}" "$user@127.0.0.1" true >"$scratch/output" 2>"$scratch/error" </dev/null
+  [ "$(cat "$scratch/output")" = 'let in' ]
+}
+
+# login NAME STATUS KEY: -Q ends with this status about it, and sshd lets in just who has 0 there.
+login() {
+  local got answer
+  "$program" -Q -f "$room/revoked.krl" "$room/$3.pub" >"$scratch/answer" 2>&1
+  answer=$?
+  enters "$3"
+  got=$?
+  judge "$1: $3" "$(
+    differs 'status of -Q' "$2" $answer
+    [ $answer = "$2" ] || cat "$scratch/answer"
+    differs 'sshd refuses' "$2" $got
+    [ $got = "$2" ] || cat "$scratch/error"
+  )"
+}
+
+# lists NAME LINES REFUSED LET_IN WORD..: the program makes a list of the lines, with the words.
+lists() {
+  local name=$1 lines=$2 refused=$3 let_in=$4 key
+  shift 4
+  printf '%s\n' "$lines" >"$room/spec"
+  expect "$name" 0 '' '' -k -f "$room/revoked.krl" "$@" "$room/spec"
+  for key in $refused; do login "$name" 1 "$key"; done
+  for key in $let_in; do login "$name" 0 "$key"; done
+}
+under_a=(-s "$room/ca-a.pub")
+rm -f "$room/revoked.krl"
+lists 'a list of nothing' '' '' 'one two a0 a5 b5'
+lists 'a key' "$(cat "$room/one.pub")" one 'two a5'
+lists 'the key of certificates' "key: $(cat "$room/user.pub")" 'a0 a5 b5' 'one'
+lists 'the SHA-1 of a key' "sha1: $(cat "$room/two.pub")" two one
+lists 'the SHA-256 of a key' "sha256: $(cat "$room/two.pub")" two one
+lists 'a fingerprint' "hash: $("$openssh" -l -f "$room/user.pub" | cut -d ' ' -f 2)" 'a5 b6' two
+lists 'a key ID' 'id: id of a5' a5 'a6 b5' "${under_a[@]}"
+lists 'a serial number' 'serial: 5' a5 'a6 b5 a0' "${under_a[@]}"
+lists 'a range' 'serial: 5-100' 'a5 a7' 'a300 b5' "${under_a[@]}"
+lists 'a bitmap' "$(seq -f 'serial: %g' 1 2 299)" 'a5 a7' 'a6 a300' "${under_a[@]}"
+lists 'an update of it' 'serial: 0x6' 'a6 a5' a300 -u "${under_a[@]}"
+lists 'an update of that, with another authority' 'serial: 6' 'b6 a5' 'b5 a300' -u -s "$room/ca-b.pub"
+lists 'all authorities' 'serial: 5' 'a5 b5' 'a6 b6' -s none
+lists "an authority's own key" "$(cat "$room/ca-a.pub")" 'a0 a5' 'b5 one'
+lists "the SHA-256 of an authority's key" "sha256: $(cat "$room/ca-b.pub")" b5 a5
+lists 'all serial numbers but 0' "serial: 1-$highest" "a5 a$highest" 'a0 b5' "${under_a[@]}"
+lists 'the highest serial number' "serial: $highest" a$highest 'a5 a0' "${under_a[@]}"
+lists 'a certificate of serial number 0' "$(cat "$room/a0.pub")" a0 a5
+lists 'a certificate' "$(cat "$room/a7.pub")" a7 'a6 one'
+rm "$room/revoked.krl"
+judge 'sshd refuses all keys where the list is missing' "$(enters one && echo '  it lets in')"
+
+ends
+trap 'rm -rf "$scratch"' EXIT
