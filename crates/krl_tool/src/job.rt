@@ -9,6 +9,9 @@ ghost use Rattle.krl_tool.specs.Job.{asked_of, authority_called, authority_named
 use crate::given::Given;
 use ssh_key::Hash;
 
+/// How many digits a version has at most.
+const MOST_DIGITS: usize = 20;
+
 /// What a run of the program does.
 #[derive(Clone, Copy, Debug, PartialEq, Eq)]
 pub enum Mode {
@@ -138,7 +141,7 @@ fn version_named(text: Option<&str>) -> Option<Option<u64>>
 fn version_called(text: &str) -> Option<Option<u64>>
     ensures { result ≡ version_called text.now }
 {
-    if text.len() > 20 || !are_digits(text.as_bytes()) {
+    if text.len() > MOST_DIGITS || !are_digits(text.as_bytes()) {
         return None;
     }
     match text.parse() {

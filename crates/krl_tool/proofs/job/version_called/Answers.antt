@@ -2,18 +2,18 @@
 use Rattle.std.proofs.Common.{◌∙◌, ◌≤◌, arith, length, sym}
 use Rattle.krl_tool.proofs.Versions.{no_digits, not_parsed, some_version, too_long}
 use Rattle.krl_tool.proofs.job.version_called.Goals as goal
-use Rattle.krl_tool.proofs.job.version_called.Goals.{then-text-gt20-via-then-text-gt20, then-text-gt20-via-else-text-gt20+then-not-are_digits}
+use Rattle.krl_tool.proofs.job.version_called.Goals.{then-text-gt-MOST_DIGITS-via-then-text-gt-MOST_DIGITS, then-text-gt-MOST_DIGITS-via-else-text-gt-MOST_DIGITS+then-not-are_digits}
 
-pub returns-then-text-gt20 : goal.returns-then-text-gt20
-returns-then-text-gt20 c =
-    elim c.then-text-gt20.branch [
-      | then-text-gt20-via-then-text-gt20 w ↦ sym (too_long c.args.text.now (omega (arith, w.if-text-gt20.true)))
-      | then-text-gt20-via-else-text-gt20+then-not-are_digits w ↦ sym (no_digits c.args.text.now (rw w.as_bytes.ensures.value at (sym w.are_digits.ensures ∙ w.if-not-are_digits.true)))
+pub returns-then-text-gt-MOST_DIGITS : goal.returns-then-text-gt-MOST_DIGITS
+returns-then-text-gt-MOST_DIGITS c =
+    elim c.then-text-gt-MOST_DIGITS.branch [
+      | then-text-gt-MOST_DIGITS-via-then-text-gt-MOST_DIGITS w ↦ sym (too_long c.args.text.now (omega (arith, w.if-text-gt-MOST_DIGITS.true)))
+      | then-text-gt-MOST_DIGITS-via-else-text-gt-MOST_DIGITS+then-not-are_digits w ↦ sym (no_digits c.args.text.now (rw w.as_bytes.ensures.value at (sym w.are_digits.ensures ∙ w.if-not-are_digits.true)))
     ]
 
 pub returns-in-Ok : goal.returns-in-Ok
 returns-in-Ok c =
-    let short : length c.args.text.now ≤ 20 = omega (arith, c.if-text-gt20.false) in
+    let short : length c.args.text.now ≤ 20 = omega (arith, c.if-text-gt-MOST_DIGITS.false) in
     let digits = rw c.as_bytes.ensures.value at (sym c.are_digits.ensures ∙ c.if-not-are_digits.false) in
     sym (some_version c.args.text.now c.in-Ok.version short digits c.in-Ok.ensures.value.0)
 
