@@ -1,5 +1,5 @@
 -- What is said of a line, by what reading the line and its blob gives.
-use Rattle.std.proofs.Common.{◌≡◌, ℕ, Bool, true, false, List, None, Some, Result, Ok, Err, refl, sym, ap, subst, ◌∙◌}
+use Rattle.std.proofs.Common.{◌≡◌, ℕ, Bool, true, false, List, Option, None, Some, Result, Ok, Err, refl, sym, ap, subst, ◌∙◌}
 use Rattle.ssh_key.specs.Key.{IsKey, Key}
 use Rattle.ssh_key.specs.KeyFile.{has_key}
 use Rattle.ssh_key.specs.KeyLine.{IsKeyLine}
@@ -7,13 +7,17 @@ use Rattle.ssh_key.specs.KeyReading.{key_at}
 use Rattle.ssh_key.specs.LineReading.{Content, line_at}
 use Rattle.ssh_key.specs.declared.fault.KeyFault.{KeyFault}
 use Rattle.ssh_key.specs.declared.line_fault.LineFault.{LineFault}
+use Rattle.ssh_cert.specs.Certificate.{Certificate}
+use Rattle.ssh_cert.specs.declared.fault.CertFault.{CertFault}
+use Rattle.ssh_key.specs.declared.hash.Hash.{Hash}
+use Rattle.krl_runs.specs.Listing.{certificate_answer, listed_certificate}
 use Rattle.ssh_cert.specs.Subject.{Subject}
 use Rattle.ssh_cert.specs.SubjectReading.{IsSubject, plain_key, certified, subject_of}
 use Rattle.ssh_cert.specs.declared.subject_fault.SubjectFault.{SubjectFault}
 use Rattle.krl_runs.specs.declared.output.answer.Answer.{Answer}
 use Rattle.krl_runs.specs.declared.output.cause.Cause.TheVariants.{Line}
 use Rattle.krl_runs.specs.Items.{SpellsKey}
-use Rattle.krl_runs.specs.Run.{Item, Answered, Answering, Stopped, content_item, key_item, subject_item, item_of, stop_at}
+use Rattle.krl_runs.specs.Run.{Item, Answered, Answering, Stopped, content_item, key_item, subject_item, item_of, said, stop_at}
 
 pub no_item_of : (answer : Answering) (name : List ℕ) (number : ℕ) (text : List ℕ) → has_key text ≡ false → item_of answer name number text ≡ None
 unfolding item_of
@@ -30,52 +34,62 @@ plain_is_key blob asked (plain_key key is_key same) = (key, rw same is_key)
 plain_is_key blob asked (certified certificate is_certificate same) = (certificate.key, rw same is_certificate.key)
 
 -- an answer has been read off a key line
-pub record FromLine (answer : Answering) (name text : List ℕ) (reply : Answer) : Type 0 where
+pub record FromLine (answer : Answering) (name : List ℕ) (number : ℕ) (text : List ℕ) (reply : Answer) : Type 0 where
   pub line : Content
   pub asked : Subject
   pub key : Key
   pub is_line : line_at text ≡ Ok line
   pub is_asked : subject_of line.blob ≡ Ok asked
   pub is_key : key_at asked.plain ≡ Ok key
-  pub is_reply : reply ≡ answer name line asked key
+  pub is_reply : Some reply ≡ answer.say name (Some number) line asked key
 
-same_reply : (name other : List ℕ) (a b : Answer) → Answered name a ≡ Answered other b → b ≡ a
-same_reply name other a b e = cc
+same_reply : (name other : List ℕ) (a : Option Answer) (b : Answer) → said name a ≡ Answered other b → Some b ≡ a
+same_reply name other None b e = absurd cc
+same_reply name other (Some a) b e = cc
 
-from_line : (answer : Answering) (name : List ℕ) (number : ℕ) (text other : List ℕ) (reply : Answer) → content_item answer name number (line_at text) ≡ Answered other reply → FromLine answer name text reply
+from_line : (answer : Answering) (name : List ℕ) (number : ℕ) (text other : List ℕ) (reply : Answer) → content_item answer name number (line_at text) ≡ Answered other reply → FromLine answer name number text reply
 from_line answer name number text other reply item = of_line (line_at text) refl item
   where
-    of_key : (line : Content) (asked : Subject) (read : Result Key KeyFault) → line_at text ≡ Ok line → subject_of line.blob ≡ Ok asked → key_at asked.plain ≡ read → key_item answer name (Some number) line asked read ≡ Answered other reply → FromLine answer name text reply
+    of_key : (line : Content) (asked : Subject) (read : Result Key KeyFault) → line_at text ≡ Ok line → subject_of line.blob ≡ Ok asked → key_at asked.plain ≡ read → key_item answer name (Some number) line asked read ≡ Answered other reply → FromLine answer name number text reply
     of_key line asked (Ok key) is_line is_asked is_key e =
-        record { line = line; asked = asked; key = key; is_line = is_line; is_asked = is_asked; is_key = is_key; is_reply = same_reply name other (answer name line asked key) reply e }
+        record { line = line; asked = asked; key = key; is_line = is_line; is_asked = is_asked; is_key = is_key; is_reply = same_reply name other (answer.say name (Some number) line asked key) reply e }
     of_key line asked (Err fault) is_line is_asked is_key e = absurd cc
 
-    of_blob : (line : Content) (read : Result Subject SubjectFault) → line_at text ≡ Ok line → subject_of line.blob ≡ read → subject_item answer name (Some number) line read ≡ Answered other reply → FromLine answer name text reply
+    of_blob : (line : Content) (read : Result Subject SubjectFault) → line_at text ≡ Ok line → subject_of line.blob ≡ read → subject_item answer name (Some number) line read ≡ Answered other reply → FromLine answer name number text reply
     of_blob line (Ok asked) is_line is_asked e = of_key line asked (key_at asked.plain) is_line is_asked refl e
     of_blob line (Err fault) is_line is_asked e = absurd cc
 
-    of_line : (read : Result Content LineFault) → line_at text ≡ read → content_item answer name number read ≡ Answered other reply → FromLine answer name text reply
+    of_line : (read : Result Content LineFault) → line_at text ≡ read → content_item answer name number read ≡ Answered other reply → FromLine answer name number text reply
     of_line (Ok line) is_line e = of_blob line (subject_of line.blob) is_line refl e
     of_line (Err fault) is_line e = absurd cc
 
 some_is : (a b : Item) → Some a ≡ Some b → a ≡ b
 some_is a b e = cc
 
-pub answered_line : (answer : Answering) (name : List ℕ) (number : ℕ) (text other : List ℕ) (reply : Answer) → item_of answer name number text ≡ Some (Answered other reply) → FromLine answer name text reply
+pub answered_line : (answer : Answering) (name : List ℕ) (number : ℕ) (text other : List ℕ) (reply : Answer) → item_of answer name number text ≡ Some (Answered other reply) → FromLine answer name number text reply
 unfolding item_of
 answered_line answer name number text other reply item = by_test (has_key text) refl
   where
-    by_test : (has : Bool) → has_key text ≡ has → FromLine answer name text reply
+    by_test : (has : Bool) → has_key text ≡ has → FromLine answer name number text reply
     by_test true has = let e = rw has at item in from_line answer name number text other reply (some_is _ _ e)
     by_test false has = let e = rw has at item in absurd cc
 
 -- and so the line spells it
-pub spelled_line : (answer : Answering) (name text : List ℕ) (reply : Answer) → (from : FromLine answer name text reply) → IsKeyLine text from.line.word from.line.blob from.line.comment → IsSubject from.line.blob from.asked
-    → ((key : Key) → IsKey from.asked.plain key → key_at from.asked.plain ≡ Ok key) → (line : Content) × (asked : Subject) × (key : Key) × SpellsKey text line asked key × (reply ≡ answer name line asked key)
-spelled_line answer name text reply from is_line is_asked reads =
+pub spelled_line : (answer : Answering) (name : List ℕ) (number : ℕ) (text : List ℕ) (reply : Answer) → (from : FromLine answer name number text reply) → IsKeyLine text from.line.word from.line.blob from.line.comment → IsSubject from.line.blob from.asked
+    → ((key : Key) → IsKey from.asked.plain key → key_at from.asked.plain ≡ Ok key) → (line : Content) × (asked : Subject) × (key : Key) × SpellsKey text line asked key × (Some reply ≡ answer.say name (Some number) line asked key)
+spelled_line answer name number text reply from is_line is_asked reads =
     let plain = plain_is_key from.line.blob from.asked is_asked in
     let same : plain.0 ≡ from.key = same_key plain.0 from.key (sym (reads plain.0 plain.1) ∙ from.is_key) in
     (from.line, from.asked, from.key, record { is_line = is_line; is_asked = is_asked; is_key = subst (λ (key : Key). IsKey from.asked.plain key) same plain.1 }, from.is_reply)
   where
     same_key : (a b : Key) → (let r : Result Key KeyFault = Ok b in Ok a ≡ r) → a ≡ b
     same_key a b e = cc
+
+-- what is answered in a run over certificates lists one
+pub certificate_answered : (hash : Hash) (moment : ℕ) (name : List ℕ) (number : ℕ) (reply : Answer) (read : Result Certificate CertFault) → Some reply ≡ certificate_answer hash moment name (Some number) read
+    → (certificate : Certificate) × (read ≡ Ok certificate) × (reply ≡ listed_certificate hash moment name number certificate)
+certificate_answered hash moment name number reply (Ok certificate) e = (certificate, refl, same reply (listed_certificate hash moment name number certificate) e)
+  where
+    same : (a b : Answer) → Some a ≡ Some b → a ≡ b
+    same a b e = cc
+certificate_answered hash moment name number reply (Err fault) e = absurd cc

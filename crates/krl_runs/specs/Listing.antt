@@ -1,10 +1,20 @@
--- Listing the keys of a file (ssh-keygen(1), option -l).
-use Rattle.std.specs.Prelude.{ℕ, false, List, [], ◌∷◌, ◌++◌, Option, Some, None, codes, decimal}
-use Rattle.ssh_cert.specs.Subject.{Names}
+-- Listing the keys or the certificates of a file (ssh-keygen(1), options -l and -L).
+use Rattle.std.specs.Prelude.{ℕ, false, List, [], ◌∷◌, ◌++◌, Option, Some, None, Result, Ok, Err, codes, decimal}
+use Rattle.ssh_cert.specs.CertReading.{certificate_at}
+use Rattle.ssh_cert.specs.Certificate.{Certificate}
+use Rattle.ssh_cert.specs.Listing.{listing_of}
+use Rattle.ssh_cert.specs.Subject.{Names, Subject}
+use Rattle.ssh_cert.specs.declared.fault.CertFault.{CertFault}
 use Rattle.ssh_key.specs.declared.hash.Hash.{Hash}
 use Rattle.ssh_key.specs.Fingerprints.{fingerprint_text}
+use Rattle.ssh_key.specs.Key.{Key}
 use Rattle.ssh_key.specs.Kind.{short_name_of}
+use Rattle.ssh_key.specs.LineReading.{Content}
 use Rattle.ssh_cert.specs.Escape.{escaped}
+use Rattle.krl_runs.specs.declared.input.file_fault.FileFault.TheVariants as files
+use Rattle.krl_runs.specs.declared.output.answer.Answer.{Answer}
+use Rattle.krl_runs.specs.declared.runs.listing.ListMode.{ListMode}
+use Rattle.krl_runs.specs.declared.runs.listing.ListMode.TheVariants.{Keys, Certs}
 use Rattle.krl_runs.specs.Run.{Answering, File, Item, file_items}
 
 abbrev pub comment_or_none : List ℕ → List ℕ
@@ -24,12 +34,51 @@ certificate_mark None = []
 certificate_mark (Some names) = codes "-CERT"
 
 -- the answer for a key, or for a certificate by its plain key
-abbrev pub describe : Hash → Answering
-describe hash name line asked key =
+abbrev pub description : Hash → Content → Subject → Key → Answer
+description hash line asked key =
     let print = fingerprint_text hash asked.plain in
     let kind = short_name_of key.kind ++ certificate_mark asked.cert in
     record { text = list_line key.bits print line.comment kind; revoked = false }
 
--- Each key of the file gives one line, up to the first fault.
-unfoldable pub list_run_of : Hash → File → List Item
-list_run_of hash file = file_items (describe hash) file
+-- each key is described
+abbrev pub describe : Hash → Answering
+describe hash = record {
+  say = λ name number line asked key. Some (description hash line asked key);
+  silence = files.NoKeys;
+}
+
+-- the file and the line of a certificate, and its listing
+abbrev pub certificate_text : Hash → ℕ → List ℕ → ℕ → Certificate → List ℕ
+certificate_text hash moment name number certificate =
+    escaped name
+    ++ (codes ":" ++ (decimal number ++ (codes ":" ++ 10 ∷ listing_of hash certificate moment)))
+
+abbrev pub listed_certificate : Hash → ℕ → List ℕ → ℕ → Certificate → Answer
+listed_certificate hash moment name number certificate =
+    record { text = certificate_text hash moment name number certificate; revoked = false }
+
+-- the answer for the certificate of a line; what holds no certificate is passed over, and so is a
+-- container
+abbrev pub certificate_answer : Hash → ℕ → List ℕ → Option ℕ → Result Certificate CertFault
+    → Option Answer
+certificate_answer hash moment name None read = None
+certificate_answer hash moment name (Some number) (Err fault) = None
+certificate_answer hash moment name (Some number) (Ok certificate) =
+    Some (listed_certificate hash moment name number certificate)
+
+-- each certificate is listed at a moment
+abbrev pub certify : Hash → ℕ → Answering
+certify hash moment = record {
+  say = λ name number line asked key.
+      certificate_answer hash moment name number (certificate_at line.blob);
+  silence = files.NoCertificate;
+}
+
+-- how keys, or certificates alone, are listed
+abbrev pub listing : ListMode → Hash → ℕ → Answering
+listing Keys hash moment = describe hash
+listing Certs hash moment = certify hash moment
+
+-- Each key or certificate of the file is listed, up to the first fault.
+unfoldable pub list_run_of : ListMode → Hash → ℕ → File → List Item
+list_run_of mode hash moment file = file_items (listing mode hash moment) file

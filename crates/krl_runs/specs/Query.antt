@@ -1,5 +1,5 @@
 -- Asking a list about keys (ssh-keygen(1), KEY REVOCATION LISTS).
-use Rattle.std.specs.Prelude.{◌↔◌, ℕ, Bool, true, false, List, [], ◌∷◌, ◌++◌, None, Result, Ok, Err, IsTrue, codes}
+use Rattle.std.specs.Prelude.{◌↔◌, ℕ, Bool, true, false, List, [], ◌∷◌, ◌++◌, None, Some, Result, Ok, Err, IsTrue, codes}
 use Rattle.krl_core.specs.Contents.{Contents, Means}
 use Rattle.krl_core.specs.Entries.{entries_of}
 use Rattle.krl_core.specs.Front.{IsFirstFault}
@@ -10,6 +10,9 @@ use Rattle.krl_core.specs.Tested.{revokes}
 use Rattle.krl_core.specs.declared.krl_fault.KrlFault.{KrlFault}
 use Rattle.krl_core.specs.declared.krl_fault.KrlFault.TheVariants.{NoMemory}
 use Rattle.ssh_cert.specs.Subject.{Subject}
+use Rattle.ssh_key.specs.LineReading.{Content}
+use Rattle.krl_runs.specs.declared.output.answer.Answer.{Answer}
+use Rattle.krl_runs.specs.declared.input.file_fault.FileFault.TheVariants as files
 use Rattle.krl_runs.specs.declared.output.cause.Cause.{Cause}
 use Rattle.krl_runs.specs.declared.output.cause.Cause.TheVariants as causes
 use Rattle.ssh_cert.specs.Escape.{escaped}
@@ -31,10 +34,17 @@ query_line name comment is_revoked =
     escaped name ++ (comment_part comment ++ (verdict is_revoked ++ 10 ∷ []))
 
 -- the answer for a key by what is held of a list
-abbrev pub ask : Contents → Answering
-ask contents name line asked key =
+abbrev pub answer_of : Contents → List ℕ → Content → Subject → Answer
+answer_of contents name line asked =
     let is_revoked = revokes contents asked in
     record { text = query_line name line.comment is_revoked; revoked = is_revoked }
+
+-- each key is answered for
+abbrev pub ask : Contents → Answering
+ask contents = record {
+  say = λ name number line asked key. Some (answer_of contents name line asked);
+  silence = files.NoKeys;
+}
 
 -- The text is a list without a fault: a header and sections spell it, what is held means what the
 -- sections name, and the answers are just those of what they name.

@@ -19,7 +19,6 @@ use Rattle.krl_runs.specs.declared.output.answer.Answer.{Answer}
 use Rattle.krl_runs.specs.declared.output.cause.Cause.{Cause}
 use Rattle.krl_runs.specs.declared.output.cause.Cause.TheVariants as causes
 use Rattle.krl_runs.specs.declared.input.file_fault.FileFault.{FileFault}
-use Rattle.krl_runs.specs.declared.input.file_fault.FileFault.TheVariants as files
 use Rattle.krl_runs.specs.Split.{is_newline}
 use Rattle.krl_runs.specs.Stop.{Stop, Ender, ByOutput, ByMemory, ByInput, ender_of, stop_of}
 
@@ -43,10 +42,17 @@ name_of (Answered name answer) = name
 name_of (Passed name) = name
 name_of (Stopped stop) = stop.name
 
--- How a run answers: by the name of the file, what a line of it holds, what its blob asks of a
--- list, and the plain key.
-abbrev pub Answering : Type 0
-Answering = List ℕ → Content → Subject → Key → Answer
+-- How a run answers.
+pub record Answering : Type 0 where
+  -- What is said of a key, or nothing: by the name of the file, the number of the line (a container
+  -- has none), what the line holds, what its blob asks of a list, and the plain key.
+  pub say : List ℕ → Option ℕ → Content → Subject → Key → Option Answer
+  -- the fault of a file of which nothing is said
+  pub silence : FileFault
+
+abbrev pub said : List ℕ → Option Answer → Item
+said name None = Passed name
+said name (Some answer) = Answered name answer
 
 -- a fault of a line
 abbrev pub stop_at : List ℕ → ℕ → Cause → Stop
@@ -62,7 +68,8 @@ abbrev pub key_item : Answering → List ℕ → Option ℕ → Content → Subj
     → Item
 key_item answer name number line asked (Err fault) =
     Stopped (stop_in name number (subjects.Key fault))
-key_item answer name number line asked (Ok key) = Answered name (answer name line asked key)
+key_item answer name number line asked (Ok key) =
+    said name (answer.say name number line asked key)
 
 abbrev pub subject_item : Answering → List ℕ → Option ℕ → Content → Result Subject SubjectFault
     → Item
@@ -87,10 +94,20 @@ line_items answer name number [] = []
 line_items answer name number (line ∷ lines) =
     option_to_list (item_of answer name number line) ++ line_items answer name (number + 1) lines
 
--- a file has a key
-abbrev pub or_no_keys : List ℕ → List Item → List Item
-or_no_keys name [] = Stopped (stop_of name (causes.File files.NoKeys)) ∷ []
-or_no_keys name (item ∷ items) = item ∷ items
+-- something is said, or a fault ends the run
+abbrev pub tells : List Item → Bool
+tells [] = false
+tells (Answered name answer ∷ items) = true
+tells (Passed name ∷ items) = tells items
+tells (Stopped stop ∷ items) = true
+
+-- a file of which nothing is said ends the run
+abbrev pub silence_of : Answering → List ℕ → Bool → List Item
+silence_of answer name true = []
+silence_of answer name false = Stopped (stop_of name (causes.File answer.silence)) ∷ []
+
+abbrev pub or_silence : Answering → List ℕ → List Item → List Item
+or_silence answer name items = items ++ silence_of answer name (tells items)
 
 -- what a container holds, as a line would: there is no type word
 abbrev pub held_by : Opened → Content
@@ -102,11 +119,15 @@ container_item answer name (Err fault) = Stopped (stop_of name (causes.Private f
 container_item answer name (Ok opened) =
     subject_item answer name None (held_by opened) (subject_of opened.blob)
 
+-- what it says of a file's text
+abbrev pub text_items : Answering → List ℕ → List ℕ → List Item
+text_items answer name text =
+    if begins_container text then container_item answer name (private_at text) ∷ []
+    else line_items answer name 1 (slice_split is_newline text)
+
 abbrev pub content_items : Answering → List ℕ → Result (List ℕ) FileFault → List Item
 content_items answer name (Err fault) = Stopped (stop_of name (causes.File fault)) ∷ []
-content_items answer name (Ok text) =
-    if begins_container text then container_item answer name (private_at text) ∷ []
-    else or_no_keys name (line_items answer name 1 (slice_split is_newline text))
+content_items answer name (Ok text) = or_silence answer name (text_items answer name text)
 
 unfoldable pub file_items : Answering → File → List Item
 file_items answer file = content_items answer file.name file.content
@@ -153,10 +174,10 @@ IsWithheld (ByOutput count) item name stop = ⊥
 
 -- What was found out of a line of a file of this name is its item, unless memory ran out.
 abbrev pub Gives : Option Item → List ℕ → Result (Option Answer) Stop → Type 0
-Gives item name (Ok None) = item ≡ None
+Gives item name (Ok None) = tells (option_to_list item) ≡ false
 Gives item name (Ok (Some answer)) = item ≡ Some (Answered name answer)
 Gives item name (Err stop) = IsWithheld (ender_of stop.cause) item name stop
 
-abbrev pub GivesAnswer : Item → List ℕ → Result Answer Stop → Type 0
-GivesAnswer item name (Ok answer) = item ≡ Answered name answer
+abbrev pub GivesAnswer : Item → List ℕ → Result (Option Answer) Stop → Type 0
+GivesAnswer item name (Ok answer) = item ≡ said name answer
 GivesAnswer item name (Err stop) = IsWithheld (ender_of stop.cause) (Some item) name stop

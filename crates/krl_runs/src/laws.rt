@@ -2,10 +2,12 @@
 
 ghost use Rattle.std.specs.Prelude.{◌≡◌, ℕ, [], true, false, List, Ok, Some, None};
 ghost use Rattle.ssh_wire.specs.Wire.{IsBytes};
+ghost use Rattle.ssh_cert.specs.Certificate.{Certificate, IsCertificate};
 ghost use Rattle.ssh_cert.specs.Subject.{Subject};
 ghost use Rattle.ssh_key.specs.Container.{IsContainer, IsPrivateFault};
 ghost use Rattle.ssh_key.specs.ContainerReading.{private_at};
 ghost use Rattle.ssh_key.specs.Key.{IsKey, Key};
+ghost use Rattle.ssh_key.specs.declared.hash.Hash.{Hash};
 ghost use Rattle.ssh_key.specs.KeyFile.{has_key};
 ghost use Rattle.ssh_key.specs.KeyLine.{IsKeyLine};
 ghost use Rattle.ssh_key.specs.LineFaults.{IsFirstLineFault};
@@ -18,31 +20,33 @@ ghost use Rattle.krl_runs.specs.declared.output.answer.Answer.{Answer};
 ghost use Rattle.krl_runs.specs.declared.output.cause.Cause.TheVariants.{Line, Private, Subject as Subjects};
 ghost use Rattle.krl_runs.specs.Contents.{Known, dump_text};
 ghost use Rattle.krl_runs.specs.Items.{SpellsKey};
+ghost use Rattle.krl_runs.specs.Listing.{certify, listed_certificate};
 ghost use Rattle.krl_runs.specs.Query.{ask, query_run_of};
-ghost use Rattle.krl_runs.specs.Run.{Answered, Answering, File, Stopped, before, container_item, files_items, item_of, outcome_of, stop_at};
+ghost use Rattle.krl_runs.specs.Run.{Answered, Answering, File, Stopped, before, container_item, files_items, item_of, outcome_of, said, stop_at};
 ghost use Rattle.krl_runs.specs.Stop.{stop_of};
 
-use ssh_cert::laws::{asked_where_spelled, not_asked_by_first_fault};
+use ssh_cert::laws::{asked_where_spelled, not_asked_by_first_fault, read_where_spelled};
 use ssh_key::laws::{
     blob_read_back, line_read_where_spelled, line_refused_by_first_fault,
     private_read_where_spelled, private_refused_by_first_fault,
 };
 
-/// Nothing is said of a line without a key. A line with a key is answered exactly where it spells
-/// the key of a plain key or of a certificate; else its first fault, or that of its blob, ends the
-/// run.
+/// Nothing is said of a line without a key. A line with a key is answered, or passed over by the
+/// run, exactly where it spells the key of a plain key or of a certificate; else its first fault, or
+/// that of its blob, ends the run.
 pub fn items_by_what_is_spelled()
     ensures none { (answer : Answering) (name : List ℕ) (number : ℕ) (text : List ℕ)
         → has_key text ≡ false → item_of answer name number text ≡ None }
     ensures answered { (answer : Answering) (name : List ℕ) (number : ℕ) (text : List ℕ)
         (line : Content) (asked : Subject) (key : Key)
         → has_key text ≡ true → SpellsKey text line asked key
-        → item_of answer name number text ≡ Some (Answered name (answer name line asked key)) }
+        → item_of answer name number text
+        ≡ Some (said name (answer.say name (Some number) line asked key)) }
     ensures only { (answer : Answering) (name : List ℕ) (number : ℕ) (text : List ℕ)
         (other : List ℕ) (reply : Answer) → IsBytes text
         → item_of answer name number text ≡ Some (Answered other reply)
         → (line : Content) × (asked : Subject) × (key : Key) × SpellsKey text line asked key
-        × (reply ≡ answer name line asked key) }
+        × (Some reply ≡ answer.say name (Some number) line asked key) }
     ensures line_fault { (answer : Answering) (name : List ℕ) (number : ℕ) (text : List ℕ)
         (fault : LineFault) → IsBytes text → has_key text ≡ true → IsFirstLineFault text fault
         → item_of answer name number text ≡ Some (Stopped (stop_at name number (Line fault))) }
@@ -64,7 +68,7 @@ pub fn containers_by_what_is_spelled()
         (key : Key) → IsBytes text → IsBytes blob → IsContainer text blob comment
         → IsSubject blob asked → IsKey asked.plain key
         → container_item answer name (private_at text)
-        ≡ Answered name (answer name (content [] blob comment) asked key) }
+        ≡ said name (answer.say name None (content [] blob comment) asked key) }
     ensures fault { (answer : Answering) (name text : List ℕ) (fault : PrivateFault)
         → IsBytes text → IsPrivateFault text fault
         → container_item answer name (private_at text)
@@ -74,6 +78,25 @@ pub fn containers_by_what_is_spelled()
     private_refused_by_first_fault();
     blob_read_back();
     asked_where_spelled();
+}
+
+/// In a run over certificates, the certificate of a line is listed behind the file's name and the
+/// line's number, and nothing else is answered.
+pub fn certificates_by_what_is_spelled()
+    ensures listed { (hash : Hash) (moment : ℕ) (name : List ℕ) (number : ℕ)
+        (text word blob comment : List ℕ) (certificate : Certificate)
+        → has_key text ≡ true → IsKeyLine text word blob comment → IsCertificate blob certificate
+        → item_of (certify hash moment) name number text
+        ≡ Some (Answered name (listed_certificate hash moment name number certificate)) }
+    ensures only { (hash : Hash) (moment : ℕ) (name : List ℕ) (number : ℕ) (text : List ℕ)
+        (other : List ℕ) (reply : Answer) → IsBytes text
+        → item_of (certify hash moment) name number text ≡ Some (Answered other reply)
+        → (line : Content) × (certificate : Certificate)
+        × IsKeyLine text line.word line.blob line.comment × IsCertificate line.blob certificate
+        × (reply ≡ listed_certificate hash moment name number certificate) }
+{
+    items_by_what_is_spelled();
+    read_where_spelled();
 }
 
 /// Where a list's contents are asked for, their text stands before all that is said of files; else

@@ -17,7 +17,7 @@ pub use make::run::{Old, make_run};
 pub use output::cause::Cause;
 pub use output::done::{Done, FAILED};
 pub use output::run_fault::{RunFault, fault_text};
-pub use runs::listing::list_run;
+pub use runs::listing::{ListMode, list_run};
 pub use runs::query::query_run;
 pub use spec_file::lines::read_spec;
 pub use spec_file::spec_cause::{KeyCause, SpecCause};

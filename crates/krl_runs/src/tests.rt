@@ -11,6 +11,7 @@ mod devices;
 mod encoding;
 mod faults;
 mod key_files;
+mod listing;
 mod making;
 mod runs;
 mod spec_files;

@@ -15,7 +15,8 @@ use crate::command::{CommandFault, command_of};
 use crate::files::{open, open_authority, open_inputs, open_list, open_or_input};
 use crate::job::{Job, Mode};
 use krl_runs::{
-    Cause, Done, FAILED, FileFault, Old, RunFault, fault_text, list_run, make_run, query_run,
+    Cause, Done, FAILED, FileFault, ListMode, Old, RunFault, fault_text, list_run, make_run,
+    query_run,
 };
 use ssh_wire::{FromRead, Source, ToWrite, send};
 use std::env;
@@ -56,19 +57,22 @@ fn fault_of_words(error: &io::Error) -> CommandFault {
 
 fn run_job(rt: &HostRuntime, job: &Job) -> u8 {
     match job.mode {
-        Mode::Keys => list_keys(rt, job),
-        // Certificates are not listed yet.
-        Mode::Certs => refuse(rt, &CommandFault::Usage),
+        Mode::Keys => list_file(rt, job, ListMode::Keys),
+        Mode::Certs => list_file(rt, job, ListMode::Certs),
         Mode::Make => make_list(rt, job),
         Mode::Query => ask_list(rt, job),
     }
 }
 
-/// `-l`: lists the keys of the file.
-fn list_keys(rt: &HostRuntime, job: &Job) -> u8 {
+/// `-l` and `-L`: lists the keys of the file, or its certificates.
+fn list_file(rt: &HostRuntime, job: &Job, mode: ListMode) -> u8 {
     let file = open_or_input(rt, job.file);
     let mut out = ToWrite::new(rt.stdout());
-    end(rt, &list_run(rt.alloc(), job.hash, &file, &mut out))
+    let moment = moment(rt);
+    end(
+        rt,
+        &list_run(rt.alloc(), mode, job.hash, &file, moment, &mut out),
+    )
 }
 
 /// `-Q`: prints what the list holds, where `-l` asks for it, and asks it about the keys of the

@@ -1,15 +1,14 @@
 // Going over the keys of files.
 
-ghost use Rattle.std.specs.Prelude.{◌≡◌, ◌∷◌, ◌+◌, [], false};
+ghost use Rattle.std.specs.Prelude.{◌≡◌, ◌∷◌, ◌+◌, [], IfOk, false};
 ghost use Rattle.std.specs.List.{slice_split};
 ghost use Rattle.krl_runs.specs.Carries.{Carries};
 ghost use Rattle.ssh_key.specs.ContainerReading.{private_at};
 ghost use Rattle.ssh_key.specs.LineReading.{content_of};
 ghost use Rattle.ssh_cert.specs.SubjectReading.{subject_of};
-ghost use Rattle.krl_runs.specs.Run.{Gives, GivesAnswer, container_item, content_items, file_items, files_items, item_of, line_items, or_no_keys, stop_in, subject_item};
+ghost use Rattle.krl_runs.specs.Run.{Gives, GivesAnswer, container_item, content_items, file_items, files_items, item_of, line_items, stop_in, subject_item, tells, text_items};
 ghost use Rattle.krl_runs.specs.Split.{is_newline};
 
-use crate::input::file_fault::FileFault;
 use crate::input::named::Named;
 use crate::input::split::split_line;
 use crate::keys::answers::Answers;
@@ -60,7 +59,7 @@ pub fn print_file<'a, A: Answers, W: Sink>(
     }
 }
 
-/// Prints the answers for each key of a file's text.
+/// Prints the answers for each key of a file's text. Something must be said of it.
 fn print_text<'a, A: Answers, W: Sink>(
     alloc: Global,
     answers: &A,
@@ -72,6 +71,27 @@ fn print_text<'a, A: Answers, W: Sink>(
     ensures { Carries (content_items (A.answer_to answers.now) name.now (Ok text.now)) result
         printer.old printer.new }
 {
+    let said = print_keys(alloc, answers, name, text, printer)?;
+    if !said {
+        return Err(RunFault::whole(name, Cause::File(answers.silence())));
+    }
+    Ok(())
+}
+
+/// Prints the answers for each key of a text. Returns whether anything is said of it.
+fn print_keys<'a, A: Answers, W: Sink>(
+    alloc: Global,
+    answers: &A,
+    name: &'a str,
+    text: &[u8],
+    printer: &mut Printer<W>,
+) -> Result<bool, RunFault<'a>>
+    requires { printer.old.failed ≡ false }
+    ensures carries { Carries (text_items (A.answer_to answers.now) name.now text.now) result
+        printer.old printer.new }
+    ensures said { IfOk result (λ said.
+        said ≡ tells (text_items (A.answer_to answers.now) name.now text.now)) }
+{
     if is_container(text) {
         print_container(alloc, answers, name, text, printer)
     } else {
@@ -79,20 +99,26 @@ fn print_text<'a, A: Answers, W: Sink>(
     }
 }
 
-/// Prints the answer for the key of a container.
+/// Prints the answer for the key of a container. Returns whether anything is said of it.
 fn print_container<'a, A: Answers, W: Sink>(
     alloc: Global,
     answers: &A,
     name: &'a str,
     text: &[u8],
     printer: &mut Printer<W>,
-) -> Result<(), RunFault<'a>>
+) -> Result<bool, RunFault<'a>>
     requires { printer.old.failed ≡ false }
-    ensures { Carries (container_item (A.answer_to answers.now) name.now (private_at text.now)
-        ∷ []) result printer.old printer.new }
+    ensures carries { Carries (container_item (A.answer_to answers.now) name.now
+        (private_at text.now) ∷ []) result printer.old printer.new }
+    ensures said { IfOk result (λ said.
+        said ≡ tells (container_item (A.answer_to answers.now) name.now (private_at text.now)
+        ∷ [])) }
 {
-    let answer = answer_container(alloc, answers, name, text)?;
-    printer.print(name, &answer)
+    let Some(answer) = answer_container(alloc, answers, name, text)? else {
+        return Ok(false);
+    };
+    printer.print(name, &answer)?;
+    Ok(true)
 }
 
 /// What a run says of a container. A fault of it has no line.
@@ -101,7 +127,7 @@ fn answer_container<'a, A: Answers>(
     answers: &A,
     name: &'a str,
     text: &[u8],
-) -> Result<Answer, RunFault<'a>>
+) -> Result<Option<Answer>, RunFault<'a>>
     ensures { GivesAnswer (container_item (A.answer_to answers.now) name.now
         (private_at text.now)) name.now result }
 {
@@ -118,26 +144,28 @@ fn answer_container<'a, A: Answers>(
     answer_blob(alloc, answers, name, None, &line)
 }
 
-/// Prints the answers for each key of a text's lines.
+/// Prints the answers for each key of a text's lines. Returns whether anything is said of them.
 fn print_lines<'a, A: Answers, W: Sink>(
     alloc: Global,
     answers: &A,
     name: &'a str,
     text: &[u8],
     printer: &mut Printer<W>,
-) -> Result<(), RunFault<'a>>
+) -> Result<bool, RunFault<'a>>
     requires { printer.old.failed ≡ false }
-    ensures { Carries (or_no_keys name.now (line_items (A.answer_to answers.now) name.now 1
-        (slice_split is_newline text.now))) result printer.old printer.new }
+    ensures carries { Carries (line_items (A.answer_to answers.now) name.now 1
+        (slice_split is_newline text.now)) result printer.old printer.new }
+    ensures said { IfOk result (λ said. said ≡ tells (line_items (A.answer_to answers.now)
+        name.now 1 (slice_split is_newline text.now))) }
 {
     let mut rest = text;
     let mut passed = 0;
-    let mut found = false;
+    let mut said = false;
     loop {
         let (line, after) = split_line(rest);
         if let Some(answer) = answer_line(alloc, answers, name, passed + 1, line)? {
             printer.print(name, &answer)?;
-            found = true;
+            said = true;
         }
         let Some(after) = after else {
             break;
@@ -145,13 +173,11 @@ fn print_lines<'a, A: Answers, W: Sink>(
         rest = after;
         passed += 1;
     }
-    if !found {
-        return Err(RunFault::whole(name, Cause::File(FileFault::NoKeys)));
-    }
-    Ok(())
+    Ok(said)
 }
 
-/// What a run says of the line of a file that has this number: nothing where it has no key.
+/// What a run says of the line of a file that has this number: nothing where the line has no key,
+/// or where the run passes over it.
 #[tactic(auto, unfolding(crate::specs::Run::item_of))]
 fn answer_line<'a, A: Answers>(
     alloc: Global,
@@ -170,10 +196,7 @@ fn answer_line<'a, A: Answers>(
         Err(LineFault::NoMemory) => return Err(RunFault::whole(name, Cause::NoMemory)),
         Err(fault) => return Err(RunFault::at_line(name, number, Cause::Line(fault))),
     };
-    match answer_blob(alloc, answers, name, Some(number), &line) {
-        Ok(answer) => Ok(Some(answer)),
-        Err(stop) => Err(stop),
-    }
+    answer_blob(alloc, answers, name, Some(number), &line)
 }
 
 /// What a run says of what such a line or a container holds.
@@ -183,7 +206,7 @@ fn answer_blob<'a, A: Answers>(
     name: &'a str,
     number: Option<u64>,
     line: &Line,
-) -> Result<Answer, RunFault<'a>>
+) -> Result<Option<Answer>, RunFault<'a>>
     ensures { GivesAnswer (subject_item (A.answer_to answers.now) name.now number
         (content_of line.now) (subject_of line.now.blob)) name.now result }
 {
@@ -196,7 +219,7 @@ fn answer_blob<'a, A: Answers>(
         Ok(key) => key,
         Err(fault) => return Err(refused(name, number, SubjectFault::Key(fault))),
     };
-    match answers.answer(alloc, name, line, &asked, &key) {
+    match answers.answer(alloc, name, number, line, &asked, &key) {
         Ok(answer) => Ok(answer),
         Err(_) => Err(RunFault::whole(name, Cause::NoMemory)),
     }

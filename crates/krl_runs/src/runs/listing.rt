@@ -1,46 +1,124 @@
-// Listing the keys of a file (ssh-keygen(1), option -l).
+// Listing the keys or the certificates of a file (ssh-keygen(1), options -l and -L).
 
 ghost use Rattle.std.specs.Prelude.{◌≡◌, ◌++◌, IfOk, OnOk, decimal, false};
 ghost use Rattle.ssh_key.specs.Kind.{short_name_of};
 ghost use Rattle.krl_runs.specs.Done.{Ends};
-ghost use Rattle.krl_runs.specs.Listing.{certificate_mark, comment_or_none, describe, list_line, list_run_of};
+ghost use Rattle.krl_runs.specs.Listing.{certificate_mark, certificate_text, certify, comment_or_none, describe, list_line, list_run_of, listing};
+ghost use Rattle.krl_runs.specs.Carries.{Carries};
+ghost use Rattle.krl_runs.specs.Run.{file_items};
 
+use crate::input::file_fault::FileFault;
 use crate::input::named::Named;
 use crate::keys::answers::Answers;
 use crate::keys::walk::print_file;
 use crate::output::answer::Answer;
 use crate::output::done::Done;
 use crate::output::printer::Printer;
-use ssh_cert::{Subject, push_escaped};
+use crate::output::run_fault::RunFault;
+use ssh_cert::{Cert, Subject, list_cert, push_escaped, read_cert};
 use ssh_key::{Hash, Line, PublicKey, fingerprint};
 use ssh_wire::{Bytes, Sink};
 use std::alloc::{AllocError, Global};
 
+/// What is listed of a file.
+#[derive(Clone, Copy, Debug, PartialEq, Eq)]
+pub enum ListMode {
+    /// Each key in a line. Of a certificate, its plain key is described.
+    Keys,
+    /// Each certificate in several lines. Other keys are read and passed over.
+    Certs,
+}
+
 /// Describes each key, with its fingerprint by a hash.
 #[derive(Drop)]
-struct Listing {
+struct Description {
     hash: Hash,
 }
 
-impl Answers for Listing {
-    ghost answer_to = { λ listing. describe listing.hash };
+impl Answers for Description {
+    ghost answer_to = { λ description. describe description.hash };
 
     fn answer(
         &self,
         alloc: Global,
         _name: &str,
+        _number: Option<u64>,
         line: &Line,
         asked: &Subject,
         key: &PublicKey,
-    ) -> Result<Answer, AllocError> {
+    ) -> Result<Option<Answer>, AllocError> {
         let print = fingerprint(alloc, self.hash, asked.plain.as_slice())?;
         let mark = certificate_mark(asked);
         let text = list_line(alloc, key, mark, print.as_slice(), line.comment)?;
-        Ok(Answer {
+        Ok(Some(Answer {
             text,
             revoked: false,
-        })
+        }))
     }
+
+    fn silence(&self) -> FileFault {
+        FileFault::NoKeys
+    }
+}
+
+/// Lists each certificate, with fingerprints by a hash, at a moment.
+#[derive(Drop)]
+struct Certificates {
+    hash: Hash,
+    moment: u64,
+}
+
+impl Answers for Certificates {
+    ghost answer_to = { λ certificates. certify certificates.hash certificates.moment };
+
+    fn answer(
+        &self,
+        alloc: Global,
+        name: &str,
+        number: Option<u64>,
+        line: &Line,
+        _asked: &Subject,
+        _key: &PublicKey,
+    ) -> Result<Option<Answer>, AllocError> {
+        let Some(number) = number else {
+            return Ok(None);
+        };
+        let Ok(cert) = read_cert(line.blob.as_slice()) else {
+            return Ok(None);
+        };
+        let text = certificate_text(alloc, self.hash, self.moment, name, number, &cert)?;
+        Ok(Some(Answer {
+            text,
+            revoked: false,
+        }))
+    }
+
+    fn silence(&self) -> FileFault {
+        FileFault::NoCertificate
+    }
+}
+
+/// The file and the line of a certificate, and its listing.
+fn certificate_text(
+    alloc: Global,
+    hash: Hash,
+    moment: u64,
+    name: &str,
+    number: u64,
+    cert: &Cert,
+) -> Result<Bytes, AllocError>
+    ensures { IfOk result (λ text.
+        text ≡ certificate_text hash moment name.now number cert.now) }
+{
+    let listing = list_cert(alloc, cert, hash, moment)?;
+    let digits = number.to_string(alloc)?;
+    let mut text = Vec::new(alloc);
+    push_escaped(&mut text, name.as_bytes())?;
+    text.push(b':')?;
+    text.extend_from_slice(digits.as_bytes())?;
+    text.extend_from_slice(b":\n")?;
+    text.extend_from_slice(listing.as_slice())?;
+    Ok(Bytes::from_vec(text))
 }
 
 /// What stands after the kind: a mark of certificates.
@@ -88,21 +166,43 @@ fn push_comment(text: &mut Vec<u8>, comment: &[u8]) -> Result<(), AllocError>
     }
 }
 
-/// Lists each key of a file in a line, with its fingerprint by a hash.
+/// Lists each key or each certificate of a file, with fingerprints by a hash. The moment is in
+/// seconds from 1970 on: of a certificate it is said whether it is valid then.
 pub fn list_run<'a, W: Sink>(
     alloc: Global,
+    mode: ListMode,
     hash: Hash,
     file: &'a Named<'a>,
+    moment: u64,
     out: &mut W,
 ) -> Done<'a>
     requires { W.has_failed out.old ≡ false }
-    ensures { Ends (list_run_of hash file.now) (W.taken out.old) (W.taken out.new)
+    ensures { Ends (list_run_of mode hash moment file.now) (W.taken out.old) (W.taken out.new)
         (W.has_failed out.new) result.status result.fault }
 {
     let mut page = Vec::new(alloc);
     let mut printer = Printer::new(&mut page, out);
-    let stop = print_file(alloc, &Listing { hash }, file, &mut printer).err();
+    let stop = list_file(alloc, mode, hash, file, moment, &mut printer).err();
     let done = printer.finish(stop);
     let Printer { out: _out, .. } = printer;
     done
+}
+
+/// Prints what is listed of a file.
+fn list_file<'a, W: Sink>(
+    alloc: Global,
+    mode: ListMode,
+    hash: Hash,
+    file: &'a Named<'a>,
+    moment: u64,
+    printer: &mut Printer<W>,
+) -> Result<(), RunFault<'a>>
+    requires { printer.old.failed ≡ false }
+    ensures { Carries (file_items (listing mode hash moment) file.now) result
+        printer.old printer.new }
+{
+    match mode {
+        ListMode::Keys => print_file(alloc, &Description { hash }, file, printer),
+        ListMode::Certs => print_file(alloc, &Certificates { hash, moment }, file, printer),
+    }
 }

@@ -7,6 +7,7 @@ ghost use Rattle.krl_runs.specs.Contents.{Known};
 ghost use Rattle.krl_runs.specs.Done.{Ends};
 ghost use Rattle.krl_runs.specs.Query.{IsRead, ask, comment_part, krl_cause, query_line, query_run_of, verdict};
 
+use crate::input::file_fault::FileFault;
 use crate::input::named::Named;
 use crate::keys::answers::Answers;
 use crate::keys::walk::print_files;
@@ -37,13 +38,18 @@ impl<'q> Answers for Query<'q> {
         &self,
         alloc: Global,
         name: &str,
+        _number: Option<u64>,
         line: &Line,
         asked: &Subject,
         _key: &PublicKey,
-    ) -> Result<Answer, AllocError> {
+    ) -> Result<Option<Answer>, AllocError> {
         let revoked = self.list.query(asked);
         let text = query_line(alloc, name, line.comment, revoked)?;
-        Ok(Answer { text, revoked })
+        Ok(Some(Answer { text, revoked }))
+    }
+
+    fn silence(&self) -> FileFault {
+        FileFault::NoKeys
     }
 }
 

@@ -21,10 +21,36 @@ pub fn certificate(
     serial: u64,
     id: &[u8],
 ) -> Result<Vec<u8>, Fail> {
+    let terms = Terms {
+        period: [0, u64::MAX],
+        lists: [b"", b"", b""],
+    };
+    certificate_on(alloc, key, authority, serial, id, &terms)
+}
+
+/// What a certificate is limited to: the instants between which it is valid, and its principals,
+/// options and extensions.
+#[derive(Drop)]
+pub struct Terms<'a> {
+    pub period: [u64; 2],
+    pub lists: [&'a [u8]; 3],
+}
+
+/// The same, on these terms.
+pub fn certificate_on(
+    alloc: Global,
+    key: &[u8],
+    authority: &[u8],
+    serial: u64,
+    id: &[u8],
+    terms: &Terms,
+) -> Result<Vec<u8>, Fail> {
+    let [after, before] = terms.period;
+    let [principals, options, extensions] = terms.lists;
     let signature = strings(alloc, &[b"ssh-ed25519", &[0; 64]])?;
     let name_and_nonce = strings(alloc, &[NAME, b""])?;
-    let id_and_principals = strings(alloc, &[id, b""])?;
-    let options_and_authority = strings(alloc, &[b"", b"", b"", authority])?;
+    let id_and_principals = strings(alloc, &[id, principals])?;
+    let options_and_authority = strings(alloc, &[options, extensions, b"", authority])?;
     let signed = strings(alloc, &[&signature])?;
     let number = serial.to_be_bytes();
     let public = if key.len() < FIELD {
@@ -38,8 +64,8 @@ pub fn certificate(
         &number,
         &[0, 0, 0, 1],
         &id_and_principals,
-        &[0; 8],
-        &[0xff; 8],
+        &after.to_be_bytes(),
+        &before.to_be_bytes(),
         &options_and_authority,
         &signed,
     ];

@@ -2,7 +2,7 @@
 
 use crate::input::file_fault::FileFault;
 use crate::input::named::Named;
-use crate::runs::listing::list_run;
+use crate::runs::listing::{ListMode, list_run};
 use crate::runs::query::query_run;
 use crate::tests::bytes::{GITHUB, list_of_one, repeated};
 use crate::tests::devices::Taker;
@@ -75,7 +75,14 @@ fn lists_in_chunks(rt: HostRuntime) -> Result<(), Fail> {
     };
     let mut device = Taker::new(rt.alloc(), 1_000, 1_000_000);
     let mut out = ToWrite::new(&mut device);
-    let done = list_run(rt.alloc(), Hash::Sha256, &often, &mut out);
+    let done = list_run(
+        rt.alloc(),
+        ListMode::Keys,
+        Hash::Sha256,
+        &often,
+        0,
+        &mut out,
+    );
     drop(out);
     let ran = told(rt.alloc(), device.taken, &done)?;
     assert!(rt; ran.text == repeated(rt.alloc(), &[line], TIMES)?);

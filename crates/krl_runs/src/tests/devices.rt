@@ -2,7 +2,7 @@
 
 use crate::input::file_fault::FileFault;
 use crate::input::named::load;
-use crate::runs::listing::list_run;
+use crate::runs::listing::{ListMode, list_run};
 use crate::runs::query::query_run;
 use crate::tests::bytes::{GITHUB, filled, list_of_one};
 use crate::tests::runs::{GITHUB_LINE, named, told};
@@ -195,7 +195,7 @@ fn the_output_of_a_listing_fails(rt: HostRuntime) -> Result<(), Fail> {
     let file = named(rt.alloc(), &("g.pub", Some(&[GITHUB_LINE])))?;
     let mut device = Taker::new(rt.alloc(), 3, 2);
     let mut out = ToWrite::new(&mut device);
-    let done = list_run(rt.alloc(), Hash::Sha256, &file, &mut out);
+    let done = list_run(rt.alloc(), ListMode::Keys, Hash::Sha256, &file, 0, &mut out);
     drop(out);
     let ran = told(rt.alloc(), device.taken, &done)?;
     assert_eq!(rt; ran.text.as_slice(), b"256 SH".as_slice());
@@ -206,7 +206,7 @@ fn the_output_of_a_listing_fails(rt: HostRuntime) -> Result<(), Fail> {
     let file = named(rt.alloc(), &("k", Some(&[])))?;
     let mut device = Taker::new(rt.alloc(), 3, 0);
     let mut out = ToWrite::new(&mut device);
-    let done = list_run(rt.alloc(), Hash::Sha256, &file, &mut out);
+    let done = list_run(rt.alloc(), ListMode::Keys, Hash::Sha256, &file, 0, &mut out);
     drop(out);
     let ran = told(rt.alloc(), device.taken, &done)?;
     assert_eq!(rt;

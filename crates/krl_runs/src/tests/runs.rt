@@ -4,7 +4,7 @@ use crate::input::file_fault::FileFault;
 use crate::input::named::Named;
 use crate::output::done::Done;
 use crate::output::run_fault::fault_text;
-use crate::runs::listing::list_run;
+use crate::runs::listing::{ListMode, list_run};
 use crate::runs::query::query_run;
 use crate::tests::bytes::joined;
 use ssh_key::Hash;
@@ -86,10 +86,25 @@ pub fn dumped(alloc: Global, krl: &[u8], files: &[File]) -> Result<Ran, AllocErr
 
 /// Lists the keys of the file.
 pub fn listed(alloc: Global, hash: Hash, file: &File) -> Result<Ran, AllocError> {
+    listed_by(alloc, ListMode::Keys, hash, file, 0)
+}
+
+/// Lists the certificates of the file at a moment.
+pub fn certified(alloc: Global, file: &File, moment: u64) -> Result<Ran, AllocError> {
+    listed_by(alloc, ListMode::Certs, Hash::Sha256, file, moment)
+}
+
+fn listed_by(
+    alloc: Global,
+    mode: ListMode,
+    hash: Hash,
+    file: &File,
+    moment: u64,
+) -> Result<Ran, AllocError> {
     let read = named(alloc, file)?;
     let mut text = Vec::new(alloc);
     let mut out = ToWrite::new(&mut text);
-    let done = list_run(alloc, hash, &read, &mut out);
+    let done = list_run(alloc, mode, hash, &read, moment, &mut out);
     drop(out);
     told(alloc, text, &done)
 }

@@ -22,7 +22,7 @@ returns-clause-only c = λ answer name number text other reply bytes item.
     let from = answered_line answer name number text other reply item in
     let is_line = c.line_read_where_spelled.ensures.spelled text from.line bytes from.is_line in
     let is_asked = (c.asked_where_spelled.ensures from.line.blob from.asked is_line.bytes).0 from.is_asked in
-    spelled_line answer name text reply from is_line is_asked (λ key is_key.
+    spelled_line answer name number text reply from is_line is_asked (λ key is_key.
     let read = c.blob_read_back.ensures from.asked.plain key is_key in sym (ap key_at read.0) ∙ read.1)
 
 pub returns-clause-line_fault : goal.returns-clause-line_fault

@@ -1,11 +1,12 @@
 -- The line is read, or memory runs out.
-use Rattle.std.proofs.Common.{sym, ap, ◌∙◌, Some}
-use Rattle.krl_runs.proofs.Answering.{line_item, starved}
+use Rattle.std.proofs.Common.{sym, ◌∙◌}
+use Rattle.krl_runs.proofs.Answering.{item_given, line_item, starved}
 use Rattle.krl_runs.proofs.keys.walk.answer_line.Goals as goal
 
 pub returns-in-Err-NoMemory : goal.returns-in-Err-NoMemory
 returns-in-Err-NoMemory g c = rw c.whole.ensures (starved _ _ _ _ (sym c.has_key.ensures.value ∙ c.if-not-has_key.false))
 
-pub returns-in-Ok-answer_blob : goal.returns-in-Ok-answer_blob
-returns-in-Ok-answer_blob g c =
-    line_item _ _ _ _ _ (sym c.has_key.ensures.value ∙ c.if-not-has_key.false) c.in-Ok.ensures.exact ∙ ap Some c.in-Ok-answer_blob.ensures
+pub returns : goal.returns
+returns g c =
+    let item = line_item _ _ _ _ _ (sym c.has_key.ensures.value ∙ c.if-not-has_key.false) c.in-Ok.ensures.exact in
+    item_given _ _ _ _ item c.answer_blob.ensures

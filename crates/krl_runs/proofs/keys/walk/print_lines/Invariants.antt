@@ -8,7 +8,7 @@ use Rattle.krl_runs.proofs.keys.walk.print_lines.Given as goal
 
 abbrev pub invariant-loop-answer : goal.invariant-loop-answer
 invariant-loop-answer g l = record {
-  reached : IsReached (g.A.Answers.answer_to l.answers) l.name (line_items (g.A.Answers.answer_to l.answers) l.name 1 (slice_split is_newline l.fn.text)) (l.passed + 1) (slice_split is_newline l.rest) l.found l.initial.printer l.printer;
+  reached : IsReached (g.A.Answers.answer_to l.answers) l.name (line_items (g.A.Answers.answer_to l.answers) l.name 1 (slice_split is_newline l.fn.text)) (l.passed + 1) (slice_split is_newline l.rest) l.said l.initial.printer l.printer;
   counted : l.passed + length l.rest ≤ length l.fn.text;
 }
 
