@@ -9,11 +9,13 @@ use clap::{Arg, ArgAction, Command};
 use std::alloc::{AllocError, Global};
 
 const USAGE: &str = "ssh-keygen -l [-E hash] -f file
+       ssh-keygen -L [-E hash] -f file
        ssh-keygen -k -f krl [-u] [-s ca_public] [-z version] [file ...]
        ssh-keygen -Q [-l] -f krl [file ...]";
 
 const EXAMPLES: &str = "Examples:
   ssh-keygen -l -f key.pub                      the fingerprints of keys
+  ssh-keygen -L -f key-cert.pub                 what certificates say
   ssh-keygen -k -f list.krl -s ca.pub lines     a list made of specification files
   ssh-keygen -Q -f list.krl key.pub             whether keys are revoked";
 
@@ -22,7 +24,7 @@ pub fn program<'a>(alloc: Global) -> Result<Command<'a>, AllocError>
     ensures { IfOk result (λ command. app_of command ≡ program) }
 {
     Command::new(alloc, "ssh-keygen")
-        .about("Lists keys, and makes, prints and asks key revocation lists")
+        .about("Lists keys and certificates; makes, prints and asks key revocation lists")
         .override_usage(USAGE)
         .after_help(EXAMPLES)
         .arg(flag(
@@ -31,7 +33,7 @@ pub fn program<'a>(alloc: Global) -> Result<Command<'a>, AllocError>
             'l',
             "List keys; with -Q print what the list holds",
         ))?
-        .arg(flag(alloc, "certificates", 'L', "List certificates").hide(true))?
+        .arg(flag(alloc, "certificates", 'L', "List certificates"))?
         .arg(flag(alloc, "make", 'k', "Make a key revocation list"))?
         .arg(flag(alloc, "query", 'Q', "Ask a key revocation list about keys"))?
         .arg(value(

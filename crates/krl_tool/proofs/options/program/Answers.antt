@@ -1,8 +1,6 @@
 -- Each option is added in its turn.
 use Rattle.std.proofs.Common.{◌≡◌, ◌∙◌, ap, codes}
 use Rattle.std.proofs.lemmas.Result.{IfOk-weaker}
-use Rattle.clap.specs.declared.builder.arg.Arg.{Arg}
-use Rattle.clap.specs.Walk.{rule_of}
 use Rattle.clap.specs.Simple.{app_of, app_of_fields, new_app}
 use Rattle.krl_tool.proofs.Reading.{one_more}
 use Rattle.krl_tool.proofs.options.program.Goals as goal
@@ -12,8 +10,7 @@ returns c =
     let start : app_of c.after_help.result ≡ new_app (codes "ssh-keygen") =
     ap app_of_fields c.after_help.ensures ∙ (ap app_of_fields c.override_usage.ensures ∙ (ap app_of_fields c.about.ensures ∙ c.new.ensures.app)) in
     let a1 = one_more _ _ _ _ _ start c.flag.ensures.local c.flag.ensures.rule c.in_ok-arg.ensures in
-    let local = ap (λ (a : Arg). a.global) c.hide.ensures ∙ c.flag-2.ensures.local in
-    let a2 = one_more _ _ _ _ _ a1 local (ap rule_of c.hide.ensures ∙ c.flag-2.ensures.rule) c.in_ok-arg-2.ensures in
+    let a2 = one_more _ _ _ _ _ a1 c.flag-2.ensures.local c.flag-2.ensures.rule c.in_ok-arg-2.ensures in
     let a3 = one_more _ _ _ _ _ a2 c.flag-3.ensures.local c.flag-3.ensures.rule c.in_ok-arg-3.ensures in
     let a4 = one_more _ _ _ _ _ a3 c.flag-4.ensures.local c.flag-4.ensures.rule c.in_ok-arg-4.ensures in
     let a5 = one_more _ _ _ _ _ a4 c.value.ensures.local c.value.ensures.rule c.in_ok-arg-5.ensures in
