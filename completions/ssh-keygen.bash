@@ -34,12 +34,13 @@ _krl_keygen_fitting() {
   case $seen in
     *k*) echo f u s z ;;
     *Q*) echo f l ;;
+    *L*) echo f E ;;
     *l*E* | *E*l*) echo f ;;
     *l*) echo f E Q ;;
-    *E*) echo f l ;;
+    *E*) echo f l L ;;
     *[usz]*) echo f k u s z ;;
-    *f*) echo l k Q E u s z ;;
-    *) echo l k Q E f u s z h ;;
+    *f*) echo l L k Q E u s z ;;
+    *) echo l L k Q E f u s z h ;;
   esac
 }
 

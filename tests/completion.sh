@@ -13,17 +13,18 @@ offers() {
   judge "bash is offered $name" "$(differs words "$wanted" "$got")"
 }
 every=$(printf '%s\n' 'a b.pub' one.pub two.krl | sort | paste -sd ,)
-offers 'all options to begin with' -E,-Q,-f,-h,-k,-l,-s,-u,-z -
+offers 'all options to begin with' -E,-L,-Q,-f,-h,-k,-l,-s,-u,-z -
 offers 'no file before the mode is known' '' ''
 offers 'the options of a listing' -E,-Q,-f -l -
-offers 'no mode that does not fit a hash' -f,-l -E md5 -
-offers 'no option twice' -f -l -E md5 -
+offers 'no mode that does not fit a hash' -L,-f,-l -E md5 -
+offers 'the options of certificates' -E,-f -L -
+offers 'no option twice' -f -L -E md5 -
 offers 'the options of a list to make' -f,-s,-u,-z -k -
 offers 'what is left of them' -s,-z -kuf two.krl -
 offers 'the options of a question' -f,-l -Q -
 offers 'what is left of those' '' -Qlf two.krl -
 offers 'how a list is made, where an authority is given' -f,-k,-u,-z -s none -
-offers 'the modes after a file' -E,-Q,-k,-l,-s,-u,-z -f one.pub -
+offers 'the modes after a file' -E,-L,-Q,-k,-l,-s,-u,-z -f one.pub -
 offers 'hashes' md5,sha256 -l -E ''
 offers 'the hash that was begun' sha256 -l -E s
 offers 'files where the file stands' "$every" -l -f ''
