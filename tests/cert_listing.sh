@@ -5,12 +5,14 @@
 export TZ=UTC
 
 # facts: the listing of OpenSSH, in the words of ours. It names no line, says no zone of times (they are
-# in UTC here), leaves a blank after the label of a list, and describes options that it does not know.
+# in UTC here), leaves a blank after the label of a list, and says of an option that it does not know
+# whether it has data.
 facts() {
   sed -E -e '1s/:$/:1:/' \
     -e '/^        Valid: /s/([0-9]{4}-[0-9]{2}-[0-9]{2}T[0-9:]{8})/\1Z/g' \
     -e 's/ +$//' \
-    -e 's/^( {16}[^ ]+) UNKNOWN (OPTION|FLAG).*$/\1 unknown/'
+    -e 's/^( {16}[^ ]+) UNKNOWN FLAG.*$/\1/' \
+    -e 's/^( {16}[^ ]+) UNKNOWN OPTION.*$/\1 unknown/'
 }
 
 # ours: our listing without the line that tells whether the certificate is valid now, and without the
