@@ -20,8 +20,8 @@ PATH=/usr/bin:/bin launch 'the launcher without the toolchain' "$launcher"
 # A repository of empty crates, and a toolchain that notes each call and makes a program that answers.
 mkdir -p away/crates tools
 cp "$launcher" away/
-printf 'low: byteorder\nkrl_tool: low side\nside:\n' >away/crates.txt
-mkdir -p away/crates/low/src away/crates/side/src away/crates/krl_tool/out
+printf 'low: byteorder\nlow_tests: low\nkrl_tool: low side\nside:\n' >away/crates.txt
+mkdir -p away/crates/low/src away/crates/low_tests/src away/crates/side/src away/crates/krl_tool/out
 cat >tools/rt <<'END'
 #!/bin/sh
 printf '%s %s\n' "${PWD##*/}" "$1" >>../../calls
@@ -41,6 +41,8 @@ first=$begins$'ssh-keygen: proving low, 1 of 3\nssh-keygen: proving side, 2 of 3
 all=$'krl_tool run\nlow lib\nside lib'
 build 'the first use builds, lowest first' 0 $'made\n' "$first"$'ssh-keygen: proving krl_tool, 3 of 3\n' "$all"
 build 'the second use only runs' 0 $'made\n' '' ''
+sleep 0.1 && touch away/crates/low_tests/src/lib.rt
+build 'a changed test builds nothing' 0 $'made\n' '' ''
 sleep 0.1 && touch away/crates/low/src/lib.rt
 build 'a changed source is built again' 0 $'made\n' "$first"$'ssh-keygen: proving krl_tool, 3 of 3\n' "$all"
 sleep 0.1 && touch away/crates/low/src/lib.rt away/broken
