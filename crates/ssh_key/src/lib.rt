@@ -29,8 +29,9 @@ pub use hash::{Hash, sha1_of, sha256_of};
 pub use key::{PublicKey, read_fields, read_key};
 pub use key_file::has_key;
 pub use kind::Kind;
-pub use line::{Line, after_blanks, before_ending, is_ending, read_line};
+pub use line::{Line, after_blanks, before_ending, is_blank, is_ending, read_line};
 pub use line_fault::LineFault;
+pub use lines::split_line;
 pub use parsing::parse_fingerprint;
 pub use private_fault::PrivateFault;
 

@@ -20,7 +20,7 @@ mod words;
 
 use options::after_options;
 use words::split_word;
-pub use words::{after_blanks, before_ending, is_ending, trimmed};
+pub use words::{after_blanks, before_ending, is_blank, is_ending, trimmed};
 
 /// What a key line holds.
 #[derive(Debug, Drop)]
