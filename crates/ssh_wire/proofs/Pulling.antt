@@ -7,7 +7,7 @@ use Rattle.std.proofs.KnownBytes.{Consumes-trans}
 use Rattle.ssh_wire.specs.declared.pull_fault.PullFault.{PullFault}
 use Rattle.ssh_wire.specs.declared.pull_fault.PullFault.TheVariants.{EndsEarly, TooLong, Read, NoMemory}
 use Rattle.ssh_wire.specs.Filling.{Fills, Stops, TellsStop, pulled}
-use Rattle.ssh_wire.specs.Pull.{Misses, Pulled, Refuses, Tells, left_of}
+use Rattle.ssh_wire.specs.Pull.{Misses, MissesRest, Pulled, Refuses, RefusesRest, Tells, TellsRest, after_ahead, left_of}
 use borrow.Rule.Slice.PartMut.{put_mid, post_of}
 use lib.Seq.{take-add, take-append-le}
 
@@ -83,6 +83,40 @@ Refuses-misses old new size fault misses taken_is limit_is fault_is = record {
     part = misses.part;
     within = misses.within;
     tells = Tells-kept fault new old.taken old.limit (length misses.came) taken_is limit_is misses.tells;
+  };
+  taken = taken_is;
+  limit = limit_is;
+  fault_is = fault_is;
+}
+
+-- ---- all that is left
+
+-- bytes came, and then some more, for which there is no memory
+pub MissesRest-memory : (old new : Pulled) (mid : Option (List ℕ)) (front piece : List ℕ) (count : ℕ) → Consumes (left_of old) mid front → Consumes mid new.source (take count piece) → new.ahead ≡ None → 0 < count → count ≤ length piece → old.taken + (length front + count) ≤ old.limit → new.failed ≡ false → MissesRest old NoMemory new
+MissesRest-memory old new mid front piece count before after none_ahead some part within working =
+    let size = length-take-le count piece part in
+    let all = length-append front (take count piece) in
+    record {
+      came = front ++ take count piece;
+      bytes = subst (λ (ahead : Option ℕ). Consumes (left_of old) (after_ahead ahead new.source) (front ++ take count piece)) (sym none_ahead) (Consumes-trans (left_of old) mid new.source front (take count piece) before after);
+      within = omega (arith, size, all);
+      tells = (omega (arith, size, all), none_ahead, working);
+    }
+
+TellsRest-kept : (fault : PullFault) (new : Pulled) (taken limit came : ℕ) → new.taken ≡ taken → new.limit ≡ limit → TellsRest fault (pulled new.source new.failed new.ahead taken limit) came → TellsRest fault new came
+TellsRest-kept EndsEarly new taken limit came taken_is limit_is tells = tells
+TellsRest-kept TooLong new taken limit came taken_is limit_is tells = (omega (arith, tells.0), tells.1, tells.2)
+TellsRest-kept Read new taken limit came taken_is limit_is tells = tells
+TellsRest-kept NoMemory new taken limit came taken_is limit_is tells = tells
+
+-- the fault that was found is kept
+pub RefusesRest-misses : (old new : Pulled) (fault : PullFault) → MissesRest (pulled old.source false old.ahead old.taken old.limit) fault (pulled new.source new.failed new.ahead old.taken old.limit) → new.taken ≡ old.taken → new.limit ≡ old.limit → new.fault ≡ Some fault → RefusesRest old fault new
+RefusesRest-misses old new fault misses taken_is limit_is fault_is = record {
+  misses = record {
+    came = misses.came;
+    bytes = misses.bytes;
+    within = misses.within;
+    tells = TellsRest-kept fault new old.taken old.limit (length misses.came) taken_is limit_is misses.tells;
   };
   taken = taken_is;
   limit = limit_is;

@@ -45,8 +45,8 @@ abbrev pub Fills
 Fills (Ok filled) before after failed slice = Consumes before after slice × (failed ≡ false)
 Fills (Err fault) before after failed slice = Stops fault before after failed (length slice)
 
--- whether a byte stands ahead, unless the reader failed
+-- Whether a byte stands ahead, unless the reader failed.
 abbrev pub FindsAhead : Result Bool PullFault → Option (List ℕ) → Bool → Option ℕ → Type 0
 FindsAhead (Ok true) after failed ahead = IsSome ahead × (failed ≡ false)
-FindsAhead (Ok false) after failed ahead = IsAtEnd after × (failed ≡ false)
-FindsAhead (Err fault) after failed ahead = (fault ≡ Read) × (failed ≡ true)
+FindsAhead (Ok false) after failed ahead = (ahead ≡ None) × IsAtEnd after × (failed ≡ false)
+FindsAhead (Err fault) after failed ahead = (fault ≡ Read) × (ahead ≡ None) × (failed ≡ true)

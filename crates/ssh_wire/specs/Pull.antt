@@ -64,6 +64,35 @@ pub record Refuses (old : Pulled) (size : ℕ) (fault : PullFault) (new : Pulled
   pub limit : new.limit ≡ old.limit
   pub fault_is : new.fault ≡ Some fault
 
+-- All that was left was taken, within the limit.
+pub record TakesRest (old : Pulled) (rest : List ℕ) (new : Pulled) : Type 0 where
+  pub takes : Takes old rest new
+  pub none_ahead : new.ahead ≡ None
+  pub ends : IsAtEnd new.source
+
+-- What a fault says, where so many of the bytes to the reader's end came. Each byte that came is
+-- among them, but for one that stands past the limit. Memory is not refused before a byte came.
+abbrev pub TellsRest : PullFault → Pulled → ℕ → Type 0
+TellsRest EndsEarly pull came = ⊥
+TellsRest TooLong pull came =
+    (pull.taken + came ≡ pull.limit) × IsSome pull.ahead × (pull.failed ≡ false)
+TellsRest Read pull came = (pull.ahead ≡ None) × (pull.failed ≡ true)
+TellsRest NoMemory pull came = (0 < came) × (pull.ahead ≡ None) × (pull.failed ≡ false)
+
+-- Of the bytes to the reader's end these came, within the limit, and the fault says why not all.
+pub record MissesRest (old : Pulled) (fault : PullFault) (new : Pulled) : Type 0 where
+  pub came : List ℕ
+  pub bytes : Consumes (left_of old) (left_of new) came
+  pub within : old.taken + length came ≤ old.limit
+  pub tells : TellsRest fault new (length came)
+
+-- What was left was refused. What came of it does not count as taken.
+pub record RefusesRest (old : Pulled) (fault : PullFault) (new : Pulled) : Type 0 where
+  pub misses : MissesRest old fault new
+  pub taken : new.taken ≡ old.taken
+  pub limit : new.limit ≡ old.limit
+  pub fault_is : new.fault ≡ Some fault
+
 -- Whether the end is reached was found out, and no byte was taken.
 pub record Looks (old : Pulled) (ended : Bool) (new : Pulled) : Type 0 where
   pub bytes : Keeps (left_of old) (left_of new)

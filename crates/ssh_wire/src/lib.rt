@@ -13,6 +13,7 @@ pub mod laws;
 mod pull;
 mod pull_fault;
 mod put;
+mod rest;
 mod sending;
 mod to_write;
 

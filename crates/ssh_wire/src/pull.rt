@@ -2,13 +2,14 @@
 
 ghost use Rattle.std.specs.Prelude.{◌≡◌, ◌≢◌, ◌<◌, ◌∷◌, [], None, Err, length, IfOk, IfErr, IfSome};
 ghost use Rattle.std.specs.Prelude.{OnOk, OnErr, ◌+◌, ◌≤◌, false, vec_capacity, vec_len};
-ghost use Rattle.ssh_wire.specs.Pull.{Looks, Refuses, Takes, untaken};
+ghost use Rattle.ssh_wire.specs.Pull.{Looks, Refuses, RefusesRest, Takes, TakesRest, untaken};
 ghost use Rattle.ssh_wire.specs.declared.pull_fault.PullFault.TheVariants.{NoMemory, Read};
 
 use crate::bytes::Bytes;
 use crate::device::Source;
 use crate::filling::{fill, fill_vec, look, refusal};
 use crate::pull_fault::PullFault;
+use crate::rest::fill_rest;
 use std::alloc::Global;
 use std::marker::Model;
 
@@ -177,6 +178,31 @@ impl<R: Source + Drop> Pull<R> {
         let mut out = Vec::new(alloc);
         self.bytes_into(&mut out, size)?;
         Ok(Bytes::from_vec(out))
+    }
+
+    /// Takes all that is left, within the limit. Memory is taken only as bytes come.
+    pub fn rest(&mut self, alloc: Global) -> Result<Bytes, PullFault>
+        ensures ok { IfOk result (λ rest. TakesRest self.old rest self.new) }
+        ensures err { self.old.fault ≡ None → IfErr result (λ fault.
+            RefusesRest self.old fault self.new) }
+        ensures again { IfSome self.old.fault (λ fault.
+            (result ≡ Err fault) × (self.new ≡ self.old)) }
+    {
+        if let Some(fault) = self.fault {
+            return Err(fault);
+        }
+        let room = self.limit - self.taken;
+        let mut out = Vec::new(alloc);
+        match fill_rest(&mut self.reader, &mut self.ahead, &mut out, room) {
+            Ok(()) => {
+                self.taken += out.len() as u64;
+                Ok(Bytes::from_vec(out))
+            }
+            Err(fault) => {
+                self.fault = Some(fault);
+                Err(fault)
+            }
+        }
     }
 
     /// The reader, which goes on after the last byte that was taken or looked at.
