@@ -43,6 +43,3 @@ pub use text::Text;
 pub use walk::Texts;
 pub use writing::krl_text::{WriteFault, krl_text, write_krl};
 pub use writing::text_fault::TextFault;
-
-#[cfg(test)]
-mod tests;

@@ -1,8 +1,8 @@
 // A plain, slow reader of lists (PROTOCOL.krl), which goes down the grammar over a whole text. It
 // shares nothing with the reader that is proved.
 
-use crate::krl_fault::KrlFault;
 use crate::tests::plain_model::Said;
+use krl_core::KrlFault;
 use std::alloc::Global;
 
 // No list of a test has as many items in a part.

@@ -1,6 +1,6 @@
 use Rattle.std.proofs.Common.{◌+◌, ◌<◌, ◌⊎◌}
 use Rattle.std.specs.List.{AllWithin}
-use Rattle.krl_core.proofs.tests.full.touches_none.Given as goal
+use Rattle.krl_core_tests.proofs.tests.full.touches_none.Given as goal
 
 abbrev pub invariant-loop-at : goal.invariant-loop-at
 invariant-loop-at g l =

@@ -2,9 +2,9 @@
 
 ghost use Rattle.std.specs.Prelude.{◌≤◌, ◌<◌};
 
-use crate::Revocations;
 use crate::tests::plain_model::{Asked, Names, Said, add, is_revoked, subject_of};
 use crate::tests::random::Random;
+use krl_core::Revocations;
 use serial_set::{Held, SpanVec, Spans};
 use ssh_key::{sha1_of, sha256_of};
 use std::alloc::{AllocError, Global};

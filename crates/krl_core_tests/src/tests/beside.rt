@@ -2,13 +2,10 @@
 
 ghost use Rattle.std.specs.Prelude.{◌<◌, ◌≤◌, ◌^◌, length};
 
-use crate::header::Header;
-use crate::read::read_krl;
-use crate::revocations::Revocations;
 use crate::tests::plain_model::{Asked, Names, Said, add, is_revoked, subject_of};
 use crate::tests::plain_reader::PlainReader;
 use crate::tests::rows::{HEADER, ROWS};
-use crate::writing::krl_text::krl_text;
+use krl_core::{Header, Revocations, krl_text, read_krl};
 use serial_set::Held;
 use ssh_wire::{Bytes, FromRead};
 use std::alloc::{AllocError, Global};

@@ -1,11 +1,8 @@
 // Lists, read from a slice and in pieces.
 
-use crate::krl_fault::KrlFault;
-use crate::read::read_krl;
-use crate::reading::Reading;
-use crate::revocations::Revocations;
 use crate::tests::devices::Giver;
 use crate::tests::rows::{HEADER, ROWS};
+use krl_core::{KrlFault, Reading, Revocations, read_krl};
 use serial_set::{Held, Spans};
 use ssh_wire::FromRead;
 use std::alloc::{AllocError, Global};

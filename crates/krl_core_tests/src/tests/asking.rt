@@ -1,9 +1,9 @@
 // What each entry revokes, over each set of serials.
 
-use crate::Revocations;
 use crate::tests::full::Full;
 use crate::tests::plain_model::{Asked, Names, subject_of};
 use crate::tests::subjects::{A, B, G};
+use krl_core::Revocations;
 use serial_set::{Held, SpanVec, Spans};
 use ssh_key::{sha1_of, sha256_of};
 use std::alloc::{AllocError, Global};

@@ -3,8 +3,8 @@
 ghost use Rattle.std.specs.Prelude.{◌≡◌, ◌<◌, ◌≤◌};
 ghost use Rattle.krl_core.specs.Authority.{IsAuthority};
 
-use crate::Revocations;
 use crate::tests::subjects::{certificate, plain};
+use krl_core::Revocations;
 use serial_set::Spans;
 use ssh_cert::{CertNames, Subject};
 use ssh_key::{sha1_of, sha256_of};

@@ -1,7 +1,7 @@
 // The least plan of worked lists of runs, and its cost beside that of every plan of short lists.
 
 use crate::tests::writing::{has_length, of_runs};
-use crate::{Group, Sort, least_plan};
+use krl_core::{Group, Sort, least_plan};
 use serial_set::{Held, Span, Spans};
 use std::alloc::{AllocError, Global};
 use std::process::Abort;

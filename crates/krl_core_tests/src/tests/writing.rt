@@ -1,11 +1,7 @@
 // Whole lists (PROTOCOL.krl), byte for byte, each read back.
 
-use crate::header::Header;
-use crate::read::read_krl;
-use crate::revocations::Revocations;
 use crate::tests::rows::HEADER;
-use crate::writing::krl_text::krl_text;
-use crate::writing::text_fault::TextFault;
+use krl_core::{Header, Revocations, TextFault, krl_text, read_krl};
 use serial_set::{Held, Span};
 use ssh_key::{sha1_of, sha256_of};
 use ssh_wire::{Bytes, FromRead, put_byte, put_u32};

@@ -1,8 +1,8 @@
 // What is held after additions, also where one is refused, in its order.
 
-use crate::Revocations;
 use crate::tests::full::Full;
 use crate::tests::subjects::{A, B};
+use krl_core::Revocations;
 use serial_set::{Held, SpanVec, Spans};
 use std::alloc::Global;
 use std::process::Abort;

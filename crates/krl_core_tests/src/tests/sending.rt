@@ -1,9 +1,8 @@
 // Lists that go out to a writer, which may fail.
 
-use crate::revocations::Revocations;
 use crate::tests::rows::HEADER;
 use crate::tests::writing::header;
-use crate::writing::krl_text::{WriteFault, write_krl};
+use krl_core::{Revocations, WriteFault, write_krl};
 use serial_set::Held;
 use ssh_wire::ToWrite;
 use std::alloc::{AllocError, Global};

@@ -1,6 +1,6 @@
 // Worked lists: the header, the parts that follow it, and the first fault or what is held.
 
-use crate::krl_fault::KrlFault;
+use krl_core::KrlFault;
 
 /// The header with version 1, of 44 bytes.
 pub const HEADER: &[u8] = b"SSHKRL\n\0\0\0\0\x01\0\0\0\0\0\0\0\x01\

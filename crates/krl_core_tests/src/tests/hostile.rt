@@ -1,11 +1,9 @@
 // Lists that would take much where they were not read a field at a time, into sets of their own.
 
-use crate::krl_fault::KrlFault;
-use crate::read::read_krl;
-use crate::revocations::Revocations;
 use crate::tests::devices::Zeros;
 use crate::tests::full::Full;
 use crate::tests::rows::HEADER;
+use krl_core::{KrlFault, Revocations, read_krl};
 use serial_set::{Held, SpanVec, Spans};
 use ssh_wire::FromRead;
 use std::alloc::{AllocError, Global};
