@@ -27,6 +27,26 @@ IsQuiet (Sha1 n) = ⊥
 IsQuiet (Sha256 n) = ⊥
 IsQuiet _ = Unit {0}
 
+-- a place that is none of those whose fields are kept
+pub quiet_unless : (p : Place) → (p ≡ Version → ⊥) → (p ≡ Date → ⊥) → ((n : ℕ) → p ≡ Comment n → ⊥) → ((b : Bool) → p ≡ SectionType b → ⊥)
+    → ((n m : ℕ) → p ≡ Authority n m → ⊥) → ((n m : ℕ) → p ≡ Serial n m → ⊥) → ((n m : ℕ) → p ≡ RangeMax n m → ⊥)
+    → ((n m k : ℕ) → p ≡ BitmapSize n m k → ⊥) → ((n m k l : ℕ) → p ≡ BitmapByte n m k l → ⊥) → ((n m k : ℕ) → p ≡ Id n m k → ⊥)
+    → ((n m : ℕ) → p ≡ Key n m → ⊥) → ((n : ℕ) → p ≡ Sha1 n → ⊥) → ((n : ℕ) → p ≡ Sha256 n → ⊥) → IsQuiet p
+quiet_unless Version h0 h1 h2 h3 h4 h5 h6 h7 h8 h9 h10 h11 h12 = absurd (h0 refl)
+quiet_unless Date h0 h1 h2 h3 h4 h5 h6 h7 h8 h9 h10 h11 h12 = absurd (h1 refl)
+quiet_unless (Comment n) h0 h1 h2 h3 h4 h5 h6 h7 h8 h9 h10 h11 h12 = absurd (h2 n refl)
+quiet_unless (SectionType b) h0 h1 h2 h3 h4 h5 h6 h7 h8 h9 h10 h11 h12 = absurd (h3 b refl)
+quiet_unless (Authority n m) h0 h1 h2 h3 h4 h5 h6 h7 h8 h9 h10 h11 h12 = absurd (h4 n m refl)
+quiet_unless (Serial n m) h0 h1 h2 h3 h4 h5 h6 h7 h8 h9 h10 h11 h12 = absurd (h5 n m refl)
+quiet_unless (RangeMax n m) h0 h1 h2 h3 h4 h5 h6 h7 h8 h9 h10 h11 h12 = absurd (h6 n m refl)
+quiet_unless (BitmapSize n m k) h0 h1 h2 h3 h4 h5 h6 h7 h8 h9 h10 h11 h12 = absurd (h7 n m k refl)
+quiet_unless (BitmapByte n m k l) h0 h1 h2 h3 h4 h5 h6 h7 h8 h9 h10 h11 h12 = absurd (h8 n m k l refl)
+quiet_unless (Id n m k) h0 h1 h2 h3 h4 h5 h6 h7 h8 h9 h10 h11 h12 = absurd (h9 n m k refl)
+quiet_unless (Key n m) h0 h1 h2 h3 h4 h5 h6 h7 h8 h9 h10 h11 h12 = absurd (h10 n m refl)
+quiet_unless (Sha1 n) h0 h1 h2 h3 h4 h5 h6 h7 h8 h9 h10 h11 h12 = absurd (h11 n refl)
+quiet_unless (Sha256 n) h0 h1 h2 h3 h4 h5 h6 h7 h8 h9 h10 h11 h12 = absurd (h12 n refl)
+quiet_unless _ h0 h1 h2 h3 h4 h5 h6 h7 h8 h9 h10 h11 h12 = tt
+
 -- no byte of a bitmap is due
 abbrev pub IsOut : Place → Type 0
 IsOut (BitmapByte n m k l) = ⊥

@@ -6,6 +6,7 @@ pub mod Entry
 pub mod KrlFault
 pub mod Krl
 pub mod Place
+pub mod Part
 pub mod Front
 pub mod Walk
 pub mod Inserting

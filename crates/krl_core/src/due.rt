@@ -4,15 +4,19 @@ ghost use Rattle.std.specs.Prelude.{◌≡◌, ◌↔◌, IsTrue, length};
 ghost use Rattle.krl_core.specs.Place.{due};
 ghost use Rattle.krl_core.specs.Front.{HasRoom};
 
-use crate::field::{byte_of, u32_of, u64_of};
-use crate::judging::{
-    bits_judged, judge, next_bits, next_id, next_key, next_serial, next_sha1, next_sha256,
-    next_subsection, rest, section_of_type, subsection_of_type, within,
-};
-use crate::krl_fault::KrlFault;
-use crate::place::Place;
+mod bitmap;
+mod certificates;
+mod extension;
+mod hashes;
+mod header;
+mod ids;
+mod keys;
+mod serials;
+mod signature;
 
-const MAGIC: [u8; 8] = *b"SSHKRL\n\0";
+use crate::krl_fault::KrlFault;
+use crate::part::Part;
+use crate::place::Place;
 
 impl Place {
     /// How many bytes the field has that is due.
@@ -100,217 +104,16 @@ impl Place {
         requires room { HasRoom (due self) }
         ensures { result ≡ (due self).judged field.now }
     {
-        match self {
-            Place::Magic => judge(
-                field == MAGIC.as_slice(),
-                KrlFault::Magic,
-                Place::FormatVersion,
-            ),
-            Place::FormatVersion => {
-                judge(u32_of(field) == 1, KrlFault::FormatVersion, Place::Version)
-            }
-            Place::Version => Ok(Place::Date),
-            Place::Date => Ok(Place::Flags),
-            Place::Flags => Ok(Place::ReservedLength),
-            Place::ReservedLength => Ok(Place::Reserved {
-                size: u32_of(field),
-            }),
-            Place::Reserved { .. } => Ok(Place::CommentLength),
-            Place::CommentLength => Ok(Place::Comment {
-                size: u32_of(field),
-            }),
-            Place::Comment { .. } => Ok(Place::SectionType { signed: false }),
-            Place::SectionType { signed } => section_of_type(signed, byte_of(field)),
-            Place::SignatureKeyLength => Ok(Place::SignatureKey {
-                size: u32_of(field),
-            }),
-            Place::SignatureKey { .. } => Ok(Place::SignatureLength),
-            Place::SignatureLength => Ok(Place::Signature {
-                size: u32_of(field),
-            }),
-            Place::Signature { .. } => Ok(Place::SectionType { signed: true }),
-            Place::KeysLength => Ok(next_key(u32_of(field))),
-            Place::KeyLength { left } => {
-                let size = u32_of(field);
-                within(
-                    left,
-                    size,
-                    Ok(Place::Key {
-                        size,
-                        behind: rest(left, size),
-                    }),
-                )
-            }
-            Place::Key { behind, .. } => Ok(next_key(behind)),
-            Place::Sha1sLength => Ok(next_sha1(u32_of(field))),
-            Place::Sha1Length { left } => {
-                let size = u32_of(field);
-                let next = Place::Sha1 {
-                    behind: rest(left, size),
-                };
-                within(left, size, judge(size == 20, KrlFault::HashLength, next))
-            }
-            Place::Sha1 { behind } => Ok(next_sha1(behind)),
-            Place::Sha256sLength => Ok(next_sha256(u32_of(field))),
-            Place::Sha256Length { left } => {
-                let size = u32_of(field);
-                let next = Place::Sha256 {
-                    behind: rest(left, size),
-                };
-                within(left, size, judge(size == 32, KrlFault::HashLength, next))
-            }
-            Place::Sha256 { behind } => Ok(next_sha256(behind)),
-            Place::CertificatesLength => Ok(Place::AuthorityLength {
-                left: u32_of(field),
-            }),
-            Place::AuthorityLength { left } => {
-                let size = u32_of(field);
-                within(
-                    left,
-                    size,
-                    Ok(Place::Authority {
-                        size,
-                        behind: rest(left, size),
-                    }),
-                )
-            }
-            Place::Authority { behind, .. } => Ok(Place::SectionReservedLength { left: behind }),
-            Place::SectionReservedLength { left } => {
-                let size = u32_of(field);
-                within(
-                    left,
-                    size,
-                    Ok(Place::SectionReserved {
-                        size,
-                        behind: rest(left, size),
-                    }),
-                )
-            }
-            Place::SectionReserved { behind, .. } => Ok(next_subsection(behind)),
-            Place::SubsectionType { left } => subsection_of_type(left - 1, byte_of(field)),
-            Place::SerialsLength { left } => {
-                let size = u32_of(field);
-                let next = next_serial(size, rest(left, size));
-                within(left, size, judge(size % 8 == 0, KrlFault::Length, next))
-            }
-            Place::Serial { left, behind } => Ok(next_serial(left - 8, behind)),
-            Place::RangeLength { left } => {
-                let size = u32_of(field);
-                let next = Place::RangeMin {
-                    behind: rest(left, size),
-                };
-                within(left, size, judge(size == 16, KrlFault::Length, next))
-            }
-            Place::RangeMin { behind } => Ok(Place::RangeMax {
-                min: u64_of(field),
-                behind,
-            }),
-            Place::RangeMax { min, behind } => {
-                judge(
-                    min <= u64_of(field),
-                    KrlFault::RangeReversed,
-                    next_subsection(behind),
-                )
-            }
-            Place::BitmapLength { left } => {
-                let size = u32_of(field);
-                within(
-                    left,
-                    size,
-                    Ok(Place::BitmapOffset {
-                        left: size,
-                        behind: rest(left, size),
-                    }),
-                )
-            }
-            Place::BitmapOffset { left, behind } => {
-                Ok(Place::BitmapSize {
-                    offset: u64_of(field),
-                    left: left - 8,
-                    behind,
-                })
-            }
-            Place::BitmapSize {
-                offset,
-                left,
-                behind,
-            } => {
-                let size = left - 4;
-                judge(
-                    u32_of(field) == size,
-                    KrlFault::Length,
-                    next_bits(offset, size, size, behind),
-                )
-            }
-            Place::BitmapByte {
-                offset,
-                size,
-                left,
-                behind,
-            } => { bits_judged(offset, size, left, behind, byte_of(field)) }
-            Place::IdsLength { left } => {
-                let size = u32_of(field);
-                within(left, size, Ok(next_id(size, rest(left, size))))
-            }
-            Place::IdLength { left, behind } => {
-                let size = u32_of(field);
-                within(
-                    left,
-                    size,
-                    Ok(Place::Id {
-                        size,
-                        left: rest(left, size),
-                        behind,
-                    }),
-                )
-            }
-            Place::Id { left, behind, .. } => Ok(next_id(left, behind)),
-            Place::ExtensionLength => {
-                Ok(Place::ExtensionNameLength {
-                    left: u32_of(field),
-                    behind: 0,
-                })
-            }
-            Place::SubsectionExtensionLength { left } => {
-                let size = u32_of(field);
-                let next = Place::ExtensionNameLength {
-                    left: size,
-                    behind: rest(left, size),
-                };
-                within(left, size, Ok(next))
-            }
-            Place::ExtensionNameLength { left, behind } => {
-                let size = u32_of(field);
-                within(
-                    left,
-                    size,
-                    Ok(Place::ExtensionName {
-                        size,
-                        left: rest(left, size),
-                        behind,
-                    }),
-                )
-            }
-            Place::ExtensionName { left, behind, .. } => {
-                Ok(Place::ExtensionCritical { left, behind })
-            }
-            Place::ExtensionCritical { left, behind } => judge(
-                byte_of(field) == 0,
-                KrlFault::CriticalExtension,
-                Place::ExtensionContentsLength {
-                    left: left - 1,
-                    behind,
-                },
-            ),
-            Place::ExtensionContentsLength { left, behind } => {
-                let size = left - 4;
-                judge(
-                    u32_of(field) == size,
-                    KrlFault::Length,
-                    Place::ExtensionContents { size, behind },
-                )
-            }
-            Place::ExtensionContents { behind, .. } => Ok(next_subsection(behind)),
+        match self.part() {
+            Part::Header => header::after(self, field),
+            Part::Signature => signature::after(self, field),
+            Part::Keys => keys::after(self, field),
+            Part::Hashes => hashes::after(self, field),
+            Part::Certificates => certificates::after(self, field),
+            Part::Serials => serials::after(self, field),
+            Part::Bitmap => bitmap::after(self, field),
+            Part::Ids => ids::after(self, field),
+            Part::Extension => extension::after(self, field),
         }
     }
 }

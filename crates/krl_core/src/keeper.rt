@@ -124,41 +124,8 @@ impl<S: Spans> Keeper<S> {
             Place::Key { .. } => self.add_key(field),
             Place::Sha1 { .. } => self.add_sha1(field),
             Place::Sha256 { .. } => self.add_sha256(field),
-            Place::Magic
-            | Place::FormatVersion
-            | Place::Flags
-            | Place::ReservedLength
-            | Place::Reserved { .. }
-            | Place::CommentLength
-            | Place::SignatureKeyLength
-            | Place::SignatureKey { .. }
-            | Place::SignatureLength
-            | Place::Signature { .. }
-            | Place::KeysLength
-            | Place::KeyLength { .. }
-            | Place::Sha1sLength
-            | Place::Sha1Length { .. }
-            | Place::Sha256sLength
-            | Place::Sha256Length { .. }
-            | Place::CertificatesLength
-            | Place::AuthorityLength { .. }
-            | Place::SectionReservedLength { .. }
-            | Place::SectionReserved { .. }
-            | Place::SubsectionType { .. }
-            | Place::SerialsLength { .. }
-            | Place::RangeLength { .. }
-            | Place::RangeMin { .. }
-            | Place::BitmapLength { .. }
-            | Place::BitmapOffset { .. }
-            | Place::IdsLength { .. }
-            | Place::IdLength { .. }
-            | Place::ExtensionLength
-            | Place::SubsectionExtensionLength { .. }
-            | Place::ExtensionNameLength { .. }
-            | Place::ExtensionName { .. }
-            | Place::ExtensionCritical { .. }
-            | Place::ExtensionContentsLength { .. }
-            | Place::ExtensionContents { .. } => Ok(()),
+            // the other places name nothing; of one that names something this is not proved
+            _ => Ok(()),
         }
     }
 

@@ -14,6 +14,7 @@ mod krl_fault;
 pub mod laws;
 mod listed;
 mod page;
+mod part;
 mod place;
 mod plan;
 mod query;

@@ -1,120 +1,16 @@
-use Rattle.std.proofs.Common.{◌≡◌, ℕ, ◌<◌, length, subst, sym, inl, inr, arith, slice_index, eqb, true, refl, ◌∙◌, ap}
+use Rattle.std.proofs.Common.{◌≡◌, length, subst, arith, ap}
 use Rattle.std.proofs.lemmas.Result.{on_ok_weaker}
 use Rattle.krl_core.specs.declared.place.Place.{Place}
-use Rattle.krl_core.specs.Keeping.{InStep, KeepsField, KeepsBits, GrowsWithin}
-use Rattle.krl_core.specs.Place.{due, bits_judged}
+use Rattle.krl_core.specs.Keeping.{InStep}
 use Rattle.krl_core.proofs.Bits.{good_bits, keeps_bits}
 use Rattle.krl_core.proofs.Keeping.{grows_more}
-use Rattle.krl_core.proofs.Quiet.{IsQuiet, keeps_quiet}
+use Rattle.krl_core.proofs.Quiet.{quiet_unless, keeps_quiet}
 use Rattle.krl_core.proofs.keeper.Keeper.keep.Goals as goal
 
-quiet : (g : _) (c : goal.In-Magic g) → IsQuiet c.args.place
-quiet g c = elim c.in-Magic.is [
-  | inl e ↦ subst IsQuiet (sym e) tt
-  | inr r1 ↦ elim r1 [
-    | inl e ↦ subst IsQuiet (sym e) tt
-    | inr r2 ↦ elim r2 [
-      | inl e ↦ subst IsQuiet (sym e) tt
-      | inr r3 ↦ elim r3 [
-        | inl e ↦ subst IsQuiet (sym e) tt
-        | inr r4 ↦ elim r4 [
-          | inl e ↦ subst IsQuiet (sym e.1) tt
-          | inr r5 ↦ elim r5 [
-            | inl e ↦ subst IsQuiet (sym e) tt
-            | inr r6 ↦ elim r6 [
-              | inl e ↦ subst IsQuiet (sym e) tt
-              | inr r7 ↦ elim r7 [
-                | inl e ↦ subst IsQuiet (sym e.1) tt
-                | inr r8 ↦ elim r8 [
-                  | inl e ↦ subst IsQuiet (sym e) tt
-                  | inr r9 ↦ elim r9 [
-                    | inl e ↦ subst IsQuiet (sym e.1) tt
-                    | inr r10 ↦ elim r10 [
-                      | inl e ↦ subst IsQuiet (sym e) tt
-                      | inr r11 ↦ elim r11 [
-                        | inl e ↦ subst IsQuiet (sym e.1) tt
-                        | inr r12 ↦ elim r12 [
-                          | inl e ↦ subst IsQuiet (sym e) tt
-                          | inr r13 ↦ elim r13 [
-                            | inl e ↦ subst IsQuiet (sym e.1) tt
-                            | inr r14 ↦ elim r14 [
-                              | inl e ↦ subst IsQuiet (sym e) tt
-                              | inr r15 ↦ elim r15 [
-                                | inl e ↦ subst IsQuiet (sym e.1) tt
-                                | inr r16 ↦ elim r16 [
-                                  | inl e ↦ subst IsQuiet (sym e) tt
-                                  | inr r17 ↦ elim r17 [
-                                    | inl e ↦ subst IsQuiet (sym e.1) tt
-                                    | inr r18 ↦ elim r18 [
-                                      | inl e ↦ subst IsQuiet (sym e.1) tt
-                                      | inr r19 ↦ elim r19 [
-                                        | inl e ↦ subst IsQuiet (sym e.2) tt
-                                        | inr r20 ↦ elim r20 [
-                                          | inl e ↦ subst IsQuiet (sym e.1) tt
-                                          | inr r21 ↦ elim r21 [
-                                            | inl e ↦ subst IsQuiet (sym e.1) tt
-                                            | inr r22 ↦ elim r22 [
-                                              | inl e ↦ subst IsQuiet (sym e.1) tt
-                                              | inr r23 ↦ elim r23 [
-                                                | inl e ↦ subst IsQuiet (sym e.1) tt
-                                                | inr r24 ↦ elim r24 [
-                                                  | inl e ↦ subst IsQuiet (sym e.1) tt
-                                                  | inr r25 ↦ elim r25 [
-                                                    | inl e ↦ subst IsQuiet (sym e.2) tt
-                                                    | inr r26 ↦ elim r26 [
-                                                      | inl e ↦ subst IsQuiet (sym e.1) tt
-                                                      | inr r27 ↦ elim r27 [
-                                                        | inl e ↦ subst IsQuiet (sym e.2) tt
-                                                        | inr r28 ↦ elim r28 [
-                                                          | inl e ↦ subst IsQuiet (sym e) tt
-                                                          | inr r29 ↦ elim r29 [
-                                                            | inl e ↦ subst IsQuiet (sym e.1) tt
-                                                            | inr r30 ↦ elim r30 [
-                                                              | inl e ↦ subst IsQuiet (sym e.2) tt
-                                                              | inr r31 ↦ elim r31 [
-                                                                | inl e ↦ subst IsQuiet (sym e.3) tt
-                                                                | inr r32 ↦ elim r32 [
-                                                                  | inl e ↦ subst IsQuiet (sym e.2) tt
-                                                                  | inr r33 ↦ elim r33 [
-                                                                    | inl e ↦ subst IsQuiet (sym e.2) tt
-                                                                    | inr r34 ↦ subst IsQuiet (sym r34.2) tt
-                                                                  ]
-                                                                ]
-                                                              ]
-                                                            ]
-                                                          ]
-                                                        ]
-                                                      ]
-                                                    ]
-                                                  ]
-                                                ]
-                                              ]
-                                            ]
-                                          ]
-                                        ]
-                                      ]
-                                    ]
-                                  ]
-                                ]
-                              ]
-                            ]
-                          ]
-                        ]
-                      ]
-                    ]
-                  ]
-                ]
-              ]
-            ]
-          ]
-        ]
-      ]
-    ]
-  ]
-]
-
-pub returns-in-Magic-clause-kept : goal.returns-in-Magic-clause-kept
-returns-in-Magic-clause-kept g c = keeps_quiet c.args.self.now c.args.place c.args.next c.args.field.now (quiet g c) c.requires.passes.judged c.requires.in_step
+pub returns-in_default-clause-kept : goal.returns-in_default-clause-kept
+returns-in_default-clause-kept g c =
+    let quiet = quiet_unless c.args.place c.in_default.not-Version c.in_default.not-Date c.in_default.not-Comment c.in_default.not-SectionType c.in_default.not-Authority c.in_default.not-Serial c.in_default.not-RangeMax c.in_default.not-BitmapSize c.in_default.not-BitmapByte c.in_default.not-Id c.in_default.not-Key c.in_default.not-Sha1 c.in_default.not-Sha256 in
+    keeps_quiet c.args.self.now c.args.place c.args.next c.args.field.now quiet c.requires.passes.judged c.requires.in_step
 
 pub returns-in-Comment-clause-grows : goal.returns-in-Comment-clause-grows
 returns-in-Comment-clause-grows g c = c.set_comment.ensures.grows (length c.args.field.now)

@@ -1,0 +1,55 @@
+-- The part of a list that the field of each place stands in.
+use Rattle.krl_core.specs.declared.part.Part.{Part}
+use Rattle.krl_core.specs.declared.part.Part.TheVariants.{Header, Signature, Keys, Hashes, Certificates, Serials, Bitmap, Ids, Extension}
+use Rattle.krl_core.specs.declared.place.Place.{Place}
+use Rattle.krl_core.specs.declared.place.Place.TheVariants as places
+
+abbrev pub part_of : Place → Part
+part_of places.Magic = Header
+part_of places.FormatVersion = Header
+part_of places.Version = Header
+part_of places.Date = Header
+part_of places.Flags = Header
+part_of places.ReservedLength = Header
+part_of (places.Reserved size) = Header
+part_of places.CommentLength = Header
+part_of (places.Comment size) = Header
+part_of (places.SectionType signed) = Signature
+part_of places.SignatureKeyLength = Signature
+part_of (places.SignatureKey size) = Signature
+part_of places.SignatureLength = Signature
+part_of (places.Signature size) = Signature
+part_of places.KeysLength = Keys
+part_of (places.KeyLength left) = Keys
+part_of (places.Key size behind) = Keys
+part_of places.Sha1sLength = Hashes
+part_of (places.Sha1Length left) = Hashes
+part_of (places.Sha1 behind) = Hashes
+part_of places.Sha256sLength = Hashes
+part_of (places.Sha256Length left) = Hashes
+part_of (places.Sha256 behind) = Hashes
+part_of places.CertificatesLength = Certificates
+part_of (places.AuthorityLength left) = Certificates
+part_of (places.Authority size behind) = Certificates
+part_of (places.SectionReservedLength left) = Certificates
+part_of (places.SectionReserved size behind) = Certificates
+part_of (places.SubsectionType left) = Certificates
+part_of (places.SerialsLength left) = Serials
+part_of (places.Serial left behind) = Serials
+part_of (places.RangeLength left) = Serials
+part_of (places.RangeMin behind) = Serials
+part_of (places.RangeMax min behind) = Serials
+part_of (places.BitmapLength left) = Bitmap
+part_of (places.BitmapOffset left behind) = Bitmap
+part_of (places.BitmapSize offset left behind) = Bitmap
+part_of (places.BitmapByte offset size left behind) = Bitmap
+part_of (places.IdsLength left) = Ids
+part_of (places.IdLength left behind) = Ids
+part_of (places.Id size left behind) = Ids
+part_of places.ExtensionLength = Extension
+part_of (places.SubsectionExtensionLength left) = Extension
+part_of (places.ExtensionNameLength left behind) = Extension
+part_of (places.ExtensionName size left behind) = Extension
+part_of (places.ExtensionCritical left behind) = Extension
+part_of (places.ExtensionContentsLength left behind) = Extension
+part_of (places.ExtensionContents size behind) = Extension

@@ -1,0 +1,59 @@
+// The parts of a list.
+
+ghost use Rattle.std.specs.Prelude.{◌≡◌};
+ghost use Rattle.krl_core.specs.Part.{part_of};
+
+use crate::place::Place;
+
+/// What a field of a list can stand in.
+#[derive(Clone, Copy)]
+pub(crate) enum Part {
+    /// All before the first section.
+    Header,
+    /// A signature, or the type byte of any section.
+    Signature,
+    Keys,
+    Hashes,
+    /// A section of certificates, but for its subsections.
+    Certificates,
+    /// A subsection of serials or of a range.
+    Serials,
+    Bitmap,
+    Ids,
+    /// An extension, as a section or a subsection.
+    Extension,
+}
+
+impl Place {
+    /// The part that the field stands in that is due.
+    pub(crate) fn part(self) -> Part
+        ensures { result ≡ part_of self }
+    {
+        match self {
+            Place::Magic | Place::FormatVersion | Place::Version | Place::Date => Part::Header,
+            Place::Flags | Place::ReservedLength | Place::Reserved { .. } => Part::Header,
+            Place::CommentLength | Place::Comment { .. } => Part::Header,
+            Place::SectionType { .. } | Place::SignatureKeyLength => Part::Signature,
+            Place::SignatureKey { .. } | Place::SignatureLength => Part::Signature,
+            Place::Signature { .. } => Part::Signature,
+            Place::KeysLength | Place::KeyLength { .. } | Place::Key { .. } => Part::Keys,
+            Place::Sha1sLength | Place::Sha1Length { .. } | Place::Sha1 { .. } => Part::Hashes,
+            Place::Sha256sLength | Place::Sha256Length { .. } => Part::Hashes,
+            Place::Sha256 { .. } => Part::Hashes,
+            Place::CertificatesLength | Place::AuthorityLength { .. } => Part::Certificates,
+            Place::Authority { .. } | Place::SectionReservedLength { .. } => Part::Certificates,
+            Place::SectionReserved { .. } | Place::SubsectionType { .. } => Part::Certificates,
+            Place::SerialsLength { .. } | Place::Serial { .. } => Part::Serials,
+            Place::RangeLength { .. } | Place::RangeMin { .. } => Part::Serials,
+            Place::RangeMax { .. } => Part::Serials,
+            Place::BitmapLength { .. } | Place::BitmapOffset { .. } => Part::Bitmap,
+            Place::BitmapSize { .. } | Place::BitmapByte { .. } => Part::Bitmap,
+            Place::IdsLength { .. } | Place::IdLength { .. } | Place::Id { .. } => Part::Ids,
+            Place::ExtensionLength | Place::SubsectionExtensionLength { .. } => Part::Extension,
+            Place::ExtensionNameLength { .. } | Place::ExtensionName { .. } => Part::Extension,
+            Place::ExtensionCritical { .. } => Part::Extension,
+            Place::ExtensionContentsLength { .. } => Part::Extension,
+            Place::ExtensionContents { .. } => Part::Extension,
+        }
+    }
+}
