@@ -23,14 +23,16 @@ abbrev pub back_of : {X : Type 0} → List (Page X) → (page at : ℕ) → List
 back_of pages page at = drop at (first_items (drop page pages)) ++ joined (drop (page + 1) pages)
 
 -- the spot of some bytes: what stands before them comes before it, and nothing else does
-pub record IsSpot {X : Type 0} (key : X → List ℕ) (pages : List (Page X)) (bytes : List ℕ) (page at : ℕ) : Type 0 where
+pub record IsSpot {X : Type 0} (key : X → List ℕ) (pages : List (Page X)) (bytes : List ℕ)
+    (page at : ℕ) : Type 0 where
   pub within : page ≤ length pages
   pub inside : page < length pages → at < length (first_items (drop page pages))
   pub before : AllBelow key bytes (front_of pages page at)
   pub rest : NoneBelow key bytes (back_of pages page at)
 
 -- the value at the spot has the bytes
-pub record StandsAt {X : Type 0} (key : X → List ℕ) (pages : List (Page X)) (bytes : List ℕ) (page at : ℕ) : Type 0 where
+pub record StandsAt {X : Type 0} (key : X → List ℕ) (pages : List (Page X)) (bytes : List ℕ)
+    (page at : ℕ) : Type 0 where
   pub page_within : page < length pages
   pub within : at < length (first_items (drop page pages))
   pub same : (d : X) → key (get_or (first_items (drop page pages)) at d) ≡ bytes

@@ -22,8 +22,10 @@ module _ {S : Type 0} (spans : S → List Span) where
   sections_of shelves = map section_of shelves
 
   -- the shelf at a place takes the addition, or it was refused and the shelf holds what it did
-  pub record AddsAt (addition : Addition) (result : Result (Unit {0}) AllocError) (at : ℕ) (old new : List (Shelf S)) : Type 0 where
+  pub record AddsAt (addition : Addition) (result : Result (Unit {0}) AllocError) (at : ℕ)
+      (old new : List (Shelf S)) : Type 0 where
     pub to : Shelf S
     pub after : new ≡ slice_set old at to
-    pub changed : MatchResult result (λ _. Takes addition (section_of (slice_index_or old at to)) (section_of to))
+    pub changed : MatchResult result
+        (λ _. Takes addition (section_of (slice_index_or old at to)) (section_of to))
         (λ _. section_of to ≡ section_of (slice_index_or old at to))

@@ -73,8 +73,8 @@ impl<S: Spans, R: Source + Drop> Reading<S, R> {
         }
     }
 
-    /// Reads the next field of the list. It answers false at the list's end, and from then on. After
-    /// a fault it answers that fault from then on.
+    /// Reads the next field of the list. It answers false at the list's end, and from then on.
+    /// After a fault it answers that fault from then on.
     pub fn step(&mut self) -> Result<bool, KrlFault>
         ensures more { IfOk result (λ more. IsTrue more → ReadsOneMore self.old self.new) }
         ensures follows { IfOk result (λ more. IsTrue more → Follows self.old self.new) }

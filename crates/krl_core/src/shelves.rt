@@ -16,7 +16,8 @@ impl<S: Spans> Page<Shelf<S>> {
     fn add(&mut self, alloc: Global, at: usize, addition: Addition<'_>) -> Result<(), AllocError>
         requires within { at < length self.old.items.items }
         requires sound { IsSound addition }
-        ensures { AddsAt S.spans addition.entry result at self.old.items.items self.new.items.items }
+        ensures { AddsAt S.spans addition.entry result at
+            self.old.items.items self.new.items.items }
     {
         self.items[at].add(alloc, addition)
     }
