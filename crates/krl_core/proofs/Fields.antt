@@ -15,7 +15,8 @@ use Rattle.krl_core.specs.Front.{Spot, Passes, Leads, spot_after}
 use Rattle.krl_core.specs.Krl.{magic}
 use Rattle.krl_core.specs.Place.{due, judge, names, authority_after, header_after, next_key, next_sha1, next_sha256, next_subsection, next_serial, next_id, next_bits, section_of_type, subsection_of_type, base_of, passes_end}
 use Rattle.krl_core.proofs.Bits.{judged_parts}
-use Rattle.krl_core.proofs.Completes.{same_place, passed, fits_within, chosen, one_byte, number_front, length_front, content_front, item_front, string_more, serial_more, keys_from, sha1s_from, sha256s_from, subsections_from, serials_from, ids_from, sections_from, keys_section, sha1s_section, sha256s_section, certificates_section, extension_section, signature_section, subsections_more, reserved_front, certificates_front, extension_front, contents_front, range_front, serials_part, ids_part, range_part, bitmap_part, extension_part, bits_from, bits_more, bitmap_front, offset_front}
+use Rattle.krl_core.proofs.Completes.{same_place, passed, fits_within, chosen, one_byte, number_front, length_front, content_front, item_front, string_more, serial_more, keys_from, sha1s_from, sha256s_from, subsections_from, serials_from, ids_from, sections_from, keys_section, sha1s_section, sha256s_section, certificates_section, extension_section, signature_section}
+use Rattle.krl_core.proofs.CompletesParts.{subsections_more, reserved_front, certificates_front, extension_front, contents_front, range_front, serials_part, ids_part, range_part, bitmap_part, extension_part, bits_from, bits_more, bitmap_front, offset_front}
 use Rattle.krl_core.proofs.Numbers.{number_back4, number_back8}
 use Rattle.krl_core.proofs.Same.{same_refl}
 use Rattle.krl_core.proofs.Rests.{FromItem, FromBits, FromSections, FromLength, FromContent, FromExtension, FromCritical, FromComment, FromHeaderReserved, FromFlags, FromDate, FromSubsections, FromReserved, FromCertificates, FromPart, Completes, Any, HasSize, KeyItems, Sha1Items, Sha256Items, IdItems}

@@ -26,6 +26,7 @@ pub mod Whole
 pub mod Bitmaps
 pub mod Rests
 pub mod Completes
+pub mod CompletesParts
 pub mod Fields
 pub mod Lists
 pub mod Goes
