@@ -1,4 +1,4 @@
-use Rattle.std.proofs.Common.{refl, arith, ℕ, List}
+use Rattle.std.proofs.Common.{refl}
 use Rattle.krl_core.specs.Reading.{working}
 use Rattle.krl_core.proofs.Stepping.{end_refused, missed_says, refused_says, one_more, bounded_more}
 use Rattle.krl_core.proofs.reading.advance.Goals as goal

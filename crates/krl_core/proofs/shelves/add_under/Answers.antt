@@ -1,4 +1,4 @@
-use Rattle.std.proofs.Common.{◌≡◌, subst, sym, ap, inr, refl}
+use Rattle.std.proofs.Common.{◌≡◌, subst, inr}
 use Rattle.krl_core.specs.Changes.{AddsTo}
 use Rattle.krl_core.specs.Shelf.{section_of, sections_of}
 use Rattle.krl_core.proofs.Shelving.{inserts_map, none_unless}

@@ -1,4 +1,4 @@
-use Rattle.std.proofs.Common.{[], ◌∷◌, refl}
+use Rattle.std.proofs.Common.{refl}
 use Rattle.std.proofs.lemmas.Result.{on_ok_weaker}
 use Rattle.krl_core.specs.Entry.{IdEntry}
 use Rattle.krl_core.proofs.Keeping.{adds_one}

@@ -1,5 +1,3 @@
-use Rattle.std.proofs.Common.{ℕ, ◌+◌, ◌≤◌, take}
-use Rattle.krl_core.specs.Keeping.{Keeping, Adds, KeepsStored, held_with_open, run_entries}
 use Rattle.krl_core.proofs.Keeping.{AddsFirst}
 use Rattle.krl_core.proofs.keeper.Keeper.add_spans.Given as goal
 

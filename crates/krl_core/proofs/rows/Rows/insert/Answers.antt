@@ -1,4 +1,4 @@
-use Rattle.std.proofs.Common.{◌≡◌, ◌+◌, length, sym, ap, ◌∙◌}
+use Rattle.std.proofs.Common.{◌+◌, sym, ap, ◌∙◌}
 use Rattle.krl_core.specs.Pages.{joined}
 use Rattle.krl_core.proofs.Members.{inserts_rise}
 use Rattle.krl_core.proofs.Spots.{inserts_length}

@@ -1,14 +1,6 @@
-use Rattle.std.proofs.Common.{◌≡◌, ℕ, List, length, map, sym, ap, subst, ◌∙◌, Ok, Err}
-use Rattle.std.specs.Prelude.{Result, OnErr}
-use Rattle.serial_set.specs.declared.span.Span.{Span}
-use Rattle.krl_core.specs.declared.addition.Addition.{Addition}
-use Rattle.krl_core.specs.declared.page.Page.{Page}
-use Rattle.krl_core.specs.declared.shelf.Shelf.{Shelf}
-use Rattle.krl_core.specs.Contents.{Section}
-use Rattle.krl_core.specs.Changes.{ChangesOne, Takes}
+use Rattle.std.proofs.Common.{ap, subst, ◌∙◌}
 use Rattle.krl_core.specs.Pages.{joined, StandsAt}
-use Rattle.krl_core.specs.Rising.{RisesBy}
-use Rattle.krl_core.specs.Shelf.{section_of, sections_of}
+use Rattle.krl_core.specs.Shelf.{sections_of}
 use Rattle.krl_core.proofs.Shelving.{kept_if_same, kept_if_changed, on_err_of}
 use Rattle.krl_core.proofs.shelves.Rows+Shelf+S.add.Goals as goal
 
