@@ -23,6 +23,3 @@ pub use spec_file::lines::read_spec;
 pub use spec_file::spec_cause::{KeyCause, SpecCause};
 pub use spec_file::spec_fault::SpecFault;
 pub use spec_file::under::Under;
-
-#[cfg(test)]
-mod tests;

@@ -1,10 +1,6 @@
 // Lists that are made and updated.
 
-use crate::input::file_fault::FileFault;
-use crate::input::named::Named;
-use crate::make::authority::Authority;
-use crate::make::run::{Old, make_run};
-use crate::output::run_fault::fault_text;
+use krl_runs::{Authority, FileFault, Named, Old, fault_text, make_run};
 use crate::tests::bytes::{GITHUB, HEADER, ONE_KEY, even_key, joined, repeated};
 use crate::tests::certificates::{certificate, line_of};
 use crate::tests::containers::{container, list};

@@ -1,9 +1,6 @@
 // Runs that say more than is sent at once.
 
-use crate::input::file_fault::FileFault;
-use crate::input::named::Named;
-use crate::runs::listing::{ListMode, list_run};
-use crate::runs::query::query_run;
+use krl_runs::{FileFault, ListMode, Named, list_run, query_run};
 use crate::tests::bytes::{GITHUB, list_of_one, repeated};
 use crate::tests::devices::Taker;
 use crate::tests::runs::{GITHUB_LINE, Ran, told};

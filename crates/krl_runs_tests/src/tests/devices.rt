@@ -1,9 +1,6 @@
 // Files and outputs that give or take few bytes at a call, and fail.
 
-use crate::input::file_fault::FileFault;
-use crate::input::named::load;
-use crate::runs::listing::{ListMode, list_run};
-use crate::runs::query::query_run;
+use krl_runs::{FileFault, ListMode, list_run, load, query_run};
 use crate::tests::bytes::{GITHUB, filled, list_of_one};
 use crate::tests::runs::{GITHUB_LINE, named, told};
 use ssh_key::Hash;

@@ -1,6 +1,6 @@
 // Listing the certificates of files.
 
-use crate::runs::listing::{ListMode, list_run};
+use krl_runs::{ListMode, list_run};
 use crate::tests::bytes::{GITHUB, joined};
 use crate::tests::certificates::{Terms, certificate, certificate_on, line_of};
 use crate::tests::containers::{container, list};

@@ -1,11 +1,6 @@
 // Runs over files that the tests make, and what they answer.
 
-use crate::input::file_fault::FileFault;
-use crate::input::named::Named;
-use crate::output::done::Done;
-use crate::output::run_fault::fault_text;
-use crate::runs::listing::{ListMode, list_run};
-use crate::runs::query::query_run;
+use krl_runs::{Done, FileFault, ListMode, Named, fault_text, list_run, query_run};
 use crate::tests::bytes::joined;
 use ssh_key::Hash;
 use ssh_wire::{Bytes, FromRead, ToWrite};

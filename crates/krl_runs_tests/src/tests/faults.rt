@@ -1,8 +1,6 @@
 // The lines that tell why a run stopped.
 
-use crate::input::file_fault::FileFault;
-use crate::output::cause::Cause;
-use crate::output::run_fault::{RunFault, fault_text};
+use krl_runs::{Cause, FileFault, RunFault, fault_text};
 use krl_core::KrlFault;
 use ssh_cert::{CertFault, SubjectFault};
 use ssh_key::{KeyFault, LineFault, PrivateFault};

@@ -2,8 +2,7 @@
 
 ghost use Rattle.krl_runs.specs.SpecEntry.{IsUnder};
 
-use crate::spec_file::lines::read_spec;
-use crate::spec_file::under::Under;
+use krl_runs::{Under, read_spec};
 use crate::tests::bytes::{GITHUB, HEADER, even_key, joined};
 use crate::tests::certificates::{certificate, line_of};
 use crate::tests::runs::GITHUB_LINE;

@@ -1,6 +1,6 @@
 // Printing what lists hold.
 
-use crate::runs::query::query_run;
+use krl_runs::query_run;
 use crate::tests::bytes::{GITHUB, HEADER, ONE_KEY, joined};
 use crate::tests::devices::Taker;
 use crate::tests::runs::{File, GITHUB_LINE, dumped, told};
