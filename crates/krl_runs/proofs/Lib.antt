@@ -1,5 +1,4 @@
 pub mod Loading
-pub mod Lines
 pub mod Saying
 pub mod Carrying
 pub mod Ending

@@ -7,7 +7,7 @@ use Rattle.krl_core.specs.Entry.{Entry}
 use Rattle.krl_runs.specs.SpecAdding.{AddsEntries, AddsLine, Tells}
 use Rattle.krl_runs.specs.SpecEntry.{line_entry}
 use Rattle.krl_runs.specs.SpecFile.{Named, ReadsSpec, StarvesAt, StopsAt, before_later, lines_from, lines_of}
-use Rattle.krl_runs.specs.Split.{is_newline}
+use Rattle.ssh_key.specs.Lines.{is_newline}
 use Rattle.krl_runs.specs.declared.spec_file.spec_cause.SpecCause.{SpecCause}
 use Rattle.krl_runs.specs.declared.spec_file.spec_cause.SpecCause.TheVariants as causes
 

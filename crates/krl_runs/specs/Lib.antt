@@ -1,6 +1,5 @@
 pub mod FileFault
 pub mod Named
-pub mod Split
 pub mod Stop
 pub mod Run
 pub mod Items

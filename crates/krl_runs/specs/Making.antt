@@ -35,7 +35,7 @@ use Rattle.krl_runs.specs.Query.{krl_cause}
 use Rattle.krl_runs.specs.Run.{File, stop_at}
 use Rattle.krl_runs.specs.SpecAdding.{AddsEntries}
 use Rattle.krl_runs.specs.SpecFile.{lines_of}
-use Rattle.krl_runs.specs.Split.{is_newline}
+use Rattle.ssh_key.specs.Lines.{is_newline}
 use Rattle.krl_runs.specs.Stop.{Stop, Ender, ByInput, ByMemory, ByOutput, ender_of, stop_of}
 
 -- ---- the authority

@@ -19,7 +19,7 @@ use Rattle.krl_runs.specs.declared.output.answer.Answer.{Answer}
 use Rattle.krl_runs.specs.declared.output.cause.Cause.{Cause}
 use Rattle.krl_runs.specs.declared.output.cause.Cause.TheVariants as causes
 use Rattle.krl_runs.specs.declared.input.file_fault.FileFault.{FileFault}
-use Rattle.krl_runs.specs.Split.{is_newline}
+use Rattle.ssh_key.specs.Lines.{is_newline}
 use Rattle.krl_runs.specs.Stop.{Stop, Ender, ByOutput, ByMemory, ByInput, ender_of, stop_of}
 
 -- a file's name, and its bytes or why there are none

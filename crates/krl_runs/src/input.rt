@@ -2,4 +2,3 @@
 
 pub mod file_fault;
 pub mod named;
-pub(crate) mod split;

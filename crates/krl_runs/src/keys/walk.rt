@@ -7,10 +7,9 @@ ghost use Rattle.ssh_key.specs.ContainerReading.{private_at};
 ghost use Rattle.ssh_key.specs.LineReading.{content_of};
 ghost use Rattle.ssh_cert.specs.SubjectReading.{subject_of};
 ghost use Rattle.krl_runs.specs.Run.{Gives, GivesAnswer, container_item, content_items, file_items, files_items, item_of, line_items, stop_in, subject_item, tells, text_items};
-ghost use Rattle.krl_runs.specs.Split.{is_newline};
+ghost use Rattle.ssh_key.specs.Lines.{is_newline};
 
 use crate::input::named::Named;
-use crate::input::split::split_line;
 use crate::keys::answers::Answers;
 use crate::output::answer::Answer;
 use crate::output::cause::Cause;
@@ -19,7 +18,7 @@ use crate::output::run_fault::RunFault;
 use ssh_cert::{SubjectFault, subject};
 use ssh_key::{
     Line, LineFault, Private, PrivateFault, has_key, is_container, read_key, read_line,
-    read_private,
+    read_private, split_line,
 };
 use ssh_wire::Sink;
 use std::alloc::Global;

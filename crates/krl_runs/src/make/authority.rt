@@ -5,16 +5,17 @@ ghost use Rattle.std.specs.List.{slice_split};
 ghost use Rattle.ssh_key.specs.ContainerReading.{private_at};
 ghost use Rattle.krl_runs.specs.Making.{IsSigner, Returns, authority_names, authority_of, first_key_from, first_key_of, inside_key, line_key, signer_authority};
 ghost use Rattle.krl_runs.specs.SpecEntry.{IsUnder, authority_under};
-ghost use Rattle.krl_runs.specs.Split.{is_newline};
+ghost use Rattle.ssh_key.specs.Lines.{is_newline};
 
 use crate::input::file_fault::FileFault;
 use crate::input::named::Named;
-use crate::input::split::split_line;
 use crate::output::cause::Cause;
 use crate::output::run_fault::RunFault;
 use crate::spec_file::under::Under;
 use ssh_cert::{Subject, SubjectFault, subject};
-use ssh_key::{LineFault, PrivateFault, has_key, is_container, read_line, read_private};
+use ssh_key::{
+    LineFault, PrivateFault, has_key, is_container, read_line, read_private, split_line,
+};
 use ssh_wire::Bytes;
 use std::alloc::Global;
 

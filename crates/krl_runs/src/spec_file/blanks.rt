@@ -6,7 +6,7 @@ ghost use Rattle.ssh_key.specs.Blanks.{is_blank};
 ghost use Rattle.krl_runs.specs.SpecBlanks.{after_endings, before_blanks};
 ghost use Rattle.krl_runs.specs.SpecLine.{bare_line};
 
-use ssh_key::{before_ending, is_ending};
+use ssh_key::{before_ending, is_blank, is_ending};
 
 /// What counts of a line: neither a `#` nor what stands after it, nor the blanks and carriage
 /// returns at both ends.
@@ -51,11 +51,4 @@ pub fn before_blanks(text: &[u8]) -> &[u8]
         end -= 1;
     }
     &text[..end]
-}
-
-/// Whether a byte is a space or a tab.
-fn is_blank(byte: u8) -> bool
-    ensures { result ≡ is_blank byte }
-{
-    byte == b' ' || byte == b'\t'
 }

@@ -5,12 +5,12 @@ ghost use Rattle.krl_core.specs.Contents.{held};
 ghost use Rattle.krl_runs.specs.SpecEntry.{IsUnder, authority_under};
 ghost use Rattle.krl_runs.specs.SpecFile.{ReadsSpec, lines_of};
 
-use crate::input::split::split_line;
 use crate::spec_file::adding::add_line;
 use crate::spec_file::spec_fault::SpecFault;
 use crate::spec_file::under::Under;
 use krl_core::Revocations;
 use serial_set::Spans;
+use ssh_key::split_line;
 use std::alloc::Global;
 
 /// Adds what the lines of a specification file name, up to the first line that is refused or at

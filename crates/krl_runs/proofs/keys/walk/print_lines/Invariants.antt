@@ -1,7 +1,7 @@
 -- The lines so far are answered, and the others are left.
 use Rattle.std.proofs.Common.{◌+◌, ◌≤◌, length}
 use Rattle.std.specs.List.{slice_split}
-use Rattle.krl_runs.specs.Split.{is_newline}
+use Rattle.ssh_key.specs.Lines.{is_newline}
 use Rattle.krl_runs.specs.Run.{line_items}
 use Rattle.krl_runs.proofs.Answering.{IsReached}
 use Rattle.krl_runs.proofs.keys.walk.print_lines.Given as goal

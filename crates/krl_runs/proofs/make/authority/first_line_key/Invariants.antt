@@ -2,7 +2,7 @@
 use Rattle.std.proofs.Common.{◌≡◌, ◌+◌, ◌≤◌, length}
 use Rattle.std.specs.List.{slice_split}
 use Rattle.krl_runs.specs.Making.{first_key_from}
-use Rattle.krl_runs.specs.Split.{is_newline}
+use Rattle.ssh_key.specs.Lines.{is_newline}
 use Rattle.krl_runs.proofs.make.authority.first_line_key.Given as goal
 
 abbrev pub invariant-lines : goal.invariant-lines

@@ -1,7 +1,7 @@
 -- The lines so far are read, and the others are left.
 use Rattle.std.proofs.Common.{◌+◌, ◌≤◌, length}
 use Rattle.std.specs.List.{slice_split}
-use Rattle.krl_runs.specs.Split.{is_newline}
+use Rattle.ssh_key.specs.Lines.{is_newline}
 use Rattle.krl_runs.specs.SpecEntry.{authority_under}
 use Rattle.krl_runs.proofs.SpecLines.{IsAt}
 use Rattle.krl_runs.proofs.spec_file.lines.read_spec.Given as goal
