@@ -1,8 +1,7 @@
 -- Making a list: what is read of the old one, of the authority's file and of the files.
-use Rattle.std.proofs.Common.{◌≡◌, ◌↔◌, ℕ, zero, suc, ◌+◌, ◌^◌, ◌<◌, ◌≤◌, Bool, false, List, [], ◌∷◌, ◌++◌, length, take, drop, get_or, map, Option, Some, None, Result, Ok, Err, inl, inr, refl, sym, ap, ◌∙◌, arith, append_assoc}
+use Rattle.std.proofs.Common.{◌≡◌, ◌↔◌, ℕ, ◌+◌, ◌^◌, ◌<◌, ◌≤◌, Bool, false, List, [], ◌∷◌, ◌++◌, length, take, drop, get_or, Option, Some, None, Result, Ok, Err, inl, inr, refl, sym, ap, ◌∙◌, arith, append_assoc}
 use Rattle.std.specs.Prelude.{IsTrue}
-use Rattle.std.specs.List.{Contains}
-use Rattle.std.proofs.lemmas.List.{append-nil, get_or-map, length-append, length-map, take_more, take-append-drop}
+use Rattle.std.proofs.lemmas.List.{append-nil, length-append, take_more, take-append-drop}
 use Rattle.ssh_wire.specs.Fields.{length-string}
 use Rattle.ssh_wire.specs.Wire.{string}
 use Rattle.ssh_key.specs.Container.{IsContainer}
@@ -21,11 +20,10 @@ use Rattle.krl_core.specs.Tested.{revokes}
 use Rattle.krl_core.specs.declared.header.Header.{Header}
 use Rattle.krl_core.specs.declared.krl_fault.KrlFault.{KrlFault}
 use Rattle.krl_runs.specs.declared.make.base.Base.{Base}
-use Rattle.krl_runs.specs.Making.{IsMade, IsOldRead, IsStop, Made, Makes, WritesList, after_version, authority_names, authority_of, base_of, content_entries, file_entries, files_entries, made_of, make_run_of, run_names, then_entries, version_of}
+use Rattle.krl_runs.specs.Making.{IsAtHand, IsAuthorityAtHand, IsFileAtHand, authority_file, lines, new_list, old_list, IsMade, IsOldRead, IsStop, Made, Makes, WritesList, after_version, authority_of, base_of, content_entries, file_entries, files_entries, made_of, make_run_of, then_entries, version_of}
 use Rattle.krl_runs.specs.Query.{krl_cause}
 use Rattle.krl_runs.specs.declared.make.authority.Authority.{Authority}
 use Rattle.krl_core.specs.declared.krl_fault.KrlFault.TheVariants as faults
-use Rattle.std.proofs.lemmas.List.Elements.{Contains-append_left, Contains-append_right}
 use Rattle.krl_runs.specs.Run.{File}
 use Rattle.krl_runs.specs.SpecAdding.{AddsEntries}
 use Rattle.krl_runs.specs.SpecFile.{ReadsSpec, lines_of}
@@ -127,13 +125,13 @@ file_added authority files i file old mid new lt item (front, (read, adds)) (nam
 
 -- ---- what stopped the run
 
--- A stop of a part is one of the whole, where the names of the part are among those of the whole.
-pub stop_of_part : {X Y : Type 0} (ender : Ender) (names others : List (List ℕ)) (read : Result X Stop) (whole : Result Y Stop) (stop : Stop)
-    → ((name : List ℕ) → Contains names name → Contains others name)
-    → (read ≡ Err stop → whole ≡ Err stop) → IsStop ender names read stop → IsStop ender others whole stop
-stop_of_part ByInput names others read whole stop more same is = same is
-stop_of_part ByMemory names others read whole stop more same (name, (among, is)) = (name, (more name among, is))
-stop_of_part (ByOutput count) names others read whole stop more same is = absurd is
+-- A stop of a part is one of the whole, where what the part has at hand the whole has.
+pub stop_of_part : {X Y : Type 0} (ender : Ender) (Part Whole : List ℕ → Type 0) (read : Result X Stop) (whole : Result Y Stop) (stop : Stop)
+    → ((at : List ℕ) → Part at → Whole at)
+    → (read ≡ Err stop → whole ≡ Err stop) → IsStop ender Part read stop → IsStop ender Whole whole stop
+stop_of_part ByInput Part Whole read whole stop more same is = same is
+stop_of_part ByMemory Part Whole read whole stop more same (at, (has, is)) = (at, (more at has, is))
+stop_of_part (ByOutput count) Part Whole read whole stop more same is = absurd is
 
 stopped_at : (authority : Option (List ℕ)) (files : List File) (i : ℕ) (file : File) (front : List Entry) (stop : Stop) → i < length files → file ≡ get_or files i file
     → files_entries authority (take i files) ≡ Ok front → file_entries authority file ≡ Err stop → files_entries authority files ≡ Err stop
@@ -141,24 +139,26 @@ stopped_at authority files i file front stop lt item read read' =
     let first : files_entries authority (take (i + 1) files) ≡ Err stop = rw (files_take authority files i file lt item, read, read') refl in
     ap (files_entries authority) (sym (take-append-drop (i + 1) files)) ∙ files_parts authority (take (i + 1) files) (drop (i + 1) files) ∙ ap (λ (x : Result (List Entry) Stop). then_entries x (files_entries authority (drop (i + 1) files))) first
 
-only_one : (x y : List ℕ) → Contains (x ∷ []) y → x ≡ y
-only_one x y (zero, lt, same) = same
-only_one x y (suc k, lt, same) = absurd (omega arith)
-
-name_among : (files : List File) (i : ℕ) (file : File) (name : List ℕ) → i < length files → file ≡ get_or files i file
-    → Contains (file.name ∷ []) name → Contains (map (λ (f : File). f.name) files) name
-name_among files i file name lt item among =
-    let size : i < length (map (λ (f : File). f.name) files) = omega (arith, length-map files (λ (f : File). f.name)) in
-    (i, size, get_or-map (λ (f : File). f.name) files i file name lt ∙ ap (λ (f : File). f.name) (sym item) ∙ only_one file.name name among)
+file_at_hand : (authority : Option (List ℕ)) (files : List File) (i : ℕ) (file : File) (front : List Entry) (at : List ℕ) → i < length files → file ≡ get_or files i file
+    → files_entries authority (take i files) ≡ Ok front → file.name ≡ at → IsFileAtHand authority files at
+file_at_hand authority files i file front at lt item read named = record {
+  front = take i files;
+  file = file;
+  back = drop (i + 1) files;
+  parts = sym (take-append-drop (i + 1) files) ∙ ap (λ (x : List File). x ++ drop (i + 1) files) (take_more files i file lt ∙ ap (λ (x : File). take i files ++ x ∷ []) (sym item)) ∙ append_assoc (take i files) (file ∷ []) (drop (i + 1) files);
+  entries = front;
+  faultless = read;
+  named = named;
+}
 
 pub file_stops : (authority : Option (List ℕ)) (files : List File) (i : ℕ) (file : File) (stop : Stop) (old mid : Contents)
     → i < length files → file ≡ get_or files i file
     → Added (files_entries authority (take i files)) old mid
-    → IsStop (ender_of stop.cause) (file.name ∷ []) (file_entries authority file) stop
-    → IsStop (ender_of stop.cause) (map (λ (f : File). f.name) files) (files_entries authority files) stop
+    → IsStop (ender_of stop.cause) (λ at. file.name ≡ at) (file_entries authority file) stop
+    → IsStop (ender_of stop.cause) (IsFileAtHand authority files) (files_entries authority files) stop
 file_stops authority files i file stop old mid lt item (front, (read, adds)) is =
-    stop_of_part (ender_of stop.cause) (file.name ∷ []) (map (λ (f : File). f.name) files) (file_entries authority file) (files_entries authority files) stop
-    (λ name among. name_among files i file name lt item among)
+    stop_of_part (ender_of stop.cause) (λ at. file.name ≡ at) (IsFileAtHand authority files) (file_entries authority file) (files_entries authority files) stop
+    (λ at named. file_at_hand authority files i file front at lt item read named)
     (λ same. stopped_at authority files i file front stop lt item read same)
     is
 
@@ -197,38 +197,38 @@ is_made made contents text adds written within version date spelled law = record
 
 -- ---- the run
 
-own_name : (name : List ℕ) (names : List (List ℕ)) → Contains (name ∷ names) name
-own_name name names = (0, omega arith, refl)
+-- what the run has at hand, by what reading gives
+abbrev AtHand : List ℕ → Base → Authority → Option ℕ → List File → Result Made Stop → List ℕ → Type 0
+AtHand name base authority given files read = IsAtHand name (Ok base) authority given files read
 
 -- The fault of the old list stops the run.
 pub base_refused : (name : List ℕ) (authority : Authority) (version : Option ℕ) (files : List File) (moment : ℕ) (fault : KrlFault)
-    → IsStop (ender_of (krl_cause fault)) (run_names name authority files) (make_run_of name (Err fault) authority version files moment) (stop_of name (krl_cause fault))
+    → IsStop (ender_of (krl_cause fault)) (IsAtHand name (Err fault) authority version files (make_run_of name (Err fault) authority version files moment)) (make_run_of name (Err fault) authority version files moment) (stop_of name (krl_cause fault))
 unfolding make_run_of
-base_refused name authority version files moment faults.NoMemory =
-    (name, (own_name name (authority_names authority ++ map (λ (f : File). f.name) files), refl))
+base_refused name authority version files moment faults.NoMemory = (name, (old_list refl refl, refl))
 base_refused name authority version files moment fault = refl
 
 -- The fault of the authority's file stops the run.
 pub signer_stops : (name : List ℕ) (given : Option ℕ) (authority : Authority) (moment : ℕ) (base : Base) (files : List File) (version : ℕ) (stop : Stop)
     → version_of given base.version ≡ Some version
-    → IsStop (ender_of stop.cause) (authority_names authority) (authority_of authority) stop
-    → IsStop (ender_of stop.cause) (run_names name authority files) (after_version name (version_of given base.version) authority moment base files) stop
+    → IsStop (ender_of stop.cause) (IsAuthorityAtHand authority) (authority_of authority) stop
+    → IsStop (ender_of stop.cause) (AtHand name base authority given files (after_version name (version_of given base.version) authority moment base files)) (after_version name (version_of given base.version) authority moment base files) stop
 signer_stops name given authority moment base files version stop is stops =
-    let names = map (λ (f : File). f.name) files in
-    stop_of_part (ender_of stop.cause) (authority_names authority) (run_names name authority files) (authority_of authority) (after_version name (version_of given base.version) authority moment base files) stop
-    (λ other among. Contains-append_right (name ∷ []) (authority_names authority ++ names) other (Contains-append_left (authority_names authority) names other among))
+    let read = after_version name (version_of given base.version) authority moment base files in
+    stop_of_part (ender_of stop.cause) (IsAuthorityAtHand authority) (AtHand name base authority given files read) (authority_of authority) read stop
+    (λ at has. authority_file base version refl is has)
     (λ same. rw (is, same) refl)
     stops
 
 -- The fault of a file or of a line stops the run.
 pub files_stop : (name : List ℕ) (given : Option ℕ) (authority : Authority) (moment : ℕ) (base : Base) (files : List File) (version : ℕ) (signer : Option (List ℕ)) (stop : Stop)
     → version_of given base.version ≡ Some version → authority_of authority ≡ Ok signer
-    → IsStop (ender_of stop.cause) (map (λ (f : File). f.name) files) (files_entries signer files) stop
-    → IsStop (ender_of stop.cause) (run_names name authority files) (after_version name (version_of given base.version) authority moment base files) stop
+    → IsStop (ender_of stop.cause) (IsFileAtHand signer files) (files_entries signer files) stop
+    → IsStop (ender_of stop.cause) (AtHand name base authority given files (after_version name (version_of given base.version) authority moment base files)) (after_version name (version_of given base.version) authority moment base files) stop
 files_stop name given authority moment base files version signer stop is signed stops =
-    let names = map (λ (f : File). f.name) files in
-    stop_of_part (ender_of stop.cause) names (run_names name authority files) (files_entries signer files) (after_version name (version_of given base.version) authority moment base files) stop
-    (λ other among. Contains-append_right (name ∷ []) (authority_names authority ++ names) other (Contains-append_right (authority_names authority) names other among))
+    let read = after_version name (version_of given base.version) authority moment base files in
+    stop_of_part (ender_of stop.cause) (IsFileAtHand signer files) (AtHand name base authority given files read) (files_entries signer files) read stop
+    (λ at has. lines base version signer refl is signed has)
     (λ same. rw (is, signed, same) refl)
     stops
 
@@ -237,13 +237,14 @@ pub list_written : {X : Type 0} (view : X → List ℕ) (name : List ℕ) (given
     → version_of given base.version ≡ Some version → authority_of authority ≡ Ok signer → Added (files_entries signer files) base.revocations contents
     → version < 2 ^ 64 → moment < 2 ^ 64 → WrittenNames → HeldRevokes
     → WritesList view name (record { version = version; date = moment; comment = base.comment }) contents result
-    → Makes view name (run_names name authority files) (after_version name (version_of given base.version) authority moment base files) result
+    → Makes view name (Ok base) authority given files (after_version name (version_of given base.version) authority moment base files) result
 list_written view name given authority moment base files version signer contents (Ok text) is signed (entries, (read, adds)) fits later spelled law (written, within) =
     let made = made_of version moment base entries in
     (made, (rw (is, signed, read) refl, is_made made contents (view text) adds written within fits later spelled law))
 list_written view name given authority moment base files version signer contents (Err stop) is signed (entries, (read, adds)) fits later spelled law (inl starved) =
-    let names = authority_names authority ++ map (λ (f : File). f.name) files in
-    inl (rw starved (name, (own_name name names, refl)))
+    let made = made_of version moment base entries in
+    let whole : after_version name (version_of given base.version) authority moment base files ≡ Ok made = rw (is, signed, read) refl in
+    inl (rw starved (name, (new_list made whole refl, refl)))
 list_written view name given authority moment base files version signer contents (Err stop) is signed (entries, (read, adds)) fits later spelled law (inr (told, long)) =
     inr (record {
       made = made_of version moment base entries;

@@ -1,5 +1,5 @@
 -- A list that is made or updated (ssh-keygen(1), options -k and -u).
-use Rattle.std.specs.Prelude.{◌≡◌, ◌↔◌, ℕ, ◌+◌, ◌-◌, ◌^◌, ◌<◌, ◌≤◌, ◌==◌, ◌⊎◌, ⊤, Bool, if◌then◌else◌, List, [], ◌∷◌, ◌++◌, length, map, Option, Some, None, Result, Ok, Err, Contains}
+use Rattle.std.specs.Prelude.{◌≡◌, ◌↔◌, ℕ, ◌+◌, ◌-◌, ◌^◌, ◌<◌, ◌≤◌, ◌==◌, ◌⊎◌, ⊤, Bool, if◌then◌else◌, List, [], ◌∷◌, ◌++◌, length, Option, Some, None, Result, Ok, Err}
 use Rattle.std.specs.List.{slice_split}
 use Rattle.krl_core.specs.Contents.{Contents, Means, nothing}
 use Rattle.krl_core.specs.Entries.{entries_of}
@@ -11,6 +11,7 @@ use Rattle.krl_core.specs.Reading.{Says}
 use Rattle.krl_core.specs.Revoked.{Revoked}
 use Rattle.krl_core.specs.declared.header.Header.{Header}
 use Rattle.krl_core.specs.declared.krl_fault.KrlFault.{KrlFault}
+use Rattle.krl_core.specs.declared.krl_fault.KrlFault.TheVariants as faults
 use Rattle.ssh_key.specs.Armour.{begins_container}
 use Rattle.ssh_key.specs.ContainerReading.{Opened, private_at}
 use Rattle.ssh_key.specs.KeyFile.{has_key}
@@ -186,35 +187,57 @@ make_run_of name reading authority version files moment =
 
 -- ---- what the run gives
 
--- the names of the files that a run reads
-abbrev pub authority_names : Authority → List (List ℕ)
-authority_names NotGiven = []
-authority_names All = []
-authority_names (FileOf file) = file.name ∷ []
+-- The authority's file is at hand, where one is given.
+abbrev pub IsAuthorityAtHand : Authority → List ℕ → Type 0
+IsAuthorityAtHand NotGiven at = ⊥
+IsAuthorityAtHand All at = ⊥
+IsAuthorityAtHand (FileOf file) at = file.name ≡ at
 
-abbrev pub run_names : List ℕ → Authority → List File → List (List ℕ)
-run_names name authority files =
-    name ∷ (authority_names authority ++ map (λ file. file.name) files)
+-- A file is at hand whose lines are read: the files before it have no fault.
+pub record IsFileAtHand (authority : Option (List ℕ)) (files : List File) (at : List ℕ)
+    : Type 0 where
+  pub front : List File
+  pub file : File
+  pub back : List File
+  pub parts : files ≡ front ++ file ∷ back
+  pub entries : List Entry
+  pub faultless : files_entries authority front ≡ Ok entries
+  pub named : file.name ≡ at
 
--- What stopped a run is what reading gives, or memory ran out at something of these names.
-abbrev pub IsStop : {X : Type 0} → Ender → List (List ℕ) → Result X Stop → Stop → Type 0
-IsStop ByInput names read stop = read ≡ Err stop
-IsStop ByMemory names read stop =
-    (name : List ℕ) × (Contains names name × (stop ≡ stop_of name causes.NoMemory))
-IsStop (ByOutput count) names read stop = ⊥
+-- What a run that makes a list has at hand, by its name: the list while the old one is read, then
+-- the authority's file, then the files in order, and the list again while it is written.
+pub data IsAtHand (name : List ℕ) (reading : Result Base KrlFault) (authority : Authority)
+    (given : Option ℕ) (files : List File) (read : Result Made Stop) (at : List ℕ) : Type 0 where
+  old_list : reading ≡ Err faults.NoMemory → name ≡ at
+      → IsAtHand name reading authority given files read at
+  authority_file : (base : Base) (version : ℕ) → reading ≡ Ok base
+      → version_of given base.version ≡ Some version → IsAuthorityAtHand authority at
+      → IsAtHand name reading authority given files read at
+  lines : (base : Base) (version : ℕ) (signer : Option (List ℕ)) → reading ≡ Ok base
+      → version_of given base.version ≡ Some version → authority_of authority ≡ Ok signer
+      → IsFileAtHand signer files at → IsAtHand name reading authority given files read at
+  new_list : (made : Made) → read ≡ Ok made → name ≡ at
+      → IsAtHand name reading authority given files read at
+
+-- What stopped a run is what reading gives, or memory ran out, and what was at hand is named.
+abbrev pub IsStop : {X : Type 0} → Ender → (List ℕ → Type 0) → Result X Stop → Stop → Type 0
+IsStop ByInput AtHand read stop = read ≡ Err stop
+IsStop ByMemory AtHand read stop =
+    (at : List ℕ) × (AtHand at × (stop ≡ stop_of at causes.NoMemory))
+IsStop (ByOutput count) AtHand read stop = ⊥
 
 -- A function returned what reading gives, seen by a view, or memory ran out.
-abbrev pub Returns : {X Y : Type 0} → (X → Y) → List (List ℕ) → Result Y Stop → Result X Stop
+abbrev pub Returns : {X Y : Type 0} → (X → Y) → (List ℕ → Type 0) → Result Y Stop → Result X Stop
     → Type 0
-Returns view names read (Ok x) = read ≡ Ok (view x)
-Returns view names read (Err stop) = IsStop (ender_of stop.cause) names read stop
+Returns view AtHand read (Ok x) = read ≡ Ok (view x)
+Returns view AtHand read (Err stop) = IsStop (ender_of stop.cause) AtHand read stop
 
 -- What the files name was added, or the run stopped.
-abbrev pub AddsFiles : {A : Type 0} → List (List ℕ) → Result (List Entry) Stop → Result A Stop
+abbrev pub AddsFiles : {A : Type 0} → (List ℕ → Type 0) → Result (List Entry) Stop → Result A Stop
     → Contents → Contents → Type 0
-AddsFiles names read (Ok done) old new =
+AddsFiles AtHand read (Ok done) old new =
     (entries : List Entry) × ((read ≡ Ok entries) × AddsEntries old new entries)
-AddsFiles names read (Err stop) old new = IsStop (ender_of stop.cause) names read stop
+AddsFiles AtHand read (Err stop) old new = IsStop (ender_of stop.cause) AtHand read stop
 
 -- The text is a list that names just what some entries name.
 pub record NamesSame (header : Header) (text : List ℕ) (entries : List Entry) : Type 0 where
@@ -246,12 +269,13 @@ pub record StopsAtText (name : List ℕ) (read : Result Made Stop) (stop : Stop)
   pub stop_is : stop ≡ stop_of name causes.TextTooLong
 
 -- The run gives the list, or what stopped it.
-abbrev pub Makes : {X : Type 0} → (X → List ℕ) → List ℕ → List (List ℕ) → Result Made Stop
-    → Result X Stop → Type 0
-Makes view name names read (Ok text) =
+abbrev pub Makes : {X : Type 0} → (X → List ℕ) → List ℕ → Result Base KrlFault → Authority
+    → Option ℕ → List File → Result Made Stop → Result X Stop → Type 0
+Makes view name reading authority given files read (Ok text) =
     (made : Made) × ((read ≡ Ok made) × IsMade made (view text))
-Makes view name names read (Err stop) =
-    IsStop (ender_of stop.cause) names read stop ⊎ StopsAtText name read stop
+Makes view name reading authority given files read (Err stop) =
+    IsStop (ender_of stop.cause) (IsAtHand name reading authority given files read) read stop
+    ⊎ StopsAtText name read stop
 
 -- The text is that of the header and of what is held. Else it is too long, or memory ran out.
 abbrev pub WritesList : {X : Type 0} → (X → List ℕ) → List ℕ → Header → Contents → Result X Stop

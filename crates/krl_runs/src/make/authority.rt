@@ -1,9 +1,9 @@
 // The authority of serials and key IDs that name none themselves.
 
-ghost use Rattle.std.specs.Prelude.{◌≡◌, ◌∷◌, ◌<◌, [], Some, IfOk, length};
+ghost use Rattle.std.specs.Prelude.{◌≡◌, ◌<◌, Some, IfOk, length};
 ghost use Rattle.std.specs.List.{slice_split};
 ghost use Rattle.ssh_key.specs.ContainerReading.{private_at};
-ghost use Rattle.krl_runs.specs.Making.{IsSigner, Returns, authority_names, authority_of, first_key_from, first_key_of, inside_key, line_key, signer_authority};
+ghost use Rattle.krl_runs.specs.Making.{IsAuthorityAtHand, IsSigner, Returns, authority_of, first_key_from, first_key_of, inside_key, line_key, signer_authority};
 ghost use Rattle.krl_runs.specs.SpecEntry.{IsUnder, authority_under};
 ghost use Rattle.ssh_key.specs.Lines.{is_newline};
 
@@ -54,7 +54,7 @@ impl Signer {
 
 /// The authority that is named. Of its file only the first key is read.
 pub fn signer_of<'a>(alloc: Global, authority: &'a Authority<'a>) -> Result<Signer, RunFault<'a>>
-    ensures read { Returns signer_authority (authority_names authority.now)
+    ensures read { Returns signer_authority (IsAuthorityAtHand authority.now)
         (authority_of authority.now) result }
     ensures some { IfOk result IsSigner }
 {
@@ -71,7 +71,8 @@ pub fn signer_of<'a>(alloc: Global, authority: &'a Authority<'a>) -> Result<Sign
 /// The blob of the first key of a file's text.
 #[tactic(auto, unfolding(crate::specs::Making::first_key_of))]
 fn first_key<'a>(alloc: Global, name: &'a str, text: &[u8]) -> Result<Bytes, RunFault<'a>>
-    ensures read { Returns (λ blob. blob) (name.now ∷ []) (first_key_of name.now text.now) result }
+    ensures read { Returns (λ blob. blob) (λ at. name.now ≡ at)
+        (first_key_of name.now text.now) result }
     ensures some { IfOk result (λ blob. 0 < length blob) }
 {
     if is_container(text) {
@@ -83,7 +84,7 @@ fn first_key<'a>(alloc: Global, name: &'a str, text: &[u8]) -> Result<Bytes, Run
 
 /// The blob of the key of a container. A fault of it has no line.
 fn key_inside<'a>(alloc: Global, name: &'a str, text: &[u8]) -> Result<Bytes, RunFault<'a>>
-    ensures read { Returns (λ blob. blob) (name.now ∷ [])
+    ensures read { Returns (λ blob. blob) (λ at. name.now ≡ at)
         (inside_key name.now (private_at text.now)) result }
     ensures some { IfOk result (λ blob. 0 < length blob) }
 {
@@ -96,7 +97,7 @@ fn key_inside<'a>(alloc: Global, name: &'a str, text: &[u8]) -> Result<Bytes, Ru
 
 /// The blob of the first key of a text's lines.
 fn first_line_key<'a>(alloc: Global, name: &'a str, text: &[u8]) -> Result<Bytes, RunFault<'a>>
-    ensures read { Returns (λ blob. blob) (name.now ∷ [])
+    ensures read { Returns (λ blob. blob) (λ at. name.now ≡ at)
         (first_key_from name.now 1 (slice_split is_newline text.now)) result }
     ensures some { IfOk result (λ blob. 0 < length blob) }
 {
@@ -117,7 +118,7 @@ fn first_line_key<'a>(alloc: Global, name: &'a str, text: &[u8]) -> Result<Bytes
 
 /// The blob of the plain key of a line.
 fn key_of<'a>(alloc: Global, name: &'a str, number: u64, text: &[u8]) -> Result<Bytes, RunFault<'a>>
-    ensures read { Returns (λ blob. blob) (name.now ∷ [])
+    ensures read { Returns (λ blob. blob) (λ at. name.now ≡ at)
         (line_key name.now number text.now) result }
     ensures some { IfOk result (λ blob. 0 < length blob) }
 {

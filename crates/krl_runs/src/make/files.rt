@@ -1,7 +1,7 @@
 // What specification files add to a list.
 
-ghost use Rattle.std.specs.Prelude.{◌≡◌, ◌∷◌, [], Ok, map};
-ghost use Rattle.krl_runs.specs.Making.{AddsFiles, cause_stop, content_entries, file_entries, files_entries};
+ghost use Rattle.std.specs.Prelude.{◌≡◌, Ok};
+ghost use Rattle.krl_runs.specs.Making.{AddsFiles, IsFileAtHand, cause_stop, content_entries, file_entries, files_entries};
 ghost use Rattle.krl_runs.specs.SpecEntry.{IsUnder, authority_under};
 
 use crate::input::named::Named;
@@ -23,7 +23,7 @@ pub fn add_files<'a, S: Spans>(
     files: &'a [Named<'a>],
 ) -> Result<(), RunFault<'a>>
     requires { IsUnder under }
-    ensures { AddsFiles (map (λ file. file.name) files.now)
+    ensures { AddsFiles (IsFileAtHand (authority_under under.entry) files.now)
         (files_entries (authority_under under.entry) files.now) result
         revocations.old revocations.new }
 {
@@ -42,8 +42,9 @@ fn add_file<'a, S: Spans>(
     file: &'a Named<'a>,
 ) -> Result<(), RunFault<'a>>
     requires { IsUnder under }
-    ensures { AddsFiles (file.now.name ∷ []) (file_entries (authority_under under.entry) file.now)
-        result revocations.old revocations.new }
+    ensures { AddsFiles (λ at. file.now.name ≡ at)
+        (file_entries (authority_under under.entry) file.now) result
+        revocations.old revocations.new }
 {
     match &file.content {
         Ok(text) => add_text(alloc, revocations, under, file.name, text.as_slice()),
@@ -60,7 +61,7 @@ fn add_text<'a, S: Spans>(
     text: &[u8],
 ) -> Result<(), RunFault<'a>>
     requires { IsUnder under }
-    ensures { AddsFiles (name.now ∷ [])
+    ensures { AddsFiles (λ at. name.now ≡ at)
         (content_entries (authority_under under.entry) name.now (Ok text.now))
         result revocations.old revocations.new }
 {

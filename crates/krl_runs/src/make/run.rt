@@ -3,7 +3,7 @@
 ghost use Rattle.std.specs.Prelude.{◌≡◌, Bool, Ok, Result, false, option_map, true};
 ghost use Rattle.std.specs.Option.{ForSome};
 ghost use Rattle.krl_core.specs.declared.krl_fault.KrlFault.{KrlFault as FaultOf};
-ghost use Rattle.krl_runs.specs.Making.{IsOldRead, Makes, WritesList, after_old, make_run_of, run_names};
+ghost use Rattle.krl_runs.specs.Making.{IsOldRead, Makes, WritesList, after_old, make_run_of};
 ghost use Rattle.krl_runs.specs.declared.make.base.Base.{Base as BaseOf};
 
 use crate::input::named::Named;
@@ -45,8 +45,7 @@ pub fn make_run<'a, R: Source + Drop>(
     ensures { (reading : Result BaseOf FaultOf) × (failed : Bool)
         × (failed ≡ true → (last : R) × (R.has_failed last ≡ true))
         × IsOldRead (option_map R.left old.entry.list) failed reading
-        × Makes (λ made. made.items) old.entry.name.now
-        (run_names old.entry.name.now authority.now files.now)
+        × Makes (λ made. made.items) old.entry.name.now reading authority.now version files.now
         (make_run_of old.entry.name.now reading authority.now version files.now moment) result }
 {
     let Old { name, list } = old;
@@ -64,7 +63,7 @@ fn make_over<'a>(
     files: &'a [Named<'a>],
     moment: u64,
 ) -> Result<Vec<u8>, RunFault<'a>>
-    ensures { Makes (λ made. made.items) name.now (run_names name.now authority.now files.now)
+    ensures { Makes (λ made. made.items) name.now (Ok base) authority.now version files.now
         (after_old name.now authority.now version moment files.now (Ok base)) result }
 {
     let Base {
