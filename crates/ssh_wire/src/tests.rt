@@ -5,6 +5,7 @@ mod once;
 mod pull;
 mod put;
 mod reader;
+mod rest;
 mod writer;
 
 use crate::{Bytes, PullFault, WireFault};

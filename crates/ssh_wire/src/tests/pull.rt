@@ -7,7 +7,7 @@ use std::test::*;
 
 /// What a reader does once its bytes are given.
 #[derive(Clone, Copy)]
-enum Then {
+pub enum Then {
     Ends,
     Fails,
     GivesZeros,
@@ -15,7 +15,7 @@ enum Then {
 
 /// Gives its bytes, at most so many at a call.
 #[derive(Drop)]
-struct Giver<'a> {
+pub struct Giver<'a> {
     bytes: &'a [u8],
     piece: usize,
     then: Then,
@@ -56,9 +56,9 @@ enum Step<'a> {
 
 use Step::{Array, AtEnd, Byte, Bytes, BytesInto, Fills, Refuses, Taken};
 
-type Reader<'a> = Pull<FromRead<Giver<'a>>>;
+pub type Reader<'a> = Pull<FromRead<Giver<'a>>>;
 
-fn pull(bytes: &[u8], piece: usize, then: Then, limit: u64) -> Reader<'_> {
+pub fn pull(bytes: &[u8], piece: usize, then: Then, limit: u64) -> Reader<'_> {
     Pull::new(FromRead::new(Giver { bytes, piece, then }), limit)
 }
 
@@ -109,7 +109,7 @@ fn met(reader: &mut Reader<'_>, alloc: Global, steps: &[Step<'_>]) -> Result<usi
     Ok(steps.len())
 }
 
-const TEXT: &[u8] = b"\x01\0\0\0\x02hi0123456789abcdef";
+pub const TEXT: &[u8] = b"\x01\0\0\0\x02hi0123456789abcdef";
 
 /// A row of calls on a reader of the text, with what it does then and its limit.
 struct Row<'a> {
@@ -254,7 +254,7 @@ fn answers_do_not_hang_on_the_pieces(rt: HostRuntime) -> Result<(), Fail> {
 }
 
 /// So many bytes, no two next to each other equal.
-fn text_of(alloc: Global, size: u64) -> Result<Vec<u8>, Fail> {
+pub fn text_of(alloc: Global, size: u64) -> Result<Vec<u8>, Fail> {
     let mut text = Vec::new(alloc);
     for i in 0..size {
         text.push((i % 251) as u8)?;
