@@ -4,7 +4,7 @@ NAME = ssh-keygen
 # How long make fuzz goes on.
 SECONDS = 60
 
-.PHONY: build test fuzz bench install uninstall deb
+.PHONY: build test hostile fuzz bench install uninstall deb
 
 # Proves and builds the program.
 build:
@@ -13,6 +13,10 @@ build:
 # All of the checking: each proof from nothing, and the program that was proved beside OpenSSH.
 test:
 	tests/all
+
+# Each allocation, read and write of many runs fails in turn; make test does this for fewer of them.
+hostile: build
+	tests/hostile
 
 # Files changed at random, beside OpenSSH.
 fuzz: build

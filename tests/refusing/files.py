@@ -1,0 +1,182 @@
+"""Keys, certificates, lists and specification files, small, with one of everything in them."""
+
+import base64
+import hashlib
+import struct
+
+HIGHEST = 2**64 - 1
+CERT = "ssh-ed25519-cert-v01@openssh.com"
+HEADER = b"SSHKRL\n\0" + struct.pack(">IQQQII", 1, 1, 0, 0, 0, 0)
+
+
+def string(content):
+    return struct.pack(">I", len(content)) + content
+
+
+def strings(*contents):
+    return b"".join(string(it if isinstance(it, bytes) else it.encode()) for it in contents)
+
+
+def ed25519(byte):
+    return strings("ssh-ed25519", bytes([byte]) * 32)
+
+
+KEY = ed25519(0x47)
+OTHER = ed25519(0x0B)
+AUTHORITY = ed25519(0x11)
+RSA = strings("ssh-rsa", b"\3", b"\0" + b"\xc5" * 128)
+ECDSA = strings("ecdsa-sha2-nistp256", "nistp256", b"\4" + b"\x21" * 64)
+DEVICE = strings("sk-ssh-ed25519@openssh.com", b"\x31" * 32, "ssh:")
+
+
+def certificate(serial, key_id, principals=b"", after=0, before=HIGHEST, critical=b"", extensions=b""):
+    return (
+        strings(CERT, b"nonce", KEY[-32:])
+        + struct.pack(">QI", serial, 1)
+        + strings(key_id, principals)
+        + struct.pack(">QQ", after, before)
+        + strings(critical, extensions, b"", AUTHORITY, strings("ssh-ed25519", bytes(64)))
+    )
+
+
+SEVENTH = certificate(7, "a")
+FULL = certificate(
+    0,
+    "the \x1b id",
+    strings("root", "backup"),
+    1000,
+    1 << 60,
+    strings("force-command", strings("id"), "no-touch", b"\xff"),
+    strings("permit-pty", b"", "permit-user-rc", b""),
+)
+
+
+def line(blob, comment=""):
+    word = blob[4 : 4 + struct.unpack(">I", blob[:4])[0]].decode()
+    return " ".join([word, base64.b64encode(blob).decode()] + [comment] * bool(comment)) + "\n"
+
+
+def container(public, private, comment):
+    """The file of a private key, without a passphrase."""
+    inner = b"check" [:4] * 2 + private + strings(comment)
+    inner += bytes(range(1, 1 + -len(inner) % 8))
+    blob = b"openssh-key-v1\0" + strings("none", "none", b"") + struct.pack(">I", 1)
+    text = base64.b64encode(blob + strings(public, inner)).decode()
+    lines = [text[at : at + 70] for at in range(0, len(text), 70)]
+    name = "OPENSSH PRIVATE KEY-----"
+    return "\n".join(["-----BEGIN " + name] + lines + ["-----END " + name, ""])
+
+
+def section(sort, *contents):
+    return bytes([sort]) + string(b"".join(contents))
+
+
+def serials(*numbers):
+    return section(0x20, struct.pack(">%dQ" % len(numbers), *numbers))
+
+
+def span(least, most):
+    return section(0x21, struct.pack(">QQ", least, most))
+
+
+def bitmap(offset, bits):
+    return section(0x22, struct.pack(">Q", offset), string(bits))
+
+
+def ids(*texts):
+    return section(0x23, strings(*texts))
+
+
+def certificates(authority, *subsections):
+    return section(1, strings(authority, b""), *subsections)
+
+
+def extension(sort):
+    return section(sort, strings("name"), b"\0", strings("contents"))
+
+
+def of_all(*subsections):
+    """A list of these under all authorities."""
+    return HEADER + certificates(b"", *subsections)
+
+
+def whole_list():
+    """A list with every section and every subsection, and a comment."""
+    return (
+        HEADER[:40]
+        + strings("a \t comment")
+        + certificates(b"", serials(3, 9, 8), ids("b", "id of all"), extension(0x39))
+        + certificates(AUTHORITY, span(5, 4000), bitmap(70000, b"\x0f\x55"), ids("an id", "a", "a"))
+        + section(2, strings(OTHER, ECDSA))
+        + section(3, strings(hashlib.sha1(RSA).digest()))
+        + section(5, strings(hashlib.sha256(DEVICE).digest()))
+        + extension(255)
+        + section(4, AUTHORITY)
+        + string(b"signature")
+    )
+
+
+def whole_spec():
+    """A line for each directive, and key lines of keys and certificates."""
+    hashed = base64.b64encode(hashlib.sha256(KEY).digest()).decode().rstrip("=")
+    return (
+        "# of everything\n\nserial: 5\nSerial: 0x10-0x2f # and more\nserial: 1000000\nserial: 30000-40000\n"
+        + "".join("serial: %d\n" % it for it in range(301, 330, 2))
+        + "id: an id\nid: b\nid: an id\n"
+        + "key: %ssha1: %ssha256: %s" % (line(OTHER), line(RSA), line(ECDSA, "a comment"))
+        + "hash: SHA256:%s\n" % hashed
+        + line(DEVICE, "a device")
+        + line(SEVENTH)
+        + line(FULL, "with an id")
+    )
+
+
+def scattered(count):
+    """The odd numbers from 1, so that no two are in one interval, the lowest and the highest in turn."""
+    rising = range(1, 2 * count, 2)
+    return [rising[-1 - at // 2 if at % 2 else at // 2] for at in range(count)]
+
+
+def keys():
+    sorts = [KEY, RSA, ECDSA, DEVICE, SEVENTH]
+    lines = "".join(line(it, "the %d\x1b\t key" % at) for at, it in enumerate(sorts))
+    return "# keys\n\n" + lines + 'no-pty,command="a \\" b" ' + line(OTHER)
+
+
+def contents():
+    """The files by name."""
+    texts = {
+        "g.pub": line(KEY),
+        "other.pub": line(OTHER, "other@host"),
+        "ca.pub": line(AUTHORITY),
+        "cert.pub": line(SEVENTH, "of seven"),
+        "certs.pub": line(SEVENTH, "one") + line(KEY) + line(FULL),
+        "keys.pub": keys(),
+        "many.pub": "".join(line(ed25519(at), "long " * 200) for at in range(70)),
+        "private": container(KEY, strings("ssh-ed25519", KEY[-32:], bytes(64)), "me@home"),
+        "private-rsa": container(
+            RSA, strings("ssh-rsa", RSA[-129:], b"\3", b"\5", b"\6", b"\7", b"\x0b"), "a\x1b"
+        ),
+        "empty": "",
+        "wrong.pub": line(KEY) + "ssh-ed25519 AAAA",
+        "spec": whole_spec(),
+        "more.spec": "serial: 6-8\nid: c\n",
+        "wrong.spec": "serial: 6\nid: c\nserial: 9-7\n",
+        "scattered.spec": "".join("serial: %d\n" % it for it in scattered(1024)),
+        "long.spec": "".join("id: %s%04d\n" % ("an id that is rather long " * 40, at) for at in range(70)),
+    }
+    bytes_of = {
+        "key.krl": HEADER + section(2, string(KEY)),
+        "whole.krl": whole_list(),
+        "cut.krl": whole_list()[:-3],
+        "one.krl": of_all(span(1, 1)),
+        "thousand.krl": of_all(span(1, 1000)),
+        "byte.krl": of_all(bitmap(1, b"\x7f")),
+        "bytes.krl": of_all(bitmap(1, b"\x7f" + b"\xff" * 999)),
+        "four.krl": of_all(bitmap(1, b"\x55")),
+        "scattered.krl": of_all(serials(*scattered(1024))),
+        "joined.krl": of_all(serials(*scattered(1024)), span(2, 2046)),
+        "unknown.krl": HEADER + b"\x99",
+        "highest.krl": HEADER[:12] + struct.pack(">Q", HIGHEST) + HEADER[20:],
+    }
+    return {**{name: text.encode() for name, text in texts.items()}, **bytes_of}

@@ -1,0 +1,95 @@
+"""Starts the program over the library that makes its calls fail, and tells how it ended."""
+
+import os
+import signal
+import struct
+
+MOMENT = 951782400
+SECONDS = 20
+
+
+class Ended:
+    """How a run ended: a status below zero is a signal. The counts are those of the library."""
+
+    def __init__(self, status, output, error, made, counts):
+        self.status = status
+        self.output = output
+        self.error = error
+        # What stands in the list that -k was to make, or None.
+        self.made = made
+        self.counts = counts
+
+    def says(self):
+        return self.status, self.output, self.error, self.made
+
+    def shown(self):
+        made = "" if self.made is None else ", a list of %d bytes" % len(self.made)
+        return "status %d, output %r, error %r%s" % (
+            self.status,
+            self.output[-90:],
+            self.error[-200:],
+            made,
+        )
+
+
+class Counts:
+    """How often something was called, how often that failed, and the descriptor of the last failure."""
+
+    def __init__(self, called, failed, descriptor):
+        self.called = called
+        self.failed = failed
+        self.descriptor = descriptor
+
+
+def content_of(name):
+    with open(name, "rb") as file:
+        return file.read()
+
+
+class Program:
+    """The program, in the folder at hand, which holds the files that it reads."""
+
+    def __init__(self, program, library):
+        self.program = program
+        self.library = library
+        signal.signal(signal.SIGALRM, self.stop)
+        self.process = None
+
+    def stop(self, *_):
+        os.kill(self.process, signal.SIGKILL)
+
+    def run(self, words, given=os.devnull, old=None, **failing):
+        """Runs it with the words, and standard input from the file given. Where the words make a list,
+        old is what stands there already."""
+        for name, content in [("report", bytes(72)), ("made.krl", old)]:
+            if content is None:
+                if os.path.exists(name):
+                    os.remove(name)
+                continue
+            with open(name, "wb") as out:
+                out.write(content)
+        wanted = os.O_WRONLY | os.O_CREAT | os.O_TRUNC
+        self.process = os.posix_spawn(
+            self.program,
+            ["ssh-keygen"] + words,
+            {"LD_PRELOAD": self.library, "REPORT": "report", "MOMENT": str(MOMENT), **failing},
+            file_actions=[
+                (os.POSIX_SPAWN_OPEN, 0, given, os.O_RDONLY, 0),
+                (os.POSIX_SPAWN_OPEN, 1, "output", wanted, 0o600),
+                (os.POSIX_SPAWN_OPEN, 2, "error", wanted, 0o600),
+            ],
+        )
+        signal.alarm(SECONDS)
+        status = os.waitstatus_to_exitcode(os.waitpid(self.process, 0)[1])
+        signal.alarm(0)
+        numbers = struct.unpack("9Q", content_of("report"))
+        return Ended(
+            status,
+            content_of("output"),
+            content_of("error"),
+            content_of("made.krl") if os.path.exists("made.krl") else None,
+            {
+                sort: Counts(*numbers[3 * at : 3 * at + 3])
+                for at, sort in enumerate(["MEMORY", "READ", "WRITE"])
+            },
+        )

@@ -1,0 +1,127 @@
+/* Loaded before the C library of a program, this makes its allocations, reads and writes fail in turn, as
+   they do on a machine without memory, a disk that is full and one that is broken. The environment says
+   what fails:
+
+     MEMORY=K-L              the K-th to the L-th allocation (a growth of one counts too) is refused
+     READ=K-L:HOW:PIECE      the same of reads, and WRITE of writes; HOW is the error's number, or 0 for a
+                             call that ends well and moves nothing, or -1 for one that moves one byte. All
+                             other calls move at most PIECE bytes
+     MOMENT=N                the clock shows so many seconds since 1970
+     REPORT=FILE             the counts of what was called and of what failed stand there at the end */
+#define _GNU_SOURCE
+#include <errno.h>
+#include <fcntl.h>
+#include <stdint.h>
+#include <stdio.h>
+#include <stdlib.h>
+#include <string.h>
+#include <sys/mman.h>
+#include <sys/syscall.h>
+#include <time.h>
+#include <unistd.h>
+
+enum { MEMORY, READ, WRITE, SORTS };
+
+/* What was called and what of it failed, and the descriptor of the last call that failed. */
+struct count {
+  uint64_t called, failed, descriptor;
+};
+
+struct order {
+  uint64_t first, last;
+  long how;
+  uint64_t piece;
+};
+
+static struct count own[SORTS];
+static struct count *counts = own;
+static struct order orders[SORTS] = {
+    [READ] = {.piece = UINT64_MAX},
+    [WRITE] = {.piece = UINT64_MAX},
+};
+static long moment = -1;
+static int is_ready;
+
+void *__libc_malloc(size_t);
+void *__libc_realloc(void *, size_t);
+
+static void take(const char *name, struct order *order) {
+  const char *text = getenv(name);
+  if (text)
+    sscanf(text, "%lu-%lu:%ld:%lu", &order->first, &order->last, &order->how, &order->piece);
+}
+
+/* What is called before the program itself begins does not count. */
+__attribute__((constructor)) static void begin(void) {
+  const char *file = getenv("REPORT"), *time = getenv("MOMENT");
+  take("MEMORY", &orders[MEMORY]);
+  take("READ", &orders[READ]);
+  take("WRITE", &orders[WRITE]);
+  if (time)
+    moment = atol(time);
+  if (file) {
+    int report = open(file, O_RDWR);
+    void *shared = mmap(NULL, sizeof own, PROT_READ | PROT_WRITE, MAP_SHARED, report, 0);
+    if (report < 0 || shared == MAP_FAILED)
+      abort();
+    counts = shared;
+    close(report);
+  }
+  is_ready = 1;
+}
+
+/* Counts a call, and says whether it is one of those that fail. */
+static int fails(int sort, int descriptor) {
+  if (!is_ready)
+    return 0;
+  struct count *count = &counts[sort];
+  count->called++;
+  if (count->called < orders[sort].first || count->called > orders[sort].last)
+    return 0;
+  count->failed++;
+  count->descriptor = descriptor;
+  return 1;
+}
+
+static void *refused(void) {
+  errno = ENOMEM;
+  return NULL;
+}
+
+void *malloc(size_t size) {
+  return fails(MEMORY, 0) ? refused() : __libc_malloc(size);
+}
+
+/* A piece of memory that becomes smaller is none that grows, but it may be moved, so it may be refused. */
+void *realloc(void *held, size_t size) {
+  return fails(MEMORY, 0) ? refused() : __libc_realloc(held, size);
+}
+
+/* How many bytes a call of the sort moves at most, or -1 where it ends with an error, which is set. */
+static ssize_t most(int sort, int descriptor, size_t size) {
+  struct order *order = &orders[sort];
+  if (!fails(sort, descriptor))
+    return is_ready && size > order->piece ? order->piece : size;
+  if (order->how > 0) {
+    errno = order->how;
+    return -1;
+  }
+  return order->how == 0 || size == 0 ? 0 : 1;
+}
+
+ssize_t read(int descriptor, void *into, size_t size) {
+  ssize_t count = most(READ, descriptor, size);
+  return count < 0 ? -1 : count == 0 && size ? 0 : syscall(SYS_read, descriptor, into, count);
+}
+
+ssize_t write(int descriptor, const void *from, size_t size) {
+  ssize_t count = most(WRITE, descriptor, size);
+  return count < 0 ? -1 : count == 0 && size ? 0 : syscall(SYS_write, descriptor, from, count);
+}
+
+int clock_gettime(clockid_t clock, struct timespec *time) {
+  if (moment < 0)
+    return syscall(SYS_clock_gettime, clock, time);
+  *time = (struct timespec){.tv_sec = moment};
+  return 0;
+}

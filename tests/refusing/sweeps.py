@@ -1,0 +1,129 @@
+"""What each run is put through: its calls fail one after the other, until a run meets no failure."""
+
+import errno
+
+from refusing import answers
+
+ALWAYS = 1 << 62
+SHORT, NOTHING = -1, 0
+# A device is asked again so often where it was interrupted.
+PATIENCE = 1000
+
+
+class Sweep:
+    """Of a sort of calls the first fails, then the second, and so on."""
+
+    def __init__(self, name, sort, answer, how=0, piece=ALWAYS, lasts=False):
+        self.name = name
+        self.sort = sort
+        self.answer = answer
+        self.how = how
+        # How many bytes a call moves at most.
+        self.piece = piece
+        # Whether all calls after the one that fails fail too.
+        self.lasts = lasts
+
+    def failing(self, first, last):
+        return {self.sort: "%d-%d:%d:%d" % (first, last, self.how, self.piece)}
+
+    def at(self, number):
+        return self.failing(number, ALWAYS if self.lasts else number)
+
+
+READS = [
+    Sweep("reads that fail", "READ", answers.after_read, errno.EIO),
+    Sweep("reads that fail, each of one byte", "READ", answers.after_read, errno.EIO, 1),
+    Sweep("short reads", "READ", answers.same, SHORT),
+    Sweep("interrupted reads", "READ", answers.same, errno.EINTR),
+]
+WRITES = [
+    Sweep("writes that fail", "WRITE", answers.after_write, errno.ENOSPC),
+    Sweep("writes that fail, each of three bytes", "WRITE", answers.after_write, errno.ENOSPC, 3),
+    Sweep("writes that take nothing", "WRITE", answers.after_write, NOTHING),
+    Sweep("short writes", "WRITE", answers.same, SHORT),
+    Sweep("interrupted writes", "WRITE", answers.same, errno.EINTR),
+]
+MEMORY = [
+    Sweep("refused allocations", "MEMORY", answers.without_memory),
+    Sweep("allocations from which on all are refused", "MEMORY", answers.without_any_memory, lasts=True),
+]
+ALL = MEMORY + READS + WRITES
+
+
+def numbers(count, most):
+    """Each number up to the count and the one after it; where they are too many, the first forty and
+    some of the others, the last ones among them."""
+    if count <= most:
+        return range(1, count + 2)
+    step = -(-count // (most - 40))
+    return sorted({*range(1, 41), *range(count + 1, 40, -step), count})
+
+
+class Room:
+    """Where the runs take place, and what they showed."""
+
+    def __init__(self, program, files, most):
+        self.program = program
+        self.files = files
+        self.most = most
+        self.runs = 0
+        self.passed = 0
+        self.failed = 0
+
+    def start(self, run, failing):
+        self.runs += 1
+        return self.program.run(run.words, run.given, run.before, **failing)
+
+    def judge(self, name, wrong):
+        """A test passes where nothing is wrong."""
+        print("not ok %s\n  %s" % (name, "\n  ".join(wrong)) if wrong else "ok %s" % name, flush=True)
+        if wrong:
+            self.failed += 1
+        else:
+            self.passed += 1
+
+    def sweep(self, run, sweep):
+        ample = self.start(run, sweep.failing(0, 0))
+        count = ample.counts[sweep.sort].called
+        wrong = []
+        for number in numbers(count, self.most):
+            got = self.start(run, sweep.at(number))
+            what = sweep.answer(run, ample, got)
+            if number > count:
+                what = answers.same(run, ample, got)
+            if (got.counts[sweep.sort].failed > 0) != (number <= count):
+                what = "whether a call failed"
+            if what:
+                wrong.append("the %d of %d: %s: %s" % (number, count, what, got.shown()))
+        self.judge("%s: %d %s" % (run.name, count, sweep.name), wrong[:3])
+
+    def once(self, name, run, ample, failing, answer):
+        got = self.start(run, failing)
+        what = answer(run, ample, got)
+        self.judge(name, ["%s: %s" % (what, got.shown())] if what else [])
+
+    def pieces(self, run):
+        """Devices that give and take few bytes at once."""
+        ample = self.start(run, {})
+        for sort in ("READ", "WRITE"):
+            for piece in (1, 3, 7):
+                name = "%s: %ss of %d bytes at most" % (run.name, sort.lower(), piece)
+                self.once(name, run, ample, {sort: "0-0:0:%d" % piece}, answers.same)
+
+    def patience(self, run):
+        """A thousand interruptions are passed over, and no more."""
+        ample = self.start(run, {})
+        for sort, fault in (("READ", answers.after_read), ("WRITE", answers.after_write)):
+            if not ample.counts[sort].called:
+                continue
+            for count, answer in ((PATIENCE, answers.same), (PATIENCE + 1, fault)):
+                name = "%s: %d interruptions of a %s" % (run.name, count, sort.lower())
+                self.once(name, run, ample, {sort: "1-%d:%d" % (count, errno.EINTR)}, answer)
+
+    def all(self, run):
+        run.before = self.files[run.old] if run.old else None
+        for sweep in ALL:
+            self.sweep(run, sweep)
+        self.pieces(run)
+        if run.is_patient:
+            self.patience(run)
