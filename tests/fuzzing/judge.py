@@ -203,4 +203,4 @@ def wrong(case, ours, theirs):
         what = wrong_form(run)
         if what:
             return what
-    return compared(case, ours, theirs)
+    return compared(case, ours, theirs) if theirs else None

@@ -2,9 +2,10 @@
    main would begin, and for each request a copy of the process runs main with the words of the request.
    So a run costs no start of a program and no linking.
 
-   A request on descriptor 198 is its length in four bytes of this machine, and texts that zero bytes end:
+   A request on standard input is its length in four bytes of this machine, and texts that zero bytes end:
    the seconds of a processor that the run may take, the KiB of memory, the files of its standard output
-   and standard error, and the words. Its answer on 199 is the status as a shell has it, in four bytes. */
+   and standard error, and the words. Its answer on standard output is the status as a shell has it, in
+   four bytes. */
 #define _GNU_SOURCE
 #include <dlfcn.h>
 #include <fcntl.h>
@@ -15,7 +16,7 @@
 #include <sys/wait.h>
 #include <unistd.h>
 
-enum { REQUESTS = 198, ANSWERS = 199, MOST_BYTES = 65536, MOST_WORDS = 512, OWN = 4 };
+enum { REQUESTS = 0, ANSWERS = 1, MOST_BYTES = 65536, MOST_WORDS = 512, OWN = 4 };
 
 static char request[MOST_BYTES];
 static char *texts[MOST_WORDS + 1];
@@ -49,8 +50,6 @@ static void open_as(int descriptor, const char *name, int flags) {
 
 /* Makes this process, a copy, that of the request. */
 static void begin(void) {
-  close(REQUESTS);
-  close(ANSWERS);
   open_as(0, "/dev/null", O_RDONLY);
   open_as(1, texts[2], O_WRONLY | O_CREAT | O_TRUNC);
   open_as(2, texts[3], O_WRONLY | O_CREAT | O_TRUNC);
