@@ -1,29 +1,56 @@
--- What one read after another takes.
-use Rattle.std.proofs.Common.{◌≡◌, ℕ, ◌+◌, ◌≤◌, ◌<◌, Bool, false, List, ◌++◌, length, take, Option, None, Some, Err, sym, ap, ◌∙◌, append_assoc, arith, length-append}
-use Rattle.std.proofs.lemmas.List.{length-take}
-use Rattle.std.specs.Io.KnownBytes.{Consumes}
-use Rattle.krl_runs.specs.declared.input.file_fault.FileFault.TheVariants.{TooLong, NoMemory}
-use Rattle.krl_runs.specs.Named.{limit, IsLoaded}
+-- What taking all that is left loads.
+use Rattle.std.proofs.Common.{◌≡◌, ℕ, Bool, false, List, [], ◌∷◌, ◌++◌, length, Option, None, Some, Ok, Err, refl, subst, IsSome, arith, length-append, rules}
+use Rattle.std.specs.Io.KnownBytes.{Consumes, prepend_known}
+use Rattle.std.proofs.KnownBytes.{Consumes-trans}
+use Rattle.ssh_wire.specs.declared.pull_fault.PullFault.{PullFault}
+use Rattle.ssh_wire.specs.declared.pull_fault.PullFault.TheVariants.{EndsEarly, TooLong, Read, NoMemory}
+use Rattle.ssh_wire.specs.Pull.{Pulled, TakesRest, RefusesRest, after_ahead, untaken}
+use Rattle.krl_runs.specs.Named.{limit, IsLoaded, file_fault}
 
-Consumes-append : (first second third : Option (List ℕ)) (front back : List ℕ) → Consumes first second front → Consumes second third back → Consumes first third (front ++ back)
-Consumes-append None second third front back p q = tt
-Consumes-append (Some xs) None third front back p q = absurd p
-Consumes-append (Some xs) (Some ys) None front back p q = absurd q
-Consumes-append (Some xs) (Some ys) (Some zs) front back p q =
-    p ∙ ap (λ (rest : List ℕ). front ++ rest) q ∙ sym (append_assoc front back zs)
+-- no byte stands ahead
+none_ahead : (before source : Option (List ℕ)) (ahead : Option ℕ) (came : List ℕ) → ahead ≡ None → Consumes before (after_ahead ahead source) came → Consumes before source came
+none_ahead before source ahead came none bytes = subst (λ (a : Option ℕ). Consumes before (after_ahead a source) came) none bytes
 
--- a read took more than there was room for
-pub passes_limit : (first second third : Option (List ℕ)) (content piece : List ℕ) (count : ℕ) (failed : Bool) → Consumes first second content → Consumes second third (take count piece) → count ≤ length piece → limit < length content + count → failed ≡ false → IsLoaded first third failed (Err TooLong)
-passes_limit first second third content piece count failed p q within past working = record {
-  taken = content ++ take count piece;
-  consumed = Consumes-append first second third content (take count piece) p q;
-  made = (omega (arith, length-append content (take count piece), length-take count piece), working);
+-- all that was left came
+pub loads_all : (before : Option (List ℕ)) (bytes : List ℕ) (new : Pulled) → TakesRest (untaken before limit) bytes new → IsLoaded before new.source new.failed (Ok bytes)
+loads_all before bytes new takes = record {
+  taken = bytes;
+  consumed = none_ahead before new.source new.ahead bytes takes.none_ahead takes.takes.bytes;
+  made = (refl, omega (arith, takes.takes.within), takes.ends, takes.takes.working);
 }
 
--- there was no memory for what a read took
-pub lacks_memory : (first second third : Option (List ℕ)) (content piece : List ℕ) (count : ℕ) (failed : Bool) → Consumes first second content → Consumes second third (take count piece) → 0 < count → count ≤ length piece → length content + count ≤ limit → failed ≡ false → IsLoaded first third failed (Err NoMemory)
-lacks_memory first second third content piece count failed p q some part within working = record {
-  taken = content ++ take count piece;
-  consumed = Consumes-append first second third content (take count piece) p q;
-  made = (omega (arith, length-append content (take count piece), length-take count piece), omega (arith, length-append content (take count piece), length-take count piece), working);
+-- the byte ahead is the first
+Consumes-ahead : (byte : ℕ) (source : Option (List ℕ)) → Consumes (prepend_known (byte ∷ []) source) source (byte ∷ [])
+Consumes-ahead byte None = tt
+Consumes-ahead byte (Some xs) = refl
+
+-- the byte ahead stands past the limit
+passes_limit : (before source : Option (List ℕ)) (ahead : Option ℕ) (came : List ℕ) (failed : Bool) → Consumes before (after_ahead ahead source) came → IsSome ahead → length came ≡ limit → failed ≡ false → IsLoaded before source failed (Err (file_fault TooLong))
+passes_limit before source None came failed bytes some full working = search (rules, some)
+passes_limit before source (Some byte) came failed bytes some full working = record {
+  taken = came ++ (byte ∷ []);
+  consumed = Consumes-trans before (prepend_known (byte ∷ []) source) source came (byte ∷ []) bytes (Consumes-ahead byte source);
+  made = (omega (arith, full, length-append came (byte ∷ [])), working);
 }
+
+-- not all that was left came
+pub loads_none : (before : Option (List ℕ)) (fault : PullFault) (new : Pulled) → RefusesRest (untaken before limit) fault new → IsLoaded before new.source new.failed (Err (file_fault fault))
+loads_none before EndsEarly new refuses = absurd refuses.misses.tells
+loads_none before TooLong new refuses =
+    let misses = refuses.misses in
+    let full : length misses.came ≡ limit = omega (arith, misses.tells.0, refuses.taken, refuses.limit) in
+    passes_limit before new.source new.ahead misses.came new.failed misses.bytes misses.tells.1 full misses.tells.2
+loads_none before Read new refuses =
+    let misses = refuses.misses in
+    record {
+      taken = misses.came;
+      consumed = none_ahead before new.source new.ahead misses.came misses.tells.0 misses.bytes;
+      made = (omega (arith, misses.within), misses.tells.1);
+    }
+loads_none before NoMemory new refuses =
+    let misses = refuses.misses in
+    record {
+      taken = misses.came;
+      consumed = none_ahead before new.source new.ahead misses.came misses.tells.1 misses.bytes;
+      made = (misses.tells.0, omega (arith, misses.within), misses.tells.2);
+    }

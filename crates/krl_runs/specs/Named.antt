@@ -1,12 +1,21 @@
 -- What loading a file gives.
 use Rattle.std.specs.Prelude.{◌≡◌, ℕ, ◌≤◌, ◌<◌, Bool, true, false, List, length, Option, Result, Ok, Err}
 use Rattle.std.specs.Io.KnownBytes.{Consumes, IsAtEnd}
+use Rattle.ssh_wire.specs.declared.pull_fault.PullFault.{PullFault}
+use Rattle.ssh_wire.specs.declared.pull_fault.PullFault.TheVariants as pulls
 use Rattle.krl_runs.specs.declared.input.file_fault.FileFault.{FileFault}
 use Rattle.krl_runs.specs.declared.input.file_fault.FileFault.TheVariants.{Open, Read, TooLong, NoMemory, NoKeys, NoCertificate}
 
 -- how many bytes a file may have
 abbrev pub limit : ℕ
 limit = 16777216
+
+-- what is told of a file that could not be taken whole
+abbrev pub file_fault : PullFault → FileFault
+file_fault pulls.EndsEarly = Read
+file_fault pulls.TooLong = TooLong
+file_fault pulls.Read = Read
+file_fault pulls.NoMemory = NoMemory
 
 -- What was made of the bytes taken, of the bytes left after them and of whether the reader failed.
 -- Memory does not run out before a byte was read.

@@ -23,7 +23,7 @@ pub fn open_list(rt: &HostRuntime, name: &str) -> Result<BufReader<File>, Cause>
 /// The file of this name.
 pub fn open<'a>(rt: &HostRuntime, name: &'a str) -> Named<'a> {
     match fs::open(rt, name) {
-        Ok(file) => load(rt.alloc(), name, &mut FromRead::new(file)),
+        Ok(file) => load(rt.alloc(), name, FromRead::new(file)).0,
         Err(_) => Named {
             name,
             content: Err(FileFault::Open),
@@ -34,7 +34,7 @@ pub fn open<'a>(rt: &HostRuntime, name: &'a str) -> Named<'a> {
 /// The file of this name, or standard input where the name is `-`.
 pub fn open_or_input<'a>(rt: &HostRuntime, name: &'a str) -> Named<'a> {
     if name == "-" {
-        load(rt.alloc(), name, &mut FromRead::new(rt.stdin()))
+        load(rt.alloc(), name, FromRead::new(rt.stdin())).0
     } else {
         open(rt, name)
     }

@@ -1,15 +1,15 @@
 // Files by name, with what they hold.
 
 ghost use Rattle.std.specs.Prelude.{◌≡◌, false};
-ghost use Rattle.krl_runs.specs.Named.{IsLoaded};
+ghost use Rattle.krl_runs.specs.Named.{IsLoaded, file_fault};
 
 use crate::input::file_fault::FileFault;
-use ssh_wire::{Bytes, Source};
+use ssh_wire::{Bytes, Pull, PullFault, Source};
 use std::alloc::Global;
 use std::marker::Model;
 
 /// How many bytes a file may have.
-pub const LIMIT: usize = 16_777_216;
+pub const LIMIT: u64 = 16_777_216;
 
 /// A file's name, and its bytes or why there are none.
 #[derive(Debug, Drop)]
@@ -26,38 +26,29 @@ impl<'a> Model for Named<'a> {
     ghost view = { λ file. record { name = file.name.now; content = file.content } };
 }
 
-/// Reads a file to its end. It is `TooLong` where the reader gives a byte past 16,777,216, `Read`
-/// where it fails before that, and `NoMemory` where memory for bytes that were read is refused.
-pub fn load<'a, R: Source>(alloc: Global, name: &'a str, reader: &mut R) -> Named<'a>
-    requires { R.has_failed reader.old ≡ false }
-    ensures name { result.name ≡ name.now }
-    ensures content { IsLoaded (R.left reader.old) (R.left reader.new) (R.has_failed reader.new)
-        result.content }
+/// Reads a file to its end, and gives the reader back. It is `TooLong` where the reader gives a byte
+/// past 16,777,216, `Read` where it fails before that, and `NoMemory` where memory for bytes that were
+/// read is refused.
+pub fn load<'a, R: Source + Drop>(alloc: Global, name: &'a str, reader: R) -> (Named<'a>, R)
+    requires { R.has_failed reader ≡ false }
+    ensures name { result.0.name ≡ name.now }
+    ensures content { IsLoaded (R.left reader) (R.left result.1) (R.has_failed result.1)
+        result.0.content }
 {
-    Named {
-        name,
-        content: content_of(alloc, reader),
-    }
+    let mut pull = Pull::new(reader, LIMIT);
+    let content = match pull.rest(alloc) {
+        Ok(bytes) => Ok(bytes),
+        Err(fault) => Err(file_fault(fault)),
+    };
+    (Named { name, content }, pull.into_inner())
 }
 
-fn content_of<R: Source>(alloc: Global, reader: &mut R) -> Result<Bytes, FileFault>
-    requires { R.has_failed reader.old ≡ false }
-    ensures { IsLoaded (R.left reader.old) (R.left reader.new) (R.has_failed reader.new) result }
+fn file_fault(fault: PullFault) -> FileFault
+    ensures { result ≡ file_fault fault }
 {
-    let mut content = Vec::new(alloc);
-    let mut chunk = [0; 65_536];
-    loop {
-        let Ok(count) = reader.read(&mut chunk) else {
-            return Err(FileFault::Read);
-        };
-        if count == 0 {
-            return Ok(Bytes::from_vec(content));
-        }
-        if count > LIMIT - content.len() {
-            return Err(FileFault::TooLong);
-        }
-        if content.extend_from_slice(&chunk[..count]).is_err() {
-            return Err(FileFault::NoMemory);
-        }
+    match fault {
+        PullFault::EndsEarly | PullFault::Read => FileFault::Read,
+        PullFault::TooLong => FileFault::TooLong,
+        PullFault::NoMemory => FileFault::NoMemory,
     }
 }

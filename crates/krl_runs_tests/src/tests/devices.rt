@@ -77,12 +77,12 @@ fn loads(rt: HostRuntime) -> Result<(), Fail> {
     // the last call gives none: it tells the end
     for (piece, calls) in [(1, 81), (3, 28), (7, 13), (100, 2)] {
         for calls_before_failure in 0..90 {
-            let mut reader = FromRead::new(Giver {
+            let reader = FromRead::new(Giver {
                 bytes: GITHUB_LINE,
                 piece,
                 calls_before_failure,
             });
-            let file = load(rt.alloc(), "a", &mut reader);
+            let (file, _) = load(rt.alloc(), "a", reader);
             assert_eq!(rt; file.name, "a");
             if calls_before_failure < calls {
                 assert!(rt;
@@ -104,12 +104,12 @@ fn loads(rt: HostRuntime) -> Result<(), Fail> {
 fn loads_up_to_the_limit(rt: HostRuntime) -> Result<(), Fail> {
     let mut bytes = Vec::from_slice(rt.alloc(), GITHUB_LINE)?;
     filled(&mut bytes, 16_777_216)?;
-    let file = load(rt.alloc(), "a", &mut FromRead::new(bytes.as_slice()));
+    let (file, _) = load(rt.alloc(), "a", FromRead::new(bytes.as_slice()));
     assert!(rt; holds(&file.content, &bytes));
     bytes.push(0)?;
-    let file = load(rt.alloc(), "a", &mut FromRead::new(bytes.as_slice()));
+    let (file, _) = load(rt.alloc(), "a", FromRead::new(bytes.as_slice()));
     assert!(rt; file.content.err() == Some(FileFault::TooLong));
-    let file = load(rt.alloc(), "a", &mut FromRead::new(b"".as_slice()));
+    let (file, _) = load(rt.alloc(), "a", FromRead::new(b"".as_slice()));
     assert!(rt; holds(&file.content, b""));
     Ok(())
 }
