@@ -32,6 +32,3 @@ pub use spans::Spans;
 
 /// The representation of a set of serials that is in use.
 pub type Held = SpanPages;
-
-#[cfg(test)]
-mod tests;

@@ -1,7 +1,7 @@
 // Code over any representation, proved from what `Spans` promises alone.
 ghost use Rattle.std.specs.Prelude.{◌≡◌, ◌<◌, ◌≤◌, length, IsTrue, IfOk};
 
-use crate::{Span, SpanPages, SpanVec, Spans};
+use serial_set::{Span, SpanPages, SpanVec, Spans};
 use std::alloc::{AllocError, Global};
 use std::process::Abort;
 use std::test::Fail;

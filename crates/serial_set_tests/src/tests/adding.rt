@@ -1,7 +1,7 @@
 ghost use Rattle.std.specs.Prelude.{◌≡◌, ◌<◌, ◌≤◌};
 
 use crate::tests::walk::{list_of, spans_of};
-use crate::{Held, Span, SpanPages, SpanVec, Spans};
+use serial_set::{Held, Span, SpanPages, SpanVec, Spans};
 use std::alloc::Global;
 use std::process::Abort;
 use std::test::Fail;

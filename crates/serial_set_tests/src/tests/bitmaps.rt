@@ -1,7 +1,7 @@
 ghost use Rattle.std.specs.Prelude.{◌≡◌, ◌+◌, ◌<◌, ◌≤◌, OnSome};
 
 use crate::tests::walk::{list_of, spans_of};
-use crate::{BitFault, BitRuns, Held, Span, Spans};
+use serial_set::{BitFault, BitRuns, Held, Span, Spans};
 use std::alloc::{AllocError, Global};
 use std::test::Fail;
 

@@ -1,6 +1,6 @@
 use Rattle.std.proofs.Common.{◌++◌, ◌∙◌, ap, sym, arith, length, take, drop, length-take, length-drop}
 use Rattle.std.proofs.Math.Seq.{take-add}
-use Rattle.serial_set.proofs.tests.walk.list_of.Goals as goal
+use Rattle.serial_set_tests.proofs.tests.walk.list_of.Goals as goal
 
 pub loop-at-preserved : goal.loop-at-preserved
 loop-at-preserved g c =

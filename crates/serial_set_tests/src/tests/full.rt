@@ -2,7 +2,7 @@
 ghost use Rattle.std.specs.Prelude.{◌≡◌, ◌<◌, ◌≤◌, IsTrue};
 ghost use Rattle.serial_set.specs.Span.{TouchesNone};
 
-use crate::{Span, SpanVec, Spans};
+use serial_set::{Span, SpanVec, Spans};
 use std::alloc::{AllocError, Global};
 use std::test::Fail;
 

@@ -1,6 +1,6 @@
 use Rattle.std.proofs.Common.{◌+◌, ◌<◌, ◌⊎◌}
 use Rattle.std.specs.List.{AllWithin}
-use Rattle.serial_set.proofs.tests.full.touches_none.Given as goal
+use Rattle.serial_set_tests.proofs.tests.full.touches_none.Given as goal
 
 abbrev pub invariant-loop-at : goal.invariant-loop-at
 invariant-loop-at g l =

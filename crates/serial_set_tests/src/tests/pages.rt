@@ -2,7 +2,7 @@
 ghost use Rattle.std.specs.Prelude.{◌≡◌, ◌+◌, ◌*◌, ◌^◌, ◌<◌, ◌≤◌};
 
 use crate::tests::walk::list_of;
-use crate::{Span, SpanPages, SpanVec, Spans};
+use serial_set::{Span, SpanPages, SpanVec, Spans};
 use std::alloc::{AllocError, Global};
 use std::process::Abort;
 use std::test::Fail;
