@@ -166,6 +166,16 @@ left_at xs ys from gone d is =
 pub left_rest : {X : Type 0} (xs ys : List X) (from gone : ℕ) → drop from ys ≡ drop gone xs → drop (from + 1) ys ≡ drop (gone + 1) xs
 left_rest xs ys from gone is = sym (drop-drop 1 from ys) ∙ ap (drop 1) is ∙ drop-drop 1 gone xs
 
+-- the first that was left after the place where parts were removed
+pub left_first : {X : Type 0} (xs ys : List X) (from gone : ℕ) (y : X) → ys ≡ take from xs ++ drop gone (drop from xs) → from ≤ length xs → from < length ys → y ≡ get_or ys from y → (gone < length (drop from xs)) × (y ≡ get_or (drop from xs) gone y)
+left_first xs ys from gone y is h some first =
+    let back = left_back xs ys from gone is h in
+    ((left_more (drop from xs) ys from gone back).0 some, first ∙ left_at (drop from xs) ys from gone y back)
+
+-- what holds of all of a tail holds of its first
+pub first_of : {X : Type 0} (P : X → Type 0) (xs : List X) (at : ℕ) (d : X) → at < length xs → All P (drop at xs) → P (get_or xs at d)
+first_of P xs at d h all = All-head P (get_or xs at d) (drop (at + 1) xs) (subst (All P) (drop_more xs at d h) all)
+
 pub count_cut : {X : Type 0} (f : X → List Span) (xs : List X) (at : ℕ) → length (flat_map f xs) ≡ length (flat_map f (take at xs)) + length (flat_map f (drop at xs))
 count_cut f xs at = ap length (flat_cut f xs at) ∙ length-append (flat_map f (take at xs)) (flat_map f (drop at xs))
 

@@ -71,8 +71,8 @@ pub fn runs_of_byte(pending: Option<Span>, offset: u64, place: u64, byte: u8) ->
         (λ s. Covers (option_to_list pending) s ⊎ BitNames (offset + place) byte s) }
     ensures in_step { IsInStep (offset + place) result.pending }
     ensures ends { All (λ run. ¬ SpanCovers run (offset + place)) (finished_of result.finished) }
-    ensures four_more { length (finished_of result.finished) + length (option_to_list result.pending)
-        ≤ length (option_to_list pending) + 4 }
+    ensures four_more { length (finished_of result.finished)
+        + length (option_to_list result.pending) ≤ length (option_to_list pending) + 4 }
 {
     let mut runs = ByteRuns {
         pending,

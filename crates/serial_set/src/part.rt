@@ -65,7 +65,8 @@ pub trait Part: Drop {
     fn cut_front(&mut self, number: u64) -> usize
         requires runs { IsRuns (spans self.old) }
         requires positive { 0 < number }
-        requires cuts_none { All (λ span. (span.hi ≤ number) ⊎ (number < span.lo)) (spans self.old) }
+        requires cuts_none { All (λ span. (span.hi ≤ number) ⊎ (number < span.lo))
+            (spans self.old) }
         requires past { number < end_of (spans self.old) }
         ensures cut { spans self.new ≡ above number (spans self.old) }
         ensures count { length (spans self.new) + result ≡ length (spans self.old) };
