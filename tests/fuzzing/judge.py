@@ -121,6 +121,11 @@ def has_escapes(run):
     return b"\\x" in run.output or any(byte > 0x7E for byte in run.output)
 
 
+def lost_comment(case, theirs):
+    """Whether OpenSSH listed by the public part, since the private one is no key to it."""
+    return case.kind == "private_listed" and b" no comment (" in theirs.output
+
+
 def described(run):
     """The lines of a certificate that both programs print alike."""
     wanted = (b"Type:", b"Public key:", b"Signing CA:", b"Serial:", b"Key ID:")
@@ -172,7 +177,7 @@ def compared(case, ours, theirs):
         same = ours[0].status == theirs[0].status
     elif case.kind == "certs_listed":
         same = described(ours[0]) == described(theirs[0])
-    elif has_escapes(ours[0]):
+    elif has_escapes(ours[0]) or lost_comment(case, theirs[0]):
         # Both print other bytes than letters in a way of their own.
         same = without_comments(ours[0]) == without_comments(theirs[0])
     else:

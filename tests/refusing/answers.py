@@ -32,7 +32,7 @@ def stopped(run, ample, got):
 
 
 def without_memory(run, ample, got):
-    """Memory was refused once. Where there is a fault to tell, the line of it may be what was refused."""
+    """Memory was refused once: of a run with a fault to tell, maybe that for the line of it."""
     if got.says() == ample.says():
         return None
     if not NO_MEMORY.fullmatch(got.error) and (got.error or ample.status != FAULT):
@@ -63,7 +63,8 @@ def after_write(run, ample, got):
     descriptor = got.counts["WRITE"].descriptor
     if descriptor == ERROR:
         said = (got.status, got.output, got.made) == (ample.status, ample.output, ample.made)
-        return None if said and ample.error.startswith(got.error) else "a line that could not be told"
+        is_front_of_line = ample.error.startswith(got.error)
+        return None if said and is_front_of_line else "a line that could not be told"
     if descriptor == OUTPUT and not ample.output.startswith(got.output):
         return "standard output"
     if run.words == ["-h"]:

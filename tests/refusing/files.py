@@ -29,7 +29,9 @@ ECDSA = strings("ecdsa-sha2-nistp256", "nistp256", b"\4" + b"\x21" * 64)
 DEVICE = strings("sk-ssh-ed25519@openssh.com", b"\x31" * 32, "ssh:")
 
 
-def certificate(serial, key_id, principals=b"", after=0, before=HIGHEST, critical=b"", extensions=b""):
+def certificate(
+    serial, key_id, principals=b"", after=0, before=HIGHEST, critical=b"", extensions=b""
+):
     return (
         strings(CERT, b"nonce", KEY[-32:])
         + struct.pack(">QI", serial, 1)
@@ -120,7 +122,8 @@ def whole_spec():
     """A line for each directive, and key lines of keys and certificates."""
     hashed = base64.b64encode(hashlib.sha256(KEY).digest()).decode().rstrip("=")
     return (
-        "# of everything\n\nserial: 5\nSerial: 0x10-0x2f # and more\nserial: 1000000\nserial: 30000-40000\n"
+        "# of everything\n\nserial: 5\nSerial: 0x10-0x2f # and more\n"
+        + "serial: 1000000\nserial: 30000-40000\n"
         + "".join("serial: %d\n" % it for it in range(301, 330, 2))
         + "id: an id\nid: b\nid: an id\n"
         + "key: %ssha1: %ssha256: %s" % (line(OTHER), line(RSA), line(ECDSA, "a comment"))
@@ -132,7 +135,7 @@ def whole_spec():
 
 
 def scattered(count):
-    """The odd numbers from 1, so that no two are in one interval, the lowest and the highest in turn."""
+    """The first odd numbers, no two in one interval, the lowest and the highest in turn."""
     rising = range(1, 2 * count, 2)
     return [rising[-1 - at // 2 if at % 2 else at // 2] for at in range(count)]
 
@@ -163,7 +166,7 @@ def contents():
         "more.spec": "serial: 6-8\nid: c\n",
         "wrong.spec": "serial: 6\nid: c\nserial: 9-7\n",
         "scattered.spec": "".join("serial: %d\n" % it for it in scattered(1024)),
-        "long.spec": "".join("id: %s%04d\n" % ("an id that is rather long " * 40, at) for at in range(70)),
+        "long.spec": "".join("id: %s%d\n" % ("a long id " * 100, at) for at in range(70)),
     }
     bytes_of = {
         "key.krl": HEADER + section(2, string(KEY)),

@@ -33,7 +33,7 @@ class Ended:
 
 
 class Counts:
-    """How often something was called, how often that failed, and the descriptor of the last failure."""
+    """How often something was called and how often that failed, and where it did last."""
 
     def __init__(self, called, failed, descriptor):
         self.called = called
@@ -59,8 +59,8 @@ class Program:
         os.kill(self.process, signal.SIGKILL)
 
     def run(self, words, given=os.devnull, old=None, **failing):
-        """Runs it with the words, and standard input from the file given. Where the words make a list,
-        old is what stands there already."""
+        """Runs it with the words, and standard input from the file given. Where the words make a
+        list, old is what stands there already."""
         for name, content in [("report", bytes(72)), ("made.krl", old)]:
             if content is None:
                 if os.path.exists(name):

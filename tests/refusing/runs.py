@@ -9,7 +9,7 @@ class Run:
         self.given = given
         # The file that stands where -k makes its list.
         self.old = old
-        # Whether a thousand interruptions are passed over; the standard library prints one line itself.
+        # Whether a thousand interruptions are passed over: not where the standard library prints.
         self.is_patient = is_patient
 
     def makes(self):

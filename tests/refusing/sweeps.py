@@ -1,4 +1,4 @@
-"""What each run is put through: its calls fail one after the other, until a run meets no failure."""
+"""What each run is put through: its calls fail in turn, until a run meets no failure."""
 
 import errno
 
@@ -45,14 +45,14 @@ WRITES = [
 ]
 MEMORY = [
     Sweep("refused allocations", "MEMORY", answers.without_memory),
-    Sweep("allocations from which on all are refused", "MEMORY", answers.without_any_memory, lasts=True),
+    Sweep("last allocations refused", "MEMORY", answers.without_any_memory, lasts=True),
 ]
 ALL = MEMORY + READS + WRITES
 
 
 def numbers(count, most):
-    """Each number up to the count and the one after it; where they are too many, the first forty and
-    some of the others, the last ones among them."""
+    """Each number up to the count and the one after it; where they are too many, the first forty
+    and some of the others, the last ones among them."""
     if count <= most:
         return range(1, count + 2)
     step = -(-count // (most - 40))
@@ -76,11 +76,12 @@ class Room:
 
     def judge(self, name, wrong):
         """A test passes where nothing is wrong."""
-        print("not ok %s\n  %s" % (name, "\n  ".join(wrong)) if wrong else "ok %s" % name, flush=True)
         if wrong:
             self.failed += 1
+            print("not ok %s\n  %s" % (name, "\n  ".join(wrong)), flush=True)
         else:
             self.passed += 1
+            print("ok %s" % name, flush=True)
 
     def sweep(self, run, sweep):
         ample = self.start(run, sweep.failing(0, 0))
