@@ -17,6 +17,7 @@ class Request:
 
     def __init__(self, words, output, error, seconds, memory):
         self.texts = [str(seconds), str(memory), output, error] + words
+        self.count = len(words)
 
     def packed(self):
         content = b"".join(it.encode() + b"\0" for it in self.texts)
@@ -24,17 +25,24 @@ class Request:
 
 
 class Server:
-    """The program; its runs begin in the folder at hand."""
+    """The program, started once for words of some count; its runs begin in the folder at hand."""
 
-    def __init__(self, program, library):
+    def __init__(self, program, library, count):
         self.program = program
-        self.process = subprocess.Popen(
-            [program],
-            env={**os.environ, "LD_PRELOAD": library},
-            stdin=subprocess.PIPE,
-            stdout=subprocess.PIPE,
-            bufsize=0,
-        )
+        # Later is better, where the program comes by that place.
+        for late in ({"SERVE_LATE": "1"}, {}):
+            self.process = subprocess.Popen(
+                [program] + ["-"] * (count - 1),
+                env={**os.environ, "LD_PRELOAD": library, **late},
+                stdin=subprocess.PIPE,
+                stdout=subprocess.PIPE,
+                stderr=subprocess.DEVNULL,
+                bufsize=0,
+            )
+            if len(self.process.stdout.read(4)) == 4:
+                return
+            self.end()
+        raise OSError("%s does not serve" % program)
 
     def run(self, requests):
         """The statuses of these runs, one after the other."""
@@ -48,4 +56,32 @@ class Server:
         return struct.unpack("=%di" % len(requests), content)
 
     def end(self):
-        self.process.communicate()
+        self.process.stdin.close()
+        self.process.stdout.close()
+        self.process.wait()
+
+
+class Servers:
+    """A program, with a server for each count of words."""
+
+    def __init__(self, program, library):
+        self.program = program
+        self.library = library
+        self.by_count = {}
+
+    def run(self, requests):
+        """The statuses of these runs by their place; those of some count of words follow each other."""
+        places = {}
+        for place, request in enumerate(requests):
+            places.setdefault(request.count, []).append(place)
+        statuses = {}
+        for count, wanted in places.items():
+            if count not in self.by_count:
+                self.by_count[count] = Server(self.program, self.library, count)
+            ended = self.by_count[count].run([requests[it] for it in wanted])
+            statuses.update(zip(wanted, ended))
+        return [statuses[it] for it in range(len(requests))]
+
+    def end(self):
+        for it in self.by_count.values():
+            it.end()
