@@ -3,7 +3,7 @@ use Rattle.std.proofs.Common.{◌≡◌, ℕ, zero, suc, ◌+◌, ◌-◌, ◌<�
 use Rattle.std.proofs.lemmas.List.{take_all}
 use Rattle.serial_set.specs.declared.span.Span.{Span}
 use Rattle.ssh_wire.specs.Wire.{number, string}
-use Rattle.ssh_wire.proofs.Fields.{length-number, length-string}
+use Rattle.ssh_wire.specs.Fields.{length-number, length-string}
 use Rattle.krl_core.specs.Plan.{reach}
 use Rattle.krl_core.specs.Written.{bitmap_of, first_of}
 use Rattle.krl_core.proofs.Loops.{reach-take}

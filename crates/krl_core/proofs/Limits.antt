@@ -1,7 +1,7 @@
 -- What is known of a text when an addition is too long, and when the length of a string is put in.
 use Rattle.std.proofs.Common.{◌≡◌, ℕ, ◌+◌, ◌≤◌, List, [], ◌∷◌, ◌++◌, length, take, drop, Result, Err, sym, ap, ◌∙◌, arith, append_assoc, length-append}
 use Rattle.ssh_wire.specs.Wire.{number, string, strings}
-use Rattle.ssh_wire.proofs.Fields.{length-number, length-string}
+use Rattle.ssh_wire.specs.Fields.{length-number, length-string}
 use Rattle.krl_core.specs.Front.{limit}
 use Rattle.krl_core.specs.declared.writing.text_fault.TextFault.{TextFault}
 use Rattle.krl_core.specs.declared.writing.text_fault.TextFault.TheVariants.{NoMemory, TooLong}

@@ -3,7 +3,7 @@ use Rattle.std.proofs.Common.{◌≡◌, ℕ, ◌+◌, inl, inr, List, [], ◌�
 use Rattle.serial_set.specs.declared.span.Span.{Span}
 use Rattle.serial_set.specs.Span.{IsRuns}
 use Rattle.ssh_wire.specs.Wire.{number, string}
-use Rattle.ssh_wire.proofs.Fields.{length-number, length-string}
+use Rattle.ssh_wire.specs.Fields.{length-number, length-string}
 use Rattle.krl_core.specs.declared.plan.group.Sort.{Sort}
 use Rattle.krl_core.specs.declared.plan.group.Sort.TheVariants as sorts
 use Rattle.krl_core.specs.declared.plan.group.Group.{Group}

@@ -2,7 +2,7 @@
 use Rattle.std.proofs.Common.{◌≡◌, ℕ, suc, ◌+◌, ◌^◌, ◌<◌, ◌≤◌, List, [], ◌∷◌, ◌++◌, length, refl, arith, length-append}
 use Rattle.std.specs.List.{All, AllByRecursion}
 use Rattle.ssh_wire.specs.Wire.{number, string, strings}
-use Rattle.ssh_wire.proofs.Fields.{length-number, length-string}
+use Rattle.ssh_wire.specs.Fields.{length-number, length-string}
 use Rattle.krl_core.specs.Front.{limit}
 use Rattle.krl_core.specs.declared.plan.group.Group.{Group}
 use Rattle.krl_core.specs.declared.header.Header.{Header}

@@ -2,7 +2,7 @@
 use Rattle.std.proofs.Common.{◌≡◌, ℕ, ◌+◌, ◌*◌, List, [], ◌∷◌, ◌++◌, length, refl, ◌∙◌, arith, length-append}
 use Rattle.std.specs.List.{All}
 use Rattle.ssh_wire.specs.Wire.{string, strings}
-use Rattle.ssh_wire.proofs.Fields.{length-string}
+use Rattle.ssh_wire.specs.Fields.{length-string}
 use Rattle.krl_core.specs.declared.header.Header.{Header}
 use Rattle.krl_core.specs.declared.plan.group.Group.{Group}
 use Rattle.krl_core.specs.Contents.{Contents, IsListed, IsOrderly, Section as Listed}

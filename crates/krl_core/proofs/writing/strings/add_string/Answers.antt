@@ -1,5 +1,5 @@
 use Rattle.std.proofs.Common.{arith}
-use Rattle.ssh_wire.proofs.Fields.{length-string}
+use Rattle.ssh_wire.specs.Fields.{length-string}
 use Rattle.krl_core.proofs.writing.strings.add_string.Goals as goal
 
 pub returns-then-text-gt-LIMIT : goal.returns-then-text-gt-LIMIT
