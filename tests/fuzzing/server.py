@@ -70,7 +70,7 @@ class Servers:
         self.by_count = {}
 
     def run(self, requests):
-        """The statuses of these runs by their place; those of some count of words follow each other."""
+        """The statuses of these runs, of which those with as many words follow each other."""
         places = {}
         for place, request in enumerate(requests):
             places.setdefault(request.count, []).append(place)
