@@ -1,9 +1,9 @@
 // Runs that say more than is sent at once.
 
-use krl_runs::{FileFault, ListMode, Named, list_run, query_run};
 use crate::tests::bytes::{GITHUB, list_of_one, repeated};
 use crate::tests::devices::Taker;
 use crate::tests::runs::{GITHUB_LINE, Ran, told};
+use krl_runs::{FileFault, ListMode, Named, list_run, query_run};
 use ssh_key::Hash;
 use ssh_wire::{Bytes, FromRead, ToWrite};
 use std::alloc::{AllocError, Global};

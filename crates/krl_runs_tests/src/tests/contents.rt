@@ -1,9 +1,9 @@
 // Printing what lists hold.
 
-use krl_runs::query_run;
 use crate::tests::bytes::{GITHUB, HEADER, ONE_KEY, joined};
 use crate::tests::devices::Taker;
 use crate::tests::runs::{File, GITHUB_LINE, dumped, told};
+use krl_runs::query_run;
 use ssh_wire::{FromRead, ToWrite};
 use std::alloc::{AllocError, Global};
 use std::test::*;

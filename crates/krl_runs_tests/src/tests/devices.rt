@@ -1,8 +1,8 @@
 // Files and outputs that give or take few bytes at a call, and fail.
 
-use krl_runs::{FileFault, ListMode, list_run, load, query_run};
 use crate::tests::bytes::{GITHUB, filled, list_of_one};
 use crate::tests::runs::{GITHUB_LINE, named, told};
+use krl_runs::{FileFault, ListMode, list_run, load, query_run};
 use ssh_key::Hash;
 use ssh_wire::{Bytes, FromRead, ToWrite};
 use std::alloc::Global;

@@ -1,7 +1,7 @@
 // The lines that tell why a run stopped.
 
-use krl_runs::{Cause, FileFault, RunFault, fault_text};
 use krl_core::KrlFault;
+use krl_runs::{Cause, FileFault, RunFault, fault_text};
 use ssh_cert::{CertFault, SubjectFault};
 use ssh_key::{KeyFault, LineFault, PrivateFault};
 use ssh_wire::WireFault;

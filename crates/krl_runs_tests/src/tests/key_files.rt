@@ -1,9 +1,9 @@
 // What a run says of the lines of key files.
 
-use krl_runs::Named;
 use crate::tests::bytes::{GITHUB, joined, list_of_one};
 use crate::tests::encoding::key_line;
 use crate::tests::runs::{File, GITHUB_LINE, OTHER_LINE, asked, asked_of};
+use krl_runs::Named;
 use ssh_wire::Bytes;
 use std::test::*;
 

@@ -1,12 +1,12 @@
 // Listing the certificates of files.
 
-use krl_runs::{ListMode, list_run};
 use crate::tests::bytes::{GITHUB, joined};
 use crate::tests::certificates::{Terms, certificate, certificate_on, line_of};
 use crate::tests::containers::{container, list};
 use crate::tests::devices::Taker;
 use crate::tests::encoding::{key_line, strings};
 use crate::tests::runs::{GITHUB_LINE, certified, named, told};
+use krl_runs::{ListMode, list_run};
 use ssh_key::Hash;
 use ssh_wire::ToWrite;
 use std::alloc::Global;

@@ -1,10 +1,10 @@
 // Lists that are made and updated.
 
-use krl_runs::{Authority, FileFault, Named, Old, fault_text, make_run};
 use crate::tests::bytes::{GITHUB, HEADER, ONE_KEY, even_key, joined, repeated};
 use crate::tests::certificates::{certificate, line_of};
 use crate::tests::containers::{container, list};
 use crate::tests::runs::{File, GITHUB_LINE, OTHER_LINE, named};
+use krl_runs::{Authority, FileFault, Named, Old, fault_text, make_run};
 use ssh_wire::{Bytes, FromRead};
 use std::alloc::Global;
 use std::process::Abort;

@@ -1,7 +1,7 @@
 // Runs over files that the tests make, and what they answer.
 
-use krl_runs::{Done, FileFault, ListMode, Named, fault_text, list_run, query_run};
 use crate::tests::bytes::joined;
+use krl_runs::{Done, FileFault, ListMode, Named, fault_text, list_run, query_run};
 use ssh_key::Hash;
 use ssh_wire::{Bytes, FromRead, ToWrite};
 use std::alloc::{AllocError, Global};

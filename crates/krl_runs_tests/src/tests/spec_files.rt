@@ -2,11 +2,11 @@
 
 ghost use Rattle.krl_runs.specs.SpecEntry.{IsUnder};
 
-use krl_runs::{Under, read_spec};
 use crate::tests::bytes::{GITHUB, HEADER, even_key, joined};
 use crate::tests::certificates::{certificate, line_of};
 use crate::tests::runs::GITHUB_LINE;
 use krl_core::{Header, Revocations, krl_text};
+use krl_runs::{Under, read_spec};
 use serial_set::Held;
 use ssh_wire::Bytes;
 use std::alloc::Global;
