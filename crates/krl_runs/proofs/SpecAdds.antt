@@ -14,16 +14,16 @@ use Rattle.krl_runs.specs.SpecAdding.{Adds, AddsEntries}
 use Rattle.krl_runs.specs.SpecEntry.{HasAuthority, certificate_entry, id_order}
 use Rattle.krl_runs.specs.declared.spec_file.spec_cause.SpecCause.{SpecCause}
 
-pub one_added : (read : Result Entry SpecCause) (entry : Entry) (old new : Contents) → read ≡ Ok entry
-    → AddsEntries old new (entry ∷ []) → held new ≤ held old + 1 → Adds read (Ok (tt {0})) old new
-one_added read entry old new is adds few = (entry, (is, (adds, few)))
+pub one_added : (Stores : Contents → Contents → Type 0) (read : Result Entry SpecCause) (entry : Entry) (old new : Contents) → read ≡ Ok entry
+    → AddsEntries old new (entry ∷ []) → held new ≤ held old + 1 → Stores old new → Adds Stores read (Ok (tt {0})) old new
+one_added Stores read entry old new is adds few stores = (entry, (is, (adds, (few, stores))))
 
 -- the same where no span is added
-pub none_more : (read : Result Entry SpecCause) (entry : Entry) (old new : Contents) → read ≡ Ok entry
-    → AddsEntries old new (entry ∷ []) → held new ≡ held old → Adds read (Ok (tt {0})) old new
-none_more read entry old new is adds same =
+pub none_more : (Stores : Contents → Contents → Type 0) (read : Result Entry SpecCause) (entry : Entry) (old new : Contents) → read ≡ Ok entry
+    → AddsEntries old new (entry ∷ []) → held new ≡ held old → Stores old new → Adds Stores read (Ok (tt {0})) old new
+none_more Stores read entry old new is adds same stores =
     let few : held new ≤ held old + 1 = omega arith in
-    (entry, (is, (adds, few)))
+    (entry, (is, (adds, (few, stores))))
 
 pub id_read : (authority text : List ℕ) → (length text == 0) ≡ false
     → id_order (Some authority) text ≡ Ok (IdEntry authority text)

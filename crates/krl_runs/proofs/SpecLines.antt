@@ -63,16 +63,16 @@ record LineAdds (authority : Option (List ℕ)) (number : ℕ) (line : List ℕ)
   adds : AddsEntries old new named
   few : held new ≤ held old + length named
 
-line_adds : (authority : Option (List ℕ)) (number : ℕ) (line : List ℕ) (old new : Contents)
+line_adds : (Stores : Contents → Contents → Type 0) (authority : Option (List ℕ)) (number : ℕ) (line : List ℕ) (old new : Contents)
     (read : Option (Result Entry SpecCause)) → line_entry authority line ≡ read
-    → AddsLine read (Ok (tt {0})) old new → LineAdds authority number line old new
-line_adds authority number line old new None is same = record {
+    → AddsLine Stores read (Ok (tt {0})) old new → LineAdds authority number line old new
+line_adds Stores authority number line old new None is same = record {
   named = [];
   is = rw is refl;
   adds = λ entries means. rw (append-nil entries, same) means;
   few = let least : held new ≡ held old = ap held same in omega arith;
 }
-line_adds authority number line old new (Some (Ok entry)) is (entry', (same, (adds, few))) =
+line_adds Stores authority number line old new (Some (Ok entry)) is (entry', (same, (adds, (few, stores)))) =
     let one : entry ≡ entry' = cc in
     record {
       named = entry' ∷ [];
@@ -80,7 +80,7 @@ line_adds authority number line old new (Some (Ok entry)) is (entry', (same, (ad
       adds = adds;
       few = few;
     }
-line_adds authority number line old new (Some (Err cause)) is (entry', (same, more)) = absurd (cc)
+line_adds Stores authority number line old new (Some (Err cause)) is (entry', (same, more)) = absurd (cc)
 
 -- the next line is read
 next_line : (authority : Option (List ℕ)) (lines : List (List ℕ)) (passed : ℕ) (line : List ℕ) (rest : List (List ℕ))
@@ -99,11 +99,11 @@ next_line authority lines passed line rest old mid new at now =
       few = rw is (omega (arith, at.few, now.few, length-append e now.named));
     }
 
-pub line_read : (authority : Option (List ℕ)) (lines : List (List ℕ)) (passed : ℕ) (line : List ℕ) (rest : List (List ℕ))
+pub line_read : (Stores : Contents → Contents → Type 0) (authority : Option (List ℕ)) (lines : List (List ℕ)) (passed : ℕ) (line : List ℕ) (rest : List (List ℕ))
     (old mid new : Contents) → IsAt authority lines passed (line ∷ rest) old mid
-    → AddsLine (line_entry authority line) (Ok (tt {0})) mid new → IsAt authority lines (passed + 1) rest old new
-line_read authority lines passed line rest old mid new at adds =
-    next_line authority lines passed line rest old mid new at (line_adds authority (1 + length at.before) line mid new (line_entry authority line) refl adds)
+    → AddsLine Stores (line_entry authority line) (Ok (tt {0})) mid new → IsAt authority lines (passed + 1) rest old new
+line_read Stores authority lines passed line rest old mid new at adds =
+    next_line authority lines passed line rest old mid new at (line_adds Stores authority (1 + length at.before) line mid new (line_entry authority line) refl adds)
 
 -- All lines are read.
 pub all_read : (authority : Option (List ℕ)) (text : List ℕ) (passed : ℕ) (old new : Contents)
@@ -161,19 +161,19 @@ stops authority text passed line rest old new read causes.EmptyId at is tells = 
 stops authority text passed line rest old new read (causes.Key cause) at is tells = told authority text passed line rest old new _ at (is ∙ ap Some tells)
 stops authority text passed line rest old new read (causes.Fingerprint fault) at is tells = told authority text passed line rest old new _ at (is ∙ ap Some tells)
 
-stopped_by : (authority : Option (List ℕ)) (text : List ℕ) (passed : ℕ) (line : List ℕ) (rest : List (List ℕ)) (old mid new : Contents)
+stopped_by : (Stores : Contents → Contents → Type 0) (authority : Option (List ℕ)) (text : List ℕ) (passed : ℕ) (line : List ℕ) (rest : List (List ℕ)) (old mid new : Contents)
     (read : Option (Result Entry SpecCause)) (cause : SpecCause) → IsAt authority (slice_split is_newline text) passed (line ∷ rest) old mid
-    → line_entry authority line ≡ read → AddsLine {A = Unit {0}} read (Err cause) mid new
+    → line_entry authority line ≡ read → AddsLine {A = Unit {0}} Stores read (Err cause) mid new
     → StopsAt authority text (passed + 1) cause old new × (held new ≤ held old + length (lines_of authority text).entries)
 unfolding lines_of
-stopped_by authority text passed line rest old mid new None cause at is adds = absurd adds
-stopped_by authority text passed line rest old mid new (Some read) cause at is (tells, same) =
+stopped_by Stores authority text passed line rest old mid new None cause at is adds = absurd adds
+stopped_by Stores authority text passed line rest old mid new (Some read) cause at is (tells, same) =
     rw same (stops authority text passed line rest old mid read cause at is tells, front_is_few authority _ passed (line ∷ rest) old mid at)
 
 -- A line stops the reading, or memory runs out there.
-pub line_stops : (authority : Option (List ℕ)) (text : List ℕ) (passed : ℕ) (line : List ℕ) (rest : List (List ℕ)) (old mid new : Contents) (cause : SpecCause)
+pub line_stops : (Stores : Contents → Contents → Type 0) (authority : Option (List ℕ)) (text : List ℕ) (passed : ℕ) (line : List ℕ) (rest : List (List ℕ)) (old mid new : Contents) (cause : SpecCause)
     → IsAt authority (slice_split is_newline text) passed (line ∷ rest) old mid
-    → AddsLine {A = Unit {0}} (line_entry authority line) (Err cause) mid new
+    → AddsLine {A = Unit {0}} Stores (line_entry authority line) (Err cause) mid new
     → StopsAt authority text (passed + 1) cause old new × (held new ≤ held old + length (lines_of authority text).entries)
-line_stops authority text passed line rest old mid new cause at adds =
-    stopped_by authority text passed line rest old mid new (line_entry authority line) cause at refl adds
+line_stops Stores authority text passed line rest old mid new cause at adds =
+    stopped_by Stores authority text passed line rest old mid new (line_entry authority line) cause at refl adds

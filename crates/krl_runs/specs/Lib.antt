@@ -11,6 +11,7 @@ pub mod Done
 pub mod Listing
 pub mod SpecBlanks
 pub mod SpecNumber
+pub mod SpecStored
 pub mod SpecAdding
 pub mod SpecCause
 pub mod SpecEntry

@@ -41,17 +41,18 @@ abbrev pub AddsEntries : Contents → Contents → List Entry → Type 0
 AddsEntries old new named =
     (entries : List Entry) → Means old entries → Means new (entries ++ named)
 
--- What was read is added. Else the cause is told, and nothing changed.
-abbrev pub Adds : {A : Type 0} → Result Entry SpecCause → Result A SpecCause → Contents → Contents
-    → Type 0
-Adds read (Ok done) old new =
+-- What was read is added, and what is stored grows in a stated way. Else the cause is told, and
+-- nothing changed.
+abbrev pub Adds : {A : Type 0} → (Contents → Contents → Type 0) → Result Entry SpecCause
+    → Result A SpecCause → Contents → Contents → Type 0
+Adds Stores read (Ok done) old new =
     (entry : Entry) × ((read ≡ Ok entry)
-    × (AddsEntries old new (entry ∷ []) × (held new ≤ held old + 1)))
-Adds read (Err cause) old new = Tells read cause × (new ≡ old)
+    × (AddsEntries old new (entry ∷ []) × ((held new ≤ held old + 1) × Stores old new)))
+Adds Stores read (Err cause) old new = Tells read cause × (new ≡ old)
 
 -- The same of a line, of which nothing need count.
-abbrev pub AddsLine : {A : Type 0} → Option (Result Entry SpecCause) → Result A SpecCause
-    → Contents → Contents → Type 0
-AddsLine None (Ok done) old new = new ≡ old
-AddsLine None (Err cause) old new = ⊥
-AddsLine (Some read) result old new = Adds read result old new
+abbrev pub AddsLine : {A : Type 0} → (Contents → Contents → Type 0)
+    → Option (Result Entry SpecCause) → Result A SpecCause → Contents → Contents → Type 0
+AddsLine Stores None (Ok done) old new = new ≡ old
+AddsLine Stores None (Err cause) old new = ⊥
+AddsLine Stores (Some read) result old new = Adds Stores read result old new

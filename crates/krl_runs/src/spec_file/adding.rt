@@ -1,6 +1,6 @@
 // Adding what a line of a specification file names.
 
-ghost use Rattle.std.specs.Prelude.{◌≡◌, ◌<◌, length, MatchResult, None, Some, Ok};
+ghost use Rattle.std.specs.Prelude.{◌≡◌, ◌+◌, ◌<◌, length, MatchResult, None, Some, Ok};
 ghost use Rattle.ssh_key.specs.FingerprintReading.{fingerprint_at};
 ghost use Rattle.ssh_cert.specs.Subject.{Names, Subject};
 ghost use Rattle.krl_core.specs.Authority.{IsAuthority, authority_bytes};
@@ -8,6 +8,7 @@ ghost use Rattle.krl_core.specs.Entry.{KeyEntry, Sha256Entry};
 ghost use Rattle.krl_runs.specs.SpecAdding.{Adds, AddsLine};
 ghost use Rattle.krl_runs.specs.SpecEntry.{HasAuthority, IsUnder, authority_under, bare_entry, certificate_entry, id_order, line_entry, made_entry, names_entry, or_fingerprint_fault, order_entry, plain_of, serial_order, sha1_entry, sha256_entry, subject_in, text_entry};
 ghost use Rattle.krl_runs.specs.SpecLine.{order_in};
+ghost use Rattle.krl_runs.specs.SpecStored.{Grows, GrowsUnder, asked_size, bytes_under};
 ghost use Rattle.krl_runs.specs.declared.spec_file.spec_cause.SpecCause.TheVariants.{NoAuthority};
 
 use crate::spec_file::blanks::bare_line;
@@ -17,6 +18,7 @@ use crate::spec_file::number::read_serials;
 use crate::spec_file::spec_cause::SpecCause;
 use crate::spec_file::under::Under;
 use krl_core::Revocations;
+use krl_core::laws::sections_mean_what_is_held;
 use serial_set::Spans;
 use ssh_cert::{CertNames, Subject};
 use ssh_key::{sha1_of, sha256_of};
@@ -44,7 +46,8 @@ fn add_serials<S: Spans>(
     text: &[u8],
 ) -> Result<(), SpecCause>
     requires { IsUnder under }
-    ensures { Adds (serial_order (authority_under under.entry) text.now) result
+    ensures { Adds (GrowsUnder (bytes_under (authority_under under.entry)) (length text.now))
+        (serial_order (authority_under under.entry) text.now) result
         revocations.old revocations.new }
 {
     let authority = authority_of(under)?;
@@ -60,7 +63,8 @@ fn add_id<S: Spans>(
     text: &[u8],
 ) -> Result<(), SpecCause>
     requires { IsUnder under }
-    ensures { Adds (id_order (authority_under under.entry) text.now) result
+    ensures { Adds (GrowsUnder (bytes_under (authority_under under.entry)) (length text.now))
+        (id_order (authority_under under.entry) text.now) result
         revocations.old revocations.new }
 {
     let authority = authority_of(under)?;
@@ -77,7 +81,8 @@ fn add_key<S: Spans>(
     revocations: &mut Revocations<S>,
     text: &[u8],
 ) -> Result<(), SpecCause>
-    ensures { Adds (made_entry KeyEntry (plain_of (subject_in text.now))) result
+    ensures { Adds (Grows (length text.now))
+        (made_entry KeyEntry (plain_of (subject_in text.now))) result
         revocations.old revocations.new }
 {
     let plain = plain_key(alloc, text)?;
@@ -91,7 +96,8 @@ fn add_sha1<S: Spans>(
     revocations: &mut Revocations<S>,
     text: &[u8],
 ) -> Result<(), SpecCause>
-    ensures { Adds (made_entry sha1_entry (plain_of (subject_in text.now))) result
+    ensures { Adds (Grows (length text.now))
+        (made_entry sha1_entry (plain_of (subject_in text.now))) result
         revocations.old revocations.new }
 {
     let plain = plain_key(alloc, text)?;
@@ -105,7 +111,8 @@ fn add_sha256<S: Spans>(
     revocations: &mut Revocations<S>,
     text: &[u8],
 ) -> Result<(), SpecCause>
-    ensures { Adds (made_entry sha256_entry (plain_of (subject_in text.now))) result
+    ensures { Adds (Grows (length text.now))
+        (made_entry sha256_entry (plain_of (subject_in text.now))) result
         revocations.old revocations.new }
 {
     let plain = plain_key(alloc, text)?;
@@ -119,8 +126,9 @@ fn add_hash<S: Spans>(
     revocations: &mut Revocations<S>,
     text: &[u8],
 ) -> Result<(), SpecCause>
-    ensures { Adds (made_entry Sha256Entry (or_fingerprint_fault (fingerprint_at text.now)))
-        result revocations.old revocations.new }
+    ensures { Adds (Grows (length text.now))
+        (made_entry Sha256Entry (or_fingerprint_fault (fingerprint_at text.now))) result
+        revocations.old revocations.new }
 {
     let digest = read_hash(alloc, text)?;
     revocations.add_sha256(&digest)?;
@@ -133,8 +141,12 @@ fn add_certificate<S: Spans>(
     names: &CertNames,
 ) -> Result<(), SpecCause>
     requires { 0 < length names.now.authority }
-    ensures { Adds (Ok (certificate_entry names.now)) result revocations.old revocations.new }
+    ensures { Adds (Grows (length names.now.authority + length names.now.key_id))
+        (Ok (certificate_entry names.now)) result revocations.old revocations.new }
 {
+    // An authority that is named stays so: what is held is in order, and means some entries.
+    let _count = revocations.authorities();
+    sections_mean_what_is_held();
     let authority = Some(names.authority);
     if names.serial == 0 {
         revocations.add_id(authority, names.key_id)?;
@@ -147,7 +159,8 @@ fn add_certificate<S: Spans>(
 /// Adds a plain key by its blob, and a certificate by what names it.
 fn add_subject<S: Spans>(revocations: &mut Revocations<S>, asked: &Subject) -> Result<(), SpecCause>
     requires { HasAuthority asked.now.cert }
-    ensures { Adds (Ok (names_entry asked.now.plain asked.now.cert)) result
+    ensures { Adds (Grows (asked_size asked.now.plain asked.now.cert))
+        (Ok (names_entry asked.now.plain asked.now.cert)) result
         revocations.old revocations.new }
 {
     match &asked.cert {
@@ -166,7 +179,8 @@ fn add_bare<S: Spans>(
     revocations: &mut Revocations<S>,
     text: &[u8],
 ) -> Result<(), SpecCause>
-    ensures { Adds (bare_entry (subject_in text.now)) result revocations.old revocations.new }
+    ensures { Adds (Grows (length text.now)) (bare_entry (subject_in text.now)) result
+        revocations.old revocations.new }
 {
     let line = key_line(alloc, text)?;
     let asked = ask(alloc, line.blob.as_slice())?;
@@ -182,7 +196,8 @@ fn add_order<S: Spans>(
     given: &[u8],
 ) -> Result<(), SpecCause>
     requires { IsUnder under }
-    ensures { Adds (order_entry (authority_under under.entry) directive given.now) result
+    ensures { Adds (GrowsUnder (bytes_under (authority_under under.entry)) (length given.now))
+        (order_entry (authority_under under.entry) directive given.now) result
         revocations.old revocations.new }
 {
     match directive {
@@ -203,7 +218,8 @@ fn add_text<S: Spans>(
     text: &[u8],
 ) -> Result<(), SpecCause>
     requires { IsUnder under }
-    ensures { Adds (text_entry (authority_under under.entry) text.now (order_in text.now)) result
+    ensures { Adds (GrowsUnder (bytes_under (authority_under under.entry)) (length text.now))
+        (text_entry (authority_under under.entry) text.now (order_in text.now)) result
         revocations.old revocations.new }
 {
     match order_in(text) {
@@ -221,7 +237,8 @@ pub fn add_line<S: Spans>(
     line: &[u8],
 ) -> Result<(), SpecCause>
     requires { IsUnder under }
-    ensures { AddsLine (line_entry (authority_under under.entry) line.now) result
+    ensures { AddsLine (GrowsUnder (bytes_under (authority_under under.entry)) (length line.now))
+        (line_entry (authority_under under.entry) line.now) result
         revocations.old revocations.new }
 {
     let text = bare_line(line);

@@ -1,9 +1,10 @@
 // Reading specification files (ssh-keygen(1), KEY REVOCATION LISTS).
 
 ghost use Rattle.std.specs.Prelude.{◌+◌, ◌≤◌, length};
-ghost use Rattle.krl_core.specs.Contents.{held};
+ghost use Rattle.krl_core.specs.Contents.{held, stored};
 ghost use Rattle.krl_runs.specs.SpecEntry.{IsUnder, authority_under};
 ghost use Rattle.krl_runs.specs.SpecFile.{ReadsSpec, lines_of};
+ghost use Rattle.krl_runs.specs.SpecStored.{bytes_under};
 
 use crate::spec_file::adding::add_line;
 use crate::spec_file::spec_fault::SpecFault;
@@ -30,6 +31,9 @@ pub fn read_spec<S: Spans>(
     ensures held { held revocations.new
         ≤ held revocations.old
         + length (lines_of (authority_under under.entry) text.now).entries }
+    ensures stored { stored revocations.new
+        ≤ stored revocations.old + length text.now
+        + length (bytes_under (authority_under under.entry)) }
 {
     let mut rest = text;
     let mut passed = 0;

@@ -1,12 +1,16 @@
 -- The certificate's serial or its key ID stands under its authority.
-use Rattle.std.proofs.Common.{Ok, ap}
+use Rattle.std.proofs.Common.{◌+◌, length, Ok, ap}
+use Rattle.krl_runs.specs.SpecStored.{Grows}
 use Rattle.krl_runs.proofs.SpecAdds.{by_id, by_serial, none_more, one_added}
+use Rattle.krl_runs.proofs.SpecNamed.{other_id_grows, other_serial_grows}
 use Rattle.krl_runs.proofs.spec_file.adding.add_certificate.Goals as goal
 
 pub returns-in_ok-add_id : goal.returns-in_ok-add_id
 returns-in_ok-add_id g c =
-    none_more _ _ _ _ (rw (← c.names.view_is) (ap Ok (by_id _ c.if-names-eq0.true))) c.in_ok-add_id.ensures.means c.in_ok-add_id.ensures.held
+    let added = c.in_ok-add_id.ensures in
+    none_more (Grows (length c.args.names.now.authority + length c.args.names.now.key_id)) _ _ _ _ (rw (← c.names.view_is) (ap Ok (by_id _ c.if-names-eq0.true))) added.means added.held (rw (← c.names.view_is) (other_id_grows _ _ _ _ _ c.authorities-count.ensures.orderly c.sections_mean_what_is_held.ensures added.means added.stored))
 
 pub returns-in_ok-add_serials : goal.returns-in_ok-add_serials
 returns-in_ok-add_serials g c =
-    one_added _ _ _ _ (rw (← c.names.view_is) (ap Ok (by_serial _ c.if-names-eq0.false))) c.in_ok-add_serials.ensures.means c.in_ok-add_serials.ensures.held
+    let added = c.in_ok-add_serials.ensures in
+    one_added (Grows (length c.args.names.now.authority + length c.args.names.now.key_id)) _ _ _ _ (rw (← c.names.view_is) (ap Ok (by_serial _ c.if-names-eq0.false))) added.means added.held (rw (← c.names.view_is) (other_serial_grows _ _ _ _ _ c.authorities-count.ensures.orderly c.sections_mean_what_is_held.ensures added.means added.stored))

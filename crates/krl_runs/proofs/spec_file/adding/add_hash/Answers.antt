@@ -1,9 +1,12 @@
 -- The digest of the fingerprint is added.
-use Rattle.std.proofs.Common.{refl}
+use Rattle.std.proofs.Common.{length, refl, arith}
+use Rattle.krl_runs.specs.SpecStored.{Grows}
 use Rattle.krl_runs.proofs.SpecAdds.{none_more}
+use Rattle.krl_runs.proofs.SpecGrowth.{hash_grows}
 use Rattle.krl_runs.proofs.spec_file.adding.add_hash.Goals as goal
 
 pub returns : goal.returns
 returns g c =
-    let read = c.in_ok-digest.ensures in
-    none_more _ _ _ _ (rw read refl) c.in_ok-add_sha256.ensures.means c.in_ok-add_sha256.ensures.held
+    let read = c.in_ok-digest.ensures.read in
+    let added = c.in_ok-add_sha256.ensures in
+    none_more (Grows (length c.args.text.now)) _ _ _ _ (rw read refl) added.means added.held (hash_grows 32 _ _ _ (omega arith) c.in_ok-digest.ensures.room added.sections added.stored)

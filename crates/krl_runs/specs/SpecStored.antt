@@ -1,0 +1,35 @@
+-- How much more is stored by reading what a specification file names.
+use Rattle.std.specs.Prelude.{ℕ, ◌+◌, ◌≤◌, ◌⊎◌, List, [], length, Option, Some, None}
+use Rattle.ssh_cert.specs.Subject.{Names, Subject}
+use Rattle.krl_core.specs.Contents.{Contents, IsNamed, stored}
+
+-- The bytes of the authority at hand: all authorities have none, nor has one that is not given.
+abbrev pub bytes_under : Option (List ℕ) → List ℕ
+bytes_under None = []
+bytes_under (Some bytes) = bytes
+
+-- What is stored has at most n bytes, and so it has where the authority at hand is counted too.
+pub record IsStoredWithin (authority : List ℕ) (r : Contents) (n : ℕ) : Type 0 where
+  pub now : stored r ≤ n
+  pub next : IsNamed r authority ⊎ (stored r + length authority ≤ n)
+
+-- At most so many bytes more are stored, the authority at hand counted once.
+abbrev pub GrowsUnder : List ℕ → ℕ → Contents → Contents → Type 0
+GrowsUnder authority size old new =
+    (n : ℕ) → IsStoredWithin authority old n → IsStoredWithin authority new (n + size)
+
+-- The same whatever authority is at hand.
+abbrev pub Grows : ℕ → Contents → Contents → Type 0
+Grows size old new = (authority : List ℕ) → GrowsUnder authority size old new
+
+-- how many bytes what is asked can store: those of a plain key, or of what names a certificate
+abbrev pub asked_size : List ℕ → Option Names → ℕ
+asked_size plain None = length plain
+asked_size plain (Some names) = length names.authority + length names.key_id
+
+-- What is asked has no more bytes than the blob of which it is asked, and no blob is shorter than
+-- that of the shortest key.
+pub record IsWithinBlob (blob : List ℕ) (asked : Subject) : Type 0 where
+  pub asked_is : asked_size asked.plain asked.cert ≤ length blob
+  pub plain_is : length asked.plain ≤ length blob
+  pub least : 19 ≤ length blob
