@@ -32,8 +32,8 @@ use ssh_key::laws::{
 };
 
 /// Nothing is said of a line without a key. A line with a key is answered, or passed over by the
-/// run, exactly where it spells the key of a plain key or of a certificate; else its first fault, or
-/// that of its blob, ends the run.
+/// run, exactly where it spells the key of a plain key or of a certificate; else its first fault,
+/// or that of its blob, ends the run.
 pub fn items_by_what_is_spelled()
     ensures none { (answer : Answering) (name : List ℕ) (number : ℕ) (text : List ℕ)
         → has_key text ≡ false → item_of answer name number text ≡ None }
