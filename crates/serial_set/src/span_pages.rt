@@ -18,7 +18,7 @@ type Root = Shelf<Shelf<Page>>;
 pub struct SpanPages {
     root: Option<Root>,
     alloc: Global,
-    ghost runs: { IsRuns (option_map_or ⟦<Root as Part>⟧.spans root []) } by { RunsFrom-prop 0 (option_map_or ⟦<Root as Part>⟧.spans root []) },
+    ghost runs: { IsRuns (option_map_or ⟦<Root as Part>⟧.spans root []) } by { RunsFrom-prop 0 _ },
     ghost serials: { AreSerials (option_map_or ⟦<Root as Part>⟧.spans root []) },
 }
 
