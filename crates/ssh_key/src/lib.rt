@@ -34,6 +34,3 @@ pub use line_fault::LineFault;
 pub use lines::split_line;
 pub use parsing::parse_fingerprint;
 pub use private_fault::PrivateFault;
-
-#[cfg(test)]
-mod tests;

@@ -1,6 +1,6 @@
 // Lines of a key file with a key, and without one.
 
-use crate::has_key;
+use ssh_key::has_key;
 
 #[test]
 fn lines_with_a_key(rt: HostRuntime) {

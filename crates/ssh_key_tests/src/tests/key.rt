@@ -1,7 +1,7 @@
 // Keys read from blobs, and the faults of blobs.
 
 use crate::tests::parts::{PUBLISHED, point, published_key, strings};
-use crate::{KeyFault, Kind, plain_blob, read_key};
+use ssh_key::{KeyFault, Kind, plain_blob, read_key};
 use ssh_wire::WireFault;
 use std::alloc::Global;
 use std::process::Abort;

@@ -1,8 +1,8 @@
 // Containers from their parts.
 
 use crate::tests::parts::{PUBLISHED, PUBLISHED_TYPE, published_key, strings};
-use crate::{PrivateFault, read_private};
 use base64::engine::general_purpose::STANDARD;
+use ssh_key::{PrivateFault, read_private};
 use std::alloc::Global;
 use std::process::Abort;
 use std::test::Fail;

@@ -1,7 +1,7 @@
 // The published fingerprint, and those of no bytes.
 
 use crate::tests::parts::published_key;
-use crate::{Hash, fingerprint, sha1_of, sha256_of};
+use ssh_key::{Hash, fingerprint, sha1_of, sha256_of};
 use std::test::Fail;
 
 #[test]

@@ -1,8 +1,8 @@
 // Containers of keys of each kind.
 
-use crate::PrivateFault;
 use crate::tests::containers::made::{Parts, are_refused, armoured, is_read, joined, list};
 use crate::tests::parts::{PUBLISHED, point, strings};
+use ssh_key::PrivateFault;
 use std::alloc::Global;
 use std::process::Abort;
 use std::test::Fail;

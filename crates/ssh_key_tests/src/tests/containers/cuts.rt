@@ -1,7 +1,7 @@
 // Containers that are cut short.
 
 use crate::tests::containers::made::{armoured, published_container};
-use crate::{PrivateFault, read_private};
+use ssh_key::{PrivateFault, read_private};
 use ssh_wire::WireFault;
 use std::alloc::Global;
 use std::process::Abort;

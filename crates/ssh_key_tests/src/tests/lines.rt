@@ -1,7 +1,7 @@
 // Lines that give the key, and lines that give none.
 
 use crate::tests::parts::{PUBLISHED_BASE64, PUBLISHED_TYPE, published_key};
-use crate::{LineFault, read_line};
+use ssh_key::{LineFault, read_line};
 use std::alloc::{AllocError, Global};
 use std::test::Fail;
 

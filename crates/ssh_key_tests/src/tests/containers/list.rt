@@ -4,7 +4,7 @@ use crate::tests::containers::made::{
     Parts, are_refused, armoured, is_read, joined, list, published_fields,
 };
 use crate::tests::parts::{PUBLISHED, PUBLISHED_TYPE, published_key, strings};
-use crate::{KeyFault, PrivateFault};
+use ssh_key::{KeyFault, PrivateFault};
 use ssh_wire::WireFault;
 use std::alloc::Global;
 use std::process::Abort;

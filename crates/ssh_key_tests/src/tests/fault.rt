@@ -1,6 +1,6 @@
 // The texts of faults.
 
-use crate::{FingerprintFault, KeyFault, LineFault, PrivateFault};
+use ssh_key::{FingerprintFault, KeyFault, LineFault, PrivateFault};
 use ssh_wire::WireFault;
 use std::test::Fail;
 

@@ -2,8 +2,8 @@
 
 use crate::tests::containers::made::{armoured, around, is_read, is_refused, published_container};
 use crate::tests::parts::published_key;
-use crate::{PrivateFault, is_container};
 use base64::engine::general_purpose::STANDARD;
+use ssh_key::{PrivateFault, is_container};
 use std::alloc::Global;
 use std::process::Abort;
 use std::test::Fail;

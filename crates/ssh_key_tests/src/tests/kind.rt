@@ -1,6 +1,6 @@
 // The names of kinds.
 
-use crate::Kind;
+use ssh_key::Kind;
 
 const NAMES: [(Kind, &str, &str); 8] = [
     (Kind::Rsa, "ssh-rsa", "RSA"),

@@ -1,7 +1,7 @@
 // Public fields read from the front of bytes.
 
 use crate::tests::parts::{PUBLISHED, published_key, strings};
-use crate::{KeyFault, Kind, plain_blob, read_fields};
+use ssh_key::{KeyFault, Kind, plain_blob, read_fields};
 use ssh_wire::{Cursor, WireFault};
 use std::alloc::Global;
 use std::process::Abort;

@@ -4,7 +4,7 @@ use crate::tests::containers::made::{
     Parts, are_refused, joined, published_container, published_list,
 };
 use crate::tests::parts::{point, published_key, strings};
-use crate::{KeyFault, PrivateFault};
+use ssh_key::{KeyFault, PrivateFault};
 use ssh_wire::WireFault;
 use std::alloc::Global;
 use std::process::Abort;

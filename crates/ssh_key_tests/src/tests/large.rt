@@ -1,8 +1,8 @@
 // Inputs past every page and limit, with memory enough: none is refused for its size.
 
 use crate::tests::parts::{PUBLISHED, strings};
-use crate::{Hash, KeyFault, fingerprint, plain_blob, read_key, read_line};
 use base64::engine::general_purpose::STANDARD;
+use ssh_key::{Hash, KeyFault, fingerprint, plain_blob, read_key, read_line};
 use std::alloc::Global;
 use std::process::Abort;
 use std::test::Fail;

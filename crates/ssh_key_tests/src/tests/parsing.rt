@@ -1,7 +1,7 @@
 // Fingerprints that are read, and texts that are none.
 
 use crate::tests::parts::published_key;
-use crate::{FingerprintFault, Hash, fingerprint, parse_fingerprint, sha256_of};
+use ssh_key::{FingerprintFault, Hash, fingerprint, parse_fingerprint, sha256_of};
 use std::test::Fail;
 
 #[test]
