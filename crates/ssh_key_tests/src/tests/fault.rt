@@ -2,6 +2,9 @@
 
 use ssh_key::{FingerprintFault, KeyFault, LineFault, PrivateFault};
 use ssh_wire::WireFault;
+use std::alloc::Global;
+use std::fmt::Display;
+use std::process::Abort;
 use std::test::Fail;
 
 const KEY_FAULTS: [(KeyFault, u8, &str); 10] = [
@@ -29,12 +32,24 @@ const KEY_FAULTS: [(KeyFault, u8, &str); 10] = [
     (KeyFault::TooLong, 8, "key 8 TooLong"),
 ];
 
+/// A fault has the number that it is to have, and prints as this text.
+fn is_told(
+    rt: &impl Abort,
+    alloc: Global,
+    fault: &impl Display,
+    (found, number): (u8, u8),
+    text: &str,
+) -> Result<(), Fail> {
+    assert_eq!(rt; found, number);
+    let printed = format!(in alloc; "{fault}")?;
+    assert_eq!(rt; printed.as_str(), text);
+    Ok(())
+}
+
 #[test]
 fn faults_of_keys(rt: HostRuntime) -> Result<(), Fail> {
     for (fault, number, text) in KEY_FAULTS {
-        assert_eq!(rt; fault.number(), number);
-        let printed = format!(in rt.alloc(); "{fault}")?;
-        assert_eq!(rt; printed.as_str(), text);
+        is_told(&rt, rt.alloc(), &fault, (fault.number(), number), text)?;
     }
     Ok(())
 }
@@ -48,9 +63,7 @@ fn faults_of_lines(rt: HostRuntime) -> Result<(), Fail> {
         (LineFault::NoMemory, 4, "line 4 NoMemory"),
     ];
     for (fault, number, text) in rows {
-        assert_eq!(rt; fault.number(), number);
-        let printed = format!(in rt.alloc(); "{fault}")?;
-        assert_eq!(rt; printed.as_str(), text);
+        is_told(&rt, rt.alloc(), &fault, (fault.number(), number), text)?;
     }
     Ok(())
 }
@@ -64,9 +77,7 @@ fn faults_of_fingerprints(rt: HostRuntime) -> Result<(), Fail> {
         (FingerprintFault::NoMemory, 4, "fingerprint 4 NoMemory"),
     ];
     for (fault, number, text) in rows {
-        assert_eq!(rt; fault.number(), number);
-        let printed = format!(in rt.alloc(); "{fault}")?;
-        assert_eq!(rt; printed.as_str(), text);
+        is_told(&rt, rt.alloc(), &fault, (fault.number(), number), text)?;
     }
     Ok(())
 }
@@ -86,22 +97,27 @@ fn faults_of_containers(rt: HostRuntime) -> Result<(), Fail> {
         (PrivateFault::NoMemory, 12, "private 12 NoMemory"),
     ];
     for (fault, number, text) in rows {
-        assert_eq!(rt; fault.number(), number);
-        let printed = format!(in rt.alloc(); "{fault}")?;
-        assert_eq!(rt; printed.as_str(), text);
+        is_told(&rt, rt.alloc(), &fault, (fault.number(), number), text)?;
     }
     Ok(())
 }
 
 #[test]
 fn faults_that_containers_carry(rt: HostRuntime) -> Result<(), Fail> {
-    let fault = PrivateFault::Key(KeyFault::Point);
-    assert_eq!(rt; fault.number(), 7);
-    let printed = format!(in rt.alloc(); "{fault}")?;
-    assert_eq!(rt; printed.as_str(), "private 7 Key, key 4 Point");
-    let fault = PrivateFault::Wire(WireFault::Short);
-    assert_eq!(rt; fault.number(), 11);
-    let printed = format!(in rt.alloc(); "{fault}")?;
-    assert_eq!(rt; printed.as_str(), "private 11 Wire, wire 1 Short");
+    let rows = [
+        (
+            PrivateFault::Key(KeyFault::Point),
+            7,
+            "private 7 Key, key 4 Point",
+        ),
+        (
+            PrivateFault::Wire(WireFault::Short),
+            11,
+            "private 11 Wire, wire 1 Short",
+        ),
+    ];
+    for (fault, number, text) in rows {
+        is_told(&rt, rt.alloc(), &fault, (fault.number(), number), text)?;
+    }
     Ok(())
 }

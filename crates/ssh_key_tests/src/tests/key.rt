@@ -1,9 +1,11 @@
 // Keys read from blobs, and the faults of blobs.
 
-use crate::tests::parts::{PUBLISHED, point, published_key, strings};
-use ssh_key::{KeyFault, Kind, plain_blob, read_key};
+use crate::tests::parts::{
+    PUBLISHED, has_fault, has_parts, is_made, point, published_key, strings,
+};
+use ssh_key::{KeyFault, Kind, read_key};
 use ssh_wire::WireFault;
-use std::alloc::Global;
+use std::alloc::{AllocError, Global};
 use std::process::Abort;
 use std::test::Fail;
 
@@ -15,22 +17,23 @@ fn reads(
     kind: Kind,
     bits: u32,
 ) -> Result<(), Fail> {
+    let fields = strings(alloc, list.get(1..).unwrap_or(&[]))?;
     let blob = strings(alloc, list)?;
     let key = read_key(&blob).ok().ok_or("the blob is a key")?;
-    assert_eq!(rt; key.kind(), kind);
-    assert_eq!(rt; key.bits(), bits);
-    assert_eq!(rt; key.short_name(), kind.short_name());
-    let fields = strings(alloc, list.get(1..).unwrap_or(&[]))?;
-    assert_eq!(rt; key.public_fields(), fields.as_slice());
-    let made = plain_blob(alloc, &key)?;
-    assert_eq!(rt; made.as_slice(), blob.as_slice());
+    has_parts(rt, &key, kind, bits, &fields);
+    is_made(rt, alloc, &key, &blob)?;
     Ok(())
 }
 
 /// The blob of these strings has this fault.
-fn refuses(rt: &impl Abort, alloc: Global, list: &[&[u8]], fault: KeyFault) -> Result<(), Fail> {
+fn refuses(
+    rt: &impl Abort,
+    alloc: Global,
+    list: &[&[u8]],
+    fault: KeyFault,
+) -> Result<(), AllocError> {
     let blob = strings(alloc, list)?;
-    assert_eq!(rt; read_key(&blob).err(), Some(fault));
+    has_fault(rt, &blob, fault);
     Ok(())
 }
 
@@ -44,26 +47,38 @@ fn keys_of_numbers(rt: HostRuntime) -> Result<(), Fail> {
     Ok(())
 }
 
+/// A key of this kind on this curve, whose point has so many bytes, is read.
+fn on_curve(
+    rt: &impl Abort,
+    alloc: Global,
+    kind: Kind,
+    names: (&str, &str),
+    size: usize,
+    bits: u32,
+) -> Result<(), Fail> {
+    let q = point(alloc, size, 4)?;
+    let list: [&[u8]; 3] = [names.0.as_bytes(), names.1.as_bytes(), &q];
+    reads(rt, alloc, &list, kind, bits)
+}
+
 #[test]
 fn keys_on_curves(rt: HostRuntime) -> Result<(), Fail> {
     let alloc = rt.alloc();
-    let q256 = point(alloc, 65, 4)?;
-    let q384 = point(alloc, 97, 4)?;
-    let q521 = point(alloc, 133, 4)?;
-    let p256: [&[u8]; 3] = [b"ecdsa-sha2-nistp256", b"nistp256", &q256];
-    let p384: [&[u8]; 3] = [b"ecdsa-sha2-nistp384", b"nistp384", &q384];
-    let p521: [&[u8]; 3] = [b"ecdsa-sha2-nistp521", b"nistp521", &q521];
-    let device: [&[u8]; 4] = [
-        b"sk-ecdsa-sha2-nistp256@openssh.com",
-        b"nistp256",
-        &q256,
-        b"ssh:",
-    ];
-    reads(&rt, alloc, &p256, Kind::Ecdsa256, 256)?;
-    reads(&rt, alloc, &p384, Kind::Ecdsa384, 384)?;
-    reads(&rt, alloc, &p521, Kind::Ecdsa521, 521)?;
-    reads(&rt, alloc, &device, Kind::EcdsaSk, 256)?;
-    Ok(())
+    let p256 = ("ecdsa-sha2-nistp256", "nistp256");
+    let p384 = ("ecdsa-sha2-nistp384", "nistp384");
+    let p521 = ("ecdsa-sha2-nistp521", "nistp521");
+    on_curve(&rt, alloc, Kind::Ecdsa256, p256, 65, 256)?;
+    on_curve(&rt, alloc, Kind::Ecdsa384, p384, 97, 384)?;
+    on_curve(&rt, alloc, Kind::Ecdsa521, p521, 133, 521)
+}
+
+#[test]
+fn key_on_a_curve_of_a_device(rt: HostRuntime) -> Result<(), Fail> {
+    let alloc = rt.alloc();
+    let q = point(alloc, 65, 4)?;
+    let name: &[u8] = b"sk-ecdsa-sha2-nistp256@openssh.com";
+    let device: [&[u8]; 4] = [name, b"nistp256", &q, b"ssh:"];
+    reads(&rt, alloc, &device, Kind::EcdsaSk, 256)
 }
 
 #[test]
@@ -104,22 +119,37 @@ fn faults_of_numbers(rt: HostRuntime) -> Result<(), Fail> {
     Ok(())
 }
 
+/// The blob of a key on this curve with these bytes for its point has this fault.
+fn point_refused(
+    rt: &impl Abort,
+    alloc: Global,
+    names: (&str, &str),
+    size: usize,
+    first: u8,
+    fault: KeyFault,
+) -> Result<(), AllocError> {
+    let q = point(alloc, size, first)?;
+    let list: [&[u8]; 3] = [names.0.as_bytes(), names.1.as_bytes(), &q];
+    refuses(rt, alloc, &list, fault)
+}
+
 #[test]
 fn faults_of_points(rt: HostRuntime) -> Result<(), Fail> {
-    let alloc = rt.alloc();
-    let q = point(alloc, 65, 4)?;
-    let compressed = point(alloc, 65, 2)?;
-    let short = point(alloc, 64, 4)?;
-    let other_curve: [&[u8]; 3] = [b"ecdsa-sha2-nistp256", b"nistp384", &q];
-    let curve_and_point: [&[u8]; 3] = [b"ecdsa-sha2-nistp256", b"nistp384", &short];
-    let not_whole: [&[u8]; 3] = [b"ecdsa-sha2-nistp256", b"nistp256", &compressed];
-    let too_short: [&[u8]; 3] = [b"ecdsa-sha2-nistp256", b"nistp256", &short];
-    let of_256: [&[u8]; 3] = [b"ecdsa-sha2-nistp384", b"nistp384", &q];
-    refuses(&rt, alloc, &other_curve, KeyFault::Curve)?;
-    refuses(&rt, alloc, &curve_and_point, KeyFault::Curve)?;
-    refuses(&rt, alloc, &not_whole, KeyFault::Point)?;
-    refuses(&rt, alloc, &too_short, KeyFault::Point)?;
-    refuses(&rt, alloc, &of_256, KeyFault::Point)?;
+    let p256 = ("ecdsa-sha2-nistp256", "nistp256");
+    let p384 = ("ecdsa-sha2-nistp384", "nistp384");
+    let other_curve = ("ecdsa-sha2-nistp256", "nistp384");
+    let rows = [
+        (other_curve, 65, 4, KeyFault::Curve),
+        // The curve is told before its point.
+        (other_curve, 64, 4, KeyFault::Curve),
+        // A compressed point, a short one, and one of another curve.
+        (p256, 65, 2, KeyFault::Point),
+        (p256, 64, 4, KeyFault::Point),
+        (p384, 65, 4, KeyFault::Point),
+    ];
+    for (names, size, first, fault) in rows {
+        point_refused(&rt, rt.alloc(), names, size, first, fault)?;
+    }
     Ok(())
 }
 
@@ -147,7 +177,7 @@ fn bytes_after_the_key(rt: HostRuntime) -> Result<(), Fail> {
     let alloc = rt.alloc();
     let mut blob = published_key(alloc)?;
     blob.push(0)?;
-    assert_eq!(rt; read_key(&blob).err(), Some(KeyFault::Trailing));
+    has_fault(&rt, &blob, KeyFault::Trailing);
     Ok(())
 }
 
@@ -156,7 +186,7 @@ fn cut_blobs(rt: HostRuntime) -> Result<(), Fail> {
     let blob = published_key(rt.alloc())?;
     let short = KeyFault::Wire(WireFault::Short);
     for n in 0..blob.len() {
-        assert_eq!(rt; read_key(&blob[..n]).err(), Some(short), "{n}");
+        has_fault(&rt, &blob[..n], short);
     }
     Ok(())
 }
@@ -172,8 +202,8 @@ fn longest_blob(rt: HostRuntime) -> Result<(), Fail> {
     assert_eq!(rt; blob.len(), 65_536);
     assert!(rt; read_key(&blob).is_ok());
     blob.push(0)?;
-    assert_eq!(rt; read_key(&blob).err(), Some(KeyFault::TooLong));
+    has_fault(&rt, &blob, KeyFault::TooLong);
     let zeros = vec![in alloc; 0; 65_537]?;
-    assert_eq!(rt; read_key(&zeros).err(), Some(KeyFault::TooLong));
+    has_fault(&rt, &zeros, KeyFault::TooLong);
     Ok(())
 }

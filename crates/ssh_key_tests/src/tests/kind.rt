@@ -1,6 +1,7 @@
 // The names of kinds.
 
 use ssh_key::Kind;
+use std::process::Abort;
 
 const NAMES: [(Kind, &str, &str); 8] = [
     (Kind::Rsa, "ssh-rsa", "RSA"),
@@ -28,12 +29,17 @@ const CERTIFICATE_NAMES: [(Kind, &str); 8] = [
     (Kind::Ed25519Sk, "sk-ssh-ed25519-cert-v01@openssh.com"),
 ];
 
+/// The kind has these names, and is found by the first.
+fn is_named(rt: &impl Abort, kind: Kind, name: &str, short_name: &str) {
+    assert_eq!(rt; kind.name(), name);
+    assert_eq!(rt; kind.short_name(), short_name);
+    assert_eq!(rt; Kind::of_name(name.as_bytes()), Some(kind), "{name}");
+}
+
 #[test]
 fn names(rt: HostRuntime) {
     for (kind, name, short_name) in NAMES {
-        assert_eq!(rt; kind.name(), name);
-        assert_eq!(rt; kind.short_name(), short_name);
-        assert_eq!(rt; Kind::of_name(name.as_bytes()), Some(kind), "{name}");
+        is_named(&rt, kind, name, short_name);
     }
 }
 
@@ -52,11 +58,16 @@ fn other_names(rt: HostRuntime) {
     }
 }
 
+/// Certificates of this kind of key have this name, and the kind is found by it.
+fn is_certified(rt: &impl Abort, kind: Kind, name: &str) {
+    assert_eq!(rt; kind.cert_name(), name);
+    assert_eq!(rt; Kind::of_cert_name(name.as_bytes()), Some(kind), "{name}");
+}
+
 #[test]
 fn certificate_names(rt: HostRuntime) {
     for (kind, name) in CERTIFICATE_NAMES {
-        assert_eq!(rt; kind.cert_name(), name);
-        assert_eq!(rt; Kind::of_cert_name(name.as_bytes()), Some(kind), "{name}");
+        is_certified(&rt, kind, name);
     }
 }
 

@@ -1,14 +1,14 @@
 // Inputs past every page and limit, with memory enough: none is refused for its size.
 
-use crate::tests::parts::{PUBLISHED, strings};
+use crate::tests::parts::{PUBLISHED, has_fault, has_fingerprint, is_made, strings};
 use base64::engine::general_purpose::STANDARD;
-use ssh_key::{Hash, KeyFault, fingerprint, plain_blob, read_key, read_line};
-use std::alloc::Global;
+use ssh_key::{Hash, KeyFault, read_key, read_line};
+use std::alloc::{AllocError, Global};
 use std::process::Abort;
 use std::test::Fail;
 
 /// A key of a device whose application has so many bytes.
-fn device_key(alloc: Global, size: usize) -> Result<Vec<u8>, Fail> {
+fn device_key(alloc: Global, size: usize) -> Result<Vec<u8>, AllocError> {
     let application = vec![in alloc; b'x'; size]?;
     strings(
         alloc,
@@ -43,8 +43,7 @@ fn blobs(rt: HostRuntime) -> Result<(), Fail> {
     for size in [0, 255, 1_023, 4_000, 4_096, 5_000, 16_384, 65_466] {
         let blob = device_key(alloc, size)?;
         let key = read_key(&blob).ok().ok_or("the blob is a key")?;
-        let made = plain_blob(alloc, &key)?;
-        assert_eq!(rt; made.as_slice(), blob.as_slice());
+        is_made(&rt, alloc, &key, &blob)?;
     }
     Ok(())
 }
@@ -65,7 +64,7 @@ fn long_key_of_a_line(rt: HostRuntime) -> Result<(), Fail> {
     let alloc = rt.alloc();
     let blob = device_key(alloc, 65_467)?;
     reads_line(&rt, alloc, 65_467, 1)?;
-    assert_eq!(rt; read_key(&blob).err(), Some(KeyFault::TooLong));
+    has_fault(&rt, &blob, KeyFault::TooLong);
     Ok(())
 }
 
@@ -74,11 +73,9 @@ fn long_key_of_a_line(rt: HostRuntime) -> Result<(), Fail> {
 fn fingerprint_of_a_million(rt: HostRuntime) -> Result<(), Fail> {
     let alloc = rt.alloc();
     let bytes = vec![in alloc; b'a'; 1_000_000]?;
-    let sha256 = fingerprint(alloc, Hash::Sha256, &bytes)?;
-    let expected = b"SHA256:zcduXJkU+5KBocfihNc+Z/GAmkiklyAOBG05zMcRLNA";
-    assert_eq!(rt; sha256.as_slice(), expected.as_slice());
-    let md5 = fingerprint(alloc, Hash::Md5, &bytes)?;
-    let expected = b"MD5:77:07:d6:ae:4e:02:7c:70:ee:a2:a9:35:c2:29:6f:21";
-    assert_eq!(rt; md5.as_slice(), expected.as_slice());
+    let sha256 = "SHA256:zcduXJkU+5KBocfihNc+Z/GAmkiklyAOBG05zMcRLNA";
+    has_fingerprint(&rt, alloc, Hash::Sha256, &bytes, sha256)?;
+    let md5 = "MD5:77:07:d6:ae:4e:02:7c:70:ee:a2:a9:35:c2:29:6f:21";
+    has_fingerprint(&rt, alloc, Hash::Md5, &bytes, md5)?;
     Ok(())
 }

@@ -3,6 +3,7 @@
 use crate::tests::parts::{PUBLISHED_BASE64, PUBLISHED_TYPE, published_key};
 use ssh_key::{LineFault, read_line};
 use std::alloc::{AllocError, Global};
+use std::process::Abort;
 use std::test::Fail;
 
 /// The base64 of the key between two texts.
@@ -52,6 +53,15 @@ fn read(rt: HostRuntime) -> Result<(), Fail> {
     Ok(())
 }
 
+/// The line is refused with this fault.
+fn is_refused(rt: &impl Abort, alloc: Global, line: &str, fault: LineFault) {
+    assert_eq!(rt;
+        read_line(alloc, line.as_bytes()).err(),
+        Some(fault),
+        "{line}"
+    );
+}
+
 #[test]
 fn refused(rt: HostRuntime) -> Result<(), Fail> {
     let rows = [
@@ -81,14 +91,13 @@ fn refused(rt: HostRuntime) -> Result<(), Fail> {
     ];
     for (before, after, fault) in rows {
         let line = line(rt.alloc(), before, after)?;
-        let found = read_line(rt.alloc(), line.as_str().as_bytes()).err();
-        assert!(rt; found == Some(fault), "{line}");
+        is_refused(&rt, rt.alloc(), line.as_str(), fault);
     }
     Ok(())
 }
 
 #[test]
-fn refused_without_the_key(rt: HostRuntime) -> Result<(), Fail> {
+fn refused_without_the_key(rt: HostRuntime) {
     let rows = [
         ("", LineFault::NoKey),
         (" \t \r", LineFault::NoKey),
@@ -110,10 +119,8 @@ fn refused_without_the_key(rt: HostRuntime) -> Result<(), Fail> {
         ("ssh-ed25519 AAAAB3NzaC1yc2E=", LineFault::WordDiffers),
     ];
     for (line, fault) in rows {
-        let found = read_line(rt.alloc(), line.as_bytes()).err();
-        assert!(rt; found == Some(fault), "{line}");
+        is_refused(&rt, rt.alloc(), line, fault);
     }
-    Ok(())
 }
 
 #[test]

@@ -1,7 +1,8 @@
 // Blobs from their parts.
 
-use std::alloc::Global;
-use std::test::Fail;
+use ssh_key::{Hash, KeyFault, Kind, PublicKey, fingerprint, plain_blob, read_key};
+use std::alloc::{AllocError, Global};
+use std::process::Abort;
 
 /// The type name of the key that GitHub publishes for its hosts.
 pub const PUBLISHED_TYPE: &str = "ssh-ed25519";
@@ -16,28 +17,78 @@ pub const PUBLISHED: [u8; 32] = [
     0x1a, 0x6e, 0x01, 0xf9, 0x0b, 0xda, 0x24, 0x5a, 0x2d, 0x1d, 0x87, 0x69, 0x7d, 0x18, 0xa2, 0x65,
 ];
 
-/// Strings, one after the other. A number stands here by the bytes of its string.
-pub fn strings(alloc: Global, list: &[&[u8]]) -> Result<Vec<u8>, Fail> {
-    let mut bytes = Vec::new(alloc);
-    for string in list {
-        let size = u32::try_from(string.len())?;
-        bytes.extend_from_slice(&size.to_be_bytes())?;
-        bytes.extend_from_slice(string)?;
+/// Strings, one after the other: four bytes of length and the bytes of each. A number stands here
+/// by the bytes of its string.
+pub fn strings(alloc: Global, list: &[&[u8]]) -> Result<Vec<u8>, AllocError> {
+    let mut all = Vec::new(alloc);
+    for bytes in list {
+        let [.., a, b, c, d] = bytes.len().to_be_bytes();
+        all.extend_from_slice(&[a, b, c, d])?;
+        all.extend_from_slice(*bytes)?;
     }
-    Ok(bytes)
+    Ok(all)
 }
 
 /// So many bytes, the first of them and the others.
-pub fn point(alloc: Global, size: usize, first: u8) -> Result<Vec<u8>, Fail> {
-    let mut bytes = Vec::new(alloc);
-    bytes.push(first)?;
-    for _ in 1..size {
-        bytes.push(0x55)?;
+pub fn point(alloc: Global, size: usize, first: u8) -> Result<Vec<u8>, AllocError> {
+    let mut bytes = vec![in alloc; 0x55; size]?;
+    if let Some(front) = bytes.first_mut() {
+        *front = first;
     }
     Ok(bytes)
 }
 
 /// The blob of the published key.
-pub fn published_key(alloc: Global) -> Result<Vec<u8>, Fail> {
+pub fn published_key(alloc: Global) -> Result<Vec<u8>, AllocError> {
     strings(alloc, &[PUBLISHED_TYPE.as_bytes(), &PUBLISHED])
+}
+
+/// The key has this kind, this size and these public fields.
+pub fn has_parts(rt: &impl Abort, key: &PublicKey, kind: Kind, bits: u32, fields: &[u8]) {
+    assert_eq!(rt; key.kind(), kind);
+    assert_eq!(rt; key.bits(), bits);
+    assert_eq!(rt; key.short_name(), kind.short_name());
+    assert_eq!(rt; key.public_fields(), fields);
+}
+
+/// The blob is made of the key.
+pub fn is_made(
+    rt: &impl Abort,
+    alloc: Global,
+    key: &PublicKey,
+    blob: &[u8],
+) -> Result<(), AllocError> {
+    let made = plain_blob(alloc, key)?;
+    assert_eq!(rt; made.as_slice(), blob);
+    Ok(())
+}
+
+/// The blob has this fault.
+pub fn has_fault(rt: &impl Abort, blob: &[u8], fault: KeyFault) {
+    assert_eq!(rt; read_key(blob).err(), Some(fault), "{} bytes", blob.len());
+}
+
+/// The bytes have this fingerprint.
+pub fn has_fingerprint(
+    rt: &impl Abort,
+    alloc: Global,
+    hash: Hash,
+    bytes: &[u8],
+    text: &str,
+) -> Result<(), AllocError> {
+    let found = fingerprint(alloc, hash, bytes)?;
+    assert_eq!(rt; found.as_slice(), text.as_bytes());
+    Ok(())
+}
+
+/// The digest is this one in base16.
+pub fn has_digits(
+    rt: &impl Abort,
+    alloc: Global,
+    digest: &[u8],
+    digits: &str,
+) -> Result<(), AllocError> {
+    let found = hex::encode(alloc, digest)?;
+    assert_eq!(rt; found.as_str(), digits);
+    Ok(())
 }

@@ -1,7 +1,7 @@
 // Public fields read from the front of bytes.
 
-use crate::tests::parts::{PUBLISHED, published_key, strings};
-use ssh_key::{KeyFault, Kind, plain_blob, read_fields};
+use crate::tests::parts::{PUBLISHED, has_parts, is_made, published_key, strings};
+use ssh_key::{KeyFault, Kind, read_fields};
 use ssh_wire::{Cursor, WireFault};
 use std::alloc::Global;
 use std::process::Abort;
@@ -15,14 +15,12 @@ fn fields_before_more(rt: HostRuntime) -> Result<(), Fail> {
     let key = read_fields(Kind::Ed25519, &mut cursor)
         .ok()
         .ok_or("the fields are a key's")?;
-    assert_eq!(rt; key.kind(), Kind::Ed25519);
-    assert_eq!(rt; key.bits(), 256);
-    assert_eq!(rt; key.public_fields().len(), 36);
+    let fields = strings(alloc, &[&PUBLISHED])?;
+    has_parts(&rt, &key, Kind::Ed25519, 256, &fields);
     assert_eq!(rt; cursor.string().ok(), Some(b"what follows".as_slice()));
     assert!(rt; cursor.at_end());
-    let blob = plain_blob(alloc, &key)?;
-    let expected = published_key(alloc)?;
-    assert_eq!(rt; blob.as_slice(), expected.as_slice());
+    let blob = published_key(alloc)?;
+    is_made(&rt, alloc, &key, &blob)?;
     Ok(())
 }
 

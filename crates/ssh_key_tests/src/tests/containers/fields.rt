@@ -26,7 +26,8 @@ fn encrypted(
         options: options.as_bytes(),
         ..Parts::plain(&blob, &list)
     };
-    are_refused(rt, alloc, &parts.bytes(alloc)?, PrivateFault::Encrypted)
+    let bytes = parts.bytes(alloc)?;
+    are_refused(rt, alloc, &bytes, PrivateFault::Encrypted)
 }
 
 #[test]
@@ -50,7 +51,8 @@ fn counted(rt: &impl Abort, alloc: Global, count: u32) -> Result<(), Fail> {
         count,
         ..Parts::plain(&blob, &list)
     };
-    are_refused(rt, alloc, &parts.bytes(alloc)?, PrivateFault::KeyCount)
+    let bytes = parts.bytes(alloc)?;
+    are_refused(rt, alloc, &bytes, PrivateFault::KeyCount)
 }
 
 #[test]
@@ -97,19 +99,20 @@ fn blobs(rt: HostRuntime) -> Result<(), Fail> {
 #[test]
 fn bytes_behind(rt: HostRuntime) -> Result<(), Fail> {
     let alloc = rt.alloc();
-    let bytes = published_container(alloc)?;
-    let more = joined(alloc, &[&bytes, &[0]])?;
-    are_refused(&rt, alloc, &more, PrivateFault::Trailing)?;
-    // They are told before the list is read.
+    let mut bytes = published_container(alloc)?;
+    bytes.push(0)?;
+    are_refused(&rt, alloc, &bytes, PrivateFault::Trailing)
+}
+
+/// Bytes behind the list are told before it is read.
+#[test]
+fn bytes_behind_an_empty_list(rt: HostRuntime) -> Result<(), Fail> {
+    let alloc = rt.alloc();
     let blob = published_key(alloc)?;
-    let empty = Parts::plain(&blob, b"").bytes(alloc)?;
-    are_refused(&rt, alloc, &empty, PrivateFault::Wire(WireFault::Short))?;
-    are_refused(
-        &rt,
-        alloc,
-        &joined(alloc, &[&empty, &[0]])?,
-        PrivateFault::Trailing,
-    )
+    let mut bytes = Parts::plain(&blob, b"").bytes(alloc)?;
+    are_refused(&rt, alloc, &bytes, PrivateFault::Wire(WireFault::Short))?;
+    bytes.push(0)?;
+    are_refused(&rt, alloc, &bytes, PrivateFault::Trailing)
 }
 
 /// The container of the published key with the bytes from one place to another repeated is refused.
@@ -121,10 +124,10 @@ fn repeated(
     fault: PrivateFault,
 ) -> Result<(), Fail> {
     let bytes = published_container(alloc)?;
-    let field = bytes.get(from..to).ok_or("the container has the field")?;
-    let front = bytes.get(..to).ok_or("the container has the field")?;
-    let back = bytes.get(to..).ok_or("the container has the field")?;
-    are_refused(rt, alloc, &joined(alloc, &[front, field, back])?, fault)
+    let (front, back) = bytes.split_at_checked(to).ok_or("it is longer")?;
+    let field = front.get(from..).ok_or("the field begins before its end")?;
+    let bytes = joined(alloc, &[front, field, back])?;
+    are_refused(rt, alloc, &bytes, fault)
 }
 
 #[test]
@@ -147,8 +150,8 @@ fn fields_twice(rt: HostRuntime) -> Result<(), Fail> {
 /// The container of the published key with a length of 2^32-1 at this place is refused.
 fn lengthened(rt: &impl Abort, alloc: Global, at: usize) -> Result<(), Fail> {
     let bytes = published_container(alloc)?;
-    let front = bytes.get(..at).ok_or("the container has the field")?;
-    let back = bytes.get(at + 4..).ok_or("the container has the field")?;
+    let (front, back) = bytes.split_at_checked(at).ok_or("it is longer")?;
+    let back = back.get(4..).ok_or("the length has four bytes")?;
     let bytes = joined(alloc, &[front, &[0xff; 4], back])?;
     are_refused(rt, alloc, &bytes, PrivateFault::Wire(WireFault::Short))
 }

@@ -3,21 +3,26 @@
 use crate::tests::containers::made::{Parts, are_refused, armoured, is_read, joined, list};
 use crate::tests::parts::{PUBLISHED, point, strings};
 use ssh_key::PrivateFault;
-use std::alloc::Global;
+use std::alloc::{AllocError, Global};
 use std::process::Abort;
 use std::test::Fail;
 
-/// The container of a blob whose private list has these fields is read.
-fn reads(rt: &impl Abort, alloc: Global, blob: &[u8], fields: &[u8]) -> Result<(), Fail> {
+/// The container of a blob whose private list has these fields.
+fn container(alloc: Global, blob: &[u8], fields: &[u8]) -> Result<Vec<u8>, AllocError> {
     let list = list(alloc, (9, 9), fields, b"c d", &[1, 2])?;
-    let bytes = Parts::plain(blob, &list).bytes(alloc)?;
-    is_read(rt, alloc, &armoured(alloc, &bytes)?, blob, b"c d")
+    Parts::plain(blob, &list).bytes(alloc)
+}
+
+/// Such a container is read.
+fn reads(rt: &impl Abort, alloc: Global, blob: &[u8], fields: &[u8]) -> Result<(), Fail> {
+    let bytes = container(alloc, blob, fields)?;
+    let text = armoured(alloc, &bytes)?;
+    is_read(rt, alloc, &text, blob, b"c d")
 }
 
 /// Such a container is that of another key.
 fn differs(rt: &impl Abort, alloc: Global, blob: &[u8], fields: &[u8]) -> Result<(), Fail> {
-    let list = list(alloc, (9, 9), fields, b"c d", &[1, 2])?;
-    let bytes = Parts::plain(blob, &list).bytes(alloc)?;
+    let bytes = container(alloc, blob, fields)?;
     are_refused(rt, alloc, &bytes, PrivateFault::PublicDiffers)
 }
 
@@ -29,14 +34,13 @@ fn rsa(rt: HostRuntime) -> Result<(), Fail> {
     let fields = strings(alloc, &[b"ssh-rsa", n, e, &[5], &[6], &[7], b""])?;
     reads(&rt, alloc, &blob, &fields)?;
     // The exponent first, another modulus, and another exponent.
-    let fields = strings(alloc, &[b"ssh-rsa", e, n, &[5], &[6], &[7], &[8]])?;
-    differs(&rt, alloc, &blob, &fields)?;
-    let fields = strings(alloc, &[b"ssh-rsa", &[0x41], e, &[5], &[6], &[7], &[8]])?;
-    differs(&rt, alloc, &blob, &fields)?;
-    let fields = strings(alloc, &[b"ssh-rsa", n, &[3], &[5], &[6], &[7], &[8]])?;
-    differs(&rt, alloc, &blob, &fields)?;
-    let fields = strings(alloc, &[b"ssh-rsa", n, b"", &[5], &[6], &[7], &[8]])?;
-    differs(&rt, alloc, &blob, &fields)
+    let rows: [(&[u8], &[u8]); 4] = [(e, n), (&[0x41], e), (n, &[3]), (n, b"")];
+    for (modulus, exponent) in rows {
+        let list: [&[u8]; 7] = [b"ssh-rsa", modulus, exponent, &[5], &[6], &[7], &[8]];
+        let fields = strings(alloc, &list)?;
+        differs(&rt, alloc, &blob, &fields)?;
+    }
+    Ok(())
 }
 
 #[test]
@@ -51,6 +55,17 @@ fn dsa(rt: HostRuntime) -> Result<(), Fail> {
     differs(&rt, alloc, &blob, &fields)
 }
 
+/// The fields of a key on a curve in a private list.
+fn curve_fields(
+    alloc: Global,
+    name: &str,
+    curve: &str,
+    point: &[u8],
+    private: &[u8],
+) -> Result<Vec<u8>, AllocError> {
+    strings(alloc, &[name.as_bytes(), curve.as_bytes(), point, private])
+}
+
 /// The container of a key on this curve is read, and that of another point is not.
 fn on_curve(
     rt: &impl Abort,
@@ -59,24 +74,17 @@ fn on_curve(
     curve: &str,
     size: usize,
 ) -> Result<(), Fail> {
-    let (name, curve) = (name.as_bytes(), curve.as_bytes());
     let q = point(alloc, size, 4)?;
-    let blob = strings(alloc, &[name, curve, &q])?;
-    reads(rt, alloc, &blob, &strings(alloc, &[name, curve, &q, &[3]])?)?;
-    reads(rt, alloc, &blob, &strings(alloc, &[name, curve, &q, b""])?)?;
+    let blob = strings(alloc, &[name.as_bytes(), curve.as_bytes(), &q])?;
+    let fields = curve_fields(alloc, name, curve, &q, &[3])?;
+    reads(rt, alloc, &blob, &fields)?;
+    let fields = curve_fields(alloc, name, curve, &q, b"")?;
+    reads(rt, alloc, &blob, &fields)?;
+    let fields = curve_fields(alloc, name, "nistp224", &q, &[3])?;
+    differs(rt, alloc, &blob, &fields)?;
     let other = point(alloc, size, 3)?;
-    differs(
-        rt,
-        alloc,
-        &blob,
-        &strings(alloc, &[name, curve, &other, &[3]])?,
-    )?;
-    differs(
-        rt,
-        alloc,
-        &blob,
-        &strings(alloc, &[name, b"nistp224", &q, &[3]])?,
-    )
+    let fields = curve_fields(alloc, name, curve, &other, &[3])?;
+    differs(rt, alloc, &blob, &fields)
 }
 
 #[test]
@@ -87,56 +95,58 @@ fn ecdsa(rt: HostRuntime) -> Result<(), Fail> {
     on_curve(&rt, alloc, "ecdsa-sha2-nistp521", "nistp521", 133)
 }
 
-/// What a device needs: flags, the key's handle and a reserved string.
-fn of_device(alloc: Global, public: &[u8]) -> Result<Vec<u8>, Fail> {
-    let strings = strings(alloc, &[b"handle", b""])?;
-    joined(alloc, &[public, &[1], &strings])
+/// The fields of a device: the public ones of a blob, flags, a handle and a reserved string.
+fn of_device(alloc: Global, public: &[u8]) -> Result<Vec<u8>, AllocError> {
+    joined(alloc, &[public, b"\x01\0\0\0\x06handle\0\0\0\0"])
+}
+
+/// The container of a device's blob is read, and that of the fields of another blob is not.
+fn on_device(rt: &impl Abort, alloc: Global, blob: &[u8], others: &[&[u8]]) -> Result<(), Fail> {
+    let fields = of_device(alloc, blob)?;
+    reads(rt, alloc, blob, &fields)?;
+    for other in others {
+        let fields = of_device(alloc, *other)?;
+        differs(rt, alloc, blob, &fields)?;
+    }
+    Ok(())
 }
 
 /// The blob of an ECDSA key of a device for this application.
-fn ecdsa_blob(alloc: Global, application: &str) -> Result<Vec<u8>, Fail> {
-    let names = strings(alloc, &[b"sk-ecdsa-sha2-nistp256@openssh.com", b"nistp256"])?;
+fn ecdsa_blob(alloc: Global, application: &str) -> Result<Vec<u8>, AllocError> {
+    let name: &[u8] = b"sk-ecdsa-sha2-nistp256@openssh.com";
     let q = point(alloc, 65, 4)?;
-    let others = strings(alloc, &[&q, application.as_bytes()])?;
-    joined(alloc, &[&names, &others])
+    strings(alloc, &[name, b"nistp256", &q, application.as_bytes()])
 }
 
 #[test]
 fn ecdsa_of_a_device(rt: HostRuntime) -> Result<(), Fail> {
     let alloc = rt.alloc();
     let blob = ecdsa_blob(alloc, "ssh:")?;
-    reads(&rt, alloc, &blob, &of_device(alloc, &blob)?)?;
     let other = ecdsa_blob(alloc, "ssh:x")?;
-    differs(&rt, alloc, &blob, &of_device(alloc, &other)?)
+    on_device(&rt, alloc, &blob, &[&other])
+}
+
+/// The blob of an Ed25519 key of a device for this application.
+fn ed25519_blob(alloc: Global, public: &[u8], application: &[u8]) -> Result<Vec<u8>, AllocError> {
+    strings(alloc, &[b"sk-ssh-ed25519@openssh.com", public, application])
 }
 
 #[test]
 fn ed25519_of_a_device(rt: HostRuntime) -> Result<(), Fail> {
     let alloc = rt.alloc();
-    let name: &[u8] = b"sk-ssh-ed25519@openssh.com";
-    let blob = strings(alloc, &[name, &PUBLISHED, b"ssh:"])?;
-    reads(&rt, alloc, &blob, &of_device(alloc, &blob)?)?;
-    let other = strings(alloc, &[name, &PUBLISHED, b""])?;
-    differs(&rt, alloc, &blob, &of_device(alloc, &other)?)?;
-    let other = strings(alloc, &[name, &[0x11; 32], b"ssh:"])?;
-    differs(&rt, alloc, &blob, &of_device(alloc, &other)?)
-}
-
-/// The blob of an Ed25519 key of a device whose application has so many bytes.
-fn ed25519_blob(alloc: Global, size: usize) -> Result<Vec<u8>, Fail> {
-    let application = vec![in alloc; b'x'; size]?;
-    strings(
-        alloc,
-        &[b"sk-ssh-ed25519@openssh.com", &PUBLISHED, &application],
-    )
+    let blob = ed25519_blob(alloc, &PUBLISHED, b"ssh:")?;
+    let of_none = ed25519_blob(alloc, &PUBLISHED, b"")?;
+    let of_another = ed25519_blob(alloc, &[0x11; 32], b"ssh:")?;
+    on_device(&rt, alloc, &blob, &[&of_none, &of_another])
 }
 
 #[test]
 fn large_applications(rt: HostRuntime) -> Result<(), Fail> {
     let alloc = rt.alloc();
     for size in [255, 1_025, 4_097, 65_466] {
-        let blob = ed25519_blob(alloc, size)?;
-        reads(&rt, alloc, &blob, &of_device(alloc, &blob)?)?;
+        let application = vec![in alloc; b'x'; size]?;
+        let blob = ed25519_blob(alloc, &PUBLISHED, &application)?;
+        on_device(&rt, alloc, &blob, &[])?;
     }
     Ok(())
 }

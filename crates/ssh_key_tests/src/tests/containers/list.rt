@@ -6,7 +6,7 @@ use crate::tests::containers::made::{
 use crate::tests::parts::{PUBLISHED, PUBLISHED_TYPE, published_key, strings};
 use ssh_key::{KeyFault, PrivateFault};
 use ssh_wire::WireFault;
-use std::alloc::Global;
+use std::alloc::{AllocError, Global};
 use std::process::Abort;
 use std::test::Fail;
 
@@ -18,7 +18,8 @@ fn list_refused(
     fault: PrivateFault,
 ) -> Result<(), Fail> {
     let blob = published_key(alloc)?;
-    are_refused(rt, alloc, &Parts::plain(&blob, list).bytes(alloc)?, fault)
+    let bytes = Parts::plain(&blob, list).bytes(alloc)?;
+    are_refused(rt, alloc, &bytes, fault)
 }
 
 #[test]
@@ -87,12 +88,12 @@ fn words_and_comments_twice(rt: HostRuntime) -> Result<(), Fail> {
 }
 
 /// The padding 1, 2, 3 and so on.
-fn rising(alloc: Global, size: usize) -> Result<Vec<u8>, Fail> {
-    let mut bytes = Vec::new(alloc);
+fn rising(alloc: Global, size: usize) -> Result<Vec<u8>, AllocError> {
+    let mut bytes = vec![in alloc; 0; size]?;
     let mut last: u8 = 0;
-    for _ in 0..size {
+    for byte in bytes.iter_mut() {
         last = last.wrapping_add(1);
-        bytes.push(last)?;
+        *byte = last;
     }
     Ok(bytes)
 }
@@ -103,7 +104,8 @@ fn padded(rt: &impl Abort, alloc: Global, comment: &[u8], padding: &[u8]) -> Res
     let fields = published_fields(alloc)?;
     let list = list(alloc, (1, 1), &fields, comment, padding)?;
     let bytes = Parts::plain(&blob, &list).bytes(alloc)?;
-    is_read(rt, alloc, &armoured(alloc, &bytes)?, &blob, comment)
+    let text = armoured(alloc, &bytes)?;
+    is_read(rt, alloc, &text, &blob, comment)
 }
 
 #[test]
@@ -112,8 +114,11 @@ fn paddings(rt: HostRuntime) -> Result<(), Fail> {
     padded(&rt, alloc, b"a", b"")?;
     padded(&rt, alloc, b"", &[1])?;
     padded(&rt, alloc, b"a b\n\0", &[1, 2, 3, 4, 5, 6, 7, 8, 9])?;
-    padded(&rt, alloc, b"a", &rising(alloc, 253)?)?;
-    padded(&rt, alloc, b"a", &rising(alloc, 254)?)
+    for size in [253, 254] {
+        let padding = rising(alloc, size)?;
+        padded(&rt, alloc, b"a", &padding)?;
+    }
+    Ok(())
 }
 
 #[test]
@@ -140,7 +145,9 @@ fn other_paddings(rt: HostRuntime) -> Result<(), Fail> {
     badly_padded(&rt, alloc, &[2])?;
     badly_padded(&rt, alloc, &[1, 2, 4, 4])?;
     badly_padded(&rt, alloc, &[1, 2, 3, 4, 1, 2, 3, 4])?;
-    badly_padded(&rt, alloc, &rising(alloc, 255)?)?;
-    badly_padded(&rt, alloc, &rising(alloc, 256)?)?;
-    badly_padded(&rt, alloc, &rising(alloc, 600)?)
+    for size in [255, 256, 600] {
+        let padding = rising(alloc, size)?;
+        badly_padded(&rt, alloc, &padding)?;
+    }
+    Ok(())
 }

@@ -3,7 +3,7 @@
 use crate::tests::parts::{PUBLISHED, PUBLISHED_TYPE, published_key, strings};
 use base64::engine::general_purpose::STANDARD;
 use ssh_key::{PrivateFault, read_private};
-use std::alloc::Global;
+use std::alloc::{AllocError, Global};
 use std::process::Abort;
 use std::test::Fail;
 
@@ -32,7 +32,7 @@ impl<'a> Parts<'a> {
     }
 
     /// The bytes of the container.
-    pub fn bytes(&self, alloc: Global) -> Result<Vec<u8>, Fail> {
+    pub fn bytes(&self, alloc: Global) -> Result<Vec<u8>, AllocError> {
         let first = strings(alloc, &[self.cipher, self.derivation, self.options])?;
         let last = strings(alloc, &[self.blob, self.list])?;
         let count = self.count.to_be_bytes();
@@ -41,7 +41,7 @@ impl<'a> Parts<'a> {
 }
 
 /// The parts, one after the other.
-pub fn joined(alloc: Global, parts: &[&[u8]]) -> Result<Vec<u8>, Fail> {
+pub fn joined(alloc: Global, parts: &[&[u8]]) -> Result<Vec<u8>, AllocError> {
     let mut bytes = Vec::new(alloc);
     for part in parts {
         bytes.extend_from_slice(part)?;
@@ -56,38 +56,38 @@ pub fn list(
     fields: &[u8],
     comment: &[u8],
     padding: &[u8],
-) -> Result<Vec<u8>, Fail> {
+) -> Result<Vec<u8>, AllocError> {
     let comment = strings(alloc, &[comment])?;
     let (check, again) = (checks.0.to_be_bytes(), checks.1.to_be_bytes());
     joined(alloc, &[&check, &again, fields, &comment, padding])
 }
 
 /// The type, the public field and the private one of the published key.
-pub fn published_fields(alloc: Global) -> Result<Vec<u8>, Fail> {
+pub fn published_fields(alloc: Global) -> Result<Vec<u8>, AllocError> {
     strings(alloc, &[PUBLISHED_TYPE.as_bytes(), &PUBLISHED, &[0; 64]])
 }
 
 /// The private list of the published key, with the comment `a`.
-pub fn published_list(alloc: Global) -> Result<Vec<u8>, Fail> {
+pub fn published_list(alloc: Global) -> Result<Vec<u8>, AllocError> {
     let fields = published_fields(alloc)?;
     list(alloc, (1, 1), &fields, b"a", &[1, 2, 3, 4])
 }
 
 /// The bytes of the container of the published key.
-pub fn published_container(alloc: Global) -> Result<Vec<u8>, Fail> {
+pub fn published_container(alloc: Global) -> Result<Vec<u8>, AllocError> {
     let blob = published_key(alloc)?;
     let list = published_list(alloc)?;
     Parts::plain(&blob, &list).bytes(alloc)
 }
 
 /// The container as a file has it.
-pub fn armoured(alloc: Global, bytes: &[u8]) -> Result<Vec<u8>, Fail> {
+pub fn armoured(alloc: Global, bytes: &[u8]) -> Result<Vec<u8>, AllocError> {
     let base64 = STANDARD.encode(alloc, bytes)?;
     around(alloc, base64.as_bytes())
 }
 
 /// The lines of a container with this text between them.
-pub fn around(alloc: Global, text: &[u8]) -> Result<Vec<u8>, Fail> {
+pub fn around(alloc: Global, text: &[u8]) -> Result<Vec<u8>, AllocError> {
     joined(
         alloc,
         &[
@@ -105,8 +105,7 @@ pub fn is_refused(
     text: &[u8],
     fault: PrivateFault,
 ) -> Result<(), Fail> {
-    let found = read_private(alloc, text).err();
-    assert!(rt; found == Some(fault), "{fault}");
+    assert_eq!(rt; read_private(alloc, text).err(), Some(fault));
     Ok(())
 }
 
