@@ -33,37 +33,52 @@ fn certificate<S: Spans>(
     Ok(r.query(&subject))
 }
 
-// Whether a plain key is revoked.
-fn key<S: Spans>(alloc: Global, r: &Revocations<S>, blob: &[u8]) -> Result<bool, AllocError> {
-    let subject = subject_of(
-        alloc,
-        Asked {
-            key: blob,
-            cert: None,
-        },
-    )?;
+// Whether the certificate of G by A with a serial and a key ID is revoked. Each function here names
+// few keys, since a proof over a function grows fast with the texts that stand in it.
+fn by_a<S: Spans>(
+    alloc: Global,
+    r: &Revocations<S>,
+    serial: u64,
+    id: &[u8],
+) -> Result<bool, AllocError> {
+    certificate(alloc, r, A, serial, id)
+}
+
+// The same by B.
+fn by_b<S: Spans>(
+    alloc: Global,
+    r: &Revocations<S>,
+    serial: u64,
+    id: &[u8],
+) -> Result<bool, AllocError> {
+    certificate(alloc, r, B, serial, id)
+}
+
+// Whether G as a plain key is revoked.
+fn plain_key<S: Spans>(alloc: Global, r: &Revocations<S>) -> Result<bool, AllocError> {
+    let subject = subject_of(alloc, Asked { key: G, cert: None })?;
     Ok(r.query(&subject))
 }
 
 fn serials_under<S: Spans>(rt: &impl Abort, alloc: Global) -> Result<(), AllocError> {
     let mut r: Revocations<S> = Revocations::new(alloc);
     r.add_serials(Some(A), 7, 7)?;
-    let by_a = certificate(alloc, &r, A, 7, b"a")?;
-    let by_b = certificate(alloc, &r, B, 7, b"a")?;
-    let another = certificate(alloc, &r, A, 6, b"a")?;
-    let plain = key(alloc, &r, G)?;
-    assert!(rt; by_a && !by_b && !another && !plain);
+    let a = by_a(alloc, &r, 7, b"a")?;
+    let b = by_b(alloc, &r, 7, b"a")?;
+    let another = by_a(alloc, &r, 6, b"a")?;
+    let plain = plain_key(alloc, &r)?;
+    assert!(rt; a && !b && !another && !plain);
     Ok(())
 }
 
 fn serials_under_all<S: Spans>(rt: &impl Abort, alloc: Global) -> Result<(), AllocError> {
     let mut r: Revocations<S> = Revocations::new(alloc);
     r.add_serials(None, 7, 7)?;
-    let by_a = certificate(alloc, &r, A, 7, b"a")?;
-    let by_b = certificate(alloc, &r, B, 7, b"a")?;
-    let another = certificate(alloc, &r, A, 8, b"a")?;
-    let plain = key(alloc, &r, G)?;
-    assert!(rt; by_a && by_b && !another && !plain);
+    let a = by_a(alloc, &r, 7, b"a")?;
+    let b = by_b(alloc, &r, 7, b"a")?;
+    let another = by_a(alloc, &r, 8, b"a")?;
+    let plain = plain_key(alloc, &r)?;
+    assert!(rt; a && b && !another && !plain);
     Ok(())
 }
 
@@ -71,9 +86,9 @@ fn serials_under_all<S: Spans>(rt: &impl Abort, alloc: Global) -> Result<(), All
 fn a_range<S: Spans>(rt: &impl Abort, alloc: Global) -> Result<(), AllocError> {
     let mut r: Revocations<S> = Revocations::new(alloc);
     r.add_serials(None, 1, 3)?;
-    let none = certificate(alloc, &r, A, 0, b"a")?;
-    let last = certificate(alloc, &r, A, 3, b"a")?;
-    let next = certificate(alloc, &r, A, 4, b"a")?;
+    let none = by_a(alloc, &r, 0, b"a")?;
+    let last = by_a(alloc, &r, 3, b"a")?;
+    let next = by_a(alloc, &r, 4, b"a")?;
     assert!(rt; !none && last && !next);
     Ok(())
 }
@@ -81,20 +96,20 @@ fn a_range<S: Spans>(rt: &impl Abort, alloc: Global) -> Result<(), AllocError> {
 fn ids_under_all<S: Spans>(rt: &impl Abort, alloc: Global) -> Result<(), AllocError> {
     let mut r: Revocations<S> = Revocations::new(alloc);
     r.add_id(None, b"a")?;
-    let by_a = certificate(alloc, &r, A, 0, b"a")?;
-    let by_b = certificate(alloc, &r, B, 0, b"a")?;
-    let another = certificate(alloc, &r, A, 0, b"b")?;
-    assert!(rt; by_a && by_b && !another);
+    let a = by_a(alloc, &r, 0, b"a")?;
+    let b = by_b(alloc, &r, 0, b"a")?;
+    let another = by_a(alloc, &r, 0, b"b")?;
+    assert!(rt; a && b && !another);
     Ok(())
 }
 
 fn ids_under<S: Spans>(rt: &impl Abort, alloc: Global) -> Result<(), AllocError> {
     let mut r: Revocations<S> = Revocations::new(alloc);
     r.add_id(Some(B), b"a")?;
-    let by_a = certificate(alloc, &r, A, 0, b"a")?;
-    let by_b = certificate(alloc, &r, B, 0, b"a")?;
-    let another = certificate(alloc, &r, B, 0, b"")?;
-    assert!(rt; !by_a && by_b && !another);
+    let a = by_a(alloc, &r, 0, b"a")?;
+    let b = by_b(alloc, &r, 0, b"a")?;
+    let another = by_b(alloc, &r, 0, b"")?;
+    assert!(rt; !a && b && !another);
     Ok(())
 }
 
@@ -104,10 +119,10 @@ fn names_the_authority<S: Spans>(
     alloc: Global,
     r: &Revocations<S>,
 ) -> Result<(), AllocError> {
-    let by_a = certificate(alloc, r, A, 7, b"a")?;
-    let by_b = certificate(alloc, r, B, 7, b"a")?;
-    let plain = key(alloc, r, G)?;
-    assert!(rt; by_a && !by_b && !plain);
+    let a = by_a(alloc, r, 7, b"a")?;
+    let b = by_b(alloc, r, 7, b"a")?;
+    let plain = plain_key(alloc, r)?;
+    assert!(rt; a && !b && !plain);
     Ok(())
 }
 
@@ -117,10 +132,10 @@ fn names_the_key<S: Spans>(
     alloc: Global,
     r: &Revocations<S>,
 ) -> Result<(), AllocError> {
-    let by_a = certificate(alloc, r, A, 7, b"a")?;
-    let by_b = certificate(alloc, r, B, 7, b"a")?;
-    let plain = key(alloc, r, G)?;
-    assert!(rt; by_a && by_b && plain);
+    let a = by_a(alloc, r, 7, b"a")?;
+    let b = by_b(alloc, r, 7, b"a")?;
+    let plain = plain_key(alloc, r)?;
+    assert!(rt; a && b && plain);
     Ok(())
 }
 
