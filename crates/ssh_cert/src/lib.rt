@@ -27,6 +27,3 @@ pub use subject_fault::SubjectFault;
 pub use subject_of::subject;
 pub use subjects::{CertNames, Subject};
 pub use time::{time_text, valid_at};
-
-#[cfg(test)]
-mod tests;

@@ -1,7 +1,7 @@
 // What a revocation list is asked.
 
 use crate::tests::parts::{AUTHORITY, PUBLISHED, Part, certificate, changed, plain, strings};
-use crate::{CertFault, SubjectFault, subject};
+use ssh_cert::{CertFault, SubjectFault, subject};
 use ssh_key::KeyFault;
 use ssh_wire::WireFault;
 use std::test::Fail;

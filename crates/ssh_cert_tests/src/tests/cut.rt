@@ -1,7 +1,7 @@
 // Certificates that are cut, and certificates with one byte changed.
 
 use crate::tests::parts::{PARTS, Part, before, certificate, spelled};
-use crate::{CertFault, read_cert, subject};
+use ssh_cert::{CertFault, read_cert, subject};
 use ssh_key::KeyFault;
 use ssh_wire::WireFault;
 use std::test::Fail;

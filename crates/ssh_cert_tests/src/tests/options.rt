@@ -1,7 +1,7 @@
 // The principals, options and extensions of certificates.
 
 use crate::tests::parts::{Part, changed, strings};
-use crate::{Cert, read_cert};
+use ssh_cert::{Cert, read_cert};
 use std::alloc::Global;
 use std::process::Abort;
 use std::test::Fail;

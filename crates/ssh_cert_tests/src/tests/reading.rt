@@ -1,7 +1,7 @@
 // Certificates read, and the fault of each change of a field.
 
 use crate::tests::parts::{AUTHORITY, PUBLISHED, Part, certificate, changed, plain, strings};
-use crate::{CertFault, Role, read_cert};
+use ssh_cert::{CertFault, Role, read_cert};
 use ssh_key::{KeyFault, Kind};
 use ssh_wire::WireFault;
 use std::alloc::Global;

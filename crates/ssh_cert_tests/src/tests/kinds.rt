@@ -1,7 +1,7 @@
 // A certificate of each kind of key.
 
 use crate::tests::parts::{Part, changed, strings};
-use crate::{CertFault, read_cert, subject};
+use ssh_cert::{CertFault, read_cert, subject};
 use ssh_key::{KeyFault, Kind};
 use std::alloc::Global;
 use std::process::Abort;

@@ -1,6 +1,6 @@
 // Faults, by their numbers and as they print.
 
-use crate::{CertFault, SubjectFault};
+use ssh_cert::{CertFault, SubjectFault};
 use ssh_key::KeyFault;
 use ssh_wire::WireFault;
 use std::test::*;

@@ -1,7 +1,7 @@
 // The listing of a certificate, and instants as they are printed.
 
 use crate::tests::parts::{PUBLISHED, Part, certificate, changed, plain, strings};
-use crate::{list_cert, push_escaped, read_cert, time_text, valid_at};
+use ssh_cert::{list_cert, push_escaped, read_cert, time_text, valid_at};
 use ssh_key::Hash;
 use std::alloc::Global;
 use std::process::Abort;
