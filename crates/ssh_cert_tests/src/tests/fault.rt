@@ -3,7 +3,24 @@
 use ssh_cert::{CertFault, SubjectFault};
 use ssh_key::KeyFault;
 use ssh_wire::WireFault;
-use std::test::*;
+use std::alloc::Global;
+use std::fmt::Display;
+use std::process::Abort;
+use std::test::Fail;
+
+/// A fault has the number that it is to have, and prints as this text.
+fn is_told(
+    rt: &impl Abort,
+    alloc: Global,
+    fault: &impl Display,
+    (found, number): (u8, u8),
+    text: &str,
+) -> Result<(), Fail> {
+    assert_eq!(rt; found, number);
+    let printed = format!(in alloc; "{fault}")?;
+    assert_eq!(rt; printed.as_str(), text);
+    Ok(())
+}
 
 #[test]
 fn faults_of_certificates(rt: HostRuntime) -> Result<(), Fail> {
@@ -32,8 +49,7 @@ fn faults_of_certificates(rt: HostRuntime) -> Result<(), Fail> {
         (CertFault::Signature, 8, "cert 8 Signature"),
         (CertFault::Trailing, 9, "cert 9 Trailing"),
     ] {
-        assert_eq!(rt; fault.number(), number);
-        assert_eq!(rt; format!(in rt.alloc(); "{fault}")?.as_str(), text);
+        is_told(&rt, rt.alloc(), &fault, (fault.number(), number), text)?;
     }
     Ok(())
 }
@@ -53,8 +69,7 @@ fn faults_of_subjects(rt: HostRuntime) -> Result<(), Fail> {
         ),
         (SubjectFault::NoMemory, 3, "subject 3 NoMemory"),
     ] {
-        assert_eq!(rt; fault.number(), number);
-        assert_eq!(rt; format!(in rt.alloc(); "{fault}")?.as_str(), text);
+        is_told(&rt, rt.alloc(), &fault, (fault.number(), number), text)?;
     }
     Ok(())
 }

@@ -1,7 +1,7 @@
 // The listing of a certificate, and instants as they are printed.
 
-use crate::tests::parts::{PUBLISHED, Part, certificate, changed, plain, strings};
-use ssh_cert::{list_cert, push_escaped, read_cert, time_text, valid_at};
+use crate::tests::parts::{PUBLISHED, Part, changed, plain, read, strings};
+use ssh_cert::{list_cert, push_escaped, time_text, valid_at};
 use ssh_key::Hash;
 use std::alloc::Global;
 use std::process::Abort;
@@ -18,7 +18,13 @@ fn by_itself(alloc: Global, part: Part, field: &[u8]) -> Result<Vec<u8>, Fail> {
     Ok(own)
 }
 
-/// The listing of the blob's certificate ends with these lines, or begins with them.
+/// The listing of the blob's certificate.
+fn listing(alloc: Global, blob: &[u8], hash: Hash) -> Result<Vec<u8>, Fail> {
+    let cert = read(blob)?;
+    Ok(list_cert(alloc, &cert, hash, 0)?)
+}
+
+/// The listing of the blob's certificate ends with these lines.
 fn lists(
     rt: &impl Abort,
     alloc: Global,
@@ -26,8 +32,7 @@ fn lists(
     hash: Hash,
     wanted: &str,
 ) -> Result<(), Fail> {
-    let cert = read_cert(blob).ok().ok_or("the blob is a certificate")?;
-    let text = list_cert(alloc, &cert, hash, 0)?;
+    let text = listing(alloc, blob, hash)?;
     let size = text.len();
     assert_eq!(rt;
         text.get(size.saturating_sub(wanted.len())..),
@@ -52,36 +57,45 @@ fn a_plain_listing(rt: HostRuntime) -> Result<(), Fail> {
          \x20       Principals: (none)\n\
          \x20       Critical Options: (none)\n\
          \x20       Extensions: (none)\n";
-    let cert = read_cert(&blob).ok().ok_or("the blob is a certificate")?;
-    let text = list_cert(alloc, &cert, Hash::Sha256, 0)?;
+    let text = listing(alloc, &blob, Hash::Sha256)?;
     assert_eq!(rt; text.as_slice(), wanted.as_bytes());
     Ok(())
 }
 
+/// With these names and data in a field the listing ends with these lines.
+fn lists_options(
+    rt: &impl Abort,
+    alloc: Global,
+    part: Part,
+    pairs: &[&[u8]],
+    wanted: &str,
+) -> Result<(), Fail> {
+    let content = strings(alloc, pairs)?;
+    let field = strings(alloc, &[&content])?;
+    let blob = changed(alloc, part, &field)?;
+    lists(rt, alloc, &blob, Hash::Md5, wanted)
+}
+
 #[test]
 fn options_are_listed(rt: HostRuntime) -> Result<(), Fail> {
-    let alloc = rt.alloc();
-    let id = strings(alloc, &[b"id"])?;
-    let field = strings(alloc, &[&strings(alloc, &[b"force-command", &id])?])?;
-    let blob = changed(alloc, Part::Critical, &field)?;
+    let command: [&[u8]; 2] = [b"force-command", b"\0\0\0\x02id"];
     let wanted = "        Principals: (none)\n\
          \x20       Critical Options:\n\
          \x20               force-command id\n\
          \x20       Extensions: (none)\n";
-    lists(&rt, alloc, &blob, Hash::Sha256, wanted)?;
-    let other = strings(alloc, &[&strings(alloc, &[b"force-command", &[0xff]])?])?;
-    let blob = changed(alloc, Part::Critical, &other)?;
+    lists_options(&rt, rt.alloc(), Part::Critical, &command, wanted)?;
+    let other: [&[u8]; 2] = [b"force-command", &[0xff]];
     let wanted = "        Critical Options:\n\
          \x20               force-command hex:ff\n\
          \x20       Extensions: (none)\n";
-    lists(&rt, alloc, &blob, Hash::Md5, wanted)?;
-    let pty = strings(
-        alloc,
-        &[&strings(alloc, &[b"permit-pty", b"", b"a\x1b", b"\x07"])?],
-    )?;
-    let blob = changed(alloc, Part::Extensions, &pty)?;
+    lists_options(&rt, rt.alloc(), Part::Critical, &other, wanted)
+}
+
+#[test]
+fn extensions_are_listed(rt: HostRuntime) -> Result<(), Fail> {
+    let pairs: [&[u8]; 4] = [b"permit-pty", b"", b"a\x1b", b"\x07"];
     let wanted = "        Extensions:\n                permit-pty\n                a\\x1b hex:07\n";
-    lists(&rt, alloc, &blob, Hash::Sha256, wanted)
+    lists_options(&rt, rt.alloc(), Part::Extensions, &pairs, wanted)
 }
 
 #[test]
@@ -160,21 +174,28 @@ fn instants_as_they_are_printed(rt: HostRuntime) -> Result<(), Fail> {
     Ok(())
 }
 
+/// With this time in place of a field the certificate is valid at a moment, or is not.
+fn is_valid(alloc: Global, part: Part, seconds: u64, moment: u64) -> Result<bool, Fail> {
+    let blob = changed(alloc, part, &seconds.to_be_bytes())?;
+    let cert = read(&blob)?;
+    Ok(valid_at(&cert, moment))
+}
+
 #[test]
 fn valid_from_the_first_second_before_the_last(rt: HostRuntime) -> Result<(), Fail> {
-    let alloc = rt.alloc();
-    let blob = changed(alloc, Part::Before, &[0, 0, 0, 0, 0, 0, 0, 9])?;
-    let cert = read_cert(&blob).ok().ok_or("the blob is a certificate")?;
-    assert!(rt; valid_at(&cert, 0));
-    assert!(rt; valid_at(&cert, 8));
-    assert!(rt; !valid_at(&cert, 9));
-    let blob = changed(alloc, Part::After, &[0, 0, 0, 0, 0, 0, 0, 9])?;
-    let cert = read_cert(&blob).ok().ok_or("the blob is a certificate")?;
-    assert!(rt; !valid_at(&cert, 8));
-    assert!(rt; valid_at(&cert, 9));
-    let blob = certificate(alloc)?;
-    let cert = read_cert(&blob).ok().ok_or("the blob is a certificate")?;
-    assert!(rt; !valid_at(&cert, u64::MAX));
+    let rows = [
+        (Part::Before, 9, 0, true),
+        (Part::Before, 9, 8, true),
+        (Part::Before, 9, 9, false),
+        (Part::After, 9, 8, false),
+        (Part::After, 9, 9, true),
+        // The published certificate as it is.
+        (Part::After, 0, u64::MAX, false),
+    ];
+    for (part, seconds, moment, wanted) in rows {
+        let found = is_valid(rt.alloc(), part, seconds, moment)?;
+        assert_eq!(rt; found, wanted, "at {moment}");
+    }
     Ok(())
 }
 

@@ -1,8 +1,8 @@
 // The principals, options and extensions of certificates.
 
-use crate::tests::parts::{Part, changed, strings};
-use ssh_cert::{Cert, read_cert};
-use std::alloc::Global;
+use crate::tests::parts::{Part, changed, read, strings};
+use ssh_cert::Cert;
+use std::alloc::{AllocError, Global};
 use std::process::Abort;
 use std::test::Fail;
 
@@ -20,17 +20,18 @@ fn has_critical(rt: &impl Abort, cert: &Cert, pairs: &[(&[u8], &[u8])]) {
     assert!(rt; options.next().is_none());
 }
 
-/// A certificate with this content in a field.
-fn with(alloc: Global, part: Part, content: &[u8]) -> Result<Vec<u8>, Fail> {
-    let field = strings(alloc, &[content])?;
-    Ok(changed(alloc, part, &field)?)
+/// A certificate with these strings in a field.
+fn with(alloc: Global, part: Part, list: &[&[u8]]) -> Result<Vec<u8>, AllocError> {
+    let content = strings(alloc, list)?;
+    let field = strings(alloc, &[&content])?;
+    changed(alloc, part, &field)
 }
 
 #[test]
 fn an_empty_name_and_empty_data(rt: HostRuntime) -> Result<(), Fail> {
     let field = [0, 0, 0, 8, 0, 0, 0, 0, 0, 0, 0, 0];
     let blob = changed(rt.alloc(), Part::Critical, &field)?;
-    let cert = read_cert(&blob).ok().ok_or("the blob is a certificate")?;
+    let cert = read(&blob)?;
     has_critical(&rt, &cert, &[(b"", b"")]);
     assert!(rt; cert.extensions().next().is_none());
     Ok(())
@@ -48,8 +49,8 @@ fn options_in_their_order(rt: HostRuntime) -> Result<(), Fail> {
         b"a",
         b"b",
     ];
-    let blob = with(alloc, Part::Critical, &strings(alloc, &parts)?)?;
-    let cert = read_cert(&blob).ok().ok_or("the blob is a certificate")?;
+    let blob = with(alloc, Part::Critical, &parts)?;
+    let cert = read(&blob)?;
     let pairs: [(&[u8], &[u8]); 3] = [
         (b"force-command", &command),
         (b"verify-required", b""),
@@ -62,12 +63,8 @@ fn options_in_their_order(rt: HostRuntime) -> Result<(), Fail> {
 #[test]
 fn extensions_beside_options(rt: HostRuntime) -> Result<(), Fail> {
     let alloc = rt.alloc();
-    let blob = with(
-        alloc,
-        Part::Extensions,
-        &strings(alloc, &[b"permit-pty", b""])?,
-    )?;
-    let cert = read_cert(&blob).ok().ok_or("the blob is a certificate")?;
+    let blob = with(alloc, Part::Extensions, &[b"permit-pty", b""])?;
+    let cert = read(&blob)?;
     has_critical(&rt, &cert, &[]);
     let mut extensions = cert.extensions();
     assert_eq!(rt;
@@ -81,12 +78,8 @@ fn extensions_beside_options(rt: HostRuntime) -> Result<(), Fail> {
 #[test]
 fn principals_in_their_order(rt: HostRuntime) -> Result<(), Fail> {
     let alloc = rt.alloc();
-    let blob = with(
-        alloc,
-        Part::Principals,
-        &strings(alloc, &[b"root", b"", b"admin"])?,
-    )?;
-    let cert = read_cert(&blob).ok().ok_or("the blob is a certificate")?;
+    let blob = with(alloc, Part::Principals, &[b"root", b"", b"admin"])?;
+    let cert = read(&blob)?;
     let mut principals = cert.principals();
     assert_eq!(rt; principals.next(), Some(b"root".as_slice()));
     assert_eq!(rt; principals.next(), Some(b"".as_slice()));

@@ -1,6 +1,9 @@
 // Certificates from their parts.
 
+use ssh_cert::{Cert, CertFault, Subject, read_cert, subject};
 use std::alloc::{AllocError, Global};
+use std::process::Abort;
+use std::test::Fail;
 
 /// The public field of the Ed25519 key that GitHub publishes for its hosts.
 pub const PUBLISHED: [u8; 32] = [
@@ -113,4 +116,26 @@ pub fn before(alloc: Global, part: Part) -> Result<Vec<u8>, AllocError> {
         blob.extend_from_slice(&spelled(alloc, other)?)?;
     }
     Ok(blob)
+}
+
+/// The certificate of a blob.
+pub fn read(blob: &[u8]) -> Result<Cert<'_>, Fail> {
+    Ok(read_cert(blob).ok().ok_or("the blob is a certificate")?)
+}
+
+/// The blob has this fault.
+pub fn has_fault(rt: &impl Abort, blob: &[u8], fault: CertFault) {
+    assert_eq!(rt; read_cert(blob).err(), Some(fault), "{} bytes", blob.len());
+}
+
+/// What is asked about a blob.
+pub fn asked(alloc: Global, blob: &[u8]) -> Result<Subject<'_>, Fail> {
+    Ok(subject(alloc, blob).ok().ok_or("the blob is a key")?)
+}
+
+/// This plain key is asked for a blob.
+pub fn is_asked(rt: &impl Abort, alloc: Global, blob: &[u8], plain: &[u8]) -> Result<(), Fail> {
+    let asked = asked(alloc, blob)?;
+    assert_eq!(rt; asked.plain.as_slice(), plain);
+    Ok(())
 }

@@ -1,10 +1,12 @@
 // Certificates read, and the fault of each change of a field.
 
-use crate::tests::parts::{AUTHORITY, PUBLISHED, Part, certificate, changed, plain, strings};
-use ssh_cert::{CertFault, Role, read_cert};
+use crate::tests::parts::{
+    AUTHORITY, PUBLISHED, Part, certificate, changed, has_fault, plain, read, strings,
+};
+use ssh_cert::{Cert, CertFault, Role};
 use ssh_key::{KeyFault, Kind};
 use ssh_wire::WireFault;
-use std::alloc::Global;
+use std::alloc::{AllocError, Global};
 use std::process::Abort;
 use std::test::Fail;
 
@@ -15,61 +17,79 @@ fn refuses(
     part: Part,
     field: &[u8],
     fault: CertFault,
-) -> Result<(), Fail> {
+) -> Result<(), AllocError> {
     let blob = changed(alloc, part, field)?;
-    assert_eq!(rt; read_cert(&blob).err(), Some(fault), "at {part:?}");
+    has_fault(rt, &blob, fault);
     Ok(())
+}
+
+/// The numbers and texts are those of the published certificate.
+fn has_values(rt: &impl Abort, cert: &Cert) {
+    assert_eq!(rt; cert.nonce(), b"".as_slice());
+    assert_eq!(rt; cert.serial(), 7);
+    assert_eq!(rt; cert.role(), Role::User);
+    assert_eq!(rt; cert.key_id(), b"a".as_slice());
+    assert_eq!(rt; cert.after(), 0);
+    assert_eq!(rt; cert.before(), u64::MAX);
+    assert_eq!(rt; cert.algorithm(), b"ssh-ed25519".as_slice());
+}
+
+/// No names, options and extensions stand in the certificate.
+fn has_no_lists(rt: &impl Abort, cert: &Cert) {
+    assert!(rt; cert.principals().next().is_none());
+    assert!(rt; cert.critical().next().is_none());
+    assert!(rt; cert.extensions().next().is_none());
+}
+
+/// The certificate is for a key of these public fields, by this authority.
+fn has_keys(rt: &impl Abort, cert: &Cert, fields: &[u8], authority: &[u8]) {
+    assert_eq!(rt; cert.kind(), Kind::Ed25519);
+    assert_eq!(rt; cert.key().bits(), 256);
+    assert_eq!(rt; cert.key().public_fields(), fields);
+    assert_eq!(rt; cert.authority(), authority);
+    assert_eq!(rt; cert.authority_key().kind(), Kind::Ed25519);
 }
 
 #[test]
 fn each_field_is_lent(rt: HostRuntime) -> Result<(), Fail> {
     let alloc = rt.alloc();
+    let fields = strings(alloc, &[&PUBLISHED])?;
+    let authority = plain(alloc, &AUTHORITY)?;
     let blob = certificate(alloc)?;
     assert_eq!(rt; blob.len(), 267);
-    let cert = read_cert(&blob).ok().ok_or("the blob is a certificate")?;
-    assert_eq!(rt; cert.kind(), Kind::Ed25519);
-    assert_eq!(rt; cert.nonce(), b"".as_slice());
-    assert_eq!(rt; cert.key().bits(), 256);
-    assert_eq!(rt;
-        cert.key().public_fields(),
-        strings(alloc, &[&PUBLISHED])?.as_slice()
-    );
-    assert_eq!(rt; cert.serial(), 7);
-    assert_eq!(rt; cert.role(), Role::User);
-    assert_eq!(rt; cert.key_id(), b"a".as_slice());
-    assert!(rt; cert.principals().next().is_none());
-    assert_eq!(rt; cert.after(), 0);
-    assert_eq!(rt; cert.before(), u64::MAX);
-    assert!(rt; cert.critical().next().is_none());
-    assert!(rt; cert.extensions().next().is_none());
-    assert_eq!(rt; cert.authority(), plain(alloc, &AUTHORITY)?.as_slice());
-    assert_eq!(rt; cert.authority_key().kind(), Kind::Ed25519);
-    assert_eq!(rt; cert.algorithm(), b"ssh-ed25519".as_slice());
+    let cert = read(&blob)?;
+    has_values(&rt, &cert);
+    has_no_lists(&rt, &cert);
+    has_keys(&rt, &cert, &fields, &authority);
     Ok(())
 }
 
 #[test]
 fn changed_fields_have_their_faults(rt: HostRuntime) -> Result<(), Fail> {
+    let one: &[u8] = &[0, 0, 0, 4, 0, 0, 0, 0];
+    let rows: [(Part, &[u8], CertFault); 8] = [
+        (Part::Role, &[0, 0, 0, 3], CertFault::CertType),
+        (Part::Role, &[0, 0, 0, 0], CertFault::CertType),
+        (Part::Role, &[1, 0, 0, 1], CertFault::CertType),
+        (Part::Principals, b"\0\0\0\x01a", CertFault::Principals),
+        (Part::Critical, one, CertFault::Options),
+        (Part::Extensions, one, CertFault::Options),
+        (Part::Signature, &[0; 4], CertFault::Signature),
+        (Part::Type, b"\0\0\0\x0bssh-ed25519", CertFault::UnknownType),
+    ];
+    for (part, field, fault) in rows {
+        refuses(&rt, rt.alloc(), part, field, fault)?;
+    }
+    Ok(())
+}
+
+#[test]
+fn a_certified_authority(rt: HostRuntime) -> Result<(), Fail> {
     let alloc = rt.alloc();
-    refuses(&rt, alloc, Part::Role, &[0, 0, 0, 3], CertFault::CertType)?;
-    refuses(&rt, alloc, Part::Role, &[0, 0, 0, 0], CertFault::CertType)?;
-    refuses(&rt, alloc, Part::Role, &[1, 0, 0, 1], CertFault::CertType)?;
-    refuses(
-        &rt,
-        alloc,
-        Part::Principals,
-        &[0, 0, 0, 1, 0x61],
-        CertFault::Principals,
-    )?;
-    let one: [u8; 8] = [0, 0, 0, 4, 0, 0, 0, 0];
-    refuses(&rt, alloc, Part::Critical, &one, CertFault::Options)?;
-    refuses(&rt, alloc, Part::Extensions, &one, CertFault::Options)?;
-    refuses(&rt, alloc, Part::Signature, &[0; 4], CertFault::Signature)?;
-    let plain_name = strings(alloc, &[b"ssh-ed25519"])?;
-    refuses(&rt, alloc, Part::Type, &plain_name, CertFault::UnknownType)?;
-    let certified = strings(alloc, &[&certificate(alloc)?])?;
+    let blob = certificate(alloc)?;
+    let field = strings(alloc, &[&blob])?;
     let unknown = CertFault::Authority(KeyFault::UnknownType);
-    refuses(&rt, alloc, Part::Authority, &certified, unknown)?;
+    refuses(&rt, alloc, Part::Authority, &field, unknown)?;
     Ok(())
 }
 
@@ -77,14 +97,14 @@ fn changed_fields_have_their_faults(rt: HostRuntime) -> Result<(), Fail> {
 fn bytes_after_the_signature(rt: HostRuntime) -> Result<(), Fail> {
     let mut blob = certificate(rt.alloc())?;
     blob.push(0)?;
-    assert_eq!(rt; read_cert(&blob).err(), Some(CertFault::Trailing));
+    has_fault(&rt, &blob, CertFault::Trailing);
     Ok(())
 }
 
 #[test]
 fn hosts_are_told_from_users(rt: HostRuntime) -> Result<(), Fail> {
     let blob = changed(rt.alloc(), Part::Role, &[0, 0, 0, 2])?;
-    let cert = read_cert(&blob).ok().ok_or("the blob is a certificate")?;
+    let cert = read(&blob)?;
     assert_eq!(rt; cert.role(), Role::Host);
     Ok(())
 }
@@ -97,7 +117,7 @@ fn relengthened(
     length: u32,
     content: &[u8],
     fault: CertFault,
-) -> Result<(), Fail> {
+) -> Result<(), AllocError> {
     let mut field = Vec::from_slice(alloc, &length.to_be_bytes())?;
     field.extend_from_slice(content)?;
     refuses(rt, alloc, part, &field, fault)
@@ -105,28 +125,16 @@ fn relengthened(
 
 #[test]
 fn lengths_one_more_and_one_less(rt: HostRuntime) -> Result<(), Fail> {
-    let alloc = rt.alloc();
-    let short = KeyFault::Wire(WireFault::Short);
     let name = b"ssh-ed25519-cert-v01@openssh.com";
-    let authority = plain(alloc, &AUTHORITY)?;
-    let signature = strings(alloc, &[b"ssh-ed25519", &[0; 64]])?;
-    let rows: [(Part, u32, &[u8], CertFault); 20] = [
+    let short = CertFault::Key(KeyFault::Wire(WireFault::Short));
+    let length = CertFault::Key(KeyFault::Length);
+    let rows: [(Part, u32, &[u8], CertFault); 16] = [
         (Part::Type, 33, name, CertFault::UnknownType),
         (Part::Type, 31, name, CertFault::UnknownType),
-        (Part::Nonce, 1, b"", CertFault::Key(short)),
+        (Part::Nonce, 1, b"", short),
         (Part::Nonce, u32::MAX, b"", CertFault::Wire),
-        (
-            Part::Public,
-            33,
-            &PUBLISHED,
-            CertFault::Key(KeyFault::Length),
-        ),
-        (
-            Part::Public,
-            31,
-            &PUBLISHED,
-            CertFault::Key(KeyFault::Length),
-        ),
+        (Part::Public, 33, &PUBLISHED, length),
+        (Part::Public, 31, &PUBLISHED, length),
         (Part::KeyId, 2, b"a", CertFault::Wire),
         (Part::KeyId, 0, b"a", CertFault::Wire),
         (Part::Principals, 1, b"", CertFault::Principals),
@@ -137,13 +145,23 @@ fn lengths_one_more_and_one_less(rt: HostRuntime) -> Result<(), Fail> {
         (Part::Extensions, u32::MAX, b"", CertFault::Wire),
         (Part::Reserved, 1, b"", CertFault::Wire),
         (Part::Reserved, u32::MAX, b"", CertFault::Wire),
-        (
-            Part::Authority,
-            52,
-            &authority,
-            CertFault::Authority(KeyFault::Trailing),
-        ),
-        (Part::Authority, 50, &authority, CertFault::Authority(short)),
+    ];
+    for (part, length, content, fault) in rows {
+        relengthened(&rt, rt.alloc(), part, length, content, fault)?;
+    }
+    Ok(())
+}
+
+#[test]
+fn lengths_of_the_authority_and_the_signature(rt: HostRuntime) -> Result<(), Fail> {
+    let alloc = rt.alloc();
+    let authority = plain(alloc, &AUTHORITY)?;
+    let signature = strings(alloc, &[b"ssh-ed25519", &[0; 64]])?;
+    let trailing = CertFault::Authority(KeyFault::Trailing);
+    let short = CertFault::Authority(KeyFault::Wire(WireFault::Short));
+    let rows: [(Part, u32, &[u8], CertFault); 4] = [
+        (Part::Authority, 52, &authority, trailing),
+        (Part::Authority, 50, &authority, short),
         (Part::Signature, 84, &signature, CertFault::Wire),
         (Part::Signature, 82, &signature, CertFault::Trailing),
     ];
