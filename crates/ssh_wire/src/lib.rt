@@ -27,6 +27,3 @@ pub use pull_fault::PullFault;
 pub use put::{put_byte, put_mpint, put_string, put_u32, put_u64};
 pub use sending::{Sent, send};
 pub use to_write::ToWrite;
-
-#[cfg(test)]
-mod tests;

@@ -8,7 +8,7 @@ mod reader;
 mod rest;
 mod writer;
 
-use crate::{Bytes, PullFault, WireFault};
+use ssh_wire::{Bytes, PullFault, WireFault};
 use std::test::*;
 
 #[test]

@@ -1,4 +1,4 @@
-use crate::{Cursor, WireFault};
+use ssh_wire::{Cursor, WireFault};
 use std::test::*;
 
 #[test]

@@ -1,6 +1,6 @@
 // Writers that are interrupted, take few bytes, or fail.
 
-use crate::{Failed, Sent, Sink, ToWrite, send};
+use ssh_wire::{Failed, Sent, Sink, ToWrite, send};
 use std::alloc::Global;
 use std::io::{self, ErrorKind, Write};
 use std::test::*;

@@ -1,4 +1,4 @@
-use crate::{put_byte, put_mpint, put_string, put_u32, put_u64};
+use ssh_wire::{put_byte, put_mpint, put_string, put_u32, put_u64};
 use std::test::*;
 
 #[test]
@@ -28,7 +28,7 @@ fn a_long_number_has_eight_bytes(rt: HostRuntime) -> Result<(), Fail> {
 }
 
 #[test]
-#[tactic(auto, using(crate::specs::Magnitudes::complement_fits))]
+#[tactic(auto, using(ssh_wire::specs::Magnitudes::complement_fits))]
 fn a_zero_byte_leads_where_the_top_bit_is_set(rt: HostRuntime) -> Result<(), Fail> {
     let rows: [(&[u8], &[u8]); 4] = [
         (b"", b"\0\0\0\0"),
@@ -79,7 +79,7 @@ fn long_vectors_grow(rt: HostRuntime) -> Result<(), Fail> {
 }
 
 #[test]
-#[tactic(auto, using(crate::specs::Magnitudes::complement_fits))]
+#[tactic(auto, using(ssh_wire::specs::Magnitudes::complement_fits))]
 fn long_strings_are_put(rt: HostRuntime) -> Result<(), Fail> {
     let bytes = vec![in rt.alloc(); 0x81; 70_000]?;
     let mut out = Vec::new(rt.alloc());

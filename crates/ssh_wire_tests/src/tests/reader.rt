@@ -1,6 +1,6 @@
 // Readers that are interrupted, give few bytes, or fail.
 
-use crate::{Failed, FromRead, Source};
+use ssh_wire::{Failed, FromRead, Source};
 use std::cell::Cell;
 use std::io::{self, ErrorKind, Read};
 use std::test::*;

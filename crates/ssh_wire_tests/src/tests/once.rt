@@ -2,7 +2,7 @@
 
 ghost use Rattle.std.specs.Prelude.{◌≤◌, IfOk};
 
-use crate::{Failed, FromRead, Pull, PullFault, Sent, Sink, Source, ToWrite, send};
+use ssh_wire::{Failed, FromRead, Pull, PullFault, Sent, Sink, Source, ToWrite, send};
 use std::io::{self, ErrorKind, Read, Write};
 use std::test::*;
 

@@ -1,6 +1,6 @@
 // Fields from readers that give few bytes at a call, fail, or never end.
 
-use crate::{FromRead, Pull, PullFault};
+use ssh_wire::{FromRead, Pull, PullFault};
 use std::alloc::Global;
 use std::io::{self, ErrorKind, Read};
 use std::test::*;

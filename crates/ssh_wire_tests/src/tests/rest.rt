@@ -1,7 +1,7 @@
 // All that is left of readers that give few bytes at a call, fail, or never end.
 
-use crate::PullFault;
 use crate::tests::pull::{TEXT, Then, pull, text_of};
+use ssh_wire::PullFault;
 use std::test::*;
 
 #[test]
