@@ -26,9 +26,9 @@ impl<'a> Model for Named<'a> {
     ghost view = { λ file. record { name = file.name.now; content = file.content } };
 }
 
-/// Reads a file to its end, and gives the reader back. It is `TooLong` where the reader gives a byte
-/// past 16,777,216, `Read` where it fails before that, and `NoMemory` where memory for bytes that were
-/// read is refused.
+/// Reads a file to its end, and gives the reader back. It is `TooLong` where the reader gives a
+/// byte past 16,777,216, `Read` where it fails before that, and `NoMemory` where memory for bytes
+/// that were read is refused.
 pub fn load<'a, R: Source + Drop>(alloc: Global, name: &'a str, reader: R) -> (Named<'a>, R)
     requires { R.has_failed reader ≡ false }
     ensures name { result.0.name ≡ name.now }
