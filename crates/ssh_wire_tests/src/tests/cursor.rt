@@ -1,58 +1,106 @@
+// Fields that are read from the front of bytes, and those that are not there.
+
 use ssh_wire::{Cursor, WireFault};
 use std::test::*;
 
+/// What is asked of a cursor, and what it answers.
+#[derive(Clone, Copy)]
+enum Step<'a> {
+    Byte(Result<u8, WireFault>),
+    Number(Result<u32, WireFault>),
+    Long(Result<u64, WireFault>),
+    Text(Result<&'a [u8], WireFault>),
+    Magnitude(Result<&'a [u8], WireFault>),
+    AtEnd(bool),
+    Rest(&'a [u8]),
+}
+
+use Step::{AtEnd, Byte, Long, Magnitude, Number, Rest, Text};
+
+fn meets(cursor: &mut Cursor<'_>, step: Step<'_>) -> bool {
+    match step {
+        Byte(answer) => cursor.byte() == answer,
+        Number(answer) => cursor.u32() == answer,
+        Long(answer) => cursor.u64() == answer,
+        Text(answer) => cursor.string() == answer,
+        Magnitude(answer) => cursor.mpint() == answer,
+        AtEnd(answer) => cursor.at_end() == answer,
+        Rest(bytes) => cursor.rest() == bytes,
+    }
+}
+
+/// How many of the steps over the bytes are answered so, up to the first that is not.
+fn met(bytes: &[u8], steps: &[Step<'_>]) -> usize {
+    let mut cursor = Cursor::new(bytes);
+    for (at, step) in steps.iter().enumerate() {
+        if !meets(&mut cursor, *step) {
+            return at;
+        }
+    }
+    steps.len()
+}
+
 #[test]
 fn reads_a_row_of_fields(rt: HostRuntime) {
-    let mut cursor = Cursor::new(b"\x01\x29\xb7\xf4\xaa\0\0\0\x01\0\0\0\x02\0\0\0\x02hi!");
-    assert_eq!(rt; cursor.byte(), Ok(1));
-    assert_eq!(rt; cursor.u32(), Ok(699_921_578));
-    assert_eq!(rt; cursor.u64(), Ok(0x1_0000_0002));
-    assert_eq!(rt; cursor.string(), Ok(b"hi".as_slice()));
-    assert!(rt; !cursor.at_end());
-    assert_eq!(rt; cursor.rest(), b"!".as_slice());
-    assert_eq!(rt; cursor.byte(), Ok(33));
-    assert!(rt; cursor.at_end());
+    let steps = [
+        Byte(Ok(1)),
+        Number(Ok(699_921_578)),
+        Long(Ok(0x1_0000_0002)),
+        Text(Ok(b"hi")),
+        AtEnd(false),
+        Rest(b"!"),
+        Byte(Ok(33)),
+        AtEnd(true),
+    ];
+    let bytes = b"\x01\x29\xb7\xf4\xaa\0\0\0\x01\0\0\0\x02\0\0\0\x02hi!";
+    assert_eq!(rt; met(bytes, &steps), steps.len());
 }
 
 #[test]
 fn refuses_what_is_cut_off_and_stays(rt: HostRuntime) {
-    let mut cursor = Cursor::new(b"");
-    assert_eq!(rt; cursor.byte(), Err(WireFault::Short));
-    assert!(rt; cursor.at_end());
+    assert_eq!(rt; met(b"", &[Byte(Err(WireFault::Short)), AtEnd(true)]), 2);
     let whole = b"\0\0\0\x04abcd".as_slice();
     for size in 0..8 {
         let bytes = &whole[..size];
-        let mut cursor = Cursor::new(bytes);
-        assert_eq!(rt; cursor.u64(), Err(WireFault::Short));
-        assert_eq!(rt; cursor.string(), Err(WireFault::Short));
-        assert_eq!(rt; cursor.mpint(), Err(WireFault::Short));
-        if size < 4 {
-            assert_eq!(rt; cursor.u32(), Err(WireFault::Short));
-        }
-        assert_eq!(rt; cursor.rest(), bytes);
+        let steps = [
+            Long(Err(WireFault::Short)),
+            Text(Err(WireFault::Short)),
+            Magnitude(Err(WireFault::Short)),
+            Rest(bytes),
+            // up to three bytes
+            Number(Err(WireFault::Short)),
+            Rest(bytes),
+        ];
+        let asked = if size < 4 { 6 } else { 4 };
+        assert_eq!(rt; met(bytes, &steps[..asked]), asked, "{size} bytes");
     }
+}
+
+/// The bytes of a number, and what is read of them.
+const NUMBERS: [(&[u8], Result<&[u8], WireFault>); 9] = [
+    (b"\0\0\0\0", Ok(b"")),
+    (b"\0\0\0\x02\0\x80", Ok(b"\x80")),
+    (
+        b"\0\0\0\x08\x09\xa3\x78\xf9\xb2\xe3\x32\xa7",
+        Ok(b"\x09\xa3\x78\xf9\xb2\xe3\x32\xa7"),
+    ),
+    (b"\0\0\0\x01\0", Err(WireFault::NotShortest)),
+    (b"\0\0\0\x02\0\x7f", Err(WireFault::NotShortest)),
+    (b"\0\0\0\x01\x80", Err(WireFault::Negative)),
+    (b"\0\0\0\x02\xed\xcc", Err(WireFault::Negative)),
+    (b"\0\0\0\x05\xff\x21\x52\x41\x11", Err(WireFault::Negative)),
+    (b"\0\0\0\x02\x01", Err(WireFault::Short)),
+];
+
+/// Whether the number is read so, and takes all bytes or none.
+fn reads(bytes: &[u8], read: Result<&[u8], WireFault>) -> bool {
+    let left = if read.is_ok() { &[] } else { bytes };
+    met(bytes, &[Magnitude(read), Rest(left)]) == 2
 }
 
 #[test]
 fn reads_shortest_numbers_alone(rt: HostRuntime) {
-    let rows: [(&[u8], Result<&[u8], WireFault>); 9] = [
-        (b"\0\0\0\0", Ok(b"")),
-        (b"\0\0\0\x02\0\x80", Ok(b"\x80")),
-        (
-            b"\0\0\0\x08\x09\xa3\x78\xf9\xb2\xe3\x32\xa7",
-            Ok(b"\x09\xa3\x78\xf9\xb2\xe3\x32\xa7"),
-        ),
-        (b"\0\0\0\x01\0", Err(WireFault::NotShortest)),
-        (b"\0\0\0\x02\0\x7f", Err(WireFault::NotShortest)),
-        (b"\0\0\0\x01\x80", Err(WireFault::Negative)),
-        (b"\0\0\0\x02\xed\xcc", Err(WireFault::Negative)),
-        (b"\0\0\0\x05\xff\x21\x52\x41\x11", Err(WireFault::Negative)),
-        (b"\0\0\0\x02\x01", Err(WireFault::Short)),
-    ];
-    for (bytes, read) in rows {
-        let mut cursor = Cursor::new(bytes);
-        assert_eq!(rt; cursor.mpint(), read);
-        let left = if read.is_ok() { b"".as_slice() } else { bytes };
-        assert_eq!(rt; cursor.rest(), left);
+    for (i, (bytes, read)) in NUMBERS.iter().enumerate() {
+        assert!(rt; reads(bytes, *read), "row {i}");
     }
 }

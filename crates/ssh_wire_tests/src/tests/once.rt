@@ -73,6 +73,23 @@ fn a_reader_that_fails_once_has_failed(rt: HostRuntime) {
     }
 }
 
+/// Whether each of three writes to the device fails.
+fn refuses_writes(device: Once) -> bool {
+    let mut writer = ToWrite::new(device);
+    for _ in 0..3 {
+        if writer.write(b"abc") != Err(Failed) || !writer.failed() {
+            return false;
+        }
+    }
+    true
+}
+
+/// Whether no byte is sent to the device.
+fn refuses_to_send(device: Once) -> bool {
+    let mut writer = ToWrite::new(device);
+    send(&mut writer, b"abc") == Err(Sent { count: 0 }) && writer.failed()
+}
+
 #[test]
 fn a_writer_that_refuses_once_has_failed(rt: HostRuntime) {
     for error in [
@@ -81,13 +98,7 @@ fn a_writer_that_refuses_once_has_failed(rt: HostRuntime) {
         Some(ErrorKind::TimedOut),
         None,
     ] {
-        let mut writer = ToWrite::new(device(error));
-        for _ in 0..3 {
-            assert_eq!(rt; writer.write(b"abc"), Err(Failed));
-            assert!(rt; writer.failed());
-        }
-        let mut writer = ToWrite::new(device(error));
-        assert_eq!(rt; send(&mut writer, b"abc"), Err(Sent { count: 0 }));
-        assert!(rt; writer.failed());
+        assert!(rt; refuses_writes(device(error)));
+        assert!(rt; refuses_to_send(device(error)));
     }
 }

@@ -1,7 +1,7 @@
 // Fields from readers that give few bytes at a call, fail, or never end.
 
 use ssh_wire::{FromRead, Pull, PullFault};
-use std::alloc::Global;
+use std::alloc::{AllocError, Global};
 use std::io::{self, ErrorKind, Read};
 use std::test::*;
 
@@ -43,18 +43,20 @@ impl<'a> Read for Giver<'a> {
 
 /// What is asked of a reader, and what it answers.
 #[derive(Clone, Copy)]
-enum Step<'a> {
+pub enum Step<'a> {
     Byte(Result<u8, PullFault>),
     Array(Result<[u8; 4], PullFault>),
     Fills(&'a [u8]),
     Bytes(&'a [u8]),
     BytesInto(&'a [u8]),
     Refuses(usize, PullFault),
+    Rest(&'a [u8]),
+    RestRefused(PullFault),
     AtEnd(Result<bool, PullFault>),
     Taken(u64),
 }
 
-use Step::{Array, AtEnd, Byte, Bytes, BytesInto, Fills, Refuses, Taken};
+use Step::{Array, AtEnd, Byte, Bytes, BytesInto, Fills, Refuses, Rest, RestRefused, Taken};
 
 pub type Reader<'a> = Pull<FromRead<Giver<'a>>>;
 
@@ -62,11 +64,15 @@ pub fn pull(bytes: &[u8], piece: usize, then: Then, limit: u64) -> Reader<'_> {
     Pull::new(FromRead::new(Giver { bytes, piece, then }), limit)
 }
 
-/// Whether filling a slice gives these bytes.
-fn fills(reader: &mut Reader<'_>, alloc: Global, field: &[u8]) -> Result<bool, Fail> {
-    let mut into = vec![in alloc; 0; field.len()]?;
-    reader.fill(&mut into)?;
-    Ok(into.as_slice() == field)
+/// So many bytes of a reader.
+fn filled(reader: &mut Reader<'_>, alloc: Global, size: usize) -> Result<Vec<u8>, Fail> {
+    let mut into = vec![in alloc; 0; size]?;
+    fill(reader, &mut into)?;
+    Ok(into)
+}
+
+fn fill(reader: &mut Reader<'_>, into: &mut [u8]) -> Result<(), PullFault> {
+    reader.fill(into)
 }
 
 /// Whether a vector that held something else holds these bytes.
@@ -86,21 +92,28 @@ fn refuses(reader: &mut Reader<'_>, alloc: Global, size: usize) -> Result<PullFa
     Ok(answer.err().unwrap_or(PullFault::NoMemory))
 }
 
+/// Whether all that is left is these bytes.
+pub fn gives_rest(reader: &mut Reader<'_>, alloc: Global, bytes: &[u8]) -> Result<bool, PullFault> {
+    Ok(reader.rest(alloc)?.as_slice() == bytes)
+}
+
 fn meets(reader: &mut Reader<'_>, alloc: Global, step: Step<'_>) -> Result<bool, Fail> {
     Ok(match step {
         Byte(answer) => reader.byte() == answer,
         Array(answer) => reader.array() == answer,
-        Fills(field) => fills(reader, alloc, field)?,
+        Fills(field) => filled(reader, alloc, field.len())?.as_slice() == field,
         Bytes(field) => reader.bytes(alloc, field.len())?.as_slice() == field,
         BytesInto(field) => holds(reader, alloc, field)?,
         Refuses(size, fault) => refuses(reader, alloc, size)? == fault,
+        Rest(bytes) => gives_rest(reader, alloc, bytes)?,
+        RestRefused(fault) => reader.rest(alloc).err() == Some(fault),
         AtEnd(answer) => reader.at_end() == answer,
         Taken(count) => reader.taken() == count,
     })
 }
 
 /// How many of the steps are answered so, up to the first that is not.
-fn met(reader: &mut Reader<'_>, alloc: Global, steps: &[Step<'_>]) -> Result<usize, Fail> {
+pub fn met(reader: &mut Reader<'_>, alloc: Global, steps: &[Step<'_>]) -> Result<usize, Fail> {
     for (at, step) in steps.iter().enumerate() {
         if !meets(reader, alloc, *step)? {
             return Ok(at);
@@ -110,6 +123,11 @@ fn met(reader: &mut Reader<'_>, alloc: Global, steps: &[Step<'_>]) -> Result<usi
 }
 
 pub const TEXT: &[u8] = b"\x01\0\0\0\x02hi0123456789abcdef";
+
+/// A reader of the text.
+pub fn of_text(piece: usize, then: Then, limit: u64) -> Reader<'static> {
+    pull(TEXT, piece, then, limit)
+}
 
 /// A row of calls on a reader of the text, with what it does then and its limit.
 struct Row<'a> {
@@ -246,18 +264,20 @@ const ROWS: [Row<'static>; 11] = [
 fn answers_do_not_hang_on_the_pieces(rt: HostRuntime) -> Result<(), Fail> {
     for row in &ROWS {
         for piece in [1, 3, 7, 64] {
-            let mut reader = pull(TEXT, piece, row.then, row.limit);
+            let mut reader = of_text(piece, row.then, row.limit);
             assert_eq!(rt; met(&mut reader, rt.alloc(), row.steps)?, row.steps.len());
         }
     }
     Ok(())
 }
 
-/// So many bytes, no two next to each other equal.
-pub fn text_of(alloc: Global, size: u64) -> Result<Vec<u8>, Fail> {
+/// So many bytes: those from 0 to 250, again and again.
+pub fn text_of(alloc: Global, size: u64) -> Result<Vec<u8>, AllocError> {
     let mut text = Vec::new(alloc);
-    for i in 0..size {
-        text.push((i % 251) as u8)?;
+    let mut byte: u8 = 0;
+    for _ in 0..size {
+        text.push(byte)?;
+        byte = if byte == 250 { 0 } else { byte.wrapping_add(1) };
     }
     Ok(text)
 }
@@ -278,7 +298,7 @@ fn large_fields_come_whole(rt: HostRuntime) -> Result<(), Fail> {
 
 #[test]
 fn a_refused_growth_is_answered_again(rt: HostRuntime) {
-    let mut reader = pull(TEXT, 7, Then::Ends, 100);
+    let mut reader = of_text(7, Then::Ends, 100);
     if reader.bytes(rt.alloc(), 20).is_err() {
         assert_eq!(rt; reader.byte(), Err(PullFault::NoMemory));
         assert_eq!(rt; reader.taken(), 0);

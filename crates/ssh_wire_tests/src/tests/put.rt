@@ -1,29 +1,53 @@
+// Fields that are put after what stands in a vector.
+
 use ssh_wire::{put_byte, put_mpint, put_string, put_u32, put_u64};
+use std::alloc::AllocError;
 use std::test::*;
+
+/// A field that is put.
+#[derive(Clone, Copy)]
+enum Field {
+    Byte(u8),
+    Number(u32),
+    Long(u64),
+    Text(&'static [u8; 7]),
+}
+
+fn put(out: &mut Vec<u8>, field: Field) -> Result<(), AllocError> {
+    match field {
+        Field::Byte(byte) => put_byte(out, byte),
+        Field::Number(n) => put_u32(out, n),
+        Field::Long(n) => put_u64(out, n),
+        Field::Text(text) => put_string(out, text),
+    }
+}
+
+/// Fields that are put one after the other, and what stands after each.
+const PUTS: [(Field, &[u8]); 3] = [
+    (Field::Byte(9), b"\x09"),
+    (Field::Number(699_921_578), b"\x09\x29\xb7\xf4\xaa"),
+    (
+        Field::Text(b"testing"),
+        b"\x09\x29\xb7\xf4\xaa\0\0\0\x07testing",
+    ),
+];
 
 #[test]
 fn puts_append_to_what_stands(rt: HostRuntime) -> Result<(), Fail> {
     let mut out = Vec::new(rt.alloc());
-    put_byte(&mut out, 9)?;
-    assert_eq!(rt; out.as_slice(), b"\x09".as_slice());
-    put_u32(&mut out, 699_921_578)?;
-    assert_eq!(rt; out.as_slice(), b"\x09\x29\xb7\xf4\xaa".as_slice());
-    put_string(&mut out, b"testing")?;
-    assert_eq!(rt;
-        out.as_slice(),
-        b"\x09\x29\xb7\xf4\xaa\0\0\0\x07testing".as_slice()
-    );
+    for (field, bytes) in &PUTS {
+        put(&mut out, *field)?;
+        assert_eq!(rt; out.as_slice(), *bytes);
+    }
     Ok(())
 }
 
 #[test]
 fn a_long_number_has_eight_bytes(rt: HostRuntime) -> Result<(), Fail> {
     let mut out = Vec::new(rt.alloc());
-    put_u64(&mut out, 0x0102_0304_0506_0708)?;
-    assert_eq!(rt;
-        out.as_slice(),
-        b"\x01\x02\x03\x04\x05\x06\x07\x08".as_slice()
-    );
+    put(&mut out, Field::Long(0x0102_0304_0506_0708))?;
+    let bytes = b"\x01\x02\x03\x04\x05\x06\x07\x08".as_slice();
+    assert_eq!(rt; out.as_slice(), bytes);
     Ok(())
 }
 
@@ -64,22 +88,40 @@ fn length_put(out: &mut Vec<u8>, bytes: &[u8]) -> Result<[u8; 4], Fail> {
     Ok([*a, *b, *c, *d])
 }
 
-#[test]
-fn long_vectors_grow(rt: HostRuntime) -> Result<(), Fail> {
-    let mut out = Vec::new(rt.alloc());
+/// Puts fields of 310,000 bytes.
+fn put_many(out: &mut Vec<u8>) -> Result<(), AllocError> {
     for _ in 0..70_000_u32 {
-        put_byte(&mut out, 7)?;
+        put_byte(out, 7)?;
     }
     for _ in 0..20_000_u32 {
-        put_u32(&mut out, 7)?;
-        put_u64(&mut out, 7)?;
+        put(out, Field::Number(7))?;
+        put(out, Field::Long(7))?;
     }
-    assert_eq!(rt; out.len(), 310_000);
     Ok(())
 }
 
 #[test]
+fn long_vectors_grow(rt: HostRuntime) -> Result<(), Fail> {
+    let mut out = Vec::new(rt.alloc());
+    put_many(&mut out)?;
+    assert_eq!(rt; out.len(), 310_000);
+    Ok(())
+}
+
+/// Puts a number of up to 100,000 bytes.
 #[tactic(auto, using(ssh_wire::specs::Magnitudes::complement_fits))]
+fn put_number(out: &mut Vec<u8>, magnitude: &[u8]) -> Result<(), Fail> {
+    let [1..=255, ..] = magnitude else {
+        return Err("the number has no first byte".into());
+    };
+    if magnitude.len() > 100_000 {
+        return Err("the number is too long".into());
+    }
+    put_mpint(out, magnitude)?;
+    Ok(())
+}
+
+#[test]
 fn long_strings_are_put(rt: HostRuntime) -> Result<(), Fail> {
     let bytes = vec![in rt.alloc(); 0x81; 70_000]?;
     let mut out = Vec::new(rt.alloc());
@@ -93,7 +135,7 @@ fn long_strings_are_put(rt: HostRuntime) -> Result<(), Fail> {
         assert_eq!(rt; length_put(&mut out, string)?, length);
     }
     let before = out.len();
-    put_mpint(&mut out, &bytes)?;
+    put_number(&mut out, &bytes)?;
     let number = out.get(before..).ok_or("the vector is shorter")?;
     assert_eq!(rt; number.len(), 70_005);
     assert!(rt; number.starts_with(b"\0\x01\x11\x71\0\x81"));

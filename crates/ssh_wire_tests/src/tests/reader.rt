@@ -31,72 +31,114 @@ impl<'a> Read for Device<'a> {
     }
 }
 
-#[test]
-fn gives_short_reads_and_the_end(rt: HostRuntime) {
-    let interruptions = Cell::new(0);
-    let mut reader = FromRead::new(Device {
+/// What is done with a reader and a buffer of four bytes.
+#[derive(Clone, Copy)]
+enum Step {
+    /// So many interruptions come next.
+    Interrupted(u16),
+    /// The answer to a read into the buffer from a place on. The reader has failed by an error.
+    Reads(usize, Result<usize, Failed>),
+    /// The bytes of the buffer.
+    Holds([u8; 4]),
+}
+
+use Step::{Holds, Interrupted, Reads};
+
+/// A row of steps with a reader of these bytes.
+struct Row<'a> {
+    bytes: &'a [u8],
+    fails: bool,
+    steps: &'a [Step],
+}
+
+const ROWS: [Row<'static>; 4] = [
+    // Short reads, and the end.
+    Row {
         bytes: b"abc",
-        interruptions: &interruptions,
         fails: false,
-    });
-    let mut into = [0; 4];
-    assert_eq!(rt; reader.read(&mut into[..0]), Ok(0));
-    assert_eq!(rt; reader.read(&mut into), Ok(2));
-    assert_eq!(rt; reader.read(&mut into[2..]), Ok(1));
-    assert_eq!(rt; into, *b"abc\0");
-    assert_eq!(rt; reader.read(&mut into), Ok(0));
-    assert!(rt; !reader.failed());
-}
-
-#[test]
-fn a_thousand_interruptions_in_all_are_passed_over(rt: HostRuntime) {
-    let interruptions = Cell::new(600);
-    let mut reader = FromRead::new(Device {
+        steps: &[
+            Reads(4, Ok(0)),
+            Reads(0, Ok(2)),
+            Reads(2, Ok(1)),
+            Holds([b'a', b'b', b'c', 0]),
+            Reads(0, Ok(0)),
+        ],
+    },
+    // A thousand interruptions in all are passed over, and one more is a failure.
+    Row {
         bytes: b"abcde",
-        interruptions: &interruptions,
         fails: false,
-    });
-    let mut into = [0; 4];
-    assert_eq!(rt; reader.read(&mut into), Ok(2));
-    interruptions.set(400);
-    assert_eq!(rt; reader.read(&mut into[2..]), Ok(2));
-    assert_eq!(rt; into, *b"abcd");
-    assert!(rt; !reader.failed());
-    interruptions.set(1);
-    assert_eq!(rt; reader.read(&mut into), Err(Failed));
-    assert!(rt; reader.failed());
-    assert_eq!(rt; into, *b"abcd");
-}
-
-#[test]
-fn one_more_interruption_is_a_failure(rt: HostRuntime) {
-    let interruptions = Cell::new(1001);
-    let mut reader = FromRead::new(Device {
+        steps: &[
+            Interrupted(600),
+            Reads(0, Ok(2)),
+            Interrupted(400),
+            Reads(2, Ok(2)),
+            Holds([b'a', b'b', b'c', b'd']),
+            Interrupted(1),
+            Reads(0, Err(Failed)),
+            Holds([b'a', b'b', b'c', b'd']),
+        ],
+    },
+    Row {
         bytes: b"a",
-        interruptions: &interruptions,
         fails: false,
-    });
-    let mut into = [0; 4];
-    for _ in 0..3 {
-        assert_eq!(rt; reader.read(&mut into), Err(Failed));
-        assert!(rt; reader.failed());
-    }
-    assert_eq!(rt; into, [0; 4]);
+        steps: &[
+            Interrupted(1001),
+            Reads(0, Err(Failed)),
+            Reads(0, Err(Failed)),
+            Reads(0, Err(Failed)),
+            Holds([0; 4]),
+        ],
+    },
+    // Another error is a failure.
+    Row {
+        bytes: b"ab",
+        fails: true,
+        steps: &[
+            Reads(0, Ok(2)),
+            Reads(0, Err(Failed)),
+            Reads(0, Err(Failed)),
+            Reads(0, Err(Failed)),
+        ],
+    },
+];
+
+fn reads(
+    reader: &mut FromRead<Device<'_>>,
+    into: &mut [u8],
+    answer: Result<usize, Failed>,
+) -> bool {
+    reader.read(into) == answer && reader.failed() == answer.is_err()
 }
 
-#[test]
-fn another_error_is_a_failure(rt: HostRuntime) {
+/// How many of the row's steps go so, up to the first that does not.
+fn met(row: &Row<'_>) -> usize {
     let interruptions = Cell::new(0);
     let mut reader = FromRead::new(Device {
-        bytes: b"ab",
+        bytes: row.bytes,
         interruptions: &interruptions,
-        fails: true,
+        fails: row.fails,
     });
-    let mut into = [0; 4];
-    assert_eq!(rt; reader.read(&mut into), Ok(2));
-    assert!(rt; !reader.failed());
-    for _ in 0..3 {
-        assert_eq!(rt; reader.read(&mut into), Err(Failed));
-        assert!(rt; reader.failed());
+    let mut buffer = [0; 4];
+    for (at, step) in row.steps.iter().enumerate() {
+        let goes = match *step {
+            Interrupted(count) => {
+                interruptions.set(count);
+                true
+            }
+            Reads(from, answer) => { from <= 4 && reads(&mut reader, &mut buffer[from..], answer) }
+            Holds(bytes) => buffer == bytes,
+        };
+        if !goes {
+            return at;
+        }
+    }
+    row.steps.len()
+}
+
+#[test]
+fn calls_are_answered_so(rt: HostRuntime) {
+    for (i, row) in ROWS.iter().enumerate() {
+        assert_eq!(rt; met(row), row.steps.len(), "row {i}");
     }
 }

@@ -46,23 +46,23 @@ fn fresh(alloc: Global, piece: usize, interruptions: u16, calls_before_failure: 
 
 const LINE: &[u8] = b"g.pub: REVOKED\n";
 
+/// Whether sending the text is answered so, and makes a failed writer of it by an error.
+fn sends(device: &mut Device, text: &[u8], answer: Result<(), Sent>) -> bool {
+    let mut writer = ToWrite::new(device);
+    send(&mut writer, text) == answer && writer.failed() == answer.is_err()
+}
+
 #[test]
 fn sends_all_in_pieces(rt: HostRuntime) {
     let mut inner = fresh(rt.alloc(), 3, 1000, 255);
-    let mut writer = ToWrite::new(&mut inner);
-    assert_eq!(rt; send(&mut writer, LINE), Ok(()));
-    assert!(rt; !writer.failed());
-    drop(writer);
+    assert!(rt; sends(&mut inner, LINE, Ok(())));
     assert_eq!(rt; inner.taken.as_slice(), LINE);
 }
 
 #[test]
 fn tells_how_many_bytes_went_out(rt: HostRuntime) {
     let mut inner = fresh(rt.alloc(), 3, 0, 3);
-    let mut writer = ToWrite::new(&mut inner);
-    assert_eq!(rt; send(&mut writer, LINE), Err(Sent { count: 9 }));
-    assert!(rt; writer.failed());
-    drop(writer);
+    assert!(rt; sends(&mut inner, LINE, Err(Sent { count: 9 })));
     assert_eq!(rt; inner.taken.as_slice(), b"g.pub: RE".as_slice());
 }
 
@@ -97,9 +97,7 @@ fn sends_long_texts(rt: HostRuntime) -> Result<(), Fail> {
     let text = vec![in rt.alloc(); 7; 70_000]?;
     for piece in [1000, 4096, 100_000] {
         let mut inner = fresh(rt.alloc(), piece, 0, 255);
-        let mut writer = ToWrite::new(&mut inner);
-        assert_eq!(rt; send(&mut writer, &text), Ok(()));
-        drop(writer);
+        assert!(rt; sends(&mut inner, &text, Ok(())), "{piece} bytes at a call");
         assert!(rt; inner.taken.as_slice() == text.as_slice());
     }
     Ok(())
