@@ -9,6 +9,21 @@ use std::alloc::{AllocError, Global};
 use std::process::Abort;
 use std::test::Fail;
 
+/// The blob is a key of this kind, this size and these public fields, and is made of it again.
+fn is_key(
+    rt: &impl Abort,
+    alloc: Global,
+    blob: &[u8],
+    kind: Kind,
+    bits: u32,
+    fields: &[u8],
+) -> Result<(), Fail> {
+    let key = read_key(blob).ok().ok_or("the blob is a key")?;
+    has_parts(rt, &key, kind, bits, fields);
+    is_made(rt, alloc, &key, blob)?;
+    Ok(())
+}
+
 /// The blob of these strings is a key of this kind and size, and is made of that key again.
 fn reads(
     rt: &impl Abort,
@@ -19,10 +34,7 @@ fn reads(
 ) -> Result<(), Fail> {
     let fields = strings(alloc, list.get(1..).unwrap_or(&[]))?;
     let blob = strings(alloc, list)?;
-    let key = read_key(&blob).ok().ok_or("the blob is a key")?;
-    has_parts(rt, &key, kind, bits, &fields);
-    is_made(rt, alloc, &key, &blob)?;
-    Ok(())
+    is_key(rt, alloc, &blob, kind, bits, &fields)
 }
 
 /// The blob of these strings has this fault.
@@ -39,11 +51,14 @@ fn refuses(
 
 #[test]
 fn keys_of_numbers(rt: HostRuntime) -> Result<(), Fail> {
-    let alloc = rt.alloc();
-    reads(&rt, alloc, &[b"ssh-rsa", &[3], &[0, 0xff]], Kind::Rsa, 8)?;
-    reads(&rt, alloc, &[b"ssh-rsa", &[3], &[1, 0]], Kind::Rsa, 9)?;
-    let dsa: [&[u8]; 5] = [b"ssh-dss", &[0x17], &[5], &[2], &[9]];
-    reads(&rt, alloc, &dsa, Kind::Dsa, 5)?;
+    let rows: [(&[&[u8]], Kind, u32); 3] = [
+        (&[b"ssh-rsa", &[3], &[0, 0xff]], Kind::Rsa, 8),
+        (&[b"ssh-rsa", &[3], &[1, 0]], Kind::Rsa, 9),
+        (&[b"ssh-dss", &[0x17], &[5], &[2], &[9]], Kind::Dsa, 5),
+    ];
+    for (list, kind, bits) in rows {
+        reads(&rt, rt.alloc(), list, kind, bits)?;
+    }
     Ok(())
 }
 
@@ -63,13 +78,20 @@ fn on_curve(
 
 #[test]
 fn keys_on_curves(rt: HostRuntime) -> Result<(), Fail> {
-    let alloc = rt.alloc();
-    let p256 = ("ecdsa-sha2-nistp256", "nistp256");
-    let p384 = ("ecdsa-sha2-nistp384", "nistp384");
-    let p521 = ("ecdsa-sha2-nistp521", "nistp521");
-    on_curve(&rt, alloc, Kind::Ecdsa256, p256, 65, 256)?;
-    on_curve(&rt, alloc, Kind::Ecdsa384, p384, 97, 384)?;
-    on_curve(&rt, alloc, Kind::Ecdsa521, p521, 133, 521)
+    let rows = [
+        (Kind::Ecdsa256, ("ecdsa-sha2-nistp256", "nistp256"), 65, 256),
+        (Kind::Ecdsa384, ("ecdsa-sha2-nistp384", "nistp384"), 97, 384),
+        (
+            Kind::Ecdsa521,
+            ("ecdsa-sha2-nistp521", "nistp521"),
+            133,
+            521,
+        ),
+    ];
+    for (kind, names, size, bits) in rows {
+        on_curve(&rt, rt.alloc(), kind, names, size, bits)?;
+    }
+    Ok(())
 }
 
 #[test]
@@ -83,39 +105,37 @@ fn key_on_a_curve_of_a_device(rt: HostRuntime) -> Result<(), Fail> {
 
 #[test]
 fn keys_of_32_bytes(rt: HostRuntime) -> Result<(), Fail> {
-    let alloc = rt.alloc();
-    let published: [&[u8]; 2] = [b"ssh-ed25519", &PUBLISHED];
-    let plain: [&[u8]; 2] = [b"ssh-ed25519", &[0x11; 32]];
-    let device: [&[u8]; 3] = [b"sk-ssh-ed25519@openssh.com", &PUBLISHED, b"ssh:"];
-    reads(&rt, alloc, &published, Kind::Ed25519, 256)?;
-    reads(&rt, alloc, &plain, Kind::Ed25519, 256)?;
-    reads(&rt, alloc, &device, Kind::Ed25519Sk, 256)?;
+    let rows: [(&[&[u8]], Kind); 3] = [
+        (&[b"ssh-ed25519", &PUBLISHED], Kind::Ed25519),
+        (&[b"ssh-ed25519", &[0x11; 32]], Kind::Ed25519),
+        (
+            &[b"sk-ssh-ed25519@openssh.com", &PUBLISHED, b"ssh:"],
+            Kind::Ed25519Sk,
+        ),
+    ];
+    for (list, kind) in rows {
+        reads(&rt, rt.alloc(), list, kind, 256)?;
+    }
     Ok(())
 }
 
 #[test]
 fn faults_of_numbers(rt: HostRuntime) -> Result<(), Fail> {
-    let alloc = rt.alloc();
     let not_shortest = KeyFault::Wire(WireFault::NotShortest);
     let negative = KeyFault::Wire(WireFault::Negative);
-    refuses(&rt, alloc, &[b"ssh-rsa", &[3], &[0, 0x7f]], not_shortest)?;
-    refuses(&rt, alloc, &[b"ssh-rsa", &[3], &[0]], not_shortest)?;
-    refuses(&rt, alloc, &[b"ssh-rsa", &[3], &[0xff]], negative)?;
-    refuses(&rt, alloc, &[b"ssh-rsa", &[], &[0, 0xff]], KeyFault::Number)?;
-    refuses(&rt, alloc, &[b"ssh-rsa", &[3], &[]], KeyFault::Number)?;
-    refuses(&rt, alloc, &[b"ssh-rsa", &[], &[0xff]], KeyFault::Number)?;
-    refuses(
-        &rt,
-        alloc,
-        &[b"ssh-dss", &[0x17], &[5], &[2], &[]],
-        KeyFault::Number,
-    )?;
-    refuses(
-        &rt,
-        alloc,
-        &[b"ssh-rsa", &[3]],
-        KeyFault::Wire(WireFault::Short),
-    )?;
+    let rows: [(&[&[u8]], KeyFault); 8] = [
+        (&[b"ssh-rsa", &[3], &[0, 0x7f]], not_shortest),
+        (&[b"ssh-rsa", &[3], &[0]], not_shortest),
+        (&[b"ssh-rsa", &[3], &[0xff]], negative),
+        (&[b"ssh-rsa", &[], &[0, 0xff]], KeyFault::Number),
+        (&[b"ssh-rsa", &[3], &[]], KeyFault::Number),
+        (&[b"ssh-rsa", &[], &[0xff]], KeyFault::Number),
+        (&[b"ssh-dss", &[0x17], &[5], &[2], &[]], KeyFault::Number),
+        (&[b"ssh-rsa", &[3]], KeyFault::Wire(WireFault::Short)),
+    ];
+    for (list, fault) in rows {
+        refuses(&rt, rt.alloc(), list, fault)?;
+    }
     Ok(())
 }
 
@@ -155,20 +175,18 @@ fn faults_of_points(rt: HostRuntime) -> Result<(), Fail> {
 
 #[test]
 fn faults_of_strings(rt: HostRuntime) -> Result<(), Fail> {
-    let alloc = rt.alloc();
     let short = KeyFault::Wire(WireFault::Short);
-    let device = b"sk-ssh-ed25519@openssh.com";
     let certificate = b"ssh-ed25519-cert-v01@openssh.com";
-    refuses(&rt, alloc, &[b"ssh-ed25519", &[7; 31]], KeyFault::Length)?;
-    refuses(&rt, alloc, &[b"ssh-ed25519", &[7; 33]], KeyFault::Length)?;
-    refuses(&rt, alloc, &[device, &PUBLISHED], short)?;
-    refuses(
-        &rt,
-        alloc,
-        &[certificate, &PUBLISHED],
-        KeyFault::UnknownType,
-    )?;
-    refuses(&rt, alloc, &[], short)?;
+    let rows: [(&[&[u8]], KeyFault); 5] = [
+        (&[b"ssh-ed25519", &[7; 31]], KeyFault::Length),
+        (&[b"ssh-ed25519", &[7; 33]], KeyFault::Length),
+        (&[b"sk-ssh-ed25519@openssh.com", &PUBLISHED], short),
+        (&[certificate, &PUBLISHED], KeyFault::UnknownType),
+        (&[], short),
+    ];
+    for (list, fault) in rows {
+        refuses(&rt, rt.alloc(), list, fault)?;
+    }
     Ok(())
 }
 

@@ -1,7 +1,6 @@
 // The names of kinds.
 
 use ssh_key::Kind;
-use std::process::Abort;
 
 const NAMES: [(Kind, &str, &str); 8] = [
     (Kind::Rsa, "ssh-rsa", "RSA"),
@@ -29,17 +28,21 @@ const CERTIFICATE_NAMES: [(Kind, &str); 8] = [
     (Kind::Ed25519Sk, "sk-ssh-ed25519-cert-v01@openssh.com"),
 ];
 
-/// The kind has these names, and is found by the first.
-fn is_named(rt: &impl Abort, kind: Kind, name: &str, short_name: &str) {
-    assert_eq!(rt; kind.name(), name);
-    assert_eq!(rt; kind.short_name(), short_name);
-    assert_eq!(rt; Kind::of_name(name.as_bytes()), Some(kind), "{name}");
+/// Whether the kind has these names.
+fn has_names(kind: Kind, name: &str, short_name: &str) -> bool {
+    kind.name() == name && kind.short_name() == short_name
+}
+
+/// Whether the kind, or none, is found by this name.
+fn is_found(name: &str, kind: Option<Kind>) -> bool {
+    Kind::of_name(name.as_bytes()) == kind
 }
 
 #[test]
 fn names(rt: HostRuntime) {
     for (kind, name, short_name) in NAMES {
-        is_named(&rt, kind, name, short_name);
+        assert!(rt; has_names(kind, name, short_name), "{name}");
+        assert!(rt; is_found(name, Some(kind)), "{name}");
     }
 }
 
@@ -54,20 +57,25 @@ fn other_names(rt: HostRuntime) {
         "ssh-rsa-cert-v01@openssh.com",
         "ssh-ed25519-cert-v01@openssh.com",
     ] {
-        assert_eq!(rt; Kind::of_name(name.as_bytes()), None, "{name}");
+        assert!(rt; is_found(name, None), "{name}");
     }
 }
 
-/// Certificates of this kind of key have this name, and the kind is found by it.
-fn is_certified(rt: &impl Abort, kind: Kind, name: &str) {
-    assert_eq!(rt; kind.cert_name(), name);
-    assert_eq!(rt; Kind::of_cert_name(name.as_bytes()), Some(kind), "{name}");
+/// Whether certificates of this kind of key have this name.
+fn certifies(kind: Kind, name: &str) -> bool {
+    kind.cert_name() == name
+}
+
+/// Whether the kind of key, or none, is found by this name of a certificate.
+fn is_certified(name: &str, kind: Option<Kind>) -> bool {
+    Kind::of_cert_name(name.as_bytes()) == kind
 }
 
 #[test]
 fn certificate_names(rt: HostRuntime) {
     for (kind, name) in CERTIFICATE_NAMES {
-        is_certified(&rt, kind, name);
+        assert!(rt; certifies(kind, name), "{name}");
+        assert!(rt; is_certified(name, Some(kind)), "{name}");
     }
 }
 
@@ -81,6 +89,6 @@ fn no_certificate_names(rt: HostRuntime) {
         "ssh-rsa-cert-v01",
         "rsa-sha2-256-cert-v01@openssh.com",
     ] {
-        assert_eq!(rt; Kind::of_cert_name(name.as_bytes()), None, "{name}");
+        assert!(rt; is_certified(name, None), "{name}");
     }
 }

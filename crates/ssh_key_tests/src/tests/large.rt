@@ -4,7 +4,6 @@ use crate::tests::parts::{PUBLISHED, has_fault, has_fingerprint, is_made, string
 use base64::engine::general_purpose::STANDARD;
 use ssh_key::{Hash, KeyFault, read_key, read_line};
 use std::alloc::{AllocError, Global};
-use std::process::Abort;
 use std::test::Fail;
 
 /// A key of a device whose application has so many bytes.
@@ -16,25 +15,30 @@ fn device_key(alloc: Global, size: usize) -> Result<Vec<u8>, AllocError> {
     )
 }
 
-/// The line of a key and a comment of so many bytes is read.
-fn reads_line(
-    rt: &impl Abort,
-    alloc: Global,
-    application: usize,
-    comment: usize,
-) -> Result<(), Fail> {
-    let blob = device_key(alloc, application)?;
-    let comment = vec![in alloc; b'c'; comment]?;
-    let base64 = STANDARD.encode(alloc, &blob)?;
-    let mut text = vec![in alloc; b' '; 1]?;
-    text.extend_from_slice(b"sk-ssh-ed25519@openssh.com ")?;
+/// The line of a device's key and a comment.
+fn line_of(alloc: Global, blob: &[u8], comment: &[u8]) -> Result<Vec<u8>, AllocError> {
+    let base64 = STANDARD.encode(alloc, blob)?;
+    let mut text = Vec::from_slice(alloc, b" sk-ssh-ed25519@openssh.com ")?;
     text.extend_from_slice(base64.as_bytes())?;
     text.push(b' ')?;
-    text.extend_from_slice(&comment)?;
-    let line = read_line(alloc, &text)?;
-    assert_eq!(rt; line.blob.as_slice(), blob.as_slice());
-    assert_eq!(rt; line.comment, comment.as_slice());
-    Ok(())
+    text.extend_from_slice(comment)?;
+    Ok(text)
+}
+
+/// Whether the line gives this key and this comment.
+fn gives(alloc: Global, text: &[u8], blob: &[u8], comment: &[u8]) -> bool {
+    match read_line(alloc, text) {
+        Ok(line) => line.blob.as_slice() == blob && line.comment == comment,
+        Err(_) => false,
+    }
+}
+
+/// Whether the line of a key and a comment of so many bytes is read.
+fn reads_line(alloc: Global, application: usize, comment: usize) -> Result<bool, AllocError> {
+    let blob = device_key(alloc, application)?;
+    let comment = vec![in alloc; b'c'; comment]?;
+    let text = line_of(alloc, &blob, &comment)?;
+    Ok(gives(alloc, &text, &blob, &comment))
 }
 
 #[test]
@@ -52,8 +56,8 @@ fn blobs(rt: HostRuntime) -> Result<(), Fail> {
 fn lines(rt: HostRuntime) -> Result<(), Fail> {
     let alloc = rt.alloc();
     for size in [0, 1_000, 1_025, 4_097, 65_466, 70_000, 300_000] {
-        reads_line(&rt, alloc, size, 1)?;
-        reads_line(&rt, alloc, 1, size)?;
+        assert!(rt; reads_line(alloc, size, 1)?, "{size}");
+        assert!(rt; reads_line(alloc, 1, size)?, "{size}");
     }
     Ok(())
 }
@@ -63,7 +67,7 @@ fn long_key_of_a_line(rt: HostRuntime) -> Result<(), Fail> {
     // A line holds a key of any length: it is the key that is too long, and not the line.
     let alloc = rt.alloc();
     let blob = device_key(alloc, 65_467)?;
-    reads_line(&rt, alloc, 65_467, 1)?;
+    assert!(rt; reads_line(alloc, 65_467, 1)?);
     has_fault(&rt, &blob, KeyFault::TooLong);
     Ok(())
 }

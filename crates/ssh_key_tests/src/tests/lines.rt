@@ -3,7 +3,6 @@
 use crate::tests::parts::{PUBLISHED_BASE64, PUBLISHED_TYPE, published_key};
 use ssh_key::{LineFault, read_line};
 use std::alloc::{AllocError, Global};
-use std::process::Abort;
 use std::test::Fail;
 
 /// The base64 of the key between two texts.
@@ -11,115 +10,132 @@ fn line(alloc: Global, before: &str, after: &str) -> Result<String, AllocError> 
     format!(in alloc; "{before}{PUBLISHED_BASE64}{after}")
 }
 
-/// Whether the line gives the key and this comment.
-fn gives(alloc: Global, line: &str, comment: &str) -> Result<bool, Fail> {
-    let key = published_key(alloc)?;
-    Ok(match read_line(alloc, line.as_bytes()) {
+/// Whether the line gives the published key and this comment.
+fn gives(alloc: Global, line: &str, key: &[u8], comment: &str) -> bool {
+    match read_line(alloc, line.as_bytes()) {
         Ok(read) => {
             read.word == PUBLISHED_TYPE.as_bytes()
-                && read.blob.as_slice() == key.as_slice()
+                && read.blob.as_slice() == key
                 && read.comment == comment.as_bytes()
         }
         Err(_) => false,
-    })
+    }
 }
+
+/// Whether the line of the key between two texts gives it and this comment.
+fn reads(alloc: Global, before: &str, after: &str, comment: &str) -> Result<bool, AllocError> {
+    let line = line(alloc, before, after)?;
+    let key = published_key(alloc)?;
+    Ok(gives(alloc, line.as_str(), &key, comment))
+}
+
+const READ: [(&str, &str, &str); 13] = [
+    ("ssh-ed25519 ", "", ""),
+    ("ssh-ed25519 ", " a", "a"),
+    // Blanks are spaces and tabs; those within the comment stay.
+    ("ssh-ed25519\t \t", "\t a \t b", "a \t b"),
+    // Blanks at both ends and carriage returns at the end go.
+    (" \tssh-ed25519 ", "\r", ""),
+    ("ssh-ed25519 ", " a b \r \r", "a b"),
+    // A carriage return elsewhere is a byte like any other.
+    ("ssh-ed25519 ", " a\rb", "a\rb"),
+    // Options fields.
+    ("no-pty ssh-ed25519 ", "", ""),
+    ("command=\"a \\\" b\" ssh-ed25519 ", "", ""),
+    ("command=\"a b\",no-pty \t ssh-ed25519 ", " c", "c"),
+    ("\"\"\"a b\"c ssh-ed25519 ", "", ""),
+    ("a\\\"b ssh-ed25519 ", "", ""),
+    ("\\a ssh-ed25519 ", "", ""),
+    // A type name in an options field is no type word.
+    ("\"ssh-rsa \" ssh-ed25519 ", "", ""),
+];
 
 #[test]
 fn read(rt: HostRuntime) -> Result<(), Fail> {
-    let rows = [
-        ("ssh-ed25519 ", "", ""),
-        ("ssh-ed25519 ", " a", "a"),
-        // Blanks are spaces and tabs; those within the comment stay.
-        ("ssh-ed25519\t \t", "\t a \t b", "a \t b"),
-        // Blanks at both ends and carriage returns at the end go.
-        (" \tssh-ed25519 ", "\r", ""),
-        ("ssh-ed25519 ", " a b \r \r", "a b"),
-        // A carriage return elsewhere is a byte like any other.
-        ("ssh-ed25519 ", " a\rb", "a\rb"),
-        // Options fields.
-        ("no-pty ssh-ed25519 ", "", ""),
-        ("command=\"a \\\" b\" ssh-ed25519 ", "", ""),
-        ("command=\"a b\",no-pty \t ssh-ed25519 ", " c", "c"),
-        ("\"\"\"a b\"c ssh-ed25519 ", "", ""),
-        ("a\\\"b ssh-ed25519 ", "", ""),
-        ("\\a ssh-ed25519 ", "", ""),
-        // A type name in an options field is no type word.
-        ("\"ssh-rsa \" ssh-ed25519 ", "", ""),
-    ];
-    for (before, after, comment) in rows {
-        let line = line(rt.alloc(), before, after)?;
-        assert!(rt; gives(rt.alloc(), line.as_str(), comment)?, "{line}");
+    for (before, after, comment) in &READ {
+        assert!(rt;
+            reads(rt.alloc(), before, after, comment)?,
+            "{before}..{after}"
+        );
     }
     Ok(())
 }
 
-/// The line is refused with this fault.
-fn is_refused(rt: &impl Abort, alloc: Global, line: &str, fault: LineFault) {
-    assert_eq!(rt;
-        read_line(alloc, line.as_bytes()).err(),
-        Some(fault),
-        "{line}"
-    );
+/// Why the line is refused.
+fn refusal(alloc: Global, line: &str) -> Option<LineFault> {
+    read_line(alloc, line.as_bytes()).err()
 }
+
+/// Why the line of the key between two texts is refused.
+fn refusal_between(
+    alloc: Global,
+    before: &str,
+    after: &str,
+) -> Result<Option<LineFault>, AllocError> {
+    let line = line(alloc, before, after)?;
+    Ok(refusal(alloc, line.as_str()))
+}
+
+const REFUSED: [(&str, &str, LineFault); 15] = [
+    // Another type name before the key, and behind an options field, and one of a certificate.
+    ("ssh-rsa ", "", LineFault::WordDiffers),
+    ("no-pty ssh-dss ", "", LineFault::WordDiffers),
+    (
+        "ssh-ed25519-cert-v01@openssh.com ",
+        "",
+        LineFault::WordDiffers,
+    ),
+    // No type name.
+    ("", "", LineFault::NoKey),
+    ("ssh-ed448 ", "", LineFault::NoKey),
+    ("SSH-ED25519 ", "", LineFault::NoKey),
+    ("ssh-ed25519\r ", "", LineFault::NoKey),
+    ("a b ssh-ed25519 ", "", LineFault::NoKey),
+    // A field that ends early, and fields that end inside quotes.
+    ("\"a \"b c\" d\" ssh-ed25519 ", "", LineFault::NoKey),
+    ("\"a ssh-ed25519 ", "", LineFault::NoKey),
+    ("\"a\\\" ssh-ed25519 ", "", LineFault::NoKey),
+    ("\"a\\\\\" ssh-ed25519 ", "", LineFault::NoKey),
+    // Bytes that are not base64.
+    ("ssh-ed25519 ", "=", LineFault::Base64),
+    ("ssh-ed25519 ", "\n", LineFault::Base64),
+    ("ssh-ed25519 -", "", LineFault::Base64),
+];
 
 #[test]
 fn refused(rt: HostRuntime) -> Result<(), Fail> {
-    let rows = [
-        // Another type name before the key, and behind an options field, and one of a certificate.
-        ("ssh-rsa ", "", LineFault::WordDiffers),
-        ("no-pty ssh-dss ", "", LineFault::WordDiffers),
-        (
-            "ssh-ed25519-cert-v01@openssh.com ",
-            "",
-            LineFault::WordDiffers,
-        ),
-        // No type name.
-        ("", "", LineFault::NoKey),
-        ("ssh-ed448 ", "", LineFault::NoKey),
-        ("SSH-ED25519 ", "", LineFault::NoKey),
-        ("ssh-ed25519\r ", "", LineFault::NoKey),
-        ("a b ssh-ed25519 ", "", LineFault::NoKey),
-        // A field that ends early, and fields that end inside quotes.
-        ("\"a \"b c\" d\" ssh-ed25519 ", "", LineFault::NoKey),
-        ("\"a ssh-ed25519 ", "", LineFault::NoKey),
-        ("\"a\\\" ssh-ed25519 ", "", LineFault::NoKey),
-        ("\"a\\\\\" ssh-ed25519 ", "", LineFault::NoKey),
-        // Bytes that are not base64.
-        ("ssh-ed25519 ", "=", LineFault::Base64),
-        ("ssh-ed25519 ", "\n", LineFault::Base64),
-        ("ssh-ed25519 -", "", LineFault::Base64),
-    ];
-    for (before, after, fault) in rows {
-        let line = line(rt.alloc(), before, after)?;
-        is_refused(&rt, rt.alloc(), line.as_str(), fault);
+    for (before, after, fault) in &REFUSED {
+        let found = refusal_between(rt.alloc(), before, after)?;
+        assert_eq!(rt; found, Some(*fault), "{before}..{after}");
     }
     Ok(())
 }
 
+const WITHOUT_THE_KEY: [(&str, LineFault); 16] = [
+    ("", LineFault::NoKey),
+    (" \t \r", LineFault::NoKey),
+    ("ssh-ed25519", LineFault::NoKey),
+    ("ssh-ed25519 \t\r", LineFault::NoKey),
+    ("no-pty ssh-ed25519", LineFault::NoKey),
+    ("no-pty", LineFault::NoKey),
+    ("ssh-ed25519 AAA", LineFault::Base64),
+    // Padding is missing, stands too early, or is too long; an unused bit is set.
+    ("ssh-ed25519 AAAAAA", LineFault::Base64),
+    ("ssh-ed25519 AA==AAAA", LineFault::Base64),
+    ("ssh-ed25519 AAAA====", LineFault::Base64),
+    ("ssh-ed25519 AAAAAB==", LineFault::Base64),
+    ("ssh-ed25519 AAAAAAB=", LineFault::Base64),
+    // The first string is cut short, or is another.
+    ("ssh-ed25519 AAAA", LineFault::WordDiffers),
+    ("ssh-ed25519 AAAAAA==", LineFault::WordDiffers),
+    ("ssh-ed25519 AAAAC3NzaC1l", LineFault::WordDiffers),
+    ("ssh-ed25519 AAAAB3NzaC1yc2E=", LineFault::WordDiffers),
+];
+
 #[test]
 fn refused_without_the_key(rt: HostRuntime) {
-    let rows = [
-        ("", LineFault::NoKey),
-        (" \t \r", LineFault::NoKey),
-        ("ssh-ed25519", LineFault::NoKey),
-        ("ssh-ed25519 \t\r", LineFault::NoKey),
-        ("no-pty ssh-ed25519", LineFault::NoKey),
-        ("no-pty", LineFault::NoKey),
-        ("ssh-ed25519 AAA", LineFault::Base64),
-        // Padding is missing, stands too early, or is too long; an unused bit is set.
-        ("ssh-ed25519 AAAAAA", LineFault::Base64),
-        ("ssh-ed25519 AA==AAAA", LineFault::Base64),
-        ("ssh-ed25519 AAAA====", LineFault::Base64),
-        ("ssh-ed25519 AAAAAB==", LineFault::Base64),
-        ("ssh-ed25519 AAAAAAB=", LineFault::Base64),
-        // The first string is cut short, or is another.
-        ("ssh-ed25519 AAAA", LineFault::WordDiffers),
-        ("ssh-ed25519 AAAAAA==", LineFault::WordDiffers),
-        ("ssh-ed25519 AAAAC3NzaC1l", LineFault::WordDiffers),
-        ("ssh-ed25519 AAAAB3NzaC1yc2E=", LineFault::WordDiffers),
-    ];
-    for (line, fault) in rows {
-        is_refused(&rt, rt.alloc(), line, fault);
+    for (line, fault) in &WITHOUT_THE_KEY {
+        assert_eq!(rt; refusal(rt.alloc(), line), Some(*fault), "{line}");
     }
 }
 

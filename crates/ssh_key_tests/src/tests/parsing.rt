@@ -2,7 +2,7 @@
 
 use crate::tests::parts::{has_digits, published_key};
 use ssh_key::{FingerprintFault, Hash, fingerprint, parse_fingerprint, sha256_of};
-use std::alloc::Global;
+use std::alloc::{AllocError, Global};
 use std::process::Abort;
 use std::test::Fail;
 
@@ -26,14 +26,14 @@ fn printed_and_read(rt: HostRuntime) -> Result<(), Fail> {
     Ok(())
 }
 
+/// Why the text is refused.
+fn refusal(alloc: Global, text: &[u8]) -> Option<FingerprintFault> {
+    parse_fingerprint(alloc, text).err()
+}
+
 /// The text is refused with this fault.
 fn is_refused(rt: &impl Abort, alloc: Global, text: &[u8], fault: FingerprintFault) {
-    assert_eq!(rt;
-        parse_fingerprint(alloc, text).err(),
-        Some(fault),
-        "{} bytes",
-        text.len()
-    );
+    assert_eq!(rt; refusal(alloc, text), Some(fault), "{} bytes", text.len());
 }
 
 #[test]
@@ -56,12 +56,25 @@ fn refused(rt: HostRuntime) {
     }
 }
 
+/// The prefix and so many letters, with this text after them.
+fn long_text(alloc: Global, letters: usize, end: &str) -> Result<Vec<u8>, AllocError> {
+    let mut text = Vec::from_slice(alloc, b"SHA256:")?;
+    for _ in 0..letters {
+        text.push(b'A')?;
+    }
+    text.extend_from_slice(end.as_bytes())?;
+    Ok(text)
+}
+
 #[test]
 fn long_texts(rt: HostRuntime) -> Result<(), Fail> {
-    let mut text = vec![in rt.alloc(); b'A'; 100_007]?;
-    text[..7].copy_from_slice(b"SHA256:");
-    is_refused(&rt, rt.alloc(), &text, FingerprintFault::Length);
-    text.push(b'=')?;
-    is_refused(&rt, rt.alloc(), &text, FingerprintFault::Base64);
+    let rows = [
+        ("", FingerprintFault::Length),
+        ("=", FingerprintFault::Base64),
+    ];
+    for (end, fault) in rows {
+        let text = long_text(rt.alloc(), 100_000, end)?;
+        is_refused(&rt, rt.alloc(), &text, fault);
+    }
     Ok(())
 }

@@ -43,12 +43,20 @@ pub fn published_key(alloc: Global) -> Result<Vec<u8>, AllocError> {
     strings(alloc, &[PUBLISHED_TYPE.as_bytes(), &PUBLISHED])
 }
 
+/// Whether the key has this kind, and its short name.
+fn is_of(key: &PublicKey, kind: Kind) -> bool {
+    key.kind() == kind && key.short_name() == kind.short_name()
+}
+
+/// Whether the key has this size and these public fields.
+fn has_fields(key: &PublicKey, bits: u32, fields: &[u8]) -> bool {
+    key.bits() == bits && key.public_fields() == fields
+}
+
 /// The key has this kind, this size and these public fields.
 pub fn has_parts(rt: &impl Abort, key: &PublicKey, kind: Kind, bits: u32, fields: &[u8]) {
-    assert_eq!(rt; key.kind(), kind);
-    assert_eq!(rt; key.bits(), bits);
-    assert_eq!(rt; key.short_name(), kind.short_name());
-    assert_eq!(rt; key.public_fields(), fields);
+    assert!(rt; is_of(key, kind));
+    assert!(rt; has_fields(key, bits, fields));
 }
 
 /// The blob is made of the key.
@@ -63,9 +71,14 @@ pub fn is_made(
     Ok(())
 }
 
+/// Why the blob is no key.
+fn fault_of(blob: &[u8]) -> Option<KeyFault> {
+    read_key(blob).err()
+}
+
 /// The blob has this fault.
 pub fn has_fault(rt: &impl Abort, blob: &[u8], fault: KeyFault) {
-    assert_eq!(rt; read_key(blob).err(), Some(fault), "{} bytes", blob.len());
+    assert_eq!(rt; fault_of(blob), Some(fault), "{} bytes", blob.len());
 }
 
 /// The bytes have this fingerprint.

@@ -1,27 +1,42 @@
 // Public fields read from the front of bytes.
 
 use crate::tests::parts::{PUBLISHED, has_parts, is_made, published_key, strings};
-use ssh_key::{KeyFault, Kind, read_fields};
+use ssh_key::{KeyFault, Kind, PublicKey, read_fields};
 use ssh_wire::{Cursor, WireFault};
-use std::alloc::Global;
+use std::alloc::{AllocError, Global};
 use std::process::Abort;
 use std::test::Fail;
 
+/// The key is the published one.
+fn is_published(rt: &impl Abort, alloc: Global, key: &PublicKey) -> Result<(), AllocError> {
+    let fields = strings(alloc, &[&PUBLISHED])?;
+    has_parts(rt, key, Kind::Ed25519, 256, &fields);
+    let blob = published_key(alloc)?;
+    is_made(rt, alloc, key, &blob)
+}
+
+/// Whether this string alone is left.
+fn ends_with(cursor: &mut Cursor<'_>, text: &[u8]) -> bool {
+    cursor.string() == Ok(text) && cursor.at_end()
+}
+
 #[test]
 fn fields_before_more(rt: HostRuntime) -> Result<(), Fail> {
-    let alloc = rt.alloc();
-    let bytes = strings(alloc, &[&PUBLISHED, b"what follows"])?;
+    let bytes = strings(rt.alloc(), &[&PUBLISHED, b"what follows"])?;
     let mut cursor = Cursor::new(&bytes);
     let key = read_fields(Kind::Ed25519, &mut cursor)
         .ok()
         .ok_or("the fields are a key's")?;
-    let fields = strings(alloc, &[&PUBLISHED])?;
-    has_parts(&rt, &key, Kind::Ed25519, 256, &fields);
-    assert_eq!(rt; cursor.string().ok(), Some(b"what follows".as_slice()));
-    assert!(rt; cursor.at_end());
-    let blob = published_key(alloc)?;
-    is_made(&rt, alloc, &key, &blob)?;
+    is_published(&rt, rt.alloc(), &key)?;
+    assert!(rt; ends_with(&mut cursor, b"what follows"));
     Ok(())
+}
+
+/// Why no fields stand at the front of the bytes, where all of them are left.
+fn refusal(kind: Kind, bytes: &[u8]) -> Option<KeyFault> {
+    let mut cursor = Cursor::new(bytes);
+    let fault = read_fields(kind, &mut cursor).err();
+    if cursor.rest() == bytes { fault } else { None }
 }
 
 /// The fields of these strings have this fault, and all of them are left.
@@ -31,22 +46,24 @@ fn refuses(
     kind: Kind,
     list: &[&[u8]],
     fault: KeyFault,
-) -> Result<(), Fail> {
+) -> Result<(), AllocError> {
     let bytes = strings(alloc, list)?;
-    let mut cursor = Cursor::new(&bytes);
-    assert_eq!(rt; read_fields(kind, &mut cursor).err(), Some(fault));
-    assert_eq!(rt; cursor.rest(), bytes.as_slice());
+    assert_eq!(rt; refusal(kind, &bytes), Some(fault), "{} bytes", bytes.len());
     Ok(())
 }
 
 #[test]
 fn refusals_take_nothing(rt: HostRuntime) -> Result<(), Fail> {
-    let alloc = rt.alloc();
     let short = KeyFault::Wire(WireFault::Short);
-    refuses(&rt, alloc, Kind::Ed25519, &[], short)?;
-    refuses(&rt, alloc, Kind::Ed25519, &[&[7; 31]], KeyFault::Length)?;
-    refuses(&rt, alloc, Kind::Ed25519Sk, &[&PUBLISHED], short)?;
-    refuses(&rt, alloc, Kind::Rsa, &[&[3], &[]], KeyFault::Number)?;
+    let rows: [(Kind, &[&[u8]], KeyFault); 4] = [
+        (Kind::Ed25519, &[], short),
+        (Kind::Ed25519, &[&[7; 31]], KeyFault::Length),
+        (Kind::Ed25519Sk, &[&PUBLISHED], short),
+        (Kind::Rsa, &[&[3], &[]], KeyFault::Number),
+    ];
+    for (kind, list, fault) in rows {
+        refuses(&rt, rt.alloc(), kind, list, fault)?;
+    }
     Ok(())
 }
 
@@ -61,15 +78,18 @@ fn faults_of_long_fields(rt: HostRuntime) -> Result<(), Fail> {
     Ok(())
 }
 
+/// Whether the fields of a device's key with this application are read before more.
+fn reads(alloc: Global, application: &[u8]) -> Result<bool, AllocError> {
+    let bytes = strings(alloc, &[&PUBLISHED, application, b"more"])?;
+    let mut cursor = Cursor::new(&bytes);
+    Ok(read_fields(Kind::Ed25519Sk, &mut cursor).is_ok())
+}
+
 #[test]
 fn longest_fields(rt: HostRuntime) -> Result<(), Fail> {
-    let alloc = rt.alloc();
-    let mut application = vec![in alloc; b'x'; 65_466]?;
+    let mut application = vec![in rt.alloc(); b'x'; 65_466]?;
     for fits in [true, false] {
-        let bytes = strings(alloc, &[&PUBLISHED, &application, b"more"])?;
-        let mut cursor = Cursor::new(&bytes);
-        let read = read_fields(Kind::Ed25519Sk, &mut cursor);
-        assert_eq!(rt; read.is_ok(), fits);
+        assert_eq!(rt; reads(rt.alloc(), &application)?, fits);
         application.push(b'x')?;
     }
     Ok(())

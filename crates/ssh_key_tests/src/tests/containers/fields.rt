@@ -1,12 +1,12 @@
 // The fields of a container before its private list: changed, cut, lengthened and repeated.
 
 use crate::tests::containers::made::{
-    Parts, are_refused, joined, published_container, published_list,
+    Parts, are_refused, joined, plain, published_container, published_list,
 };
 use crate::tests::parts::{point, published_key, strings};
 use ssh_key::{KeyFault, PrivateFault};
 use ssh_wire::WireFault;
-use std::alloc::Global;
+use std::alloc::{AllocError, Global};
 use std::process::Abort;
 use std::test::Fail;
 
@@ -17,7 +17,7 @@ fn encrypted(
     cipher: &str,
     derivation: &str,
     options: &str,
-) -> Result<(), Fail> {
+) -> Result<(), AllocError> {
     let blob = published_key(alloc)?;
     let list = published_list(alloc)?;
     let parts = Parts {
@@ -32,19 +32,24 @@ fn encrypted(
 
 #[test]
 fn ciphers(rt: HostRuntime) -> Result<(), Fail> {
-    let alloc = rt.alloc();
-    encrypted(&rt, alloc, "aes256-ctr", "bcrypt", "salt")?;
-    encrypted(&rt, alloc, "aes256-ctr", "none", "")?;
-    encrypted(&rt, alloc, "none", "bcrypt", "")?;
-    encrypted(&rt, alloc, "none", "none", "x")?;
-    encrypted(&rt, alloc, "non", "none", "")?;
-    encrypted(&rt, alloc, "none", "nonen", "")?;
-    encrypted(&rt, alloc, "", "none", "")?;
-    encrypted(&rt, alloc, "None", "none", "")
+    let rows = [
+        ("aes256-ctr", "bcrypt", "salt"),
+        ("aes256-ctr", "none", ""),
+        ("none", "bcrypt", ""),
+        ("none", "none", "x"),
+        ("non", "none", ""),
+        ("none", "nonen", ""),
+        ("", "none", ""),
+        ("None", "none", ""),
+    ];
+    for (cipher, derivation, options) in rows {
+        encrypted(&rt, rt.alloc(), cipher, derivation, options)?;
+    }
+    Ok(())
 }
 
 /// The container of the published key with another number of keys is refused.
-fn counted(rt: &impl Abort, alloc: Global, count: u32) -> Result<(), Fail> {
+fn counted(rt: &impl Abort, alloc: Global, count: u32) -> Result<(), AllocError> {
     let blob = published_key(alloc)?;
     let list = published_list(alloc)?;
     let parts = Parts {
@@ -57,43 +62,59 @@ fn counted(rt: &impl Abort, alloc: Global, count: u32) -> Result<(), Fail> {
 
 #[test]
 fn counts(rt: HostRuntime) -> Result<(), Fail> {
-    let alloc = rt.alloc();
-    counted(&rt, alloc, 0)?;
-    counted(&rt, alloc, 2)?;
-    counted(&rt, alloc, 0x0100_0000)
+    for count in [0, 2, 0x0100_0000] {
+        counted(&rt, rt.alloc(), count)?;
+    }
+    Ok(())
 }
 
 /// A container with this blob is refused with the blob's fault.
-fn blob_refused(rt: &impl Abort, alloc: Global, blob: &[u8], fault: KeyFault) -> Result<(), Fail> {
+fn blob_refused(
+    rt: &impl Abort,
+    alloc: Global,
+    blob: &[u8],
+    fault: KeyFault,
+) -> Result<(), AllocError> {
     let list = published_list(alloc)?;
-    let bytes = Parts::plain(blob, &list).bytes(alloc)?;
+    let bytes = plain(alloc, blob, &list)?;
     are_refused(rt, alloc, &bytes, PrivateFault::Key(fault))
+}
+
+/// A container with more bytes after its blob is refused.
+fn followed(rt: &impl Abort, alloc: Global, blob: &[u8], more: &[u8]) -> Result<(), AllocError> {
+    let longer = joined(alloc, &[blob, more])?;
+    blob_refused(rt, alloc, &longer, KeyFault::Trailing)
 }
 
 #[test]
 fn blobs(rt: HostRuntime) -> Result<(), Fail> {
-    let alloc = rt.alloc();
-    let blob = published_key(alloc)?;
+    let blob = published_key(rt.alloc())?;
     let cut = blob.get(..50).ok_or("the blob has 51 bytes")?;
-    blob_refused(&rt, alloc, cut, KeyFault::Wire(WireFault::Short))?;
-    blob_refused(&rt, alloc, b"", KeyFault::Wire(WireFault::Short))?;
-    blob_refused(
-        &rt,
-        alloc,
-        &joined(alloc, &[&blob, b"x"])?,
-        KeyFault::Trailing,
-    )?;
-    blob_refused(
-        &rt,
-        alloc,
-        &joined(alloc, &[&blob, &blob])?,
-        KeyFault::Trailing,
-    )?;
-    let other = strings(alloc, &[b"ssh-ed25519-cert-v01@openssh.com"])?;
-    blob_refused(&rt, alloc, &other, KeyFault::UnknownType)?;
+    blob_refused(&rt, rt.alloc(), cut, KeyFault::Wire(WireFault::Short))?;
+    blob_refused(&rt, rt.alloc(), b"", KeyFault::Wire(WireFault::Short))?;
+    followed(&rt, rt.alloc(), &blob, b"x")?;
+    followed(&rt, rt.alloc(), &blob, &blob)?;
+    Ok(())
+}
+
+#[test]
+fn blobs_of_other_keys(rt: HostRuntime) -> Result<(), Fail> {
+    let alloc = rt.alloc();
     let compressed = point(alloc, 65, 2)?;
-    let names: [&[u8]; 3] = [b"ecdsa-sha2-nistp256", b"nistp256", &compressed];
-    blob_refused(&rt, alloc, &strings(alloc, &names)?, KeyFault::Point)
+    let rows: [(&[&[u8]], KeyFault); 2] = [
+        (
+            &[b"ssh-ed25519-cert-v01@openssh.com"],
+            KeyFault::UnknownType,
+        ),
+        (
+            &[b"ecdsa-sha2-nistp256", b"nistp256", &compressed],
+            KeyFault::Point,
+        ),
+    ];
+    for (fields, fault) in rows {
+        blob_refused(&rt, alloc, &strings(alloc, fields)?, fault)?;
+    }
+    Ok(())
 }
 
 #[test]
@@ -101,7 +122,8 @@ fn bytes_behind(rt: HostRuntime) -> Result<(), Fail> {
     let alloc = rt.alloc();
     let mut bytes = published_container(alloc)?;
     bytes.push(0)?;
-    are_refused(&rt, alloc, &bytes, PrivateFault::Trailing)
+    are_refused(&rt, alloc, &bytes, PrivateFault::Trailing)?;
+    Ok(())
 }
 
 /// Bytes behind the list are told before it is read.
@@ -109,62 +131,68 @@ fn bytes_behind(rt: HostRuntime) -> Result<(), Fail> {
 fn bytes_behind_an_empty_list(rt: HostRuntime) -> Result<(), Fail> {
     let alloc = rt.alloc();
     let blob = published_key(alloc)?;
-    let mut bytes = Parts::plain(&blob, b"").bytes(alloc)?;
+    let mut bytes = plain(alloc, &blob, b"")?;
     are_refused(&rt, alloc, &bytes, PrivateFault::Wire(WireFault::Short))?;
     bytes.push(0)?;
-    are_refused(&rt, alloc, &bytes, PrivateFault::Trailing)
+    are_refused(&rt, alloc, &bytes, PrivateFault::Trailing)?;
+    Ok(())
 }
 
-/// The container of the published key with the bytes from one place to another repeated is refused.
-fn repeated(
-    rt: &impl Abort,
-    alloc: Global,
-    from: usize,
-    to: usize,
-    fault: PrivateFault,
-) -> Result<(), Fail> {
-    let bytes = published_container(alloc)?;
+/// The bytes with those from one place to another repeated.
+fn repeated(alloc: Global, bytes: &[u8], from: usize, to: usize) -> Result<Vec<u8>, Fail> {
     let (front, back) = bytes.split_at_checked(to).ok_or("it is longer")?;
     let field = front.get(from..).ok_or("the field begins before its end")?;
-    let bytes = joined(alloc, &[front, field, back])?;
-    are_refused(rt, alloc, &bytes, fault)
+    Ok(joined(alloc, &[front, field, back])?)
 }
 
 #[test]
 fn fields_twice(rt: HostRuntime) -> Result<(), Fail> {
-    let alloc = rt.alloc();
+    let bytes = published_container(rt.alloc())?;
     let short = KeyFault::Wire(WireFault::Short);
-    // The name of the format: what it begins with is the length of the cipher.
-    repeated(&rt, alloc, 0, 15, PrivateFault::Wire(WireFault::Short))?;
-    // The cipher, the derivation and the options.
-    repeated(&rt, alloc, 15, 23, PrivateFault::Encrypted)?;
-    repeated(&rt, alloc, 23, 31, PrivateFault::Encrypted)?;
-    repeated(&rt, alloc, 31, 35, PrivateFault::KeyCount)?;
-    // The number of keys: the second stands for a blob of one byte.
-    repeated(&rt, alloc, 35, 39, PrivateFault::Key(short))?;
-    // The blob, and the list.
-    repeated(&rt, alloc, 39, 94, PrivateFault::Trailing)?;
-    repeated(&rt, alloc, 94, 234, PrivateFault::Trailing)
+    let rows = [
+        // The name of the format: what it begins with is the length of the cipher.
+        (0, 15, PrivateFault::Wire(WireFault::Short)),
+        // The cipher, the derivation and the options.
+        (15, 23, PrivateFault::Encrypted),
+        (23, 31, PrivateFault::Encrypted),
+        (31, 35, PrivateFault::KeyCount),
+        // The number of keys: the second stands for a blob of one byte.
+        (35, 39, PrivateFault::Key(short)),
+        // The blob, and the list.
+        (39, 94, PrivateFault::Trailing),
+        (94, 234, PrivateFault::Trailing),
+    ];
+    for (from, to, fault) in rows {
+        let bytes = repeated(rt.alloc(), &bytes, from, to)?;
+        are_refused(&rt, rt.alloc(), &bytes, fault)?;
+    }
+    Ok(())
 }
 
-/// The container of the published key with a length of 2^32-1 at this place is refused.
-fn lengthened(rt: &impl Abort, alloc: Global, at: usize) -> Result<(), Fail> {
-    let bytes = published_container(alloc)?;
-    let (front, back) = bytes.split_at_checked(at).ok_or("it is longer")?;
-    let back = back.get(4..).ok_or("the length has four bytes")?;
-    let bytes = joined(alloc, &[front, &[0xff; 4], back])?;
-    are_refused(rt, alloc, &bytes, PrivateFault::Wire(WireFault::Short))
+/// The bytes before the length at this place, and those after it.
+fn round_length(bytes: &[u8], at: usize) -> Option<(&[u8], &[u8])> {
+    let (front, back) = bytes.split_at_checked(at)?;
+    Some((front, back.get(4..)?))
+}
+
+/// The bytes with a length of 2^32-1 at this place.
+fn lengthened(alloc: Global, bytes: &[u8], at: usize) -> Result<Vec<u8>, Fail> {
+    let (front, back) = round_length(bytes, at).ok_or("the length has four bytes")?;
+    Ok(joined(alloc, &[front, &[0xff; 4], back])?)
 }
 
 #[test]
 fn false_lengths(rt: HostRuntime) -> Result<(), Fail> {
-    let alloc = rt.alloc();
-    for at in [15, 23, 31, 39, 94] {
-        lengthened(&rt, alloc, at)?;
-    }
-    // The type, the public field, the private one and the comment.
-    for at in [106, 121, 157, 225] {
-        lengthened(&rt, alloc, at)?;
+    let bytes = published_container(rt.alloc())?;
+    // In the list they are those of the type, the public field, the private one and the comment.
+    for at in [15, 23, 31, 39, 94, 106, 121, 157, 225] {
+        let bytes = lengthened(rt.alloc(), &bytes, at)?;
+        are_refused(
+            &rt,
+            rt.alloc(),
+            &bytes,
+            PrivateFault::Wire(WireFault::Short),
+        )?;
     }
     Ok(())
 }

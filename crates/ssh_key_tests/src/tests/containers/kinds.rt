@@ -1,6 +1,6 @@
 // Containers of keys of each kind.
 
-use crate::tests::containers::made::{Parts, are_refused, armoured, is_read, joined, list};
+use crate::tests::containers::made::{are_refused, armoured, is_read, joined, list, plain};
 use crate::tests::parts::{PUBLISHED, point, strings};
 use ssh_key::PrivateFault;
 use std::alloc::{AllocError, Global};
@@ -10,20 +10,34 @@ use std::test::Fail;
 /// The container of a blob whose private list has these fields.
 fn container(alloc: Global, blob: &[u8], fields: &[u8]) -> Result<Vec<u8>, AllocError> {
     let list = list(alloc, (9, 9), fields, b"c d", &[1, 2])?;
-    Parts::plain(blob, &list).bytes(alloc)
+    plain(alloc, blob, &list)
 }
 
 /// Such a container is read.
-fn reads(rt: &impl Abort, alloc: Global, blob: &[u8], fields: &[u8]) -> Result<(), Fail> {
+fn reads(rt: &impl Abort, alloc: Global, blob: &[u8], fields: &[u8]) -> Result<(), AllocError> {
     let bytes = container(alloc, blob, fields)?;
     let text = armoured(alloc, &bytes)?;
-    is_read(rt, alloc, &text, blob, b"c d")
+    assert!(rt; is_read(alloc, &text, blob, b"c d"));
+    Ok(())
 }
 
 /// Such a container is that of another key.
-fn differs(rt: &impl Abort, alloc: Global, blob: &[u8], fields: &[u8]) -> Result<(), Fail> {
+fn differs(rt: &impl Abort, alloc: Global, blob: &[u8], fields: &[u8]) -> Result<(), AllocError> {
     let bytes = container(alloc, blob, fields)?;
     are_refused(rt, alloc, &bytes, PrivateFault::PublicDiffers)
+}
+
+/// The fields of an RSA key in a private list.
+fn rsa_fields(
+    alloc: Global,
+    modulus: &[u8],
+    exponent: &[u8],
+    last: &[u8],
+) -> Result<Vec<u8>, AllocError> {
+    strings(
+        alloc,
+        &[b"ssh-rsa", modulus, exponent, &[5], &[6], &[7], last],
+    )
 }
 
 #[test]
@@ -31,13 +45,12 @@ fn rsa(rt: HostRuntime) -> Result<(), Fail> {
     let alloc = rt.alloc();
     let (e, n): (&[u8], &[u8]) = (&[1, 0, 1], &[0, 0xc1, 0x55, 0x0b]);
     let blob = strings(alloc, &[b"ssh-rsa", e, n])?;
-    let fields = strings(alloc, &[b"ssh-rsa", n, e, &[5], &[6], &[7], b""])?;
+    let fields = rsa_fields(alloc, n, e, b"")?;
     reads(&rt, alloc, &blob, &fields)?;
     // The exponent first, another modulus, and another exponent.
     let rows: [(&[u8], &[u8]); 4] = [(e, n), (&[0x41], e), (n, &[3]), (n, b"")];
     for (modulus, exponent) in rows {
-        let list: [&[u8]; 7] = [b"ssh-rsa", modulus, exponent, &[5], &[6], &[7], &[8]];
-        let fields = strings(alloc, &list)?;
+        let fields = rsa_fields(alloc, modulus, exponent, &[8])?;
         differs(&rt, alloc, &blob, &fields)?;
     }
     Ok(())
@@ -49,10 +62,13 @@ fn dsa(rt: HostRuntime) -> Result<(), Fail> {
     let blob = strings(alloc, &[b"ssh-dss", &[0x61], &[0x0b], &[2], &[9]])?;
     let fields = strings(alloc, &[b"ssh-dss", &[0x61], &[0x0b], &[2], &[9], &[4]])?;
     reads(&rt, alloc, &blob, &fields)?;
-    let fields = strings(alloc, &[b"ssh-dss", &[0x61], &[0x0b], &[2], &[8], &[4]])?;
-    differs(&rt, alloc, &blob, &fields)?;
-    let fields = strings(alloc, &[b"ssh-dss", &[0x62], &[0x0b], &[2], &[9], &[4]])?;
-    differs(&rt, alloc, &blob, &fields)
+    // Another number at the end, and another at the front.
+    for (first, last) in [(0x61, 8), (0x62, 9)] {
+        let list: [&[u8]; 6] = [b"ssh-dss", &[first], &[0x0b], &[2], &[last], &[4]];
+        let fields = strings(alloc, &list)?;
+        differs(&rt, alloc, &blob, &fields)?;
+    }
+    Ok(())
 }
 
 /// The fields of a key on a curve in a private list.
@@ -66,6 +82,19 @@ fn curve_fields(
     strings(alloc, &[name.as_bytes(), curve.as_bytes(), point, private])
 }
 
+/// The container of the blob whose list has this type name, curve and point is that of another
+/// key.
+fn curve_differs(
+    rt: &impl Abort,
+    alloc: Global,
+    blob: &[u8],
+    names: (&str, &str),
+    point: &[u8],
+) -> Result<(), AllocError> {
+    let fields = curve_fields(alloc, names.0, names.1, point, &[3])?;
+    differs(rt, alloc, blob, &fields)
+}
+
 /// The container of a key on this curve is read, and that of another point is not.
 fn on_curve(
     rt: &impl Abort,
@@ -73,26 +102,29 @@ fn on_curve(
     name: &str,
     curve: &str,
     size: usize,
-) -> Result<(), Fail> {
+) -> Result<(), AllocError> {
     let q = point(alloc, size, 4)?;
     let blob = strings(alloc, &[name.as_bytes(), curve.as_bytes(), &q])?;
-    let fields = curve_fields(alloc, name, curve, &q, &[3])?;
-    reads(rt, alloc, &blob, &fields)?;
-    let fields = curve_fields(alloc, name, curve, &q, b"")?;
-    reads(rt, alloc, &blob, &fields)?;
-    let fields = curve_fields(alloc, name, "nistp224", &q, &[3])?;
-    differs(rt, alloc, &blob, &fields)?;
+    for private in [[3].as_slice(), &[]] {
+        let fields = curve_fields(alloc, name, curve, &q, private)?;
+        reads(rt, alloc, &blob, &fields)?;
+    }
+    curve_differs(rt, alloc, &blob, (name, "nistp224"), &q)?;
     let other = point(alloc, size, 3)?;
-    let fields = curve_fields(alloc, name, curve, &other, &[3])?;
-    differs(rt, alloc, &blob, &fields)
+    curve_differs(rt, alloc, &blob, (name, curve), &other)
 }
 
 #[test]
 fn ecdsa(rt: HostRuntime) -> Result<(), Fail> {
-    let alloc = rt.alloc();
-    on_curve(&rt, alloc, "ecdsa-sha2-nistp256", "nistp256", 65)?;
-    on_curve(&rt, alloc, "ecdsa-sha2-nistp384", "nistp384", 97)?;
-    on_curve(&rt, alloc, "ecdsa-sha2-nistp521", "nistp521", 133)
+    let rows = [
+        ("ecdsa-sha2-nistp256", "nistp256", 65),
+        ("ecdsa-sha2-nistp384", "nistp384", 97),
+        ("ecdsa-sha2-nistp521", "nistp521", 133),
+    ];
+    for (name, curve, size) in rows {
+        on_curve(&rt, rt.alloc(), name, curve, size)?;
+    }
+    Ok(())
 }
 
 /// The fields of a device: the public ones of a blob, flags, a handle and a reserved string.
@@ -101,7 +133,12 @@ fn of_device(alloc: Global, public: &[u8]) -> Result<Vec<u8>, AllocError> {
 }
 
 /// The container of a device's blob is read, and that of the fields of another blob is not.
-fn on_device(rt: &impl Abort, alloc: Global, blob: &[u8], others: &[&[u8]]) -> Result<(), Fail> {
+fn on_device(
+    rt: &impl Abort,
+    alloc: Global,
+    blob: &[u8],
+    others: &[&[u8]],
+) -> Result<(), AllocError> {
     let fields = of_device(alloc, blob)?;
     reads(rt, alloc, blob, &fields)?;
     for other in others {
@@ -123,7 +160,8 @@ fn ecdsa_of_a_device(rt: HostRuntime) -> Result<(), Fail> {
     let alloc = rt.alloc();
     let blob = ecdsa_blob(alloc, "ssh:")?;
     let other = ecdsa_blob(alloc, "ssh:x")?;
-    on_device(&rt, alloc, &blob, &[&other])
+    on_device(&rt, alloc, &blob, &[&other])?;
+    Ok(())
 }
 
 /// The blob of an Ed25519 key of a device for this application.
@@ -137,7 +175,8 @@ fn ed25519_of_a_device(rt: HostRuntime) -> Result<(), Fail> {
     let blob = ed25519_blob(alloc, &PUBLISHED, b"ssh:")?;
     let of_none = ed25519_blob(alloc, &PUBLISHED, b"")?;
     let of_another = ed25519_blob(alloc, &[0x11; 32], b"ssh:")?;
-    on_device(&rt, alloc, &blob, &[&of_none, &of_another])
+    on_device(&rt, alloc, &blob, &[&of_none, &of_another])?;
+    Ok(())
 }
 
 #[test]

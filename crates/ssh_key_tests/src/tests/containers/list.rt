@@ -1,7 +1,7 @@
 // The private list of a container: its fields changed, cut, lengthened and repeated.
 
 use crate::tests::containers::made::{
-    Parts, are_refused, armoured, is_read, joined, list, published_fields,
+    are_refused, armoured, is_read, joined, list, plain, published_fields,
 };
 use crate::tests::parts::{PUBLISHED, PUBLISHED_TYPE, published_key, strings};
 use ssh_key::{KeyFault, PrivateFault};
@@ -16,9 +16,9 @@ fn list_refused(
     alloc: Global,
     list: &[u8],
     fault: PrivateFault,
-) -> Result<(), Fail> {
+) -> Result<(), AllocError> {
     let blob = published_key(alloc)?;
-    let bytes = Parts::plain(&blob, list).bytes(alloc)?;
+    let bytes = plain(alloc, &blob, list)?;
     are_refused(rt, alloc, &bytes, fault)
 }
 
@@ -39,52 +39,112 @@ fn fields_refused(
     alloc: Global,
     fields: &[&[u8]],
     fault: PrivateFault,
-) -> Result<(), Fail> {
+) -> Result<(), AllocError> {
     let fields = strings(alloc, fields)?;
     let list = list(alloc, (7, 7), &fields, b"a", &[1, 2, 3, 4])?;
     list_refused(rt, alloc, &list, fault)
 }
 
 #[test]
-fn fields(rt: HostRuntime) -> Result<(), Fail> {
-    let alloc = rt.alloc();
+fn other_fields(rt: HostRuntime) -> Result<(), Fail> {
+    let name = PUBLISHED_TYPE.as_bytes();
+    // Another type name, another public field, and one of another length.
+    let rows: [(&[u8], &[u8]); 6] = [
+        (b"ssh-rsa", &PUBLISHED),
+        (b"ssh-ed2551", &PUBLISHED),
+        (name, &[0x11; 32]),
+        (name, &[0x11; 31]),
+        (name, &[0x11; 33]),
+        (name, b""),
+    ];
+    for (name, public) in rows {
+        let fields = [name, public, &[0; 64]];
+        fields_refused(&rt, rt.alloc(), &fields, PrivateFault::PublicDiffers)?;
+    }
+    Ok(())
+}
+
+/// A private field of another length, which is told before the public one.
+#[test]
+fn private_fields(rt: HostRuntime) -> Result<(), Fail> {
+    let name = PUBLISHED_TYPE.as_bytes();
+    let rows: [(&[u8], &[u8]); 3] = [
+        (&PUBLISHED, &[0; 63]),
+        (&PUBLISHED, &[0; 65]),
+        (&[0x11; 32], &[0; 32]),
+    ];
+    for (public, private) in rows {
+        let fields = [name, public, private];
+        fields_refused(
+            &rt,
+            rt.alloc(),
+            &fields,
+            PrivateFault::Key(KeyFault::Length),
+        )?;
+    }
+    Ok(())
+}
+
+#[test]
+fn fields_twice(rt: HostRuntime) -> Result<(), Fail> {
     let name = PUBLISHED_TYPE.as_bytes();
     let length = PrivateFault::Key(KeyFault::Length);
-    let differs = PrivateFault::PublicDiffers;
-    // Another type name, another public field, and one of another length.
-    fields_refused(&rt, alloc, &[b"ssh-rsa", &PUBLISHED, &[0; 64]], differs)?;
-    fields_refused(&rt, alloc, &[b"ssh-ed2551", &PUBLISHED, &[0; 64]], differs)?;
-    fields_refused(&rt, alloc, &[name, &[0x11; 32], &[0; 64]], differs)?;
-    fields_refused(&rt, alloc, &[name, &[0x11; 31], &[0; 64]], differs)?;
-    fields_refused(&rt, alloc, &[name, &[0x11; 33], &[0; 64]], differs)?;
-    fields_refused(&rt, alloc, &[name, b"", &[0; 64]], differs)?;
-    // A private field of another length, which is told before the public one.
-    fields_refused(&rt, alloc, &[name, &PUBLISHED, &[0; 63]], length)?;
-    fields_refused(&rt, alloc, &[name, &PUBLISHED, &[0; 65]], length)?;
-    fields_refused(&rt, alloc, &[name, &[0x11; 32], &[0; 32]], length)?;
-    // Fields that are repeated.
-    fields_refused(&rt, alloc, &[name, name, &PUBLISHED, &[0; 64]], length)?;
-    fields_refused(
-        &rt,
-        alloc,
-        &[name, &PUBLISHED, &PUBLISHED, &[0; 64]],
-        length,
-    )?;
-    let twice: [&[u8]; 4] = [name, &PUBLISHED, &[0; 64], &[0; 64]];
-    fields_refused(&rt, alloc, &twice, PrivateFault::Padding)
+    let rows: [([&[u8]; 4], PrivateFault); 3] = [
+        ([name, name, &PUBLISHED, &[0; 64]], length),
+        ([name, &PUBLISHED, &PUBLISHED, &[0; 64]], length),
+        (
+            [name, &PUBLISHED, &[0; 64], &[0; 64]],
+            PrivateFault::Padding,
+        ),
+    ];
+    for (fields, fault) in rows {
+        fields_refused(&rt, rt.alloc(), &fields, fault)?;
+    }
+    Ok(())
 }
+
+/// The comment `a`.
+const COMMENT: &[u8] = &[0, 0, 0, 1, b'a'];
 
 #[test]
 fn words_and_comments_twice(rt: HostRuntime) -> Result<(), Fail> {
     let alloc = rt.alloc();
     let fields = published_fields(alloc)?;
-    let once = list(alloc, (1, 1), &fields, b"a", &[1, 2, 3, 4])?;
-    let thrice = joined(alloc, &[&[0, 0, 0, 1], &once])?;
-    list_refused(&rt, alloc, &thrice, PrivateFault::PublicDiffers)?;
-    let comments = list(alloc, (1, 1), &fields, b"a", &[0, 0, 0, 1, b'a', 1, 2, 3])?;
-    list_refused(&rt, alloc, &comments, PrivateFault::Padding)?;
-    let cut = joined(alloc, &[&[0; 8], &fields, &[0, 0, 0, 2, b'a']])?;
-    list_refused(&rt, alloc, &cut, PrivateFault::Wire(WireFault::Short))
+    let rows: [(&[&[u8]], PrivateFault); 3] = [
+        // The first check word three times.
+        (
+            &[
+                &[0, 0, 0, 1],
+                &[0, 0, 0, 1],
+                &[0, 0, 0, 1],
+                &fields,
+                COMMENT,
+                &[1, 2, 3, 4],
+            ],
+            PrivateFault::PublicDiffers,
+        ),
+        (
+            &[
+                &[0, 0, 0, 1],
+                &[0, 0, 0, 1],
+                &fields,
+                COMMENT,
+                COMMENT,
+                &[1, 2, 3],
+            ],
+            PrivateFault::Padding,
+        ),
+        // A comment that is cut.
+        (
+            &[&[0; 8], &fields, &[0, 0, 0, 2, b'a']],
+            PrivateFault::Wire(WireFault::Short),
+        ),
+    ];
+    for (parts, fault) in rows {
+        let list = joined(alloc, parts)?;
+        list_refused(&rt, alloc, &list, fault)?;
+    }
+    Ok(())
 }
 
 /// The padding 1, 2, 3 and so on.
@@ -98,25 +158,45 @@ fn rising(alloc: Global, size: usize) -> Result<Vec<u8>, AllocError> {
     Ok(bytes)
 }
 
-/// The container of the published key with this comment and this padding is read.
-fn padded(rt: &impl Abort, alloc: Global, comment: &[u8], padding: &[u8]) -> Result<(), Fail> {
+/// The container of the published key with this comment and this padding.
+fn container(alloc: Global, comment: &[u8], padding: &[u8]) -> Result<Vec<u8>, AllocError> {
     let blob = published_key(alloc)?;
     let fields = published_fields(alloc)?;
     let list = list(alloc, (1, 1), &fields, comment, padding)?;
-    let bytes = Parts::plain(&blob, &list).bytes(alloc)?;
+    plain(alloc, &blob, &list)
+}
+
+/// That container is read.
+fn padded(
+    rt: &impl Abort,
+    alloc: Global,
+    comment: &[u8],
+    padding: &[u8],
+) -> Result<(), AllocError> {
+    let blob = published_key(alloc)?;
+    let bytes = container(alloc, comment, padding)?;
     let text = armoured(alloc, &bytes)?;
-    is_read(rt, alloc, &text, &blob, comment)
+    assert!(rt;
+        is_read(alloc, &text, &blob, comment),
+        "{} bytes",
+        padding.len()
+    );
+    Ok(())
 }
 
 #[test]
 fn paddings(rt: HostRuntime) -> Result<(), Fail> {
-    let alloc = rt.alloc();
-    padded(&rt, alloc, b"a", b"")?;
-    padded(&rt, alloc, b"", &[1])?;
-    padded(&rt, alloc, b"a b\n\0", &[1, 2, 3, 4, 5, 6, 7, 8, 9])?;
+    let rows: [(&[u8], &[u8]); 3] = [
+        (b"a", b""),
+        (b"", &[1]),
+        (b"a b\n\0", &[1, 2, 3, 4, 5, 6, 7, 8, 9]),
+    ];
+    for (comment, padding) in rows {
+        padded(&rt, rt.alloc(), comment, padding)?;
+    }
     for size in [253, 254] {
-        let padding = rising(alloc, size)?;
-        padded(&rt, alloc, b"a", &padding)?;
+        let padding = rising(rt.alloc(), size)?;
+        padded(&rt, rt.alloc(), b"a", &padding)?;
     }
     Ok(())
 }
@@ -132,7 +212,7 @@ fn large_comments(rt: HostRuntime) -> Result<(), Fail> {
 }
 
 /// The container of the published key with this padding is refused.
-fn badly_padded(rt: &impl Abort, alloc: Global, padding: &[u8]) -> Result<(), Fail> {
+fn badly_padded(rt: &impl Abort, alloc: Global, padding: &[u8]) -> Result<(), AllocError> {
     let fields = published_fields(alloc)?;
     let list = list(alloc, (1, 1), &fields, b"a", padding)?;
     list_refused(rt, alloc, &list, PrivateFault::Padding)
@@ -140,14 +220,13 @@ fn badly_padded(rt: &impl Abort, alloc: Global, padding: &[u8]) -> Result<(), Fa
 
 #[test]
 fn other_paddings(rt: HostRuntime) -> Result<(), Fail> {
-    let alloc = rt.alloc();
-    badly_padded(&rt, alloc, &[0])?;
-    badly_padded(&rt, alloc, &[2])?;
-    badly_padded(&rt, alloc, &[1, 2, 4, 4])?;
-    badly_padded(&rt, alloc, &[1, 2, 3, 4, 1, 2, 3, 4])?;
+    let rows: [&[u8]; 4] = [&[0], &[2], &[1, 2, 4, 4], &[1, 2, 3, 4, 1, 2, 3, 4]];
+    for padding in rows {
+        badly_padded(&rt, rt.alloc(), padding)?;
+    }
     for size in [255, 256, 600] {
-        let padding = rising(alloc, size)?;
-        badly_padded(&rt, alloc, &padding)?;
+        let padding = rising(rt.alloc(), size)?;
+        badly_padded(&rt, rt.alloc(), &padding)?;
     }
     Ok(())
 }
