@@ -1,7 +1,7 @@
 // What a revocation list is asked.
 
 use crate::tests::parts::{
-    AUTHORITY, PUBLISHED, Part, asked, certificate, changed, is_asked, plain, strings,
+    AUTHORITY, PUBLISHED, Part, certificate, changed, is_asked, plain, strings,
 };
 use ssh_cert::{CertFault, CertNames, SubjectFault, subject};
 use ssh_key::KeyFault;
@@ -10,58 +10,72 @@ use std::alloc::Global;
 use std::process::Abort;
 use std::test::Fail;
 
+/// Whether something is asked for the blob, and no names of a certificate.
+fn has_no_names(alloc: Global, blob: &[u8]) -> bool {
+    match subject(alloc, blob) {
+        Ok(asked) => asked.cert.is_none(),
+        Err(_) => false,
+    }
+}
+
 #[test]
 fn a_key_is_asked_by_its_blob(rt: HostRuntime) -> Result<(), Fail> {
-    let alloc = rt.alloc();
-    let blob = plain(alloc, &PUBLISHED)?;
-    is_asked(&rt, alloc, &blob, &blob)?;
-    assert!(rt; asked(alloc, &blob)?.cert.is_none());
+    let blob = plain(rt.alloc(), &PUBLISHED)?;
+    assert!(rt; is_asked(rt.alloc(), &blob, &blob));
+    assert!(rt; has_no_names(rt.alloc(), &blob));
     Ok(())
 }
 
-/// These are the names of the certificate of the published key.
-fn are_published(rt: &impl Abort, names: CertNames, authority: &[u8]) {
-    assert_eq!(rt; names.serial, 7);
-    assert_eq!(rt; names.key_id, b"a".as_slice());
-    assert_eq!(rt; names.authority, authority);
+/// Whether these are the names of the certificate of the published key.
+fn are_published(names: &CertNames, authority: &[u8]) -> bool {
+    names.serial == 7 && names.key_id == b"a".as_slice() && names.authority == authority
+}
+
+/// Whether those names are asked for the blob.
+fn has_published_names(alloc: Global, blob: &[u8], authority: &[u8]) -> bool {
+    match subject(alloc, blob) {
+        Ok(asked) => match &asked.cert {
+            Some(names) => are_published(names, authority),
+            None => false,
+        },
+        Err(_) => false,
+    }
 }
 
 #[test]
 fn a_certificate_is_asked_by_its_key_and_its_authority(rt: HostRuntime) -> Result<(), Fail> {
-    let alloc = rt.alloc();
-    let blob = certificate(alloc)?;
-    let key = plain(alloc, &PUBLISHED)?;
-    is_asked(&rt, alloc, &blob, &key)?;
-    let authority = plain(alloc, &AUTHORITY)?;
-    let names = asked(alloc, &blob)?.cert.ok_or("a certificate has names")?;
-    are_published(&rt, names, &authority);
+    let blob = certificate(rt.alloc())?;
+    let key = plain(rt.alloc(), &PUBLISHED)?;
+    assert!(rt; is_asked(rt.alloc(), &blob, &key));
+    let authority = plain(rt.alloc(), &AUTHORITY)?;
+    assert!(rt; has_published_names(rt.alloc(), &blob, &authority));
     Ok(())
 }
 
 #[test]
 fn a_long_certificate_is_asked(rt: HostRuntime) -> Result<(), Fail> {
-    let alloc = rt.alloc();
-    let nonce = strings(alloc, &[&[0x5a; 70_000]])?;
-    let blob = changed(alloc, Part::Nonce, &nonce)?;
-    let key = plain(alloc, &PUBLISHED)?;
-    is_asked(&rt, alloc, &blob, &key)
+    let nonce = strings(rt.alloc(), &[&[0x5a; 70_000]])?;
+    let blob = changed(rt.alloc(), Part::Nonce, &nonce)?;
+    let key = plain(rt.alloc(), &PUBLISHED)?;
+    assert!(rt; is_asked(rt.alloc(), &blob, &key));
+    Ok(())
 }
 
 #[test]
 fn a_long_key_is_asked(rt: HostRuntime) -> Result<(), Fail> {
-    let alloc = rt.alloc();
-    let blob = strings(alloc, &[b"ssh-rsa", &[3], &[0x55; 60_000]])?;
-    is_asked(&rt, alloc, &blob, &blob)
+    let blob = strings(rt.alloc(), &[b"ssh-rsa", &[3], &[0x55; 60_000]])?;
+    assert!(rt; is_asked(rt.alloc(), &blob, &blob));
+    Ok(())
+}
+
+/// Why nothing is asked for the blob.
+fn refusal(alloc: Global, blob: &[u8]) -> Option<SubjectFault> {
+    subject(alloc, blob).err()
 }
 
 /// Nothing is asked for the blob, for this fault.
 fn refuses(rt: &impl Abort, alloc: Global, blob: &[u8], fault: SubjectFault) {
-    assert_eq!(rt;
-        subject(alloc, blob).err(),
-        Some(fault),
-        "{} bytes",
-        blob.len()
-    );
+    assert_eq!(rt; refusal(alloc, blob), Some(fault), "{} bytes", blob.len());
 }
 
 #[test]

@@ -1,21 +1,26 @@
 // The listing of a certificate, and instants as they are printed.
 
-use crate::tests::parts::{PUBLISHED, Part, changed, plain, read, strings};
+use crate::tests::parts::{PUBLISHED, Part, certificate, changed, nested, read};
 use ssh_cert::{list_cert, push_escaped, time_text, valid_at};
 use ssh_key::Hash;
-use std::alloc::Global;
+use std::alloc::{AllocError, Global};
 use std::process::Abort;
 use std::test::Fail;
 
-/// The certificate of the published key by itself, with other bytes in place of a field.
-fn by_itself(alloc: Global, part: Part, field: &[u8]) -> Result<Vec<u8>, Fail> {
-    let authority = strings(alloc, &[&plain(alloc, &PUBLISHED)?])?;
-    let blob = changed(alloc, part, field)?;
+/// The blob of a certificate with this field in place of the one of its authority.
+fn by(alloc: Global, blob: &[u8], authority: &[u8]) -> Result<Vec<u8>, AllocError> {
     let mut own = Vec::new(alloc);
     own.extend_from_slice(blob.get(..blob.len().saturating_sub(142)).unwrap_or(&[]))?;
-    own.extend_from_slice(&authority)?;
+    own.extend_from_slice(authority)?;
     own.extend_from_slice(blob.get(blob.len().saturating_sub(87)..).unwrap_or(&[]))?;
     Ok(own)
+}
+
+/// The certificate of the published key by itself.
+fn by_itself(alloc: Global) -> Result<Vec<u8>, AllocError> {
+    let authority = nested(alloc, &[b"ssh-ed25519", &PUBLISHED])?;
+    let blob = certificate(alloc)?;
+    by(alloc, &blob, &authority)
 }
 
 /// The listing of the blob's certificate.
@@ -44,7 +49,7 @@ fn lists(
 #[test]
 fn a_plain_listing(rt: HostRuntime) -> Result<(), Fail> {
     let alloc = rt.alloc();
-    let blob = by_itself(alloc, Part::Nonce, &[0; 4])?;
+    let blob = by_itself(alloc)?;
     assert_eq!(rt; blob.len(), 267);
     let wanted = "        Type: ssh-ed25519-cert-v01@openssh.com user certificate\n\
          \x20       Public key: ED25519-CERT SHA256:+DiY3wvvV6TuJJhbpZisF/zLDA0zPMSvHdkr4UvCOqU\n\
@@ -70,8 +75,7 @@ fn lists_options(
     pairs: &[&[u8]],
     wanted: &str,
 ) -> Result<(), Fail> {
-    let content = strings(alloc, pairs)?;
-    let field = strings(alloc, &[&content])?;
+    let field = nested(alloc, pairs)?;
     let blob = changed(alloc, part, &field)?;
     lists(rt, alloc, &blob, Hash::Md5, wanted)
 }

@@ -1,6 +1,6 @@
 // Certificates from their parts.
 
-use ssh_cert::{Cert, CertFault, Subject, read_cert, subject};
+use ssh_cert::{Cert, CertFault, read_cert, subject};
 use std::alloc::{AllocError, Global};
 use std::process::Abort;
 use std::test::Fail;
@@ -61,6 +61,12 @@ pub fn strings(alloc: Global, list: &[&[u8]]) -> Result<Vec<u8>, AllocError> {
     Ok(all)
 }
 
+/// A string of those strings.
+pub fn nested(alloc: Global, list: &[&[u8]]) -> Result<Vec<u8>, AllocError> {
+    let content = strings(alloc, list)?;
+    strings(alloc, &[&content])
+}
+
 /// The blob of a plain Ed25519 key.
 pub fn plain(alloc: Global, public: &[u8]) -> Result<Vec<u8>, AllocError> {
     strings(alloc, &[b"ssh-ed25519", public])
@@ -78,11 +84,8 @@ pub fn spelled(alloc: Global, part: Part) -> Result<Vec<u8>, AllocError> {
         Part::KeyId => strings(alloc, &[b"a"]),
         Part::After => Vec::from_slice(alloc, &[0; 8]),
         Part::Before => Vec::from_slice(alloc, &[0xff; 8]),
-        Part::Authority => strings(alloc, &[&plain(alloc, &AUTHORITY)?]),
-        Part::Signature => {
-            let signature = strings(alloc, &[b"ssh-ed25519", &[0; 64]])?;
-            strings(alloc, &[&signature])
-        }
+        Part::Authority => nested(alloc, &[b"ssh-ed25519", &AUTHORITY]),
+        Part::Signature => nested(alloc, &[b"ssh-ed25519", &[0; 64]]),
         Part::Nonce | Part::Principals | Part::Critical | Part::Extensions | Part::Reserved =>
             strings(alloc, &[b""]),
     }
@@ -123,19 +126,20 @@ pub fn read(blob: &[u8]) -> Result<Cert<'_>, Fail> {
     Ok(read_cert(blob).ok().ok_or("the blob is a certificate")?)
 }
 
+/// Why the blob is no certificate.
+fn fault_of(blob: &[u8]) -> Option<CertFault> {
+    read_cert(blob).err()
+}
+
 /// The blob has this fault.
 pub fn has_fault(rt: &impl Abort, blob: &[u8], fault: CertFault) {
-    assert_eq!(rt; read_cert(blob).err(), Some(fault), "{} bytes", blob.len());
+    assert_eq!(rt; fault_of(blob), Some(fault), "{} bytes", blob.len());
 }
 
-/// What is asked about a blob.
-pub fn asked(alloc: Global, blob: &[u8]) -> Result<Subject<'_>, Fail> {
-    Ok(subject(alloc, blob).ok().ok_or("the blob is a key")?)
-}
-
-/// This plain key is asked for a blob.
-pub fn is_asked(rt: &impl Abort, alloc: Global, blob: &[u8], plain: &[u8]) -> Result<(), Fail> {
-    let asked = asked(alloc, blob)?;
-    assert_eq!(rt; asked.plain.as_slice(), plain);
-    Ok(())
+/// Whether this plain key is asked for a blob.
+pub fn is_asked(alloc: Global, blob: &[u8], plain: &[u8]) -> bool {
+    match subject(alloc, blob) {
+        Ok(asked) => asked.plain.as_slice() == plain,
+        Err(_) => false,
+    }
 }
