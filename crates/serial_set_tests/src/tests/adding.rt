@@ -1,46 +1,42 @@
 ghost use Rattle.std.specs.Prelude.{◌≡◌, ◌<◌, ◌≤◌};
 
-use crate::tests::walk::{list_of, spans_of};
-use serial_set::{Held, Span, SpanPages, SpanVec, Spans};
-use std::alloc::Global;
+use crate::tests::walk::lists;
+use serial_set::{Held, SpanPages, SpanVec, Spans};
+use std::alloc::{AllocError, Global};
 use std::process::Abort;
 use std::test::Fail;
 
-// Intervals that are added one after the other, the length after each, and the last list.
-type Row = (
-    &'static [(u64, u64)],
-    &'static [usize],
-    &'static [(u64, u64)],
-);
+// Intervals that are added one after the other, each with the length after it, and the last list.
+type Row = (&'static [(u64, u64, usize)], &'static [(u64, u64)]);
 
-fn add_all<S: Spans>(
-    rt: &impl Abort,
-    set: &mut S,
-    adds: &[(u64, u64)],
-    lengths: &[usize],
-) -> Result<(), Fail> {
-    for ((lo, hi), length) in adds.iter().zip(lengths) {
-        assert!(rt; 0 < *lo && *lo <= *hi);
+// How many of the intervals are added and leave the length beside them, up to the first that does
+// not.
+fn added<S: Spans>(set: &mut S, adds: &[(u64, u64, usize)]) -> Result<usize, AllocError> {
+    for (at, (lo, hi, length)) in adds.iter().enumerate() {
+        if *lo == 0 || *hi < *lo {
+            return Ok(at);
+        }
         set.add(*lo, *hi)?;
-        assert_eq!(rt; set.len(), *length);
+        if set.len() != *length {
+            return Ok(at);
+        }
     }
-    Ok(())
+    Ok(adds.len())
 }
 
-fn adds<S: Spans>(rt: &impl Abort, alloc: Global) -> Result<(), Fail> {
+fn adds<S: Spans>(rt: &impl Abort, alloc: Global) -> Result<(), AllocError> {
     let rows: [Row; 3] = [
         (
-            &[(5, 5), (7, 7), (6, 6), (8, u64::MAX)],
-            &[1, 2, 1, 1],
+            &[(5, 5, 1), (7, 7, 2), (6, 6, 1), (8, u64::MAX, 1)],
             &[(5, u64::MAX)],
         ),
-        (&[(5, 5), (5, 5), (1, 9)], &[1, 1, 1], &[(1, 9)]),
-        (&[(1, u64::MAX), (7, 7)], &[1, 1], &[(1, u64::MAX)]),
+        (&[(5, 5, 1), (5, 5, 1), (1, 9, 1)], &[(1, 9)]),
+        (&[(1, u64::MAX, 1), (7, 7, 1)], &[(1, u64::MAX)]),
     ];
-    for (adds, lengths, last) in rows {
+    for (i, (adds, last)) in rows.iter().enumerate() {
         let mut set = S::empty(alloc)?;
-        add_all(rt, &mut set, adds, lengths)?;
-        assert_eq!(rt; list_of(alloc, &set)?, spans_of(alloc, last)?);
+        assert_eq!(rt; added(&mut set, adds)?, adds.len(), "row {i}");
+        assert!(rt; lists(alloc, &set, last)?, "row {i}");
     }
     Ok(())
 }
@@ -48,20 +44,24 @@ fn adds<S: Spans>(rt: &impl Abort, alloc: Global) -> Result<(), Fail> {
 #[test]
 fn adds_intervals(rt: HostRuntime) -> Result<(), Fail> {
     adds::<SpanVec>(&rt, rt.alloc())?;
-    adds::<SpanPages>(&rt, rt.alloc())
+    adds::<SpanPages>(&rt, rt.alloc())?;
+    Ok(())
+}
+
+// The 128 odd numbers from 1 on.
+fn odd_numbers(alloc: Global) -> Result<Held, AllocError> {
+    let mut set = Held::empty(alloc)?;
+    for half in 0..128 {
+        set.add(2 * half + 1, 2 * half + 1)?;
+    }
+    Ok(set)
 }
 
 #[test]
 fn joins_many(rt: HostRuntime) -> Result<(), Fail> {
-    let mut set = Held::empty(rt.alloc())?;
-    for half in 0..128 {
-        set.add(2 * half + 1, 2 * half + 1)?;
-    }
+    let mut set = odd_numbers(rt.alloc())?;
     assert_eq!(rt; set.len(), 128);
     set.add(2, 254)?;
-    assert_eq!(rt;
-        list_of(rt.alloc(), &set)?.as_slice(),
-        [Span { lo: 1, hi: 255 }].as_slice()
-    );
+    assert!(rt; lists(rt.alloc(), &set, &[(1, 255)])?);
     Ok(())
 }

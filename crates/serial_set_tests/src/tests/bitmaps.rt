@@ -1,6 +1,6 @@
-ghost use Rattle.std.specs.Prelude.{◌≡◌, ◌+◌, ◌<◌, ◌≤◌, OnSome};
+ghost use Rattle.std.specs.Prelude.{◌≡◌, ◌+◌, ◌<◌, ◌≤◌, IsTrue, OnSome};
 
-use crate::tests::walk::{list_of, spans_of};
+use crate::tests::walk::lists;
 use serial_set::{BitFault, BitRuns, Held, Span, Spans};
 use std::alloc::{AllocError, Global};
 use std::test::Fail;
@@ -31,52 +31,65 @@ fn read(alloc: Global, offset: u64, bytes: &[u8]) -> Result<Result<Held, BitFaul
     Ok(Ok(set))
 }
 
+// Whether the runs of the bitmap are those that are due, or why it is refused is.
+fn reads(
+    alloc: Global,
+    offset: u64,
+    bytes: &[u8],
+    due: Result<&[(u64, u64)], BitFault>,
+) -> Result<bool, AllocError> {
+    Ok(match (read(alloc, offset, bytes)?, due) {
+        (Ok(set), Ok(runs)) => lists(alloc, &set, runs)?,
+        (Err(fault), Err(due)) => fault == due,
+        _ => false,
+    })
+}
+
+const LAST: &[(u64, u64)] = &[(u64::MAX, u64::MAX)];
+
+const ROWS: [Row; 12] = [
+    (1, &[0x55], Ok(&[(1, 1), (3, 3), (5, 5), (7, 7)])),
+    (1, &[0x01, 0x80], Ok(&[(8, 9)])),
+    (1, &[0x00, 0x01, 0x80], Ok(&[(8, 9)])),
+    (0, &[0x01], Ok(&[])),
+    (0, &[0x0f], Ok(&[(1, 3)])),
+    (u64::MAX, &[0x01], Ok(LAST)),
+    (u64::MAX, &[0x00, 0x00, 0x01], Ok(LAST)),
+    (u64::MAX - 8, &[0x00, 0x01, 0x00], Ok(LAST)),
+    (u64::MAX, &[0x02], Err(BitFault::Wraps)),
+    (u64::MAX, &[0x80, 0x00], Err(BitFault::Negative)),
+    (1, &[0x80], Err(BitFault::Negative)),
+    (1, &[], Ok(&[])),
+];
+
 #[test]
 fn reads_bitmaps(rt: HostRuntime) -> Result<(), Fail> {
-    let last: &[(u64, u64)] = &[(u64::MAX, u64::MAX)];
-    let rows: [Row; 12] = [
-        (1, &[0x55], Ok(&[(1, 1), (3, 3), (5, 5), (7, 7)])),
-        (1, &[0x01, 0x80], Ok(&[(8, 9)])),
-        (1, &[0x00, 0x01, 0x80], Ok(&[(8, 9)])),
-        (0, &[0x01], Ok(&[])),
-        (0, &[0x0f], Ok(&[(1, 3)])),
-        (u64::MAX, &[0x01], Ok(last)),
-        (u64::MAX, &[0x00, 0x00, 0x01], Ok(last)),
-        (u64::MAX - 8, &[0x00, 0x01, 0x00], Ok(last)),
-        (u64::MAX, &[0x02], Err(BitFault::Wraps)),
-        (u64::MAX, &[0x80, 0x00], Err(BitFault::Negative)),
-        (1, &[0x80], Err(BitFault::Negative)),
-        (1, &[], Ok(&[])),
-    ];
-    for (offset, bytes, due) in rows {
-        match (read(rt.alloc(), offset, bytes)?, due) {
-            (Ok(set), Ok(runs)) => {
-                assert_eq!(rt; list_of(rt.alloc(), &set)?, spans_of(rt.alloc(), runs)?);
-            }
-            (Err(fault), Err(due)) => assert_eq!(rt; fault, due),
-            _ => assert!(rt; false, "at offset {offset}"),
-        }
+    for (i, (offset, bytes, due)) in ROWS.iter().enumerate() {
+        assert!(rt; reads(rt.alloc(), *offset, bytes, *due)?, "row {i}");
     }
     Ok(())
+}
+
+// Whether the byte finishes these runs.
+fn finishes(bits: &mut BitRuns, byte: u8, runs: &[Span]) -> bool
+    requires { 0 < bits.old.due }
+    ensures { IsTrue result → bits.old.due ≡ bits.new.due + 1 }
+{
+    match bits.feed(byte) {
+        Ok(finished) => { finished.as_slice() == runs && usize::from(finished.count) == runs.len() }
+        Err(_) => false,
+    }
 }
 
 #[test]
 fn finishes_the_highest_run_first(rt: HostRuntime) {
     let mut bits = BitRuns::new(1, 1);
-    let Ok(finished) = bits.feed(0x55) else {
-        assert!(rt; false);
-        return;
-    };
-    assert_eq!(rt;
-        finished.as_slice(),
-        [
-            Span { lo: 7, hi: 7 },
-            Span { lo: 5, hi: 5 },
-            Span { lo: 3, hi: 3 }
-        ]
-        .as_slice()
-    );
-    assert_eq!(rt; finished.count, 3);
+    let runs = [
+        Span { lo: 7, hi: 7 },
+        Span { lo: 5, hi: 5 },
+        Span { lo: 3, hi: 3 },
+    ];
+    assert!(rt; finishes(&mut bits, 0x55, &runs));
     assert_eq!(rt; bits.pending(), Some(Span { lo: 1, hi: 1 }));
     assert_eq!(rt; bits.end(), Some(Span { lo: 1, hi: 1 }));
 }
@@ -106,22 +119,24 @@ fn refusal(bits: &mut BitRuns, byte: u8) -> Option<BitFault>
     }
 }
 
-#[test]
-fn repeats_its_fault(rt: HostRuntime) {
-    for (offset, first, due) in [
-        (u64::MAX, 0x02, BitFault::Wraps),
-        (1, 0x80, BitFault::Negative),
-    ] {
-        let mut bits = BitRuns::new(offset, 1);
-        for byte in [first, 0x00, 0x7f] {
-            let Some(fault) = refusal(&mut bits, byte) else {
-                assert!(rt; false);
-                return;
-            };
-            assert_eq!(rt; fault, due);
-            assert_eq!(rt; bits.pending(), None);
+// Whether a byte and two more are refused with this fault.
+fn repeats(offset: u64, first: u8, due: BitFault) -> bool {
+    let mut bits = BitRuns::new(offset, 1);
+    for byte in [first, 0x00, 0x7f] {
+        let Some(fault) = refusal(&mut bits, byte) else {
+            return false;
+        };
+        if fault != due || bits.pending().is_some() {
+            return false;
         }
     }
+    true
+}
+
+#[test]
+fn repeats_its_fault(rt: HostRuntime) {
+    assert!(rt; repeats(u64::MAX, 0x02, BitFault::Wraps));
+    assert!(rt; repeats(1, 0x80, BitFault::Negative));
     assert_eq!(rt; BitFault::Negative.number(), 1);
     assert_eq!(rt; BitFault::Wraps.number(), 2);
 }

@@ -1,7 +1,7 @@
 // Sets that fill many pages, over both representations.
 ghost use Rattle.std.specs.Prelude.{◌≡◌, ◌+◌, ◌*◌, ◌^◌, ◌<◌, ◌≤◌};
 
-use crate::tests::walk::list_of;
+use crate::tests::walk::{list_of, lists};
 use serial_set::{Span, SpanPages, SpanVec, Spans};
 use std::alloc::{AllocError, Global};
 use std::process::Abort;
@@ -24,10 +24,11 @@ fn place(order: Order, index: u64, count: u64) -> u64
         Order::Rising => index,
         Order::Falling => count - 1 - index,
         Order::Alternating => {
-            if index % 2 == 0 {
-                index / 2
+            let half = index / 2;
+            if index == 2 * half {
+                half
             } else {
-                count - 1 - index / 2
+                count - 1 - half
             }
         }
     }
@@ -45,19 +46,23 @@ fn odd_numbers<S: Spans>(alloc: Global, order: Order, count: u64) -> Result<S, A
     Ok(set)
 }
 
-fn has_rows<S: Spans>(rt: &impl Abort, alloc: Global, order: Order) -> Result<(), Fail> {
+// Whether the set has so many spans, and this one at a place.
+fn has_span<S: Spans>(set: &S, length: usize, at: usize, span: Span) -> bool {
+    set.len() == length && at < length && set.get(at) == span
+}
+
+fn has_rows<S: Spans>(rt: &impl Abort, alloc: Global, order: Order) -> Result<(), AllocError> {
     let mut set: S = odd_numbers(alloc, order, 1024)?;
-    assert_eq!(rt; set.len(), 1024);
-    assert_eq!(rt; set.get(511), Span { lo: 1023, hi: 1023 });
-    set.add(1025, 1025)?;
-    assert_eq!(rt; set.len(), 1024);
-    assert_eq!(rt; set.get(512), Span { lo: 1025, hi: 1025 });
-    set.add(1022, 1022)?;
-    assert_eq!(rt; set.len(), 1023);
-    assert_eq!(rt; set.get(510), Span { lo: 1021, hi: 1023 });
-    set.add(2, 2046)?;
-    assert_eq!(rt; set.len(), 1);
-    assert_eq!(rt; set.get(0), Span { lo: 1, hi: 2047 });
+    assert!(rt; has_span(&set, 1024, 511, Span { lo: 1023, hi: 1023 }));
+    // An interval that is added, the length after it, and a span with its place.
+    for (lo, hi, length, at, span) in [
+        (1025, 1025, 1024, 512, Span { lo: 1025, hi: 1025 }),
+        (1022, 1022, 1023, 510, Span { lo: 1021, hi: 1023 }),
+        (2, 2046, 1, 0, Span { lo: 1, hi: 2047 }),
+    ] {
+        set.add(lo, hi)?;
+        assert!(rt; has_span(&set, length, at, span), "{lo} to {hi}");
+    }
     assert!(rt; set.has(1) && set.has(2047) && !set.has(0) && !set.has(2048));
     Ok(())
 }
@@ -76,38 +81,20 @@ fn joins_over_pages(rt: HostRuntime) -> Result<(), Fail> {
 fn fills_shelves(rt: HostRuntime) -> Result<(), Fail> {
     for order in [Order::Rising, Order::Falling, Order::Alternating] {
         let mut set: SpanPages = odd_numbers(rt.alloc(), order, 600_000)?;
-        assert_eq!(rt; set.len(), 600_000);
-        assert_eq!(rt;
-            set.get(262_144),
-            Span {
-                lo: 524_289,
-                hi: 524_289
-            }
-        );
-        assert_eq!(rt;
-            set.get(599_999),
-            Span {
-                lo: 1_199_999,
-                hi: 1_199_999
-            }
-        );
+        let span = Span {
+            lo: 524_289,
+            hi: 524_289,
+        };
+        assert!(rt; has_span(&set, 600_000, 262_144, span));
+        let span = Span {
+            lo: 1_199_999,
+            hi: 1_199_999,
+        };
+        assert!(rt; has_span(&set, 600_000, 599_999, span));
         assert!(rt; set.has(524_289) && !set.has(524_290));
         set.add(4, 1_199_996)?;
-        assert_eq!(rt;
-            list_of(rt.alloc(), &set)?.as_slice(),
-            [
-                Span { lo: 1, hi: 1 },
-                Span {
-                    lo: 3,
-                    hi: 1_199_997
-                },
-                Span {
-                    lo: 1_199_999,
-                    hi: 1_199_999
-                }
-            ]
-            .as_slice()
-        );
+        let ends = [(1, 1), (3, 1_199_997), (1_199_999, 1_199_999)];
+        assert!(rt; lists(rt.alloc(), &set, &ends)?);
     }
     Ok(())
 }

@@ -22,12 +22,17 @@ pub fn list_of<S: Spans>(alloc: Global, set: &S) -> Result<Vec<Span>, AllocError
 }
 
 // The intervals of these ends.
-pub fn spans_of(alloc: Global, ends: &[(u64, u64)]) -> Result<Vec<Span>, AllocError> {
+fn spans_of(alloc: Global, ends: &[(u64, u64)]) -> Result<Vec<Span>, AllocError> {
     let mut list = Vec::new(alloc);
     for (lo, hi) in ends {
         list.push(Span { lo: *lo, hi: *hi })?;
     }
     Ok(list)
+}
+
+// Whether the set has the intervals of these ends alone.
+pub fn lists<S: Spans>(alloc: Global, set: &S, ends: &[(u64, u64)]) -> Result<bool, AllocError> {
+    Ok(list_of(alloc, set)? == spans_of(alloc, ends)?)
 }
 
 // A run is never empty.
@@ -47,24 +52,24 @@ fn has_added<S: Spans>(set: &mut S, serial: u64) -> Result<bool, AllocError>
     Ok(set.has(serial))
 }
 
-fn walks<S: Spans>(rt: &impl Abort, alloc: Global) -> Result<(), Fail> {
+// Whether the set has two spans, and each of them its start.
+fn has_two_starts<S: Spans>(set: &S) -> bool {
+    set.len() == 2 && has_start(set, 0) && has_start(set, 1)
+}
+
+fn walks<S: Spans>(rt: &impl Abort, alloc: Global) -> Result<(), AllocError> {
     let mut set = S::empty(alloc)?;
-    assert_eq!(rt; set.len(), 0);
-    assert!(rt; !set.has(0) && !set.has(2));
+    assert!(rt; set.len() == 0 && !set.has(0) && !set.has(2));
     assert!(rt; has_added(&mut set, 9)?);
     assert!(rt; has_added(&mut set, 2)?);
-    assert_eq!(rt; set.len(), 2);
-    assert!(rt; has_start(&set, 0) && has_start(&set, 1));
-    let list = list_of(alloc, &set)?;
-    assert_eq!(rt;
-        list.as_slice(),
-        [Span { lo: 2, hi: 2 }, Span { lo: 9, hi: 9 }].as_slice()
-    );
+    assert!(rt; has_two_starts(&set));
+    assert!(rt; lists(alloc, &set, &[(2, 2), (9, 9)])?);
     Ok(())
 }
 
 #[test]
 fn walks_each_representation(rt: HostRuntime) -> Result<(), Fail> {
     walks::<SpanVec>(&rt, rt.alloc())?;
-    walks::<SpanPages>(&rt, rt.alloc())
+    walks::<SpanPages>(&rt, rt.alloc())?;
+    Ok(())
 }
