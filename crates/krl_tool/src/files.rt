@@ -1,7 +1,7 @@
 // The files that the command names.
 
-use crate::job::AuthorityName;
 use krl_runs::{Authority, Cause, FileFault, Named, RunFault, load};
+use krl_words::AuthorityName;
 use ssh_wire::FromRead;
 use std::fs::{self, File};
 use std::io::BufReader;

@@ -3,21 +3,16 @@
 
 ghost use Rattle.std.specs.Prelude.{◌≡◌, None, Some, false};
 ghost use Rattle.std.specs.Option.{ForSome};
-ghost use Rattle.krl_tool.specs.Command.{command_fault_status};
+ghost use Rattle.krl_words.specs.Command.{command_fault_status};
 
-mod command;
 mod files;
-mod given;
-mod job;
-mod options;
 
-use crate::command::{CommandFault, command_of};
 use crate::files::{open, open_authority, open_inputs, open_list, open_or_input};
-use crate::job::{Job, Mode};
 use krl_runs::{
     Cause, Done, FAILED, FileFault, ListMode, Old, RunFault, fault_text, list_run, make_run,
     query_run,
 };
+use krl_words::{CommandFault, Job, Mode, command_of};
 use ssh_wire::{FromRead, Source, ToWrite, send};
 use std::env;
 use std::fs::{self, File};
@@ -224,6 +219,3 @@ fn refuse(rt: &HostRuntime, fault: &CommandFault) -> u8
         }
     }
 }
-
-#[cfg(test)]
-mod tests;

@@ -1,0 +1,60 @@
+-- Which words ask for which job (ssh-keygen(1), SYNOPSIS), and the faults of the command line:
+-- their numbers, and the statuses that they end with.
+use Rattle.std.specs.Prelude.{◌≡◌, ◌≢◌, ℕ, ⊤, Bool, true, false, List, [], None, Some, Result, Ok, Err}
+use Rattle.clap.specs.Faults.{fault_of}
+use Rattle.clap.specs.Kinds.{IsAmong}
+use Rattle.clap.specs.Values.{kind_of}
+use Rattle.clap.specs.declared.error.Error.{Error}
+use Rattle.clap.specs.declared.error.kind.ErrorKind.{ErrorKind}
+use Rattle.clap.specs.declared.error.kind.ErrorKind.TheVariants.{DisplayHelp, DisplayVersion, OutOfMemory}
+use Rattle.krl_words.specs.declared.command.CommandFault.{CommandFault}
+use Rattle.krl_words.specs.declared.command.CommandFault.TheVariants.{Usage, Words, NoMemory}
+use Rattle.krl_words.specs.declared.job.Job.{Job}
+use Rattle.krl_words.specs.Job.{asked_of, job_of}
+use Rattle.krl_words.specs.Options.{Given, given_in, program}
+
+abbrev pub command_fault_number : CommandFault → ℕ
+command_fault_number Usage = 1
+command_fault_number (Words help text) = 2
+command_fault_number NoMemory = 3
+
+abbrev pub words_status : Bool → ℕ
+words_status true = 0
+words_status false = 2
+
+abbrev pub command_fault_status : CommandFault → ℕ
+command_fault_status Usage = 2
+command_fault_status (Words help text) = words_status help
+command_fault_status NoMemory = 255
+
+-- ---- the command
+
+abbrev pub is_help : ErrorKind → Bool
+is_help DisplayHelp = true
+is_help DisplayVersion = true
+is_help kind = false
+
+-- What words that are read ask for, by what they hold.
+abbrev pub AsksFor : Given → Result Job CommandFault → Type 0
+AsksFor given (Ok job) = job_of given ≡ Some (asked_of job)
+AsksFor given (Err Usage) = job_of given ≡ None
+AsksFor given (Err (Words help text)) = ⊥
+AsksFor given (Err NoMemory) = ⊤
+
+-- why words are not read
+abbrev pub TellsError : Error → CommandFault → Type 0
+TellsError error (Words help text) =
+    (kind_of error ≢ OutOfMemory) × (help ≡ is_help (kind_of error))
+TellsError error Usage = ⊥
+TellsError error NoMemory = ⊤
+
+-- What comes of the words, the program's name before them: where they are read, the job that they
+-- ask for or Usage; else why they are not read.
+abbrev pub IsCommand : List (List ℕ) → Result Job CommandFault → Type 0
+IsCommand words (Ok job) =
+    (fault_of program words ≡ []) × (job_of (given_in words) ≡ Some (asked_of job))
+IsCommand words (Err Usage) =
+    (fault_of program words ≡ []) × (job_of (given_in words) ≡ None)
+IsCommand words (Err (Words help text)) =
+    (kind : ErrorKind) × IsAmong kind (fault_of program words) × (help ≡ is_help kind)
+IsCommand words (Err NoMemory) = ⊤

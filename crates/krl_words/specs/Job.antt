@@ -1,0 +1,139 @@
+-- The job that words ask for by what they hold of the options (ssh-keygen(1), SYNOPSIS).
+use Rattle.std.specs.Prelude.{ℕ, ◌^◌, ◌==◌, ◌&&◌, ◌||◌, not, Bool, true, false, nat_le, nat_lt, if◌then◌else◌, List, length, map, Option, None, Some, is_some, option_and_then, codes}
+use Rattle.std.specs.Char.{is_ascii_digit, to_ascii_lowercase}
+use Rattle.std.specs.List.{list_all}
+use Rattle.std.specs.Str.{bytes_eq}
+use Rattle.std.specs.Str.Parse.{digits_value}
+use Rattle.ssh_key.specs.declared.hash.Hash.{Hash}
+use Rattle.ssh_key.specs.declared.hash.Hash.TheVariants.{Md5, Sha256}
+use Rattle.krl_words.specs.declared.job.AuthorityName.{AuthorityName}
+use Rattle.krl_words.specs.declared.job.AuthorityName.TheVariants as names
+use Rattle.krl_words.specs.declared.job.Job.{Job}
+use Rattle.krl_words.specs.declared.job.Mode.{Mode}
+use Rattle.krl_words.specs.declared.job.Mode.TheVariants.{Keys, Certs, Make, Query}
+use Rattle.krl_words.specs.Options.{Given}
+
+-- ---- a job
+
+-- under which authority a list names serials and key IDs: that of the file's key, or all
+pub data Authority : Type 0 where
+  NotGiven : Authority
+  All : Authority
+  File : List ℕ → Authority
+
+pub record Asked : Type 0 where
+  pub mode : Mode
+  pub file : List ℕ
+  pub update : Bool
+  pub authority : Authority
+  pub version : Option ℕ
+  pub dump : Bool
+  pub hash : Hash
+  pub files : List (List ℕ)
+
+abbrev pub authority_of : AuthorityName → Authority
+authority_of names.NotGiven = NotGiven
+authority_of names.All = All
+authority_of (names.File name) = File name.now
+
+-- what a job asks for
+abbrev pub asked_of : Job → Asked
+asked_of job = record {
+  mode = job.mode;
+  file = job.file.now;
+  update = job.update;
+  authority = authority_of job.authority;
+  version = job.version;
+  dump = job.dump;
+  hash = job.hash;
+  files = map (λ name. name.now) job.files.items;
+}
+
+-- ---- the values of options
+
+-- the text is the name, in any case of ASCII letters
+abbrev pub is_named : List ℕ → List ℕ → Bool
+is_named name text = bytes_eq (map to_ascii_lowercase text) name
+
+abbrev pub hash_called : List ℕ → Option Hash
+hash_called text =
+    if is_named (codes "md5") text then Some Md5
+    else if is_named (codes "sha256") text then Some Sha256
+    else None
+
+-- SHA-256 where no hash is named
+abbrev pub hash_named : Option (List ℕ) → Option Hash
+hash_named None = Some Sha256
+hash_named (Some text) = hash_called text
+
+-- from 1 to 20 decimal digits whose number has at most 64 bits
+abbrev pub is_version : List ℕ → Bool
+is_version text = nat_le (length text) 20 && (list_all is_ascii_digit text
+    && (nat_lt 0 (length text) && nat_lt (digits_value 10 text) (2 ^ 64)))
+
+abbrev pub version_called : List ℕ → Option (Option ℕ)
+version_called text = if is_version text then Some (Some (digits_value 10 text)) else None
+
+abbrev pub version_named : Option (List ℕ) → Option (Option ℕ)
+version_named None = Some None
+version_named (Some text) = version_called text
+
+abbrev pub authority_called : List ℕ → Authority
+authority_called text = if is_named (codes "none") text then All else File text
+
+abbrev pub authority_named : Option (List ℕ) → Authority
+authority_named None = NotGiven
+authority_named (Some text) = authority_called text
+
+-- ---- the sets of options
+
+-- One of -l, -L, -k and -Q, or -l with -Q.
+abbrev pub mode_by : Bool → Bool → Bool → Bool → Option Mode
+mode_by true false false false = Some Keys
+mode_by false true false false = Some Certs
+mode_by false false true false = Some Make
+mode_by list false false true = Some Query
+mode_by list certificates make query = None
+
+-- an option of -k alone
+abbrev pub is_for_making : Given → Bool
+is_for_making given = given.update || (is_some given.authority || is_some given.version)
+
+-- The options go with the mode.
+abbrev pub fits : Mode → Given → Bool
+fits Keys given = not (is_for_making given) && length given.files == 0
+fits Certs given = not (is_for_making given) && length given.files == 0
+fits Make given = not (is_some given.hash)
+fits Query given = not (is_for_making given) && not (is_some given.hash)
+
+abbrev pub is_query : Mode → Bool
+is_query Query = true
+is_query mode = false
+
+abbrev pub where_fit : Given → Mode → Option Mode
+where_fit given mode = if fits mode given then Some mode else None
+
+-- the mode, where the options go together
+abbrev pub mode_of : Given → Option Mode
+mode_of given = option_and_then (where_fit given)
+    (mode_by given.list given.certificates given.make given.query)
+
+abbrev pub job_with : Given → Option Mode → Option (List ℕ) → Option Hash → Option (Option ℕ)
+    → Option Asked
+job_with given (Some mode) (Some file) (Some hash) (Some version) = Some (record {
+  mode = mode;
+  file = file;
+  update = given.update;
+  authority = authority_named given.authority;
+  version = version;
+  dump = is_query mode && given.list;
+  hash = hash;
+  files = given.files;
+})
+job_with given mode file hash version = None
+
+-- The job that words ask for: none where the options do not go together, -f is missing, or the
+-- value of -E or -z is none of theirs.
+unfoldable pub job_of : Given → Option Asked
+job_of given =
+    job_with given (mode_of given) given.file (hash_named given.hash) (version_named given.version)

@@ -1,0 +1,89 @@
+// The words of the command line (ssh-keygen(1), SYNOPSIS).
+
+ghost use Rattle.std.specs.Prelude.{◌≡◌, map};
+ghost use Rattle.clap.specs.Matches.{found_of};
+ghost use Rattle.clap.specs.Walk.{rows_of};
+ghost use Rattle.krl_words.specs.Command.{AsksFor, IsCommand, TellsError, command_fault_number};
+ghost use Rattle.krl_words.specs.Options.{given_of};
+ghost use Rattle.krl_words.specs.declared.command.CommandFault.TheVariants.{NoMemory};
+
+use crate::given::given_in;
+use crate::job::{Job, job_of};
+use crate::options::program;
+use clap::error::ErrorKind;
+use clap::{ArgMatches, Error};
+use std::alloc::{AllocError, Global};
+use std::convert::AsStr;
+use thiserror::Error as ErrorText;
+
+/// Why there is no job.
+#[derive(Debug, Drop, ErrorText)]
+pub enum CommandFault {
+    /// The options, or a value of one, are none that the program has together.
+    #[error("usage 1 Usage")]
+    Usage,
+    /// The words are no options of the program, or ask for its help: the text to print.
+    #[error("usage 2 Words")]
+    Words { help: bool, text: String },
+    #[error("usage 3 NoMemory")]
+    NoMemory,
+}
+
+impl CommandFault {
+    /// The fault's number.
+    pub fn number(&self) -> u8
+        ensures { result ≡ command_fault_number self.now }
+    {
+        match self {
+            CommandFault::Usage => 1,
+            CommandFault::Words { .. } => 2,
+            CommandFault::NoMemory => 3,
+        }
+    }
+}
+
+impl From<AllocError> for CommandFault {
+    ghost from_gives = { λ _ fault. fault ≡ NoMemory };
+
+    fn from(_refused: AllocError) -> CommandFault {
+        CommandFault::NoMemory
+    }
+}
+
+/// The job that the words ask for, the program's name before them.
+pub fn command_of<'a, S: AsStr>(alloc: Global, words: &'a [S]) -> Result<Job<'a>, CommandFault>
+    ensures { IsCommand (map S.text words.entry.now) result }
+{
+    let program = program(alloc)?;
+    match program.try_get_matches_from(words) {
+        Ok(matches) => job_in(alloc, &matches),
+        Err(error) => Err(words_fault(alloc, &error)),
+    }
+}
+
+/// Why the words are not read, or the help that they ask for.
+fn words_fault(alloc: Global, error: &Error) -> CommandFault
+    ensures { TellsError error.now result }
+{
+    if error.kind() == ErrorKind::OutOfMemory {
+        return CommandFault::NoMemory;
+    }
+    match error.to_string(alloc) {
+        Ok(text) => CommandFault::Words {
+            help: !error.use_stderr(),
+            text,
+        },
+        Err(_) => CommandFault::NoMemory,
+    }
+}
+
+/// The job of words that are read.
+fn job_in<'a>(alloc: Global, matches: &ArgMatches<'a>) -> Result<Job<'a>, CommandFault>
+    ensures { AsksFor (given_of (rows_of (found_of matches.now))) result }
+{
+    let given = given_in(alloc, matches)?;
+    match job_of(given) {
+        Some(job) => Ok(job),
+        None => Err(CommandFault::Usage),
+    }
+}

@@ -1,0 +1,65 @@
+// What words hold of the options.
+
+ghost use Rattle.std.specs.Prelude.{◌≡◌, IfOk, codes, map, unwrap_or, []};
+ghost use Rattle.clap.specs.Matches.{found_of};
+ghost use Rattle.clap.specs.Walk.{all_of, rows_of};
+ghost use Rattle.krl_words.specs.Given.{given_by};
+ghost use Rattle.krl_words.specs.Options.{given_of, is_set};
+
+use clap::ArgMatches;
+use std::alloc::{AllocError, Global};
+
+/// What words hold: which of the options without a value are given, the values of the others, and
+/// the files.
+#[derive(Drop)]
+pub struct Given<'a> {
+    pub list: bool,
+    pub certificates: bool,
+    pub make: bool,
+    pub query: bool,
+    pub update: bool,
+    pub file: Option<&'a str>,
+    pub hash: Option<&'a str>,
+    pub authority: Option<&'a str>,
+    pub version: Option<&'a str>,
+    pub files: Vec<&'a str>,
+}
+
+/// What the words of these matches hold.
+pub fn given_in<'a>(alloc: Global, matches: &ArgMatches<'a>) -> Result<Given<'a>, AllocError>
+    ensures { IfOk result (λ given.
+        given_by given ≡ given_of (rows_of (found_of matches.now))) }
+{
+    let files = files_in(alloc, matches)?;
+    Ok(Given {
+        list: is_set(matches, "list"),
+        certificates: is_set(matches, "certificates"),
+        make: is_set(matches, "make"),
+        query: is_set(matches, "query"),
+        update: is_set(matches, "update"),
+        file: matches.get_str("file"),
+        hash: matches.get_str("hash"),
+        authority: matches.get_str("authority"),
+        version: matches.get_str("version"),
+        files,
+    })
+}
+
+fn is_set(matches: &ArgMatches, id: &str) -> bool
+    ensures { result ≡ is_set id.now (rows_of (found_of matches.now)) }
+{
+    match matches.get_str(id) {
+        Some(text) => text == "true",
+        None => false,
+    }
+}
+
+fn files_in<'a>(alloc: Global, matches: &ArgMatches<'a>) -> Result<Vec<&'a str>, AllocError>
+    ensures { IfOk result (λ files. map (λ name. name.now) files.items
+        ≡ unwrap_or (all_of (codes "files") (rows_of (found_of matches.now))) []) }
+{
+    match matches.get_strs("files") {
+        Some(files) => Vec::from_slice(alloc, files),
+        None => Ok(Vec::new(alloc)),
+    }
+}

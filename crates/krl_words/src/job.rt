@@ -1,0 +1,167 @@
+// The job that words ask for (ssh-keygen(1), SYNOPSIS).
+
+ghost use Rattle.std.specs.Prelude.{◌≡◌, option_map};
+ghost use Rattle.std.specs.Char.{is_ascii_digit};
+ghost use Rattle.std.specs.List.{list_all};
+ghost use Rattle.krl_words.specs.Given.{given_by};
+ghost use Rattle.krl_words.specs.Job.{asked_of, authority_named, authority_of, fits, hash_called, hash_named, is_for_making, job_of, mode_of, version_called, version_named};
+
+use crate::given::Given;
+use ssh_key::Hash;
+
+/// How many digits a version has at most.
+const MOST_DIGITS: usize = 20;
+
+/// What a run of the program does.
+#[derive(Clone, Copy, Debug, PartialEq, Eq)]
+pub enum Mode {
+    /// Lists the keys of a file.
+    Keys,
+    /// Lists the certificates of a file.
+    Certs,
+    /// Makes a list.
+    Make,
+    /// Asks a list about the keys of files.
+    Query,
+}
+
+/// Under which authority a list that is made names serials and key IDs.
+#[derive(Debug, Drop)]
+pub enum AuthorityName<'a> {
+    NotGiven,
+    /// All authorities.
+    All,
+    /// That of the file of this name.
+    File(&'a str),
+}
+
+/// What the words of the command ask for.
+#[derive(Debug, Drop)]
+pub struct Job<'a> {
+    pub mode: Mode,
+    /// The file of `-f`.
+    pub file: &'a str,
+    /// Whether the list that is made adds to the one that there is.
+    pub update: bool,
+    pub authority: AuthorityName<'a>,
+    pub version: Option<u64>,
+    /// Whether the contents of the list are printed.
+    pub dump: bool,
+    /// How fingerprints are printed.
+    pub hash: Hash,
+    /// The files that follow the options.
+    pub files: Vec<&'a str>,
+}
+
+/// The job that words ask for by what they hold: none where the options do not go together, `-f` is
+/// missing, or the value of `-E` or `-z` is none of theirs.
+#[tactic(auto, unfolding(crate::specs::Job::job_of))]
+pub fn job_of<'a>(given: Given<'a>) -> Option<Job<'a>>
+    ensures { option_map asked_of result ≡ job_of (given_by given.entry) }
+{
+    let mode = mode_of(&given)?;
+    let file = given.file?;
+    let hash = hash_named(given.hash)?;
+    let version = version_named(given.version)?;
+    Some(Job {
+        mode,
+        file,
+        update: given.update,
+        authority: authority_named(given.authority),
+        version,
+        dump: mode == Mode::Query && given.list,
+        hash,
+        files: given.files,
+    })
+}
+
+/// The mode, where the options go together.
+fn mode_of(given: &Given) -> Option<Mode>
+    ensures { result ≡ mode_of (given_by given.now) }
+{
+    let mode = match (given.list, given.certificates, given.make, given.query) {
+        (true, false, false, false) => Mode::Keys,
+        (false, true, false, false) => Mode::Certs,
+        (false, false, true, false) => Mode::Make,
+        (_, false, false, true) => Mode::Query,
+        _ => return None,
+    };
+    if fits(mode, given) { Some(mode) } else { None }
+}
+
+/// Whether the other options go with the mode.
+fn fits(mode: Mode, given: &Given) -> bool
+    ensures { result ≡ fits mode (given_by given.now) }
+{
+    match mode {
+        Mode::Keys | Mode::Certs => !is_for_making(given) && given.files.is_empty(),
+        Mode::Make => given.hash.is_none(),
+        Mode::Query => !is_for_making(given) && given.hash.is_none(),
+    }
+}
+
+/// Whether some option is for making lists alone.
+fn is_for_making(given: &Given) -> bool
+    ensures { result ≡ is_for_making (given_by given.now) }
+{
+    given.update || given.authority.is_some() || given.version.is_some()
+}
+
+fn hash_named(name: Option<&str>) -> Option<Hash>
+    ensures { result ≡ hash_named (option_map (λ text. text.now) name.entry) }
+{
+    match name {
+        None => Some(Hash::Sha256),
+        Some(name) => hash_called(name),
+    }
+}
+
+fn hash_called(name: &str) -> Option<Hash>
+    ensures { result ≡ hash_called name.now }
+{
+    if name.eq_ignore_ascii_case("md5") {
+        Some(Hash::Md5)
+    } else if name.eq_ignore_ascii_case("sha256") {
+        Some(Hash::Sha256)
+    } else {
+        None
+    }
+}
+
+/// The version that is asked for, if one is: none at all where the text is no version.
+fn version_named(text: Option<&str>) -> Option<Option<u64>>
+    ensures { result ≡ version_named (option_map (λ text. text.now) text.entry) }
+{
+    match text {
+        None => Some(None),
+        Some(text) => version_called(text),
+    }
+}
+
+fn version_called(text: &str) -> Option<Option<u64>>
+    ensures { result ≡ version_called text.now }
+{
+    if text.len() > MOST_DIGITS || !are_digits(text.as_bytes()) {
+        return None;
+    }
+    match text.parse() {
+        Ok(version) => Some(Some(version)),
+        Err(_) => None,
+    }
+}
+
+fn are_digits(bytes: &[u8]) -> bool
+    ensures { result ≡ list_all is_ascii_digit bytes.now }
+{
+    bytes.iter().all(|byte| byte.is_ascii_digit())
+}
+
+fn authority_named<'a>(name: Option<&'a str>) -> AuthorityName<'a>
+    ensures { authority_of result ≡ authority_named (option_map (λ text. text.now) name.entry) }
+{
+    match name {
+        None => AuthorityName::NotGiven,
+        Some(name) if name.eq_ignore_ascii_case("none") => AuthorityName::All,
+        Some(name) => AuthorityName::File(name),
+    }
+}
