@@ -10,10 +10,10 @@ use Rattle.serial_set.specs.declared.span.Span.{Span}
 use Rattle.serial_set.specs.Span.{SpanCovers, IsRuns, Covers, RunsFrom}
 use Rattle.ssh_wire.specs.Wire.{number_of}
 use Rattle.ssh_wire.specs.Magnitudes.{number_of-cons}
-use Rattle.krl_core.specs.Plan.{end_of, reach}
-use Rattle.krl_core.specs.Written.{bitmap_of, bits_of, first_of, has}
-use Rattle.krl_core.proofs.BitmapBits.{bits_of_lt, has_before, has_past}
-use Rattle.krl_core.proofs.GroupTexts.{length-bitmap_of}
+use Rattle.krl_plan.specs.Plan.{end_of, reach}
+use Rattle.krl_plan.specs.Written.{bitmap_of, bits_of, first_of, has}
+use Rattle.krl_plan.specs.BitmapBits.{bits_of_lt, has_before, has_past}
+use Rattle.krl_plan.specs.GroupTexts.{length-bitmap_of}
 
 -- ---- membership
 

@@ -5,14 +5,14 @@ use Rattle.ssh_wire.specs.Fields.{length-number, length-string}
 use Rattle.krl_core.specs.Front.{limit}
 use Rattle.krl_core.specs.declared.writing.text_fault.TextFault.{TextFault}
 use Rattle.krl_core.specs.declared.writing.text_fault.TextFault.TheVariants.{NoMemory, TooLong}
-use Rattle.krl_core.specs.declared.plan.group.Group.{Group}
+use Rattle.krl_plan.specs.declared.group.Group.{Group}
 use Rattle.krl_core.specs.Contents.{Section as Listed}
 use Rattle.krl_core.specs.KrlText.{authority_content, authority_text, listed_text}
-use Rattle.krl_core.specs.Plan.{IsLeastPlan}
+use Rattle.krl_plan.specs.Plan.{IsLeastPlan}
 use Rattle.krl_core.specs.Within.{AddsAuthority, AddsWithin}
-use Rattle.krl_core.specs.Written.{plan_text}
-use Rattle.krl_core.proofs.ListTexts.{string_ended}
-use Rattle.krl_core.proofs.OnePlan.{one_plan}
+use Rattle.krl_plan.specs.Written.{plan_text}
+use Rattle.krl_plan.specs.ListTexts.{string_ended}
+use Rattle.krl_plan.specs.OnePlan.{one_plan}
 use Rattle.krl_core.proofs.Sections.{length-authority}
 
 abbrev refused : TextFault → Result (Unit {0}) TextFault

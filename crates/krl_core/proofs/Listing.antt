@@ -4,12 +4,12 @@ use Rattle.std.proofs.lemmas.List.{append-nil}
 use Rattle.krl_core.specs.Front.{limit}
 use Rattle.krl_core.specs.declared.writing.text_fault.TextFault.{TextFault}
 use Rattle.krl_core.specs.declared.writing.text_fault.TextFault.TheVariants.{NoMemory, TooLong}
-use Rattle.krl_core.specs.declared.plan.group.Group.{Group}
+use Rattle.krl_plan.specs.declared.group.Group.{Group}
 use Rattle.krl_core.specs.Contents.{Section as Listed}
 use Rattle.krl_core.specs.KrlText.{EachPlan, authorities_text, authority_text}
-use Rattle.krl_core.specs.Plan.{IsLeastPlan}
+use Rattle.krl_plan.specs.Plan.{IsLeastPlan}
 use Rattle.krl_core.specs.Within.{AddsAuthorities, AddsAuthority}
-use Rattle.krl_core.proofs.OnePlan.{one_plan}
+use Rattle.krl_plan.specs.OnePlan.{one_plan}
 
 abbrev refused : TextFault → Result (Unit {0}) TextFault
 refused fault = Err fault

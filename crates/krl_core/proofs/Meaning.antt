@@ -5,17 +5,17 @@ use Rattle.std.proofs.lemmas.Bool.{cases_lt}
 use Rattle.std.proofs.lemmas.List.Elements.{Contains-append_cases, Contains-append_left, Contains-append_right}
 use Rattle.serial_set.specs.declared.span.Span.{Span}
 use Rattle.serial_set.specs.Span.{AreSerials, IsRuns, Covers as Names, RunsFrom}
-use Rattle.krl_core.specs.declared.plan.group.Sort.{Sort}
-use Rattle.krl_core.specs.declared.plan.group.Sort.TheVariants as sorts
-use Rattle.krl_core.specs.declared.plan.group.Group.{Group}
+use Rattle.krl_plan.specs.declared.group.Sort.{Sort}
+use Rattle.krl_plan.specs.declared.group.Sort.TheVariants as sorts
+use Rattle.krl_plan.specs.declared.group.Group.{Group}
 use Rattle.krl_core.specs.Entry.{Entry, SerialsEntry, RangeEntry, BitmapEntry, IdEntry, KeyEntry, Sha1Entry, Sha256Entry}
 use Rattle.krl_core.specs.Entries.{subsection_entries}
 use Rattle.krl_core.specs.KrlText.{group_subsection, plan_subsections}
 use Rattle.krl_core.specs.Naming.{NamesAt, SomeNamesAt}
-use Rattle.krl_core.specs.Plan.{Covers, IsGroup, IsPlan}
-use Rattle.krl_core.specs.Written.{bitmap_size, first_of, serials_from, serials_of}
+use Rattle.krl_plan.specs.Plan.{Covers, IsGroup, IsPlan}
+use Rattle.krl_plan.specs.Written.{bitmap_size, first_of, serials_from, serials_of}
 use Rattle.krl_core.proofs.BitmapNames.{bits-names, names-bits, names_within}
-use Rattle.krl_core.proofs.Chosen.{IsRuns-drop, RunsFrom-take}
+use Rattle.krl_plan.specs.Chosen.{IsRuns-drop, RunsFrom-take}
 use Rattle.krl_core.proofs.Spelling.{AreSerials-drop, AreSerials-take, names-drop, names-take}
 
 -- ---- elements

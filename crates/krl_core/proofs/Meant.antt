@@ -5,16 +5,16 @@ use Rattle.std.proofs.lemmas.Grind.{flat_map-append}
 use Rattle.std.proofs.lemmas.List.{append-nil}
 use Rattle.std.proofs.lemmas.List.Elements.{Contains-append_cases, Contains-append_left, Contains-append_right}
 use Rattle.serial_set.specs.declared.span.Span.{Span}
-use Rattle.krl_core.specs.declared.plan.group.Sort.{Sort}
-use Rattle.krl_core.specs.declared.plan.group.Sort.TheVariants as sorts
-use Rattle.krl_core.specs.declared.plan.group.Group.{Group}
+use Rattle.krl_plan.specs.declared.group.Sort.{Sort}
+use Rattle.krl_plan.specs.declared.group.Sort.TheVariants as sorts
+use Rattle.krl_plan.specs.declared.group.Group.{Group}
 use Rattle.krl_core.specs.Contents.{Contents, HoldsId, HoldsSerial, IsListed, IsOrderly, Means, Section as Listed}
 use Rattle.krl_core.specs.Entry.{Entry, IdEntry, KeyEntry, Sha1Entry, Sha256Entry}
 use Rattle.krl_core.specs.Krl.{Keys, Section, Sha1s, Sha256s}
 use Rattle.krl_core.specs.Entries.{entries_of, section_entries, subsection_entries}
 use Rattle.krl_core.specs.KrlText.{EachPlan, authority_sections, group_subsection, ids_subsections, listed_sections, plan_subsections, sections_of}
 use Rattle.krl_core.specs.Naming.{SomeNamesAt}
-use Rattle.krl_core.specs.Plan.{IsPlan}
+use Rattle.krl_plan.specs.Plan.{IsPlan}
 use Rattle.krl_core.proofs.Meaning.{from_map, in_cases, in_map, kind, map_kind, map_unnamed, names_plan, none_in, plan_names, some_cases, some_left, some_right, tail_in}
 use Rattle.krl_core.proofs.Sections.{All-tail}
 

@@ -1,13 +1,13 @@
 -- What is read of a list that was written.
 use Rattle.std.proofs.Common.{◌≡◌, ℕ, ◌<◌, ◌≤◌, ◌^◌, List, [], ◌∷◌, length, sym, subst}
 use Rattle.krl_core.specs.declared.header.Header.{Header}
-use Rattle.krl_core.specs.declared.plan.group.Group.{Group}
+use Rattle.krl_plan.specs.declared.group.Group.{Group}
 use Rattle.krl_core.specs.Contents.{Contents, IsOrderly, Means, Section as Listed}
 use Rattle.krl_core.specs.Entries.{entries_of}
 use Rattle.krl_core.specs.Front.{limit}
 use Rattle.krl_core.specs.Krl.{Section, Spells}
 use Rattle.krl_core.specs.KrlText.{EachPlan, IsKrlText, sections_of}
-use Rattle.krl_core.specs.Plan.{IsLeastPlan, IsPlan}
+use Rattle.krl_plan.specs.Plan.{IsLeastPlan, IsPlan}
 use Rattle.krl_core.specs.Reading.{IsList}
 use Rattle.krl_core.proofs.Meant.{sections_mean}
 use Rattle.krl_core.proofs.OneMeaning.{one_meaning}

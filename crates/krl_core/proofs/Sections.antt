@@ -4,13 +4,13 @@ use Rattle.std.specs.List.{All, AllByRecursion}
 use Rattle.ssh_wire.specs.Wire.{number, string, strings}
 use Rattle.ssh_wire.specs.Fields.{length-number, length-string}
 use Rattle.krl_core.specs.Front.{limit}
-use Rattle.krl_core.specs.declared.plan.group.Group.{Group}
+use Rattle.krl_plan.specs.declared.group.Group.{Group}
 use Rattle.krl_core.specs.declared.header.Header.{Header}
 use Rattle.krl_core.specs.Contents.{Contents, IsListed, IsOrderly, Section as Listed}
 use Rattle.krl_core.specs.Krl.{Certificates, Ids, Keys, Section, Sha1s, Sha256s, SignaturesLast, Spells, SpellsEach, SpellsSection, SpellsSubsection, header_text}
 use Rattle.krl_core.specs.KrlText.{EachPlan, authorities_text, authority_content, authority_sections, authority_text, ids_subsections, listed_sections, listed_text, plan_subsections, sections_of, sections_text, text_of}
-use Rattle.krl_core.specs.Plan.{IsPlan}
-use Rattle.krl_core.specs.Written.{plan_text}
+use Rattle.krl_plan.specs.Plan.{IsPlan}
+use Rattle.krl_plan.specs.Written.{plan_text}
 use Rattle.krl_core.proofs.Spelling.{each_append, each_one, plan_spelled}
 
 pub All-tail : {X : Type 0} (P : X → Type 0) (x : X) (xs : List X) → All P (x ∷ xs) → All P xs

@@ -4,13 +4,13 @@ use Rattle.std.specs.List.{All}
 use Rattle.ssh_wire.specs.Wire.{string, strings}
 use Rattle.ssh_wire.specs.Fields.{length-string}
 use Rattle.krl_core.specs.declared.header.Header.{Header}
-use Rattle.krl_core.specs.declared.plan.group.Group.{Group}
+use Rattle.krl_plan.specs.declared.group.Group.{Group}
 use Rattle.krl_core.specs.Contents.{Contents, IsListed, IsOrderly, Section as Listed}
 use Rattle.krl_core.specs.Krl.{header_text}
 use Rattle.krl_core.specs.KrlText.{EachPlan, authorities_text, authority_content, authority_text, listed_text, sections_text, text_of}
-use Rattle.krl_core.specs.Plan.{IsPlan}
+use Rattle.krl_plan.specs.Plan.{IsPlan}
 use Rattle.krl_core.specs.Size.{authorities_size, authority_size, hashes_size, listed_size, strings_size, text_size}
-use Rattle.krl_core.proofs.OnePlan.{length-plan}
+use Rattle.krl_plan.specs.OnePlan.{length-plan}
 use Rattle.krl_core.proofs.Sections.{All-tail, length-authority, length-header}
 
 length-strings : (texts : List (List ℕ)) → length (strings texts) ≡ strings_size texts

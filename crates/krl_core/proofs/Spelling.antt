@@ -6,17 +6,17 @@ use Rattle.serial_set.specs.declared.span.Span.{Span}
 use Rattle.serial_set.specs.Span.{AreSerials, IsRuns, Covers as Names, RunsFrom}
 use Rattle.ssh_wire.specs.Wire.{number, string}
 use Rattle.ssh_wire.specs.Fields.{length-number, length-string}
-use Rattle.krl_core.specs.declared.plan.group.Sort.{Sort}
-use Rattle.krl_core.specs.declared.plan.group.Sort.TheVariants as sorts
-use Rattle.krl_core.specs.declared.plan.group.Group.{Group}
+use Rattle.krl_plan.specs.declared.group.Sort.{Sort}
+use Rattle.krl_plan.specs.declared.group.Sort.TheVariants as sorts
+use Rattle.krl_plan.specs.declared.group.Group.{Group}
 use Rattle.krl_core.specs.Krl.{IsPositive, SpellsBitmap, SpellsEach, SpellsSubsection}
-use Rattle.krl_core.specs.Plan.{Covers, IsGroup, IsPlan, end_of, reach}
-use Rattle.krl_core.specs.Written.{bitmap_of, bitmap_size, bits_of, content_of, first_of, group_text, plan_text, serials_from, serials_of}
+use Rattle.krl_plan.specs.Plan.{Covers, IsGroup, IsPlan, end_of, reach}
+use Rattle.krl_plan.specs.Written.{bitmap_of, bitmap_size, bits_of, content_of, first_of, group_text, plan_text, serials_from, serials_of}
 use Rattle.krl_core.specs.KrlText.{group_subsection, plan_subsections}
 use Rattle.krl_core.proofs.BitmapNames.{bits-names, number-bitmap, top_bit_clear}
-use Rattle.krl_core.proofs.Chosen.{IsRuns-drop, RunsFrom-take}
-use Rattle.krl_core.proofs.GroupTexts.{length-bitmap_of}
-use Rattle.krl_core.proofs.ListTexts.{length-listed, small_few}
+use Rattle.krl_plan.specs.Chosen.{IsRuns-drop, RunsFrom-take}
+use Rattle.krl_plan.specs.GroupTexts.{length-bitmap_of}
+use Rattle.krl_plan.specs.ListTexts.{length-listed, small_few}
 
 -- ---- runs within the serials
 

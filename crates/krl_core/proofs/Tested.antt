@@ -13,7 +13,7 @@ use Rattle.krl_core.specs.Contents.{Contents, Section, Means}
 use Rattle.krl_core.specs.Entry.{Entry}
 use Rattle.krl_core.specs.Revoked.{Revoked, CertRevoked}
 use Rattle.krl_core.specs.Tested.{holds_cert, holds_key, holds_under, is_among, revokes, section_holds}
-use Rattle.krl_core.specs.Written.{has}
+use Rattle.krl_plan.specs.Written.{has}
 use Rattle.krl_core.proofs.Asking.{asked_key, asked_cert}
 use Rattle.krl_core.proofs.BitmapNames.{has-names, names-has}
 

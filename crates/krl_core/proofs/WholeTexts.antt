@@ -5,13 +5,13 @@ use Rattle.krl_core.specs.Front.{limit}
 use Rattle.krl_core.specs.declared.header.Header.{Header}
 use Rattle.krl_core.specs.declared.writing.text_fault.TextFault.{TextFault}
 use Rattle.krl_core.specs.declared.writing.text_fault.TextFault.TheVariants.{NoMemory, TooLong}
-use Rattle.krl_core.specs.declared.plan.group.Group.{Group}
+use Rattle.krl_plan.specs.declared.group.Group.{Group}
 use Rattle.krl_core.specs.Contents.{Contents, Section as Listed}
 use Rattle.krl_core.specs.Krl.{header_text, magic}
 use Rattle.krl_core.specs.KrlText.{EachPlan, IsKrlText, authorities_text, listed_text, sections_text, text_of}
-use Rattle.krl_core.specs.Plan.{IsLeastPlan}
+use Rattle.krl_plan.specs.Plan.{IsLeastPlan}
 use Rattle.krl_core.specs.Within.{AddsAuthorities, AddsWithin, IsWritten}
-use Rattle.krl_core.proofs.OnePlan.{one_plan}
+use Rattle.krl_plan.specs.OnePlan.{one_plan}
 
 abbrev refused : TextFault → Result (Unit {0}) TextFault
 refused fault = Err fault

@@ -3,13 +3,13 @@ use Rattle.std.specs.Prelude.{◌≡◌, ℕ, ◌+◌, ◌*◌, List, [], ◌∷
 use Rattle.serial_set.specs.declared.span.Span.{Span}
 use Rattle.ssh_wire.specs.Wire.{string, strings}
 use Rattle.krl_core.specs.declared.header.Header.{Header}
-use Rattle.krl_core.specs.declared.plan.group.Sort.{Sort}
-use Rattle.krl_core.specs.declared.plan.group.Sort.TheVariants as sorts
-use Rattle.krl_core.specs.declared.plan.group.Group.{Group}
+use Rattle.krl_plan.specs.declared.group.Sort.{Sort}
+use Rattle.krl_plan.specs.declared.group.Sort.TheVariants as sorts
+use Rattle.krl_plan.specs.declared.group.Group.{Group}
 use Rattle.krl_core.specs.Contents.{Contents, Section as Listed}
 use Rattle.krl_core.specs.Krl.{Section, Certificates, Keys, Sha1s, Sha256s, Subsection, Serials, Range, Bitmap, Ids, header_text}
-use Rattle.krl_core.specs.Plan.{IsLeastPlan, reach}
-use Rattle.krl_core.specs.Written.{bitmap_size, bits_of, first_of, plan_text, serials_of}
+use Rattle.krl_plan.specs.Plan.{IsLeastPlan, reach}
+use Rattle.krl_plan.specs.Written.{bitmap_size, bits_of, first_of, plan_text, serials_of}
 
 -- ---- texts
 

@@ -19,10 +19,6 @@ pub mod Text
 pub mod Keeping
 pub mod Reading
 pub mod Entries
-pub mod Sorts
-pub mod Plan
-pub mod Search
-pub mod Written
 pub mod KrlText
 pub mod Within
 pub mod Tested

@@ -1,9 +1,9 @@
 -- How many bytes a list that is written has.
 use Rattle.std.specs.Prelude.{ℕ, ◌+◌, ◌*◌, List, [], ◌∷◌, length}
 use Rattle.krl_core.specs.declared.header.Header.{Header}
-use Rattle.krl_core.specs.declared.plan.group.Group.{Group}
+use Rattle.krl_plan.specs.declared.group.Group.{Group}
 use Rattle.krl_core.specs.Contents.{Contents, Section as Listed}
-use Rattle.krl_core.specs.Plan.{cost}
+use Rattle.krl_plan.specs.Plan.{cost}
 
 -- strings one behind the other, each with four bytes of length
 abbrev pub strings_size : List (List ℕ) → ℕ

@@ -6,7 +6,7 @@ use Rattle.sha1.specs.Sha1.{sha1}
 use Rattle.sha2.specs.Sha256.{sha256}
 use Rattle.ssh_cert.specs.Subject.{Names, Subject}
 use Rattle.krl_core.specs.Contents.{Contents, Section}
-use Rattle.krl_core.specs.Written.{has}
+use Rattle.krl_plan.specs.Written.{has}
 
 abbrev pub is_among : List (List ℕ) → List ℕ → Bool
 is_among texts text = list_any (λ other. bytes_eq other text) texts

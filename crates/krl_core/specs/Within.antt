@@ -6,11 +6,11 @@ use Rattle.krl_core.specs.declared.writing.krl_text.WriteFault.{WriteFault}
 use Rattle.krl_core.specs.declared.writing.krl_text.WriteFault.TheVariants.{Write, NoMemory as NoMemory', TooLong as TooLong'}
 use Rattle.krl_core.specs.declared.writing.text_fault.TextFault.{TextFault}
 use Rattle.krl_core.specs.declared.writing.text_fault.TextFault.TheVariants.{NoMemory, TooLong}
-use Rattle.krl_core.specs.declared.plan.group.Group.{Group}
+use Rattle.krl_plan.specs.declared.group.Group.{Group}
 use Rattle.krl_core.specs.declared.header.Header.{Header}
 use Rattle.krl_core.specs.Contents.{Contents, Section as Listed}
 use Rattle.krl_core.specs.KrlText.{EachPlan, IsKrlText, authorities_text, authority_text}
-use Rattle.krl_core.specs.Plan.{IsLeastPlan}
+use Rattle.krl_plan.specs.Plan.{IsLeastPlan}
 
 abbrev pub text_fault_number : TextFault → ℕ
 text_fault_number NoMemory = 1

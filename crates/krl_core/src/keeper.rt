@@ -1,6 +1,6 @@
 // Keeping what the fields of a list name.
 
-ghost use Rattle.std.specs.Prelude.{◌≡◌, ◌+◌, ◌*◌, ◌^◌, ◌<◌, ◌≤◌, ◌++◌, ◌∷◌, [], ℕ, None, List, OnOk, OnErr, length, All};
+ghost use Rattle.std.specs.Prelude.{◌≡◌, ◌+◌, ◌^◌, ◌<◌, ◌≤◌, ◌∷◌, [], ℕ, None, OnOk, length, All};
 ghost use Rattle.serial_set.specs.declared.bit_fault.BitFault.{BitFault as BitFaultOf};
 ghost use Rattle.serial_set.specs.BitRuns.{Feeds, HasFault, IsInterval};
 ghost use Rattle.serial_set.specs.Finished.{finished_of};

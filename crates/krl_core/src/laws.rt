@@ -12,7 +12,6 @@ pub use lists::{
 };
 pub use naming::{entries_decide_what_is_held, meaning_decides_naming, naming_decides_meaning};
 pub use written::{
-    one_least_plan, plan_has_its_bytes, sections_mean_what_is_held, text_has_its_size,
-    text_is_spelled, written_list_has_no_fault, written_list_is_read_back,
-    written_list_names_what_is_held,
+    sections_mean_what_is_held, text_has_its_size, text_is_spelled, written_list_has_no_fault,
+    written_list_is_read_back, written_list_names_what_is_held,
 };

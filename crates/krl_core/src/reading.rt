@@ -1,13 +1,13 @@
 // Reading a list in one pass, a field at a time.
 
-ghost use Rattle.std.specs.Prelude.{◌≡◌, ◌+◌, ◌*◌, ◌≤◌, ◌⊎◌, ℕ, Bool, false, true, None, Some, Ok, Err, List, [], IfOk, IfErr, IfSome, IsTrue, OnOk, length};
+ghost use Rattle.std.specs.Prelude.{◌≡◌, ◌+◌, ◌*◌, ◌≤◌, ◌⊎◌, ℕ, false, true, None, Some, Ok, Err, List, [], IfOk, IfErr, IfSome, IsTrue, OnOk, length};
 ghost use Rattle.std.specs.List.{concat};
 ghost use Rattle.ssh_wire.specs.Wire.{IsBytes};
-ghost use Rattle.ssh_wire.specs.Pull.{Refuses, Takes, untaken};
+ghost use Rattle.ssh_wire.specs.Pull.{Refuses, Takes};
 ghost use Rattle.ssh_wire.specs.declared.pull_fault.PullFault.TheVariants as pulls;
 ghost use Rattle.krl_core.specs.declared.krl_fault.KrlFault.TheVariants.{NoMemory, Read};
 ghost use Rattle.krl_core.specs.Front.{HasRoom, Passes, limit};
-ghost use Rattle.krl_core.specs.Keeping.{GrowsWithin, InStep, KeepsField, IsStoredWithin, held_with_open};
+ghost use Rattle.krl_core.specs.Keeping.{GrowsWithin, InStep, KeepsField, held_with_open};
 ghost use Rattle.krl_core.specs.Place.{due};
 ghost use Rattle.krl_core.specs.Reading.{Ends, Follows, HasRead, IsBounded, IsSound, IsList, IsWhole, LooksFor, Missed, ReadsOneMore, Refused, told_as, working};
 

@@ -1,5 +1,5 @@
 // Values in order of their bytes, each bytes once.
-ghost use Rattle.std.specs.Prelude.{◌≡◌, ◌+◌, ◌<◌, ◌≤◌, ◌⊎◌, ◌↔◌, ◌++◌, List, [], false, length, map, IfOk, IfSome, IfNone, Some, Contains, IsTrue, OnOk, OnErr, slice_get};
+ghost use Rattle.std.specs.Prelude.{◌≡◌, ◌+◌, ◌<◌, ◌⊎◌, ◌↔◌, List, [], false, length, map, IfOk, IfSome, IfNone, Some, Contains, IsTrue, OnOk, OnErr, slice_get};
 ghost use Rattle.krl_core.specs.Asked.{Stands};
 ghost use Rattle.krl_core.specs.Rising.{RisesBy};
 ghost use Rattle.krl_core.specs.Inserting.{Inserts};

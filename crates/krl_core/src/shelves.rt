@@ -1,7 +1,7 @@
 // The shelves of all authorities.
 ghost use Rattle.std.specs.Prelude.{◌≡◌, ◌<◌, ℕ, List, length, map, drop, Contains, IsSome, IsNone, MatchResult, IfOk, OnOk, OnErr};
 ghost use Rattle.krl_core.specs.Changes.{Takes, IsSound, ChangesOne, AddsTo};
-ghost use Rattle.krl_core.specs.Shelf.{section_of, sections_of, AddsAt};
+ghost use Rattle.krl_core.specs.Shelf.{sections_of, AddsAt};
 ghost use Rattle.krl_core.specs.Pages.{joined, first_items, StandsAt};
 
 use crate::addition::Addition;

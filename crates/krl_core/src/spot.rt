@@ -1,5 +1,5 @@
 // The spot of some bytes in pages.
-ghost use Rattle.std.specs.Prelude.{◌≡◌, ◌<◌, ◌≤◌, ◌↔◌, length, map, Contains, IsTrue, IfSome, IfNone};
+ghost use Rattle.std.specs.Prelude.{◌<◌, ◌↔◌, map, Contains, IsTrue, IfSome, IfNone};
 ghost use Rattle.krl_core.specs.Rising.{RisesBy};
 ghost use Rattle.krl_core.specs.Pages.{joined, IsSpot, StandsAt};
 

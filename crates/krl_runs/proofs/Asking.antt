@@ -15,14 +15,11 @@ use Rattle.krl_core.specs.declared.krl_fault.KrlFault.TheVariants as faults
 use Rattle.ssh_cert.specs.Subject.{Subject}
 use Rattle.krl_runs.specs.Carries.{Carries}
 use Rattle.krl_runs.specs.Printer.{Printed}
-use Rattle.krl_runs.specs.Contents.{Known, all_said, contents_items, dump_text, known_lines}
+use Rattle.krl_runs.specs.Contents.{Known, all_said, contents_items, dump_text, known_lines, known_of}
 use Rattle.krl_runs.specs.Query.{IsHeld, ask, krl_cause, query_run_of}
 use Rattle.krl_runs.specs.Run.{File, Item, Outcome, Passed, Stopped, before, files_items, outcome_of}
 use Rattle.krl_runs.specs.Stop.{Stop, stop_of}
 use Rattle.krl_runs.proofs.Carrying.{carries_more, carries_passed, carries_then, carries_withheld}
-
-abbrev pub known_of : Header → Contents → Known
-known_of header contents = record { header = header; contents = contents }
 
 -- A list that was read is held.
 pub held : (text : List ℕ) (header : Header) (contents : Contents)

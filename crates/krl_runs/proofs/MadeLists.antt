@@ -20,13 +20,15 @@ use Rattle.krl_core.specs.Tested.{revokes}
 use Rattle.krl_core.specs.declared.header.Header.{Header}
 use Rattle.krl_core.specs.declared.krl_fault.KrlFault.{KrlFault}
 use Rattle.krl_runs.specs.declared.make.base.Base.{Base}
-use Rattle.krl_runs.specs.Making.{IsAtHand, IsAuthorityAtHand, IsFileAtHand, authority_file, lines, new_list, old_list, IsMade, IsOldRead, IsStop, Made, Makes, WritesList, after_version, authority_of, base_of, content_entries, file_entries, files_entries, made_of, make_run_of, then_entries, version_of}
+use Rattle.krl_runs.specs.Making.{HasNumbers, IsAtHand, IsAuthorityAtHand, IsFileAtHand, authority_file, lines, new_list, old_list, IsOldRead, IsStop, Made, Makes, NamesSame, WritesList, WritesMade, WritesMore, after_version, authority_of, base_of, cause_stop, content_entries, file_entries, files_entries, header_of, made_of, make_run_of, then_entries, version_of}
 use Rattle.krl_runs.specs.Query.{krl_cause}
 use Rattle.krl_runs.specs.declared.make.authority.Authority.{Authority}
 use Rattle.krl_core.specs.declared.krl_fault.KrlFault.TheVariants as faults
 use Rattle.krl_runs.specs.Run.{File}
 use Rattle.krl_runs.specs.SpecAdding.{AddsEntries}
-use Rattle.krl_runs.specs.SpecFile.{ReadsSpec, lines_of}
+use Rattle.krl_runs.specs.SpecFile.{ReadsSpec, StopsAt, lines_of}
+use Rattle.krl_runs.specs.declared.spec_file.spec_cause.SpecCause.{SpecCause}
+use Rattle.krl_runs.specs.declared.spec_file.spec_cause.SpecCause.TheVariants as specs
 use Rattle.krl_runs.specs.Stop.{Stop, Ender, ByInput, ByMemory, ByOutput, ender_of, stop_of}
 
 -- ---- the old list
@@ -79,6 +81,13 @@ pub text_added : (authority : Option (List ℕ)) (name text : List ℕ) (old new
     → Added (content_entries authority name (Ok text)) old new
 text_added authority name text old new reads =
     ((lines_of authority text).entries, (rw reads.0 refl, reads.1))
+
+-- Where the lines of a text stop, the run stops.
+pub text_stops : (authority : Option (List ℕ)) (name text : List ℕ) (number : ℕ) (cause : SpecCause) (old new : Contents)
+    → StopsAt authority text number cause old new
+    → IsStop (ender_of (cause_stop name number cause).cause) (λ at. name ≡ at) (content_entries authority name (Ok text)) (cause_stop name number cause)
+text_stops authority name text number specs.NoMemory old new stops = (name, (refl, refl))
+text_stops authority name text number cause old new (told, adds) = rw told refl
 
 nothing_before : (read : Result (List Entry) Stop) → read ≡ then_entries (Ok []) read
 nothing_before (Ok entries) = refl
@@ -177,23 +186,30 @@ HeldRevokes = (r : Contents) (entries : List Entry) (subject : Subject) → Mean
 both_ways : {P Q R : Type 0} → (P ↔ Q) → (P ↔ R) → (Q ↔ R)
 both_ways to from = (λ q. from.0 (to.1 q), λ r. to.0 (from.1 r))
 
-pub is_made : (made : Made) (contents : Contents) (text : List ℕ) → AddsEntries made.old contents made.entries
-    → IsKrlText made.header contents text → length text ≤ limit → made.header.version < 2 ^ 64 → made.header.date < 2 ^ 64
-    → WrittenNames → HeldRevokes → IsMade made text
-is_made made contents text adds written within version date spelled law = record {
-  contents = contents;
-  adds = adds;
-  written = written;
-  within = within;
-  names = λ olds means.
-      let m = adds olds means in
-      let w = spelled made.header contents text written within version date m.orderly in
-      record {
-        sections = w.0;
-        spelled = w.1.0;
-        same = λ asked. both_ways (law contents (entries_of w.0) asked w.1.1) (law contents (olds ++ made.entries) asked m);
-      };
-}
+pub names_same : (header : Header) (contents : Contents) (text : List ℕ) → IsKrlText header contents text
+    → length text ≤ limit → HasNumbers header → WrittenNames → HeldRevokes
+    → (entries : List Entry) → Means contents entries → NamesSame header text entries
+names_same header contents text written within numbers spelled law entries means =
+    let w = spelled header contents text written within numbers.0 numbers.1 means.orderly in
+    record {
+      sections = w.0;
+      spelled = w.1.0;
+      same = λ asked. both_ways (law contents (entries_of w.0) asked w.1.1) (law contents entries asked means);
+    }
+
+pub made_written : {X : Type 0} (view : X → List ℕ) (name : List ℕ) (made : Made) (contents : Contents) (result : Result X Stop)
+    → AddsEntries made.old contents made.entries → WritesList view name made.header contents result → WritesMade view name made result
+made_written view name made contents (Ok text) adds (written, within, names) =
+    record {
+      contents = contents;
+      adds = adds;
+      written = written;
+      within = within;
+      names = λ olds means. names (olds ++ made.entries) (adds olds means);
+    }
+made_written view name made contents (Err stop) adds (inl starved) = inl starved
+made_written view name made contents (Err stop) adds (inr (told, long)) =
+    inr (told, record { contents = contents; adds = adds; long = long })
 
 -- ---- the run
 
@@ -221,7 +237,7 @@ signer_stops name given authority moment base files version stop is stops =
     stops
 
 -- The fault of a file or of a line stops the run.
-pub files_stop : (name : List ℕ) (given : Option ℕ) (authority : Authority) (moment : ℕ) (base : Base) (files : List File) (version : ℕ) (signer : Option (List ℕ)) (stop : Stop)
+files_stop : (name : List ℕ) (given : Option ℕ) (authority : Authority) (moment : ℕ) (base : Base) (files : List File) (version : ℕ) (signer : Option (List ℕ)) (stop : Stop)
     → version_of given base.version ≡ Some version → authority_of authority ≡ Ok signer
     → IsStop (ender_of stop.cause) (IsFileAtHand signer files) (files_entries signer files) stop
     → IsStop (ender_of stop.cause) (AtHand name base authority given files (after_version name (version_of given base.version) authority moment base files)) (after_version name (version_of given base.version) authority moment base files) stop
@@ -232,23 +248,22 @@ files_stop name given authority moment base files version signer stop is signed 
     (λ same. rw (is, signed, same) refl)
     stops
 
--- The list is written, or the run stops there.
-pub list_written : {X : Type 0} (view : X → List ℕ) (name : List ℕ) (given : Option ℕ) (authority : Authority) (moment : ℕ) (base : Base) (files : List File) (version : ℕ) (signer : Option (List ℕ)) (contents : Contents) (result : Result X Stop)
-    → version_of given base.version ≡ Some version → authority_of authority ≡ Ok signer → Added (files_entries signer files) base.revocations contents
-    → version < 2 ^ 64 → moment < 2 ^ 64 → WrittenNames → HeldRevokes
-    → WritesList view name (record { version = version; date = moment; comment = base.comment }) contents result
-    → Makes view name (Ok base) authority given files (after_version name (version_of given base.version) authority moment base files) result
-list_written view name given authority moment base files version signer contents (Ok text) is signed (entries, (read, adds)) fits later spelled law (written, within) =
-    let made = made_of version moment base entries in
-    (made, (rw (is, signed, read) refl, is_made made contents (view text) adds written within fits later spelled law))
-list_written view name given authority moment base files version signer contents (Err stop) is signed (entries, (read, adds)) fits later spelled law (inl starved) =
-    let made = made_of version moment base entries in
-    let whole : after_version name (version_of given base.version) authority moment base files ≡ Ok made = rw (is, signed, read) refl in
+-- What is read gives the list that is made, or its text stops the run.
+made_read : {X : Type 0} (view : X → List ℕ) (name : List ℕ) (given : Option ℕ) (authority : Authority) (base : Base) (files : List File) (read : Result Made Stop) (made : Made) (result : Result X Stop)
+    → read ≡ Ok made → WritesMade view name made result → Makes view name (Ok base) authority given files read result
+made_read view name given authority base files read made (Ok text) whole is = (made, (whole, is))
+made_read view name given authority base files read made (Err stop) whole (inl starved) =
     inl (rw starved (name, (new_list made whole refl, refl)))
-list_written view name given authority moment base files version signer contents (Err stop) is signed (entries, (read, adds)) fits later spelled law (inr (told, long)) =
-    inr (record {
-      made = made_of version moment base entries;
-      read_as = rw (is, signed, read) refl;
-      long = record { contents = contents; adds = adds; long = long };
-      stop_is = told;
-    })
+made_read view name given authority base files read made (Err stop) whole (inr (told, long)) =
+    inr (record { made = made; read_as = whole; long = long; stop_is = told })
+
+-- The list is written of what was held and of the files, or the run stops there.
+pub list_written : {X : Type 0} (view : X → List ℕ) (name : List ℕ) (given : Option ℕ) (authority : Authority) (moment : ℕ) (base : Base) (files : List File) (version : ℕ) (signer : Option (List ℕ)) (result : Result X Stop)
+    → version_of given base.version ≡ Some version → authority_of authority ≡ Ok signer
+    → WritesMore view name (header_of version moment base) base.revocations (IsFileAtHand signer files) (files_entries signer files) result
+    → Makes view name (Ok base) authority given files (after_version name (version_of given base.version) authority moment base files) result
+list_written view name given authority moment base files version signer result is signed (inl (entries, (read, written))) =
+    let whole = after_version name (version_of given base.version) authority moment base files in
+    made_read view name given authority base files whole (made_of (header_of version moment base) base.revocations entries) result (rw (is, signed, read) refl) written
+list_written view name given authority moment base files version signer result is signed (inr (stop, (stopped, stops))) =
+    rw stopped (inl (files_stop name given authority moment base files version signer stop is signed stops))

@@ -9,9 +9,9 @@ use Rattle.krl_core.specs.Entries.{entries_of}
 use Rattle.krl_core.specs.Entry.{Entry, IdEntry}
 use Rattle.krl_core.specs.KrlText.{EachPlan, sections_of}
 use Rattle.krl_core.specs.Naming.{SomeNamesAt}
-use Rattle.krl_core.specs.Plan.{IsPlan}
-use Rattle.krl_core.specs.declared.plan.group.Group.{Group}
-use Rattle.krl_core.specs.declared.plan.group.Sort.TheVariants.{Range}
+use Rattle.krl_plan.specs.Plan.{IsPlan}
+use Rattle.krl_plan.specs.declared.group.Group.{Group}
+use Rattle.krl_plan.specs.declared.group.Sort.TheVariants.{Range}
 use Rattle.krl_runs.specs.SpecAdding.{AddsEntries}
 use Rattle.krl_runs.specs.SpecStored.{Grows}
 

@@ -20,6 +20,9 @@ pub record Known : Type 0 where
   pub header : Header
   pub contents : Contents
 
+abbrev pub known_of : Header → Contents → Known
+known_of header contents = record { header = header; contents = contents }
+
 -- a label and its text
 abbrev pub line : List ℕ → List ℕ → List ℕ
 line label text = label ++ (text ++ 10 ∷ [])

@@ -21,12 +21,15 @@ abbrev pub comment_or_none : List ℕ → List ℕ
 comment_or_none [] = codes "no comment"
 comment_or_none (byte ∷ bytes) = escaped (byte ∷ bytes)
 
+-- the kind in parentheses, which ends the line
+abbrev pub kind_part : List ℕ → List ℕ
+kind_part kind = codes " (" ++ (kind ++ (codes ")" ++ 10 ∷ []))
+
 -- the size in bits, the fingerprint, the comment and the kind
 abbrev pub list_line : ℕ → List ℕ → List ℕ → List ℕ → List ℕ
 list_line bits print comment kind =
     decimal bits
-    ++ (codes " " ++ (print ++ (codes " " ++ (comment_or_none comment
-    ++ (codes " (" ++ (kind ++ (codes ")" ++ 10 ∷ [])))))))
+    ++ (codes " " ++ (print ++ (codes " " ++ (comment_or_none comment ++ kind_part kind))))
 
 -- what stands after the kind of a certificate
 abbrev pub certificate_mark : Option Names → List ℕ
@@ -47,11 +50,15 @@ describe hash = record {
   silence = files.NoKeys;
 }
 
+-- the name of a file and the number of a line
+abbrev pub place_part : List ℕ → ℕ → List ℕ
+place_part name number =
+    escaped name ++ (codes ":" ++ (decimal number ++ (codes ":" ++ 10 ∷ [])))
+
 -- the file and the line of a certificate, and its listing
 abbrev pub certificate_text : Hash → ℕ → List ℕ → ℕ → Certificate → List ℕ
 certificate_text hash moment name number certificate =
-    escaped name
-    ++ (codes ":" ++ (decimal number ++ (codes ":" ++ 10 ∷ listing_of hash certificate moment)))
+    place_part name number ++ listing_of hash certificate moment
 
 abbrev pub listed_certificate : Hash → ℕ → List ℕ → ℕ → Certificate → Answer
 listed_certificate hash moment name number certificate =

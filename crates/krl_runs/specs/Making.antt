@@ -148,22 +148,26 @@ pub record Made : Type 0 where
   pub old : Contents
   pub entries : List Entry
 
-abbrev pub made_of : ℕ → ℕ → Base → List Entry → Made
-made_of version moment base entries =
-    record {
-      header = record { version = version; date = moment; comment = base.comment };
-      old = base.revocations;
-      entries = entries;
-    }
+abbrev pub made_of : Header → Contents → List Entry → Made
+made_of header old entries = record { header = header; old = old; entries = entries }
 
-abbrev pub after_files : ℕ → ℕ → Base → Result (List Entry) Stop → Result Made Stop
-after_files version moment base (Ok entries) = Ok (made_of version moment base entries)
-after_files version moment base (Err stop) = Err stop
+abbrev pub after_files : Header → Contents → Result (List Entry) Stop → Result Made Stop
+after_files header old (Ok entries) = Ok (made_of header old entries)
+after_files header old (Err stop) = Err stop
+
+-- the header of the list that is made
+abbrev pub header_of : ℕ → ℕ → Base → Header
+header_of version moment base =
+    record { version = version; date = moment; comment = base.comment }
+
+-- the version and the date are numbers of 64 bits
+abbrev pub HasNumbers : Header → Type 0
+HasNumbers header = (header.version < 2 ^ 64) × (header.date < 2 ^ 64)
 
 abbrev pub after_authority : ℕ → ℕ → Base → List File → Result (Option (List ℕ)) Stop
     → Result Made Stop
 after_authority version moment base files (Ok authority) =
-    after_files version moment base (files_entries authority files)
+    after_files (header_of version moment base) base.revocations (files_entries authority files)
 after_authority version moment base files (Err stop) = Err stop
 
 abbrev pub after_version : List ℕ → Option ℕ → Authority → ℕ → Base → List File → Result Made Stop
@@ -277,15 +281,32 @@ Makes view name reading authority given files read (Err stop) =
     IsStop (ender_of stop.cause) (IsAtHand name reading authority given files read) read stop
     ⊎ StopsAtText name read stop
 
--- The text is that of the header and of what is held. Else it is too long, or memory ran out.
+-- The text is that of the header and of what is held, and names just what that means. Else it is
+-- too long, or memory ran out.
 abbrev pub WritesList : {X : Type 0} → (X → List ℕ) → List ℕ → Header → Contents → Result X Stop
     → Type 0
 WritesList view name header contents (Ok text) =
     IsKrlText header contents (view text) × (length (view text) ≤ limit)
+    × ((entries : List Entry) → Means contents entries → NamesSame header (view text) entries)
 WritesList view name header contents (Err stop) =
     (stop ≡ stop_of name causes.NoMemory)
     ⊎ ((stop ≡ stop_of name causes.TextTooLong)
     × ((text : List ℕ) → IsKrlText header contents text → limit < length text))
+
+-- The list is made. Else its text is too long, or memory ran out.
+abbrev pub WritesMade : {X : Type 0} → (X → List ℕ) → List ℕ → Made → Result X Stop → Type 0
+WritesMade view name made (Ok text) = IsMade made (view text)
+WritesMade view name made (Err stop) =
+    (stop ≡ stop_of name causes.NoMemory)
+    ⊎ ((stop ≡ stop_of name causes.TextTooLong) × IsTooLong made)
+
+-- The list is made of what was held and of what is read of the files, or these stop the run.
+abbrev pub WritesMore : {X : Type 0} → (X → List ℕ) → List ℕ → Header → Contents
+    → (List ℕ → Type 0) → Result (List Entry) Stop → Result X Stop → Type 0
+WritesMore view name header old AtHand read result =
+    ((entries : List Entry) × ((read ≡ Ok entries)
+    × WritesMade view name (made_of header old entries) result))
+    ⊎ ((stop : Stop) × ((result ≡ Err stop) × IsStop (ender_of stop.cause) AtHand read stop))
 
 -- ---- the old list
 

@@ -1,8 +1,8 @@
 // What is held, and the entries that it means.
 
-ghost use Rattle.std.specs.Prelude.{◌≡◌, ◌<◌, ◌++◌, ◌∷◌, [], ℕ, List};
+ghost use Rattle.std.specs.Prelude.{◌≡◌, List};
 ghost use Rattle.krl_core.specs.Contents.{Contents, Means};
-ghost use Rattle.krl_core.specs.Entry.{Entry, RangeEntry, SerialsEntry};
+ghost use Rattle.krl_core.specs.Entry.{Entry};
 ghost use Rattle.krl_core.specs.Naming.{NamesSame};
 
 /// What is held means any other list of entries that names the same.

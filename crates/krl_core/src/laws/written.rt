@@ -1,22 +1,19 @@
 // Laws of the lists that are written. Each function does nothing: its contract is the law.
 
-ghost use Rattle.std.specs.Prelude.{◌≡◌, ◌≤◌, ◌<◌, ◌*◌, ◌^◌, ◌⊎◌, ℕ, Bool, true, List, None, length};
-ghost use Rattle.serial_set.specs.declared.span.Span.{Span};
-ghost use Rattle.serial_set.specs.Span.{IsRuns};
+ghost use Rattle.std.specs.Prelude.{◌≡◌, ◌≤◌, ◌<◌, ◌^◌, ◌⊎◌, ℕ, Bool, true, List, None, length};
 ghost use Rattle.ssh_wire.specs.Wire.{IsBytes};
 ghost use Rattle.krl_core.specs.Front.{IsFirstFault, limit};
-ghost use Rattle.krl_core.specs.declared.plan.group.Group.{Group};
+ghost use Rattle.krl_plan.specs.declared.group.Group.{Group};
 ghost use Rattle.krl_core.specs.Contents.{Contents, IsOrderly, Means};
 ghost use Rattle.krl_core.specs.declared.header.Header.{Header};
 ghost use Rattle.krl_core.specs.Krl.{Section, Spells};
 ghost use Rattle.krl_core.specs.Entries.{entries_of};
 ghost use Rattle.krl_core.specs.KrlText.{EachPlan, IsKrlText, sections_of, text_of};
-ghost use Rattle.krl_core.specs.Plan.{IsCheapest, IsLeastPlan, IsPlan, cost};
+ghost use Rattle.krl_plan.specs.Plan.{IsPlan};
 ghost use Rattle.krl_core.specs.declared.krl_fault.KrlFault.{KrlFault};
 ghost use Rattle.krl_core.specs.declared.krl_fault.KrlFault.TheVariants.{NoMemory, Read};
 ghost use Rattle.krl_core.specs.Reading.{IsList, Says};
 ghost use Rattle.krl_core.specs.Size.{text_size};
-ghost use Rattle.krl_core.specs.Written.{plan_text};
 
 /// The text of a list within the limit is spelled, whatever plans its serials are written by.
 pub fn text_is_spelled()
@@ -31,21 +28,6 @@ pub fn text_is_spelled()
 pub fn sections_mean_what_is_held()
     ensures { (plans : List (List Group)) (r : Contents) → IsOrderly r
         → EachPlan IsPlan plans r.sections → Means r (entries_of (sections_of plans r)) }
-{}
-
-/// A list of runs has one least plan.
-pub fn one_least_plan()
-    ensures { (runs : List Span) (one other : List Group) → IsLeastPlan runs one
-        → IsLeastPlan runs other → one ≡ other }
-{}
-
-/// The subsections of a plan have as many bytes as it costs, and those of a cheapest plan at most
-/// 21 a run.
-pub fn plan_has_its_bytes()
-    ensures bytes { (runs : List Span) (plan : List Group) → IsRuns runs → IsPlan runs plan
-        → length (plan_text runs plan) ≡ cost runs plan }
-    ensures few { (runs : List Span) (plan : List Group) → IsCheapest runs plan
-        → cost runs plan ≤ 21 * length runs }
 {}
 
 /// The list that is written of what is held is spelled, where it is within the limit, and what its

@@ -4,10 +4,9 @@ ghost use Rattle.std.specs.Prelude.{◌≤◌, length};
 ghost use Rattle.krl_core.specs.Front.{limit};
 ghost use Rattle.krl_core.specs.Within.{AddsAuthority};
 
-use crate::writing::plan_text::put_least_plan;
-use crate::writing::string::end_string;
 use crate::writing::strings::{LIMIT, Strings, add_listed, add_string};
 use crate::writing::text_fault::TextFault;
+use krl_plan::{end_string, put_least_plan};
 use serial_set::Spans;
 use ssh_wire::{put_byte, put_string, put_u32};
 use std::alloc::Global;

@@ -6,8 +6,8 @@ ghost use Rattle.krl_core.specs.Front.{limit};
 ghost use Rattle.krl_core.specs.KrlText.{listed_text};
 ghost use Rattle.krl_core.specs.Within.{AddsWithin};
 
-use crate::writing::string::end_string;
 use crate::writing::text_fault::TextFault;
+use krl_plan::end_string;
 use ssh_wire::{put_byte, put_string, put_u32};
 
 /// The most bytes that a list has.

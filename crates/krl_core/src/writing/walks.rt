@@ -1,6 +1,6 @@
 // The walks over what is held, as the parts of a list.
 
-ghost use Rattle.std.specs.Prelude.{◌≡◌, ◌∷◌, [], MatchOption};
+ghost use Rattle.std.specs.Prelude.{[]};
 
 use crate::keyed::Keyed;
 use crate::listed;

@@ -1,8 +1,8 @@
 // What each entry revokes, over each set of serials.
 
 use crate::tests::full::Full;
-use crate::tests::plain_model::{Asked, Names, subject_of};
-use crate::tests::subjects::{A, B, G};
+use crate::tests::plain_model::{Asked, Names, Said, held_of, id_under, revokes, serials_under};
+use crate::tests::subjects::{A, ALL, B, G};
 use krl_core::Revocations;
 use serial_set::{Held, SpanVec, Spans};
 use ssh_key::{sha1_of, sha256_of};
@@ -10,182 +10,180 @@ use std::alloc::{AllocError, Global};
 use std::process::Abort;
 use std::test::Fail;
 
-// Whether the certificate of G by an authority with a serial and a key ID is revoked.
-fn certificate<S: Spans>(
+/// What is asked about: the certificate of G by an authority, with a serial and a key ID, or G as a
+/// plain key.
+#[derive(Clone, Copy)]
+enum About {
+    ByA(u64, &'static [u8]),
+    ByB(u64, &'static [u8]),
+    Plain,
+}
+
+// The certificate of G by an authority.
+fn of_g<'a>(authority: &'a [u8], serial: u64, id: &'a [u8]) -> Asked<'a> {
+    Asked {
+        key: G,
+        cert: Some(Names {
+            authority,
+            serial,
+            id,
+        }),
+    }
+}
+
+// The question, as the model takes it.
+fn asked_about(about: About) -> Asked<'static> {
+    match about {
+        About::ByA(serial, id) => of_g(A, serial, id),
+        About::ByB(serial, id) => of_g(B, serial, id),
+        About::Plain => Asked { key: G, cert: None },
+    }
+}
+
+// What is asked about is revoked, or is not.
+fn answers<S: Spans>(
+    rt: &impl Abort,
     alloc: Global,
-    r: &Revocations<S>,
-    authority: &[u8],
-    serial: u64,
-    id: &[u8],
-) -> Result<bool, AllocError> {
-    let names = Names {
-        authority,
-        serial,
-        id,
-    };
-    let subject = subject_of(
-        alloc,
-        Asked {
-            key: G,
-            cert: Some(names),
-        },
-    )?;
-    Ok(r.query(&subject))
-}
-
-// Whether the certificate of G by A with a serial and a key ID is revoked. Each function here names
-// few keys, since a proof over a function grows fast with the texts that stand in it.
-fn by_a<S: Spans>(
-    alloc: Global,
-    r: &Revocations<S>,
-    serial: u64,
-    id: &[u8],
-) -> Result<bool, AllocError> {
-    certificate(alloc, r, A, serial, id)
-}
-
-// The same by B.
-fn by_b<S: Spans>(
-    alloc: Global,
-    r: &Revocations<S>,
-    serial: u64,
-    id: &[u8],
-) -> Result<bool, AllocError> {
-    certificate(alloc, r, B, serial, id)
-}
-
-// Whether G as a plain key is revoked.
-fn plain_key<S: Spans>(alloc: Global, r: &Revocations<S>) -> Result<bool, AllocError> {
-    let subject = subject_of(alloc, Asked { key: G, cert: None })?;
-    Ok(r.query(&subject))
-}
-
-fn serials_under<S: Spans>(rt: &impl Abort, alloc: Global) -> Result<(), AllocError> {
-    let mut r: Revocations<S> = Revocations::new(alloc);
-    r.add_serials(Some(A), 7, 7)?;
-    let a = by_a(alloc, &r, 7, b"a")?;
-    let b = by_b(alloc, &r, 7, b"a")?;
-    let another = by_a(alloc, &r, 6, b"a")?;
-    let plain = plain_key(alloc, &r)?;
-    assert!(rt; a && !b && !another && !plain);
+    held: &Revocations<S>,
+    about: About,
+    due: bool,
+) -> Result<(), AllocError> {
+    let found = revokes(alloc, held, asked_about(about))?;
+    assert_eq!(rt; found, due);
     Ok(())
 }
 
-fn serials_under_all<S: Spans>(rt: &impl Abort, alloc: Global) -> Result<(), AllocError> {
-    let mut r: Revocations<S> = Revocations::new(alloc);
-    r.add_serials(None, 7, 7)?;
-    let a = by_a(alloc, &r, 7, b"a")?;
-    let b = by_b(alloc, &r, 7, b"a")?;
-    let another = by_a(alloc, &r, 8, b"a")?;
-    let plain = plain_key(alloc, &r)?;
-    assert!(rt; a && b && !another && !plain);
+// Of what was said, each of what is asked about is revoked, or is not.
+fn says<S: Spans>(
+    rt: &impl Abort,
+    alloc: Global,
+    said: &[Said<'_>],
+    rows: &[(About, bool)],
+) -> Result<(), AllocError> {
+    let held = held_of::<S>(alloc, said)?;
+    for (about, due) in rows {
+        answers(rt, alloc, &held, *about, *due)?;
+    }
     Ok(())
+}
+
+fn serials_of_an_authority<S: Spans>(rt: &impl Abort, alloc: Global) -> Result<(), AllocError> {
+    let rows = [
+        (About::ByA(7, b"a"), true),
+        (About::ByB(7, b"a"), false),
+        (About::ByA(6, b"a"), false),
+        (About::Plain, false),
+    ];
+    let said = serials_under(A, 7, 7);
+    says::<S>(rt, alloc, &[said], &rows)
+}
+
+fn serials_of_all<S: Spans>(rt: &impl Abort, alloc: Global) -> Result<(), AllocError> {
+    let rows = [
+        (About::ByA(7, b"a"), true),
+        (About::ByB(7, b"a"), true),
+        (About::ByA(8, b"a"), false),
+        (About::Plain, false),
+    ];
+    let said = serials_under(ALL, 7, 7);
+    says::<S>(rt, alloc, &[said], &rows)
 }
 
 // Serial 0 is never revoked.
 fn a_range<S: Spans>(rt: &impl Abort, alloc: Global) -> Result<(), AllocError> {
-    let mut r: Revocations<S> = Revocations::new(alloc);
-    r.add_serials(None, 1, 3)?;
-    let none = by_a(alloc, &r, 0, b"a")?;
-    let last = by_a(alloc, &r, 3, b"a")?;
-    let next = by_a(alloc, &r, 4, b"a")?;
-    assert!(rt; !none && last && !next);
-    Ok(())
+    let rows = [
+        (About::ByA(0, b"a"), false),
+        (About::ByA(3, b"a"), true),
+        (About::ByA(4, b"a"), false),
+    ];
+    let said = serials_under(ALL, 1, 3);
+    says::<S>(rt, alloc, &[said], &rows)
 }
 
-fn ids_under_all<S: Spans>(rt: &impl Abort, alloc: Global) -> Result<(), AllocError> {
-    let mut r: Revocations<S> = Revocations::new(alloc);
-    r.add_id(None, b"a")?;
-    let a = by_a(alloc, &r, 0, b"a")?;
-    let b = by_b(alloc, &r, 0, b"a")?;
-    let another = by_a(alloc, &r, 0, b"b")?;
-    assert!(rt; a && b && !another);
-    Ok(())
+fn ids_of_all<S: Spans>(rt: &impl Abort, alloc: Global) -> Result<(), AllocError> {
+    let rows = [
+        (About::ByA(0, b"a"), true),
+        (About::ByB(0, b"a"), true),
+        (About::ByA(0, b"b"), false),
+    ];
+    let said = id_under(ALL, b"a");
+    says::<S>(rt, alloc, &[said], &rows)
 }
 
-fn ids_under<S: Spans>(rt: &impl Abort, alloc: Global) -> Result<(), AllocError> {
-    let mut r: Revocations<S> = Revocations::new(alloc);
-    r.add_id(Some(B), b"a")?;
-    let a = by_a(alloc, &r, 0, b"a")?;
-    let b = by_b(alloc, &r, 0, b"a")?;
-    let another = by_b(alloc, &r, 0, b"")?;
-    assert!(rt; !a && b && !another);
-    Ok(())
+fn ids_of_an_authority<S: Spans>(rt: &impl Abort, alloc: Global) -> Result<(), AllocError> {
+    let rows = [
+        (About::ByA(0, b"a"), false),
+        (About::ByB(0, b"a"), true),
+        (About::ByB(0, b""), false),
+    ];
+    let said = id_under(B, b"a");
+    says::<S>(rt, alloc, &[said], &rows)
 }
 
-// The authority's key revokes the certificates that it signed, and not their keys.
-fn names_the_authority<S: Spans>(
+// The authority's key revokes the certificates that it signed, and not their keys; the key revokes
+// its certificates.
+fn names_keys<S: Spans>(
     rt: &impl Abort,
     alloc: Global,
-    r: &Revocations<S>,
+    authority: Said<'_>,
+    key: Said<'_>,
 ) -> Result<(), AllocError> {
-    let a = by_a(alloc, r, 7, b"a")?;
-    let b = by_b(alloc, r, 7, b"a")?;
-    let plain = plain_key(alloc, r)?;
-    assert!(rt; a && !b && !plain);
-    Ok(())
-}
-
-// The key revokes its certificates.
-fn names_the_key<S: Spans>(
-    rt: &impl Abort,
-    alloc: Global,
-    r: &Revocations<S>,
-) -> Result<(), AllocError> {
-    let a = by_a(alloc, r, 7, b"a")?;
-    let b = by_b(alloc, r, 7, b"a")?;
-    let plain = plain_key(alloc, r)?;
-    assert!(rt; a && b && plain);
-    Ok(())
+    let of_the_authority = [
+        (About::ByA(7, b"a"), true),
+        (About::ByB(7, b"a"), false),
+        (About::Plain, false),
+    ];
+    says::<S>(rt, alloc, &[authority], &of_the_authority)?;
+    let of_the_key = [
+        (About::ByA(7, b"a"), true),
+        (About::ByB(7, b"a"), true),
+        (About::Plain, true),
+    ];
+    says::<S>(rt, alloc, &[authority, key], &of_the_key)
 }
 
 fn keys<S: Spans>(rt: &impl Abort, alloc: Global) -> Result<(), AllocError> {
-    let mut r: Revocations<S> = Revocations::new(alloc);
-    r.add_key(A)?;
-    names_the_authority(rt, alloc, &r)?;
-    r.add_key(G)?;
-    names_the_key(rt, alloc, &r)
+    names_keys::<S>(rt, alloc, Said::Key(A), Said::Key(G))
 }
 
 fn sha1s<S: Spans>(rt: &impl Abort, alloc: Global) -> Result<(), AllocError> {
-    let mut r: Revocations<S> = Revocations::new(alloc);
-    r.add_sha1(&sha1_of(A))?;
-    names_the_authority(rt, alloc, &r)?;
-    r.add_sha1(&sha1_of(G))?;
-    names_the_key(rt, alloc, &r)
+    names_keys::<S>(rt, alloc, Said::Sha1(&sha1_of(A)), Said::Sha1(&sha1_of(G)))
 }
 
 fn sha256s<S: Spans>(rt: &impl Abort, alloc: Global) -> Result<(), AllocError> {
-    let mut r: Revocations<S> = Revocations::new(alloc);
-    r.add_sha256(&sha256_of(A))?;
-    names_the_authority(rt, alloc, &r)?;
-    r.add_sha256(&sha256_of(G))?;
-    names_the_key(rt, alloc, &r)
+    names_keys::<S>(
+        rt,
+        alloc,
+        Said::Sha256(&sha256_of(A)),
+        Said::Sha256(&sha256_of(G)),
+    )
 }
 
-fn rows<S: Spans>(rt: &impl Abort, alloc: Global) -> Result<(), Fail> {
-    serials_under::<S>(rt, alloc)?;
-    serials_under_all::<S>(rt, alloc)?;
+fn rows<S: Spans>(rt: &impl Abort, alloc: Global) -> Result<(), AllocError> {
+    serials_of_an_authority::<S>(rt, alloc)?;
+    serials_of_all::<S>(rt, alloc)?;
     a_range::<S>(rt, alloc)?;
-    ids_under_all::<S>(rt, alloc)?;
-    ids_under::<S>(rt, alloc)?;
+    ids_of_all::<S>(rt, alloc)?;
+    ids_of_an_authority::<S>(rt, alloc)?;
     keys::<S>(rt, alloc)?;
     sha1s::<S>(rt, alloc)?;
-    sha256s::<S>(rt, alloc)?;
-    Ok(())
+    sha256s::<S>(rt, alloc)
 }
 
 #[test]
 fn entries_revoke_over_pages(rt: HostRuntime) -> Result<(), Fail> {
-    rows::<Held>(&rt, rt.alloc())
+    rows::<Held>(&rt, rt.alloc())?;
+    Ok(())
 }
 
 #[test]
 fn entries_revoke_over_a_vector(rt: HostRuntime) -> Result<(), Fail> {
-    rows::<SpanVec>(&rt, rt.alloc())
+    rows::<SpanVec>(&rt, rt.alloc())?;
+    Ok(())
 }
 
 #[test]
 fn entries_revoke_over_a_set_that_refuses(rt: HostRuntime) -> Result<(), Fail> {
-    rows::<Full<SpanVec, 1>>(&rt, rt.alloc())
+    rows::<Full<SpanVec, 1>>(&rt, rt.alloc())?;
+    Ok(())
 }

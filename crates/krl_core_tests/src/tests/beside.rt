@@ -2,12 +2,13 @@
 
 ghost use Rattle.std.specs.Prelude.{◌<◌, ◌≤◌, ◌^◌, length};
 
-use crate::tests::plain_model::{Asked, Names, Said, add, is_revoked, subject_of};
+use crate::tests::lists::{has_text, list_of, read_from, says, text_of, with_byte};
+use crate::tests::plain_model::{Asked, Names, Said, held_of, is_revoked, revokes};
 use crate::tests::plain_reader::PlainReader;
-use crate::tests::rows::{HEADER, ROWS};
-use krl_core::{Header, Revocations, krl_text, read_krl};
+use crate::tests::rows::ROWS;
+use krl_core::{Header, KrlFault, Revocations};
 use serial_set::Held;
-use ssh_wire::{Bytes, FromRead};
+use ssh_wire::Bytes;
 use std::alloc::{AllocError, Global};
 use std::process::Abort;
 use std::test::Fail;
@@ -54,58 +55,70 @@ fn answer_alike(
     for said in all {
         for more in [0, 1, 2] {
             let asked = beside(*said, more);
-            let subject = subject_of(alloc, asked)?;
-            assert_eq!(rt; held.query(&subject), is_revoked(all, asked));
+            let found = revokes(alloc, held, asked)?;
+            assert_eq!(rt; found, is_revoked(all, asked));
         }
     }
     Ok(())
 }
 
-// What is held of all that was said.
-fn held_of(alloc: Global, all: &[Said<'_>]) -> Result<Revocations<Held>, AllocError> {
-    let mut held: Revocations<Held> = Revocations::new(alloc);
-    for said in all {
-        add(&mut held, *said)?;
-    }
-    Ok(held)
+// What is held has the text of what was said, which has one.
+fn have_one_text(
+    rt: &impl Abort,
+    alloc: Global,
+    header: &Header,
+    held: &Revocations<Held>,
+    all: &[Said<'_>],
+) -> Result<(), AllocError> {
+    let said = held_of::<Held>(alloc, all)?;
+    let text = text_of(alloc, header, &said).expect(rt, "what was said has a text");
+    has_text(rt, alloc, header, held, &text);
+    Ok(())
 }
 
-// A list that was read is what the plain reader read: its header, and what is held, which has one
-// text.
+// A list that was read is what the plain reader read: its header, and what is held.
 fn are_alike(
     rt: &impl Abort,
     alloc: Global,
-    read: (Header, Revocations<Held>),
+    header: &Header,
+    held: &Revocations<Held>,
     plain: &PlainReader<'_>,
 ) -> Result<(), AllocError> {
-    let (header, held) = read;
-    assert_eq!(rt; header.version, plain.version);
-    assert_eq!(rt; header.date, plain.date);
-    assert_eq!(rt; header.comment.as_slice(), plain.comment);
-    let text = krl_text(alloc, &header, &held);
-    let due = krl_text(alloc, &header, &held_of(alloc, &plain.said)?);
-    assert!(rt; text.is_ok() && text == due);
-    answer_alike(rt, alloc, &held, &plain.said)
+    says(rt, header, plain.version, plain.date, plain.comment);
+    have_one_text(rt, alloc, header, held, &plain.said)?;
+    answer_alike(rt, alloc, held, &plain.said)
+}
+
+// A text is read or refused as it is to be.
+fn is_due(rt: &impl Abort, found: Result<(), KrlFault>, due: Result<(), KrlFault>) {
+    assert_eq!(rt; found, due);
+}
+
+// A text is read as the plain reader read it, or refused with its fault.
+fn is_read_as(
+    rt: &impl Abort,
+    alloc: Global,
+    text: &[u8],
+    plain: &PlainReader<'_>,
+    due: Result<(), KrlFault>,
+) -> Result<(), AllocError> {
+    match read_from::<Held, &[u8]>(alloc, text) {
+        Err(fault) => {
+            is_due(rt, Err(fault), due);
+            Ok(())
+        }
+        Ok((header, held)) => {
+            is_due(rt, Ok(()), due);
+            are_alike(rt, alloc, &header, &held, plain)
+        }
+    }
 }
 
 /// A text is read as the plain reader reads it, or refused with the same fault.
 pub fn is_read_alike(rt: &impl Abort, alloc: Global, text: &[u8]) -> Result<(), AllocError> {
     let mut plain = PlainReader::new(alloc, text);
     let due = plain.list();
-    match read_krl::<Held, FromRead<&[u8]>>(alloc, FromRead::new(text)) {
-        Err(fault) => assert_eq!(rt; Err(fault), due),
-        Ok(read) => {
-            assert_eq!(rt; due, Ok(()));
-            are_alike(rt, alloc, read, &plain)?;
-        }
-    }
-    Ok(())
-}
-
-fn list_of(alloc: Global, sections: &[u8]) -> Result<Vec<u8>, AllocError> {
-    let mut text = Vec::from_slice(alloc, HEADER)?;
-    text.extend_from_slice(sections)?;
-    Ok(text)
+    is_read_as(rt, alloc, text, &plain, due)
 }
 
 // Each text that a list begins with.
@@ -119,7 +132,8 @@ fn each_front(rt: &impl Abort, alloc: Global, text: &[u8]) -> Result<(), AllocEr
 #[test]
 fn each_front_of_a_row(rt: HostRuntime) -> Result<(), Fail> {
     for row in &ROWS {
-        each_front(&rt, rt.alloc(), &list_of(rt.alloc(), row.sections)?)?;
+        let text = list_of(rt.alloc(), row.sections)?;
+        each_front(&rt, rt.alloc(), &text)?;
     }
     Ok(())
 }
@@ -132,19 +146,15 @@ fn changed(
     at: usize,
     byte: u8,
 ) -> Result<(), AllocError> {
-    let mut other = Vec::from_slice(alloc, text)?;
-    if let Some(old) = other.get_mut(at) {
-        *old = byte;
-    }
+    let other = with_byte(alloc, text, at, byte)?;
     is_read_alike(rt, alloc, &other)
 }
 
 fn each_byte_changed(rt: &impl Abort, alloc: Global, text: &[u8]) -> Result<(), AllocError> {
     for at in 0..text.len() {
-        changed(rt, alloc, text, at, 0)?;
-        changed(rt, alloc, text, at, 0x7f)?;
-        changed(rt, alloc, text, at, 0x80)?;
-        changed(rt, alloc, text, at, 0xff)?;
+        for byte in [0, 0x7f, 0x80, 0xff] {
+            changed(rt, alloc, text, at, byte)?;
+        }
     }
     Ok(())
 }
@@ -152,7 +162,8 @@ fn each_byte_changed(rt: &impl Abort, alloc: Global, text: &[u8]) -> Result<(), 
 #[test]
 fn each_byte_of_a_row_changed(rt: HostRuntime) -> Result<(), Fail> {
     for row in &ROWS {
-        each_byte_changed(&rt, rt.alloc(), &list_of(rt.alloc(), row.sections)?)?;
+        let text = list_of(rt.alloc(), row.sections)?;
+        each_byte_changed(&rt, rt.alloc(), &text)?;
     }
     Ok(())
 }

@@ -2,7 +2,7 @@
 
 ghost use Rattle.std.specs.Prelude.{◌≤◌, ◌<◌};
 
-use crate::tests::plain_model::{Asked, Names, Said, add, is_revoked, subject_of};
+use crate::tests::plain_model::{Asked, Names, Said, held_of, is_revoked, revokes};
 use crate::tests::random::Random;
 use krl_core::Revocations;
 use serial_set::{Held, SpanVec, Spans};
@@ -28,18 +28,8 @@ struct Hashes {
 impl Hashes {
     fn new() -> Hashes {
         Hashes {
-            sha1s: [
-                sha1_of(KEYS[0]),
-                sha1_of(KEYS[1]),
-                sha1_of(KEYS[2]),
-                sha1_of(KEYS[3]),
-            ],
-            sha256s: [
-                sha256_of(KEYS[0]),
-                sha256_of(KEYS[1]),
-                sha256_of(KEYS[2]),
-                sha256_of(KEYS[3]),
-            ],
+            sha1s: KEYS.map(|key| sha1_of(key)),
+            sha256s: KEYS.map(|key| sha256_of(key)),
         }
     }
 }
@@ -102,6 +92,19 @@ fn some_question<'a>(random: &mut Random) -> Asked<'a> {
     }
 }
 
+// Says up to nine things.
+fn say_some<'a>(
+    all: &mut Vec<Said<'a>>,
+    random: &mut Random,
+    hashes: &'a Hashes,
+) -> Result<(), AllocError> {
+    for _ in 0..random.below(10) {
+        let said = some_entry(random, hashes);
+        all.push(said)?;
+    }
+    Ok(())
+}
+
 // The answer of what is held is that of the model.
 fn agree<S: Spans>(
     rt: &impl Abort,
@@ -110,8 +113,22 @@ fn agree<S: Spans>(
     all: &[Said<'_>],
     asked: Asked<'_>,
 ) -> Result<(), AllocError> {
-    let subject = subject_of(alloc, asked)?;
-    assert_eq!(rt; r.query(&subject), is_revoked(all, asked));
+    let found = revokes(alloc, r, asked)?;
+    assert_eq!(rt; found, is_revoked(all, asked));
+    Ok(())
+}
+
+// The answers to many questions about what was said are those of the model.
+fn agree_on_many<S: Spans>(
+    rt: &impl Abort,
+    alloc: Global,
+    random: &mut Random,
+    all: &[Said<'_>],
+) -> Result<(), AllocError> {
+    let r = held_of::<S>(alloc, all)?;
+    for _ in 0..200 {
+        agree(rt, alloc, &r, all, some_question(random))?;
+    }
     Ok(())
 }
 
@@ -121,17 +138,9 @@ fn compare<S: Spans>(
     random: &mut Random,
     hashes: &Hashes,
 ) -> Result<(), AllocError> {
-    let mut r: Revocations<S> = Revocations::new(alloc);
     let mut all = Vec::new(alloc);
-    for _ in 0..random.below(10) {
-        let said = some_entry(random, hashes);
-        add(&mut r, said)?;
-        all.push(said)?;
-    }
-    for _ in 0..200 {
-        agree(rt, alloc, &r, &all, some_question(random))?;
-    }
-    Ok(())
+    say_some(&mut all, random, hashes)?;
+    agree_on_many::<S>(rt, alloc, random, &all)
 }
 
 #[test]

@@ -2,99 +2,100 @@
 
 use crate::tests::devices::Zeros;
 use crate::tests::full::Full;
-use crate::tests::rows::HEADER;
-use krl_core::{KrlFault, Revocations, read_krl};
-use serial_set::{Held, SpanVec, Spans};
-use ssh_wire::FromRead;
+use crate::tests::lists::{joined, list_of, read_from, spans_from};
+use crate::tests::rows::BITMAP;
+use krl_core::{KrlFault, Revocations};
+use serial_set::{Held, SpanVec};
 use std::alloc::{AllocError, Global};
-use std::test::*;
+use std::process::Abort;
+use std::test::Fail;
 
 // The serials from 1 to 2^64-1.
 const RANGE: &[u8] = b"\x01\0\0\0\x1d\0\0\0\0\0\0\0\0\x21\0\0\0\x10\0\0\0\0\0\0\0\x01\
 \xff\xff\xff\xff\xff\xff\xff\xff";
 
-// The serials 1, 3, 5 and 7.
-const BITMAP: &[u8] = b"\x01\0\0\0\x1a\0\0\0\0\0\0\0\0\x22\0\0\0\x0d\0\0\0\0\0\0\0\x01\
-\0\0\0\x01\x55";
-
 // A bitmap of 1,000 bytes: 1,003 bytes of it are after these.
 const LONG_BITMAP: &[u8] = b"\x01\0\0\x04\x01\0\0\0\0\0\0\0\0\x22\0\0\x03\xf4\0\0\0\0\0\0\0\x01\
 \0\0\x03\xe8";
 
-fn list_of(alloc: Global, sections: &[u8]) -> Result<Vec<u8>, AllocError> {
-    let mut text = Vec::from_slice(alloc, HEADER)?;
-    text.extend_from_slice(sections)?;
-    Ok(text)
-}
-
-// What is held of a list, over a set of the test's own.
-fn held_over<S: Spans>(
-    alloc: Global,
-    sections: &[u8],
-) -> Result<Result<Revocations<S>, KrlFault>, AllocError> {
-    let text = list_of(alloc, sections)?;
-    let read = read_krl::<S, FromRead<&[u8]>>(alloc, FromRead::new(text.as_slice()));
-    Ok(read.map(|(_, held)| held))
-}
-
 #[test]
 fn a_range_is_one_span(rt: HostRuntime) -> Result<(), Fail> {
-    let held = held_over::<Full<SpanVec, 1>>(rt.alloc(), RANGE)?;
-    assert_eq!(rt; held.map(|held| held.held()), Ok(1));
+    let text = list_of(rt.alloc(), RANGE)?;
+    let spans = spans_from::<Full<SpanVec, 1>, &[u8]>(rt.alloc(), text.as_slice());
+    assert_eq!(rt; spans, Ok(1));
     Ok(())
 }
 
 #[test]
 fn a_bitmap_is_its_runs(rt: HostRuntime) -> Result<(), Fail> {
-    let held = held_over::<Full<SpanVec, 4>>(rt.alloc(), BITMAP)?;
-    assert_eq!(rt; held.map(|held| held.held()), Ok(4));
+    let text = list_of(rt.alloc(), BITMAP)?;
+    let spans = spans_from::<Full<SpanVec, 4>, &[u8]>(rt.alloc(), text.as_slice());
+    assert_eq!(rt; spans, Ok(4));
     Ok(())
 }
 
+// How often the set of the first authority was added to.
+fn additions_of(held: &Revocations<Full<SpanVec, 1000>>) -> Option<u64> {
+    let listed = held.walk_authorities().next()?;
+    Some(listed.spans().additions)
+}
+
 // How often the set of the one authority of a list was added to.
-fn additions(alloc: Global, sections: &[u8]) -> Result<u64, Fail> {
-    let held = held_over::<Full<SpanVec, 1000>>(alloc, sections)?
-        .ok()
-        .ok_or("it is spelled")?;
-    let mut walk = held.walk_authorities();
-    let listed = walk.next().ok_or("an authority is listed")?;
-    Ok(listed.spans().additions)
+fn additions_from(alloc: Global, text: &[u8]) -> Result<Option<u64>, KrlFault> {
+    match read_from::<Full<SpanVec, 1000>, &[u8]>(alloc, text) {
+        Ok((_, held)) => Ok(additions_of(&held)),
+        Err(fault) => Err(fault),
+    }
+}
+
+// That set was added to so often.
+fn is_added(rt: &impl Abort, alloc: Global, sections: &[u8], due: u64) -> Result<(), AllocError> {
+    let text = list_of(alloc, sections)?;
+    assert_eq!(rt; additions_from(alloc, &text), Ok(Some(due)));
+    Ok(())
 }
 
 // No range is expanded, and of a bitmap only its runs are added.
 #[test]
 fn each_run_is_added_once(rt: HostRuntime) -> Result<(), Fail> {
-    assert_eq!(rt; additions(rt.alloc(), RANGE)?, 1);
-    assert_eq!(rt; additions(rt.alloc(), BITMAP)?, 4);
-    let mut bits = Vec::from_slice(rt.alloc(), LONG_BITMAP)?;
-    bits.push(0x7f)?;
-    for _ in 0..999 {
-        bits.push(0xff)?;
-    }
-    assert_eq!(rt; additions(rt.alloc(), &bits)?, 1);
+    is_added(&rt, rt.alloc(), RANGE, 1)?;
+    is_added(&rt, rt.alloc(), BITMAP, 4)?;
+    let others = [0xff; 999];
+    let bits = joined(rt.alloc(), &[LONG_BITMAP, b"\x7f", &others])?;
+    is_added(&rt, rt.alloc(), &bits, 1)?;
     Ok(())
 }
 
-// The fault of a list that goes on with zero bytes, or how many keys it has.
-fn told(
+// The fault of a list, or how many keys it has.
+fn keys_from(alloc: Global, reader: Zeros<'_>) -> Result<usize, KrlFault> {
+    match read_from::<Held, Zeros<'_>>(alloc, reader) {
+        Ok((_, held)) => Ok(held.keys()),
+        Err(fault) => Err(fault),
+    }
+}
+
+// A list that goes on with zero bytes has this fault, or so many keys.
+fn is_told(
+    rt: &impl Abort,
     alloc: Global,
     sections: &[u8],
     zeros: usize,
-) -> Result<Result<usize, KrlFault>, AllocError> {
-    let text = list_of(alloc, sections)?;
-    let reader = FromRead::new(Zeros {
-        first: &text,
+    due: Result<usize, KrlFault>,
+) -> Result<(), AllocError> {
+    let first = list_of(alloc, sections)?;
+    let reader = Zeros {
+        first: &first,
         zeros,
-    });
-    let read = read_krl::<Held, FromRead<Zeros<'_>>>(alloc, reader);
-    Ok(read.map(|(_, held)| held.keys()))
+    };
+    assert_eq!(rt; keys_from(alloc, reader), due);
+    Ok(())
 }
 
 #[test]
 fn a_reader_without_end_meets_the_limit(rt: HostRuntime) -> Result<(), Fail> {
     let long = b"\x02\xff\xff\xff\xff\xff\xff\xff\xfb";
-    assert_eq!(rt; told(rt.alloc(), long, usize::MAX)?, Err(KrlFault::TooLong));
-    assert_eq!(rt; told(rt.alloc(), long, 1000)?, Err(KrlFault::EndsEarly));
+    is_told(&rt, rt.alloc(), long, usize::MAX, Err(KrlFault::TooLong))?;
+    is_told(&rt, rt.alloc(), long, 1000, Err(KrlFault::EndsEarly))?;
     Ok(())
 }
 
@@ -102,7 +103,7 @@ fn a_reader_without_end_meets_the_limit(rt: HostRuntime) -> Result<(), Fail> {
 #[test]
 fn reads_a_long_list(rt: HostRuntime) -> Result<(), Fail> {
     let front = b"\x02\x00\xff\xff\xd0\x00\xff\xff\xcc";
-    assert_eq!(rt; told(rt.alloc(), front, 16_777_164)?, Ok(1));
+    is_told(&rt, rt.alloc(), front, 16_777_164, Ok(1))?;
     Ok(())
 }
 
@@ -110,6 +111,6 @@ fn reads_a_long_list(rt: HostRuntime) -> Result<(), Fail> {
 #[test]
 fn reads_up_to_the_limit(rt: HostRuntime) -> Result<(), Fail> {
     let front = b"\x02\x03\xff\xff\xcf\x03\xff\xff\xcb";
-    assert_eq!(rt; told(rt.alloc(), front, 67_108_811)?, Ok(1));
+    is_told(&rt, rt.alloc(), front, 67_108_811, Ok(1))?;
     Ok(())
 }

@@ -27,6 +27,16 @@ pub enum Said<'a> {
     Sha256(&'a [u8]),
 }
 
+/// Serials of an authority are said to be revoked.
+pub fn serials_under(authority: &[u8], lo: u64, hi: u64) -> Said<'_> {
+    Said::Serials { authority, lo, hi }
+}
+
+/// A key ID of an authority is said to be revoked.
+pub fn id_under<'a>(authority: &'a [u8], id: &'a [u8]) -> Said<'a> {
+    Said::Id { authority, id }
+}
+
 /// What is asked about: a key, and the names of a certificate where it is one.
 #[derive(Clone, Copy)]
 pub struct Asked<'a> {
@@ -123,8 +133,27 @@ pub fn add<S: Spans>(r: &mut Revocations<S>, said: Said<'_>) -> Result<(), Alloc
     }
 }
 
-/// What is asked about, as a query takes it.
-pub fn subject_of<'a>(alloc: Global, asked: Asked<'a>) -> Result<Subject<'a>, AllocError> {
+/// What is held of all that was said.
+pub fn held_of<S: Spans>(alloc: Global, all: &[Said<'_>]) -> Result<Revocations<S>, AllocError> {
+    let mut held: Revocations<S> = Revocations::new(alloc);
+    for said in all {
+        add(&mut held, *said)?;
+    }
+    Ok(held)
+}
+
+/// Whether what is held revokes what is asked about.
+pub fn revokes<S: Spans>(
+    alloc: Global,
+    held: &Revocations<S>,
+    asked: Asked<'_>,
+) -> Result<bool, AllocError> {
+    let subject = subject_of(alloc, asked)?;
+    Ok(held.query(&subject))
+}
+
+// What is asked about, as a query takes it.
+fn subject_of<'a>(alloc: Global, asked: Asked<'a>) -> Result<Subject<'a>, AllocError> {
     match asked.cert {
         None => plain(alloc, asked.key),
         Some(names) => certificate(

@@ -1,174 +1,203 @@
 // Lists, read from a slice and in pieces.
 
 use crate::tests::devices::Giver;
-use crate::tests::rows::{HEADER, ROWS};
-use krl_core::{KrlFault, Reading, Revocations, read_krl};
-use serial_set::{Held, Spans};
+use crate::tests::lists::{list_of, read_from, says, spans_from, with_byte};
+use crate::tests::rows::{BITMAP, HEADER, ROWS, Row, SERIAL_FIVE};
+use krl_core::{KrlFault, Reading};
+use serial_set::Held;
 use ssh_wire::FromRead;
 use std::alloc::{AllocError, Global};
-use std::test::*;
+use std::process::Abort;
+use std::test::Fail;
 
-const SERIAL_FIVE: &[u8] = b"\x01\0\0\0\x15\0\0\0\0\0\0\0\0\x20\0\0\0\x08\0\0\0\0\0\0\0\x05";
-
-const BITMAP: &[u8] =
-    b"\x01\0\0\0\x1a\0\0\0\0\0\0\0\0\x22\0\0\0\x0d\0\0\0\0\0\0\0\x01\0\0\0\x01\x55";
-
-fn list_of(alloc: Global, sections: &[u8]) -> Result<Vec<u8>, AllocError> {
-    let mut text = Vec::from_slice(alloc, HEADER)?;
-    text.extend_from_slice(sections)?;
-    Ok(text)
+// The fault of a list, or how many spans it holds.
+fn told(alloc: Global, giver: Giver<'_>) -> Result<u128, KrlFault> {
+    spans_from::<Held, Giver<'_>>(alloc, giver)
 }
 
-/// The fault of a list, or how many spans it holds.
-fn told(alloc: Global, giver: Giver<'_>) -> Result<u128, KrlFault> {
-    match read_krl::<Held, FromRead<Giver<'_>>>(alloc, FromRead::new(giver)) {
-        Ok((_, revoked)) => Ok(revoked.held()),
-        Err(fault) => Err(fault),
+// The list of a row is told as the row has it, in pieces of each size.
+fn is_told_in_pieces(rt: &impl Abort, alloc: Global, text: &[u8], row: &Row) {
+    for piece in [1, 3, 7, 1000] {
+        let found = told(alloc, Giver::new(text, piece));
+        assert_eq!(rt; found, row.due(), "by {piece}");
     }
 }
 
 #[test]
 fn rows_in_pieces(rt: HostRuntime) -> Result<(), Fail> {
-    let alloc = rt.alloc();
-    for (i, row) in ROWS.iter().enumerate() {
-        let text = list_of(alloc, row.sections)?;
-        for piece in [1, 3, 7, 1000] {
-            let answer = told(alloc, Giver::new(&text, piece));
-            assert_eq!(rt; answer.err(), row.fault, "in row {i} by {piece}");
-            if row.fault == None {
-                assert_eq!(rt;
-                    told(alloc, Giver::new(&text, piece)).ok(),
-                    Some(row.held),
-                    "in row {i}"
-                );
-            }
-        }
+    for row in &ROWS {
+        let text = list_of(rt.alloc(), row.sections)?;
+        is_told_in_pieces(&rt, rt.alloc(), &text, row);
     }
     Ok(())
+}
+
+// Gives the bytes five at a call, and fails where they end.
+fn failing(bytes: &[u8]) -> Giver<'_> {
+    Giver {
+        bytes,
+        piece: 5,
+        interruptions: 0,
+        fails_at_the_end: true,
+    }
+}
+
+// So many bytes of the list of serial 5 have this fault, and that of the reader where it fails.
+fn front_is_told(rt: &impl Abort, alloc: Global, front: &[u8]) {
+    let fault = match front.len() {
+        44 | 70 => None,
+        _ => Some(KrlFault::EndsEarly),
+    };
+    let n = front.len();
+    assert_eq!(rt; told(alloc, Giver::new(front, 1000)).err(), fault, "at {n}");
+    let found = told(alloc, failing(front)).err();
+    assert_eq!(rt; found, Some(KrlFault::Read), "failing at {n}");
 }
 
 #[test]
 fn each_front_of_a_list(rt: HostRuntime) -> Result<(), Fail> {
-    let alloc = rt.alloc();
-    let text = list_of(alloc, SERIAL_FIVE)?;
+    let text = list_of(rt.alloc(), SERIAL_FIVE)?;
+    assert_eq!(rt; text.len(), 70);
     for n in 0..71 {
-        let front = text.get(..n).ok_or("the list has 70 bytes")?;
-        let fault = if n == 44 || n == 70 {
-            None
-        } else {
-            Some(KrlFault::EndsEarly)
-        };
-        assert_eq!(rt; told(alloc, Giver::new(front, 1000)).err(), fault, "at {n}");
-        let failing = Giver {
-            bytes: front,
-            piece: 5,
-            interruptions: 0,
-            fails_at_the_end: true,
-        };
-        assert_eq!(rt;
-            told(alloc, failing).err(),
-            Some(KrlFault::Read),
-            "failing at {n}"
-        );
+        front_is_told(&rt, rt.alloc(), &text[..n]);
     }
-    let text = list_of(alloc, b"\x99")?;
-    let failing = Giver {
-        bytes: &text,
-        piece: 5,
-        interruptions: 0,
-        fails_at_the_end: true,
-    };
-    assert_eq!(rt; told(alloc, failing).err(), Some(KrlFault::UnknownSection));
+    Ok(())
+}
+
+// A fault of the bytes comes before that of the reader.
+#[test]
+fn a_fault_before_the_reader_fails(rt: HostRuntime) -> Result<(), Fail> {
+    let text = list_of(rt.alloc(), b"\x99")?;
+    let found = told(rt.alloc(), failing(&text)).err();
+    assert_eq!(rt; found, Some(KrlFault::UnknownSection));
     Ok(())
 }
 
 #[test]
-fn faults_of_the_header(rt: HostRuntime) -> Result<(), Fail> {
-    let alloc = rt.alloc();
+fn faults_of_the_magic(rt: HostRuntime) {
     for (bytes, fault) in [
         (b"".as_slice(), KrlFault::EndsEarly),
         (b"\0\0\0", KrlFault::EndsEarly),
         (b"\0\0\0\0\0\0\0\0", KrlFault::Magic),
     ] {
-        assert_eq!(rt; told(alloc, Giver::new(bytes, 1000)).err(), Some(fault));
+        let found = told(rt.alloc(), Giver::new(bytes, 1000)).err();
+        assert_eq!(rt; found, Some(fault));
     }
+}
+
+// The header with a byte set has this fault.
+fn header_is_told(
+    rt: &impl Abort,
+    alloc: Global,
+    place: usize,
+    byte: u8,
+    fault: KrlFault,
+) -> Result<(), AllocError> {
+    let text = with_byte(alloc, HEADER, place, byte)?;
+    let found = told(alloc, Giver::new(&text, 1000)).err();
+    assert_eq!(rt; found, Some(fault), "at {place}");
+    Ok(())
+}
+
+#[test]
+fn faults_of_the_header(rt: HostRuntime) -> Result<(), Fail> {
     for (place, byte, fault) in [
         (0, 0x54, KrlFault::Magic),
         (11, 2, KrlFault::FormatVersion),
         (36, 255, KrlFault::EndsEarly),
         (40, 255, KrlFault::EndsEarly),
     ] {
-        let mut text = Vec::from_slice(alloc, HEADER)?;
-        if let Some(old) = text.get_mut(place) {
-            *old = byte;
-        }
-        assert_eq!(rt;
-            told(alloc, Giver::new(&text, 1000)).err(),
-            Some(fault),
-            "at {place}"
-        );
+        header_is_told(&rt, rt.alloc(), place, byte, fault)?;
     }
     Ok(())
 }
 
 #[test]
 fn interruptions_are_passed_over(rt: HostRuntime) -> Result<(), Fail> {
-    let alloc = rt.alloc();
-    let text = list_of(alloc, SERIAL_FIVE)?;
-    let often = Giver {
-        bytes: &text,
-        piece: 7,
-        interruptions: 1000,
-        fails_at_the_end: false,
-    };
-    assert_eq!(rt; told(alloc, often).ok(), Some(1));
-    let too_often = Giver {
-        bytes: &text,
-        piece: 7,
-        interruptions: 1001,
-        fails_at_the_end: false,
-    };
-    assert_eq!(rt; told(alloc, too_often).err(), Some(KrlFault::Read));
+    let text = list_of(rt.alloc(), SERIAL_FIVE)?;
+    for (interruptions, due) in [(1000, Ok(1)), (1001, Err(KrlFault::Read))] {
+        let giver = Giver {
+            bytes: &text,
+            piece: 7,
+            interruptions,
+            fails_at_the_end: false,
+        };
+        assert_eq!(rt; told(rt.alloc(), giver), due);
+    }
     Ok(())
+}
+
+/// A list that is read from a slice.
+type OfSlice<'a> = Reading<Held, FromRead<&'a [u8]>>;
+
+// Reads one field more, or answers that the list has ended.
+fn step(reading: &mut OfSlice<'_>) -> Result<bool, KrlFault> {
+    reading.step()
+}
+
+// How many bytes are taken.
+fn taken(reading: &OfSlice<'_>) -> u64 {
+    reading.taken()
+}
+
+// How many spans are held.
+fn held(reading: &OfSlice<'_>) -> u128 {
+    reading.held()
+}
+
+// The spans of the list are held from its last byte on.
+fn hold_at_each_moment(rt: &impl Abort, reading: &mut OfSlice<'_>) {
+    for at in 0..100 {
+        if step(reading) != Ok(true) {
+            break;
+        }
+        let due = if taken(reading) < 75 { 0 } else { 4 };
+        assert_eq!(rt; held(reading), due, "at step {at}");
+    }
+}
+
+// The list has ended, and goes on to say so.
+fn stays_at_the_end(rt: &impl Abort, reading: &mut OfSlice<'_>) {
+    assert_eq!(rt; taken(reading), 75);
+    for _ in 0..2 {
+        assert_eq!(rt; step(reading), Ok(false));
+    }
+}
+
+// The version of what was read, and how many spans are held of it.
+fn done(reading: OfSlice<'_>) -> (u64, u128) {
+    let (header, held) = reading.done();
+    (header.version, held.held())
 }
 
 #[test]
 fn held_at_each_moment(rt: HostRuntime) -> Result<(), Fail> {
-    let alloc = rt.alloc();
-    let text = list_of(alloc, BITMAP)?;
-    let mut reading = Reading::<Held, FromRead<Giver<'_>>>::new(
-        alloc,
-        FromRead::new(Giver::new(&text, 1000)),
-    );
-    for step in 0..100 {
-        if reading.step() != Ok(true) {
-            break;
-        }
-        let held = if reading.taken() < 75 { 0 } else { 4 };
-        assert_eq!(rt; reading.held(), held, "at step {step}");
-    }
-    assert_eq!(rt; reading.taken(), 75);
-    assert_eq!(rt; reading.step(), Ok(false));
-    assert_eq!(rt; reading.step(), Ok(false));
-    let (header, revoked) = reading.done();
-    assert_eq!(rt; header.version, 1);
-    assert_eq!(rt; revoked.held(), 4);
+    let text = list_of(rt.alloc(), BITMAP)?;
+    let mut reading = OfSlice::new(rt.alloc(), FromRead::new(text.as_slice()));
+    hold_at_each_moment(&rt, &mut reading);
+    stays_at_the_end(&rt, &mut reading);
+    assert_eq!(rt; done(reading), (1, 4));
     Ok(())
 }
 
+// The header of a list has these parts, and nothing is held of it.
+fn is_only_a_header(
+    rt: &impl Abort,
+    alloc: Global,
+    text: &[u8],
+    version: u64,
+    date: u64,
+    comment: &[u8],
+) {
+    let (header, _) = read_from::<Held, &[u8]>(alloc, text).expect(rt, "the list is spelled");
+    says(rt, &header, version, date, comment);
+    assert_eq!(rt; spans_from::<Held, &[u8]>(alloc, text), Ok(0));
+}
+
 #[test]
-fn what_a_header_says(rt: HostRuntime) -> Result<(), Fail> {
+fn what_a_header_says(rt: HostRuntime) {
     // version 1, date 2, flags 3, reserved `r`, comment `a b`
     let text = b"SSHKRL\n\0\0\0\0\x01\0\0\0\0\0\0\0\x01\0\0\0\0\0\0\0\x02\0\0\0\0\0\0\0\x03\
 \0\0\0\x01r\0\0\0\x03a b";
-    let (header, revoked) = read_krl::<Held, FromRead<&[u8]>>(
-        rt.alloc(),
-        FromRead::new(text.as_slice()),
-    ).ok()
-        .ok_or("the list is spelled")?;
-    assert_eq!(rt; header.version, 1);
-    assert_eq!(rt; header.date, 2);
-    assert_eq!(rt; header.comment.as_slice(), b"a b".as_slice());
-    assert_eq!(rt; revoked.held(), 0);
-    Ok(())
+    is_only_a_header(&rt, rt.alloc(), text, 1, 2, b"a b");
 }

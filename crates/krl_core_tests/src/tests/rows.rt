@@ -6,12 +6,30 @@ use krl_core::KrlFault;
 pub const HEADER: &[u8] = b"SSHKRL\n\0\0\0\0\x01\0\0\0\0\0\0\0\x01\
 \0\0\0\0\0\0\0\0\0\0\0\0\0\0\0\0\0\0\0\0\0\0\0\0";
 
+/// Serial 5 of all authorities.
+pub const SERIAL_FIVE: &[u8] = b"\x01\0\0\0\x15\0\0\0\0\0\0\0\0\x20\0\0\0\x08\
+\0\0\0\0\0\0\0\x05";
+
+/// The serials 1, 3, 5 and 7 of all authorities.
+pub const BITMAP: &[u8] = b"\x01\0\0\0\x1a\0\0\0\0\0\0\0\0\x22\0\0\0\x0d\
+\0\0\0\0\0\0\0\x01\0\0\0\x01\x55";
+
 /// A list by the bytes after its header.
 pub struct Row {
     pub sections: &'static [u8],
     pub fault: Option<KrlFault>,
     // how many spans are held where there is no fault
     pub held: u128,
+}
+
+impl Row {
+    /// The fault of the list, or how many spans are held of it.
+    pub fn due(&self) -> Result<u128, KrlFault> {
+        match self.fault {
+            Some(fault) => Err(fault),
+            None => Ok(self.held),
+        }
+    }
 }
 
 pub const ROWS: [Row; 49] = [

@@ -1,12 +1,14 @@
 // Lists that go out to a writer, which may fail.
 
-use crate::tests::rows::HEADER;
-use crate::tests::writing::header;
+use crate::tests::lists::{header, list_of};
+use crate::tests::rows::SERIAL_FIVE;
+use crate::tests::writing::of_runs;
 use krl_core::{Revocations, WriteFault, write_krl};
-use serial_set::Held;
+use serial_set::{Held, Span};
 use ssh_wire::ToWrite;
 use std::alloc::{AllocError, Global};
 use std::io::{self, ErrorKind, Write};
+use std::process::Abort;
 use std::test::Fail;
 
 /// Takes at most so many bytes at a call, and fails after some calls.
@@ -33,45 +35,59 @@ impl Write for Device {
     }
 }
 
+// What comes of a list at a device.
+fn send(alloc: Global, held: &Revocations<Held>, device: &mut Device) -> Result<(), WriteFault> {
+    let mut writer = ToWrite::new(device);
+    write_krl(alloc, &header(alloc), held, &mut writer)
+}
+
 // What comes of a list of serial 5 at a device, and what it took.
 fn sent(
     alloc: Global,
     piece: usize,
     calls: u8,
 ) -> Result<(Result<(), WriteFault>, Vec<u8>), AllocError> {
-    let mut held: Revocations<Held> = Revocations::new(alloc);
-    held.add_serials(None, 5, 5)?;
+    let held = of_runs(alloc, &[Span { lo: 5, hi: 5 }])?;
     let mut device = Device {
         taken: Vec::new(alloc),
         piece,
         calls,
     };
-    let mut writer = ToWrite::new(&mut device);
-    let done = write_krl(alloc, &header(alloc), &held, &mut writer);
-    drop(writer);
+    let done = send(alloc, &held, &mut device);
     Ok((done, device.taken))
+}
+
+// Of the list a device takes a front of this length, and this comes of it.
+fn is_sent(
+    rt: &impl Abort,
+    alloc: Global,
+    (piece, calls): (usize, u8),
+    count: usize,
+    due: Result<(), WriteFault>,
+) -> Result<(), AllocError> {
+    let text = list_of(alloc, SERIAL_FIVE)?;
+    let (done, taken) = sent(alloc, piece, calls)?;
+    assert_eq!(rt; done, due);
+    assert!(rt; text.get(..count) == Some(taken.as_slice()));
+    Ok(())
 }
 
 #[test]
 fn counts_what_went_out(rt: HostRuntime) -> Result<(), Fail> {
-    let (done, taken) = sent(rt.alloc(), 3, 3)?;
-    assert_eq!(rt; done, Err(WriteFault::Write { count: 9 }));
-    assert_eq!(rt; taken.as_slice(), &HEADER[..9]);
+    let due = Err(WriteFault::Write { count: 9 });
+    is_sent(&rt, rt.alloc(), (3, 3), 9, due)?;
     Ok(())
 }
 
 #[test]
 fn a_writer_that_takes_nothing_fails(rt: HostRuntime) -> Result<(), Fail> {
-    let (done, taken) = sent(rt.alloc(), 0, 1)?;
-    assert_eq!(rt; done, Err(WriteFault::Write { count: 0 }));
-    assert_eq!(rt; taken.len(), 0);
+    let due = Err(WriteFault::Write { count: 0 });
+    is_sent(&rt, rt.alloc(), (0, 1), 0, due)?;
     Ok(())
 }
 
 #[test]
 fn a_list_goes_out_whole(rt: HostRuntime) -> Result<(), Fail> {
-    let (done, taken) = sent(rt.alloc(), 3, 100)?;
-    assert_eq!(rt; done, Ok(()));
-    assert_eq!(rt; taken.len(), 70);
+    is_sent(&rt, rt.alloc(), (3, 100), 70, Ok(()))?;
     Ok(())
 }

@@ -13,6 +13,9 @@ pub const A: &[u8] = b"A, an authority";
 /// The blob of another authority's key.
 pub const B: &[u8] = b"B, another authority";
 
+/// No bytes stand for all authorities.
+pub const ALL: &[u8] = b"";
+
 /// A plain key.
 pub fn plain<'a>(alloc: Global, blob: &[u8]) -> Result<Subject<'a>, AllocError> {
     Ok(Subject {

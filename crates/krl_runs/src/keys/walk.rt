@@ -4,9 +4,10 @@ ghost use Rattle.std.specs.Prelude.{◌≡◌, ◌∷◌, ◌+◌, [], IfOk, fal
 ghost use Rattle.std.specs.List.{slice_split};
 ghost use Rattle.krl_runs.specs.Carries.{Carries};
 ghost use Rattle.ssh_key.specs.ContainerReading.{private_at};
+ghost use Rattle.ssh_key.specs.KeyReading.{key_at};
 ghost use Rattle.ssh_key.specs.LineReading.{content_of};
 ghost use Rattle.ssh_cert.specs.SubjectReading.{subject_of};
-ghost use Rattle.krl_runs.specs.Run.{Gives, GivesAnswer, container_item, content_items, file_items, files_items, item_of, line_items, stop_in, subject_item, tells, text_items};
+ghost use Rattle.krl_runs.specs.Run.{Gives, GivesAnswer, container_item, content_items, file_items, files_items, item_of, key_item, line_items, stop_in, subject_item, tells, text_items};
 ghost use Rattle.ssh_key.specs.Lines.{is_newline};
 
 use crate::input::named::Named;
@@ -15,7 +16,7 @@ use crate::output::answer::Answer;
 use crate::output::cause::Cause;
 use crate::output::printer::Printer;
 use crate::output::run_fault::RunFault;
-use ssh_cert::{SubjectFault, subject};
+use ssh_cert::{Subject, SubjectFault, subject};
 use ssh_key::{
     Line, LineFault, Private, PrivateFault, has_key, is_container, read_key, read_line,
     read_private, split_line,
@@ -214,11 +215,26 @@ fn answer_blob<'a, A: Answers>(
         Err(SubjectFault::NoMemory) => return Err(RunFault::whole(name, Cause::NoMemory)),
         Err(fault) => return Err(refused(name, number, fault)),
     };
+    answer_asked(alloc, answers, name, number, line, &asked)
+}
+
+/// What a run says of a key by what its blob asks of a list.
+fn answer_asked<'a, A: Answers>(
+    alloc: Global,
+    answers: &A,
+    name: &'a str,
+    number: Option<u64>,
+    line: &Line,
+    asked: &Subject,
+) -> Result<Option<Answer>, RunFault<'a>>
+    ensures { GivesAnswer (key_item (A.answer_to answers.now) name.now number
+        (content_of line.now) asked.now (key_at asked.now.plain)) name.now result }
+{
     let key = match read_key(asked.plain.as_slice()) {
         Ok(key) => key,
         Err(fault) => return Err(refused(name, number, SubjectFault::Key(fault))),
     };
-    match answers.answer(alloc, name, number, line, &asked, &key) {
+    match answers.answer(alloc, name, number, line, asked, &key) {
         Ok(answer) => Ok(answer),
         Err(_) => Err(RunFault::whole(name, Cause::NoMemory)),
     }

@@ -3,7 +3,8 @@
 ghost use Rattle.std.specs.Prelude.{◌≡◌, ◌<◌, Some, IfOk, length};
 ghost use Rattle.std.specs.List.{slice_split};
 ghost use Rattle.ssh_key.specs.ContainerReading.{private_at};
-ghost use Rattle.krl_runs.specs.Making.{IsAuthorityAtHand, IsSigner, Returns, authority_of, first_key_from, first_key_of, inside_key, line_key, signer_authority};
+ghost use Rattle.ssh_cert.specs.SubjectReading.{subject_of};
+ghost use Rattle.krl_runs.specs.Making.{IsAuthorityAtHand, IsSigner, Returns, authority_of, first_key_from, first_key_of, inside_key, line_key, signer_authority, subject_key};
 ghost use Rattle.krl_runs.specs.SpecEntry.{IsUnder, authority_under};
 ghost use Rattle.ssh_key.specs.Lines.{is_newline};
 
@@ -127,7 +128,21 @@ fn key_of<'a>(alloc: Global, name: &'a str, number: u64, text: &[u8]) -> Result<
         Err(LineFault::NoMemory) => return Err(RunFault::whole(name, Cause::NoMemory)),
         Err(fault) => return Err(RunFault::at_line(name, number, Cause::Line(fault))),
     };
-    match subject(alloc, line.blob.as_slice()) {
+    plain_of(alloc, name, number, line.blob.as_slice())
+}
+
+/// The blob of the plain key of what a line's blob asks.
+fn plain_of<'a>(
+    alloc: Global,
+    name: &'a str,
+    number: u64,
+    blob: &[u8],
+) -> Result<Bytes, RunFault<'a>>
+    ensures read { Returns (λ blob. blob) (λ at. name.now ≡ at)
+        (subject_key name.now number (subject_of blob.now)) result }
+    ensures some { IfOk result (λ blob. 0 < length blob) }
+{
+    match subject(alloc, blob) {
         Ok(asked) => {
             let Subject { plain, cert: _ } = asked;
             Ok(plain)

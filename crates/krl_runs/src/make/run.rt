@@ -3,7 +3,8 @@
 ghost use Rattle.std.specs.Prelude.{◌≡◌, Bool, Ok, Result, false, option_map, true};
 ghost use Rattle.std.specs.Option.{ForSome};
 ghost use Rattle.krl_core.specs.declared.krl_fault.KrlFault.{KrlFault as FaultOf};
-ghost use Rattle.krl_runs.specs.Making.{IsOldRead, Makes, WritesList, after_old, make_run_of};
+ghost use Rattle.krl_runs.specs.Making.{HasNumbers, IsFileAtHand, IsOldRead, Makes, WritesList, WritesMore, after_old, files_entries, make_run_of};
+ghost use Rattle.krl_runs.specs.SpecEntry.{IsUnder, authority_under};
 ghost use Rattle.krl_runs.specs.declared.make.base.Base.{Base as BaseOf};
 
 use crate::input::named::Named;
@@ -12,6 +13,7 @@ use crate::make::base::{Base, next_version, read_base};
 use crate::make::files::add_files;
 use crate::output::cause::Cause;
 use crate::output::run_fault::RunFault;
+use crate::spec_file::under::Under;
 use krl_core::laws::{revokes_what_is_meant, written_list_names_what_is_held};
 use krl_core::{Header, Revocations, TextFault, krl_text};
 use serial_set::Held;
@@ -69,21 +71,38 @@ fn make_over<'a>(
     let Base {
         version: old_version,
         comment,
-        mut revocations,
+        revocations,
     } = base;
     let Some(version) = next_version(version, old_version) else {
         return Err(RunFault::whole(name, Cause::VersionFull));
     };
-    revokes_what_is_meant();
-    written_list_names_what_is_held();
-    let signer = signer_of(alloc, authority)?;
-    add_files(alloc, &mut revocations, signer.under(), files)?;
     let header = Header {
         version,
         date: moment,
         comment,
     };
-    write_list(alloc, name, &header, &revocations)
+    let signer = signer_of(alloc, authority)?;
+    add_and_write(alloc, name, &header, revocations, signer.under(), files)
+}
+
+/// Adds what the lines of the files name to what is held, and writes the list.
+fn add_and_write<'a>(
+    alloc: Global,
+    name: &'a str,
+    header: &Header,
+    held: Revocations<Held>,
+    under: Under,
+    files: &'a [Named<'a>],
+) -> Result<Vec<u8>, RunFault<'a>>
+    requires under { IsUnder under }
+    requires numbers { HasNumbers header.now }
+    ensures { WritesMore (λ made. made.items) name.now header.now held
+        (IsFileAtHand (authority_under under.entry) files.now)
+        (files_entries (authority_under under.entry) files.now) result }
+{
+    let mut revocations = held;
+    add_files(alloc, &mut revocations, under, files)?;
+    write_list(alloc, name, header, &revocations)
 }
 
 /// The text of a list.
@@ -93,8 +112,11 @@ fn write_list<'a>(
     header: &Header,
     revocations: &Revocations<Held>,
 ) -> Result<Vec<u8>, RunFault<'a>>
+    requires { HasNumbers header.now }
     ensures { WritesList (λ made. made.items) name.now header.now revocations.now result }
 {
+    revokes_what_is_meant();
+    written_list_names_what_is_held();
     match krl_text(alloc, header, revocations) {
         Ok(text) => Ok(text),
         Err(TextFault::NoMemory) => Err(RunFault::whole(name, Cause::NoMemory)),

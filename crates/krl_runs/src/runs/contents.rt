@@ -1,9 +1,8 @@
 // Printing what a list holds (ssh-keygen(1), options -Q and -l).
 
-ghost use Rattle.std.specs.Prelude.{◌≡◌, ◌∷◌, ◌<◌, [], ℕ, List, IfOk, OnOk, false, length, map};
-ghost use Rattle.std.specs.List.{flat_map};
+ghost use Rattle.std.specs.Prelude.{◌≡◌, ◌∷◌, ◌<◌, [], ℕ, List, OnOk, false, map};
 ghost use Rattle.krl_runs.specs.Carries.{Carries};
-ghost use Rattle.krl_runs.specs.Contents.{all_said, contents_items, contents_lines, fact_line, header_lines, said_of, section_lines, serials_line};
+ghost use Rattle.krl_runs.specs.Contents.{all_said, comment_lines, contents_items, contents_lines, fact_line, header_lines, said_of, section_lines, serials_line};
 
 pub(crate) mod fact;
 pub(crate) mod lines;
@@ -74,10 +73,24 @@ fn print_header<'a, W: Sink>(
     print_line(name, made, line, printer)?;
     let made = write_date(alloc, header.date, line);
     print_line(name, made, line, printer)?;
-    if header.comment.as_slice().is_empty() {
+    print_comment(name, header.comment.as_slice(), line, printer)
+}
+
+/// Prints the line of a comment, where there is one.
+fn print_comment<'a, W: Sink>(
+    name: &'a str,
+    comment: &[u8],
+    line: &mut Vec<u8>,
+    printer: &mut Printer<W>,
+) -> Result<(), RunFault<'a>>
+    requires { printer.old.failed ≡ false }
+    ensures { Carries (all_said name.now (comment_lines comment.now)) result
+        printer.old printer.new }
+{
+    if comment.is_empty() {
         return Ok(());
     }
-    let made = write_comment(header.comment.as_slice(), line);
+    let made = write_comment(comment, line);
     print_line(name, made, line, printer)
 }
 

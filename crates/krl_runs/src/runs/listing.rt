@@ -1,9 +1,9 @@
 // Listing the keys or the certificates of a file (ssh-keygen(1), options -l and -L).
 
-ghost use Rattle.std.specs.Prelude.{◌≡◌, ◌++◌, IfOk, OnOk, decimal, false};
+ghost use Rattle.std.specs.Prelude.{◌≡◌, ◌++◌, IfOk, OnOk, false};
 ghost use Rattle.ssh_key.specs.Kind.{short_name_of};
 ghost use Rattle.krl_runs.specs.Done.{Ends};
-ghost use Rattle.krl_runs.specs.Listing.{certificate_mark, certificate_text, certify, comment_or_none, describe, list_line, list_run_of, listing};
+ghost use Rattle.krl_runs.specs.Listing.{certificate_mark, certificate_text, certify, comment_or_none, describe, kind_part, list_line, list_run_of, listing, place_part};
 ghost use Rattle.krl_runs.specs.Carries.{Carries};
 ghost use Rattle.krl_runs.specs.Run.{file_items};
 
@@ -15,6 +15,7 @@ use crate::output::answer::Answer;
 use crate::output::done::Done;
 use crate::output::printer::Printer;
 use crate::output::run_fault::RunFault;
+use crate::runs::contents::lines::push_number;
 use ssh_cert::{Cert, Subject, list_cert, push_escaped, read_cert};
 use ssh_key::{Hash, Line, PublicKey, fingerprint};
 use ssh_wire::{Bytes, Sink};
@@ -111,14 +112,20 @@ fn certificate_text(
         text ≡ certificate_text hash moment name.now number cert.now) }
 {
     let listing = list_cert(alloc, cert, hash, moment)?;
-    let digits = number.to_string(alloc)?;
     let mut text = Vec::new(alloc);
-    push_escaped(&mut text, name.as_bytes())?;
-    text.push(b':')?;
-    text.extend_from_slice(digits.as_bytes())?;
-    text.extend_from_slice(b":\n")?;
+    push_place(&mut text, name, number)?;
     text.extend_from_slice(listing.as_slice())?;
     Ok(Bytes::from_vec(text))
+}
+
+/// Appends the name of a file and the number of a line, each with a colon, and a line feed.
+fn push_place(text: &mut Vec<u8>, name: &str, number: u64) -> Result<(), AllocError>
+    ensures { OnOk result (text.new.items ≡ text.old.items ++ place_part name.now number) }
+{
+    push_escaped(text, name.as_bytes())?;
+    text.push(b':')?;
+    push_number(number, text)?;
+    text.extend_from_slice(b":\n")
 }
 
 /// What stands after the kind: a mark of certificates.
@@ -143,17 +150,25 @@ fn list_line(
         text ≡ list_line key.now.bits print.now comment.now
         (short_name_of key.now.kind ++ mark.now)) }
 {
-    let bits = key.bits().to_string(alloc)?;
-    let mut text = Vec::from_slice(alloc, bits.as_bytes())?;
+    let mut text = Vec::new(alloc);
+    push_number(u64::from(key.bits()), &mut text)?;
     text.push(b' ')?;
     text.extend_from_slice(print)?;
     text.push(b' ')?;
     push_comment(&mut text, comment)?;
+    push_kind(&mut text, key, mark)?;
+    Ok(Bytes::from_vec(text))
+}
+
+/// Appends the kind of a key and a mark, in parentheses, and a line feed.
+fn push_kind(text: &mut Vec<u8>, key: &PublicKey, mark: &[u8]) -> Result<(), AllocError>
+    ensures { OnOk result (text.new.items ≡ text.old.items
+        ++ kind_part (short_name_of key.now.kind ++ mark.now)) }
+{
     text.extend_from_slice(b" (")?;
     text.extend_from_slice(key.short_name().as_bytes())?;
     text.extend_from_slice(mark)?;
-    text.extend_from_slice(b")\n")?;
-    Ok(Bytes::from_vec(text))
+    text.extend_from_slice(b")\n")
 }
 
 fn push_comment(text: &mut Vec<u8>, comment: &[u8]) -> Result<(), AllocError>

@@ -1,9 +1,9 @@
 // Asking a list about the keys of files (ssh-keygen(1), KEY REVOCATION LISTS).
 
-ghost use Rattle.std.specs.Prelude.{◌≡◌, ◌++◌, ℕ, Bool, IfOk, List, Result, OnOk, Some, false, true};
+ghost use Rattle.std.specs.Prelude.{◌≡◌, ◌++◌, ℕ, Bool, IfOk, List, Ok, Result, OnOk, Some, false, true};
 ghost use Rattle.krl_core.specs.declared.krl_fault.KrlFault.{KrlFault as FaultOf};
 ghost use Rattle.krl_runs.specs.Carries.{Carries};
-ghost use Rattle.krl_runs.specs.Contents.{Known};
+ghost use Rattle.krl_runs.specs.Contents.{Known, known_of};
 ghost use Rattle.krl_runs.specs.Done.{Ends};
 ghost use Rattle.krl_runs.specs.Query.{IsRead, ask, comment_part, krl_cause, query_line, query_run_of, verdict};
 
@@ -18,7 +18,7 @@ use crate::output::printer::Printer;
 use crate::output::run_fault::RunFault;
 use crate::runs::contents::print_contents;
 use krl_core::laws::revokes_what_is_meant;
-use krl_core::{KrlFault, Revocations, read_krl};
+use krl_core::{Header, KrlFault, Revocations, read_krl};
 use serial_set::Held;
 use ssh_cert::{Subject, push_escaped};
 use ssh_key::{Line, PublicKey};
@@ -128,12 +128,27 @@ fn ask_list<'a, R: Source + Drop, W: Sink>(
 {
     revokes_what_is_meant();
     match read_krl::<Held, R>(alloc, krl) {
-        Ok((header, list)) => {
-            print_contents(alloc, krl_name, dump, &header, &list, printer)?;
-            print_files(alloc, &Query { list: &list }, files, printer)
-        }
+        Ok((header, list)) => ask_held(alloc, krl_name, &header, &list, dump, files, printer),
         Err(fault) => Err(RunFault::whole(krl_name, cause_of(fault))),
     }
+}
+
+/// Prints the contents of a list where `dump` is true, and asks it about each key of each file.
+fn ask_held<'a, W: Sink>(
+    alloc: Global,
+    krl_name: &'a str,
+    header: &Header,
+    list: &Revocations<Held>,
+    dump: bool,
+    files: &'a [Named<'a>],
+    printer: &mut Printer<W>,
+) -> Result<(), RunFault<'a>>
+    requires { printer.old.failed ≡ false }
+    ensures { Carries (query_run_of krl_name.now (Ok (known_of header.now list.now)) dump files.now)
+        result printer.old printer.new }
+{
+    print_contents(alloc, krl_name, dump, header, list, printer)?;
+    print_files(alloc, &Query { list }, files, printer)
 }
 
 /// Where memory runs out, it is for the run itself.

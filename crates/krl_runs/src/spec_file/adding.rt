@@ -2,7 +2,7 @@
 
 ghost use Rattle.std.specs.Prelude.{◌≡◌, ◌+◌, ◌<◌, length, MatchResult, None, Some, Ok};
 ghost use Rattle.ssh_key.specs.FingerprintReading.{fingerprint_at};
-ghost use Rattle.ssh_cert.specs.Subject.{Names, Subject};
+ghost use Rattle.ssh_cert.specs.Subject.{Subject};
 ghost use Rattle.krl_core.specs.Authority.{IsAuthority, authority_bytes};
 ghost use Rattle.krl_core.specs.Entry.{KeyEntry, Sha256Entry};
 ghost use Rattle.krl_runs.specs.SpecAdding.{Adds, AddsLine};

@@ -1,6 +1,6 @@
 // Keys, certificates and fingerprints that lines of specification files name.
 
-ghost use Rattle.std.specs.Prelude.{◌≡◌, ◌+◌, ◌*◌, ◌≤◌, IfOk, length};
+ghost use Rattle.std.specs.Prelude.{◌+◌, ◌*◌, ◌≤◌, IfOk, length};
 ghost use Rattle.ssh_key.specs.FingerprintReading.{fingerprint_at};
 ghost use Rattle.ssh_key.specs.LineReading.{content_of, line_at};
 ghost use Rattle.ssh_cert.specs.Subject.{Subject};

@@ -1,85 +1,88 @@
 // Asking lists about the keys of files.
 
 use crate::tests::bytes::{GITHUB, HEADER, ONE_KEY, joined, list_of_one};
-use crate::tests::runs::{File, GITHUB_LINE, OTHER_LINE, asked};
-use std::test::*;
+use crate::tests::runs::{CLOSED, File, KEY, OTHER_LINE, Said, asks};
+use std::alloc::{AllocError, Global};
+use std::process::Abort;
+use std::test::Fail;
 
-const FILE: File = ("g.pub", Some(&[GITHUB_LINE, b"\n"]));
-
-const OTHER: File = ("a", Some(&[OTHER_LINE, b" x y\n"]));
-
-const CLOSED: File = ("none", None);
-
-/// The parts of a list, the files, and the answer: the output, the status and the fault line.
-type Row<'a> = (&'a [&'a [u8]], &'a [File<'a>], &'a str, u8, &'a str);
+const OTHER: File<'static> = ("a", Some(&[OTHER_LINE, b" x y\n"]));
 
 const ONE: &[&[u8]] = &[&HEADER, &ONE_KEY, &GITHUB];
 
-const ROWS: [Row<'static>; 15] = [
-    (&[&HEADER], &[FILE], "g.pub: ok\n", 0, ""),
-    (ONE, &[FILE], "g.pub: REVOKED\n", 1, ""),
-    (ONE, &[OTHER], "a (x y): ok\n", 0, ""),
-    (ONE, &[FILE, OTHER], "g.pub: REVOKED\na (x y): ok\n", 1, ""),
-    (ONE, &[OTHER, FILE], "a (x y): ok\ng.pub: REVOKED\n", 1, ""),
-    (ONE, &[], "", 0, ""),
-    (
-        ONE,
-        &[FILE, CLOSED],
-        "g.pub: REVOKED\n",
-        255,
-        "ssh-keygen: none: file 1 Open",
-    ),
-    (
-        ONE,
-        &[OTHER, CLOSED, FILE],
-        "a (x y): ok\n",
-        255,
-        "ssh-keygen: none: file 1 Open",
-    ),
-    (
-        &[],
-        &[CLOSED],
-        "",
-        255,
-        "ssh-keygen: r.krl: krl 3 EndsEarly",
-    ),
-    (
-        &[b"\0\0\0"],
-        &[FILE],
-        "",
-        255,
-        "ssh-keygen: r.krl: krl 3 EndsEarly",
-    ),
-    (
-        &[b"\x54SHKRL\n\0\0\0\0\x01"],
-        &[FILE],
-        "",
-        255,
-        "ssh-keygen: r.krl: krl 1 Magic",
-    ),
-    (
-        &[&HEADER, b"\x99"],
-        &[FILE],
-        "",
-        255,
-        "ssh-keygen: r.krl: krl 4 UnknownSection",
-    ),
-    // a serial under all authorities, a critical extension, and a range that ends before it begins
+/// The list of these parts is asked about the files, and this is said.
+fn tells(
+    rt: &impl Abort,
+    alloc: Global,
+    number: usize,
+    parts: &[&[u8]],
+    files: &[File],
+    said: Said,
+) -> Result<(), AllocError> {
+    let list = joined(alloc, parts)?;
+    asks(rt, alloc, number, &list, files, said)
+}
+
+/// The parts of a list, the files, the output and the status.
+type Told<'a> = (&'a [&'a [u8]], &'a [File<'a>], &'a [u8], u8);
+
+const TOLD: [Told<'static>; 7] = [
+    (&[&HEADER], &[KEY], b"g.pub: ok\n", 0),
+    (ONE, &[KEY], b"g.pub: REVOKED\n", 1),
+    (ONE, &[OTHER], b"a (x y): ok\n", 0),
+    (ONE, &[KEY, OTHER], b"g.pub: REVOKED\na (x y): ok\n", 1),
+    (ONE, &[OTHER, KEY], b"a (x y): ok\ng.pub: REVOKED\n", 1),
+    (ONE, &[], b"", 0),
+    // a serial under all authorities
     (
         &[
             &HEADER,
             b"\x01\0\0\0\x15\0\0\0\0\0\0\0\0\x20\0\0\0\x08\0\0\0\0\0\0\0\x07",
         ],
-        &[FILE],
-        "g.pub: ok\n",
+        &[KEY],
+        b"g.pub: ok\n",
         0,
-        "",
+    ),
+];
+
+// A body that is always out of memory meets the contracts. It fails here.
+#[test]
+fn told_of_each_key(rt: HostRuntime) -> Result<(), Fail> {
+    for (i, (parts, files, text, status)) in TOLD.iter().enumerate() {
+        tells(&rt, rt.alloc(), i, *parts, *files, (*text, *status, ""))?;
+    }
+    Ok(())
+}
+
+const NONE: &str = "ssh-keygen: none: file 1 Open";
+
+const EARLY: &str = "ssh-keygen: r.krl: krl 3 EndsEarly";
+
+/// The parts of a list, the files, the output and the fault.
+type Stopped<'a> = (&'a [&'a [u8]], &'a [File<'a>], &'a [u8], &'a str);
+
+const STOPPED: [Stopped<'static>; 8] = [
+    (ONE, &[KEY, CLOSED], b"g.pub: REVOKED\n", NONE),
+    (ONE, &[OTHER, CLOSED, KEY], b"a (x y): ok\n", NONE),
+    (&[], &[CLOSED], b"", EARLY),
+    (&[b"\0\0\0"], &[KEY], b"", EARLY),
+    (
+        &[b"\x54SHKRL\n\0\0\0\0\x01"],
+        &[KEY],
+        b"",
+        "ssh-keygen: r.krl: krl 1 Magic",
     ),
     (
+        &[&HEADER, b"\x99"],
+        &[KEY],
+        b"",
+        "ssh-keygen: r.krl: krl 4 UnknownSection",
+    ),
+    // a critical extension, and a range that ends before it begins
+    (
         &[&HEADER, b"\xff\0\0\0\x0a\0\0\0\x01a\x01\0\0\0\0"],
-        &[FILE],
-        "",
-        255,
+        &[KEY],
+        b"",
         "ssh-keygen: r.krl: krl 15 CriticalExtension",
     ),
     (
@@ -88,41 +91,36 @@ const ROWS: [Row<'static>; 15] = [
             b"\x01\0\0\0\x1d\0\0\0\0\0\0\0\0\x21\0\0\0\x10",
             b"\0\0\0\0\0\0\0\x02\0\0\0\0\0\0\0\x01",
         ],
-        &[FILE],
-        "",
-        255,
+        &[KEY],
+        b"",
         "ssh-keygen: r.krl: krl 7 RangeReversed",
     ),
 ];
 
-// A body that is always out of memory meets the contracts. It fails here.
 #[test]
-fn lists_and_files(rt: HostRuntime) -> Result<(), Fail> {
-    for (i, (list, files, text, status, fault)) in ROWS.iter().enumerate() {
-        let list = joined(rt.alloc(), *list)?;
-        let ran = asked(rt.alloc(), &list, *files)?;
-        assert_eq!(rt; ran.text.as_slice(), text.as_bytes(), "in row {i}");
-        assert_eq!(rt; ran.status, *status, "in row {i}");
-        assert_eq!(rt; ran.fault.as_slice(), fault.as_bytes(), "in row {i}");
+fn stopped_at_a_fault(rt: HostRuntime) -> Result<(), Fail> {
+    for (i, (parts, files, text, fault)) in STOPPED.iter().enumerate() {
+        tells(&rt, rt.alloc(), i, *parts, *files, (*text, 255, *fault))?;
     }
     Ok(())
+}
+
+/// What is said of the key by so many bytes of the list that names it.
+fn said_by_front(size: usize) -> Said<'static> {
+    match size {
+        44 => (b"g.pub: ok\n", 0, ""),
+        104 => (b"g.pub: REVOKED\n", 1, ""),
+        _ => (b"", 255, EARLY),
+    }
 }
 
 #[test]
 fn each_front_of_a_list(rt: HostRuntime) -> Result<(), Fail> {
     let list = list_of_one(rt.alloc(), &GITHUB)?;
-    assert_eq!(rt; list.len(), 104);
+    assert!(rt; list.len() == 104);
     for n in 0..105 {
         let front = list.get(..n).ok_or("the list has 104 bytes")?;
-        let ran = asked(rt.alloc(), front, &[FILE])?;
-        let (text, status, fault) = match n {
-            44 => ("g.pub: ok\n", 0, ""),
-            104 => ("g.pub: REVOKED\n", 1, ""),
-            _ => ("", 255, "ssh-keygen: r.krl: krl 3 EndsEarly"),
-        };
-        assert_eq!(rt; ran.text.as_slice(), text.as_bytes(), "at {n}");
-        assert_eq!(rt; ran.status, status, "at {n}");
-        assert_eq!(rt; ran.fault.as_slice(), fault.as_bytes(), "at {n}");
+        asks(&rt, rt.alloc(), n, front, &[KEY], said_by_front(n))?;
     }
     Ok(())
 }

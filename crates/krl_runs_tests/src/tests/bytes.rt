@@ -1,6 +1,7 @@
 // Lists and keys for the tests, built from their parts.
 
 use std::alloc::{AllocError, Global};
+use std::process::Abort;
 
 /// The header of an empty list: version 1, date 0, no flags, no reserved string, no comment.
 pub const HEADER: [u8; 44] = [
@@ -17,6 +18,21 @@ pub const GITHUB: [u8; 51] = [
 
 /// What stands before the blob of a section with one key of 51 bytes.
 pub const ONE_KEY: [u8; 9] = [2, 0, 0, 0, 0x37, 0, 0, 0, 0x33];
+
+/// The section of serial 5 of all authorities.
+pub const FIVE: &[u8] = b"\x01\0\0\0\x15\0\0\0\0\0\0\0\0\x20\0\0\0\x08\0\0\0\0\0\0\0\x05";
+
+/// The section of the key ID `a` of all authorities.
+pub const ID_A: &[u8] = b"\x01\0\0\0\x12\0\0\0\0\0\0\0\0\x23\0\0\0\x05\0\0\0\x01a";
+
+/// The section of the SHA-256 of the published key.
+pub const SHA256: &[u8] = b"\x05\0\0\0\x24\0\0\0\x20\xf8\x38\x98\xdf\x0b\xef\x57\xa4\xee\x24\
+    \x98\x5b\xa5\x98\xac\x17\xfc\xcb\x0c\x0d\x33\x3c\xc4\xaf\x1d\xd9\x2b\xe1\x4b\xc2\x3a\xa5";
+
+/// The bytes that were found are these; a number tells the case from the others of a test.
+pub fn same(rt: &impl Abort, number: usize, found: &[u8], wanted: &[u8]) {
+    assert_eq!(rt; found, wanted, "in case {number}");
+}
 
 /// The parts one after the other.
 pub fn joined(alloc: Global, parts: &[&[u8]]) -> Result<Vec<u8>, AllocError> {
@@ -37,17 +53,37 @@ pub fn repeated(alloc: Global, parts: &[&[u8]], times: usize) -> Result<Vec<u8>,
     Ok(all)
 }
 
+/// The list of version 1 with these sections.
+pub fn list_of(alloc: Global, sections: &[&[u8]]) -> Result<Vec<u8>, AllocError> {
+    let sections = joined(alloc, sections)?;
+    joined(alloc, &[&HEADER, &sections])
+}
+
 /// The list that names one key.
 pub fn list_of_one(alloc: Global, blob: &[u8]) -> Result<Vec<u8>, AllocError> {
-    joined(alloc, &[HEADER.as_slice(), ONE_KEY.as_slice(), blob])
+    joined(alloc, &[&HEADER, &ONE_KEY, blob])
+}
+
+/// The section of the key ID `a` of the authority of an Ed25519 key.
+pub fn id_under(alloc: Global, authority: &[u8]) -> Result<Vec<u8>, AllocError> {
+    let id = b"\0\0\0\0\x23\0\0\0\x05\0\0\0\x01a";
+    joined(alloc, &[b"\x01\0\0\0\x45\0\0\0\x33", authority, id])
+}
+
+/// The section of a serial of the authority of an Ed25519 key.
+pub fn serial_under(alloc: Global, authority: &[u8], serial: u64) -> Result<Vec<u8>, AllocError> {
+    let list = b"\0\0\0\0\x20\0\0\0\x08";
+    let number = serial.to_be_bytes();
+    joined(
+        alloc,
+        &[b"\x01\0\0\0\x48\0\0\0\x33", authority, list, &number],
+    )
 }
 
 /// An Ed25519 blob whose last 32 bytes are all the same.
 pub fn even_key(alloc: Global, byte: u8) -> Result<Vec<u8>, AllocError> {
-    let mut blob = Vec::new(alloc);
-    for (place, old) in GITHUB.iter().enumerate() {
-        blob.push(if place < 19 { *old } else { byte })?;
-    }
+    let mut blob = Vec::from_slice(alloc, b"\0\0\0\x0bssh-ed25519\0\0\0\x20")?;
+    blob.extend_from_slice(&[byte; 32])?;
     Ok(blob)
 }
 

@@ -1,22 +1,14 @@
 // Printing what lists hold.
 
-use crate::tests::bytes::{GITHUB, HEADER, ONE_KEY, joined};
-use crate::tests::devices::Taker;
-use crate::tests::runs::{File, GITHUB_LINE, dumped, told};
-use krl_runs::query_run;
-use ssh_wire::{FromRead, ToWrite};
+use crate::tests::bytes::{FIVE, GITHUB, HEADER, ONE_KEY, joined, list_of};
+use crate::tests::devices::{Taker, asked_over};
+use crate::tests::runs::{CLOSED, KEY, Ran, dumps, says};
 use std::alloc::{AllocError, Global};
-use std::test::*;
-
-const FILE: File = ("g.pub", Some(&[GITHUB_LINE, b"\n"]));
-
-const CLOSED: File = ("none", None);
+use std::process::Abort;
+use std::test::Fail;
 
 /// The lines of the header of version 1 and date 0.
-const HEAD: &str = "# KRL version 1\n# Generated at 1970-01-01T00:00:00Z\n";
-
-/// Serial 5 of all authorities.
-const FIVE: &[u8] = b"\x01\0\0\0\x15\0\0\0\0\0\0\0\0\x20\0\0\0\x08\0\0\0\0\0\0\0\x05";
+const HEAD: &[u8] = b"# KRL version 1\n# Generated at 1970-01-01T00:00:00Z\n";
 
 /// The serials from 0 to 3 of all authorities.
 const RANGE: &[u8] =
@@ -39,146 +31,152 @@ const SHA1: &[u8] = b"\x03\0\0\0\x18\0\0\0\x140123456789jklmnoXYZ~";
 const SHA256: &[u8] = b"\x05\0\0\0\x24\0\0\0\x200123456789abcdefghijklmnopqrstu~";
 
 /// The parts of a list after its header, and the lines after those of the header.
-type Row<'a> = (&'a [&'a [u8]], &'a str);
+type Row<'a> = (&'a [&'a [u8]], &'a [u8]);
 
 const ROWS: [Row<'static>; 9] = [
-    (&[], ""),
-    (&[FIVE], "# CA all\nserial: 5\n"),
-    (&[RANGE], "# CA all\nserial: 1-3\n"),
+    (&[], b""),
+    (&[FIVE], b"# CA all\nserial: 5\n"),
+    (&[RANGE], b"# CA all\nserial: 1-3\n"),
     (
         &[BITS],
-        "# CA SHA256:LXEWQrcmsEQBYnyp+6wy9chTD7GQPMTbAiWHF5IaSIE\n\
-         serial: 1\nserial: 3\nserial: 5\nserial: 7\n",
+        b"# CA SHA256:LXEWQrcmsEQBYnyp+6wy9chTD7GQPMTbAiWHF5IaSIE\n\
+          serial: 1\nserial: 3\nserial: 5\nserial: 7\n",
     ),
-    (&[IDS], "# CA all\nid: \nid: b\\x1b\n"),
-    (&[KEYS], "key: \nkey: AQ==\nkey: AQI=\nkey: AQID\n"),
-    (&[SHA1], "sha1: 303132333435363738396a6b6c6d6e6f58595a7e\n"),
+    (&[IDS], b"# CA all\nid: \nid: b\\x1b\n"),
+    (&[KEYS], b"key: \nkey: AQ==\nkey: AQI=\nkey: AQID\n"),
+    (&[SHA1], b"sha1: 303132333435363738396a6b6c6d6e6f58595a7e\n"),
     (
         &[SHA256],
-        "hash: SHA256:MDEyMzQ1Njc4OWFiY2RlZmdoaWprbG1ub3BxcnN0dX4\n",
+        b"hash: SHA256:MDEyMzQ1Njc4OWFiY2RlZmdoaWprbG1ub3BxcnN0dX4\n",
     ),
     (
         &[SHA256, SHA1, BITS, IDS, RANGE, FIVE],
-        "# CA all\nserial: 1-3\nserial: 5\nid: \nid: b\\x1b\n\
-         # CA SHA256:LXEWQrcmsEQBYnyp+6wy9chTD7GQPMTbAiWHF5IaSIE\n\
-         serial: 1\nserial: 3\nserial: 5\nserial: 7\n\
-         sha1: 303132333435363738396a6b6c6d6e6f58595a7e\n\
-         hash: SHA256:MDEyMzQ1Njc4OWFiY2RlZmdoaWprbG1ub3BxcnN0dX4\n",
+        b"# CA all\nserial: 1-3\nserial: 5\nid: \nid: b\\x1b\n\
+          # CA SHA256:LXEWQrcmsEQBYnyp+6wy9chTD7GQPMTbAiWHF5IaSIE\n\
+          serial: 1\nserial: 3\nserial: 5\nserial: 7\n\
+          sha1: 303132333435363738396a6b6c6d6e6f58595a7e\n\
+          hash: SHA256:MDEyMzQ1Njc4OWFiY2RlZmdoaWprbG1ub3BxcnN0dX4\n",
     ),
 ];
 
+/// The list of these sections is printed in these lines, after those of its header.
+fn prints(
+    rt: &impl Abort,
+    alloc: Global,
+    number: usize,
+    sections: &[&[u8]],
+    lines: &[u8],
+) -> Result<(), AllocError> {
+    let list = list_of(alloc, sections)?;
+    let text = joined(alloc, &[HEAD, lines])?;
+    dumps(rt, alloc, number, &list, &[], (&text, 0, ""))
+}
+
 #[test]
 fn each_kind_of_line(rt: HostRuntime) -> Result<(), Fail> {
-    for (i, (parts, lines)) in ROWS.iter().enumerate() {
-        let mut list = Vec::from_slice(rt.alloc(), &HEADER)?;
-        for part in *parts {
-            list.extend_from_slice(*part)?;
-        }
-        let ran = dumped(rt.alloc(), &list, &[])?;
-        let text = format!(in rt.alloc(); "{HEAD}{lines}")?;
-        assert_eq!(rt; ran.text.as_slice(), text.as_bytes(), "in row {i}");
-        assert_eq!(rt; ran.status, 0, "in row {i}");
-        assert_eq!(rt; ran.fault.as_slice(), b"".as_slice(), "in row {i}");
+    for (i, (sections, lines)) in ROWS.iter().enumerate() {
+        prints(&rt, rt.alloc(), i, *sections, *lines)?;
     }
     Ok(())
 }
 
-/// A list's header, by its version, its date and its comment with the comment's length.
-fn header(parts: [&[u8]; 3]) -> [&[u8]; 5] {
-    let [version, date, comment] = parts;
-    [
-        &HEADER[..12],
-        version,
-        date,
-        b"\0\0\0\0\0\0\0\0\0\0\0\0",
-        comment,
-    ]
+/// The list of this version, this date, and this comment with its length, is printed so.
+fn prints_header(
+    rt: &impl Abort,
+    alloc: Global,
+    number: usize,
+    header: [&[u8]; 3],
+    text: &[u8],
+) -> Result<(), AllocError> {
+    let [version, date, comment] = header;
+    let mut list = joined(alloc, &[&HEADER[..12], version, date])?;
+    list.extend_from_slice(b"\0\0\0\0\0\0\0\0\0\0\0\0")?;
+    list.extend_from_slice(comment)?;
+    dumps(rt, alloc, number, &list, &[], (text, 0, ""))
 }
+
+const LEAST: &[u8] = b"\0\0\0\0\0\0\0\0";
+
+const MOST: &[u8] = b"\xff\xff\xff\xff\xff\xff\xff\xff";
+
+const LEAP_DAY: &[u8] = b"\0\0\0\0\x38\xbb\x0c\0";
+
+/// A version, a date, and a comment with its length, and the lines of the header.
+const HEADERS: [([&[u8]; 3], &[u8]); 4] = [
+    (
+        [LEAST, LEAST, b"\0\0\0\0"],
+        b"# KRL version 0\n# Generated at 1970-01-01T00:00:00Z\n",
+    ),
+    (
+        [MOST, LEAP_DAY, b"\0\0\0\x01 "],
+        b"# KRL version 18446744073709551615\n# Generated at 2000-02-29T00:00:00Z\n\
+          # Comment:  \n",
+    ),
+    (
+        [
+            LEAP_DAY,
+            b"\0\0\0\x3a\xfe\x13\x0e\0",
+            b"\0\0\0\x04a\x1b\n\x7f",
+        ],
+        b"# KRL version 951782400\n# Generated at @253370764800\n\
+          # Comment: a\\x1b\\x0a\\x7f\n",
+    ),
+    (
+        [LEAST, b"\0\0\0\x3a\xfe\x13\x0d\xff", b"\0\0\0\x02\xc3\xbc"],
+        b"# KRL version 0\n# Generated at 9998-12-31T23:59:59Z\n# Comment: \xc3\xbc\n",
+    ),
+];
 
 #[test]
 fn headers(rt: HostRuntime) -> Result<(), Fail> {
-    let least = b"\0\0\0\0\0\0\0\0".as_slice();
-    let most = b"\xff\xff\xff\xff\xff\xff\xff\xff".as_slice();
-    let leap_day = b"\0\0\0\0\x38\xbb\x0c\0".as_slice();
-    let rows: [([&[u8]; 3], &str); 4] = [
-        (
-            [least, least, b"\0\0\0\0"],
-            "# KRL version 0\n# Generated at 1970-01-01T00:00:00Z\n",
-        ),
-        (
-            [most, leap_day, b"\0\0\0\x01 "],
-            "# KRL version 18446744073709551615\n# Generated at 2000-02-29T00:00:00Z\n\
-             # Comment:  \n",
-        ),
-        (
-            [
-                leap_day,
-                b"\0\0\0\x3a\xfe\x13\x0e\0",
-                b"\0\0\0\x04a\x1b\n\x7f",
-            ],
-            "# KRL version 951782400\n# Generated at @253370764800\n\
-             # Comment: a\\x1b\\x0a\\x7f\n",
-        ),
-        (
-            [least, b"\0\0\0\x3a\xfe\x13\x0d\xff", b"\0\0\0\x02\xc3\xbc"],
-            "# KRL version 0\n# Generated at 9998-12-31T23:59:59Z\n# Comment: \u{fc}\n",
-        ),
-    ];
-    for (parts, text) in rows {
-        let list = joined(rt.alloc(), &header(parts))?;
-        let ran = dumped(rt.alloc(), &list, &[])?;
-        assert_eq!(rt; ran.text.as_slice(), text.as_bytes());
-        assert_eq!(rt; ran.status, 0);
+    for (i, (header, text)) in HEADERS.iter().enumerate() {
+        prints_header(&rt, rt.alloc(), i, *header, *text)?;
     }
     Ok(())
 }
 
 #[test]
 fn the_files_follow(rt: HostRuntime) -> Result<(), Fail> {
-    let list = joined(rt.alloc(), &[&HEADER, FIVE, &ONE_KEY, &GITHUB])?;
-    let ran = dumped(rt.alloc(), &list, &[FILE, CLOSED])?;
-    let key = "key: AAAAC3NzaC1lZDI1NTE5AAAAIOMqqnkVzrm0SdG6UOoqKLsabgH5C9okWi0dh2l9GKJl";
-    let text = format!(in rt.alloc(); "{HEAD}# CA all\nserial: 5\n{key}\ng.pub: REVOKED\n")?;
-    assert_eq!(rt; ran.text.as_slice(), text.as_bytes());
-    assert_eq!(rt; ran.status, 255);
+    let alloc = rt.alloc();
+    let list = list_of(alloc, &[FIVE, &ONE_KEY, &GITHUB])?;
+    let lines = b"# CA all\nserial: 5\n\
+        key: AAAAC3NzaC1lZDI1NTE5AAAAIOMqqnkVzrm0SdG6UOoqKLsabgH5C9okWi0dh2l9GKJl\n\
+        g.pub: REVOKED\n";
+    let text = joined(alloc, &[HEAD, lines])?;
     let fault = "ssh-keygen: none: file 1 Open";
-    assert_eq!(rt; ran.fault.as_slice(), fault.as_bytes());
-    let ran = dumped(rt.alloc(), &list, &[FILE])?;
-    assert_eq!(rt; ran.text.as_slice(), text.as_bytes());
-    assert_eq!(rt; ran.status, 1);
+    dumps(&rt, alloc, 0, &list, &[KEY, CLOSED], (&text, 255, fault))?;
+    dumps(&rt, alloc, 1, &list, &[KEY], (&text, 1, ""))?;
     Ok(())
 }
 
 #[test]
 fn a_fault_comes_before_the_contents(rt: HostRuntime) -> Result<(), Fail> {
-    let list = joined(rt.alloc(), &[&HEADER, FIVE, b"\x99"])?;
-    let ran = dumped(rt.alloc(), &list, &[])?;
-    assert_eq!(rt; ran.text.as_slice(), b"".as_slice());
-    assert_eq!(rt; ran.status, 255);
+    let list = list_of(rt.alloc(), &[FIVE, b"\x99"])?;
     let fault = "ssh-keygen: r.krl: krl 4 UnknownSection";
-    assert_eq!(rt; ran.fault.as_slice(), fault.as_bytes());
+    dumps(&rt, rt.alloc(), 0, &list, &[], (b"", 255, fault))?;
     Ok(())
+}
+
+/// Prints a list of one serial, where each call takes seven bytes until one fails.
+fn printed_in_part(alloc: Global, calls: usize) -> Result<Ran, AllocError> {
+    let list = list_of(alloc, &[FIVE])?;
+    let device = Taker::new(alloc, 7, calls);
+    asked_over(alloc, &list, true, &[], device)
+}
+
+/// The fault of an output that has taken so many bytes.
+fn write_fault(alloc: Global, count: usize) -> Result<String, AllocError> {
+    format!(in alloc; "ssh-keygen: output: output 1 Write after {count} bytes")
 }
 
 #[test]
 fn the_output_fails_within_the_contents(rt: HostRuntime) -> Result<(), Fail> {
-    let list = joined(rt.alloc(), &[&HEADER, FIVE])?;
-    let text = format!(in rt.alloc(); "{HEAD}# CA all\nserial: 5\n")?;
+    let text = joined(rt.alloc(), &[HEAD, b"# CA all\nserial: 5\n"])?;
     for calls in 0..11 {
-        let mut device = Taker::new(rt.alloc(), 7, calls);
-        let mut out = ToWrite::new(&mut device);
-        let krl = FromRead::new(list.as_slice());
-        let done = query_run(rt.alloc(), "r.krl", krl, true, &[], &mut out);
-        drop(out);
-        let ran = told(rt.alloc(), device.taken, &done)?;
-        assert!(rt; text.as_bytes().starts_with(&ran.text), "at {calls}");
-        assert_eq!(rt; ran.text.len(), calls * 7, "at {calls}");
-        assert_eq!(rt; ran.status, 255, "at {calls}");
-        let count = calls * 7;
-        let line = format!(in rt.alloc();
-            "ssh-keygen: output: output 1 Write after {count} bytes"
-        )?;
-        assert_eq!(rt; ran.fault.as_slice(), line.as_bytes(), "at {calls}");
+        let taken = text.get(..calls * 7).ok_or("the text is longer")?;
+        let fault = write_fault(rt.alloc(), calls * 7)?;
+        let ran = printed_in_part(rt.alloc(), calls)?;
+        says(&rt, calls, &ran, (taken, 255, fault.as_str()));
     }
     Ok(())
 }
@@ -193,15 +191,20 @@ fn odd_serials(alloc: Global) -> Result<Vec<u8>, AllocError> {
     Ok(list)
 }
 
+/// The lines of that list.
+fn odd_lines(alloc: Global) -> Result<Vec<u8>, AllocError> {
+    let mut text = joined(alloc, &[HEAD, b"# CA all\n"])?;
+    for i in 0..5_000u64 {
+        let line = format!(in alloc; "serial: {}\n", 2 * i + 1)?;
+        text.extend_from_slice(line.as_bytes())?;
+    }
+    Ok(text)
+}
+
 #[test]
 fn many_lines(rt: HostRuntime) -> Result<(), Fail> {
     let list = odd_serials(rt.alloc())?;
-    let mut text = format!(in rt.alloc(); "{HEAD}# CA all\n")?;
-    for i in 0..5_000u64 {
-        writeln!(text, "serial: {}", 2 * i + 1)?;
-    }
-    let ran = dumped(rt.alloc(), &list, &[])?;
-    assert!(rt; ran.text.as_slice() == text.as_bytes());
-    assert_eq!(rt; ran.status, 0);
+    let text = odd_lines(rt.alloc())?;
+    dumps(&rt, rt.alloc(), 0, &list, &[], (&text, 0, ""))?;
     Ok(())
 }

@@ -1,13 +1,14 @@
 // Files and outputs that give or take few bytes at a call, and fail.
 
 use crate::tests::bytes::{GITHUB, filled, list_of_one};
-use crate::tests::runs::{GITHUB_LINE, named, told};
-use krl_runs::{FileFault, ListMode, list_run, load, query_run};
+use crate::tests::runs::{CLOSED, File, GITHUB_LINE, Ran, Said, all_named, named, says, told};
+use krl_runs::{FileFault, ListMode, Named, list_run, load, query_run};
 use ssh_key::Hash;
 use ssh_wire::{Bytes, FromRead, ToWrite};
-use std::alloc::Global;
+use std::alloc::{AllocError, Global};
 use std::io::{self, ErrorKind, Read, Write};
-use std::test::*;
+use std::process::Abort;
+use std::test::Fail;
 
 /// Gives bytes, at most so many at a call, and fails from the call on that is to fail.
 #[derive(Drop)]
@@ -64,151 +65,217 @@ impl Write for Taker {
     }
 }
 
-/// Whether a loaded file has these bytes.
-fn holds(content: &Result<Bytes, FileFault>, bytes: &[u8]) -> bool {
-    match content {
+/// Asks the list `r.krl` about the files, with a device as the output; what the list holds is
+/// printed before that where `dump` is true.
+pub fn asked_over<'a>(
+    alloc: Global,
+    krl: &[u8],
+    dump: bool,
+    files: &'a [Named<'a>],
+    mut device: Taker,
+) -> Result<Ran, AllocError> {
+    let mut out = ToWrite::new(&mut device);
+    let done = query_run(alloc, "r.krl", FromRead::new(krl), dump, files, &mut out);
+    drop(out);
+    told(alloc, device.taken, &done)
+}
+
+/// Asks the list that names the published key about the files, with a device as the output.
+pub fn asked_of_key(alloc: Global, files: &[File], device: Taker) -> Result<Ran, AllocError> {
+    let list = list_of_one(alloc, &GITHUB)?;
+    let files = all_named(alloc, files)?;
+    asked_over(alloc, &list, false, files.as_slice(), device)
+}
+
+/// Asks the list `r.krl` that a device gives about the files.
+fn asked_of_giver<'a>(
+    alloc: Global,
+    krl: Giver,
+    files: &'a [Named<'a>],
+) -> Result<Ran, AllocError> {
+    let mut device = Taker::new(alloc, 100, 10);
+    let mut out = ToWrite::new(&mut device);
+    let done = query_run(alloc, "r.krl", FromRead::new(krl), false, files, &mut out);
+    drop(out);
+    told(alloc, device.taken, &done)
+}
+
+/// Lists a file at the moment 0, with a device as the output.
+pub fn listed_over<'a>(
+    alloc: Global,
+    mode: ListMode,
+    file: &'a Named<'a>,
+    mut device: Taker,
+) -> Result<Ran, AllocError> {
+    let mut out = ToWrite::new(&mut device);
+    let done = list_run(alloc, mode, Hash::Sha256, file, 0, &mut out);
+    drop(out);
+    told(alloc, device.taken, &done)
+}
+
+/// What is loaded of the file `a` that a device gives.
+fn loaded<R: Read + Drop>(rt: &impl Abort, alloc: Global, device: R) -> Result<Bytes, FileFault> {
+    let (file, _) = load(alloc, "a", FromRead::new(device));
+    assert!(rt; file.name == "a");
+    file.content
+}
+
+/// Whether these bytes are loaded.
+fn loads<R: Read + Drop>(rt: &impl Abort, alloc: Global, device: R, bytes: &[u8]) -> bool {
+    match loaded(rt, alloc, device) {
         Ok(content) => content.as_slice() == bytes,
         Err(_) => false,
     }
 }
 
-#[test]
-fn loads(rt: HostRuntime) -> Result<(), Fail> {
-    // the last call gives none: it tells the end
-    for (piece, calls) in [(1, 81), (3, 28), (7, 13), (100, 2)] {
-        for calls_before_failure in 0..90 {
-            let reader = FromRead::new(Giver {
-                bytes: GITHUB_LINE,
-                piece,
-                calls_before_failure,
-            });
-            let (file, _) = load(rt.alloc(), "a", reader);
-            assert_eq!(rt; file.name, "a");
-            if calls_before_failure < calls {
-                assert!(rt;
-                    file.content.err() == Some(FileFault::Read),
-                    "{piece} {calls_before_failure}"
-                );
-            } else {
-                assert!(rt;
-                    holds(&file.content, GITHUB_LINE),
-                    "{piece} {calls_before_failure}"
-                );
-            }
-        }
+/// Whether nothing is loaded, for this fault.
+fn refuses<R: Read + Drop>(rt: &impl Abort, alloc: Global, device: R, fault: FileFault) -> bool {
+    match loaded(rt, alloc, device) {
+        Ok(_) => false,
+        Err(found) => found == fault,
     }
-    Ok(())
+}
+
+/// In pieces of so many bytes the line of the key takes so many calls, all of which are made.
+fn takes(rt: &impl Abort, alloc: Global, piece: usize, calls: usize) {
+    for calls_before_failure in 0..90 {
+        let device = Giver {
+            bytes: GITHUB_LINE,
+            piece,
+            calls_before_failure,
+        };
+        let right = if calls_before_failure < calls {
+            refuses(rt, alloc, device, FileFault::Read)
+        } else {
+            loads(rt, alloc, device, GITHUB_LINE)
+        };
+        assert!(rt; right, "{piece} {calls_before_failure}");
+    }
 }
 
 #[test]
-fn loads_up_to_the_limit(rt: HostRuntime) -> Result<(), Fail> {
-    let mut bytes = Vec::from_slice(rt.alloc(), GITHUB_LINE)?;
+fn loaded_in_pieces(rt: HostRuntime) {
+    // the last call gives none: it tells the end
+    for (piece, calls) in [(1, 81), (3, 28), (7, 13), (100, 2)] {
+        takes(&rt, rt.alloc(), piece, calls);
+    }
+}
+
+#[test]
+fn loaded_up_to_the_limit(rt: HostRuntime) -> Result<(), Fail> {
+    let alloc = rt.alloc();
+    let mut bytes = Vec::from_slice(alloc, GITHUB_LINE)?;
     filled(&mut bytes, 16_777_216)?;
-    let (file, _) = load(rt.alloc(), "a", FromRead::new(bytes.as_slice()));
-    assert!(rt; holds(&file.content, &bytes));
+    assert!(rt; loads(&rt, alloc, bytes.as_slice(), &bytes));
     bytes.push(0)?;
-    let (file, _) = load(rt.alloc(), "a", FromRead::new(bytes.as_slice()));
-    assert!(rt; file.content.err() == Some(FileFault::TooLong));
-    let (file, _) = load(rt.alloc(), "a", FromRead::new(b"".as_slice()));
-    assert!(rt; holds(&file.content, b""));
+    assert!(rt; refuses(&rt, alloc, bytes.as_slice(), FileFault::TooLong));
+    assert!(rt; loads(&rt, alloc, b"".as_slice(), b""));
     Ok(())
+}
+
+/// A file of the published key.
+const KEY: File<'static> = ("g.pub", Some(&[GITHUB_LINE]));
+
+/// Asks the list that names the key, with a zero byte at a place of it; each call gives one byte,
+/// until one fails.
+fn asked_in_part(alloc: Global, place: usize, calls: usize) -> Result<Ran, AllocError> {
+    let mut bytes = list_of_one(alloc, &GITHUB)?;
+    if let Some(byte) = bytes.get_mut(place) {
+        *byte = 0;
+    }
+    let files = all_named(alloc, &[KEY])?;
+    let krl = Giver {
+        bytes: &bytes,
+        piece: 1,
+        calls_before_failure: calls,
+    };
+    asked_of_giver(alloc, krl, files.as_slice())
 }
 
 #[test]
 fn the_list_fails(rt: HostRuntime) -> Result<(), Fail> {
-    let list = list_of_one(rt.alloc(), &GITHUB)?;
-    let file = named(rt.alloc(), &("g.pub", Some(&[GITHUB_LINE])))?;
-    let files = [file];
     let read = "ssh-keygen: r.krl: krl 13 Read";
     let magic = "ssh-keygen: r.krl: krl 1 Magic";
-    // where the first byte is another, how many calls come before the failure, what is said, the
-    // status and the fault: the last call gives no byte, since the list is at its end
-    let rows: [(usize, usize, &str, u8, &str); 6] = [
-        (200, 0, "", 255, read),
-        (200, 44, "", 255, read),
-        (200, 104, "", 255, read),
-        (200, 105, "g.pub: REVOKED\n", 1, ""),
-        (0, 7, "", 255, read),
-        (0, 8, "", 255, magic),
+    // where a byte is zero, how many calls come before the failure, and what is said: the last call
+    // gives no byte, since the list is at its end
+    let rows: [(usize, usize, Said); 6] = [
+        (200, 0, (b"", 255, read)),
+        (200, 44, (b"", 255, read)),
+        (200, 104, (b"", 255, read)),
+        (200, 105, (b"g.pub: REVOKED\n", 1, "")),
+        (0, 7, (b"", 255, read)),
+        (0, 8, (b"", 255, magic)),
     ];
-    for (place, calls_before_failure, text, status, fault) in rows {
-        let mut bytes = Vec::from_slice(rt.alloc(), &list)?;
-        if let Some(byte) = bytes.get_mut(place) {
-            *byte = 0;
-        }
-        let krl = FromRead::new(Giver {
-            bytes: &bytes,
-            piece: 1,
-            calls_before_failure,
-        });
-        let mut device = Taker::new(rt.alloc(), 100, 10);
-        let mut out = ToWrite::new(&mut device);
-        let done = query_run(rt.alloc(), "r.krl", krl, false, &files, &mut out);
-        drop(out);
-        let ran = told(rt.alloc(), device.taken, &done)?;
-        assert_eq!(rt; ran.text.as_slice(), text.as_bytes());
-        assert_eq!(rt; ran.status, status);
-        assert_eq!(rt; ran.fault.as_slice(), fault.as_bytes());
+    for (i, (place, calls, said)) in rows.iter().enumerate() {
+        let ran = asked_in_part(rt.alloc(), *place, *calls)?;
+        says(&rt, i, &ran, *said);
     }
     Ok(())
 }
+
+const NINE: &str = "ssh-keygen: output: output 1 Write after 9 bytes";
+
+const TWELVE: &str = "ssh-keygen: output: output 1 Write after 12 bytes";
+
+/// How many calls come before the failure, the files, and what is said of them.
+const SAID: [(usize, &[File<'static>], Said<'static>); 6] = [
+    (
+        0,
+        &[KEY],
+        (b"", 255, "ssh-keygen: output: output 1 Write after 0 bytes"),
+    ),
+    (3, &[KEY], (b"g.pub: RE", 255, NINE)),
+    (4, &[KEY, CLOSED], (b"g.pub: REVOK", 255, TWELVE)),
+    (4, &[KEY], (b"g.pub: REVOK", 255, TWELVE)),
+    (5, &[KEY], (b"g.pub: REVOKED\n", 1, "")),
+    (
+        5,
+        &[KEY, CLOSED],
+        (b"g.pub: REVOKED\n", 255, "ssh-keygen: none: file 1 Open"),
+    ),
+];
 
 #[test]
 fn the_output_fails(rt: HostRuntime) -> Result<(), Fail> {
-    let list = list_of_one(rt.alloc(), &GITHUB)?;
-    let full = "ssh-keygen: output: output 1 Write after ";
-    let none = "ssh-keygen: none: file 1 Open";
-    // how many calls come before the failure, whether a file that cannot be opened follows, what is
-    // taken, the status, and the fault with its count
-    let rows: [(usize, bool, &str, u8, &str, &str); 6] = [
-        (0, false, "", 255, full, "0 bytes"),
-        (3, false, "g.pub: RE", 255, full, "9 bytes"),
-        (4, true, "g.pub: REVOK", 255, full, "12 bytes"),
-        (4, false, "g.pub: REVOK", 255, full, "12 bytes"),
-        (5, false, "g.pub: REVOKED\n", 1, "", ""),
-        (5, true, "g.pub: REVOKED\n", 255, none, ""),
-    ];
-    let file = named(rt.alloc(), &("g.pub", Some(&[GITHUB_LINE])))?;
-    let closed = named(rt.alloc(), &("none", None))?;
-    let files = [file, closed];
-    for (calls, is_closed, text, status, fault, count) in rows {
-        let asked = &files[..if is_closed { 2 } else { 1 }];
-        let mut device = Taker::new(rt.alloc(), 3, calls);
-        let mut out = ToWrite::new(&mut device);
-        let krl = FromRead::new(list.as_slice());
-        let done = query_run(rt.alloc(), "r.krl", krl, false, asked, &mut out);
-        drop(out);
-        let ran = told(rt.alloc(), device.taken, &done)?;
-        assert_eq!(rt; ran.text.as_slice(), text.as_bytes(), "at {calls}");
-        assert_eq!(rt; ran.status, status, "at {calls}");
-        let line = format!(in rt.alloc(); "{fault}{count}")?;
-        assert_eq!(rt; ran.fault.as_slice(), line.as_bytes(), "at {calls}");
+    for (i, (calls, files, said)) in SAID.iter().enumerate() {
+        let device = Taker::new(rt.alloc(), 3, *calls);
+        let ran = asked_of_key(rt.alloc(), *files, device)?;
+        says(&rt, i, &ran, *said);
     }
     Ok(())
 }
 
+/// Lists the keys of a file; each call takes three bytes, until one fails.
+fn listed_in_part(alloc: Global, calls: usize, file: &File) -> Result<Ran, AllocError> {
+    let file = named(alloc, file)?;
+    let device = Taker::new(alloc, 3, calls);
+    listed_over(alloc, ListMode::Keys, &file, device)
+}
+
+/// How many calls come before the failure, the file, and what is listed of it.
+const LISTED: [(usize, File<'static>, Said<'static>); 2] = [
+    (
+        2,
+        KEY,
+        (
+            b"256 SH",
+            255,
+            "ssh-keygen: output: output 1 Write after 6 bytes",
+        ),
+    ),
+    // where nothing is to be written, nothing fails
+    (
+        0,
+        ("k", Some(&[])),
+        (b"", 255, "ssh-keygen: k: file 5 NoKeys"),
+    ),
+];
+
 #[test]
 fn the_output_of_a_listing_fails(rt: HostRuntime) -> Result<(), Fail> {
-    let file = named(rt.alloc(), &("g.pub", Some(&[GITHUB_LINE])))?;
-    let mut device = Taker::new(rt.alloc(), 3, 2);
-    let mut out = ToWrite::new(&mut device);
-    let done = list_run(rt.alloc(), ListMode::Keys, Hash::Sha256, &file, 0, &mut out);
-    drop(out);
-    let ran = told(rt.alloc(), device.taken, &done)?;
-    assert_eq!(rt; ran.text.as_slice(), b"256 SH".as_slice());
-    assert_eq!(rt; ran.status, 255);
-    let line = b"ssh-keygen: output: output 1 Write after 6 bytes".as_slice();
-    assert_eq!(rt; ran.fault.as_slice(), line);
-    // where nothing is to be written, nothing fails
-    let file = named(rt.alloc(), &("k", Some(&[])))?;
-    let mut device = Taker::new(rt.alloc(), 3, 0);
-    let mut out = ToWrite::new(&mut device);
-    let done = list_run(rt.alloc(), ListMode::Keys, Hash::Sha256, &file, 0, &mut out);
-    drop(out);
-    let ran = told(rt.alloc(), device.taken, &done)?;
-    assert_eq!(rt;
-        ran.fault.as_slice(),
-        b"ssh-keygen: k: file 5 NoKeys".as_slice()
-    );
+    for (i, (calls, file, said)) in LISTED.iter().enumerate() {
+        let ran = listed_in_part(rt.alloc(), *calls, file)?;
+        says(&rt, i, &ran, *said);
+    }
     Ok(())
 }

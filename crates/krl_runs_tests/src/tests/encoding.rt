@@ -1,50 +1,60 @@
 // The spellings that the tests write: strings and base64 (RFC 4648 section 4).
 
-use std::alloc::Global;
-use std::test::Fail;
+use crate::tests::bytes::joined;
+use std::alloc::{AllocError, Global};
 
 const DIGITS: &[u8; 64] = b"ABCDEFGHIJKLMNOPQRSTUVWXYZabcdefghijklmnopqrstuvwxyz0123456789+/";
 
-/// Strings, one after the other.
-pub fn strings(alloc: Global, list: &[&[u8]]) -> Result<Vec<u8>, Fail> {
-    let mut bytes = Vec::new(alloc);
-    for string in list {
-        let size = u32::try_from(string.len())?;
-        bytes.extend_from_slice(&size.to_be_bytes())?;
-        bytes.extend_from_slice(string)?;
+/// Strings, one after the other: four bytes of length and the bytes of each.
+pub fn strings(alloc: Global, list: &[&[u8]]) -> Result<Vec<u8>, AllocError> {
+    let mut all = Vec::new(alloc);
+    for bytes in list {
+        let [.., a, b, c, d] = bytes.len().to_be_bytes();
+        all.extend_from_slice(&[a, b, c, d])?;
+        all.extend_from_slice(*bytes)?;
     }
-    Ok(bytes)
+    Ok(all)
+}
+
+/// The digit of a number below 64.
+fn digit(number: u8) -> u8 {
+    DIGITS.get(number as usize).copied().unwrap_or(b'=')
+}
+
+/// The digits of up to three bytes, with padding for those that are missing.
+fn digits(part: &[u8]) -> [u8; 4] {
+    match part {
+        [] => [b'='; 4],
+        [a] => [digit(a / 4), digit(a % 4 * 16), b'=', b'='],
+        [a, b] => [
+            digit(a / 4),
+            digit(a % 4 * 16 + b / 16),
+            digit(b % 16 * 4),
+            b'=',
+        ],
+        [a, b, c, ..] => [
+            digit(a / 4),
+            digit(a % 4 * 16 + b / 16),
+            digit(b % 16 * 4 + c / 64),
+            digit(c % 64),
+        ],
+    }
 }
 
 /// The base64 of some bytes, with padding.
-pub fn base64(alloc: Global, bytes: &[u8]) -> Result<Vec<u8>, Fail> {
+pub fn base64(alloc: Global, bytes: &[u8]) -> Result<Vec<u8>, AllocError> {
     let mut text = Vec::new(alloc);
     for part in bytes.chunks(3) {
-        let [one, two, three] = [0, 1, 2].map(|i| part.get(i).copied().unwrap_or(0));
-        let digits = [
-            one / 4,
-            one % 4 * 16 + two / 16,
-            two % 16 * 4 + three / 64,
-            three % 64,
-        ];
-        for (i, digit) in digits.iter().enumerate() {
-            let digit = DIGITS.get(*digit as usize).copied();
-            text.push(if i > part.len() {
-                b'='
-            } else {
-                digit.unwrap_or(b'=')
-            })?;
-        }
+        text.extend_from_slice(&digits(part))?;
     }
     Ok(text)
 }
 
-/// The line of a key with these fields, of which the first is its type name.
-pub fn key_line(alloc: Global, fields: &[&[u8]]) -> Result<Vec<u8>, Fail> {
-    let word = *fields.first().ok_or("the type name comes first")?;
-    let blob = base64(alloc, &strings(alloc, fields)?)?;
-    let mut line = Vec::from_slice(alloc, word)?;
-    line.push(b' ')?;
-    line.extend_from_slice(&blob)?;
-    Ok(line)
+/// The line of a key of this type, whose blob has these strings after its type name.
+pub fn key_line(alloc: Global, word: &[u8], fields: &[&[u8]]) -> Result<Vec<u8>, AllocError> {
+    let mut blob = strings(alloc, &[word])?;
+    let fields = strings(alloc, fields)?;
+    blob.extend_from_slice(&fields)?;
+    let text = base64(alloc, &blob)?;
+    joined(alloc, &[word, b" ", &text])
 }

@@ -1,139 +1,188 @@
 // The lines that tell why a run stopped.
 
+use crate::tests::bytes::same;
 use krl_core::KrlFault;
 use krl_runs::{Cause, FileFault, RunFault, fault_text};
 use ssh_cert::{CertFault, SubjectFault};
 use ssh_key::{KeyFault, LineFault, PrivateFault};
 use ssh_wire::WireFault;
 use std::alloc::{AllocError, Global};
-use std::test::*;
+use std::process::Abort;
+use std::test::Fail;
 
-/// Whether a fault of this name, line and cause is told so, behind the name of the program.
+/// A fault is told so, behind the name of the program, and its cause has this number. Another
+/// number tells it from the others of a test.
 fn is_told(
+    rt: &impl Abort,
     alloc: Global,
-    name: &str,
-    line: Option<u64>,
-    cause: Cause,
+    place: usize,
+    fault: &RunFault,
+    number: u8,
     want: &str,
-) -> Result<bool, AllocError> {
-    let text = fault_text(alloc, &RunFault { name, line, cause })?;
-    let want = format!(in alloc; "ssh-keygen: {want}")?;
-    Ok(text.as_slice() == want.as_bytes())
+) -> Result<(), AllocError> {
+    let text = fault_text(alloc, fault)?;
+    let name = b"ssh-keygen: ".as_slice();
+    let told = text.strip_prefix(name).unwrap_or(b"no name");
+    same(rt, place, told, want.as_bytes());
+    same(rt, place, &[fault.cause.number()], &[number]);
+    Ok(())
 }
+
+const SHORT: KeyFault = KeyFault::Wire(WireFault::Short);
+
+/// A name, a line, a cause, its number, and how the three are told.
+type Row<'a> = (&'a str, Option<u64>, Cause, u8, &'a str);
+
+const ROWS: [Row<'static>; 15] = [
+    (
+        "id",
+        None,
+        Cause::Private(PrivateFault::Check),
+        6,
+        "id: private 6 Check",
+    ),
+    (
+        "r.krl",
+        None,
+        Cause::Krl(KrlFault::EndsEarly),
+        3,
+        "r.krl: krl 3 EndsEarly",
+    ),
+    (
+        "k",
+        Some(1),
+        Cause::Line(LineFault::WordDiffers),
+        3,
+        "k: line 1: line 3 WordDiffers",
+    ),
+    (
+        "k",
+        Some(1),
+        Cause::Subject(SubjectFault::Key(KeyFault::Point)),
+        1,
+        "k: line 1: subject 1 Key, key 4 Point",
+    ),
+    (
+        "k",
+        Some(u64::MAX),
+        Cause::Subject(SubjectFault::Key(SHORT)),
+        1,
+        "k: line 18446744073709551615: subject 1 Key, key 1 Wire, wire 1 Short",
+    ),
+    (
+        "a\n\x7f",
+        None,
+        Cause::NoMemory,
+        1,
+        "a\\x0a\\x7f: run 1 NoMemory",
+    ),
+    ("", None, Cause::NoMemory, 1, ": run 1 NoMemory"),
+    (
+        "output",
+        None,
+        Cause::Output { count: 0 },
+        1,
+        "output: output 1 Write after 0 bytes",
+    ),
+    (
+        "output",
+        None,
+        Cause::Output { count: u64::MAX },
+        1,
+        "output: output 1 Write after 18446744073709551615 bytes",
+    ),
+    (
+        "c",
+        Some(3),
+        Cause::File(FileFault::NoKeys),
+        5,
+        "c: line 3: file 5 NoKeys",
+    ),
+    (
+        "c",
+        Some(3),
+        Cause::Krl(KrlFault::Length),
+        6,
+        "c: line 3: krl 6 Length",
+    ),
+    (
+        "c",
+        Some(3),
+        Cause::Line(LineFault::Base64),
+        2,
+        "c: line 3: line 2 Base64",
+    ),
+    (
+        "c",
+        Some(3),
+        Cause::Subject(SubjectFault::Cert(CertFault::Authority(SHORT))),
+        2,
+        "c: line 3: subject 2 Cert, cert 7 Authority, key 1 Wire, wire 1 Short",
+    ),
+    (
+        "c",
+        Some(3),
+        Cause::NoMemory,
+        1,
+        "c: line 3: run 1 NoMemory",
+    ),
+    (
+        "c",
+        Some(3),
+        Cause::Output { count: 9 },
+        1,
+        "c: line 3: output 1 Write after 9 bytes",
+    ),
+];
 
 #[test]
 fn lines(rt: HostRuntime) -> Result<(), Fail> {
-    let early = Cause::Krl(KrlFault::EndsEarly);
-    let differs = Cause::Line(LineFault::WordDiffers);
-    let point = Cause::Subject(SubjectFault::Key(KeyFault::Point));
-    let short = Cause::Subject(SubjectFault::Key(KeyFault::Wire(WireFault::Short)));
-    let check = Cause::Private(PrivateFault::Check);
-    let last = Some(u64::MAX);
-    let rows = [
-        ("id", None, check, "id: private 6 Check"),
-        ("r.krl", None, early, "r.krl: krl 3 EndsEarly"),
-        ("k", Some(1), differs, "k: line 1: line 3 WordDiffers"),
-        ("k", Some(1), point, "k: line 1: subject 1 Key, key 4 Point"),
-        (
-            "k",
-            last,
-            short,
-            "k: line 18446744073709551615: subject 1 Key, key 1 Wire, wire 1 Short",
-        ),
-        (
-            "a\n\x7f",
-            None,
-            Cause::NoMemory,
-            "a\\x0a\\x7f: run 1 NoMemory",
-        ),
-        ("", None, Cause::NoMemory, ": run 1 NoMemory"),
-    ];
-    for (name, line, cause, want) in rows {
-        assert!(rt; is_told(rt.alloc(), name, line, cause, want)?, "{want}");
+    for (i, (name, line, cause, number, want)) in ROWS.iter().enumerate() {
+        let fault = RunFault {
+            name: *name,
+            line: *line,
+            cause: *cause,
+        };
+        is_told(&rt, rt.alloc(), i, &fault, *number, *want)?;
     }
     Ok(())
 }
 
-#[test]
-fn lines_of_the_output(rt: HostRuntime) -> Result<(), Fail> {
-    let rows = [
-        (0, "output: output 1 Write after 0 bytes"),
-        (
-            u64::MAX,
-            "output: output 1 Write after 18446744073709551615 bytes",
-        ),
-    ];
-    for (count, want) in rows {
-        let cause = Cause::Output { count };
-        assert!(rt; is_told(rt.alloc(), "output", None, cause, want)?, "{want}");
-    }
-    Ok(())
-}
+const FILE_FAULTS: [(FileFault, u8, &str); 6] = [
+    (FileFault::Open, 1, "k: file 1 Open"),
+    (FileFault::Read, 2, "k: file 2 Read"),
+    (FileFault::TooLong, 3, "k: file 3 TooLong"),
+    (FileFault::NoMemory, 4, "k: file 4 NoMemory"),
+    (FileFault::NoKeys, 5, "k: file 5 NoKeys"),
+    (FileFault::NoCertificate, 6, "k: file 6 NoCertificate"),
+];
 
 #[test]
 fn file_faults(rt: HostRuntime) -> Result<(), Fail> {
-    let rows = [
-        (FileFault::Open, 1, "k: file 1 Open"),
-        (FileFault::Read, 2, "k: file 2 Read"),
-        (FileFault::TooLong, 3, "k: file 3 TooLong"),
-        (FileFault::NoMemory, 4, "k: file 4 NoMemory"),
-        (FileFault::NoKeys, 5, "k: file 5 NoKeys"),
-        (FileFault::NoCertificate, 6, "k: file 6 NoCertificate"),
-    ];
-    for (fault, number, want) in rows {
-        assert_eq!(rt; fault.number(), number);
-        assert!(rt;
-            is_told(rt.alloc(), "k", None, Cause::File(fault), want)?,
-            "{want}"
-        );
+    for (i, (fault, number, want)) in FILE_FAULTS.iter().enumerate() {
+        same(&rt, i, &[fault.number()], &[*number]);
+        let fault = RunFault::whole("k", Cause::File(*fault));
+        is_told(&rt, rt.alloc(), i, &fault, *number, *want)?;
     }
     Ok(())
 }
 
-#[test]
-fn numbers_and_carried_faults(rt: HostRuntime) -> Result<(), Fail> {
-    let authority = CertFault::Authority(KeyFault::Wire(WireFault::Short));
-    let rows: [(Cause, u8, &str); 6] = [
-        (
-            Cause::File(FileFault::NoKeys),
-            5,
-            "c: line 3: file 5 NoKeys",
-        ),
-        (Cause::Krl(KrlFault::Length), 6, "c: line 3: krl 6 Length"),
-        (
-            Cause::Line(LineFault::Base64),
-            2,
-            "c: line 3: line 2 Base64",
-        ),
-        (
-            Cause::Subject(SubjectFault::Cert(authority)),
-            2,
-            "c: line 3: subject 2 Cert, cert 7 Authority, key 1 Wire, wire 1 Short",
-        ),
-        (Cause::NoMemory, 1, "c: line 3: run 1 NoMemory"),
-        (
-            Cause::Output { count: 9 },
-            1,
-            "c: line 3: output 1 Write after 9 bytes",
-        ),
-    ];
-    for (cause, number, want) in rows {
-        assert_eq!(rt; cause.number(), number, "{want}");
-        assert!(rt; is_told(rt.alloc(), "c", Some(3), cause, want)?, "{want}");
+/// A name of 10,000 pairs of a letter and a byte that is escaped.
+fn long_name(alloc: Global) -> Result<String, AllocError> {
+    let mut name = String::new(alloc);
+    for _ in 0..10_000 {
+        name.push_str("a\x7f")?;
     }
-    Ok(())
+    Ok(name)
 }
 
 // A body that is out of memory above some size meets the contract. It fails here.
 #[test]
 fn a_long_name(rt: HostRuntime) -> Result<(), Fail> {
-    let mut name = String::new(rt.alloc());
-    for _ in 0..10_000 {
-        name.push_str("a\x7f")?;
-    }
+    let name = long_name(rt.alloc())?;
     let fault = RunFault::whole(name.as_str(), Cause::NoMemory);
     let text = fault_text(rt.alloc(), &fault)?;
-    assert_eq!(rt; text.len(), 12 + 10_000 * 5 + 2 + 14);
+    assert!(rt; text.len() == 12 + 10_000 * 5 + 2 + 14);
     assert!(rt; text.as_slice().ends_with(b"a\\x7f: run 1 NoMemory"));
     Ok(())
 }

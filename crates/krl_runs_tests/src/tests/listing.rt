@@ -1,145 +1,160 @@
 // Listing the certificates of files.
 
 use crate::tests::bytes::{GITHUB, joined};
-use crate::tests::certificates::{Terms, certificate, certificate_on, line_of};
-use crate::tests::containers::{container, list};
-use crate::tests::devices::Taker;
+use crate::tests::certificates::{FREE, Terms, certificate_line, certificate_on, line_of};
+use crate::tests::containers::plain;
+use crate::tests::devices::{Taker, listed_over};
 use crate::tests::encoding::{key_line, strings};
-use crate::tests::runs::{GITHUB_LINE, certified, named, told};
-use krl_runs::{ListMode, list_run};
-use ssh_key::Hash;
-use ssh_wire::ToWrite;
-use std::alloc::Global;
+use crate::tests::runs::{CLOSED, GITHUB_LINE, certifies, holding, says};
+use krl_runs::ListMode;
+use std::alloc::{AllocError, Global};
 use std::process::Abort;
-use std::test::*;
+use std::test::Fail;
 
 /// The lines of the certificate of the published key by itself, with serial 7 and the ID `a`, up to
 /// its time.
-const FIRST: &str = "        Type: ssh-ed25519-cert-v01@openssh.com user certificate\n\
+const FIRST: &[u8] = b"        Type: ssh-ed25519-cert-v01@openssh.com user certificate\n\
      \x20       Public key: ED25519-CERT SHA256:+DiY3wvvV6TuJJhbpZisF/zLDA0zPMSvHdkr4UvCOqU\n\
      \x20       Signing CA: ED25519 SHA256:+DiY3wvvV6TuJJhbpZisF/zLDA0zPMSvHdkr4UvCOqU \
      (using ssh-ed25519)\n\
      \x20       Key ID: \"a\"\n\
      \x20       Serial: 7\n";
 
-const FOREVER: &str = "        Valid: forever\n        Valid now: yes\n";
+const FOREVER: &[u8] = b"        Valid: forever\n        Valid now: yes\n";
 
-const NO_LISTS: &str = "        Principals: (none)\n\
+const NO_LISTS: &[u8] = b"        Principals: (none)\n\
      \x20       Critical Options: (none)\n\
      \x20       Extensions: (none)\n";
 
 /// The line of that certificate.
-fn line(alloc: Global) -> Result<Vec<u8>, Fail> {
-    line_of(alloc, &certificate(alloc, &GITHUB, &GITHUB, 7, b"a")?)
+fn line(alloc: Global) -> Result<Vec<u8>, AllocError> {
+    certificate_line(alloc, &GITHUB, 7)
 }
 
 /// The line of the same on other terms.
-fn line_on(alloc: Global, terms: &Terms) -> Result<Vec<u8>, Fail> {
-    let blob = certificate_on(alloc, &GITHUB, &GITHUB, 7, b"a", terms)?;
+fn line_on(alloc: Global, terms: &Terms) -> Result<Vec<u8>, AllocError> {
+    let blob = certificate_on(alloc, &GITHUB, 7, terms)?;
     line_of(alloc, &blob)
 }
 
-/// The file of these bytes gives this text at moment 0, and this fault or none.
+/// A file's name, its bytes, and the moment at which it is listed.
+type At<'a> = (&'a str, &'a [u8], u64);
+
+/// A file gives these parts of a text at a moment, and this fault or none. A number tells it from
+/// the others of a test.
 fn gives(
     rt: &impl Abort,
     alloc: Global,
-    name: &str,
-    bytes: &[u8],
-    text: &str,
+    number: usize,
+    at: At,
+    text: &[&[u8]],
     fault: &str,
-) -> Result<(), Fail> {
-    let ran = certified(alloc, &(name, Some(&[bytes])), 0)?;
-    assert_eq!(rt; ran.text.as_slice(), text.as_bytes());
-    assert_eq!(rt; ran.fault.as_slice(), fault.as_bytes());
+) -> Result<(), AllocError> {
+    let (name, bytes, moment) = at;
+    let text = joined(alloc, text)?;
     let status = if fault.is_empty() { 0 } else { 255 };
-    assert_eq!(rt; ran.status, status);
-    Ok(())
+    let parts = [bytes];
+    let file = (name, Some(parts.as_slice()));
+    certifies(rt, alloc, number, &file, moment, (&text, status, fault))
 }
 
 #[test]
 fn one_certificate(rt: HostRuntime) -> Result<(), Fail> {
-    let alloc = rt.alloc();
-    let text = format!(in alloc; "c.pub:1:\n{FIRST}{FOREVER}{NO_LISTS}")?;
-    gives(&rt, alloc, "c.pub", &line(alloc)?, &text, "")?;
-    let escaped = format!(in alloc; "c\\x0a:1:\n{FIRST}{FOREVER}{NO_LISTS}")?;
-    gives(&rt, alloc, "c\n", &line(alloc)?, &escaped, "")
+    let line = line(rt.alloc())?;
+    let names: [(&str, &[u8]); 2] = [("c.pub", b"c.pub:1:\n"), ("c\n", b"c\\x0a:1:\n")];
+    for (i, (name, place)) in names.iter().enumerate() {
+        let text = [*place, FIRST, FOREVER, NO_LISTS];
+        gives(&rt, rt.alloc(), i, (*name, &line, 0), &text, "")?;
+    }
+    Ok(())
 }
 
-/// The certificate of this period has these lines of its time.
-fn is_valid(rt: &impl Abort, alloc: Global, period: [u64; 2], time: &str) -> Result<(), Fail> {
-    let terms = Terms {
-        period,
-        lists: [b"", b"", b""],
-    };
-    let text = format!(in alloc; "c.pub:1:\n{FIRST}{time}{NO_LISTS}")?;
-    gives(rt, alloc, "c.pub", &line_on(alloc, &terms)?, &text, "")
+/// The certificate of this period has these lines of its time at a moment.
+fn is_valid(
+    rt: &impl Abort,
+    alloc: Global,
+    number: usize,
+    period: [u64; 2],
+    moment: u64,
+    time: &[&[u8]],
+) -> Result<(), AllocError> {
+    let line = line_on(alloc, &Terms { period, ..FREE })?;
+    let time = joined(alloc, time)?;
+    let text = [b"c.pub:1:\n", FIRST, &time, NO_LISTS];
+    gives(rt, alloc, number, ("c.pub", &line, moment), &text, "")
 }
 
 #[test]
 fn by_its_time(rt: HostRuntime) -> Result<(), Fail> {
-    let alloc = rt.alloc();
-    let far = "        Valid: before @253370764800\n        Valid now: yes\n";
-    is_valid(&rt, alloc, [0, 253_370_764_800], far)?;
-    let near = "        Valid: before 9998-12-31T23:59:59Z\n        Valid now: yes\n";
-    is_valid(&rt, alloc, [0, 253_370_764_799], near)?;
-    let later = "        Valid: after 2020-09-13T12:26:40Z\n        Valid now: no\n";
-    is_valid(&rt, alloc, [1_600_000_000, u64::MAX], later)
-}
-
-/// At this moment the certificate that is valid from 10 to 20 seconds after 1970 has this answer.
-fn is_now(rt: &impl Abort, alloc: Global, moment: u64, answer: &str) -> Result<(), Fail> {
-    let terms = Terms {
-        period: [10, 20],
-        lists: [b"", b"", b""],
-    };
-    let period = "        Valid: from 1970-01-01T00:00:10Z to 1970-01-01T00:00:20Z\n";
-    let now = format!(in alloc; "        Valid now: {answer}\n")?;
-    let text = format!(in alloc; "c.pub:1:\n{FIRST}{period}{now}{NO_LISTS}")?;
-    let line = line_on(alloc, &terms)?;
-    let ran = certified(alloc, &("c.pub", Some(&[&line])), moment)?;
-    assert_eq!(rt; ran.text.as_slice(), text.as_bytes());
+    let rows: [([u64; 2], &[u8]); 3] = [
+        (
+            [0, 253_370_764_800],
+            b"        Valid: before @253370764800\n        Valid now: yes\n",
+        ),
+        (
+            [0, 253_370_764_799],
+            b"        Valid: before 9998-12-31T23:59:59Z\n        Valid now: yes\n",
+        ),
+        (
+            [1_600_000_000, u64::MAX],
+            b"        Valid: after 2020-09-13T12:26:40Z\n        Valid now: no\n",
+        ),
+    ];
+    for (i, (period, time)) in rows.iter().enumerate() {
+        is_valid(&rt, rt.alloc(), i, *period, 0, &[*time])?;
+    }
     Ok(())
 }
 
 #[test]
 fn by_the_moment(rt: HostRuntime) -> Result<(), Fail> {
-    let alloc = rt.alloc();
-    is_now(&rt, alloc, 9, "no")?;
-    is_now(&rt, alloc, 10, "yes")?;
-    is_now(&rt, alloc, 19, "yes")?;
-    is_now(&rt, alloc, 20, "no")
+    let period = b"        Valid: from 1970-01-01T00:00:10Z to 1970-01-01T00:00:20Z\n";
+    let no = b"        Valid now: no\n".as_slice();
+    let yes = b"        Valid now: yes\n".as_slice();
+    let rows = [(9, no), (10, yes), (19, yes), (20, no)];
+    for (i, (moment, now)) in rows.iter().enumerate() {
+        is_valid(&rt, rt.alloc(), i, [10, 20], *moment, &[period, *now])?;
+    }
+    Ok(())
+}
+
+/// The blob of the certificate with a principal, an option and an extension.
+fn with_each_list(alloc: Global) -> Result<Vec<u8>, AllocError> {
+    let options = strings(alloc, &[b"force-command", b"\0\0\0\x02id"])?;
+    let extensions = strings(alloc, &[b"permit-pty", b""])?;
+    let terms = Terms {
+        lists: [b"\0\0\0\x04root", &options, &extensions],
+        ..FREE
+    };
+    certificate_on(alloc, &GITHUB, 7, &terms)
 }
 
 #[test]
 fn with_lists(rt: HostRuntime) -> Result<(), Fail> {
     let alloc = rt.alloc();
-    let options = strings(alloc, &[b"force-command", b"\0\0\0\x02id"])?;
-    let extensions = strings(alloc, &[b"permit-pty", b""])?;
-    let terms = Terms {
-        period: [0, u64::MAX],
-        lists: [b"\0\0\0\x04root", &options, &extensions],
-    };
-    let blob = certificate_on(alloc, &GITHUB, &GITHUB, 7, b"a", &terms)?;
-    assert_eq!(rt; blob.len(), 320);
-    let lists = "        Principals:\n\
+    let blob = with_each_list(alloc)?;
+    assert!(rt; blob.len() == 320);
+    let lists = b"        Principals:\n\
          \x20               root\n\
          \x20       Critical Options:\n\
          \x20               force-command id\n\
          \x20       Extensions:\n\
          \x20               permit-pty\n";
-    let text = format!(in alloc; "c.pub:1:\n{FIRST}{FOREVER}{lists}")?;
-    gives(&rt, alloc, "c.pub", &line_of(alloc, &blob)?, &text, "")
+    let line = line_of(alloc, &blob)?;
+    let text = [b"c.pub:1:\n", FIRST, FOREVER, lists];
+    gives(&rt, alloc, 0, ("c.pub", &line, 0), &text, "")?;
+    Ok(())
 }
 
 #[test]
 fn without_a_certificate(rt: HostRuntime) -> Result<(), Fail> {
-    let alloc = rt.alloc();
+    let private = plain(rt.alloc(), 1, 4)?;
     let none = "ssh-keygen: g.pub: file 6 NoCertificate";
-    gives(&rt, alloc, "g.pub", GITHUB_LINE, "", none)?;
-    gives(&rt, alloc, "g.pub", b"", "", none)?;
-    gives(&rt, alloc, "g.pub", b"# a\n\n", "", none)?;
-    let private = container(alloc, "none", &list(alloc, 1, 4)?)?;
-    gives(&rt, alloc, "g.pub", &private, "", none)
+    let texts: [&[u8]; 4] = [GITHUB_LINE, b"", b"# a\n\n", &private];
+    for (i, bytes) in texts.iter().enumerate() {
+        gives(&rt, rt.alloc(), i, ("g.pub", *bytes, 0), &[], none)?;
+    }
+    Ok(())
 }
 
 #[test]
@@ -147,54 +162,68 @@ fn plain_keys_are_passed_over(rt: HostRuntime) -> Result<(), Fail> {
     let alloc = rt.alloc();
     let line = line(alloc)?;
     let file = joined(alloc, &[GITHUB_LINE, b" c\n# c\n", &line, GITHUB_LINE])?;
-    let text = format!(in alloc; "c.pub:3:\n{FIRST}{FOREVER}{NO_LISTS}")?;
-    gives(&rt, alloc, "c.pub", &file, &text, "")
+    let text = [b"c.pub:3:\n", FIRST, FOREVER, NO_LISTS];
+    gives(&rt, alloc, 0, ("c.pub", &file, 0), &text, "")?;
+    Ok(())
+}
+
+/// A file of the certificate and of more lines gives the certificate, and this fault.
+fn stops(
+    rt: &impl Abort,
+    alloc: Global,
+    number: usize,
+    more: &[u8],
+    fault: &str,
+) -> Result<(), AllocError> {
+    let mut file = line(alloc)?;
+    file.extend_from_slice(more)?;
+    let text = [b"c.pub:1:\n", FIRST, FOREVER, NO_LISTS];
+    gives(rt, alloc, number, ("c.pub", &file, 0), &text, fault)
+}
+
+/// A line of no key, and that of the certificate.
+fn no_key(alloc: Global) -> Result<Vec<u8>, AllocError> {
+    let line = line(alloc)?;
+    joined(alloc, &[b"ssh-ed25519\n", &line])
 }
 
 #[test]
 fn faults_of_what_is_passed_over(rt: HostRuntime) -> Result<(), Fail> {
     let alloc = rt.alloc();
-    let line = line(alloc)?;
-    let text = format!(in alloc; "c.pub:1:\n{FIRST}{FOREVER}{NO_LISTS}")?;
-    let file = joined(alloc, &[&line, b"ssh-ed25519\n", &line])?;
+    let more = no_key(alloc)?;
     let fault = "ssh-keygen: c.pub: line 2: line 1 NoKey";
-    gives(&rt, alloc, "c.pub", &file, &text, fault)?;
-    let short = key_line(alloc, &[b"ssh-ed25519", b""])?;
-    let file = joined(alloc, &[&line, &short])?;
+    stops(&rt, alloc, 0, &more, fault)?;
+    let more = key_line(alloc, b"ssh-ed25519", &[b""])?;
     let fault = "ssh-keygen: c.pub: line 2: subject 1 Key, key 5 Length";
-    gives(&rt, alloc, "c.pub", &file, &text, fault)?;
-    let cut = key_line(alloc, &[b"ssh-ed25519-cert-v01@openssh.com"])?;
+    stops(&rt, alloc, 1, &more, fault)?;
+    Ok(())
+}
+
+#[test]
+fn faults_of_what_comes_first(rt: HostRuntime) -> Result<(), Fail> {
+    let alloc = rt.alloc();
+    let cut = key_line(alloc, b"ssh-ed25519-cert-v01@openssh.com", &[])?;
     let fault = "ssh-keygen: c.pub: line 1: subject 2 Cert, cert 1 Wire";
-    gives(&rt, alloc, "c.pub", &cut, "", fault)?;
-    let private = container(alloc, "none", &list(alloc, 2, 4)?)?;
+    gives(&rt, alloc, 0, ("c.pub", &cut, 0), &[], fault)?;
+    let private = plain(alloc, 2, 4)?;
     let fault = "ssh-keygen: id: private 6 Check";
-    gives(&rt, alloc, "id", &private, "", fault)
+    gives(&rt, alloc, 1, ("id", &private, 0), &[], fault)?;
+    Ok(())
 }
 
 #[test]
 fn without_a_file(rt: HostRuntime) -> Result<(), Fail> {
-    let ran = certified(rt.alloc(), &("none", None), 0)?;
-    assert!(rt; ran.text.is_empty());
-    assert_eq!(rt; ran.status, 255);
-    let fault = b"ssh-keygen: none: file 1 Open".as_slice();
-    assert_eq!(rt; ran.fault.as_slice(), fault);
+    let said = (b"".as_slice(), 255, "ssh-keygen: none: file 1 Open");
+    certifies(&rt, rt.alloc(), 0, &CLOSED, 0, said)?;
     Ok(())
 }
 
 #[test]
 fn the_output_fails(rt: HostRuntime) -> Result<(), Fail> {
-    let alloc = rt.alloc();
-    let line = line(alloc)?;
-    let parts = [line.as_slice()];
-    let file = named(alloc, &("c.pub", Some(parts.as_slice())))?;
-    let mut device = Taker::new(alloc, 3, 2);
-    let mut out = ToWrite::new(&mut device);
-    let done = list_run(alloc, ListMode::Certs, Hash::Sha256, &file, 0, &mut out);
-    drop(out);
-    let ran = told(alloc, device.taken, &done)?;
-    assert_eq!(rt; ran.text.as_slice(), b"c.pub:".as_slice());
-    assert_eq!(rt; ran.status, 255);
-    let fault = b"ssh-keygen: output: output 1 Write after 6 bytes".as_slice();
-    assert_eq!(rt; ran.fault.as_slice(), fault);
+    let file = holding("c.pub", line(rt.alloc())?);
+    let device = Taker::new(rt.alloc(), 3, 2);
+    let ran = listed_over(rt.alloc(), ListMode::Certs, &file, device)?;
+    let fault = "ssh-keygen: output: output 1 Write after 6 bytes";
+    says(&rt, 0, &ran, (b"c.pub:", 255, fault));
     Ok(())
 }

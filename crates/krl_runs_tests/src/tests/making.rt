@@ -1,14 +1,17 @@
 // Lists that are made and updated.
 
-use crate::tests::bytes::{GITHUB, HEADER, ONE_KEY, even_key, joined, repeated};
-use crate::tests::certificates::{certificate, line_of};
-use crate::tests::containers::{container, list};
-use crate::tests::runs::{File, GITHUB_LINE, OTHER_LINE, named};
-use krl_runs::{Authority, FileFault, Named, Old, fault_text, make_run};
-use ssh_wire::{Bytes, FromRead};
-use std::alloc::Global;
+use crate::tests::bytes::{
+    FIVE, GITHUB, HEADER, ID_A, ONE_KEY, SHA256, even_key, id_under, joined, list_of, repeated,
+    same, serial_under,
+};
+use crate::tests::certificates::certificate_line;
+use crate::tests::containers::plain;
+use crate::tests::runs::{CLOSED, File, GITHUB_LINE, OTHER_LINE, all_named, holding, named};
+use krl_runs::{Authority, Named, Old, RunFault, fault_text, make_run};
+use ssh_wire::FromRead;
+use std::alloc::{AllocError, Global};
 use std::process::Abort;
-use std::test::*;
+use std::test::Fail;
 
 /// The list that is made, or else the line of the fault.
 #[derive(Debug, Drop)]
@@ -17,30 +20,28 @@ struct Outcome {
     fault: Vec<u8>,
 }
 
-/// Makes the list `r.krl` of the old one, of the authority and of the files, at the moment 0.
-
-fn made(
-    alloc: Global,
-    old: Option<&[u8]>,
-    authority: Authority,
-    version: Option<u64>,
-    files: &[File],
-) -> Result<Outcome, Fail> {
-    let mut read = Vec::new(alloc);
-    for file in files {
-        read.push(named(alloc, file)?)?;
+impl Outcome {
+    /// What a run gave: the other of the two is empty.
+    fn of(alloc: Global, made: Result<Vec<u8>, RunFault>) -> Result<Outcome, AllocError> {
+        let none = Vec::new(alloc);
+        match made {
+            Ok(list) => Ok(Outcome { list, fault: none }),
+            Err(fault) => Ok(Outcome {
+                list: none,
+                fault: fault_text(alloc, &fault)?,
+            }),
+        }
     }
-    made_of(alloc, old, &authority, version, read.as_slice())
 }
 
-/// The same, of files that are read.
+/// Makes the list `r.krl` of the old one, of the authority and of the files, at the moment 0.
 fn made_of<'a>(
     alloc: Global,
     old: Option<&[u8]>,
     authority: &'a Authority<'a>,
     version: Option<u64>,
     files: &'a [Named<'a>],
-) -> Result<Outcome, Fail> {
+) -> Result<Outcome, AllocError> {
     let list = match old {
         Some(bytes) => Some(FromRead::new(bytes)),
         None => None,
@@ -49,390 +50,431 @@ fn made_of<'a>(
         name: "r.krl",
         list,
     };
-    match make_run(alloc, old, authority, version, files, 0) {
-        Ok(list) => Ok(Outcome {
-            list,
-            fault: Vec::new(alloc),
-        }),
-        Err(fault) => Ok(Outcome {
-            list: Vec::new(alloc),
-            fault: fault_text(alloc, &fault)?,
-        }),
-    }
+    Outcome::of(alloc, make_run(alloc, old, authority, version, files, 0))
+}
+
+/// The same, of files that are still to be read.
+fn made(
+    alloc: Global,
+    old: Option<&[u8]>,
+    authority: &Authority,
+    version: Option<u64>,
+    files: &[File],
+) -> Result<Outcome, AllocError> {
+    let files = all_named(alloc, files)?;
+    made_of(alloc, old, authority, version, files.as_slice())
+}
+
+/// This list is made; a number tells it from the others of a test.
+fn is_made(rt: &impl Abort, number: usize, made: &Outcome, want: &[u8]) {
+    same(rt, number, &made.fault, b"");
+    same(rt, number, &made.list, want);
 }
 
 /// The lines make a list of version 1 under all authorities with these sections.
-fn makes(rt: &impl Abort, alloc: Global, lines: &[u8], sections: &[u8]) -> Result<(), Fail> {
-    let want = joined(alloc, &[&HEADER, sections])?;
+fn makes(
+    rt: &impl Abort,
+    alloc: Global,
+    number: usize,
+    lines: &[u8],
+    sections: &[&[u8]],
+) -> Result<(), AllocError> {
+    let want = list_of(alloc, sections)?;
     let made = made(
         alloc,
         None,
-        Authority::All,
+        &Authority::All,
         Some(1),
         &[("s", Some(&[lines]))],
     )?;
-    assert_eq!(rt; made.fault.as_slice(), b"".as_slice());
-    assert_eq!(rt; made.list.as_slice(), want.as_slice());
+    is_made(rt, number, &made, &want);
     Ok(())
 }
 
-/// What is refused, by the old list, the authority and the files.
+/// Nothing is made of the old list, the authority and the lines, for this fault.
 fn refuses(
     rt: &impl Abort,
     alloc: Global,
+    number: usize,
     old: Option<&[u8]>,
-    authority: Authority,
+    authority: &Authority,
     lines: &[u8],
     fault: &str,
-) -> Result<(), Fail> {
-    let want = format!(in alloc; "ssh-keygen: {fault}")?;
+) -> Result<(), AllocError> {
     let made = made(alloc, old, authority, None, &[("s", Some(&[lines]))])?;
-    assert_eq!(rt; made.fault.as_slice(), want.as_bytes());
+    same(rt, number, &made.fault, fault.as_bytes());
     Ok(())
 }
 
-/// The old list, with these lines under all authorities, makes this one.
-fn updates(
-    rt: &impl Abort,
+/// A list of this version, with a comment and these sections.
+fn commented(
     alloc: Global,
-    old: &[u8],
-    lines: &[u8],
-    want: &[u8],
-) -> Result<(), Fail> {
-    let made = made(
-        alloc,
-        Some(old),
-        Authority::All,
-        None,
-        &[("s", Some(&[lines]))],
-    )?;
-    assert_eq!(rt; made.fault.as_slice(), b"".as_slice());
-    assert_eq!(rt; made.list.as_slice(), want);
-    Ok(())
-}
-
-/// The header of a list of this version, with a comment.
-fn header(alloc: Global, version: u64, comment: &[u8]) -> Result<Vec<u8>, Fail> {
+    version: u64,
+    comment: &[u8],
+    sections: &[&[u8]],
+) -> Result<Vec<u8>, AllocError> {
+    let [.., a, b, c, d] = comment.len().to_be_bytes();
     let number = version.to_be_bytes();
-    let size = u32::try_from(comment.len())?.to_be_bytes();
-    let parts: [&[u8]; 6] = [
-        b"SSHKRL\n\0\0\0\0\x01",
-        &number,
-        &[0; 16],
-        &[0; 4],
-        &size,
-        comment,
-    ];
-    Ok(joined(alloc, &parts)?)
+    let size = [a, b, c, d];
+    let mut list = joined(alloc, &[&HEADER[..12], &number, &[0; 20], &size, comment])?;
+    let sections = joined(alloc, sections)?;
+    list.extend_from_slice(&sections)?;
+    Ok(list)
 }
-
-const FIVE: &[u8] = b"\x01\0\0\0\x15\0\0\0\0\0\0\0\0\x20\0\0\0\x08\0\0\0\0\0\0\0\x05";
 
 const FIVE_AND_SIX: &[u8] =
     b"\x01\0\0\0\x1a\0\0\0\0\0\0\0\0\x22\0\0\0\x0d\0\0\0\0\0\0\0\x05\0\0\0\x01\x03";
 
-const ID_A: &[u8] = b"\x01\0\0\0\x12\0\0\0\0\0\0\0\0\x23\0\0\0\x05\0\0\0\x01a";
+const NINE: &[u8] =
+    b"\x01\0\0\0\x1b\0\0\0\0\0\0\0\0\x22\0\0\0\x0e\0\0\0\0\0\0\0\x01\0\0\0\x02\x01\xff";
 
-const HASH: &[u8] = b"\x05\0\0\0\x24\0\0\0\x20\xf8\x38\x98\xdf\x0b\xef\x57\xa4\xee\x24\
-    \x98\x5b\xa5\x98\xac\x17\xfc\xcb\x0c\x0d\x33\x3c\xc4\xaf\x1d\xd9\x2b\xe1\x4b\xc2\x3a\xa5";
+/// The lines of a file, and the section of the list that is made.
+const MADE: [(&[u8], &[u8]); 9] = [
+    (b"serial: 5", FIVE),
+    (b"serial: 5\nserial: 5\nserial: 1-9", NINE),
+    (b"serial: 1-9", NINE),
+    (
+        b"serial: 1-10000",
+        b"\x01\0\0\0\x1d\0\0\0\0\0\0\0\0\x21\0\0\0\x10\0\0\0\0\0\0\0\x01\0\0\0\0\0\0\x27\x10",
+    ),
+    (
+        b"serial: 1-2\nserial: 4\nserial: 5",
+        b"\x01\0\0\0\x1a\0\0\0\0\0\0\0\0\x22\0\0\0\x0d\0\0\0\0\0\0\0\x01\0\0\0\x01\x1b",
+    ),
+    (
+        b"serial: 1000000\nserial: 1",
+        b"\x01\0\0\0\x1d\0\0\0\0\0\0\0\0\x20\0\0\0\x10\0\0\0\0\0\0\0\x01\0\0\0\0\0\x0f\x42\x40",
+    ),
+    (
+        b"serial: 1\nserial: 1000000\nserial: 1000002\nserial: 1000004\n\
+          serial: 1000006\nserial: 1000008\nserial: 1000010\nserial: 1000012\nserial: 1000014\n",
+        b"\x01\0\0\0\x28\0\0\0\0\0\0\0\0\x20\0\0\0\x08\0\0\0\0\0\0\0\x01\
+          \x22\0\0\0\x0e\0\0\0\0\0\x0f\x42\x40\0\0\0\x02\x55\x55",
+    ),
+    (
+        b"id: b\nid: a\nid: b",
+        b"\x01\0\0\0\x17\0\0\0\0\0\0\0\0\x23\0\0\0\x0a\0\0\0\x01a\0\0\0\x01b",
+    ),
+    (
+        b"hash: SHA256:+DiY3wvvV6TuJJhbpZisF/zLDA0zPMSvHdkr4UvCOqU",
+        SHA256,
+    ),
+];
 
 #[test]
-fn of_serials(rt: HostRuntime) -> Result<(), Fail> {
-    makes(&rt, rt.alloc(), b"serial: 5", FIVE)?;
-    let nine = b"\x01\0\0\0\x1b\0\0\0\0\0\0\0\0\x22\0\0\0\x0e\0\0\0\0\0\0\0\x01\0\0\0\x02\x01\xff";
-    makes(&rt, rt.alloc(), b"serial: 5\nserial: 5\nserial: 1-9", nine)?;
-    makes(&rt, rt.alloc(), b"serial: 1-9", nine)
+fn of_lines(rt: HostRuntime) -> Result<(), Fail> {
+    for (i, (lines, section)) in MADE.iter().enumerate() {
+        makes(&rt, rt.alloc(), i, *lines, &[*section])?;
+    }
+    Ok(())
 }
 
-#[test]
-fn of_some_and_of_many_serials(rt: HostRuntime) -> Result<(), Fail> {
-    let many = b"\x01\0\0\0\x1d\0\0\0\0\0\0\0\0\x21\0\0\0\x10\0\0\0\0\0\0\0\x01\
-        \0\0\0\0\0\0\x27\x10";
-    makes(&rt, rt.alloc(), b"serial: 1-10000", many)?;
-    let some = b"\x01\0\0\0\x1a\0\0\0\0\0\0\0\0\x22\0\0\0\x0d\0\0\0\0\0\0\0\x01\0\0\0\x01\x1b";
-    makes(&rt, rt.alloc(), b"serial: 1-2\nserial: 4\nserial: 5", some)?;
-    let apart = b"\x01\0\0\0\x1d\0\0\0\0\0\0\0\0\x20\0\0\0\x10\0\0\0\0\0\0\0\x01\
-        \0\0\0\0\0\x0f\x42\x40";
-    makes(&rt, rt.alloc(), b"serial: 1000000\nserial: 1", apart)
-}
-
-#[test]
-fn of_a_serial_and_a_bitmap(rt: HostRuntime) -> Result<(), Fail> {
-    let lines = b"serial: 1\nserial: 1000000\nserial: 1000002\nserial: 1000004\n\
-        serial: 1000006\nserial: 1000008\nserial: 1000010\nserial: 1000012\nserial: 1000014\n";
-    let sections = b"\x01\0\0\0\x28\0\0\0\0\0\0\0\0\x20\0\0\0\x08\0\0\0\0\0\0\0\x01\
-        \x22\0\0\0\x0e\0\0\0\0\0\x0f\x42\x40\0\0\0\x02\x55\x55";
-    makes(&rt, rt.alloc(), lines, sections)
-}
-
-#[test]
-fn of_odd_serials(rt: HostRuntime) -> Result<(), Fail> {
-    let alloc = rt.alloc();
+/// The lines of the first 128 odd serials.
+fn odd_lines(alloc: Global) -> Result<Vec<u8>, AllocError> {
     let mut lines = Vec::new(alloc);
     for half in 0..128u32 {
         let line = format!(in alloc; "serial: {}\n", 2 * half + 1)?;
         lines.extend_from_slice(line.as_bytes())?;
     }
-    let front = b"\x01\0\0\0\x39\0\0\0\0\0\0\0\0\x22\0\0\0\x2c\0\0\0\0\0\0\0\x01\0\0\0\x20";
-    let sections = joined(alloc, &[front, &[0x55; 32]])?;
-    makes(&rt, alloc, &lines, &sections)
+    Ok(lines)
 }
 
 #[test]
-fn of_ids_and_a_hash(rt: HostRuntime) -> Result<(), Fail> {
-    let ids = b"\x01\0\0\0\x17\0\0\0\0\0\0\0\0\x23\0\0\0\x0a\0\0\0\x01a\0\0\0\x01b";
-    makes(&rt, rt.alloc(), b"id: b\nid: a\nid: b", ids)?;
-    let line = b"hash: SHA256:+DiY3wvvV6TuJJhbpZisF/zLDA0zPMSvHdkr4UvCOqU";
-    makes(&rt, rt.alloc(), line, HASH)
+fn of_odd_serials(rt: HostRuntime) -> Result<(), Fail> {
+    let lines = odd_lines(rt.alloc())?;
+    let front = b"\x01\0\0\0\x39\0\0\0\0\0\0\0\0\x22\0\0\0\x2c\0\0\0\0\0\0\0\x01\0\0\0\x20";
+    makes(&rt, rt.alloc(), 0, &lines, &[front, &[0x55; 32]])?;
+    Ok(())
 }
 
 #[test]
 fn of_a_certificate(rt: HostRuntime) -> Result<(), Fail> {
     let alloc = rt.alloc();
     let authority = even_key(alloc, 0x11)?;
-    let line = line_of(alloc, &certificate(alloc, &GITHUB, &authority, 0, b"a")?)?;
-    let sections: [&[u8]; 3] = [
-        b"\x01\0\0\0\x45\0\0\0\x33",
-        &authority,
-        b"\0\0\0\0\x23\0\0\0\x05\0\0\0\x01a",
-    ];
-    makes(&rt, alloc, &line, &joined(alloc, &sections)?)?;
+    let line = certificate_line(alloc, &authority, 0)?;
+    let section = id_under(alloc, &authority)?;
+    makes(&rt, alloc, 0, &line, &[&section])?;
     let line = joined(alloc, &[b"key: ", &line])?;
-    makes(&rt, alloc, &line, &joined(alloc, &[&ONE_KEY, &GITHUB])?)
+    makes(&rt, alloc, 1, &line, &[&ONE_KEY, &GITHUB])?;
+    Ok(())
 }
+
+const SEVERAL: [File<'static>; 3] = [
+    ("one", Some(&[b"serial: 6"])),
+    ("none", Some(&[b""])),
+    ("two", Some(&[b"# 7\n", b"serial: 5\n"])),
+];
 
 #[test]
 fn of_several_files(rt: HostRuntime) -> Result<(), Fail> {
-    let alloc = rt.alloc();
-    let files: [File; 3] = [
-        ("one", Some(&[b"serial: 6"])),
-        ("none", Some(&[b""])),
-        ("two", Some(&[b"# 7\n", b"serial: 5\n"])),
-    ];
-    let made = made(alloc, None, Authority::All, Some(1), &files)?;
-    let want = joined(alloc, &[&HEADER, FIVE_AND_SIX])?;
-    assert_eq!(rt; made.fault.as_slice(), b"".as_slice());
-    assert_eq!(rt; made.list.as_slice(), want.as_slice());
+    let made = made(rt.alloc(), None, &Authority::All, Some(1), &SEVERAL)?;
+    let want = list_of(rt.alloc(), &[FIVE_AND_SIX])?;
+    is_made(&rt, 0, &made, &want);
     Ok(())
 }
 
 #[test]
 fn of_nothing(rt: HostRuntime) -> Result<(), Fail> {
-    let alloc = rt.alloc();
-    let made = made(alloc, None, Authority::NotGiven, None, &[])?;
-    let want = header(alloc, 0, b"")?;
-    assert_eq!(rt; made.fault.as_slice(), b"".as_slice());
-    assert_eq!(rt; made.list.as_slice(), want.as_slice());
+    let made = made(rt.alloc(), None, &Authority::NotGiven, None, &[])?;
+    let want = commented(rt.alloc(), 0, b"", &[])?;
+    is_made(&rt, 0, &made, &want);
+    Ok(())
+}
+
+/// A list before and after an update.
+struct Update<'a> {
+    version: u64,
+    comment: &'a [u8],
+    old: &'a [&'a [u8]],
+    lines: &'a [u8],
+    new: &'a [&'a [u8]],
+    /// How many bytes the new list has.
+    size: usize,
+}
+
+const UPDATES: [Update<'static>; 5] = [
+    Update {
+        version: 1,
+        comment: b"",
+        old: &[FIVE],
+        lines: b"serial: 6",
+        new: &[FIVE_AND_SIX],
+        size: 75,
+    },
+    Update {
+        version: 2,
+        comment: b"",
+        old: &[FIVE_AND_SIX],
+        lines: b"",
+        new: &[FIVE_AND_SIX],
+        size: 75,
+    },
+    Update {
+        version: 1,
+        comment: b"",
+        old: &[SHA256],
+        lines: b"id: a",
+        new: &[ID_A, SHA256],
+        size: 108,
+    },
+    // a signature, which is dropped
+    Update {
+        version: 1,
+        comment: b"",
+        old: &[SHA256, b"\x04\0\0\0\0\0\0\0\0"],
+        lines: b"id: a",
+        new: &[ID_A, SHA256],
+        size: 108,
+    },
+    Update {
+        version: 7,
+        comment: b"mine",
+        old: &[ID_A, &ONE_KEY, &GITHUB],
+        lines: b"id: a",
+        new: &[ID_A, &ONE_KEY, &GITHUB],
+        size: 131,
+    },
+];
+
+/// The old list, with these lines under all authorities, makes the new one.
+fn updates(
+    rt: &impl Abort,
+    alloc: Global,
+    number: usize,
+    update: &Update,
+) -> Result<(), AllocError> {
+    let old = commented(alloc, update.version, update.comment, update.old)?;
+    let next = update.version.saturating_add(1);
+    let new = commented(alloc, next, update.comment, update.new)?;
+    same(
+        rt,
+        number,
+        &new.len().to_be_bytes(),
+        &update.size.to_be_bytes(),
+    );
+    let made = made(
+        alloc,
+        Some(&old),
+        &Authority::All,
+        None,
+        &[("s", Some(&[update.lines]))],
+    )?;
+    is_made(rt, number, &made, &new);
     Ok(())
 }
 
 #[test]
-fn serials_of_an_old_list_stay(rt: HostRuntime) -> Result<(), Fail> {
-    let alloc = rt.alloc();
-    let old = joined(alloc, &[&HEADER, FIVE])?;
-    let new = joined(alloc, &[&header(alloc, 2, b"")?, FIVE_AND_SIX])?;
-    assert_eq!(rt; new.len(), 75);
-    updates(&rt, alloc, &old, b"serial: 6", &new)?;
-    updates(
-        &rt,
-        alloc,
-        &new,
-        b"",
-        &joined(alloc, &[&header(alloc, 3, b"")?, FIVE_AND_SIX])?,
-    )
-}
-
-#[test]
-fn hashes_of_an_old_list_stay(rt: HostRuntime) -> Result<(), Fail> {
-    let alloc = rt.alloc();
-    let old = joined(alloc, &[&HEADER, HASH])?;
-    let new = joined(alloc, &[&header(alloc, 2, b"")?, ID_A, HASH])?;
-    assert_eq!(rt; new.len(), 108);
-    updates(&rt, alloc, &old, b"id: a", &new)?;
-    let signed = joined(alloc, &[&old, b"\x04\0\0\0\0\0\0\0\0"])?;
-    updates(&rt, alloc, &signed, b"id: a", &new)
-}
-
-#[test]
-fn ids_keys_and_the_comment_of_an_old_list_stay(rt: HostRuntime) -> Result<(), Fail> {
-    let alloc = rt.alloc();
-    let rest = joined(alloc, &[ID_A, &ONE_KEY, &GITHUB])?;
-    let old = joined(alloc, &[&header(alloc, 7, b"mine")?, &rest])?;
-    let new = joined(alloc, &[&header(alloc, 8, b"mine")?, &rest])?;
-    updates(&rt, alloc, &old, b"id: a", &new)
+fn what_an_old_list_holds_stays(rt: HostRuntime) -> Result<(), Fail> {
+    for (i, update) in UPDATES.iter().enumerate() {
+        updates(&rt, rt.alloc(), i, update)?;
+    }
+    Ok(())
 }
 
 #[test]
 fn the_given_version_is_written(rt: HostRuntime) -> Result<(), Fail> {
     let alloc = rt.alloc();
-    let old = joined(alloc, &[&header(alloc, u64::MAX, b"")?, FIVE])?;
-    let want = joined(alloc, &[&header(alloc, 3, b"")?, FIVE])?;
-    let made = made(alloc, Some(&old), Authority::NotGiven, Some(3), &[])?;
-    assert_eq!(rt; made.list.as_slice(), want.as_slice());
+    let old = commented(alloc, u64::MAX, b"", &[FIVE])?;
+    let want = commented(alloc, 3, b"", &[FIVE])?;
+    let made = made(alloc, Some(&old), &Authority::NotGiven, Some(3), &[])?;
+    is_made(&rt, 0, &made, &want);
     Ok(())
+}
+
+/// The authority of the first key of a file, which cannot be opened where it has no text.
+fn authority<'a>(alloc: Global, text: Option<&[u8]>) -> Result<Authority<'a>, AllocError> {
+    let file = match text {
+        Some(text) => holding("ca", Vec::from_slice(alloc, text)?),
+        None => named(alloc, &("ca", None))?,
+    };
+    Ok(Authority::File(file))
 }
 
 #[test]
 fn old_lists_that_cannot_be_updated(rt: HostRuntime) -> Result<(), Fail> {
     let alloc = rt.alloc();
-    let cut = HEADER.get(..43).ok_or("the header has 44 bytes")?;
-    let early = "r.krl: krl 3 EndsEarly";
-    refuses(&rt, alloc, Some(cut), Authority::All, b"x", early)?;
-    let full = header(alloc, u64::MAX, b"")?;
-    let closed = Authority::File(closed_file());
+    let early = "ssh-keygen: r.krl: krl 3 EndsEarly";
     refuses(
         &rt,
         alloc,
-        Some(&full),
-        closed,
+        0,
+        Some(&HEADER[..43]),
+        &Authority::All,
         b"x",
-        "r.krl: run 2 VersionFull",
-    )
+        early,
+    )?;
+    let full = commented(alloc, u64::MAX, b"", &[])?;
+    let closed = authority(alloc, None)?;
+    let fault = "ssh-keygen: r.krl: run 2 VersionFull";
+    refuses(&rt, alloc, 1, Some(&full), &closed, b"x", fault)?;
+    Ok(())
 }
 
-/// A file that could not be opened.
-fn closed_file<'a>() -> Named<'a> {
-    Named {
-        name: "ca",
-        content: Err(FileFault::Open),
-    }
+/// What is made of a serial under the authority that a file of this text names.
+fn made_under(alloc: Global, text: &[u8]) -> Result<Outcome, AllocError> {
+    let authority = authority(alloc, Some(text))?;
+    let file: File = ("s", Some(&[b"serial: 5"]));
+    made(alloc, None, &authority, Some(1), &[file])
 }
 
-/// The authority that the first key of a file names.
-fn authority_in<'a>(alloc: Global, text: &[u8]) -> Result<Authority<'a>, Fail> {
-    Ok(Authority::File(Named {
-        name: "ca",
-        content: Ok(Bytes::from_vec(joined(alloc, &[text])?)),
-    }))
+/// The first key of a file of this text is the authority of a serial.
+fn is_authority(rt: &impl Abort, alloc: Global, text: &[u8], key: &[u8]) -> Result<(), AllocError> {
+    let section = serial_under(alloc, key, 5)?;
+    let want = list_of(alloc, &[&section])?;
+    let made = made_under(alloc, text)?;
+    is_made(rt, 0, &made, &want);
+    Ok(())
 }
 
 #[test]
 fn the_first_key_of_the_file_is_the_authority(rt: HostRuntime) -> Result<(), Fail> {
     let alloc = rt.alloc();
-    let text = joined(
-        alloc,
-        &[b"\n# ca\n", OTHER_LINE, b" x\n", GITHUB_LINE, b"\nx\n"],
-    )?;
-    let blob = even_key(alloc, 0x11)?;
-    let sections: [&[u8]; 4] = [
-        &HEADER,
-        b"\x01\0\0\0\x48\0\0\0\x33",
-        &blob,
-        b"\0\0\0\0\x20\0\0\0\x08\0\0\0\0\0\0\0\x05",
-    ];
-    let want = joined(alloc, &sections)?;
-    let authority = authority_in(alloc, &text)?;
-    let made = made(
-        alloc,
-        None,
-        authority,
-        Some(1),
-        &[("s", Some(&[b"serial: 5"]))],
-    )?;
-    assert_eq!(rt; made.fault.as_slice(), b"".as_slice());
-    assert_eq!(rt; made.list.as_slice(), want.as_slice());
+    let parts: [&[u8]; 5] = [b"\n# ca\n", OTHER_LINE, b" x\n", GITHUB_LINE, b"\nx\n"];
+    let text = joined(alloc, &parts)?;
+    let key = even_key(alloc, 0x11)?;
+    is_authority(&rt, alloc, &text, &key)?;
     Ok(())
 }
 
 #[test]
 fn the_key_of_a_container_is_the_authority(rt: HostRuntime) -> Result<(), Fail> {
-    let alloc = rt.alloc();
-    let text = container(alloc, "none", &list(alloc, 1, 4)?)?;
-    let sections: [&[u8]; 4] = [
-        &HEADER,
-        b"\x01\0\0\0\x48\0\0\0\x33",
-        &GITHUB,
-        b"\0\0\0\0\x20\0\0\0\x08\0\0\0\0\0\0\0\x05",
-    ];
-    let want = joined(alloc, &sections)?;
-    let authority = authority_in(alloc, &text)?;
-    let made = made(
-        alloc,
-        None,
-        authority,
-        Some(1),
-        &[("s", Some(&[b"serial: 5"]))],
-    )?;
-    assert_eq!(rt; made.fault.as_slice(), b"".as_slice());
-    assert_eq!(rt; made.list.as_slice(), want.as_slice());
+    let text = plain(rt.alloc(), 1, 4)?;
+    is_authority(&rt, rt.alloc(), &text, &GITHUB)?;
     Ok(())
+}
+
+/// The file of this text names no authority, for this fault.
+fn is_none(
+    rt: &impl Abort,
+    alloc: Global,
+    number: usize,
+    text: Option<&[u8]>,
+    fault: &str,
+) -> Result<(), AllocError> {
+    let authority = authority(alloc, text)?;
+    refuses(rt, alloc, number, None, &authority, b"x", fault)
 }
 
 #[test]
 fn a_container_that_is_none(rt: HostRuntime) -> Result<(), Fail> {
-    let alloc = rt.alloc();
-    let text = container(alloc, "none", &list(alloc, 2, 4)?)?;
-    let authority = authority_in(alloc, &text)?;
-    refuses(&rt, alloc, None, authority, b"x", "ca: private 6 Check")
+    let text = plain(rt.alloc(), 2, 4)?;
+    let fault = "ssh-keygen: ca: private 6 Check";
+    is_none(&rt, rt.alloc(), 0, Some(&text), fault)?;
+    Ok(())
 }
 
 #[test]
 fn authorities_that_are_none(rt: HostRuntime) -> Result<(), Fail> {
-    let alloc = rt.alloc();
-    let closed = Authority::File(closed_file());
-    refuses(&rt, alloc, None, closed, b"x", "ca: file 1 Open")?;
-    let empty = authority_in(alloc, b"# no key\n\n")?;
-    refuses(&rt, alloc, None, empty, b"x", "ca: file 5 NoKeys")?;
-    let word = authority_in(alloc, b"\nx\n")?;
-    refuses(&rt, alloc, None, word, b"x", "ca: line 2: line 1 NoKey")?;
-    let short = authority_in(alloc, b"ssh-rsa AAAAB3NzaC1yc2E=")?;
-    let fault = "ca: line 1: subject 1 Key, key 1 Wire, wire 1 Short";
-    refuses(&rt, alloc, None, short, b"x", fault)
+    let rows: [(Option<&[u8]>, &str); 4] = [
+        (None, "ssh-keygen: ca: file 1 Open"),
+        (Some(b"# no key\n\n"), "ssh-keygen: ca: file 5 NoKeys"),
+        (Some(b"\nx\n"), "ssh-keygen: ca: line 2: line 1 NoKey"),
+        (
+            Some(b"ssh-rsa AAAAB3NzaC1yc2E="),
+            "ssh-keygen: ca: line 1: subject 1 Key, key 1 Wire, wire 1 Short",
+        ),
+    ];
+    for (i, (text, fault)) in rows.iter().enumerate() {
+        is_none(&rt, rt.alloc(), i, *text, *fault)?;
+    }
+    Ok(())
 }
 
 #[test]
 fn lines_that_are_refused(rt: HostRuntime) -> Result<(), Fail> {
     let alloc = rt.alloc();
     let text = b"# 1\nserial: 5";
-    let fault = "s: line 2: spec 4 NoAuthority";
-    refuses(&rt, alloc, None, Authority::NotGiven, text, fault)?;
-    let fault = "s: line 1: spec 6 Key, line 1 NoKey";
-    refuses(&rt, alloc, None, Authority::All, b"x", fault)?;
-    let files: [File; 3] = [
-        ("s", Some(&[b"serial: 5\n"])),
-        ("none", None),
-        ("t", Some(&[b"x"])),
-    ];
-    let made = made(alloc, None, Authority::All, None, &files)?;
-    assert_eq!(rt;
-        made.fault.as_slice(),
-        b"ssh-keygen: none: file 1 Open".as_slice()
-    );
+    let fault = "ssh-keygen: s: line 2: spec 4 NoAuthority";
+    refuses(&rt, alloc, 0, None, &Authority::NotGiven, text, fault)?;
+    let fault = "ssh-keygen: s: line 1: spec 6 Key, line 1 NoKey";
+    refuses(&rt, alloc, 1, None, &Authority::All, b"x", fault)?;
+    Ok(())
+}
+
+const FILES: [File<'static>; 3] = [("s", Some(&[b"serial: 5\n"])), CLOSED, ("t", Some(&[b"x"]))];
+
+#[test]
+fn a_file_that_cannot_be_opened(rt: HostRuntime) -> Result<(), Fail> {
+    let made = made(rt.alloc(), None, &Authority::All, None, &FILES)?;
+    same(&rt, 0, &made.fault, b"ssh-keygen: none: file 1 Open");
     Ok(())
 }
 
 /// The line of a key ID of so many bytes.
-fn long_id(alloc: Global, size: usize) -> Result<Vec<u8>, Fail> {
-    let mut line = Vec::from_slice(alloc, b"id: ")?;
-    line.extend_from_slice(&repeated(alloc, &[&[0x61; 4096]], size / 4096)?)?;
-    line.extend_from_slice(&repeated(alloc, &[b"a"], size % 4096)?)?;
-    Ok(line)
+fn long_id(alloc: Global, size: usize) -> Result<Vec<u8>, AllocError> {
+    let mut line = repeated(alloc, &[&[0x61; 4096]], size / 4096)?;
+    let rest = repeated(alloc, &[b"a"], size % 4096)?;
+    line.extend_from_slice(&rest)?;
+    joined(alloc, &[b"id: ", &line])
 }
 
-#[test]
-fn a_long_list(rt: HostRuntime) -> Result<(), Fail> {
-    let alloc = rt.alloc();
-    let line = long_id(alloc, 16_777_150)?;
-    let made = made(alloc, None, Authority::All, None, &[("s", Some(&[&line]))])?;
-    assert_eq!(rt; made.fault.as_slice(), b"".as_slice());
-    assert_eq!(rt; made.list.len(), 16_777_216);
+/// The list of a key ID of so many bytes has so many.
+fn has_size(rt: &impl Abort, alloc: Global, id: usize, size: usize) -> Result<(), AllocError> {
+    let line = long_id(alloc, id)?;
+    let made = made(alloc, None, &Authority::All, None, &[("s", Some(&[&line]))])?;
+    same(rt, size, &made.fault, b"");
+    same(
+        rt,
+        size,
+        &made.list.len().to_be_bytes(),
+        &size.to_be_bytes(),
+    );
     Ok(())
 }
 
 #[test]
-fn the_longest_list(rt: HostRuntime) -> Result<(), Fail> {
-    let alloc = rt.alloc();
-    let line = long_id(alloc, 67_108_798)?;
-    let made = made(alloc, None, Authority::All, None, &[("s", Some(&[&line]))])?;
-    assert_eq!(rt; made.fault.as_slice(), b"".as_slice());
-    assert_eq!(rt; made.list.len(), 67_108_864);
+fn long_lists(rt: HostRuntime) -> Result<(), Fail> {
+    // the second one is the longest
+    for (id, size) in [(16_777_150, 16_777_216), (67_108_798, 67_108_864)] {
+        has_size(&rt, rt.alloc(), id, size)?;
+    }
     Ok(())
 }
 
 #[test]
 fn a_list_that_is_too_long(rt: HostRuntime) -> Result<(), Fail> {
-    let alloc = rt.alloc();
-    let line = long_id(alloc, 67_108_799)?;
-    let fault = "r.krl: run 3 TextTooLong";
-    refuses(&rt, alloc, None, Authority::All, &line, fault)
+    let line = long_id(rt.alloc(), 67_108_799)?;
+    let fault = "ssh-keygen: r.krl: run 3 TextTooLong";
+    refuses(&rt, rt.alloc(), 0, None, &Authority::All, &line, fault)?;
+    Ok(())
 }

@@ -1,10 +1,11 @@
 // Runs over files that the tests make, and what they answer.
 
-use crate::tests::bytes::joined;
+use crate::tests::bytes::{joined, same};
 use krl_runs::{Done, FileFault, ListMode, Named, fault_text, list_run, query_run};
 use ssh_key::Hash;
 use ssh_wire::{Bytes, FromRead, ToWrite};
 use std::alloc::{AllocError, Global};
+use std::process::Abort;
 
 /// The line of GitHub's published Ed25519 host key.
 pub const GITHUB_LINE: &[u8] =
@@ -17,6 +18,15 @@ pub const OTHER_LINE: &[u8] =
 /// A file's name and the parts of its text; none where it cannot be opened.
 pub type File<'a> = (&'a str, Option<&'a [&'a [u8]]>);
 
+/// A file of the published key.
+pub const KEY: File<'static> = ("g.pub", Some(&[GITHUB_LINE, b"\n"]));
+
+/// A file that cannot be opened.
+pub const CLOSED: File<'static> = ("none", None);
+
+/// What a run is to print, its status, and the line of its fault, which is empty where it has none.
+pub type Said<'a> = (&'a [u8], u8, &'a str);
+
 /// What a run printed, its status, and the line of its fault, which is empty where it has none.
 #[derive(Debug, Drop)]
 pub struct Ran {
@@ -25,13 +35,41 @@ pub struct Ran {
     pub fault: Vec<u8>,
 }
 
+/// This is what the run said; a number tells it from the other runs of a test.
+pub fn says(rt: &impl Abort, number: usize, ran: &Ran, said: Said) {
+    let (text, status, fault) = said;
+    same(rt, number, &ran.text, text);
+    same(rt, number, &[ran.status], &[status]);
+    same(rt, number, &ran.fault, fault.as_bytes());
+}
+
+/// A file of these bytes.
+pub fn holding<'a>(name: &'a str, bytes: Vec<u8>) -> Named<'a> {
+    Named {
+        name,
+        content: Ok(Bytes::from_vec(bytes)),
+    }
+}
+
+/// The file with what it holds.
 pub fn named<'a>(alloc: Global, file: &File<'a>) -> Result<Named<'a>, AllocError> {
     let (name, parts) = *file;
-    let content = match parts {
-        Some(parts) => Ok(Bytes::from_vec(joined(alloc, parts)?)),
-        None => Err(FileFault::Open),
-    };
-    Ok(Named { name, content })
+    match parts {
+        Some(parts) => Ok(holding(name, joined(alloc, parts)?)),
+        None => Ok(Named {
+            name,
+            content: Err(FileFault::Open),
+        }),
+    }
+}
+
+/// The files with what they hold.
+pub fn all_named<'a>(alloc: Global, files: &[File<'a>]) -> Result<Vec<Named<'a>>, AllocError> {
+    let mut all = Vec::new(alloc);
+    for file in files {
+        all.push(named(alloc, file)?)?;
+    }
+    Ok(all)
 }
 
 /// What is said of a run's end.
@@ -47,59 +85,92 @@ pub fn told(alloc: Global, text: Vec<u8>, done: &Done) -> Result<Ran, AllocError
     })
 }
 
-/// Asks the list `r.krl` about the files.
-pub fn asked(alloc: Global, krl: &[u8], files: &[File]) -> Result<Ran, AllocError> {
-    let mut read = Vec::new(alloc);
-    for file in files {
-        read.push(named(alloc, file)?)?;
-    }
-    asked_of(alloc, krl, read.as_slice())
-}
-
-/// The same, of files that are read.
-pub fn asked_of<'a>(alloc: Global, krl: &[u8], files: &'a [Named<'a>]) -> Result<Ran, AllocError> {
+/// Asks the list `r.krl` about the files; what it holds is printed before that where `dump` is
+/// true.
+fn queried<'a>(
+    alloc: Global,
+    krl: &[u8],
+    dump: bool,
+    files: &'a [Named<'a>],
+) -> Result<Ran, AllocError> {
     let mut text = Vec::new(alloc);
     let mut out = ToWrite::new(&mut text);
-    let done = query_run(alloc, "r.krl", FromRead::new(krl), false, files, &mut out);
+    let done = query_run(alloc, "r.krl", FromRead::new(krl), dump, files, &mut out);
     drop(out);
     told(alloc, text, &done)
 }
 
-/// Prints what the list `r.krl` holds, and asks it about the files.
-pub fn dumped(alloc: Global, krl: &[u8], files: &[File]) -> Result<Ran, AllocError> {
-    let mut read = Vec::new(alloc);
-    for file in files {
-        read.push(named(alloc, file)?)?;
-    }
-    let mut text = Vec::new(alloc);
-    let mut out = ToWrite::new(&mut text);
-    let krl = FromRead::new(krl);
-    let done = query_run(alloc, "r.krl", krl, true, read.as_slice(), &mut out);
-    drop(out);
-    told(alloc, text, &done)
+/// The list `r.krl` is asked about the files, and this is said.
+pub fn asks(
+    rt: &impl Abort,
+    alloc: Global,
+    number: usize,
+    krl: &[u8],
+    files: &[File],
+    said: Said,
+) -> Result<(), AllocError> {
+    let files = all_named(alloc, files)?;
+    let ran = queried(alloc, krl, false, files.as_slice())?;
+    says(rt, number, &ran, said);
+    Ok(())
 }
 
-/// Lists the keys of the file.
-pub fn listed(alloc: Global, hash: Hash, file: &File) -> Result<Ran, AllocError> {
-    listed_by(alloc, ListMode::Keys, hash, file, 0)
+/// What the list `r.krl` holds is printed, it is asked about the files, and this is said.
+pub fn dumps(
+    rt: &impl Abort,
+    alloc: Global,
+    number: usize,
+    krl: &[u8],
+    files: &[File],
+    said: Said,
+) -> Result<(), AllocError> {
+    let files = all_named(alloc, files)?;
+    let ran = queried(alloc, krl, true, files.as_slice())?;
+    says(rt, number, &ran, said);
+    Ok(())
 }
 
-/// Lists the certificates of the file at a moment.
-pub fn certified(alloc: Global, file: &File, moment: u64) -> Result<Ran, AllocError> {
-    listed_by(alloc, ListMode::Certs, Hash::Sha256, file, moment)
-}
-
-fn listed_by(
+/// Lists the keys or the certificates of a file at a moment.
+fn listed<'a>(
     alloc: Global,
     mode: ListMode,
     hash: Hash,
-    file: &File,
+    file: &'a Named<'a>,
     moment: u64,
 ) -> Result<Ran, AllocError> {
-    let read = named(alloc, file)?;
     let mut text = Vec::new(alloc);
     let mut out = ToWrite::new(&mut text);
-    let done = list_run(alloc, mode, hash, &read, moment, &mut out);
+    let done = list_run(alloc, mode, hash, file, moment, &mut out);
     drop(out);
     told(alloc, text, &done)
+}
+
+/// The keys of the file are listed so.
+pub fn lists(
+    rt: &impl Abort,
+    alloc: Global,
+    number: usize,
+    hash: Hash,
+    file: &File,
+    said: Said,
+) -> Result<(), AllocError> {
+    let file = named(alloc, file)?;
+    let ran = listed(alloc, ListMode::Keys, hash, &file, 0)?;
+    says(rt, number, &ran, said);
+    Ok(())
+}
+
+/// The certificates of the file are listed so at a moment.
+pub fn certifies(
+    rt: &impl Abort,
+    alloc: Global,
+    number: usize,
+    file: &File,
+    moment: u64,
+    said: Said,
+) -> Result<(), AllocError> {
+    let file = named(alloc, file)?;
+    let ran = listed(alloc, ListMode::Certs, Hash::Sha256, &file, moment)?;
+    says(rt, number, &ran, said);
+    Ok(())
 }

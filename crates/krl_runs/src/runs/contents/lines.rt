@@ -1,6 +1,6 @@
 // The lines in which a list's header and serials are printed.
 
-ghost use Rattle.std.specs.Prelude.{◌≡◌, ◌++◌, ℕ, List, IfOk, OnOk, decimal};
+ghost use Rattle.std.specs.Prelude.{◌≡◌, ◌++◌, OnOk, decimal};
 ghost use Rattle.krl_core.specs.Authority.{authority_bytes, IsAuthority};
 ghost use Rattle.krl_runs.specs.Contents.{authority_line, authority_text, comment_line, date_line, serials_line, serials_text, version_line};
 
@@ -106,7 +106,7 @@ fn push_serials(span: Span, line: &mut Vec<u8>) -> Result<(), AllocError>
 }
 
 /// Appends the decimal digits of a number.
-fn push_number(number: u64, line: &mut Vec<u8>) -> Result<(), AllocError>
+pub fn push_number(number: u64, line: &mut Vec<u8>) -> Result<(), AllocError>
     ensures { OnOk result (line.new.items ≡ line.old.items ++ decimal number) }
 {
     let mut digits = Buffer::new();

@@ -4,7 +4,7 @@ use Rattle.serial_set.specs.declared.span.Span.{Span}
 use Rattle.ssh_wire.specs.Wire.{string}
 use Rattle.krl_core.specs.Contents.{Section as Listed}
 use Rattle.krl_core.specs.KrlText.{authority_content, listed_text}
-use Rattle.krl_core.specs.Written.{plan_text}
+use Rattle.krl_plan.specs.Written.{plan_text}
 use Rattle.krl_core.proofs.Limits.{authority_front, length-planned_any, length-put, put_done, put_four, too_long_authority}
 use Rattle.krl_core.proofs.writing.authority.add_authority.Goals as goal
 

@@ -1,5 +1,0 @@
-use Rattle.krl_core.proofs.OnePlan.{one_plan}
-use Rattle.krl_core.proofs.laws.written.one_least_plan.Goals as goal
-
-pub returns : goal.returns
-returns c runs one other p q = one_plan runs one other p q

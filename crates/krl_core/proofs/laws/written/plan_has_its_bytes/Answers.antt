@@ -1,9 +1,0 @@
-use Rattle.krl_core.proofs.OnePlan.{length-plan}
-use Rattle.krl_core.proofs.Ranges.{cheapest_small}
-use Rattle.krl_core.proofs.laws.written.plan_has_its_bytes.Goals as goal
-
-pub returns-clause-bytes : goal.returns-clause-bytes
-returns-clause-bytes c runs plan r p = length-plan runs plan r p
-
-pub returns-clause-few : goal.returns-clause-few
-returns-clause-few c runs plan cheapest = cheapest_small runs plan cheapest

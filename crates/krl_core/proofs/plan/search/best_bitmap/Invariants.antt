@@ -1,6 +1,0 @@
-use Rattle.krl_core.specs.declared.plan.group.Sort.TheVariants.{Bitmap}
-use Rattle.krl_core.proofs.Loops.{SoFar}
-use Rattle.krl_core.proofs.plan.search.best_bitmap.Given as goal
-
-abbrev pub invariant-loop-i : goal.invariant-loop-i
-invariant-loop-i l = SoFar l.costs l.runs Bitmap l.i l.initial.best l.best

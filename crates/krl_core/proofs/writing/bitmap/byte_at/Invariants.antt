@@ -1,9 +1,0 @@
-use Rattle.std.proofs.Common.{◌≡◌, ◌+◌, ◌-◌}
-use Rattle.krl_core.specs.Written.{Above, bits_of}
-use Rattle.krl_core.proofs.writing.bitmap.byte_at.Given as goal
-
-abbrev pub invariant-loop-bit : goal.invariant-loop-bit
-invariant-loop-bit l = record {
-  bits : l.byte ≡ bits_of l.runs (l.base + l.bit) (8 - l.bit);
-  above : Above l.runs l.left (l.base + l.bit);
-}

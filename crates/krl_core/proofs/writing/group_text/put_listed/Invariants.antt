@@ -1,8 +1,0 @@
-use Rattle.std.proofs.Common.{◌≡◌, ◌++◌, take}
-use Rattle.std.specs.List.{flat_map}
-use Rattle.ssh_wire.specs.Wire.{number}
-use Rattle.krl_core.specs.Written.{serials_of}
-use Rattle.krl_core.proofs.writing.group_text.put_listed.Given as goal
-
-abbrev pub invariant-loop-run : goal.invariant-loop-run
-invariant-loop-run l = l.out.items ≡ l.initial.out.items ++ flat_map (number 8) (serials_of (take l.run-index l.runs))

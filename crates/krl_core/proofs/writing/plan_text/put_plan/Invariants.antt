@@ -1,5 +1,0 @@
-use Rattle.krl_core.proofs.PlanTexts.{Putting}
-use Rattle.krl_core.proofs.writing.plan_text.put_plan.Given as goal
-
-abbrev pub invariant-loop-group : goal.invariant-loop-group
-invariant-loop-group g l = Putting (g.S.Spans.spans l.set) l.plan l.initial.out.items l.out.items l.group-index l.at

@@ -1,9 +1,0 @@
--- The order of the sorts of a serial subsection.
-use Rattle.std.specs.Prelude.{ℕ}
-use Rattle.krl_core.specs.declared.plan.group.Sort.{Sort}
-use Rattle.krl_core.specs.declared.plan.group.Sort.TheVariants.{Serials, Range, Bitmap}
-
-abbrev pub place : Sort → ℕ
-place Serials = 0
-place Range = 1
-place Bitmap = 2

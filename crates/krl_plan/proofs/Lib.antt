@@ -1,0 +1,4 @@
+pub mod Filling
+pub mod Ranges
+pub mod Windows
+pub mod PlanTexts

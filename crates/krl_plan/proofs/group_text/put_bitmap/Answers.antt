@@ -1,0 +1,22 @@
+use Rattle.std.proofs.Common.{◌≡◌, ◌+◌, ◌/◌, ◌++◌, ◌∷◌, ℕ, get_or, sym, ap, ◌∙◌}
+use Rattle.serial_set.specs.declared.span.Span.{Span}
+use Rattle.ssh_wire.specs.Wire.{number, string}
+use Rattle.krl_plan.specs.Written.{bitmap_of, bitmap_size, first_of}
+use Rattle.krl_plan.specs.GroupTexts.{bitmap_put, first-get, length-bitmap_of}
+use Rattle.krl_plan.proofs.group_text.put_bitmap.Goals as goal
+
+abbrev zero_span : Span
+zero_span = record { lo = 0; hi = 0 }
+
+pub returns : goal.returns
+returns c =
+    let runs = c.args.runs.now in
+    let out = c.args.out.now.items in
+    let first : ℕ = first_of runs in
+    let size : ℕ = (c.reach_of.result + 1) / 8 + 1 in
+    let lo = first-get runs zero_span c.requires.some in
+    let same : size ≡ bitmap_size runs = ap (λ (n : ℕ). (n + 1) / 8 + 1) c.reach_of.ensures in
+    let put = bitmap_put out (get_or runs 0 zero_span).lo size (bitmap_of runs first size) (length-bitmap_of runs first size) in
+    rw (c.in_ok-put_bits.ensures, c.in_ok-put_u32-2.ensures.appends, c.in_ok-put_u64.ensures.appends, c.in_ok-put_u32.ensures.appends, c.in_ok-put_byte.ensures.appends)
+    (put ∙ ap (λ (n : ℕ). out ++ 0x22 ∷ string (number 8 n ++ string (bitmap_of runs first size))) (sym lo)
+    ∙ ap (λ (n : ℕ). out ++ 0x22 ∷ string (number 8 first ++ string (bitmap_of runs first n))) same)

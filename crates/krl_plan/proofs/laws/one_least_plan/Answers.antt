@@ -1,0 +1,5 @@
+use Rattle.krl_plan.specs.OnePlan.{one_plan}
+use Rattle.krl_plan.proofs.laws.one_least_plan.Goals as goal
+
+pub returns : goal.returns
+returns c runs one other p q = one_plan runs one other p q

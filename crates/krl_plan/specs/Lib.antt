@@ -1,0 +1,10 @@
+pub mod Sorts
+pub mod Plan
+pub mod Search
+pub mod Written
+pub mod Chosen
+pub mod Loops
+pub mod BitmapBits
+pub mod ListTexts
+pub mod GroupTexts
+pub mod OnePlan

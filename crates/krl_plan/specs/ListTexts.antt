@@ -1,0 +1,96 @@
+-- The subsection that lists serials.
+use Rattle.std.proofs.Common.{◌≡◌, ℕ, zero, suc, ◌+◌, ◌-◌, ◌*◌, ◌≤◌, List, [], ◌∷◌, ◌++◌, length}
+use Rattle.std.proofs.Common.{take, drop, refl, sym, ap, ◌∙◌, arith, append_assoc, length-append}
+use Rattle.std.specs.List.{All, flat_map}
+use Rattle.std.proofs.lemmas.List.{drop_at, take_all, take_at}
+use Rattle.std.proofs.lemmas.Grind.{flat_map-append}
+use Rattle.serial_set.specs.declared.span.Span.{Span}
+use Rattle.ssh_wire.specs.Wire.{number, string}
+use Rattle.ssh_wire.specs.Fields.{length-number}
+use Rattle.krl_plan.specs.Plan.{IsSmall, serial_count}
+use Rattle.krl_plan.specs.Written.{serials_from, serials_of}
+
+length-numbers : (numbers : List ℕ) → length (flat_map (number 8) numbers) ≡ 8 * length numbers
+length-numbers [] = refl
+length-numbers (n ∷ numbers) =
+    omega (
+      arith,
+      length-append (number 8 n) (flat_map (number 8) numbers),
+      length-number 8 n,
+      length-numbers numbers,
+    )
+
+length-serials_from : (first count : ℕ) → length (serials_from first count) ≡ count
+length-serials_from first zero = refl
+length-serials_from first (suc count) = omega (arith, length-serials_from (first + 1) count)
+
+length-serials_of : (runs : List Span) → length (serials_of runs) ≡ serial_count runs
+length-serials_of [] = refl
+length-serials_of (run ∷ runs) =
+    omega (
+      arith,
+      length-append (serials_from run.lo (run.hi + 1 - run.lo)) (serials_of runs),
+      length-serials_from run.lo (run.hi + 1 - run.lo),
+      length-serials_of runs,
+    )
+
+-- the bytes of a list of serials
+pub length-listed : (runs : List Span)
+    → length (flat_map (number 8) (serials_of runs)) ≡ 8 * serial_count runs
+length-listed runs = omega (arith, length-numbers (serials_of runs), length-serials_of runs)
+
+-- small runs have at most two serials each
+pub small_few : (runs : List Span) → All IsSmall runs → serial_count runs ≤ 2 * length runs
+small_few [] all = omega arith
+small_few (run ∷ runs) all =
+    let here : IsSmall run = all 0 run (omega arith) in
+    let rest = small_few runs (λ k d lt. all (suc k) d (omega arith)) in
+    omega arith
+
+-- one run more
+pub listed_more : (out : List ℕ) (runs : List Span) (run : Span)
+    → (out ++ flat_map (number 8) (serials_of runs)) ++ flat_map (number 8) (serials_of (run ∷ []))
+    ≡ out ++ flat_map (number 8) (serials_of (runs ++ run ∷ []))
+listed_more out runs run =
+    append_assoc out (flat_map (number 8) (serials_of runs))
+    (flat_map (number 8) (serials_of (run ∷ [])))
+    ∙ ap (λ (t : List ℕ). out ++ t)
+    (sym (flat_map-append (number 8) (serials_of runs) (serials_of (run ∷ [])))
+    ∙ ap (flat_map (number 8))
+    (sym (flat_map-append (λ (r : Span). serials_from r.lo (r.hi + 1 - r.lo)) runs (run ∷ []))))
+
+-- the length put in where four bytes were kept for it
+pub string_ended : (before content out : List ℕ) (at : ℕ) → out ≡ (before ++ number 4 0) ++ content
+    → at ≡ length before → take at out ++ string (drop (at + 4) out) ≡ before ++ string content
+string_ended before content out at e is =
+    let len : length (before ++ number 4 0) ≡ at + 4 =
+    omega (arith, length-append before (number 4 0), length-number 4 0) in
+    let front : take at out ≡ before =
+    ap (take at) (e ∙ append_assoc before (number 4 0) content)
+    ∙ take_at before (number 4 0 ++ content) at (sym is) in
+    let back : drop (at + 4) out ≡ content =
+    ap (drop (at + 4)) e ∙ drop_at (before ++ number 4 0) content (at + 4) len in
+    ap (λ (t : List ℕ). t ++ string (drop (at + 4) out)) front
+    ∙ ap (λ (t : List ℕ). before ++ string t) back
+
+-- what stands once all runs are put
+pub all_listed : (runs : List Span) (i : ℕ) (before kept out : List ℕ) → length runs ≤ i
+    → out ≡ kept ++ flat_map (number 8) (serials_of (take i runs))
+    → kept ≡ before ++ number 4 0 → out ≡ (before ++ number 4 0) ++ flat_map (number 8)
+    (serials_of runs)
+all_listed runs i before kept out le e is =
+    e ∙ ap (λ (xs : List Span). kept ++ flat_map (number 8) (serials_of xs)) (take_all i runs le)
+    ∙ ap (λ (t : List ℕ). t ++ flat_map (number 8) (serials_of runs)) is
+
+pub length-all_listed : (runs : List Span) (before out : List ℕ)
+    → out ≡ (before ++ number 4 0) ++ flat_map (number 8) (serials_of runs)
+    → length out ≡ length before + 4 + 8 * serial_count runs
+length-all_listed runs before out e =
+    omega (
+      arith,
+      ap length e,
+      length-append (before ++ number 4 0) (flat_map (number 8) (serials_of runs)),
+      length-append before (number 4 0),
+      length-number 4 0,
+      length-listed runs,
+    )

@@ -1,0 +1,45 @@
+// A group at the front of some runs, and the least cost of a plan that begins with it.
+
+ghost use Rattle.std.specs.Prelude.{◌≡◌, ◌⊎◌, ◌↔◌, IsTrue};
+ghost use Rattle.krl_plan.specs.declared.group.Group.{Group};
+ghost use Rattle.krl_plan.specs.declared.cell.Cell.{Cell};
+ghost use Rattle.krl_plan.specs.Search.{IsAtOrBefore, Wins};
+
+use crate::group::Group;
+
+#[derive(Clone, Copy, Debug)]
+pub(crate) struct Cell {
+    pub(crate) cost: u128,
+    pub(crate) group: Group,
+}
+
+// The cheaper of two cells, and of equals the one whose group comes first.
+pub(crate) fn winner(a: Cell, b: Cell) -> Cell
+    ensures one { (result ≡ a) ⊎ (result ≡ b) }
+    ensures first { (other : Cell) → Wins a other → Wins result other }
+    ensures second { (other : Cell) → Wins b other → Wins result other }
+{
+    if wins(a, b) { a } else { b }
+}
+
+fn wins(a: Cell, b: Cell) -> bool
+    ensures { IsTrue result ↔ Wins a b }
+{
+    if a.cost == b.cost {
+        is_at_or_before(a.group, b.group)
+    } else {
+        a.cost < b.cost
+    }
+}
+
+fn is_at_or_before(a: Group, b: Group) -> bool
+    ensures { IsTrue result ↔ IsAtOrBefore a b }
+{
+    let place = a.sort.place();
+    let other = b.sort.place();
+    if place == other {
+        b.count <= a.count
+    } else {
+        place < other
+    }
+}

@@ -1,0 +1,33 @@
+ghost use Rattle.std.specs.Prelude.{◌≡◌};
+ghost use Rattle.krl_plan.specs.Sorts.{place};
+
+/// The sort of a serial subsection (PROTOCOL.krl, certificate sections).
+#[derive(Clone, Copy, Debug, PartialEq, Eq)]
+pub enum Sort {
+    /// Each serial by itself.
+    Serials,
+    /// A first and a last serial.
+    Range,
+    /// A first serial, and a bit for it and for each that follows.
+    Bitmap,
+}
+
+/// Some runs that one subsection names: those at the front of what is left of a list.
+#[derive(Clone, Copy, Debug, PartialEq, Eq)]
+pub struct Group {
+    pub sort: Sort,
+    pub count: u16,
+}
+
+impl Sort {
+    // Of plans that cost the same, the sort that comes first here is taken.
+    pub(crate) fn place(self) -> u8
+        ensures { result ≡ place self }
+    {
+        match self {
+            Sort::Serials => 0,
+            Sort::Range => 1,
+            Sort::Bitmap => 2,
+        }
+    }
+}

@@ -1,0 +1,23 @@
+//! Laws of the definitions. Each function does nothing: its contract is the law.
+
+ghost use Rattle.std.specs.Prelude.{◌≡◌, ◌≤◌, ◌*◌, List, length};
+ghost use Rattle.serial_set.specs.declared.span.Span.{Span};
+ghost use Rattle.serial_set.specs.Span.{IsRuns};
+ghost use Rattle.krl_plan.specs.declared.group.Group.{Group};
+ghost use Rattle.krl_plan.specs.Plan.{IsCheapest, IsLeastPlan, IsPlan, cost};
+ghost use Rattle.krl_plan.specs.Written.{plan_text};
+
+/// A list of runs has one least plan.
+pub fn one_least_plan()
+    ensures { (runs : List Span) (one other : List Group) → IsLeastPlan runs one
+        → IsLeastPlan runs other → one ≡ other }
+{}
+
+/// The subsections of a plan have as many bytes as it costs, and those of a cheapest plan at most
+/// 21 a run.
+pub fn plan_has_its_bytes()
+    ensures bytes { (runs : List Span) (plan : List Group) → IsRuns runs → IsPlan runs plan
+        → length (plan_text runs plan) ≡ cost runs plan }
+    ensures few { (runs : List Span) (plan : List Group) → IsCheapest runs plan
+        → cost runs plan ≤ 21 * length runs }
+{}

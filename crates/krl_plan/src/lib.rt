@@ -1,0 +1,18 @@
+//! Which subsections name serial numbers in the fewest bytes, and their bytes (PROTOCOL.krl).
+#![tactic(auto)]
+
+mod bitmap;
+mod cell;
+mod group;
+mod group_text;
+pub mod laws;
+mod plan_text;
+mod planner;
+mod search;
+mod string;
+mod table;
+
+pub use group::{Group, Sort};
+pub use plan_text::put_least_plan;
+pub use planner::least_plan;
+pub use string::end_string;

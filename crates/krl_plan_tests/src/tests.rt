@@ -1,0 +1,3 @@
+// What no contract says: worked plans, and their cost beside that of every other plan.
+
+mod planning;
