@@ -1,9 +1,9 @@
 -- The options that the program has (ssh-keygen(1), SYNOPSIS), and what words hold of them.
-use Rattle.std.specs.Prelude.{ℕ, Bool, false, List, [], ◌∷◌, Option, Some, codes, unwrap_or}
+use Rattle.std.specs.Prelude.{ℕ, Bool, false, List, [], ◌∷◌, ◌++◌, Option, Some, codes, unwrap_or}
 use Rattle.std.specs.Option.{option_map_or}
 use Rattle.std.specs.Str.{bytes_eq}
 use Rattle.clap.specs.Lexer.{usize_max}
-use Rattle.clap.specs.Simple.{App, matches_of, new_rule, new_shape}
+use Rattle.clap.specs.Simple.{App, matches_of, new_rule, new_shape, with_rule}
 use Rattle.clap.specs.Walk.{Row, Rule, all_of, first_of}
 use Rattle.clap.specs.declared.builder.action.ArgAction.TheVariants.{Append, Set, SetTrue}
 
@@ -24,22 +24,35 @@ files_rule = record (new_rule (codes "files")) {
   value_names = 1;
 }
 
--- -l, -L, -k, -Q, -f, -E, -u, -s and -z
-abbrev pub rules : List Rule
-rules =
+-- -l, -L, -k and -Q
+abbrev pub modes : List Rule
+modes =
     flag_rule (codes "list") 108
     ∷ flag_rule (codes "certificates") 76
     ∷ flag_rule (codes "make") 107
-    ∷ flag_rule (codes "query") 81
-    ∷ value_rule (codes "file") 102
-    ∷ value_rule (codes "hash") 69
-    ∷ flag_rule (codes "update") 117
+    ∷ flag_rule (codes "query") 81 ∷ []
+
+-- -f and -E
+abbrev pub names : List Rule
+names = value_rule (codes "file") 102 ∷ value_rule (codes "hash") 69 ∷ []
+
+-- -u, -s, -z and the files
+abbrev pub terms : List Rule
+terms =
+    flag_rule (codes "update") 117
     ∷ value_rule (codes "authority") 115
     ∷ value_rule (codes "version") 122
     ∷ files_rule ∷ []
 
+abbrev pub with_rules : App → List Rule → App
+with_rules app [] = app
+with_rules app (rule ∷ rules) = with_rules (with_rule app rule) rules
+
 abbrev pub program : App
-program = record { top = record (new_shape (codes "ssh-keygen")) { rules = rules }; subs = [] }
+program = record {
+  top = record (new_shape (codes "ssh-keygen")) { rules = modes ++ (names ++ terms) };
+  subs = [];
+}
 
 -- What words hold: which of the options without a value are given, the values of the others, and
 -- the files.

@@ -3,7 +3,7 @@
 ghost use Rattle.std.specs.Prelude.{◌≡◌, IfOk, false};
 ghost use Rattle.clap.specs.Simple.{app_of};
 ghost use Rattle.clap.specs.Walk.{rule_of};
-ghost use Rattle.krl_words.specs.Options.{files_rule, flag_rule, program, value_rule};
+ghost use Rattle.krl_words.specs.Options.{files_rule, flag_rule, modes, names, program, terms, value_rule, with_rules};
 
 use clap::{Arg, ArgAction, Command};
 use std::alloc::{AllocError, Global};
@@ -23,10 +23,20 @@ const EXAMPLES: &str = "Examples:
 pub fn program<'a>(alloc: Global) -> Result<Command<'a>, AllocError>
     ensures { IfOk result (λ command. app_of command ≡ program) }
 {
-    Command::new(alloc, "ssh-keygen")
+    let bare = Command::new(alloc, "ssh-keygen")
         .about("Lists keys and certificates; makes, prints and asks key revocation lists")
         .override_usage(USAGE)
-        .after_help(EXAMPLES)
+        .after_help(EXAMPLES);
+    let with_modes = add_modes(alloc, bare)?;
+    let with_names = add_names(alloc, with_modes)?;
+    add_terms(alloc, with_names)
+}
+
+/// Adds what the program can be asked to do.
+fn add_modes<'a>(alloc: Global, command: Command<'a>) -> Result<Command<'a>, AllocError>
+    ensures { IfOk result (λ made. app_of made ≡ with_rules (app_of command.entry) modes) }
+{
+    command
         .arg(flag(
             alloc,
             "list",
@@ -35,7 +45,14 @@ pub fn program<'a>(alloc: Global) -> Result<Command<'a>, AllocError>
         ))?
         .arg(flag(alloc, "certificates", 'L', "List certificates"))?
         .arg(flag(alloc, "make", 'k', "Make a key revocation list"))?
-        .arg(flag(alloc, "query", 'Q', "Ask a key revocation list about keys"))?
+        .arg(flag(alloc, "query", 'Q', "Ask a key revocation list about keys"))
+}
+
+/// Adds the file and the hash.
+fn add_names<'a>(alloc: Global, command: Command<'a>) -> Result<Command<'a>, AllocError>
+    ensures { IfOk result (λ made. app_of made ≡ with_rules (app_of command.entry) names) }
+{
+    command
         .arg(value(
             alloc,
             "file",
@@ -49,7 +66,14 @@ pub fn program<'a>(alloc: Global) -> Result<Command<'a>, AllocError>
             'E',
             "hash",
             "The hash of fingerprints: md5 or sha256",
-        ))?
+        ))
+}
+
+/// Adds what lists are made by, and the files.
+fn add_terms<'a>(alloc: Global, command: Command<'a>) -> Result<Command<'a>, AllocError>
+    ensures { IfOk result (λ made. app_of made ≡ with_rules (app_of command.entry) terms) }
+{
+    command
         .arg(flag(alloc, "update", 'u', "Add to the list that there is"))?
         .arg(value(
             alloc,
