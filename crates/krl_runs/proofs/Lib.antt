@@ -5,11 +5,4 @@ pub mod Ending
 pub mod Answering
 pub mod Items
 pub mod Asking
-pub mod SpecAdds
-pub mod SpecDigits
-pub mod SpecGrowth
-pub mod SpecLines
-pub mod SpecNamed
-pub mod SpecSizes
-pub mod MadeLists
 pub mod Telling

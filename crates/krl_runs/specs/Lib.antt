@@ -9,12 +9,3 @@ pub mod Contents
 pub mod Query
 pub mod Done
 pub mod Listing
-pub mod SpecBlanks
-pub mod SpecNumber
-pub mod SpecStored
-pub mod SpecAdding
-pub mod SpecCause
-pub mod SpecEntry
-pub mod SpecFile
-pub mod SpecLine
-pub mod Making

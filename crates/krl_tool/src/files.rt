@@ -1,6 +1,7 @@
 // The files that the command names.
 
-use krl_runs::{Authority, Cause, FileFault, Named, RunFault, load};
+use krl_make::Authority;
+use krl_runs::{Cause, FileFault, Named, RunFault, load};
 use krl_words::AuthorityName;
 use ssh_wire::FromRead;
 use std::fs::{self, File};

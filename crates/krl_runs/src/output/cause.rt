@@ -4,8 +4,8 @@ ghost use Rattle.std.specs.Prelude.{◌≡◌, Some};
 ghost use Rattle.krl_runs.specs.Stop.{cause_number, cause_text};
 
 use crate::input::file_fault::FileFault;
-use crate::spec_file::spec_cause::SpecCause;
 use krl_core::KrlFault;
+use krl_spec::SpecCause;
 use ssh_cert::SubjectFault;
 use ssh_key::{LineFault, PrivateFault};
 use std::fmt;

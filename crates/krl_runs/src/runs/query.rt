@@ -151,8 +151,8 @@ fn ask_held<'a, W: Sink>(
     print_files(alloc, &Query { list }, files, printer)
 }
 
-/// Where memory runs out, it is for the run itself.
-pub(crate) fn cause_of(fault: KrlFault) -> Cause
+/// Why a run stops at a fault of a list: where memory runs out, it is for the run itself.
+pub fn cause_of(fault: KrlFault) -> Cause
     ensures { result ≡ krl_cause fault }
 {
     if fault == KrlFault::NoMemory {

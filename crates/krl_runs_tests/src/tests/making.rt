@@ -7,7 +7,8 @@ use crate::tests::bytes::{
 use crate::tests::certificates::certificate_line;
 use crate::tests::containers::plain;
 use crate::tests::runs::{CLOSED, File, GITHUB_LINE, OTHER_LINE, all_named, holding, named};
-use krl_runs::{Authority, Named, Old, RunFault, fault_text, make_run};
+use krl_make::{Authority, Old, make_run};
+use krl_runs::{Named, RunFault, fault_text};
 use ssh_wire::FromRead;
 use std::alloc::{AllocError, Global};
 use std::process::Abort;

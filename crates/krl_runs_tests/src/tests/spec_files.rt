@@ -1,6 +1,6 @@
 // What the lines of specification files add.
 
-ghost use Rattle.krl_runs.specs.SpecEntry.{IsUnder};
+ghost use Rattle.krl_spec.specs.Entry.{IsUnder};
 
 use crate::tests::bytes::{
     FIVE, GITHUB, ID_A, ONE_KEY, SHA256, even_key, id_under, joined, list_of, same, serial_under,
@@ -8,7 +8,7 @@ use crate::tests::bytes::{
 use crate::tests::certificates::certificate_line;
 use crate::tests::runs::GITHUB_LINE;
 use krl_core::{Header, Revocations, TextFault, krl_text};
-use krl_runs::{Under, read_spec};
+use krl_spec::{Under, read_spec};
 use serial_set::Held;
 use ssh_wire::Bytes;
 use std::alloc::{AllocError, Global};

@@ -1,0 +1,269 @@
+-- Making a list: what is read of the old one, of the authority's file and of the files.
+use Rattle.std.proofs.Common.{◌≡◌, ◌↔◌, ℕ, ◌+◌, ◌^◌, ◌<◌, ◌≤◌, Bool, false, List, [], ◌∷◌, ◌++◌, length, take, drop, get_or, Option, Some, None, Result, Ok, Err, inl, inr, refl, sym, ap, ◌∙◌, arith, append_assoc}
+use Rattle.std.specs.Prelude.{IsTrue}
+use Rattle.std.proofs.lemmas.List.{append-nil, length-append, take_more, take-append-drop}
+use Rattle.ssh_wire.specs.Fields.{length-string}
+use Rattle.ssh_wire.specs.Wire.{string}
+use Rattle.ssh_key.specs.Container.{IsContainer}
+use Rattle.ssh_key.specs.Kind.{type_name}
+use Rattle.ssh_cert.specs.Subject.{Subject}
+use Rattle.ssh_cert.specs.SubjectReading.{IsSubject, plain_key, certified}
+use Rattle.krl_core.specs.Contents.{Contents, IsOrderly, Means}
+use Rattle.krl_core.specs.Entries.{entries_of}
+use Rattle.krl_core.specs.Entry.{Entry}
+use Rattle.krl_core.specs.Front.{IsFirstFault, limit}
+use Rattle.krl_core.specs.Krl.{Section, Spells}
+use Rattle.krl_core.specs.KrlText.{IsKrlText}
+use Rattle.krl_core.specs.Reading.{IsList, Says}
+use Rattle.krl_core.specs.Revoked.{Revoked}
+use Rattle.krl_core.specs.Tested.{revokes}
+use Rattle.krl_core.specs.declared.header.Header.{Header}
+use Rattle.krl_core.specs.declared.krl_fault.KrlFault.{KrlFault}
+use Rattle.krl_make.specs.declared.base.Base.{Base}
+use Rattle.krl_make.specs.Making.{HasNumbers, IsAtHand, IsAuthorityAtHand, IsFileAtHand, authority_file, lines, new_list, old_list, IsOldRead, IsStop, Made, Makes, NamesSame, WritesList, WritesMade, WritesMore, after_version, authority_of, base_of, cause_stop, content_entries, file_entries, files_entries, header_of, made_of, make_run_of, then_entries, version_of}
+use Rattle.krl_runs.specs.Query.{krl_cause}
+use Rattle.krl_make.specs.declared.authority.Authority.{Authority}
+use Rattle.krl_core.specs.declared.krl_fault.KrlFault.TheVariants as faults
+use Rattle.krl_runs.specs.Run.{File}
+use Rattle.krl_spec.specs.Adding.{AddsEntries}
+use Rattle.krl_spec.specs.SpecFile.{ReadsSpec, StopsAt, lines_of}
+use Rattle.krl_spec.specs.declared.spec_cause.SpecCause.{SpecCause}
+use Rattle.krl_spec.specs.declared.spec_cause.SpecCause.TheVariants as specs
+use Rattle.krl_runs.specs.Stop.{Stop, Ender, ByInput, ByMemory, ByOutput, ender_of, stop_of}
+
+-- ---- the old list
+
+pub old_read : (left : Option (List ℕ)) (header : Header) (contents : Contents)
+    → ((text : List ℕ) → left ≡ Some text → IsList text header contents)
+    → ((text : List ℕ) → left ≡ Some text → IsFirstFault text None)
+    → IsOldRead (Some left) false (Ok (base_of header contents))
+old_read None header contents list none = tt
+old_read (Some text) header contents list none =
+    let is = list text refl in
+    record {
+      header = header;
+      sections = is.sections;
+      spelled = is.spelled;
+      no_fault = none text refl;
+      means = is.means;
+      version_is = refl;
+      comment_is = refl;
+    }
+
+pub old_refused : (left : Option (List ℕ)) (failed : Bool) (fault : KrlFault)
+    → ((text : List ℕ) → left ≡ Some text → Says fault text failed)
+    → IsOldRead (Some left) failed (Err fault)
+old_refused None failed fault says = tt
+old_refused (Some text) failed fault says = says text refl
+
+-- ---- the authority
+
+-- the plain key of what is asked has some bytes
+pub plain_has_bytes : (blob : List ℕ) (asked : Subject) → IsSubject blob asked → 0 < length asked.plain
+plain_has_bytes blob asked (plain_key key is same) =
+    rw same (omega (arith, ap length is.spelled, length-append (string (type_name key.kind)) key.fields, length-string (type_name key.kind)))
+plain_has_bytes blob asked (certified certificate is same) =
+    rw same (omega (arith, length-append (string (type_name certificate.key.kind)) certificate.key.fields, length-string (type_name certificate.key.kind)))
+
+-- the key of a container has some bytes
+pub inside_has_bytes : (text blob comment : List ℕ) → IsContainer text blob comment → 0 < length blob
+inside_has_bytes text blob comment is =
+    omega (arith, ap length is.is_key.spelled, length-append (string (type_name is.key.kind)) is.key.fields, length-string (type_name is.key.kind))
+
+-- ---- the files
+
+-- what was read of files was added
+abbrev pub Added : Result (List Entry) Stop → Contents → Contents → Type 0
+Added read old new = (entries : List Entry) × ((read ≡ Ok entries) × AddsEntries old new entries)
+
+pub text_added : (authority : Option (List ℕ)) (name text : List ℕ) (old new : Contents)
+    → ReadsSpec authority text (Ok (tt {0})) old new
+    → Added (content_entries authority name (Ok text)) old new
+text_added authority name text old new reads =
+    ((lines_of authority text).entries, (rw reads.0 refl, reads.1))
+
+-- Where the lines of a text stop, the run stops.
+pub text_stops : (authority : Option (List ℕ)) (name text : List ℕ) (number : ℕ) (cause : SpecCause) (old new : Contents)
+    → StopsAt authority text number cause old new
+    → IsStop (ender_of (cause_stop name number cause).cause) (λ at. name ≡ at) (content_entries authority name (Ok text)) (cause_stop name number cause)
+text_stops authority name text number specs.NoMemory old new stops = (name, (refl, refl))
+text_stops authority name text number cause old new (told, adds) = rw told refl
+
+nothing_before : (read : Result (List Entry) Stop) → read ≡ then_entries (Ok []) read
+nothing_before (Ok entries) = refl
+nothing_before (Err stop) = refl
+
+regrouped : (a b c : Result (List Entry) Stop)
+    → then_entries a (then_entries b c) ≡ then_entries (then_entries a b) c
+regrouped (Ok a) (Ok b) (Ok c) = ap (λ (x : List Entry). Ok x) (sym (append_assoc a b c))
+regrouped (Ok a) (Ok b) (Err c) = refl
+regrouped (Ok a) (Err b) c = refl
+regrouped (Err a) b c = refl
+
+files_parts : (authority : Option (List ℕ)) (front back : List File)
+    → files_entries authority (front ++ back) ≡ then_entries (files_entries authority front) (files_entries authority back)
+files_parts authority [] back = nothing_before (files_entries authority back)
+files_parts authority (file ∷ front) back =
+    ap (then_entries (file_entries authority file)) (files_parts authority front back) ∙ regrouped (file_entries authority file) (files_entries authority front) (files_entries authority back)
+
+one_file : (authority : Option (List ℕ)) (file : File) (read : Result (List Entry) Stop) → then_entries read (Ok []) ≡ read
+one_file authority file (Ok entries) = ap (λ (x : List Entry). Ok x) (append-nil entries)
+one_file authority file (Err stop) = refl
+
+files_take : (authority : Option (List ℕ)) (files : List File) (i : ℕ) (file : File) → i < length files → file ≡ get_or files i file
+    → files_entries authority (take (i + 1) files) ≡ then_entries (files_entries authority (take i files)) (file_entries authority file)
+files_take authority files i file lt item =
+    let more : take (i + 1) files ≡ take i files ++ file ∷ [] = take_more files i file lt ∙ ap (λ (x : File). take i files ++ x ∷ []) (sym item) in
+    rw more (files_parts authority (take i files) (file ∷ []) ∙ ap (then_entries (files_entries authority (take i files))) (one_file authority file (file_entries authority file)))
+
+pub no_files : (r : Contents) → Added (Ok []) r r
+no_files r = ([], (refl, λ entries means. rw (append-nil entries) means))
+
+pub file_added : (authority : Option (List ℕ)) (files : List File) (i : ℕ) (file : File) (old mid new : Contents)
+    → i < length files → file ≡ get_or files i file
+    → Added (files_entries authority (take i files)) old mid
+    → Added (file_entries authority file) mid new
+    → Added (files_entries authority (take (i + 1) files)) old new
+file_added authority files i file old mid new lt item (front, (read, adds)) (named, (read', adds')) = (
+  front ++ named,
+  (
+    rw (files_take authority files i file lt item, read, read') refl,
+    λ entries means. rw (← append_assoc entries front named) (adds' (entries ++ front) (adds entries means)),
+  ),
+)
+
+-- ---- what stopped the run
+
+-- A stop of a part is one of the whole, where what the part has at hand the whole has.
+pub stop_of_part : {X Y : Type 0} (ender : Ender) (Part Whole : List ℕ → Type 0) (read : Result X Stop) (whole : Result Y Stop) (stop : Stop)
+    → ((at : List ℕ) → Part at → Whole at)
+    → (read ≡ Err stop → whole ≡ Err stop) → IsStop ender Part read stop → IsStop ender Whole whole stop
+stop_of_part ByInput Part Whole read whole stop more same is = same is
+stop_of_part ByMemory Part Whole read whole stop more same (at, (has, is)) = (at, (more at has, is))
+stop_of_part (ByOutput count) Part Whole read whole stop more same is = absurd is
+
+stopped_at : (authority : Option (List ℕ)) (files : List File) (i : ℕ) (file : File) (front : List Entry) (stop : Stop) → i < length files → file ≡ get_or files i file
+    → files_entries authority (take i files) ≡ Ok front → file_entries authority file ≡ Err stop → files_entries authority files ≡ Err stop
+stopped_at authority files i file front stop lt item read read' =
+    let first : files_entries authority (take (i + 1) files) ≡ Err stop = rw (files_take authority files i file lt item, read, read') refl in
+    ap (files_entries authority) (sym (take-append-drop (i + 1) files)) ∙ files_parts authority (take (i + 1) files) (drop (i + 1) files) ∙ ap (λ (x : Result (List Entry) Stop). then_entries x (files_entries authority (drop (i + 1) files))) first
+
+file_at_hand : (authority : Option (List ℕ)) (files : List File) (i : ℕ) (file : File) (front : List Entry) (at : List ℕ) → i < length files → file ≡ get_or files i file
+    → files_entries authority (take i files) ≡ Ok front → file.name ≡ at → IsFileAtHand authority files at
+file_at_hand authority files i file front at lt item read named = record {
+  front = take i files;
+  file = file;
+  back = drop (i + 1) files;
+  parts = sym (take-append-drop (i + 1) files) ∙ ap (λ (x : List File). x ++ drop (i + 1) files) (take_more files i file lt ∙ ap (λ (x : File). take i files ++ x ∷ []) (sym item)) ∙ append_assoc (take i files) (file ∷ []) (drop (i + 1) files);
+  entries = front;
+  faultless = read;
+  named = named;
+}
+
+pub file_stops : (authority : Option (List ℕ)) (files : List File) (i : ℕ) (file : File) (stop : Stop) (old mid : Contents)
+    → i < length files → file ≡ get_or files i file
+    → Added (files_entries authority (take i files)) old mid
+    → IsStop (ender_of stop.cause) (λ at. file.name ≡ at) (file_entries authority file) stop
+    → IsStop (ender_of stop.cause) (IsFileAtHand authority files) (files_entries authority files) stop
+file_stops authority files i file stop old mid lt item (front, (read, adds)) is =
+    stop_of_part (ender_of stop.cause) (λ at. file.name ≡ at) (IsFileAtHand authority files) (file_entries authority file) (files_entries authority files) stop
+    (λ at named. file_at_hand authority files i file front at lt item read named)
+    (λ same. stopped_at authority files i file front stop lt item read same)
+    is
+
+-- ---- the list that is written
+
+-- the law that a written list names what is held
+abbrev pub WrittenNames : Type 0
+WrittenNames =
+    (header : Header) (r : Contents) (text : List ℕ) → IsKrlText header r text → length text ≤ limit → header.version < 2 ^ 64 → header.date < 2 ^ 64 → IsOrderly r
+    → (sections : List Section) × (Spells text header sections × Means r (entries_of sections))
+
+-- the law that what is held revokes what is meant
+abbrev pub HeldRevokes : Type 0
+HeldRevokes = (r : Contents) (entries : List Entry) (subject : Subject) → Means r entries → (IsTrue (revokes r subject) ↔ Revoked entries subject)
+
+both_ways : {P Q R : Type 0} → (P ↔ Q) → (P ↔ R) → (Q ↔ R)
+both_ways to from = (λ q. from.0 (to.1 q), λ r. to.0 (from.1 r))
+
+pub names_same : (header : Header) (contents : Contents) (text : List ℕ) → IsKrlText header contents text
+    → length text ≤ limit → HasNumbers header → WrittenNames → HeldRevokes
+    → (entries : List Entry) → Means contents entries → NamesSame header text entries
+names_same header contents text written within numbers spelled law entries means =
+    let w = spelled header contents text written within numbers.0 numbers.1 means.orderly in
+    record {
+      sections = w.0;
+      spelled = w.1.0;
+      same = λ asked. both_ways (law contents (entries_of w.0) asked w.1.1) (law contents entries asked means);
+    }
+
+pub made_written : {X : Type 0} (view : X → List ℕ) (name : List ℕ) (made : Made) (contents : Contents) (result : Result X Stop)
+    → AddsEntries made.old contents made.entries → WritesList view name made.header contents result → WritesMade view name made result
+made_written view name made contents (Ok text) adds (written, within, names) =
+    record {
+      contents = contents;
+      adds = adds;
+      written = written;
+      within = within;
+      names = λ olds means. names (olds ++ made.entries) (adds olds means);
+    }
+made_written view name made contents (Err stop) adds (inl starved) = inl starved
+made_written view name made contents (Err stop) adds (inr (told, long)) =
+    inr (told, record { contents = contents; adds = adds; long = long })
+
+-- ---- the run
+
+-- what the run has at hand, by what reading gives
+abbrev AtHand : List ℕ → Base → Authority → Option ℕ → List File → Result Made Stop → List ℕ → Type 0
+AtHand name base authority given files read = IsAtHand name (Ok base) authority given files read
+
+-- The fault of the old list stops the run.
+pub base_refused : (name : List ℕ) (authority : Authority) (version : Option ℕ) (files : List File) (moment : ℕ) (fault : KrlFault)
+    → IsStop (ender_of (krl_cause fault)) (IsAtHand name (Err fault) authority version files (make_run_of name (Err fault) authority version files moment)) (make_run_of name (Err fault) authority version files moment) (stop_of name (krl_cause fault))
+unfolding make_run_of
+base_refused name authority version files moment faults.NoMemory = (name, (old_list refl refl, refl))
+base_refused name authority version files moment fault = refl
+
+-- The fault of the authority's file stops the run.
+pub signer_stops : (name : List ℕ) (given : Option ℕ) (authority : Authority) (moment : ℕ) (base : Base) (files : List File) (version : ℕ) (stop : Stop)
+    → version_of given base.version ≡ Some version
+    → IsStop (ender_of stop.cause) (IsAuthorityAtHand authority) (authority_of authority) stop
+    → IsStop (ender_of stop.cause) (AtHand name base authority given files (after_version name (version_of given base.version) authority moment base files)) (after_version name (version_of given base.version) authority moment base files) stop
+signer_stops name given authority moment base files version stop is stops =
+    let read = after_version name (version_of given base.version) authority moment base files in
+    stop_of_part (ender_of stop.cause) (IsAuthorityAtHand authority) (AtHand name base authority given files read) (authority_of authority) read stop
+    (λ at has. authority_file base version refl is has)
+    (λ same. rw (is, same) refl)
+    stops
+
+-- The fault of a file or of a line stops the run.
+files_stop : (name : List ℕ) (given : Option ℕ) (authority : Authority) (moment : ℕ) (base : Base) (files : List File) (version : ℕ) (signer : Option (List ℕ)) (stop : Stop)
+    → version_of given base.version ≡ Some version → authority_of authority ≡ Ok signer
+    → IsStop (ender_of stop.cause) (IsFileAtHand signer files) (files_entries signer files) stop
+    → IsStop (ender_of stop.cause) (AtHand name base authority given files (after_version name (version_of given base.version) authority moment base files)) (after_version name (version_of given base.version) authority moment base files) stop
+files_stop name given authority moment base files version signer stop is signed stops =
+    let read = after_version name (version_of given base.version) authority moment base files in
+    stop_of_part (ender_of stop.cause) (IsFileAtHand signer files) (AtHand name base authority given files read) (files_entries signer files) read stop
+    (λ at has. lines base version signer refl is signed has)
+    (λ same. rw (is, signed, same) refl)
+    stops
+
+-- What is read gives the list that is made, or its text stops the run.
+made_read : {X : Type 0} (view : X → List ℕ) (name : List ℕ) (given : Option ℕ) (authority : Authority) (base : Base) (files : List File) (read : Result Made Stop) (made : Made) (result : Result X Stop)
+    → read ≡ Ok made → WritesMade view name made result → Makes view name (Ok base) authority given files read result
+made_read view name given authority base files read made (Ok text) whole is = (made, (whole, is))
+made_read view name given authority base files read made (Err stop) whole (inl starved) =
+    inl (rw starved (name, (new_list made whole refl, refl)))
+made_read view name given authority base files read made (Err stop) whole (inr (told, long)) =
+    inr (record { made = made; read_as = whole; long = long; stop_is = told })
+
+-- The list is written of what was held and of the files, or the run stops there.
+pub list_written : {X : Type 0} (view : X → List ℕ) (name : List ℕ) (given : Option ℕ) (authority : Authority) (moment : ℕ) (base : Base) (files : List File) (version : ℕ) (signer : Option (List ℕ)) (result : Result X Stop)
+    → version_of given base.version ≡ Some version → authority_of authority ≡ Ok signer
+    → WritesMore view name (header_of version moment base) base.revocations (IsFileAtHand signer files) (files_entries signer files) result
+    → Makes view name (Ok base) authority given files (after_version name (version_of given base.version) authority moment base files) result
+list_written view name given authority moment base files version signer result is signed (inl (entries, (read, written))) =
+    let whole = after_version name (version_of given base.version) authority moment base files in
+    made_read view name given authority base files whole (made_of (header_of version moment base) base.revocations entries) result (rw (is, signed, read) refl) written
+list_written view name given authority moment base files version signer result is signed (inr (stop, (stopped, stops))) =
+    rw stopped (inl (files_stop name given authority moment base files version signer stop is signed stops))

@@ -1,0 +1,338 @@
+-- A list that is made or updated (ssh-keygen(1), options -k and -u).
+use Rattle.std.specs.Prelude.{◌≡◌, ◌↔◌, ℕ, ◌+◌, ◌-◌, ◌^◌, ◌<◌, ◌≤◌, ◌==◌, ◌⊎◌, ⊤, Bool, if◌then◌else◌, List, [], ◌∷◌, ◌++◌, length, Option, Some, None, Result, Ok, Err}
+use Rattle.std.specs.List.{slice_split}
+use Rattle.krl_core.specs.Contents.{Contents, Means, nothing}
+use Rattle.krl_core.specs.Entries.{entries_of}
+use Rattle.krl_core.specs.Entry.{Entry}
+use Rattle.krl_core.specs.Front.{IsFirstFault, limit}
+use Rattle.krl_core.specs.Krl.{Section, Spells}
+use Rattle.krl_core.specs.KrlText.{IsKrlText}
+use Rattle.krl_core.specs.Reading.{Says}
+use Rattle.krl_core.specs.Revoked.{Revoked}
+use Rattle.krl_core.specs.declared.header.Header.{Header}
+use Rattle.krl_core.specs.declared.krl_fault.KrlFault.{KrlFault}
+use Rattle.krl_core.specs.declared.krl_fault.KrlFault.TheVariants as faults
+use Rattle.ssh_key.specs.Armour.{begins_container}
+use Rattle.ssh_key.specs.ContainerReading.{Opened, private_at}
+use Rattle.ssh_key.specs.KeyFile.{has_key}
+use Rattle.ssh_key.specs.LineReading.{Content, line_at}
+use Rattle.ssh_key.specs.declared.line_fault.LineFault.{LineFault}
+use Rattle.ssh_key.specs.declared.private_fault.PrivateFault.{PrivateFault}
+use Rattle.ssh_cert.specs.Subject.{Subject}
+use Rattle.ssh_cert.specs.SubjectReading.{subject_of}
+use Rattle.ssh_cert.specs.declared.subject_fault.SubjectFault.{SubjectFault}
+use Rattle.krl_make.specs.declared.authority.Authority.{Authority}
+use Rattle.krl_make.specs.declared.authority.Authority.TheVariants.{NotGiven, All, File as FileOf}
+use Rattle.krl_make.specs.declared.authority.Signer.{Signer}
+use Rattle.krl_make.specs.declared.authority.Signer.TheVariants as signers
+use Rattle.krl_make.specs.declared.base.Base.{Base}
+use Rattle.krl_runs.specs.declared.input.file_fault.FileFault.{FileFault}
+use Rattle.krl_runs.specs.declared.input.file_fault.FileFault.TheVariants as files
+use Rattle.krl_runs.specs.declared.output.cause.Cause.TheVariants as causes
+use Rattle.krl_spec.specs.declared.spec_cause.SpecCause.{SpecCause}
+use Rattle.krl_spec.specs.declared.spec_cause.SpecCause.TheVariants as specs
+use Rattle.krl_spec.specs.declared.spec_fault.SpecFault.{SpecFault}
+use Rattle.krl_runs.specs.Query.{krl_cause}
+use Rattle.krl_runs.specs.Run.{File, stop_at}
+use Rattle.krl_spec.specs.Adding.{AddsEntries}
+use Rattle.krl_spec.specs.SpecFile.{lines_of}
+use Rattle.ssh_key.specs.Lines.{is_newline}
+use Rattle.krl_runs.specs.Stop.{Stop, Ender, ByInput, ByMemory, ByOutput, ender_of, stop_of}
+
+-- ---- the authority
+
+abbrev pub subject_key : List ℕ → ℕ → Result Subject SubjectFault → Result (List ℕ) Stop
+subject_key name number (Ok asked) = Ok asked.plain
+subject_key name number (Err fault) = Err (stop_at name number (causes.Subject fault))
+
+abbrev pub content_key : List ℕ → ℕ → Result Content LineFault → Result (List ℕ) Stop
+content_key name number (Ok content) = subject_key name number (subject_of content.blob)
+content_key name number (Err fault) = Err (stop_at name number (causes.Line fault))
+
+-- the blob of the plain key of a line
+abbrev pub line_key : List ℕ → ℕ → List ℕ → Result (List ℕ) Stop
+line_key name number line = content_key name number (line_at line)
+
+-- the first key of lines, of which the first has this number
+abbrev pub first_key_from : List ℕ → ℕ → List (List ℕ) → Result (List ℕ) Stop
+first_key_from name number [] = Err (stop_of name (causes.File files.NoKeys))
+first_key_from name number (line ∷ lines) =
+    if has_key line then line_key name number line else first_key_from name (number + 1) lines
+
+-- the key of a container, whose faults have no line
+abbrev pub inside_key : List ℕ → Result Opened PrivateFault → Result (List ℕ) Stop
+inside_key name (Ok opened) = Ok opened.blob
+inside_key name (Err fault) = Err (stop_of name (causes.Private fault))
+
+-- the first key of a file's text
+unfoldable pub first_key_of : List ℕ → List ℕ → Result (List ℕ) Stop
+first_key_of name text =
+    if begins_container text then inside_key name (private_at text)
+    else first_key_from name 1 (slice_split is_newline text)
+
+abbrev pub content_first_key : List ℕ → Result (List ℕ) FileFault → Result (List ℕ) Stop
+content_first_key name (Ok text) = first_key_of name text
+content_first_key name (Err fault) = Err (stop_of name (causes.File fault))
+
+abbrev pub named_authority : Result (List ℕ) Stop → Result (Option (List ℕ)) Stop
+named_authority (Ok blob) = Ok (Some blob)
+named_authority (Err stop) = Err stop
+
+-- Where one is given, all authorities have no bytes, and a file names the authority by its first
+-- key.
+abbrev pub authority_of : Authority → Result (Option (List ℕ)) Stop
+authority_of NotGiven = Ok None
+authority_of All = Ok (Some [])
+authority_of (FileOf file) = named_authority (content_first_key file.name file.content)
+
+-- the authority that is named, with the blob of its key
+abbrev pub signer_authority : Signer → Option (List ℕ)
+signer_authority signers.NotGiven = None
+signer_authority signers.All = Some []
+signer_authority (signers.Of blob) = Some blob
+
+-- a key has some bytes
+abbrev pub IsSigner : Signer → Type 0
+IsSigner signers.NotGiven = ⊤
+IsSigner signers.All = ⊤
+IsSigner (signers.Of blob) = 0 < length blob
+
+-- ---- the files
+
+-- a fault of a line; memory runs out for the run itself, and at no line
+abbrev pub cause_stop : List ℕ → ℕ → SpecCause → Stop
+cause_stop name number specs.NoMemory = stop_of name causes.NoMemory
+cause_stop name number cause = stop_at name number (causes.Spec cause)
+
+abbrev pub line_stop : List ℕ → SpecFault → Stop
+line_stop name fault = stop_at name fault.line (causes.Spec fault.cause)
+
+abbrev pub unless_fault : List ℕ → List Entry → Option SpecFault → Result (List Entry) Stop
+unless_fault name entries None = Ok entries
+unless_fault name entries (Some fault) = Err (line_stop name fault)
+
+abbrev pub content_entries : Option (List ℕ) → List ℕ → Result (List ℕ) FileFault
+    → Result (List Entry) Stop
+content_entries authority name (Ok text) =
+    unless_fault name (lines_of authority text).entries (lines_of authority text).fault
+content_entries authority name (Err fault) = Err (stop_of name (causes.File fault))
+
+-- what the lines of a file name, or where it stops the run
+unfoldable pub file_entries : Option (List ℕ) → File → Result (List Entry) Stop
+file_entries authority file = content_entries authority file.name file.content
+
+abbrev pub then_entries : Result (List Entry) Stop → Result (List Entry) Stop
+    → Result (List Entry) Stop
+then_entries (Ok entries) (Ok later) = Ok (entries ++ later)
+then_entries (Ok entries) (Err stop) = Err stop
+then_entries (Err stop) later = Err stop
+
+-- what the lines of all files name, or the first stop
+abbrev pub files_entries : Option (List ℕ) → List File → Result (List Entry) Stop
+files_entries authority [] = Ok []
+files_entries authority (file ∷ files) =
+    then_entries (file_entries authority file) (files_entries authority files)
+
+-- ---- the run
+
+-- The version that is given, else one more than the old one, which is not there where that is the
+-- greatest, else 0.
+abbrev pub version_of : Option ℕ → Option ℕ → Option ℕ
+version_of (Some given) old = Some given
+version_of None None = Some 0
+version_of None (Some old) = if old == 2 ^ 64 - 1 then None else Some (old + 1)
+
+-- what a list is made of: its header, what the old list holds, and what the lines name
+pub record Made : Type 0 where
+  pub header : Header
+  pub old : Contents
+  pub entries : List Entry
+
+abbrev pub made_of : Header → Contents → List Entry → Made
+made_of header old entries = record { header = header; old = old; entries = entries }
+
+abbrev pub after_files : Header → Contents → Result (List Entry) Stop → Result Made Stop
+after_files header old (Ok entries) = Ok (made_of header old entries)
+after_files header old (Err stop) = Err stop
+
+-- the header of the list that is made
+abbrev pub header_of : ℕ → ℕ → Base → Header
+header_of version moment base =
+    record { version = version; date = moment; comment = base.comment }
+
+-- the version and the date are numbers of 64 bits
+abbrev pub HasNumbers : Header → Type 0
+HasNumbers header = (header.version < 2 ^ 64) × (header.date < 2 ^ 64)
+
+abbrev pub after_authority : ℕ → ℕ → Base → List File → Result (Option (List ℕ)) Stop
+    → Result Made Stop
+after_authority version moment base files (Ok authority) =
+    after_files (header_of version moment base) base.revocations (files_entries authority files)
+after_authority version moment base files (Err stop) = Err stop
+
+abbrev pub after_version : List ℕ → Option ℕ → Authority → ℕ → Base → List File → Result Made Stop
+after_version name None authority moment base files = Err (stop_of name causes.VersionFull)
+after_version name (Some version) authority moment base files =
+    after_authority version moment base files (authority_of authority)
+
+abbrev pub after_old : List ℕ → Authority → Option ℕ → ℕ → List File → Result Base KrlFault
+    → Result Made Stop
+after_old name authority version moment files (Ok base) =
+    after_version name (version_of version base.version) authority moment base files
+after_old name authority version moment files (Err fault) = Err (stop_of name (krl_cause fault))
+
+-- What a list of this name is made of, by what reading the old one gave: its fault, then that its
+-- version is the greatest, then the fault of the authority's file, then those of the files and
+-- lines in order stop the run.
+unfoldable pub make_run_of : List ℕ → Result Base KrlFault → Authority → Option ℕ → List File → ℕ
+    → Result Made Stop
+make_run_of name reading authority version files moment =
+    after_old name authority version moment files reading
+
+-- ---- what the run gives
+
+-- The authority's file is at hand, where one is given.
+abbrev pub IsAuthorityAtHand : Authority → List ℕ → Type 0
+IsAuthorityAtHand NotGiven at = ⊥
+IsAuthorityAtHand All at = ⊥
+IsAuthorityAtHand (FileOf file) at = file.name ≡ at
+
+-- A file is at hand whose lines are read: the files before it have no fault.
+pub record IsFileAtHand (authority : Option (List ℕ)) (files : List File) (at : List ℕ)
+    : Type 0 where
+  pub front : List File
+  pub file : File
+  pub back : List File
+  pub parts : files ≡ front ++ file ∷ back
+  pub entries : List Entry
+  pub faultless : files_entries authority front ≡ Ok entries
+  pub named : file.name ≡ at
+
+-- What a run that makes a list has at hand, by its name: the list while the old one is read, then
+-- the authority's file, then the files in order, and the list again while it is written.
+pub data IsAtHand (name : List ℕ) (reading : Result Base KrlFault) (authority : Authority)
+    (given : Option ℕ) (files : List File) (read : Result Made Stop) (at : List ℕ) : Type 0 where
+  old_list : reading ≡ Err faults.NoMemory → name ≡ at
+      → IsAtHand name reading authority given files read at
+  authority_file : (base : Base) (version : ℕ) → reading ≡ Ok base
+      → version_of given base.version ≡ Some version → IsAuthorityAtHand authority at
+      → IsAtHand name reading authority given files read at
+  lines : (base : Base) (version : ℕ) (signer : Option (List ℕ)) → reading ≡ Ok base
+      → version_of given base.version ≡ Some version → authority_of authority ≡ Ok signer
+      → IsFileAtHand signer files at → IsAtHand name reading authority given files read at
+  new_list : (made : Made) → read ≡ Ok made → name ≡ at
+      → IsAtHand name reading authority given files read at
+
+-- What stopped a run is what reading gives, or memory ran out, and what was at hand is named.
+abbrev pub IsStop : {X : Type 0} → Ender → (List ℕ → Type 0) → Result X Stop → Stop → Type 0
+IsStop ByInput AtHand read stop = read ≡ Err stop
+IsStop ByMemory AtHand read stop =
+    (at : List ℕ) × (AtHand at × (stop ≡ stop_of at causes.NoMemory))
+IsStop (ByOutput count) AtHand read stop = ⊥
+
+-- A function returned what reading gives, seen by a view, or memory ran out.
+abbrev pub Returns : {X Y : Type 0} → (X → Y) → (List ℕ → Type 0) → Result Y Stop → Result X Stop
+    → Type 0
+Returns view AtHand read (Ok x) = read ≡ Ok (view x)
+Returns view AtHand read (Err stop) = IsStop (ender_of stop.cause) AtHand read stop
+
+-- What the files name was added, or the run stopped.
+abbrev pub AddsFiles : {A : Type 0} → (List ℕ → Type 0) → Result (List Entry) Stop → Result A Stop
+    → Contents → Contents → Type 0
+AddsFiles AtHand read (Ok done) old new =
+    (entries : List Entry) × ((read ≡ Ok entries) × AddsEntries old new entries)
+AddsFiles AtHand read (Err stop) old new = IsStop (ender_of stop.cause) AtHand read stop
+
+-- The text is a list that names just what some entries name.
+pub record NamesSame (header : Header) (text : List ℕ) (entries : List Entry) : Type 0 where
+  pub sections : List Section
+  pub spelled : Spells text header sections
+  pub same : (asked : Subject) → Revoked (entries_of sections) asked ↔ Revoked entries asked
+
+-- The text is the list that is written of what the old list holds and the lines name. It revokes
+-- just what any entries that the old list means and those of the lines revoke.
+pub record IsMade (made : Made) (text : List ℕ) : Type 0 where
+  pub contents : Contents
+  pub adds : AddsEntries made.old contents made.entries
+  pub written : IsKrlText made.header contents text
+  pub within : length text ≤ limit
+  pub names : (olds : List Entry) → Means made.old olds
+      → NamesSame made.header text (olds ++ made.entries)
+
+-- The list that would be written is longer than one that can be read.
+pub record IsTooLong (made : Made) : Type 0 where
+  pub contents : Contents
+  pub adds : AddsEntries made.old contents made.entries
+  pub long : (text : List ℕ) → IsKrlText made.header contents text → limit < length text
+
+-- the text of a list was too long
+pub record StopsAtText (name : List ℕ) (read : Result Made Stop) (stop : Stop) : Type 0 where
+  pub made : Made
+  pub read_as : read ≡ Ok made
+  pub long : IsTooLong made
+  pub stop_is : stop ≡ stop_of name causes.TextTooLong
+
+-- The run gives the list, or what stopped it.
+abbrev pub Makes : {X : Type 0} → (X → List ℕ) → List ℕ → Result Base KrlFault → Authority
+    → Option ℕ → List File → Result Made Stop → Result X Stop → Type 0
+Makes view name reading authority given files read (Ok text) =
+    (made : Made) × ((read ≡ Ok made) × IsMade made (view text))
+Makes view name reading authority given files read (Err stop) =
+    IsStop (ender_of stop.cause) (IsAtHand name reading authority given files read) read stop
+    ⊎ StopsAtText name read stop
+
+-- The text is that of the header and of what is held, and names just what that means. Else it is
+-- too long, or memory ran out.
+abbrev pub WritesList : {X : Type 0} → (X → List ℕ) → List ℕ → Header → Contents → Result X Stop
+    → Type 0
+WritesList view name header contents (Ok text) =
+    IsKrlText header contents (view text) × (length (view text) ≤ limit)
+    × ((entries : List Entry) → Means contents entries → NamesSame header (view text) entries)
+WritesList view name header contents (Err stop) =
+    (stop ≡ stop_of name causes.NoMemory)
+    ⊎ ((stop ≡ stop_of name causes.TextTooLong)
+    × ((text : List ℕ) → IsKrlText header contents text → limit < length text))
+
+-- The list is made. Else its text is too long, or memory ran out.
+abbrev pub WritesMade : {X : Type 0} → (X → List ℕ) → List ℕ → Made → Result X Stop → Type 0
+WritesMade view name made (Ok text) = IsMade made (view text)
+WritesMade view name made (Err stop) =
+    (stop ≡ stop_of name causes.NoMemory)
+    ⊎ ((stop ≡ stop_of name causes.TextTooLong) × IsTooLong made)
+
+-- The list is made of what was held and of what is read of the files, or these stop the run.
+abbrev pub WritesMore : {X : Type 0} → (X → List ℕ) → List ℕ → Header → Contents
+    → (List ℕ → Type 0) → Result (List Entry) Stop → Result X Stop → Type 0
+WritesMore view name header old AtHand read result =
+    ((entries : List Entry) × ((read ≡ Ok entries)
+    × WritesMade view name (made_of header old entries) result))
+    ⊎ ((stop : Stop) × ((result ≡ Err stop) × IsStop (ender_of stop.cause) AtHand read stop))
+
+-- ---- the old list
+
+-- nothing is there before the run
+abbrev pub new_base : Base
+new_base = record { version = None; comment = []; revocations = nothing }
+
+-- what is held of a list
+abbrev pub base_of : Header → Contents → Base
+base_of header contents =
+    record { version = Some header.version; comment = header.comment; revocations = contents }
+
+-- A header and sections spell the old list, and what is held means what the sections name.
+pub record IsOldList (text : List ℕ) (base : Base) : Type 0 where
+  pub header : Header
+  pub sections : List Section
+  pub spelled : Spells text header sections
+  pub no_fault : IsFirstFault text None
+  pub means : Means base.revocations (entries_of sections)
+  pub version_is : base.version ≡ Some header.version
+  pub comment_is : base.comment ≡ header.comment
+
+-- What reading an old list gives, where there is one and its bytes are known: what it holds, or its
+-- fault, by whether its reader failed.
+abbrev pub IsOldRead : Option (Option (List ℕ)) → Bool → Result Base KrlFault → Type 0
+IsOldRead None failed reading = (reading ≡ Ok new_base) × Means nothing []
+IsOldRead (Some None) failed reading = ⊤
+IsOldRead (Some (Some text)) failed (Ok base) = IsOldList text base
+IsOldRead (Some (Some text)) failed (Err fault) = Says fault text failed

@@ -1,0 +1,75 @@
+// What a list is made of before the lines.
+
+ghost use Rattle.std.specs.Prelude.{◌≡◌, ◌<◌, ◌^◌, Bool, Err, IfSome, MatchResult, Ok, Result, false, option_map, true};
+ghost use Rattle.std.specs.Option.{ForSome};
+ghost use Rattle.krl_core.specs.declared.krl_fault.KrlFault.{KrlFault as FaultOf};
+ghost use Rattle.krl_make.specs.Making.{IsOldRead, base_of, version_of};
+ghost use Rattle.krl_runs.specs.Query.{krl_cause};
+ghost use Rattle.krl_runs.specs.Stop.{stop_of};
+ghost use Rattle.krl_make.specs.declared.base.Base.{Base as BaseOf};
+
+use krl_core::{Header, Revocations, read_krl};
+use krl_runs::{RunFault, cause_of};
+use serial_set::Held;
+use ssh_wire::{Bytes, Source};
+use std::alloc::Global;
+
+/// What an old list holds, or nothing where there is none.
+#[derive(Drop)]
+pub struct Base {
+    /// The version of the old list.
+    pub version: Option<u64>,
+    pub comment: Bytes,
+    pub revocations: Revocations<Held>,
+}
+
+/// Reads the old list, where there is one.
+pub fn read_base<'a, R: Source + Drop>(
+    alloc: Global,
+    name: &'a str,
+    list: Option<R>,
+) -> Result<Base, RunFault<'a>>
+    requires { ForSome list (λ reader. R.has_failed reader ≡ false) }
+    ensures { (reading : Result BaseOf FaultOf) × (failed : Bool)
+        × (failed ≡ true → (last : R) × (R.has_failed last ≡ true))
+        × IsOldRead (option_map R.left list) failed reading
+        × MatchResult result (λ base. reading ≡ Ok base)
+        (λ stop. (fault : FaultOf) × ((reading ≡ Err fault)
+        × (stop ≡ stop_of name.now (krl_cause fault)))) }
+{
+    let Some(reader) = list else {
+        return Ok(Base {
+            version: None,
+            comment: Bytes::from_vec(Vec::new(alloc)),
+            revocations: Revocations::new(alloc),
+        });
+    };
+    match read_krl::<Held, R>(alloc, reader) {
+        Ok((header, revocations)) => Ok(base_of(header, revocations)),
+        Err(fault) => Err(RunFault::whole(name, cause_of(fault))),
+    }
+}
+
+/// What a list holds that was read.
+fn base_of(header: Header, revocations: Revocations<Held>) -> Base
+    ensures { result ≡ base_of header revocations }
+{
+    Base {
+        version: Some(header.version),
+        comment: header.comment,
+        revocations,
+    }
+}
+
+/// The version of the list that is made: the one that is given, else one more than the old one,
+/// else 0. None where the old one is the greatest.
+pub fn next_version(given: Option<u64>, old: Option<u64>) -> Option<u64>
+    ensures value { result ≡ version_of given old }
+    ensures fits { IfSome result (λ version. version < 2 ^ 64) }
+{
+    match (given, old) {
+        (Some(given), _) => Some(given),
+        (None, Some(old)) => old.checked_add(1),
+        (None, None) => Some(0),
+    }
+}

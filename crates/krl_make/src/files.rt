@@ -1,0 +1,78 @@
+// What specification files add to a list.
+
+ghost use Rattle.std.specs.Prelude.{◌≡◌, Ok};
+ghost use Rattle.krl_make.specs.Making.{AddsFiles, IsFileAtHand, cause_stop, content_entries, file_entries, files_entries};
+ghost use Rattle.krl_spec.specs.Entry.{IsUnder, authority_under};
+
+use krl_core::Revocations;
+use krl_runs::{Cause, Named, RunFault};
+use krl_spec::{SpecCause, SpecFault, Under, read_spec};
+use serial_set::Spans;
+use std::alloc::Global;
+
+/// Adds what the lines of each file name, up to the first fault.
+pub fn add_files<'a, S: Spans>(
+    alloc: Global,
+    revocations: &mut Revocations<S>,
+    under: Under,
+    files: &'a [Named<'a>],
+) -> Result<(), RunFault<'a>>
+    requires { IsUnder under }
+    ensures { AddsFiles (IsFileAtHand (authority_under under.entry) files.now)
+        (files_entries (authority_under under.entry) files.now) result
+        revocations.old revocations.new }
+{
+    for file in files {
+        add_file(alloc, revocations, under, file)?;
+    }
+    Ok(())
+}
+
+/// Adds what the lines of a file name.
+#[tactic(auto, unfolding(crate::specs::Making::file_entries))]
+fn add_file<'a, S: Spans>(
+    alloc: Global,
+    revocations: &mut Revocations<S>,
+    under: Under,
+    file: &'a Named<'a>,
+) -> Result<(), RunFault<'a>>
+    requires { IsUnder under }
+    ensures { AddsFiles (λ at. file.now.name ≡ at)
+        (file_entries (authority_under under.entry) file.now) result
+        revocations.old revocations.new }
+{
+    match &file.content {
+        Ok(text) => add_text(alloc, revocations, under, file.name, text.as_slice()),
+        Err(fault) => Err(RunFault::whole(file.name, Cause::File(*fault))),
+    }
+}
+
+/// Adds what the lines of a file's text name.
+fn add_text<'a, S: Spans>(
+    alloc: Global,
+    revocations: &mut Revocations<S>,
+    under: Under,
+    name: &'a str,
+    text: &[u8],
+) -> Result<(), RunFault<'a>>
+    requires { IsUnder under }
+    ensures { AddsFiles (λ at. name.now ≡ at)
+        (content_entries (authority_under under.entry) name.now (Ok text.now))
+        result revocations.old revocations.new }
+{
+    match read_spec(alloc, revocations, under, text) {
+        Ok(()) => Ok(()),
+        Err(fault) => Err(stop_at(name, fault)),
+    }
+}
+
+/// Where memory runs out, it is for the run itself, and no line is told.
+fn stop_at<'a>(name: &'a str, fault: SpecFault) -> RunFault<'a>
+    ensures { result ≡ cause_stop name.now fault.line fault.cause }
+{
+    if fault.cause == SpecCause::NoMemory {
+        RunFault::whole(name, Cause::NoMemory)
+    } else {
+        RunFault::at_line(name, fault.line, Cause::Spec(fault.cause))
+    }
+}

@@ -1,0 +1,10 @@
+//! Making key revocation lists, and updating them (ssh-keygen(1), options -k and -u).
+#![tactic(auto)]
+
+mod authority;
+mod base;
+mod files;
+mod run;
+
+pub use authority::Authority;
+pub use run::{Old, make_run};

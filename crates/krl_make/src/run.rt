@@ -1,0 +1,123 @@
+// Making a list of an old one and of specification files.
+
+ghost use Rattle.std.specs.Prelude.{◌≡◌, Bool, Ok, Result, false, option_map, true};
+ghost use Rattle.std.specs.Option.{ForSome};
+ghost use Rattle.krl_core.specs.declared.krl_fault.KrlFault.{KrlFault as FaultOf};
+ghost use Rattle.krl_make.specs.Making.{HasNumbers, IsFileAtHand, IsOldRead, Makes, WritesList, WritesMore, after_old, files_entries, make_run_of};
+ghost use Rattle.krl_spec.specs.Entry.{IsUnder, authority_under};
+ghost use Rattle.krl_make.specs.declared.base.Base.{Base as BaseOf};
+
+use crate::authority::{Authority, signer_of};
+use crate::base::{Base, next_version, read_base};
+use crate::files::add_files;
+use krl_core::laws::{revokes_what_is_meant, written_list_names_what_is_held};
+use krl_core::{Header, Revocations, TextFault, krl_text};
+use krl_runs::{Cause, Named, RunFault};
+use krl_spec::Under;
+use serial_set::Held;
+use ssh_wire::Source;
+use std::alloc::Global;
+
+/// The list that is made: its name, and where it is updated the reader of the old one.
+#[derive(Drop)]
+pub struct Old<'a, R: Source + Drop> {
+    pub name: &'a str,
+    pub list: Option<R>,
+}
+
+/// The bytes of a list that holds what the old one held and what the lines of the files name. Its
+/// version is the one that is given, else one more than that of the old list, else 0; its date is
+/// the moment in seconds since 1970, and its comment that of the old list.
+///
+/// The first fault stops the run: that of the old list, that its version is the greatest, that of
+/// the authority's file, those of the files and lines in order, that the list would be too long to
+/// be read.
+pub fn make_run<'a, R: Source + Drop>(
+    alloc: Global,
+    old: Old<'a, R>,
+    authority: &'a Authority<'a>,
+    version: Option<u64>,
+    files: &'a [Named<'a>],
+    moment: u64,
+) -> Result<Vec<u8>, RunFault<'a>>
+    requires { ForSome old.list (λ reader. R.has_failed reader ≡ false) }
+    // Whether the reader failed, which is not said where it did not.
+    ensures { (reading : Result BaseOf FaultOf) × (failed : Bool)
+        × (failed ≡ true → (last : R) × (R.has_failed last ≡ true))
+        × IsOldRead (option_map R.left old.entry.list) failed reading
+        × Makes (λ made. made.items) old.entry.name.now reading authority.now version files.now
+        (make_run_of old.entry.name.now reading authority.now version files.now moment) result }
+{
+    let Old { name, list } = old;
+    let base = read_base(alloc, name, list)?;
+    make_over(alloc, name, base, authority, version, files, moment)
+}
+
+/// The bytes of a list that holds what was held before and what the lines of the files name.
+fn make_over<'a>(
+    alloc: Global,
+    name: &'a str,
+    base: Base,
+    authority: &'a Authority<'a>,
+    version: Option<u64>,
+    files: &'a [Named<'a>],
+    moment: u64,
+) -> Result<Vec<u8>, RunFault<'a>>
+    ensures { Makes (λ made. made.items) name.now (Ok base) authority.now version files.now
+        (after_old name.now authority.now version moment files.now (Ok base)) result }
+{
+    let Base {
+        version: old_version,
+        comment,
+        revocations,
+    } = base;
+    let Some(version) = next_version(version, old_version) else {
+        return Err(RunFault::whole(name, Cause::VersionFull));
+    };
+    let header = Header {
+        version,
+        date: moment,
+        comment,
+    };
+    let signer = signer_of(alloc, authority)?;
+    add_and_write(alloc, name, &header, revocations, signer.under(), files)
+}
+
+/// Adds what the lines of the files name to what is held, and writes the list.
+fn add_and_write<'a>(
+    alloc: Global,
+    name: &'a str,
+    header: &Header,
+    held: Revocations<Held>,
+    under: Under,
+    files: &'a [Named<'a>],
+) -> Result<Vec<u8>, RunFault<'a>>
+    requires under { IsUnder under }
+    requires numbers { HasNumbers header.now }
+    ensures { WritesMore (λ made. made.items) name.now header.now held
+        (IsFileAtHand (authority_under under.entry) files.now)
+        (files_entries (authority_under under.entry) files.now) result }
+{
+    let mut revocations = held;
+    add_files(alloc, &mut revocations, under, files)?;
+    write_list(alloc, name, header, &revocations)
+}
+
+/// The text of a list.
+fn write_list<'a>(
+    alloc: Global,
+    name: &'a str,
+    header: &Header,
+    revocations: &Revocations<Held>,
+) -> Result<Vec<u8>, RunFault<'a>>
+    requires { HasNumbers header.now }
+    ensures { WritesList (λ made. made.items) name.now header.now revocations.now result }
+{
+    revokes_what_is_meant();
+    written_list_names_what_is_held();
+    match krl_text(alloc, header, revocations) {
+        Ok(text) => Ok(text),
+        Err(TextFault::NoMemory) => Err(RunFault::whole(name, Cause::NoMemory)),
+        Err(TextFault::TooLong) => Err(RunFault::whole(name, Cause::TextTooLong)),
+    }
+}

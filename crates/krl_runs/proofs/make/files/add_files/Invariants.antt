@@ -1,9 +1,0 @@
--- What the files so far name is added.
-use Rattle.std.proofs.Common.{Ok, take}
-use Rattle.krl_runs.specs.Making.{AddsFiles, IsFileAtHand, files_entries}
-use Rattle.krl_runs.specs.SpecEntry.{authority_under}
-use Rattle.krl_runs.proofs.make.files.add_files.Given as goal
-
-abbrev pub invariant-loop-file : goal.invariant-loop-file
-invariant-loop-file g l =
-    AddsFiles (IsFileAtHand (authority_under l.under) l.files) (files_entries (authority_under l.under) (take l.file-index l.files)) (Ok (tt {0})) l.initial.revocations l.revocations

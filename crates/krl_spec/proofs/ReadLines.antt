@@ -1,0 +1,179 @@
+-- Lines of a specification file, read one after the other.
+use Rattle.std.proofs.Common.{◌≡◌, ℕ, ◌+◌, ◌≤◌, List, [], ◌∷◌, ◌++◌, length, Option, Some, None, Result, Ok, Err, refl, sym, ap, ◌∙◌, arith, append_assoc}
+use Rattle.std.proofs.lemmas.List.{length-append, append-nil}
+use Rattle.std.specs.List.{slice_split}
+use Rattle.krl_core.specs.Contents.{Contents, held}
+use Rattle.krl_core.specs.Entry.{Entry}
+use Rattle.krl_spec.specs.Adding.{AddsEntries, AddsLine, Tells}
+use Rattle.krl_spec.specs.Entry.{line_entry}
+use Rattle.krl_spec.specs.SpecFile.{Named, ReadsSpec, StarvesAt, StopsAt, before_later, lines_from, lines_of}
+use Rattle.ssh_key.specs.Lines.{is_newline}
+use Rattle.krl_spec.specs.declared.spec_cause.SpecCause.{SpecCause}
+use Rattle.krl_spec.specs.declared.spec_cause.SpecCause.TheVariants as causes
+
+-- entries before what later lines name
+abbrev pub with_entries : List Entry → Named → Named
+with_entries entries later =
+    record { entries = entries ++ later.entries; fault = later.fault }
+
+later_line : (number : ℕ) (read : Option (Result Entry SpecCause)) (front all back : Named)
+    → (before_later number read front).fault ≡ None
+    → (front.fault ≡ None → all ≡ with_entries front.entries back)
+    → before_later number read all ≡ with_entries (before_later number read front).entries back
+later_line number None front all back none step = step none
+later_line number (Some (Ok entry)) front all back none step = rw (step none) refl
+later_line number (Some (Err cause)) front all back none step = absurd (cc)
+
+-- What lines name whose front has no fault is what the front names, and then the rest.
+pub named_parts : (authority : Option (List ℕ)) (number : ℕ) (front back : List (List ℕ))
+    → (lines_from authority number front).fault ≡ None
+    → lines_from authority number (front ++ back)
+    ≡ with_entries (lines_from authority number front).entries (lines_from authority (number + length front) back)
+named_parts authority number [] back none =
+    let same : number + 0 ≡ number = omega arith in
+    rw same refl
+named_parts authority number (line ∷ front) back none =
+    let same : number + 1 + length front ≡ number + length (line ∷ front) = omega arith in
+    later_line number (line_entry authority line) _ _ _ none
+    (λ later. named_parts authority (number + 1) front back later ∙ ap (λ (n : ℕ). with_entries (lines_from authority (number + 1) front).entries (lines_from authority n back)) same)
+
+-- The lines before are read: they have no fault, and what they name was added.
+pub record IsAt (authority : Option (List ℕ)) (lines : List (List ℕ)) (passed : ℕ) (rest : List (List ℕ)) (old new : Contents) : Type 0 where
+  pub before : List (List ℕ)
+  pub parts : lines ≡ before ++ rest
+  pub counted : length before ≡ passed
+  pub faultless : (lines_from authority 1 before).fault ≡ None
+  pub adds : AddsEntries old new (lines_from authority 1 before).entries
+  pub few : held new ≤ held old + length (lines_from authority 1 before).entries
+
+pub none_read : (authority : Option (List ℕ)) (lines : List (List ℕ)) (r : Contents) → IsAt authority lines 0 lines r r
+none_read authority lines r = record {
+  before = [];
+  parts = refl;
+  counted = refl;
+  faultless = refl;
+  adds = λ entries means. rw (append-nil entries) means;
+  few = omega arith;
+}
+
+-- A line has no fault, and what it names, if anything, was added.
+record LineAdds (authority : Option (List ℕ)) (number : ℕ) (line : List ℕ) (old new : Contents) : Type 0 where
+  named : List Entry
+  is : lines_from authority number (line ∷ []) ≡ record { entries = named; fault = None }
+  adds : AddsEntries old new named
+  few : held new ≤ held old + length named
+
+line_adds : (Stores : Contents → Contents → Type 0) (authority : Option (List ℕ)) (number : ℕ) (line : List ℕ) (old new : Contents)
+    (read : Option (Result Entry SpecCause)) → line_entry authority line ≡ read
+    → AddsLine Stores read (Ok (tt {0})) old new → LineAdds authority number line old new
+line_adds Stores authority number line old new None is same = record {
+  named = [];
+  is = rw is refl;
+  adds = λ entries means. rw (append-nil entries, same) means;
+  few = let least : held new ≡ held old = ap held same in omega arith;
+}
+line_adds Stores authority number line old new (Some (Ok entry)) is (entry', (same, (adds, (few, stores)))) =
+    let one : entry ≡ entry' = cc in
+    record {
+      named = entry' ∷ [];
+      is = rw (is, one) refl;
+      adds = adds;
+      few = few;
+    }
+line_adds Stores authority number line old new (Some (Err cause)) is (entry', (same, more)) = absurd (cc)
+
+-- the next line is read
+next_line : (authority : Option (List ℕ)) (lines : List (List ℕ)) (passed : ℕ) (line : List ℕ) (rest : List (List ℕ))
+    (old mid new : Contents) → (at : IsAt authority lines passed (line ∷ rest) old mid)
+    → LineAdds authority (1 + length at.before) line mid new → IsAt authority lines (passed + 1) rest old new
+next_line authority lines passed line rest old mid new at now =
+    let e = (lines_from authority 1 at.before).entries in
+    let is : lines_from authority 1 (at.before ++ line ∷ []) ≡ record { entries = e ++ now.named; fault = None } =
+    named_parts authority 1 at.before (line ∷ []) at.faultless ∙ ap (with_entries e) now.is in
+    record {
+      before = at.before ++ line ∷ [];
+      parts = at.parts ∙ sym (append_assoc at.before (line ∷ []) rest);
+      counted = omega (arith, at.counted, length-append at.before (line ∷ []));
+      faultless = ap (λ (n : Named). n.fault) is;
+      adds = λ entries means. rw (is, ← append_assoc entries e now.named) (now.adds (entries ++ e) (at.adds entries means));
+      few = rw is (omega (arith, at.few, now.few, length-append e now.named));
+    }
+
+pub line_read : (Stores : Contents → Contents → Type 0) (authority : Option (List ℕ)) (lines : List (List ℕ)) (passed : ℕ) (line : List ℕ) (rest : List (List ℕ))
+    (old mid new : Contents) → IsAt authority lines passed (line ∷ rest) old mid
+    → AddsLine Stores (line_entry authority line) (Ok (tt {0})) mid new → IsAt authority lines (passed + 1) rest old new
+line_read Stores authority lines passed line rest old mid new at adds =
+    next_line authority lines passed line rest old mid new at (line_adds Stores authority (1 + length at.before) line mid new (line_entry authority line) refl adds)
+
+-- All lines are read.
+pub all_read : (authority : Option (List ℕ)) (text : List ℕ) (passed : ℕ) (old new : Contents)
+    → IsAt authority (slice_split is_newline text) passed [] old new
+    → ReadsSpec authority text (Ok (tt {0})) old new × (held new ≤ held old + length (lines_of authority text).entries)
+unfolding lines_of
+all_read authority text passed old new at =
+    let whole : slice_split is_newline text ≡ at.before = at.parts ∙ append-nil at.before in
+    rw whole ((at.faultless, at.adds), at.few)
+
+-- What the front of the lines names comes first.
+front_is_few : (authority : Option (List ℕ)) (lines : List (List ℕ)) (passed : ℕ) (rest : List (List ℕ)) (old new : Contents)
+    → IsAt authority lines passed rest old new → held new ≤ held old + length (lines_from authority 1 lines).entries
+front_is_few authority lines passed rest old new at =
+    let e = (lines_from authority 1 at.before).entries in
+    let later = lines_from authority (1 + length at.before) rest in
+    let is : lines_from authority 1 lines ≡ with_entries e later = ap (lines_from authority 1) at.parts ∙ named_parts authority 1 at.before rest at.faultless in
+    rw is (omega (arith, at.few, length-append e later.entries))
+
+-- The fault of a line is the first one.
+told : (authority : Option (List ℕ)) (text : List ℕ) (passed : ℕ) (line : List ℕ) (rest : List (List ℕ)) (old new : Contents) (cause : SpecCause)
+    → IsAt authority (slice_split is_newline text) passed (line ∷ rest) old new → line_entry authority line ≡ Some (Err cause)
+    → ((lines_of authority text).fault ≡ Some (record { line = passed + 1; cause = cause })) × AddsEntries old new (lines_of authority text).entries
+unfolding lines_of
+told authority text passed line rest old new cause at is =
+    let e = (lines_from authority 1 at.before).entries in
+    let number : 1 + length at.before ≡ passed + 1 = omega (arith, at.counted) in
+    let stop : Named = record { entries = []; fault = Some (record { line = passed + 1; cause = cause }) } in
+    let here : lines_from authority (1 + length at.before) (line ∷ rest) ≡ stop = rw (is, number) refl in
+    let whole : lines_from authority 1 (slice_split is_newline text) ≡ with_entries e stop =
+    ap (lines_from authority 1) at.parts ∙ named_parts authority 1 at.before (line ∷ rest) at.faultless ∙ ap (with_entries e) here in
+    (ap (λ (n : Named). n.fault) whole, λ entries means. rw (whole, append-nil e) (at.adds entries means))
+
+starved : (authority : Option (List ℕ)) (lines : List (List ℕ)) (passed : ℕ) (line : List ℕ) (rest : List (List ℕ)) (old new : Contents)
+    → IsAt authority lines passed (line ∷ rest) old new → StarvesAt authority lines (passed + 1) old new
+starved authority lines passed line rest old new at = record {
+  before = at.before;
+  line = line;
+  after = rest;
+  parts = at.parts;
+  counted = omega (arith, at.counted);
+  faultless = at.faultless;
+  adds = at.adds;
+}
+
+stops : (authority : Option (List ℕ)) (text : List ℕ) (passed : ℕ) (line : List ℕ) (rest : List (List ℕ)) (old new : Contents)
+    (read : Result Entry SpecCause) (cause : SpecCause) → IsAt authority (slice_split is_newline text) passed (line ∷ rest) old new
+    → line_entry authority line ≡ Some read → Tells read cause → StopsAt authority text (passed + 1) cause old new
+stops authority text passed line rest old new read causes.NoMemory at is tells = starved authority _ passed line rest old new at
+stops authority text passed line rest old new read causes.Number at is tells = told authority text passed line rest old new _ at (is ∙ ap Some tells)
+stops authority text passed line rest old new read causes.Zero at is tells = told authority text passed line rest old new _ at (is ∙ ap Some tells)
+stops authority text passed line rest old new read causes.Reversed at is tells = told authority text passed line rest old new _ at (is ∙ ap Some tells)
+stops authority text passed line rest old new read causes.NoAuthority at is tells = told authority text passed line rest old new _ at (is ∙ ap Some tells)
+stops authority text passed line rest old new read causes.EmptyId at is tells = told authority text passed line rest old new _ at (is ∙ ap Some tells)
+stops authority text passed line rest old new read (causes.Key cause) at is tells = told authority text passed line rest old new _ at (is ∙ ap Some tells)
+stops authority text passed line rest old new read (causes.Fingerprint fault) at is tells = told authority text passed line rest old new _ at (is ∙ ap Some tells)
+
+stopped_by : (Stores : Contents → Contents → Type 0) (authority : Option (List ℕ)) (text : List ℕ) (passed : ℕ) (line : List ℕ) (rest : List (List ℕ)) (old mid new : Contents)
+    (read : Option (Result Entry SpecCause)) (cause : SpecCause) → IsAt authority (slice_split is_newline text) passed (line ∷ rest) old mid
+    → line_entry authority line ≡ read → AddsLine {A = Unit {0}} Stores read (Err cause) mid new
+    → StopsAt authority text (passed + 1) cause old new × (held new ≤ held old + length (lines_of authority text).entries)
+unfolding lines_of
+stopped_by Stores authority text passed line rest old mid new None cause at is adds = absurd adds
+stopped_by Stores authority text passed line rest old mid new (Some read) cause at is (tells, same) =
+    rw same (stops authority text passed line rest old mid read cause at is tells, front_is_few authority _ passed (line ∷ rest) old mid at)
+
+-- A line stops the reading, or memory runs out there.
+pub line_stops : (Stores : Contents → Contents → Type 0) (authority : Option (List ℕ)) (text : List ℕ) (passed : ℕ) (line : List ℕ) (rest : List (List ℕ)) (old mid new : Contents) (cause : SpecCause)
+    → IsAt authority (slice_split is_newline text) passed (line ∷ rest) old mid
+    → AddsLine {A = Unit {0}} Stores (line_entry authority line) (Err cause) mid new
+    → StopsAt authority text (passed + 1) cause old new × (held new ≤ held old + length (lines_of authority text).entries)
+line_stops Stores authority text passed line rest old mid new cause at adds =
+    stopped_by Stores authority text passed line rest old mid new (line_entry authority line) cause at refl adds

@@ -1,0 +1,236 @@
+-- What a line names has no more bytes than the line.
+use Rattle.std.proofs.Common.{◌≡◌, ℕ, ◌+◌, ◌-◌, ◌*◌, ◌≤◌, Bool, true, false, nat_lt, List, [], ◌∷◌, ◌++◌, length, drop, get_or, replicate, Option, Some, None, inl, inr, refl, sym, ap, ◌∙◌, arith}
+use Rattle.std.specs.Prelude.{option_map}
+use Rattle.std.specs.List.{Contains, before_first, position_or_len, prefix_len, suffix_len}
+use Rattle.std.proofs.lemmas.List.{length-append, length-drop, length-take}
+use Rattle.std.proofs.lemmas.List.Elements.{All-append, All-contains, All-map}
+use Rattle.base64.specs.Engines.{standard, standard_no_pad}
+use Rattle.base64.specs.Rfc4648.{encode, encode_group, encode_symbols, padding_len}
+use Rattle.ssh_wire.specs.Fields.{length-number, length-string}
+use Rattle.ssh_wire.specs.Wire.{complement, mpint, number, string, strings}
+use Rattle.ssh_key.specs.Blanks.{after_blanks, before_ending, is_blank, is_ending, trimmed}
+use Rattle.ssh_key.specs.FingerprintReading.{IsFingerprint, sha256_prefix}
+use Rattle.ssh_key.specs.Fingerprints.{unpadded}
+use Rattle.ssh_key.specs.Key.{AreValues, IsKey, Key, field_text, fields_text}
+use Rattle.ssh_key.specs.KeyLine.{AreWords, HasWords, IsKeyLine, base64}
+use Rattle.ssh_key.specs.Kind.{Field, Positive, Curve, Point, Sized, Text, certificate_name, fields_of, kinds, type_name}
+use Rattle.ssh_key.specs.TypeName.{certificate_names, plain_names, type_names}
+use Rattle.ssh_key.specs.declared.kind.Kind.{Kind}
+use Rattle.ssh_key.specs.declared.kind.Kind.TheVariants.{Rsa, Dsa, Ecdsa256, Ecdsa384, Ecdsa521, Ed25519, EcdsaSk, Ed25519Sk}
+use Rattle.ssh_cert.specs.Certificate.{Certificate, IsCertificate, joined, role_number}
+use Rattle.ssh_cert.specs.Options.{options_text}
+use Rattle.ssh_cert.specs.Subject.{Subject}
+use Rattle.ssh_cert.specs.SubjectReading.{IsSubject, plain_key, certified, of_certificate}
+use Rattle.krl_spec.specs.Blanks.{after_endings}
+use Rattle.krl_spec.specs.Line.{Order, bare_line, directive_named, is_colon, is_hash, order, order_in}
+use Rattle.krl_spec.specs.declared.directive.Directive.{Directive}
+use Rattle.krl_spec.specs.Stored.{IsWithinBlob}
+
+-- ---- texts without their ends
+
+pub length-after_blanks : (text : List ℕ) → length (after_blanks text) ≤ length text
+unfolding after_blanks
+length-after_blanks text = omega (arith, length-drop (prefix_len is_blank text) text)
+
+length-before_ending : (text : List ℕ) → length (before_ending text) ≤ length text
+unfolding before_ending
+length-before_ending text = omega (arith, length-take (length text - suffix_len is_ending text) text)
+
+length-after_endings : (text : List ℕ) → length (after_endings text) ≤ length text
+unfolding after_endings
+length-after_endings text = omega (arith, length-drop (prefix_len is_ending text) text)
+
+length-trimmed : (text : List ℕ) → length (trimmed text) ≤ length text
+unfolding trimmed
+length-trimmed text = omega (arith, length-before_ending (after_blanks text), length-after_blanks text)
+
+pub length-bare_line : (line : List ℕ) → length (bare_line line) ≤ length line
+unfolding bare_line
+length-bare_line line =
+    let text = before_first is_hash line in
+    omega (arith, length-before_ending (after_endings text), length-after_endings text, length-take (position_or_len is_hash line) line)
+
+-- ---- base64 has four symbols for three bytes
+
+symbols_room : (table bytes : List ℕ) → 4 * length bytes ≤ 3 * length (encode_symbols table bytes)
+unfolding encode_symbols
+symbols_room table [] = omega arith
+symbols_room table (a ∷ []) = omega arith
+symbols_room table (a ∷ b ∷ []) = omega arith
+symbols_room table (a ∷ b ∷ c ∷ rest) =
+    omega (arith, symbols_room table rest, length-append (encode_group table a b c) (encode_symbols table rest))
+
+encode_room : (table : List ℕ) (pad : ℕ) (padding : Bool) (bytes : List ℕ) → 4 * length bytes ≤ 3 * length (encode table pad padding bytes)
+encode_room table pad true bytes =
+    omega (arith, symbols_room table bytes, length-append (encode_symbols table bytes) (replicate (padding_len (length bytes)) pad))
+encode_room table pad false bytes = omega (arith, symbols_room table bytes, length-append (encode_symbols table bytes) [])
+
+base64_room : (bytes : List ℕ) → 4 * length bytes ≤ 3 * length (base64 bytes)
+unfolding base64
+base64_room bytes = encode_room standard.encode_table standard.padding.value standard.config.encode_padding bytes
+
+unpadded_room : (bytes : List ℕ) → 4 * length bytes ≤ 3 * length (unpadded bytes)
+unfolding unpadded
+unpadded_room bytes = encode_room standard_no_pad.encode_table standard_no_pad.padding.value standard_no_pad.config.encode_padding bytes
+
+-- ---- key lines
+
+name_room : (kind : Kind) → (7 ≤ length (type_name kind)) × (length (type_name kind) ≤ length (certificate_name kind))
+name_room Rsa = (omega arith, omega arith)
+name_room Dsa = (omega arith, omega arith)
+name_room Ecdsa256 = (omega arith, omega arith)
+name_room Ecdsa384 = (omega arith, omega arith)
+name_room Ecdsa521 = (omega arith, omega arith)
+name_room Ed25519 = (omega arith, omega arith)
+name_room EcdsaSk = (omega arith, omega arith)
+name_room Ed25519Sk = (omega arith, omega arith)
+
+word_room : (word : List ℕ) → Contains type_names word → 7 ≤ length word
+unfolding type_names plain_names certificate_names
+word_room word among =
+    let Long = λ (name : List ℕ). 7 ≤ length name in
+    let plain = All-map Long type_name kinds (λ k d lt. (name_room (get_or kinds k d)).0) in
+    let certified = All-map Long certificate_name kinds (λ k d lt. omega (arith, (name_room (get_or kinds k d)).0, (name_room (get_or kinds k d)).1)) in
+    All-contains Long (plain_names ++ certificate_names) word (All-append Long plain_names certificate_names plain certified) among
+
+words_room : (line word blob comment : List ℕ) → AreWords line word (base64 blob) comment → 4 * length blob + 24 ≤ 3 * length line
+words_room line word blob comment words =
+    omega (
+      arith,
+      word_room word words.name,
+      words.are_blanks.some,
+      base64_room blob,
+      ap length words.spelled,
+      length-append word (words.blanks ++ (base64 blob ++ words.end)),
+      length-append words.blanks (base64 blob ++ words.end),
+      length-append (base64 blob) words.end,
+    )
+
+has_words_room : (text word blob comment : List ℕ) → HasWords text word (base64 blob) comment → 4 * length blob + 24 ≤ 3 * length (trimmed text)
+has_words_room text word blob comment (inl words) = words_room (trimmed text) word blob comment words
+has_words_room text word blob comment (inr behind) =
+    omega (
+      arith,
+      words_room behind.part word blob comment behind.are_words,
+      ap length behind.spelled,
+      length-append behind.options (behind.blanks ++ behind.part),
+      length-append behind.blanks behind.part,
+    )
+
+-- A line has room for its type word, a blank and the base64 of its key.
+pub line_room : (text word blob comment : List ℕ) → IsKeyLine text word blob comment → 4 * length blob + 24 ≤ 3 * length text
+line_room text word blob comment is = omega (arith, has_words_room text word blob comment is.words, length-trimmed text)
+
+-- ---- fingerprints
+
+pub fingerprint_room : (text digest : List ℕ) → IsFingerprint text digest → 32 ≤ length text
+fingerprint_room text digest is =
+    omega (arith, is.size, ap length is.encodes.spelled, length-append sha256_prefix (unpadded digest), unpadded_room digest)
+
+-- ---- keys
+
+field_room : (field : Field) (value : List ℕ) → 4 ≤ length (field_text field value)
+unfolding mpint
+field_room Positive value = omega (arith, length-string (complement value))
+field_room (Curve name) value = omega (arith, length-string value)
+field_room (Point size) value = omega (arith, length-string value)
+field_room (Sized size) value = omega (arith, length-string value)
+field_room Text value = omega (arith, length-string value)
+
+fields_room : (fields : List Field) (values : List (List ℕ)) → AreValues fields values → 4 * length fields ≤ length (fields_text fields values)
+fields_room [] values are = omega arith
+fields_room (field ∷ fields) [] are = absurd are
+fields_room (field ∷ fields) (value ∷ values) are =
+    omega (arith, field_room field value, fields_room fields values are.2, length-append (field_text field value) (fields_text fields values))
+
+kind_room : (kind : Kind) → 15 ≤ length (type_name kind) + 4 * length (fields_of kind)
+kind_room Rsa = omega arith
+kind_room Dsa = omega arith
+kind_room Ecdsa256 = omega arith
+kind_room Ecdsa384 = omega arith
+kind_room Ecdsa521 = omega arith
+kind_room Ed25519 = omega arith
+kind_room EcdsaSk = omega arith
+kind_room Ed25519Sk = omega arith
+
+key_room : (blob : List ℕ) (key : Key) → IsKey blob key → 19 ≤ length blob
+key_room blob key is =
+    omega (
+      arith,
+      kind_room key.kind,
+      fields_room (fields_of key.kind) is.values is.allowed,
+      ap length is.fields,
+      ap length is.spelled,
+      length-append (string (type_name key.kind)) key.fields,
+      length-string (type_name key.kind),
+    )
+
+-- ---- certificates
+
+abbrev total : List (List ℕ) → ℕ
+total [] = 0
+total (text ∷ texts) = length text + total texts
+
+length-joined : (texts : List (List ℕ)) → length (joined texts) ≡ total texts
+length-joined [] = refl
+length-joined (text ∷ texts) = omega (arith, length-append text (joined texts), length-joined texts)
+
+abbrev parts : Certificate → List ℕ → List ℕ → List (List ℕ)
+parts certificate reserved signature =
+    string (certificate_name certificate.key.kind)
+    ∷ string certificate.nonce
+    ∷ certificate.key.fields
+    ∷ number 8 certificate.serial
+    ∷ number 4 (role_number certificate.role)
+    ∷ string certificate.key_id
+    ∷ string (strings certificate.principals)
+    ∷ number 8 certificate.after
+    ∷ number 8 certificate.before
+    ∷ string (options_text certificate.critical)
+    ∷ string (options_text certificate.extensions)
+    ∷ string reserved
+    ∷ string certificate.authority
+    ∷ string signature
+    ∷ []
+
+certificate_room : (blob : List ℕ) (certificate : Certificate) → IsCertificate blob certificate → IsWithinBlob blob (of_certificate certificate)
+certificate_room blob certificate is =
+    let size = ap length is.spelled ∙ length-joined (parts certificate is.reserved is.signature) in
+    let kind = certificate.key.kind in
+    let name = length-string (certificate_name kind) in
+    let id = length-string certificate.key_id in
+    let authority = length-string certificate.authority in
+    record {
+      asked_is = omega (arith, size, id, authority);
+      plain_is = omega (arith, size, name, (name_room kind).1, length-append (string (type_name kind)) certificate.key.fields, length-string (type_name kind));
+      least = omega (arith, size, name, id, authority, length-number 8 certificate.serial, length-number 8 certificate.after);
+    }
+
+-- ---- what is asked
+
+-- What is asked is no longer than the blob of which it is asked.
+pub asked_room : (blob : List ℕ) (asked : Subject) → IsSubject blob asked → IsWithinBlob blob asked
+asked_room blob asked (plain_key key is same) =
+    rw same (record { asked_is = omega arith; plain_is = omega arith; least = key_room blob key is })
+asked_room blob asked (certified certificate is same) = rw same (certificate_room blob certificate is)
+
+-- ---- directives
+
+order_given : (given : List ℕ) (directive : Option Directive) (found : Order) → option_map (order given) directive ≡ Some found → found.given ≡ given
+order_given given None found e = absurd cc
+order_given given (Some directive) found e =
+    let same : order given directive ≡ found = cc in
+    sym (ap (λ (o : Order). o.given) same)
+
+-- What a directive is given is no longer than the line.
+pub order_room : (line : List ℕ) (found : Order) → order_in line ≡ Some found → length found.given ≤ length line
+unfolding order_in
+order_room line found e = by_test (nat_lt (position_or_len is_colon line) (length line)) refl
+  where
+    by_test : (some : Bool) → nat_lt (position_or_len is_colon line) (length line) ≡ some → length found.given ≤ length line
+    by_test true some =
+        let e' = rw some at e in
+        let after = drop (position_or_len is_colon line + 1) line in
+        let is = order_given (after_blanks after) (directive_named (before_first is_colon line)) found e' in
+        omega (arith, ap length is, length-after_blanks after, length-drop (position_or_len is_colon line + 1) line)
+    by_test false some = let e' = rw some at e in absurd cc

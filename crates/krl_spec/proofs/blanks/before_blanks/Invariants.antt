@@ -1,0 +1,10 @@
+use Rattle.std.proofs.Common.{◌≡◌, ℕ, ◌<◌, ◌≤◌, true, length, get_or}
+use Rattle.ssh_key.specs.Blanks.{is_blank}
+use Rattle.krl_spec.proofs.blanks.before_blanks.Given as goal
+
+-- what is left out so far are blanks
+abbrev pub invariant-loop-end : goal.invariant-loop-end
+invariant-loop-end l = (l.end ≤ length l.text) × ((k : ℕ) → l.end ≤ k → k < length l.text → is_blank (get_or l.text k 0) ≡ true)
+
+abbrev pub decreases-loop-end : goal.decreases-loop-end
+decreases-loop-end l = l.end

@@ -1,0 +1,10 @@
+-- What is asked is that of a key or of a certificate.
+use Rattle.krl_spec.proofs.Adds.{has_authority}
+use Rattle.krl_spec.proofs.Sizes.{asked_room}
+use Rattle.krl_spec.proofs.keys.ask.Goals as goal
+
+pub returns-in-Ok-clause-authority : goal.returns-in-Ok-clause-authority
+returns-in-Ok-clause-authority c = has_authority _ _ c.in-Ok.ensures.found
+
+pub returns-in-Ok-clause-room : goal.returns-in-Ok-clause-room
+returns-in-Ok-clause-room c = asked_room _ _ c.in-Ok.ensures.found

@@ -1,0 +1,58 @@
+-- What reading lines of a specification file adds to what is held.
+use Rattle.std.specs.Prelude.{◌≡◌, ◌+◌, ◌≤◌, List, [], ◌∷◌, ◌++◌, Option, Some, None, Result, Ok, Err, ⊤}
+use Rattle.ssh_key.specs.declared.fingerprint_fault.FingerprintFault.TheVariants as fingerprints
+use Rattle.ssh_key.specs.declared.line_fault.LineFault.TheVariants as lines
+use Rattle.krl_core.specs.Contents.{Contents, Means, held}
+use Rattle.krl_core.specs.Entry.{Entry}
+use Rattle.krl_spec.specs.declared.spec_cause.KeyCause.TheVariants as keys
+use Rattle.krl_spec.specs.declared.spec_cause.SpecCause.{SpecCause}
+use Rattle.krl_spec.specs.declared.spec_cause.SpecCause.TheVariants as causes
+
+-- A fault that is found out only after memory was asked for.
+abbrev pub MayHide : SpecCause → Type 0
+MayHide causes.Number = ⊥
+MayHide causes.Zero = ⊥
+MayHide causes.Reversed = ⊥
+MayHide causes.NoAuthority = ⊥
+MayHide causes.EmptyId = ⊥
+MayHide (causes.Key (keys.Line lines.NoKey)) = ⊥
+MayHide (causes.Key cause) = ⊤
+MayHide (causes.Fingerprint fingerprints.Prefix) = ⊥
+MayHide (causes.Fingerprint fault) = ⊤
+MayHide causes.NoMemory = ⊤
+
+-- Memory may run out before this is found out.
+abbrev pub MayStarve : {A : Type 0} → Result A SpecCause → Type 0
+MayStarve (Ok found) = ⊤
+MayStarve (Err cause) = MayHide cause
+
+-- The cause is the one that was read, or memory ran out.
+abbrev pub Tells : {A : Type 0} → Result A SpecCause → SpecCause → Type 0
+Tells read causes.NoMemory = MayStarve read
+Tells read cause = read ≡ Err cause
+
+-- What was found is what reading gives, seen by a view; else the cause is told.
+abbrev pub Gives : {X Y : Type 0} → (X → Y) → Result X SpecCause → Result Y SpecCause → Type 0
+Gives view (Ok found) read = read ≡ Ok (view found)
+Gives view (Err cause) read = Tells read cause
+
+-- what was held means some entries more
+abbrev pub AddsEntries : Contents → Contents → List Entry → Type 0
+AddsEntries old new named =
+    (entries : List Entry) → Means old entries → Means new (entries ++ named)
+
+-- What was read is added, and what is stored grows in a stated way. Else the cause is told, and
+-- nothing changed.
+abbrev pub Adds : {A : Type 0} → (Contents → Contents → Type 0) → Result Entry SpecCause
+    → Result A SpecCause → Contents → Contents → Type 0
+Adds Stores read (Ok done) old new =
+    (entry : Entry) × ((read ≡ Ok entry)
+    × (AddsEntries old new (entry ∷ []) × ((held new ≤ held old + 1) × Stores old new)))
+Adds Stores read (Err cause) old new = Tells read cause × (new ≡ old)
+
+-- The same of a line, of which nothing need count.
+abbrev pub AddsLine : {A : Type 0} → (Contents → Contents → Type 0)
+    → Option (Result Entry SpecCause) → Result A SpecCause → Contents → Contents → Type 0
+AddsLine Stores None (Ok done) old new = new ≡ old
+AddsLine Stores None (Err cause) old new = ⊥
+AddsLine Stores (Some read) result old new = Adds Stores read result old new

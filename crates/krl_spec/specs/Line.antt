@@ -1,0 +1,56 @@
+-- The lines of specification files (ssh-keygen(1), KEY REVOCATION LISTS).
+use Rattle.std.specs.Prelude.{ℕ, Bool, ◌+◌, ◌==◌, nat_lt, if◌then◌else◌, List, [], ◌∷◌, length, drop, map, codes, Option, None, option_map}
+use Rattle.std.specs.Char.{to_ascii_lowercase}
+use Rattle.std.specs.List.{before_first, find, position_or_len}
+use Rattle.std.specs.Str.{bytes_eq}
+use Rattle.ssh_key.specs.Blanks.{after_blanks, before_ending}
+use Rattle.krl_spec.specs.Blanks.{after_endings}
+use Rattle.krl_spec.specs.declared.directive.Directive.{Directive}
+use Rattle.krl_spec.specs.declared.directive.Directive.TheVariants.{Serial, Id, Key, Sha1, Sha256, Hash}
+
+abbrev pub is_hash : ℕ → Bool
+is_hash byte = byte == 35
+
+abbrev pub is_colon : ℕ → Bool
+is_colon byte = byte == 58
+
+-- What counts of a line: neither a `#` nor what stands after it, nor the blanks and carriage
+-- returns at both ends.
+unfoldable pub bare_line : List ℕ → List ℕ
+bare_line line = before_ending (after_endings (before_first is_hash line))
+
+-- the name of a directive, in lower case
+abbrev pub name_of : Directive → List ℕ
+name_of Serial = codes "serial"
+name_of Id = codes "id"
+name_of Key = codes "key"
+name_of Sha1 = codes "sha1"
+name_of Sha256 = codes "sha256"
+name_of Hash = codes "hash"
+
+abbrev pub directives : List Directive
+directives = Serial ∷ Id ∷ Key ∷ Sha1 ∷ Sha256 ∷ Hash ∷ []
+
+-- the name is that of the directive, in either case of letters
+abbrev pub is_named : Directive → List ℕ → Bool
+is_named directive name = bytes_eq (map to_ascii_lowercase name) (name_of directive)
+
+unfoldable pub directive_named : List ℕ → Option Directive
+directive_named name = find (λ directive. is_named directive name) directives
+
+-- a directive, and what it is given
+pub record Order : Type 0 where
+  pub directive : Directive
+  pub given : List ℕ
+
+abbrev pub order : List ℕ → Directive → Order
+order given directive = record { directive = directive; given = given }
+
+-- The directive whose name stands before the first colon, and what stands after the colon and
+-- blanks.
+unfoldable pub order_in : List ℕ → Option Order
+order_in line =
+    if nat_lt (position_or_len is_colon line) (length line)
+    then option_map (order (after_blanks (drop (position_or_len is_colon line + 1) line)))
+    (directive_named (before_first is_colon line))
+    else None

@@ -1,0 +1,60 @@
+-- What specification files name, and what reading one adds (ssh-keygen(1), KEY REVOCATION LISTS).
+use Rattle.std.specs.Prelude.{◌≡◌, ℕ, ◌+◌, List, [], ◌∷◌, ◌++◌, length, Option, Some, None, Result, Ok, Err}
+use Rattle.std.specs.List.{slice_split}
+use Rattle.krl_core.specs.Contents.{Contents}
+use Rattle.krl_core.specs.Entry.{Entry}
+use Rattle.krl_spec.specs.Adding.{AddsEntries}
+use Rattle.krl_spec.specs.Entry.{line_entry}
+use Rattle.ssh_key.specs.Lines.{is_newline}
+use Rattle.krl_spec.specs.declared.spec_cause.SpecCause.{SpecCause}
+use Rattle.krl_spec.specs.declared.spec_cause.SpecCause.TheVariants.{NoMemory}
+use Rattle.krl_spec.specs.declared.spec_fault.SpecFault.{SpecFault}
+
+-- the entries of lines up to the first fault, and that fault
+pub record Named : Type 0 where
+  pub entries : List Entry
+  pub fault : Option SpecFault
+
+-- a line by its number, before what later lines name
+abbrev pub before_later : ℕ → Option (Result Entry SpecCause) → Named → Named
+before_later number None later = later
+before_later number (Some (Ok entry)) later =
+    record { entries = entry ∷ later.entries; fault = later.fault }
+before_later number (Some (Err cause)) later =
+    record { entries = []; fault = Some (record { line = number; cause = cause }) }
+
+-- what lines name, of which the first has this number
+abbrev pub lines_from : Option (List ℕ) → ℕ → List (List ℕ) → Named
+lines_from authority number [] = record { entries = []; fault = None }
+lines_from authority number (line ∷ lines) =
+    before_later number (line_entry authority line) (lines_from authority (number + 1) lines)
+
+-- what the lines of a file name
+unfoldable pub lines_of : Option (List ℕ) → List ℕ → Named
+lines_of authority text = lines_from authority 1 (slice_split is_newline text)
+
+-- Memory ran out at a line: those before it have no fault, and what they name was added.
+pub record StarvesAt (authority : Option (List ℕ)) (lines : List (List ℕ)) (number : ℕ)
+    (old new : Contents) : Type 0 where
+  pub before : List (List ℕ)
+  pub line : List ℕ
+  pub after : List (List ℕ)
+  pub parts : lines ≡ before ++ line ∷ after
+  pub counted : length before + 1 ≡ number
+  pub faultless : (lines_from authority 1 before).fault ≡ None
+  pub adds : AddsEntries old new (lines_from authority 1 before).entries
+
+-- What the lines name up to the first fault was added, and the fault is told.
+abbrev pub StopsAt : Option (List ℕ) → List ℕ → ℕ → SpecCause → Contents → Contents → Type 0
+StopsAt authority text number NoMemory old new =
+    StarvesAt authority (slice_split is_newline text) number old new
+StopsAt authority text number cause old new =
+    ((lines_of authority text).fault ≡ Some (record { line = number; cause = cause }))
+    × AddsEntries old new (lines_of authority text).entries
+
+-- All that the lines name was added, and they have no fault; or reading stopped at one.
+abbrev pub ReadsSpec : {A : Type 0} → Option (List ℕ) → List ℕ → Result A SpecFault
+    → Contents → Contents → Type 0
+ReadsSpec authority text (Ok done) old new =
+    ((lines_of authority text).fault ≡ None) × AddsEntries old new (lines_of authority text).entries
+ReadsSpec authority text (Err fault) old new = StopsAt authority text fault.line fault.cause old new

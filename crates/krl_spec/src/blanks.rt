@@ -1,0 +1,54 @@
+// What counts of a line.
+
+ghost use Rattle.std.specs.Prelude.{◌≡◌, ◌==◌, ◌≤◌, length};
+ghost use Rattle.std.specs.List.{position_or_len};
+ghost use Rattle.ssh_key.specs.Blanks.{is_blank};
+ghost use Rattle.krl_spec.specs.Blanks.{after_endings, before_blanks};
+ghost use Rattle.krl_spec.specs.Line.{bare_line};
+
+use ssh_key::{before_ending, is_blank, is_ending};
+
+/// What counts of a line: neither a `#` nor what stands after it, nor the blanks and carriage
+/// returns at both ends.
+#[tactic(auto, unfolding(crate::specs::Line::bare_line))]
+pub fn bare_line(line: &[u8]) -> &[u8]
+    ensures { result.now ≡ bare_line line.now }
+{
+    before_ending(after_endings(&line[..position_of(line, b'#')]))
+}
+
+/// The place of the first such byte, or the length where there is none.
+pub fn position_of(text: &[u8], sought: u8) -> usize
+    ensures place { result ≡ position_or_len (λ byte. byte == sought) text.now }
+    ensures within { result ≤ length text.now }
+{
+    for (at, byte) in text.iter().enumerate() {
+        if *byte == sought {
+            return at;
+        }
+    }
+    text.len()
+}
+
+fn after_endings(text: &[u8]) -> &[u8]
+    ensures { result.now ≡ after_endings text.now }
+{
+    for (at, byte) in text.iter().enumerate() {
+        if !is_ending(*byte) {
+            return &text[at..];
+        }
+    }
+    &[]
+}
+
+/// What stands before the blanks at the end.
+#[tactic(auto, unfolding(crate::specs::Blanks::before_blanks))]
+pub fn before_blanks(text: &[u8]) -> &[u8]
+    ensures { result.now ≡ before_blanks text.now }
+{
+    let mut end = text.len();
+    while end > 0 && is_blank(text[end - 1]) {
+        end -= 1;
+    }
+    &text[..end]
+}

@@ -1,0 +1,81 @@
+// The directives of specification files (ssh-keygen(1), KEY REVOCATION LISTS).
+
+ghost use Rattle.std.specs.Prelude.{◌≡◌, MatchOption, None, Some};
+ghost use Rattle.krl_spec.specs.Line.{directive_named, is_named, name_of, order, order_in};
+
+use crate::blanks::position_of;
+use ssh_key::after_blanks;
+
+const DIRECTIVES: [Directive; 6] = [
+    Directive::Serial,
+    Directive::Id,
+    Directive::Key,
+    Directive::Sha1,
+    Directive::Sha256,
+    Directive::Hash,
+];
+
+/// What a line begins with, before a colon.
+#[derive(Clone, Copy, Debug, PartialEq, Eq)]
+pub enum Directive {
+    /// A serial, or a range of them, under the authority at hand.
+    Serial,
+    /// A key ID under the authority at hand.
+    Id,
+    /// A key by its line.
+    Key,
+    /// A key by its line, revoked by its SHA-1.
+    Sha1,
+    /// A key by its line, revoked by its SHA-256.
+    Sha256,
+    /// A key by its SHA-256 fingerprint.
+    Hash,
+}
+
+impl Directive {
+    /// The directive's name, in lower case.
+    pub fn name(self) -> &'static str
+        ensures { result.now ≡ name_of self }
+    {
+        match self {
+            Directive::Serial => "serial",
+            Directive::Id => "id",
+            Directive::Key => "key",
+            Directive::Sha1 => "sha1",
+            Directive::Sha256 => "sha256",
+            Directive::Hash => "hash",
+        }
+    }
+
+    /// The directive of a name, in either case of letters.
+    #[tactic(auto, unfolding(crate::specs::Line::directive_named))]
+    pub fn named(name: &[u8]) -> Option<Directive>
+        ensures { result ≡ directive_named name.now }
+    {
+        DIRECTIVES
+            .iter()
+            .copied()
+            .find(|directive| directive.is_named(name))
+    }
+
+    fn is_named(self, name: &[u8]) -> bool
+        ensures { result ≡ is_named self name.now }
+    {
+        name.eq_ignore_ascii_case(self.name().as_bytes())
+    }
+}
+
+/// The directive whose name stands before the line's first colon, and what it is given: what stands
+/// after the colon and blanks.
+#[tactic(auto, unfolding(crate::specs::Line::order_in))]
+pub fn order_in(line: &[u8]) -> Option<(Directive, &[u8])>
+    ensures { MatchOption result (order_in line.now ≡ None)
+        (λ found. order_in line.now ≡ Some (order found.1.now found.0)) }
+{
+    let colon = position_of(line, b':');
+    if colon == line.len() {
+        return None;
+    }
+    let directive = Directive::named(&line[..colon])?;
+    Some((directive, after_blanks(&line[colon + 1..])))
+}

@@ -1,0 +1,66 @@
+// Keys, certificates and fingerprints that lines of specification files name.
+
+ghost use Rattle.std.specs.Prelude.{◌+◌, ◌*◌, ◌≤◌, IfOk, length};
+ghost use Rattle.ssh_key.specs.FingerprintReading.{fingerprint_at};
+ghost use Rattle.ssh_key.specs.LineReading.{content_of, line_at};
+ghost use Rattle.ssh_cert.specs.Subject.{Subject};
+ghost use Rattle.ssh_cert.specs.SubjectReading.{subject_of};
+ghost use Rattle.krl_spec.specs.Adding.{Gives};
+ghost use Rattle.krl_spec.specs.Entry.{HasAuthority, or_fingerprint_fault, or_line_fault, or_subject_fault, plain_of, subject_in};
+ghost use Rattle.krl_spec.specs.Stored.{IsWithinBlob};
+
+use crate::spec_cause::{KeyCause, SpecCause};
+use ssh_cert::{Subject, SubjectFault, subject};
+use ssh_key::{FingerprintFault, Line, LineFault, parse_fingerprint, read_line};
+use ssh_wire::Bytes;
+use std::alloc::Global;
+
+/// What a key line holds.
+pub fn key_line<'a>(alloc: Global, text: &'a [u8]) -> Result<Line<'a>, SpecCause>
+    ensures read { Gives content_of result (or_line_fault (line_at text.now)) }
+    ensures room { IfOk result (λ line. 4 * length line.blob + 24 ≤ 3 * length text.now) }
+{
+    match read_line(alloc, text) {
+        Ok(line) => Ok(line),
+        Err(LineFault::NoMemory) => Err(SpecCause::NoMemory),
+        Err(fault) => Err(SpecCause::Key(KeyCause::Line(fault))),
+    }
+}
+
+/// What a key's blob asks.
+pub fn ask<'a>(alloc: Global, blob: &'a [u8]) -> Result<Subject<'a>, SpecCause>
+    ensures asked { Gives (λ asked. asked) result (or_subject_fault (subject_of blob.now)) }
+    ensures authority { IfOk result (λ asked. HasAuthority asked.cert) }
+    ensures room { IfOk result (λ asked. IsWithinBlob blob.now asked) }
+{
+    match subject(alloc, blob) {
+        Ok(asked) => Ok(asked),
+        Err(SubjectFault::NoMemory) => Err(SpecCause::NoMemory),
+        Err(fault) => Err(SpecCause::Key(KeyCause::Subject(fault))),
+    }
+}
+
+/// The blob of the plain key of a key line.
+#[tactic(auto, unfolding(crate::specs::Entry::subject_in))]
+pub fn plain_key(alloc: Global, text: &[u8]) -> Result<Bytes, SpecCause>
+    ensures read { Gives (λ plain. plain) result (plain_of (subject_in text.now)) }
+    ensures room { IfOk result (λ plain. length plain ≤ length text.now) }
+    ensures least { IfOk result (λ plain. 32 ≤ length text.now) }
+{
+    let line = key_line(alloc, text)?;
+    let Subject { plain, cert: _ } = ask(alloc, line.blob.as_slice())?;
+    Ok(plain)
+}
+
+/// The digest that a fingerprint names.
+pub fn read_hash(alloc: Global, text: &[u8]) -> Result<[u8; 32], SpecCause>
+    ensures read { Gives (λ digest. digest) result
+        (or_fingerprint_fault (fingerprint_at text.now)) }
+    ensures room { IfOk result (λ digest. 32 ≤ length text.now) }
+{
+    match parse_fingerprint(alloc, text) {
+        Ok(digest) => Ok(digest),
+        Err(FingerprintFault::NoMemory) => Err(SpecCause::NoMemory),
+        Err(fault) => Err(SpecCause::Fingerprint(fault)),
+    }
+}

@@ -1,0 +1,17 @@
+//! Specification files: what their lines add to a list (ssh-keygen(1), KEY REVOCATION LISTS).
+#![tactic(auto)]
+
+mod adding;
+mod blanks;
+mod directive;
+mod keys;
+mod lines;
+mod number;
+mod spec_cause;
+mod spec_fault;
+mod under;
+
+pub use lines::read_spec;
+pub use spec_cause::{KeyCause, SpecCause};
+pub use spec_fault::SpecFault;
+pub use under::Under;

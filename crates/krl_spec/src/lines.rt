@@ -1,0 +1,54 @@
+// Reading specification files (ssh-keygen(1), KEY REVOCATION LISTS).
+
+ghost use Rattle.std.specs.Prelude.{◌+◌, ◌≤◌, length};
+ghost use Rattle.krl_core.specs.Contents.{held, stored};
+ghost use Rattle.krl_spec.specs.Entry.{IsUnder, authority_under};
+ghost use Rattle.krl_spec.specs.SpecFile.{ReadsSpec, lines_of};
+ghost use Rattle.krl_spec.specs.Stored.{bytes_under};
+
+use crate::adding::add_line;
+use crate::spec_fault::SpecFault;
+use crate::under::Under;
+use krl_core::Revocations;
+use serial_set::Spans;
+use ssh_key::split_line;
+use std::alloc::Global;
+
+/// Adds what the lines of a specification file name, up to the first line that is refused or at
+/// which memory runs out. What the lines before it name stays added.
+///
+/// A line names at most one entry. A `#` and what follows it do not count, nor do blanks and
+/// carriage returns at both ends.
+pub fn read_spec<S: Spans>(
+    alloc: Global,
+    revocations: &mut Revocations<S>,
+    under: Under,
+    text: &[u8],
+) -> Result<(), SpecFault>
+    requires { IsUnder under }
+    ensures reads { ReadsSpec (authority_under under.entry) text.now result
+        revocations.old revocations.new }
+    ensures held { held revocations.new
+        ≤ held revocations.old
+        + length (lines_of (authority_under under.entry) text.now).entries }
+    ensures stored { stored revocations.new
+        ≤ stored revocations.old + length text.now
+        + length (bytes_under (authority_under under.entry)) }
+{
+    let mut rest = text;
+    let mut passed = 0;
+    'lines: loop {
+        let (line, after) = split_line(rest);
+        if let Err(cause) = add_line(alloc, revocations, under, line) {
+            return Err(SpecFault {
+                line: passed + 1,
+                cause,
+            });
+        }
+        let Some(after) = after else {
+            return Ok(());
+        };
+        rest = after;
+        passed += 1;
+    }
+}
