@@ -86,7 +86,8 @@ impl BitRuns {
         ensures value { result ≡ self.now.pending }
         ensures run { IfSome result IsInterval }
     {
-        self.pending
+        let BitRuns { pending, .. } = self;
+        *pending
     }
 
     /// The run that is pending where no byte follows, which is then finished too.

@@ -29,7 +29,8 @@ pub fn put_in_parts<P: Part>(parts: &mut Vec<P>, new: Span) -> Result<usize, All
 {
     let at = part_for(parts, new.lo);
     let gone = put_at(parts, at, new)?;
-    Ok(gone + cut_past(parts, at, new.hi))
+    let cut = cut_past(parts, at, new.hi);
+    Ok(gone + cut)
 }
 
 // The same in one part alone, which may then reach over later ones.

@@ -20,13 +20,23 @@ returns-in_err-gone-clause-misses g c =
     let reaches = subst (λ l. (d : g.row.P.Denot) → found.result + 1 < length l → new.lo ≤ end_of (spans (get_or l found.result d))) c.deref.ensures.value found.ensures.reaches in
     on_err _ _ (misses_parts spans g.met.P.Part.filled xs found.result new c.requires.runs c.requires.span.0 c.requires.span.1 (omega arith) before reaches c.in_err-gone.ensures.misses)
 
-pub cut_past-requires-clause-runs : goal.cut_past-requires-clause-runs
-cut_past-requires-clause-runs g c =
+-- the list is still the one that was handed in
+pub put_at-requires-clause-runs : goal.put_at-requires-clause-runs
+put_at-requires-clause-runs g c = c.requires.runs
+
+pub put_at-requires-clause-cuts_none : goal.put_at-requires-clause-cuts_none
+put_at-requires-clause-cuts_none g c = c.requires.cuts_none
+
+pub returns-in_err-gone-clause-refused : goal.returns-in_err-gone-clause-refused
+returns-in_err-gone-clause-refused g c = on_err _ _ c.in_err-gone.ensures.refused
+
+pub cut_past-cut-requires-clause-runs : goal.cut_past-cut-requires-clause-runs
+cut_past-cut-requires-clause-runs g c =
     let spans = g.P.Part.spans in
     subst (λ l. IsRuns (flat_map spans l)) (sym c.put_at.ensures.back) (runs_drop spans c.args.parts.now.items (c.part_for-at.result + 1) c.requires.runs)
 
-pub cut_past-requires-clause-cuts_none : goal.cut_past-requires-clause-cuts_none
-cut_past-requires-clause-cuts_none g c =
+pub cut_past-cut-requires-clause-cuts_none : goal.cut_past-cut-requires-clause-cuts_none
+cut_past-cut-requires-clause-cuts_none g c =
     let spans = g.P.Part.spans in
     let xs = c.args.parts.now.items in
     let new = c.args.new in
@@ -35,8 +45,8 @@ cut_past-requires-clause-cuts_none g c =
     subst (λ l. All (λ t. (t.hi ≤ new.hi) ⊎ (new.hi < t.lo)) (flat_map spans l)) (sym c.put_at.ensures.back)
     (cuts_after spans xs (found.result + 1) new c.requires.runs c.requires.cuts_none rest)
 
-pub cut_past-requires-clause-past : goal.cut_past-requires-clause-past
-cut_past-requires-clause-past g c =
+pub cut_past-cut-requires-clause-past : goal.cut_past-cut-requires-clause-past
+cut_past-cut-requires-clause-past g c =
     let spans = g.P.Part.spans in
     let xs = c.args.parts.now.items in
     let new = c.args.new in
@@ -52,4 +62,4 @@ returns-clause-put g c =
     let found = c.part_for-at in
     let before = subst (λ l. All (λ t. t.hi < new.lo) (flat_map spans (take found.result l))) c.deref.ensures.value found.ensures.before in
     let rest = subst (λ l. All (λ t. new.lo ≤ t.lo) (flat_map spans (drop (found.result + 1) l))) c.deref.ensures.value found.ensures.rest in
-    put_whole spans xs c.put_at.new.parts.items c.cut_past.new.parts.items found.result new c.requires.runs c.requires.span.1 (omega arith) c.put_at.ensures.len before rest c.put_at.ensures.front c.put_at.ensures.back c.in_ok-gone.ensures.put c.cut_past.ensures.kept c.cut_past.ensures.cut
+    put_whole spans xs c.put_at.new.parts.items c.cut_past-cut.new.parts.items found.result new c.requires.runs c.requires.span.1 (omega arith) c.put_at.ensures.len before rest c.put_at.ensures.front c.put_at.ensures.back c.in_ok-gone.ensures.put c.cut_past-cut.ensures.kept c.cut_past-cut.ensures.cut
