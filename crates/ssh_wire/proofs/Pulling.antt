@@ -1,9 +1,9 @@
 -- Pieces that a reader gave, one after the other.
-use Rattle.std.proofs.Common.{◌≡◌, ℕ, ◌+◌, ◌-◌, ◌<◌, ◌≤◌, Bool, false, Result, Ok, Err, rules, List, [], ◌∷◌, ◌++◌, length, take, drop, Option, None, Some, refl, sym, ap, ◌∙◌, subst, le_refl, drop_at, length-take-le, length-append, append-nil, slice_set, arith}
+use Rattle.std.proofs.Common.{◌≡◌, ℕ, ◌+◌, ◌-◌, ◌<◌, ◌≤◌, Bool, true, false, Result, Ok, Err, rules, List, [], ◌∷◌, ◌++◌, length, take, drop, Option, None, Some, refl, sym, ap, ◌∙◌, subst, le_refl, drop_at, length-take-le, length-append, append-nil, slice_set, arith}
 use Rattle.std.proofs.lemmas.Slice.{take-put_mid_below}
 use Rattle.std.proofs.lemmas.List.{drop_all}
-use Rattle.std.specs.Io.KnownBytes.{Consumes, prepend_known}
-use Rattle.std.proofs.KnownBytes.{Consumes-trans}
+use Rattle.std.specs.Io.KnownBytes.{Consumes, Keeps, prepend_known}
+use Rattle.std.proofs.KnownBytes.{Consumes-kept, Consumes-trans}
 use Rattle.ssh_wire.specs.declared.pull_fault.PullFault.{PullFault}
 use Rattle.ssh_wire.specs.declared.pull_fault.PullFault.TheVariants.{EndsEarly, TooLong, Read, NoMemory}
 use Rattle.ssh_wire.specs.Filling.{Fills, Stops, TellsStop, pulled}
@@ -102,6 +102,24 @@ MissesRest-memory old new mid front piece count before after none_ahead some par
       within = omega (arith, size, all);
       tells = (omega (arith, size, all), none_ahead, working);
     }
+
+-- bytes came, and then the reader failed
+pub MissesRest-read : (old new : Pulled) (mid : Option (List ℕ)) (front : List ℕ) → Consumes (left_of old) mid front → Keeps mid new.source → new.ahead ≡ None → old.taken + length front ≤ old.limit → new.failed ≡ true → MissesRest old Read new
+MissesRest-read old new mid front before kept none_ahead within failed = record {
+  came = front;
+  bytes = subst (λ (ahead : Option ℕ). Consumes (left_of old) (after_ahead ahead new.source) front) (sym none_ahead) (Consumes-kept (left_of old) mid new.source front before kept);
+  within = within;
+  tells = (none_ahead, failed);
+}
+
+-- bytes came, and then a look at the next one met the fault
+pub MissesRest-look : (old new : Pulled) (mid : Option (List ℕ)) (front : List ℕ) (fault : PullFault) → Consumes (left_of old) mid front → Keeps mid (left_of new) → old.taken + length front ≤ old.limit → TellsRest fault new (length front) → MissesRest old fault new
+MissesRest-look old new mid front fault before kept within tells = record {
+  came = front;
+  bytes = Consumes-kept (left_of old) mid (left_of new) front before kept;
+  within = within;
+  tells = tells;
+}
 
 TellsRest-kept : (fault : PullFault) (new : Pulled) (taken limit came : ℕ) → new.taken ≡ taken → new.limit ≡ limit → TellsRest fault (pulled new.source new.failed new.ahead taken limit) came → TellsRest fault new came
 TellsRest-kept EndsEarly new taken limit came taken_is limit_is tells = tells
