@@ -44,6 +44,15 @@ Stops-after fault before mid after failed front part size came stops fits = reco
   tells = stops.tells;
 }
 
+-- a front came, and then the reader ended or failed
+pub Stops-front : (fault : PullFault) (before mid after : Option (List ℕ)) (failed : Bool) (front : List ℕ) (size : ℕ) → Consumes before mid front → Keeps mid after → length front < size → TellsStop fault after failed → Stops fault before after failed size
+Stops-front fault before mid after failed front size came kept part tells = record {
+  came = front;
+  bytes = Consumes-kept before mid after front came kept;
+  part = part;
+  tells = tells;
+}
+
 -- a slice was filled since, so all of its bytes came
 pub Comes-more : (before mid after : Option (List ℕ)) (start now : ℕ) (slice : List ℕ) (part : ℕ) → Comes before mid start now → Consumes mid after slice → length slice ≡ part → Comes before after start (now + part)
 Comes-more before mid after start now slice part comes more size = record {
@@ -66,6 +75,16 @@ Misses-stop old new fault room size stops fits within = record {
   part = omega (arith, stops.part);
   within = omega (arith, stops.part);
   tells = Tells-stop fault new (length stops.came) stops.tells;
+}
+
+-- bytes came, and then there was no memory for the rest of the field
+pub Misses-memory : (old new : Pulled) (size : ℕ) (front : List ℕ) → Consumes (left_of old) (left_of new) front → length front < size → old.taken + size ≤ old.limit → new.failed ≡ false → Misses old size NoMemory new
+Misses-memory old new size front before part fits working = record {
+  came = front;
+  bytes = before;
+  part = part;
+  within = omega arith;
+  tells = working;
 }
 
 Tells-kept : (fault : PullFault) (new : Pulled) (taken limit came : ℕ) → new.taken ≡ taken → new.limit ≡ limit → Tells fault (pulled new.source new.failed new.ahead taken limit) came → Tells fault new came
@@ -120,6 +139,11 @@ MissesRest-look old new mid front fault before kept within tells = record {
   within = within;
   tells = tells;
 }
+
+-- the look met that the reader failed
+pub MissesRest-failed : (old new : Pulled) (mid : Option (List ℕ)) (front : List ℕ) (fault : PullFault) → Consumes (left_of old) mid front → Keeps mid (left_of new) → old.taken + length front ≤ old.limit → fault ≡ Read → new.ahead ≡ None → new.failed ≡ true → MissesRest old fault new
+MissesRest-failed old new mid front fault before kept within is_read none_ahead failed =
+    subst (λ (met : PullFault). MissesRest old met new) (sym is_read) (MissesRest-look old new mid front Read before kept within (none_ahead, failed))
 
 TellsRest-kept : (fault : PullFault) (new : Pulled) (taken limit came : ℕ) → new.taken ≡ taken → new.limit ≡ limit → TellsRest fault (pulled new.source new.failed new.ahead taken limit) came → TellsRest fault new came
 TellsRest-kept EndsEarly new taken limit came taken_is limit_is tells = tells

@@ -3,7 +3,7 @@ use Rattle.std.proofs.Common.{◌≡◌, ◌<◌, ◌≤◌, length, vec_len, fa
 use Rattle.ssh_wire.specs.declared.pull_fault.PullFault.TheVariants.{TooLong}
 use Rattle.ssh_wire.specs.Filling.{pulled}
 use Rattle.ssh_wire.specs.Pull.{after_ahead}
-use Rattle.ssh_wire.proofs.Pulling.{MissesRest-look, MissesRest-memory, MissesRest-read}
+use Rattle.ssh_wire.proofs.Pulling.{MissesRest-failed, MissesRest-look, MissesRest-memory, MissesRest-read}
 use Rattle.ssh_wire.proofs.rest.fill_rest.Goals as goal
 
 pub returns-then-is_err-clause-misses : goal.returns-then-is_err-clause-misses
@@ -33,3 +33,8 @@ returns-in-Ok-true-clause-none_ahead g c = tt
 
 pub returns-in-Ok-true-clause-ends : goal.returns-in-Ok-true-clause-ends
 returns-in-Ok-true-clause-ends g c = tt
+
+pub returns-in-Err-clause-misses : goal.returns-in-Err-clause-misses
+returns-in-Err-clause-misses g c = λ taken limit sum.
+    let held : vec_len c.loop-chunk.out ≡ length c.loop-chunk.out.items = search rules in
+    MissesRest-failed (pulled (g.R.Source.left c.args.reader.now) false c.args.ahead.now taken limit) (pulled (g.R.Source.left c.look.new.reader) (g.R.Source.has_failed c.look.new.reader) c.look.new.ahead taken limit) (after_ahead c.loop-chunk.ahead (g.R.Source.left c.loop-chunk.reader)) c.loop-chunk.out.items c.in-Err.fault c.loop-chunk.invariant.comes c.look.ensures.bytes (omega (arith, held, sum, c.loop-chunk.invariant.within)) (search rules) (search rules) (search rules)
