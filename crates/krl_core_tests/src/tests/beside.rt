@@ -11,7 +11,6 @@ use serial_set::Held;
 use ssh_wire::Bytes;
 use std::alloc::{AllocError, Global};
 use std::process::Abort;
-use std::test::Fail;
 
 // What is asked about something that was said: a serial beside it, or a key.
 fn beside<'a>(said: Said<'a>, more: u64) -> Asked<'a> {
@@ -56,7 +55,7 @@ fn answer_alike(
         for more in [0, 1, 2] {
             let asked = beside(*said, more);
             let found = revokes(alloc, held, asked)?;
-            assert_eq!(rt; found, is_revoked(all, asked));
+            assert!(rt; found == is_revoked(all, asked));
         }
     }
     Ok(())
@@ -89,11 +88,6 @@ fn are_alike(
     answer_alike(rt, alloc, held, &plain.said)
 }
 
-// A text is read or refused as it is to be.
-fn is_due(rt: &impl Abort, found: Result<(), KrlFault>, due: Result<(), KrlFault>) {
-    assert_eq!(rt; found, due);
-}
-
 // A text is read as the plain reader read it, or refused with its fault.
 fn is_read_as(
     rt: &impl Abort,
@@ -104,11 +98,11 @@ fn is_read_as(
 ) -> Result<(), AllocError> {
     match read_from::<Held, &[u8]>(alloc, text) {
         Err(fault) => {
-            is_due(rt, Err(fault), due);
+            assert!(rt; due == Err(fault));
             Ok(())
         }
         Ok((header, held)) => {
-            is_due(rt, Ok(()), due);
+            assert!(rt; due == Ok(()));
             are_alike(rt, alloc, &header, &held, plain)
         }
     }
@@ -129,41 +123,27 @@ fn each_front(rt: &impl Abort, alloc: Global, text: &[u8]) -> Result<(), AllocEr
     Ok(())
 }
 
-#[test]
-fn each_front_of_a_row(rt: HostRuntime) -> Result<(), Fail> {
-    for row in &ROWS {
-        let text = list_of(rt.alloc(), row.sections)?;
-        each_front(&rt, rt.alloc(), &text)?;
-    }
-    Ok(())
-}
-
-// The list with one byte set.
-fn changed(
-    rt: &impl Abort,
-    alloc: Global,
-    text: &[u8],
-    at: usize,
-    byte: u8,
-) -> Result<(), AllocError> {
-    let other = with_byte(alloc, text, at, byte)?;
-    is_read_alike(rt, alloc, &other)
-}
-
+// The list with each of its bytes set.
 fn each_byte_changed(rt: &impl Abort, alloc: Global, text: &[u8]) -> Result<(), AllocError> {
     for at in 0..text.len() {
         for byte in [0, 0x7f, 0x80, 0xff] {
-            changed(rt, alloc, text, at, byte)?;
+            let other = with_byte(alloc, text, at, byte)?;
+            is_read_alike(rt, alloc, &other)?;
         }
     }
     Ok(())
 }
 
+// The fronts of the list of a row, and that list with each byte changed.
+fn each_of_a_row(rt: &impl Abort, alloc: Global, text: &[u8]) -> Result<(), AllocError> {
+    each_front(rt, alloc, text)?;
+    each_byte_changed(rt, alloc, text)
+}
+
 #[test]
-fn each_byte_of_a_row_changed(rt: HostRuntime) -> Result<(), Fail> {
+fn each_front_and_each_byte_of_a_row(rt: HostRuntime) {
     for row in &ROWS {
-        let text = list_of(rt.alloc(), row.sections)?;
-        each_byte_changed(&rt, rt.alloc(), &text)?;
+        let text = list_of(rt.alloc(), row.sections).expect(&rt, "there is memory");
+        each_of_a_row(&rt, rt.alloc(), &text).expect(&rt, "there is memory");
     }
-    Ok(())
 }

@@ -9,7 +9,6 @@ use serial_set::{Held, SpanVec, Spans};
 use ssh_key::{sha1_of, sha256_of};
 use std::alloc::{AllocError, Global};
 use std::process::Abort;
-use std::test::Fail;
 
 // No bytes stand for all authorities; the others are keys too.
 const AUTHORITIES: [&[u8]; 4] = [b"", b"a", b"ab", b"b"];
@@ -114,7 +113,7 @@ fn agree<S: Spans>(
     asked: Asked<'_>,
 ) -> Result<(), AllocError> {
     let found = revokes(alloc, r, asked)?;
-    assert_eq!(rt; found, is_revoked(all, asked));
+    assert!(rt; found == is_revoked(all, asked));
     Ok(())
 }
 
@@ -132,33 +131,26 @@ fn agree_on_many<S: Spans>(
     Ok(())
 }
 
+// So many times what is said at random is asked about.
 fn compare<S: Spans>(
     rt: &impl Abort,
     alloc: Global,
-    random: &mut Random,
-    hashes: &Hashes,
+    seed: u64,
+    times: u32,
 ) -> Result<(), AllocError> {
-    let mut all = Vec::new(alloc);
-    say_some(&mut all, random, hashes)?;
-    agree_on_many::<S>(rt, alloc, random, &all)
-}
-
-#[test]
-fn random_questions_over_pages(rt: HostRuntime) -> Result<(), Fail> {
     let hashes = Hashes::new();
-    let mut random = Random::new(2026);
-    for _ in 0..500 {
-        compare::<Held>(&rt, rt.alloc(), &mut random, &hashes)?;
+    let mut random = Random::new(seed);
+    for _ in 0..times {
+        let mut all = Vec::new(alloc);
+        say_some(&mut all, &mut random, &hashes)?;
+        agree_on_many::<S>(rt, alloc, &mut random, &all)?;
     }
     Ok(())
 }
 
+// Over pages, and over a vector.
 #[test]
-fn random_questions_over_a_vector(rt: HostRuntime) -> Result<(), Fail> {
-    let hashes = Hashes::new();
-    let mut random = Random::new(7);
-    for _ in 0..100 {
-        compare::<SpanVec>(&rt, rt.alloc(), &mut random, &hashes)?;
-    }
-    Ok(())
+fn random_questions(rt: HostRuntime) {
+    compare::<Held>(&rt, rt.alloc(), 2026, 500).expect(&rt, "there is memory");
+    compare::<SpanVec>(&rt, rt.alloc(), 7, 100).expect(&rt, "there is memory");
 }

@@ -7,7 +7,6 @@ use krl_core::{Authorities, Listed, Revocations, Text, Texts};
 use serial_set::{Held, SpanVec, Spans};
 use std::alloc::{AllocError, Global};
 use std::process::Abort;
-use std::test::Fail;
 
 /// Whether what was said was added, and how many spans are held then, under how many authorities.
 type Outcome = (bool, u128, usize);
@@ -31,7 +30,7 @@ fn outcome<S: Spans>(r: &mut Revocations<S>, said: Said<'_>) -> Outcome {
 // What is said, row by row, has these outcomes.
 fn have_outcomes<S: Spans>(rt: &impl Abort, r: &mut Revocations<S>, rows: &[(Said<'_>, Outcome)]) {
     for (said, due) in rows {
-        assert_eq!(rt; outcome(r, *said), *due);
+        assert!(rt; outcome(r, *said) == *due);
     }
 }
 
@@ -66,12 +65,12 @@ fn comes_next<S: Spans>(
     counts: (usize, usize),
 ) {
     let listed = walk.next().expect(rt, "an authority is left");
-    assert_eq!(rt; listed.authority(), authority);
-    assert_eq!(rt; (ids(&listed), spans(&listed)), counts);
+    assert!(rt; listed.authority() == authority);
+    assert!(rt; (ids(&listed), spans(&listed)) == counts);
 }
 
 fn stand_in_order<S: Spans>(rt: &impl Abort, r: &Revocations<S>) {
-    assert_eq!(rt; authorities(r), 3);
+    assert!(rt; authorities(r) == 3);
     let mut walk = r.walk_authorities();
     for (authority, counts) in [(None, (1, 0)), (Some(A), (1, 0)), (Some(B), (0, 2))] {
         comes_next(rt, &mut walk, authority, counts);
@@ -79,7 +78,8 @@ fn stand_in_order<S: Spans>(rt: &impl Abort, r: &Revocations<S>) {
     assert!(rt; walk.next().is_none());
 }
 
-fn authorities_stand_in_order<S: Spans>(rt: &impl Abort, alloc: Global) -> Result<(), AllocError> {
+fn spans_and_authorities<S: Spans>(rt: &impl Abort, alloc: Global) -> Result<(), AllocError> {
+    spans_are_counted::<S>(rt, alloc);
     let all = [
         serials_under(B, 1, 1),
         id_under(A, b"x"),
@@ -92,8 +92,7 @@ fn authorities_stand_in_order<S: Spans>(rt: &impl Abort, alloc: Global) -> Resul
 }
 
 // A refused addition under an authority that is listed changes nothing.
-#[test]
-fn a_refused_addition_changes_nothing(rt: HostRuntime) {
+fn a_refused_addition_changes_nothing(rt: &impl Abort, alloc: Global) {
     let rows = [
         (serials_under(A, 5, 5), (true, 1, 1)),
         (serials_under(A, 7, 7), (false, 1, 1)),
@@ -101,41 +100,33 @@ fn a_refused_addition_changes_nothing(rt: HostRuntime) {
         (serials_under(A, 6, 9), (true, 1, 1)),
         (serials_under(B, 1, 1), (true, 2, 2)),
     ];
-    let mut r: Revocations<Full<SpanVec, 1>> = Revocations::new(rt.alloc());
-    have_outcomes(&rt, &mut r, &rows);
+    let mut r: Revocations<Full<SpanVec, 1>> = Revocations::new(alloc);
+    have_outcomes(rt, &mut r, &rows);
 }
 
 // An authority without a span is not listed.
-#[test]
-fn a_refused_authority_is_not_listed(rt: HostRuntime) {
+fn a_refused_authority_is_not_listed(rt: &impl Abort, alloc: Global) {
     let rows = [
         (serials_under(A, 5, 5), (false, 0, 0)),
         (id_under(A, b"x"), (true, 0, 1)),
         (serials_under(A, 5, 5), (false, 0, 1)),
     ];
-    let mut r: Revocations<Full<SpanVec, 0>> = Revocations::new(rt.alloc());
-    have_outcomes(&rt, &mut r, &rows);
+    let mut r: Revocations<Full<SpanVec, 0>> = Revocations::new(alloc);
+    have_outcomes(rt, &mut r, &rows);
 }
 
 #[test]
-fn spans_and_authorities_over_pages(rt: HostRuntime) -> Result<(), Fail> {
-    spans_are_counted::<Held>(&rt, rt.alloc());
-    authorities_stand_in_order::<Held>(&rt, rt.alloc())?;
-    Ok(())
+fn refused_additions(rt: HostRuntime) {
+    a_refused_addition_changes_nothing(&rt, rt.alloc());
+    a_refused_authority_is_not_listed(&rt, rt.alloc());
 }
 
+// Over pages, over a vector, and over a set that refuses.
 #[test]
-fn spans_and_authorities_over_a_vector(rt: HostRuntime) -> Result<(), Fail> {
-    spans_are_counted::<SpanVec>(&rt, rt.alloc());
-    authorities_stand_in_order::<SpanVec>(&rt, rt.alloc())?;
-    Ok(())
-}
-
-#[test]
-fn spans_and_authorities_over_a_set_that_refuses(rt: HostRuntime) -> Result<(), Fail> {
-    spans_are_counted::<Full<SpanVec, 2>>(&rt, rt.alloc());
-    authorities_stand_in_order::<Full<SpanVec, 2>>(&rt, rt.alloc())?;
-    Ok(())
+fn spans_and_authorities_over_each_set(rt: HostRuntime) {
+    spans_and_authorities::<Held>(&rt, rt.alloc()).expect(&rt, "there is memory");
+    spans_and_authorities::<SpanVec>(&rt, rt.alloc()).expect(&rt, "there is memory");
+    spans_and_authorities::<Full<SpanVec, 2>>(&rt, rt.alloc()).expect(&rt, "there is memory");
 }
 
 // Adds so many keys and hashes, in an order that is not theirs.
@@ -178,20 +169,19 @@ fn are_walked(rt: &impl Abort, r: &Revocations<Held>) {
 
 // So many keys and hashes are held, in their order.
 fn are_in_order(rt: &impl Abort, r: &Revocations<Held>, count: usize) {
-    assert_eq!(rt; r.keys(), count);
-    assert_eq!(rt; r.sha1s(), count);
+    assert!(rt; r.keys() == count);
+    assert!(rt; r.sha1s() == count);
     rise(rt, r, count);
     are_walked(rt, r);
 }
 
 #[test]
-fn many_keys_and_hashes_stand_in_order(rt: HostRuntime) -> Result<(), Fail> {
+fn many_keys_and_hashes_stand_in_order(rt: HostRuntime) {
     let mut r: Revocations<Held> = Revocations::new(rt.alloc());
     for _ in 0..2 {
-        add_many(&mut r, 5_000)?;
+        add_many(&mut r, 5_000).expect(&rt, "there is memory");
     }
     are_in_order(&rt, &r, 5_000);
-    Ok(())
 }
 
 // Adds a key ID of each length, twice.
@@ -207,26 +197,25 @@ fn add_each_length(r: &mut Revocations<Held>) -> Result<(), AllocError> {
 
 // The key IDs of an authority are as long as their place is.
 fn have_each_length(rt: &impl Abort, listed: Listed<'_, Held>) {
-    assert_eq!(rt; listed.ids(), 100);
+    assert!(rt; listed.ids() == 100);
     let mut walk = listed.walk_ids();
     for length in 0..100usize {
         let found = walk.next().map(|id| id.len());
-        assert_eq!(rt; found, Some(length));
+        assert!(rt; found == Some(length));
     }
 }
 
 // All authorities have these key IDs, and none is listed beside them.
 fn are_kept(rt: &impl Abort, r: &Revocations<Held>) {
-    assert_eq!(rt; authorities(r), 1);
+    assert!(rt; authorities(r) == 1);
     let listed = r.walk_authorities().next().expect(rt, "one is listed");
     have_each_length(rt, listed);
 }
 
 // Short texts lie in place, and long ones do not.
 #[test]
-fn ids_of_each_length_are_kept(rt: HostRuntime) -> Result<(), Fail> {
+fn ids_of_each_length_are_kept(rt: HostRuntime) {
     let mut r: Revocations<Held> = Revocations::new(rt.alloc());
-    add_each_length(&mut r)?;
+    add_each_length(&mut r).expect(&rt, "there is memory");
     are_kept(&rt, &r);
-    Ok(())
 }

@@ -8,7 +8,6 @@ use krl_core::{KrlFault, Revocations};
 use serial_set::{Held, SpanVec};
 use std::alloc::{AllocError, Global};
 use std::process::Abort;
-use std::test::Fail;
 
 // The serials from 1 to 2^64-1.
 const RANGE: &[u8] = b"\x01\0\0\0\x1d\0\0\0\0\0\0\0\0\x21\0\0\0\x10\0\0\0\0\0\0\0\x01\
@@ -18,19 +17,14 @@ const RANGE: &[u8] = b"\x01\0\0\0\x1d\0\0\0\0\0\0\0\0\x21\0\0\0\x10\0\0\0\0\0\0\
 const LONG_BITMAP: &[u8] = b"\x01\0\0\x04\x01\0\0\0\0\0\0\0\0\x22\0\0\x03\xf4\0\0\0\0\0\0\0\x01\
 \0\0\x03\xe8";
 
-#[test]
-fn a_range_is_one_span(rt: HostRuntime) -> Result<(), Fail> {
-    let text = list_of(rt.alloc(), RANGE)?;
-    let spans = spans_from::<Full<SpanVec, 1>, &[u8]>(rt.alloc(), text.as_slice());
-    assert_eq!(rt; spans, Ok(1));
-    Ok(())
-}
-
-#[test]
-fn a_bitmap_is_its_runs(rt: HostRuntime) -> Result<(), Fail> {
-    let text = list_of(rt.alloc(), BITMAP)?;
-    let spans = spans_from::<Full<SpanVec, 4>, &[u8]>(rt.alloc(), text.as_slice());
-    assert_eq!(rt; spans, Ok(4));
+// A set that takes no more spans than the list has serves.
+fn is_its_runs(rt: &impl Abort, alloc: Global) -> Result<(), AllocError> {
+    let range = list_of(alloc, RANGE)?;
+    let spans = spans_from::<Full<SpanVec, 1>, &[u8]>(alloc, range.as_slice());
+    assert!(rt; spans == Ok(1));
+    let bitmap = list_of(alloc, BITMAP)?;
+    let spans = spans_from::<Full<SpanVec, 4>, &[u8]>(alloc, bitmap.as_slice());
+    assert!(rt; spans == Ok(4));
     Ok(())
 }
 
@@ -51,19 +45,23 @@ fn additions_from(alloc: Global, text: &[u8]) -> Result<Option<u64>, KrlFault> {
 // That set was added to so often.
 fn is_added(rt: &impl Abort, alloc: Global, sections: &[u8], due: u64) -> Result<(), AllocError> {
     let text = list_of(alloc, sections)?;
-    assert_eq!(rt; additions_from(alloc, &text), Ok(Some(due)));
+    assert!(rt; additions_from(alloc, &text) == Ok(Some(due)));
     Ok(())
 }
 
 // No range is expanded, and of a bitmap only its runs are added.
-#[test]
-fn each_run_is_added_once(rt: HostRuntime) -> Result<(), Fail> {
-    is_added(&rt, rt.alloc(), RANGE, 1)?;
-    is_added(&rt, rt.alloc(), BITMAP, 4)?;
+fn is_added_once(rt: &impl Abort, alloc: Global) -> Result<(), AllocError> {
+    is_added(rt, alloc, RANGE, 1)?;
+    is_added(rt, alloc, BITMAP, 4)?;
     let others = [0xff; 999];
-    let bits = joined(rt.alloc(), &[LONG_BITMAP, b"\x7f", &others])?;
-    is_added(&rt, rt.alloc(), &bits, 1)?;
-    Ok(())
+    let bits = joined(alloc, &[LONG_BITMAP, b"\x7f", &others])?;
+    is_added(rt, alloc, &bits, 1)
+}
+
+#[test]
+fn each_run_is_added_once(rt: HostRuntime) {
+    is_its_runs(&rt, rt.alloc()).expect(&rt, "there is memory");
+    is_added_once(&rt, rt.alloc()).expect(&rt, "there is memory");
 }
 
 // The fault of a list, or how many keys it has.
@@ -87,30 +85,29 @@ fn is_told(
         first: &first,
         zeros,
     };
-    assert_eq!(rt; keys_from(alloc, reader), due);
+    assert!(rt; keys_from(alloc, reader) == due);
     Ok(())
 }
 
-#[test]
-fn a_reader_without_end_meets_the_limit(rt: HostRuntime) -> Result<(), Fail> {
-    let long = b"\x02\xff\xff\xff\xff\xff\xff\xff\xfb";
-    is_told(&rt, rt.alloc(), long, usize::MAX, Err(KrlFault::TooLong))?;
-    is_told(&rt, rt.alloc(), long, 1000, Err(KrlFault::EndsEarly))?;
-    Ok(())
-}
+// A key that is said to be as long as can be.
+const LONGEST: &[u8] = b"\x02\xff\xff\xff\xff\xff\xff\xff\xfb";
 
-// One key, in a list of 16,777,217 bytes.
-#[test]
-fn reads_a_long_list(rt: HostRuntime) -> Result<(), Fail> {
-    let front = b"\x02\x00\xff\xff\xd0\x00\xff\xff\xcc";
-    is_told(&rt, rt.alloc(), front, 16_777_164, Ok(1))?;
-    Ok(())
-}
+/// What a list begins with, how many zero bytes it goes on with, and what comes of it.
+type Row = (&'static [u8], usize, Result<usize, KrlFault>);
 
-// One key, in a list of 67,108,864 bytes.
+const LONG: [Row; 4] = [
+    (LONGEST, usize::MAX, Err(KrlFault::TooLong)),
+    (LONGEST, 1000, Err(KrlFault::EndsEarly)),
+    // One key, in a list of 16,777,217 bytes.
+    (b"\x02\x00\xff\xff\xd0\x00\xff\xff\xcc", 16_777_164, Ok(1)),
+    // One key, in a list of 67,108,864 bytes.
+    (b"\x02\x03\xff\xff\xcf\x03\xff\xff\xcb", 67_108_811, Ok(1)),
+];
+
+// A reader without end meets the limit, and a list is read up to it.
 #[test]
-fn reads_up_to_the_limit(rt: HostRuntime) -> Result<(), Fail> {
-    let front = b"\x02\x03\xff\xff\xcf\x03\xff\xff\xcb";
-    is_told(&rt, rt.alloc(), front, 67_108_811, Ok(1))?;
-    Ok(())
+fn reads_up_to_the_limit(rt: HostRuntime) {
+    for (sections, zeros, due) in &LONG {
+        is_told(&rt, rt.alloc(), *sections, *zeros, *due).expect(&rt, "there is memory");
+    }
 }

@@ -59,9 +59,9 @@ pub fn header(alloc: Global) -> Header {
 
 /// A header has these parts.
 pub fn says(rt: &impl Abort, header: &Header, version: u64, date: u64, comment: &[u8]) {
-    assert_eq!(rt; header.version, version);
-    assert_eq!(rt; header.date, date);
-    assert_eq!(rt; header.comment.as_slice(), comment);
+    assert!(rt; header.version == version);
+    assert!(rt; header.date == date);
+    assert!(rt; header.comment.as_slice() == comment);
 }
 
 /// The text of what is held.

@@ -43,12 +43,17 @@ impl<'a> PlainReader<'a> {
         if self.number(4, NOWHERE)? != 1 {
             return Err(KrlFault::FormatVersion);
         }
+        self.header()?;
+        self.sections()
+    }
+
+    fn header(&mut self) -> Result<(), KrlFault> {
         self.version = self.number(8, NOWHERE)?;
         self.date = self.number(8, NOWHERE)?;
         self.number(8, NOWHERE)?;
         self.string(NOWHERE)?;
         self.comment = self.string(NOWHERE)?;
-        self.sections()
+        Ok(())
     }
 
     fn sections(&mut self) -> Result<(), KrlFault> {

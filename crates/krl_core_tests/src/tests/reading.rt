@@ -6,9 +6,8 @@ use crate::tests::rows::{BITMAP, HEADER, ROWS, Row, SERIAL_FIVE};
 use krl_core::{KrlFault, Reading};
 use serial_set::Held;
 use ssh_wire::FromRead;
-use std::alloc::{AllocError, Global};
+use std::alloc::Global;
 use std::process::Abort;
-use std::test::Fail;
 
 // The fault of a list, or how many spans it holds.
 fn told(alloc: Global, giver: Giver<'_>) -> Result<u128, KrlFault> {
@@ -19,17 +18,16 @@ fn told(alloc: Global, giver: Giver<'_>) -> Result<u128, KrlFault> {
 fn is_told_in_pieces(rt: &impl Abort, alloc: Global, text: &[u8], row: &Row) {
     for piece in [1, 3, 7, 1000] {
         let found = told(alloc, Giver::new(text, piece));
-        assert_eq!(rt; found, row.due(), "by {piece}");
+        assert!(rt; found == row.due(), "by {piece}");
     }
 }
 
 #[test]
-fn rows_in_pieces(rt: HostRuntime) -> Result<(), Fail> {
+fn rows_in_pieces(rt: HostRuntime) {
     for row in &ROWS {
-        let text = list_of(rt.alloc(), row.sections)?;
+        let text = list_of(rt.alloc(), row.sections).expect(&rt, "there is memory");
         is_told_in_pieces(&rt, rt.alloc(), &text, row);
     }
-    Ok(())
 }
 
 // Gives the bytes five at a call, and fails where they end.
@@ -49,72 +47,63 @@ fn front_is_told(rt: &impl Abort, alloc: Global, front: &[u8]) {
         _ => Some(KrlFault::EndsEarly),
     };
     let n = front.len();
-    assert_eq!(rt; told(alloc, Giver::new(front, 1000)).err(), fault, "at {n}");
+    assert!(rt;
+        told(alloc, Giver::new(front, 1000)).err() == fault,
+        "at {n}"
+    );
     let found = told(alloc, failing(front)).err();
-    assert_eq!(rt; found, Some(KrlFault::Read), "failing at {n}");
+    assert!(rt; found == Some(KrlFault::Read), "failing at {n}");
 }
 
 #[test]
-fn each_front_of_a_list(rt: HostRuntime) -> Result<(), Fail> {
-    let text = list_of(rt.alloc(), SERIAL_FIVE)?;
-    assert_eq!(rt; text.len(), 70);
+fn each_front_of_a_list(rt: HostRuntime) {
+    let text = list_of(rt.alloc(), SERIAL_FIVE).expect(&rt, "there is memory");
+    assert!(rt; text.len() == 70);
     for n in 0..71 {
         front_is_told(&rt, rt.alloc(), &text[..n]);
     }
-    Ok(())
+}
+
+// What the giver gives has this fault.
+fn is_refused(rt: &impl Abort, alloc: Global, giver: Giver<'_>, fault: KrlFault) {
+    assert!(rt; told(alloc, giver).err() == Some(fault));
+}
+
+const FRONTS: [(&[u8], KrlFault); 3] = [
+    (b"", KrlFault::EndsEarly),
+    (b"\0\0\0", KrlFault::EndsEarly),
+    (b"\0\0\0\0\0\0\0\0", KrlFault::Magic),
+];
+
+// A byte of the header that is set.
+const CHANGES: [(usize, u8, KrlFault); 4] = [
+    (0, 0x54, KrlFault::Magic),
+    (11, 2, KrlFault::FormatVersion),
+    (36, 255, KrlFault::EndsEarly),
+    (40, 255, KrlFault::EndsEarly),
+];
+
+#[test]
+fn faults_of_the_header(rt: HostRuntime) {
+    for (bytes, fault) in &FRONTS {
+        is_refused(&rt, rt.alloc(), Giver::new(*bytes, 1000), *fault);
+    }
+    for (place, byte, fault) in &CHANGES {
+        let text = with_byte(rt.alloc(), HEADER, *place, *byte).expect(&rt, "there is memory");
+        is_refused(&rt, rt.alloc(), Giver::new(&text, 1000), *fault);
+    }
 }
 
 // A fault of the bytes comes before that of the reader.
 #[test]
-fn a_fault_before_the_reader_fails(rt: HostRuntime) -> Result<(), Fail> {
-    let text = list_of(rt.alloc(), b"\x99")?;
-    let found = told(rt.alloc(), failing(&text)).err();
-    assert_eq!(rt; found, Some(KrlFault::UnknownSection));
-    Ok(())
+fn a_fault_before_the_reader_fails(rt: HostRuntime) {
+    let text = list_of(rt.alloc(), b"\x99").expect(&rt, "there is memory");
+    is_refused(&rt, rt.alloc(), failing(&text), KrlFault::UnknownSection);
 }
 
 #[test]
-fn faults_of_the_magic(rt: HostRuntime) {
-    for (bytes, fault) in [
-        (b"".as_slice(), KrlFault::EndsEarly),
-        (b"\0\0\0", KrlFault::EndsEarly),
-        (b"\0\0\0\0\0\0\0\0", KrlFault::Magic),
-    ] {
-        let found = told(rt.alloc(), Giver::new(bytes, 1000)).err();
-        assert_eq!(rt; found, Some(fault));
-    }
-}
-
-// The header with a byte set has this fault.
-fn header_is_told(
-    rt: &impl Abort,
-    alloc: Global,
-    place: usize,
-    byte: u8,
-    fault: KrlFault,
-) -> Result<(), AllocError> {
-    let text = with_byte(alloc, HEADER, place, byte)?;
-    let found = told(alloc, Giver::new(&text, 1000)).err();
-    assert_eq!(rt; found, Some(fault), "at {place}");
-    Ok(())
-}
-
-#[test]
-fn faults_of_the_header(rt: HostRuntime) -> Result<(), Fail> {
-    for (place, byte, fault) in [
-        (0, 0x54, KrlFault::Magic),
-        (11, 2, KrlFault::FormatVersion),
-        (36, 255, KrlFault::EndsEarly),
-        (40, 255, KrlFault::EndsEarly),
-    ] {
-        header_is_told(&rt, rt.alloc(), place, byte, fault)?;
-    }
-    Ok(())
-}
-
-#[test]
-fn interruptions_are_passed_over(rt: HostRuntime) -> Result<(), Fail> {
-    let text = list_of(rt.alloc(), SERIAL_FIVE)?;
+fn interruptions_are_passed_over(rt: HostRuntime) {
+    let text = list_of(rt.alloc(), SERIAL_FIVE).expect(&rt, "there is memory");
     for (interruptions, due) in [(1000, Ok(1)), (1001, Err(KrlFault::Read))] {
         let giver = Giver {
             bytes: &text,
@@ -122,9 +111,8 @@ fn interruptions_are_passed_over(rt: HostRuntime) -> Result<(), Fail> {
             interruptions,
             fails_at_the_end: false,
         };
-        assert_eq!(rt; told(rt.alloc(), giver), due);
+        assert!(rt; told(rt.alloc(), giver) == due);
     }
-    Ok(())
 }
 
 /// A list that is read from a slice.
@@ -152,15 +140,15 @@ fn hold_at_each_moment(rt: &impl Abort, reading: &mut OfSlice<'_>) {
             break;
         }
         let due = if taken(reading) < 75 { 0 } else { 4 };
-        assert_eq!(rt; held(reading), due, "at step {at}");
+        assert!(rt; held(reading) == due, "at step {at}");
     }
 }
 
 // The list has ended, and goes on to say so.
 fn stays_at_the_end(rt: &impl Abort, reading: &mut OfSlice<'_>) {
-    assert_eq!(rt; taken(reading), 75);
+    assert!(rt; taken(reading) == 75);
     for _ in 0..2 {
-        assert_eq!(rt; step(reading), Ok(false));
+        assert!(rt; step(reading) == Ok(false));
     }
 }
 
@@ -171,13 +159,12 @@ fn done(reading: OfSlice<'_>) -> (u64, u128) {
 }
 
 #[test]
-fn held_at_each_moment(rt: HostRuntime) -> Result<(), Fail> {
-    let text = list_of(rt.alloc(), BITMAP)?;
+fn held_at_each_moment(rt: HostRuntime) {
+    let text = list_of(rt.alloc(), BITMAP).expect(&rt, "there is memory");
     let mut reading = OfSlice::new(rt.alloc(), FromRead::new(text.as_slice()));
     hold_at_each_moment(&rt, &mut reading);
     stays_at_the_end(&rt, &mut reading);
-    assert_eq!(rt; done(reading), (1, 4));
-    Ok(())
+    assert!(rt; done(reading) == (1, 4));
 }
 
 // The header of a list has these parts, and nothing is held of it.
@@ -191,7 +178,7 @@ fn is_only_a_header(
 ) {
     let (header, _) = read_from::<Held, &[u8]>(alloc, text).expect(rt, "the list is spelled");
     says(rt, &header, version, date, comment);
-    assert_eq!(rt; spans_from::<Held, &[u8]>(alloc, text), Ok(0));
+    assert!(rt; spans_from::<Held, &[u8]>(alloc, text) == Ok(0));
 }
 
 #[test]

@@ -9,7 +9,6 @@ use ssh_wire::ToWrite;
 use std::alloc::{AllocError, Global};
 use std::io::{self, ErrorKind, Write};
 use std::process::Abort;
-use std::test::Fail;
 
 /// Takes at most so many bytes at a call, and fails after some calls.
 #[derive(Drop)]
@@ -67,27 +66,22 @@ fn is_sent(
 ) -> Result<(), AllocError> {
     let text = list_of(alloc, SERIAL_FIVE)?;
     let (done, taken) = sent(alloc, piece, calls)?;
-    assert_eq!(rt; done, due);
+    assert!(rt; done == due);
     assert!(rt; text.get(..count) == Some(taken.as_slice()));
     Ok(())
 }
 
-#[test]
-fn counts_what_went_out(rt: HostRuntime) -> Result<(), Fail> {
-    let due = Err(WriteFault::Write { count: 9 });
-    is_sent(&rt, rt.alloc(), (3, 3), 9, due)?;
-    Ok(())
-}
+// How much is taken at a call, after how many calls the device fails, how much it took, and what
+// comes of the list: what went out is counted, and a device that takes nothing fails.
+const ROWS: [(usize, u8, usize, Result<(), WriteFault>); 3] = [
+    (3, 3, 9, Err(WriteFault::Write { count: 9 })),
+    (0, 1, 0, Err(WriteFault::Write { count: 0 })),
+    (3, 100, 70, Ok(())),
+];
 
 #[test]
-fn a_writer_that_takes_nothing_fails(rt: HostRuntime) -> Result<(), Fail> {
-    let due = Err(WriteFault::Write { count: 0 });
-    is_sent(&rt, rt.alloc(), (0, 1), 0, due)?;
-    Ok(())
-}
-
-#[test]
-fn a_list_goes_out_whole(rt: HostRuntime) -> Result<(), Fail> {
-    is_sent(&rt, rt.alloc(), (3, 100), 70, Ok(()))?;
-    Ok(())
+fn counts_what_went_out(rt: HostRuntime) {
+    for (piece, calls, count, due) in &ROWS {
+        is_sent(&rt, rt.alloc(), (*piece, *calls), *count, *due).expect(&rt, "there is memory");
+    }
 }

@@ -5,10 +5,8 @@ use crate::tests::plain_model::{Said, add, held_of, id_under, serials_under};
 use crate::tests::subjects::ALL;
 use krl_core::{Revocations, TextFault};
 use serial_set::{Held, Span};
-use ssh_key::{sha1_of, sha256_of};
 use std::alloc::{AllocError, Global};
 use std::process::Abort;
-use std::test::Fail;
 
 // A list that was written is read, and what is read has its text.
 fn is_read_back(rt: &impl Abort, alloc: Global, text: &[u8]) {
@@ -52,7 +50,7 @@ pub fn of_runs(alloc: Global, runs: &[Span]) -> Result<Revocations<Held>, AllocE
 /// What is held has a text of so many bytes, which is read back.
 pub fn has_length(rt: &impl Abort, alloc: Global, held: &Revocations<Held>, length: u64) {
     let text = text_of(alloc, &header(alloc), held).expect(rt, "what is held has a text");
-    assert_eq!(rt; text.len() as u64, length);
+    assert!(rt; text.len() as u64 == length);
     is_read_back(rt, alloc, &text);
 }
 
@@ -86,80 +84,52 @@ pub fn spans_of(alloc: Global, ends: &[(u64, u64)]) -> Result<Vec<Span>, AllocEr
 // The ends of runs of serials, and the subsections that these are written by.
 type Row = (&'static [(u64, u64)], &'static [u8]);
 
-// The serials of each row are written so.
-fn are_serials(rt: &impl Abort, alloc: Global, rows: &[Row]) -> Result<(), AllocError> {
-    for (ends, due) in rows {
+const SERIALS: [Row; 10] = [
+    (&[(5, 5)], b"\x20\0\0\0\x08\0\0\0\0\0\0\0\x05"),
+    (
+        &[(5, 5), (6, 6)],
+        b"\x22\0\0\0\x0d\0\0\0\0\0\0\0\x05\0\0\0\x01\x03",
+    ),
+    (
+        &[(1, 1), (3, 3), (5, 5), (7, 7)],
+        b"\x22\0\0\0\x0d\0\0\0\0\0\0\0\x01\0\0\0\x01\x55",
+    ),
+    (
+        &[(5, 5), (5, 5), (1, 9)],
+        b"\x22\0\0\0\x0e\0\0\0\0\0\0\0\x01\0\0\0\x02\x01\xff",
+    ),
+    (
+        &[(1, 2), (4, 5)],
+        b"\x22\0\0\0\x0d\0\0\0\0\0\0\0\x01\0\0\0\x01\x1b",
+    ),
+    (
+        &[(u64::MAX - 1, u64::MAX)],
+        b"\x22\0\0\0\x0d\xff\xff\xff\xff\xff\xff\xff\xfe\0\0\0\x01\x03",
+    ),
+    (
+        &[(1, u64::MAX)],
+        b"\x21\0\0\0\x10\0\0\0\0\0\0\0\x01\xff\xff\xff\xff\xff\xff\xff\xff",
+    ),
+    (
+        &[(1, 10_000)],
+        b"\x21\0\0\0\x10\0\0\0\0\0\0\0\x01\0\0\0\0\0\0\x27\x10",
+    ),
+    // A range costs as much as the bitmap, and comes before it.
+    (
+        &[(1, 24)],
+        b"\x21\0\0\0\x10\0\0\0\0\0\0\0\x01\0\0\0\0\0\0\0\x18",
+    ),
+    (
+        &[(1, 1), (1_000_000, 1_000_000)],
+        b"\x20\0\0\0\x10\0\0\0\0\0\0\0\x01\0\0\0\0\0\x0f\x42\x40",
+    ),
+];
+
+fn serials_are_written(rt: &impl Abort, alloc: Global) -> Result<(), AllocError> {
+    for (ends, due) in &SERIALS {
         let runs = spans_of(alloc, *ends)?;
         serials(rt, alloc, &runs, *due)?;
     }
-    Ok(())
-}
-
-#[test]
-fn writes_few_serials(rt: HostRuntime) -> Result<(), Fail> {
-    let rows: [Row; 3] = [
-        (&[(5, 5)], b"\x20\0\0\0\x08\0\0\0\0\0\0\0\x05"),
-        (
-            &[(5, 5), (6, 6)],
-            b"\x22\0\0\0\x0d\0\0\0\0\0\0\0\x05\0\0\0\x01\x03",
-        ),
-        (
-            &[(1, 1), (3, 3), (5, 5), (7, 7)],
-            b"\x22\0\0\0\x0d\0\0\0\0\0\0\0\x01\0\0\0\x01\x55",
-        ),
-    ];
-    are_serials(&rt, rt.alloc(), &rows)?;
-    Ok(())
-}
-
-#[test]
-fn writes_runs_in_bitmaps(rt: HostRuntime) -> Result<(), Fail> {
-    let rows: [Row; 3] = [
-        (
-            &[(5, 5), (5, 5), (1, 9)],
-            b"\x22\0\0\0\x0e\0\0\0\0\0\0\0\x01\0\0\0\x02\x01\xff",
-        ),
-        (
-            &[(1, 2), (4, 5)],
-            b"\x22\0\0\0\x0d\0\0\0\0\0\0\0\x01\0\0\0\x01\x1b",
-        ),
-        (
-            &[(u64::MAX - 1, u64::MAX)],
-            b"\x22\0\0\0\x0d\xff\xff\xff\xff\xff\xff\xff\xfe\0\0\0\x01\x03",
-        ),
-    ];
-    are_serials(&rt, rt.alloc(), &rows)?;
-    Ok(())
-}
-
-#[test]
-fn writes_ranges(rt: HostRuntime) -> Result<(), Fail> {
-    let rows: [Row; 3] = [
-        (
-            &[(1, u64::MAX)],
-            b"\x21\0\0\0\x10\0\0\0\0\0\0\0\x01\xff\xff\xff\xff\xff\xff\xff\xff",
-        ),
-        (
-            &[(1, 10_000)],
-            b"\x21\0\0\0\x10\0\0\0\0\0\0\0\x01\0\0\0\0\0\0\x27\x10",
-        ),
-        // A range costs as much as the bitmap, and comes before it.
-        (
-            &[(1, 24)],
-            b"\x21\0\0\0\x10\0\0\0\0\0\0\0\x01\0\0\0\0\0\0\0\x18",
-        ),
-    ];
-    are_serials(&rt, rt.alloc(), &rows)?;
-    Ok(())
-}
-
-#[test]
-fn writes_serials_far_apart(rt: HostRuntime) -> Result<(), Fail> {
-    let rows: [Row; 1] = [(
-        &[(1, 1), (1_000_000, 1_000_000)],
-        b"\x20\0\0\0\x10\0\0\0\0\0\0\0\x01\0\0\0\0\0\x0f\x42\x40",
-    )];
-    are_serials(&rt, rt.alloc(), &rows)?;
     Ok(())
 }
 
@@ -190,110 +160,128 @@ fn eight_and_one(alloc: Global) -> Result<Vec<Span>, AllocError> {
 }
 
 // The longest list of serials would take 77 bytes.
-#[test]
-fn writes_the_least_plan(rt: HostRuntime) -> Result<(), Fail> {
-    let runs = eight_and_one(rt.alloc())?;
+fn the_least_plan_is_written(rt: &impl Abort, alloc: Global) -> Result<(), AllocError> {
+    let runs = eight_and_one(alloc)?;
     let due = b"\x20\0\0\0\x08\0\0\0\0\0\0\0\x01\
 \x22\0\0\0\x0e\0\0\0\0\0\x0f\x42\x40\0\0\0\x02\x55\x55";
-    serials(&rt, rt.alloc(), &runs, due)?;
-    Ok(())
+    serials(rt, alloc, &runs, due)
 }
 
-#[test]
-fn the_least_plan_has_its_length(rt: HostRuntime) -> Result<(), Fail> {
-    let runs = eight_and_one(rt.alloc())?;
-    let held = of_runs(rt.alloc(), &runs)?;
-    has_length(&rt, rt.alloc(), &held, 89);
+fn the_least_plan_has_its_length(rt: &impl Abort, alloc: Global) -> Result<(), AllocError> {
+    let runs = eight_and_one(alloc)?;
+    let held = of_runs(alloc, &runs)?;
+    has_length(rt, alloc, &held, 89);
     Ok(())
 }
 
 // 128 odd serials are one bitmap of 32 bytes.
-#[test]
-fn writes_odd_serials_in_one_bitmap(rt: HostRuntime) -> Result<(), Fail> {
-    let runs = serials_apart(rt.alloc(), 1, 2, 128)?;
+fn odd_serials_are_written(rt: &impl Abort, alloc: Global) -> Result<(), AllocError> {
+    let runs = serials_apart(alloc, 1, 2, 128)?;
     let front = b"\x22\0\0\0\x2c\0\0\0\0\0\0\0\x01\0\0\0\x20";
-    let due = joined(rt.alloc(), &[front, &[0x55; 32]])?;
-    serials(&rt, rt.alloc(), &runs, &due)?;
-    Ok(())
+    let due = joined(alloc, &[front, &[0x55; 32]])?;
+    serials(rt, alloc, &runs, &due)
 }
 
 #[test]
-fn writes_ids_in_order_and_once(rt: HostRuntime) -> Result<(), Fail> {
-    let all = [
-        id_under(ALL, b"b"),
-        id_under(ALL, b"a"),
-        id_under(ALL, b"b"),
-    ];
-    let due = under_all(rt.alloc(), b"\x23\0\0\0\x0a\0\0\0\x01a\0\0\0\x01b")?;
-    are_written(&rt, rt.alloc(), &all, &due)?;
-    Ok(())
+fn writes_serials(rt: HostRuntime) {
+    serials_are_written(&rt, rt.alloc()).expect(&rt, "there is memory");
+    the_least_plan_is_written(&rt, rt.alloc()).expect(&rt, "there is memory");
+    the_least_plan_has_its_length(&rt, rt.alloc()).expect(&rt, "there is memory");
+    odd_serials_are_written(&rt, rt.alloc()).expect(&rt, "there is memory");
 }
 
-#[test]
-fn writes_authorities_in_order(rt: HostRuntime) -> Result<(), Fail> {
-    let all = [id_under(b"z", b"i"), serials_under(b"y", 7, 7)];
-    let due = b"\x01\0\0\0\x16\0\0\0\x01y\0\0\0\0\x20\0\0\0\x08\0\0\0\0\0\0\0\x07\
-\x01\0\0\0\x13\0\0\0\x01z\0\0\0\0\x23\0\0\0\x05\0\0\0\x01i";
-    are_written(&rt, rt.alloc(), &all, due)?;
-    Ok(())
-}
+// The SHA-1 of `j`, and the SHA-256 of `k`.
+const J: &[u8] = b"\x5c\x2d\xd9\x44\xdd\xe9\xe0\x88\x81\xbe\xf0\x89\x4f\xe7\xb2\x2a\x5c\x9c\x4b\
+\x06";
 
-#[test]
-fn writes_keys_in_order_and_once(rt: HostRuntime) -> Result<(), Fail> {
-    let all = [Said::Key(b"k"), Said::Key(b"j"), Said::Key(b"k")];
-    let due = b"\x02\0\0\0\x0a\0\0\0\x01j\0\0\0\x01k";
-    are_written(&rt, rt.alloc(), &all, due)?;
-    Ok(())
-}
+const K: &[u8] = b"\x82\x54\xc3\x29\xa9\x28\x50\xf6\xd5\x39\xdd\x37\x6f\x48\x16\xee\x27\x64\x51\
+\x7d\xa5\xe0\x23\x55\x14\xaf\x43\x31\x64\x48\x0d\x7a";
 
-#[test]
-fn writes_hashes(rt: HostRuntime) -> Result<(), Fail> {
-    let sha1 = sha1_of(b"j");
-    let sha256 = sha256_of(b"k");
-    let due = joined(
-        rt.alloc(),
+// What is said, and the sections that it is written by: all in order and once.
+const SAID: [(&[Said<'static>], &[u8]); 5] = [
+    (&[], b""),
+    (
         &[
-            b"\x03\0\0\0\x18\0\0\0\x14",
-            &sha1,
-            b"\x05\0\0\0\x24\0\0\0\x20",
-            &sha256,
+            Said::Id {
+                authority: ALL,
+                id: b"b",
+            },
+            Said::Id {
+                authority: ALL,
+                id: b"a",
+            },
+            Said::Id {
+                authority: ALL,
+                id: b"b",
+            },
         ],
-    )?;
-    let all = [Said::Sha256(&sha256), Said::Sha1(&sha1)];
-    are_written(&rt, rt.alloc(), &all, &due)?;
+        b"\x01\0\0\0\x17\0\0\0\0\0\0\0\0\x23\0\0\0\x0a\0\0\0\x01a\0\0\0\x01b",
+    ),
+    (
+        &[
+            Said::Id {
+                authority: b"z",
+                id: b"i",
+            },
+            Said::Serials {
+                authority: b"y",
+                lo: 7,
+                hi: 7,
+            },
+        ],
+        b"\x01\0\0\0\x16\0\0\0\x01y\0\0\0\0\x20\0\0\0\x08\0\0\0\0\0\0\0\x07\
+\x01\0\0\0\x13\0\0\0\x01z\0\0\0\0\x23\0\0\0\x05\0\0\0\x01i",
+    ),
+    (
+        &[Said::Key(b"k"), Said::Key(b"j"), Said::Key(b"k")],
+        b"\x02\0\0\0\x0a\0\0\0\x01j\0\0\0\x01k",
+    ),
+    (
+        &[Said::Sha256(K), Said::Sha1(J)],
+        b"\x03\x00\x00\x00\x18\x00\x00\x00\x14\x5c\x2d\xd9\x44\xdd\xe9\xe0\x88\x81\xbe\xf0\x89\x4f\
+\xe7\xb2\x2a\x5c\x9c\x4b\x06\x05\x00\x00\x00\x24\x00\x00\x00\x20\x82\x54\xc3\x29\xa9\x28\x50\xf6\
+\xd5\x39\xdd\x37\x6f\x48\x16\xee\x27\x64\x51\x7d\xa5\xe0\x23\x55\x14\xaf\x43\x31\x64\x48\x0d\x7a",
+    ),
+];
+
+fn entries_are_written(rt: &impl Abort, alloc: Global) -> Result<(), AllocError> {
+    for (all, due) in &SAID {
+        are_written(rt, alloc, *all, *due)?;
+    }
     Ok(())
 }
 
 #[test]
-fn writes_an_empty_list(rt: HostRuntime) -> Result<(), Fail> {
-    are_written(&rt, rt.alloc(), &[], b"")?;
-    Ok(())
+fn writes_entries_in_order_and_once(rt: HostRuntime) {
+    entries_are_written(&rt, rt.alloc()).expect(&rt, "there is memory");
+}
+
+// The length of the text of what is held.
+fn text_length(alloc: Global, held: &Revocations<Held>) -> Result<usize, TextFault> {
+    match text_of(alloc, &header(alloc), held) {
+        Ok(text) => Ok(text.len()),
+        Err(fault) => Err(fault),
+    }
 }
 
 // The length of the text of one key ID of so many letters, or why there is none.
 fn length_of(alloc: Global, letters: usize) -> Result<Result<usize, TextFault>, AllocError> {
     let id = vec![in alloc; b'a'; letters]?;
     let held = held_of::<Held>(alloc, &[id_under(ALL, &id)])?;
-    Ok(text_of(alloc, &header(alloc), &held).map(|text| text.len()))
+    Ok(text_length(alloc, &held))
 }
 
 #[test]
-fn writes_a_long_id(rt: HostRuntime) -> Result<(), Fail> {
-    let length = length_of(rt.alloc(), 16_777_150)?;
-    assert_eq!(rt; length, Ok(16_777_216));
-    Ok(())
+fn writes_a_long_id(rt: HostRuntime) {
+    assert!(rt; length_of(rt.alloc(), 16_777_150) == Ok(Ok(16_777_216)));
 }
 
 #[test]
-fn writes_up_to_the_limit(rt: HostRuntime) -> Result<(), Fail> {
-    let length = length_of(rt.alloc(), 67_108_798)?;
-    assert_eq!(rt; length, Ok(67_108_864));
-    Ok(())
+fn writes_up_to_the_limit(rt: HostRuntime) {
+    assert!(rt; length_of(rt.alloc(), 67_108_798) == Ok(Ok(67_108_864)));
 }
 
 #[test]
-fn writes_nothing_past_the_limit(rt: HostRuntime) -> Result<(), Fail> {
-    let length = length_of(rt.alloc(), 67_108_799)?;
-    assert_eq!(rt; length, Err(TextFault::TooLong));
-    Ok(())
+fn writes_nothing_past_the_limit(rt: HostRuntime) {
+    assert!(rt; length_of(rt.alloc(), 67_108_799) == Ok(Err(TextFault::TooLong)));
 }
