@@ -4,7 +4,6 @@ use krl_plan::{Group, Sort, least_plan, put_least_plan};
 use serial_set::{Held, Spans};
 use std::alloc::{AllocError, Global};
 use std::process::Abort;
-use std::test::Fail;
 
 // The ends of a run of serials.
 type Run = (u64, u64);
@@ -108,41 +107,41 @@ fn is_planned(
 ) -> Result<(), AllocError> {
     let plan = plan_of(alloc, runs)?;
     let groups = groups_of(alloc, due)?;
-    assert_eq!(rt; plan.as_slice(), groups.as_slice());
+    assert!(rt; plan.as_slice() == groups.as_slice());
     Ok(())
 }
 
+const ROWS: [Row; 10] = [
+    (&[], &[]),
+    (&[(5, 5)], &[(Sort::Serials, 1)]),
+    (&[(5, 6)], &[(Sort::Bitmap, 1)]),
+    (&[(1, 9)], &[(Sort::Bitmap, 1)]),
+    (&[(1, 24)], &[(Sort::Range, 1)]),
+    (&[(1, 10_000)], &[(Sort::Range, 1)]),
+    (&[(1, u64::MAX)], &[(Sort::Range, 1)]),
+    (&[(1, 1), (1_000_000, 1_000_000)], &[(Sort::Serials, 2)]),
+    (&[(1, 2), (4, 5)], &[(Sort::Bitmap, 2)]),
+    (
+        &[
+            (1, 1),
+            (1_000_000, 1_000_000),
+            (1_000_002, 1_000_002),
+            (1_000_004, 1_000_004),
+            (1_000_006, 1_000_006),
+            (1_000_008, 1_000_008),
+            (1_000_010, 1_000_010),
+            (1_000_012, 1_000_012),
+            (1_000_014, 1_000_014),
+        ],
+        &[(Sort::Serials, 1), (Sort::Bitmap, 8)],
+    ),
+];
+
 #[test]
-fn plans_worked_lists(rt: HostRuntime) -> Result<(), Fail> {
-    let rows: [Row; 10] = [
-        (&[], &[]),
-        (&[(5, 5)], &[(Sort::Serials, 1)]),
-        (&[(5, 6)], &[(Sort::Bitmap, 1)]),
-        (&[(1, 9)], &[(Sort::Bitmap, 1)]),
-        (&[(1, 24)], &[(Sort::Range, 1)]),
-        (&[(1, 10_000)], &[(Sort::Range, 1)]),
-        (&[(1, u64::MAX)], &[(Sort::Range, 1)]),
-        (&[(1, 1), (1_000_000, 1_000_000)], &[(Sort::Serials, 2)]),
-        (&[(1, 2), (4, 5)], &[(Sort::Bitmap, 2)]),
-        (
-            &[
-                (1, 1),
-                (1_000_000, 1_000_000),
-                (1_000_002, 1_000_002),
-                (1_000_004, 1_000_004),
-                (1_000_006, 1_000_006),
-                (1_000_008, 1_000_008),
-                (1_000_010, 1_000_010),
-                (1_000_012, 1_000_012),
-                (1_000_014, 1_000_014),
-            ],
-            &[(Sort::Serials, 1), (Sort::Bitmap, 8)],
-        ),
-    ];
-    for (runs, due) in rows {
-        is_planned(&rt, rt.alloc(), runs, due)?;
+fn plans_worked_lists(rt: HostRuntime) {
+    for (runs, due) in &ROWS {
+        is_planned(&rt, rt.alloc(), *runs, *due).expect(&rt, "there is memory");
     }
-    Ok(())
 }
 
 // The least plan of the runs costs what the cheapest of all plans costs, which is the answer.
@@ -151,7 +150,7 @@ fn least_of(rt: &impl Abort, alloc: Global, runs: &[Run]) -> Result<u64, AllocEr
     let cost = cost_of(&plan, runs);
     assert!(rt; cost.is_some());
     let least = least_cost(runs);
-    assert_eq!(rt; cost, least);
+    assert!(rt; cost == least);
     Ok(least.unwrap_or(0))
 }
 
@@ -168,7 +167,7 @@ fn bytes_put(alloc: Global, runs: &[Run]) -> Result<u64, AllocError> {
 fn costs_least(rt: &impl Abort, alloc: Global, runs: &[Run]) -> Result<(), AllocError> {
     let least = least_of(rt, alloc, runs)?;
     let bytes = bytes_put(alloc, runs)?;
-    assert_eq!(rt; bytes, least);
+    assert!(rt; bytes == least);
     Ok(())
 }
 
@@ -194,12 +193,11 @@ fn chosen_runs(alloc: Global, chosen: u32) -> Result<Vec<Run>, AllocError> {
 }
 
 #[test]
-fn no_plan_of_a_short_list_costs_less(rt: HostRuntime) -> Result<(), Fail> {
+fn no_plan_of_a_short_list_costs_less(rt: HostRuntime) {
     for chosen in 0..64u32 {
-        let runs = chosen_runs(rt.alloc(), chosen)?;
-        costs_least(&rt, rt.alloc(), &runs)?;
+        let runs = chosen_runs(rt.alloc(), chosen).expect(&rt, "there is memory");
+        costs_least(&rt, rt.alloc(), &runs).expect(&rt, "there is memory");
     }
-    Ok(())
 }
 
 // The run that comes at random above a serial.
@@ -226,13 +224,14 @@ fn some_runs(alloc: Global, seed: &mut u64, count: usize) -> Result<Vec<Run>, Al
 }
 
 #[test]
-fn no_plan_of_a_random_list_costs_less(rt: HostRuntime) -> Result<(), Fail> {
+fn no_plan_of_a_random_list_costs_less(rt: HostRuntime) {
     let mut seed: u64 = 2026;
-    for round in 0..60usize {
-        let runs = some_runs(rt.alloc(), &mut seed, round % 10 + 3)?;
-        costs_least(&rt, rt.alloc(), &runs)?;
+    for _ in 0..6 {
+        for count in 3..13usize {
+            let runs = some_runs(rt.alloc(), &mut seed, count).expect(&rt, "there is memory");
+            costs_least(&rt, rt.alloc(), &runs).expect(&rt, "there is memory");
+        }
     }
-    Ok(())
 }
 
 // So many serials, each so far above the one before it.
@@ -248,12 +247,10 @@ fn serials_apart(alloc: Global, apart: u64, count: u64) -> Result<Vec<Run>, Allo
 
 // So many serials, this far apart, and the plan of the longest groups of a sort.
 #[test]
-fn plans_long_lists(rt: HostRuntime) -> Result<(), Fail> {
+fn plans_long_lists(rt: HostRuntime) {
     for (apart, sort) in [(2, Sort::Bitmap), (5000, Sort::Serials)] {
-        let runs = serials_apart(rt.alloc(), apart, 2500)?;
-        let plan = plan_of(rt.alloc(), &runs)?;
-        let groups = [1024, 1024, 452].map(|count| Group { sort, count });
-        assert_eq!(rt; plan.as_slice(), groups.as_slice());
+        let runs = serials_apart(rt.alloc(), apart, 2500).expect(&rt, "there is memory");
+        let due = [(sort, 1024), (sort, 1024), (sort, 452)];
+        is_planned(&rt, rt.alloc(), &runs, &due).expect(&rt, "there is memory");
     }
-    Ok(())
 }
