@@ -58,15 +58,15 @@ impl fmt::Display for CertFault {
 
     fn fmt<W: fmt::Write>(&self, f: &mut fmt::Formatter<W>) -> fmt::Result {
         match self {
-            CertFault::Wire => write!(f, "cert 1 Wire"),
-            CertFault::UnknownType => write!(f, "cert 2 UnknownType"),
+            CertFault::Wire => f.write_str("cert 1 Wire"),
+            CertFault::UnknownType => f.write_str("cert 2 UnknownType"),
             CertFault::Key(fault) => write!(f, "cert 3 Key, {fault}"),
-            CertFault::CertType => write!(f, "cert 4 CertType"),
-            CertFault::Options => write!(f, "cert 5 Options"),
-            CertFault::Principals => write!(f, "cert 6 Principals"),
+            CertFault::CertType => f.write_str("cert 4 CertType"),
+            CertFault::Options => f.write_str("cert 5 Options"),
+            CertFault::Principals => f.write_str("cert 6 Principals"),
             CertFault::Authority(fault) => write!(f, "cert 7 Authority, {fault}"),
-            CertFault::Signature => write!(f, "cert 8 Signature"),
-            CertFault::Trailing => write!(f, "cert 9 Trailing"),
+            CertFault::Signature => f.write_str("cert 8 Signature"),
+            CertFault::Trailing => f.write_str("cert 9 Trailing"),
         }
     }
 }

@@ -1,6 +1,6 @@
 // The listing of a certificate (ssh-keygen(1), option -L).
 
-ghost use Rattle.std.specs.Prelude.{◌≡◌, ◌++◌, IfOk, OnOk, codes, map};
+ghost use Rattle.std.specs.Prelude.{◌≡◌, ◌++◌, ◌∷◌, [], IfOk, OnOk, codes, decimal, map};
 ghost use Rattle.hex.specs.Hex.{encode_lower};
 ghost use Rattle.ssh_wire.specs.Reading.{string_at};
 ghost use Rattle.ssh_cert.specs.Escape.{escaped};
@@ -29,6 +29,16 @@ fn push_line(out: &mut Vec<u8>, label: &[u8], value: &[u8]) -> Result<(), AllocE
     Ok(())
 }
 
+/// Appends a label above its items.
+fn push_heading(out: &mut Vec<u8>, label: &[u8]) -> Result<(), AllocError>
+    ensures { OnOk result (out.new.items
+        ≡ out.old.items ++ (codes "        " ++ (label.now ++ (codes ":" ++ 10 ∷ [])))) }
+{
+    out.extend_from_slice(b"        ")?;
+    out.extend_from_slice(label)?;
+    out.extend_from_slice(b":\n")
+}
+
 /// Appends one of several items.
 #[tactic(auto, unfolding(crate::specs::Listing::item))]
 fn push_item(out: &mut Vec<u8>, text: &[u8]) -> Result<(), AllocError>
@@ -51,27 +61,49 @@ fn type_value(alloc: Global, cert: &Cert) -> Result<Vec<u8>, AllocError>
     Ok(text)
 }
 
+/// A text and another behind it.
+fn both(alloc: Global, first: &[u8], second: &[u8]) -> Result<Vec<u8>, AllocError>
+    ensures { IfOk result (λ text. text.items ≡ first.now ++ second.now) }
+{
+    let mut text = Vec::from_slice(alloc, first)?;
+    text.extend_from_slice(second)?;
+    Ok(text)
+}
+
+/// Three texts, one behind the other.
+fn joined(alloc: Global, first: &[u8], second: &[u8], third: &[u8]) -> Result<Vec<u8>, AllocError>
+    ensures { IfOk result (λ text. text.items ≡ first.now ++ (second.now ++ third.now)) }
+{
+    let mut text = both(alloc, first, second)?;
+    text.extend_from_slice(third)?;
+    Ok(text)
+}
+
 fn key_value(alloc: Global, hash: Hash, key: &PublicKey) -> Result<Vec<u8>, AllocError>
     ensures { IfOk result (λ text. text.items ≡ key_value hash key.now) }
 {
     let blob = plain_blob(alloc, key)?;
     let print = fingerprint(alloc, hash, &blob)?;
-    let mut text = Vec::from_slice(alloc, key.short_name().as_bytes())?;
-    text.extend_from_slice(b"-CERT ")?;
-    text.extend_from_slice(&print)?;
-    Ok(text)
+    joined(alloc, key.short_name().as_bytes(), b"-CERT ", &print)
+}
+
+/// Appends the name of the signature's algorithm.
+fn push_algorithm(out: &mut Vec<u8>, algorithm: &[u8]) -> Result<(), AllocError>
+    ensures { OnOk result (out.new.items
+        ≡ out.old.items ++ (codes " (using " ++ (escaped algorithm.now ++ codes ")"))) }
+{
+    out.extend_from_slice(b" (using ")?;
+    push_escaped(out, algorithm)?;
+    out.extend_from_slice(b")")
 }
 
 fn authority_value(alloc: Global, hash: Hash, cert: &Cert) -> Result<Vec<u8>, AllocError>
     ensures { IfOk result (λ text. text.items ≡ authority_value hash cert.now) }
 {
     let print = fingerprint(alloc, hash, cert.authority())?;
-    let mut text = Vec::from_slice(alloc, cert.authority_key().short_name().as_bytes())?;
-    text.extend_from_slice(b" ")?;
-    text.extend_from_slice(&print)?;
-    text.extend_from_slice(b" (using ")?;
-    push_escaped(&mut text, cert.algorithm())?;
-    text.extend_from_slice(b")")?;
+    let name = cert.authority_key().short_name();
+    let mut text = joined(alloc, name.as_bytes(), b" ", &print)?;
+    push_algorithm(&mut text, cert.algorithm())?;
     Ok(text)
 }
 
@@ -160,6 +192,22 @@ fn option_item(alloc: Global, option: &CertOption) -> Result<Vec<u8>, AllocError
     Ok(text)
 }
 
+/// Appends a principal.
+fn push_principal(alloc: Global, out: &mut Vec<u8>, principal: &[u8]) -> Result<(), AllocError>
+    ensures { OnOk result (out.new.items ≡ out.old.items ++ item (escaped principal.now)) }
+{
+    let text = escaped_text(alloc, principal)?;
+    push_item(out, &text)
+}
+
+/// Appends an option.
+fn push_option(alloc: Global, out: &mut Vec<u8>, option: &CertOption) -> Result<(), AllocError>
+    ensures { OnOk result (out.new.items ≡ out.old.items ++ item (option_item option.now)) }
+{
+    let text = option_item(alloc, option)?;
+    push_item(out, &text)
+}
+
 /// Appends the principals below their label.
 #[tactic(auto, unfolding(crate::specs::Listing::lines))]
 fn push_principals<'a>(
@@ -174,9 +222,9 @@ fn push_principals<'a>(
         return push_line(out, b"Principals", b"(none)");
     };
     out.extend_from_slice(b"        Principals:\n")?;
-    push_item(out, &escaped_text(alloc, first)?)?;
+    push_principal(alloc, out, first)?;
     while let Some(principal) = principals.next() {
-        push_item(out, &escaped_text(alloc, principal)?)?;
+        push_principal(alloc, out, principal)?;
     }
     Ok(())
 }
@@ -195,12 +243,10 @@ fn push_options<'a>(
     let Some(first) = options.next() else {
         return push_line(out, label, b"(none)");
     };
-    out.extend_from_slice(b"        ")?;
-    out.extend_from_slice(label)?;
-    out.extend_from_slice(b":\n")?;
-    push_item(out, &option_item(alloc, &first)?)?;
+    push_heading(out, label)?;
+    push_option(alloc, out, &first)?;
     while let Some(option) = options.next() {
-        push_item(out, &option_item(alloc, &option)?)?;
+        push_option(alloc, out, &option)?;
     }
     Ok(())
 }
@@ -225,18 +271,16 @@ fn period_text(
     if before == u64::MAX {
         return both(alloc, b"after ", after_text);
     }
-    let mut text = both(alloc, b"from ", after_text)?;
-    text.extend_from_slice(b" to ")?;
-    text.extend_from_slice(before_text)?;
-    Ok(text)
+    from_to(alloc, after_text, before_text)
 }
 
-/// A text and another behind it.
-fn both(alloc: Global, first: &[u8], second: &[u8]) -> Result<Vec<u8>, AllocError>
-    ensures { IfOk result (λ text. text.items ≡ first.now ++ second.now) }
+/// The time from one instant to another.
+fn from_to(alloc: Global, after_text: &[u8], before_text: &[u8]) -> Result<Vec<u8>, AllocError>
+    ensures { IfOk result (λ text. text.items
+        ≡ codes "from " ++ (after_text.now ++ (codes " to " ++ before_text.now))) }
 {
-    let mut text = Vec::from_slice(alloc, first)?;
-    text.extend_from_slice(second)?;
+    let mut text = joined(alloc, b"from ", after_text, b" to ")?;
+    text.extend_from_slice(before_text)?;
     Ok(text)
 }
 
@@ -259,12 +303,38 @@ fn push_identity(
 ) -> Result<(), AllocError>
     ensures { OnOk result (out.new.items ≡ out.old.items ++ identity_text hash cert.now) }
 {
-    let kind = type_value(alloc, cert)?;
-    let key = key_value(alloc, hash, cert.key())?;
-    let authority = authority_value(alloc, hash, cert)?;
-    push_line(out, b"Type", &kind)?;
-    push_line(out, b"Public key", &key)?;
-    push_line(out, b"Signing CA", &authority)
+    push_type(alloc, out, cert)?;
+    push_key(alloc, out, cert, hash)?;
+    push_authority(alloc, out, cert, hash)
+}
+
+fn push_type(alloc: Global, out: &mut Vec<u8>, cert: &Cert) -> Result<(), AllocError>
+    ensures { OnOk result (out.new.items
+        ≡ out.old.items ++ line (codes "Type") (type_value cert.now)) }
+{
+    let value = type_value(alloc, cert)?;
+    push_line(out, b"Type", &value)
+}
+
+fn push_key(alloc: Global, out: &mut Vec<u8>, cert: &Cert, hash: Hash) -> Result<(), AllocError>
+    ensures { OnOk result (out.new.items
+        ≡ out.old.items ++ line (codes "Public key") (key_value hash cert.now.key)) }
+{
+    let value = key_value(alloc, hash, cert.key())?;
+    push_line(out, b"Public key", &value)
+}
+
+fn push_authority(
+    alloc: Global,
+    out: &mut Vec<u8>,
+    cert: &Cert,
+    hash: Hash,
+) -> Result<(), AllocError>
+    ensures { OnOk result (out.new.items
+        ≡ out.old.items ++ line (codes "Signing CA") (authority_value hash cert.now)) }
+{
+    let value = authority_value(alloc, hash, cert)?;
+    push_line(out, b"Signing CA", &value)
 }
 
 /// How the certificate is named, and when it is valid.
@@ -279,12 +349,26 @@ fn push_terms(
     ensures { OnOk result (out.new.items
         ≡ out.old.items ++ terms_text cert.now moment period.now) }
 {
-    let id = id_value(alloc, cert.key_id())?;
-    let serial = cert.serial().to_string(alloc)?;
-    push_line(out, b"Key ID", &id)?;
-    push_line(out, b"Serial", serial.as_bytes())?;
+    push_id(alloc, out, cert.key_id())?;
+    push_serial(alloc, out, cert.serial())?;
     push_line(out, b"Valid", period)?;
     push_line(out, b"Valid now", valid_value(cert, moment))
+}
+
+fn push_id(alloc: Global, out: &mut Vec<u8>, id: &[u8]) -> Result<(), AllocError>
+    ensures { OnOk result (out.new.items
+        ≡ out.old.items ++ line (codes "Key ID") (id_value id.now)) }
+{
+    let value = id_value(alloc, id)?;
+    push_line(out, b"Key ID", &value)
+}
+
+fn push_serial(alloc: Global, out: &mut Vec<u8>, serial: u64) -> Result<(), AllocError>
+    ensures { OnOk result (out.new.items
+        ≡ out.old.items ++ line (codes "Serial") (decimal serial)) }
+{
+    let digits = serial.to_string(alloc)?;
+    push_line(out, b"Serial", digits.as_bytes())
 }
 
 /// For whom the certificate is valid, and for what.

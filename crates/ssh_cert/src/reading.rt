@@ -5,7 +5,7 @@ ghost use Rattle.ssh_cert.specs.Certificate.{Certificate, IsCertificate};
 ghost use Rattle.ssh_cert.specs.CertReading.{Reads, body_at, certificate_at, field_at, fields_at, kind_at};
 ghost use Rattle.ssh_cert.specs.Field.{AuthorityField, NumberField, OptionsField, PrincipalsField, PublicField, RoleField, SignatureField, TextField, closing_fields, naming_fields};
 ghost use Rattle.ssh_cert.specs.FirstFault.{IsFirstFault};
-ghost use Rattle.ssh_cert.specs.Parts.{closing_values, naming_values};
+ghost use Rattle.ssh_cert.specs.Parts.{closing_values, naming_values, numbered_fields, numbered_values, of_fields};
 
 use crate::cert::Cert;
 use crate::fault::CertFault;
@@ -69,6 +69,14 @@ struct Naming<'a> {
     closing: Closing<'a>,
 }
 
+/// The fields from the serial number on.
+#[derive(Drop)]
+struct Numbered<'a> {
+    serial: u64,
+    role: Role,
+    naming: Naming<'a>,
+}
+
 /// The certificate that a blob spells (PROTOCOL.certkeys): its fields in their order, and nothing
 /// more. The plain key and the signature key are plain keys as `read_key` knows them. Takes no
 /// memory: every part is lent from the blob. The signature is not checked.
@@ -118,36 +126,44 @@ fn body_fields<'a>(kind: Kind, cursor: &mut Cursor<'a>) -> Result<Cert<'a>, Cert
 {
     let nonce = text_field(cursor)?;
     let key = public_fields(kind, cursor)?;
-    let serial = number_field(cursor)?;
-    let role = role_field(cursor)?;
-    let Naming {
-        key_id,
-        principals,
-        after,
-        before,
-        closing,
-    } = naming_part(cursor)?;
-    let Closing {
-        critical,
-        extensions,
-        reserved: _,
-        authority,
-        signature,
-    } = closing;
-    Ok(Cert {
+    let numbered = numbered_part(cursor)?;
+    Ok(of_fields(nonce, key, numbered))
+}
+
+/// The certificate of its fields.
+fn of_fields<'a>(nonce: &'a [u8], key: PublicKey<'a>, numbered: Numbered<'a>) -> Cert<'a>
+    ensures { result ≡ of_fields nonce.entry.now key.entry numbered.entry }
+{
+    let naming = numbered.naming;
+    let closing = naming.closing;
+    Cert {
         nonce,
         key,
+        serial: numbered.serial,
+        role: numbered.role,
+        key_id: naming.key_id,
+        principals: naming.principals,
+        after: naming.after,
+        before: naming.before,
+        critical: closing.critical,
+        extensions: closing.extensions,
+        authority: closing.authority.blob,
+        authority_key: closing.authority.key,
+        algorithm: closing.signature.algorithm,
+    }
+}
+
+#[tactic(auto, unfolding(crate::specs::CertReading::fields_at))]
+fn numbered_part<'a>(cursor: &mut Cursor<'a>) -> Result<Numbered<'a>, CertFault>
+    ensures { Reads numbered_values result cursor.new (fields_at numbered_fields cursor.old) }
+{
+    let serial = number_field(cursor)?;
+    let role = role_field(cursor)?;
+    let naming = naming_part(cursor)?;
+    Ok(Numbered {
         serial,
         role,
-        key_id,
-        principals,
-        after,
-        before,
-        critical,
-        extensions,
-        authority: authority.blob,
-        authority_key: authority.key,
-        algorithm: signature.algorithm,
+        naming,
     })
 }
 

@@ -42,7 +42,7 @@ impl fmt::Display for SubjectFault {
         match self {
             SubjectFault::Key(fault) => write!(f, "subject 1 Key, {fault}"),
             SubjectFault::Cert(fault) => write!(f, "subject 2 Cert, {fault}"),
-            SubjectFault::NoMemory => write!(f, "subject 3 NoMemory"),
+            SubjectFault::NoMemory => f.write_str("subject 3 NoMemory"),
         }
     }
 }

@@ -1,8 +1,11 @@
 -- The size that a reader of public fields found.
-use Rattle.std.specs.Prelude.{ℕ, ◌≤◌, length}
+use Rattle.std.specs.Prelude.{ℕ, ◌≤◌, List, length, Result, Ok}
+use Rattle.ssh_wire.specs.Reading.{◌>>=◌}
+use Rattle.ssh_key.specs.declared.fault.KeyFault.{KeyFault}
 use Rattle.ssh_key.specs.declared.fields.Size.{Size}
 use Rattle.ssh_key.specs.declared.fields.Size.TheVariants.{Bits, Magnitude}
-use Rattle.ssh_key.specs.Kind.{bit_count}
+use Rattle.ssh_key.specs.KeyReading.{fields_at}
+use Rattle.ssh_key.specs.Kind.{Field, bit_count}
 
 abbrev pub bits_of_size : Size → ℕ
 bits_of_size (Bits bits) = bits
@@ -12,3 +15,9 @@ bits_of_size (Magnitude bytes) = bit_count bytes.now
 abbrev pub IsWithin : Size → ℕ → Type 0
 IsWithin (Bits bits) limit = Unit {0}
 IsWithin (Magnitude bytes) limit = length bytes.now ≤ limit
+
+-- the size of a key that has these fields and so many bits, and the bytes after them
+abbrev pub sized_at : List Field → ℕ → List ℕ → Result (ℕ × List ℕ) KeyFault
+sized_at fields bits bytes = do
+  values ← fields_at fields bytes
+  Ok (bits, values.1)

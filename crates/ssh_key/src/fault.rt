@@ -54,13 +54,13 @@ impl fmt::Display for KeyFault {
     fn fmt<W: fmt::Write>(&self, f: &mut fmt::Formatter<W>) -> fmt::Result {
         match self {
             KeyFault::Wire(fault) => write!(f, "key 1 Wire, {fault}"),
-            KeyFault::UnknownType => write!(f, "key 2 UnknownType"),
-            KeyFault::Curve => write!(f, "key 3 Curve"),
-            KeyFault::Point => write!(f, "key 4 Point"),
-            KeyFault::Length => write!(f, "key 5 Length"),
-            KeyFault::Number => write!(f, "key 6 Number"),
-            KeyFault::Trailing => write!(f, "key 7 Trailing"),
-            KeyFault::TooLong => write!(f, "key 8 TooLong"),
+            KeyFault::UnknownType => f.write_str("key 2 UnknownType"),
+            KeyFault::Curve => f.write_str("key 3 Curve"),
+            KeyFault::Point => f.write_str("key 4 Point"),
+            KeyFault::Length => f.write_str("key 5 Length"),
+            KeyFault::Number => f.write_str("key 6 Number"),
+            KeyFault::Trailing => f.write_str("key 7 Trailing"),
+            KeyFault::TooLong => f.write_str("key 8 TooLong"),
         }
     }
 }

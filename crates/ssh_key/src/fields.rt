@@ -1,10 +1,10 @@
 // Reading the public fields of a key. A cursor that met a fault is not used again.
 
-ghost use Rattle.std.specs.Prelude.{◌≡◌, ◌+◌, ◌-◌, ◌≤◌, IfOk, length};
+ghost use Rattle.std.specs.Prelude.{◌≡◌, ◌+◌, ◌-◌, ◌≤◌, ◌∷◌, [], IfOk, length};
 ghost use Rattle.ssh_wire.specs.Reading.{Gives};
-ghost use Rattle.ssh_key.specs.Kind.{Curve, Point, Positive, Sized, Text, bit_count};
+ghost use Rattle.ssh_key.specs.Kind.{Curve, Point, Positive, Sized, Text};
 ghost use Rattle.ssh_key.specs.KeyReading.{bits_at, field_at};
-ghost use Rattle.ssh_key.specs.Fields.{bits_of_size, IsWithin};
+ghost use Rattle.ssh_key.specs.Fields.{bits_of_size, IsWithin, sized_at};
 
 use crate::fault::KeyFault;
 use crate::kind::Kind;
@@ -23,73 +23,95 @@ pub enum Size<'a> {
 }
 
 /// Reads the public fields of a key of this kind.
-#[tactic(auto, unfolding(crate::specs::KeyReading::bits_at, crate::specs::KeyReading::fields_at))]
+#[tactic(auto, unfolding(crate::specs::KeyReading::bits_at))]
 pub fn read_size<'a>(kind: Kind, cursor: &mut Cursor<'a>) -> Result<Size<'a>, KeyFault>
     ensures read { Gives bits_of_size result cursor.new (bits_at kind cursor.old) }
     ensures within { IfOk result (λ size. IsWithin size (length cursor.old - length cursor.new)) }
 {
     match kind {
-        Kind::Rsa => Ok(Size::Magnitude(read_modulus(cursor)?)),
-        Kind::Dsa => Ok(Size::Magnitude(read_prime(cursor)?)),
-        Kind::Ecdsa256 => {
-            let _curve = read_curve(cursor, "nistp256")?;
-            let _point = read_point(cursor, 65)?;
-            Ok(Size::Bits(256))
-        }
-        Kind::Ecdsa384 => {
-            let _curve = read_curve(cursor, "nistp384")?;
-            let _point = read_point(cursor, 97)?;
-            Ok(Size::Bits(384))
-        }
-        Kind::Ecdsa521 => {
-            let _curve = read_curve(cursor, "nistp521")?;
-            let _point = read_point(cursor, 133)?;
-            Ok(Size::Bits(521))
-        }
-        Kind::Ed25519 => {
-            let _public = read_sized(cursor, ED25519_SIZE)?;
-            Ok(Size::Bits(256))
-        }
-        Kind::EcdsaSk => {
-            let _curve = read_curve(cursor, "nistp256")?;
-            let _point = read_point(cursor, 65)?;
-            let _application = read_text(cursor)?;
-            Ok(Size::Bits(256))
-        }
-        Kind::Ed25519Sk => {
-            let _public = read_sized(cursor, ED25519_SIZE)?;
-            let _application = read_text(cursor)?;
-            Ok(Size::Bits(256))
-        }
+        Kind::Rsa => read_modulus(cursor),
+        Kind::Dsa => read_prime(cursor),
+        Kind::Ecdsa256 => read_ecdsa(cursor, "nistp256", 65, 256),
+        Kind::Ecdsa384 => read_ecdsa(cursor, "nistp384", 97, 384),
+        Kind::Ecdsa521 => read_ecdsa(cursor, "nistp521", 133, 521),
+        Kind::Ed25519 => read_ed25519(cursor),
+        Kind::EcdsaSk => read_ecdsa_device(cursor),
+        Kind::Ed25519Sk => read_ed25519_device(cursor),
     }
 }
 
 /// Reads the public fields of an RSA key: the exponent, and the modulus, which is answered.
 #[tactic(auto, unfolding(crate::specs::KeyReading::bits_at, crate::specs::KeyReading::fields_at))]
-fn read_modulus<'a>(cursor: &mut Cursor<'a>) -> Result<&'a [u8], KeyFault>
-    ensures read { Gives (λ modulus. bit_count modulus.now) result cursor.new
-        (bits_at Kind.Rsa cursor.old) }
-    ensures within { IfOk result (λ modulus.
-        length modulus.now + length cursor.new ≤ length cursor.old) }
+fn read_modulus<'a>(cursor: &mut Cursor<'a>) -> Result<Size<'a>, KeyFault>
+    ensures read { Gives bits_of_size result cursor.new (bits_at Kind.Rsa cursor.old) }
+    ensures within { IfOk result (λ size. IsWithin size (length cursor.old - length cursor.new)) }
 {
     let _exponent = read_positive(cursor)?;
     let modulus = read_positive(cursor)?;
-    Ok(modulus)
+    Ok(Size::Magnitude(modulus))
 }
 
 /// Reads the public fields of a DSA key: the prime, which is answered, and three numbers more.
 #[tactic(auto, unfolding(crate::specs::KeyReading::bits_at, crate::specs::KeyReading::fields_at))]
-fn read_prime<'a>(cursor: &mut Cursor<'a>) -> Result<&'a [u8], KeyFault>
-    ensures read { Gives (λ prime. bit_count prime.now) result cursor.new
-        (bits_at Kind.Dsa cursor.old) }
-    ensures within { IfOk result (λ prime.
-        length prime.now + length cursor.new ≤ length cursor.old) }
+fn read_prime<'a>(cursor: &mut Cursor<'a>) -> Result<Size<'a>, KeyFault>
+    ensures read { Gives bits_of_size result cursor.new (bits_at Kind.Dsa cursor.old) }
+    ensures within { IfOk result (λ size. IsWithin size (length cursor.old - length cursor.new)) }
 {
     let prime = read_positive(cursor)?;
     let _subprime = read_positive(cursor)?;
     let _generator = read_positive(cursor)?;
     let _public = read_positive(cursor)?;
-    Ok(prime)
+    Ok(Size::Magnitude(prime))
+}
+
+/// Reads the public fields of a key on this curve, whose points have so many bytes.
+#[tactic(auto, unfolding(crate::specs::KeyReading::fields_at))]
+fn read_ecdsa<'a>(
+    cursor: &mut Cursor<'a>,
+    curve: &str,
+    point: usize,
+    bits: u32,
+) -> Result<Size<'a>, KeyFault>
+    ensures read { Gives bits_of_size result cursor.new
+        (sized_at (Curve curve.now ∷ Point point ∷ []) bits cursor.old) }
+    ensures within { IfOk result (λ size. IsWithin size (length cursor.old - length cursor.new)) }
+{
+    let _curve = read_curve(cursor, curve)?;
+    let _point = read_point(cursor, point)?;
+    Ok(Size::Bits(bits))
+}
+
+/// Reads the public fields of an Ed25519 key.
+#[tactic(auto, unfolding(crate::specs::KeyReading::bits_at, crate::specs::KeyReading::fields_at))]
+fn read_ed25519<'a>(cursor: &mut Cursor<'a>) -> Result<Size<'a>, KeyFault>
+    ensures read { Gives bits_of_size result cursor.new (bits_at Kind.Ed25519 cursor.old) }
+    ensures within { IfOk result (λ size. IsWithin size (length cursor.old - length cursor.new)) }
+{
+    let _public = read_sized(cursor, ED25519_SIZE)?;
+    Ok(Size::Bits(256))
+}
+
+/// Reads the public fields of an ECDSA key of a device.
+#[tactic(auto, unfolding(crate::specs::KeyReading::bits_at, crate::specs::KeyReading::fields_at))]
+fn read_ecdsa_device<'a>(cursor: &mut Cursor<'a>) -> Result<Size<'a>, KeyFault>
+    ensures read { Gives bits_of_size result cursor.new (bits_at Kind.EcdsaSk cursor.old) }
+    ensures within { IfOk result (λ size. IsWithin size (length cursor.old - length cursor.new)) }
+{
+    let _curve = read_curve(cursor, "nistp256")?;
+    let _point = read_point(cursor, 65)?;
+    let _application = read_text(cursor)?;
+    Ok(Size::Bits(256))
+}
+
+/// Reads the public fields of an Ed25519 key of a device.
+#[tactic(auto, unfolding(crate::specs::KeyReading::bits_at, crate::specs::KeyReading::fields_at))]
+fn read_ed25519_device<'a>(cursor: &mut Cursor<'a>) -> Result<Size<'a>, KeyFault>
+    ensures read { Gives bits_of_size result cursor.new (bits_at Kind.Ed25519Sk cursor.old) }
+    ensures within { IfOk result (λ size. IsWithin size (length cursor.old - length cursor.new)) }
+{
+    let _public = read_sized(cursor, ED25519_SIZE)?;
+    let _application = read_text(cursor)?;
+    Ok(Size::Bits(256))
 }
 
 /// A number above zero: its magnitude.

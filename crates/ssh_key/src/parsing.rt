@@ -44,8 +44,15 @@ fn digest(alloc: Global, base64: &[u8]) -> Result<[u8; 32], FingerprintFault>
     ensures { GivesDigest result (sized (decode_of standard_no_pad base64.now)) }
 {
     match STANDARD_NO_PAD.decode(alloc, base64) {
-        Ok(bytes) => <[u8; 32]>::try_from(bytes.as_slice()).map_err(|_| FingerprintFault::Length),
+        Ok(bytes) => whole_digest(&bytes),
         Err(DecodeAllocError::DecodeError(_)) => Err(FingerprintFault::Base64),
         Err(DecodeAllocError::OutOfMemory) => Err(FingerprintFault::NoMemory),
     }
+}
+
+/// The digest, where it is one by its size.
+fn whole_digest(bytes: &[u8]) -> Result<[u8; 32], FingerprintFault>
+    ensures { GivesDigest result (sized (Ok bytes.now)) }
+{
+    <[u8; 32]>::try_from(bytes).map_err(|_| FingerprintFault::Length)
 }

@@ -67,18 +67,18 @@ impl fmt::Display for PrivateFault {
 
     fn fmt<W: fmt::Write>(&self, f: &mut fmt::Formatter<W>) -> fmt::Result {
         match self {
-            PrivateFault::Armour => write!(f, "private 1 Armour"),
-            PrivateFault::Base64 => write!(f, "private 2 Base64"),
-            PrivateFault::Magic => write!(f, "private 3 Magic"),
-            PrivateFault::Encrypted => write!(f, "private 4 Encrypted"),
-            PrivateFault::KeyCount => write!(f, "private 5 KeyCount"),
-            PrivateFault::Check => write!(f, "private 6 Check"),
+            PrivateFault::Armour => f.write_str("private 1 Armour"),
+            PrivateFault::Base64 => f.write_str("private 2 Base64"),
+            PrivateFault::Magic => f.write_str("private 3 Magic"),
+            PrivateFault::Encrypted => f.write_str("private 4 Encrypted"),
+            PrivateFault::KeyCount => f.write_str("private 5 KeyCount"),
+            PrivateFault::Check => f.write_str("private 6 Check"),
             PrivateFault::Key(fault) => write!(f, "private 7 Key, {fault}"),
-            PrivateFault::PublicDiffers => write!(f, "private 8 PublicDiffers"),
-            PrivateFault::Padding => write!(f, "private 9 Padding"),
-            PrivateFault::Trailing => write!(f, "private 10 Trailing"),
+            PrivateFault::PublicDiffers => f.write_str("private 8 PublicDiffers"),
+            PrivateFault::Padding => f.write_str("private 9 Padding"),
+            PrivateFault::Trailing => f.write_str("private 10 Trailing"),
             PrivateFault::Wire(fault) => write!(f, "private 11 Wire, {fault}"),
-            PrivateFault::NoMemory => write!(f, "private 12 NoMemory"),
+            PrivateFault::NoMemory => f.write_str("private 12 NoMemory"),
         }
     }
 }
