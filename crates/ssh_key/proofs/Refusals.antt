@@ -11,7 +11,7 @@ use Rattle.ssh_wire.specs.Reading.{magnitude_of, mpint_at, string_at, ◌>>=◌}
 use Rattle.ssh_wire.specs.Fields.{Takes, length-string, string_again}
 use Rattle.ssh_key.specs.declared.fault.KeyFault.{KeyFault}
 use Rattle.ssh_key.specs.declared.fault.KeyFault.TheVariants as faults
-use Rattle.ssh_key.specs.declared.fault.KeyFault.TheVariants.{Wire, UnknownType, Length, Number, Trailing, TooLong}
+use Rattle.ssh_key.specs.declared.fault.KeyFault.TheVariants.{Wire, Length, Number}
 use Rattle.ssh_key.specs.Kind.{Field, Positive, Curve, Point, Sized, Text}
 use Rattle.ssh_key.specs.Key.{HasLength, IsUncompressed, IsValue, AreValues, field_text, fields_text}
 use Rattle.ssh_key.specs.KeyReading.{on_wire, value_at, fault_in, begins_with_4, unless, field_at, fields_at}

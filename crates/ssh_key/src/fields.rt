@@ -1,6 +1,6 @@
 // Reading the public fields of a key. A cursor that met a fault is not used again.
 
-ghost use Rattle.std.specs.Prelude.{◌≡◌, ◌+◌, ◌-◌, ◌≤◌, ◌∷◌, [], IfOk, length};
+ghost use Rattle.std.specs.Prelude.{◌+◌, ◌-◌, ◌≤◌, ◌∷◌, [], IfOk, length};
 ghost use Rattle.ssh_wire.specs.Reading.{Gives};
 ghost use Rattle.ssh_key.specs.Kind.{Curve, Point, Positive, Sized, Text};
 ghost use Rattle.ssh_key.specs.KeyReading.{bits_at, field_at};

@@ -1,6 +1,6 @@
 // Reading a printed fingerprint.
 
-ghost use Rattle.std.specs.Prelude.{◌≡◌, ℕ, List, IfErr, IfOk, Ok};
+ghost use Rattle.std.specs.Prelude.{ℕ, List, IfErr, IfOk, Ok};
 ghost use Rattle.base64.specs.Engines.{standard_no_pad};
 ghost use Rattle.base64.specs.GeneralPurpose.{decode_of};
 ghost use Rattle.ssh_key.specs.FingerprintReading.{GivesDigest, IsFingerprint, IsToldFingerprintFault, fingerprint_at, sized};

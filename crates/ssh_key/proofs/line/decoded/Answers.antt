@@ -1,0 +1,7 @@
+use Rattle.std.proofs.Common.{rules}
+use Rattle.ssh_key.specs.LineReading.{decoded}
+use Rattle.ssh_key.proofs.line.decoded.Goals as goal
+
+pub returns-clause-exact : goal.returns-clause-exact
+unfolding decoded
+returns-clause-exact c = search rules
