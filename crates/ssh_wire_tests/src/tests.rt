@@ -47,9 +47,8 @@ fn pull_faults_have_numbers_and_texts(rt: HostRuntime) -> Result<(), Fail> {
 }
 
 #[test]
-fn bytes_are_those_of_the_vector(rt: HostRuntime) -> Result<(), Fail> {
-    let bytes = Bytes::from_vec(vec![in rt.alloc(); 7, 8]?);
+fn bytes_are_those_of_the_vector(rt: HostRuntime) {
+    let bytes = Bytes::from_vec(vec![in rt.alloc(); 7, 8].expect(&rt, "there is memory"));
     assert_eq!(rt; bytes.as_slice(), [7, 8].as_slice());
     assert_eq!(rt; bytes.into_vec().as_slice(), [7, 8].as_slice());
-    Ok(())
 }

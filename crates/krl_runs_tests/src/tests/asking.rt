@@ -4,7 +4,6 @@ use crate::tests::bytes::{GITHUB, HEADER, ONE_KEY, joined, list_of_one};
 use crate::tests::runs::{CLOSED, File, KEY, OTHER_LINE, Said, asks};
 use std::alloc::{AllocError, Global};
 use std::process::Abort;
-use std::test::Fail;
 
 const OTHER: File<'static> = ("a", Some(&[OTHER_LINE, b" x y\n"]));
 
@@ -47,11 +46,13 @@ const TOLD: [Told<'static>; 7] = [
 
 // A body that is always out of memory meets the contracts. It fails here.
 #[test]
-fn told_of_each_key(rt: HostRuntime) -> Result<(), Fail> {
+fn told_of_each_key(rt: HostRuntime) {
     for (i, (parts, files, text, status)) in TOLD.iter().enumerate() {
-        tells(&rt, rt.alloc(), i, *parts, *files, (*text, *status, ""))?;
+        tells(&rt, rt.alloc(), i, *parts, *files, (*text, *status, "")).expect(
+            &rt,
+            "there is memory",
+        );
     }
-    Ok(())
 }
 
 const NONE: &str = "ssh-keygen: none: file 1 Open";
@@ -98,11 +99,13 @@ const STOPPED: [Stopped<'static>; 8] = [
 ];
 
 #[test]
-fn stopped_at_a_fault(rt: HostRuntime) -> Result<(), Fail> {
+fn stopped_at_a_fault(rt: HostRuntime) {
     for (i, (parts, files, text, fault)) in STOPPED.iter().enumerate() {
-        tells(&rt, rt.alloc(), i, *parts, *files, (*text, 255, *fault))?;
+        tells(&rt, rt.alloc(), i, *parts, *files, (*text, 255, *fault)).expect(
+            &rt,
+            "there is memory",
+        );
     }
-    Ok(())
 }
 
 /// What is said of the key by so many bytes of the list that names it.
@@ -115,12 +118,11 @@ fn said_by_front(size: usize) -> Said<'static> {
 }
 
 #[test]
-fn each_front_of_a_list(rt: HostRuntime) -> Result<(), Fail> {
-    let list = list_of_one(rt.alloc(), &GITHUB)?;
+fn each_front_of_a_list(rt: HostRuntime) {
+    let list = list_of_one(rt.alloc(), &GITHUB).expect(&rt, "there is memory");
     assert!(rt; list.len() == 104);
     for n in 0..105 {
-        let front = list.get(..n).ok_or("the list has 104 bytes")?;
-        asks(&rt, rt.alloc(), n, front, &[KEY], said_by_front(n))?;
+        let front = list.get(..n).expect(&rt, "the list has 104 bytes");
+        asks(&rt, rt.alloc(), n, front, &[KEY], said_by_front(n)).expect(&rt, "there is memory");
     }
-    Ok(())
 }

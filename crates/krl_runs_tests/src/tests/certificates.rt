@@ -6,7 +6,6 @@ use crate::tests::runs::{GITHUB_LINE, asks, lists};
 use ssh_key::Hash;
 use std::alloc::{AllocError, Global};
 use std::process::Abort;
-use std::test::Fail;
 
 const NAME: &[u8] = b"ssh-ed25519-cert-v01@openssh.com";
 
@@ -86,18 +85,17 @@ pub fn certificate_line(
 }
 
 #[test]
-fn its_plain_key_is_listed(rt: HostRuntime) -> Result<(), Fail> {
+fn its_plain_key_is_listed(rt: HostRuntime) {
     let alloc = rt.alloc();
-    let authority = even_key(alloc, 0x11)?;
-    let blob = certificate(alloc, &authority, 7)?;
+    let authority = even_key(alloc, 0x11).expect(&rt, "there is memory");
+    let blob = certificate(alloc, &authority, 7).expect(&rt, "there is memory");
     assert!(rt; blob.len() == 267);
-    let line = line_of(alloc, &blob)?;
+    let line = line_of(alloc, &blob).expect(&rt, "there is memory");
     let text =
         b"256 SHA256:+DiY3wvvV6TuJJhbpZisF/zLDA0zPMSvHdkr4UvCOqU no comment (ED25519-CERT)\n";
     let parts = [line.as_slice()];
     let file = ("c.pub", Some(parts.as_slice()));
-    lists(&rt, alloc, 0, Hash::Sha256, &file, (text, 0, ""))?;
-    Ok(())
+    lists(&rt, alloc, 0, Hash::Sha256, &file, (text, 0, "")).expect(&rt, "there is memory");
 }
 
 /// A file of a certificate by the authority of bytes 0x11 and of its plain key is asked about, and
@@ -132,11 +130,11 @@ fn list_of_key(alloc: Global, key: &[u8]) -> Result<Vec<u8>, AllocError> {
 }
 
 #[test]
-fn asked_by_its_keys(rt: HostRuntime) -> Result<(), Fail> {
+fn asked_by_its_keys(rt: HostRuntime) {
     let alloc = rt.alloc();
-    let authority = even_key(alloc, 0x11)?;
-    let other = even_key(alloc, 0x22)?;
-    let blob = certificate(alloc, &authority, 7)?;
+    let authority = even_key(alloc, 0x11).expect(&rt, "there is memory");
+    let other = even_key(alloc, 0x22).expect(&rt, "there is memory");
+    let blob = certificate(alloc, &authority, 7).expect(&rt, "there is memory");
     // the explicit key of a list, and what is said of the certificate and of its plain key
     let rows: [(&[u8], &[u8], u8); 4] = [
         (&GITHUB, b"f: REVOKED\nf: REVOKED\n", 1),
@@ -145,10 +143,9 @@ fn asked_by_its_keys(rt: HostRuntime) -> Result<(), Fail> {
         (&blob, b"f: ok\nf: ok\n", 0),
     ];
     for (i, (key, text, status)) in rows.iter().enumerate() {
-        let list = list_of_key(alloc, *key)?;
-        is_told(&rt, alloc, i, &list, *text, *status)?;
+        let list = list_of_key(alloc, *key).expect(&rt, "there is memory");
+        is_told(&rt, alloc, i, &list, *text, *status).expect(&rt, "there is memory");
     }
-    Ok(())
 }
 
 /// A section that names a serial or a key ID under all authorities, and what is said of the
@@ -177,10 +174,12 @@ const NAMES: [(&[u8], &[u8], u8); 4] = [
 ];
 
 #[test]
-fn asked_by_its_names(rt: HostRuntime) -> Result<(), Fail> {
+fn asked_by_its_names(rt: HostRuntime) {
     for (i, (section, text, status)) in NAMES.iter().enumerate() {
-        let list = joined(rt.alloc(), &[&HEADER, b"\x01\0\0\0", *section])?;
-        is_told(&rt, rt.alloc(), i, &list, *text, *status)?;
+        let list = joined(rt.alloc(), &[&HEADER, b"\x01\0\0\0", *section]).expect(
+            &rt,
+            "there is memory",
+        );
+        is_told(&rt, rt.alloc(), i, &list, *text, *status).expect(&rt, "there is memory");
     }
-    Ok(())
 }

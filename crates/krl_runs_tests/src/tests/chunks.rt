@@ -6,7 +6,6 @@ use crate::tests::runs::{CLOSED, GITHUB_LINE, Ran, holding, says};
 use krl_runs::ListMode;
 use std::alloc::{AllocError, Global};
 use std::process::Abort;
-use std::test::Fail;
 
 /// What the query says of the key.
 const SAID: &[u8] = b"g.pub: REVOKED\n";
@@ -50,7 +49,7 @@ fn sends(
 }
 
 #[test]
-fn sends_whole_lines_in_chunks(rt: HostRuntime) -> Result<(), Fail> {
+fn sends_whole_lines_in_chunks(rt: HostRuntime) {
     // how many writes come before the failure, how many bytes go out, and the fault
     let rows: [(usize, usize, &str); 3] = [
         (0, 0, "ssh-keygen: output: output 1 Write after 0 bytes"),
@@ -62,17 +61,15 @@ fn sends_whole_lines_in_chunks(rt: HostRuntime) -> Result<(), Fail> {
         (2, 75_000, "ssh-keygen: none: file 1 Open"),
     ];
     for (writes, count, fault) in rows {
-        sends(&rt, rt.alloc(), writes, count, fault)?;
+        sends(&rt, rt.alloc(), writes, count, fault).expect(&rt, "there is memory");
     }
-    Ok(())
 }
 
 #[test]
-fn lists_in_chunks(rt: HostRuntime) -> Result<(), Fail> {
-    let file = holding("g.pub", often(rt.alloc())?);
+fn lists_in_chunks(rt: HostRuntime) {
+    let file = holding("g.pub", often(rt.alloc()).expect(&rt, "there is memory"));
     let device = Taker::new(rt.alloc(), 1_000, 1_000_000);
-    let ran = listed_over(rt.alloc(), ListMode::Keys, &file, device)?;
-    let text = repeated(rt.alloc(), &[LISTED], TIMES)?;
+    let ran = listed_over(rt.alloc(), ListMode::Keys, &file, device).expect(&rt, "there is memory");
+    let text = repeated(rt.alloc(), &[LISTED], TIMES).expect(&rt, "there is memory");
     says(&rt, 0, &ran, (&text, 0, ""));
-    Ok(())
 }

@@ -5,7 +5,6 @@ use crate::tests::devices::{Taker, asked_over};
 use crate::tests::runs::{CLOSED, KEY, Ran, dumps, says};
 use std::alloc::{AllocError, Global};
 use std::process::Abort;
-use std::test::Fail;
 
 /// The lines of the header of version 1 and date 0.
 const HEAD: &[u8] = b"# KRL version 1\n# Generated at 1970-01-01T00:00:00Z\n";
@@ -73,11 +72,10 @@ fn prints(
 }
 
 #[test]
-fn each_kind_of_line(rt: HostRuntime) -> Result<(), Fail> {
+fn each_kind_of_line(rt: HostRuntime) {
     for (i, (sections, lines)) in ROWS.iter().enumerate() {
-        prints(&rt, rt.alloc(), i, *sections, *lines)?;
+        prints(&rt, rt.alloc(), i, *sections, *lines).expect(&rt, "there is memory");
     }
-    Ok(())
 }
 
 /// The list of this version, this date, and this comment with its length, is printed so.
@@ -128,33 +126,30 @@ const HEADERS: [([&[u8]; 3], &[u8]); 4] = [
 ];
 
 #[test]
-fn headers(rt: HostRuntime) -> Result<(), Fail> {
+fn headers(rt: HostRuntime) {
     for (i, (header, text)) in HEADERS.iter().enumerate() {
-        prints_header(&rt, rt.alloc(), i, *header, *text)?;
+        prints_header(&rt, rt.alloc(), i, *header, *text).expect(&rt, "there is memory");
     }
-    Ok(())
 }
 
 #[test]
-fn the_files_follow(rt: HostRuntime) -> Result<(), Fail> {
+fn the_files_follow(rt: HostRuntime) {
     let alloc = rt.alloc();
-    let list = list_of(alloc, &[FIVE, &ONE_KEY, &GITHUB])?;
+    let list = list_of(alloc, &[FIVE, &ONE_KEY, &GITHUB]).expect(&rt, "there is memory");
     let lines = b"# CA all\nserial: 5\n\
         key: AAAAC3NzaC1lZDI1NTE5AAAAIOMqqnkVzrm0SdG6UOoqKLsabgH5C9okWi0dh2l9GKJl\n\
         g.pub: REVOKED\n";
-    let text = joined(alloc, &[HEAD, lines])?;
+    let text = joined(alloc, &[HEAD, lines]).expect(&rt, "there is memory");
     let fault = "ssh-keygen: none: file 1 Open";
-    dumps(&rt, alloc, 0, &list, &[KEY, CLOSED], (&text, 255, fault))?;
-    dumps(&rt, alloc, 1, &list, &[KEY], (&text, 1, ""))?;
-    Ok(())
+    dumps(&rt, alloc, 0, &list, &[KEY, CLOSED], (&text, 255, fault)).expect(&rt, "there is memory");
+    dumps(&rt, alloc, 1, &list, &[KEY], (&text, 1, "")).expect(&rt, "there is memory");
 }
 
 #[test]
-fn a_fault_comes_before_the_contents(rt: HostRuntime) -> Result<(), Fail> {
-    let list = list_of(rt.alloc(), &[FIVE, b"\x99"])?;
+fn a_fault_comes_before_the_contents(rt: HostRuntime) {
+    let list = list_of(rt.alloc(), &[FIVE, b"\x99"]).expect(&rt, "there is memory");
     let fault = "ssh-keygen: r.krl: krl 4 UnknownSection";
-    dumps(&rt, rt.alloc(), 0, &list, &[], (b"", 255, fault))?;
-    Ok(())
+    dumps(&rt, rt.alloc(), 0, &list, &[], (b"", 255, fault)).expect(&rt, "there is memory");
 }
 
 /// Prints a list of one serial, where each call takes seven bytes until one fails.
@@ -170,15 +165,14 @@ fn write_fault(alloc: Global, count: usize) -> Result<String, AllocError> {
 }
 
 #[test]
-fn the_output_fails_within_the_contents(rt: HostRuntime) -> Result<(), Fail> {
-    let text = joined(rt.alloc(), &[HEAD, b"# CA all\nserial: 5\n"])?;
+fn the_output_fails_within_the_contents(rt: HostRuntime) {
+    let text = joined(rt.alloc(), &[HEAD, b"# CA all\nserial: 5\n"]).expect(&rt, "there is memory");
     for calls in 0..11 {
-        let taken = text.get(..calls * 7).ok_or("the text is longer")?;
-        let fault = write_fault(rt.alloc(), calls * 7)?;
-        let ran = printed_in_part(rt.alloc(), calls)?;
+        let taken = text.get(..calls * 7).expect(&rt, "the text is longer");
+        let fault = write_fault(rt.alloc(), calls * 7).expect(&rt, "there is memory");
+        let ran = printed_in_part(rt.alloc(), calls).expect(&rt, "there is memory");
         says(&rt, calls, &ran, (taken, 255, fault.as_str()));
     }
-    Ok(())
 }
 
 /// A list of the first odd serials, so many that their lines and their pages are several.
@@ -202,9 +196,8 @@ fn odd_lines(alloc: Global) -> Result<Vec<u8>, AllocError> {
 }
 
 #[test]
-fn many_lines(rt: HostRuntime) -> Result<(), Fail> {
-    let list = odd_serials(rt.alloc())?;
-    let text = odd_lines(rt.alloc())?;
-    dumps(&rt, rt.alloc(), 0, &list, &[], (&text, 0, ""))?;
-    Ok(())
+fn many_lines(rt: HostRuntime) {
+    let list = odd_serials(rt.alloc()).expect(&rt, "there is memory");
+    let text = odd_lines(rt.alloc()).expect(&rt, "there is memory");
+    dumps(&rt, rt.alloc(), 0, &list, &[], (&text, 0, "")).expect(&rt, "there is memory");
 }

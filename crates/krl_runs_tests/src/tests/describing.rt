@@ -3,7 +3,6 @@
 use crate::tests::encoding::key_line;
 use crate::tests::runs::{GITHUB_LINE, OTHER_LINE, lists};
 use ssh_key::Hash;
-use std::test::Fail;
 
 /// A hash, the parts of a file, and what is listed.
 type Listed<'a> = (Hash, &'a [&'a [u8]], &'a [u8]);
@@ -39,12 +38,11 @@ const LISTED: [Listed<'static>; 5] = [
 ];
 
 #[test]
-fn each_key(rt: HostRuntime) -> Result<(), Fail> {
+fn each_key(rt: HostRuntime) {
     for (i, (hash, parts, text)) in LISTED.iter().enumerate() {
         let file = ("-", Some(*parts));
-        lists(&rt, rt.alloc(), i, *hash, &file, (*text, 0, ""))?;
+        lists(&rt, rt.alloc(), i, *hash, &file, (*text, 0, "")).expect(&rt, "there is memory");
     }
-    Ok(())
 }
 
 /// What is listed of the published key.
@@ -70,21 +68,25 @@ const REFUSED: [Refused<'static>; 4] = [
 ];
 
 #[test]
-fn refused(rt: HostRuntime) -> Result<(), Fail> {
+fn refused(rt: HostRuntime) {
     for (i, (parts, text, fault)) in REFUSED.iter().enumerate() {
         let said = (*text, 255, *fault);
-        lists(&rt, rt.alloc(), i, Hash::Sha256, &("k", *parts), said)?;
+        lists(&rt, rt.alloc(), i, Hash::Sha256, &("k", *parts), said).expect(
+            &rt,
+            "there is memory",
+        );
     }
-    Ok(())
 }
 
 #[test]
-fn a_cut_certificate_is_refused(rt: HostRuntime) -> Result<(), Fail> {
-    let line = key_line(rt.alloc(), b"ssh-ed25519-cert-v01@openssh.com", &[])?;
+fn a_cut_certificate_is_refused(rt: HostRuntime) {
+    let line = key_line(rt.alloc(), b"ssh-ed25519-cert-v01@openssh.com", &[]).expect(
+        &rt,
+        "there is memory",
+    );
     let parts = [GITHUB_LINE, b"\n\n", &line, b" c"];
     let file = ("k", Some(parts.as_slice()));
     let fault = "ssh-keygen: k: line 3: subject 2 Cert, cert 1 Wire";
     let said = (LISTING, 255, fault);
-    lists(&rt, rt.alloc(), 0, Hash::Sha256, &file, said)?;
-    Ok(())
+    lists(&rt, rt.alloc(), 0, Hash::Sha256, &file, said).expect(&rt, "there is memory");
 }

@@ -8,7 +8,6 @@ use ssh_wire::{Bytes, FromRead, ToWrite};
 use std::alloc::{AllocError, Global};
 use std::io::{self, ErrorKind, Read, Write};
 use std::process::Abort;
-use std::test::Fail;
 
 /// Gives bytes, at most so many at a call, and fails from the call on that is to fail.
 #[derive(Drop)]
@@ -162,15 +161,14 @@ fn loaded_in_pieces(rt: HostRuntime) {
 }
 
 #[test]
-fn loaded_up_to_the_limit(rt: HostRuntime) -> Result<(), Fail> {
+fn loaded_up_to_the_limit(rt: HostRuntime) {
     let alloc = rt.alloc();
-    let mut bytes = Vec::from_slice(alloc, GITHUB_LINE)?;
-    filled(&mut bytes, 16_777_216)?;
+    let mut bytes = Vec::from_slice(alloc, GITHUB_LINE).expect(&rt, "there is memory");
+    filled(&mut bytes, 16_777_216).expect(&rt, "there is memory");
     assert!(rt; loads(&rt, alloc, bytes.as_slice(), &bytes));
-    bytes.push(0)?;
+    bytes.push(0).expect(&rt, "there is memory");
     assert!(rt; refuses(&rt, alloc, bytes.as_slice(), FileFault::TooLong));
     assert!(rt; loads(&rt, alloc, b"".as_slice(), b""));
-    Ok(())
 }
 
 /// A file of the published key.
@@ -193,7 +191,7 @@ fn asked_in_part(alloc: Global, place: usize, calls: usize) -> Result<Ran, Alloc
 }
 
 #[test]
-fn the_list_fails(rt: HostRuntime) -> Result<(), Fail> {
+fn the_list_fails(rt: HostRuntime) {
     let read = "ssh-keygen: r.krl: krl 13 Read";
     let magic = "ssh-keygen: r.krl: krl 1 Magic";
     // where a byte is zero, how many calls come before the failure, and what is said: the last call
@@ -207,10 +205,9 @@ fn the_list_fails(rt: HostRuntime) -> Result<(), Fail> {
         (0, 8, (b"", 255, magic)),
     ];
     for (i, (place, calls, said)) in rows.iter().enumerate() {
-        let ran = asked_in_part(rt.alloc(), *place, *calls)?;
+        let ran = asked_in_part(rt.alloc(), *place, *calls).expect(&rt, "there is memory");
         says(&rt, i, &ran, *said);
     }
-    Ok(())
 }
 
 const NINE: &str = "ssh-keygen: output: output 1 Write after 9 bytes";
@@ -236,13 +233,12 @@ const SAID: [(usize, &[File<'static>], Said<'static>); 6] = [
 ];
 
 #[test]
-fn the_output_fails(rt: HostRuntime) -> Result<(), Fail> {
+fn the_output_fails(rt: HostRuntime) {
     for (i, (calls, files, said)) in SAID.iter().enumerate() {
         let device = Taker::new(rt.alloc(), 3, *calls);
-        let ran = asked_of_key(rt.alloc(), *files, device)?;
+        let ran = asked_of_key(rt.alloc(), *files, device).expect(&rt, "there is memory");
         says(&rt, i, &ran, *said);
     }
-    Ok(())
 }
 
 /// Lists the keys of a file; each call takes three bytes, until one fails.
@@ -272,10 +268,9 @@ const LISTED: [(usize, File<'static>, Said<'static>); 2] = [
 ];
 
 #[test]
-fn the_output_of_a_listing_fails(rt: HostRuntime) -> Result<(), Fail> {
+fn the_output_of_a_listing_fails(rt: HostRuntime) {
     for (i, (calls, file, said)) in LISTED.iter().enumerate() {
-        let ran = listed_in_part(rt.alloc(), *calls, file)?;
+        let ran = listed_in_part(rt.alloc(), *calls, file).expect(&rt, "there is memory");
         says(&rt, i, &ran, *said);
     }
-    Ok(())
 }

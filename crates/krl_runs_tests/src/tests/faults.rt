@@ -8,7 +8,6 @@ use ssh_key::{KeyFault, LineFault, PrivateFault};
 use ssh_wire::WireFault;
 use std::alloc::{AllocError, Global};
 use std::process::Abort;
-use std::test::Fail;
 
 /// A fault is told so, behind the name of the program, and its cause has this number. Another
 /// number tells it from the others of a test.
@@ -136,16 +135,15 @@ const ROWS: [Row<'static>; 15] = [
 ];
 
 #[test]
-fn lines(rt: HostRuntime) -> Result<(), Fail> {
+fn lines(rt: HostRuntime) {
     for (i, (name, line, cause, number, want)) in ROWS.iter().enumerate() {
         let fault = RunFault {
             name: *name,
             line: *line,
             cause: *cause,
         };
-        is_told(&rt, rt.alloc(), i, &fault, *number, *want)?;
+        is_told(&rt, rt.alloc(), i, &fault, *number, *want).expect(&rt, "there is memory");
     }
-    Ok(())
 }
 
 const FILE_FAULTS: [(FileFault, u8, &str); 6] = [
@@ -158,13 +156,12 @@ const FILE_FAULTS: [(FileFault, u8, &str); 6] = [
 ];
 
 #[test]
-fn file_faults(rt: HostRuntime) -> Result<(), Fail> {
+fn file_faults(rt: HostRuntime) {
     for (i, (fault, number, want)) in FILE_FAULTS.iter().enumerate() {
         same(&rt, i, &[fault.number()], &[*number]);
         let fault = RunFault::whole("k", Cause::File(*fault));
-        is_told(&rt, rt.alloc(), i, &fault, *number, *want)?;
+        is_told(&rt, rt.alloc(), i, &fault, *number, *want).expect(&rt, "there is memory");
     }
-    Ok(())
 }
 
 /// A name of 10,000 pairs of a letter and a byte that is escaped.
@@ -178,11 +175,10 @@ fn long_name(alloc: Global) -> Result<String, AllocError> {
 
 // A body that is out of memory above some size meets the contract. It fails here.
 #[test]
-fn a_long_name(rt: HostRuntime) -> Result<(), Fail> {
-    let name = long_name(rt.alloc())?;
+fn a_long_name(rt: HostRuntime) {
+    let name = long_name(rt.alloc()).expect(&rt, "there is memory");
     let fault = RunFault::whole(name.as_str(), Cause::NoMemory);
-    let text = fault_text(rt.alloc(), &fault)?;
+    let text = fault_text(rt.alloc(), &fault).expect(&rt, "there is memory");
     assert!(rt; text.len() == 12 + 10_000 * 5 + 2 + 14);
     assert!(rt; text.as_slice().ends_with(b"a\\x7f: run 1 NoMemory"));
-    Ok(())
 }

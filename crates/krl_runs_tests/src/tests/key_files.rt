@@ -5,7 +5,6 @@ use crate::tests::encoding::key_line;
 use crate::tests::runs::{File, GITHUB_LINE, OTHER_LINE, Said, asks};
 use std::alloc::{AllocError, Global};
 use std::process::Abort;
-use std::test::Fail;
 
 /// The list that names the published key is asked about the files, and this is said.
 fn tells(
@@ -65,12 +64,11 @@ const TOLD: [Told<'static>; 8] = [
 ];
 
 #[test]
-fn told_of_each_line(rt: HostRuntime) -> Result<(), Fail> {
+fn told_of_each_line(rt: HostRuntime) {
     for (i, (name, parts, text, status)) in TOLD.iter().enumerate() {
         let file = (*name, Some(*parts));
-        tells(&rt, rt.alloc(), i, &[file], (*text, *status, ""))?;
+        tells(&rt, rt.alloc(), i, &[file], (*text, *status, "")).expect(&rt, "there is memory");
     }
-    Ok(())
 }
 
 const ONE: &[u8] = b"k: REVOKED\n";
@@ -116,13 +114,15 @@ const STOPPED: [(&[u8], &[u8], &str); 9] = [
 ];
 
 #[test]
-fn stopped_at_a_line(rt: HostRuntime) -> Result<(), Fail> {
+fn stopped_at_a_line(rt: HostRuntime) {
     for (i, (between, text, fault)) in STOPPED.iter().enumerate() {
         let parts = [GITHUB_LINE, *between, OTHER_LINE];
         let file = ("k", Some(parts.as_slice()));
-        tells(&rt, rt.alloc(), i, &[file, file], (*text, 255, *fault))?;
+        tells(&rt, rt.alloc(), i, &[file, file], (*text, 255, *fault)).expect(
+            &rt,
+            "there is memory",
+        );
     }
-    Ok(())
 }
 
 /// The type name of a blob, its fields, and why it is refused.
@@ -162,22 +162,22 @@ const REFUSED: [Refused<'static>; 6] = [
 ];
 
 #[test]
-fn stopped_at_a_key(rt: HostRuntime) -> Result<(), Fail> {
+fn stopped_at_a_key(rt: HostRuntime) {
     for (i, (word, fields, fault)) in REFUSED.iter().enumerate() {
-        let line = key_line(rt.alloc(), *word, *fields)?;
+        let line = key_line(rt.alloc(), *word, *fields).expect(&rt, "there is memory");
         tells(
             &rt,
             rt.alloc(),
             i,
             &[("k", Some(&[GITHUB_LINE, b"\n\n", &line]))],
             (ONE, 255, *fault),
-        )?;
+        )
+        .expect(&rt, "there is memory");
     }
-    Ok(())
 }
 
 #[test]
-fn files_without_keys(rt: HostRuntime) -> Result<(), Fail> {
+fn files_without_keys(rt: HostRuntime) {
     let first: File = ("g.pub", Some(&[GITHUB_LINE]));
     let texts: [&[u8]; 6] = [b"", b"\n", b" \t\r\n", b"# a", b" \t#\n\r\n#\n", b"\n\n\n"];
     let said: Said = (
@@ -188,7 +188,6 @@ fn files_without_keys(rt: HostRuntime) -> Result<(), Fail> {
     for (i, text) in texts.iter().enumerate() {
         let parts = [*text];
         let bare = ("a\n", Some(parts.as_slice()));
-        tells(&rt, rt.alloc(), i, &[first, bare, first], said)?;
+        tells(&rt, rt.alloc(), i, &[first, bare, first], said).expect(&rt, "there is memory");
     }
-    Ok(())
 }

@@ -9,7 +9,6 @@ use crate::tests::runs::{CLOSED, GITHUB_LINE, certifies, holding, says};
 use krl_runs::ListMode;
 use std::alloc::{AllocError, Global};
 use std::process::Abort;
-use std::test::Fail;
 
 /// The lines of the certificate of the published key by itself, with serial 7 and the ID `a`, up to
 /// its time.
@@ -59,14 +58,13 @@ fn gives(
 }
 
 #[test]
-fn one_certificate(rt: HostRuntime) -> Result<(), Fail> {
-    let line = line(rt.alloc())?;
+fn one_certificate(rt: HostRuntime) {
+    let line = line(rt.alloc()).expect(&rt, "there is memory");
     let names: [(&str, &[u8]); 2] = [("c.pub", b"c.pub:1:\n"), ("c\n", b"c\\x0a:1:\n")];
     for (i, (name, place)) in names.iter().enumerate() {
         let text = [*place, FIRST, FOREVER, NO_LISTS];
-        gives(&rt, rt.alloc(), i, (*name, &line, 0), &text, "")?;
+        gives(&rt, rt.alloc(), i, (*name, &line, 0), &text, "").expect(&rt, "there is memory");
     }
-    Ok(())
 }
 
 /// The certificate of this period has these lines of its time at a moment.
@@ -85,7 +83,7 @@ fn is_valid(
 }
 
 #[test]
-fn by_its_time(rt: HostRuntime) -> Result<(), Fail> {
+fn by_its_time(rt: HostRuntime) {
     let rows: [([u64; 2], &[u8]); 3] = [
         (
             [0, 253_370_764_800],
@@ -101,21 +99,22 @@ fn by_its_time(rt: HostRuntime) -> Result<(), Fail> {
         ),
     ];
     for (i, (period, time)) in rows.iter().enumerate() {
-        is_valid(&rt, rt.alloc(), i, *period, 0, &[*time])?;
+        is_valid(&rt, rt.alloc(), i, *period, 0, &[*time]).expect(&rt, "there is memory");
     }
-    Ok(())
 }
 
 #[test]
-fn by_the_moment(rt: HostRuntime) -> Result<(), Fail> {
+fn by_the_moment(rt: HostRuntime) {
     let period = b"        Valid: from 1970-01-01T00:00:10Z to 1970-01-01T00:00:20Z\n";
     let no = b"        Valid now: no\n".as_slice();
     let yes = b"        Valid now: yes\n".as_slice();
     let rows = [(9, no), (10, yes), (19, yes), (20, no)];
     for (i, (moment, now)) in rows.iter().enumerate() {
-        is_valid(&rt, rt.alloc(), i, [10, 20], *moment, &[period, *now])?;
+        is_valid(&rt, rt.alloc(), i, [10, 20], *moment, &[period, *now]).expect(
+            &rt,
+            "there is memory",
+        );
     }
-    Ok(())
 }
 
 /// The blob of the certificate with a principal, an option and an extension.
@@ -130,9 +129,9 @@ fn with_each_list(alloc: Global) -> Result<Vec<u8>, AllocError> {
 }
 
 #[test]
-fn with_lists(rt: HostRuntime) -> Result<(), Fail> {
+fn with_lists(rt: HostRuntime) {
     let alloc = rt.alloc();
-    let blob = with_each_list(alloc)?;
+    let blob = with_each_list(alloc).expect(&rt, "there is memory");
     assert!(rt; blob.len() == 320);
     let lists = b"        Principals:\n\
          \x20               root\n\
@@ -140,31 +139,31 @@ fn with_lists(rt: HostRuntime) -> Result<(), Fail> {
          \x20               force-command id\n\
          \x20       Extensions:\n\
          \x20               permit-pty\n";
-    let line = line_of(alloc, &blob)?;
+    let line = line_of(alloc, &blob).expect(&rt, "there is memory");
     let text = [b"c.pub:1:\n", FIRST, FOREVER, lists];
-    gives(&rt, alloc, 0, ("c.pub", &line, 0), &text, "")?;
-    Ok(())
+    gives(&rt, alloc, 0, ("c.pub", &line, 0), &text, "").expect(&rt, "there is memory");
 }
 
 #[test]
-fn without_a_certificate(rt: HostRuntime) -> Result<(), Fail> {
-    let private = plain(rt.alloc(), 1, 4)?;
+fn without_a_certificate(rt: HostRuntime) {
+    let private = plain(rt.alloc(), 1, 4).expect(&rt, "there is memory");
     let none = "ssh-keygen: g.pub: file 6 NoCertificate";
     let texts: [&[u8]; 4] = [GITHUB_LINE, b"", b"# a\n\n", &private];
     for (i, bytes) in texts.iter().enumerate() {
-        gives(&rt, rt.alloc(), i, ("g.pub", *bytes, 0), &[], none)?;
+        gives(&rt, rt.alloc(), i, ("g.pub", *bytes, 0), &[], none).expect(&rt, "there is memory");
     }
-    Ok(())
 }
 
 #[test]
-fn plain_keys_are_passed_over(rt: HostRuntime) -> Result<(), Fail> {
+fn plain_keys_are_passed_over(rt: HostRuntime) {
     let alloc = rt.alloc();
-    let line = line(alloc)?;
-    let file = joined(alloc, &[GITHUB_LINE, b" c\n# c\n", &line, GITHUB_LINE])?;
+    let line = line(alloc).expect(&rt, "there is memory");
+    let file = joined(alloc, &[GITHUB_LINE, b" c\n# c\n", &line, GITHUB_LINE]).expect(
+        &rt,
+        "there is memory",
+    );
     let text = [b"c.pub:3:\n", FIRST, FOREVER, NO_LISTS];
-    gives(&rt, alloc, 0, ("c.pub", &file, 0), &text, "")?;
-    Ok(())
+    gives(&rt, alloc, 0, ("c.pub", &file, 0), &text, "").expect(&rt, "there is memory");
 }
 
 /// A file of the certificate and of more lines gives the certificate, and this fault.
@@ -188,42 +187,44 @@ fn no_key(alloc: Global) -> Result<Vec<u8>, AllocError> {
 }
 
 #[test]
-fn faults_of_what_is_passed_over(rt: HostRuntime) -> Result<(), Fail> {
+fn faults_of_what_is_passed_over(rt: HostRuntime) {
     let alloc = rt.alloc();
-    let more = no_key(alloc)?;
+    let more = no_key(alloc).expect(&rt, "there is memory");
     let fault = "ssh-keygen: c.pub: line 2: line 1 NoKey";
-    stops(&rt, alloc, 0, &more, fault)?;
-    let more = key_line(alloc, b"ssh-ed25519", &[b""])?;
+    stops(&rt, alloc, 0, &more, fault).expect(&rt, "there is memory");
+    let more = key_line(alloc, b"ssh-ed25519", &[b""]).expect(&rt, "there is memory");
     let fault = "ssh-keygen: c.pub: line 2: subject 1 Key, key 5 Length";
-    stops(&rt, alloc, 1, &more, fault)?;
-    Ok(())
+    stops(&rt, alloc, 1, &more, fault).expect(&rt, "there is memory");
 }
 
 #[test]
-fn faults_of_what_comes_first(rt: HostRuntime) -> Result<(), Fail> {
+fn faults_of_what_comes_first(rt: HostRuntime) {
     let alloc = rt.alloc();
-    let cut = key_line(alloc, b"ssh-ed25519-cert-v01@openssh.com", &[])?;
+    let cut = key_line(alloc, b"ssh-ed25519-cert-v01@openssh.com", &[]).expect(
+        &rt,
+        "there is memory",
+    );
     let fault = "ssh-keygen: c.pub: line 1: subject 2 Cert, cert 1 Wire";
-    gives(&rt, alloc, 0, ("c.pub", &cut, 0), &[], fault)?;
-    let private = plain(alloc, 2, 4)?;
+    gives(&rt, alloc, 0, ("c.pub", &cut, 0), &[], fault).expect(&rt, "there is memory");
+    let private = plain(alloc, 2, 4).expect(&rt, "there is memory");
     let fault = "ssh-keygen: id: private 6 Check";
-    gives(&rt, alloc, 1, ("id", &private, 0), &[], fault)?;
-    Ok(())
+    gives(&rt, alloc, 1, ("id", &private, 0), &[], fault).expect(&rt, "there is memory");
 }
 
 #[test]
-fn without_a_file(rt: HostRuntime) -> Result<(), Fail> {
+fn without_a_file(rt: HostRuntime) {
     let said = (b"".as_slice(), 255, "ssh-keygen: none: file 1 Open");
-    certifies(&rt, rt.alloc(), 0, &CLOSED, 0, said)?;
-    Ok(())
+    certifies(&rt, rt.alloc(), 0, &CLOSED, 0, said).expect(&rt, "there is memory");
 }
 
 #[test]
-fn the_output_fails(rt: HostRuntime) -> Result<(), Fail> {
-    let file = holding("c.pub", line(rt.alloc())?);
+fn the_output_fails(rt: HostRuntime) {
+    let file = holding("c.pub", line(rt.alloc()).expect(&rt, "there is memory"));
     let device = Taker::new(rt.alloc(), 3, 2);
-    let ran = listed_over(rt.alloc(), ListMode::Certs, &file, device)?;
+    let ran = listed_over(rt.alloc(), ListMode::Certs, &file, device).expect(
+        &rt,
+        "there is memory",
+    );
     let fault = "ssh-keygen: output: output 1 Write after 6 bytes";
     says(&rt, 0, &ran, (b"c.pub:", 255, fault));
-    Ok(())
 }

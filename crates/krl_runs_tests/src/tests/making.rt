@@ -12,7 +12,6 @@ use krl_runs::{Named, RunFault, fault_text};
 use ssh_wire::FromRead;
 use std::alloc::{AllocError, Global};
 use std::process::Abort;
-use std::test::Fail;
 
 /// The list that is made, or else the line of the fault.
 #[derive(Debug, Drop)]
@@ -163,11 +162,10 @@ const MADE: [(&[u8], &[u8]); 9] = [
 ];
 
 #[test]
-fn of_lines(rt: HostRuntime) -> Result<(), Fail> {
+fn of_lines(rt: HostRuntime) {
     for (i, (lines, section)) in MADE.iter().enumerate() {
-        makes(&rt, rt.alloc(), i, *lines, &[*section])?;
+        makes(&rt, rt.alloc(), i, *lines, &[*section]).expect(&rt, "there is memory");
     }
-    Ok(())
 }
 
 /// The lines of the first 128 odd serials.
@@ -181,23 +179,21 @@ fn odd_lines(alloc: Global) -> Result<Vec<u8>, AllocError> {
 }
 
 #[test]
-fn of_odd_serials(rt: HostRuntime) -> Result<(), Fail> {
-    let lines = odd_lines(rt.alloc())?;
+fn of_odd_serials(rt: HostRuntime) {
+    let lines = odd_lines(rt.alloc()).expect(&rt, "there is memory");
     let front = b"\x01\0\0\0\x39\0\0\0\0\0\0\0\0\x22\0\0\0\x2c\0\0\0\0\0\0\0\x01\0\0\0\x20";
-    makes(&rt, rt.alloc(), 0, &lines, &[front, &[0x55; 32]])?;
-    Ok(())
+    makes(&rt, rt.alloc(), 0, &lines, &[front, &[0x55; 32]]).expect(&rt, "there is memory");
 }
 
 #[test]
-fn of_a_certificate(rt: HostRuntime) -> Result<(), Fail> {
+fn of_a_certificate(rt: HostRuntime) {
     let alloc = rt.alloc();
-    let authority = even_key(alloc, 0x11)?;
-    let line = certificate_line(alloc, &authority, 0)?;
-    let section = id_under(alloc, &authority)?;
-    makes(&rt, alloc, 0, &line, &[&section])?;
-    let line = joined(alloc, &[b"key: ", &line])?;
-    makes(&rt, alloc, 1, &line, &[&ONE_KEY, &GITHUB])?;
-    Ok(())
+    let authority = even_key(alloc, 0x11).expect(&rt, "there is memory");
+    let line = certificate_line(alloc, &authority, 0).expect(&rt, "there is memory");
+    let section = id_under(alloc, &authority).expect(&rt, "there is memory");
+    makes(&rt, alloc, 0, &line, &[&section]).expect(&rt, "there is memory");
+    let line = joined(alloc, &[b"key: ", &line]).expect(&rt, "there is memory");
+    makes(&rt, alloc, 1, &line, &[&ONE_KEY, &GITHUB]).expect(&rt, "there is memory");
 }
 
 const SEVERAL: [File<'static>; 3] = [
@@ -207,19 +203,23 @@ const SEVERAL: [File<'static>; 3] = [
 ];
 
 #[test]
-fn of_several_files(rt: HostRuntime) -> Result<(), Fail> {
-    let made = made(rt.alloc(), None, &Authority::All, Some(1), &SEVERAL)?;
-    let want = list_of(rt.alloc(), &[FIVE_AND_SIX])?;
+fn of_several_files(rt: HostRuntime) {
+    let made = made(rt.alloc(), None, &Authority::All, Some(1), &SEVERAL).expect(
+        &rt,
+        "there is memory",
+    );
+    let want = list_of(rt.alloc(), &[FIVE_AND_SIX]).expect(&rt, "there is memory");
     is_made(&rt, 0, &made, &want);
-    Ok(())
 }
 
 #[test]
-fn of_nothing(rt: HostRuntime) -> Result<(), Fail> {
-    let made = made(rt.alloc(), None, &Authority::NotGiven, None, &[])?;
-    let want = commented(rt.alloc(), 0, b"", &[])?;
+fn of_nothing(rt: HostRuntime) {
+    let made = made(rt.alloc(), None, &Authority::NotGiven, None, &[]).expect(
+        &rt,
+        "there is memory",
+    );
+    let want = commented(rt.alloc(), 0, b"", &[]).expect(&rt, "there is memory");
     is_made(&rt, 0, &made, &want);
-    Ok(())
 }
 
 /// A list before and after an update.
@@ -305,21 +305,22 @@ fn updates(
 }
 
 #[test]
-fn what_an_old_list_holds_stays(rt: HostRuntime) -> Result<(), Fail> {
+fn what_an_old_list_holds_stays(rt: HostRuntime) {
     for (i, update) in UPDATES.iter().enumerate() {
-        updates(&rt, rt.alloc(), i, update)?;
+        updates(&rt, rt.alloc(), i, update).expect(&rt, "there is memory");
     }
-    Ok(())
 }
 
 #[test]
-fn the_given_version_is_written(rt: HostRuntime) -> Result<(), Fail> {
+fn the_given_version_is_written(rt: HostRuntime) {
     let alloc = rt.alloc();
-    let old = commented(alloc, u64::MAX, b"", &[FIVE])?;
-    let want = commented(alloc, 3, b"", &[FIVE])?;
-    let made = made(alloc, Some(&old), &Authority::NotGiven, Some(3), &[])?;
+    let old = commented(alloc, u64::MAX, b"", &[FIVE]).expect(&rt, "there is memory");
+    let want = commented(alloc, 3, b"", &[FIVE]).expect(&rt, "there is memory");
+    let made = made(alloc, Some(&old), &Authority::NotGiven, Some(3), &[]).expect(
+        &rt,
+        "there is memory",
+    );
     is_made(&rt, 0, &made, &want);
-    Ok(())
 }
 
 /// The authority of the first key of a file, which cannot be opened where it has no text.
@@ -332,7 +333,7 @@ fn authority<'a>(alloc: Global, text: Option<&[u8]>) -> Result<Authority<'a>, Al
 }
 
 #[test]
-fn old_lists_that_cannot_be_updated(rt: HostRuntime) -> Result<(), Fail> {
+fn old_lists_that_cannot_be_updated(rt: HostRuntime) {
     let alloc = rt.alloc();
     let early = "ssh-keygen: r.krl: krl 3 EndsEarly";
     refuses(
@@ -343,12 +344,12 @@ fn old_lists_that_cannot_be_updated(rt: HostRuntime) -> Result<(), Fail> {
         &Authority::All,
         b"x",
         early,
-    )?;
-    let full = commented(alloc, u64::MAX, b"", &[])?;
-    let closed = authority(alloc, None)?;
+    )
+    .expect(&rt, "there is memory");
+    let full = commented(alloc, u64::MAX, b"", &[]).expect(&rt, "there is memory");
+    let closed = authority(alloc, None).expect(&rt, "there is memory");
     let fault = "ssh-keygen: r.krl: run 2 VersionFull";
-    refuses(&rt, alloc, 1, Some(&full), &closed, b"x", fault)?;
-    Ok(())
+    refuses(&rt, alloc, 1, Some(&full), &closed, b"x", fault).expect(&rt, "there is memory");
 }
 
 /// What is made of a serial under the authority that a file of this text names.
@@ -368,20 +369,18 @@ fn is_authority(rt: &impl Abort, alloc: Global, text: &[u8], key: &[u8]) -> Resu
 }
 
 #[test]
-fn the_first_key_of_the_file_is_the_authority(rt: HostRuntime) -> Result<(), Fail> {
+fn the_first_key_of_the_file_is_the_authority(rt: HostRuntime) {
     let alloc = rt.alloc();
     let parts: [&[u8]; 5] = [b"\n# ca\n", OTHER_LINE, b" x\n", GITHUB_LINE, b"\nx\n"];
-    let text = joined(alloc, &parts)?;
-    let key = even_key(alloc, 0x11)?;
-    is_authority(&rt, alloc, &text, &key)?;
-    Ok(())
+    let text = joined(alloc, &parts).expect(&rt, "there is memory");
+    let key = even_key(alloc, 0x11).expect(&rt, "there is memory");
+    is_authority(&rt, alloc, &text, &key).expect(&rt, "there is memory");
 }
 
 #[test]
-fn the_key_of_a_container_is_the_authority(rt: HostRuntime) -> Result<(), Fail> {
-    let text = plain(rt.alloc(), 1, 4)?;
-    is_authority(&rt, rt.alloc(), &text, &GITHUB)?;
-    Ok(())
+fn the_key_of_a_container_is_the_authority(rt: HostRuntime) {
+    let text = plain(rt.alloc(), 1, 4).expect(&rt, "there is memory");
+    is_authority(&rt, rt.alloc(), &text, &GITHUB).expect(&rt, "there is memory");
 }
 
 /// The file of this text names no authority, for this fault.
@@ -397,15 +396,14 @@ fn is_none(
 }
 
 #[test]
-fn a_container_that_is_none(rt: HostRuntime) -> Result<(), Fail> {
-    let text = plain(rt.alloc(), 2, 4)?;
+fn a_container_that_is_none(rt: HostRuntime) {
+    let text = plain(rt.alloc(), 2, 4).expect(&rt, "there is memory");
     let fault = "ssh-keygen: ca: private 6 Check";
-    is_none(&rt, rt.alloc(), 0, Some(&text), fault)?;
-    Ok(())
+    is_none(&rt, rt.alloc(), 0, Some(&text), fault).expect(&rt, "there is memory");
 }
 
 #[test]
-fn authorities_that_are_none(rt: HostRuntime) -> Result<(), Fail> {
+fn authorities_that_are_none(rt: HostRuntime) {
     let rows: [(Option<&[u8]>, &str); 4] = [
         (None, "ssh-keygen: ca: file 1 Open"),
         (Some(b"# no key\n\n"), "ssh-keygen: ca: file 5 NoKeys"),
@@ -416,29 +414,26 @@ fn authorities_that_are_none(rt: HostRuntime) -> Result<(), Fail> {
         ),
     ];
     for (i, (text, fault)) in rows.iter().enumerate() {
-        is_none(&rt, rt.alloc(), i, *text, *fault)?;
+        is_none(&rt, rt.alloc(), i, *text, *fault).expect(&rt, "there is memory");
     }
-    Ok(())
 }
 
 #[test]
-fn lines_that_are_refused(rt: HostRuntime) -> Result<(), Fail> {
+fn lines_that_are_refused(rt: HostRuntime) {
     let alloc = rt.alloc();
     let text = b"# 1\nserial: 5";
     let fault = "ssh-keygen: s: line 2: spec 4 NoAuthority";
-    refuses(&rt, alloc, 0, None, &Authority::NotGiven, text, fault)?;
+    refuses(&rt, alloc, 0, None, &Authority::NotGiven, text, fault).expect(&rt, "there is memory");
     let fault = "ssh-keygen: s: line 1: spec 6 Key, line 1 NoKey";
-    refuses(&rt, alloc, 1, None, &Authority::All, b"x", fault)?;
-    Ok(())
+    refuses(&rt, alloc, 1, None, &Authority::All, b"x", fault).expect(&rt, "there is memory");
 }
 
 const FILES: [File<'static>; 3] = [("s", Some(&[b"serial: 5\n"])), CLOSED, ("t", Some(&[b"x"]))];
 
 #[test]
-fn a_file_that_cannot_be_opened(rt: HostRuntime) -> Result<(), Fail> {
-    let made = made(rt.alloc(), None, &Authority::All, None, &FILES)?;
+fn a_file_that_cannot_be_opened(rt: HostRuntime) {
+    let made = made(rt.alloc(), None, &Authority::All, None, &FILES).expect(&rt, "there is memory");
     same(&rt, 0, &made.fault, b"ssh-keygen: none: file 1 Open");
-    Ok(())
 }
 
 /// The line of a key ID of so many bytes.
@@ -464,18 +459,16 @@ fn has_size(rt: &impl Abort, alloc: Global, id: usize, size: usize) -> Result<()
 }
 
 #[test]
-fn long_lists(rt: HostRuntime) -> Result<(), Fail> {
+fn long_lists(rt: HostRuntime) {
     // the second one is the longest
     for (id, size) in [(16_777_150, 16_777_216), (67_108_798, 67_108_864)] {
-        has_size(&rt, rt.alloc(), id, size)?;
+        has_size(&rt, rt.alloc(), id, size).expect(&rt, "there is memory");
     }
-    Ok(())
 }
 
 #[test]
-fn a_list_that_is_too_long(rt: HostRuntime) -> Result<(), Fail> {
-    let line = long_id(rt.alloc(), 67_108_799)?;
+fn a_list_that_is_too_long(rt: HostRuntime) {
+    let line = long_id(rt.alloc(), 67_108_799).expect(&rt, "there is memory");
     let fault = "ssh-keygen: r.krl: run 3 TextTooLong";
-    refuses(&rt, rt.alloc(), 0, None, &Authority::All, &line, fault)?;
-    Ok(())
+    refuses(&rt, rt.alloc(), 0, None, &Authority::All, &line, fault).expect(&rt, "there is memory");
 }

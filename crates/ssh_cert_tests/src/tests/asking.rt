@@ -8,7 +8,6 @@ use ssh_key::KeyFault;
 use ssh_wire::WireFault;
 use std::alloc::Global;
 use std::process::Abort;
-use std::test::Fail;
 
 /// Whether something is asked for the blob, and no names of a certificate.
 fn has_no_names(alloc: Global, blob: &[u8]) -> bool {
@@ -19,11 +18,10 @@ fn has_no_names(alloc: Global, blob: &[u8]) -> bool {
 }
 
 #[test]
-fn a_key_is_asked_by_its_blob(rt: HostRuntime) -> Result<(), Fail> {
-    let blob = plain(rt.alloc(), &PUBLISHED)?;
+fn a_key_is_asked_by_its_blob(rt: HostRuntime) {
+    let blob = plain(rt.alloc(), &PUBLISHED).expect(&rt, "there is memory");
     assert!(rt; is_asked(rt.alloc(), &blob, &blob));
     assert!(rt; has_no_names(rt.alloc(), &blob));
-    Ok(())
 }
 
 /// Whether these are the names of the certificate of the published key.
@@ -43,29 +41,29 @@ fn has_published_names(alloc: Global, blob: &[u8], authority: &[u8]) -> bool {
 }
 
 #[test]
-fn a_certificate_is_asked_by_its_key_and_its_authority(rt: HostRuntime) -> Result<(), Fail> {
-    let blob = certificate(rt.alloc())?;
-    let key = plain(rt.alloc(), &PUBLISHED)?;
+fn a_certificate_is_asked_by_its_key_and_its_authority(rt: HostRuntime) {
+    let blob = certificate(rt.alloc()).expect(&rt, "there is memory");
+    let key = plain(rt.alloc(), &PUBLISHED).expect(&rt, "there is memory");
     assert!(rt; is_asked(rt.alloc(), &blob, &key));
-    let authority = plain(rt.alloc(), &AUTHORITY)?;
+    let authority = plain(rt.alloc(), &AUTHORITY).expect(&rt, "there is memory");
     assert!(rt; has_published_names(rt.alloc(), &blob, &authority));
-    Ok(())
 }
 
 #[test]
-fn a_long_certificate_is_asked(rt: HostRuntime) -> Result<(), Fail> {
-    let nonce = strings(rt.alloc(), &[&[0x5a; 70_000]])?;
-    let blob = changed(rt.alloc(), Part::Nonce, &nonce)?;
-    let key = plain(rt.alloc(), &PUBLISHED)?;
+fn a_long_certificate_is_asked(rt: HostRuntime) {
+    let nonce = strings(rt.alloc(), &[&[0x5a; 70_000]]).expect(&rt, "there is memory");
+    let blob = changed(rt.alloc(), Part::Nonce, &nonce).expect(&rt, "there is memory");
+    let key = plain(rt.alloc(), &PUBLISHED).expect(&rt, "there is memory");
     assert!(rt; is_asked(rt.alloc(), &blob, &key));
-    Ok(())
 }
 
 #[test]
-fn a_long_key_is_asked(rt: HostRuntime) -> Result<(), Fail> {
-    let blob = strings(rt.alloc(), &[b"ssh-rsa", &[3], &[0x55; 60_000]])?;
+fn a_long_key_is_asked(rt: HostRuntime) {
+    let blob = strings(rt.alloc(), &[b"ssh-rsa", &[3], &[0x55; 60_000]]).expect(
+        &rt,
+        "there is memory",
+    );
     assert!(rt; is_asked(rt.alloc(), &blob, &blob));
-    Ok(())
 }
 
 /// Why nothing is asked for the blob.
@@ -79,9 +77,9 @@ fn refuses(rt: &impl Abort, alloc: Global, blob: &[u8], fault: SubjectFault) {
 }
 
 #[test]
-fn faults_are_those_of_keys_or_of_certificates(rt: HostRuntime) -> Result<(), Fail> {
+fn faults_are_those_of_keys_or_of_certificates(rt: HostRuntime) {
     let alloc = rt.alloc();
-    let blob = certificate(alloc)?;
+    let blob = certificate(alloc).expect(&rt, "there is memory");
     let short = KeyFault::Wire(WireFault::Short);
     for (size, fault) in [
         (0, SubjectFault::Key(short)),
@@ -89,10 +87,12 @@ fn faults_are_those_of_keys_or_of_certificates(rt: HostRuntime) -> Result<(), Fa
         (60, SubjectFault::Cert(CertFault::Key(short))),
         (100, SubjectFault::Cert(CertFault::Wire)),
     ] {
-        let front = blob.get(..size).ok_or("the certificate is longer")?;
+        let front = blob.get(..size).expect(&rt, "the certificate is longer");
         refuses(&rt, alloc, front, fault);
     }
-    let other = strings(alloc, &[b"ssh-ed25519-cert-v02@openssh.com"])?;
+    let other = strings(alloc, &[b"ssh-ed25519-cert-v02@openssh.com"]).expect(
+        &rt,
+        "there is memory",
+    );
     refuses(&rt, alloc, &other, SubjectFault::Key(KeyFault::UnknownType));
-    Ok(())
 }

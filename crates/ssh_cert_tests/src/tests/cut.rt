@@ -9,8 +9,8 @@ use std::process::Abort;
 use std::test::Fail;
 
 #[test]
-fn cut_to_any_length(rt: HostRuntime) -> Result<(), Fail> {
-    let blob = certificate(rt.alloc())?;
+fn cut_to_any_length(rt: HostRuntime) {
+    let blob = certificate(rt.alloc()).expect(&rt, "there is memory");
     let public = CertFault::Key(KeyFault::Wire(WireFault::Short));
     for size in 0..blob.len() {
         let fault = if (40..=75).contains(&size) {
@@ -20,7 +20,6 @@ fn cut_to_any_length(rt: HostRuntime) -> Result<(), Fail> {
         };
         has_fault(&rt, &blob[..size], fault);
     }
-    Ok(())
 }
 
 #[test]

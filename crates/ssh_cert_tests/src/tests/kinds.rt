@@ -6,7 +6,6 @@ use ssh_key::{KeyFault, Kind};
 use ssh_wire::WireFault;
 use std::alloc::{AllocError, Global};
 use std::process::Abort;
-use std::test::Fail;
 
 /// The certificate of a key of this kind with these public fields.
 fn certified(alloc: Global, kind: Kind, public: &[u8]) -> Result<Vec<u8>, AllocError> {
@@ -63,10 +62,12 @@ fn point(alloc: Global, size: usize) -> Result<Vec<u8>, AllocError> {
 }
 
 #[test]
-fn keys_of_numbers(rt: HostRuntime) -> Result<(), Fail> {
-    reads(&rt, rt.alloc(), Kind::Rsa, &[&[3], &[1, 0]], 9)?;
-    reads(&rt, rt.alloc(), Kind::Dsa, &[&[0x17], &[5], &[2], &[9]], 5)?;
-    Ok(())
+fn keys_of_numbers(rt: HostRuntime) {
+    reads(&rt, rt.alloc(), Kind::Rsa, &[&[3], &[1, 0]], 9).expect(&rt, "there is memory");
+    reads(&rt, rt.alloc(), Kind::Dsa, &[&[0x17], &[5], &[2], &[9]], 5).expect(
+        &rt,
+        "there is memory",
+    );
 }
 
 /// A certificate of a key of this kind on this curve, whose point has so many bytes, is read.
@@ -83,45 +84,42 @@ fn on_curve(
 }
 
 #[test]
-fn keys_on_curves(rt: HostRuntime) -> Result<(), Fail> {
+fn keys_on_curves(rt: HostRuntime) {
     let rows = [
         (Kind::Ecdsa256, "nistp256", 65, 256),
         (Kind::Ecdsa384, "nistp384", 97, 384),
         (Kind::Ecdsa521, "nistp521", 133, 521),
     ];
     for (kind, curve, size, bits) in rows {
-        on_curve(&rt, rt.alloc(), kind, curve, size, bits)?;
+        on_curve(&rt, rt.alloc(), kind, curve, size, bits).expect(&rt, "there is memory");
     }
-    Ok(())
 }
 
 #[test]
-fn key_on_a_curve_of_a_device(rt: HostRuntime) -> Result<(), Fail> {
-    let q = point(rt.alloc(), 65)?;
+fn key_on_a_curve_of_a_device(rt: HostRuntime) {
+    let q = point(rt.alloc(), 65).expect(&rt, "there is memory");
     let device: [&[u8]; 3] = [b"nistp256", &q, b"ssh:"];
-    reads(&rt, rt.alloc(), Kind::EcdsaSk, &device, 256)?;
-    Ok(())
+    reads(&rt, rt.alloc(), Kind::EcdsaSk, &device, 256).expect(&rt, "there is memory");
 }
 
 #[test]
-fn keys_of_32_bytes(rt: HostRuntime) -> Result<(), Fail> {
-    reads(&rt, rt.alloc(), Kind::Ed25519, &[&[0x33; 32]], 256)?;
+fn keys_of_32_bytes(rt: HostRuntime) {
+    reads(&rt, rt.alloc(), Kind::Ed25519, &[&[0x33; 32]], 256).expect(&rt, "there is memory");
     reads(
         &rt,
         rt.alloc(),
         Kind::Ed25519Sk,
         &[&[0x33; 32], b"ssh:"],
         256,
-    )?;
-    Ok(())
+    )
+    .expect(&rt, "there is memory");
 }
 
 #[test]
-fn public_fields_of_another_kind(rt: HostRuntime) -> Result<(), Fail> {
+fn public_fields_of_another_kind(rt: HostRuntime) {
     let alloc = rt.alloc();
-    let name = strings(alloc, &[Kind::Rsa.cert_name().as_bytes()])?;
-    let blob = changed(alloc, Part::Type, &name)?;
+    let name = strings(alloc, &[Kind::Rsa.cert_name().as_bytes()]).expect(&rt, "there is memory");
+    let blob = changed(alloc, Part::Type, &name).expect(&rt, "there is memory");
     let negative = KeyFault::Wire(WireFault::Negative);
     has_fault(&rt, &blob, CertFault::Key(negative));
-    Ok(())
 }

@@ -71,7 +71,7 @@ fn each_field_is_lent(rt: HostRuntime) -> Result<(), Fail> {
 }
 
 #[test]
-fn changed_fields_have_their_faults(rt: HostRuntime) -> Result<(), Fail> {
+fn changed_fields_have_their_faults(rt: HostRuntime) {
     let one: &[u8] = &[0, 0, 0, 4, 0, 0, 0, 0];
     let rows: [(Part, &[u8], CertFault); 8] = [
         (Part::Role, &[0, 0, 0, 3], CertFault::CertType),
@@ -84,27 +84,24 @@ fn changed_fields_have_their_faults(rt: HostRuntime) -> Result<(), Fail> {
         (Part::Type, b"\0\0\0\x0bssh-ed25519", CertFault::UnknownType),
     ];
     for (part, field, fault) in rows {
-        refuses(&rt, rt.alloc(), part, field, fault)?;
+        refuses(&rt, rt.alloc(), part, field, fault).expect(&rt, "there is memory");
     }
-    Ok(())
 }
 
 #[test]
-fn a_certified_authority(rt: HostRuntime) -> Result<(), Fail> {
+fn a_certified_authority(rt: HostRuntime) {
     let alloc = rt.alloc();
-    let blob = certificate(alloc)?;
-    let field = strings(alloc, &[&blob])?;
+    let blob = certificate(alloc).expect(&rt, "there is memory");
+    let field = strings(alloc, &[&blob]).expect(&rt, "there is memory");
     let unknown = CertFault::Authority(KeyFault::UnknownType);
-    refuses(&rt, alloc, Part::Authority, &field, unknown)?;
-    Ok(())
+    refuses(&rt, alloc, Part::Authority, &field, unknown).expect(&rt, "there is memory");
 }
 
 #[test]
-fn bytes_after_the_signature(rt: HostRuntime) -> Result<(), Fail> {
-    let mut blob = certificate(rt.alloc())?;
-    blob.push(0)?;
+fn bytes_after_the_signature(rt: HostRuntime) {
+    let mut blob = certificate(rt.alloc()).expect(&rt, "there is memory");
+    blob.push(0).expect(&rt, "there is memory");
     has_fault(&rt, &blob, CertFault::Trailing);
-    Ok(())
 }
 
 #[test]
@@ -130,7 +127,7 @@ fn relengthened(
 }
 
 #[test]
-fn lengths_one_more_and_one_less(rt: HostRuntime) -> Result<(), Fail> {
+fn lengths_one_more_and_one_less(rt: HostRuntime) {
     let name = b"ssh-ed25519-cert-v01@openssh.com";
     let short = CertFault::Key(KeyFault::Wire(WireFault::Short));
     let length = CertFault::Key(KeyFault::Length);
@@ -153,16 +150,15 @@ fn lengths_one_more_and_one_less(rt: HostRuntime) -> Result<(), Fail> {
         (Part::Reserved, u32::MAX, b"", CertFault::Wire),
     ];
     for (part, length, content, fault) in rows {
-        relengthened(&rt, rt.alloc(), part, length, content, fault)?;
+        relengthened(&rt, rt.alloc(), part, length, content, fault).expect(&rt, "there is memory");
     }
-    Ok(())
 }
 
 #[test]
-fn lengths_of_the_authority_and_the_signature(rt: HostRuntime) -> Result<(), Fail> {
+fn lengths_of_the_authority_and_the_signature(rt: HostRuntime) {
     let alloc = rt.alloc();
-    let authority = plain(alloc, &AUTHORITY)?;
-    let signature = strings(alloc, &[b"ssh-ed25519", &[0; 64]])?;
+    let authority = plain(alloc, &AUTHORITY).expect(&rt, "there is memory");
+    let signature = strings(alloc, &[b"ssh-ed25519", &[0; 64]]).expect(&rt, "there is memory");
     let trailing = CertFault::Authority(KeyFault::Trailing);
     let short = CertFault::Authority(KeyFault::Wire(WireFault::Short));
     let rows: [(Part, u32, &[u8], CertFault); 4] = [
@@ -172,7 +168,6 @@ fn lengths_of_the_authority_and_the_signature(rt: HostRuntime) -> Result<(), Fai
         (Part::Signature, 82, &signature, CertFault::Trailing),
     ];
     for (part, length, content, fault) in rows {
-        relengthened(&rt, alloc, part, length, content, fault)?;
+        relengthened(&rt, alloc, part, length, content, fault).expect(&rt, "there is memory");
     }
-    Ok(())
 }

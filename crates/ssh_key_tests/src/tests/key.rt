@@ -120,7 +120,7 @@ fn keys_of_32_bytes(rt: HostRuntime) -> Result<(), Fail> {
 }
 
 #[test]
-fn faults_of_numbers(rt: HostRuntime) -> Result<(), Fail> {
+fn faults_of_numbers(rt: HostRuntime) {
     let not_shortest = KeyFault::Wire(WireFault::NotShortest);
     let negative = KeyFault::Wire(WireFault::Negative);
     let rows: [(&[&[u8]], KeyFault); 8] = [
@@ -134,9 +134,8 @@ fn faults_of_numbers(rt: HostRuntime) -> Result<(), Fail> {
         (&[b"ssh-rsa", &[3]], KeyFault::Wire(WireFault::Short)),
     ];
     for (list, fault) in rows {
-        refuses(&rt, rt.alloc(), list, fault)?;
+        refuses(&rt, rt.alloc(), list, fault).expect(&rt, "there is memory");
     }
-    Ok(())
 }
 
 /// The blob of a key on this curve with these bytes for its point has this fault.
@@ -154,7 +153,7 @@ fn point_refused(
 }
 
 #[test]
-fn faults_of_points(rt: HostRuntime) -> Result<(), Fail> {
+fn faults_of_points(rt: HostRuntime) {
     let p256 = ("ecdsa-sha2-nistp256", "nistp256");
     let p384 = ("ecdsa-sha2-nistp384", "nistp384");
     let other_curve = ("ecdsa-sha2-nistp256", "nistp384");
@@ -168,13 +167,12 @@ fn faults_of_points(rt: HostRuntime) -> Result<(), Fail> {
         (p384, 65, 4, KeyFault::Point),
     ];
     for (names, size, first, fault) in rows {
-        point_refused(&rt, rt.alloc(), names, size, first, fault)?;
+        point_refused(&rt, rt.alloc(), names, size, first, fault).expect(&rt, "there is memory");
     }
-    Ok(())
 }
 
 #[test]
-fn faults_of_strings(rt: HostRuntime) -> Result<(), Fail> {
+fn faults_of_strings(rt: HostRuntime) {
     let short = KeyFault::Wire(WireFault::Short);
     let certificate = b"ssh-ed25519-cert-v01@openssh.com";
     let rows: [(&[&[u8]], KeyFault); 5] = [
@@ -185,43 +183,40 @@ fn faults_of_strings(rt: HostRuntime) -> Result<(), Fail> {
         (&[], short),
     ];
     for (list, fault) in rows {
-        refuses(&rt, rt.alloc(), list, fault)?;
+        refuses(&rt, rt.alloc(), list, fault).expect(&rt, "there is memory");
     }
-    Ok(())
 }
 
 #[test]
-fn bytes_after_the_key(rt: HostRuntime) -> Result<(), Fail> {
+fn bytes_after_the_key(rt: HostRuntime) {
     let alloc = rt.alloc();
-    let mut blob = published_key(alloc)?;
-    blob.push(0)?;
+    let mut blob = published_key(alloc).expect(&rt, "there is memory");
+    blob.push(0).expect(&rt, "there is memory");
     has_fault(&rt, &blob, KeyFault::Trailing);
-    Ok(())
 }
 
 #[test]
-fn cut_blobs(rt: HostRuntime) -> Result<(), Fail> {
-    let blob = published_key(rt.alloc())?;
+fn cut_blobs(rt: HostRuntime) {
+    let blob = published_key(rt.alloc()).expect(&rt, "there is memory");
     let short = KeyFault::Wire(WireFault::Short);
     for n in 0..blob.len() {
         has_fault(&rt, &blob[..n], short);
     }
-    Ok(())
 }
 
 #[test]
-fn longest_blob(rt: HostRuntime) -> Result<(), Fail> {
+fn longest_blob(rt: HostRuntime) {
     let alloc = rt.alloc();
-    let application = vec![in alloc; b'x'; 65_466]?;
+    let application = vec![in alloc; b'x'; 65_466].expect(&rt, "there is memory");
     let mut blob = strings(
         alloc,
         &[b"sk-ssh-ed25519@openssh.com", &PUBLISHED, &application],
-    )?;
+    )
+    .expect(&rt, "there is memory");
     assert_eq!(rt; blob.len(), 65_536);
     assert!(rt; read_key(&blob).is_ok());
-    blob.push(0)?;
+    blob.push(0).expect(&rt, "there is memory");
     has_fault(&rt, &blob, KeyFault::TooLong);
-    let zeros = vec![in alloc; 0; 65_537]?;
+    let zeros = vec![in alloc; 0; 65_537].expect(&rt, "there is memory");
     has_fault(&rt, &zeros, KeyFault::TooLong);
-    Ok(())
 }

@@ -4,7 +4,6 @@ use crate::tests::parts::{PUBLISHED, has_fault, has_fingerprint, is_made, string
 use base64::engine::general_purpose::STANDARD;
 use ssh_key::{Hash, KeyFault, read_key, read_line};
 use std::alloc::{AllocError, Global};
-use std::test::Fail;
 
 /// A key of a device whose application has so many bytes.
 fn device_key(alloc: Global, size: usize) -> Result<Vec<u8>, AllocError> {
@@ -42,44 +41,46 @@ fn reads_line(alloc: Global, application: usize, comment: usize) -> Result<bool,
 }
 
 #[test]
-fn blobs(rt: HostRuntime) -> Result<(), Fail> {
+fn blobs(rt: HostRuntime) {
     let alloc = rt.alloc();
     for size in [0, 255, 1_023, 4_000, 4_096, 5_000, 16_384, 65_466] {
-        let blob = device_key(alloc, size)?;
-        let key = read_key(&blob).ok().ok_or("the blob is a key")?;
-        is_made(&rt, alloc, &key, &blob)?;
+        let blob = device_key(alloc, size).expect(&rt, "there is memory");
+        let key = read_key(&blob).ok().expect(&rt, "the blob is a key");
+        is_made(&rt, alloc, &key, &blob).expect(&rt, "there is memory");
     }
-    Ok(())
 }
 
 #[test]
-fn lines(rt: HostRuntime) -> Result<(), Fail> {
+fn lines(rt: HostRuntime) {
     let alloc = rt.alloc();
     for size in [0, 1_000, 1_025, 4_097, 65_466, 70_000, 300_000] {
-        assert!(rt; reads_line(alloc, size, 1)?, "{size}");
-        assert!(rt; reads_line(alloc, 1, size)?, "{size}");
+        assert!(rt;
+            reads_line(alloc, size, 1).expect(&rt, "there is memory"),
+            "{size}"
+        );
+        assert!(rt;
+            reads_line(alloc, 1, size).expect(&rt, "there is memory"),
+            "{size}"
+        );
     }
-    Ok(())
 }
 
 #[test]
-fn long_key_of_a_line(rt: HostRuntime) -> Result<(), Fail> {
+fn long_key_of_a_line(rt: HostRuntime) {
     // A line holds a key of any length: it is the key that is too long, and not the line.
     let alloc = rt.alloc();
-    let blob = device_key(alloc, 65_467)?;
-    assert!(rt; reads_line(alloc, 65_467, 1)?);
+    let blob = device_key(alloc, 65_467).expect(&rt, "there is memory");
+    assert!(rt; reads_line(alloc, 65_467, 1).expect(&rt, "there is memory"));
     has_fault(&rt, &blob, KeyFault::TooLong);
-    Ok(())
 }
 
 /// The examples of FIPS 180 and RFC 1321 with a million times the letter a.
 #[test]
-fn fingerprint_of_a_million(rt: HostRuntime) -> Result<(), Fail> {
+fn fingerprint_of_a_million(rt: HostRuntime) {
     let alloc = rt.alloc();
-    let bytes = vec![in alloc; b'a'; 1_000_000]?;
+    let bytes = vec![in alloc; b'a'; 1_000_000].expect(&rt, "there is memory");
     let sha256 = "SHA256:zcduXJkU+5KBocfihNc+Z/GAmkiklyAOBG05zMcRLNA";
-    has_fingerprint(&rt, alloc, Hash::Sha256, &bytes, sha256)?;
+    has_fingerprint(&rt, alloc, Hash::Sha256, &bytes, sha256).expect(&rt, "there is memory");
     let md5 = "MD5:77:07:d6:ae:4e:02:7c:70:ee:a2:a9:35:c2:29:6f:21";
-    has_fingerprint(&rt, alloc, Hash::Md5, &bytes, md5)?;
-    Ok(())
+    has_fingerprint(&rt, alloc, Hash::Md5, &bytes, md5).expect(&rt, "there is memory");
 }

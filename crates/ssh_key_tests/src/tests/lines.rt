@@ -3,7 +3,6 @@
 use crate::tests::parts::{PUBLISHED_BASE64, PUBLISHED_TYPE, published_key};
 use ssh_key::{LineFault, read_line};
 use std::alloc::{AllocError, Global};
-use std::test::Fail;
 
 /// The base64 of the key between two texts.
 fn line(alloc: Global, before: &str, after: &str) -> Result<String, AllocError> {
@@ -51,14 +50,13 @@ const READ: [(&str, &str, &str); 13] = [
 ];
 
 #[test]
-fn read(rt: HostRuntime) -> Result<(), Fail> {
+fn read(rt: HostRuntime) {
     for (before, after, comment) in &READ {
         assert!(rt;
-            reads(rt.alloc(), before, after, comment)?,
+            reads(rt.alloc(), before, after, comment).expect(&rt, "there is memory"),
             "{before}..{after}"
         );
     }
-    Ok(())
 }
 
 /// Why the line is refused.
@@ -103,12 +101,11 @@ const REFUSED: [(&str, &str, LineFault); 15] = [
 ];
 
 #[test]
-fn refused(rt: HostRuntime) -> Result<(), Fail> {
+fn refused(rt: HostRuntime) {
     for (before, after, fault) in &REFUSED {
-        let found = refusal_between(rt.alloc(), before, after)?;
+        let found = refusal_between(rt.alloc(), before, after).expect(&rt, "there is memory");
         assert_eq!(rt; found, Some(*fault), "{before}..{after}");
     }
-    Ok(())
 }
 
 const WITHOUT_THE_KEY: [(&str, LineFault); 16] = [
@@ -140,10 +137,9 @@ fn refused_without_the_key(rt: HostRuntime) {
 }
 
 #[test]
-fn first_string_alone(rt: HostRuntime) -> Result<(), Fail> {
+fn first_string_alone(rt: HostRuntime) {
     // What follows the first string of a key is not read.
-    let line = read_line(rt.alloc(), b"ssh-rsa AAAAB3NzaC1yc2E= a")?;
+    let line = read_line(rt.alloc(), b"ssh-rsa AAAAB3NzaC1yc2E= a").expect(&rt, "there is memory");
     assert!(rt; line.word == b"ssh-rsa".as_slice());
     assert!(rt; line.comment == b"a".as_slice());
-    Ok(())
 }

@@ -4,26 +4,25 @@ use crate::tests::parts::{has_digits, published_key};
 use ssh_key::{FingerprintFault, Hash, fingerprint, parse_fingerprint, sha256_of};
 use std::alloc::{AllocError, Global};
 use std::process::Abort;
-use std::test::Fail;
 
 #[test]
-fn published(rt: HostRuntime) -> Result<(), Fail> {
+fn published(rt: HostRuntime) {
     let text = b"SHA256:+DiY3wvvV6TuJJhbpZisF/zLDA0zPMSvHdkr4UvCOqU";
-    let digest = parse_fingerprint(rt.alloc(), text).ok().ok_or("it is one")?;
+    let digest = parse_fingerprint(rt.alloc(), text)
+        .ok()
+        .expect(&rt, "it is one");
     let digits = "f83898df0bef57a4ee24985ba598ac17fccb0c0d333cc4af1dd92be14bc23aa5";
-    has_digits(&rt, rt.alloc(), &digest, digits)?;
-    Ok(())
+    has_digits(&rt, rt.alloc(), &digest, digits).expect(&rt, "there is memory");
 }
 
 #[test]
-fn printed_and_read(rt: HostRuntime) -> Result<(), Fail> {
-    let key = published_key(rt.alloc())?;
-    let text = fingerprint(rt.alloc(), Hash::Sha256, &key)?;
+fn printed_and_read(rt: HostRuntime) {
+    let key = published_key(rt.alloc()).expect(&rt, "there is memory");
+    let text = fingerprint(rt.alloc(), Hash::Sha256, &key).expect(&rt, "there is memory");
     let digest = parse_fingerprint(rt.alloc(), &text)
         .ok()
-        .ok_or("it is one")?;
+        .expect(&rt, "it is one");
     assert_eq!(rt; digest, sha256_of(&key));
-    Ok(())
 }
 
 /// Why the text is refused.
@@ -67,14 +66,13 @@ fn long_text(alloc: Global, letters: usize, end: &str) -> Result<Vec<u8>, AllocE
 }
 
 #[test]
-fn long_texts(rt: HostRuntime) -> Result<(), Fail> {
+fn long_texts(rt: HostRuntime) {
     let rows = [
         ("", FingerprintFault::Length),
         ("=", FingerprintFault::Base64),
     ];
     for (end, fault) in rows {
-        let text = long_text(rt.alloc(), 100_000, end)?;
+        let text = long_text(rt.alloc(), 100_000, end).expect(&rt, "there is memory");
         is_refused(&rt, rt.alloc(), &text, fault);
     }
-    Ok(())
 }

@@ -5,7 +5,6 @@ use ssh_key::{KeyFault, Kind, PublicKey, read_fields};
 use ssh_wire::{Cursor, WireFault};
 use std::alloc::{AllocError, Global};
 use std::process::Abort;
-use std::test::Fail;
 
 /// The key is the published one.
 fn is_published(rt: &impl Abort, alloc: Global, key: &PublicKey) -> Result<(), AllocError> {
@@ -21,15 +20,14 @@ fn ends_with(cursor: &mut Cursor<'_>, text: &[u8]) -> bool {
 }
 
 #[test]
-fn fields_before_more(rt: HostRuntime) -> Result<(), Fail> {
-    let bytes = strings(rt.alloc(), &[&PUBLISHED, b"what follows"])?;
+fn fields_before_more(rt: HostRuntime) {
+    let bytes = strings(rt.alloc(), &[&PUBLISHED, b"what follows"]).expect(&rt, "there is memory");
     let mut cursor = Cursor::new(&bytes);
     let key = read_fields(Kind::Ed25519, &mut cursor)
         .ok()
-        .ok_or("the fields are a key's")?;
-    is_published(&rt, rt.alloc(), &key)?;
+        .expect(&rt, "the fields are a key's");
+    is_published(&rt, rt.alloc(), &key).expect(&rt, "there is memory");
     assert!(rt; ends_with(&mut cursor, b"what follows"));
-    Ok(())
 }
 
 /// Why no fields stand at the front of the bytes, where all of them are left.
@@ -53,7 +51,7 @@ fn refuses(
 }
 
 #[test]
-fn refusals_take_nothing(rt: HostRuntime) -> Result<(), Fail> {
+fn refusals_take_nothing(rt: HostRuntime) {
     let short = KeyFault::Wire(WireFault::Short);
     let rows: [(Kind, &[&[u8]], KeyFault); 4] = [
         (Kind::Ed25519, &[], short),
@@ -62,20 +60,18 @@ fn refusals_take_nothing(rt: HostRuntime) -> Result<(), Fail> {
         (Kind::Rsa, &[&[3], &[]], KeyFault::Number),
     ];
     for (kind, list, fault) in rows {
-        refuses(&rt, rt.alloc(), kind, list, fault)?;
+        refuses(&rt, rt.alloc(), kind, list, fault).expect(&rt, "there is memory");
     }
-    Ok(())
 }
 
 #[test]
-fn faults_of_long_fields(rt: HostRuntime) -> Result<(), Fail> {
+fn faults_of_long_fields(rt: HostRuntime) {
     let alloc = rt.alloc();
-    let long = vec![in alloc; 1; 70_000]?;
+    let long = vec![in alloc; 1; 70_000].expect(&rt, "there is memory");
     let device: [&[u8]; 2] = [&PUBLISHED, &long];
-    refuses(&rt, alloc, Kind::Ed25519Sk, &device, KeyFault::TooLong)?;
+    refuses(&rt, alloc, Kind::Ed25519Sk, &device, KeyFault::TooLong).expect(&rt, "there is memory");
     // A fault of a field is told before it.
-    refuses(&rt, alloc, Kind::Rsa, &[&long, &[]], KeyFault::Number)?;
-    Ok(())
+    refuses(&rt, alloc, Kind::Rsa, &[&long, &[]], KeyFault::Number).expect(&rt, "there is memory");
 }
 
 /// Whether the fields of a device's key with this application are read before more.
@@ -86,11 +82,13 @@ fn reads(alloc: Global, application: &[u8]) -> Result<bool, AllocError> {
 }
 
 #[test]
-fn longest_fields(rt: HostRuntime) -> Result<(), Fail> {
-    let mut application = vec![in rt.alloc(); b'x'; 65_466]?;
+fn longest_fields(rt: HostRuntime) {
+    let mut application = vec![in rt.alloc(); b'x'; 65_466].expect(&rt, "there is memory");
     for fits in [true, false] {
-        assert_eq!(rt; reads(rt.alloc(), &application)?, fits);
-        application.push(b'x')?;
+        assert_eq!(rt;
+            reads(rt.alloc(), &application).expect(&rt, "there is memory"),
+            fits
+        );
+        application.push(b'x').expect(&rt, "there is memory");
     }
-    Ok(())
 }

@@ -33,22 +33,20 @@ const PUTS: [(Field, &[u8]); 3] = [
 ];
 
 #[test]
-fn puts_append_to_what_stands(rt: HostRuntime) -> Result<(), Fail> {
+fn puts_append_to_what_stands(rt: HostRuntime) {
     let mut out = Vec::new(rt.alloc());
     for (field, bytes) in &PUTS {
-        put(&mut out, *field)?;
+        put(&mut out, *field).expect(&rt, "there is memory");
         assert_eq!(rt; out.as_slice(), *bytes);
     }
-    Ok(())
 }
 
 #[test]
-fn a_long_number_has_eight_bytes(rt: HostRuntime) -> Result<(), Fail> {
+fn a_long_number_has_eight_bytes(rt: HostRuntime) {
     let mut out = Vec::new(rt.alloc());
-    put(&mut out, Field::Long(0x0102_0304_0506_0708))?;
+    put(&mut out, Field::Long(0x0102_0304_0506_0708)).expect(&rt, "there is memory");
     let bytes = b"\x01\x02\x03\x04\x05\x06\x07\x08".as_slice();
     assert_eq!(rt; out.as_slice(), bytes);
-    Ok(())
 }
 
 #[test]
@@ -101,11 +99,10 @@ fn put_many(out: &mut Vec<u8>) -> Result<(), AllocError> {
 }
 
 #[test]
-fn long_vectors_grow(rt: HostRuntime) -> Result<(), Fail> {
+fn long_vectors_grow(rt: HostRuntime) {
     let mut out = Vec::new(rt.alloc());
-    put_many(&mut out)?;
+    put_many(&mut out).expect(&rt, "there is memory");
     assert_eq!(rt; out.len(), 310_000);
-    Ok(())
 }
 
 /// Puts a number of up to 100,000 bytes.

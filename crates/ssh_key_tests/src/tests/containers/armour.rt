@@ -45,13 +45,12 @@ fn is_published(alloc: Global, text: &[u8]) -> Result<bool, AllocError> {
 }
 
 #[test]
-fn published(rt: HostRuntime) -> Result<(), Fail> {
+fn published(rt: HostRuntime) {
     let alloc = rt.alloc();
-    let bytes = published_container(alloc)?;
+    let bytes = published_container(alloc).expect(&rt, "there is memory");
     assert_eq!(rt; bytes.len(), 234);
-    let text = armoured(alloc, &bytes)?;
-    assert!(rt; is_published(alloc, &text)?);
-    Ok(())
+    let text = armoured(alloc, &bytes).expect(&rt, "there is memory");
+    assert!(rt; is_published(alloc, &text).expect(&rt, "there is memory"));
 }
 
 #[test]
@@ -112,11 +111,13 @@ const NO_ARMOUR: [(&str, &str); 6] = [
 ];
 
 #[test]
-fn no_armour(rt: HostRuntime) -> Result<(), Fail> {
+fn no_armour(rt: HostRuntime) {
     for (before, after) in &NO_ARMOUR {
-        refuses(&rt, rt.alloc(), before, after, PrivateFault::Armour)?;
+        refuses(&rt, rt.alloc(), before, after, PrivateFault::Armour).expect(
+            &rt,
+            "there is memory",
+        );
     }
-    Ok(())
 }
 
 #[test]
@@ -136,15 +137,17 @@ const NO_BASE64: [(&str, &str); 3] = [
 ];
 
 #[test]
-fn no_base64(rt: HostRuntime) -> Result<(), Fail> {
+fn no_base64(rt: HostRuntime) {
     for (before, after) in &NO_BASE64 {
-        refuses(&rt, rt.alloc(), before, after, PrivateFault::Base64)?;
+        refuses(&rt, rt.alloc(), before, after, PrivateFault::Base64).expect(
+            &rt,
+            "there is memory",
+        );
     }
-    Ok(())
 }
 
 #[test]
-fn short_base64(rt: HostRuntime) -> Result<(), Fail> {
+fn short_base64(rt: HostRuntime) {
     let rows = [
         ("AAAAA", PrivateFault::Base64),
         ("AAAAAA", PrivateFault::Base64),
@@ -153,10 +156,9 @@ fn short_base64(rt: HostRuntime) -> Result<(), Fail> {
         ("", PrivateFault::Magic),
     ];
     for (base64, fault) in rows {
-        let text = around(rt.alloc(), base64.as_bytes())?;
+        let text = around(rt.alloc(), base64.as_bytes()).expect(&rt, "there is memory");
         is_refused(&rt, rt.alloc(), &text, fault);
     }
-    Ok(())
 }
 
 #[test]

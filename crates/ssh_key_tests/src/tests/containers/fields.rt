@@ -31,7 +31,7 @@ fn encrypted(
 }
 
 #[test]
-fn ciphers(rt: HostRuntime) -> Result<(), Fail> {
+fn ciphers(rt: HostRuntime) {
     let rows = [
         ("aes256-ctr", "bcrypt", "salt"),
         ("aes256-ctr", "none", ""),
@@ -43,9 +43,8 @@ fn ciphers(rt: HostRuntime) -> Result<(), Fail> {
         ("None", "none", ""),
     ];
     for (cipher, derivation, options) in rows {
-        encrypted(&rt, rt.alloc(), cipher, derivation, options)?;
+        encrypted(&rt, rt.alloc(), cipher, derivation, options).expect(&rt, "there is memory");
     }
-    Ok(())
 }
 
 /// The container of the published key with another number of keys is refused.
@@ -61,11 +60,10 @@ fn counted(rt: &impl Abort, alloc: Global, count: u32) -> Result<(), AllocError>
 }
 
 #[test]
-fn counts(rt: HostRuntime) -> Result<(), Fail> {
+fn counts(rt: HostRuntime) {
     for count in [0, 2, 0x0100_0000] {
-        counted(&rt, rt.alloc(), count)?;
+        counted(&rt, rt.alloc(), count).expect(&rt, "there is memory");
     }
-    Ok(())
 }
 
 /// A container with this blob is refused with the blob's fault.
@@ -87,20 +85,25 @@ fn followed(rt: &impl Abort, alloc: Global, blob: &[u8], more: &[u8]) -> Result<
 }
 
 #[test]
-fn blobs(rt: HostRuntime) -> Result<(), Fail> {
-    let blob = published_key(rt.alloc())?;
-    let cut = blob.get(..50).ok_or("the blob has 51 bytes")?;
-    blob_refused(&rt, rt.alloc(), cut, KeyFault::Wire(WireFault::Short))?;
-    blob_refused(&rt, rt.alloc(), b"", KeyFault::Wire(WireFault::Short))?;
-    followed(&rt, rt.alloc(), &blob, b"x")?;
-    followed(&rt, rt.alloc(), &blob, &blob)?;
-    Ok(())
+fn blobs(rt: HostRuntime) {
+    let blob = published_key(rt.alloc()).expect(&rt, "there is memory");
+    let cut = blob.get(..50).expect(&rt, "the blob has 51 bytes");
+    blob_refused(&rt, rt.alloc(), cut, KeyFault::Wire(WireFault::Short)).expect(
+        &rt,
+        "there is memory",
+    );
+    blob_refused(&rt, rt.alloc(), b"", KeyFault::Wire(WireFault::Short)).expect(
+        &rt,
+        "there is memory",
+    );
+    followed(&rt, rt.alloc(), &blob, b"x").expect(&rt, "there is memory");
+    followed(&rt, rt.alloc(), &blob, &blob).expect(&rt, "there is memory");
 }
 
 #[test]
-fn blobs_of_other_keys(rt: HostRuntime) -> Result<(), Fail> {
+fn blobs_of_other_keys(rt: HostRuntime) {
     let alloc = rt.alloc();
-    let compressed = point(alloc, 65, 2)?;
+    let compressed = point(alloc, 65, 2).expect(&rt, "there is memory");
     let rows: [(&[&[u8]], KeyFault); 2] = [
         (
             &[b"ssh-ed25519-cert-v01@openssh.com"],
@@ -112,30 +115,36 @@ fn blobs_of_other_keys(rt: HostRuntime) -> Result<(), Fail> {
         ),
     ];
     for (fields, fault) in rows {
-        blob_refused(&rt, alloc, &strings(alloc, fields)?, fault)?;
+        blob_refused(
+            &rt,
+            alloc,
+            &strings(alloc, fields).expect(&rt, "there is memory"),
+            fault,
+        )
+        .expect(&rt, "there is memory");
     }
-    Ok(())
 }
 
 #[test]
-fn bytes_behind(rt: HostRuntime) -> Result<(), Fail> {
+fn bytes_behind(rt: HostRuntime) {
     let alloc = rt.alloc();
-    let mut bytes = published_container(alloc)?;
-    bytes.push(0)?;
-    are_refused(&rt, alloc, &bytes, PrivateFault::Trailing)?;
-    Ok(())
+    let mut bytes = published_container(alloc).expect(&rt, "there is memory");
+    bytes.push(0).expect(&rt, "there is memory");
+    are_refused(&rt, alloc, &bytes, PrivateFault::Trailing).expect(&rt, "there is memory");
 }
 
 /// Bytes behind the list are told before it is read.
 #[test]
-fn bytes_behind_an_empty_list(rt: HostRuntime) -> Result<(), Fail> {
+fn bytes_behind_an_empty_list(rt: HostRuntime) {
     let alloc = rt.alloc();
-    let blob = published_key(alloc)?;
-    let mut bytes = plain(alloc, &blob, b"")?;
-    are_refused(&rt, alloc, &bytes, PrivateFault::Wire(WireFault::Short))?;
-    bytes.push(0)?;
-    are_refused(&rt, alloc, &bytes, PrivateFault::Trailing)?;
-    Ok(())
+    let blob = published_key(alloc).expect(&rt, "there is memory");
+    let mut bytes = plain(alloc, &blob, b"").expect(&rt, "there is memory");
+    are_refused(&rt, alloc, &bytes, PrivateFault::Wire(WireFault::Short)).expect(
+        &rt,
+        "there is memory",
+    );
+    bytes.push(0).expect(&rt, "there is memory");
+    are_refused(&rt, alloc, &bytes, PrivateFault::Trailing).expect(&rt, "there is memory");
 }
 
 /// The bytes with those from one place to another repeated.

@@ -5,7 +5,6 @@ use crate::tests::parts::{PUBLISHED, point, strings};
 use ssh_key::PrivateFault;
 use std::alloc::{AllocError, Global};
 use std::process::Abort;
-use std::test::Fail;
 
 /// The container of a blob whose private list has these fields.
 fn container(alloc: Global, blob: &[u8], fields: &[u8]) -> Result<Vec<u8>, AllocError> {
@@ -41,34 +40,38 @@ fn rsa_fields(
 }
 
 #[test]
-fn rsa(rt: HostRuntime) -> Result<(), Fail> {
+fn rsa(rt: HostRuntime) {
     let alloc = rt.alloc();
     let (e, n): (&[u8], &[u8]) = (&[1, 0, 1], &[0, 0xc1, 0x55, 0x0b]);
-    let blob = strings(alloc, &[b"ssh-rsa", e, n])?;
-    let fields = rsa_fields(alloc, n, e, b"")?;
-    reads(&rt, alloc, &blob, &fields)?;
+    let blob = strings(alloc, &[b"ssh-rsa", e, n]).expect(&rt, "there is memory");
+    let fields = rsa_fields(alloc, n, e, b"").expect(&rt, "there is memory");
+    reads(&rt, alloc, &blob, &fields).expect(&rt, "there is memory");
     // The exponent first, another modulus, and another exponent.
     let rows: [(&[u8], &[u8]); 4] = [(e, n), (&[0x41], e), (n, &[3]), (n, b"")];
     for (modulus, exponent) in rows {
-        let fields = rsa_fields(alloc, modulus, exponent, &[8])?;
-        differs(&rt, alloc, &blob, &fields)?;
+        let fields = rsa_fields(alloc, modulus, exponent, &[8]).expect(&rt, "there is memory");
+        differs(&rt, alloc, &blob, &fields).expect(&rt, "there is memory");
     }
-    Ok(())
 }
 
 #[test]
-fn dsa(rt: HostRuntime) -> Result<(), Fail> {
+fn dsa(rt: HostRuntime) {
     let alloc = rt.alloc();
-    let blob = strings(alloc, &[b"ssh-dss", &[0x61], &[0x0b], &[2], &[9]])?;
-    let fields = strings(alloc, &[b"ssh-dss", &[0x61], &[0x0b], &[2], &[9], &[4]])?;
-    reads(&rt, alloc, &blob, &fields)?;
+    let blob = strings(alloc, &[b"ssh-dss", &[0x61], &[0x0b], &[2], &[9]]).expect(
+        &rt,
+        "there is memory",
+    );
+    let fields = strings(alloc, &[b"ssh-dss", &[0x61], &[0x0b], &[2], &[9], &[4]]).expect(
+        &rt,
+        "there is memory",
+    );
+    reads(&rt, alloc, &blob, &fields).expect(&rt, "there is memory");
     // Another number at the end, and another at the front.
     for (first, last) in [(0x61, 8), (0x62, 9)] {
         let list: [&[u8]; 6] = [b"ssh-dss", &[first], &[0x0b], &[2], &[last], &[4]];
-        let fields = strings(alloc, &list)?;
-        differs(&rt, alloc, &blob, &fields)?;
+        let fields = strings(alloc, &list).expect(&rt, "there is memory");
+        differs(&rt, alloc, &blob, &fields).expect(&rt, "there is memory");
     }
-    Ok(())
 }
 
 /// The fields of a key on a curve in a private list.
@@ -115,16 +118,15 @@ fn on_curve(
 }
 
 #[test]
-fn ecdsa(rt: HostRuntime) -> Result<(), Fail> {
+fn ecdsa(rt: HostRuntime) {
     let rows = [
         ("ecdsa-sha2-nistp256", "nistp256", 65),
         ("ecdsa-sha2-nistp384", "nistp384", 97),
         ("ecdsa-sha2-nistp521", "nistp521", 133),
     ];
     for (name, curve, size) in rows {
-        on_curve(&rt, rt.alloc(), name, curve, size)?;
+        on_curve(&rt, rt.alloc(), name, curve, size).expect(&rt, "there is memory");
     }
-    Ok(())
 }
 
 /// The fields of a device: the public ones of a blob, flags, a handle and a reserved string.
@@ -156,12 +158,11 @@ fn ecdsa_blob(alloc: Global, application: &str) -> Result<Vec<u8>, AllocError> {
 }
 
 #[test]
-fn ecdsa_of_a_device(rt: HostRuntime) -> Result<(), Fail> {
+fn ecdsa_of_a_device(rt: HostRuntime) {
     let alloc = rt.alloc();
-    let blob = ecdsa_blob(alloc, "ssh:")?;
-    let other = ecdsa_blob(alloc, "ssh:x")?;
-    on_device(&rt, alloc, &blob, &[&other])?;
-    Ok(())
+    let blob = ecdsa_blob(alloc, "ssh:").expect(&rt, "there is memory");
+    let other = ecdsa_blob(alloc, "ssh:x").expect(&rt, "there is memory");
+    on_device(&rt, alloc, &blob, &[&other]).expect(&rt, "there is memory");
 }
 
 /// The blob of an Ed25519 key of a device for this application.
@@ -170,22 +171,20 @@ fn ed25519_blob(alloc: Global, public: &[u8], application: &[u8]) -> Result<Vec<
 }
 
 #[test]
-fn ed25519_of_a_device(rt: HostRuntime) -> Result<(), Fail> {
+fn ed25519_of_a_device(rt: HostRuntime) {
     let alloc = rt.alloc();
-    let blob = ed25519_blob(alloc, &PUBLISHED, b"ssh:")?;
-    let of_none = ed25519_blob(alloc, &PUBLISHED, b"")?;
-    let of_another = ed25519_blob(alloc, &[0x11; 32], b"ssh:")?;
-    on_device(&rt, alloc, &blob, &[&of_none, &of_another])?;
-    Ok(())
+    let blob = ed25519_blob(alloc, &PUBLISHED, b"ssh:").expect(&rt, "there is memory");
+    let of_none = ed25519_blob(alloc, &PUBLISHED, b"").expect(&rt, "there is memory");
+    let of_another = ed25519_blob(alloc, &[0x11; 32], b"ssh:").expect(&rt, "there is memory");
+    on_device(&rt, alloc, &blob, &[&of_none, &of_another]).expect(&rt, "there is memory");
 }
 
 #[test]
-fn large_applications(rt: HostRuntime) -> Result<(), Fail> {
+fn large_applications(rt: HostRuntime) {
     let alloc = rt.alloc();
     for size in [255, 1_025, 4_097, 65_466] {
-        let application = vec![in alloc; b'x'; size]?;
-        let blob = ed25519_blob(alloc, &PUBLISHED, &application)?;
-        on_device(&rt, alloc, &blob, &[])?;
+        let application = vec![in alloc; b'x'; size].expect(&rt, "there is memory");
+        let blob = ed25519_blob(alloc, &PUBLISHED, &application).expect(&rt, "there is memory");
+        on_device(&rt, alloc, &blob, &[]).expect(&rt, "there is memory");
     }
-    Ok(())
 }

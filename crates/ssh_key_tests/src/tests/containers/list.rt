@@ -8,7 +8,6 @@ use ssh_key::{KeyFault, PrivateFault};
 use ssh_wire::WireFault;
 use std::alloc::{AllocError, Global};
 use std::process::Abort;
-use std::test::Fail;
 
 /// The container of the published key with this list is refused.
 fn list_refused(
@@ -23,14 +22,13 @@ fn list_refused(
 }
 
 #[test]
-fn check_words(rt: HostRuntime) -> Result<(), Fail> {
+fn check_words(rt: HostRuntime) {
     let alloc = rt.alloc();
-    let fields = published_fields(alloc)?;
+    let fields = published_fields(alloc).expect(&rt, "there is memory");
     for checks in [(1, 2), (2, 1), (0, 0xffff_ffff), (0x0100_0000, 1)] {
-        let list = list(alloc, checks, &fields, b"a", &[1, 2, 3, 4])?;
-        list_refused(&rt, alloc, &list, PrivateFault::Check)?;
+        let list = list(alloc, checks, &fields, b"a", &[1, 2, 3, 4]).expect(&rt, "there is memory");
+        list_refused(&rt, alloc, &list, PrivateFault::Check).expect(&rt, "there is memory");
     }
-    Ok(())
 }
 
 /// The container of the published key with these fields in its list is refused.
@@ -46,7 +44,7 @@ fn fields_refused(
 }
 
 #[test]
-fn other_fields(rt: HostRuntime) -> Result<(), Fail> {
+fn other_fields(rt: HostRuntime) {
     let name = PUBLISHED_TYPE.as_bytes();
     // Another type name, another public field, and one of another length.
     let rows: [(&[u8], &[u8]); 6] = [
@@ -59,14 +57,16 @@ fn other_fields(rt: HostRuntime) -> Result<(), Fail> {
     ];
     for (name, public) in rows {
         let fields = [name, public, &[0; 64]];
-        fields_refused(&rt, rt.alloc(), &fields, PrivateFault::PublicDiffers)?;
+        fields_refused(&rt, rt.alloc(), &fields, PrivateFault::PublicDiffers).expect(
+            &rt,
+            "there is memory",
+        );
     }
-    Ok(())
 }
 
 /// A private field of another length, which is told before the public one.
 #[test]
-fn private_fields(rt: HostRuntime) -> Result<(), Fail> {
+fn private_fields(rt: HostRuntime) {
     let name = PUBLISHED_TYPE.as_bytes();
     let rows: [(&[u8], &[u8]); 3] = [
         (&PUBLISHED, &[0; 63]),
@@ -80,13 +80,13 @@ fn private_fields(rt: HostRuntime) -> Result<(), Fail> {
             rt.alloc(),
             &fields,
             PrivateFault::Key(KeyFault::Length),
-        )?;
+        )
+        .expect(&rt, "there is memory");
     }
-    Ok(())
 }
 
 #[test]
-fn fields_twice(rt: HostRuntime) -> Result<(), Fail> {
+fn fields_twice(rt: HostRuntime) {
     let name = PUBLISHED_TYPE.as_bytes();
     let length = PrivateFault::Key(KeyFault::Length);
     let rows: [([&[u8]; 4], PrivateFault); 3] = [
@@ -98,18 +98,17 @@ fn fields_twice(rt: HostRuntime) -> Result<(), Fail> {
         ),
     ];
     for (fields, fault) in rows {
-        fields_refused(&rt, rt.alloc(), &fields, fault)?;
+        fields_refused(&rt, rt.alloc(), &fields, fault).expect(&rt, "there is memory");
     }
-    Ok(())
 }
 
 /// The comment `a`.
 const COMMENT: &[u8] = &[0, 0, 0, 1, b'a'];
 
 #[test]
-fn words_and_comments_twice(rt: HostRuntime) -> Result<(), Fail> {
+fn words_and_comments_twice(rt: HostRuntime) {
     let alloc = rt.alloc();
-    let fields = published_fields(alloc)?;
+    let fields = published_fields(alloc).expect(&rt, "there is memory");
     let rows: [(&[&[u8]], PrivateFault); 3] = [
         // The first check word three times.
         (
@@ -141,10 +140,9 @@ fn words_and_comments_twice(rt: HostRuntime) -> Result<(), Fail> {
         ),
     ];
     for (parts, fault) in rows {
-        let list = joined(alloc, parts)?;
-        list_refused(&rt, alloc, &list, fault)?;
+        let list = joined(alloc, parts).expect(&rt, "there is memory");
+        list_refused(&rt, alloc, &list, fault).expect(&rt, "there is memory");
     }
-    Ok(())
 }
 
 /// The padding 1, 2, 3 and so on.
@@ -185,30 +183,28 @@ fn padded(
 }
 
 #[test]
-fn paddings(rt: HostRuntime) -> Result<(), Fail> {
+fn paddings(rt: HostRuntime) {
     let rows: [(&[u8], &[u8]); 3] = [
         (b"a", b""),
         (b"", &[1]),
         (b"a b\n\0", &[1, 2, 3, 4, 5, 6, 7, 8, 9]),
     ];
     for (comment, padding) in rows {
-        padded(&rt, rt.alloc(), comment, padding)?;
+        padded(&rt, rt.alloc(), comment, padding).expect(&rt, "there is memory");
     }
     for size in [253, 254] {
-        let padding = rising(rt.alloc(), size)?;
-        padded(&rt, rt.alloc(), b"a", &padding)?;
+        let padding = rising(rt.alloc(), size).expect(&rt, "there is memory");
+        padded(&rt, rt.alloc(), b"a", &padding).expect(&rt, "there is memory");
     }
-    Ok(())
 }
 
 #[test]
-fn large_comments(rt: HostRuntime) -> Result<(), Fail> {
+fn large_comments(rt: HostRuntime) {
     let alloc = rt.alloc();
     for size in [255, 1_025, 4_097, 65_536, 300_000] {
-        let comment = vec![in alloc; b'c'; size]?;
-        padded(&rt, alloc, &comment, &[1, 2])?;
+        let comment = vec![in alloc; b'c'; size].expect(&rt, "there is memory");
+        padded(&rt, alloc, &comment, &[1, 2]).expect(&rt, "there is memory");
     }
-    Ok(())
 }
 
 /// The container of the published key with this padding is refused.
@@ -219,14 +215,13 @@ fn badly_padded(rt: &impl Abort, alloc: Global, padding: &[u8]) -> Result<(), Al
 }
 
 #[test]
-fn other_paddings(rt: HostRuntime) -> Result<(), Fail> {
+fn other_paddings(rt: HostRuntime) {
     let rows: [&[u8]; 4] = [&[0], &[2], &[1, 2, 4, 4], &[1, 2, 3, 4, 1, 2, 3, 4]];
     for padding in rows {
-        badly_padded(&rt, rt.alloc(), padding)?;
+        badly_padded(&rt, rt.alloc(), padding).expect(&rt, "there is memory");
     }
     for size in [255, 256, 600] {
-        let padding = rising(rt.alloc(), size)?;
-        badly_padded(&rt, rt.alloc(), &padding)?;
+        let padding = rising(rt.alloc(), size).expect(&rt, "there is memory");
+        badly_padded(&rt, rt.alloc(), &padding).expect(&rt, "there is memory");
     }
-    Ok(())
 }
