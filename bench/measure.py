@@ -1,6 +1,7 @@
 """Time and memory of programs, and the programs that are measured."""
 
 import os
+import re
 import resource
 import subprocess
 import sys
@@ -49,6 +50,17 @@ def measure(words, statuses=(0, 1)):
         sys.exit("%s ended with status %d" % (" ".join(words), status))
     with open("memory") as memory:
         return taken, int(memory.read())
+
+
+def instructions(words, statuses=(0, 1)):
+    """The instructions that a command runs, whatever its processor's caches do."""
+    counted = ["valgrind", "--tool=cachegrind", "--cache-sim=no", "--cachegrind-out-file=/dev/null"]
+    ran = subprocess.run(
+        counted + words, stdout=subprocess.DEVNULL, stderr=subprocess.PIPE, text=True
+    )
+    if ran.returncode not in statuses:
+        sys.exit("%s ended with status %d" % (" ".join(words), ran.returncode))
+    return int(re.search(r"I +refs: +([0-9,]+)", ran.stderr)[1].replace(",", ""))
 
 
 def least(words, prepare=lambda: None, statuses=(0, 1)):
