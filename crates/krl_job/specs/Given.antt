@@ -1,8 +1,22 @@
--- What words hold of the options, as the program keeps it.
-use Rattle.std.specs.Prelude.{map, option_map}
-use Rattle.krl_words.specs.declared.given.Given.{Given as GivenOf}
-use Rattle.krl_words.specs.Options.{Given}
+-- What words hold of the options (ssh-keygen(1), SYNOPSIS).
+use Rattle.std.specs.Prelude.{ℕ, Bool, List, Option, map, option_map}
+use Rattle.krl_job.specs.declared.given.Given.{Given as GivenOf}
 
+-- What words hold: which of the options without a value are given, the values of the others, and
+-- the files.
+pub record Given : Type 0 where
+  pub list : Bool
+  pub certificates : Bool
+  pub make : Bool
+  pub query : Bool
+  pub update : Bool
+  pub file : Option (List ℕ)
+  pub hash : Option (List ℕ)
+  pub authority : Option (List ℕ)
+  pub version : Option (List ℕ)
+  pub files : List (List ℕ)
+
+-- the same, as the program keeps it
 abbrev pub given_by : GivenOf → Given
 given_by given = record {
   list = given.list;

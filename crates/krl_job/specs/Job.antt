@@ -6,12 +6,12 @@ use Rattle.std.specs.Str.{bytes_eq}
 use Rattle.std.specs.Str.Parse.{digits_value}
 use Rattle.ssh_key.specs.declared.hash.Hash.{Hash}
 use Rattle.ssh_key.specs.declared.hash.Hash.TheVariants.{Md5, Sha256}
-use Rattle.krl_words.specs.declared.job.AuthorityName.{AuthorityName}
-use Rattle.krl_words.specs.declared.job.AuthorityName.TheVariants as names
-use Rattle.krl_words.specs.declared.job.Job.{Job}
-use Rattle.krl_words.specs.declared.job.Mode.{Mode}
-use Rattle.krl_words.specs.declared.job.Mode.TheVariants.{Keys, Certs, Make, Query}
-use Rattle.krl_words.specs.Options.{Given}
+use Rattle.krl_job.specs.declared.job.AuthorityName.{AuthorityName}
+use Rattle.krl_job.specs.declared.job.AuthorityName.TheVariants as names
+use Rattle.krl_job.specs.declared.job.Job.{Job}
+use Rattle.krl_job.specs.declared.job.Mode.{Mode}
+use Rattle.krl_job.specs.declared.job.Mode.TheVariants.{Keys, Certs, Make, Query}
+use Rattle.krl_job.specs.Given.{Given}
 
 -- ---- a job
 

@@ -3,8 +3,8 @@
 ghost use Rattle.std.specs.Prelude.{◌≡◌, option_map};
 ghost use Rattle.std.specs.Char.{is_ascii_digit};
 ghost use Rattle.std.specs.List.{list_all};
-ghost use Rattle.krl_words.specs.Given.{given_by};
-ghost use Rattle.krl_words.specs.Job.{asked_of, authority_named, authority_of, fits, hash_called, hash_named, is_for_making, job_of, mode_of, version_called, version_named};
+ghost use Rattle.krl_job.specs.Given.{given_by};
+ghost use Rattle.krl_job.specs.Job.{asked_of, authority_named, authority_of, fits, hash_called, hash_named, is_for_making, job_of, mode_of, version_called, version_named};
 
 use crate::given::Given;
 use ssh_key::Hash;

@@ -1,8 +1,8 @@
 // The files that the command names.
 
+use krl_job::AuthorityName;
 use krl_make::Authority;
 use krl_runs::{Cause, FileFault, Named, RunFault, load};
-use krl_words::AuthorityName;
 use ssh_wire::FromRead;
 use std::fs::{self, File};
 use std::io::BufReader;

@@ -8,11 +8,12 @@ ghost use Rattle.krl_words.specs.Command.{command_fault_status};
 mod files;
 
 use crate::files::{open, open_authority, open_inputs, open_list, open_or_input};
+use krl_job::{Job, Mode};
 use krl_make::{Old, make_run};
 use krl_runs::{
     Cause, Done, FAILED, FileFault, ListMode, RunFault, fault_text, list_run, query_run,
 };
-use krl_words::{CommandFault, Job, Mode, command_of};
+use krl_words::{CommandFault, command_of};
 use ssh_wire::{FromRead, Source, ToWrite, send};
 use std::env;
 use std::fs::{self, File};

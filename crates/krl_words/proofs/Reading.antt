@@ -19,10 +19,11 @@ use Rattle.clap.proofs.OnLiterals.{clap_on_literals}
 use Rattle.clap.proofs.WalkLemmas.{first_value-rows, raw_values-rows}
 use Rattle.krl_words.specs.declared.command.CommandFault.{CommandFault}
 use Rattle.krl_words.specs.declared.command.CommandFault.TheVariants.{Usage, Words, NoMemory}
-use Rattle.krl_words.specs.declared.job.Job.{Job}
+use Rattle.krl_job.specs.declared.job.Job.{Job}
 use Rattle.krl_words.specs.Command.{AsksFor, IsCommand, TellsError}
-use Rattle.krl_words.specs.Job.{job_of}
-use Rattle.krl_words.specs.Options.{Given, given_in, given_of, is_set, program}
+use Rattle.krl_job.specs.Job.{job_of}
+use Rattle.krl_job.specs.Given.{Given}
+use Rattle.krl_words.specs.Options.{given_in, given_of, is_set, program}
 
 -- one more argument
 pub one_more : (old new : Command) (a : Arg) (app : App) (rule : Rule) → app_of old ≡ app → a.global ≡ false → rule_of a ≡ rule → AddsArg old a new → app_of new ≡ with_rule app rule

@@ -9,9 +9,10 @@ use Rattle.clap.specs.declared.error.kind.ErrorKind.{ErrorKind}
 use Rattle.clap.specs.declared.error.kind.ErrorKind.TheVariants.{DisplayHelp, DisplayVersion, OutOfMemory}
 use Rattle.krl_words.specs.declared.command.CommandFault.{CommandFault}
 use Rattle.krl_words.specs.declared.command.CommandFault.TheVariants.{Usage, Words, NoMemory}
-use Rattle.krl_words.specs.declared.job.Job.{Job}
-use Rattle.krl_words.specs.Job.{asked_of, job_of}
-use Rattle.krl_words.specs.Options.{Given, given_in, program}
+use Rattle.krl_job.specs.declared.job.Job.{Job}
+use Rattle.krl_job.specs.Job.{asked_of, job_of}
+use Rattle.krl_job.specs.Given.{Given}
+use Rattle.krl_words.specs.Options.{given_in, program}
 
 abbrev pub command_fault_number : CommandFault → ℕ
 command_fault_number Usage = 1

@@ -1,4 +1,2 @@
 pub mod Options
-pub mod Given
-pub mod Job
 pub mod Command

@@ -1,10 +1,11 @@
 -- The options that the program has (ssh-keygen(1), SYNOPSIS), and what words hold of them.
-use Rattle.std.specs.Prelude.{ℕ, Bool, false, List, [], ◌∷◌, ◌++◌, Option, Some, codes, unwrap_or}
+use Rattle.std.specs.Prelude.{ℕ, Bool, false, List, [], ◌∷◌, ◌++◌, Some, codes, unwrap_or}
 use Rattle.std.specs.Option.{option_map_or}
 use Rattle.std.specs.Str.{bytes_eq}
 use Rattle.clap.specs.Lexer.{usize_max}
 use Rattle.clap.specs.Simple.{App, matches_of, new_rule, new_shape, with_rule}
 use Rattle.clap.specs.Walk.{Row, Rule, all_of, first_of}
+use Rattle.krl_job.specs.Given.{Given}
 use Rattle.clap.specs.declared.builder.action.ArgAction.TheVariants.{Append, Set, SetTrue}
 
 -- an option without a value, by its letter
@@ -53,20 +54,6 @@ program = record {
   top = record (new_shape (codes "ssh-keygen")) { rules = modes ++ (names ++ terms) };
   subs = [];
 }
-
--- What words hold: which of the options without a value are given, the values of the others, and
--- the files.
-pub record Given : Type 0 where
-  pub list : Bool
-  pub certificates : Bool
-  pub make : Bool
-  pub query : Bool
-  pub update : Bool
-  pub file : Option (List ℕ)
-  pub hash : Option (List ℕ)
-  pub authority : Option (List ℕ)
-  pub version : Option (List ℕ)
-  pub files : List (List ℕ)
 
 abbrev pub is_set : List ℕ → List Row → Bool
 is_set id rows = option_map_or (λ text. bytes_eq text (codes "true")) (first_of id rows) false

@@ -8,10 +8,10 @@ ghost use Rattle.krl_words.specs.Options.{given_of};
 ghost use Rattle.krl_words.specs.declared.command.CommandFault.TheVariants.{NoMemory};
 
 use crate::given::given_in;
-use crate::job::{Job, job_of};
 use crate::options::program;
 use clap::error::ErrorKind;
 use clap::{ArgMatches, Error};
+use krl_job::{Job, job_of};
 use std::alloc::{AllocError, Global};
 use std::convert::AsStr;
 use thiserror::Error as ErrorText;

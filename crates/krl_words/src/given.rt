@@ -3,27 +3,12 @@
 ghost use Rattle.std.specs.Prelude.{◌≡◌, IfOk, codes, map, unwrap_or, []};
 ghost use Rattle.clap.specs.Matches.{found_of};
 ghost use Rattle.clap.specs.Walk.{all_of, rows_of};
-ghost use Rattle.krl_words.specs.Given.{given_by};
+ghost use Rattle.krl_job.specs.Given.{given_by};
 ghost use Rattle.krl_words.specs.Options.{given_of, is_set};
 
 use clap::ArgMatches;
+use krl_job::Given;
 use std::alloc::{AllocError, Global};
-
-/// What words hold: which of the options without a value are given, the values of the others, and
-/// the files.
-#[derive(Drop)]
-pub struct Given<'a> {
-    pub list: bool,
-    pub certificates: bool,
-    pub make: bool,
-    pub query: bool,
-    pub update: bool,
-    pub file: Option<&'a str>,
-    pub hash: Option<&'a str>,
-    pub authority: Option<&'a str>,
-    pub version: Option<&'a str>,
-    pub files: Vec<&'a str>,
-}
 
 /// What the words of these matches hold.
 pub fn given_in<'a>(alloc: Global, matches: &ArgMatches<'a>) -> Result<Given<'a>, AllocError>

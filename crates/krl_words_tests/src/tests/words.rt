@@ -1,6 +1,7 @@
 // The words of the command line.
 
-use krl_words::{AuthorityName, CommandFault, Job, Mode, command_of};
+use krl_job::{AuthorityName, Job, Mode};
+use krl_words::{CommandFault, command_of};
 use ssh_key::Hash;
 use std::alloc::{AllocError, Global};
 use std::test::Fail;

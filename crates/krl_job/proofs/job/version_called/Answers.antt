@@ -1,8 +1,8 @@
 -- The text is short and has digits alone, and its number is read, or not.
 use Rattle.std.proofs.Common.{◌∙◌, ◌≤◌, arith, length, sym}
-use Rattle.krl_words.proofs.Versions.{no_digits, not_parsed, some_version, too_long}
-use Rattle.krl_words.proofs.job.version_called.Goals as goal
-use Rattle.krl_words.proofs.job.version_called.Goals.{then-text-gt-MOST_DIGITS-via-then-text-gt-MOST_DIGITS, then-text-gt-MOST_DIGITS-via-else-text-gt-MOST_DIGITS+then-not-are_digits}
+use Rattle.krl_job.proofs.Versions.{no_digits, not_parsed, some_version, too_long}
+use Rattle.krl_job.proofs.job.version_called.Goals as goal
+use Rattle.krl_job.proofs.job.version_called.Goals.{then-text-gt-MOST_DIGITS-via-then-text-gt-MOST_DIGITS, then-text-gt-MOST_DIGITS-via-else-text-gt-MOST_DIGITS+then-not-are_digits}
 
 pub returns-then-text-gt-MOST_DIGITS : goal.returns-then-text-gt-MOST_DIGITS
 returns-then-text-gt-MOST_DIGITS c =

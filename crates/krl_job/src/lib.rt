@@ -1,0 +1,8 @@
+//! The job that options ask for, or that they ask for none (ssh-keygen(1), SYNOPSIS).
+#![tactic(auto)]
+
+mod given;
+mod job;
+
+pub use given::Given;
+pub use job::{AuthorityName, Job, Mode, job_of};
