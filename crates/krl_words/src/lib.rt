@@ -1,5 +1,4 @@
-//! The words of the command: what they hold of the options, or why they are not read (ssh-keygen(1),
-//! SYNOPSIS).
+//! The words of the command: what they ask for, or why they are not read (ssh-keygen(1), SYNOPSIS).
 #![tactic(auto)]
 
 mod command;
