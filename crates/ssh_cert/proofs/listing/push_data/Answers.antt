@@ -4,4 +4,4 @@ use Rattle.ssh_cert.proofs.listing.push_data.Goals as goal
 
 pub returns-then-has_text : goal.returns-then-has_text
 unfolding data_text
-returns-then-has_text c = search rules
+returns-then-has_text c = search rules steps 600000

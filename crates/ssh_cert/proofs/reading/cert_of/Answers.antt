@@ -4,4 +4,4 @@ use Rattle.ssh_cert.proofs.reading.cert_of.Goals as goal
 
 pub returns : goal.returns
 unfolding certificate_at
-returns c = search rules
+returns c = search rules steps 600000

@@ -1,0 +1,7 @@
+use Rattle.std.proofs.Common.{rules}
+use Rattle.ssh_cert.specs.CertReading.{field_at}
+use Rattle.ssh_cert.proofs.reading.principals_field.Goals as goal
+
+pub returns : goal.returns
+unfolding field_at
+returns c = search rules steps 1000000
