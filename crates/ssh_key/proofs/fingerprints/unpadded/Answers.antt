@@ -4,4 +4,4 @@ use Rattle.ssh_key.proofs.fingerprints.unpadded.Goals as goal
 
 pub returns : goal.returns
 unfolding unpadded
-returns c = search rules
+returns c = search rules steps 300000

@@ -4,4 +4,4 @@ use Rattle.ssh_key.proofs.key.key_of.Goals as goal
 
 pub returns : goal.returns
 unfolding key_at
-returns c = search rules
+returns c = search rules steps 1000000

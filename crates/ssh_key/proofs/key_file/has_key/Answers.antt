@@ -1,7 +1,8 @@
-use Rattle.std.proofs.Common.{ℕ, ◌-◌, ◌≤◌, List, length, ap, arith}
+use Rattle.std.proofs.Common.{ℕ, ◌-◌, ◌≤◌, List, length, ap, arith, rules}
 use Rattle.std.proofs.lemmas.List.{length-drop, length-take}
 use Rattle.std.specs.List.{prefix_len, suffix_len}
 use Rattle.ssh_key.specs.Blanks.{after_blanks, before_ending, is_blank, is_ending, trimmed}
+use Rattle.ssh_key.specs.KeyFile.{has_key}
 use Rattle.ssh_key.proofs.key_file.has_key.Goals as goal
 
 trimmed_within : (line : List ℕ) → length (trimmed line) ≤ length line
@@ -13,3 +14,7 @@ trimmed_within line =
 
 pub returns-in_default-clause-some : goal.returns-in_default-clause-some
 returns-in_default-clause-some c = λ _. omega (arith, ap length c.trimmed.ensures, trimmed_within c.args.line.now, c.in_default.len_at_least)
+
+pub returns-in_default-clause-value : goal.returns-in_default-clause-value
+unfolding has_key
+returns-in_default-clause-value c = search rules steps 300000

@@ -4,4 +4,4 @@ use Rattle.ssh_key.proofs.line.decoded.Goals as goal
 
 pub returns-clause-exact : goal.returns-clause-exact
 unfolding decoded
-returns-clause-exact c = search rules
+returns-clause-exact c = search rules steps 3000000

@@ -4,4 +4,4 @@ use Rattle.ssh_key.proofs.container.list.read_beginning.Goals as goal
 
 pub returns : goal.returns
 unfolding row_at
-returns c = search rules
+returns c = search rules steps 1000000
