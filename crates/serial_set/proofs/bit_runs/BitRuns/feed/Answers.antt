@@ -1,4 +1,5 @@
-use Rattle.std.proofs.Common.{◌+◌, ◌*◌, inl, inr}
+use Rattle.std.proofs.Common.{◌+◌, ◌*◌, inl, inr, arith}
+use Rattle.std.proofs.lemmas.Grind.{common_steps}
 use Rattle.serial_set.specs.Finished.{finished_of}
 use Rattle.serial_set.proofs.InByte.{step_positive, finished_runs}
 use Rattle.serial_set.proofs.bit_runs.BitRuns.feed.Goals as goal
@@ -11,3 +12,6 @@ returns-clause-runs c =
       | inl old ↦ step_positive (c.self.inside.offset + 8 * c.self.inside.due) c.self.inside.pending s c.self.invariant old
       | inr new ↦ new.0
     ])
+
+pub returns-clause-fed : goal.returns-clause-fed
+returns-clause-fed c = grind (arith, common_steps) steps 2000000
