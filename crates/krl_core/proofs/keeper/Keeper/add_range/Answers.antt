@@ -1,4 +1,4 @@
-use Rattle.std.proofs.Common.{[], ◌∷◌, arith}
+use Rattle.std.proofs.Common.{[], ◌∷◌, arith, rules}
 use Rattle.std.proofs.lemmas.Result.{on_ok_weaker}
 use Rattle.krl_core.specs.Entry.{RangeEntry}
 use Rattle.krl_core.proofs.Keeping.{adds_same, adds_to_zero, grows_one}
@@ -16,3 +16,6 @@ returns-clause-adds g c =
 
 pub returns-clause-grows : goal.returns-clause-grows
 returns-clause-grows g c = grows_one c.args.self.now c.add_span.new.self 1 c.add_span.ensures.held (omega arith) c.add_span.ensures.stored
+
+pub add_span-requires-clause-ordered : goal.add_span-requires-clause-ordered
+add_span-requires-clause-ordered g c = search rules steps 300000
