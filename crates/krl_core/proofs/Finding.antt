@@ -14,7 +14,7 @@ use Rattle.krl_core.specs.Text.{bytes_of}
 use Rattle.krl_core.specs.Contents.{Section, SomeSection}
 use Rattle.krl_core.specs.Pages.{joined, first_items, front_of}
 use Rattle.krl_core.specs.Shelf.{section_of, sections_of}
-use Rattle.krl_core.proofs.Members.{absent_below, absent_above, contains_here, contains_later}
+use Rattle.krl_core.proofs.Members.{absent_below, absent_above, contains_here, contains_later, contains_right}
 use Rattle.krl_core.proofs.Paged.{cut_at}
 use Rattle.krl_core.proofs.Spots.{first_back}
 use Rattle.krl_core.proofs.SomeSections.{some_to, some_at}
@@ -24,13 +24,18 @@ module _ {X : Type 0} (key : X → List ℕ) where
   above_at bytes [] x back a = a.0
   above_at bytes (y ∷ front) x back a = above_at bytes front x back a.1
 
-  front_below : (front : List X) (x : X) (back : List X) → RisesBy key (front ++ x ∷ back) → AllBelow key (key x) front
+  pub front_below : (front : List X) (x : X) (back : List X) → RisesBy key (front ++ x ∷ back) → AllBelow key (key x) front
   front_below [] x back r = tt
   front_below (y ∷ front) x back r = (above_at (key y) front x back r.0, front_below front x back r.1)
 
-  back_above : (front : List X) (x : X) (back : List X) → RisesBy key (front ++ x ∷ back) → AllAbove key (key x) back
+  pub back_above : (front : List X) (x : X) (back : List X) → RisesBy key (front ++ x ∷ back) → AllAbove key (key x) back
   back_above [] x back r = r.0
   back_above (y ∷ front) x back r = back_above front x back r.1
+
+  pub stands_contained : (xs : List X) (x : X) → Stands key xs x → Contains (map key xs) (key x)
+  stands_contained xs x s =
+      subst (λ l. Contains (map key l) (key x)) (sym s.parts)
+      (contains_right key (key x) s.front (x ∷ s.back) (contains_here (key x) (map key s.back)))
 
   pub stands_in : (pages : List (Page X)) (n at : ℕ) (x : X) → RisesBy key (joined pages) → at < length (first_items (drop n pages)) → x ≡ get_or (first_items (drop n pages)) at x → Stands key (joined pages) x
   stands_in pages n at x r h is =

@@ -32,6 +32,7 @@ pub mod Asking
 pub mod Entries
 pub mod Finding
 pub mod Grown
+pub mod InChapters
 pub mod Keys
 pub mod Mapped
 pub mod Members

@@ -1,8 +1,11 @@
 -- Rising lists seen by their bytes.
-use Rattle.std.proofs.Common.{◌≡◌, ℕ, List, [], ◌∷◌, ◌++◌, map, ap, subst, ◌∙◌}
+use Rattle.std.proofs.Common.{◌≡◌, ℕ, List, [], ◌∷◌, ◌++◌, map, ap, subst, ◌∙◌, inl, inr}
+use Rattle.std.specs.Prelude.{Option, Some, None}
+use Rattle.std.specs.List.{Contains}
 use Rattle.std.proofs.lemmas.List.{map-append}
 use Rattle.krl_core.specs.Rising.{AllBelow, AllAbove, RisesBy, Rises}
-use Rattle.krl_core.specs.Inserting.{Inserts}
+use Rattle.krl_core.specs.Changes.{Puts}
+use Rattle.krl_core.specs.Inserting.{Inserts, AddsNew}
 
 module _ {X : Type 0} (key : X → List ℕ) where
   below_mapped : (bytes : List ℕ) (xs : List X) → AllBelow key bytes xs → AllBelow (λ b. b) bytes (map key xs)
@@ -27,3 +30,7 @@ module _ {X : Type 0} (key : X → List ℕ) where
         below = subst (λ b. AllBelow (λ b. b) b (map key i.front)) same (below_mapped (key value) i.front i.below);
         above = subst (λ b. AllAbove (λ b. b) b (map key i.back)) same (above_mapped (key value) i.back i.above);
       }
+
+  pub puts_mapped : {A : Type 0} (place : Option A) (old : List X) (value : X) (new : List X) (bytes : List ℕ) → key value ≡ bytes → AddsNew key place old value new → Puts (map key old) bytes (map key new)
+  puts_mapped (Some p) old value new bytes same added = inr (inserts_mapped old value new bytes same added)
+  puts_mapped None old value new bytes same there = inl (ap (map key) there.0, subst (Contains (map key old)) same there.1)

@@ -8,10 +8,10 @@ use Rattle.std.proofs.lemmas.Bool.{false≢true}
 use Rattle.std.proofs.lemmas.Cmp.{nat_list_cmp_total, tied_itself}
 use Rattle.std.proofs.lemmas.Map.Lookups.{exact_bytes}
 use Rattle.std.proofs.lemmas.List.{map-append}
-use Rattle.std.proofs.lemmas.List.Elements.{Contains-append_right, Contains-append_cases}
+use Rattle.std.proofs.lemmas.List.Elements.{Contains-append_left, Contains-append_right, Contains-append_cases}
 use Rattle.krl_core.specs.Rising.{bytes_cmp, AllBelow, AllAbove, NoneBelow, RisesBy}
 use Rattle.krl_core.specs.Inserting.{Inserts}
-use Rattle.krl_core.proofs.Orders.{AllAbove-earlier}
+use Rattle.krl_core.proofs.Orders.{before_trans, AllAbove-earlier}
 use Rattle.krl_core.proofs.Paged.{rises_insert}
 
 -- ---- the order of two byte strings
@@ -28,6 +28,12 @@ after_from a b Greater e h apart = nat_list_cmp_total.antisymm b a ∙ ap orderi
 -- what does not come before some bytes and is not these comes after them
 pub comes_after : (a b : List ℕ) → is_lt (bytes_cmp a b) ≡ false → (a ≡ b → ⊥) → bytes_cmp b a ≡ Less
 comes_after a b h apart = after_from a b (bytes_cmp a b) refl h apart
+
+-- what comes after some bytes comes after all that these do not come before
+less_upto : (a b c : List ℕ) (o : Ordering) → bytes_cmp a b ≡ o → is_lt o ≡ false → bytes_cmp a c ≡ Less → bytes_cmp b c ≡ Less
+less_upto a b c Less e h less = absurd (false≢true (sym h))
+less_upto a b c Equal e h less = subst (λ x. bytes_cmp x c ≡ Less) (exact_bytes a b e) less
+less_upto a b c Greater e h less = before_trans b a c (nat_list_cmp_total.antisymm b a ∙ ap ordering_reverse e) less
 
 -- ---- members
 
@@ -67,6 +73,10 @@ module _ {X : Type 0} (key : X → List ℕ) where
       let after = comes_after (key x) bytes h apart in
       (after, AllAbove-earlier key bytes (key x) xs after r.0)
 
+  pub above_upto : (a bytes : List ℕ) (xs : List X) → is_lt (bytes_cmp a bytes) ≡ false → AllAbove key a xs → AllAbove key bytes xs
+  above_upto a bytes [] h r = tt
+  above_upto a bytes (x ∷ xs) h r = (less_upto a bytes (key x) (bytes_cmp a bytes) refl h r.0, above_upto a bytes xs h r.1)
+
   pub above_absent : (bytes : List ℕ) (xs : List X) → RisesBy key xs → NoneBelow key bytes xs → (Contains (map key xs) bytes → ⊥) → AllAbove key bytes xs
   above_absent bytes [] r b apart = tt
   above_absent bytes (x ∷ xs) r b apart =
@@ -74,6 +84,9 @@ module _ {X : Type 0} (key : X → List ℕ) where
 
   pub contains_right : (bytes : List ℕ) (xs ys : List X) → Contains (map key ys) bytes → Contains (map key (xs ++ ys)) bytes
   contains_right bytes xs ys m = subst (λ l. Contains l bytes) (sym (map-append key xs ys)) (Contains-append_right (map key xs) (map key ys) bytes m)
+
+  pub contains_left : (bytes : List ℕ) (xs ys : List X) → Contains (map key xs) bytes → Contains (map key (xs ++ ys)) bytes
+  contains_left bytes xs ys m = subst (λ l. Contains l bytes) (sym (map-append key xs ys)) (Contains-append_left (map key xs) (map key ys) bytes m)
 
   pub absent_parts : (bytes : List ℕ) (xs ys : List X) → AllBelow key bytes xs → AllAbove key bytes ys → Contains (map key (xs ++ ys)) bytes → ⊥
   absent_parts bytes xs ys b a m =

@@ -111,7 +111,7 @@ module _ {X : Type 0} (key : X → List ℕ) where
       (pages_before bytes pages n (rises_right page.items.items (joined pages) r) b.1)
 
   -- the page at the spot ends at the bytes or after them
-  reaches : (bytes : List ℕ) (pages : List (Page X)) (n : ℕ) → n < length pages → NoneBelow (λ page. last_key key page.items.items) bytes (drop n pages) → (0 < length (first_items (drop n pages))) × (is_lt (bytes_cmp (last_key key (first_items (drop n pages))) bytes) ≡ false)
+  pub reaches : (bytes : List ℕ) (pages : List (Page X)) (n : ℕ) → n < length pages → NoneBelow (λ page. last_key key page.items.items) bytes (drop n pages) → (0 < length (first_items (drop n pages))) × (is_lt (bytes_cmp (last_key key (first_items (drop n pages))) bytes) ≡ false)
   reaches bytes [] n h b = absurd (omega arith)
   reaches bytes (page ∷ pages) zero h b = (page.filled, b.0)
   reaches bytes (page ∷ pages) (suc n) h b = reaches bytes pages n (omega arith) b

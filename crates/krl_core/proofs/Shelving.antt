@@ -13,11 +13,13 @@ use Rattle.krl_core.specs.Rising.{bytes_cmp, AllBelow, AllAbove, RisesBy}
 use Rattle.krl_core.specs.Inserting.{Inserts}
 use Rattle.krl_core.specs.Changes.{Takes, ChangesOne}
 use Rattle.krl_core.specs.Contents.{Section}
-use Rattle.krl_core.specs.Shelf.{section_of, sections_of, AddsAt}
+use Rattle.krl_core.specs.Shelf.{section_of, sections_of, AddsAt, AddsUnder}
+use Rattle.krl_core.specs.Chapters.{values, pages_at}
 use Rattle.krl_core.specs.Pages.{joined, first_items, front_of, StandsAt}
 use Rattle.krl_core.proofs.Paged.{cut_at}
 use Rattle.krl_core.proofs.Spots.{first_back}
 use Rattle.krl_core.proofs.Grown.{joined-set}
+use Rattle.krl_core.proofs.InChapters.{chapter_parts, values-set, around}
 
 -- ---- sections
 
@@ -114,7 +116,7 @@ module _ {S : Type 0} (spans : S → List Span) where
   -- the shelf at a spot of the pages takes the addition
   pub adds_joined : (pages : List (Page (Shelf S))) (n at : ℕ) (page : Page (Shelf S)) (addition : Addition) (result : Result (Unit {0}) AllocError) (authority : List ℕ) → n < length pages → at < length (first_items (drop n pages)) → AddsAt spans addition result at (first_items (drop n pages)) page.items.items
       → StandsAt (λ shelf. shelf.authority.items) pages authority n at
-      → MatchResult result (λ _. ChangesOne (Takes addition) authority (sections_of spans (joined pages)) (sections_of spans (joined (set pages n page)))) (λ _. sections_of spans (joined (set pages n page)) ≡ sections_of spans (joined pages))
+      → AddsUnder spans addition result authority (joined pages) (joined (set pages n page))
   adds_joined pages n at page addition result authority h within adds stands =
       let key : Shelf S → List ℕ = λ shelf. shelf.authority.items in
       let items = first_items (drop n pages) in
@@ -133,6 +135,38 @@ module _ {S : Type 0} (spans : S → List Span) where
       let new : sections_of spans (joined (set pages n page)) ≡ sections_of spans front ++ section_of spans to ∷ sections_of spans back = ap (sections_of spans) after ∙ parts front to back in
       by_result addition result authority (sections_of spans (joined pages)) (sections_of spans (joined (set pages n page)))
       (sections_of spans front) (section_of spans from) (section_of spans to) (sections_of spans back) old new (stands.same to) adds.changed
+
+  three : (front middle back : List (Shelf S)) → sections_of spans (front ++ (middle ++ back)) ≡ sections_of spans front ++ (sections_of spans middle ++ sections_of spans back)
+  three front middle back =
+      map-append (section_of spans) front (middle ++ back) ∙ ap (λ l. sections_of spans front ++ l) (map-append (section_of spans) middle back)
+
+  in_parts : (chapters : List (Page (Page (Shelf S)))) (n : ℕ) → sections_of spans (values chapters) ≡ sections_of spans (values (take n chapters)) ++ (sections_of spans (joined (pages_at chapters n)) ++ sections_of spans (values (drop (n + 1) chapters)))
+  in_parts chapters n =
+      ap (sections_of spans) (chapter_parts (λ shelf. shelf.authority.items) chapters n) ∙ three (values (take n chapters)) (joined (pages_at chapters n)) (values (drop (n + 1) chapters))
+
+  in_parts_set : (chapters : List (Page (Page (Shelf S)))) (n : ℕ) (chapter : Page (Page (Shelf S))) → n < length chapters → sections_of spans (values (set chapters n chapter)) ≡ sections_of spans (values (take n chapters)) ++ (sections_of spans (joined chapter.items.items) ++ sections_of spans (values (drop (n + 1) chapters)))
+  in_parts_set chapters n chapter h =
+      ap (sections_of spans) (values-set (λ shelf. shelf.authority.items) chapters n chapter h) ∙ three (values (take n chapters)) (joined chapter.items.items) (values (drop (n + 1) chapters))
+
+  -- the shelf at a bookmark takes the addition, where it does in its chapter
+  pub adds_in_all : (chapters : List (Page (Page (Shelf S)))) (n : ℕ) (chapter : Page (Page (Shelf S))) (addition : Addition) (result : Result (Unit {0}) AllocError) (authority : List ℕ) → n < length chapters
+      → AddsUnder spans addition result authority (joined (pages_at chapters n)) (joined chapter.items.items)
+      → AddsUnder spans addition result authority (values chapters) (values (set chapters n chapter))
+  adds_in_all chapters n chapter addition (Ok x) authority h change =
+      let front = sections_of spans (values (take n chapters)) in
+      let back = sections_of spans (values (drop (n + 1) chapters)) in
+      record {
+        front = front ++ change.front;
+        back = change.back ++ back;
+        from = change.from;
+        to = change.to;
+        before = in_parts chapters n ∙ ap (λ l. front ++ (l ++ back)) change.before ∙ around front change.front change.from change.back back;
+        after = in_parts_set chapters n chapter h ∙ ap (λ l. front ++ (l ++ back)) change.after ∙ around front change.front change.to change.back back;
+        under = change.under;
+        changed = change.changed;
+      }
+  adds_in_all chapters n chapter addition (Err e) authority h same =
+      in_parts_set chapters n chapter h ∙ ap (λ l. sections_of spans (values (take n chapters)) ++ (l ++ sections_of spans (values (drop (n + 1) chapters)))) same ∙ sym (in_parts chapters n)
 
 pub on_err_of : {T E P : Type 0} (r : Result T E) → P → OnErr r P
 on_err_of (Ok x) p = tt

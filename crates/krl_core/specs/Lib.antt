@@ -1,6 +1,7 @@
 pub mod Asked
 pub mod Authority
 pub mod Changes
+pub mod Chapters
 pub mod Contents
 pub mod Entry
 pub mod KrlFault

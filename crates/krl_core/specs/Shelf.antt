@@ -5,7 +5,7 @@ use Rattle.std.specs.declared.alloc.AllocError.{AllocError}
 use Rattle.serial_set.specs.declared.span.Span.{Span}
 use Rattle.krl_core.specs.declared.addition.Addition.{Addition}
 use Rattle.krl_core.specs.declared.shelf.Shelf.{Shelf}
-use Rattle.krl_core.specs.Changes.{Takes}
+use Rattle.krl_core.specs.Changes.{Takes, ChangesOne}
 use Rattle.krl_core.specs.Contents.{Section}
 use Rattle.krl_core.specs.Text.{bytes_of}
 
@@ -29,3 +29,10 @@ module _ {S : Type 0} (spans : S → List Span) where
     pub changed : MatchResult result
         (λ _. Takes addition (section_of (slice_index_or old at to)) (section_of to))
         (λ _. section_of to ≡ section_of (slice_index_or old at to))
+
+  -- what is held under one authority takes the addition, or it was refused and nothing changed
+  abbrev pub AddsUnder : Addition → Result (Unit {0}) AllocError → (authority : List ℕ)
+      → (old new : List (Shelf S)) → Type 0
+  AddsUnder addition result authority old new = MatchResult result
+      (λ _. ChangesOne (Takes addition) authority (sections_of old) (sections_of new))
+      (λ _. sections_of new ≡ sections_of old)

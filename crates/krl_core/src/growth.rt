@@ -8,13 +8,13 @@ use crate::spot::Spot;
 use std::alloc::{AllocError, Global};
 
 impl<T> Page<T> {
-    // A page of one value.
-    fn single(alloc: Global, value: T) -> Result<Page<T>, AllocError>
+    /// A page of one value, which takes the place of one.
+    pub(crate) fn single(alloc: Global, value: T) -> Result<Page<T>, AllocError>
     where
         T: Drop,
         ensures { IfOk result (λ page. page.items.items ≡ value ∷ []) }
     {
-        let mut items = Vec::new(alloc);
+        let mut items = Vec::with_capacity(alloc, 1)?;
         items.push(value)?;
         Ok(Page { items })
     }

@@ -2,6 +2,8 @@
 #![tactic(auto)]
 
 mod addition;
+mod bookmark;
+mod chapter;
 mod due;
 mod field;
 mod getters;
@@ -14,6 +16,7 @@ mod krl_fault;
 pub mod laws;
 mod listed;
 mod page;
+mod pages;
 mod part;
 mod place;
 mod query;

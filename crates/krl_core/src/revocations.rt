@@ -5,10 +5,10 @@ ghost use Rattle.krl_core.specs.Contents.{IsNamed, Means, nothing, held, stored}
 ghost use Rattle.krl_core.specs.Entry.{Entry, RangeEntry, IdEntry, KeyEntry, Sha1Entry, Sha256Entry};
 
 use crate::addition::Addition;
+use crate::bookmark::Bookmark;
 use crate::rows::Rows;
 use crate::shelf::Shelf;
 use crate::shelves::add_under;
-use crate::spot::Spot;
 use crate::text::Text;
 use crate::texts::{add_hash, add_text};
 use serial_set::Spans;
@@ -23,7 +23,7 @@ pub struct Revocations<S: Spans> {
     alloc: Global,
     pub(crate) shelves: Rows<Shelf<S>>,
     // where the last addition under an authority was made
-    recent: Spot,
+    recent: Bookmark,
     pub(crate) keys: Rows<Text>,
     pub(crate) sha1s: Rows<[u8; 20]>,
     pub(crate) sha256s: Rows<[u8; 32]>,
@@ -53,7 +53,7 @@ impl<S: Spans> Revocations<S> {
         Revocations {
             alloc,
             shelves: Rows::new(alloc),
-            recent: Spot { page: 0, at: 0 },
+            recent: Bookmark::FIRST,
             keys: Rows::new(alloc),
             sha1s: Rows::new(alloc),
             sha256s: Rows::new(alloc),

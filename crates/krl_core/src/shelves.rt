@@ -1,14 +1,17 @@
 // The shelves of all authorities.
-ghost use Rattle.std.specs.Prelude.{◌≡◌, ◌<◌, ℕ, List, length, map, drop, Contains, IsSome, IsNone, MatchResult, IfOk, OnOk, OnErr};
+ghost use Rattle.std.specs.Prelude.{◌≡◌, ◌<◌, ℕ, List, length, map, drop, Contains, IsSome, IsNone, IfOk, OnOk, OnErr};
+ghost use Rattle.krl_core.specs.Chapters.{values, pages_at, IsMarked};
 ghost use Rattle.krl_core.specs.Changes.{Takes, IsSound, ChangesOne, AddsTo};
-ghost use Rattle.krl_core.specs.Shelf.{sections_of, AddsAt};
+ghost use Rattle.krl_core.specs.Shelf.{sections_of, AddsAt, AddsUnder};
 ghost use Rattle.krl_core.specs.Pages.{joined, first_items, StandsAt};
 
 use crate::addition::Addition;
+use crate::bookmark::{Bookmark, found_mark};
+use crate::chapter::Chapter;
 use crate::page::Page;
 use crate::rows::Rows;
 use crate::shelf::Shelf;
-use crate::spot::{Spot, found_spot};
+use crate::spot::Spot;
 use serial_set::Spans;
 use std::alloc::{AllocError, Global};
 
@@ -32,16 +35,52 @@ fn add_at<S: Spans>(
     requires page { spot.page < length pages.old.items }
     requires within { spot.at < length (first_items (drop spot.page pages.old.items)) }
     requires sound { IsSound addition }
-    ensures { (authority : List ℕ)
+    ensures changed { (authority : List ℕ)
         → StandsAt (λ shelf. shelf.authority.items) pages.old.items authority spot.page spot.at
-        → MatchResult result
-        (λ _. ChangesOne (Takes addition.entry) authority
-        (sections_of S.spans (joined pages.old.items))
-        (sections_of S.spans (joined pages.new.items)))
-        (λ _. sections_of S.spans (joined pages.new.items)
-        ≡ sections_of S.spans (joined pages.old.items)) }
+        → AddsUnder S.spans addition.entry result authority
+        (joined pages.old.items) (joined pages.new.items) }
+    ensures len { length pages.new.items ≡ length pages.old.items }
 {
     pages[spot.page].add(alloc, spot.at, addition)
+}
+
+impl<S: Spans> Page<Page<Shelf<S>>> {
+    fn add_to_shelf(
+        &mut self,
+        alloc: Global,
+        spot: Spot,
+        addition: Addition<'_>,
+    ) -> Result<(), AllocError>
+        requires page { spot.page < length self.old.items.items }
+        requires within { spot.at < length (first_items (drop spot.page self.old.items.items)) }
+        requires sound { IsSound addition }
+        ensures { (authority : List ℕ)
+            → StandsAt (λ shelf. shelf.authority.items) self.old.items.items authority
+            spot.page spot.at
+            → AddsUnder S.spans addition.entry result authority
+            (joined self.old.items.items) (joined self.new.items.items) }
+    {
+        add_at(alloc, &mut self.items, spot, addition)
+    }
+}
+
+fn add_marked<S: Spans>(
+    alloc: Global,
+    chapters: &mut Vec<Chapter<Shelf<S>>>,
+    mark: Bookmark,
+    addition: Addition<'_>,
+) -> Result<(), AllocError>
+    requires chapter { mark.chapter < length chapters.old.items }
+    requires page { mark.spot.page < length (pages_at chapters.old.items mark.chapter) }
+    requires within { mark.spot.at < length
+        (first_items (drop mark.spot.page (pages_at chapters.old.items mark.chapter))) }
+    requires sound { IsSound addition }
+    ensures { (authority : List ℕ)
+        → IsMarked (λ shelf. shelf.authority.items) chapters.old.items authority mark
+        → AddsUnder S.spans addition.entry result authority
+        (values chapters.old.items) (values chapters.new.items) }
+{
+    chapters[mark.chapter].add_to_shelf(alloc, mark.spot, addition)
 }
 
 impl<S: Spans> Rows<Shelf<S>> {
@@ -50,25 +89,25 @@ impl<S: Spans> Rows<Shelf<S>> {
     pub(crate) fn add(
         &mut self,
         alloc: Global,
-        recent: Spot,
+        recent: Bookmark,
         authority: &[u8],
         addition: Addition<'_>,
-    ) -> Result<Option<Spot>, AllocError>
+    ) -> Result<Option<Bookmark>, AllocError>
         requires { IsSound addition }
-        ensures found { IfOk result (λ spot. IsSome spot
+        ensures found { IfOk result (λ mark. IsSome mark
             → ChangesOne (Takes addition.entry) authority.now
             (sections_of S.spans self.old) (sections_of S.spans self.new)) }
-        ensures absent { IfOk result (λ spot. IsNone spot → ¬ Contains
+        ensures absent { IfOk result (λ mark. IsNone mark → ¬ Contains
             (map (λ shelf. shelf.authority.items) self.old) authority.now) }
-        ensures none { IfOk result (λ spot. IsNone spot → self.new ≡ self.old) }
+        ensures none { IfOk result (λ mark. IsNone mark → self.new ≡ self.old) }
         ensures err { OnErr result
             (sections_of S.spans self.new ≡ sections_of S.spans self.old) }
     {
-        let Some(spot) = found_spot(&self.pages, recent, authority) else {
+        let Some(mark) = found_mark(&self.chapters, recent, authority) else {
             return Ok(None);
         };
-        add_at(alloc, &mut self.pages, spot, addition)?;
-        Ok(Some(spot))
+        add_marked(alloc, &mut self.chapters, mark, addition)?;
+        Ok(Some(mark))
     }
 }
 
@@ -76,7 +115,7 @@ impl<S: Spans> Rows<Shelf<S>> {
 pub(crate) fn add_under<S: Spans>(
     alloc: Global,
     shelves: &mut Rows<Shelf<S>>,
-    recent: &mut Spot,
+    recent: &mut Bookmark,
     authority: &[u8],
     addition: Addition<'_>,
 ) -> Result<(), AllocError>
@@ -86,11 +125,13 @@ pub(crate) fn add_under<S: Spans>(
     ensures err { OnErr result (sections_of S.spans shelves.new
         ≡ sections_of S.spans shelves.old) }
 {
-    let Some(spot) = shelves.add(alloc, *recent, authority, addition)? else {
+    let Some(mark) = shelves.add(alloc, *recent, authority, addition)? else {
         let shelf = Shelf::with(alloc, authority, addition)?;
-        *recent = shelves.insert(alloc, shelf)?;
+        if let Some(mark) = shelves.add_new(alloc, shelf)? {
+            *recent = mark;
+        }
         return Ok(());
     };
-    *recent = spot;
+    *recent = mark;
     Ok(())
 }

@@ -41,16 +41,13 @@ pub(crate) fn stands_at<T: Keyed>(pages: &[Page<T>], spot: Spot, bytes: &[u8]) -
     matches!(compare(items[spot.at].key(), bytes), Ordering::Equal)
 }
 
-// The spot of the value with the bytes, which is tried first where the last one was.
-pub(crate) fn found_spot<T: Keyed>(pages: &[Page<T>], recent: Spot, bytes: &[u8]) -> Option<Spot>
+// The spot of the value with the bytes.
+pub(crate) fn found_spot<T: Keyed>(pages: &[Page<T>], bytes: &[u8]) -> Option<Spot>
     requires { RisesBy T.key (joined pages.now) }
     ensures found { IfSome result (λ spot.
         StandsAt T.key pages.now bytes.now spot.page spot.at) }
     ensures absent { IfNone result (¬ Contains (map T.key (joined pages.now)) bytes.now) }
 {
-    if stands_at(pages, recent, bytes) {
-        return Some(recent);
-    }
     let spot = spot_of(pages, bytes);
     if stands_at(pages, spot, bytes) {
         return Some(spot);

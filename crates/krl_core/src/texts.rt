@@ -16,7 +16,8 @@ pub(crate) fn add_text(
     ensures ok { OnOk result (Puts (map bytes_of texts.old) bytes.now (map bytes_of texts.new)) }
     ensures err { OnErr result (texts.new ≡ texts.old) }
 {
-    texts.add_new(alloc, Text::new(alloc, bytes)?)
+    texts.add_new(alloc, Text::new(alloc, bytes)?)?;
+    Ok(())
 }
 
 // Adds a hash, if it is not there.
@@ -28,5 +29,6 @@ pub(crate) fn add_hash<const N: usize>(
     ensures ok { OnOk result (Puts hashes.old hash.now hashes.new) }
     ensures err { OnErr result (hashes.new ≡ hashes.old) }
 {
-    hashes.add_new(alloc, *hash)
+    hashes.add_new(alloc, *hash)?;
+    Ok(())
 }

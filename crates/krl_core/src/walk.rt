@@ -1,16 +1,63 @@
 // A walk over values in order, in linear time.
 ghost use Rattle.std.specs.Prelude.{◌≡◌, ◌∷◌, [], List, map, MatchOption};
 
+use crate::chapter::Chapter;
 use crate::keyed::Keyed;
 use crate::page::Page;
 use crate::rows::Rows;
 use std::marker::Model;
 
+/// The pages that a walk over chapters has left. Contracts see it as their list.
+#[derive(Drop)]
+pub(crate) struct PageWalk<'a, T: Keyed> {
+    pages: &'a [Page<T>],
+    chapters: &'a [Chapter<T>],
+}
+
+impl<'a, T: Keyed> Model for PageWalk<'a, T> {
+    ghost use Rattle.std.specs.Prelude.{List, ◌++◌};
+    ghost use Rattle.krl_core.specs.declared.page.Page.{Page};
+    ghost use Rattle.krl_core.specs.Pages.{joined};
+
+    ghost Value = { List (Page T) };
+
+    ghost view = { λ walk. walk.pages.now ++ joined walk.chapters.now };
+}
+
+impl<'a, T: Keyed> PageWalk<'a, T> {
+    ghost use Rattle.krl_core.specs.Pages.{joined};
+
+    pub(crate) fn over(chapters: &'a [Chapter<T>]) -> PageWalk<'a, T>
+        ensures { result ≡ joined chapters.now }
+    {
+        PageWalk {
+            pages: &[],
+            chapters,
+        }
+    }
+
+    /// The first of the pages that are left, if there is one.
+    pub(crate) fn next(&mut self) -> Option<&'a Page<T>>
+        ensures { MatchOption result ((self.old ≡ []) × (self.new ≡ []))
+            (λ page. self.old ≡ page.now ∷ self.new) }
+    {
+        if let Some((first, rest)) = self.pages.split_first() {
+            self.pages = rest;
+            return Some(first);
+        }
+        let (chapter, chapters) = self.chapters.split_first()?;
+        let (first, rest) = chapter.items.as_slice().split_first()?;
+        self.chapters = chapters;
+        self.pages = rest;
+        Some(first)
+    }
+}
+
 /// The values that a walk has left. Contracts see it as their list.
 #[derive(Drop)]
 pub(crate) struct Walk<'a, T: Keyed> {
     items: &'a [T],
-    pages: &'a [Page<T>],
+    pages: PageWalk<'a, T>,
 }
 
 impl<'a, T: Keyed> Model for Walk<'a, T> {
@@ -19,7 +66,7 @@ impl<'a, T: Keyed> Model for Walk<'a, T> {
 
     ghost Value = { List T };
 
-    ghost view = { λ walk. walk.items.now ++ joined walk.pages.now };
+    ghost view = { λ walk. walk.items.now ++ joined walk.pages };
 }
 
 impl<'a, T: Keyed> Walk<'a, T> {
@@ -28,7 +75,7 @@ impl<'a, T: Keyed> Walk<'a, T> {
     {
         Walk {
             items: &[],
-            pages: rows.pages.as_slice(),
+            pages: PageWalk::over(rows.chapters.as_slice()),
         }
     }
 
@@ -41,9 +88,8 @@ impl<'a, T: Keyed> Walk<'a, T> {
             self.items = rest;
             return Some(first);
         }
-        let (page, pages) = self.pages.split_first()?;
+        let page = self.pages.next()?;
         let (first, rest) = page.items.as_slice().split_first()?;
-        self.pages = pages;
         self.items = rest;
         Some(first)
     }

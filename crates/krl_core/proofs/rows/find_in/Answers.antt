@@ -1,24 +1,36 @@
-use Rattle.std.proofs.Common.{◌≡◌, get_or, drop, sym, ap, ◌∙◌}
-use Rattle.std.proofs.lemmas.Bool.{false≢true}
-use Rattle.krl_core.specs.Pages.{first_items}
-use Rattle.krl_core.proofs.Finding.{stands_in}
+use Rattle.std.proofs.Common.{◌≡◌, map, sym, subst, ◌∙◌}
+use Rattle.std.specs.List.{Contains}
+use Rattle.std.proofs.lemmas.Option.{IfSome_then}
+use Rattle.krl_core.specs.Asked.{Stands}
+use Rattle.krl_core.specs.Chapters.{pages_at}
+use Rattle.krl_core.specs.Pages.{joined}
+use Rattle.krl_core.specs.Rising.{RisesBy}
 use Rattle.krl_core.proofs.Paged.{first_at}
-use Rattle.krl_core.proofs.Spots.{absent_unless}
+use Rattle.krl_core.proofs.InChapters.{rises_at, absent_in, stands_in_all, if_none_then}
 use Rattle.krl_core.proofs.rows.find_in.Goals as goal
 
-pub returns-then-not-stands_at-clause-absent : goal.returns-then-not-stands_at-clause-absent
-returns-then-not-stands_at-clause-absent g c m =
-    let spot = c.spot_of-spot.result in
-    absent_unless g.T.Keyed.key c.args.pages.now c.args.bytes.now spot.page spot.at c.requires c.spot_of-spot.ensures
-    (λ stands. false≢true (sym c.if-not-stands_at.true ∙ c.stands_at.ensures.1 stands)) m
+pub find_in_pages-requires : goal.find_in_pages-requires
+find_in_pages-requires g c =
+    let chapters = c.args.chapters.now in
+    let n = c.chapter_of-chapter.result in
+    let pages : c.as_slice.result.now ≡ pages_at chapters n = c.as_slice.ensures.value ∙ sym (first_at chapters n c.index-chapters-chapter.result c.chapter_of-chapter.ensures.within) in
+    subst (λ l. RisesBy g.T.Keyed.key (joined l)) (sym pages) (rises_at g.T.Keyed.key chapters n c.requires)
 
 pub returns-clause-stands : goal.returns-clause-stands
 returns-clause-stands g c =
-    let pages = c.args.pages.now in
-    let n = c.spot_of-spot.result.page in
-    let at = c.spot_of-spot.result.at in
-    let x = c.index-items-spot.result in
-    let stands = c.stands_at.ensures.0 c.if-not-stands_at.false in
-    let items : c.as_slice-items.result.now ≡ first_items (drop n pages) = c.as_slice-items.ensures.value ∙ sym (first_at pages n c.index-pages-spot.result stands.page_within) in
-    let is : x ≡ get_or (first_items (drop n pages)) at x = c.index-items-spot.is ∙ ap (λ l. get_or l at x) items in
-    stands_in g.T.Keyed.key pages n at x c.requires stands.within is
+    let key = g.T.Keyed.key in
+    let chapters = c.args.chapters.now in
+    let n = c.chapter_of-chapter.result in
+    let pages : c.as_slice.result.now ≡ pages_at chapters n = c.as_slice.ensures.value ∙ sym (first_at chapters n c.index-chapters-chapter.result c.chapter_of-chapter.ensures.within) in
+    IfSome_then c.find_in_pages.result c.find_in_pages.ensures.stands
+    (λ x stands. stands_in_all key chapters n x.now c.requires (subst (λ l. Stands key (joined l) x.now) pages stands))
+
+pub returns-clause-absent : goal.returns-clause-absent
+returns-clause-absent g c =
+    let key = g.T.Keyed.key in
+    let chapters = c.args.chapters.now in
+    let bytes = c.args.bytes.now in
+    let n = c.chapter_of-chapter.result in
+    let pages : c.as_slice.result.now ≡ pages_at chapters n = c.as_slice.ensures.value ∙ sym (first_at chapters n c.index-chapters-chapter.result c.chapter_of-chapter.ensures.within) in
+    if_none_then c.find_in_pages.result c.find_in_pages.ensures.absent
+    (λ absent. absent_in key chapters bytes n c.chapter_of-chapter.ensures (subst (λ l. Contains (map key (joined l)) bytes → ⊥) pages absent))

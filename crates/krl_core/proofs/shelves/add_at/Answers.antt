@@ -5,8 +5,8 @@ use Rattle.krl_core.proofs.Paged.{first_at}
 use Rattle.krl_core.proofs.Shelving.{adds_joined}
 use Rattle.krl_core.proofs.shelves.add_at.Goals as goal
 
-pub returns : goal.returns
-returns g c authority stands =
+pub returns-clause-changed : goal.returns-clause-changed
+returns-clause-changed g c authority stands =
     let spans = g.S.Spans.spans in
     let pages = c.args.pages.now.items in
     let n = c.args.spot.page in

@@ -5,7 +5,7 @@ use Rattle.krl_core.specs.Rising.{RisesBy}
 use Rattle.krl_core.specs.Inserting.{Inserts}
 use Rattle.krl_core.specs.Pages.{joined, IsSpot}
 use Rattle.krl_core.proofs.Spots.{inserts_at}
-use Rattle.krl_core.proofs.rows.insert_near.Goals as goal
+use Rattle.krl_core.proofs.pages.insert_near.Goals as goal
 
 pub returns-clause-ok : goal.returns-clause-ok
 returns-clause-ok g c =

@@ -1,16 +1,16 @@
-use Rattle.std.proofs.Common.{map, sym, subst, ◌∙◌}
+use Rattle.std.proofs.Common.{map, refl, sym, subst, ◌∙◌}
 use Rattle.std.specs.List.{Contains}
 use Rattle.std.proofs.lemmas.Bool.{false≢true}
 use Rattle.krl_core.specs.Pages.{joined, IsSpot, StandsAt}
 use Rattle.krl_core.proofs.Spots.{absent_unless, found_standing}
-use Rattle.krl_core.proofs.rows.add_into.Goals as goal
+use Rattle.krl_core.proofs.pages.add_to_pages.Goals as goal
 
-pub returns-then-stands_at-clause-there : goal.returns-then-stands_at-clause-there
-returns-then-stands_at-clause-there g c _ =
+pub returns-then-stands_at-clause-ok : goal.returns-then-stands_at-clause-ok
+returns-then-stands_at-clause-ok g c =
     let key = g.T.Keyed.key in
     let spot = c.spot_of-spot.result in
     let there = found_standing key c.deref-2.result.now c.key-2.result.now spot.page spot.at (c.stands_at.ensures.0 c.if-stands_at.true) in
-    subst (λ l. Contains (map key (joined l)) (key c.args.value)) c.deref-2.ensures.value (subst (Contains (map key (joined c.deref-2.result.now))) c.key-2.ensures there)
+    (refl, subst (λ l. Contains (map key (joined l)) (key c.args.value)) c.deref-2.ensures.value (subst (Contains (map key (joined c.deref-2.result.now))) c.key-2.ensures there))
 
 pub insert_near-requires-clause-absent : goal.insert_near-requires-clause-absent
 insert_near-requires-clause-absent g c there =
