@@ -1,11 +1,10 @@
 // A certificate of each kind of key.
 
-use crate::tests::parts::{Part, changed, has_fault, is_asked, strings};
+use crate::tests::parts::{Part, changed, has_fault, is_asked, is_right, strings};
 use ssh_cert::{CertFault, read_cert};
 use ssh_key::{KeyFault, Kind};
 use ssh_wire::WireFault;
 use std::alloc::{AllocError, Global};
-use std::process::Abort;
 
 /// The certificate of a key of this kind with these public fields.
 fn certified(alloc: Global, kind: Kind, public: &[u8]) -> Result<Vec<u8>, AllocError> {
@@ -35,91 +34,75 @@ fn plain(alloc: Global, kind: Kind, public: &[u8]) -> Result<Vec<u8>, AllocError
     Ok(blob)
 }
 
-/// The certificate whose type name and public fields are these strings has a key of this kind and
-/// size, and is asked by its blob.
-fn reads(
-    rt: &impl Abort,
-    alloc: Global,
-    kind: Kind,
-    fields: &[&[u8]],
-    bits: u32,
-) -> Result<(), AllocError> {
-    let public = strings(alloc, fields)?;
-    let blob = certified(alloc, kind, &public)?;
-    let plain = plain(alloc, kind, &public)?;
-    assert!(rt; has_key(&blob, kind, bits, &public), "{kind:?}");
-    assert!(rt; is_asked(alloc, &blob, &plain), "{kind:?}");
-    Ok(())
+/// Whether the certificate of these public fields has a key of this kind and size, and is asked by
+/// its blob.
+fn reads(alloc: Global, kind: Kind, public: &[u8], bits: u32) -> Result<bool, AllocError> {
+    let blob = certified(alloc, kind, public)?;
+    let plain = plain(alloc, kind, public)?;
+    Ok(has_key(&blob, kind, bits, public) && is_asked(alloc, &blob, &plain))
 }
 
-/// An uncompressed point of so many bytes.
-fn point(alloc: Global, size: usize) -> Result<Vec<u8>, AllocError> {
-    let mut bytes = vec![in alloc; 0x55; size]?;
-    if let Some(front) = bytes.first_mut() {
-        *front = 4;
-    }
-    Ok(bytes)
-}
+/// A kind of key, its public fields, and its size.
+const KEYS: [(Kind, &[&[u8]], u32); 4] = [
+    (Kind::Rsa, &[&[3], &[1, 0]], 9),
+    (Kind::Dsa, &[&[0x17], &[5], &[2], &[9]], 5),
+    (Kind::Ed25519, &[&[0x33; 32]], 256),
+    (Kind::Ed25519Sk, &[&[0x33; 32], b"ssh:"], 256),
+];
 
 #[test]
-fn keys_of_numbers(rt: HostRuntime) {
-    reads(&rt, rt.alloc(), Kind::Rsa, &[&[3], &[1, 0]], 9).expect(&rt, "there is memory");
-    reads(&rt, rt.alloc(), Kind::Dsa, &[&[0x17], &[5], &[2], &[9]], 5).expect(
-        &rt,
-        "there is memory",
-    );
+fn keys_of_numbers_and_of_32_bytes(rt: HostRuntime) {
+    for (i, (kind, fields, bits)) in KEYS.iter().enumerate() {
+        let public = strings(rt.alloc(), *fields).expect(&rt, "there is memory");
+        let right = reads(rt.alloc(), *kind, &public, *bits).expect(&rt, "there is memory");
+        is_right(&rt, i, right);
+    }
 }
 
-/// A certificate of a key of this kind on this curve, whose point has so many bytes, is read.
+/// The public fields of a key on a curve, whose point is uncompressed and has so many bytes; the
+/// key of a device has an application too.
 fn on_curve(
-    rt: &impl Abort,
     alloc: Global,
-    kind: Kind,
     curve: &str,
     size: usize,
-    bits: u32,
-) -> Result<(), AllocError> {
-    let q = point(alloc, size)?;
-    reads(rt, alloc, kind, &[curve.as_bytes(), &q], bits)
+    application: &[u8],
+) -> Result<Vec<u8>, AllocError> {
+    let mut point = vec![in alloc; 0x55; size]?;
+    if let Some(front) = point.first_mut() {
+        *front = 4;
+    }
+    let mut public = strings(alloc, &[curve.as_bytes(), &point])?;
+    public.extend_from_slice(application)?;
+    Ok(public)
 }
+
+/// A kind of key, its curve, the size of its point, its application, and its own size.
+const ON_CURVES: [(Kind, &str, usize, &[u8], u32); 4] = [
+    (Kind::Ecdsa256, "nistp256", 65, b"", 256),
+    (Kind::Ecdsa384, "nistp384", 97, b"", 384),
+    (Kind::Ecdsa521, "nistp521", 133, b"", 521),
+    (Kind::EcdsaSk, "nistp256", 65, b"\0\0\0\x04ssh:", 256),
+];
 
 #[test]
 fn keys_on_curves(rt: HostRuntime) {
-    let rows = [
-        (Kind::Ecdsa256, "nistp256", 65, 256),
-        (Kind::Ecdsa384, "nistp384", 97, 384),
-        (Kind::Ecdsa521, "nistp521", 133, 521),
-    ];
-    for (kind, curve, size, bits) in rows {
-        on_curve(&rt, rt.alloc(), kind, curve, size, bits).expect(&rt, "there is memory");
+    for (i, (kind, curve, size, application, bits)) in ON_CURVES.iter().enumerate() {
+        let public = on_curve(rt.alloc(), *curve, *size, *application).expect(
+            &rt,
+            "there is memory",
+        );
+        let right = reads(rt.alloc(), *kind, &public, *bits).expect(&rt, "there is memory");
+        is_right(&rt, i, right);
     }
-}
-
-#[test]
-fn key_on_a_curve_of_a_device(rt: HostRuntime) {
-    let q = point(rt.alloc(), 65).expect(&rt, "there is memory");
-    let device: [&[u8]; 3] = [b"nistp256", &q, b"ssh:"];
-    reads(&rt, rt.alloc(), Kind::EcdsaSk, &device, 256).expect(&rt, "there is memory");
-}
-
-#[test]
-fn keys_of_32_bytes(rt: HostRuntime) {
-    reads(&rt, rt.alloc(), Kind::Ed25519, &[&[0x33; 32]], 256).expect(&rt, "there is memory");
-    reads(
-        &rt,
-        rt.alloc(),
-        Kind::Ed25519Sk,
-        &[&[0x33; 32], b"ssh:"],
-        256,
-    )
-    .expect(&rt, "there is memory");
 }
 
 #[test]
 fn public_fields_of_another_kind(rt: HostRuntime) {
-    let alloc = rt.alloc();
-    let name = strings(alloc, &[Kind::Rsa.cert_name().as_bytes()]).expect(&rt, "there is memory");
-    let blob = changed(alloc, Part::Type, &name).expect(&rt, "there is memory");
+    let name = strings(rt.alloc(), &[Kind::Rsa.cert_name().as_bytes()]).expect(
+        &rt,
+        "there is memory",
+    );
+    let blob = changed(rt.alloc(), Part::Type, &name).expect(&rt, "there is memory");
     let negative = KeyFault::Wire(WireFault::Negative);
-    has_fault(&rt, &blob, CertFault::Key(negative));
+    assert!(rt; has_fault(&blob, CertFault::Key(negative)));
 }

@@ -1,13 +1,10 @@
 // The principals, options and extensions of certificates.
 
-use crate::tests::parts::{Part, changed, nested, read, strings};
-use ssh_cert::Cert;
-use std::alloc::{AllocError, Global};
-use std::test::Fail;
+use crate::tests::parts::{Part, is_right, with};
+use ssh_cert::{Options, Strings, read_cert};
 
-/// Whether these names and data are the critical options.
-fn has_critical(cert: &Cert, pairs: &[(&[u8], &[u8])]) -> bool {
-    let mut options = cert.critical();
+/// Whether these names and data are the options, after which none comes.
+fn are_options(mut options: Options<'_>, pairs: &[(&[u8], &[u8])]) -> bool {
     for (name, data) in pairs {
         let Some(option) = options.next() else {
             return false;
@@ -20,8 +17,7 @@ fn has_critical(cert: &Cert, pairs: &[(&[u8], &[u8])]) -> bool {
 }
 
 /// Whether these are the principals, after which none comes.
-fn has_principals(cert: &Cert, names: &[&[u8]]) -> bool {
-    let mut principals = cert.principals();
+fn are_principals(mut principals: Strings<'_>, names: &[&[u8]]) -> bool {
     for name in names {
         if principals.next() != Some(*name) {
             return false;
@@ -30,69 +26,77 @@ fn has_principals(cert: &Cert, names: &[&[u8]]) -> bool {
     principals.next().is_none() && principals.next().is_none()
 }
 
-/// Whether this is the name of the one extension.
-fn has_extension(cert: &Cert, name: &[u8]) -> bool {
-    let mut extensions = cert.extensions();
-    match extensions.next() {
-        Some(option) => option.name == name && extensions.next().is_none(),
-        None => false,
+/// A field of a certificate, the strings that stand in it, and what is read of the certificate.
+struct Row<'a> {
+    part: Part,
+    strings: &'a [&'a [u8]],
+    principals: &'a [&'a [u8]],
+    critical: &'a [(&'a [u8], &'a [u8])],
+    extensions: &'a [(&'a [u8], &'a [u8])],
+}
+
+const ROWS: [Row<'static>; 4] = [
+    // an empty name and empty data
+    Row {
+        part: Part::Critical,
+        strings: &[b"", b""],
+        principals: &[],
+        critical: &[(b"", b"")],
+        extensions: &[],
+    },
+    // options in their order
+    Row {
+        part: Part::Critical,
+        strings: &[
+            b"force-command",
+            b"\0\0\0\x02id",
+            b"verify-required",
+            b"",
+            b"a",
+            b"b",
+        ],
+        principals: &[],
+        critical: &[
+            (b"force-command", b"\0\0\0\x02id"),
+            (b"verify-required", b""),
+            (b"a", b"b"),
+        ],
+        extensions: &[],
+    },
+    // extensions beside options
+    Row {
+        part: Part::Extensions,
+        strings: &[b"permit-pty", b""],
+        principals: &[],
+        critical: &[],
+        extensions: &[(b"permit-pty", b"")],
+    },
+    // principals in their order
+    Row {
+        part: Part::Principals,
+        strings: &[b"root", b"", b"admin"],
+        principals: &[b"root", b"", b"admin"],
+        critical: &[],
+        extensions: &[],
+    },
+];
+
+/// Whether the lists of the blob's certificate are those of the row.
+fn has_lists(blob: &[u8], row: &Row<'_>) -> bool {
+    match read_cert(blob) {
+        Ok(cert) => {
+            are_principals(cert.principals(), row.principals)
+                && are_options(cert.critical(), row.critical)
+                && are_options(cert.extensions(), row.extensions)
+        }
+        Err(_) => false,
     }
 }
 
-/// A certificate with these strings in a field.
-fn with(alloc: Global, part: Part, list: &[&[u8]]) -> Result<Vec<u8>, AllocError> {
-    let field = nested(alloc, list)?;
-    changed(alloc, part, &field)
-}
-
 #[test]
-fn an_empty_name_and_empty_data(rt: HostRuntime) -> Result<(), Fail> {
-    let field = [0, 0, 0, 8, 0, 0, 0, 0, 0, 0, 0, 0];
-    let blob = changed(rt.alloc(), Part::Critical, &field)?;
-    let cert = read(&blob)?;
-    assert!(rt; has_critical(&cert, &[(b"", b"")]));
-    assert!(rt; cert.extensions().next().is_none());
-    Ok(())
-}
-
-#[test]
-fn options_in_their_order(rt: HostRuntime) -> Result<(), Fail> {
-    let alloc = rt.alloc();
-    let command = strings(alloc, &[b"id"])?;
-    let parts: [&[u8]; 6] = [
-        b"force-command",
-        &command,
-        b"verify-required",
-        b"",
-        b"a",
-        b"b",
-    ];
-    let blob = with(alloc, Part::Critical, &parts)?;
-    let cert = read(&blob)?;
-    let pairs: [(&[u8], &[u8]); 3] = [
-        (b"force-command", &command),
-        (b"verify-required", b""),
-        (b"a", b"b"),
-    ];
-    assert!(rt; has_critical(&cert, &pairs));
-    Ok(())
-}
-
-#[test]
-fn extensions_beside_options(rt: HostRuntime) -> Result<(), Fail> {
-    let alloc = rt.alloc();
-    let blob = with(alloc, Part::Extensions, &[b"permit-pty", b""])?;
-    let cert = read(&blob)?;
-    assert!(rt; has_critical(&cert, &[]));
-    assert!(rt; has_extension(&cert, b"permit-pty"));
-    Ok(())
-}
-
-#[test]
-fn principals_in_their_order(rt: HostRuntime) -> Result<(), Fail> {
-    let alloc = rt.alloc();
-    let blob = with(alloc, Part::Principals, &[b"root", b"", b"admin"])?;
-    let cert = read(&blob)?;
-    assert!(rt; has_principals(&cert, &[b"root", b"", b"admin"]));
-    Ok(())
+fn lists_in_their_order(rt: HostRuntime) {
+    for (i, row) in ROWS.iter().enumerate() {
+        let blob = with(rt.alloc(), row.part, row.strings).expect(&rt, "there is memory");
+        is_right(&rt, i, has_lists(&blob, row));
+    }
 }

@@ -1,9 +1,8 @@
 // Certificates from their parts.
 
-use ssh_cert::{Cert, CertFault, read_cert, subject};
+use ssh_cert::{CertFault, read_cert, subject};
 use std::alloc::{AllocError, Global};
 use std::process::Abort;
-use std::test::Fail;
 
 /// The public field of the Ed25519 key that GitHub publishes for its hosts.
 pub const PUBLISHED: [u8; 32] = [
@@ -15,7 +14,7 @@ pub const PUBLISHED: [u8; 32] = [
 pub const AUTHORITY: [u8; 32] = [0x11; 32];
 
 /// A field of the certificate that the tests change, in the order of the format.
-#[derive(Clone, Copy, Debug, PartialEq, Eq)]
+#[derive(Clone, Copy, PartialEq, Eq)]
 pub enum Part {
     Type,
     Nonce,
@@ -33,21 +32,38 @@ pub enum Part {
     Signature,
 }
 
-pub const PARTS: [Part; 14] = [
-    Part::Type,
-    Part::Nonce,
-    Part::Public,
-    Part::Serial,
-    Part::Role,
-    Part::KeyId,
-    Part::Principals,
-    Part::After,
-    Part::Before,
-    Part::Critical,
-    Part::Extensions,
-    Part::Reserved,
-    Part::Authority,
-    Part::Signature,
+/// The certificate of the published key by the authority, for a user, with the serial number 7 and
+/// the key ID `a`, valid for ever, with no principals, options or extensions: how each field stands
+/// there.
+const FIELDS: [(Part, &[u8]); 14] = [
+    (Part::Type, b"\0\0\0\x20ssh-ed25519-cert-v01@openssh.com"),
+    (Part::Nonce, b"\0\0\0\0"),
+    (
+        Part::Public,
+        b"\0\0\0\x20\xe3\x2a\xaa\x79\x15\xce\xb9\xb4\x49\xd1\xba\x50\xea\x2a\x28\xbb\
+          \x1a\x6e\x01\xf9\x0b\xda\x24\x5a\x2d\x1d\x87\x69\x7d\x18\xa2\x65",
+    ),
+    (Part::Serial, &[0, 0, 0, 0, 0, 0, 0, 7]),
+    (Part::Role, &[0, 0, 0, 1]),
+    (Part::KeyId, b"\0\0\0\x01a"),
+    (Part::Principals, b"\0\0\0\0"),
+    (Part::After, &[0; 8]),
+    (Part::Before, &[0xff; 8]),
+    (Part::Critical, b"\0\0\0\0"),
+    (Part::Extensions, b"\0\0\0\0"),
+    (Part::Reserved, b"\0\0\0\0"),
+    (
+        Part::Authority,
+        b"\0\0\0\x33\0\0\0\x0bssh-ed25519\0\0\0\x20\
+          \x11\x11\x11\x11\x11\x11\x11\x11\x11\x11\x11\x11\x11\x11\x11\x11\
+          \x11\x11\x11\x11\x11\x11\x11\x11\x11\x11\x11\x11\x11\x11\x11\x11",
+    ),
+    (
+        Part::Signature,
+        b"\0\0\0\x53\0\0\0\x0bssh-ed25519\0\0\0\x40\
+          \0\0\0\0\0\0\0\0\0\0\0\0\0\0\0\0\0\0\0\0\0\0\0\0\0\0\0\0\0\0\0\0\
+          \0\0\0\0\0\0\0\0\0\0\0\0\0\0\0\0\0\0\0\0\0\0\0\0\0\0\0\0\0\0\0\0",
+    ),
 ];
 
 /// Strings, one after the other: four bytes of length and the bytes of each.
@@ -61,79 +77,50 @@ pub fn strings(alloc: Global, list: &[&[u8]]) -> Result<Vec<u8>, AllocError> {
     Ok(all)
 }
 
-/// A string of those strings.
-pub fn nested(alloc: Global, list: &[&[u8]]) -> Result<Vec<u8>, AllocError> {
-    let content = strings(alloc, list)?;
-    strings(alloc, &[&content])
-}
-
 /// The blob of a plain Ed25519 key.
 pub fn plain(alloc: Global, public: &[u8]) -> Result<Vec<u8>, AllocError> {
     strings(alloc, &[b"ssh-ed25519", public])
 }
 
-/// How a field stands in the certificate of the published key by the authority, for a user, with
-/// the serial number 7 and the key ID `a`, valid for ever, with no principals, options or
-/// extensions.
-pub fn spelled(alloc: Global, part: Part) -> Result<Vec<u8>, AllocError> {
-    match part {
-        Part::Type => strings(alloc, &[b"ssh-ed25519-cert-v01@openssh.com"]),
-        Part::Public => strings(alloc, &[&PUBLISHED]),
-        Part::Serial => Vec::from_slice(alloc, &[0, 0, 0, 0, 0, 0, 0, 7]),
-        Part::Role => Vec::from_slice(alloc, &[0, 0, 0, 1]),
-        Part::KeyId => strings(alloc, &[b"a"]),
-        Part::After => Vec::from_slice(alloc, &[0; 8]),
-        Part::Before => Vec::from_slice(alloc, &[0xff; 8]),
-        Part::Authority => nested(alloc, &[b"ssh-ed25519", &AUTHORITY]),
-        Part::Signature => nested(alloc, &[b"ssh-ed25519", &[0; 64]]),
-        Part::Nonce | Part::Principals | Part::Critical | Part::Extensions | Part::Reserved =>
-            strings(alloc, &[b""]),
-    }
-}
-
 /// That certificate with other bytes in place of a field.
 pub fn changed(alloc: Global, part: Part, field: &[u8]) -> Result<Vec<u8>, AllocError> {
     let mut blob = Vec::new(alloc);
-    for other in PARTS {
-        if other == part {
-            blob.extend_from_slice(field)?;
-        } else {
-            blob.extend_from_slice(&spelled(alloc, other)?)?;
-        }
+    for (other, own) in &FIELDS {
+        let bytes = if *other == part { field } else { *own };
+        blob.extend_from_slice(bytes)?;
     }
     Ok(blob)
+}
+
+/// That certificate with a string of these strings in place of a field.
+pub fn with(alloc: Global, part: Part, list: &[&[u8]]) -> Result<Vec<u8>, AllocError> {
+    let content = strings(alloc, list)?;
+    let field = strings(alloc, &[&content])?;
+    changed(alloc, part, &field)
 }
 
 /// That certificate.
 pub fn certificate(alloc: Global) -> Result<Vec<u8>, AllocError> {
-    changed(alloc, Part::Type, &spelled(alloc, Part::Type)?)
+    changed(alloc, Part::Nonce, &[0; 4])
 }
 
-/// That certificate up to this field, without it.
-pub fn before(alloc: Global, part: Part) -> Result<Vec<u8>, AllocError> {
-    let mut blob = Vec::new(alloc);
-    for other in PARTS {
-        if other == part {
-            return Ok(blob);
+/// How a field that is a string stands in that certificate, with another length before its bytes.
+pub fn relengthened(alloc: Global, part: Part, length: u32) -> Result<Vec<u8>, AllocError> {
+    let mut field = Vec::from_slice(alloc, &length.to_be_bytes())?;
+    for (other, own) in &FIELDS {
+        if *other == part {
+            field.extend_from_slice(own.get(4..).unwrap_or(&[]))?;
         }
-        blob.extend_from_slice(&spelled(alloc, other)?)?;
     }
-    Ok(blob)
+    Ok(field)
 }
 
-/// The certificate of a blob.
-pub fn read(blob: &[u8]) -> Result<Cert<'_>, Fail> {
-    Ok(read_cert(blob).ok().ok_or("the blob is a certificate")?)
-}
-
-/// Why the blob is no certificate.
-fn fault_of(blob: &[u8]) -> Option<CertFault> {
-    read_cert(blob).err()
-}
-
-/// The blob has this fault.
-pub fn has_fault(rt: &impl Abort, blob: &[u8], fault: CertFault) {
-    assert_eq!(rt; fault_of(blob), Some(fault), "{} bytes", blob.len());
+/// Whether the blob is no certificate, for this fault.
+pub fn has_fault(blob: &[u8], fault: CertFault) -> bool {
+    match read_cert(blob) {
+        Ok(_) => false,
+        Err(found) => found == fault,
+    }
 }
 
 /// Whether this plain key is asked for a blob.
@@ -142,4 +129,9 @@ pub fn is_asked(alloc: Global, blob: &[u8], plain: &[u8]) -> bool {
         Ok(asked) => asked.plain.as_slice() == plain,
         Err(_) => false,
     }
+}
+
+/// What a test says of a case is right; the number tells the case from the others of the test.
+pub fn is_right(rt: &impl Abort, number: usize, right: bool) {
+    assert!(rt; right, "in case {number}");
 }
