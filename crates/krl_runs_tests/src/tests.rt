@@ -15,3 +15,4 @@ mod listing;
 mod making;
 mod runs;
 mod spec_files;
+mod streams;

@@ -19,7 +19,7 @@ fn tells(
     said: Said,
 ) -> Result<(), AllocError> {
     let list = joined(alloc, parts)?;
-    asks(rt, alloc, number, &list, files, said)
+    asks(rt, alloc, number, (&list, false), files, said)
 }
 
 /// The parts of a list, the files, the output and the status.
@@ -123,6 +123,9 @@ fn each_front_of_a_list(rt: HostRuntime) {
     assert!(rt; list.len() == 104);
     for n in 0..105 {
         let front = list.get(..n).expect(&rt, "the list has 104 bytes");
-        asks(&rt, rt.alloc(), n, front, &[KEY], said_by_front(n)).expect(&rt, "there is memory");
+        asks(&rt, rt.alloc(), n, (front, false), &[KEY], said_by_front(n)).expect(
+            &rt,
+            "there is memory",
+        );
     }
 }

@@ -16,6 +16,20 @@ pub const GITHUB: [u8; 51] = [
     0x1a, 0x6e, 0x01, 0xf9, 0x0b, 0xda, 0x24, 0x5a, 0x2d, 0x1d, 0x87, 0x69, 0x7d, 0x18, 0xa2, 0x65,
 ];
 
+/// The blob of the Ed25519 key of 32 bytes 0x11.
+pub const OTHER: [u8; 51] = [
+    0, 0, 0, 0x0b, 0x73, 0x73, 0x68, 0x2d, 0x65, 0x64, 0x32, 0x35, 0x35, 0x31, 0x39, 0, 0, 0, 0x20,
+    0x11, 0x11, 0x11, 0x11, 0x11, 0x11, 0x11, 0x11, 0x11, 0x11, 0x11, 0x11, 0x11, 0x11, 0x11, 0x11,
+    0x11, 0x11, 0x11, 0x11, 0x11, 0x11, 0x11, 0x11, 0x11, 0x11, 0x11, 0x11, 0x11, 0x11, 0x11, 0x11,
+];
+
+/// The blob of the Ed25519 key of 32 bytes 0x22.
+pub const THIRD: [u8; 51] = [
+    0, 0, 0, 0x0b, 0x73, 0x73, 0x68, 0x2d, 0x65, 0x64, 0x32, 0x35, 0x35, 0x31, 0x39, 0, 0, 0, 0x20,
+    0x22, 0x22, 0x22, 0x22, 0x22, 0x22, 0x22, 0x22, 0x22, 0x22, 0x22, 0x22, 0x22, 0x22, 0x22, 0x22,
+    0x22, 0x22, 0x22, 0x22, 0x22, 0x22, 0x22, 0x22, 0x22, 0x22, 0x22, 0x22, 0x22, 0x22, 0x22, 0x22,
+];
+
 /// What stands before the blob of a section with one key of 51 bytes.
 pub const ONE_KEY: [u8; 9] = [2, 0, 0, 0, 0x37, 0, 0, 0, 0x33];
 
@@ -28,6 +42,20 @@ pub const ID_A: &[u8] = b"\x01\0\0\0\x12\0\0\0\0\0\0\0\0\x23\0\0\0\x05\0\0\0\x01
 /// The section of the SHA-256 of the published key.
 pub const SHA256: &[u8] = b"\x05\0\0\0\x24\0\0\0\x20\xf8\x38\x98\xdf\x0b\xef\x57\xa4\xee\x24\
     \x98\x5b\xa5\x98\xac\x17\xfc\xcb\x0c\x0d\x33\x3c\xc4\xaf\x1d\xd9\x2b\xe1\x4b\xc2\x3a\xa5";
+
+/// The parts of the section of the key ID `a` of the other key's authority.
+pub const ID_A_UNDER_OTHER: [&[u8]; 3] = [
+    b"\x01\0\0\0\x45\0\0\0\x33",
+    &OTHER,
+    b"\0\0\0\0\x23\0\0\0\x05\0\0\0\x01a",
+];
+
+/// The parts of the section of serial 7 of the other key's authority.
+pub const SERIAL_7_UNDER_OTHER: [&[u8]; 3] = [
+    b"\x01\0\0\0\x48\0\0\0\x33",
+    &OTHER,
+    b"\0\0\0\0\x20\0\0\0\x08\0\0\0\0\0\0\0\x07",
+];
 
 /// The bytes that were found are these; a number tells the case from the others of a test.
 pub fn same(rt: &impl Abort, number: usize, found: &[u8], wanted: &[u8]) {
@@ -62,29 +90,6 @@ pub fn list_of(alloc: Global, sections: &[&[u8]]) -> Result<Vec<u8>, AllocError>
 /// The list that names one key.
 pub fn list_of_one(alloc: Global, blob: &[u8]) -> Result<Vec<u8>, AllocError> {
     joined(alloc, &[&HEADER, &ONE_KEY, blob])
-}
-
-/// The section of the key ID `a` of the authority of an Ed25519 key.
-pub fn id_under(alloc: Global, authority: &[u8]) -> Result<Vec<u8>, AllocError> {
-    let id = b"\0\0\0\0\x23\0\0\0\x05\0\0\0\x01a";
-    joined(alloc, &[b"\x01\0\0\0\x45\0\0\0\x33", authority, id])
-}
-
-/// The section of a serial of the authority of an Ed25519 key.
-pub fn serial_under(alloc: Global, authority: &[u8], serial: u64) -> Result<Vec<u8>, AllocError> {
-    let list = b"\0\0\0\0\x20\0\0\0\x08";
-    let number = serial.to_be_bytes();
-    joined(
-        alloc,
-        &[b"\x01\0\0\0\x48\0\0\0\x33", authority, list, &number],
-    )
-}
-
-/// An Ed25519 blob whose last 32 bytes are all the same.
-pub fn even_key(alloc: Global, byte: u8) -> Result<Vec<u8>, AllocError> {
-    let mut blob = Vec::from_slice(alloc, b"\0\0\0\x0bssh-ed25519\0\0\0\x20")?;
-    blob.extend_from_slice(&[byte; 32])?;
-    Ok(blob)
 }
 
 /// Adds zero bytes until the list is so long.

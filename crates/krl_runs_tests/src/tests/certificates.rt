@@ -1,6 +1,6 @@
 // Certificates in the files of the runs.
 
-use crate::tests::bytes::{GITHUB, HEADER, ONE_KEY, even_key, joined, list_of};
+use crate::tests::bytes::{GITHUB, ONE_KEY, OTHER, THIRD, joined, list_of};
 use crate::tests::encoding::{base64, strings};
 use crate::tests::runs::{GITHUB_LINE, asks, lists};
 use ssh_key::Hash;
@@ -84,102 +84,89 @@ pub fn certificate_line(
     line_of(alloc, &blob)
 }
 
+/// The certificate's plain key, as it is listed.
+const LISTED: &[u8] =
+    b"256 SHA256:+DiY3wvvV6TuJJhbpZisF/zLDA0zPMSvHdkr4UvCOqU no comment (ED25519-CERT)\n";
+
 #[test]
 fn its_plain_key_is_listed(rt: HostRuntime) {
     let alloc = rt.alloc();
-    let authority = even_key(alloc, 0x11).expect(&rt, "there is memory");
-    let blob = certificate(alloc, &authority, 7).expect(&rt, "there is memory");
+    let blob = certificate(alloc, &OTHER, 7).expect(&rt, "there is memory");
     assert!(rt; blob.len() == 267);
     let line = line_of(alloc, &blob).expect(&rt, "there is memory");
-    let text =
-        b"256 SHA256:+DiY3wvvV6TuJJhbpZisF/zLDA0zPMSvHdkr4UvCOqU no comment (ED25519-CERT)\n";
     let parts = [line.as_slice()];
     let file = ("c.pub", Some(parts.as_slice()));
-    lists(&rt, alloc, 0, Hash::Sha256, &file, (text, 0, "")).expect(&rt, "there is memory");
+    lists(&rt, alloc, 0, Hash::Sha256, &file, (LISTED, 0, "")).expect(&rt, "there is memory");
 }
 
-/// A file of a certificate by the authority of bytes 0x11 and of its plain key is asked about, and
-/// this is said of the two.
+/// The list of these sections is asked about a file of a certificate by the other key and of its
+/// plain key, and this is said of the two.
 fn is_told(
     rt: &impl Abort,
     alloc: Global,
     number: usize,
-    list: &[u8],
-    text: &[u8],
-    status: u8,
+    sections: &[&[u8]],
+    (text, status): (&[u8], u8),
 ) -> Result<(), AllocError> {
-    let authority = even_key(alloc, 0x11)?;
-    let line = certificate_line(alloc, &authority, 7)?;
+    let list = list_of(alloc, sections)?;
+    let line = certificate_line(alloc, &OTHER, 7)?;
     asks(
         rt,
         alloc,
         number,
-        list,
+        (&list, false),
         &[("f", Some(&[&line, GITHUB_LINE]))],
         (text, status, ""),
     )
 }
 
-/// A list of one explicit key, which is a plain one or the certificate.
-fn list_of_key(alloc: Global, key: &[u8]) -> Result<Vec<u8>, AllocError> {
-    if key.len() == 51 {
-        list_of(alloc, &[&ONE_KEY, key])
-    } else {
-        list_of(alloc, &[&[2, 0, 0, 1, 15, 0, 0, 1, 11], key])
-    }
-}
+/// Neither is revoked.
+const NEITHER: (&[u8], u8) = (b"f: ok\nf: ok\n", 0);
 
-#[test]
-fn asked_by_its_keys(rt: HostRuntime) {
-    let alloc = rt.alloc();
-    let authority = even_key(alloc, 0x11).expect(&rt, "there is memory");
-    let other = even_key(alloc, 0x22).expect(&rt, "there is memory");
-    let blob = certificate(alloc, &authority, 7).expect(&rt, "there is memory");
-    // the explicit key of a list, and what is said of the certificate and of its plain key
-    let rows: [(&[u8], &[u8], u8); 4] = [
-        (&GITHUB, b"f: REVOKED\nf: REVOKED\n", 1),
-        (&authority, b"f: REVOKED\nf: ok\n", 1),
-        (&other, b"f: ok\nf: ok\n", 0),
-        (&blob, b"f: ok\nf: ok\n", 0),
-    ];
-    for (i, (key, text, status)) in rows.iter().enumerate() {
-        let list = list_of_key(alloc, *key).expect(&rt, "there is memory");
-        is_told(&rt, alloc, i, &list, *text, *status).expect(&rt, "there is memory");
-    }
-}
+/// The certificate alone is revoked.
+const CERTIFICATE: (&[u8], u8) = (b"f: REVOKED\nf: ok\n", 1);
 
-/// A section that names a serial or a key ID under all authorities, and what is said of the
-/// certificate and of its plain key.
-const NAMES: [(&[u8], &[u8], u8); 4] = [
+/// The parts of a list's sections, and what is said of the certificate and of its plain key.
+type Row<'a> = (&'a [&'a [u8]], (&'a [u8], u8));
+
+const ROWS: [Row<'static>; 7] = [
+    // an explicit key
+    (&[&ONE_KEY, &GITHUB], (b"f: REVOKED\nf: REVOKED\n", 1)),
+    (&[&ONE_KEY, &OTHER], CERTIFICATE),
+    (&[&ONE_KEY, &THIRD], NEITHER),
+    // a serial or a key ID under all authorities
     (
-        b"\x15\0\0\0\0\0\0\0\0\x20\0\0\0\x08\0\0\0\0\0\0\0\x07",
-        b"f: REVOKED\nf: ok\n",
-        1,
+        &[b"\x01\0\0\0\x15\0\0\0\0\0\0\0\0\x20\0\0\0\x08\0\0\0\0\0\0\0\x07"],
+        CERTIFICATE,
     ),
     (
-        b"\x15\0\0\0\0\0\0\0\0\x20\0\0\0\x08\0\0\0\0\0\0\0\x08",
-        b"f: ok\nf: ok\n",
-        0,
+        &[b"\x01\0\0\0\x15\0\0\0\0\0\0\0\0\x20\0\0\0\x08\0\0\0\0\0\0\0\x08"],
+        NEITHER,
     ),
     (
-        b"\x12\0\0\0\0\0\0\0\0\x23\0\0\0\x05\0\0\0\x01a",
-        b"f: REVOKED\nf: ok\n",
-        1,
+        &[b"\x01\0\0\0\x12\0\0\0\0\0\0\0\0\x23\0\0\0\x05\0\0\0\x01a"],
+        CERTIFICATE,
     ),
     (
-        b"\x12\0\0\0\0\0\0\0\0\x23\0\0\0\x05\0\0\0\x01b",
-        b"f: ok\nf: ok\n",
-        0,
+        &[b"\x01\0\0\0\x12\0\0\0\0\0\0\0\0\x23\0\0\0\x05\0\0\0\x01b"],
+        NEITHER,
     ),
 ];
 
 #[test]
-fn asked_by_its_names(rt: HostRuntime) {
-    for (i, (section, text, status)) in NAMES.iter().enumerate() {
-        let list = joined(rt.alloc(), &[&HEADER, b"\x01\0\0\0", *section]).expect(
-            &rt,
-            "there is memory",
-        );
-        is_told(&rt, rt.alloc(), i, &list, *text, *status).expect(&rt, "there is memory");
+fn asked_by_its_keys_and_its_names(rt: HostRuntime) {
+    for (i, (sections, said)) in ROWS.iter().enumerate() {
+        is_told(&rt, rt.alloc(), i, *sections, *said).expect(&rt, "there is memory");
     }
+}
+
+/// What stands before the blob of a section with one key of 267 bytes.
+const ONE_LONG_KEY: &[u8] = &[2, 0, 0, 1, 15, 0, 0, 1, 11];
+
+// The blob of a certificate as an explicit key names nothing.
+#[test]
+fn not_asked_by_its_blob(rt: HostRuntime) {
+    let blob = certificate(rt.alloc(), &OTHER, 7).expect(&rt, "there is memory");
+    let sections = [ONE_LONG_KEY, &blob];
+    is_told(&rt, rt.alloc(), 0, &sections, NEITHER).expect(&rt, "there is memory");
 }

@@ -1,9 +1,11 @@
 // Runs that say more than is sent at once.
 
 use crate::tests::bytes::repeated;
-use crate::tests::devices::{Taker, asked_of_key, listed_over};
-use crate::tests::runs::{CLOSED, GITHUB_LINE, Ran, holding, says};
+use crate::tests::devices::asked_of_key;
+use crate::tests::runs::{CLOSED, GITHUB_LINE, Ran, holding, listed, says};
+use crate::tests::streams::Taker;
 use krl_runs::ListMode;
+use ssh_key::Hash;
 use std::alloc::{AllocError, Global};
 use std::process::Abort;
 
@@ -69,7 +71,10 @@ fn sends_whole_lines_in_chunks(rt: HostRuntime) {
 fn lists_in_chunks(rt: HostRuntime) {
     let file = holding("g.pub", often(rt.alloc()).expect(&rt, "there is memory"));
     let device = Taker::new(rt.alloc(), 1_000, 1_000_000);
-    let ran = listed_over(rt.alloc(), ListMode::Keys, &file, device).expect(&rt, "there is memory");
+    let ran = listed(rt.alloc(), ListMode::Keys, Hash::Sha256, &file, 0, device).expect(
+        &rt,
+        "there is memory",
+    );
     let text = repeated(rt.alloc(), &[LISTED], TIMES).expect(&rt, "there is memory");
     says(&rt, 0, &ran, (&text, 0, ""));
 }

@@ -1,6 +1,6 @@
 // Private containers among the files of the runs.
 
-use crate::tests::bytes::{GITHUB, even_key, joined, list_of_one};
+use crate::tests::bytes::{GITHUB, OTHER, joined, list_of_one};
 use crate::tests::encoding::{base64, strings};
 use crate::tests::runs::{File, GITHUB_LINE, Said, asks, lists};
 use ssh_key::Hash;
@@ -58,20 +58,19 @@ fn tells(
     said: Said,
 ) -> Result<(), AllocError> {
     let list = list_of_one(alloc, key)?;
-    asks(rt, alloc, files.len(), &list, files, said)
+    asks(rt, alloc, files.len(), (&list, false), files, said)
 }
 
 #[test]
 fn asked_about(rt: HostRuntime) {
     let alloc = rt.alloc();
     let text = plain(alloc, 1, 4).expect(&rt, "there is memory");
-    let other = even_key(alloc, 0x11).expect(&rt, "there is memory");
     let said: Said = (b"id (a): REVOKED\n", 1, "");
     tells(&rt, alloc, &GITHUB, &[("id", Some(&[&text]))], said).expect(&rt, "there is memory");
     tells(
         &rt,
         alloc,
-        &other,
+        &OTHER,
         &[("id", Some(&[&text])), ("g", Some(&[GITHUB_LINE]))],
         (b"id (a): ok\ng: ok\n", 0, ""),
     )

@@ -1,8 +1,8 @@
 // Printing what lists hold.
 
 use crate::tests::bytes::{FIVE, GITHUB, HEADER, ONE_KEY, joined, list_of};
-use crate::tests::devices::{Taker, asked_over};
-use crate::tests::runs::{CLOSED, KEY, Ran, dumps, says};
+use crate::tests::runs::{CLOSED, KEY, Ran, asked, asks, says};
+use crate::tests::streams::{Taker, giving};
 use std::alloc::{AllocError, Global};
 use std::process::Abort;
 
@@ -68,7 +68,7 @@ fn prints(
 ) -> Result<(), AllocError> {
     let list = list_of(alloc, sections)?;
     let text = joined(alloc, &[HEAD, lines])?;
-    dumps(rt, alloc, number, &list, &[], (&text, 0, ""))
+    asks(rt, alloc, number, (&list, true), &[], (&text, 0, ""))
 }
 
 #[test]
@@ -90,7 +90,7 @@ fn prints_header(
     let mut list = joined(alloc, &[&HEADER[..12], version, date])?;
     list.extend_from_slice(b"\0\0\0\0\0\0\0\0\0\0\0\0")?;
     list.extend_from_slice(comment)?;
-    dumps(rt, alloc, number, &list, &[], (text, 0, ""))
+    asks(rt, alloc, number, (&list, true), &[], (text, 0, ""))
 }
 
 const LEAST: &[u8] = b"\0\0\0\0\0\0\0\0";
@@ -141,22 +141,30 @@ fn the_files_follow(rt: HostRuntime) {
         g.pub: REVOKED\n";
     let text = joined(alloc, &[HEAD, lines]).expect(&rt, "there is memory");
     let fault = "ssh-keygen: none: file 1 Open";
-    dumps(&rt, alloc, 0, &list, &[KEY, CLOSED], (&text, 255, fault)).expect(&rt, "there is memory");
-    dumps(&rt, alloc, 1, &list, &[KEY], (&text, 1, "")).expect(&rt, "there is memory");
+    asks(
+        &rt,
+        alloc,
+        0,
+        (&list, true),
+        &[KEY, CLOSED],
+        (&text, 255, fault),
+    )
+    .expect(&rt, "there is memory");
+    asks(&rt, alloc, 1, (&list, true), &[KEY], (&text, 1, "")).expect(&rt, "there is memory");
 }
 
 #[test]
 fn a_fault_comes_before_the_contents(rt: HostRuntime) {
     let list = list_of(rt.alloc(), &[FIVE, b"\x99"]).expect(&rt, "there is memory");
     let fault = "ssh-keygen: r.krl: krl 4 UnknownSection";
-    dumps(&rt, rt.alloc(), 0, &list, &[], (b"", 255, fault)).expect(&rt, "there is memory");
+    asks(&rt, rt.alloc(), 0, (&list, true), &[], (b"", 255, fault)).expect(&rt, "there is memory");
 }
 
 /// Prints a list of one serial, where each call takes seven bytes until one fails.
 fn printed_in_part(alloc: Global, calls: usize) -> Result<Ran, AllocError> {
     let list = list_of(alloc, &[FIVE])?;
     let device = Taker::new(alloc, 7, calls);
-    asked_over(alloc, &list, true, &[], device)
+    asked(alloc, giving(&list), true, &[], device)
 }
 
 /// The fault of an output that has taken so many bytes.
@@ -199,5 +207,5 @@ fn odd_lines(alloc: Global) -> Result<Vec<u8>, AllocError> {
 fn many_lines(rt: HostRuntime) {
     let list = odd_serials(rt.alloc()).expect(&rt, "there is memory");
     let text = odd_lines(rt.alloc()).expect(&rt, "there is memory");
-    dumps(&rt, rt.alloc(), 0, &list, &[], (&text, 0, "")).expect(&rt, "there is memory");
+    asks(&rt, rt.alloc(), 0, (&list, true), &[], (&text, 0, "")).expect(&rt, "there is memory");
 }

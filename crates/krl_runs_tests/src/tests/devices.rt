@@ -1,115 +1,22 @@
 // Files and outputs that give or take few bytes at a call, and fail.
 
 use crate::tests::bytes::{GITHUB, filled, list_of_one};
-use crate::tests::runs::{CLOSED, File, GITHUB_LINE, Ran, Said, all_named, named, says, told};
-use krl_runs::{FileFault, ListMode, Named, list_run, load, query_run};
+use crate::tests::runs::{
+    CLOSED, File, GITHUB_LINE, Ran, Said, all_named, asked, listed, named, says,
+};
+use crate::tests::streams::{Giver, Taker, giving};
+use krl_runs::{FileFault, ListMode, load};
 use ssh_key::Hash;
-use ssh_wire::{Bytes, FromRead, ToWrite};
+use ssh_wire::{Bytes, FromRead};
 use std::alloc::{AllocError, Global};
-use std::io::{self, ErrorKind, Read, Write};
+use std::io::Read;
 use std::process::Abort;
-
-/// Gives bytes, at most so many at a call, and fails from the call on that is to fail.
-#[derive(Drop)]
-struct Giver<'a> {
-    bytes: &'a [u8],
-    piece: usize,
-    calls_before_failure: usize,
-}
-
-impl<'a> Read for Giver<'a> {
-    fn read(&mut self, into: &mut [u8]) -> io::Result<usize> {
-        if self.calls_before_failure == 0 {
-            return Err(ErrorKind::Other.into());
-        }
-        self.calls_before_failure -= 1;
-        let count = self.bytes.len().min(into.len()).min(self.piece);
-        into[..count].copy_from_slice(&self.bytes[..count]);
-        self.bytes = &self.bytes[count..];
-        Ok(count)
-    }
-}
-
-/// Takes at most so many bytes at a call, and fails from the call on that is to fail.
-#[derive(Drop)]
-pub struct Taker {
-    pub taken: Vec<u8>,
-    piece: usize,
-    calls_before_failure: usize,
-}
-
-impl Taker {
-    pub fn new(alloc: Global, piece: usize, calls_before_failure: usize) -> Taker {
-        Taker {
-            taken: Vec::new(alloc),
-            piece,
-            calls_before_failure,
-        }
-    }
-}
-
-impl Write for Taker {
-    fn write(&mut self, bytes: &[u8]) -> io::Result<usize> {
-        if self.calls_before_failure == 0 {
-            return Err(ErrorKind::Other.into());
-        }
-        self.calls_before_failure -= 1;
-        let count = bytes.len().min(self.piece);
-        self.taken.extend_from_slice(&bytes[..count])?;
-        Ok(count)
-    }
-
-    fn flush(&mut self) -> io::Result<()> {
-        Ok(())
-    }
-}
-
-/// Asks the list `r.krl` about the files, with a device as the output; what the list holds is
-/// printed before that where `dump` is true.
-pub fn asked_over<'a>(
-    alloc: Global,
-    krl: &[u8],
-    dump: bool,
-    files: &'a [Named<'a>],
-    mut device: Taker,
-) -> Result<Ran, AllocError> {
-    let mut out = ToWrite::new(&mut device);
-    let done = query_run(alloc, "r.krl", FromRead::new(krl), dump, files, &mut out);
-    drop(out);
-    told(alloc, device.taken, &done)
-}
 
 /// Asks the list that names the published key about the files, with a device as the output.
 pub fn asked_of_key(alloc: Global, files: &[File], device: Taker) -> Result<Ran, AllocError> {
     let list = list_of_one(alloc, &GITHUB)?;
     let files = all_named(alloc, files)?;
-    asked_over(alloc, &list, false, files.as_slice(), device)
-}
-
-/// Asks the list `r.krl` that a device gives about the files.
-fn asked_of_giver<'a>(
-    alloc: Global,
-    krl: Giver,
-    files: &'a [Named<'a>],
-) -> Result<Ran, AllocError> {
-    let mut device = Taker::new(alloc, 100, 10);
-    let mut out = ToWrite::new(&mut device);
-    let done = query_run(alloc, "r.krl", FromRead::new(krl), false, files, &mut out);
-    drop(out);
-    told(alloc, device.taken, &done)
-}
-
-/// Lists a file at the moment 0, with a device as the output.
-pub fn listed_over<'a>(
-    alloc: Global,
-    mode: ListMode,
-    file: &'a Named<'a>,
-    mut device: Taker,
-) -> Result<Ran, AllocError> {
-    let mut out = ToWrite::new(&mut device);
-    let done = list_run(alloc, mode, Hash::Sha256, file, 0, &mut out);
-    drop(out);
-    told(alloc, device.taken, &done)
+    asked(alloc, giving(&list), false, files.as_slice(), device)
 }
 
 /// What is loaded of the file `a` that a device gives.
@@ -187,7 +94,8 @@ fn asked_in_part(alloc: Global, place: usize, calls: usize) -> Result<Ran, Alloc
         piece: 1,
         calls_before_failure: calls,
     };
-    asked_of_giver(alloc, krl, files.as_slice())
+    let device = Taker::new(alloc, 100, 10);
+    asked(alloc, krl, false, files.as_slice(), device)
 }
 
 #[test]
@@ -245,7 +153,7 @@ fn the_output_fails(rt: HostRuntime) {
 fn listed_in_part(alloc: Global, calls: usize, file: &File) -> Result<Ran, AllocError> {
     let file = named(alloc, file)?;
     let device = Taker::new(alloc, 3, calls);
-    listed_over(alloc, ListMode::Keys, &file, device)
+    listed(alloc, ListMode::Keys, Hash::Sha256, &file, 0, device)
 }
 
 /// How many calls come before the failure, the file, and what is listed of it.

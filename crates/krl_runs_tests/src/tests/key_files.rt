@@ -15,7 +15,7 @@ fn tells(
     said: Said,
 ) -> Result<(), AllocError> {
     let list = list_of_one(alloc, &GITHUB)?;
-    asks(rt, alloc, number, &list, files, said)
+    asks(rt, alloc, number, (&list, false), files, said)
 }
 
 /// The name of a file, the parts of its text, the output and the status.

@@ -3,10 +3,11 @@
 use crate::tests::bytes::{GITHUB, joined};
 use crate::tests::certificates::{FREE, Terms, certificate_line, certificate_on, line_of};
 use crate::tests::containers::plain;
-use crate::tests::devices::{Taker, listed_over};
 use crate::tests::encoding::{key_line, strings};
-use crate::tests::runs::{CLOSED, GITHUB_LINE, certifies, holding, says};
+use crate::tests::runs::{CLOSED, GITHUB_LINE, certifies, holding, listed, says};
+use crate::tests::streams::Taker;
 use krl_runs::ListMode;
+use ssh_key::Hash;
 use std::alloc::{AllocError, Global};
 use std::process::Abort;
 
@@ -221,7 +222,7 @@ fn without_a_file(rt: HostRuntime) {
 fn the_output_fails(rt: HostRuntime) {
     let file = holding("c.pub", line(rt.alloc()).expect(&rt, "there is memory"));
     let device = Taker::new(rt.alloc(), 3, 2);
-    let ran = listed_over(rt.alloc(), ListMode::Certs, &file, device).expect(
+    let ran = listed(rt.alloc(), ListMode::Certs, Hash::Sha256, &file, 0, device).expect(
         &rt,
         "there is memory",
     );

@@ -1,8 +1,8 @@
 // Lists that are made and updated.
 
 use crate::tests::bytes::{
-    FIVE, GITHUB, HEADER, ID_A, ONE_KEY, SHA256, even_key, id_under, joined, list_of, repeated,
-    same, serial_under,
+    FIVE, GITHUB, HEADER, ID_A, ID_A_UNDER_OTHER, ONE_KEY, OTHER, SHA256, joined, list_of,
+    repeated, same,
 };
 use crate::tests::certificates::certificate_line;
 use crate::tests::containers::plain;
@@ -185,13 +185,12 @@ fn of_odd_serials(rt: HostRuntime) {
     makes(&rt, rt.alloc(), 0, &lines, &[front, &[0x55; 32]]).expect(&rt, "there is memory");
 }
 
+// By its ID, and by its key.
 #[test]
 fn of_a_certificate(rt: HostRuntime) {
     let alloc = rt.alloc();
-    let authority = even_key(alloc, 0x11).expect(&rt, "there is memory");
-    let line = certificate_line(alloc, &authority, 0).expect(&rt, "there is memory");
-    let section = id_under(alloc, &authority).expect(&rt, "there is memory");
-    makes(&rt, alloc, 0, &line, &[&section]).expect(&rt, "there is memory");
+    let line = certificate_line(alloc, &OTHER, 0).expect(&rt, "there is memory");
+    makes(&rt, alloc, 0, &line, &ID_A_UNDER_OTHER).expect(&rt, "there is memory");
     let line = joined(alloc, &[b"key: ", &line]).expect(&rt, "there is memory");
     makes(&rt, alloc, 1, &line, &[&ONE_KEY, &GITHUB]).expect(&rt, "there is memory");
 }
@@ -352,35 +351,47 @@ fn old_lists_that_cannot_be_updated(rt: HostRuntime) {
     refuses(&rt, alloc, 1, Some(&full), &closed, b"x", fault).expect(&rt, "there is memory");
 }
 
-/// What is made of a serial under the authority that a file of this text names.
-fn made_under(alloc: Global, text: &[u8]) -> Result<Outcome, AllocError> {
-    let authority = authority(alloc, Some(text))?;
-    let file: File = ("s", Some(&[b"serial: 5"]));
-    made(alloc, None, &authority, Some(1), &[file])
-}
+/// The sections of serial 5 of the authorities of two keys, in parts.
+const FIVE_UNDER_OTHER: [&[u8]; 3] = [
+    b"\x01\0\0\0\x48\0\0\0\x33",
+    &OTHER,
+    b"\0\0\0\0\x20\0\0\0\x08\0\0\0\0\0\0\0\x05",
+];
 
-/// The first key of a file of this text is the authority of a serial.
-fn is_authority(rt: &impl Abort, alloc: Global, text: &[u8], key: &[u8]) -> Result<(), AllocError> {
-    let section = serial_under(alloc, key, 5)?;
-    let want = list_of(alloc, &[&section])?;
-    let made = made_under(alloc, text)?;
-    is_made(rt, 0, &made, &want);
+const FIVE_UNDER_GITHUB: [&[u8]; 3] = [
+    b"\x01\0\0\0\x48\0\0\0\x33",
+    &GITHUB,
+    b"\0\0\0\0\x20\0\0\0\x08\0\0\0\0\0\0\0\x05",
+];
+
+const FIVE_LINE: File<'static> = ("s", Some(&[b"serial: 5"]));
+
+/// The first key of a file of this text is the authority of a serial, which makes a list of these
+/// sections.
+fn is_authority(
+    rt: &impl Abort,
+    alloc: Global,
+    number: usize,
+    text: &[u8],
+    sections: &[&[u8]],
+) -> Result<(), AllocError> {
+    let want = list_of(alloc, sections)?;
+    let authority = authority(alloc, Some(text))?;
+    let made = made(alloc, None, &authority, Some(1), &[FIVE_LINE])?;
+    is_made(rt, number, &made, &want);
     Ok(())
 }
 
+/// The parts of a file of two keys.
+const TWO_KEYS: [&[u8]; 5] = [b"\n# ca\n", OTHER_LINE, b" x\n", GITHUB_LINE, b"\nx\n"];
+
+// The first line of a key, or the key of a container.
 #[test]
 fn the_first_key_of_the_file_is_the_authority(rt: HostRuntime) {
-    let alloc = rt.alloc();
-    let parts: [&[u8]; 5] = [b"\n# ca\n", OTHER_LINE, b" x\n", GITHUB_LINE, b"\nx\n"];
-    let text = joined(alloc, &parts).expect(&rt, "there is memory");
-    let key = even_key(alloc, 0x11).expect(&rt, "there is memory");
-    is_authority(&rt, alloc, &text, &key).expect(&rt, "there is memory");
-}
-
-#[test]
-fn the_key_of_a_container_is_the_authority(rt: HostRuntime) {
-    let text = plain(rt.alloc(), 1, 4).expect(&rt, "there is memory");
-    is_authority(&rt, rt.alloc(), &text, &GITHUB).expect(&rt, "there is memory");
+    let lines = joined(rt.alloc(), &TWO_KEYS).expect(&rt, "there is memory");
+    let container = plain(rt.alloc(), 1, 4).expect(&rt, "there is memory");
+    is_authority(&rt, rt.alloc(), 0, &lines, &FIVE_UNDER_OTHER).expect(&rt, "there is memory");
+    is_authority(&rt, rt.alloc(), 1, &container, &FIVE_UNDER_GITHUB).expect(&rt, "there is memory");
 }
 
 /// The file of this text names no authority, for this fault.

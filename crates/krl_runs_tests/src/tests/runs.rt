@@ -1,6 +1,7 @@
 // Runs over files that the tests make, and what they answer.
 
 use crate::tests::bytes::{joined, same};
+use crate::tests::streams::{Giver, Taker, giving, taking};
 use krl_runs::{Done, FileFault, ListMode, Named, fault_text, list_run, query_run};
 use ssh_key::Hash;
 use ssh_wire::{Bytes, FromRead, ToWrite};
@@ -87,62 +88,50 @@ pub fn told(alloc: Global, text: Vec<u8>, done: &Done) -> Result<Ran, AllocError
 
 /// Asks the list `r.krl` about the files; what it holds is printed before that where `dump` is
 /// true.
-fn queried<'a>(
+pub fn asked<'a>(
     alloc: Global,
-    krl: &[u8],
+    krl: Giver,
     dump: bool,
     files: &'a [Named<'a>],
+    mut device: Taker,
 ) -> Result<Ran, AllocError> {
-    let mut text = Vec::new(alloc);
-    let mut out = ToWrite::new(&mut text);
+    let mut out = ToWrite::new(&mut device);
     let done = query_run(alloc, "r.krl", FromRead::new(krl), dump, files, &mut out);
     drop(out);
-    told(alloc, text, &done)
+    told(alloc, device.taken, &done)
 }
+
+/// The bytes of a list, and whether what it holds is printed before it is asked about files.
+pub type Krl<'a> = (&'a [u8], bool);
 
 /// The list `r.krl` is asked about the files, and this is said.
 pub fn asks(
     rt: &impl Abort,
     alloc: Global,
     number: usize,
-    krl: &[u8],
+    (krl, dump): Krl,
     files: &[File],
     said: Said,
 ) -> Result<(), AllocError> {
     let files = all_named(alloc, files)?;
-    let ran = queried(alloc, krl, false, files.as_slice())?;
-    says(rt, number, &ran, said);
-    Ok(())
-}
-
-/// What the list `r.krl` holds is printed, it is asked about the files, and this is said.
-pub fn dumps(
-    rt: &impl Abort,
-    alloc: Global,
-    number: usize,
-    krl: &[u8],
-    files: &[File],
-    said: Said,
-) -> Result<(), AllocError> {
-    let files = all_named(alloc, files)?;
-    let ran = queried(alloc, krl, true, files.as_slice())?;
+    let ran = asked(alloc, giving(krl), dump, files.as_slice(), taking(alloc))?;
     says(rt, number, &ran, said);
     Ok(())
 }
 
 /// Lists the keys or the certificates of a file at a moment.
-fn listed<'a>(
+pub fn listed<'a>(
     alloc: Global,
     mode: ListMode,
     hash: Hash,
     file: &'a Named<'a>,
     moment: u64,
+    mut device: Taker,
 ) -> Result<Ran, AllocError> {
-    let mut text = Vec::new(alloc);
-    let mut out = ToWrite::new(&mut text);
+    let mut out = ToWrite::new(&mut device);
     let done = list_run(alloc, mode, hash, file, moment, &mut out);
     drop(out);
-    told(alloc, text, &done)
+    told(alloc, device.taken, &done)
 }
 
 /// The keys of the file are listed so.
@@ -155,7 +144,7 @@ pub fn lists(
     said: Said,
 ) -> Result<(), AllocError> {
     let file = named(alloc, file)?;
-    let ran = listed(alloc, ListMode::Keys, hash, &file, 0)?;
+    let ran = listed(alloc, ListMode::Keys, hash, &file, 0, taking(alloc))?;
     says(rt, number, &ran, said);
     Ok(())
 }
@@ -170,7 +159,14 @@ pub fn certifies(
     said: Said,
 ) -> Result<(), AllocError> {
     let file = named(alloc, file)?;
-    let ran = listed(alloc, ListMode::Certs, Hash::Sha256, &file, moment)?;
+    let ran = listed(
+        alloc,
+        ListMode::Certs,
+        Hash::Sha256,
+        &file,
+        moment,
+        taking(alloc),
+    )?;
     says(rt, number, &ran, said);
     Ok(())
 }

@@ -3,17 +3,17 @@
 ghost use Rattle.krl_spec.specs.Entry.{IsUnder};
 
 use crate::tests::bytes::{
-    FIVE, GITHUB, ID_A, ONE_KEY, SHA256, even_key, id_under, joined, list_of, same, serial_under,
+    FIVE, GITHUB, ID_A, ID_A_UNDER_OTHER, ONE_KEY, OTHER, SERIAL_7_UNDER_OTHER, SHA256, joined,
+    list_of, same,
 };
 use crate::tests::certificates::certificate_line;
 use crate::tests::runs::GITHUB_LINE;
-use krl_core::{Header, Revocations, TextFault, krl_text};
+use krl_core::{Header, Revocations, krl_text};
 use krl_spec::{Under, read_spec};
 use serial_set::Held;
 use ssh_wire::Bytes;
 use std::alloc::{AllocError, Global};
 use std::process::Abort;
-use std::test::Fail;
 
 /// An authority without bytes is none.
 fn of_bytes<'a>(under: Under<'a>) -> Under<'a>
@@ -45,25 +45,14 @@ fn add(
     }
 }
 
-/// The list that is written of what was added.
-fn written(alloc: Global, revocations: &Revocations<Held>) -> Result<Vec<u8>, TextFault> {
+/// The list that is written of what was added; none where it has no text.
+fn written(alloc: Global, revocations: &Revocations<Held>) -> Option<Vec<u8>> {
     let header = Header {
         version: 1,
         date: 0,
         comment: Bytes::from_vec(Vec::new(alloc)),
     };
-    krl_text(alloc, &header, revocations)
-}
-
-/// What is told of a file, and the list that is written of what it adds.
-fn added(
-    alloc: Global,
-    under: Under,
-    text: &[u8],
-) -> (Result<String, AllocError>, Result<Vec<u8>, TextFault>) {
-    let mut revocations = Revocations::<Held>::new(alloc);
-    let told = add(alloc, &mut revocations, under, text);
-    (told, written(alloc, &revocations))
+    krl_text(alloc, &header, revocations).ok()
 }
 
 /// The file is refused so, or read to its end where there is no fault; the list that is written of
@@ -75,10 +64,12 @@ fn adds(
     (under, text): (Under, &[u8]),
     sections: &[&[u8]],
     fault: &str,
-) -> Result<(), Fail> {
-    let (told, list) = added(alloc, under, text);
-    same(rt, number, told?.as_bytes(), fault.as_bytes());
-    let (list, want) = (list?, list_of(alloc, sections)?);
+) -> Result<(), AllocError> {
+    let mut revocations = Revocations::<Held>::new(alloc);
+    let told = add(alloc, &mut revocations, under, text)?;
+    same(rt, number, told.as_bytes(), fault.as_bytes());
+    let list = written(alloc, &revocations).expect(rt, "the list has a text");
+    let want = list_of(alloc, sections)?;
     same(rt, number, &list, &want);
     Ok(())
 }
@@ -93,129 +84,117 @@ const TO_THE_GREATEST: &[u8] = b"\x01\0\0\0\x1d\0\0\0\0\0\0\0\0\x21\0\0\0\x10\
 
 const ID_A_AND_B: &[u8] = b"\x01\0\0\0\x17\0\0\0\0\0\0\0\0\x23\0\0\0\x0a\0\0\0\x01a\0\0\0\x01b";
 
-/// Files under all authorities, and the section that each adds.
-const ADDED: [(&[u8], &[u8]); 9] = [
-    (b"serial: 5", FIVE),
-    (b"serial: 0x10-020", SIXTEEN),
-    (b"SeRiAl:\t0X5 \t-\t 05 # 6", FIVE),
-    (b"\n  \r\n# x\n\tserial:5\r\n", FIVE),
-    (b"serial: 1-18446744073709551615", TO_THE_GREATEST),
-    (b"serial: 1-9", ONE_TO_NINE),
-    (b"serial: 5\nserial: 5\nserial: 1-9", ONE_TO_NINE),
-    (b"id: b\nid: a\nid: b\n", ID_A_AND_B),
-    (b"ID:a #b", ID_A),
-];
-
-#[test]
-fn serials_and_ids(rt: HostRuntime) -> Result<(), Fail> {
-    for (i, (text, section)) in ADDED.iter().enumerate() {
-        adds(&rt, rt.alloc(), i, (Under::All, *text), &[*section], "")?;
-    }
-    Ok(())
-}
-
-/// The second line is refused for what it names, and the first for its authority.
-const TWO_FAULTS: &[u8] = b"serial: 5\nid:  \nserial: 6";
-
-/// The authority under which a file is read, its text, the section that it adds, and where and why
-/// it is refused.
-type Stopped<'a> = (Under<'a>, &'a [u8], &'a [u8], &'a str);
-
-const STOPPED: [Stopped<'static>; 4] = [
-    // lines before a fault stand
-    (Under::All, TWO_FAULTS, FIVE, "2: spec 5 EmptyId"),
-    // an authority is wanted before what a line names is read
-    (Under::NotGiven, TWO_FAULTS, b"", "1: spec 4 NoAuthority"),
-    (
-        Under::NotGiven,
-        b"# the second line is the first that counts\nserial: 08",
-        b"",
-        "2: spec 4 NoAuthority",
-    ),
-    (Under::NotGiven, b"id:", b"", "1: spec 4 NoAuthority"),
-];
-
-#[test]
-fn stopped_at_a_line(rt: HostRuntime) -> Result<(), Fail> {
-    for (i, (under, text, section, fault)) in STOPPED.iter().enumerate() {
-        adds(&rt, rt.alloc(), i, (*under, *text), &[*section], *fault)?;
-    }
-    Ok(())
-}
-
-#[test]
-fn ids_stand_under_the_authority(rt: HostRuntime) -> Result<(), Fail> {
-    let alloc = rt.alloc();
-    let authority = even_key(alloc, 0x11)?;
-    let section = id_under(alloc, &authority)?;
-    let file = (Under::Of(&authority), b"id: a".as_slice());
-    adds(&rt, alloc, 0, file, &[&section], "")
-}
-
 /// The section of the SHA-1 of the published key.
 const SHA1: &[u8] = b"\x03\0\0\0\x18\0\0\0\x14\xe9\x61\x9e\x2e\xd5\x6c\x2f\x2a\x71\x72\
     \x9d\xb8\x0b\xac\xc2\xce\x9c\xcc\xe8\xd4";
 
-/// What stands before and after the line of the published key, and what is added.
-type Keyed<'a> = (&'a [u8], &'a [u8], &'a [&'a [u8]]);
+/// The authority under which a file is read, the parts of its text, the sections that it adds, and
+/// where and why it is refused.
+type Row<'a> = (Under<'a>, &'a [&'a [u8]], &'a [&'a [u8]], &'a str);
 
-const KEYED: [Keyed<'static>; 4] = [
-    (b"key: ", b" me # you", &[&ONE_KEY, &GITHUB]),
-    (b"", b"", &[&ONE_KEY, &GITHUB]),
-    (b"sha1: ", b"", &[SHA1]),
-    (b"sha256: ", b"", &[SHA256]),
+const ADDED: [Row<'static>; 15] = [
+    (Under::All, &[b"serial: 5"], &[FIVE], ""),
+    (Under::All, &[b"serial: 0x10-020"], &[SIXTEEN], ""),
+    (Under::All, &[b"SeRiAl:\t0X5 \t-\t 05 # 6"], &[FIVE], ""),
+    (Under::All, &[b"\n  \r\n# x\n\tserial:5\r\n"], &[FIVE], ""),
+    (
+        Under::All,
+        &[b"serial: 1-18446744073709551615"],
+        &[TO_THE_GREATEST],
+        "",
+    ),
+    (Under::All, &[b"serial: 1-9"], &[ONE_TO_NINE], ""),
+    (
+        Under::All,
+        &[b"serial: 5\nserial: 5\nserial: 1-9"],
+        &[ONE_TO_NINE],
+        "",
+    ),
+    (Under::All, &[b"id: b\nid: a\nid: b\n"], &[ID_A_AND_B], ""),
+    (Under::All, &[b"ID:a #b"], &[ID_A], ""),
+    (Under::Of(&OTHER), &[b"id: a"], &ID_A_UNDER_OTHER, ""),
+    // a key, its hashes and its fingerprint
+    (
+        Under::NotGiven,
+        &[b"key: ", GITHUB_LINE, b" me # you"],
+        &[&ONE_KEY, &GITHUB],
+        "",
+    ),
+    (Under::NotGiven, &[GITHUB_LINE], &[&ONE_KEY, &GITHUB], ""),
+    (Under::NotGiven, &[b"sha1: ", GITHUB_LINE], &[SHA1], ""),
+    (Under::NotGiven, &[b"sha256: ", GITHUB_LINE], &[SHA256], ""),
+    (
+        Under::NotGiven,
+        &[b"hash: SHA256:+DiY3wvvV6TuJJhbpZisF/zLDA0zPMSvHdkr4UvCOqU"],
+        &[SHA256],
+        "",
+    ),
 ];
 
-#[test]
-fn a_key_and_its_hashes(rt: HostRuntime) -> Result<(), Fail> {
-    for (i, (before, after, sections)) in KEYED.iter().enumerate() {
-        let line = joined(rt.alloc(), &[*before, GITHUB_LINE, *after])?;
-        adds(&rt, rt.alloc(), i, (Under::NotGiven, &line), *sections, "")?;
+/// The second line is refused for what it names, and the first for its authority.
+const TWO_FAULTS: &[u8] = b"serial: 5\nid:  \nserial: 6";
+
+const STOPPED: [Row<'static>; 4] = [
+    // lines before a fault stand
+    (Under::All, &[TWO_FAULTS], &[FIVE], "2: spec 5 EmptyId"),
+    // an authority is wanted before what a line names is read
+    (Under::NotGiven, &[TWO_FAULTS], &[], "1: spec 4 NoAuthority"),
+    (
+        Under::NotGiven,
+        &[b"# the second line is the first that counts\nserial: 08"],
+        &[],
+        "2: spec 4 NoAuthority",
+    ),
+    (Under::NotGiven, &[b"id:"], &[], "1: spec 4 NoAuthority"),
+];
+
+/// Each row of the table is so.
+fn each_adds(rt: &impl Abort, alloc: Global, rows: &[Row]) -> Result<(), AllocError> {
+    for (i, (under, parts, sections, fault)) in rows.iter().enumerate() {
+        let text = joined(alloc, *parts)?;
+        adds(rt, alloc, i, (*under, &text), *sections, *fault)?;
     }
     Ok(())
 }
 
 #[test]
-fn a_fingerprint(rt: HostRuntime) -> Result<(), Fail> {
-    let line = b"hash: SHA256:+DiY3wvvV6TuJJhbpZisF/zLDA0zPMSvHdkr4UvCOqU";
-    adds(&rt, rt.alloc(), 0, (Under::NotGiven, line), &[SHA256], "")
+fn read_to_the_end_or_stopped_at_a_line(rt: HostRuntime) {
+    each_adds(&rt, rt.alloc(), &ADDED).expect(&rt, "there is memory");
+    each_adds(&rt, rt.alloc(), &STOPPED).expect(&rt, "there is memory");
 }
 
-/// A certificate of this serial, after a word, adds this section.
+/// The authority under which the line of a certificate is read, what stands before it, the serial
+/// of the certificate, and the sections that the line adds.
+type Certified<'a> = (Under<'a>, &'a [u8], u64, &'a [&'a [u8]]);
+
+const CERTIFIED: [Certified<'static>; 4] = [
+    // by its ID
+    (Under::NotGiven, b"", 0, &ID_A_UNDER_OTHER),
+    (Under::All, b"", 0, &ID_A_UNDER_OTHER),
+    // by its serial
+    (Under::Of(&GITHUB), b"", 7, &SERIAL_7_UNDER_OTHER),
+    // by its key
+    (Under::NotGiven, b"key:", 7, &[&ONE_KEY, &GITHUB]),
+];
+
+/// The row is so of a certificate by the other key.
 fn certified(
     rt: &impl Abort,
     alloc: Global,
-    under: Under,
-    (word, serial): (&[u8], u64),
-    sections: &[&[u8]],
-) -> Result<(), Fail> {
-    let authority = even_key(alloc, 0x11)?;
-    let line = certificate_line(alloc, &authority, serial)?;
+    number: usize,
+    row: &Certified,
+) -> Result<(), AllocError> {
+    let (under, word, serial, sections) = *row;
+    let line = certificate_line(alloc, &OTHER, serial)?;
     let line = joined(alloc, &[word, &line])?;
-    adds(rt, alloc, 0, (under, &line), sections, "")
+    adds(rt, alloc, number, (under, &line), sections, "")
 }
 
 #[test]
-fn a_certificate_by_its_id(rt: HostRuntime) -> Result<(), Fail> {
-    let authority = even_key(rt.alloc(), 0x11)?;
-    let section = id_under(rt.alloc(), &authority)?;
-    for under in [Under::NotGiven, Under::All] {
-        certified(&rt, rt.alloc(), under, (b"", 0), &[&section])?;
+fn a_certificate_by_its_id_its_serial_and_its_key(rt: HostRuntime) {
+    for (i, row) in CERTIFIED.iter().enumerate() {
+        certified(&rt, rt.alloc(), i, row).expect(&rt, "there is memory");
     }
-    Ok(())
-}
-
-#[test]
-fn a_certificate_by_its_serial(rt: HostRuntime) -> Result<(), Fail> {
-    let authority = even_key(rt.alloc(), 0x11)?;
-    let section = serial_under(rt.alloc(), &authority, 7)?;
-    certified(&rt, rt.alloc(), Under::Of(&GITHUB), (b"", 7), &[&section])
-}
-
-#[test]
-fn a_certificate_by_its_key(rt: HostRuntime) -> Result<(), Fail> {
-    let sections: [&[u8]; 2] = [&ONE_KEY, &GITHUB];
-    certified(&rt, rt.alloc(), Under::NotGiven, (b"key:", 7), &sections)
 }
 
 /// Files that add nothing under all authorities, and where and why they are refused.
@@ -254,9 +233,8 @@ const REFUSED: [(&[u8], &str); 19] = [
 ];
 
 #[test]
-fn refused(rt: HostRuntime) -> Result<(), Fail> {
+fn refused(rt: HostRuntime) {
     for (i, (text, fault)) in REFUSED.iter().enumerate() {
-        adds(&rt, rt.alloc(), i, (Under::All, *text), &[], *fault)?;
+        adds(&rt, rt.alloc(), i, (Under::All, *text), &[], *fault).expect(&rt, "there is memory");
     }
-    Ok(())
 }
