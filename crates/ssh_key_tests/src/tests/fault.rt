@@ -1,13 +1,20 @@
 // The texts of faults.
 
+use crate::tests::parts::is_right;
 use ssh_key::{FingerprintFault, KeyFault, LineFault, PrivateFault};
 use ssh_wire::WireFault;
-use std::alloc::Global;
+use std::alloc::{AllocError, Global};
 use std::fmt::Display;
-use std::process::Abort;
-use std::test::Fail;
 
-const KEY_FAULTS: [(KeyFault, u8, &str); 10] = [
+/// How a fault prints.
+fn printed(alloc: Global, fault: &impl Display) -> Result<String, AllocError> {
+    format!(in alloc; "{fault}")
+}
+
+/// A fault, its number, and how it prints.
+type Row<F> = (F, u8, &'static str);
+
+const OF_KEYS: [Row<KeyFault>; 10] = [
     (
         KeyFault::Wire(WireFault::Short),
         1,
@@ -32,92 +39,75 @@ const KEY_FAULTS: [(KeyFault, u8, &str); 10] = [
     (KeyFault::TooLong, 8, "key 8 TooLong"),
 ];
 
-/// A fault has the number that it is to have, and prints as this text.
-fn is_told(
-    rt: &impl Abort,
-    alloc: Global,
-    fault: &impl Display,
-    (found, number): (u8, u8),
-    text: &str,
-) -> Result<(), Fail> {
-    assert_eq!(rt; found, number);
-    let printed = format!(in alloc; "{fault}")?;
-    assert_eq!(rt; printed.as_str(), text);
-    Ok(())
+#[test]
+fn faults_of_keys(rt: HostRuntime) {
+    for (i, (fault, number, text)) in OF_KEYS.iter().enumerate() {
+        is_right(&rt, i, fault.number() == *number);
+        let printed = printed(rt.alloc(), fault).expect(&rt, "there is memory");
+        is_right(&rt, i, printed.as_str() == *text);
+    }
 }
 
-#[test]
-fn faults_of_keys(rt: HostRuntime) -> Result<(), Fail> {
-    for (fault, number, text) in KEY_FAULTS {
-        is_told(&rt, rt.alloc(), &fault, (fault.number(), number), text)?;
-    }
-    Ok(())
-}
+const OF_LINES: [Row<LineFault>; 4] = [
+    (LineFault::NoKey, 1, "line 1 NoKey"),
+    (LineFault::Base64, 2, "line 2 Base64"),
+    (LineFault::WordDiffers, 3, "line 3 WordDiffers"),
+    (LineFault::NoMemory, 4, "line 4 NoMemory"),
+];
 
 #[test]
-fn faults_of_lines(rt: HostRuntime) -> Result<(), Fail> {
-    let rows = [
-        (LineFault::NoKey, 1, "line 1 NoKey"),
-        (LineFault::Base64, 2, "line 2 Base64"),
-        (LineFault::WordDiffers, 3, "line 3 WordDiffers"),
-        (LineFault::NoMemory, 4, "line 4 NoMemory"),
-    ];
-    for (fault, number, text) in rows {
-        is_told(&rt, rt.alloc(), &fault, (fault.number(), number), text)?;
+fn faults_of_lines(rt: HostRuntime) {
+    for (i, (fault, number, text)) in OF_LINES.iter().enumerate() {
+        is_right(&rt, i, fault.number() == *number);
+        let printed = printed(rt.alloc(), fault).expect(&rt, "there is memory");
+        is_right(&rt, i, printed.as_str() == *text);
     }
-    Ok(())
 }
 
-#[test]
-fn faults_of_fingerprints(rt: HostRuntime) -> Result<(), Fail> {
-    let rows = [
-        (FingerprintFault::Prefix, 1, "fingerprint 1 Prefix"),
-        (FingerprintFault::Base64, 2, "fingerprint 2 Base64"),
-        (FingerprintFault::Length, 3, "fingerprint 3 Length"),
-        (FingerprintFault::NoMemory, 4, "fingerprint 4 NoMemory"),
-    ];
-    for (fault, number, text) in rows {
-        is_told(&rt, rt.alloc(), &fault, (fault.number(), number), text)?;
-    }
-    Ok(())
-}
+const OF_FINGERPRINTS: [Row<FingerprintFault>; 4] = [
+    (FingerprintFault::Prefix, 1, "fingerprint 1 Prefix"),
+    (FingerprintFault::Base64, 2, "fingerprint 2 Base64"),
+    (FingerprintFault::Length, 3, "fingerprint 3 Length"),
+    (FingerprintFault::NoMemory, 4, "fingerprint 4 NoMemory"),
+];
 
 #[test]
-fn faults_of_containers(rt: HostRuntime) -> Result<(), Fail> {
-    let rows = [
-        (PrivateFault::Armour, 1, "private 1 Armour"),
-        (PrivateFault::Base64, 2, "private 2 Base64"),
-        (PrivateFault::Magic, 3, "private 3 Magic"),
-        (PrivateFault::Encrypted, 4, "private 4 Encrypted"),
-        (PrivateFault::KeyCount, 5, "private 5 KeyCount"),
-        (PrivateFault::Check, 6, "private 6 Check"),
-        (PrivateFault::PublicDiffers, 8, "private 8 PublicDiffers"),
-        (PrivateFault::Padding, 9, "private 9 Padding"),
-        (PrivateFault::Trailing, 10, "private 10 Trailing"),
-        (PrivateFault::NoMemory, 12, "private 12 NoMemory"),
-    ];
-    for (fault, number, text) in rows {
-        is_told(&rt, rt.alloc(), &fault, (fault.number(), number), text)?;
+fn faults_of_fingerprints(rt: HostRuntime) {
+    for (i, (fault, number, text)) in OF_FINGERPRINTS.iter().enumerate() {
+        is_right(&rt, i, fault.number() == *number);
+        let printed = printed(rt.alloc(), fault).expect(&rt, "there is memory");
+        is_right(&rt, i, printed.as_str() == *text);
     }
-    Ok(())
 }
 
+const OF_CONTAINERS: [Row<PrivateFault>; 12] = [
+    (PrivateFault::Armour, 1, "private 1 Armour"),
+    (PrivateFault::Base64, 2, "private 2 Base64"),
+    (PrivateFault::Magic, 3, "private 3 Magic"),
+    (PrivateFault::Encrypted, 4, "private 4 Encrypted"),
+    (PrivateFault::KeyCount, 5, "private 5 KeyCount"),
+    (PrivateFault::Check, 6, "private 6 Check"),
+    (PrivateFault::PublicDiffers, 8, "private 8 PublicDiffers"),
+    (PrivateFault::Padding, 9, "private 9 Padding"),
+    (PrivateFault::Trailing, 10, "private 10 Trailing"),
+    (PrivateFault::NoMemory, 12, "private 12 NoMemory"),
+    (
+        PrivateFault::Key(KeyFault::Point),
+        7,
+        "private 7 Key, key 4 Point",
+    ),
+    (
+        PrivateFault::Wire(WireFault::Short),
+        11,
+        "private 11 Wire, wire 1 Short",
+    ),
+];
+
 #[test]
-fn faults_that_containers_carry(rt: HostRuntime) -> Result<(), Fail> {
-    let rows = [
-        (
-            PrivateFault::Key(KeyFault::Point),
-            7,
-            "private 7 Key, key 4 Point",
-        ),
-        (
-            PrivateFault::Wire(WireFault::Short),
-            11,
-            "private 11 Wire, wire 1 Short",
-        ),
-    ];
-    for (fault, number, text) in rows {
-        is_told(&rt, rt.alloc(), &fault, (fault.number(), number), text)?;
+fn faults_of_containers(rt: HostRuntime) {
+    for (i, (fault, number, text)) in OF_CONTAINERS.iter().enumerate() {
+        is_right(&rt, i, fault.number() == *number);
+        let printed = printed(rt.alloc(), fault).expect(&rt, "there is memory");
+        is_right(&rt, i, printed.as_str() == *text);
     }
-    Ok(())
 }

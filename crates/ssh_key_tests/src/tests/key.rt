@@ -7,22 +7,6 @@ use ssh_key::{KeyFault, Kind, read_key};
 use ssh_wire::WireFault;
 use std::alloc::{AllocError, Global};
 use std::process::Abort;
-use std::test::Fail;
-
-/// The blob is a key of this kind, this size and these public fields, and is made of it again.
-fn is_key(
-    rt: &impl Abort,
-    alloc: Global,
-    blob: &[u8],
-    kind: Kind,
-    bits: u32,
-    fields: &[u8],
-) -> Result<(), Fail> {
-    let key = read_key(blob).ok().ok_or("the blob is a key")?;
-    has_parts(rt, &key, kind, bits, fields);
-    is_made(rt, alloc, &key, blob)?;
-    Ok(())
-}
 
 /// The blob of these strings is a key of this kind and size, and is made of that key again.
 fn reads(
@@ -31,10 +15,12 @@ fn reads(
     list: &[&[u8]],
     kind: Kind,
     bits: u32,
-) -> Result<(), Fail> {
+) -> Result<(), AllocError> {
     let fields = strings(alloc, list.get(1..).unwrap_or(&[]))?;
     let blob = strings(alloc, list)?;
-    is_key(rt, alloc, &blob, kind, bits, &fields)
+    let key = read_key(&blob).ok().expect(rt, "the blob is a key");
+    has_parts(rt, &key, kind, bits, &fields);
+    is_made(rt, alloc, &key, &blob)
 }
 
 /// The blob of these strings has this fault.
@@ -49,92 +35,118 @@ fn refuses(
     Ok(())
 }
 
+/// The strings of a blob, and the kind and the size of its key.
+const KEYS: [(&[&[u8]], Kind, u32); 6] = [
+    (&[b"ssh-rsa", &[3], &[0, 0xff]], Kind::Rsa, 8),
+    (&[b"ssh-rsa", &[3], &[1, 0]], Kind::Rsa, 9),
+    (&[b"ssh-dss", &[0x17], &[5], &[2], &[9]], Kind::Dsa, 5),
+    (&[b"ssh-ed25519", &PUBLISHED], Kind::Ed25519, 256),
+    (&[b"ssh-ed25519", &[0x11; 32]], Kind::Ed25519, 256),
+    (
+        &[b"sk-ssh-ed25519@openssh.com", &PUBLISHED, b"ssh:"],
+        Kind::Ed25519Sk,
+        256,
+    ),
+];
+
 #[test]
-fn keys_of_numbers(rt: HostRuntime) -> Result<(), Fail> {
-    let rows: [(&[&[u8]], Kind, u32); 3] = [
-        (&[b"ssh-rsa", &[3], &[0, 0xff]], Kind::Rsa, 8),
-        (&[b"ssh-rsa", &[3], &[1, 0]], Kind::Rsa, 9),
-        (&[b"ssh-dss", &[0x17], &[5], &[2], &[9]], Kind::Dsa, 5),
-    ];
-    for (list, kind, bits) in rows {
-        reads(&rt, rt.alloc(), list, kind, bits)?;
+fn keys_of_numbers_and_of_32_bytes(rt: HostRuntime) {
+    for (list, kind, bits) in &KEYS {
+        reads(&rt, rt.alloc(), *list, *kind, *bits).expect(&rt, "there is memory");
     }
-    Ok(())
 }
 
-/// A key of this kind on this curve, whose point has so many bytes, is read.
-fn on_curve(
-    rt: &impl Abort,
-    alloc: Global,
-    kind: Kind,
-    names: (&str, &str),
-    size: usize,
-    bits: u32,
-) -> Result<(), Fail> {
+/// The kind of a key on a curve, its type name and its curve, the size of its point, what follows
+/// that, and its own size.
+type OnCurve<'a> = (Kind, &'a str, &'a str, usize, &'a [&'a [u8]], u32);
+
+const ON_CURVES: [OnCurve<'static>; 4] = [
+    (
+        Kind::Ecdsa256,
+        "ecdsa-sha2-nistp256",
+        "nistp256",
+        65,
+        &[],
+        256,
+    ),
+    (
+        Kind::Ecdsa384,
+        "ecdsa-sha2-nistp384",
+        "nistp384",
+        97,
+        &[],
+        384,
+    ),
+    (
+        Kind::Ecdsa521,
+        "ecdsa-sha2-nistp521",
+        "nistp521",
+        133,
+        &[],
+        521,
+    ),
+    // a device has an application
+    (
+        Kind::EcdsaSk,
+        "sk-ecdsa-sha2-nistp256@openssh.com",
+        "nistp256",
+        65,
+        &[b"ssh:"],
+        256,
+    ),
+];
+
+/// A key on a curve is read.
+fn on_curve(rt: &impl Abort, alloc: Global, row: &OnCurve) -> Result<(), AllocError> {
+    let (kind, name, curve, size, more, bits) = *row;
     let q = point(alloc, size, 4)?;
-    let list: [&[u8]; 3] = [names.0.as_bytes(), names.1.as_bytes(), &q];
+    let mut list: Vec<&[u8]> = Vec::new(alloc);
+    list.push(name.as_bytes())?;
+    list.push(curve.as_bytes())?;
+    list.push(&q)?;
+    list.extend_from_slice(more)?;
     reads(rt, alloc, &list, kind, bits)
 }
 
 #[test]
-fn keys_on_curves(rt: HostRuntime) -> Result<(), Fail> {
-    let rows = [
-        (Kind::Ecdsa256, ("ecdsa-sha2-nistp256", "nistp256"), 65, 256),
-        (Kind::Ecdsa384, ("ecdsa-sha2-nistp384", "nistp384"), 97, 384),
-        (
-            Kind::Ecdsa521,
-            ("ecdsa-sha2-nistp521", "nistp521"),
-            133,
-            521,
-        ),
-    ];
-    for (kind, names, size, bits) in rows {
-        on_curve(&rt, rt.alloc(), kind, names, size, bits)?;
+fn keys_on_curves(rt: HostRuntime) {
+    for row in &ON_CURVES {
+        on_curve(&rt, rt.alloc(), row).expect(&rt, "there is memory");
     }
-    Ok(())
 }
 
-#[test]
-fn key_on_a_curve_of_a_device(rt: HostRuntime) -> Result<(), Fail> {
-    let alloc = rt.alloc();
-    let q = point(alloc, 65, 4)?;
-    let name: &[u8] = b"sk-ecdsa-sha2-nistp256@openssh.com";
-    let device: [&[u8]; 4] = [name, b"nistp256", &q, b"ssh:"];
-    reads(&rt, alloc, &device, Kind::EcdsaSk, 256)
-}
+const SHORT: KeyFault = KeyFault::Wire(WireFault::Short);
+
+const NEGATIVE: KeyFault = KeyFault::Wire(WireFault::Negative);
+
+const NOT_SHORTEST: KeyFault = KeyFault::Wire(WireFault::NotShortest);
+
+/// The strings of a blob, and its fault.
+const REFUSED: [(&[&[u8]], KeyFault); 13] = [
+    // numbers
+    (&[b"ssh-rsa", &[3], &[0, 0x7f]], NOT_SHORTEST),
+    (&[b"ssh-rsa", &[3], &[0]], NOT_SHORTEST),
+    (&[b"ssh-rsa", &[3], &[0xff]], NEGATIVE),
+    (&[b"ssh-rsa", &[], &[0, 0xff]], KeyFault::Number),
+    (&[b"ssh-rsa", &[3], &[]], KeyFault::Number),
+    (&[b"ssh-rsa", &[], &[0xff]], KeyFault::Number),
+    (&[b"ssh-dss", &[0x17], &[5], &[2], &[]], KeyFault::Number),
+    (&[b"ssh-rsa", &[3]], SHORT),
+    // strings
+    (&[b"ssh-ed25519", &[7; 31]], KeyFault::Length),
+    (&[b"ssh-ed25519", &[7; 33]], KeyFault::Length),
+    (&[b"sk-ssh-ed25519@openssh.com", &PUBLISHED], SHORT),
+    (
+        &[b"ssh-ed25519-cert-v01@openssh.com", &PUBLISHED],
+        KeyFault::UnknownType,
+    ),
+    (&[], SHORT),
+];
 
 #[test]
-fn keys_of_32_bytes(rt: HostRuntime) -> Result<(), Fail> {
-    let rows: [(&[&[u8]], Kind); 3] = [
-        (&[b"ssh-ed25519", &PUBLISHED], Kind::Ed25519),
-        (&[b"ssh-ed25519", &[0x11; 32]], Kind::Ed25519),
-        (
-            &[b"sk-ssh-ed25519@openssh.com", &PUBLISHED, b"ssh:"],
-            Kind::Ed25519Sk,
-        ),
-    ];
-    for (list, kind) in rows {
-        reads(&rt, rt.alloc(), list, kind, 256)?;
-    }
-    Ok(())
-}
-
-#[test]
-fn faults_of_numbers(rt: HostRuntime) {
-    let not_shortest = KeyFault::Wire(WireFault::NotShortest);
-    let negative = KeyFault::Wire(WireFault::Negative);
-    let rows: [(&[&[u8]], KeyFault); 8] = [
-        (&[b"ssh-rsa", &[3], &[0, 0x7f]], not_shortest),
-        (&[b"ssh-rsa", &[3], &[0]], not_shortest),
-        (&[b"ssh-rsa", &[3], &[0xff]], negative),
-        (&[b"ssh-rsa", &[], &[0, 0xff]], KeyFault::Number),
-        (&[b"ssh-rsa", &[3], &[]], KeyFault::Number),
-        (&[b"ssh-rsa", &[], &[0xff]], KeyFault::Number),
-        (&[b"ssh-dss", &[0x17], &[5], &[2], &[]], KeyFault::Number),
-        (&[b"ssh-rsa", &[3]], KeyFault::Wire(WireFault::Short)),
-    ];
-    for (list, fault) in rows {
-        refuses(&rt, rt.alloc(), list, fault).expect(&rt, "there is memory");
+fn faults_of_numbers_and_strings(rt: HostRuntime) {
+    for (list, fault) in &REFUSED {
+        refuses(&rt, rt.alloc(), *list, *fault).expect(&rt, "there is memory");
     }
 }
 
@@ -172,22 +184,6 @@ fn faults_of_points(rt: HostRuntime) {
 }
 
 #[test]
-fn faults_of_strings(rt: HostRuntime) {
-    let short = KeyFault::Wire(WireFault::Short);
-    let certificate = b"ssh-ed25519-cert-v01@openssh.com";
-    let rows: [(&[&[u8]], KeyFault); 5] = [
-        (&[b"ssh-ed25519", &[7; 31]], KeyFault::Length),
-        (&[b"ssh-ed25519", &[7; 33]], KeyFault::Length),
-        (&[b"sk-ssh-ed25519@openssh.com", &PUBLISHED], short),
-        (&[certificate, &PUBLISHED], KeyFault::UnknownType),
-        (&[], short),
-    ];
-    for (list, fault) in rows {
-        refuses(&rt, rt.alloc(), list, fault).expect(&rt, "there is memory");
-    }
-}
-
-#[test]
 fn bytes_after_the_key(rt: HostRuntime) {
     let alloc = rt.alloc();
     let mut blob = published_key(alloc).expect(&rt, "there is memory");
@@ -198,9 +194,8 @@ fn bytes_after_the_key(rt: HostRuntime) {
 #[test]
 fn cut_blobs(rt: HostRuntime) {
     let blob = published_key(rt.alloc()).expect(&rt, "there is memory");
-    let short = KeyFault::Wire(WireFault::Short);
     for n in 0..blob.len() {
-        has_fault(&rt, &blob[..n], short);
+        has_fault(&rt, &blob[..n], SHORT);
     }
 }
 
@@ -213,7 +208,7 @@ fn longest_blob(rt: HostRuntime) {
         &[b"sk-ssh-ed25519@openssh.com", &PUBLISHED, &application],
     )
     .expect(&rt, "there is memory");
-    assert_eq!(rt; blob.len(), 65_536);
+    assert!(rt; blob.len() == 65_536);
     assert!(rt; read_key(&blob).is_ok());
     blob.push(0).expect(&rt, "there is memory");
     has_fault(&rt, &blob, KeyFault::TooLong);

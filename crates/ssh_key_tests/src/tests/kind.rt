@@ -1,5 +1,6 @@
 // The names of kinds.
 
+use crate::tests::parts::is_right;
 use ssh_key::Kind;
 
 const NAMES: [(Kind, &str, &str); 8] = [
@@ -40,24 +41,26 @@ fn is_found(name: &str, kind: Option<Kind>) -> bool {
 
 #[test]
 fn names(rt: HostRuntime) {
-    for (kind, name, short_name) in NAMES {
-        assert!(rt; has_names(kind, name, short_name), "{name}");
-        assert!(rt; is_found(name, Some(kind)), "{name}");
+    for (i, (kind, name, short_name)) in NAMES.iter().enumerate() {
+        is_right(&rt, i, has_names(*kind, *name, *short_name));
+        is_right(&rt, i, is_found(*name, Some(*kind)));
     }
 }
 
+const OTHER_NAMES: [&str; 7] = [
+    "",
+    "ssh-rs",
+    "ssh-rsa ",
+    "SSH-RSA",
+    "rsa-sha2-256",
+    "ssh-rsa-cert-v01@openssh.com",
+    "ssh-ed25519-cert-v01@openssh.com",
+];
+
 #[test]
 fn other_names(rt: HostRuntime) {
-    for name in [
-        "",
-        "ssh-rs",
-        "ssh-rsa ",
-        "SSH-RSA",
-        "rsa-sha2-256",
-        "ssh-rsa-cert-v01@openssh.com",
-        "ssh-ed25519-cert-v01@openssh.com",
-    ] {
-        assert!(rt; is_found(name, None), "{name}");
+    for (i, name) in OTHER_NAMES.iter().enumerate() {
+        is_right(&rt, i, is_found(*name, None));
     }
 }
 
@@ -73,22 +76,24 @@ fn is_certified(name: &str, kind: Option<Kind>) -> bool {
 
 #[test]
 fn certificate_names(rt: HostRuntime) {
-    for (kind, name) in CERTIFICATE_NAMES {
-        assert!(rt; certifies(kind, name), "{name}");
-        assert!(rt; is_certified(name, Some(kind)), "{name}");
+    for (i, (kind, name)) in CERTIFICATE_NAMES.iter().enumerate() {
+        is_right(&rt, i, certifies(*kind, *name));
+        is_right(&rt, i, is_certified(*name, Some(*kind)));
     }
 }
 
+const NO_CERTIFICATE_NAMES: [&str; 6] = [
+    "",
+    "ssh-rsa",
+    "ssh-ed25519",
+    "ssh-rsa-cert-v00@openssh.com",
+    "ssh-rsa-cert-v01",
+    "rsa-sha2-256-cert-v01@openssh.com",
+];
+
 #[test]
 fn no_certificate_names(rt: HostRuntime) {
-    for name in [
-        "",
-        "ssh-rsa",
-        "ssh-ed25519",
-        "ssh-rsa-cert-v00@openssh.com",
-        "ssh-rsa-cert-v01",
-        "rsa-sha2-256-cert-v01@openssh.com",
-    ] {
-        assert!(rt; is_certified(name, None), "{name}");
+    for (i, name) in NO_CERTIFICATE_NAMES.iter().enumerate() {
+        is_right(&rt, i, is_certified(*name, None));
     }
 }

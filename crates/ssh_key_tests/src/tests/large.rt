@@ -1,6 +1,6 @@
 // Inputs past every page and limit, with memory enough: none is refused for its size.
 
-use crate::tests::parts::{PUBLISHED, has_fault, has_fingerprint, is_made, strings};
+use crate::tests::parts::{PUBLISHED, has_fault, has_fingerprint, is_made, is_right, strings};
 use base64::engine::general_purpose::STANDARD;
 use ssh_key::{Hash, KeyFault, read_key, read_line};
 use std::alloc::{AllocError, Global};
@@ -54,14 +54,10 @@ fn blobs(rt: HostRuntime) {
 fn lines(rt: HostRuntime) {
     let alloc = rt.alloc();
     for size in [0, 1_000, 1_025, 4_097, 65_466, 70_000, 300_000] {
-        assert!(rt;
-            reads_line(alloc, size, 1).expect(&rt, "there is memory"),
-            "{size}"
-        );
-        assert!(rt;
-            reads_line(alloc, 1, size).expect(&rt, "there is memory"),
-            "{size}"
-        );
+        let right = reads_line(alloc, size, 1).expect(&rt, "there is memory");
+        is_right(&rt, size, right);
+        let right = reads_line(alloc, 1, size).expect(&rt, "there is memory");
+        is_right(&rt, size, right);
     }
 }
 

@@ -1,6 +1,6 @@
 // Lines that give the key, and lines that give none.
 
-use crate::tests::parts::{PUBLISHED_BASE64, PUBLISHED_TYPE, published_key};
+use crate::tests::parts::{PUBLISHED_BASE64, PUBLISHED_TYPE, is_right, published_key};
 use ssh_key::{LineFault, read_line};
 use std::alloc::{AllocError, Global};
 
@@ -51,27 +51,18 @@ const READ: [(&str, &str, &str); 13] = [
 
 #[test]
 fn read(rt: HostRuntime) {
-    for (before, after, comment) in &READ {
-        assert!(rt;
-            reads(rt.alloc(), before, after, comment).expect(&rt, "there is memory"),
-            "{before}..{after}"
-        );
+    for (i, (before, after, comment)) in READ.iter().enumerate() {
+        let right = reads(rt.alloc(), *before, *after, *comment).expect(&rt, "there is memory");
+        is_right(&rt, i, right);
     }
 }
 
-/// Why the line is refused.
-fn refusal(alloc: Global, line: &str) -> Option<LineFault> {
-    read_line(alloc, line.as_bytes()).err()
-}
-
-/// Why the line of the key between two texts is refused.
-fn refusal_between(
-    alloc: Global,
-    before: &str,
-    after: &str,
-) -> Result<Option<LineFault>, AllocError> {
-    let line = line(alloc, before, after)?;
-    Ok(refusal(alloc, line.as_str()))
+/// Whether the line is refused with this fault.
+fn is_refused(alloc: Global, line: &str, fault: LineFault) -> bool {
+    match read_line(alloc, line.as_bytes()) {
+        Ok(_) => false,
+        Err(found) => found == fault,
+    }
 }
 
 const REFUSED: [(&str, &str, LineFault); 15] = [
@@ -102,9 +93,9 @@ const REFUSED: [(&str, &str, LineFault); 15] = [
 
 #[test]
 fn refused(rt: HostRuntime) {
-    for (before, after, fault) in &REFUSED {
-        let found = refusal_between(rt.alloc(), before, after).expect(&rt, "there is memory");
-        assert_eq!(rt; found, Some(*fault), "{before}..{after}");
+    for (i, (before, after, fault)) in REFUSED.iter().enumerate() {
+        let line = line(rt.alloc(), *before, *after).expect(&rt, "there is memory");
+        is_right(&rt, i, is_refused(rt.alloc(), line.as_str(), *fault));
     }
 }
 
@@ -131,8 +122,8 @@ const WITHOUT_THE_KEY: [(&str, LineFault); 16] = [
 
 #[test]
 fn refused_without_the_key(rt: HostRuntime) {
-    for (line, fault) in &WITHOUT_THE_KEY {
-        assert_eq!(rt; refusal(rt.alloc(), line), Some(*fault), "{line}");
+    for (i, (line, fault)) in WITHOUT_THE_KEY.iter().enumerate() {
+        is_right(&rt, i, is_refused(rt.alloc(), *line, *fault));
     }
 }
 

@@ -67,18 +67,17 @@ pub fn is_made(
     blob: &[u8],
 ) -> Result<(), AllocError> {
     let made = plain_blob(alloc, key)?;
-    assert_eq!(rt; made.as_slice(), blob);
+    assert!(rt; made.as_slice() == blob);
     Ok(())
-}
-
-/// Why the blob is no key.
-fn fault_of(blob: &[u8]) -> Option<KeyFault> {
-    read_key(blob).err()
 }
 
 /// The blob has this fault.
 pub fn has_fault(rt: &impl Abort, blob: &[u8], fault: KeyFault) {
-    assert_eq!(rt; fault_of(blob), Some(fault), "{} bytes", blob.len());
+    let right = match read_key(blob) {
+        Ok(_) => false,
+        Err(found) => found == fault,
+    };
+    is_right(rt, blob.len(), right);
 }
 
 /// The bytes have this fingerprint.
@@ -90,7 +89,7 @@ pub fn has_fingerprint(
     text: &str,
 ) -> Result<(), AllocError> {
     let found = fingerprint(alloc, hash, bytes)?;
-    assert_eq!(rt; found.as_slice(), text.as_bytes());
+    assert!(rt; found.as_slice() == text.as_bytes());
     Ok(())
 }
 
@@ -102,6 +101,11 @@ pub fn has_digits(
     digits: &str,
 ) -> Result<(), AllocError> {
     let found = hex::encode(alloc, digest)?;
-    assert_eq!(rt; found.as_str(), digits);
+    assert!(rt; found.as_str() == digits);
     Ok(())
+}
+
+/// What a test says of a case is right; the number tells the case from the others of the test.
+pub fn is_right(rt: &impl Abort, number: usize, right: bool) {
+    assert!(rt; right, "in case {number}");
 }

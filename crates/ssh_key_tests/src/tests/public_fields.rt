@@ -1,6 +1,6 @@
 // Public fields read from the front of bytes.
 
-use crate::tests::parts::{PUBLISHED, has_parts, is_made, published_key, strings};
+use crate::tests::parts::{PUBLISHED, has_parts, is_made, is_right, published_key, strings};
 use ssh_key::{KeyFault, Kind, PublicKey, read_fields};
 use ssh_wire::{Cursor, WireFault};
 use std::alloc::{AllocError, Global};
@@ -30,11 +30,13 @@ fn fields_before_more(rt: HostRuntime) {
     assert!(rt; ends_with(&mut cursor, b"what follows"));
 }
 
-/// Why no fields stand at the front of the bytes, where all of them are left.
-fn refusal(kind: Kind, bytes: &[u8]) -> Option<KeyFault> {
+/// Whether no fields stand at the front of the bytes, for this fault, and all of them are left.
+fn refuses_bytes(kind: Kind, bytes: &[u8], fault: KeyFault) -> bool {
     let mut cursor = Cursor::new(bytes);
-    let fault = read_fields(kind, &mut cursor).err();
-    if cursor.rest() == bytes { fault } else { None }
+    match read_fields(kind, &mut cursor) {
+        Ok(_) => false,
+        Err(found) => found == fault && cursor.rest() == bytes,
+    }
 }
 
 /// The fields of these strings have this fault, and all of them are left.
@@ -46,7 +48,7 @@ fn refuses(
     fault: KeyFault,
 ) -> Result<(), AllocError> {
     let bytes = strings(alloc, list)?;
-    assert_eq!(rt; refusal(kind, &bytes), Some(fault), "{} bytes", bytes.len());
+    is_right(rt, bytes.len(), refuses_bytes(kind, &bytes, fault));
     Ok(())
 }
 
@@ -85,10 +87,8 @@ fn reads(alloc: Global, application: &[u8]) -> Result<bool, AllocError> {
 fn longest_fields(rt: HostRuntime) {
     let mut application = vec![in rt.alloc(); b'x'; 65_466].expect(&rt, "there is memory");
     for fits in [true, false] {
-        assert_eq!(rt;
-            reads(rt.alloc(), &application).expect(&rt, "there is memory"),
-            fits
-        );
+        let found = reads(rt.alloc(), &application).expect(&rt, "there is memory");
+        assert!(rt; found == fits);
         application.push(b'x').expect(&rt, "there is memory");
     }
 }

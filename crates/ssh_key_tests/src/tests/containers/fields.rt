@@ -8,7 +8,6 @@ use ssh_key::{KeyFault, PrivateFault};
 use ssh_wire::WireFault;
 use std::alloc::{AllocError, Global};
 use std::process::Abort;
-use std::test::Fail;
 
 /// The container of the published key with this cipher, derivation and options is encrypted.
 fn encrypted(
@@ -148,60 +147,50 @@ fn bytes_behind_an_empty_list(rt: HostRuntime) {
 }
 
 /// The bytes with those from one place to another repeated.
-fn repeated(alloc: Global, bytes: &[u8], from: usize, to: usize) -> Result<Vec<u8>, Fail> {
-    let (front, back) = bytes.split_at_checked(to).ok_or("it is longer")?;
-    let field = front.get(from..).ok_or("the field begins before its end")?;
-    Ok(joined(alloc, &[front, field, back])?)
+fn repeated(alloc: Global, bytes: &[u8], from: usize, to: usize) -> Result<Vec<u8>, AllocError> {
+    let front = bytes.get(..to).unwrap_or(&[]);
+    let back = bytes.get(from..).unwrap_or(&[]);
+    joined(alloc, &[front, back])
 }
+
+/// Where a field begins and ends, and the fault of a container that has it twice.
+const TWICE: [(usize, usize, PrivateFault); 7] = [
+    // The name of the format: what it begins with is the length of the cipher.
+    (0, 15, PrivateFault::Wire(WireFault::Short)),
+    // The cipher, the derivation and the options.
+    (15, 23, PrivateFault::Encrypted),
+    (23, 31, PrivateFault::Encrypted),
+    (31, 35, PrivateFault::KeyCount),
+    // The number of keys: the second stands for a blob of one byte.
+    (35, 39, PrivateFault::Key(KeyFault::Wire(WireFault::Short))),
+    // The blob, and the list.
+    (39, 94, PrivateFault::Trailing),
+    (94, 234, PrivateFault::Trailing),
+];
 
 #[test]
-fn fields_twice(rt: HostRuntime) -> Result<(), Fail> {
-    let bytes = published_container(rt.alloc())?;
-    let short = KeyFault::Wire(WireFault::Short);
-    let rows = [
-        // The name of the format: what it begins with is the length of the cipher.
-        (0, 15, PrivateFault::Wire(WireFault::Short)),
-        // The cipher, the derivation and the options.
-        (15, 23, PrivateFault::Encrypted),
-        (23, 31, PrivateFault::Encrypted),
-        (31, 35, PrivateFault::KeyCount),
-        // The number of keys: the second stands for a blob of one byte.
-        (35, 39, PrivateFault::Key(short)),
-        // The blob, and the list.
-        (39, 94, PrivateFault::Trailing),
-        (94, 234, PrivateFault::Trailing),
-    ];
-    for (from, to, fault) in rows {
-        let bytes = repeated(rt.alloc(), &bytes, from, to)?;
-        are_refused(&rt, rt.alloc(), &bytes, fault)?;
+fn fields_twice(rt: HostRuntime) {
+    let bytes = published_container(rt.alloc()).expect(&rt, "there is memory");
+    for (from, to, fault) in &TWICE {
+        let bytes = repeated(rt.alloc(), &bytes, *from, *to).expect(&rt, "there is memory");
+        are_refused(&rt, rt.alloc(), &bytes, *fault).expect(&rt, "there is memory");
     }
-    Ok(())
-}
-
-/// The bytes before the length at this place, and those after it.
-fn round_length(bytes: &[u8], at: usize) -> Option<(&[u8], &[u8])> {
-    let (front, back) = bytes.split_at_checked(at)?;
-    Some((front, back.get(4..)?))
 }
 
 /// The bytes with a length of 2^32-1 at this place.
-fn lengthened(alloc: Global, bytes: &[u8], at: usize) -> Result<Vec<u8>, Fail> {
-    let (front, back) = round_length(bytes, at).ok_or("the length has four bytes")?;
-    Ok(joined(alloc, &[front, &[0xff; 4], back])?)
+fn lengthened(alloc: Global, bytes: &[u8], at: usize) -> Result<Vec<u8>, AllocError> {
+    let front = bytes.get(..at).unwrap_or(&[]);
+    let rest = bytes.get(at..).unwrap_or(&[]);
+    joined(alloc, &[front, &[0xff; 4], rest.get(4..).unwrap_or(&[])])
 }
 
 #[test]
-fn false_lengths(rt: HostRuntime) -> Result<(), Fail> {
-    let bytes = published_container(rt.alloc())?;
+fn false_lengths(rt: HostRuntime) {
+    let bytes = published_container(rt.alloc()).expect(&rt, "there is memory");
+    let short = PrivateFault::Wire(WireFault::Short);
     // In the list they are those of the type, the public field, the private one and the comment.
     for at in [15, 23, 31, 39, 94, 106, 121, 157, 225] {
-        let bytes = lengthened(rt.alloc(), &bytes, at)?;
-        are_refused(
-            &rt,
-            rt.alloc(),
-            &bytes,
-            PrivateFault::Wire(WireFault::Short),
-        )?;
+        let bytes = lengthened(rt.alloc(), &bytes, at).expect(&rt, "there is memory");
+        are_refused(&rt, rt.alloc(), &bytes, short).expect(&rt, "there is memory");
     }
-    Ok(())
 }

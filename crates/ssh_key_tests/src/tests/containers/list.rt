@@ -3,7 +3,7 @@
 use crate::tests::containers::made::{
     are_refused, armoured, is_read, joined, list, plain, published_fields,
 };
-use crate::tests::parts::{PUBLISHED, PUBLISHED_TYPE, published_key, strings};
+use crate::tests::parts::{PUBLISHED, PUBLISHED_TYPE, is_right, published_key, strings};
 use ssh_key::{KeyFault, PrivateFault};
 use ssh_wire::WireFault;
 use std::alloc::{AllocError, Global};
@@ -174,11 +174,7 @@ fn padded(
     let blob = published_key(alloc)?;
     let bytes = container(alloc, comment, padding)?;
     let text = armoured(alloc, &bytes)?;
-    assert!(rt;
-        is_read(alloc, &text, &blob, comment),
-        "{} bytes",
-        padding.len()
-    );
+    is_right(rt, padding.len(), is_read(alloc, &text, &blob, comment));
     Ok(())
 }
 

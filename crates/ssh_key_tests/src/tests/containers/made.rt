@@ -102,14 +102,13 @@ pub fn around(alloc: Global, text: &[u8]) -> Result<Vec<u8>, AllocError> {
     )
 }
 
-/// Why the text is refused.
-fn refusal(alloc: Global, text: &[u8]) -> Option<PrivateFault> {
-    read_private(alloc, text).err()
-}
-
 /// The text is refused with this fault.
 pub fn is_refused(rt: &impl Abort, alloc: Global, text: &[u8], fault: PrivateFault) {
-    assert_eq!(rt; refusal(alloc, text), Some(fault));
+    let right = match read_private(alloc, text) {
+        Ok(_) => false,
+        Err(found) => found == fault,
+    };
+    assert!(rt; right);
 }
 
 /// The bytes, armoured, are refused with this fault.
