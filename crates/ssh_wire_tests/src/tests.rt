@@ -9,46 +9,57 @@ mod rest;
 mod writer;
 
 use ssh_wire::{Bytes, PullFault, WireFault};
-use std::alloc::Global;
+use std::alloc::{AllocError, Global};
 use std::fmt::Display;
-use std::test::*;
+use std::process::Abort;
 
-/// Whether the fault prints as this text.
-fn prints(alloc: Global, fault: &impl Display, text: &str) -> Result<bool, Fail> {
-    let printed = format!(in alloc; "{fault}")?;
-    Ok(printed.as_str() == text)
+/// What a test says of a case is right; the number tells the case from the others of the test.
+fn is_right(rt: &impl Abort, number: usize, right: bool) {
+    assert!(rt; right, "in case {number}");
 }
 
-#[test]
-fn faults_have_numbers_and_texts(rt: HostRuntime) -> Result<(), Fail> {
-    for (fault, number, text) in [
-        (WireFault::Short, 1, "wire 1 Short"),
-        (WireFault::Negative, 2, "wire 2 Negative"),
-        (WireFault::NotShortest, 3, "wire 3 NotShortest"),
-    ] {
-        assert_eq!(rt; fault.number(), number);
-        assert!(rt; prints(rt.alloc(), &fault, text)?, "{text}");
-    }
-    Ok(())
+/// How a fault prints.
+fn printed(alloc: Global, fault: &impl Display) -> Result<String, AllocError> {
+    format!(in alloc; "{fault}")
 }
 
+/// A fault, its number, and how it prints.
+type Row<F> = (F, u8, &'static str);
+
+const WIRE_FAULTS: [Row<WireFault>; 3] = [
+    (WireFault::Short, 1, "wire 1 Short"),
+    (WireFault::Negative, 2, "wire 2 Negative"),
+    (WireFault::NotShortest, 3, "wire 3 NotShortest"),
+];
+
 #[test]
-fn pull_faults_have_numbers_and_texts(rt: HostRuntime) -> Result<(), Fail> {
-    for (fault, number, text) in [
-        (PullFault::EndsEarly, 1, "pull 1 EndsEarly"),
-        (PullFault::TooLong, 2, "pull 2 TooLong"),
-        (PullFault::Read, 3, "pull 3 Read"),
-        (PullFault::NoMemory, 4, "pull 4 NoMemory"),
-    ] {
-        assert_eq!(rt; fault.number(), number);
-        assert!(rt; prints(rt.alloc(), &fault, text)?, "{text}");
+fn faults_have_numbers_and_texts(rt: HostRuntime) {
+    for (i, (fault, number, text)) in WIRE_FAULTS.iter().enumerate() {
+        is_right(&rt, i, fault.number() == *number);
+        let printed = printed(rt.alloc(), fault).expect(&rt, "there is memory");
+        is_right(&rt, i, printed.as_str() == *text);
     }
-    Ok(())
+}
+
+const PULL_FAULTS: [Row<PullFault>; 4] = [
+    (PullFault::EndsEarly, 1, "pull 1 EndsEarly"),
+    (PullFault::TooLong, 2, "pull 2 TooLong"),
+    (PullFault::Read, 3, "pull 3 Read"),
+    (PullFault::NoMemory, 4, "pull 4 NoMemory"),
+];
+
+#[test]
+fn pull_faults_have_numbers_and_texts(rt: HostRuntime) {
+    for (i, (fault, number, text)) in PULL_FAULTS.iter().enumerate() {
+        is_right(&rt, i, fault.number() == *number);
+        let printed = printed(rt.alloc(), fault).expect(&rt, "there is memory");
+        is_right(&rt, i, printed.as_str() == *text);
+    }
 }
 
 #[test]
 fn bytes_are_those_of_the_vector(rt: HostRuntime) {
     let bytes = Bytes::from_vec(vec![in rt.alloc(); 7, 8].expect(&rt, "there is memory"));
-    assert_eq!(rt; bytes.as_slice(), [7, 8].as_slice());
-    assert_eq!(rt; bytes.into_vec().as_slice(), [7, 8].as_slice());
+    assert!(rt; bytes.as_slice() == [7, 8].as_slice());
+    assert!(rt; bytes.into_vec().as_slice() == [7, 8].as_slice());
 }

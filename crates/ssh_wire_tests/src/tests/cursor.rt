@@ -1,7 +1,7 @@
 // Fields that are read from the front of bytes, and those that are not there.
 
+use crate::tests::is_right;
 use ssh_wire::{Cursor, WireFault};
-use std::test::*;
 
 /// What is asked of a cursor, and what it answers.
 #[derive(Clone, Copy)]
@@ -53,12 +53,12 @@ fn reads_a_row_of_fields(rt: HostRuntime) {
         AtEnd(true),
     ];
     let bytes = b"\x01\x29\xb7\xf4\xaa\0\0\0\x01\0\0\0\x02\0\0\0\x02hi!";
-    assert_eq!(rt; met(bytes, &steps), steps.len());
+    assert!(rt; met(bytes, &steps) == steps.len());
 }
 
 #[test]
 fn refuses_what_is_cut_off_and_stays(rt: HostRuntime) {
-    assert_eq!(rt; met(b"", &[Byte(Err(WireFault::Short)), AtEnd(true)]), 2);
+    assert!(rt; met(b"", &[Byte(Err(WireFault::Short)), AtEnd(true)]) == 2);
     let whole = b"\0\0\0\x04abcd".as_slice();
     for size in 0..8 {
         let bytes = &whole[..size];
@@ -72,7 +72,7 @@ fn refuses_what_is_cut_off_and_stays(rt: HostRuntime) {
             Rest(bytes),
         ];
         let asked = if size < 4 { 6 } else { 4 };
-        assert_eq!(rt; met(bytes, &steps[..asked]), asked, "{size} bytes");
+        is_right(&rt, size, met(bytes, &steps[..asked]) == asked);
     }
 }
 
@@ -101,6 +101,6 @@ fn reads(bytes: &[u8], read: Result<&[u8], WireFault>) -> bool {
 #[test]
 fn reads_shortest_numbers_alone(rt: HostRuntime) {
     for (i, (bytes, read)) in NUMBERS.iter().enumerate() {
-        assert!(rt; reads(bytes, *read), "row {i}");
+        is_right(&rt, i, reads(*bytes, *read));
     }
 }

@@ -4,7 +4,6 @@ ghost use Rattle.std.specs.Prelude.{◌≤◌, IfOk};
 
 use ssh_wire::{Failed, FromRead, Pull, PullFault, Sent, Sink, Source, ToWrite, send};
 use std::io::{self, ErrorKind, Read, Write};
-use std::test::*;
 
 /// Refuses its first call, by an error or by taking no byte, and serves each later one whole.
 #[derive(Drop)]
@@ -63,12 +62,12 @@ fn a_reader_that_fails_once_has_failed(rt: HostRuntime) {
     for error in ERRORS {
         let mut reader = FromRead::new(device(Some(error)));
         for _ in 0..3 {
-            assert_eq!(rt; reader.read(&mut [0; 4]), Err(Failed));
+            assert!(rt; reader.read(&mut [0; 4]) == Err(Failed));
             assert!(rt; reader.failed());
         }
         let mut fields = Pull::new(FromRead::new(device(Some(error))), 10);
         for _ in 0..3 {
-            assert_eq!(rt; fields.byte(), Err(PullFault::Read));
+            assert!(rt; fields.byte() == Err(PullFault::Read));
         }
     }
 }

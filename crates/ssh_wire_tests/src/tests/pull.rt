@@ -1,9 +1,9 @@
 // Fields from readers that give few bytes at a call, fail, or never end.
 
+use crate::tests::is_right;
 use ssh_wire::{FromRead, Pull, PullFault};
 use std::alloc::{AllocError, Global};
 use std::io::{self, ErrorKind, Read};
-use std::test::*;
 
 /// What a reader does once its bytes are given.
 #[derive(Clone, Copy)]
@@ -64,32 +64,41 @@ pub fn pull(bytes: &[u8], piece: usize, then: Then, limit: u64) -> Reader<'_> {
     Pull::new(FromRead::new(Giver { bytes, piece, then }), limit)
 }
 
-/// So many bytes of a reader.
-fn filled(reader: &mut Reader<'_>, alloc: Global, size: usize) -> Result<Vec<u8>, Fail> {
-    let mut into = vec![in alloc; 0; size]?;
-    fill(reader, &mut into)?;
-    Ok(into)
+fn fill(reader: &mut Reader<'_>, into: &mut [u8]) -> bool {
+    reader.fill(into).is_ok()
 }
 
-fn fill(reader: &mut Reader<'_>, into: &mut [u8]) -> Result<(), PullFault> {
-    reader.fill(into)
+/// Whether a slice of their length is filled with these bytes.
+fn fills(reader: &mut Reader<'_>, alloc: Global, field: &[u8]) -> Result<bool, AllocError> {
+    let mut into = vec![in alloc; 0; field.len()]?;
+    Ok(fill(reader, &mut into) && into.as_slice() == field)
+}
+
+/// Whether these bytes come in a vector.
+fn gives(reader: &mut Reader<'_>, alloc: Global, field: &[u8]) -> bool {
+    match reader.bytes(alloc, field.len()) {
+        Ok(bytes) => bytes.as_slice() == field,
+        Err(_) => false,
+    }
 }
 
 /// Whether a vector that held something else holds these bytes.
-fn holds(reader: &mut Reader<'_>, alloc: Global, field: &[u8]) -> Result<bool, Fail> {
+fn holds(reader: &mut Reader<'_>, alloc: Global, field: &[u8]) -> Result<bool, AllocError> {
     let mut out = vec![in alloc; 9, 9, 9]?;
-    reader.bytes_into(&mut out, field.len())?;
-    Ok(out.as_slice() == field)
+    Ok(reader.bytes_into(&mut out, field.len()).is_ok() && out.as_slice() == field)
 }
 
-/// Whether a field is refused, with a vector that is left empty and has taken little memory.
-fn refuses(reader: &mut Reader<'_>, alloc: Global, size: usize) -> Result<PullFault, Fail> {
+/// Whether a field is refused for this fault, with a vector that is left empty and has taken little
+/// memory.
+fn refuses(
+    reader: &mut Reader<'_>,
+    alloc: Global,
+    size: usize,
+    fault: PullFault,
+) -> Result<bool, AllocError> {
     let mut out = vec![in alloc; 9, 9, 9]?;
     let answer = reader.bytes_into(&mut out, size);
-    if !out.is_empty() || out.capacity() > 1000 {
-        return Ok(PullFault::NoMemory);
-    }
-    Ok(answer.err().unwrap_or(PullFault::NoMemory))
+    Ok(answer == Err(fault) && out.is_empty() && out.capacity() <= 1000)
 }
 
 /// Whether all that is left is these bytes.
@@ -97,29 +106,41 @@ pub fn gives_rest(reader: &mut Reader<'_>, alloc: Global, bytes: &[u8]) -> Resul
     Ok(reader.rest(alloc)?.as_slice() == bytes)
 }
 
-fn meets(reader: &mut Reader<'_>, alloc: Global, step: Step<'_>) -> Result<bool, Fail> {
+/// Whether the rest is refused for this fault.
+fn refuses_rest(reader: &mut Reader<'_>, alloc: Global, fault: PullFault) -> bool {
+    match reader.rest(alloc) {
+        Ok(_) => false,
+        Err(found) => found == fault,
+    }
+}
+
+fn meets(reader: &mut Reader<'_>, alloc: Global, step: Step<'_>) -> Result<bool, AllocError> {
     Ok(match step {
         Byte(answer) => reader.byte() == answer,
         Array(answer) => reader.array() == answer,
-        Fills(field) => filled(reader, alloc, field.len())?.as_slice() == field,
-        Bytes(field) => reader.bytes(alloc, field.len())?.as_slice() == field,
+        Fills(field) => fills(reader, alloc, field)?,
+        Bytes(field) => gives(reader, alloc, field),
         BytesInto(field) => holds(reader, alloc, field)?,
-        Refuses(size, fault) => refuses(reader, alloc, size)? == fault,
-        Rest(bytes) => gives_rest(reader, alloc, bytes)?,
-        RestRefused(fault) => reader.rest(alloc).err() == Some(fault),
+        Refuses(size, fault) => refuses(reader, alloc, size, fault)?,
+        Rest(bytes) => gives_rest(reader, alloc, bytes) == Ok(true),
+        RestRefused(fault) => refuses_rest(reader, alloc, fault),
         AtEnd(answer) => reader.at_end() == answer,
         Taken(count) => reader.taken() == count,
     })
 }
 
-/// How many of the steps are answered so, up to the first that is not.
-pub fn met(reader: &mut Reader<'_>, alloc: Global, steps: &[Step<'_>]) -> Result<usize, Fail> {
-    for (at, step) in steps.iter().enumerate() {
+/// Whether each of the steps is answered so.
+pub fn meets_all(
+    reader: &mut Reader<'_>,
+    alloc: Global,
+    steps: &[Step<'_>],
+) -> Result<bool, AllocError> {
+    for step in steps {
         if !meets(reader, alloc, *step)? {
-            return Ok(at);
+            return Ok(false);
         }
     }
-    Ok(steps.len())
+    Ok(true)
 }
 
 pub const TEXT: &[u8] = b"\x01\0\0\0\x02hi0123456789abcdef";
@@ -261,14 +282,17 @@ const ROWS: [Row<'static>; 11] = [
 ];
 
 #[test]
-fn answers_do_not_hang_on_the_pieces(rt: HostRuntime) -> Result<(), Fail> {
-    for row in &ROWS {
+fn answers_do_not_hang_on_the_pieces(rt: HostRuntime) {
+    for (i, row) in ROWS.iter().enumerate() {
         for piece in [1, 3, 7, 64] {
             let mut reader = of_text(piece, row.then, row.limit);
-            assert_eq!(rt; met(&mut reader, rt.alloc(), row.steps)?, row.steps.len());
+            let right = meets_all(&mut reader, rt.alloc(), row.steps).expect(
+                &rt,
+                "there is memory",
+            );
+            is_right(&rt, i, right);
         }
     }
-    Ok(())
 }
 
 /// So many bytes: those from 0 to 250, again and again.
@@ -282,27 +306,32 @@ pub fn text_of(alloc: Global, size: u64) -> Result<Vec<u8>, AllocError> {
     Ok(text)
 }
 
+/// Whether these bytes come whole at so many bytes a call.
+fn comes_whole(alloc: Global, text: &[u8], field: &[u8], piece: usize) -> Result<bool, AllocError> {
+    let steps = [AtEnd(Ok(false)), Bytes(field), Taken(field.len() as u64)];
+    let mut reader = pull(text, piece, Then::Ends, 70_000);
+    meets_all(&mut reader, alloc, &steps)
+}
+
 #[test]
-fn large_fields_come_whole(rt: HostRuntime) -> Result<(), Fail> {
-    let text = text_of(rt.alloc(), 70_000)?;
+fn large_fields_come_whole(rt: HostRuntime) {
+    let text = text_of(rt.alloc(), 70_000).expect(&rt, "there is memory");
     for size in [255, 256, 257, 512, 4095, 4096, 4097, 65_535, 65_536, 70_000] {
-        let field = text.get(..size).ok_or("the text is shorter")?;
-        let steps = [AtEnd(Ok(false)), Bytes(field), Taken(size as u64)];
+        let field = text.get(..size).expect(&rt, "the text is longer");
         for piece in [7, 1000, 100_000] {
-            let mut reader = pull(&text, piece, Then::Ends, 70_000);
-            assert_eq!(rt; met(&mut reader, rt.alloc(), &steps)?, 3);
+            let right = comes_whole(rt.alloc(), &text, field, piece).expect(&rt, "there is memory");
+            is_right(&rt, size, right);
         }
     }
-    Ok(())
 }
 
 #[test]
 fn a_refused_growth_is_answered_again(rt: HostRuntime) {
     let mut reader = of_text(7, Then::Ends, 100);
     if reader.bytes(rt.alloc(), 20).is_err() {
-        assert_eq!(rt; reader.byte(), Err(PullFault::NoMemory));
-        assert_eq!(rt; reader.taken(), 0);
+        assert!(rt; reader.byte() == Err(PullFault::NoMemory));
+        assert!(rt; reader.taken() == 0);
     } else {
-        assert_eq!(rt; reader.taken(), 20);
+        assert!(rt; reader.taken() == 20);
     }
 }

@@ -1,8 +1,8 @@
 // Fields that are put after what stands in a vector.
 
+use crate::tests::is_right;
 use ssh_wire::{put_byte, put_mpint, put_string, put_u32, put_u64};
 use std::alloc::AllocError;
-use std::test::*;
 
 /// A field that is put.
 #[derive(Clone, Copy)]
@@ -37,7 +37,7 @@ fn puts_append_to_what_stands(rt: HostRuntime) {
     let mut out = Vec::new(rt.alloc());
     for (field, bytes) in &PUTS {
         put(&mut out, *field).expect(&rt, "there is memory");
-        assert_eq!(rt; out.as_slice(), *bytes);
+        assert!(rt; out.as_slice() == *bytes);
     }
 }
 
@@ -46,12 +46,12 @@ fn a_long_number_has_eight_bytes(rt: HostRuntime) {
     let mut out = Vec::new(rt.alloc());
     put(&mut out, Field::Long(0x0102_0304_0506_0708)).expect(&rt, "there is memory");
     let bytes = b"\x01\x02\x03\x04\x05\x06\x07\x08".as_slice();
-    assert_eq!(rt; out.as_slice(), bytes);
+    assert!(rt; out.as_slice() == bytes);
 }
 
 #[test]
 #[tactic(auto, using(ssh_wire::specs::Magnitudes::complement_fits))]
-fn a_zero_byte_leads_where_the_top_bit_is_set(rt: HostRuntime) -> Result<(), Fail> {
+fn a_zero_byte_leads_where_the_top_bit_is_set(rt: HostRuntime) {
     let rows: [(&[u8], &[u8]); 4] = [
         (b"", b"\0\0\0\0"),
         (b"\x80", b"\0\0\0\x02\0\x80"),
@@ -63,27 +63,20 @@ fn a_zero_byte_leads_where_the_top_bit_is_set(rt: HostRuntime) -> Result<(), Fai
     ];
     for (magnitude, spelled) in rows {
         let mut out = Vec::new(rt.alloc());
-        put_mpint(&mut out, magnitude)?;
-        assert_eq!(rt; out.as_slice(), spelled);
+        put_mpint(&mut out, magnitude).expect(&rt, "there is memory");
+        assert!(rt; out.as_slice() == spelled);
     }
-    Ok(())
 }
 
-/// The four bytes of length of a string that is put, once the bytes after them are seen to follow.
-fn length_put(out: &mut Vec<u8>, bytes: &[u8]) -> Result<[u8; 4], Fail> {
+/// Whether a string is put as this length and its bytes.
+fn puts_string(out: &mut Vec<u8>, bytes: &[u8], length: [u8; 4]) -> Result<bool, AllocError> {
     if bytes.len() > 100_000 {
-        return Err("the string is too long".into());
+        return Ok(false);
     }
     let before = out.len();
     put_string(out, bytes)?;
-    let end = out.get(before..).ok_or("the vector is shorter")?;
-    let [a, b, c, d, rest @ ..] = end else {
-        return Err("the string is shorter".into());
-    };
-    if rest != bytes {
-        return Err("other bytes were put".into());
-    }
-    Ok([*a, *b, *c, *d])
+    let put = out.get(before..).unwrap_or(&[]);
+    Ok(put.get(..4) == Some(length.as_slice()) && put.get(4..) == Some(bytes))
 }
 
 /// Puts fields of 310,000 bytes.
@@ -102,39 +95,47 @@ fn put_many(out: &mut Vec<u8>) -> Result<(), AllocError> {
 fn long_vectors_grow(rt: HostRuntime) {
     let mut out = Vec::new(rt.alloc());
     put_many(&mut out).expect(&rt, "there is memory");
-    assert_eq!(rt; out.len(), 310_000);
+    assert!(rt; out.len() == 310_000);
 }
 
-/// Puts a number of up to 100,000 bytes.
+/// Whether a number of up to 100,000 bytes is put as so many bytes, which begin with these.
 #[tactic(auto, using(ssh_wire::specs::Magnitudes::complement_fits))]
-fn put_number(out: &mut Vec<u8>, magnitude: &[u8]) -> Result<(), Fail> {
+fn puts_number(
+    out: &mut Vec<u8>,
+    magnitude: &[u8],
+    size: usize,
+    front: &[u8],
+) -> Result<bool, AllocError> {
     let [1..=255, ..] = magnitude else {
-        return Err("the number has no first byte".into());
+        return Ok(false);
     };
     if magnitude.len() > 100_000 {
-        return Err("the number is too long".into());
-    }
-    put_mpint(out, magnitude)?;
-    Ok(())
-}
-
-#[test]
-fn long_strings_are_put(rt: HostRuntime) -> Result<(), Fail> {
-    let bytes = vec![in rt.alloc(); 0x81; 70_000]?;
-    let mut out = Vec::new(rt.alloc());
-    for (size, length) in [
-        (4095, [0, 0, 0x0f, 0xff]),
-        (4096, [0, 0, 0x10, 0]),
-        (65_536, [0, 1, 0, 0]),
-        (70_000, [0, 1, 0x11, 0x70]),
-    ] {
-        let string = bytes.get(..size).ok_or("the text is shorter")?;
-        assert_eq!(rt; length_put(&mut out, string)?, length);
+        return Ok(false);
     }
     let before = out.len();
-    put_number(&mut out, &bytes)?;
-    let number = out.get(before..).ok_or("the vector is shorter")?;
-    assert_eq!(rt; number.len(), 70_005);
-    assert!(rt; number.starts_with(b"\0\x01\x11\x71\0\x81"));
-    Ok(())
+    put_mpint(out, magnitude)?;
+    let put = out.get(before..).unwrap_or(&[]);
+    Ok(put.len() == size && put.starts_with(front))
+}
+
+/// The size of a string, and its length as it is put.
+const LENGTHS: [(usize, [u8; 4]); 4] = [
+    (4095, [0, 0, 0x0f, 0xff]),
+    (4096, [0, 0, 0x10, 0]),
+    (65_536, [0, 1, 0, 0]),
+    (70_000, [0, 1, 0x11, 0x70]),
+];
+
+#[test]
+fn long_strings_are_put(rt: HostRuntime) {
+    let bytes = vec![in rt.alloc(); 0x81; 70_000].expect(&rt, "there is memory");
+    let mut out = Vec::new(rt.alloc());
+    for (size, length) in &LENGTHS {
+        let string = bytes.get(..*size).expect(&rt, "the text is longer");
+        let right = puts_string(&mut out, string, *length).expect(&rt, "there is memory");
+        is_right(&rt, *size, right);
+    }
+    let front = b"\0\x01\x11\x71\0\x81";
+    let right = puts_number(&mut out, &bytes, 70_005, front).expect(&rt, "there is memory");
+    assert!(rt; right);
 }

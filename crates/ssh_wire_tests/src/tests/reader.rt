@@ -1,9 +1,9 @@
 // Readers that are interrupted, give few bytes, or fail.
 
+use crate::tests::is_right;
 use ssh_wire::{Failed, FromRead, Source};
 use std::cell::Cell;
 use std::io::{self, ErrorKind, Read};
-use std::test::*;
 
 /// Gives its bytes at most two at a call, after some interruptions, and fails where it is to, once
 /// its bytes are given.
@@ -139,6 +139,6 @@ fn met(row: &Row<'_>) -> usize {
 #[test]
 fn calls_are_answered_so(rt: HostRuntime) {
     for (i, row) in ROWS.iter().enumerate() {
-        assert_eq!(rt; met(row), row.steps.len(), "row {i}");
+        is_right(&rt, i, met(row) == row.steps.len());
     }
 }

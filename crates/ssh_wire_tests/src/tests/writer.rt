@@ -1,9 +1,9 @@
 // Writers that are interrupted, take few bytes, or fail.
 
+use crate::tests::is_right;
 use ssh_wire::{Failed, Sent, Sink, ToWrite, send};
 use std::alloc::Global;
 use std::io::{self, ErrorKind, Write};
-use std::test::*;
 
 /// Takes at most so many bytes at a call, after some interruptions, and fails from the call on that
 /// is to fail.
@@ -56,24 +56,24 @@ fn sends(device: &mut Device, text: &[u8], answer: Result<(), Sent>) -> bool {
 fn sends_all_in_pieces(rt: HostRuntime) {
     let mut inner = fresh(rt.alloc(), 3, 1000, 255);
     assert!(rt; sends(&mut inner, LINE, Ok(())));
-    assert_eq!(rt; inner.taken.as_slice(), LINE);
+    assert!(rt; inner.taken.as_slice() == LINE);
 }
 
 #[test]
 fn tells_how_many_bytes_went_out(rt: HostRuntime) {
     let mut inner = fresh(rt.alloc(), 3, 0, 3);
     assert!(rt; sends(&mut inner, LINE, Err(Sent { count: 9 })));
-    assert_eq!(rt; inner.taken.as_slice(), b"g.pub: RE".as_slice());
+    assert!(rt; inner.taken.as_slice() == b"g.pub: RE".as_slice());
 }
 
 #[test]
 fn a_writer_that_takes_nothing_fails(rt: HostRuntime) {
     let mut inner = fresh(rt.alloc(), 0, 0, 255);
     let mut writer = ToWrite::new(&mut inner);
-    assert_eq!(rt; writer.write(b""), Ok(0));
-    assert_eq!(rt; send(&mut writer, LINE), Err(Sent { count: 0 }));
+    assert!(rt; writer.write(b"") == Ok(0));
+    assert!(rt; send(&mut writer, LINE) == Err(Sent { count: 0 }));
     for _ in 0..3 {
-        assert_eq!(rt; writer.write(b""), Err(Failed));
+        assert!(rt; writer.write(b"") == Err(Failed));
         assert!(rt; writer.failed());
     }
     drop(writer);
@@ -85,7 +85,7 @@ fn one_more_interruption_is_a_failure(rt: HostRuntime) {
     let mut inner = fresh(rt.alloc(), 3, 1001, 255);
     let mut writer = ToWrite::new(&mut inner);
     for _ in 0..3 {
-        assert_eq!(rt; writer.write(LINE), Err(Failed));
+        assert!(rt; writer.write(LINE) == Err(Failed));
         assert!(rt; writer.failed());
     }
     drop(writer);
@@ -97,7 +97,7 @@ fn sends_long_texts(rt: HostRuntime) {
     let text = vec![in rt.alloc(); 7; 70_000].expect(&rt, "there is memory");
     for piece in [1000, 4096, 100_000] {
         let mut inner = fresh(rt.alloc(), piece, 0, 255);
-        assert!(rt; sends(&mut inner, &text, Ok(())), "{piece} bytes at a call");
+        is_right(&rt, piece, sends(&mut inner, &text, Ok(())));
         assert!(rt; inner.taken.as_slice() == text.as_slice());
     }
 }
