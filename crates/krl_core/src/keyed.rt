@@ -14,7 +14,7 @@ pub trait Keyed: Drop {
 }
 
 impl<const N: usize> Keyed for [u8; N] {
-    const PAGE: usize = 256;
+    const PAGE: usize = 64;
 
     ghost key = { λ bytes. bytes };
 

@@ -37,7 +37,7 @@ impl Text {
 impl Keyed for Text {
     ghost use Rattle.krl_core.specs.Text.{bytes_of};
 
-    const PAGE: usize = 128;
+    const PAGE: usize = 32;
 
     ghost key = { bytes_of };
 
