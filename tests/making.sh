@@ -62,6 +62,8 @@ holds 'a list and a bitmap' "serial: 1\n$(seq -f 'serial: %.0f\n' -s '' 1000000 
 holds 'key IDs in order' 'id: b\nid: a\nid: b\n' "23$(string "$(words a b)")"
 holds 'directives in capitals, and comments' '# none\n\n \t\r\nID:\ta b # c\r\nSERIAL: 5 #6\n' \
   "2000000008000000000000000523$(string "$(words 'a b')")"
+holds 'Windows line ends' 'serial: 5\r\n\tid: id 2\r\n' \
+  "2000000008000000000000000523$(string "$(words 'id 2')")"
 holds 'blanks round the hyphen' 'serial: 1 \t-  10000 \n' 210000001000000000000000010000000000002710
 makes 'a list of nothing' '' "${H/0000000000000001/0000000000000000}"
 makes 'a version' '' "${H/0000000000000001/ffffffffffffffff}" -z $highest
