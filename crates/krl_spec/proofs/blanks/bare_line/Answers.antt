@@ -1,0 +1,8 @@
+-- What stands before the comment counts, without the blanks round it.
+use Rattle.std.proofs.Common.{rules}
+use Rattle.krl_spec.specs.Line.{bare_line}
+use Rattle.krl_spec.proofs.blanks.bare_line.Goals as goal
+
+pub returns : goal.returns
+unfolding bare_line
+returns c = search rules steps 300000
