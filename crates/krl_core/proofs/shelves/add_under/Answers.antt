@@ -1,4 +1,4 @@
-use Rattle.std.proofs.Common.{◌≡◌, subst, inr}
+use Rattle.std.proofs.Common.{◌≡◌, subst, inr, rules}
 use Rattle.krl_core.specs.Changes.{AddsTo}
 use Rattle.krl_core.specs.Inserting.{AddsNew}
 use Rattle.krl_core.specs.Shelf.{section_of, sections_of}
@@ -17,3 +17,6 @@ returns-in-Some-2-clause-ok g c =
       takes = c.in_ok-shelf.ensures;
       put = inserts_map (λ section. section.authority) (section_of spans) c.add.new.self shelf c.add_new.new.self added;
     }))
+
+pub returns-in_default-2-clause-ok : goal.returns-in_default-2-clause-ok
+returns-in_default-2-clause-ok g c = search rules steps 600000
