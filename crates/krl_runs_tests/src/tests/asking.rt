@@ -2,36 +2,33 @@
 
 use crate::tests::bytes::{GITHUB, HEADER, ONE_KEY, joined, list_of_one};
 use crate::tests::runs::{CLOSED, File, KEY, OTHER_LINE, Said, asks};
-use std::alloc::{AllocError, Global};
-use std::process::Abort;
 
 const OTHER: File<'static> = ("a", Some(&[OTHER_LINE, b" x y\n"]));
 
 const ONE: &[&[u8]] = &[&HEADER, &ONE_KEY, &GITHUB];
 
-/// The list of these parts is asked about the files, and this is said.
-fn tells(
-    rt: &impl Abort,
-    alloc: Global,
-    number: usize,
-    parts: &[&[u8]],
-    files: &[File],
-    said: Said,
-) -> Result<(), AllocError> {
-    let list = joined(alloc, parts)?;
-    asks(rt, alloc, number, (&list, false), files, said)
-}
+const NONE: &str = "ssh-keygen: none: file 1 Open";
 
-/// The parts of a list, the files, the output and the status.
-type Told<'a> = (&'a [&'a [u8]], &'a [File<'a>], &'a [u8], u8);
+const EARLY: &str = "ssh-keygen: r.krl: krl 3 EndsEarly";
 
-const TOLD: [Told<'static>; 7] = [
-    (&[&HEADER], &[KEY], b"g.pub: ok\n", 0),
-    (ONE, &[KEY], b"g.pub: REVOKED\n", 1),
-    (ONE, &[OTHER], b"a (x y): ok\n", 0),
-    (ONE, &[KEY, OTHER], b"g.pub: REVOKED\na (x y): ok\n", 1),
-    (ONE, &[OTHER, KEY], b"a (x y): ok\ng.pub: REVOKED\n", 1),
-    (ONE, &[], b"", 0),
+/// The parts of a list, the files, and what is said of them.
+type Row<'a> = (&'a [&'a [u8]], &'a [File<'a>], Said<'a>);
+
+const ROWS: [Row<'static>; 15] = [
+    (&[&HEADER], &[KEY], (b"g.pub: ok\n", 0, "")),
+    (ONE, &[KEY], (b"g.pub: REVOKED\n", 1, "")),
+    (ONE, &[OTHER], (b"a (x y): ok\n", 0, "")),
+    (
+        ONE,
+        &[KEY, OTHER],
+        (b"g.pub: REVOKED\na (x y): ok\n", 1, ""),
+    ),
+    (
+        ONE,
+        &[OTHER, KEY],
+        (b"a (x y): ok\ng.pub: REVOKED\n", 1, ""),
+    ),
+    (ONE, &[], (b"", 0, "")),
     // a serial under all authorities
     (
         &[
@@ -39,52 +36,28 @@ const TOLD: [Told<'static>; 7] = [
             b"\x01\0\0\0\x15\0\0\0\0\0\0\0\0\x20\0\0\0\x08\0\0\0\0\0\0\0\x07",
         ],
         &[KEY],
-        b"g.pub: ok\n",
-        0,
+        (b"g.pub: ok\n", 0, ""),
     ),
-];
-
-// A body that is always out of memory meets the contracts. It fails here.
-#[test]
-fn told_of_each_key(rt: HostRuntime) {
-    for (i, (parts, files, text, status)) in TOLD.iter().enumerate() {
-        tells(&rt, rt.alloc(), i, *parts, *files, (*text, *status, "")).expect(
-            &rt,
-            "there is memory",
-        );
-    }
-}
-
-const NONE: &str = "ssh-keygen: none: file 1 Open";
-
-const EARLY: &str = "ssh-keygen: r.krl: krl 3 EndsEarly";
-
-/// The parts of a list, the files, the output and the fault.
-type Stopped<'a> = (&'a [&'a [u8]], &'a [File<'a>], &'a [u8], &'a str);
-
-const STOPPED: [Stopped<'static>; 8] = [
-    (ONE, &[KEY, CLOSED], b"g.pub: REVOKED\n", NONE),
-    (ONE, &[OTHER, CLOSED, KEY], b"a (x y): ok\n", NONE),
-    (&[], &[CLOSED], b"", EARLY),
-    (&[b"\0\0\0"], &[KEY], b"", EARLY),
+    // stopped at a fault
+    (ONE, &[KEY, CLOSED], (b"g.pub: REVOKED\n", 255, NONE)),
+    (ONE, &[OTHER, CLOSED, KEY], (b"a (x y): ok\n", 255, NONE)),
+    (&[], &[CLOSED], (b"", 255, EARLY)),
+    (&[b"\0\0\0"], &[KEY], (b"", 255, EARLY)),
     (
         &[b"\x54SHKRL\n\0\0\0\0\x01"],
         &[KEY],
-        b"",
-        "ssh-keygen: r.krl: krl 1 Magic",
+        (b"", 255, "ssh-keygen: r.krl: krl 1 Magic"),
     ),
     (
         &[&HEADER, b"\x99"],
         &[KEY],
-        b"",
-        "ssh-keygen: r.krl: krl 4 UnknownSection",
+        (b"", 255, "ssh-keygen: r.krl: krl 4 UnknownSection"),
     ),
     // a critical extension, and a range that ends before it begins
     (
         &[&HEADER, b"\xff\0\0\0\x0a\0\0\0\x01a\x01\0\0\0\0"],
         &[KEY],
-        b"",
-        "ssh-keygen: r.krl: krl 15 CriticalExtension",
+        (b"", 255, "ssh-keygen: r.krl: krl 15 CriticalExtension"),
     ),
     (
         &[
@@ -93,18 +66,16 @@ const STOPPED: [Stopped<'static>; 8] = [
             b"\0\0\0\0\0\0\0\x02\0\0\0\0\0\0\0\x01",
         ],
         &[KEY],
-        b"",
-        "ssh-keygen: r.krl: krl 7 RangeReversed",
+        (b"", 255, "ssh-keygen: r.krl: krl 7 RangeReversed"),
     ),
 ];
 
+// A body that is always out of memory meets the contracts. It fails here.
 #[test]
-fn stopped_at_a_fault(rt: HostRuntime) {
-    for (i, (parts, files, text, fault)) in STOPPED.iter().enumerate() {
-        tells(&rt, rt.alloc(), i, *parts, *files, (*text, 255, *fault)).expect(
-            &rt,
-            "there is memory",
-        );
+fn told_of_each_key_or_stopped_at_a_fault(rt: HostRuntime) {
+    for (i, (parts, files, said)) in ROWS.iter().enumerate() {
+        let list = joined(&rt, rt.alloc(), *parts);
+        asks(&rt, rt.alloc(), i, (&list, false), *files, *said);
     }
 }
 
@@ -119,13 +90,10 @@ fn said_by_front(size: usize) -> Said<'static> {
 
 #[test]
 fn each_front_of_a_list(rt: HostRuntime) {
-    let list = list_of_one(rt.alloc(), &GITHUB).expect(&rt, "there is memory");
+    let list = list_of_one(&rt, rt.alloc(), &GITHUB);
     assert!(rt; list.len() == 104);
     for n in 0..105 {
         let front = list.get(..n).expect(&rt, "the list has 104 bytes");
-        asks(&rt, rt.alloc(), n, (front, false), &[KEY], said_by_front(n)).expect(
-            &rt,
-            "there is memory",
-        );
+        asks(&rt, rt.alloc(), n, (front, false), &[KEY], said_by_front(n));
     }
 }

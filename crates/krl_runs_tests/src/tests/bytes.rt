@@ -1,6 +1,6 @@
 // Lists and keys for the tests, built from their parts.
 
-use std::alloc::{AllocError, Global};
+use std::alloc::Global;
 use std::process::Abort;
 
 /// The header of an empty list: version 1, date 0, no flags, no reserved string, no comment.
@@ -62,42 +62,60 @@ pub fn same(rt: &impl Abort, number: usize, found: &[u8], wanted: &[u8]) {
     assert_eq!(rt; found, wanted, "in case {number}");
 }
 
+/// Adds bytes behind those that are there.
+pub fn put(rt: &impl Abort, all: &mut Vec<u8>, bytes: &[u8]) {
+    all.extend_from_slice(bytes).expect(rt, "there is memory");
+}
+
 /// The parts one after the other.
-pub fn joined(alloc: Global, parts: &[&[u8]]) -> Result<Vec<u8>, AllocError> {
+pub fn joined(rt: &impl Abort, alloc: Global, parts: &[&[u8]]) -> Vec<u8> {
     let mut all = Vec::new(alloc);
     for part in parts {
-        all.extend_from_slice(*part)?;
+        put(rt, &mut all, *part);
     }
-    Ok(all)
+    all
 }
 
 /// The parts one after the other, so many times.
-pub fn repeated(alloc: Global, parts: &[&[u8]], times: usize) -> Result<Vec<u8>, AllocError> {
-    let once = joined(alloc, parts)?;
+pub fn repeated(rt: &impl Abort, alloc: Global, parts: &[&[u8]], times: usize) -> Vec<u8> {
+    let once = joined(rt, alloc, parts);
     let mut all = Vec::new(alloc);
     for _ in 0..times {
-        all.extend_from_slice(&once)?;
+        put(rt, &mut all, &once);
     }
-    Ok(all)
+    all
 }
 
 /// The list of version 1 with these sections.
-pub fn list_of(alloc: Global, sections: &[&[u8]]) -> Result<Vec<u8>, AllocError> {
-    let sections = joined(alloc, sections)?;
-    joined(alloc, &[&HEADER, &sections])
+pub fn list_of(rt: &impl Abort, alloc: Global, sections: &[&[u8]]) -> Vec<u8> {
+    let sections = joined(rt, alloc, sections);
+    joined(rt, alloc, &[&HEADER, &sections])
 }
 
 /// The list that names one key.
-pub fn list_of_one(alloc: Global, blob: &[u8]) -> Result<Vec<u8>, AllocError> {
-    joined(alloc, &[&HEADER, &ONE_KEY, blob])
+pub fn list_of_one(rt: &impl Abort, alloc: Global, blob: &[u8]) -> Vec<u8> {
+    joined(rt, alloc, &[&HEADER, &ONE_KEY, blob])
+}
+
+/// The lines of so many odd serials.
+pub fn odd_lines(rt: &impl Abort, alloc: Global, count: u32) -> Vec<u8> {
+    let mut lines = Vec::new(alloc);
+    for half in 0..count {
+        let line = format!(in alloc; "serial: {}\n", 2 * half as u64 + 1);
+        put(
+            rt,
+            &mut lines,
+            line.expect(rt, "there is memory").as_bytes(),
+        );
+    }
+    lines
 }
 
 /// Adds zero bytes until the list is so long.
-pub fn filled(list: &mut Vec<u8>, size: usize) -> Result<(), AllocError> {
+pub fn filled(rt: &impl Abort, list: &mut Vec<u8>, size: usize) {
     let zeros = [0; 4096];
     for _ in 0..5_000 {
         let missing = size.saturating_sub(list.len());
-        list.extend_from_slice(&zeros[..missing.min(4096)])?;
+        put(rt, list, &zeros[..missing.min(4096)]);
     }
-    Ok(())
 }

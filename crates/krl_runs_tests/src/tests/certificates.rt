@@ -4,7 +4,7 @@ use crate::tests::bytes::{GITHUB, ONE_KEY, OTHER, THIRD, joined, list_of};
 use crate::tests::encoding::{base64, strings};
 use crate::tests::runs::{GITHUB_LINE, asks, lists};
 use ssh_key::Hash;
-use std::alloc::{AllocError, Global};
+use std::alloc::Global;
 use std::process::Abort;
 
 const NAME: &[u8] = b"ssh-ed25519-cert-v01@openssh.com";
@@ -27,9 +27,9 @@ pub const FREE: Terms<'static> = Terms {
 };
 
 /// What stands in a certificate before its time.
-fn front(alloc: Global, serial: u64, principals: &[u8]) -> Result<Vec<u8>, AllocError> {
-    let name_and_nonce = strings(alloc, &[NAME, b""])?;
-    let id_and_principals = strings(alloc, &[b"a", principals])?;
+fn front(rt: &impl Abort, alloc: Global, serial: u64, principals: &[u8]) -> Vec<u8> {
+    let name_and_nonce = strings(rt, alloc, &[NAME, b""]);
+    let id_and_principals = strings(rt, alloc, &[b"a", principals]);
     let parts: [&[u8]; 5] = [
         &name_and_nonce,
         &GITHUB[FIELD..],
@@ -37,51 +37,48 @@ fn front(alloc: Global, serial: u64, principals: &[u8]) -> Result<Vec<u8>, Alloc
         &[0, 0, 0, 1],
         &id_and_principals,
     ];
-    joined(alloc, &parts)
+    joined(rt, alloc, &parts)
 }
 
 /// What stands in a certificate after its time.
-fn back(alloc: Global, fields: &[&[u8]]) -> Result<Vec<u8>, AllocError> {
-    let fields = strings(alloc, fields)?;
+fn back(rt: &impl Abort, alloc: Global, fields: &[&[u8]]) -> Vec<u8> {
+    let fields = strings(rt, alloc, fields);
     let signature = b"\0\0\0\x53\0\0\0\x0bssh-ed25519\0\0\0\x40";
-    joined(alloc, &[&fields, signature, &[0; 64]])
+    joined(rt, alloc, &[&fields, signature, &[0; 64]])
 }
 
 /// The blob of a certificate of the published key for users, with the ID `a`, by an Ed25519
 /// authority, on these terms. Its signature is 64 zero bytes.
 pub fn certificate_on(
+    rt: &impl Abort,
     alloc: Global,
     authority: &[u8],
     serial: u64,
     terms: &Terms,
-) -> Result<Vec<u8>, AllocError> {
+) -> Vec<u8> {
     let [after, before] = terms.period;
     let [principals, options, extensions] = terms.lists;
-    let front = front(alloc, serial, principals)?;
-    let back = back(alloc, &[options, extensions, b"", authority])?;
+    let front = front(rt, alloc, serial, principals);
+    let back = back(rt, alloc, &[options, extensions, b"", authority]);
     let (after, before) = (after.to_be_bytes(), before.to_be_bytes());
-    joined(alloc, &[&front, &after, &before, &back])
+    joined(rt, alloc, &[&front, &after, &before, &back])
 }
 
 /// The same, on no terms.
-fn certificate(alloc: Global, authority: &[u8], serial: u64) -> Result<Vec<u8>, AllocError> {
-    certificate_on(alloc, authority, serial, &FREE)
+fn certificate(rt: &impl Abort, alloc: Global, authority: &[u8], serial: u64) -> Vec<u8> {
+    certificate_on(rt, alloc, authority, serial, &FREE)
 }
 
 /// The line of a certificate.
-pub fn line_of(alloc: Global, blob: &[u8]) -> Result<Vec<u8>, AllocError> {
-    let encoded = base64(alloc, blob)?;
-    joined(alloc, &[NAME, b" ", &encoded, b"\n"])
+pub fn line_of(rt: &impl Abort, alloc: Global, blob: &[u8]) -> Vec<u8> {
+    let encoded = base64(rt, alloc, blob);
+    joined(rt, alloc, &[NAME, b" ", &encoded, b"\n"])
 }
 
 /// The line of a certificate on no terms.
-pub fn certificate_line(
-    alloc: Global,
-    authority: &[u8],
-    serial: u64,
-) -> Result<Vec<u8>, AllocError> {
-    let blob = certificate(alloc, authority, serial)?;
-    line_of(alloc, &blob)
+pub fn certificate_line(rt: &impl Abort, alloc: Global, authority: &[u8], serial: u64) -> Vec<u8> {
+    let blob = certificate(rt, alloc, authority, serial);
+    line_of(rt, alloc, &blob)
 }
 
 /// The certificate's plain key, as it is listed.
@@ -91,12 +88,12 @@ const LISTED: &[u8] =
 #[test]
 fn its_plain_key_is_listed(rt: HostRuntime) {
     let alloc = rt.alloc();
-    let blob = certificate(alloc, &OTHER, 7).expect(&rt, "there is memory");
+    let blob = certificate(&rt, alloc, &OTHER, 7);
     assert!(rt; blob.len() == 267);
-    let line = line_of(alloc, &blob).expect(&rt, "there is memory");
+    let line = line_of(&rt, alloc, &blob);
     let parts = [line.as_slice()];
     let file = ("c.pub", Some(parts.as_slice()));
-    lists(&rt, alloc, 0, Hash::Sha256, &file, (LISTED, 0, "")).expect(&rt, "there is memory");
+    lists(&rt, alloc, 0, Hash::Sha256, &file, (LISTED, 0, ""));
 }
 
 /// The list of these sections is asked about a file of a certificate by the other key and of its
@@ -107,9 +104,9 @@ fn is_told(
     number: usize,
     sections: &[&[u8]],
     (text, status): (&[u8], u8),
-) -> Result<(), AllocError> {
-    let list = list_of(alloc, sections)?;
-    let line = certificate_line(alloc, &OTHER, 7)?;
+) {
+    let list = list_of(rt, alloc, sections);
+    let line = certificate_line(rt, alloc, &OTHER, 7);
     asks(
         rt,
         alloc,
@@ -156,7 +153,7 @@ const ROWS: [Row<'static>; 7] = [
 #[test]
 fn asked_by_its_keys_and_its_names(rt: HostRuntime) {
     for (i, (sections, said)) in ROWS.iter().enumerate() {
-        is_told(&rt, rt.alloc(), i, *sections, *said).expect(&rt, "there is memory");
+        is_told(&rt, rt.alloc(), i, *sections, *said);
     }
 }
 
@@ -166,7 +163,7 @@ const ONE_LONG_KEY: &[u8] = &[2, 0, 0, 1, 15, 0, 0, 1, 11];
 // The blob of a certificate as an explicit key names nothing.
 #[test]
 fn not_asked_by_its_blob(rt: HostRuntime) {
-    let blob = certificate(rt.alloc(), &OTHER, 7).expect(&rt, "there is memory");
+    let blob = certificate(&rt, rt.alloc(), &OTHER, 7);
     let sections = [ONE_LONG_KEY, &blob];
-    is_told(&rt, rt.alloc(), 0, &sections, NEITHER).expect(&rt, "there is memory");
+    is_told(&rt, rt.alloc(), 0, &sections, NEITHER);
 }

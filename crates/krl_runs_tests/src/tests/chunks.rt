@@ -6,7 +6,7 @@ use crate::tests::runs::{CLOSED, GITHUB_LINE, Ran, holding, listed, says};
 use crate::tests::streams::Taker;
 use krl_runs::ListMode;
 use ssh_key::Hash;
-use std::alloc::{AllocError, Global};
+use std::alloc::Global;
 use std::process::Abort;
 
 /// What the query says of the key.
@@ -23,31 +23,24 @@ const TIMES: usize = 5_000;
 const CHUNK: usize = 65_550;
 
 /// The lines of a file of the key so many times.
-fn often(alloc: Global) -> Result<Vec<u8>, AllocError> {
-    repeated(alloc, &[GITHUB_LINE, b"\n"], TIMES)
+fn often(rt: &impl Abort, alloc: Global) -> Vec<u8> {
+    repeated(rt, alloc, &[GITHUB_LINE, b"\n"], TIMES)
 }
 
 /// Asks about the key so many times, and then about a file that cannot be opened.
-fn asked_often(alloc: Global, writes_before_failure: usize) -> Result<Ran, AllocError> {
-    let lines = often(alloc)?;
+fn asked_often(rt: &impl Abort, alloc: Global, writes_before_failure: usize) -> Ran {
+    let lines = often(rt, alloc);
     let device = Taker::new(alloc, 1_000_000, writes_before_failure);
-    asked_of_key(alloc, &[("g.pub", Some(&[&lines])), CLOSED], device)
+    asked_of_key(rt, alloc, &[("g.pub", Some(&[&lines])), CLOSED], device)
 }
 
 /// Where the output fails after so many writes, it has taken so many bytes of the lines.
-fn sends(
-    rt: &impl Abort,
-    alloc: Global,
-    writes: usize,
-    count: usize,
-    fault: &str,
-) -> Result<(), AllocError> {
-    let ran = asked_often(alloc, writes)?;
-    let text = repeated(alloc, &[SAID], TIMES)?;
+fn sends(rt: &impl Abort, alloc: Global, writes: usize, count: usize, fault: &str) {
+    let ran = asked_often(rt, alloc, writes);
+    let text = repeated(rt, alloc, &[SAID], TIMES);
     let taken = text.get(..count).unwrap_or(&[]);
     assert!(rt; taken.len() == count);
     says(rt, writes, &ran, (taken, 255, fault));
-    Ok(())
 }
 
 #[test]
@@ -63,18 +56,23 @@ fn sends_whole_lines_in_chunks(rt: HostRuntime) {
         (2, 75_000, "ssh-keygen: none: file 1 Open"),
     ];
     for (writes, count, fault) in rows {
-        sends(&rt, rt.alloc(), writes, count, fault).expect(&rt, "there is memory");
+        sends(&rt, rt.alloc(), writes, count, fault);
     }
 }
 
 #[test]
 fn lists_in_chunks(rt: HostRuntime) {
-    let file = holding("g.pub", often(rt.alloc()).expect(&rt, "there is memory"));
+    let file = holding("g.pub", often(&rt, rt.alloc()));
     let device = Taker::new(rt.alloc(), 1_000, 1_000_000);
-    let ran = listed(rt.alloc(), ListMode::Keys, Hash::Sha256, &file, 0, device).expect(
+    let ran = listed(
         &rt,
-        "there is memory",
+        rt.alloc(),
+        ListMode::Keys,
+        Hash::Sha256,
+        &file,
+        0,
+        device,
     );
-    let text = repeated(rt.alloc(), &[LISTED], TIMES).expect(&rt, "there is memory");
+    let text = repeated(&rt, rt.alloc(), &[LISTED], TIMES);
     says(&rt, 0, &ran, (&text, 0, ""));
 }

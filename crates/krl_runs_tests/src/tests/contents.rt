@@ -1,9 +1,9 @@
 // Printing what lists hold.
 
-use crate::tests::bytes::{FIVE, GITHUB, HEADER, ONE_KEY, joined, list_of};
+use crate::tests::bytes::{FIVE, GITHUB, HEADER, ONE_KEY, joined, list_of, odd_lines, put};
 use crate::tests::runs::{CLOSED, KEY, Ran, asked, asks, says};
 use crate::tests::streams::{Taker, giving};
-use std::alloc::{AllocError, Global};
+use std::alloc::Global;
 use std::process::Abort;
 
 /// The lines of the header of version 1 and date 0.
@@ -59,37 +59,27 @@ const ROWS: [Row<'static>; 9] = [
 ];
 
 /// The list of these sections is printed in these lines, after those of its header.
-fn prints(
-    rt: &impl Abort,
-    alloc: Global,
-    number: usize,
-    sections: &[&[u8]],
-    lines: &[u8],
-) -> Result<(), AllocError> {
-    let list = list_of(alloc, sections)?;
-    let text = joined(alloc, &[HEAD, lines])?;
+fn prints(rt: &impl Abort, alloc: Global, number: usize, sections: &[&[u8]], lines: &[u8]) {
+    let list = list_of(rt, alloc, sections);
+    let text = joined(rt, alloc, &[HEAD, lines]);
     asks(rt, alloc, number, (&list, true), &[], (&text, 0, ""))
 }
 
 #[test]
 fn each_kind_of_line(rt: HostRuntime) {
     for (i, (sections, lines)) in ROWS.iter().enumerate() {
-        prints(&rt, rt.alloc(), i, *sections, *lines).expect(&rt, "there is memory");
+        prints(&rt, rt.alloc(), i, *sections, *lines);
     }
 }
 
 /// The list of this version, this date, and this comment with its length, is printed so.
-fn prints_header(
-    rt: &impl Abort,
-    alloc: Global,
-    number: usize,
-    header: [&[u8]; 3],
-    text: &[u8],
-) -> Result<(), AllocError> {
+fn prints_header(rt: &impl Abort, alloc: Global, number: usize, header: [&[u8]; 3], text: &[u8]) {
     let [version, date, comment] = header;
-    let mut list = joined(alloc, &[&HEADER[..12], version, date])?;
-    list.extend_from_slice(b"\0\0\0\0\0\0\0\0\0\0\0\0")?;
-    list.extend_from_slice(comment)?;
+    let list = joined(
+        rt,
+        alloc,
+        &[&HEADER[..12], version, date, &[0; 12], comment],
+    );
     asks(rt, alloc, number, (&list, true), &[], (text, 0, ""))
 }
 
@@ -128,18 +118,18 @@ const HEADERS: [([&[u8]; 3], &[u8]); 4] = [
 #[test]
 fn headers(rt: HostRuntime) {
     for (i, (header, text)) in HEADERS.iter().enumerate() {
-        prints_header(&rt, rt.alloc(), i, *header, *text).expect(&rt, "there is memory");
+        prints_header(&rt, rt.alloc(), i, *header, *text);
     }
 }
 
 #[test]
 fn the_files_follow(rt: HostRuntime) {
     let alloc = rt.alloc();
-    let list = list_of(alloc, &[FIVE, &ONE_KEY, &GITHUB]).expect(&rt, "there is memory");
+    let list = list_of(&rt, alloc, &[FIVE, &ONE_KEY, &GITHUB]);
     let lines = b"# CA all\nserial: 5\n\
         key: AAAAC3NzaC1lZDI1NTE5AAAAIOMqqnkVzrm0SdG6UOoqKLsabgH5C9okWi0dh2l9GKJl\n\
         g.pub: REVOKED\n";
-    let text = joined(alloc, &[HEAD, lines]).expect(&rt, "there is memory");
+    let text = joined(&rt, alloc, &[HEAD, lines]);
     let fault = "ssh-keygen: none: file 1 Open";
     asks(
         &rt,
@@ -148,64 +138,57 @@ fn the_files_follow(rt: HostRuntime) {
         (&list, true),
         &[KEY, CLOSED],
         (&text, 255, fault),
-    )
-    .expect(&rt, "there is memory");
-    asks(&rt, alloc, 1, (&list, true), &[KEY], (&text, 1, "")).expect(&rt, "there is memory");
+    );
+    asks(&rt, alloc, 1, (&list, true), &[KEY], (&text, 1, ""));
 }
 
 #[test]
 fn a_fault_comes_before_the_contents(rt: HostRuntime) {
-    let list = list_of(rt.alloc(), &[FIVE, b"\x99"]).expect(&rt, "there is memory");
+    let list = list_of(&rt, rt.alloc(), &[FIVE, b"\x99"]);
     let fault = "ssh-keygen: r.krl: krl 4 UnknownSection";
-    asks(&rt, rt.alloc(), 0, (&list, true), &[], (b"", 255, fault)).expect(&rt, "there is memory");
+    asks(&rt, rt.alloc(), 0, (&list, true), &[], (b"", 255, fault));
 }
 
 /// Prints a list of one serial, where each call takes seven bytes until one fails.
-fn printed_in_part(alloc: Global, calls: usize) -> Result<Ran, AllocError> {
-    let list = list_of(alloc, &[FIVE])?;
+fn printed_in_part(rt: &impl Abort, alloc: Global, calls: usize) -> Ran {
+    let list = list_of(rt, alloc, &[FIVE]);
     let device = Taker::new(alloc, 7, calls);
-    asked(alloc, giving(&list), true, &[], device)
+    asked(rt, alloc, giving(&list), true, &[], device)
 }
 
 /// The fault of an output that has taken so many bytes.
-fn write_fault(alloc: Global, count: usize) -> Result<String, AllocError> {
-    format!(in alloc; "ssh-keygen: output: output 1 Write after {count} bytes")
+fn write_fault(rt: &impl Abort, alloc: Global, count: usize) -> String {
+    format!(in alloc; "ssh-keygen: output: output 1 Write after {count} bytes").expect(
+        rt,
+        "there is memory",
+    )
 }
 
 #[test]
 fn the_output_fails_within_the_contents(rt: HostRuntime) {
-    let text = joined(rt.alloc(), &[HEAD, b"# CA all\nserial: 5\n"]).expect(&rt, "there is memory");
+    let text = joined(&rt, rt.alloc(), &[HEAD, b"# CA all\nserial: 5\n"]);
     for calls in 0..11 {
         let taken = text.get(..calls * 7).expect(&rt, "the text is longer");
-        let fault = write_fault(rt.alloc(), calls * 7).expect(&rt, "there is memory");
-        let ran = printed_in_part(rt.alloc(), calls).expect(&rt, "there is memory");
+        let fault = write_fault(&rt, rt.alloc(), calls * 7);
+        let ran = printed_in_part(&rt, rt.alloc(), calls);
         says(&rt, calls, &ran, (taken, 255, fault.as_str()));
     }
 }
 
 /// A list of the first odd serials, so many that their lines and their pages are several.
-fn odd_serials(alloc: Global) -> Result<Vec<u8>, AllocError> {
+fn odd_serials(rt: &impl Abort, alloc: Global) -> Vec<u8> {
     let start = b"\x01\0\0\x9c\x4d\0\0\0\0\0\0\0\0\x20\0\0\x9c\x40".as_slice();
-    let mut list = joined(alloc, &[&HEADER, start])?;
+    let mut list = joined(rt, alloc, &[&HEADER, start]);
     for i in 0..5_000u64 {
-        list.extend_from_slice(&(2 * i + 1).to_be_bytes())?;
+        put(rt, &mut list, &(2 * i + 1).to_be_bytes());
     }
-    Ok(list)
-}
-
-/// The lines of that list.
-fn odd_lines(alloc: Global) -> Result<Vec<u8>, AllocError> {
-    let mut text = joined(alloc, &[HEAD, b"# CA all\n"])?;
-    for i in 0..5_000u64 {
-        let line = format!(in alloc; "serial: {}\n", 2 * i + 1)?;
-        text.extend_from_slice(line.as_bytes())?;
-    }
-    Ok(text)
+    list
 }
 
 #[test]
 fn many_lines(rt: HostRuntime) {
-    let list = odd_serials(rt.alloc()).expect(&rt, "there is memory");
-    let text = odd_lines(rt.alloc()).expect(&rt, "there is memory");
-    asks(&rt, rt.alloc(), 0, (&list, true), &[], (&text, 0, "")).expect(&rt, "there is memory");
+    let list = odd_serials(&rt, rt.alloc());
+    let lines = odd_lines(&rt, rt.alloc(), 5_000);
+    let text = joined(&rt, rt.alloc(), &[HEAD, b"# CA all\n", &lines]);
+    asks(&rt, rt.alloc(), 0, (&list, true), &[], (&text, 0, ""));
 }

@@ -41,7 +41,7 @@ const LISTED: [Listed<'static>; 5] = [
 fn each_key(rt: HostRuntime) {
     for (i, (hash, parts, text)) in LISTED.iter().enumerate() {
         let file = ("-", Some(*parts));
-        lists(&rt, rt.alloc(), i, *hash, &file, (*text, 0, "")).expect(&rt, "there is memory");
+        lists(&rt, rt.alloc(), i, *hash, &file, (*text, 0, ""));
     }
 }
 
@@ -71,22 +71,16 @@ const REFUSED: [Refused<'static>; 4] = [
 fn refused(rt: HostRuntime) {
     for (i, (parts, text, fault)) in REFUSED.iter().enumerate() {
         let said = (*text, 255, *fault);
-        lists(&rt, rt.alloc(), i, Hash::Sha256, &("k", *parts), said).expect(
-            &rt,
-            "there is memory",
-        );
+        lists(&rt, rt.alloc(), i, Hash::Sha256, &("k", *parts), said);
     }
 }
 
 #[test]
 fn a_cut_certificate_is_refused(rt: HostRuntime) {
-    let line = key_line(rt.alloc(), b"ssh-ed25519-cert-v01@openssh.com", &[]).expect(
-        &rt,
-        "there is memory",
-    );
+    let line = key_line(&rt, rt.alloc(), b"ssh-ed25519-cert-v01@openssh.com", &[]);
     let parts = [GITHUB_LINE, b"\n\n", &line, b" c"];
     let file = ("k", Some(parts.as_slice()));
     let fault = "ssh-keygen: k: line 3: subject 2 Cert, cert 1 Wire";
     let said = (LISTING, 255, fault);
-    lists(&rt, rt.alloc(), 0, Hash::Sha256, &file, said).expect(&rt, "there is memory");
+    lists(&rt, rt.alloc(), 0, Hash::Sha256, &file, said);
 }

@@ -8,15 +8,15 @@ use crate::tests::streams::{Giver, Taker, giving};
 use krl_runs::{FileFault, ListMode, load};
 use ssh_key::Hash;
 use ssh_wire::{Bytes, FromRead};
-use std::alloc::{AllocError, Global};
+use std::alloc::Global;
 use std::io::Read;
 use std::process::Abort;
 
 /// Asks the list that names the published key about the files, with a device as the output.
-pub fn asked_of_key(alloc: Global, files: &[File], device: Taker) -> Result<Ran, AllocError> {
-    let list = list_of_one(alloc, &GITHUB)?;
-    let files = all_named(alloc, files)?;
-    asked(alloc, giving(&list), false, files.as_slice(), device)
+pub fn asked_of_key(rt: &impl Abort, alloc: Global, files: &[File], device: Taker) -> Ran {
+    let list = list_of_one(rt, alloc, &GITHUB);
+    let files = all_named(rt, alloc, files);
+    asked(rt, alloc, giving(&list), false, files.as_slice(), device)
 }
 
 /// What is loaded of the file `a` that a device gives.
@@ -71,7 +71,7 @@ fn loaded_in_pieces(rt: HostRuntime) {
 fn loaded_up_to_the_limit(rt: HostRuntime) {
     let alloc = rt.alloc();
     let mut bytes = Vec::from_slice(alloc, GITHUB_LINE).expect(&rt, "there is memory");
-    filled(&mut bytes, 16_777_216).expect(&rt, "there is memory");
+    filled(&rt, &mut bytes, 16_777_216);
     assert!(rt; loads(&rt, alloc, bytes.as_slice(), &bytes));
     bytes.push(0).expect(&rt, "there is memory");
     assert!(rt; refuses(&rt, alloc, bytes.as_slice(), FileFault::TooLong));
@@ -83,19 +83,19 @@ const KEY: File<'static> = ("g.pub", Some(&[GITHUB_LINE]));
 
 /// Asks the list that names the key, with a zero byte at a place of it; each call gives one byte,
 /// until one fails.
-fn asked_in_part(alloc: Global, place: usize, calls: usize) -> Result<Ran, AllocError> {
-    let mut bytes = list_of_one(alloc, &GITHUB)?;
+fn asked_in_part(rt: &impl Abort, alloc: Global, place: usize, calls: usize) -> Ran {
+    let mut bytes = list_of_one(rt, alloc, &GITHUB);
     if let Some(byte) = bytes.get_mut(place) {
         *byte = 0;
     }
-    let files = all_named(alloc, &[KEY])?;
+    let files = all_named(rt, alloc, &[KEY]);
     let krl = Giver {
         bytes: &bytes,
         piece: 1,
         calls_before_failure: calls,
     };
     let device = Taker::new(alloc, 100, 10);
-    asked(alloc, krl, false, files.as_slice(), device)
+    asked(rt, alloc, krl, false, files.as_slice(), device)
 }
 
 #[test]
@@ -113,7 +113,7 @@ fn the_list_fails(rt: HostRuntime) {
         (0, 8, (b"", 255, magic)),
     ];
     for (i, (place, calls, said)) in rows.iter().enumerate() {
-        let ran = asked_in_part(rt.alloc(), *place, *calls).expect(&rt, "there is memory");
+        let ran = asked_in_part(&rt, rt.alloc(), *place, *calls);
         says(&rt, i, &ran, *said);
     }
 }
@@ -144,16 +144,16 @@ const SAID: [(usize, &[File<'static>], Said<'static>); 6] = [
 fn the_output_fails(rt: HostRuntime) {
     for (i, (calls, files, said)) in SAID.iter().enumerate() {
         let device = Taker::new(rt.alloc(), 3, *calls);
-        let ran = asked_of_key(rt.alloc(), *files, device).expect(&rt, "there is memory");
+        let ran = asked_of_key(&rt, rt.alloc(), *files, device);
         says(&rt, i, &ran, *said);
     }
 }
 
 /// Lists the keys of a file; each call takes three bytes, until one fails.
-fn listed_in_part(alloc: Global, calls: usize, file: &File) -> Result<Ran, AllocError> {
-    let file = named(alloc, file)?;
+fn listed_in_part(rt: &impl Abort, alloc: Global, calls: usize, file: &File) -> Ran {
+    let file = named(rt, alloc, file);
     let device = Taker::new(alloc, 3, calls);
-    listed(alloc, ListMode::Keys, Hash::Sha256, &file, 0, device)
+    listed(rt, alloc, ListMode::Keys, Hash::Sha256, &file, 0, device)
 }
 
 /// How many calls come before the failure, the file, and what is listed of it.
@@ -178,7 +178,7 @@ const LISTED: [(usize, File<'static>, Said<'static>); 2] = [
 #[test]
 fn the_output_of_a_listing_fails(rt: HostRuntime) {
     for (i, (calls, file, said)) in LISTED.iter().enumerate() {
-        let ran = listed_in_part(rt.alloc(), *calls, file).expect(&rt, "there is memory");
+        let ran = listed_in_part(&rt, rt.alloc(), *calls, file);
         says(&rt, i, &ran, *said);
     }
 }

@@ -1,19 +1,20 @@
 // The spellings that the tests write: strings and base64 (RFC 4648 section 4).
 
-use crate::tests::bytes::joined;
-use std::alloc::{AllocError, Global};
+use crate::tests::bytes::{joined, put};
+use std::alloc::Global;
+use std::process::Abort;
 
 const DIGITS: &[u8; 64] = b"ABCDEFGHIJKLMNOPQRSTUVWXYZabcdefghijklmnopqrstuvwxyz0123456789+/";
 
 /// Strings, one after the other: four bytes of length and the bytes of each.
-pub fn strings(alloc: Global, list: &[&[u8]]) -> Result<Vec<u8>, AllocError> {
+pub fn strings(rt: &impl Abort, alloc: Global, list: &[&[u8]]) -> Vec<u8> {
     let mut all = Vec::new(alloc);
     for bytes in list {
         let [.., a, b, c, d] = bytes.len().to_be_bytes();
-        all.extend_from_slice(&[a, b, c, d])?;
-        all.extend_from_slice(*bytes)?;
+        put(rt, &mut all, &[a, b, c, d]);
+        put(rt, &mut all, *bytes);
     }
-    Ok(all)
+    all
 }
 
 /// The digit of a number below 64.
@@ -42,19 +43,19 @@ fn digits(part: &[u8]) -> [u8; 4] {
 }
 
 /// The base64 of some bytes, with padding.
-pub fn base64(alloc: Global, bytes: &[u8]) -> Result<Vec<u8>, AllocError> {
+pub fn base64(rt: &impl Abort, alloc: Global, bytes: &[u8]) -> Vec<u8> {
     let mut text = Vec::new(alloc);
     for part in bytes.chunks(3) {
-        text.extend_from_slice(&digits(part))?;
+        put(rt, &mut text, &digits(part));
     }
-    Ok(text)
+    text
 }
 
 /// The line of a key of this type, whose blob has these strings after its type name.
-pub fn key_line(alloc: Global, word: &[u8], fields: &[&[u8]]) -> Result<Vec<u8>, AllocError> {
-    let mut blob = strings(alloc, &[word])?;
-    let fields = strings(alloc, fields)?;
-    blob.extend_from_slice(&fields)?;
-    let text = base64(alloc, &blob)?;
-    joined(alloc, &[word, b" ", &text])
+pub fn key_line(rt: &impl Abort, alloc: Global, word: &[u8], fields: &[&[u8]]) -> Vec<u8> {
+    let mut blob = strings(rt, alloc, &[word]);
+    let fields = strings(rt, alloc, fields);
+    put(rt, &mut blob, &fields);
+    let text = base64(rt, alloc, &blob);
+    joined(rt, alloc, &[word, b" ", &text])
 }

@@ -6,25 +6,17 @@ use krl_runs::{Cause, FileFault, RunFault, fault_text};
 use ssh_cert::{CertFault, SubjectFault};
 use ssh_key::{KeyFault, LineFault, PrivateFault};
 use ssh_wire::WireFault;
-use std::alloc::{AllocError, Global};
+use std::alloc::Global;
 use std::process::Abort;
 
 /// A fault is told so, behind the name of the program, and its cause has this number. Another
 /// number tells it from the others of a test.
-fn is_told(
-    rt: &impl Abort,
-    alloc: Global,
-    place: usize,
-    fault: &RunFault,
-    number: u8,
-    want: &str,
-) -> Result<(), AllocError> {
-    let text = fault_text(alloc, fault)?;
+fn is_told(rt: &impl Abort, alloc: Global, place: usize, fault: &RunFault, number: u8, want: &str) {
+    let text = fault_text(alloc, fault).expect(rt, "there is memory");
     let name = b"ssh-keygen: ".as_slice();
     let told = text.strip_prefix(name).unwrap_or(b"no name");
     same(rt, place, told, want.as_bytes());
     same(rt, place, &[fault.cause.number()], &[number]);
-    Ok(())
 }
 
 const SHORT: KeyFault = KeyFault::Wire(WireFault::Short);
@@ -142,7 +134,7 @@ fn lines(rt: HostRuntime) {
             line: *line,
             cause: *cause,
         };
-        is_told(&rt, rt.alloc(), i, &fault, *number, *want).expect(&rt, "there is memory");
+        is_told(&rt, rt.alloc(), i, &fault, *number, *want);
     }
 }
 
@@ -160,23 +152,23 @@ fn file_faults(rt: HostRuntime) {
     for (i, (fault, number, want)) in FILE_FAULTS.iter().enumerate() {
         same(&rt, i, &[fault.number()], &[*number]);
         let fault = RunFault::whole("k", Cause::File(*fault));
-        is_told(&rt, rt.alloc(), i, &fault, *number, *want).expect(&rt, "there is memory");
+        is_told(&rt, rt.alloc(), i, &fault, *number, *want);
     }
 }
 
 /// A name of 10,000 pairs of a letter and a byte that is escaped.
-fn long_name(alloc: Global) -> Result<String, AllocError> {
+fn long_name(rt: &impl Abort, alloc: Global) -> String {
     let mut name = String::new(alloc);
     for _ in 0..10_000 {
-        name.push_str("a\x7f")?;
+        name.push_str("a\x7f").expect(rt, "there is memory");
     }
-    Ok(name)
+    name
 }
 
 // A body that is out of memory above some size meets the contract. It fails here.
 #[test]
 fn a_long_name(rt: HostRuntime) {
-    let name = long_name(rt.alloc()).expect(&rt, "there is memory");
+    let name = long_name(&rt, rt.alloc());
     let fault = RunFault::whole(name.as_str(), Cause::NoMemory);
     let text = fault_text(rt.alloc(), &fault).expect(&rt, "there is memory");
     assert!(rt; text.len() == 12 + 10_000 * 5 + 2 + 14);

@@ -3,18 +3,12 @@
 use crate::tests::bytes::{GITHUB, list_of_one};
 use crate::tests::encoding::key_line;
 use crate::tests::runs::{File, GITHUB_LINE, OTHER_LINE, Said, asks};
-use std::alloc::{AllocError, Global};
+use std::alloc::Global;
 use std::process::Abort;
 
 /// The list that names the published key is asked about the files, and this is said.
-fn tells(
-    rt: &impl Abort,
-    alloc: Global,
-    number: usize,
-    files: &[File],
-    said: Said,
-) -> Result<(), AllocError> {
-    let list = list_of_one(alloc, &GITHUB)?;
+fn tells(rt: &impl Abort, alloc: Global, number: usize, files: &[File], said: Said) {
+    let list = list_of_one(rt, alloc, &GITHUB);
     asks(rt, alloc, number, (&list, false), files, said)
 }
 
@@ -67,7 +61,7 @@ const TOLD: [Told<'static>; 8] = [
 fn told_of_each_line(rt: HostRuntime) {
     for (i, (name, parts, text, status)) in TOLD.iter().enumerate() {
         let file = (*name, Some(*parts));
-        tells(&rt, rt.alloc(), i, &[file], (*text, *status, "")).expect(&rt, "there is memory");
+        tells(&rt, rt.alloc(), i, &[file], (*text, *status, ""));
     }
 }
 
@@ -118,10 +112,7 @@ fn stopped_at_a_line(rt: HostRuntime) {
     for (i, (between, text, fault)) in STOPPED.iter().enumerate() {
         let parts = [GITHUB_LINE, *between, OTHER_LINE];
         let file = ("k", Some(parts.as_slice()));
-        tells(&rt, rt.alloc(), i, &[file, file], (*text, 255, *fault)).expect(
-            &rt,
-            "there is memory",
-        );
+        tells(&rt, rt.alloc(), i, &[file, file], (*text, 255, *fault));
     }
 }
 
@@ -164,15 +155,14 @@ const REFUSED: [Refused<'static>; 6] = [
 #[test]
 fn stopped_at_a_key(rt: HostRuntime) {
     for (i, (word, fields, fault)) in REFUSED.iter().enumerate() {
-        let line = key_line(rt.alloc(), *word, *fields).expect(&rt, "there is memory");
+        let line = key_line(&rt, rt.alloc(), *word, *fields);
         tells(
             &rt,
             rt.alloc(),
             i,
             &[("k", Some(&[GITHUB_LINE, b"\n\n", &line]))],
             (ONE, 255, *fault),
-        )
-        .expect(&rt, "there is memory");
+        );
     }
 }
 
@@ -188,6 +178,6 @@ fn files_without_keys(rt: HostRuntime) {
     for (i, text) in texts.iter().enumerate() {
         let parts = [*text];
         let bare = ("a\n", Some(parts.as_slice()));
-        tells(&rt, rt.alloc(), i, &[first, bare, first], said).expect(&rt, "there is memory");
+        tells(&rt, rt.alloc(), i, &[first, bare, first], said);
     }
 }

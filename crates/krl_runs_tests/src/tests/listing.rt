@@ -1,6 +1,6 @@
 // Listing the certificates of files.
 
-use crate::tests::bytes::{GITHUB, joined};
+use crate::tests::bytes::{GITHUB, joined, put};
 use crate::tests::certificates::{FREE, Terms, certificate_line, certificate_on, line_of};
 use crate::tests::containers::plain;
 use crate::tests::encoding::{key_line, strings};
@@ -8,7 +8,7 @@ use crate::tests::runs::{CLOSED, GITHUB_LINE, certifies, holding, listed, says};
 use crate::tests::streams::Taker;
 use krl_runs::ListMode;
 use ssh_key::Hash;
-use std::alloc::{AllocError, Global};
+use std::alloc::Global;
 use std::process::Abort;
 
 /// The lines of the certificate of the published key by itself, with serial 7 and the ID `a`, up to
@@ -27,14 +27,14 @@ const NO_LISTS: &[u8] = b"        Principals: (none)\n\
      \x20       Extensions: (none)\n";
 
 /// The line of that certificate.
-fn line(alloc: Global) -> Result<Vec<u8>, AllocError> {
-    certificate_line(alloc, &GITHUB, 7)
+fn line(rt: &impl Abort, alloc: Global) -> Vec<u8> {
+    certificate_line(rt, alloc, &GITHUB, 7)
 }
 
 /// The line of the same on other terms.
-fn line_on(alloc: Global, terms: &Terms) -> Result<Vec<u8>, AllocError> {
-    let blob = certificate_on(alloc, &GITHUB, 7, terms)?;
-    line_of(alloc, &blob)
+fn line_on(rt: &impl Abort, alloc: Global, terms: &Terms) -> Vec<u8> {
+    let blob = certificate_on(rt, alloc, &GITHUB, 7, terms);
+    line_of(rt, alloc, &blob)
 }
 
 /// A file's name, its bytes, and the moment at which it is listed.
@@ -42,16 +42,9 @@ type At<'a> = (&'a str, &'a [u8], u64);
 
 /// A file gives these parts of a text at a moment, and this fault or none. A number tells it from
 /// the others of a test.
-fn gives(
-    rt: &impl Abort,
-    alloc: Global,
-    number: usize,
-    at: At,
-    text: &[&[u8]],
-    fault: &str,
-) -> Result<(), AllocError> {
+fn gives(rt: &impl Abort, alloc: Global, number: usize, at: At, text: &[&[u8]], fault: &str) {
     let (name, bytes, moment) = at;
-    let text = joined(alloc, text)?;
+    let text = joined(rt, alloc, text);
     let status = if fault.is_empty() { 0 } else { 255 };
     let parts = [bytes];
     let file = (name, Some(parts.as_slice()));
@@ -60,11 +53,11 @@ fn gives(
 
 #[test]
 fn one_certificate(rt: HostRuntime) {
-    let line = line(rt.alloc()).expect(&rt, "there is memory");
+    let line = line(&rt, rt.alloc());
     let names: [(&str, &[u8]); 2] = [("c.pub", b"c.pub:1:\n"), ("c\n", b"c\\x0a:1:\n")];
     for (i, (name, place)) in names.iter().enumerate() {
         let text = [*place, FIRST, FOREVER, NO_LISTS];
-        gives(&rt, rt.alloc(), i, (*name, &line, 0), &text, "").expect(&rt, "there is memory");
+        gives(&rt, rt.alloc(), i, (*name, &line, 0), &text, "");
     }
 }
 
@@ -76,9 +69,9 @@ fn is_valid(
     period: [u64; 2],
     moment: u64,
     time: &[&[u8]],
-) -> Result<(), AllocError> {
-    let line = line_on(alloc, &Terms { period, ..FREE })?;
-    let time = joined(alloc, time)?;
+) {
+    let line = line_on(rt, alloc, &Terms { period, ..FREE });
+    let time = joined(rt, alloc, time);
     let text = [b"c.pub:1:\n", FIRST, &time, NO_LISTS];
     gives(rt, alloc, number, ("c.pub", &line, moment), &text, "")
 }
@@ -100,7 +93,7 @@ fn by_its_time(rt: HostRuntime) {
         ),
     ];
     for (i, (period, time)) in rows.iter().enumerate() {
-        is_valid(&rt, rt.alloc(), i, *period, 0, &[*time]).expect(&rt, "there is memory");
+        is_valid(&rt, rt.alloc(), i, *period, 0, &[*time]);
     }
 }
 
@@ -111,28 +104,25 @@ fn by_the_moment(rt: HostRuntime) {
     let yes = b"        Valid now: yes\n".as_slice();
     let rows = [(9, no), (10, yes), (19, yes), (20, no)];
     for (i, (moment, now)) in rows.iter().enumerate() {
-        is_valid(&rt, rt.alloc(), i, [10, 20], *moment, &[period, *now]).expect(
-            &rt,
-            "there is memory",
-        );
+        is_valid(&rt, rt.alloc(), i, [10, 20], *moment, &[period, *now]);
     }
 }
 
 /// The blob of the certificate with a principal, an option and an extension.
-fn with_each_list(alloc: Global) -> Result<Vec<u8>, AllocError> {
-    let options = strings(alloc, &[b"force-command", b"\0\0\0\x02id"])?;
-    let extensions = strings(alloc, &[b"permit-pty", b""])?;
+fn with_each_list(rt: &impl Abort, alloc: Global) -> Vec<u8> {
+    let options = strings(rt, alloc, &[b"force-command", b"\0\0\0\x02id"]);
+    let extensions = strings(rt, alloc, &[b"permit-pty", b""]);
     let terms = Terms {
         lists: [b"\0\0\0\x04root", &options, &extensions],
         ..FREE
     };
-    certificate_on(alloc, &GITHUB, 7, &terms)
+    certificate_on(rt, alloc, &GITHUB, 7, &terms)
 }
 
 #[test]
 fn with_lists(rt: HostRuntime) {
     let alloc = rt.alloc();
-    let blob = with_each_list(alloc).expect(&rt, "there is memory");
+    let blob = with_each_list(&rt, alloc);
     assert!(rt; blob.len() == 320);
     let lists = b"        Principals:\n\
          \x20               root\n\
@@ -140,91 +130,84 @@ fn with_lists(rt: HostRuntime) {
          \x20               force-command id\n\
          \x20       Extensions:\n\
          \x20               permit-pty\n";
-    let line = line_of(alloc, &blob).expect(&rt, "there is memory");
+    let line = line_of(&rt, alloc, &blob);
     let text = [b"c.pub:1:\n", FIRST, FOREVER, lists];
-    gives(&rt, alloc, 0, ("c.pub", &line, 0), &text, "").expect(&rt, "there is memory");
+    gives(&rt, alloc, 0, ("c.pub", &line, 0), &text, "");
 }
 
 #[test]
 fn without_a_certificate(rt: HostRuntime) {
-    let private = plain(rt.alloc(), 1, 4).expect(&rt, "there is memory");
+    let private = plain(&rt, rt.alloc(), 1, 4);
     let none = "ssh-keygen: g.pub: file 6 NoCertificate";
     let texts: [&[u8]; 4] = [GITHUB_LINE, b"", b"# a\n\n", &private];
     for (i, bytes) in texts.iter().enumerate() {
-        gives(&rt, rt.alloc(), i, ("g.pub", *bytes, 0), &[], none).expect(&rt, "there is memory");
+        gives(&rt, rt.alloc(), i, ("g.pub", *bytes, 0), &[], none);
     }
 }
 
 #[test]
 fn plain_keys_are_passed_over(rt: HostRuntime) {
     let alloc = rt.alloc();
-    let line = line(alloc).expect(&rt, "there is memory");
-    let file = joined(alloc, &[GITHUB_LINE, b" c\n# c\n", &line, GITHUB_LINE]).expect(
-        &rt,
-        "there is memory",
-    );
+    let line = line(&rt, alloc);
+    let file = joined(&rt, alloc, &[GITHUB_LINE, b" c\n# c\n", &line, GITHUB_LINE]);
     let text = [b"c.pub:3:\n", FIRST, FOREVER, NO_LISTS];
-    gives(&rt, alloc, 0, ("c.pub", &file, 0), &text, "").expect(&rt, "there is memory");
+    gives(&rt, alloc, 0, ("c.pub", &file, 0), &text, "");
 }
 
 /// A file of the certificate and of more lines gives the certificate, and this fault.
-fn stops(
-    rt: &impl Abort,
-    alloc: Global,
-    number: usize,
-    more: &[u8],
-    fault: &str,
-) -> Result<(), AllocError> {
-    let mut file = line(alloc)?;
-    file.extend_from_slice(more)?;
+fn stops(rt: &impl Abort, alloc: Global, number: usize, more: &[u8], fault: &str) {
+    let mut file = line(rt, alloc);
+    put(rt, &mut file, more);
     let text = [b"c.pub:1:\n", FIRST, FOREVER, NO_LISTS];
     gives(rt, alloc, number, ("c.pub", &file, 0), &text, fault)
 }
 
 /// A line of no key, and that of the certificate.
-fn no_key(alloc: Global) -> Result<Vec<u8>, AllocError> {
-    let line = line(alloc)?;
-    joined(alloc, &[b"ssh-ed25519\n", &line])
+fn no_key(rt: &impl Abort, alloc: Global) -> Vec<u8> {
+    let line = line(rt, alloc);
+    joined(rt, alloc, &[b"ssh-ed25519\n", &line])
 }
 
 #[test]
 fn faults_of_what_is_passed_over(rt: HostRuntime) {
     let alloc = rt.alloc();
-    let more = no_key(alloc).expect(&rt, "there is memory");
+    let more = no_key(&rt, alloc);
     let fault = "ssh-keygen: c.pub: line 2: line 1 NoKey";
-    stops(&rt, alloc, 0, &more, fault).expect(&rt, "there is memory");
-    let more = key_line(alloc, b"ssh-ed25519", &[b""]).expect(&rt, "there is memory");
+    stops(&rt, alloc, 0, &more, fault);
+    let more = key_line(&rt, alloc, b"ssh-ed25519", &[b""]);
     let fault = "ssh-keygen: c.pub: line 2: subject 1 Key, key 5 Length";
-    stops(&rt, alloc, 1, &more, fault).expect(&rt, "there is memory");
+    stops(&rt, alloc, 1, &more, fault);
 }
 
 #[test]
 fn faults_of_what_comes_first(rt: HostRuntime) {
     let alloc = rt.alloc();
-    let cut = key_line(alloc, b"ssh-ed25519-cert-v01@openssh.com", &[]).expect(
-        &rt,
-        "there is memory",
-    );
+    let cut = key_line(&rt, alloc, b"ssh-ed25519-cert-v01@openssh.com", &[]);
     let fault = "ssh-keygen: c.pub: line 1: subject 2 Cert, cert 1 Wire";
-    gives(&rt, alloc, 0, ("c.pub", &cut, 0), &[], fault).expect(&rt, "there is memory");
-    let private = plain(alloc, 2, 4).expect(&rt, "there is memory");
+    gives(&rt, alloc, 0, ("c.pub", &cut, 0), &[], fault);
+    let private = plain(&rt, alloc, 2, 4);
     let fault = "ssh-keygen: id: private 6 Check";
-    gives(&rt, alloc, 1, ("id", &private, 0), &[], fault).expect(&rt, "there is memory");
+    gives(&rt, alloc, 1, ("id", &private, 0), &[], fault);
 }
 
 #[test]
 fn without_a_file(rt: HostRuntime) {
     let said = (b"".as_slice(), 255, "ssh-keygen: none: file 1 Open");
-    certifies(&rt, rt.alloc(), 0, &CLOSED, 0, said).expect(&rt, "there is memory");
+    certifies(&rt, rt.alloc(), 0, &CLOSED, 0, said);
 }
 
 #[test]
 fn the_output_fails(rt: HostRuntime) {
-    let file = holding("c.pub", line(rt.alloc()).expect(&rt, "there is memory"));
+    let file = holding("c.pub", line(&rt, rt.alloc()));
     let device = Taker::new(rt.alloc(), 3, 2);
-    let ran = listed(rt.alloc(), ListMode::Certs, Hash::Sha256, &file, 0, device).expect(
+    let ran = listed(
         &rt,
-        "there is memory",
+        rt.alloc(),
+        ListMode::Certs,
+        Hash::Sha256,
+        &file,
+        0,
+        device,
     );
     let fault = "ssh-keygen: output: output 1 Write after 6 bytes";
     says(&rt, 0, &ran, (b"c.pub:", 255, fault));

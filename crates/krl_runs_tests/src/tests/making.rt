@@ -2,15 +2,15 @@
 
 use crate::tests::bytes::{
     FIVE, GITHUB, HEADER, ID_A, ID_A_UNDER_OTHER, ONE_KEY, OTHER, SHA256, joined, list_of,
-    repeated, same,
+    odd_lines, repeated, same,
 };
 use crate::tests::certificates::certificate_line;
 use crate::tests::containers::plain;
 use crate::tests::runs::{CLOSED, File, GITHUB_LINE, OTHER_LINE, all_named, holding, named};
 use krl_make::{Authority, Old, make_run};
-use krl_runs::{Named, RunFault, fault_text};
+use krl_runs::{RunFault, fault_text};
 use ssh_wire::FromRead;
-use std::alloc::{AllocError, Global};
+use std::alloc::Global;
 use std::process::Abort;
 
 /// The list that is made, or else the line of the fault.
@@ -22,26 +22,28 @@ struct Outcome {
 
 impl Outcome {
     /// What a run gave: the other of the two is empty.
-    fn of(alloc: Global, made: Result<Vec<u8>, RunFault>) -> Result<Outcome, AllocError> {
+    fn of(rt: &impl Abort, alloc: Global, made: Result<Vec<u8>, RunFault>) -> Outcome {
         let none = Vec::new(alloc);
         match made {
-            Ok(list) => Ok(Outcome { list, fault: none }),
-            Err(fault) => Ok(Outcome {
+            Ok(list) => Outcome { list, fault: none },
+            Err(fault) => Outcome {
                 list: none,
-                fault: fault_text(alloc, &fault)?,
-            }),
+                fault: fault_text(alloc, &fault).expect(rt, "there is memory"),
+            },
         }
     }
 }
 
 /// Makes the list `r.krl` of the old one, of the authority and of the files, at the moment 0.
-fn made_of<'a>(
+fn made(
+    rt: &impl Abort,
     alloc: Global,
     old: Option<&[u8]>,
-    authority: &'a Authority<'a>,
+    authority: &Authority,
     version: Option<u64>,
-    files: &'a [Named<'a>],
-) -> Result<Outcome, AllocError> {
+    files: &[File],
+) -> Outcome {
+    let files = all_named(rt, alloc, files);
     let list = match old {
         Some(bytes) => Some(FromRead::new(bytes)),
         None => None,
@@ -50,19 +52,8 @@ fn made_of<'a>(
         name: "r.krl",
         list,
     };
-    Outcome::of(alloc, make_run(alloc, old, authority, version, files, 0))
-}
-
-/// The same, of files that are still to be read.
-fn made(
-    alloc: Global,
-    old: Option<&[u8]>,
-    authority: &Authority,
-    version: Option<u64>,
-    files: &[File],
-) -> Result<Outcome, AllocError> {
-    let files = all_named(alloc, files)?;
-    made_of(alloc, old, authority, version, files.as_slice())
+    let made = make_run(alloc, old, authority, version, files.as_slice(), 0);
+    Outcome::of(rt, alloc, made)
 }
 
 /// This list is made; a number tells it from the others of a test.
@@ -72,23 +63,17 @@ fn is_made(rt: &impl Abort, number: usize, made: &Outcome, want: &[u8]) {
 }
 
 /// The lines make a list of version 1 under all authorities with these sections.
-fn makes(
-    rt: &impl Abort,
-    alloc: Global,
-    number: usize,
-    lines: &[u8],
-    sections: &[&[u8]],
-) -> Result<(), AllocError> {
-    let want = list_of(alloc, sections)?;
+fn makes(rt: &impl Abort, alloc: Global, number: usize, lines: &[u8], sections: &[&[u8]]) {
+    let want = list_of(rt, alloc, sections);
     let made = made(
+        rt,
         alloc,
         None,
         &Authority::All,
         Some(1),
         &[("s", Some(&[lines]))],
-    )?;
+    );
     is_made(rt, number, &made, &want);
-    Ok(())
 }
 
 /// Nothing is made of the old list, the authority and the lines, for this fault.
@@ -100,26 +85,28 @@ fn refuses(
     authority: &Authority,
     lines: &[u8],
     fault: &str,
-) -> Result<(), AllocError> {
-    let made = made(alloc, old, authority, None, &[("s", Some(&[lines]))])?;
+) {
+    let made = made(rt, alloc, old, authority, None, &[("s", Some(&[lines]))]);
     same(rt, number, &made.fault, fault.as_bytes());
-    Ok(())
 }
 
 /// A list of this version, with a comment and these sections.
 fn commented(
+    rt: &impl Abort,
     alloc: Global,
     version: u64,
     comment: &[u8],
     sections: &[&[u8]],
-) -> Result<Vec<u8>, AllocError> {
+) -> Vec<u8> {
     let [.., a, b, c, d] = comment.len().to_be_bytes();
     let number = version.to_be_bytes();
     let size = [a, b, c, d];
-    let mut list = joined(alloc, &[&HEADER[..12], &number, &[0; 20], &size, comment])?;
-    let sections = joined(alloc, sections)?;
-    list.extend_from_slice(&sections)?;
-    Ok(list)
+    let sections = joined(rt, alloc, sections);
+    joined(
+        rt,
+        alloc,
+        &[&HEADER[..12], &number, &[0; 20], &size, comment, &sections],
+    )
 }
 
 const FIVE_AND_SIX: &[u8] =
@@ -164,35 +151,25 @@ const MADE: [(&[u8], &[u8]); 9] = [
 #[test]
 fn of_lines(rt: HostRuntime) {
     for (i, (lines, section)) in MADE.iter().enumerate() {
-        makes(&rt, rt.alloc(), i, *lines, &[*section]).expect(&rt, "there is memory");
+        makes(&rt, rt.alloc(), i, *lines, &[*section]);
     }
-}
-
-/// The lines of the first 128 odd serials.
-fn odd_lines(alloc: Global) -> Result<Vec<u8>, AllocError> {
-    let mut lines = Vec::new(alloc);
-    for half in 0..128u32 {
-        let line = format!(in alloc; "serial: {}\n", 2 * half + 1)?;
-        lines.extend_from_slice(line.as_bytes())?;
-    }
-    Ok(lines)
 }
 
 #[test]
 fn of_odd_serials(rt: HostRuntime) {
-    let lines = odd_lines(rt.alloc()).expect(&rt, "there is memory");
+    let lines = odd_lines(&rt, rt.alloc(), 128);
     let front = b"\x01\0\0\0\x39\0\0\0\0\0\0\0\0\x22\0\0\0\x2c\0\0\0\0\0\0\0\x01\0\0\0\x20";
-    makes(&rt, rt.alloc(), 0, &lines, &[front, &[0x55; 32]]).expect(&rt, "there is memory");
+    makes(&rt, rt.alloc(), 0, &lines, &[front, &[0x55; 32]]);
 }
 
 // By its ID, and by its key.
 #[test]
 fn of_a_certificate(rt: HostRuntime) {
     let alloc = rt.alloc();
-    let line = certificate_line(alloc, &OTHER, 0).expect(&rt, "there is memory");
-    makes(&rt, alloc, 0, &line, &ID_A_UNDER_OTHER).expect(&rt, "there is memory");
-    let line = joined(alloc, &[b"key: ", &line]).expect(&rt, "there is memory");
-    makes(&rt, alloc, 1, &line, &[&ONE_KEY, &GITHUB]).expect(&rt, "there is memory");
+    let line = certificate_line(&rt, alloc, &OTHER, 0);
+    makes(&rt, alloc, 0, &line, &ID_A_UNDER_OTHER);
+    let line = joined(&rt, alloc, &[b"key: ", &line]);
+    makes(&rt, alloc, 1, &line, &[&ONE_KEY, &GITHUB]);
 }
 
 const SEVERAL: [File<'static>; 3] = [
@@ -203,21 +180,15 @@ const SEVERAL: [File<'static>; 3] = [
 
 #[test]
 fn of_several_files(rt: HostRuntime) {
-    let made = made(rt.alloc(), None, &Authority::All, Some(1), &SEVERAL).expect(
-        &rt,
-        "there is memory",
-    );
-    let want = list_of(rt.alloc(), &[FIVE_AND_SIX]).expect(&rt, "there is memory");
+    let made = made(&rt, rt.alloc(), None, &Authority::All, Some(1), &SEVERAL);
+    let want = list_of(&rt, rt.alloc(), &[FIVE_AND_SIX]);
     is_made(&rt, 0, &made, &want);
 }
 
 #[test]
 fn of_nothing(rt: HostRuntime) {
-    let made = made(rt.alloc(), None, &Authority::NotGiven, None, &[]).expect(
-        &rt,
-        "there is memory",
-    );
-    let want = commented(rt.alloc(), 0, b"", &[]).expect(&rt, "there is memory");
+    let made = made(&rt, rt.alloc(), None, &Authority::NotGiven, None, &[]);
+    let want = commented(&rt, rt.alloc(), 0, b"", &[]);
     is_made(&rt, 0, &made, &want);
 }
 
@@ -277,15 +248,10 @@ const UPDATES: [Update<'static>; 5] = [
 ];
 
 /// The old list, with these lines under all authorities, makes the new one.
-fn updates(
-    rt: &impl Abort,
-    alloc: Global,
-    number: usize,
-    update: &Update,
-) -> Result<(), AllocError> {
-    let old = commented(alloc, update.version, update.comment, update.old)?;
+fn updates(rt: &impl Abort, alloc: Global, number: usize, update: &Update) {
+    let old = commented(rt, alloc, update.version, update.comment, update.old);
     let next = update.version.saturating_add(1);
-    let new = commented(alloc, next, update.comment, update.new)?;
+    let new = commented(rt, alloc, next, update.comment, update.new);
     same(
         rt,
         number,
@@ -293,42 +259,39 @@ fn updates(
         &update.size.to_be_bytes(),
     );
     let made = made(
+        rt,
         alloc,
         Some(&old),
         &Authority::All,
         None,
         &[("s", Some(&[update.lines]))],
-    )?;
+    );
     is_made(rt, number, &made, &new);
-    Ok(())
 }
 
 #[test]
 fn what_an_old_list_holds_stays(rt: HostRuntime) {
     for (i, update) in UPDATES.iter().enumerate() {
-        updates(&rt, rt.alloc(), i, update).expect(&rt, "there is memory");
+        updates(&rt, rt.alloc(), i, update);
     }
 }
 
 #[test]
 fn the_given_version_is_written(rt: HostRuntime) {
     let alloc = rt.alloc();
-    let old = commented(alloc, u64::MAX, b"", &[FIVE]).expect(&rt, "there is memory");
-    let want = commented(alloc, 3, b"", &[FIVE]).expect(&rt, "there is memory");
-    let made = made(alloc, Some(&old), &Authority::NotGiven, Some(3), &[]).expect(
-        &rt,
-        "there is memory",
-    );
+    let old = commented(&rt, alloc, u64::MAX, b"", &[FIVE]);
+    let want = commented(&rt, alloc, 3, b"", &[FIVE]);
+    let made = made(&rt, alloc, Some(&old), &Authority::NotGiven, Some(3), &[]);
     is_made(&rt, 0, &made, &want);
 }
 
 /// The authority of the first key of a file, which cannot be opened where it has no text.
-fn authority<'a>(alloc: Global, text: Option<&[u8]>) -> Result<Authority<'a>, AllocError> {
+fn authority<'a>(rt: &impl Abort, alloc: Global, text: Option<&[u8]>) -> Authority<'a> {
     let file = match text {
-        Some(text) => holding("ca", Vec::from_slice(alloc, text)?),
-        None => named(alloc, &("ca", None))?,
+        Some(text) => holding("ca", joined(rt, alloc, &[text])),
+        None => named(rt, alloc, &("ca", None)),
     };
-    Ok(Authority::File(file))
+    Authority::File(file)
 }
 
 #[test]
@@ -343,12 +306,11 @@ fn old_lists_that_cannot_be_updated(rt: HostRuntime) {
         &Authority::All,
         b"x",
         early,
-    )
-    .expect(&rt, "there is memory");
-    let full = commented(alloc, u64::MAX, b"", &[]).expect(&rt, "there is memory");
-    let closed = authority(alloc, None).expect(&rt, "there is memory");
+    );
+    let full = commented(&rt, alloc, u64::MAX, b"", &[]);
+    let closed = authority(&rt, alloc, None);
     let fault = "ssh-keygen: r.krl: run 2 VersionFull";
-    refuses(&rt, alloc, 1, Some(&full), &closed, b"x", fault).expect(&rt, "there is memory");
+    refuses(&rt, alloc, 1, Some(&full), &closed, b"x", fault);
 }
 
 /// The sections of serial 5 of the authorities of two keys, in parts.
@@ -368,18 +330,11 @@ const FIVE_LINE: File<'static> = ("s", Some(&[b"serial: 5"]));
 
 /// The first key of a file of this text is the authority of a serial, which makes a list of these
 /// sections.
-fn is_authority(
-    rt: &impl Abort,
-    alloc: Global,
-    number: usize,
-    text: &[u8],
-    sections: &[&[u8]],
-) -> Result<(), AllocError> {
-    let want = list_of(alloc, sections)?;
-    let authority = authority(alloc, Some(text))?;
-    let made = made(alloc, None, &authority, Some(1), &[FIVE_LINE])?;
+fn is_authority(rt: &impl Abort, alloc: Global, number: usize, text: &[u8], sections: &[&[u8]]) {
+    let want = list_of(rt, alloc, sections);
+    let authority = authority(rt, alloc, Some(text));
+    let made = made(rt, alloc, None, &authority, Some(1), &[FIVE_LINE]);
     is_made(rt, number, &made, &want);
-    Ok(())
 }
 
 /// The parts of a file of two keys.
@@ -388,29 +343,23 @@ const TWO_KEYS: [&[u8]; 5] = [b"\n# ca\n", OTHER_LINE, b" x\n", GITHUB_LINE, b"\
 // The first line of a key, or the key of a container.
 #[test]
 fn the_first_key_of_the_file_is_the_authority(rt: HostRuntime) {
-    let lines = joined(rt.alloc(), &TWO_KEYS).expect(&rt, "there is memory");
-    let container = plain(rt.alloc(), 1, 4).expect(&rt, "there is memory");
-    is_authority(&rt, rt.alloc(), 0, &lines, &FIVE_UNDER_OTHER).expect(&rt, "there is memory");
-    is_authority(&rt, rt.alloc(), 1, &container, &FIVE_UNDER_GITHUB).expect(&rt, "there is memory");
+    let lines = joined(&rt, rt.alloc(), &TWO_KEYS);
+    let container = plain(&rt, rt.alloc(), 1, 4);
+    is_authority(&rt, rt.alloc(), 0, &lines, &FIVE_UNDER_OTHER);
+    is_authority(&rt, rt.alloc(), 1, &container, &FIVE_UNDER_GITHUB);
 }
 
 /// The file of this text names no authority, for this fault.
-fn is_none(
-    rt: &impl Abort,
-    alloc: Global,
-    number: usize,
-    text: Option<&[u8]>,
-    fault: &str,
-) -> Result<(), AllocError> {
-    let authority = authority(alloc, text)?;
+fn is_none(rt: &impl Abort, alloc: Global, number: usize, text: Option<&[u8]>, fault: &str) {
+    let authority = authority(rt, alloc, text);
     refuses(rt, alloc, number, None, &authority, b"x", fault)
 }
 
 #[test]
 fn a_container_that_is_none(rt: HostRuntime) {
-    let text = plain(rt.alloc(), 2, 4).expect(&rt, "there is memory");
+    let text = plain(&rt, rt.alloc(), 2, 4);
     let fault = "ssh-keygen: ca: private 6 Check";
-    is_none(&rt, rt.alloc(), 0, Some(&text), fault).expect(&rt, "there is memory");
+    is_none(&rt, rt.alloc(), 0, Some(&text), fault);
 }
 
 #[test]
@@ -425,7 +374,7 @@ fn authorities_that_are_none(rt: HostRuntime) {
         ),
     ];
     for (i, (text, fault)) in rows.iter().enumerate() {
-        is_none(&rt, rt.alloc(), i, *text, *fault).expect(&rt, "there is memory");
+        is_none(&rt, rt.alloc(), i, *text, *fault);
     }
 }
 
@@ -434,31 +383,37 @@ fn lines_that_are_refused(rt: HostRuntime) {
     let alloc = rt.alloc();
     let text = b"# 1\nserial: 5";
     let fault = "ssh-keygen: s: line 2: spec 4 NoAuthority";
-    refuses(&rt, alloc, 0, None, &Authority::NotGiven, text, fault).expect(&rt, "there is memory");
+    refuses(&rt, alloc, 0, None, &Authority::NotGiven, text, fault);
     let fault = "ssh-keygen: s: line 1: spec 6 Key, line 1 NoKey";
-    refuses(&rt, alloc, 1, None, &Authority::All, b"x", fault).expect(&rt, "there is memory");
+    refuses(&rt, alloc, 1, None, &Authority::All, b"x", fault);
 }
 
 const FILES: [File<'static>; 3] = [("s", Some(&[b"serial: 5\n"])), CLOSED, ("t", Some(&[b"x"]))];
 
 #[test]
 fn a_file_that_cannot_be_opened(rt: HostRuntime) {
-    let made = made(rt.alloc(), None, &Authority::All, None, &FILES).expect(&rt, "there is memory");
+    let made = made(&rt, rt.alloc(), None, &Authority::All, None, &FILES);
     same(&rt, 0, &made.fault, b"ssh-keygen: none: file 1 Open");
 }
 
 /// The line of a key ID of so many bytes.
-fn long_id(alloc: Global, size: usize) -> Result<Vec<u8>, AllocError> {
-    let mut line = repeated(alloc, &[&[0x61; 4096]], size / 4096)?;
-    let rest = repeated(alloc, &[b"a"], size % 4096)?;
-    line.extend_from_slice(&rest)?;
-    joined(alloc, &[b"id: ", &line])
+fn long_id(rt: &impl Abort, alloc: Global, size: usize) -> Vec<u8> {
+    let line = repeated(rt, alloc, &[&[0x61; 4096]], size / 4096);
+    let rest = repeated(rt, alloc, &[b"a"], size % 4096);
+    joined(rt, alloc, &[b"id: ", &line, &rest])
 }
 
 /// The list of a key ID of so many bytes has so many.
-fn has_size(rt: &impl Abort, alloc: Global, id: usize, size: usize) -> Result<(), AllocError> {
-    let line = long_id(alloc, id)?;
-    let made = made(alloc, None, &Authority::All, None, &[("s", Some(&[&line]))])?;
+fn has_size(rt: &impl Abort, alloc: Global, id: usize, size: usize) {
+    let line = long_id(rt, alloc, id);
+    let made = made(
+        rt,
+        alloc,
+        None,
+        &Authority::All,
+        None,
+        &[("s", Some(&[&line]))],
+    );
     same(rt, size, &made.fault, b"");
     same(
         rt,
@@ -466,20 +421,19 @@ fn has_size(rt: &impl Abort, alloc: Global, id: usize, size: usize) -> Result<()
         &made.list.len().to_be_bytes(),
         &size.to_be_bytes(),
     );
-    Ok(())
 }
 
 #[test]
 fn long_lists(rt: HostRuntime) {
     // the second one is the longest
     for (id, size) in [(16_777_150, 16_777_216), (67_108_798, 67_108_864)] {
-        has_size(&rt, rt.alloc(), id, size).expect(&rt, "there is memory");
+        has_size(&rt, rt.alloc(), id, size);
     }
 }
 
 #[test]
 fn a_list_that_is_too_long(rt: HostRuntime) {
-    let line = long_id(rt.alloc(), 67_108_799).expect(&rt, "there is memory");
+    let line = long_id(&rt, rt.alloc(), 67_108_799);
     let fault = "ssh-keygen: r.krl: run 3 TextTooLong";
-    refuses(&rt, rt.alloc(), 0, None, &Authority::All, &line, fault).expect(&rt, "there is memory");
+    refuses(&rt, rt.alloc(), 0, None, &Authority::All, &line, fault);
 }

@@ -5,7 +5,7 @@ use crate::tests::streams::{Giver, Taker, giving, taking};
 use krl_runs::{Done, FileFault, ListMode, Named, fault_text, list_run, query_run};
 use ssh_key::Hash;
 use ssh_wire::{Bytes, FromRead, ToWrite};
-use std::alloc::{AllocError, Global};
+use std::alloc::Global;
 use std::process::Abort;
 
 /// The line of GitHub's published Ed25519 host key.
@@ -53,52 +53,54 @@ pub fn holding<'a>(name: &'a str, bytes: Vec<u8>) -> Named<'a> {
 }
 
 /// The file with what it holds.
-pub fn named<'a>(alloc: Global, file: &File<'a>) -> Result<Named<'a>, AllocError> {
+pub fn named<'a>(rt: &impl Abort, alloc: Global, file: &File<'a>) -> Named<'a> {
     let (name, parts) = *file;
     match parts {
-        Some(parts) => Ok(holding(name, joined(alloc, parts)?)),
-        None => Ok(Named {
+        Some(parts) => holding(name, joined(rt, alloc, parts)),
+        None => Named {
             name,
             content: Err(FileFault::Open),
-        }),
+        },
     }
 }
 
 /// The files with what they hold.
-pub fn all_named<'a>(alloc: Global, files: &[File<'a>]) -> Result<Vec<Named<'a>>, AllocError> {
+pub fn all_named<'a>(rt: &impl Abort, alloc: Global, files: &[File<'a>]) -> Vec<Named<'a>> {
     let mut all = Vec::new(alloc);
     for file in files {
-        all.push(named(alloc, file)?)?;
+        all.push(named(rt, alloc, file))
+            .expect(rt, "there is memory");
     }
-    Ok(all)
+    all
 }
 
 /// What is said of a run's end.
-pub fn told(alloc: Global, text: Vec<u8>, done: &Done) -> Result<Ran, AllocError> {
+pub fn told(rt: &impl Abort, alloc: Global, text: Vec<u8>, done: &Done) -> Ran {
     let fault = match &done.fault {
-        Some(fault) => fault_text(alloc, fault)?,
+        Some(fault) => fault_text(alloc, fault).expect(rt, "there is memory"),
         None => Vec::new(alloc),
     };
-    Ok(Ran {
+    Ran {
         text,
         status: done.status,
         fault,
-    })
+    }
 }
 
 /// Asks the list `r.krl` about the files; what it holds is printed before that where `dump` is
 /// true.
 pub fn asked<'a>(
+    rt: &impl Abort,
     alloc: Global,
     krl: Giver,
     dump: bool,
     files: &'a [Named<'a>],
     mut device: Taker,
-) -> Result<Ran, AllocError> {
+) -> Ran {
     let mut out = ToWrite::new(&mut device);
     let done = query_run(alloc, "r.krl", FromRead::new(krl), dump, files, &mut out);
     drop(out);
-    told(alloc, device.taken, &done)
+    told(rt, alloc, device.taken, &done)
 }
 
 /// The bytes of a list, and whether what it holds is printed before it is asked about files.
@@ -112,41 +114,40 @@ pub fn asks(
     (krl, dump): Krl,
     files: &[File],
     said: Said,
-) -> Result<(), AllocError> {
-    let files = all_named(alloc, files)?;
-    let ran = asked(alloc, giving(krl), dump, files.as_slice(), taking(alloc))?;
+) {
+    let files = all_named(rt, alloc, files);
+    let ran = asked(
+        rt,
+        alloc,
+        giving(krl),
+        dump,
+        files.as_slice(),
+        taking(alloc),
+    );
     says(rt, number, &ran, said);
-    Ok(())
 }
 
 /// Lists the keys or the certificates of a file at a moment.
 pub fn listed<'a>(
+    rt: &impl Abort,
     alloc: Global,
     mode: ListMode,
     hash: Hash,
     file: &'a Named<'a>,
     moment: u64,
     mut device: Taker,
-) -> Result<Ran, AllocError> {
+) -> Ran {
     let mut out = ToWrite::new(&mut device);
     let done = list_run(alloc, mode, hash, file, moment, &mut out);
     drop(out);
-    told(alloc, device.taken, &done)
+    told(rt, alloc, device.taken, &done)
 }
 
 /// The keys of the file are listed so.
-pub fn lists(
-    rt: &impl Abort,
-    alloc: Global,
-    number: usize,
-    hash: Hash,
-    file: &File,
-    said: Said,
-) -> Result<(), AllocError> {
-    let file = named(alloc, file)?;
-    let ran = listed(alloc, ListMode::Keys, hash, &file, 0, taking(alloc))?;
+pub fn lists(rt: &impl Abort, alloc: Global, number: usize, hash: Hash, file: &File, said: Said) {
+    let file = named(rt, alloc, file);
+    let ran = listed(rt, alloc, ListMode::Keys, hash, &file, 0, taking(alloc));
     says(rt, number, &ran, said);
-    Ok(())
 }
 
 /// The certificates of the file are listed so at a moment.
@@ -157,16 +158,16 @@ pub fn certifies(
     file: &File,
     moment: u64,
     said: Said,
-) -> Result<(), AllocError> {
-    let file = named(alloc, file)?;
+) {
+    let file = named(rt, alloc, file);
     let ran = listed(
+        rt,
         alloc,
         ListMode::Certs,
         Hash::Sha256,
         &file,
         moment,
         taking(alloc),
-    )?;
+    );
     says(rt, number, &ran, said);
-    Ok(())
 }

@@ -12,7 +12,7 @@ use krl_core::{Header, Revocations, krl_text};
 use krl_spec::{Under, read_spec};
 use serial_set::Held;
 use ssh_wire::Bytes;
-use std::alloc::{AllocError, Global};
+use std::alloc::Global;
 use std::process::Abort;
 
 /// An authority without bytes is none.
@@ -32,27 +32,46 @@ fn of_bytes<'a>(under: Under<'a>) -> Under<'a>
     }
 }
 
+/// Where and why a file is refused, and the list that is written of what it adds.
+#[derive(Drop)]
+struct Outcome {
+    told: String,
+    list: Vec<u8>,
+}
+
 /// Adds what a file names, and tells where and why it is refused.
 fn add(
+    rt: &impl Abort,
     alloc: Global,
     revocations: &mut Revocations<Held>,
     under: Under,
     text: &[u8],
-) -> Result<String, AllocError> {
+) -> String {
     match read_spec(alloc, revocations, of_bytes(under), text) {
-        Ok(()) => Ok(String::new(alloc)),
-        Err(fault) => format!(in alloc; "{}: {}", fault.line, fault.cause),
+        Ok(()) => String::new(alloc),
+        Err(fault) => {
+            let told = format!(in alloc; "{}: {}", fault.line, fault.cause);
+            told.expect(rt, "there is memory")
+        }
     }
 }
 
-/// The list that is written of what was added; none where it has no text.
-fn written(alloc: Global, revocations: &Revocations<Held>) -> Option<Vec<u8>> {
+/// The list that is written of what was added.
+fn written(rt: &impl Abort, alloc: Global, revocations: &Revocations<Held>) -> Vec<u8> {
     let header = Header {
         version: 1,
         date: 0,
         comment: Bytes::from_vec(Vec::new(alloc)),
     };
-    krl_text(alloc, &header, revocations).ok()
+    krl_text(alloc, &header, revocations).expect(rt, "the list has a text")
+}
+
+/// What comes of a file.
+fn found(rt: &impl Abort, alloc: Global, under: Under, text: &[u8]) -> Outcome {
+    let mut revocations = Revocations::<Held>::new(alloc);
+    let told = add(rt, alloc, &mut revocations, under, text);
+    let list = written(rt, alloc, &revocations);
+    Outcome { told, list }
 }
 
 /// The file is refused so, or read to its end where there is no fault; the list that is written of
@@ -64,14 +83,11 @@ fn adds(
     (under, text): (Under, &[u8]),
     sections: &[&[u8]],
     fault: &str,
-) -> Result<(), AllocError> {
-    let mut revocations = Revocations::<Held>::new(alloc);
-    let told = add(alloc, &mut revocations, under, text)?;
-    same(rt, number, told.as_bytes(), fault.as_bytes());
-    let list = written(alloc, &revocations).expect(rt, "the list has a text");
-    let want = list_of(alloc, sections)?;
-    same(rt, number, &list, &want);
-    Ok(())
+) {
+    let found = found(rt, alloc, under, text);
+    same(rt, number, found.told.as_bytes(), fault.as_bytes());
+    let want = list_of(rt, alloc, sections);
+    same(rt, number, &found.list, &want);
 }
 
 const SIXTEEN: &[u8] = b"\x01\0\0\0\x15\0\0\0\0\0\0\0\0\x20\0\0\0\x08\0\0\0\0\0\0\0\x10";
@@ -92,7 +108,10 @@ const SHA1: &[u8] = b"\x03\0\0\0\x18\0\0\0\x14\xe9\x61\x9e\x2e\xd5\x6c\x2f\x2a\x
 /// where and why it is refused.
 type Row<'a> = (Under<'a>, &'a [&'a [u8]], &'a [&'a [u8]], &'a str);
 
-const ADDED: [Row<'static>; 15] = [
+/// The second line is refused for what it names, and the first for its authority.
+const TWO_FAULTS: &[u8] = b"serial: 5\nid:  \nserial: 6";
+
+const ROWS: [Row<'static>; 19] = [
     (Under::All, &[b"serial: 5"], &[FIVE], ""),
     (Under::All, &[b"serial: 0x10-020"], &[SIXTEEN], ""),
     (Under::All, &[b"SeRiAl:\t0X5 \t-\t 05 # 6"], &[FIVE], ""),
@@ -129,12 +148,6 @@ const ADDED: [Row<'static>; 15] = [
         &[SHA256],
         "",
     ),
-];
-
-/// The second line is refused for what it names, and the first for its authority.
-const TWO_FAULTS: &[u8] = b"serial: 5\nid:  \nserial: 6";
-
-const STOPPED: [Row<'static>; 4] = [
     // lines before a fault stand
     (Under::All, &[TWO_FAULTS], &[FIVE], "2: spec 5 EmptyId"),
     // an authority is wanted before what a line names is read
@@ -148,19 +161,12 @@ const STOPPED: [Row<'static>; 4] = [
     (Under::NotGiven, &[b"id:"], &[], "1: spec 4 NoAuthority"),
 ];
 
-/// Each row of the table is so.
-fn each_adds(rt: &impl Abort, alloc: Global, rows: &[Row]) -> Result<(), AllocError> {
-    for (i, (under, parts, sections, fault)) in rows.iter().enumerate() {
-        let text = joined(alloc, *parts)?;
-        adds(rt, alloc, i, (*under, &text), *sections, *fault)?;
-    }
-    Ok(())
-}
-
 #[test]
 fn read_to_the_end_or_stopped_at_a_line(rt: HostRuntime) {
-    each_adds(&rt, rt.alloc(), &ADDED).expect(&rt, "there is memory");
-    each_adds(&rt, rt.alloc(), &STOPPED).expect(&rt, "there is memory");
+    for (i, (under, parts, sections, fault)) in ROWS.iter().enumerate() {
+        let text = joined(&rt, rt.alloc(), *parts);
+        adds(&rt, rt.alloc(), i, (*under, &text), *sections, *fault);
+    }
 }
 
 /// The authority under which the line of a certificate is read, what stands before it, the serial
@@ -178,22 +184,17 @@ const CERTIFIED: [Certified<'static>; 4] = [
 ];
 
 /// The row is so of a certificate by the other key.
-fn certified(
-    rt: &impl Abort,
-    alloc: Global,
-    number: usize,
-    row: &Certified,
-) -> Result<(), AllocError> {
+fn certified(rt: &impl Abort, alloc: Global, number: usize, row: &Certified) {
     let (under, word, serial, sections) = *row;
-    let line = certificate_line(alloc, &OTHER, serial)?;
-    let line = joined(alloc, &[word, &line])?;
+    let line = certificate_line(rt, alloc, &OTHER, serial);
+    let line = joined(rt, alloc, &[word, &line]);
     adds(rt, alloc, number, (under, &line), sections, "")
 }
 
 #[test]
 fn a_certificate_by_its_id_its_serial_and_its_key(rt: HostRuntime) {
     for (i, row) in CERTIFIED.iter().enumerate() {
-        certified(&rt, rt.alloc(), i, row).expect(&rt, "there is memory");
+        certified(&rt, rt.alloc(), i, row);
     }
 }
 
@@ -235,6 +236,6 @@ const REFUSED: [(&[u8], &str); 19] = [
 #[test]
 fn refused(rt: HostRuntime) {
     for (i, (text, fault)) in REFUSED.iter().enumerate() {
-        adds(&rt, rt.alloc(), i, (Under::All, *text), &[], *fault).expect(&rt, "there is memory");
+        adds(&rt, rt.alloc(), i, (Under::All, *text), &[], *fault);
     }
 }
