@@ -1,69 +1,38 @@
 // What each entry revokes, over each set of serials.
 
 use crate::tests::full::Full;
+use crate::tests::lists::is_right;
 use crate::tests::plain_model::{Asked, Names, Said, held_of, revokes};
 use crate::tests::subjects::{A, ALL, B, G};
-use krl_core::Revocations;
 use serial_set::{Held, SpanVec, Spans};
 use ssh_key::{sha1_of, sha256_of};
-use std::alloc::{AllocError, Global};
+use std::alloc::Global;
 use std::process::Abort;
 
-/// What is asked about: the certificate of G by an authority, with a serial and a key ID, or G as a
-/// plain key.
-#[derive(Clone, Copy)]
-enum About {
-    ByA(u64, &'static [u8]),
-    ByB(u64, &'static [u8]),
-    Plain,
-}
-
-// The certificate of G by an authority.
-fn of_g<'a>(authority: &'a [u8], serial: u64, id: &'a [u8]) -> Asked<'a> {
-    Asked {
-        key: G,
-        cert: Some(Names {
-            authority,
-            serial,
-            id,
-        }),
-    }
-}
+/// What is asked about: the authority, the serial and the key ID of a certificate of G, or none for
+/// G as a plain key.
+type About = Option<(&'static [u8], u64, &'static [u8])>;
 
 // The question, as the model takes it.
 fn asked_about(about: About) -> Asked<'static> {
-    match about {
-        About::ByA(serial, id) => of_g(A, serial, id),
-        About::ByB(serial, id) => of_g(B, serial, id),
-        About::Plain => Asked { key: G, cert: None },
+    let mut asked = Asked { key: G, cert: None };
+    if let Some((authority, serial, id)) = about {
+        asked.cert = Some(Names {
+            authority,
+            serial,
+            id,
+        });
     }
-}
-
-// What is asked about is revoked, or is not.
-fn answers<S: Spans>(
-    rt: &impl Abort,
-    alloc: Global,
-    held: &Revocations<S>,
-    about: About,
-    due: bool,
-) -> Result<(), AllocError> {
-    let found = revokes(alloc, held, asked_about(about))?;
-    assert!(rt; found == due);
-    Ok(())
+    asked
 }
 
 // Of what was said, each of what is asked about is revoked, or is not.
-fn says<S: Spans>(
-    rt: &impl Abort,
-    alloc: Global,
-    said: &[Said<'_>],
-    rows: &[(About, bool)],
-) -> Result<(), AllocError> {
-    let held = held_of::<S>(alloc, said)?;
-    for (about, due) in rows {
-        answers(rt, alloc, &held, *about, *due)?;
+fn says<S: Spans>(rt: &impl Abort, alloc: Global, said: &[Said<'_>], rows: &[(About, bool)]) {
+    let held = held_of::<S>(rt, alloc, said);
+    for (i, (about, due)) in rows.iter().enumerate() {
+        let found = revokes(rt, alloc, &held, asked_about(*about));
+        is_right(rt, i, found == *due);
     }
-    Ok(())
 }
 
 /// What is said, and of each of what is asked about then whether it is revoked.
@@ -77,10 +46,10 @@ const CASES: [Case; 5] = [
             hi: 7,
         },
         &[
-            (About::ByA(7, b"a"), true),
-            (About::ByB(7, b"a"), false),
-            (About::ByA(6, b"a"), false),
-            (About::Plain, false),
+            (Some((A, 7, b"a")), true),
+            (Some((B, 7, b"a")), false),
+            (Some((A, 6, b"a")), false),
+            (None, false),
         ],
     ),
     (
@@ -90,10 +59,10 @@ const CASES: [Case; 5] = [
             hi: 7,
         },
         &[
-            (About::ByA(7, b"a"), true),
-            (About::ByB(7, b"a"), true),
-            (About::ByA(8, b"a"), false),
-            (About::Plain, false),
+            (Some((A, 7, b"a")), true),
+            (Some((B, 7, b"a")), true),
+            (Some((A, 8, b"a")), false),
+            (None, false),
         ],
     ),
     // Serial 0 is never revoked.
@@ -104,9 +73,9 @@ const CASES: [Case; 5] = [
             hi: 3,
         },
         &[
-            (About::ByA(0, b"a"), false),
-            (About::ByA(3, b"a"), true),
-            (About::ByA(4, b"a"), false),
+            (Some((A, 0, b"a")), false),
+            (Some((A, 3, b"a")), true),
+            (Some((A, 4, b"a")), false),
         ],
     ),
     (
@@ -115,9 +84,9 @@ const CASES: [Case; 5] = [
             id: b"a",
         },
         &[
-            (About::ByA(0, b"a"), true),
-            (About::ByB(0, b"a"), true),
-            (About::ByA(0, b"b"), false),
+            (Some((A, 0, b"a")), true),
+            (Some((B, 0, b"a")), true),
+            (Some((A, 0, b"b")), false),
         ],
     ),
     (
@@ -126,61 +95,56 @@ const CASES: [Case; 5] = [
             id: b"a",
         },
         &[
-            (About::ByA(0, b"a"), false),
-            (About::ByB(0, b"a"), true),
-            (About::ByB(0, b""), false),
+            (Some((A, 0, b"a")), false),
+            (Some((B, 0, b"a")), true),
+            (Some((B, 0, b"")), false),
         ],
     ),
 ];
 
+const OF_THE_AUTHORITY: [(About, bool); 3] = [
+    (Some((A, 7, b"a")), true),
+    (Some((B, 7, b"a")), false),
+    (None, false),
+];
+
+const OF_THE_KEY: [(About, bool); 3] = [
+    (Some((A, 7, b"a")), true),
+    (Some((B, 7, b"a")), true),
+    (None, true),
+];
+
 // The authority's key revokes the certificates that it signed, and not their keys; the key revokes
 // its certificates.
-fn names_keys<S: Spans>(
-    rt: &impl Abort,
-    alloc: Global,
-    authority: Said<'_>,
-    key: Said<'_>,
-) -> Result<(), AllocError> {
-    let of_the_authority = [
-        (About::ByA(7, b"a"), true),
-        (About::ByB(7, b"a"), false),
-        (About::Plain, false),
-    ];
-    says::<S>(rt, alloc, &[authority], &of_the_authority)?;
-    let of_the_key = [
-        (About::ByA(7, b"a"), true),
-        (About::ByB(7, b"a"), true),
-        (About::Plain, true),
-    ];
-    says::<S>(rt, alloc, &[authority, key], &of_the_key)
+fn names_keys<S: Spans>(rt: &impl Abort, alloc: Global, authority: Said<'_>, key: Said<'_>) {
+    says::<S>(rt, alloc, &[authority], &OF_THE_AUTHORITY);
+    says::<S>(rt, alloc, &[authority, key], &OF_THE_KEY);
 }
 
 // The hashes name the keys too.
-fn hashes_name_keys<S: Spans>(rt: &impl Abort, alloc: Global) -> Result<(), AllocError> {
-    names_keys::<S>(rt, alloc, Said::Sha1(&sha1_of(A)), Said::Sha1(&sha1_of(G)))?;
+fn hashes_name_keys<S: Spans>(rt: &impl Abort, alloc: Global) {
+    names_keys::<S>(rt, alloc, Said::Sha1(&sha1_of(A)), Said::Sha1(&sha1_of(G)));
     let authority = sha256_of(A);
     let key = sha256_of(G);
-    names_keys::<S>(rt, alloc, Said::Sha256(&authority), Said::Sha256(&key))
+    names_keys::<S>(rt, alloc, Said::Sha256(&authority), Said::Sha256(&key));
 }
 
-fn cases<S: Spans>(rt: &impl Abort, alloc: Global) -> Result<(), AllocError> {
+fn cases<S: Spans>(rt: &impl Abort, alloc: Global) {
     for (said, rows) in &CASES {
-        says::<S>(rt, alloc, &[*said], *rows)?;
+        says::<S>(rt, alloc, &[*said], *rows);
     }
-    Ok(())
 }
 
-fn entries_revoke<S: Spans>(rt: &impl Abort, alloc: Global) -> Result<(), AllocError> {
-    cases::<S>(rt, alloc)?;
-    names_keys::<S>(rt, alloc, Said::Key(A), Said::Key(G))?;
-    hashes_name_keys::<S>(rt, alloc)
+fn entries_revoke<S: Spans>(rt: &impl Abort, alloc: Global) {
+    cases::<S>(rt, alloc);
+    names_keys::<S>(rt, alloc, Said::Key(A), Said::Key(G));
+    hashes_name_keys::<S>(rt, alloc);
 }
 
 // Over pages, over a vector, and over a set that refuses.
 #[test]
 fn entries_revoke_over_each_set(rt: HostRuntime) {
-    let memory = "there is memory";
-    entries_revoke::<Held>(&rt, rt.alloc()).expect(&rt, memory);
-    entries_revoke::<SpanVec>(&rt, rt.alloc()).expect(&rt, memory);
-    entries_revoke::<Full<SpanVec, 1>>(&rt, rt.alloc()).expect(&rt, memory);
+    entries_revoke::<Held>(&rt, rt.alloc());
+    entries_revoke::<SpanVec>(&rt, rt.alloc());
+    entries_revoke::<Full<SpanVec, 1>>(&rt, rt.alloc());
 }

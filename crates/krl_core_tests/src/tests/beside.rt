@@ -9,7 +9,7 @@ use crate::tests::rows::ROWS;
 use krl_core::{Header, KrlFault, Revocations};
 use serial_set::Held;
 use ssh_wire::Bytes;
-use std::alloc::{AllocError, Global};
+use std::alloc::Global;
 use std::process::Abort;
 
 // What is asked about something that was said: a serial beside it, or a key.
@@ -45,20 +45,14 @@ fn beside<'a>(said: Said<'a>, more: u64) -> Asked<'a> {
 }
 
 // What is held answers as the model of what was said.
-fn answer_alike(
-    rt: &impl Abort,
-    alloc: Global,
-    held: &Revocations<Held>,
-    all: &[Said<'_>],
-) -> Result<(), AllocError> {
+fn answer_alike(rt: &impl Abort, alloc: Global, held: &Revocations<Held>, all: &[Said<'_>]) {
     for said in all {
         for more in [0, 1, 2] {
             let asked = beside(*said, more);
-            let found = revokes(alloc, held, asked)?;
+            let found = revokes(rt, alloc, held, asked);
             assert!(rt; found == is_revoked(all, asked));
         }
     }
-    Ok(())
 }
 
 // What is held has the text of what was said, which has one.
@@ -68,11 +62,10 @@ fn have_one_text(
     header: &Header,
     held: &Revocations<Held>,
     all: &[Said<'_>],
-) -> Result<(), AllocError> {
-    let said = held_of::<Held>(alloc, all)?;
+) {
+    let said = held_of::<Held>(rt, alloc, all);
     let text = text_of(alloc, header, &said).expect(rt, "what was said has a text");
     has_text(rt, alloc, header, held, &text);
-    Ok(())
 }
 
 // A list that was read is what the plain reader read: its header, and what is held.
@@ -82,9 +75,9 @@ fn are_alike(
     header: &Header,
     held: &Revocations<Held>,
     plain: &PlainReader<'_>,
-) -> Result<(), AllocError> {
+) {
     says(rt, header, plain.version, plain.date, plain.comment);
-    have_one_text(rt, alloc, header, held, &plain.said)?;
+    have_one_text(rt, alloc, header, held, &plain.said);
     answer_alike(rt, alloc, held, &plain.said)
 }
 
@@ -95,12 +88,9 @@ fn is_read_as(
     text: &[u8],
     plain: &PlainReader<'_>,
     due: Result<(), KrlFault>,
-) -> Result<(), AllocError> {
+) {
     match read_from::<Held, &[u8]>(alloc, text) {
-        Err(fault) => {
-            assert!(rt; due == Err(fault));
-            Ok(())
-        }
+        Err(fault) => assert!(rt; due == Err(fault)),
         Ok((header, held)) => {
             assert!(rt; due == Ok(()));
             are_alike(rt, alloc, &header, &held, plain)
@@ -109,41 +99,39 @@ fn is_read_as(
 }
 
 /// A text is read as the plain reader reads it, or refused with the same fault.
-pub fn is_read_alike(rt: &impl Abort, alloc: Global, text: &[u8]) -> Result<(), AllocError> {
+pub fn is_read_alike(rt: &impl Abort, alloc: Global, text: &[u8]) {
     let mut plain = PlainReader::new(alloc, text);
     let due = plain.list();
     is_read_as(rt, alloc, text, &plain, due)
 }
 
 // Each text that a list begins with.
-fn each_front(rt: &impl Abort, alloc: Global, text: &[u8]) -> Result<(), AllocError> {
+fn each_front(rt: &impl Abort, alloc: Global, text: &[u8]) {
     for size in 0..=text.len() {
-        is_read_alike(rt, alloc, &text[..size])?;
+        is_read_alike(rt, alloc, &text[..size]);
     }
-    Ok(())
 }
 
 // The list with each of its bytes set.
-fn each_byte_changed(rt: &impl Abort, alloc: Global, text: &[u8]) -> Result<(), AllocError> {
+fn each_byte_changed(rt: &impl Abort, alloc: Global, text: &[u8]) {
     for at in 0..text.len() {
         for byte in [0, 0x7f, 0x80, 0xff] {
-            let other = with_byte(alloc, text, at, byte)?;
-            is_read_alike(rt, alloc, &other)?;
+            let other = with_byte(rt, alloc, text, at, byte);
+            is_read_alike(rt, alloc, &other);
         }
     }
-    Ok(())
 }
 
 // The fronts of the list of a row, and that list with each byte changed.
-fn each_of_a_row(rt: &impl Abort, alloc: Global, text: &[u8]) -> Result<(), AllocError> {
-    each_front(rt, alloc, text)?;
+fn each_of_a_row(rt: &impl Abort, alloc: Global, text: &[u8]) {
+    each_front(rt, alloc, text);
     each_byte_changed(rt, alloc, text)
 }
 
 #[test]
 fn each_front_and_each_byte_of_a_row(rt: HostRuntime) {
     for row in &ROWS {
-        let text = list_of(rt.alloc(), row.sections).expect(&rt, "there is memory");
-        each_of_a_row(&rt, rt.alloc(), &text).expect(&rt, "there is memory");
+        let text = list_of(&rt, rt.alloc(), row.sections);
+        each_of_a_row(&rt, rt.alloc(), &text);
     }
 }

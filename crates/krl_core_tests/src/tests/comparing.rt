@@ -7,7 +7,7 @@ use crate::tests::random::Random;
 use krl_core::Revocations;
 use serial_set::{Held, SpanVec, Spans};
 use ssh_key::{sha1_of, sha256_of};
-use std::alloc::{AllocError, Global};
+use std::alloc::Global;
 use std::process::Abort;
 
 // No bytes stand for all authorities; the others are keys too.
@@ -92,16 +92,11 @@ fn some_question<'a>(random: &mut Random) -> Asked<'a> {
 }
 
 // Says up to nine things.
-fn say_some<'a>(
-    all: &mut Vec<Said<'a>>,
-    random: &mut Random,
-    hashes: &'a Hashes,
-) -> Result<(), AllocError> {
+fn say_some<'a>(rt: &impl Abort, all: &mut Vec<Said<'a>>, random: &mut Random, hashes: &'a Hashes) {
     for _ in 0..random.below(10) {
         let said = some_entry(random, hashes);
-        all.push(said)?;
+        all.push(said).expect(rt, "there is memory");
     }
-    Ok(())
 }
 
 // The answer of what is held is that of the model.
@@ -111,46 +106,33 @@ fn agree<S: Spans>(
     r: &Revocations<S>,
     all: &[Said<'_>],
     asked: Asked<'_>,
-) -> Result<(), AllocError> {
-    let found = revokes(alloc, r, asked)?;
+) {
+    let found = revokes(rt, alloc, r, asked);
     assert!(rt; found == is_revoked(all, asked));
-    Ok(())
 }
 
 // The answers to many questions about what was said are those of the model.
-fn agree_on_many<S: Spans>(
-    rt: &impl Abort,
-    alloc: Global,
-    random: &mut Random,
-    all: &[Said<'_>],
-) -> Result<(), AllocError> {
-    let r = held_of::<S>(alloc, all)?;
+fn agree_on_many<S: Spans>(rt: &impl Abort, alloc: Global, random: &mut Random, all: &[Said<'_>]) {
+    let r = held_of::<S>(rt, alloc, all);
     for _ in 0..200 {
-        agree(rt, alloc, &r, all, some_question(random))?;
+        agree(rt, alloc, &r, all, some_question(random));
     }
-    Ok(())
 }
 
 // So many times what is said at random is asked about.
-fn compare<S: Spans>(
-    rt: &impl Abort,
-    alloc: Global,
-    seed: u64,
-    times: u32,
-) -> Result<(), AllocError> {
+fn compare<S: Spans>(rt: &impl Abort, alloc: Global, seed: u64, times: u32) {
     let hashes = Hashes::new();
     let mut random = Random::new(seed);
     for _ in 0..times {
         let mut all = Vec::new(alloc);
-        say_some(&mut all, &mut random, &hashes)?;
-        agree_on_many::<S>(rt, alloc, &mut random, &all)?;
+        say_some(rt, &mut all, &mut random, &hashes);
+        agree_on_many::<S>(rt, alloc, &mut random, &all);
     }
-    Ok(())
 }
 
 // Over pages, and over a vector.
 #[test]
 fn random_questions(rt: HostRuntime) {
-    compare::<Held>(&rt, rt.alloc(), 2026, 500).expect(&rt, "there is memory");
-    compare::<SpanVec>(&rt, rt.alloc(), 7, 100).expect(&rt, "there is memory");
+    compare::<Held>(&rt, rt.alloc(), 2026, 500);
+    compare::<SpanVec>(&rt, rt.alloc(), 7, 100);
 }

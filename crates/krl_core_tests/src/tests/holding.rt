@@ -1,11 +1,11 @@
 // What is held after additions, also where one is refused, in its order.
 
 use crate::tests::full::Full;
-use crate::tests::plain_model::{Said, add, held_of, id_under, serials_under};
+use crate::tests::plain_model::{Said, add, held_of, hold, id_under};
 use crate::tests::subjects::{A, ALL, B};
 use krl_core::{Authorities, Listed, Revocations, Text, Texts};
 use serial_set::{Held, SpanVec, Spans};
-use std::alloc::{AllocError, Global};
+use std::alloc::Global;
 use std::process::Abort;
 
 /// Whether what was said was added, and how many spans are held then, under how many authorities.
@@ -34,17 +34,56 @@ fn have_outcomes<S: Spans>(rt: &impl Abort, r: &mut Revocations<S>, rows: &[(Sai
     }
 }
 
+/// What is said, and its outcome.
+type Row = (Said<'static>, Outcome);
+
+const COUNTED: [Row; 5] = [
+    (
+        Said::Serials {
+            authority: ALL,
+            lo: 5,
+            hi: 5,
+        },
+        (true, 1, 1),
+    ),
+    (
+        Said::Serials {
+            authority: ALL,
+            lo: 7,
+            hi: 7,
+        },
+        (true, 2, 1),
+    ),
+    (
+        Said::Serials {
+            authority: ALL,
+            lo: 6,
+            hi: 6,
+        },
+        (true, 1, 1),
+    ),
+    (
+        Said::Serials {
+            authority: ALL,
+            lo: 8,
+            hi: u64::MAX,
+        },
+        (true, 1, 1),
+    ),
+    // Each authority has serials of its own.
+    (
+        Said::Serials {
+            authority: A,
+            lo: 1,
+            hi: u64::MAX,
+        },
+        (true, 2, 2),
+    ),
+];
+
 fn spans_are_counted<S: Spans>(rt: &impl Abort, alloc: Global) {
-    let rows = [
-        (serials_under(ALL, 5, 5), (true, 1, 1)),
-        (serials_under(ALL, 7, 7), (true, 2, 1)),
-        (serials_under(ALL, 6, 6), (true, 1, 1)),
-        (serials_under(ALL, 8, u64::MAX), (true, 1, 1)),
-        // Each authority has serials of its own.
-        (serials_under(A, 1, u64::MAX), (true, 2, 2)),
-    ];
     let mut r: Revocations<S> = Revocations::new(alloc);
-    have_outcomes(rt, &mut r, &rows);
+    have_outcomes(rt, &mut r, &COUNTED);
 }
 
 // How many key IDs are held under an authority.
@@ -78,41 +117,105 @@ fn stand_in_order<S: Spans>(rt: &impl Abort, r: &Revocations<S>) {
     assert!(rt; walk.next().is_none());
 }
 
-fn spans_and_authorities<S: Spans>(rt: &impl Abort, alloc: Global) -> Result<(), AllocError> {
+const OF_TWO: [Said<'static>; 4] = [
+    Said::Serials {
+        authority: B,
+        lo: 1,
+        hi: 1,
+    },
+    Said::Id {
+        authority: A,
+        id: b"x",
+    },
+    Said::Id {
+        authority: ALL,
+        id: b"y",
+    },
+    Said::Serials {
+        authority: B,
+        lo: 3,
+        hi: 3,
+    },
+];
+
+fn spans_and_authorities<S: Spans>(rt: &impl Abort, alloc: Global) {
     spans_are_counted::<S>(rt, alloc);
-    let all = [
-        serials_under(B, 1, 1),
-        id_under(A, b"x"),
-        id_under(ALL, b"y"),
-        serials_under(B, 3, 3),
-    ];
-    let r = held_of::<S>(alloc, &all)?;
+    let r = held_of::<S>(rt, alloc, &OF_TWO);
     stand_in_order(rt, &r);
-    Ok(())
 }
+
+const REFUSED: [Row; 4] = [
+    (
+        Said::Serials {
+            authority: A,
+            lo: 5,
+            hi: 5,
+        },
+        (true, 1, 1),
+    ),
+    (
+        Said::Serials {
+            authority: A,
+            lo: 7,
+            hi: 7,
+        },
+        (false, 1, 1),
+    ),
+    // What joins needs no room.
+    (
+        Said::Serials {
+            authority: A,
+            lo: 6,
+            hi: 9,
+        },
+        (true, 1, 1),
+    ),
+    (
+        Said::Serials {
+            authority: B,
+            lo: 1,
+            hi: 1,
+        },
+        (true, 2, 2),
+    ),
+];
 
 // A refused addition under an authority that is listed changes nothing.
 fn a_refused_addition_changes_nothing(rt: &impl Abort, alloc: Global) {
-    let rows = [
-        (serials_under(A, 5, 5), (true, 1, 1)),
-        (serials_under(A, 7, 7), (false, 1, 1)),
-        // What joins needs no room.
-        (serials_under(A, 6, 9), (true, 1, 1)),
-        (serials_under(B, 1, 1), (true, 2, 2)),
-    ];
     let mut r: Revocations<Full<SpanVec, 1>> = Revocations::new(alloc);
-    have_outcomes(rt, &mut r, &rows);
+    have_outcomes(rt, &mut r, &REFUSED);
 }
+
+const NOT_LISTED: [Row; 3] = [
+    (
+        Said::Serials {
+            authority: A,
+            lo: 5,
+            hi: 5,
+        },
+        (false, 0, 0),
+    ),
+    (
+        Said::Id {
+            authority: A,
+            id: b"x",
+        },
+        (true, 0, 1),
+    ),
+    (
+        Said::Serials {
+            authority: A,
+            lo: 5,
+            hi: 5,
+        },
+        (false, 0, 1),
+    ),
+];
 
 // An authority without a span is not listed.
 fn a_refused_authority_is_not_listed(rt: &impl Abort, alloc: Global) {
-    let rows = [
-        (serials_under(A, 5, 5), (false, 0, 0)),
-        (id_under(A, b"x"), (true, 0, 1)),
-        (serials_under(A, 5, 5), (false, 0, 1)),
-    ];
     let mut r: Revocations<Full<SpanVec, 0>> = Revocations::new(alloc);
-    have_outcomes(rt, &mut r, &rows);
+    have_outcomes(rt, &mut r, &NOT_LISTED);
 }
 
 #[test]
@@ -124,21 +227,20 @@ fn refused_additions(rt: HostRuntime) {
 // Over pages, over a vector, and over a set that refuses.
 #[test]
 fn spans_and_authorities_over_each_set(rt: HostRuntime) {
-    spans_and_authorities::<Held>(&rt, rt.alloc()).expect(&rt, "there is memory");
-    spans_and_authorities::<SpanVec>(&rt, rt.alloc()).expect(&rt, "there is memory");
-    spans_and_authorities::<Full<SpanVec, 2>>(&rt, rt.alloc()).expect(&rt, "there is memory");
+    spans_and_authorities::<Held>(&rt, rt.alloc());
+    spans_and_authorities::<SpanVec>(&rt, rt.alloc());
+    spans_and_authorities::<Full<SpanVec, 2>>(&rt, rt.alloc());
 }
 
 // Adds so many keys and hashes, in an order that is not theirs.
-fn add_many(r: &mut Revocations<Held>, count: u64) -> Result<(), AllocError> {
+fn add_many(rt: &impl Abort, r: &mut Revocations<Held>, count: u64) {
     for number in 0..count {
         let bytes = number.wrapping_mul(0x9e37_79b9_7f4a_7c15).to_be_bytes();
         let mut hash = [0; 20];
         hash[..8].copy_from_slice(&bytes);
-        add(r, Said::Sha1(&hash))?;
-        add(r, Said::Key(&bytes))?;
+        hold(rt, r, Said::Sha1(&hash));
+        hold(rt, r, Said::Key(&bytes));
     }
-    Ok(())
 }
 
 // The next key of a walk.
@@ -179,20 +281,19 @@ fn are_in_order(rt: &impl Abort, r: &Revocations<Held>, count: usize) {
 fn many_keys_and_hashes_stand_in_order(rt: HostRuntime) {
     let mut r: Revocations<Held> = Revocations::new(rt.alloc());
     for _ in 0..2 {
-        add_many(&mut r, 5_000).expect(&rt, "there is memory");
+        add_many(&rt, &mut r, 5_000);
     }
     are_in_order(&rt, &r, 5_000);
 }
 
 // Adds a key ID of each length, twice.
-fn add_each_length(r: &mut Revocations<Held>) -> Result<(), AllocError> {
+fn add_each_length(rt: &impl Abort, r: &mut Revocations<Held>) {
     let long = [7u8; 100];
     for length in 0..100usize {
         for _ in 0..2 {
-            add(r, id_under(ALL, &long[..length]))?;
+            hold(rt, r, id_under(ALL, &long[..length]));
         }
     }
-    Ok(())
 }
 
 // The key IDs of an authority are as long as their place is.
@@ -216,6 +317,6 @@ fn are_kept(rt: &impl Abort, r: &Revocations<Held>) {
 #[test]
 fn ids_of_each_length_are_kept(rt: HostRuntime) {
     let mut r: Revocations<Held> = Revocations::new(rt.alloc());
-    add_each_length(&mut r).expect(&rt, "there is memory");
+    add_each_length(&rt, &mut r);
     are_kept(&rt, &r);
 }

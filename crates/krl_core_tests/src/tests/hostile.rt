@@ -6,7 +6,7 @@ use crate::tests::lists::{joined, list_of, read_from, spans_from};
 use crate::tests::rows::BITMAP;
 use krl_core::{KrlFault, Revocations};
 use serial_set::{Held, SpanVec};
-use std::alloc::{AllocError, Global};
+use std::alloc::Global;
 use std::process::Abort;
 
 // The serials from 1 to 2^64-1.
@@ -18,14 +18,13 @@ const LONG_BITMAP: &[u8] = b"\x01\0\0\x04\x01\0\0\0\0\0\0\0\0\x22\0\0\x03\xf4\0\
 \0\0\x03\xe8";
 
 // A set that takes no more spans than the list has serves.
-fn is_its_runs(rt: &impl Abort, alloc: Global) -> Result<(), AllocError> {
-    let range = list_of(alloc, RANGE)?;
+fn is_its_runs(rt: &impl Abort, alloc: Global) {
+    let range = list_of(rt, alloc, RANGE);
     let spans = spans_from::<Full<SpanVec, 1>, &[u8]>(alloc, range.as_slice());
     assert!(rt; spans == Ok(1));
-    let bitmap = list_of(alloc, BITMAP)?;
+    let bitmap = list_of(rt, alloc, BITMAP);
     let spans = spans_from::<Full<SpanVec, 4>, &[u8]>(alloc, bitmap.as_slice());
     assert!(rt; spans == Ok(4));
-    Ok(())
 }
 
 // How often the set of the first authority was added to.
@@ -43,25 +42,24 @@ fn additions_from(alloc: Global, text: &[u8]) -> Result<Option<u64>, KrlFault> {
 }
 
 // That set was added to so often.
-fn is_added(rt: &impl Abort, alloc: Global, sections: &[u8], due: u64) -> Result<(), AllocError> {
-    let text = list_of(alloc, sections)?;
+fn is_added(rt: &impl Abort, alloc: Global, sections: &[u8], due: u64) {
+    let text = list_of(rt, alloc, sections);
     assert!(rt; additions_from(alloc, &text) == Ok(Some(due)));
-    Ok(())
 }
 
 // No range is expanded, and of a bitmap only its runs are added.
-fn is_added_once(rt: &impl Abort, alloc: Global) -> Result<(), AllocError> {
-    is_added(rt, alloc, RANGE, 1)?;
-    is_added(rt, alloc, BITMAP, 4)?;
+fn is_added_once(rt: &impl Abort, alloc: Global) {
+    is_added(rt, alloc, RANGE, 1);
+    is_added(rt, alloc, BITMAP, 4);
     let others = [0xff; 999];
-    let bits = joined(alloc, &[LONG_BITMAP, b"\x7f", &others])?;
+    let bits = joined(rt, alloc, &[LONG_BITMAP, b"\x7f", &others]);
     is_added(rt, alloc, &bits, 1)
 }
 
 #[test]
 fn each_run_is_added_once(rt: HostRuntime) {
-    is_its_runs(&rt, rt.alloc()).expect(&rt, "there is memory");
-    is_added_once(&rt, rt.alloc()).expect(&rt, "there is memory");
+    is_its_runs(&rt, rt.alloc());
+    is_added_once(&rt, rt.alloc());
 }
 
 // The fault of a list, or how many keys it has.
@@ -79,14 +77,13 @@ fn is_told(
     sections: &[u8],
     zeros: usize,
     due: Result<usize, KrlFault>,
-) -> Result<(), AllocError> {
-    let first = list_of(alloc, sections)?;
+) {
+    let first = list_of(rt, alloc, sections);
     let reader = Zeros {
         first: &first,
         zeros,
     };
     assert!(rt; keys_from(alloc, reader) == due);
-    Ok(())
 }
 
 // A key that is said to be as long as can be.
@@ -108,6 +105,6 @@ const LONG: [Row; 4] = [
 #[test]
 fn reads_up_to_the_limit(rt: HostRuntime) {
     for (sections, zeros, due) in &LONG {
-        is_told(&rt, rt.alloc(), *sections, *zeros, *due).expect(&rt, "there is memory");
+        is_told(&rt, rt.alloc(), *sections, *zeros, *due);
     }
 }

@@ -5,31 +5,36 @@ use crate::tests::rows::HEADER;
 use krl_core::{Header, KrlFault, Revocations, TextFault, krl_text, read_krl};
 use serial_set::{Held, Spans};
 use ssh_wire::{Bytes, FromRead};
-use std::alloc::{AllocError, Global};
+use std::alloc::Global;
 use std::io::Read;
 use std::process::Abort;
 
+/// What a test says of a case is right; the number tells the case from the others of the test.
+pub fn is_right(rt: &impl Abort, number: usize, right: bool) {
+    assert!(rt; right, "in case {number}");
+}
+
 /// The parts, one after the other.
-pub fn joined(alloc: Global, parts: &[&[u8]]) -> Result<Vec<u8>, AllocError> {
+pub fn joined(rt: &impl Abort, alloc: Global, parts: &[&[u8]]) -> Vec<u8> {
     let mut bytes = Vec::new(alloc);
     for part in parts {
-        bytes.extend_from_slice(part)?;
+        bytes.extend_from_slice(part).expect(rt, "there is memory");
     }
-    Ok(bytes)
+    bytes
 }
 
 /// The list with these bytes after its header.
-pub fn list_of(alloc: Global, sections: &[u8]) -> Result<Vec<u8>, AllocError> {
-    joined(alloc, &[HEADER, sections])
+pub fn list_of(rt: &impl Abort, alloc: Global, sections: &[u8]) -> Vec<u8> {
+    joined(rt, alloc, &[HEADER, sections])
 }
 
 /// The bytes with one of them set.
-pub fn with_byte(alloc: Global, bytes: &[u8], at: usize, byte: u8) -> Result<Vec<u8>, AllocError> {
-    let mut other = Vec::from_slice(alloc, bytes)?;
+pub fn with_byte(rt: &impl Abort, alloc: Global, bytes: &[u8], at: usize, byte: u8) -> Vec<u8> {
+    let mut other = Vec::from_slice(alloc, bytes).expect(rt, "there is memory");
     if let Some(old) = other.get_mut(at) {
         *old = byte;
     }
-    Ok(other)
+    other
 }
 
 /// What is read of a list.

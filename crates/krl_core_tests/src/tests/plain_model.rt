@@ -9,6 +9,7 @@ use serial_set::Spans;
 use ssh_cert::{CertNames, Subject};
 use ssh_key::{sha1_of, sha256_of};
 use std::alloc::{AllocError, Global};
+use std::process::Abort;
 
 /// One thing that is said to be revoked. No bytes stand for all authorities.
 #[derive(Clone, Copy)]
@@ -133,30 +134,37 @@ pub fn add<S: Spans>(r: &mut Revocations<S>, said: Said<'_>) -> Result<(), Alloc
     }
 }
 
+/// Holds what is said.
+pub fn hold<S: Spans>(rt: &impl Abort, r: &mut Revocations<S>, said: Said<'_>) {
+    add(r, said).expect(rt, "there is memory");
+}
+
 /// What is held of all that was said.
-pub fn held_of<S: Spans>(alloc: Global, all: &[Said<'_>]) -> Result<Revocations<S>, AllocError> {
+pub fn held_of<S: Spans>(rt: &impl Abort, alloc: Global, all: &[Said<'_>]) -> Revocations<S> {
     let mut held: Revocations<S> = Revocations::new(alloc);
     for said in all {
-        add(&mut held, *said)?;
+        hold(rt, &mut held, *said);
     }
-    Ok(held)
+    held
 }
 
 /// Whether what is held revokes what is asked about.
 pub fn revokes<S: Spans>(
+    rt: &impl Abort,
     alloc: Global,
     held: &Revocations<S>,
     asked: Asked<'_>,
-) -> Result<bool, AllocError> {
-    let subject = subject_of(alloc, asked)?;
-    Ok(held.query(&subject))
+) -> bool {
+    let subject = subject_of(rt, alloc, asked);
+    held.query(&subject)
 }
 
 // What is asked about, as a query takes it.
-fn subject_of<'a>(alloc: Global, asked: Asked<'a>) -> Result<Subject<'a>, AllocError> {
+fn subject_of<'a>(rt: &impl Abort, alloc: Global, asked: Asked<'a>) -> Subject<'a> {
     match asked.cert {
-        None => plain(alloc, asked.key),
+        None => plain(rt, alloc, asked.key),
         Some(names) => certificate(
+            rt,
             alloc,
             asked.key,
             CertNames {

@@ -5,173 +5,168 @@ ghost use Rattle.std.specs.Prelude.{◌<◌, ◌≤◌, ◌^◌, length};
 use crate::tests::beside::is_read_alike;
 use crate::tests::random::Random;
 use crate::tests::rows::HEADER;
-use ssh_wire::{put_byte, put_string, put_u32, put_u64};
-use std::alloc::{AllocError, Global};
+use ssh_wire::{put_byte, put_string, put_u64};
+use std::alloc::Global;
 use std::process::Abort;
 
-// Appends a string. No content of a test is long.
-fn put(out: &mut Vec<u8>, content: &[u8]) -> Result<(), AllocError> {
-    if content.len() > 1_000_000 {
-        return Err(AllocError);
-    }
-    put_string(out, content)
+// Appends a byte.
+fn byte(rt: &impl Abort, out: &mut Vec<u8>, byte: u8) {
+    put_byte(out, byte).expect(rt, "there is memory");
 }
 
-fn put_some_bytes(out: &mut Vec<u8>, random: &mut Random, most: u64) -> Result<(), AllocError>
+// Appends a number of eight bytes.
+fn long(rt: &impl Abort, out: &mut Vec<u8>, number: u64) {
+    put_u64(out, number).expect(rt, "there is memory");
+}
+
+// Appends a string. No content of a test is long.
+fn put(rt: &impl Abort, out: &mut Vec<u8>, content: &[u8]) {
+    assert!(rt; content.len() <= 1_000_000);
+    put_string(out, content).expect(rt, "there is memory");
+}
+
+fn put_some_bytes(rt: &impl Abort, out: &mut Vec<u8>, random: &mut Random, most: u64)
     requires { most < 1000 }
 {
     for _ in 0..random.below(most + 1) {
-        put_byte(out, random.below(256) as u8)?;
+        byte(rt, out, random.below(256) as u8);
     }
-    Ok(())
 }
 
 // Appends a short string of random bytes.
-fn put_some_string(
-    out: &mut Vec<u8>,
-    alloc: Global,
-    random: &mut Random,
-) -> Result<(), AllocError> {
+fn put_some_string(rt: &impl Abort, out: &mut Vec<u8>, alloc: Global, random: &mut Random) {
     let mut content = Vec::new(alloc);
-    put_some_bytes(&mut content, random, 3)?;
-    put(out, &content)
+    put_some_bytes(rt, &mut content, random, 3);
+    put(rt, out, &content);
 }
 
-fn put_extension(out: &mut Vec<u8>, alloc: Global, random: &mut Random) -> Result<(), AllocError> {
-    put_some_string(out, alloc, random)?;
-    put_byte(out, 0)?;
-    put_some_string(out, alloc, random)
+fn put_extension(rt: &impl Abort, out: &mut Vec<u8>, alloc: Global, random: &mut Random) {
+    put_some_string(rt, out, alloc, random);
+    byte(rt, out, 0);
+    put_some_string(rt, out, alloc, random)
 }
 
-fn put_range(out: &mut Vec<u8>, random: &mut Random) -> Result<(), AllocError> {
+fn put_range(rt: &impl Abort, out: &mut Vec<u8>, random: &mut Random) {
     let one = random.serial();
     let other = random.serial();
-    put_u64(out, one.min(other))?;
-    put_u64(out, one.max(other))
+    long(rt, out, one.min(other));
+    long(rt, out, one.max(other));
 }
 
 // Sometimes the bitmap is negative, or passes the last serial.
-fn put_bitmap(out: &mut Vec<u8>, alloc: Global, random: &mut Random) -> Result<(), AllocError> {
+fn put_bitmap(rt: &impl Abort, out: &mut Vec<u8>, alloc: Global, random: &mut Random) {
     let offset = if random.below(5) == 0 {
         random.serial()
     } else {
         random.below(20)
     };
-    put_u64(out, offset)?;
+    long(rt, out, offset);
     let mut bits = Vec::new(alloc);
     if random.below(10) > 0 {
-        put_byte(&mut bits, random.below(128) as u8)?;
+        byte(rt, &mut bits, random.below(128) as u8);
     }
-    put_some_bytes(&mut bits, random, 6)?;
-    put(out, &bits)
+    put_some_bytes(rt, &mut bits, random, 6);
+    put(rt, out, &bits);
 }
 
-fn put_serials(out: &mut Vec<u8>, random: &mut Random) -> Result<(), AllocError> {
+fn put_serials(rt: &impl Abort, out: &mut Vec<u8>, random: &mut Random) {
     for _ in 0..random.below(4) {
-        put_u64(out, random.serial())?;
+        long(rt, out, random.serial());
     }
-    Ok(())
 }
 
-fn put_strings(out: &mut Vec<u8>, alloc: Global, random: &mut Random) -> Result<(), AllocError> {
+fn put_strings(rt: &impl Abort, out: &mut Vec<u8>, alloc: Global, random: &mut Random) {
     for _ in 0..random.below(4) {
-        put_some_string(out, alloc, random)?;
+        put_some_string(rt, out, alloc, random);
     }
-    Ok(())
 }
 
-fn put_subsection(out: &mut Vec<u8>, alloc: Global, random: &mut Random) -> Result<(), AllocError> {
+fn put_subsection(rt: &impl Abort, out: &mut Vec<u8>, alloc: Global, random: &mut Random) {
     let mut content = Vec::new(alloc);
     let sort = match random.below(5) {
         0 => {
-            put_serials(&mut content, random)?;
+            put_serials(rt, &mut content, random);
             0x20
         }
         1 => {
-            put_range(&mut content, random)?;
+            put_range(rt, &mut content, random);
             0x21
         }
         2 => {
-            put_bitmap(&mut content, alloc, random)?;
+            put_bitmap(rt, &mut content, alloc, random);
             0x22
         }
         3 => {
-            put_strings(&mut content, alloc, random)?;
+            put_strings(rt, &mut content, alloc, random);
             0x23
         }
         _ => {
-            put_extension(&mut content, alloc, random)?;
+            put_extension(rt, &mut content, alloc, random);
             0x39
         }
     };
-    put_byte(out, sort)?;
-    put(out, &content)
+    byte(rt, out, sort);
+    put(rt, out, &content);
 }
 
-fn put_certificates(
-    out: &mut Vec<u8>,
-    alloc: Global,
-    random: &mut Random,
-) -> Result<(), AllocError> {
+fn put_certificates(rt: &impl Abort, out: &mut Vec<u8>, alloc: Global, random: &mut Random) {
     if random.below(2) == 0 {
-        put_u32(out, 0)?;
+        put(rt, out, b"");
     } else {
-        put(out, &[b'a' + random.below(3) as u8])?;
+        put(rt, out, &[b'a' + random.below(3) as u8]);
     }
-    put_some_string(out, alloc, random)?;
+    put_some_string(rt, out, alloc, random);
     for _ in 0..random.below(5) {
-        put_subsection(out, alloc, random)?;
+        put_subsection(rt, out, alloc, random);
     }
-    Ok(())
 }
 
-fn put_hashes(out: &mut Vec<u8>, random: &mut Random, size: usize) -> Result<(), AllocError> {
+fn put_hashes(rt: &impl Abort, out: &mut Vec<u8>, random: &mut Random, size: usize) {
     let hash = [random.below(256) as u8; 32];
     for _ in 0..random.below(3) {
-        put(out, hash.get(..size).unwrap_or(&[]))?;
+        put(rt, out, hash.get(..size).unwrap_or(&[]));
     }
-    Ok(())
 }
 
-fn put_section(out: &mut Vec<u8>, alloc: Global, random: &mut Random) -> Result<(), AllocError> {
+fn put_section(rt: &impl Abort, out: &mut Vec<u8>, alloc: Global, random: &mut Random) {
     let mut content = Vec::new(alloc);
     let sort = match random.below(8) {
         0 => {
-            put_strings(&mut content, alloc, random)?;
+            put_strings(rt, &mut content, alloc, random);
             2
         }
         1 => {
-            put_hashes(&mut content, random, 20)?;
+            put_hashes(rt, &mut content, random, 20);
             3
         }
         2 => {
-            put_hashes(&mut content, random, 32)?;
+            put_hashes(rt, &mut content, random, 32);
             5
         }
         3 => {
-            put_extension(&mut content, alloc, random)?;
+            put_extension(rt, &mut content, alloc, random);
             255
         }
         _ => {
-            put_certificates(&mut content, alloc, random)?;
+            put_certificates(rt, &mut content, alloc, random);
             1
         }
     };
-    put_byte(out, sort)?;
-    put(out, &content)
+    byte(rt, out, sort);
+    put(rt, out, &content);
 }
 
-fn some_list(alloc: Global, random: &mut Random) -> Result<Vec<u8>, AllocError> {
-    let mut text = Vec::from_slice(alloc, HEADER)?;
+fn some_list(rt: &impl Abort, alloc: Global, random: &mut Random) -> Vec<u8> {
+    let mut text = Vec::from_slice(alloc, HEADER).expect(rt, "there is memory");
     for _ in 0..random.below(6) {
-        put_section(&mut text, alloc, random)?;
+        put_section(rt, &mut text, alloc, random);
     }
     for _ in 0..random.below(4).saturating_sub(2) {
-        put_byte(&mut text, 4)?;
-        put_some_string(&mut text, alloc, random)?;
-        put_some_string(&mut text, alloc, random)?;
+        byte(rt, &mut text, 4);
+        put_some_string(rt, &mut text, alloc, random);
+        put_some_string(rt, &mut text, alloc, random);
     }
-    Ok(text)
+    text
 }
 
 // Sets a byte of the list, mostly one behind the header.
@@ -184,24 +179,19 @@ fn change(text: &mut Vec<u8>, random: &mut Random) {
 }
 
 // A list, and the same with one byte changed and with two.
-fn is_read_and_changed(
-    rt: &impl Abort,
-    alloc: Global,
-    random: &mut Random,
-) -> Result<(), AllocError> {
-    let mut text = some_list(alloc, random)?;
-    is_read_alike(rt, alloc, &text)?;
+fn is_read_and_changed(rt: &impl Abort, alloc: Global, random: &mut Random) {
+    let mut text = some_list(rt, alloc, random);
+    is_read_alike(rt, alloc, &text);
     for _ in 0..2 {
         change(&mut text, random);
-        is_read_alike(rt, alloc, &text)?;
+        is_read_alike(rt, alloc, &text);
     }
-    Ok(())
 }
 
 #[test]
 fn random_lists_are_read_alike(rt: HostRuntime) {
     let mut random = Random::new(12);
     for _ in 0..1000 {
-        is_read_and_changed(&rt, rt.alloc(), &mut random).expect(&rt, "there is memory");
+        is_read_and_changed(&rt, rt.alloc(), &mut random);
     }
 }

@@ -1,7 +1,7 @@
 // Lists, read from a slice and in pieces.
 
 use crate::tests::devices::Giver;
-use crate::tests::lists::{list_of, read_from, says, spans_from, with_byte};
+use crate::tests::lists::{is_right, list_of, read_from, says, spans_from, with_byte};
 use crate::tests::rows::{BITMAP, HEADER, ROWS, Row, SERIAL_FIVE};
 use krl_core::{KrlFault, Reading};
 use serial_set::Held;
@@ -18,14 +18,14 @@ fn told(alloc: Global, giver: Giver<'_>) -> Result<u128, KrlFault> {
 fn is_told_in_pieces(rt: &impl Abort, alloc: Global, text: &[u8], row: &Row) {
     for piece in [1, 3, 7, 1000] {
         let found = told(alloc, Giver::new(text, piece));
-        assert!(rt; found == row.due(), "by {piece}");
+        is_right(rt, piece, found == row.due());
     }
 }
 
 #[test]
 fn rows_in_pieces(rt: HostRuntime) {
     for row in &ROWS {
-        let text = list_of(rt.alloc(), row.sections).expect(&rt, "there is memory");
+        let text = list_of(&rt, rt.alloc(), row.sections);
         is_told_in_pieces(&rt, rt.alloc(), &text, row);
     }
 }
@@ -46,18 +46,15 @@ fn front_is_told(rt: &impl Abort, alloc: Global, front: &[u8]) {
         44 | 70 => None,
         _ => Some(KrlFault::EndsEarly),
     };
-    let n = front.len();
-    assert!(rt;
-        told(alloc, Giver::new(front, 1000)).err() == fault,
-        "at {n}"
-    );
+    let found = told(alloc, Giver::new(front, 1000)).err();
+    is_right(rt, front.len(), found == fault);
     let found = told(alloc, failing(front)).err();
-    assert!(rt; found == Some(KrlFault::Read), "failing at {n}");
+    is_right(rt, front.len(), found == Some(KrlFault::Read));
 }
 
 #[test]
 fn each_front_of_a_list(rt: HostRuntime) {
-    let text = list_of(rt.alloc(), SERIAL_FIVE).expect(&rt, "there is memory");
+    let text = list_of(&rt, rt.alloc(), SERIAL_FIVE);
     assert!(rt; text.len() == 70);
     for n in 0..71 {
         front_is_told(&rt, rt.alloc(), &text[..n]);
@@ -89,7 +86,7 @@ fn faults_of_the_header(rt: HostRuntime) {
         is_refused(&rt, rt.alloc(), Giver::new(*bytes, 1000), *fault);
     }
     for (place, byte, fault) in &CHANGES {
-        let text = with_byte(rt.alloc(), HEADER, *place, *byte).expect(&rt, "there is memory");
+        let text = with_byte(&rt, rt.alloc(), HEADER, *place, *byte);
         is_refused(&rt, rt.alloc(), Giver::new(&text, 1000), *fault);
     }
 }
@@ -97,13 +94,13 @@ fn faults_of_the_header(rt: HostRuntime) {
 // A fault of the bytes comes before that of the reader.
 #[test]
 fn a_fault_before_the_reader_fails(rt: HostRuntime) {
-    let text = list_of(rt.alloc(), b"\x99").expect(&rt, "there is memory");
+    let text = list_of(&rt, rt.alloc(), b"\x99");
     is_refused(&rt, rt.alloc(), failing(&text), KrlFault::UnknownSection);
 }
 
 #[test]
 fn interruptions_are_passed_over(rt: HostRuntime) {
-    let text = list_of(rt.alloc(), SERIAL_FIVE).expect(&rt, "there is memory");
+    let text = list_of(&rt, rt.alloc(), SERIAL_FIVE);
     for (interruptions, due) in [(1000, Ok(1)), (1001, Err(KrlFault::Read))] {
         let giver = Giver {
             bytes: &text,
@@ -140,7 +137,7 @@ fn hold_at_each_moment(rt: &impl Abort, reading: &mut OfSlice<'_>) {
             break;
         }
         let due = if taken(reading) < 75 { 0 } else { 4 };
-        assert!(rt; held(reading) == due, "at step {at}");
+        is_right(rt, at, held(reading) == due);
     }
 }
 
@@ -160,7 +157,7 @@ fn done(reading: OfSlice<'_>) -> (u64, u128) {
 
 #[test]
 fn held_at_each_moment(rt: HostRuntime) {
-    let text = list_of(rt.alloc(), BITMAP).expect(&rt, "there is memory");
+    let text = list_of(&rt, rt.alloc(), BITMAP);
     let mut reading = OfSlice::new(rt.alloc(), FromRead::new(text.as_slice()));
     hold_at_each_moment(&rt, &mut reading);
     stays_at_the_end(&rt, &mut reading);

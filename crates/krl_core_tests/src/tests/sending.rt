@@ -4,9 +4,9 @@ use crate::tests::lists::{header, list_of};
 use crate::tests::rows::SERIAL_FIVE;
 use crate::tests::writing::of_runs;
 use krl_core::{Revocations, WriteFault, write_krl};
-use serial_set::{Held, Span};
+use serial_set::Held;
 use ssh_wire::ToWrite;
-use std::alloc::{AllocError, Global};
+use std::alloc::Global;
 use std::io::{self, ErrorKind, Write};
 use std::process::Abort;
 
@@ -42,18 +42,19 @@ fn send(alloc: Global, held: &Revocations<Held>, device: &mut Device) -> Result<
 
 // What comes of a list of serial 5 at a device, and what it took.
 fn sent(
+    rt: &impl Abort,
     alloc: Global,
     piece: usize,
     calls: u8,
-) -> Result<(Result<(), WriteFault>, Vec<u8>), AllocError> {
-    let held = of_runs(alloc, &[Span { lo: 5, hi: 5 }])?;
+) -> (Result<(), WriteFault>, Vec<u8>) {
+    let held = of_runs(rt, alloc, &[(5, 5)]);
     let mut device = Device {
         taken: Vec::new(alloc),
         piece,
         calls,
     };
     let done = send(alloc, &held, &mut device);
-    Ok((done, device.taken))
+    (done, device.taken)
 }
 
 // Of the list a device takes a front of this length, and this comes of it.
@@ -63,12 +64,11 @@ fn is_sent(
     (piece, calls): (usize, u8),
     count: usize,
     due: Result<(), WriteFault>,
-) -> Result<(), AllocError> {
-    let text = list_of(alloc, SERIAL_FIVE)?;
-    let (done, taken) = sent(alloc, piece, calls)?;
+) {
+    let text = list_of(rt, alloc, SERIAL_FIVE);
+    let (done, taken) = sent(rt, alloc, piece, calls);
     assert!(rt; done == due);
     assert!(rt; text.get(..count) == Some(taken.as_slice()));
-    Ok(())
 }
 
 // How much is taken at a call, after how many calls the device fails, how much it took, and what
@@ -82,6 +82,6 @@ const ROWS: [(usize, u8, usize, Result<(), WriteFault>); 3] = [
 #[test]
 fn counts_what_went_out(rt: HostRuntime) {
     for (piece, calls, count, due) in &ROWS {
-        is_sent(&rt, rt.alloc(), (*piece, *calls), *count, *due).expect(&rt, "there is memory");
+        is_sent(&rt, rt.alloc(), (*piece, *calls), *count, *due);
     }
 }

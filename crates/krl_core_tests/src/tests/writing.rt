@@ -1,11 +1,11 @@
 // Whole lists (PROTOCOL.krl), byte for byte, each read back.
 
 use crate::tests::lists::{has_text, header, joined, list_of, read_from, text_of};
-use crate::tests::plain_model::{Said, add, held_of, id_under, serials_under};
+use crate::tests::plain_model::{Said, held_of, hold, id_under, serials_under};
 use crate::tests::subjects::ALL;
 use krl_core::{Revocations, TextFault};
-use serial_set::{Held, Span};
-use std::alloc::{AllocError, Global};
+use serial_set::Held;
+use std::alloc::Global;
 use std::process::Abort;
 
 // A list that was written is read, and what is read has its text.
@@ -15,76 +15,69 @@ fn is_read_back(rt: &impl Abort, alloc: Global, text: &[u8]) {
 }
 
 // What is held has this text: the header and these bytes.
-fn is_written(
-    rt: &impl Abort,
-    alloc: Global,
-    held: &Revocations<Held>,
-    sections: &[u8],
-) -> Result<(), AllocError> {
-    let due = list_of(alloc, sections)?;
+fn is_written(rt: &impl Abort, alloc: Global, held: &Revocations<Held>, sections: &[u8]) {
+    let due = list_of(rt, alloc, sections);
     has_text(rt, alloc, &header(alloc), held, &due);
     is_read_back(rt, alloc, &due);
-    Ok(())
 }
 
 // What is said has this text: the header and these bytes.
-fn are_written(
-    rt: &impl Abort,
-    alloc: Global,
-    all: &[Said<'_>],
-    sections: &[u8],
-) -> Result<(), AllocError> {
-    let held = held_of::<Held>(alloc, all)?;
+fn are_written(rt: &impl Abort, alloc: Global, all: &[Said<'_>], sections: &[u8]) {
+    let held = held_of::<Held>(rt, alloc, all);
     is_written(rt, alloc, &held, sections)
 }
 
-/// What is held with these serials of all authorities.
-pub fn of_runs(alloc: Global, runs: &[Span]) -> Result<Revocations<Held>, AllocError> {
+/// What is held with the runs of serials of all authorities that have these ends.
+pub fn of_runs(rt: &impl Abort, alloc: Global, runs: &[(u64, u64)]) -> Revocations<Held> {
     let mut held: Revocations<Held> = Revocations::new(alloc);
-    for run in runs {
-        add(&mut held, serials_under(ALL, run.lo, run.hi))?;
+    for (lo, hi) in runs {
+        hold(rt, &mut held, serials_under(ALL, *lo, *hi));
     }
-    Ok(held)
+    held
 }
 
-/// What is held has a text of so many bytes, which is read back.
-pub fn has_length(rt: &impl Abort, alloc: Global, held: &Revocations<Held>, length: u64) {
-    let text = text_of(alloc, &header(alloc), held).expect(rt, "what is held has a text");
+// The runs with these ends have a text of so many bytes, which is read back.
+fn has_length(rt: &impl Abort, alloc: Global, ends: &[(u64, u64)], length: u64) {
+    let held = of_runs(rt, alloc, ends);
+    let text = text_of(alloc, &header(alloc), &held).expect(rt, "what is held has a text");
     assert!(rt; text.len() as u64 == length);
     is_read_back(rt, alloc, &text);
 }
 
 // The section of all authorities with these subsections.
-fn under_all(alloc: Global, subsections: &[u8]) -> Result<Vec<u8>, AllocError> {
+fn under_all(rt: &impl Abort, alloc: Global, subsections: &[u8]) -> Vec<u8> {
     let [.., a, b, c, d] = subsections.len().saturating_add(8).to_be_bytes();
-    joined(alloc, &[&[1, a, b, c, d], b"\0\0\0\0\0\0\0\0", subsections])
+    joined(
+        rt,
+        alloc,
+        &[&[1, a, b, c, d], b"\0\0\0\0\0\0\0\0", subsections],
+    )
 }
 
 // The serials of all authorities are written by these subsections.
-fn serials(
-    rt: &impl Abort,
-    alloc: Global,
-    runs: &[Span],
-    subsections: &[u8],
-) -> Result<(), AllocError> {
-    let section = under_all(alloc, subsections)?;
-    let held = of_runs(alloc, runs)?;
+fn serials(rt: &impl Abort, alloc: Global, runs: &[(u64, u64)], subsections: &[u8]) {
+    let section = under_all(rt, alloc, subsections);
+    let held = of_runs(rt, alloc, runs);
     is_written(rt, alloc, &held, &section)
-}
-
-/// The runs with these ends.
-pub fn spans_of(alloc: Global, ends: &[(u64, u64)]) -> Result<Vec<Span>, AllocError> {
-    let mut runs = Vec::new(alloc);
-    for (lo, hi) in ends {
-        runs.push(Span { lo: *lo, hi: *hi })?;
-    }
-    Ok(runs)
 }
 
 // The ends of runs of serials, and the subsections that these are written by.
 type Row = (&'static [(u64, u64)], &'static [u8]);
 
-const SERIALS: [Row; 10] = [
+// Eight serials that a bitmap takes, and one far below them.
+const EIGHT_AND_ONE: &[(u64, u64)] = &[
+    (1_000_000, 1_000_000),
+    (1_000_002, 1_000_002),
+    (1_000_004, 1_000_004),
+    (1_000_006, 1_000_006),
+    (1_000_008, 1_000_008),
+    (1_000_010, 1_000_010),
+    (1_000_012, 1_000_012),
+    (1_000_014, 1_000_014),
+    (1, 1),
+];
+
+const SERIALS: [Row; 11] = [
     (&[(5, 5)], b"\x20\0\0\0\x08\0\0\0\0\0\0\0\x05"),
     (
         &[(5, 5), (6, 6)],
@@ -123,71 +116,39 @@ const SERIALS: [Row; 10] = [
         &[(1, 1), (1_000_000, 1_000_000)],
         b"\x20\0\0\0\x10\0\0\0\0\0\0\0\x01\0\0\0\0\0\x0f\x42\x40",
     ),
+    // The longest list of serials would take 77 bytes.
+    (
+        EIGHT_AND_ONE,
+        b"\x20\0\0\0\x08\0\0\0\0\0\0\0\x01\
+\x22\0\0\0\x0e\0\0\0\0\0\x0f\x42\x40\0\0\0\x02\x55\x55",
+    ),
 ];
 
-fn serials_are_written(rt: &impl Abort, alloc: Global) -> Result<(), AllocError> {
-    for (ends, due) in &SERIALS {
-        let runs = spans_of(alloc, *ends)?;
-        serials(rt, alloc, &runs, *due)?;
-    }
-    Ok(())
-}
-
-/// So many serials, each so far above the one before it.
-pub fn serials_apart(
-    alloc: Global,
-    first: u64,
-    apart: u64,
-    count: u64,
-) -> Result<Vec<Span>, AllocError> {
+// The runs of the first 128 odd serials.
+fn odd_serials(rt: &impl Abort, alloc: Global) -> Vec<(u64, u64)> {
     let mut runs = Vec::new(alloc);
-    let mut serial = first;
-    for _ in 0..count {
-        runs.push(Span {
-            lo: serial,
-            hi: serial,
-        })?;
-        serial = serial.saturating_add(apart);
+    for half in 0..128u64 {
+        runs.push((2 * half + 1, 2 * half + 1))
+            .expect(rt, "there is memory");
     }
-    Ok(runs)
-}
-
-// Eight serials that a bitmap takes, and one far below them.
-fn eight_and_one(alloc: Global) -> Result<Vec<Span>, AllocError> {
-    let mut runs = serials_apart(alloc, 1_000_000, 2, 8)?;
-    runs.push(Span { lo: 1, hi: 1 })?;
-    Ok(runs)
-}
-
-// The longest list of serials would take 77 bytes.
-fn the_least_plan_is_written(rt: &impl Abort, alloc: Global) -> Result<(), AllocError> {
-    let runs = eight_and_one(alloc)?;
-    let due = b"\x20\0\0\0\x08\0\0\0\0\0\0\0\x01\
-\x22\0\0\0\x0e\0\0\0\0\0\x0f\x42\x40\0\0\0\x02\x55\x55";
-    serials(rt, alloc, &runs, due)
-}
-
-fn the_least_plan_has_its_length(rt: &impl Abort, alloc: Global) -> Result<(), AllocError> {
-    let runs = eight_and_one(alloc)?;
-    let held = of_runs(alloc, &runs)?;
-    has_length(rt, alloc, &held, 89);
-    Ok(())
+    runs
 }
 
 // 128 odd serials are one bitmap of 32 bytes.
-fn odd_serials_are_written(rt: &impl Abort, alloc: Global) -> Result<(), AllocError> {
-    let runs = serials_apart(alloc, 1, 2, 128)?;
+fn odd_serials_are_written(rt: &impl Abort, alloc: Global) {
+    let runs = odd_serials(rt, alloc);
     let front = b"\x22\0\0\0\x2c\0\0\0\0\0\0\0\x01\0\0\0\x20";
-    let due = joined(alloc, &[front, &[0x55; 32]])?;
+    let due = joined(rt, alloc, &[front, &[0x55; 32]]);
     serials(rt, alloc, &runs, &due)
 }
 
 #[test]
 fn writes_serials(rt: HostRuntime) {
-    serials_are_written(&rt, rt.alloc()).expect(&rt, "there is memory");
-    the_least_plan_is_written(&rt, rt.alloc()).expect(&rt, "there is memory");
-    the_least_plan_has_its_length(&rt, rt.alloc()).expect(&rt, "there is memory");
-    odd_serials_are_written(&rt, rt.alloc()).expect(&rt, "there is memory");
+    for (ends, due) in &SERIALS {
+        serials(&rt, rt.alloc(), *ends, *due);
+    }
+    has_length(&rt, rt.alloc(), EIGHT_AND_ONE, 89);
+    odd_serials_are_written(&rt, rt.alloc());
 }
 
 // The SHA-1 of `j`, and the SHA-256 of `k`.
@@ -244,16 +205,11 @@ const SAID: [(&[Said<'static>], &[u8]); 5] = [
     ),
 ];
 
-fn entries_are_written(rt: &impl Abort, alloc: Global) -> Result<(), AllocError> {
-    for (all, due) in &SAID {
-        are_written(rt, alloc, *all, *due)?;
-    }
-    Ok(())
-}
-
 #[test]
 fn writes_entries_in_order_and_once(rt: HostRuntime) {
-    entries_are_written(&rt, rt.alloc()).expect(&rt, "there is memory");
+    for (all, due) in &SAID {
+        are_written(&rt, rt.alloc(), *all, *due);
+    }
 }
 
 // The length of the text of what is held.
@@ -265,23 +221,23 @@ fn text_length(alloc: Global, held: &Revocations<Held>) -> Result<usize, TextFau
 }
 
 // The length of the text of one key ID of so many letters, or why there is none.
-fn length_of(alloc: Global, letters: usize) -> Result<Result<usize, TextFault>, AllocError> {
-    let id = vec![in alloc; b'a'; letters]?;
-    let held = held_of::<Held>(alloc, &[id_under(ALL, &id)])?;
-    Ok(text_length(alloc, &held))
+fn length_of(rt: &impl Abort, alloc: Global, letters: usize) -> Result<usize, TextFault> {
+    let id = vec![in alloc; b'a'; letters].expect(rt, "there is memory");
+    let held = held_of::<Held>(rt, alloc, &[id_under(ALL, &id)]);
+    text_length(alloc, &held)
 }
 
 #[test]
 fn writes_a_long_id(rt: HostRuntime) {
-    assert!(rt; length_of(rt.alloc(), 16_777_150) == Ok(Ok(16_777_216)));
+    assert!(rt; length_of(&rt, rt.alloc(), 16_777_150) == Ok(16_777_216));
 }
 
 #[test]
 fn writes_up_to_the_limit(rt: HostRuntime) {
-    assert!(rt; length_of(rt.alloc(), 67_108_798) == Ok(Ok(67_108_864)));
+    assert!(rt; length_of(&rt, rt.alloc(), 67_108_798) == Ok(67_108_864));
 }
 
 #[test]
 fn writes_nothing_past_the_limit(rt: HostRuntime) {
-    assert!(rt; length_of(rt.alloc(), 67_108_799) == Ok(Err(TextFault::TooLong)));
+    assert!(rt; length_of(&rt, rt.alloc(), 67_108_799) == Err(TextFault::TooLong));
 }
