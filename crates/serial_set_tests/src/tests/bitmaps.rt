@@ -1,58 +1,64 @@
 ghost use Rattle.std.specs.Prelude.{◌≡◌, ◌+◌, ◌<◌, ◌≤◌, IsTrue, OnSome};
 
-use crate::tests::walk::lists;
+use crate::tests::is_right;
+use crate::tests::walk::{add, empty, lists};
 use serial_set::{BitFault, BitRuns, Held, Span, Spans};
-use std::alloc::{AllocError, Global};
-use std::test::Fail;
+use std::alloc::Global;
+use std::process::Abort;
 
 // An offset, the bytes of a bitmap, and its runs or why it is refused.
-type Row = (u64, &'static [u8], Result<&'static [(u64, u64)], BitFault>);
+type Row = (u64, &'static [u8], Result<&'static [Span], BitFault>);
 
 // The runs of a bitmap, or why it is refused.
-fn read(alloc: Global, offset: u64, bytes: &[u8]) -> Result<Result<Held, BitFault>, AllocError> {
-    let mut set = Held::empty(alloc)?;
+fn read(rt: &impl Abort, alloc: Global, offset: u64, bytes: &[u8]) -> Result<Held, BitFault> {
+    let mut set: Held = empty(rt, alloc);
     let Ok(len) = u32::try_from(bytes.len()) else {
-        return Err(AllocError);
+        assert!(rt; false);
+        return Ok(set);
     };
     let mut bits = BitRuns::new(offset, len);
     for byte in bytes {
-        match bits.feed(*byte) {
-            Ok(finished) => {
-                for run in finished.as_slice() {
-                    set.add(run.lo, run.hi)?;
-                }
-            }
-            Err(fault) => return Ok(Err(fault)),
+        let finished = bits.feed(*byte)?;
+        for run in finished.as_slice() {
+            add(rt, &mut set, run.lo, run.hi);
         }
     }
     if let Some(run) = bits.end() {
-        set.add(run.lo, run.hi)?;
+        add(rt, &mut set, run.lo, run.hi);
     }
-    Ok(Ok(set))
+    Ok(set)
 }
 
-// Whether the runs of the bitmap are those that are due, or why it is refused is.
-fn reads(
-    alloc: Global,
-    offset: u64,
-    bytes: &[u8],
-    due: Result<&[(u64, u64)], BitFault>,
-) -> Result<bool, AllocError> {
-    Ok(match (read(alloc, offset, bytes)?, due) {
-        (Ok(set), Ok(runs)) => lists(alloc, &set, runs)?,
-        (Err(fault), Err(due)) => fault == due,
-        _ => false,
-    })
+// The runs of the bitmap are those that are due, or why it is refused is.
+fn reads(rt: &impl Abort, alloc: Global, number: usize, row: &Row) {
+    let (offset, bytes, due) = *row;
+    match (read(rt, alloc, offset, bytes), due) {
+        (Ok(set), Ok(runs)) => lists(rt, alloc, number, &set, runs),
+        (Err(fault), Err(due)) => is_right(rt, number, fault == due),
+        _ => is_right(rt, number, false),
+    }
 }
 
-const LAST: &[(u64, u64)] = &[(u64::MAX, u64::MAX)];
+const LAST: &[Span] = &[Span {
+    lo: u64::MAX,
+    hi: u64::MAX,
+}];
 
 const ROWS: [Row; 12] = [
-    (1, &[0x55], Ok(&[(1, 1), (3, 3), (5, 5), (7, 7)])),
-    (1, &[0x01, 0x80], Ok(&[(8, 9)])),
-    (1, &[0x00, 0x01, 0x80], Ok(&[(8, 9)])),
+    (
+        1,
+        &[0x55],
+        Ok(&[
+            Span { lo: 1, hi: 1 },
+            Span { lo: 3, hi: 3 },
+            Span { lo: 5, hi: 5 },
+            Span { lo: 7, hi: 7 },
+        ]),
+    ),
+    (1, &[0x01, 0x80], Ok(&[Span { lo: 8, hi: 9 }])),
+    (1, &[0x00, 0x01, 0x80], Ok(&[Span { lo: 8, hi: 9 }])),
     (0, &[0x01], Ok(&[])),
-    (0, &[0x0f], Ok(&[(1, 3)])),
+    (0, &[0x0f], Ok(&[Span { lo: 1, hi: 3 }])),
     (u64::MAX, &[0x01], Ok(LAST)),
     (u64::MAX, &[0x00, 0x00, 0x01], Ok(LAST)),
     (u64::MAX - 8, &[0x00, 0x01, 0x00], Ok(LAST)),
@@ -63,11 +69,10 @@ const ROWS: [Row; 12] = [
 ];
 
 #[test]
-fn reads_bitmaps(rt: HostRuntime) -> Result<(), Fail> {
-    for (i, (offset, bytes, due)) in ROWS.iter().enumerate() {
-        assert!(rt; reads(rt.alloc(), *offset, bytes, *due)?, "row {i}");
+fn reads_bitmaps(rt: HostRuntime) {
+    for (i, row) in ROWS.iter().enumerate() {
+        reads(&rt, rt.alloc(), i, row);
     }
-    Ok(())
 }
 
 // Whether the byte finishes these runs.
@@ -90,8 +95,8 @@ fn finishes_the_highest_run_first(rt: HostRuntime) {
         Span { lo: 3, hi: 3 },
     ];
     assert!(rt; finishes(&mut bits, 0x55, &runs));
-    assert_eq!(rt; bits.pending(), Some(Span { lo: 1, hi: 1 }));
-    assert_eq!(rt; bits.end(), Some(Span { lo: 1, hi: 1 }));
+    assert!(rt; bits.pending() == Some(Span { lo: 1, hi: 1 }));
+    assert!(rt; bits.end() == Some(Span { lo: 1, hi: 1 }));
 }
 
 // A run over a thousand bytes is never cut.
@@ -104,9 +109,9 @@ fn goes_on_over_bytes(rt: HostRuntime) {
             assert!(rt; false);
             return;
         };
-        assert_eq!(rt; finished.count, 0);
+        assert!(rt; finished.count == 0);
     }
-    assert_eq!(rt; bits.end(), Some(Span { lo: 1, hi: 7999 }));
+    assert!(rt; bits.end() == Some(Span { lo: 1, hi: 7999 }));
 }
 
 fn refusal(bits: &mut BitRuns, byte: u8) -> Option<BitFault>
@@ -137,6 +142,6 @@ fn repeats(offset: u64, first: u8, due: BitFault) -> bool {
 fn repeats_its_fault(rt: HostRuntime) {
     assert!(rt; repeats(u64::MAX, 0x02, BitFault::Wraps));
     assert!(rt; repeats(1, 0x80, BitFault::Negative));
-    assert_eq!(rt; BitFault::Negative.number(), 1);
-    assert_eq!(rt; BitFault::Wraps.number(), 2);
+    assert!(rt; BitFault::Negative.number() == 1);
+    assert!(rt; BitFault::Wraps.number() == 2);
 }

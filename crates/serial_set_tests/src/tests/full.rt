@@ -2,9 +2,9 @@
 ghost use Rattle.std.specs.Prelude.{◌≡◌, ◌<◌, ◌≤◌, IsTrue};
 ghost use Rattle.serial_set.specs.Span.{TouchesNone};
 
+use crate::tests::walk::{add, empty};
 use serial_set::{Span, SpanVec, Spans};
 use std::alloc::{AllocError, Global};
-use std::test::Fail;
 
 #[derive(Drop)]
 struct Full<S: Spans> {
@@ -74,13 +74,12 @@ fn is_one<S: Spans>(set: &S, span: Span) -> bool {
 }
 
 #[test]
-fn a_refusal_changes_nothing(rt: HostRuntime) -> Result<(), Fail> {
-    let mut set: Full<SpanVec> = Full::empty(rt.alloc())?;
-    set.add(5, 7)?;
+fn a_refusal_changes_nothing(rt: HostRuntime) {
+    let mut set: Full<SpanVec> = empty(&rt, rt.alloc());
+    add(&rt, &mut set, 5, 7);
     assert!(rt; set.add(9, 9).is_err());
     assert!(rt; is_one(&set, Span { lo: 5, hi: 7 }) && !set.has(9));
     // What joins needs no room.
-    set.add(8, 9)?;
+    add(&rt, &mut set, 8, 9);
     assert!(rt; is_one(&set, Span { lo: 5, hi: 9 }));
-    Ok(())
 }

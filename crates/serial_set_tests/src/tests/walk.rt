@@ -1,10 +1,10 @@
 // Code over any representation, proved from what `Spans` promises alone.
 ghost use Rattle.std.specs.Prelude.{◌≡◌, ◌<◌, ◌≤◌, length, IsTrue, IfOk};
 
+use crate::tests::is_right;
 use serial_set::{Span, SpanPages, SpanVec, Spans};
 use std::alloc::{AllocError, Global};
 use std::process::Abort;
-use std::test::Fail;
 
 // Goes over the list in linear time: each piece is visited once.
 pub fn list_of<S: Spans>(alloc: Global, set: &S) -> Result<Vec<Span>, AllocError>
@@ -21,18 +21,21 @@ pub fn list_of<S: Spans>(alloc: Global, set: &S) -> Result<Vec<Span>, AllocError
     Ok(list)
 }
 
-// The intervals of these ends.
-fn spans_of(alloc: Global, ends: &[(u64, u64)]) -> Result<Vec<Span>, AllocError> {
-    let mut list = Vec::new(alloc);
-    for (lo, hi) in ends {
-        list.push(Span { lo: *lo, hi: *hi })?;
-    }
-    Ok(list)
+// The set has these spans alone; a number tells the case from the others of a test.
+pub fn lists<S: Spans>(rt: &impl Abort, alloc: Global, number: usize, set: &S, due: &[Span]) {
+    let list = list_of(alloc, set).expect(rt, "there is memory");
+    is_right(rt, number, list.as_slice() == due);
 }
 
-// Whether the set has the intervals of these ends alone.
-pub fn lists<S: Spans>(alloc: Global, set: &S, ends: &[(u64, u64)]) -> Result<bool, AllocError> {
-    Ok(list_of(alloc, set)? == spans_of(alloc, ends)?)
+// A set of no spans.
+pub fn empty<S: Spans>(rt: &impl Abort, alloc: Global) -> S {
+    S::empty(alloc).expect(rt, "there is memory")
+}
+
+// Adds an interval, which has a serial and begins above 0.
+pub fn add<S: Spans>(rt: &impl Abort, set: &mut S, lo: u64, hi: u64) {
+    assert!(rt; 0 < lo && lo <= hi);
+    set.add(lo, hi).expect(rt, "there is memory");
 }
 
 // A run is never empty.
@@ -57,19 +60,29 @@ fn has_two_starts<S: Spans>(set: &S) -> bool {
     set.len() == 2 && has_start(set, 0) && has_start(set, 1)
 }
 
-fn walks<S: Spans>(rt: &impl Abort, alloc: Global) -> Result<(), AllocError> {
-    let mut set = S::empty(alloc)?;
-    assert!(rt; set.len() == 0 && !set.has(0) && !set.has(2));
-    assert!(rt; has_added(&mut set, 9)?);
-    assert!(rt; has_added(&mut set, 2)?);
+// Whether the set has no span, and none of two serials.
+fn is_empty<S: Spans>(set: &S) -> bool {
+    set.len() == 0 && !set.has(0) && !set.has(2)
+}
+
+fn walks<S: Spans>(rt: &impl Abort, alloc: Global) {
+    let mut set: S = empty(rt, alloc);
+    assert!(rt; is_empty(&set));
+    for serial in [9, 2] {
+        assert!(rt; has_added(&mut set, serial) == Ok(true));
+    }
     assert!(rt; has_two_starts(&set));
-    assert!(rt; lists(alloc, &set, &[(2, 2), (9, 9)])?);
-    Ok(())
+    lists(
+        rt,
+        alloc,
+        2,
+        &set,
+        &[Span { lo: 2, hi: 2 }, Span { lo: 9, hi: 9 }],
+    );
 }
 
 #[test]
-fn walks_each_representation(rt: HostRuntime) -> Result<(), Fail> {
-    walks::<SpanVec>(&rt, rt.alloc())?;
-    walks::<SpanPages>(&rt, rt.alloc())?;
-    Ok(())
+fn walks_each_representation(rt: HostRuntime) {
+    walks::<SpanVec>(&rt, rt.alloc());
+    walks::<SpanPages>(&rt, rt.alloc());
 }
