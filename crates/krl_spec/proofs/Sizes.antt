@@ -7,7 +7,7 @@ use Rattle.std.proofs.lemmas.List.Elements.{All-append, All-contains, All-map}
 use Rattle.base64.specs.Engines.{standard, standard_no_pad}
 use Rattle.base64.specs.Rfc4648.{encode, encode_group, encode_symbols, padding_len}
 use Rattle.ssh_wire.specs.Fields.{length-number, length-string}
-use Rattle.ssh_wire.specs.Wire.{complement, mpint, number, string, strings}
+use Rattle.ssh_wire.specs.Wire.{complement, mpint, string}
 use Rattle.ssh_key.specs.Blanks.{after_blanks, before_ending, is_blank, is_ending, trimmed}
 use Rattle.ssh_key.specs.FingerprintReading.{IsFingerprint, sha256_prefix}
 use Rattle.ssh_key.specs.Fingerprints.{unpadded}
@@ -17,8 +17,7 @@ use Rattle.ssh_key.specs.Kind.{Field, Positive, Curve, Point, Sized, Text, certi
 use Rattle.ssh_key.specs.TypeName.{certificate_names, plain_names, type_names}
 use Rattle.ssh_key.specs.declared.kind.Kind.{Kind}
 use Rattle.ssh_key.specs.declared.kind.Kind.TheVariants.{Rsa, Dsa, Ecdsa256, Ecdsa384, Ecdsa521, Ed25519, EcdsaSk, Ed25519Sk}
-use Rattle.ssh_cert.specs.Certificate.{Certificate, IsCertificate, joined, role_number}
-use Rattle.ssh_cert.specs.Options.{options_text}
+use Rattle.ssh_cert.specs.Certificate.{Certificate, IsCertificate, certificate_parts, joined}
 use Rattle.ssh_cert.specs.Subject.{Subject}
 use Rattle.ssh_cert.specs.SubjectReading.{IsSubject, plain_key, certified, of_certificate}
 use Rattle.krl_spec.specs.Blanks.{after_endings}
@@ -175,27 +174,9 @@ length-joined : (texts : List (List ℕ)) → length (joined texts) ≡ total te
 length-joined [] = refl
 length-joined (text ∷ texts) = omega (arith, length-append text (joined texts), length-joined texts)
 
-abbrev parts : Certificate → List ℕ → List ℕ → List (List ℕ)
-parts certificate reserved signature =
-    string (certificate_name certificate.key.kind)
-    ∷ string certificate.nonce
-    ∷ certificate.key.fields
-    ∷ number 8 certificate.serial
-    ∷ number 4 (role_number certificate.role)
-    ∷ string certificate.key_id
-    ∷ string (strings certificate.principals)
-    ∷ number 8 certificate.after
-    ∷ number 8 certificate.before
-    ∷ string (options_text certificate.critical)
-    ∷ string (options_text certificate.extensions)
-    ∷ string reserved
-    ∷ string certificate.authority
-    ∷ string signature
-    ∷ []
-
 certificate_room : (blob : List ℕ) (certificate : Certificate) → IsCertificate blob certificate → IsWithinBlob blob (of_certificate certificate)
 certificate_room blob certificate is =
-    let size = ap length is.spelled ∙ length-joined (parts certificate is.reserved is.signature) in
+    let size = ap length is.spelled ∙ length-joined (certificate_parts certificate is.reserved is.signature) in
     let kind = certificate.key.kind in
     let name = length-string (certificate_name kind) in
     let id = length-string certificate.key_id in

@@ -35,8 +35,8 @@ joined [] = []
 joined (text ∷ texts) = text ++ joined texts
 
 -- the fields in their order: the type name first, the signature last
-abbrev pub certificate_text : Certificate → List ℕ → List ℕ → List ℕ
-certificate_text certificate reserved signature = joined (
+abbrev pub certificate_parts : Certificate → List ℕ → List ℕ → List (List ℕ)
+certificate_parts certificate reserved signature =
     string (certificate_name certificate.key.kind)
     ∷ string certificate.nonce
     ∷ certificate.key.fields
@@ -51,7 +51,11 @@ certificate_text certificate reserved signature = joined (
     ∷ string reserved
     ∷ string certificate.authority
     ∷ string signature
-    ∷ [])
+    ∷ []
+
+abbrev pub certificate_text : Certificate → List ℕ → List ℕ → List ℕ
+certificate_text certificate reserved signature =
+    joined (certificate_parts certificate reserved signature)
 
 -- Four bytes hold the length of each string, and eight bytes each number.
 pub record HasLengths (certificate : Certificate) (reserved signature : List ℕ) : Type 0 where
