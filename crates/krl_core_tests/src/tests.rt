@@ -3,7 +3,6 @@
 mod asking;
 mod beside;
 mod comparing;
-mod devices;
 mod full;
 mod holding;
 mod hostile;

@@ -1,6 +1,5 @@
 mod adding;
 mod bitmaps;
-mod full;
 mod pages;
 mod walk;
 

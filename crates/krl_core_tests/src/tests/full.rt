@@ -3,7 +3,7 @@
 ghost use Rattle.std.specs.Prelude.{◌≡◌, ◌<◌, ◌≤◌, IsTrue};
 ghost use Rattle.serial_set.specs.Span.{TouchesNone};
 
-use serial_set::{Span, Spans};
+use serial_set::{Span, SpanVec, Spans};
 use std::alloc::{AllocError, Global};
 
 /// Refuses an addition that stands alone where it has `AT` spans.
@@ -64,4 +64,25 @@ impl<S: Spans, const AT: usize> Spans for Full<S, AT> {
     fn piece(&self, at: usize) -> &[Span] {
         self.inner.piece(at)
     }
+}
+
+// Whether the set is one span.
+fn is_one<S: Spans>(set: &S, span: Span) -> bool {
+    set.len() == 1
+        && set.get(0) == span
+        && set.has(span.lo)
+        && set.has(span.hi)
+        && !set.has(span.lo.saturating_sub(1))
+        && !set.has(span.hi.saturating_add(1))
+}
+
+#[test]
+fn a_refusal_changes_nothing(rt: HostRuntime) {
+    let mut set: Full<SpanVec, 1> = Full::empty(rt.alloc()).expect(&rt, "there is memory");
+    set.add(5, 7).expect(&rt, "there is memory");
+    assert!(rt; set.add(9, 9).is_err());
+    assert!(rt; is_one(&set, Span { lo: 5, hi: 7 }) && !set.has(9));
+    // What joins needs no room.
+    set.add(8, 9).expect(&rt, "there is memory");
+    assert!(rt; is_one(&set, Span { lo: 5, hi: 9 }));
 }

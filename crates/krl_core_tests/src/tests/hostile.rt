@@ -1,9 +1,9 @@
 // Lists that would take much where they were not read a field at a time, into sets of their own.
 
-use crate::tests::devices::Zeros;
 use crate::tests::full::Full;
 use crate::tests::lists::{joined, list_of, read_from, spans_from};
 use crate::tests::rows::BITMAP;
+use devices_for_tests::{Giver, Then};
 use krl_core::{KrlFault, Revocations};
 use serial_set::{Held, SpanVec};
 use std::alloc::Global;
@@ -63,8 +63,8 @@ fn each_run_is_added_once(rt: HostRuntime) {
 }
 
 // The fault of a list, or how many keys it has.
-fn keys_from(alloc: Global, reader: Zeros<'_>) -> Result<usize, KrlFault> {
-    match read_from::<Held, Zeros<'_>>(alloc, reader) {
+fn keys_from(alloc: Global, reader: Giver<'_>) -> Result<usize, KrlFault> {
+    match read_from::<Held, Giver<'_>>(alloc, reader) {
         Ok((_, held)) => Ok(held.keys()),
         Err(fault) => Err(fault),
     }
@@ -79,10 +79,8 @@ fn is_told(
     due: Result<usize, KrlFault>,
 ) {
     let first = list_of(rt, alloc, sections);
-    let reader = Zeros {
-        first: &first,
-        zeros,
-    };
+    let mut reader = Giver::new(&first, usize::MAX);
+    reader.then = Then::Zeros(zeros);
     assert!(rt; keys_from(alloc, reader) == due);
 }
 

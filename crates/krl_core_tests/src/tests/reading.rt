@@ -1,8 +1,8 @@
 // Lists, read from a slice and in pieces.
 
-use crate::tests::devices::Giver;
 use crate::tests::lists::{is_right, list_of, read_from, says, spans_from, with_byte};
 use crate::tests::rows::{BITMAP, HEADER, ROWS, Row, SERIAL_FIVE};
+use devices_for_tests::{Giver, Then};
 use krl_core::{KrlFault, Reading};
 use serial_set::Held;
 use ssh_wire::FromRead;
@@ -32,12 +32,9 @@ fn rows_in_pieces(rt: HostRuntime) {
 
 // Gives the bytes five at a call, and fails where they end.
 fn failing(bytes: &[u8]) -> Giver<'_> {
-    Giver {
-        bytes,
-        piece: 5,
-        interruptions: 0,
-        fails_at_the_end: true,
-    }
+    let mut giver = Giver::new(bytes, 5);
+    giver.then = Then::Fails;
+    giver
 }
 
 // So many bytes of the list of serial 5 have this fault, and that of the reader where it fails.
@@ -102,12 +99,8 @@ fn a_fault_before_the_reader_fails(rt: HostRuntime) {
 fn interruptions_are_passed_over(rt: HostRuntime) {
     let text = list_of(&rt, rt.alloc(), SERIAL_FIVE);
     for (interruptions, due) in [(1000, Ok(1)), (1001, Err(KrlFault::Read))] {
-        let giver = Giver {
-            bytes: &text,
-            piece: 7,
-            interruptions,
-            fails_at_the_end: false,
-        };
+        let mut giver = Giver::new(&text, 7);
+        giver.interruptions = interruptions;
         assert!(rt; told(rt.alloc(), giver) == due);
     }
 }

@@ -3,39 +3,15 @@
 use crate::tests::lists::{header, list_of};
 use crate::tests::rows::SERIAL_FIVE;
 use crate::tests::writing::of_runs;
+use devices_for_tests::Taker;
 use krl_core::{Revocations, WriteFault, write_krl};
 use serial_set::Held;
 use ssh_wire::ToWrite;
 use std::alloc::Global;
-use std::io::{self, ErrorKind, Write};
 use std::process::Abort;
 
-/// Takes at most so many bytes at a call, and fails after some calls.
-#[derive(Drop)]
-struct Device {
-    taken: Vec<u8>,
-    piece: usize,
-    calls: u8,
-}
-
-impl Write for Device {
-    fn write(&mut self, bytes: &[u8]) -> io::Result<usize> {
-        if self.calls == 0 {
-            return Err(ErrorKind::Other.into());
-        }
-        self.calls -= 1;
-        let count = bytes.len().min(self.piece);
-        self.taken.extend_from_slice(&bytes[..count])?;
-        Ok(count)
-    }
-
-    fn flush(&mut self) -> io::Result<()> {
-        Ok(())
-    }
-}
-
 // What comes of a list at a device.
-fn send(alloc: Global, held: &Revocations<Held>, device: &mut Device) -> Result<(), WriteFault> {
+fn send(alloc: Global, held: &Revocations<Held>, device: &mut Taker) -> Result<(), WriteFault> {
     let mut writer = ToWrite::new(device);
     write_krl(alloc, &header(alloc), held, &mut writer)
 }
@@ -45,14 +21,10 @@ fn sent(
     rt: &impl Abort,
     alloc: Global,
     piece: usize,
-    calls: u8,
+    calls: usize,
 ) -> (Result<(), WriteFault>, Vec<u8>) {
     let held = of_runs(rt, alloc, &[(5, 5)]);
-    let mut device = Device {
-        taken: Vec::new(alloc),
-        piece,
-        calls,
-    };
+    let mut device = Taker::new(alloc, piece, calls);
     let done = send(alloc, &held, &mut device);
     (done, device.taken)
 }
@@ -61,7 +33,7 @@ fn sent(
 fn is_sent(
     rt: &impl Abort,
     alloc: Global,
-    (piece, calls): (usize, u8),
+    (piece, calls): (usize, usize),
     count: usize,
     due: Result<(), WriteFault>,
 ) {
@@ -73,7 +45,7 @@ fn is_sent(
 
 // How much is taken at a call, after how many calls the device fails, how much it took, and what
 // comes of the list: what went out is counted, and a device that takes nothing fails.
-const ROWS: [(usize, u8, usize, Result<(), WriteFault>); 3] = [
+const ROWS: [(usize, usize, usize, Result<(), WriteFault>); 3] = [
     (3, 3, 9, Err(WriteFault::Write { count: 9 })),
     (0, 1, 0, Err(WriteFault::Write { count: 0 })),
     (3, 100, 70, Ok(())),

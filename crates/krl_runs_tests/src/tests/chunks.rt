@@ -3,7 +3,7 @@
 use crate::tests::bytes::repeated;
 use crate::tests::devices::asked_of_key;
 use crate::tests::runs::{CLOSED, GITHUB_LINE, Ran, holding, listed, says};
-use crate::tests::streams::Taker;
+use devices_for_tests::Taker;
 use krl_runs::ListMode;
 use ssh_key::Hash;
 use std::alloc::Global;

@@ -2,7 +2,8 @@
 
 use crate::tests::bytes::{FIVE, GITHUB, HEADER, ONE_KEY, joined, list_of, odd_lines, put};
 use crate::tests::runs::{CLOSED, KEY, Ran, asked, asks, says};
-use crate::tests::streams::{Taker, giving};
+use crate::tests::streams::giving;
+use devices_for_tests::Taker;
 use std::alloc::Global;
 use std::process::Abort;
 

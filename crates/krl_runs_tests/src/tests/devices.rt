@@ -4,7 +4,8 @@ use crate::tests::bytes::{GITHUB, filled, list_of_one};
 use crate::tests::runs::{
     CLOSED, File, GITHUB_LINE, Ran, Said, all_named, asked, listed, named, says,
 };
-use crate::tests::streams::{Giver, Taker, giving};
+use crate::tests::streams::giving;
+use devices_for_tests::{Giver, Taker};
 use krl_runs::{FileFault, ListMode, load};
 use ssh_key::Hash;
 use ssh_wire::{Bytes, FromRead};
@@ -45,11 +46,8 @@ fn refuses<R: Read + Drop>(rt: &impl Abort, alloc: Global, device: R, fault: Fil
 /// In pieces of so many bytes the line of the key takes so many calls, all of which are made.
 fn takes(rt: &impl Abort, alloc: Global, piece: usize, calls: usize) {
     for calls_before_failure in 0..90 {
-        let device = Giver {
-            bytes: GITHUB_LINE,
-            piece,
-            calls_before_failure,
-        };
+        let mut device = Giver::new(GITHUB_LINE, piece);
+        device.calls_before_failure = calls_before_failure;
         let right = if calls_before_failure < calls {
             refuses(rt, alloc, device, FileFault::Read)
         } else {
@@ -89,11 +87,8 @@ fn asked_in_part(rt: &impl Abort, alloc: Global, place: usize, calls: usize) -> 
         *byte = 0;
     }
     let files = all_named(rt, alloc, &[KEY]);
-    let krl = Giver {
-        bytes: &bytes,
-        piece: 1,
-        calls_before_failure: calls,
-    };
+    let mut krl = Giver::new(&bytes, 1);
+    krl.calls_before_failure = calls;
     let device = Taker::new(alloc, 100, 10);
     asked(rt, alloc, krl, false, files.as_slice(), device)
 }

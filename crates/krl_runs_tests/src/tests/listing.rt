@@ -5,7 +5,7 @@ use crate::tests::certificates::{FREE, Terms, certificate_line, certificate_on, 
 use crate::tests::containers::plain;
 use crate::tests::encoding::{key_line, strings};
 use crate::tests::runs::{CLOSED, GITHUB_LINE, certifies, holding, listed, says};
-use crate::tests::streams::Taker;
+use devices_for_tests::Taker;
 use krl_runs::ListMode;
 use ssh_key::Hash;
 use std::alloc::Global;

@@ -1,7 +1,8 @@
 // Runs over files that the tests make, and what they answer.
 
 use crate::tests::bytes::{joined, same};
-use crate::tests::streams::{Giver, Taker, giving, taking};
+use crate::tests::streams::{giving, taking};
+use devices_for_tests::{Giver, Taker};
 use krl_runs::{Done, FileFault, ListMode, Named, fault_text, list_run, query_run};
 use ssh_key::Hash;
 use ssh_wire::{Bytes, FromRead, ToWrite};

@@ -1,45 +1,9 @@
 // Fields from readers that give few bytes at a call, fail, or never end.
 
 use crate::tests::is_right;
+use devices_for_tests::{Giver, Then};
 use ssh_wire::{FromRead, Pull, PullFault};
 use std::alloc::{AllocError, Global};
-use std::io::{self, ErrorKind, Read};
-
-/// What a reader does once its bytes are given.
-#[derive(Clone, Copy)]
-pub enum Then {
-    Ends,
-    Fails,
-    GivesZeros,
-}
-
-/// Gives its bytes, at most so many at a call.
-#[derive(Drop)]
-pub struct Giver<'a> {
-    bytes: &'a [u8],
-    piece: usize,
-    then: Then,
-}
-
-impl<'a> Read for Giver<'a> {
-    fn read(&mut self, into: &mut [u8]) -> io::Result<usize> {
-        let count = self.bytes.len().min(into.len()).min(self.piece);
-        if count > 0 || into.is_empty() {
-            into[..count].copy_from_slice(&self.bytes[..count]);
-            self.bytes = &self.bytes[count..];
-            return Ok(count);
-        }
-        match self.then {
-            Then::Ends => Ok(0),
-            Then::Fails => Err(ErrorKind::Other.into()),
-            Then::GivesZeros => {
-                let count = into.len().min(self.piece);
-                into[..count].fill(0);
-                Ok(count)
-            }
-        }
-    }
-}
 
 /// What is asked of a reader, and what it answers.
 #[derive(Clone, Copy)]
@@ -61,7 +25,9 @@ use Step::{Array, AtEnd, Byte, Bytes, BytesInto, Fills, Refuses, Rest, RestRefus
 pub type Reader<'a> = Pull<FromRead<Giver<'a>>>;
 
 pub fn pull(bytes: &[u8], piece: usize, then: Then, limit: u64) -> Reader<'_> {
-    Pull::new(FromRead::new(Giver { bytes, piece, then }), limit)
+    let mut giver = Giver::new(bytes, piece);
+    giver.then = then;
+    Pull::new(FromRead::new(giver), limit)
 }
 
 fn fill(reader: &mut Reader<'_>, into: &mut [u8]) -> bool {
@@ -247,7 +213,7 @@ const ROWS: [Row<'static>; 11] = [
         ],
     },
     Row {
-        then: Then::GivesZeros,
+        then: Then::Zeros(usize::MAX),
         limit: 100_000,
         steps: &[
             AtEnd(Ok(false)),

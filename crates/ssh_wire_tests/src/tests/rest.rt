@@ -2,7 +2,8 @@
 
 use crate::tests::is_right;
 use crate::tests::pull::Step::{AtEnd, Byte, Rest, RestRefused, Taken};
-use crate::tests::pull::{Reader, TEXT, Then, gives_rest, meets_all, of_text, pull, text_of};
+use crate::tests::pull::{Reader, TEXT, gives_rest, meets_all, of_text, pull, text_of};
+use devices_for_tests::Then;
 use ssh_wire::PullFault;
 use std::alloc::{AllocError, Global};
 
@@ -109,8 +110,8 @@ const REFUSED: [(Then, u64, PullFault); 7] = [
     (Then::Ends, 0, PullFault::TooLong),
     (Then::Ends, 22, PullFault::TooLong),
     (Then::Fails, 22, PullFault::TooLong),
-    (Then::GivesZeros, 23, PullFault::TooLong),
-    (Then::GivesZeros, 200_000, PullFault::TooLong),
+    (Then::Zeros(usize::MAX), 23, PullFault::TooLong),
+    (Then::Zeros(usize::MAX), 200_000, PullFault::TooLong),
     // the reader fails within the limit, and where the byte past it would stand
     (Then::Fails, 23, PullFault::Read),
     (Then::Fails, 24, PullFault::Read),

@@ -1,53 +1,21 @@
 // Writers that are interrupted, take few bytes, or fail.
 
 use crate::tests::is_right;
+use devices_for_tests::Taker;
 use ssh_wire::{Failed, Sent, Sink, ToWrite, send};
 use std::alloc::Global;
-use std::io::{self, ErrorKind, Write};
 
-/// Takes at most so many bytes at a call, after some interruptions, and fails from the call on that
-/// is to fail.
-#[derive(Drop)]
-struct Device {
-    taken: Vec<u8>,
-    piece: usize,
-    interruptions: u16,
-    calls_before_failure: u8,
-}
-
-impl Write for Device {
-    fn write(&mut self, bytes: &[u8]) -> io::Result<usize> {
-        if self.interruptions > 0 {
-            self.interruptions -= 1;
-            return Err(ErrorKind::Interrupted.into());
-        }
-        if self.calls_before_failure == 0 {
-            return Err(ErrorKind::Other.into());
-        }
-        self.calls_before_failure -= 1;
-        let count = bytes.len().min(self.piece);
-        self.taken.extend_from_slice(&bytes[..count])?;
-        Ok(count)
-    }
-
-    fn flush(&mut self) -> io::Result<()> {
-        Ok(())
-    }
-}
-
-fn fresh(alloc: Global, piece: usize, interruptions: u16, calls_before_failure: u8) -> Device {
-    Device {
-        taken: Vec::new(alloc),
-        piece,
-        interruptions,
-        calls_before_failure,
-    }
+// A writer that is interrupted so many times first.
+fn fresh(alloc: Global, piece: usize, interruptions: usize, calls_before_failure: usize) -> Taker {
+    let mut taker = Taker::new(alloc, piece, calls_before_failure);
+    taker.interruptions = interruptions;
+    taker
 }
 
 const LINE: &[u8] = b"g.pub: REVOKED\n";
 
 /// Whether sending the text is answered so, and makes a failed writer of it by an error.
-fn sends(device: &mut Device, text: &[u8], answer: Result<(), Sent>) -> bool {
+fn sends(device: &mut Taker, text: &[u8], answer: Result<(), Sent>) -> bool {
     let mut writer = ToWrite::new(device);
     send(&mut writer, text) == answer && writer.failed() == answer.is_err()
 }

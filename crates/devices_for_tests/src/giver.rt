@@ -1,0 +1,75 @@
+// Readers that give few bytes at a call, are interrupted, or fail.
+
+ghost use Rattle.std.specs.Prelude.{IfOk};
+ghost use Rattle.std.specs.Counts.{IsPrefixLen};
+
+use std::io::{self, ErrorKind, Read};
+
+/// What a reader does once its bytes are given.
+#[derive(Clone, Copy)]
+pub enum Then {
+    Ends,
+    Fails,
+    /// Gives so many zero bytes, and ends then.
+    Zeros(usize),
+}
+
+/// Gives its bytes, at most so many at a call, after so many interruptions. It fails from the call on
+/// that is to fail.
+#[derive(Drop)]
+pub struct Giver<'a> {
+    pub bytes: &'a [u8],
+    pub piece: usize,
+    pub interruptions: usize,
+    pub calls_before_failure: usize,
+    pub then: Then,
+}
+
+impl<'a> Giver<'a> {
+    /// A reader that is not interrupted, does not fail, and ends where its bytes end.
+    pub fn new(bytes: &'a [u8], piece: usize) -> Giver<'a> {
+        Giver {
+            bytes,
+            piece,
+            interruptions: 0,
+            calls_before_failure: usize::MAX,
+            then: Then::Ends,
+        }
+    }
+
+    // What a call gives once the bytes are given.
+    fn read_then(&mut self, into: &mut [u8]) -> io::Result<usize>
+        ensures { IfOk result (λ count. IsPrefixLen count into.new) }
+    {
+        match self.then {
+            Then::Ends => Ok(0),
+            Then::Fails => Err(ErrorKind::Other.into()),
+            Then::Zeros(left) => {
+                let count = left.min(into.len()).min(self.piece);
+                into[..count].fill(0);
+                self.then = Then::Zeros(left - count);
+                Ok(count)
+            }
+        }
+    }
+}
+
+impl<'a> Read for Giver<'a> {
+    fn read(&mut self, into: &mut [u8]) -> io::Result<usize> {
+        if self.interruptions > 0 {
+            self.interruptions -= 1;
+            return Err(ErrorKind::Interrupted.into());
+        }
+        if self.calls_before_failure == 0 {
+            return Err(ErrorKind::Other.into());
+        }
+        self.calls_before_failure -= 1;
+        if self.bytes.is_empty() && !into.is_empty() {
+            return self.read_then(into);
+        }
+        let count = self.bytes.len().min(into.len()).min(self.piece);
+        into[..count].copy_from_slice(&self.bytes[..count]);
+        self.bytes = &self.bytes[count..];
+        Ok(count)
+    }
+}
