@@ -14,8 +14,8 @@ pub enum Then {
     Zeros(usize),
 }
 
-/// Gives its bytes, at most so many at a call, after so many interruptions. It fails from the call on
-/// that is to fail.
+/// Gives its bytes, at most so many at a call, after so many interruptions. It fails from the call
+/// on that is to fail.
 #[derive(Drop)]
 pub struct Giver<'a> {
     pub bytes: &'a [u8],

@@ -3,8 +3,8 @@
 use std::alloc::Global;
 use std::io::{self, ErrorKind, Write};
 
-/// Takes at most so many bytes at a call, after so many interruptions. It fails from the call on that
-/// is to fail.
+/// Takes at most so many bytes at a call, after so many interruptions. It fails from the call on
+/// that is to fail.
 #[derive(Drop)]
 pub struct Taker {
     pub taken: Vec<u8>,
