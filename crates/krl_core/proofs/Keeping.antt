@@ -75,17 +75,18 @@ pub adds_to_zero : (k : Keeping) (min max : ℕ) → max ≡ 0 → Adds k (Range
 adds_to_zero k min max e = subst (λ (x : ℕ). Adds k (RangeEntry k.authority min x ∷ []) k) (sym e)
     (adds_same k k [] (RangeEntry k.authority min 0 ∷ []) (same_none k.authority min) (adds_none k))
 
+-- what is within a number is within any larger one
+pub stored_wider : (k : Keeping) (n m : ℕ) → n ≤ m → IsStoredWithin k n → IsStoredWithin k m
+stored_wider k n m le h = record {
+  now = omega (arith, h.now);
+  next = elim h.next [ inl named ↦ inl named | inr fits ↦ inr (omega (arith, fits)) ];
+}
+
 pub grows_one : (old new : Keeping) (n : ℕ) → held_with_open new ≤ held_with_open old + n → n ≤ 4 → KeepsStored old new → GrowsWithin 1 old new
 grows_one old new n held le stored = record {
   held_is = omega arith;
-  stored_is = λ m h. more m (stored m h);
+  stored_is = λ m h. stored_wider new m (m + 1) (omega arith) (stored m h);
 }
-  where
-    more : (m : ℕ) → IsStoredWithin new m → IsStoredWithin new (m + 1)
-    more m h = record {
-      now = omega (arith, h.now);
-      next = elim h.next [ inl named ↦ inl named | inr le ↦ inr (omega (arith, le)) ];
-    }
 
 pub stored_same : (old new : Keeping) → new.contents ≡ old.contents → new.authority ≡ old.authority → KeepsStored old new
 stored_same old new e a m h = record {
@@ -154,11 +155,5 @@ adds_first_more old mid new spans count d lt h k held stored = record {
 pub grows_more : (old new : Keeping) (n m : ℕ) → n ≤ m → GrowsWithin n old new → GrowsWithin m old new
 grows_more old new n m le h = record {
   held_is = omega (arith, h.held_is);
-  stored_is = λ k s. wider k (h.stored_is k s);
+  stored_is = λ k s. stored_wider new (k + n) (k + m) (omega arith) (h.stored_is k s);
 }
-  where
-    wider : (k : ℕ) → IsStoredWithin new (k + n) → IsStoredWithin new (k + m)
-    wider k s = record {
-      now = omega (arith, s.now);
-      next = elim s.next [ inl named ↦ inl named | inr fits ↦ inr (omega (arith, fits)) ];
-    }

@@ -10,6 +10,7 @@ pub mod Meant
 pub mod Same
 pub mod Keeping
 pub mod Quiet
+pub mod Gathering
 pub mod Bits
 pub mod Stepping
 pub mod Whole

@@ -72,7 +72,7 @@ out_sha256 : (left : ℕ) → IsOut (next_sha256 left)
 out_sha256 zero = tt
 out_sha256 (suc left) = tt
 
-out_serial : (left behind : ℕ) → IsOut (next_serial left behind)
+pub out_serial : (left behind : ℕ) → IsOut (next_serial left behind)
 out_serial zero behind = out_subsection behind
 out_serial (suc left) behind = tt
 

@@ -14,7 +14,8 @@ use Rattle.krl_core.specs.declared.krl_fault.KrlFault.{KrlFault}
 use Rattle.krl_core.specs.declared.krl_fault.KrlFault.TheVariants as faults
 use Rattle.krl_core.specs.declared.place.Place.{Place}
 use Rattle.krl_core.specs.Front.{Spot, start, spot_after, Leads, Passes, HasRoom, Told, ended, no_room, refused, too_long, ends_early, IsFirstFault, limit}
-use Rattle.krl_core.specs.Keeping.{Keeping, IsKept, KeepsField, GrowsWithin, IsStoredWithin}
+use Rattle.krl_core.specs.Gathered.{Gathered, GathersField, Grows, IsGathered}
+use Rattle.krl_core.specs.Keeping.{IsStoredWithin}
 use Rattle.krl_core.specs.Place.{due, names, authority_after, header_after}
 use Rattle.krl_core.specs.Reading.{Position, working, HasRead, IsBounded, LooksFor, Missed, no_room as room_missed, cut, Says, starved, failed_read, first, Refused, told_as}
 use Rattle.krl_core.proofs.Fronts.{first_fault_is, end_size, end_room}
@@ -104,7 +105,7 @@ says_as : (a b : KrlFault) (text : List ℕ) (failed : Bool) → b ≡ a → Say
 says_as a b text failed e h = subst (λ (f : KrlFault). Says f text failed) (sym e) h
 
 -- the reader failed in a field, or where the end was looked for
-pub says_read : (old : Position) (mid new : Pulled) (text : List ℕ) (fields : List (List ℕ)) → IsBounded old.pull old.keeping
+pub says_read : (old : Position) (mid new : Pulled) (text : List ℕ) (fields : List (List ℕ)) → IsBounded old.pull old.gathered
     → HasRead text fields old → Keeps (left_of old.pull) (left_of mid) → mid.taken ≡ old.pull.taken → mid.limit ≡ old.pull.limit
     → HasRoom (due old.place) → Refuses mid (due old.place).size pulls.Read new → Says faults.Read text new.failed
 says_read old mid new text fields bounded h keeps taken limit_is room r =
@@ -125,7 +126,7 @@ says_read old mid new text fields bounded h keeps taken limit_is room r =
       ];
     })
 
-says_early : (old : Position) (mid new : Pulled) (text : List ℕ) (fields : List (List ℕ)) → IsBounded old.pull old.keeping
+says_early : (old : Position) (mid new : Pulled) (text : List ℕ) (fields : List (List ℕ)) → IsBounded old.pull old.gathered
     → HasRead text fields old → LooksFor old.place old.pull false mid
     → HasRoom (due old.place) → Refuses mid (due old.place).size pulls.EndsEarly new → Says faults.EndsEarly text new.failed
 says_early old mid new text fields bounded h looks room r =
@@ -144,7 +145,7 @@ says_early old mid new text fields bounded h looks room r =
     first (told_there text fields old h (Some faults.EndsEarly) (omega arith)
     (rw (whole, off) told)) m.tells.1
 
-says_long : (old : Position) (mid new : Pulled) (text : List ℕ) (fields : List (List ℕ)) → IsBounded old.pull old.keeping
+says_long : (old : Position) (mid new : Pulled) (text : List ℕ) (fields : List (List ℕ)) → IsBounded old.pull old.gathered
     → HasRead text fields old → LooksFor old.place old.pull false mid
     → HasRoom (due old.place) → Refuses mid (due old.place).size pulls.TooLong new → Says faults.TooLong text new.failed
 says_long old mid new text fields bounded h looks room r =
@@ -166,7 +167,7 @@ says_long old mid new text fields bounded h looks room r =
     not_empty [] h = absurd (h refl)
     not_empty (x ∷ l) h = omega arith
 
-says_cut : (old : Position) (mid new : Pulled) (text : List ℕ) (fields : List (List ℕ)) (why : PullFault) → IsBounded old.pull old.keeping
+says_cut : (old : Position) (mid new : Pulled) (text : List ℕ) (fields : List (List ℕ)) (why : PullFault) → IsBounded old.pull old.gathered
     → HasRead text fields old → LooksFor old.place old.pull false mid
     → HasRoom (due old.place) → Refuses mid (due old.place).size why new → Says (told_as why) text new.failed
 says_cut old mid new text fields pulls.EndsEarly bounded h looks room r = says_early old mid new text fields bounded h looks room r
@@ -176,7 +177,7 @@ says_cut old mid new text fields pulls.Read bounded h looks room r =
 says_cut old mid new text fields pulls.NoMemory bounded h looks room r = starved refl
 
 -- a field that was not taken
-pub missed_says : (old : Position) (mid new : Pulled) (fault : KrlFault) → IsBounded old.pull old.keeping
+pub missed_says : (old : Position) (mid new : Pulled) (fault : KrlFault) → IsBounded old.pull old.gathered
     → LooksFor old.place old.pull false mid → Missed old.place mid fault new → Refused fault old new
 missed_says old mid new fault bounded looks (room_missed full is same) text fields h =
     let le : length (concat fields) ≤ limit = omega (arith, bounded.within, h.taken_is) in
@@ -186,7 +187,7 @@ missed_says old mid new fault bounded looks (cut why room r is) text fields h =
     says_as (told_as why) fault text new.failed is (says_cut old mid new text fields why bounded h looks room r)
 
 -- a field that was refused
-pub refused_says : (old : Position) (mid new : Pulled) (field : List ℕ) (fault : KrlFault) → IsBounded old.pull old.keeping
+pub refused_says : (old : Position) (mid new : Pulled) (field : List ℕ) (fault : KrlFault) → IsBounded old.pull old.gathered
     → LooksFor old.place old.pull false mid → Takes mid field new → HasRoom (due old.place) → length field ≡ (due old.place).size
     → (fault ≡ faults.NoMemory) ⊎ ((due old.place).judged field ≡ Err fault) → Refused fault old new
 refused_says old mid new field fault bounded looks takes room size (inl none) text fields h = starved none
@@ -210,11 +211,11 @@ bytes_append xs ys h k i =
           subst (λ (n : ℕ). n < 256) (sym (ap (λ (j : ℕ). get_or (xs ++ ys) j 0) e ∙ get_or-append-add xs ys (i - length xs) 0)) (k (i - length xs))
     ]
 
-pub one_more : (old : Position) (mid new : Pulled) (place : Place) (keeping : Keeping) (field : List ℕ) → old.fault ≡ None
+pub one_more : (old : Position) (mid new : Pulled) (place : Place) (gathered : Gathered) (field : List ℕ) → old.fault ≡ None
     → LooksFor old.place old.pull false mid → Takes mid field new → Passes old.place field place → IsBytes field
-    → KeepsField old.place field place old.keeping keeping → (text : List ℕ) (fields : List (List ℕ)) → HasRead text fields old
-    → (f : List ℕ) × HasRead text (fields ++ f ∷ []) (working new place keeping)
-one_more old mid new place keeping field faultless looks takes passes bytes keeps text fields h =
+    → GathersField old.place field place old.gathered gathered → (text : List ℕ) (fields : List (List ℕ)) → HasRead text fields old
+    → (f : List ℕ) × HasRead text (fields ++ f ∷ []) (working new place gathered)
+one_more old mid new place gathered field faultless looks takes passes bytes keeps text fields h =
     let left = keeps_some (left_of old.pull) (left_of mid) h.rest h.left_is looks.bytes in
     let after = consumes_some (left_of mid) (left_of new) h.rest field left takes.bytes in
     let pass : Passes h.spot.place field place = subst (λ (p : Place). Passes p field place) h.place_is passes in
@@ -222,9 +223,9 @@ one_more old mid new place keeping field faultless looks takes passes bytes keep
     let place_is = h.place_is in
     let authority_is = h.authority_is in
     let header_is = h.header_is in
-    let named : names old.place old.keeping.authority field ≡ names h.spot.place h.spot.authority field = cc in
-    let authority : authority_after old.place old.keeping.authority field ≡ authority_after h.spot.place h.spot.authority field = cc in
-    let header : header_after old.place old.keeping.header field ≡ header_after h.spot.place h.spot.header field = cc in (
+    let named : names old.place old.gathered.keeping.authority field ≡ names h.spot.place h.spot.authority field = cc in
+    let authority : authority_after old.place old.gathered.keeping.authority field ≡ authority_after h.spot.place h.spot.authority field = cc in
+    let header : header_after old.place old.gathered.keeping.header field ≡ header_after h.spot.place h.spot.header field = cc in (
       field,
       record {
         spot = spot_after h.spot field place;
@@ -232,7 +233,7 @@ one_more old mid new place keeping field faultless looks takes passes bytes keep
         place_is = refl;
         authority_is = keeps.authority_is ∙ authority;
         header_is = keeps.header_is ∙ header;
-        kept = subst (λ n. IsKept keeping (h.spot.entries ++ n)) named (keeps.kept h.spot.entries h.kept);
+        gathered = subst (λ n. IsGathered gathered (h.spot.entries ++ n)) named (keeps.gathered h.spot.entries h.gathered);
         are_bytes = subst IsBytes (sym joined) (bytes_append (concat fields) field h.are_bytes bytes);
         rest = after.0;
         left_is = after.1;
@@ -243,15 +244,15 @@ one_more old mid new place keeping field faultless looks takes passes bytes keep
       },
     )
 
-pub bounded_more : (old : Position) (mid new : Pulled) (keeping : Keeping) (field : List ℕ) → IsBounded old.pull old.keeping
-    → LooksFor old.place old.pull false mid → Takes mid field new → GrowsWithin (length field) old.keeping keeping → IsBounded new keeping
-bounded_more old mid new keeping field b looks takes grows =
+pub bounded_more : (old : Position) (mid new : Pulled) (gathered : Gathered) (field : List ℕ) → IsBounded old.pull old.gathered
+    → LooksFor old.place old.pull false mid → Takes mid field new → Grows (length field) old.gathered gathered → IsBounded new gathered
+bounded_more old mid new gathered field b looks takes grows =
     let taken : new.taken ≡ old.pull.taken + length field = omega (arith, takes.taken, looks.taken) in
     record {
       limit_is = takes.limit ∙ looks.limit_is ∙ b.limit_is;
       within = omega (arith, takes.within, takes.taken, looks.limit_is, b.limit_is);
       held_is = omega (arith, grows.held_is, b.held_is, taken);
-      stored_is = subst (λ (n : ℕ). IsStoredWithin keeping n) (sym taken) (grows.stored_is old.pull.taken b.stored_is);
+      stored_is = subst (λ (n : ℕ). IsStoredWithin gathered.keeping n) (sym taken) (grows.stored_is old.pull.taken b.stored_is);
     }
 
 -- ---- the parts of a step
@@ -281,7 +282,7 @@ looks_at place old new false may h = record {
 }
 
 -- the reader failed where the end was looked for
-pub end_refused : (old : Position) (new : Pulled) (fault : KrlFault) → IsBounded old.pull old.keeping → fault ≡ faults.Read
+pub end_refused : (old : Position) (new : Pulled) (fault : KrlFault) → IsBounded old.pull old.gathered → fault ≡ faults.Read
     → (due old.place).may_end ≡ true → Refuses old.pull 1 pulls.Read new → Refused fault old new
 end_refused old new fault bounded is may r text fields h =
     let one : (due old.place).size ≡ 1 = end_size old.place may in

@@ -9,6 +9,7 @@ pub mod Krl
 pub mod Place
 pub mod Part
 pub mod Front
+pub mod Gathered
 pub mod Walk
 pub mod Inserting
 pub mod Naming

@@ -14,29 +14,31 @@ use Rattle.krl_core.specs.Contents.{Contents, Means, held, stored}
 use Rattle.krl_core.specs.Entries.{entries_of}
 use Rattle.krl_core.specs.Krl.{Section, Spells}
 use Rattle.krl_core.specs.Front.{Spot, start, Leads, Passes, HasRoom, IsFirstFault, limit}
-use Rattle.krl_core.specs.Keeping.{Keeping, InStep, IsKept, IsStoredWithin, held_with_open}
+use Rattle.krl_core.specs.Gathered.{Gathered, IsGathered, IsReady, all_held}
+use Rattle.krl_core.specs.Keeping.{IsStoredWithin}
 use Rattle.krl_core.specs.Place.{due}
 
--- the reader, the place where the next field is due, what is kept, and the fault that was met
+-- the reader, the place where the next field is due, what is gathered, and the fault that was met
 pub record Position : Type 0 where
   pub pull : Pulled
   pub place : Place
-  pub keeping : Keeping
+  pub gathered : Gathered
   pub fault : Option KrlFault
 
 -- a position without a fault
-abbrev pub working : Pulled → Place → Keeping → Position
-working pull place keeping = record { pull = pull; place = place; keeping = keeping; fault = None }
+abbrev pub working : Pulled → Place → Gathered → Position
+working pull place gathered =
+    record { pull = pull; place = place; gathered = gathered; fault = None }
 
--- These fields of the text were read and no others: they lead to this position, what is kept means
--- what they name, and the reader has the rest of the text left.
+-- These fields of the text were read and no others: they lead to this position, what is gathered
+-- means what they name, and the reader has the rest of the text left.
 pub record HasRead (text : List ℕ) (fields : List (List ℕ)) (position : Position) : Type 0 where
   pub spot : Spot
   pub leads : Leads start fields spot
   pub place_is : position.place ≡ spot.place
-  pub authority_is : position.keeping.authority ≡ spot.authority
-  pub header_is : position.keeping.header ≡ spot.header
-  pub kept : IsKept position.keeping spot.entries
+  pub authority_is : position.gathered.keeping.authority ≡ spot.authority
+  pub header_is : position.gathered.keeping.header ≡ spot.header
+  pub gathered : IsGathered position.gathered spot.entries
   pub are_bytes : IsBytes (concat fields)
   pub rest : List ℕ
   pub left_is : left_of position.pull ≡ Some rest
@@ -112,17 +114,17 @@ pub data Missed (place : Place) (old : Pulled) (fault : KrlFault) (new : Pulled)
       → fault ≡ told_as why → Missed place old fault new
 
 -- What is held and stored is within what was taken, which is within the limit.
-pub record IsBounded (pull : Pulled) (keeping : Keeping) : Type 0 where
+pub record IsBounded (pull : Pulled) (gathered : Gathered) : Type 0 where
   pub limit_is : pull.limit ≡ limit
   pub within : pull.taken ≤ limit
-  pub held_is : held_with_open keeping ≤ 4 * pull.taken
-  pub stored_is : IsStoredWithin keeping pull.taken
+  pub held_is : all_held gathered ≤ 4 * pull.taken
+  pub stored_is : IsStoredWithin gathered.keeping pull.taken
 
 -- The position is that of a reading.
 pub record IsSound (position : Position) : Type 0 where
-  pub in_step : position.fault ≡ None → InStep position.place position.keeping.bitmap
+  pub ready : position.fault ≡ None → IsReady position.place position.gathered
   pub pull_faultless : position.fault ≡ None → position.pull.fault ≡ None
-  pub bounded : IsBounded position.pull position.keeping
+  pub bounded : IsBounded position.pull position.gathered
 
 -- A whole list was read: its fields lead from the first byte to its end, and the header and what is
 -- held are what they say.

@@ -147,11 +147,12 @@ impl<S: Spans> Keeper<S> {
         self.authority.extend_from_slice(authority)
     }
 
-    // Adds a serial. 0 names nothing.
-    fn add_serial(&mut self, serial: u64) -> Result<(), AllocError>
+    /// Adds a serial under the authority in force. 0 names nothing.
+    pub fn add_serial(&mut self, serial: u64) -> Result<(), AllocError>
         ensures adds { OnOk result
             (Adds self.old (SerialsEntry self.old.authority (serial ∷ []) ∷ []) self.new) }
-        ensures grows { GrowsWithin 1 self.old self.new }
+        ensures held { held_with_open self.new ≤ held_with_open self.old + 1 }
+        ensures stored { KeepsStored self.old self.new }
     {
         if serial == 0 {
             return Ok(());

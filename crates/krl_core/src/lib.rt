@@ -6,6 +6,7 @@ mod bookmark;
 mod chapter;
 mod due;
 mod field;
+mod gatherer;
 mod getters;
 mod growth;
 mod header;

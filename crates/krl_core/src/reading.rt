@@ -7,12 +7,12 @@ ghost use Rattle.ssh_wire.specs.Pull.{Refuses, Takes};
 ghost use Rattle.ssh_wire.specs.declared.pull_fault.PullFault.TheVariants as pulls;
 ghost use Rattle.krl_core.specs.declared.krl_fault.KrlFault.TheVariants.{NoMemory, Read};
 ghost use Rattle.krl_core.specs.Front.{HasRoom, Passes, limit};
-ghost use Rattle.krl_core.specs.Keeping.{GrowsWithin, InStep, KeepsField, held_with_open};
+ghost use Rattle.krl_core.specs.Gathered.{GathersField, Grows, IsReady, all_held};
 ghost use Rattle.krl_core.specs.Place.{due};
 ghost use Rattle.krl_core.specs.Reading.{Ends, Follows, HasRead, IsBounded, IsSound, IsList, IsWhole, LooksFor, Missed, ReadsOneMore, Refused, told_as, working};
 
+use crate::gatherer::Gatherer;
 use crate::header::Header;
-use crate::keeper::Keeper;
 use crate::krl_fault::KrlFault;
 use crate::place::Place;
 use crate::revocations::Revocations;
@@ -24,13 +24,13 @@ use std::marker::Model;
 /// At most so many bytes of a list are read.
 pub const LIMIT: u64 = 67_108_864;
 
-/// A list that is read from a reader in one pass. No more of it is held than the field at hand, and
-/// of a bitmap only the byte at hand.
+/// A list that is read from a reader in one pass. No more of its bytes is held than the field at
+/// hand, and of a bitmap only the byte at hand.
 #[derive(Drop)]
 pub struct Reading<S: Spans, R: Source + Drop> {
     pull: Pull<R>,
     place: Place,
-    keeper: Keeper<S>,
+    gatherer: Gatherer<S>,
     // the field at hand
     field: Vec<u8>,
     fault: Option<KrlFault>,
@@ -44,14 +44,14 @@ impl<S: Spans, R: Source + Drop> Model for Reading<S, R> {
     ghost view = { λ reading. record {
       pull = reading.pull;
       place = reading.place;
-      keeping = reading.keeper;
+      gathered = reading.gatherer;
       fault = reading.fault;
     } };
 
     ghost invariant = { λ reading. Sound (record {
       pull = reading.pull;
       place = reading.place;
-      keeping = reading.keeper;
+      gathered = reading.gatherer;
       fault = reading.fault;
     }) };
 }
@@ -61,13 +61,13 @@ impl<S: Spans, R: Source + Drop> Reading<S, R> {
     pub fn new(alloc: Global, reader: R) -> Self
         requires { R.has_failed reader ≡ false }
         ensures start { (text : List ℕ) → R.left reader ≡ Some text → HasRead text [] result }
-        ensures bounds { IsBounded result.pull result.keeping }
+        ensures bounds { IsBounded result.pull result.gathered }
         ensures faultless { result.fault ≡ None }
     {
         Reading {
             pull: Pull::new(reader, LIMIT),
             place: Place::Magic,
-            keeper: Keeper::new(alloc),
+            gatherer: Gatherer::new(alloc),
             field: Vec::new(alloc),
             fault: None,
         }
@@ -85,7 +85,7 @@ impl<S: Spans, R: Source + Drop> Reading<S, R> {
         ensures again { IfSome self.old.fault (λ fault.
             (result ≡ Err fault) × (self.new ≡ self.old)) }
         ensures working { OnOk result (self.new.fault ≡ None) }
-        ensures bounds { IsBounded self.new.pull self.new.keeping }
+        ensures bounds { IsBounded self.new.pull self.new.gathered }
     {
         if let Some(fault) = self.fault {
             return Err(fault);
@@ -93,7 +93,7 @@ impl<S: Spans, R: Source + Drop> Reading<S, R> {
         match advance(
             &mut self.pull,
             &mut self.place,
-            &mut self.keeper,
+            &mut self.gatherer,
             &mut self.field,
         ) {
             Ok(more) => Ok(more),
@@ -104,12 +104,13 @@ impl<S: Spans, R: Source + Drop> Reading<S, R> {
         }
     }
 
-    /// How many spans are held of the list so far, with the run of a bitmap that may still grow.
+    /// How many spans are held of the list so far, with the run of a bitmap that may still grow and
+    /// a span for each serial that waits to be added in order.
     pub fn held(&self) -> u128
-        ensures value { result ≡ held_with_open self.now.keeping }
+        ensures value { result ≡ all_held self.now.gathered }
         ensures four_a_byte { result ≤ 4 * self.now.pull.taken }
     {
-        self.keeper.held()
+        self.gatherer.held()
     }
 
     /// What was read, after a step that answered false.
@@ -121,7 +122,7 @@ impl<S: Spans, R: Source + Drop> Reading<S, R> {
             → text ≡ concat fields → (due self.place).may_end ≡ true
             → IsList text result.0 result.1 }
     {
-        self.keeper.done()
+        self.gatherer.done()
     }
 
     /// How many bytes of the list were taken.
@@ -182,16 +183,21 @@ fn take<R: Source + Drop>(
     }
 }
 
-// Judges the field that was taken, and keeps what it names.
-fn pass<S: Spans>(place: &mut Place, keeper: &mut Keeper<S>, field: &[u8]) -> Result<(), KrlFault>
+// Judges the field that was taken, and gathers what it names.
+fn pass<S: Spans>(
+    place: &mut Place,
+    gatherer: &mut Gatherer<S>,
+    field: &[u8],
+) -> Result<(), KrlFault>
     requires room { HasRoom (due place.old) }
     requires size { length field.now ≡ (due place.old).size }
-    requires in_step { InStep place.old keeper.old.bitmap }
+    requires ready { IsReady place.old gatherer.old }
     ensures passes { OnOk result (Passes place.old field.now place.new) }
-    ensures kept { OnOk result
-        (KeepsField place.old field.now place.new keeper.old keeper.new) }
+    ensures gathers { OnOk result
+        (GathersField place.old field.now place.new gatherer.old gatherer.new) }
+    ensures ready { OnOk result (IsReady place.new gatherer.new) }
     ensures bytes { IsBytes field.now }
-    ensures grows { GrowsWithin (length field.now) keeper.old keeper.new }
+    ensures grows { Grows (length field.now) gatherer.old gatherer.new }
     ensures err { IfErr result (λ fault. (fault ≡ NoMemory)
         ⊎ ((due place.old).judged field.now ≡ Err fault)) }
 {
@@ -199,7 +205,7 @@ fn pass<S: Spans>(place: &mut Place, keeper: &mut Keeper<S>, field: &[u8]) -> Re
         Ok(next) => next,
         Err(fault) => return Err(fault),
     };
-    match keeper.keep(*place, field, next) {
+    match gatherer.keep(*place, field, next) {
         Ok(()) => {
             *place = next;
             Ok(())
@@ -212,20 +218,20 @@ fn pass<S: Spans>(place: &mut Place, keeper: &mut Keeper<S>, field: &[u8]) -> Re
 fn advance<S: Spans, R: Source + Drop>(
     pull: &mut Pull<R>,
     place: &mut Place,
-    keeper: &mut Keeper<S>,
+    gatherer: &mut Gatherer<S>,
     field: &mut Vec<u8>,
 ) -> Result<bool, KrlFault>
-    requires { IsSound (working pull.old place.old keeper.old) }
+    requires { IsSound (working pull.old place.old gatherer.old) }
     ensures more { IfOk result (λ more. IsTrue more → ReadsOneMore
-        (working pull.old place.old keeper.old) (working pull.new place.new keeper.new)) }
+        (working pull.old place.old gatherer.old) (working pull.new place.new gatherer.new)) }
     ensures follows { IfOk result (λ more. IsTrue more → Follows
-        (working pull.old place.old keeper.old) (working pull.new place.new keeper.new)) }
+        (working pull.old place.old gatherer.old) (working pull.new place.new gatherer.new)) }
     ensures ends { IfOk result (λ more. more ≡ false → Ends
-        (working pull.old place.old keeper.old) (working pull.new place.new keeper.new)) }
+        (working pull.old place.old gatherer.old) (working pull.new place.new gatherer.new)) }
     ensures fault { IfErr result (λ fault. Refused fault
-        (working pull.old place.old keeper.old) pull.new) }
-    ensures sound { OnOk result (IsSound (working pull.new place.new keeper.new)) }
-    ensures bounds { IsBounded pull.new keeper.new }
+        (working pull.old place.old gatherer.old) pull.new) }
+    ensures sound { OnOk result (IsSound (working pull.new place.new gatherer.new)) }
+    ensures bounds { IsBounded pull.new gatherer.new }
 {
     match ends(pull, *place) {
         Ok(true) => return Ok(false),
@@ -236,7 +242,7 @@ fn advance<S: Spans, R: Source + Drop>(
         Ok(()) => {}
         Err(fault) => return Err(fault),
     }
-    match pass(place, keeper, field.as_slice()) {
+    match pass(place, gatherer, field.as_slice()) {
         Ok(()) => Ok(true),
         Err(fault) => Err(fault),
     }

@@ -6,25 +6,25 @@ use Rattle.krl_core.proofs.reading.advance.Goals as goal
 pub returns-in-Err-clause-fault : goal.returns-in-Err-clause-fault
 returns-in-Err-clause-fault g c =
     let e = c.in-Err.ensures.err in
-    end_refused (working c.args.pull.now c.args.place.now c.args.keeper.now) c.ends.new.pull c.in-Err.fault c.requires.bounded e.0 e.1 e.2
+    end_refused (working c.args.pull.now c.args.place.now c.args.gatherer.now) c.ends.new.pull c.in-Err.fault c.requires.bounded e.0 e.1 e.2
 
 pub returns-in-Err-take-clause-fault : goal.returns-in-Err-take-clause-fault
 returns-in-Err-take-clause-fault g c =
-    missed_says (working c.args.pull.now c.args.place.now c.args.keeper.now) c.ends.new.pull c.take.new.pull c.in-Err-take.fault c.requires.bounded
+    missed_says (working c.args.pull.now c.args.place.now c.args.gatherer.now) c.ends.new.pull c.take.new.pull c.in-Err-take.fault c.requires.bounded
     (rw c.in-Ok-false.field-0-test at c.in-Ok-false.ensures.ok) c.in-Err-take.ensures.err
 
 pub returns-in-Ok-pass-clause-more : goal.returns-in-Ok-pass-clause-more
 returns-in-Ok-pass-clause-more g c =
     let e = c.as_slice.ensures.value in
     let looks = rw c.in-Ok-false.field-0-test at c.in-Ok-false.ensures.ok in
-    λ _. one_more (working c.args.pull.now c.args.place.now c.args.keeper.now) c.ends.new.pull c.take.new.pull c.pass.new.place c.pass.new.keeper c.take.new.field.items refl
-    looks c.in-Ok.ensures.ok (rw e at c.in-Ok-pass.ensures.passes) (rw e at c.in-Ok-pass.ensures.bytes) (rw e at c.in-Ok-pass.ensures.kept)
+    λ _. one_more (working c.args.pull.now c.args.place.now c.args.gatherer.now) c.ends.new.pull c.take.new.pull c.pass.new.place c.pass.new.gatherer c.take.new.field.items refl
+    looks c.in-Ok.ensures.ok (rw e at c.in-Ok-pass.ensures.passes) (rw e at c.in-Ok-pass.ensures.bytes) (rw e at c.in-Ok-pass.ensures.gathers)
 
 pub returns-in-Ok-pass-clause-bounds : goal.returns-in-Ok-pass-clause-bounds
 returns-in-Ok-pass-clause-bounds g c =
     let e = c.as_slice.ensures.value in
     let looks = rw c.in-Ok-false.field-0-test at c.in-Ok-false.ensures.ok in
-    bounded_more (working c.args.pull.now c.args.place.now c.args.keeper.now) c.ends.new.pull c.take.new.pull c.pass.new.keeper c.take.new.field.items c.requires.bounded
+    bounded_more (working c.args.pull.now c.args.place.now c.args.gatherer.now) c.ends.new.pull c.take.new.pull c.pass.new.gatherer c.take.new.field.items c.requires.bounded
     looks c.in-Ok.ensures.ok (rw e at c.pass.ensures.grows)
 
 pub returns-in-Ok-pass-clause-sound : goal.returns-in-Ok-pass-clause-sound
@@ -32,9 +32,9 @@ returns-in-Ok-pass-clause-sound g c =
     let e = c.as_slice.ensures.value in
     let looks = rw c.in-Ok-false.field-0-test at c.in-Ok-false.ensures.ok in
     record {
-      in_step = λ _. c.in-Ok-pass.ensures.kept.in_step;
+      ready = λ _. c.in-Ok-pass.ensures.ready;
       pull_faultless = λ _. c.in-Ok.ensures.ok.is_faultless;
-      bounded = bounded_more (working c.args.pull.now c.args.place.now c.args.keeper.now) c.ends.new.pull c.take.new.pull c.pass.new.keeper c.take.new.field.items c.requires.bounded
+      bounded = bounded_more (working c.args.pull.now c.args.place.now c.args.gatherer.now) c.ends.new.pull c.take.new.pull c.pass.new.gatherer c.take.new.field.items c.requires.bounded
           looks c.in-Ok.ensures.ok (rw e at c.pass.ensures.grows);
     }
 
@@ -42,12 +42,12 @@ pub returns-in-Err-pass-clause-fault : goal.returns-in-Err-pass-clause-fault
 returns-in-Err-pass-clause-fault g c =
     let e = c.as_slice.ensures.value in
     let looks = rw c.in-Ok-false.field-0-test at c.in-Ok-false.ensures.ok in
-    refused_says (working c.args.pull.now c.args.place.now c.args.keeper.now) c.ends.new.pull c.take.new.pull c.take.new.field.items c.in-Err-pass.fault c.requires.bounded
+    refused_says (working c.args.pull.now c.args.place.now c.args.gatherer.now) c.ends.new.pull c.take.new.pull c.take.new.field.items c.in-Err-pass.fault c.requires.bounded
     looks c.in-Ok.ensures.ok c.in-Ok.ensures.room c.in-Ok.ensures.size (rw e at c.in-Err-pass.ensures.err)
 
 pub returns-in-Err-pass-clause-bounds : goal.returns-in-Err-pass-clause-bounds
 returns-in-Err-pass-clause-bounds g c =
     let e = c.as_slice.ensures.value in
     let looks = rw c.in-Ok-false.field-0-test at c.in-Ok-false.ensures.ok in
-    bounded_more (working c.args.pull.now c.args.place.now c.args.keeper.now) c.ends.new.pull c.take.new.pull c.pass.new.keeper c.take.new.field.items c.requires.bounded
+    bounded_more (working c.args.pull.now c.args.place.now c.args.gatherer.now) c.ends.new.pull c.take.new.pull c.pass.new.gatherer c.take.new.field.items c.requires.bounded
     looks c.in-Ok.ensures.ok (rw e at c.pass.ensures.grows)

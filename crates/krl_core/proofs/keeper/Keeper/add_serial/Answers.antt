@@ -1,7 +1,7 @@
-use Rattle.std.proofs.Common.{[], ◌∷◌, arith}
+use Rattle.std.proofs.Common.{[], ◌∷◌}
 use Rattle.std.proofs.lemmas.Result.{on_ok_weaker}
 use Rattle.krl_core.specs.Entry.{RangeEntry, SerialsEntry}
-use Rattle.krl_core.proofs.Keeping.{adds_same, adds_zero, grows_one}
+use Rattle.krl_core.proofs.Keeping.{adds_same, adds_zero}
 use Rattle.krl_core.proofs.Same.{same_serial}
 use Rattle.krl_core.proofs.keeper.Keeper.add_serial.Goals as goal
 
@@ -13,6 +13,3 @@ returns-clause-adds g c =
     let a = c.args.self.now.authority in
     let n = c.args.serial in
     on_ok_weaker c.add_span.result (adds_same c.args.self.now c.add_span.new.self (RangeEntry a n n ∷ []) (SerialsEntry a (n ∷ []) ∷ []) (same_serial a n)) c.add_span.ensures.adds
-
-pub returns-clause-grows : goal.returns-clause-grows
-returns-clause-grows g c = grows_one c.args.self.now c.add_span.new.self 1 c.add_span.ensures.held (omega arith) c.add_span.ensures.stored

@@ -3,7 +3,7 @@ use Rattle.std.proofs.lemmas.Result.{on_ok_weaker}
 use Rattle.krl_core.specs.declared.place.Place.{Place}
 use Rattle.krl_core.specs.Keeping.{InStep}
 use Rattle.krl_core.proofs.Bits.{good_bits, keeps_bits}
-use Rattle.krl_core.proofs.Keeping.{grows_more}
+use Rattle.krl_core.proofs.Keeping.{grows_more, grows_one}
 use Rattle.krl_core.proofs.Quiet.{quiet_unless, keeps_quiet}
 use Rattle.krl_core.proofs.keeper.Keeper.keep.Goals as goal
 
@@ -18,7 +18,8 @@ returns-in-Comment-clause-grows g c = c.set_comment.ensures.grows (length c.args
 pub returns-in-Serial-clause-grows : goal.returns-in-Serial-clause-grows
 returns-in-Serial-clause-grows g c =
     let size : length c.args.field.now ≡ 8 = rw c.in-Serial.is at c.requires.passes.whole in
-    grows_more c.args.self.now c.add_serial.new.self 1 (length c.args.field.now) (omega (arith, size)) c.add_serial.ensures.grows
+    grows_more c.args.self.now c.add_serial.new.self 1 (length c.args.field.now) (omega (arith, size))
+    (grows_one c.args.self.now c.add_serial.new.self 1 c.add_serial.ensures.held (omega arith) c.add_serial.ensures.stored)
 
 pub returns-in-RangeMax-clause-grows : goal.returns-in-RangeMax-clause-grows
 returns-in-RangeMax-clause-grows g c =
