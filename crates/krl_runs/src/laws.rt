@@ -1,6 +1,6 @@
 //! Laws of what runs say. Each function does nothing: its contract is the law.
 
-ghost use Rattle.std.specs.Prelude.{◌≡◌, ℕ, [], true, false, List, Ok, Some, None};
+ghost use Rattle.std.specs.Prelude.{◌≡◌, ◌⊎◌, ℕ, [], true, false, List, Result, Ok, Err, Some, None};
 ghost use Rattle.ssh_wire.specs.Wire.{IsBytes};
 ghost use Rattle.ssh_cert.specs.Certificate.{Certificate, IsCertificate};
 ghost use Rattle.ssh_cert.specs.Subject.{Subject};
@@ -16,15 +16,18 @@ ghost use Rattle.ssh_key.specs.declared.line_fault.LineFault.{LineFault};
 ghost use Rattle.ssh_key.specs.declared.private_fault.PrivateFault.{PrivateFault};
 ghost use Rattle.ssh_cert.specs.SubjectReading.{IsSubject, IsSubjectFault};
 ghost use Rattle.ssh_cert.specs.declared.subject_fault.SubjectFault.{SubjectFault};
+ghost use Rattle.krl_core.specs.declared.krl_fault.KrlFault.{KrlFault};
+ghost use Rattle.krl_core.specs.declared.krl_fault.KrlFault.TheVariants.{NoMemory};
 ghost use Rattle.krl_runs.specs.declared.output.answer.Answer.{Answer};
 ghost use Rattle.krl_runs.specs.declared.output.cause.Cause.TheVariants.{Line, Private, Subject as Subjects};
 ghost use Rattle.krl_runs.specs.Contents.{Known, dump_text};
 ghost use Rattle.krl_runs.specs.Items.{SpellsKey};
 ghost use Rattle.krl_runs.specs.Listing.{certify, listed_certificate};
-ghost use Rattle.krl_runs.specs.Query.{ask, query_run_of};
+ghost use Rattle.krl_runs.specs.Query.{IsRead, ask, query_run_of};
 ghost use Rattle.krl_runs.specs.Run.{Answered, Answering, File, Stopped, before, container_item, files_items, item_of, outcome_of, said, stop_at};
 ghost use Rattle.krl_runs.specs.Stop.{stop_of};
 
+use krl_core::laws::{entries_decide_what_is_held, one_first_fault, one_spelling};
 use ssh_cert::laws::{asked_where_spelled, not_asked_by_first_fault, read_where_spelled};
 use ssh_key::laws::{
     blob_read_back, line_read_where_spelled, line_refused_by_first_fault,
@@ -110,3 +113,15 @@ pub fn contents_stand_first()
         → outcome_of (query_run_of name (Ok known) false files)
         ≡ outcome_of (files_items (ask known.contents) files) }
 {}
+
+/// Where its reader does not fail, a text is read in one way, unless memory runs out: what is known
+/// of it is one, or its fault is.
+pub fn one_reading()
+    ensures { (text : List ℕ) (one other : Result Known KrlFault)
+        → IsRead text false one → IsRead text false other
+        → (one ≡ other) ⊎ ((one ≡ Err NoMemory) ⊎ (other ≡ Err NoMemory)) }
+{
+    one_spelling();
+    one_first_fault();
+    entries_decide_what_is_held();
+}

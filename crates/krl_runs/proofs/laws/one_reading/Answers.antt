@@ -1,0 +1,51 @@
+-- One reading of a text, by one spelling and one first fault.
+use Rattle.std.proofs.Common.{◌≡◌, ◌⊎◌, ℕ, true, false, List, Result, Ok, Err, Some, None, sym, ap, subst, ◌∙◌, inl, inr}
+use Rattle.krl_core.specs.Contents.{Contents, Means}
+use Rattle.krl_core.specs.Entries.{entries_of}
+use Rattle.krl_core.specs.Front.{IsFirstFault}
+use Rattle.krl_core.specs.Krl.{Section}
+use Rattle.krl_core.specs.Reading.{Says, starved, failed_read, first}
+use Rattle.krl_core.specs.declared.header.Header.{Header}
+use Rattle.krl_core.specs.declared.krl_fault.KrlFault.{KrlFault}
+use Rattle.krl_core.specs.declared.krl_fault.KrlFault.TheVariants.{NoMemory}
+use Rattle.krl_runs.specs.Contents.{Known}
+use Rattle.krl_runs.specs.Query.{IsHeld, IsRead}
+use Rattle.krl_runs.proofs.laws.one_reading.Goals as goal
+
+-- the fault of a reader that did not fail
+said_by : (fault : KrlFault) (text : List ℕ) → Says fault text false → (fault ≡ NoMemory) ⊎ IsFirstFault text (Some fault)
+said_by fault text (starved is) = inl is
+said_by fault text (failed_read is fails) = let failed = fails.failed_is in absurd (cc)
+said_by fault text (first is works) = inr is
+
+pub returns : goal.returns
+returns c = one_way
+  where
+    held_once : (text : List ℕ) (one other : Known) → IsHeld text one → IsHeld text other → one ≡ other
+    held_once text one other h k =
+        let spelled = c.one_spelling.ensures text one.header other.header h.sections k.sections h.spelled k.spelled in
+        let means = subst (λ (sections : List Section). Means other.contents (entries_of sections)) (sym spelled.1) k.means in
+        let contents = c.entries_decide_what_is_held.ensures one.contents other.contents (entries_of h.sections) h.means means in
+        ap (λ (header : Header). record { header = header; contents = one.contents }) spelled.0
+        ∙ ap (λ (contents : Contents). record { header = other.header; contents = contents }) contents
+
+    not_refused : (text : List ℕ) (known : Known) (fault : KrlFault) → IsHeld text known → Says fault text false → fault ≡ NoMemory
+    not_refused text known fault h said =
+        elim (said_by fault text said) [
+          | inl none ↦ none
+          | inr is ↦ let other = c.one_first_fault.ensures text None (Some fault) h.no_fault is in absurd (cc)
+        ]
+
+    one_way : (text : List ℕ) (one other : Result Known KrlFault) → IsRead text false one → IsRead text false other
+        → (one ≡ other) ⊎ ((one ≡ Err NoMemory) ⊎ (other ≡ Err NoMemory))
+    one_way text (Ok one) (Ok other) h k = inl (ap (λ (known : Known). Ok known) (held_once text one other h k))
+    one_way text (Ok one) (Err fault) h k = inr (inr (ap (λ (f : KrlFault). Err f) (not_refused text one fault h k)))
+    one_way text (Err fault) (Ok other) h k = inr (inl (ap (λ (f : KrlFault). Err f) (not_refused text other fault k h)))
+    one_way text (Err fault) (Err other) h k =
+        elim (said_by fault text h) [
+          | inl none ↦ inr (inl (ap (λ (f : KrlFault). Err f) none))
+          | inr is ↦ elim (said_by other text k) [
+            | inl none ↦ inr (inr (ap (λ (f : KrlFault). Err f) none))
+            | inr also ↦ inl (let same = c.one_first_fault.ensures text (Some fault) (Some other) is also in cc)
+          ]
+        ]
