@@ -1,11 +1,12 @@
 -- A bitmap by its bytes.
-use Rattle.std.proofs.Common.{◌≡◌, ℕ, zero, suc, ◌+◌, ◌-◌, ◌*◌, ◌<◌, ◌≤◌, ◌^◌, ◌⊎◌, Bool, true, false, cond, eqb, leb, leb-false, List, [], ◌∷◌, length, get_or, refl, sym, ap, subst, ◌∙◌, arith, inl, inr}
+use Rattle.std.proofs.Common.{◌≡◌, ℕ, zero, suc, ◌+◌, ◌-◌, ◌*◌, ◌<◌, ◌≤◌, ◌^◌, ◌⊎◌, Bool, true, false, cond, eqb, leb, leb-false, List, [], ◌∷◌, length, refl, sym, ap, subst, ◌∙◌, arith, inl, inr}
 use Rattle.std.specs.Int.{bit_at}
 use Rattle.std.proofs.lemmas.Bool.{cases_lt, eqb-true}
 use Rattle.std.proofs.lemmas.Nat.Bits.{bit_at-zero, bit_at_above, bit_at_cat_low, bit_at_cat_high}
 use Rattle.std.proofs.Math.Nat.{pow-suc, mul-le-mul_right}
 use Rattle.std.proofs.lemmas.Nat.{pow-add}
-use Rattle.byteorder.specs.Endian.{big_from}
+use Rattle.serial_set.specs.BitRuns.{big_endian}
+use Rattle.ssh_wire.specs.Magnitudes.{number_of-cons}
 use Rattle.ssh_wire.specs.Wire.{number_of}
 use Rattle.krl_core.specs.Entry.{BitmapEntry}
 use Rattle.krl_core.specs.Naming.{NamesSame}
@@ -13,13 +14,12 @@ use Rattle.krl_core.specs.Place.{highest_bit, passes_end}
 use Rattle.krl_core.proofs.Bits.{bit_below}
 use Rattle.krl_core.proofs.Same.{same_serials}
 
-shifted : (i n : ℕ) (b : ℕ) (xs : List ℕ) → big_from (suc i) n (b ∷ xs) ≡ big_from i n xs
-shifted i zero b xs = refl
-shifted i (suc n) b xs = ap (λ (m : ℕ). get_or xs i 0 * 256 ^ n + m) (shifted (suc i) n b xs)
-
-pub number_of-cons : (b : ℕ) (bits : List ℕ) → number_of (b ∷ bits) ≡ b * 256 ^ length bits + number_of bits
+-- the number of a bitmap that is fed byte by byte is the wire's
+pub bitmap_number : (bytes : List ℕ) → big_endian bytes ≡ number_of bytes
 unfolding number_of
-number_of-cons b bits = ap (λ (m : ℕ). b * 256 ^ length bits + m) (shifted 0 (length bits) b bits)
+bitmap_number [] = refl
+bitmap_number (byte ∷ bytes) =
+    ap (λ (m : ℕ). byte * 256 ^ length bytes + m) (bitmap_number bytes) ∙ sym (number_of-cons byte bytes)
 
 pow_256 : (n : ℕ) → 256 ^ n ≡ 2 ^ (8 * n)
 pow_256 zero = refl

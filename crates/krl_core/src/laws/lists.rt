@@ -3,7 +3,8 @@
 
 ghost use Rattle.std.specs.Prelude.{◌≡◌, ◌≤◌, ◌*◌, ◌⊎◌, ◌++◌, ℕ, List, None, Some, Option, length};
 ghost use Rattle.krl_core.specs.declared.krl_fault.KrlFault.TheVariants.{EndsEarly};
-ghost use Rattle.ssh_wire.specs.Wire.{IsBytes};
+ghost use Rattle.serial_set.specs.BitRuns.{big_endian};
+ghost use Rattle.ssh_wire.specs.Wire.{IsBytes, number_of};
 ghost use Rattle.krl_core.specs.declared.header.Header.{Header};
 ghost use Rattle.std.specs.List.{concat};
 ghost use Rattle.krl_core.specs.Contents.{Contents, Means, held};
@@ -62,4 +63,10 @@ pub fn four_intervals_a_byte()
     ensures { (text : List ℕ) (fields : List (List ℕ)) (spot : Spot) (rest : List ℕ) (r : Contents)
         → IsBytes text → IsFront text fields spot rest → Means r spot.entries
         → held r ≤ 4 * length (concat fields) }
+{}
+
+/// The number whose bits the bytes of a bitmap are, as `serial_set` is fed them, is that of the
+/// format.
+pub fn one_number_of_a_bitmap()
+    ensures { (bytes : List ℕ) → big_endian bytes ≡ number_of bytes }
 {}
