@@ -200,6 +200,7 @@ gathers_settled p field next old mid new h k = record {
 -- some that waited were added, from the last on
 pub record Settling (old now : Gathered) : Type 0 where
   pub settles : Settles old now
+  pub shorter : length now.waiting ≤ length old.waiting
   pub held_is : all_held now ≤ all_held old
   pub stored_is : KeepsStored old.keeping now.keeping
 
@@ -208,6 +209,7 @@ pub settling_more : (old mid new : Gathered) (serial : ℕ) → Settling old mid
     → KeepsStored mid.keeping new.keeping → Settling old new
 settling_more old mid new serial h last adds held stored = record {
   settles = settles_then old mid new h.settles (settles_last mid new serial last adds);
+  shorter = omega (arith, h.shorter, ap length last ∙ length-append new.waiting (serial ∷ []));
   held_is = omega (arith, h.held_is, settling_held mid new serial last held);
   stored_is = stored_then old.keeping mid.keeping new.keeping h.stored_is stored;
 }

@@ -1,5 +1,6 @@
 pub mod Numbers
 pub mod Fronts
+pub mod Fixed
 pub mod Walks
 pub mod Exists
 pub mod BitmapNames

@@ -155,7 +155,7 @@ not_some fault e = cc
 -- of a list that is spelled nothing else is said than that memory ran out or that the reader failed
 pub only_broken_off : (fault : KrlFault) (failed : Bool) (text : List ℕ) (header : Header) (sections : List Section) → Says fault text failed → IsBytes text → Spells text header sections → length text ≤ limit
     → (fault ≡ faults.NoMemory) ⊎ ((fault ≡ faults.Read) × (failed ≡ true))
-only_broken_off fault failed text header sections (starved is) fits h le = inl is
+only_broken_off fault failed text header sections (starved is some) fits h le = inl is
 only_broken_off fault failed text header sections (failed_read is given) fits h le = inr (is, given.failed_is)
 only_broken_off fault failed text header sections (first told works) fits h le =
     absurd (not_some fault (one_told text (Some fault) None told (spelled_unfaulted text header sections fits h le)))

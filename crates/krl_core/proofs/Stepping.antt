@@ -17,7 +17,8 @@ use Rattle.krl_core.specs.Front.{Spot, start, spot_after, Leads, Passes, HasRoom
 use Rattle.krl_core.specs.Gathered.{Gathered, GathersField, Grows, IsGathered}
 use Rattle.krl_core.specs.Keeping.{IsStoredWithin}
 use Rattle.krl_core.specs.Place.{due, names, authority_after, header_after}
-use Rattle.krl_core.specs.Reading.{Position, working, HasRead, IsBounded, LooksFor, Missed, no_room as room_missed, cut, Says, starved, failed_read, first, Refused, told_as}
+use Rattle.krl_core.specs.Reading.{Position, working, HasRead, IsBounded, LooksFor, Missed, no_room as room_missed, cut, Says, starved, failed_read, first, Refused, is_fixed, told_as}
+use Rattle.krl_core.proofs.Fixed.{late_enough}
 use Rattle.krl_core.proofs.Fronts.{first_fault_is, end_size, end_room}
 use Rattle.krl_core.proofs.Walks.{Leads-push}
 
@@ -167,30 +168,37 @@ says_long old mid new text fields bounded h looks room r =
     not_empty [] h = absurd (h refl)
     not_empty (x ∷ l) h = omega arith
 
+-- after the first fields a text has 40 bytes
+says_starved : (old : Position) (new : Pulled) (text : List ℕ) (fields : List (List ℕ)) (fault : KrlFault) → HasRead text fields old
+    → is_fixed old.place ≡ false → fault ≡ faults.NoMemory → Says fault text new.failed
+says_starved old new text fields fault h late is =
+    let some = late_enough fields h.spot h.leads (subst (λ (p : Place). is_fixed p ≡ false) h.place_is late) in
+    starved is (omega (arith, some, ap length h.parts, length-append (concat fields) h.rest))
+
 says_cut : (old : Position) (mid new : Pulled) (text : List ℕ) (fields : List (List ℕ)) (why : PullFault) → IsBounded old.pull old.gathered
     → HasRead text fields old → LooksFor old.place old.pull false mid
-    → HasRoom (due old.place) → Refuses mid (due old.place).size why new → Says (told_as why) text new.failed
-says_cut old mid new text fields pulls.EndsEarly bounded h looks room r = says_early old mid new text fields bounded h looks room r
-says_cut old mid new text fields pulls.TooLong bounded h looks room r = says_long old mid new text fields bounded h looks room r
-says_cut old mid new text fields pulls.Read bounded h looks room r =
+    → HasRoom (due old.place) → Refuses mid (due old.place).size why new → (told_as why ≡ faults.NoMemory → is_fixed old.place ≡ false) → Says (told_as why) text new.failed
+says_cut old mid new text fields pulls.EndsEarly bounded h looks room r late = says_early old mid new text fields bounded h looks room r
+says_cut old mid new text fields pulls.TooLong bounded h looks room r late = says_long old mid new text fields bounded h looks room r
+says_cut old mid new text fields pulls.Read bounded h looks room r late =
     says_read old mid new text fields bounded h looks.bytes looks.taken looks.limit_is room r
-says_cut old mid new text fields pulls.NoMemory bounded h looks room r = starved refl
+says_cut old mid new text fields pulls.NoMemory bounded h looks room r late = says_starved old new text fields faults.NoMemory h (late refl) refl
 
 -- a field that was not taken
 pub missed_says : (old : Position) (mid new : Pulled) (fault : KrlFault) → IsBounded old.pull old.gathered
-    → LooksFor old.place old.pull false mid → Missed old.place mid fault new → Refused fault old new
-missed_says old mid new fault bounded looks (room_missed full is same) text fields h =
+    → LooksFor old.place old.pull false mid → Missed old.place mid fault new → (fault ≡ faults.NoMemory → is_fixed old.place ≡ false) → Refused fault old new
+missed_says old mid new fault bounded looks (room_missed full is same) late text fields h =
     let le : length (concat fields) ≤ limit = omega (arith, bounded.within, h.taken_is) in
     says_as faults.Length fault text new.failed is
     (first (told_there text fields old h (Some faults.Length) le (no_room full refl)) (ap (λ p. p.failed) same ∙ looks.works h.works))
-missed_says old mid new fault bounded looks (cut why room r is) text fields h =
-    says_as (told_as why) fault text new.failed is (says_cut old mid new text fields why bounded h looks room r)
+missed_says old mid new fault bounded looks (cut why room r is) late text fields h =
+    says_as (told_as why) fault text new.failed is (says_cut old mid new text fields why bounded h looks room r (λ e. late (is ∙ e)))
 
 -- a field that was refused
 pub refused_says : (old : Position) (mid new : Pulled) (field : List ℕ) (fault : KrlFault) → IsBounded old.pull old.gathered
     → LooksFor old.place old.pull false mid → Takes mid field new → HasRoom (due old.place) → length field ≡ (due old.place).size
-    → (fault ≡ faults.NoMemory) ⊎ ((due old.place).judged field ≡ Err fault) → Refused fault old new
-refused_says old mid new field fault bounded looks takes room size (inl none) text fields h = starved none
+    → ((fault ≡ faults.NoMemory) × (is_fixed old.place ≡ false)) ⊎ ((due old.place).judged field ≡ Err fault) → Refused fault old new
+refused_says old mid new field fault bounded looks takes room size (inl none) text fields h = says_starved old new text fields fault h none.1 none.0
 refused_says old mid new field fault bounded looks takes room size (inr judged) text fields h =
     let left = keeps_some (left_of old.pull) (left_of mid) h.rest h.left_is looks.bytes in
     let after = consumes_some (left_of mid) (left_of new) h.rest field left takes.bytes in

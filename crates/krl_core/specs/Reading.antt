@@ -9,6 +9,7 @@ use Rattle.ssh_wire.specs.declared.pull_fault.PullFault.TheVariants as pulls
 use Rattle.krl_core.specs.declared.krl_fault.KrlFault.{KrlFault}
 use Rattle.krl_core.specs.declared.krl_fault.KrlFault.TheVariants.{EndsEarly, Length, TooLong, Read, NoMemory}
 use Rattle.krl_core.specs.declared.place.Place.{Place}
+use Rattle.krl_core.specs.declared.place.Place.TheVariants.{Magic, FormatVersion, Version, Date, Flags, ReservedLength}
 use Rattle.krl_core.specs.declared.header.Header.{Header}
 use Rattle.krl_core.specs.Contents.{Contents, Means, held, stored}
 use Rattle.krl_core.specs.Entries.{entries_of}
@@ -75,9 +76,20 @@ pub record FailsAfter (text : List ℕ) (failed : Bool) : Type 0 where
   pub failed_is : failed ≡ true
   pub told : IsFirstFault given None ⊎ IsFirstFault given (Some EndsEarly)
 
--- what a fault says of a text, by whether the reader failed
+-- the first fields of a list, of 40 bytes together, of which none says how long another is
+abbrev pub is_fixed : Place → Bool
+is_fixed Magic = true
+is_fixed FormatVersion = true
+is_fixed Version = true
+is_fixed Date = true
+is_fixed Flags = true
+is_fixed ReservedLength = true
+is_fixed _ = false
+
+-- What a fault says of a text, by whether the reader failed. Memory runs out only after the first
+-- fields.
 pub data Says (fault : KrlFault) (text : List ℕ) (failed : Bool) : Type 0 where
-  starved : fault ≡ NoMemory → Says fault text failed
+  starved : fault ≡ NoMemory → 40 ≤ length text → Says fault text failed
   failed_read : fault ≡ Read → FailsAfter text failed → Says fault text failed
   first : IsFirstFault text (Some fault) → failed ≡ false → Says fault text failed
 

@@ -1,9 +1,10 @@
 // Gathering serials that come in no order, to add them in order.
 
-ghost use Rattle.std.specs.Prelude.{◌≡◌, ◌+◌, ◌^◌, ◌<◌, ◌≤◌, [], None, OnOk, length};
+ghost use Rattle.std.specs.Prelude.{◌≡◌, ◌+◌, ◌^◌, ◌<◌, ◌≤◌, [], false, true, None, OnErr, OnOk, length};
 ghost use Rattle.krl_core.specs.Front.{Passes, start};
 ghost use Rattle.krl_core.specs.Gathered.{GathersField, Grows, IsGathered, IsReady, Settles, all_held, may_wait};
 ghost use Rattle.krl_core.specs.Keeping.{IsStoredWithin, KeepsStored};
+ghost use Rattle.krl_core.specs.Reading.{is_fixed};
 
 use crate::field::u64_of;
 use crate::header::Header;
@@ -78,6 +79,7 @@ impl<S: Spans> Gatherer<S> {
         requires ready { IsReady place self.old }
         ensures gathers { OnOk result (GathersField place field.now next self.old self.new) }
         ensures ready { OnOk result (IsReady next self.new) }
+        ensures late { OnErr result (is_fixed place ≡ false) }
         ensures grows { Grows (length field.now) self.old self.new }
     {
         self.take(place, field, next)?;
@@ -92,6 +94,8 @@ impl<S: Spans> Gatherer<S> {
         requires passes { Passes place field.now next }
         requires ready { IsReady place self.old }
         ensures gathers { OnOk result (GathersField place field.now next self.old self.new) }
+        ensures late { OnErr result (is_fixed place ≡ false) }
+        ensures waiting { is_fixed place ≡ true → self.new.waiting ≡ self.old.waiting }
         ensures grows { Grows (length field.now) self.old self.new }
     {
         if let Place::Serial { .. } = place {
@@ -121,6 +125,7 @@ impl<S: Spans> Gatherer<S> {
     fn settle(&mut self) -> Result<(), AllocError>
         ensures settles { OnOk result (Settles self.old self.new) }
         ensures settled { OnOk result (self.new.waiting ≡ []) }
+        ensures some { OnErr result (0 < length self.old.waiting) }
         ensures held { all_held self.new ≤ all_held self.old }
         ensures stored { KeepsStored self.old.keeping self.new.keeping }
     {
@@ -134,6 +139,7 @@ impl<S: Spans> Gatherer<S> {
     fn add_waiting(&mut self) -> Result<(), AllocError>
         ensures settles { OnOk result (Settles self.old self.new) }
         ensures settled { OnOk result (self.new.waiting ≡ []) }
+        ensures some { OnErr result (0 < length self.old.waiting) }
         ensures held { all_held self.new ≤ all_held self.old }
         ensures stored { KeepsStored self.old.keeping self.new.keeping }
     {

@@ -1,6 +1,6 @@
 // Keeping what the fields of a list name.
 
-ghost use Rattle.std.specs.Prelude.{◌≡◌, ◌+◌, ◌^◌, ◌<◌, ◌≤◌, ◌∷◌, [], ℕ, None, OnOk, length, All};
+ghost use Rattle.std.specs.Prelude.{◌≡◌, ◌+◌, ◌^◌, ◌<◌, ◌≤◌, ◌∷◌, [], ℕ, None, OnErr, OnOk, false, length, All};
 ghost use Rattle.serial_set.specs.declared.bit_fault.BitFault.{BitFault as BitFaultOf};
 ghost use Rattle.serial_set.specs.BitRuns.{Feeds, HasFault, IsInterval};
 ghost use Rattle.serial_set.specs.Finished.{finished_of};
@@ -8,6 +8,7 @@ ghost use Rattle.krl_core.specs.Authority.{IsAuthority, authority_bytes};
 ghost use Rattle.krl_core.specs.Entry.{SerialsEntry, RangeEntry, IdEntry, KeyEntry, Sha1Entry, Sha256Entry};
 ghost use Rattle.krl_core.specs.Front.{Passes, start};
 ghost use Rattle.krl_core.specs.Keeping.{Adds, Closes, GrowsWithin, InStep, IsKept, IsStoredWithin, KeepsBits, KeepsField, KeepsRest, KeepsStored, held_with_open, run_entries};
+ghost use Rattle.krl_core.specs.Reading.{is_fixed};
 
 use crate::field::{byte_of, u64_of};
 use crate::header::Header;
@@ -96,6 +97,7 @@ impl<S: Spans> Keeper<S> {
         requires passes { Passes place field.now next }
         requires in_step { InStep place self.old.bitmap }
         ensures kept { OnOk result (KeepsField place field.now next self.old self.new) }
+        ensures late { OnErr result (is_fixed place ≡ false) }
         ensures grows { GrowsWithin (length field.now) self.old self.new }
     {
         match place {

@@ -1,6 +1,6 @@
 // Reading a list in one pass, a field at a time.
 
-ghost use Rattle.std.specs.Prelude.{◌≡◌, ◌+◌, ◌*◌, ◌≤◌, ◌⊎◌, ℕ, false, true, None, Some, Ok, Err, List, [], IfOk, IfErr, IfSome, IsTrue, OnOk, length};
+ghost use Rattle.std.specs.Prelude.{◌≡◌, ◌+◌, ◌*◌, ◌<◌, ◌≤◌, ◌⊎◌, ℕ, false, true, None, Some, Ok, Err, List, [], IfOk, IfErr, IfSome, IsTrue, OnOk, length};
 ghost use Rattle.std.specs.List.{concat};
 ghost use Rattle.ssh_wire.specs.Wire.{IsBytes};
 ghost use Rattle.ssh_wire.specs.Pull.{Refuses, Takes};
@@ -9,7 +9,7 @@ ghost use Rattle.krl_core.specs.declared.krl_fault.KrlFault.TheVariants.{NoMemor
 ghost use Rattle.krl_core.specs.Front.{HasRoom, Passes, limit};
 ghost use Rattle.krl_core.specs.Gathered.{GathersField, Grows, IsReady, all_held};
 ghost use Rattle.krl_core.specs.Place.{due};
-ghost use Rattle.krl_core.specs.Reading.{Ends, Follows, HasRead, IsBounded, IsSound, IsList, IsWhole, LooksFor, Missed, ReadsOneMore, Refused, told_as, working};
+ghost use Rattle.krl_core.specs.Reading.{Ends, Follows, HasRead, IsBounded, IsSound, IsList, IsWhole, LooksFor, Missed, ReadsOneMore, Refused, is_fixed, told_as, working};
 
 use crate::gatherer::Gatherer;
 use crate::header::Header;
@@ -24,6 +24,9 @@ use std::marker::Model;
 /// At most so many bytes of a list are read.
 pub const LIMIT: u64 = 67_108_864;
 
+// Fields of at most so many bytes take no memory: numbers, lengths and hashes.
+const SMALL: usize = 32;
+
 /// A list that is read from a reader in one pass. No more of its bytes is held than the field at
 /// hand, and of a bitmap only the byte at hand.
 #[derive(Drop)]
@@ -31,8 +34,8 @@ pub struct Reading<S: Spans, R: Source + Drop> {
     pull: Pull<R>,
     place: Place,
     gatherer: Gatherer<S>,
-    // the field at hand
-    field: Vec<u8>,
+    // the field at hand, where it is large
+    large: Vec<u8>,
     fault: Option<KrlFault>,
 }
 
@@ -68,7 +71,7 @@ impl<S: Spans, R: Source + Drop> Reading<S, R> {
             pull: Pull::new(reader, LIMIT),
             place: Place::Magic,
             gatherer: Gatherer::new(alloc),
-            field: Vec::new(alloc),
+            large: Vec::new(alloc),
             fault: None,
         }
     }
@@ -94,7 +97,7 @@ impl<S: Spans, R: Source + Drop> Reading<S, R> {
             &mut self.pull,
             &mut self.place,
             &mut self.gatherer,
-            &mut self.field,
+            &mut self.large,
         ) {
             Ok(more) => Ok(more),
             Err(fault) => {
@@ -162,23 +165,33 @@ fn ends<R: Source + Drop>(pull: &mut Pull<R>, place: Place) -> Result<bool, KrlF
     }
 }
 
-// Takes the field that is due.
-fn take<R: Source + Drop>(
+// Takes the field that is due. A small one takes no memory.
+fn take<'a, R: Source + Drop>(
     pull: &mut Pull<R>,
     place: Place,
-    field: &mut Vec<u8>,
-) -> Result<(), KrlFault>
+    small: &'a mut [u8; SMALL],
+    large: &'a mut Vec<u8>,
+) -> Result<&'a [u8], KrlFault>
     requires { pull.old.fault ≡ None }
-    ensures ok { OnOk result (Takes pull.old field.new.items pull.new) }
+    ensures ok { IfOk result (λ field. Takes pull.old field.now pull.new) }
     ensures room { OnOk result (HasRoom (due place)) }
-    ensures size { OnOk result (length field.new.items ≡ (due place).size) }
+    ensures size { IfOk result (λ field. length field.now ≡ (due place).size) }
     ensures err { IfErr result (λ fault. Missed place pull.old fault pull.new) }
+    ensures memory { IfErr result (λ fault. fault ≡ NoMemory → 32 < (due place).size) }
 {
     if !place.has_room() {
         return Err(KrlFault::Length);
     }
-    match pull.bytes_into(field, place.size() as usize) {
-        Ok(()) => Ok(()),
+    let size = place.size() as usize;
+    if size <= SMALL {
+        let field = &mut small[..size];
+        return match pull.fill(field) {
+            Ok(()) => Ok(field),
+            Err(missed) => Err(told(missed)),
+        };
+    }
+    match pull.bytes_into(large, size) {
+        Ok(()) => Ok(large.as_slice()),
         Err(missed) => Err(told(missed)),
     }
 }
@@ -198,7 +211,7 @@ fn pass<S: Spans>(
     ensures ready { OnOk result (IsReady place.new gatherer.new) }
     ensures bytes { IsBytes field.now }
     ensures grows { Grows (length field.now) gatherer.old gatherer.new }
-    ensures err { IfErr result (λ fault. (fault ≡ NoMemory)
+    ensures err { IfErr result (λ fault. ((fault ≡ NoMemory) × (is_fixed place.old ≡ false))
         ⊎ ((due place.old).judged field.now ≡ Err fault)) }
 {
     let next = match place.after(field) {
@@ -219,7 +232,7 @@ fn advance<S: Spans, R: Source + Drop>(
     pull: &mut Pull<R>,
     place: &mut Place,
     gatherer: &mut Gatherer<S>,
-    field: &mut Vec<u8>,
+    large: &mut Vec<u8>,
 ) -> Result<bool, KrlFault>
     requires { IsSound (working pull.old place.old gatherer.old) }
     ensures more { IfOk result (λ more. IsTrue more → ReadsOneMore
@@ -238,11 +251,12 @@ fn advance<S: Spans, R: Source + Drop>(
         Ok(false) => {}
         Err(fault) => return Err(fault),
     }
-    match take(pull, *place, field) {
-        Ok(()) => {}
+    let mut small = [0; SMALL];
+    let field = match take(pull, *place, &mut small, large) {
+        Ok(field) => field,
         Err(fault) => return Err(fault),
-    }
-    match pass(place, gatherer, field.as_slice()) {
+    };
+    match pass(place, gatherer, field) {
         Ok(()) => Ok(true),
         Err(fault) => Err(fault),
     }

@@ -14,7 +14,7 @@ use Rattle.krl_runs.proofs.laws.one_reading.Goals as goal
 
 -- the fault of a reader that did not fail
 said_by : (fault : KrlFault) (text : List ℕ) → Says fault text false → (fault ≡ NoMemory) ⊎ IsFirstFault text (Some fault)
-said_by fault text (starved is) = inl is
+said_by fault text (starved is some) = inl is
 said_by fault text (failed_read is fails) = let failed = fails.failed_is in absurd (cc)
 said_by fault text (first is works) = inr is
 

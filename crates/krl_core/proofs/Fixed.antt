@@ -1,0 +1,76 @@
+-- The first fields of a list, of which none says how long another is.
+use Rattle.std.proofs.Common.{◌≡◌, ℕ, ◌+◌, ◌<◌, ◌≤◌, Bool, true, false, cond, List, [], ◌∷◌, ◌++◌, length, Result, Ok, refl, sym, subst, ap, ◌∙◌, arith}
+use Rattle.std.specs.List.{concat}
+use Rattle.std.proofs.lemmas.List.{length-append}
+use Rattle.krl_core.specs.declared.krl_fault.KrlFault.{KrlFault}
+use Rattle.krl_core.specs.declared.krl_fault.KrlFault.TheVariants as faults
+use Rattle.krl_core.specs.declared.place.Place.{Place}
+use Rattle.krl_core.specs.declared.place.Place.TheVariants.{Magic, FormatVersion, Version, Date, Flags, ReservedLength}
+use Rattle.krl_core.specs.Front.{Leads, Passes, Spot, spot_after, start}
+use Rattle.krl_core.specs.Place.{due, judge}
+use Rattle.krl_core.specs.Reading.{is_fixed}
+
+judge_next : (good : Bool) (fault : KrlFault) (place next : Place) → judge good fault place ≡ Ok next → place ≡ next
+judge_next true fault place next e = cc
+judge_next false fault place next e = absurd (cc)
+
+-- from a place on, the fields that lead past the first ones have so many bytes
+abbrev pub Needs : Place → ℕ → Type 0
+Needs place size = (spot : Spot) → spot.place ≡ place → (fields : List (List ℕ)) (last : Spot) → Leads spot fields last
+    → is_fixed last.place ≡ false → size ≤ length (concat fields)
+
+any_needs : (place : Place) → Needs place 0
+any_needs place spot at fields last leads late = omega arith
+
+-- one field more in front
+needs_more : (place : Place) (size more : ℕ) → is_fixed place ≡ true → (due place).size ≡ size
+    → ((field : List ℕ) (after : Place) → (due place).judged field ≡ Ok after → Needs after more) → Needs place (size + more)
+needs_more place size more fixed is needs spot at [] last leads late =
+    let same : spot.place ≡ last.place = ap (λ (s : Spot). s.place) leads in
+    let none : is_fixed place ≡ false = subst (λ (p : Place). is_fixed p ≡ false) (sym same ∙ at) late in
+    absurd (cc (fixed, none))
+needs_more place size more fixed is needs spot at (field ∷ fields) last leads late =
+    let after = leads.0 in
+    let passes : Passes place field after = subst (λ (p : Place). Passes p field after) at leads.1.0 in
+    let rest = needs field after passes.judged (spot_after spot field after) refl fields last leads.1.1 late in
+    omega (arith, rest, passes.whole, is, length-append field (concat fields))
+
+abbrev passed : Place → Result Place KrlFault
+passed place = Ok place
+
+after_is : (place after : Place) (more : ℕ) → passed place ≡ Ok after → Needs place more → Needs after more
+after_is place after more e h = let same : place ≡ after = cc in subst (λ (p : Place). Needs p more) same h
+
+needs_reserved : Needs ReservedLength 4
+needs_reserved = needs_more ReservedLength 4 0 refl refl (λ field after e. any_needs after)
+
+needs_flags : Needs Flags 12
+needs_flags = needs_more Flags 8 4 refl refl (λ field after e. after_is ReservedLength after 4 e needs_reserved)
+
+needs_date : Needs Date 20
+needs_date = needs_more Date 8 12 refl refl (λ field after e. after_is Flags after 12 e needs_flags)
+
+needs_version : Needs Version 28
+needs_version = needs_more Version 8 20 refl refl (λ field after e. after_is Date after 20 e needs_date)
+
+needs_format : Needs FormatVersion 32
+needs_format = needs_more FormatVersion 4 28 refl refl
+    (λ field after e. subst (λ (p : Place). Needs p 28) (judge_next _ faults.FormatVersion Version after e) needs_version)
+
+needs_magic : Needs Magic 40
+needs_magic = needs_more Magic 8 32 refl refl
+    (λ field after e. subst (λ (p : Place). Needs p 32) (judge_next _ faults.Magic FormatVersion after e) needs_format)
+
+-- past the first fields 40 bytes were read
+pub late_enough : (fields : List (List ℕ)) (last : Spot) → Leads start fields last → is_fixed last.place ≡ false → 40 ≤ length (concat fields)
+late_enough fields last leads late = needs_magic start refl fields last leads late
+
+-- a large field is none of the first
+pub late_where_large : (p : Place) → 32 < (due p).size → is_fixed p ≡ false
+late_where_large Magic large = absurd (omega arith)
+late_where_large FormatVersion large = absurd (omega arith)
+late_where_large Version large = absurd (omega arith)
+late_where_large Date large = absurd (omega arith)
+late_where_large Flags large = absurd (omega arith)
+late_where_large ReservedLength large = absurd (omega arith)
+late_where_large _ large = refl
