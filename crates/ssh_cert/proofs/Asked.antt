@@ -14,6 +14,7 @@ use Rattle.ssh_key.specs.Kind.{certificate_name, kind_certified, type_name}
 use Rattle.ssh_key.proofs.FirstFaults.{first_fault_read as key_fault_read, key_refused}
 use Rattle.ssh_key.proofs.Keys.{key_again, key_found, length-type_name}
 use Rattle.ssh_key.proofs.Names.{certified-certificate_name, certified-name, names_apart}
+use Rattle.ssh_key.proofs.Refusals.{string_read}
 use Rattle.ssh_cert.specs.declared.fault.CertFault.{CertFault}
 use Rattle.ssh_cert.specs.declared.subject_fault.SubjectFault.{SubjectFault}
 use Rattle.ssh_cert.specs.declared.subject_fault.SubjectFault.TheVariants as faults
@@ -22,7 +23,7 @@ use Rattle.ssh_cert.specs.Certificate.{Certificate}
 use Rattle.ssh_cert.specs.Subject.{Subject}
 use Rattle.ssh_cert.specs.SubjectReading.{Gives, HasCertificateName, IsSubject, IsSubjectFault, IsToldFault, certificate_subject, certified, is_certificate, is_certified, key_subject, no_certificate, no_key, of_certificate, of_key, plain_key, subject_of}
 use Rattle.ssh_cert.proofs.Certs.{certificate_again, certificate_found, certificate_refused, first_fault_read, length-certificate_name}
-use Rattle.ssh_cert.proofs.FieldLemmas.{begins, begins_read}
+use Rattle.ssh_cert.proofs.FieldLemmas.{begins}
 
 -- ---- the first string
 
@@ -52,7 +53,7 @@ has_name blob fits e =
 
 name_read : (blob : List ℕ) → HasCertificateName blob → is_certificate blob ≡ true
 unfolding is_certificate
-name_read blob h = rw (begins_read blob (certificate_name h.kind) h.begins, certified-certificate_name h.kind) refl
+name_read blob h = rw (string_read blob (certificate_name h.kind) h.begins, certified-certificate_name h.kind) refl
 
 no_name : (blob : List ℕ) → is_certificate blob ≡ false → ¬ HasCertificateName blob
 no_name blob e h = both_ways (is_certificate blob) e (name_read blob h)

@@ -2,25 +2,26 @@
 use Rattle.std.proofs.Common.{◌≡◌, ◌≢◌, ℕ, ◌^◌, ◌<◌, false, cond, eqb, List, [], ◌++◌, length, Option, Some, None, Result, Ok, Err, refl, sym, ap, subst, ◌∙◌, arith, inl, inr}
 use Rattle.std.specs.Prelude.{IfErr, IfOk}
 use Rattle.std.specs.Option.{ok_or}
-use Rattle.std.proofs.lemmas.Bool.{eqb-false, eqb-true, ne_eqb}
+use Rattle.std.proofs.lemmas.Bool.{eqb-true, ne_eqb}
 use Rattle.std.proofs.lemmas.List.{append-nil, nil_from_length}
 use Rattle.ssh_wire.specs.declared.fault.WireFault.TheVariants.{Short}
 use Rattle.ssh_wire.specs.Wire.{BeginsWith, IsBytes, string}
-use Rattle.ssh_wire.specs.Reading.{string_at}
+use Rattle.ssh_wire.specs.Reading.{◌>>=◌, Gives, in_fault, string_at}
 use Rattle.ssh_wire.specs.Fields.{Takes, string_again, string_takes}
 use Rattle.ssh_key.specs.declared.kind.Kind.{Kind}
 use Rattle.ssh_key.specs.declared.kind.Kind.TheVariants.{Rsa, Dsa, Ecdsa256, Ecdsa384, Ecdsa521, Ed25519, EcdsaSk, Ed25519Sk}
+use Rattle.ssh_key.proofs.Names.{certified-certificate_name, certified-name}
+use Rattle.ssh_key.proofs.Refusals.{string_read}
+use Rattle.ssh_key.proofs.Steps.{above_zero, bind_err, bind_ok, failed_err, in_fault_err, in_fault_ok, never_err, none_err, passed_ok, some_ok}
 use Rattle.ssh_key.proofs.Wire.{IsBytes-behind}
 use Rattle.ssh_key.specs.Kind.{certificate_name, kind_certified}
 use Rattle.ssh_cert.specs.declared.fault.CertFault.{CertFault}
 use Rattle.ssh_cert.specs.declared.fault.CertFault.TheVariants as faults
 use Rattle.ssh_cert.specs.Certificate.{Certificate, IsCertificate}
-use Rattle.ssh_cert.specs.CertReading.{◌>>=◌, Reads, certificate_at, certificate_of, body_at, fields_at, kind_at, on_wire, or_fault}
+use Rattle.ssh_cert.specs.CertReading.{body_at, certificate_at, certificate_of, cut_short, fields_at, kind_at}
 use Rattle.ssh_cert.specs.Field.{AreValues, Field, ValuesOf, fields_of, fields_text}
 use Rattle.ssh_cert.specs.FirstFault.{IsFirstFault, Reaches, after_fields, in_field, no_kind, no_name}
-use Rattle.ssh_cert.proofs.Steps.{bind_err, bind_ok, ended_err, never_err, on_wire_err, on_wire_ok, or_fault_err, or_fault_ok, passed_ok}
-use Rattle.ssh_key.proofs.Names.{certified-certificate_name, certified-name}
-use Rattle.ssh_cert.proofs.FieldLemmas.{begins, begins_read, string_cut}
+use Rattle.ssh_cert.proofs.FieldLemmas.{begins, string_cut}
 use Rattle.ssh_cert.proofs.Fronts.{Stops, TakesFields, fields_again, fields_refused, fields_take, stop_read}
 
 -- ---- the kind
@@ -34,10 +35,10 @@ is_read kind rest x e = cc
 kind_takes : (blob : List ℕ) (x : Kind × List ℕ) → IsBytes blob → kind_at blob ≡ Ok x → Takes blob (string (certificate_name x.0)) x.1
 unfolding kind_at
 kind_takes blob x fits e =
-    let a = bind_ok (on_wire (string_at blob)) (λ name. or_fault faults.UnknownType (kind_certified name.0) >>= λ kind. Ok (kind, name.1)) x e in
-    let b = bind_ok (or_fault faults.UnknownType (kind_certified a.0.0)) (λ kind. Ok (kind, a.0.1)) x a.2 in
-    let name : certificate_name b.0 ≡ a.0.0 = certified-name a.0.0 b.0 (or_fault_ok faults.UnknownType (kind_certified a.0.0) b.0 b.1) in
-    let t = (string_takes blob a.0.0 a.0.1 fits (on_wire_ok (string_at blob) a.0 a.1)).0 in
+    let a = bind_ok (in_fault cut_short (string_at blob)) (λ name. ok_or (kind_certified name.0) faults.UnknownType >>= λ kind. Ok (kind, name.1)) x e in
+    let b = bind_ok (ok_or (kind_certified a.0.0) faults.UnknownType) (λ kind. Ok (kind, a.0.1)) x a.2 in
+    let name : certificate_name b.0 ≡ a.0.0 = certified-name a.0.0 b.0 (some_ok (kind_certified a.0.0) faults.UnknownType b.0 b.1) in
+    let t = (string_takes blob a.0.0 a.0.1 fits (in_fault_ok cut_short (string_at blob) a.0 a.1)).0 in
     let spelled : Takes blob (string (certificate_name b.0)) a.0.1 = subst (λ (s : List ℕ). Takes blob (string s) a.0.1) (sym name) t in
     subst (λ (y : Kind × List ℕ). Takes blob (string (certificate_name y.0)) y.1) (is_read b.0 a.0.1 x b.2) spelled
 
@@ -56,7 +57,7 @@ unfolding kind_at
 kind_again kind rest = rw (string_again (certificate_name kind) rest (length-certificate_name kind), certified-certificate_name kind) refl
 
 -- what `kind_of` answers
-pub kind_read : (bytes name rest : List ℕ) (certified : Option Kind) (r : Result Kind CertFault) → string_at bytes ≡ Ok (name, rest) → kind_certified name ≡ certified → r ≡ ok_or certified faults.UnknownType → Reads (λ kind. kind) r rest (kind_at bytes)
+pub kind_read : (bytes name rest : List ℕ) (certified : Option Kind) (r : Result Kind CertFault) → string_at bytes ≡ Ok (name, rest) → kind_certified name ≡ certified → r ≡ ok_or certified faults.UnknownType → Gives (λ kind. kind) r rest (kind_at bytes)
 unfolding kind_at
 kind_read bytes name rest None r string_read certified answer = rw (answer, string_read, certified) refl
 kind_read bytes name rest (Some kind) r string_read certified answer = rw (answer, string_read, certified) refl
@@ -188,13 +189,13 @@ kind_none name none kind same =
 kind_refused : (blob : List ℕ) (fault : CertFault) → IsBytes blob → kind_at blob ≡ Err fault → IsFirstFault blob fault
 unfolding kind_at
 kind_refused blob fault fits e =
-    elim (bind_err (on_wire (string_at blob)) (λ name. or_fault faults.UnknownType (kind_certified name.0) >>= λ kind. Ok (kind, name.1)) fault e) [
-      | inl cut ↦ let w = on_wire_err (string_at blob) fault cut in no_name (string_cut blob w.0 w.1) w.2
+    elim (bind_err (in_fault cut_short (string_at blob)) (λ name. ok_or (kind_certified name.0) faults.UnknownType >>= λ kind. Ok (kind, name.1)) fault e) [
+      | inl cut ↦ let w = in_fault_err cut_short (string_at blob) fault cut in no_name (string_cut blob w.0 w.1) w.2
       | inr name ↦
-          elim (bind_err (or_fault faults.UnknownType (kind_certified name.0.0)) (λ kind. Ok (kind, name.0.1)) fault name.2) [
+          elim (bind_err (ok_or (kind_certified name.0.0) faults.UnknownType) (λ kind. Ok (kind, name.0.1)) fault name.2) [
             | inl unknown ↦
-                let w = or_fault_err faults.UnknownType (kind_certified name.0.0) fault unknown in
-                let t = string_takes blob name.0.0 name.0.1 fits (on_wire_ok (string_at blob) name.0 name.1) in
+                let w = none_err (kind_certified name.0.0) faults.UnknownType fault unknown in
+                let t = string_takes blob name.0.0 name.0.1 fits (in_fault_ok cut_short (string_at blob) name.0 name.1) in
                 no_kind name.0.0 (begins blob name.0.0 name.0.1 t.0.parts t.1) (kind_none name.0.0 w.0) w.1
             | inr kind ↦ absurd (never_err (kind.0, name.0.1) fault kind.2)
           ]
@@ -205,12 +206,9 @@ stops_in_field blob after kind fault t s = in_field kind s.field s.later s.rest
     (record { before = s.before; values = s.values; fields = s.parts; allowed = s.allowed; spelled = t.parts ∙ ap (λ (x : List ℕ). string (certificate_name kind) ++ x) s.spelled })
     s.refused
 
-above_zero : (n : ℕ) → eqb n 0 ≡ false → 0 < n
-above_zero n e = let ne : n ≢ 0 = eqb-false _ _ e in omega arith
-
 end_refused : (blob after : List ℕ) (kind : Kind) (values : ValuesOf (fields_of kind) × List ℕ) (body : Certificate × List ℕ) (fault : CertFault) → Takes blob (string (certificate_name kind)) after → TakesFields (fields_of kind) after values → values.1 ≡ body.1 → ended body ≡ Err fault → IsFirstFault blob fault
 end_refused blob after kind values body fault t second left e =
-    let w = ended_err (eqb (length body.1) 0) body.0 faults.Trailing fault e in
+    let w = failed_err (eqb (length body.1) 0) body.0 faults.Trailing fault e in
     let reached : Reaches blob kind [] values.1 = record {
       before = fields_of kind;
       values = values.0;
@@ -249,7 +247,7 @@ name_unknown : (blob name : List ℕ) → BeginsWith blob name → ((kind : Kind
 unfolding kind_at
 name_unknown blob name b other =
     let none : kind_certified name ≡ None = none_certified name other (kind_certified name) refl in
-    rw (begins_read blob name b, none) refl
+    rw (string_read blob name b, none) refl
 
 rest_fits : (blob front middle rest : List ℕ) → IsBytes blob → blob ≡ front ++ (middle ++ rest) → IsBytes rest
 rest_fits blob front middle rest fits e = IsBytes-behind middle rest (IsBytes-behind front (middle ++ rest) (subst IsBytes e fits))

@@ -2,28 +2,25 @@
 use Rattle.std.proofs.Common.{◌≡◌, ℕ, ◌+◌, ◌^◌, ◌<◌, ◌≤◌, List, [], ◌∷◌, ◌++◌, length, Result, Ok, Err, refl, sym, ap, subst, ◌∙◌, append_assoc, arith, inl, inr}
 use Rattle.std.proofs.lemmas.Bool.{cases_lt}
 use Rattle.std.proofs.lemmas.List.{append-nil, length-append}
-use Rattle.ssh_wire.specs.declared.fault.WireFault.{WireFault}
-use Rattle.ssh_wire.specs.declared.fault.WireFault.TheVariants.{Short}
-use Rattle.ssh_wire.specs.Wire.{IsBytes, number, string, strings}
-use Rattle.ssh_wire.specs.Reading.{string_at}
-use Rattle.ssh_wire.specs.Fields.{length-number, string_again, string_takes}
+use Rattle.ssh_wire.specs.Wire.{IsBytes, string, strings}
+use Rattle.ssh_wire.specs.Cut.{number-cut, string-cut}
+use Rattle.ssh_wire.specs.Reading.{in_fault}
 use Rattle.ssh_key.specs.declared.fault.KeyFault.{KeyFault}
 use Rattle.ssh_key.specs.declared.kind.Kind.{Kind}
 use Rattle.ssh_key.specs.Key.{IsKey, Key, blob_of}
 use Rattle.ssh_key.specs.KeyReading.{public_at}
 use Rattle.ssh_key.specs.Kind.{certificate_name}
 use Rattle.ssh_key.proofs.Keys.{public_again, public_found}
+use Rattle.ssh_key.proofs.Steps.{ok_is}
 use Rattle.ssh_key.proofs.Wire.{IsBytes-behind, IsBytes-front}
 use Rattle.ssh_cert.specs.declared.fault.CertFault.{CertFault}
 use Rattle.ssh_cert.specs.declared.fault.CertFault.TheVariants as faults
 use Rattle.ssh_cert.specs.Certificate.{Certificate, IsCertificate, role_number}
-use Rattle.ssh_cert.specs.CertReading.{body_at, certificate_at, field_at, fields_at, kind_at, on_key}
+use Rattle.ssh_cert.specs.CertReading.{body_at, certificate_at, field_at, fields_at, kind_at}
 use Rattle.ssh_cert.specs.Field.{Field, TextField, PublicField, NumberField, RoleField, PrincipalsField, OptionsField, AuthorityField, SignatureField, IsValue, AreValues, ValueOf, ValuesOf, field_text, fields_of, fields_text}
 use Rattle.ssh_cert.specs.Laws.{IsCut, IsCutFault}
 use Rattle.ssh_cert.specs.Options.{options_text}
-use Rattle.ssh_cert.proofs.Steps.{ok_is}
 use Rattle.ssh_cert.proofs.Certs.{kind_again, length-certificate_name, values_allowed, values_of}
-use Rattle.ssh_cert.proofs.FieldLemmas.{number_short, string_cut}
 use Rattle.ssh_cert.proofs.FieldReads.{field_again}
 
 -- two ways to part one list: the shorter front begins the longer
@@ -46,29 +43,6 @@ longer (n ∷ a) x (m ∷ b) y e le =
 none_behind : (p q : List ℕ) → [] ≡ p ++ q → 0 < length q → ⊥
 none_behind p q e some = let lengths : 0 ≡ length p + length q = ap length e ∙ length-append p q in omega arith
 
-string_whole : (text : List ℕ) → length text < 2 ^ 32 → string_at (string text) ≡ Ok (text, [])
-string_whole text lt = ap string_at (sym (append-nil (string text))) ∙ string_again text [] lt
-
-never_whole : (text front missing first rest : List ℕ) → length text < 2 ^ 32 → string text ≡ front ++ missing → 0 < length missing → front ≡ string first ++ rest → length first < 2 ^ 32 → ⊥
-never_whole text front missing first rest lt e some begun short =
-    let parts : string text ≡ string first ++ (rest ++ missing) = e ∙ ap (λ (x : List ℕ). x ++ missing) begun ∙ append_assoc (string first) rest missing in
-    let same = ok_is (text, []) (first, rest ++ missing) (string_at (string text)) (string_whole text lt) (ap string_at parts ∙ string_again first (rest ++ missing) short) in
-    none_behind rest missing (ap (λ (x : List ℕ × List ℕ). x.1) same) some
-
-string_short : (text front missing : List ℕ) → IsBytes front → length text < 2 ^ 32 → string text ≡ front ++ missing → 0 < length missing → string_at front ≡ Err Short
-string_short text front missing fits lt e some = by_read (string_at front) refl
-  where
-    by_read : (read : Result (List ℕ × List ℕ) WireFault) → string_at front ≡ read → string_at front ≡ Err Short
-    by_read (Err why) f = string_cut front why f
-    by_read (Ok first) f =
-        let t = string_takes front first.0 first.1 fits f in
-        absurd (never_whole text front missing first.0 first.1 lt e some t.0.parts t.1)
-
-number_less : (k n : ℕ) (front missing : List ℕ) → number k n ≡ front ++ missing → 0 < length missing → length front < k
-number_less k n front missing e some =
-    let lengths : length (number k n) ≡ length front + length missing = ap length e ∙ length-append front missing in
-    omega (arith, length-number k n)
-
 -- a refusal that is told as a field cut short
 pub record Cut {A : Type 0} (read : Result A CertFault) : Type 0 where
   pub fault : CertFault
@@ -82,7 +56,7 @@ public_cut kind key front missing fits same is e some = by_read (public_at kind 
     whole : public_at kind key.fields ≡ Ok (key, [])
     whole = public_again kind key.fields [] key same (record { is_key = is; spelled = sym (append-nil key.fields) })
 
-    by_read : (read : Result (Key × List ℕ) KeyFault) → public_at kind front ≡ read → Cut (on_key faults.Key read)
+    by_read : (read : Result (Key × List ℕ) KeyFault) → public_at kind front ≡ read → Cut (in_fault faults.Key read)
     by_read (Err why) f = record { fault = faults.Key why; refused = refl; cut = tt }
     by_read (Ok other) f =
         let found = public_found kind front other fits f in
@@ -96,16 +70,16 @@ wire field front e = record { fault = faults.Wire; refused = e; cut = tt }
 
 field_cut : (field : Field) (value : ValueOf field) (front missing : List ℕ) → IsBytes front → IsValue field value → field_text field value ≡ front ++ missing → 0 < length missing → Cut (field_at field front)
 unfolding field_at
-field_cut TextField text front missing fits allowed e some = wire TextField front (rw (string_short text front missing fits allowed e some) refl)
+field_cut TextField text front missing fits allowed e some = wire TextField front (rw (string-cut text allowed front missing e some) refl)
 field_cut (PublicField kind) key front missing fits allowed e some = public_cut kind key front missing fits allowed.0 allowed.1 e some
-field_cut NumberField n front missing fits allowed e some = wire NumberField front (rw (number_short 8 front (number_less 8 n front missing e some)) refl)
-field_cut RoleField role front missing fits allowed e some = wire RoleField front (rw (number_short 4 front (number_less 4 (role_number role) front missing e some)) refl)
-field_cut PrincipalsField list front missing fits allowed e some = wire PrincipalsField front (rw (string_short (strings list) front missing fits allowed e some) refl)
-field_cut OptionsField list front missing fits allowed e some = wire OptionsField front (rw (string_short (options_text list) front missing fits allowed e some) refl)
+field_cut NumberField n front missing fits allowed e some = wire NumberField front (rw (number-cut 8 n front missing e some) refl)
+field_cut RoleField role front missing fits allowed e some = wire RoleField front (rw (number-cut 4 (role_number role) front missing e some) refl)
+field_cut PrincipalsField list front missing fits allowed e some = wire PrincipalsField front (rw (string-cut (strings list) allowed front missing e some) refl)
+field_cut OptionsField list front missing fits allowed e some = wire OptionsField front (rw (string-cut (options_text list) allowed front missing e some) refl)
 field_cut AuthorityField authority front missing fits allowed e some =
     let lt : length authority.blob < 2 ^ 32 = omega (arith, allowed.short) in
-    wire AuthorityField front (rw (string_short authority.blob front missing fits lt e some) refl)
-field_cut SignatureField signature front missing fits allowed e some = wire SignatureField front (rw (string_short signature.text front missing fits allowed.0 e some) refl)
+    wire AuthorityField front (rw (string-cut authority.blob lt front missing e some) refl)
+field_cut SignatureField signature front missing fits allowed e some = wire SignatureField front (rw (string-cut signature.text allowed.0 front missing e some) refl)
 
 -- bytes that end within a text or behind it
 pub data Ends (text later front missing : List ℕ) : Type 0 where
@@ -134,9 +108,9 @@ fields_cut (field ∷ fields) values front missing fits allowed e some = elim (e
       record { fault = c.fault; refused = ap (fields_at (field ∷ fields)) parts ∙ rw (field_again field values.0 between allowed.0, c.refused) refl; cut = c.cut }
 ]
 
-kind_short : (kind : Kind) (front missing : List ℕ) → IsBytes front → string (certificate_name kind) ≡ front ++ missing → 0 < length missing → kind_at front ≡ Err faults.Wire
+kind_short : (kind : Kind) (front missing : List ℕ) → string (certificate_name kind) ≡ front ++ missing → 0 < length missing → kind_at front ≡ Err faults.Wire
 unfolding kind_at
-kind_short kind front missing fits e some = rw (string_short (certificate_name kind) front missing fits (length-certificate_name kind) e some) refl
+kind_short kind front missing e some = rw (string-cut (certificate_name kind) (length-certificate_name kind) front missing e some) refl
 
 pub certificate_cut : (blob front : List ℕ) (c : Certificate) → IsBytes blob → IsCertificate blob c → IsCut front blob → Cut (certificate_at front)
 unfolding certificate_at body_at
@@ -154,7 +128,7 @@ certificate_cut blob front c fits is cut =
 
     by_end : Ends (string (certificate_name c.key.kind)) text front cut.missing → Cut (certificate_at front)
     by_end (within between parts left) =
-        record { fault = faults.Wire; refused = rw (kind_short c.key.kind front between front_fits parts left) refl; cut = tt }
+        record { fault = faults.Wire; refused = rw (kind_short c.key.kind front between parts left) refl; cut = tt }
     by_end (behind between parts later) =
         let inner : IsBytes between = IsBytes-behind (string (certificate_name c.key.kind)) between (subst IsBytes parts front_fits) in
         let f = fields_cut (fields_of c.key.kind) values between cut.missing inner (values_allowed blob c is) later cut.some in

@@ -1,19 +1,21 @@
 -- A fault of a field is what stands there, and what stands there is told as the fault.
 use Rattle.std.proofs.Common.{◌≡◌, ℕ, ◌^◌, ◌<◌, List, length, Option, Some, None, Ok, Err, refl, sym, ap, subst, ◌∙◌, inl, inr}
+use Rattle.std.specs.Option.{ok_or}
 use Rattle.ssh_wire.specs.Wire.{BeginsWith, IsBytes, strings}
-use Rattle.ssh_wire.specs.Reading.{number_at, string_at}
+use Rattle.ssh_wire.specs.Reading.{◌>>=◌, in_fault, number_at, string_at}
 use Rattle.ssh_wire.specs.Fields.{number_again, number_takes, string_takes}
 use Rattle.ssh_key.specs.KeyReading.{key_at, public_at}
 use Rattle.ssh_key.proofs.FirstFaults.{first_fault_read, key_refused, fields_fault_read, public_refused}
+use Rattle.ssh_key.proofs.Refusals.{string_read}
+use Rattle.ssh_key.proofs.Steps.{bind_err, in_fault_err, in_fault_ok, never_err, none_err}
 use Rattle.ssh_cert.specs.declared.fault.CertFault.{CertFault}
 use Rattle.ssh_cert.specs.declared.fault.CertFault.TheVariants as faults
-use Rattle.ssh_cert.specs.CertReading.{◌>>=◌, authority_of, field_at, named, on_key, on_wire, options_of, or_fault, role_of}
+use Rattle.ssh_cert.specs.CertReading.{authority_of, cut_short, field_at, named, options_of, role_of}
 use Rattle.ssh_cert.specs.Field.{Field, TextField, PublicField, NumberField, RoleField, PrincipalsField, OptionsField, AuthorityField, SignatureField}
 use Rattle.ssh_cert.specs.FirstFault.{Refuses}
 use Rattle.ssh_cert.specs.Options.{NamedData, options_text}
 use Rattle.ssh_cert.specs.Strings.{strings_of}
-use Rattle.ssh_cert.proofs.Steps.{bind_err, never_err, on_key_err, on_wire_err, on_wire_ok, or_fault_err}
-use Rattle.ssh_cert.proofs.FieldLemmas.{begins, begins_read, content_fits, no_role, no_role-read, number_err, number_short, options_again, options_take, string_cut, unnamed, unnamed_read}
+use Rattle.ssh_cert.proofs.FieldLemmas.{begins, content_fits, no_role, no_role-read, number_err, number_short, options_again, options_take, string_cut, unnamed, unnamed_read}
 use Rattle.ssh_cert.proofs.StringLists.{strings_of_again, strings_of_takes}
 
 told : (field : Field) (bytes : List ℕ) (c d : CertFault) → d ≡ c → Refuses field bytes c → Refuses field bytes d
@@ -22,9 +24,9 @@ told field bytes c d e refused = subst (λ (fault : CertFault). Refuses field by
 -- ---- the content of a string that may not stand there
 
 -- what was read begins the bytes
-read_begins : (bytes : List ℕ) (read : List ℕ × List ℕ) → IsBytes bytes → on_wire (string_at bytes) ≡ Ok read → BeginsWith bytes read.0 × IsBytes read.0
+read_begins : (bytes : List ℕ) (read : List ℕ × List ℕ) → IsBytes bytes → in_fault cut_short (string_at bytes) ≡ Ok read → BeginsWith bytes read.0 × IsBytes read.0
 read_begins bytes read fits e =
-    let t = string_takes bytes read.0 read.1 fits (on_wire_ok (string_at bytes) read e) in
+    let t = string_takes bytes read.0 read.1 fits (in_fault_ok cut_short (string_at bytes) read e) in
     (begins bytes read.0 read.1 t.0.parts t.1, content_fits bytes read.0 read.1 fits t.0.parts)
 
 none_or : {A : Type 0} (o : Option A) → o ≡ None → (x : A) → o ≡ Some x → ⊥
@@ -47,82 +49,82 @@ some_or_none (Some x) never = absurd (never x refl)
 pub field_refused : (field : Field) (bytes : List ℕ) (fault : CertFault) → IsBytes bytes → field_at field bytes ≡ Err fault → Refuses field bytes fault
 unfolding field_at
 field_refused TextField bytes fault fits e =
-    let w = on_wire_err (string_at bytes) fault e in
+    let w = in_fault_err cut_short (string_at bytes) fault e in
     told TextField bytes faults.Wire fault w.2 (string_cut bytes w.0 w.1)
 field_refused (PublicField kind) bytes fault fits e =
-    let w = on_key_err faults.Key (public_at kind bytes) fault e in
+    let w = in_fault_err faults.Key (public_at kind bytes) fault e in
     told (PublicField kind) bytes (faults.Key w.0) fault w.2 (public_refused kind bytes w.0 fits w.1)
 field_refused NumberField bytes fault fits e =
-    let w = on_wire_err (number_at 8 bytes) fault e in
+    let w = in_fault_err cut_short (number_at 8 bytes) fault e in
     told NumberField bytes faults.Wire fault w.2 (number_err 8 bytes w.0 w.1).0
 field_refused RoleField bytes fault fits e =
-    elim (bind_err (on_wire (number_at 4 bytes)) (λ n. or_fault faults.CertType (role_of n.0) >>= λ role. Ok (role, n.1)) fault e) [
+    elim (bind_err (in_fault cut_short (number_at 4 bytes)) (λ n. ok_or (role_of n.0) faults.CertType >>= λ role. Ok (role, n.1)) fault e) [
       | inl cut ↦
-          let w = on_wire_err (number_at 4 bytes) fault cut in
+          let w = in_fault_err cut_short (number_at 4 bytes) fault cut in
           told RoleField bytes faults.Wire fault w.2 (number_err 4 bytes w.0 w.1).0
       | inr n ↦
-          elim (bind_err (or_fault faults.CertType (role_of n.0.0)) (λ role. Ok (role, n.0.1)) fault n.2) [
+          elim (bind_err (ok_or (role_of n.0.0) faults.CertType) (λ role. Ok (role, n.0.1)) fault n.2) [
             | inl other ↦
-                let w = or_fault_err faults.CertType (role_of n.0.0) fault other in
-                let t = number_takes 4 bytes n.0.0 n.0.1 fits (on_wire_ok (number_at 4 bytes) n.0 n.1) in
+                let w = none_err (role_of n.0.0) faults.CertType fault other in
+                let t = number_takes 4 bytes n.0.0 n.0.1 fits (in_fault_ok cut_short (number_at 4 bytes) n.0 n.1) in
                 let differs = no_role n.0.0 w.0 in
                 told RoleField bytes faults.CertType fault w.1 (record { role = n.0.0; rest = n.0.1; spelled = t.0.parts; fits = t.1; no_user = differs.0; no_host = differs.1 })
             | inr role ↦ absurd (never_err (role.0, n.0.1) fault role.2)
           ]
     ]
 field_refused PrincipalsField bytes fault fits e =
-    elim (bind_err (on_wire (string_at bytes)) (λ content. or_fault faults.Principals (strings_of content.0) >>= λ list. Ok (list, content.1)) fault e) [
+    elim (bind_err (in_fault cut_short (string_at bytes)) (λ content. ok_or (strings_of content.0) faults.Principals >>= λ list. Ok (list, content.1)) fault e) [
       | inl cut ↦
-          let w = on_wire_err (string_at bytes) fault cut in
+          let w = in_fault_err cut_short (string_at bytes) fault cut in
           told PrincipalsField bytes faults.Wire fault w.2 (string_cut bytes w.0 w.1)
       | inr content ↦
-          elim (bind_err (or_fault faults.Principals (strings_of content.0.0)) (λ list. Ok (list, content.0.1)) fault content.2) [
+          elim (bind_err (ok_or (strings_of content.0.0) faults.Principals) (λ list. Ok (list, content.0.1)) fault content.2) [
             | inl other ↦
-                let w = or_fault_err faults.Principals (strings_of content.0.0) fault other in
+                let w = none_err (strings_of content.0.0) faults.Principals fault other in
                 let b = read_begins bytes content.0 fits content.1 in
                 told PrincipalsField bytes faults.Principals fault w.1 (content.0.0, b.0, no_strings content.0.0 b.0.fits w.0)
             | inr list ↦ absurd (never_err (list.0, content.0.1) fault list.2)
           ]
     ]
 field_refused OptionsField bytes fault fits e =
-    elim (bind_err (on_wire (string_at bytes)) (λ content. or_fault faults.Options (options_of content.0) >>= λ list. Ok (list, content.1)) fault e) [
+    elim (bind_err (in_fault cut_short (string_at bytes)) (λ content. ok_or (options_of content.0) faults.Options >>= λ list. Ok (list, content.1)) fault e) [
       | inl cut ↦
-          let w = on_wire_err (string_at bytes) fault cut in
+          let w = in_fault_err cut_short (string_at bytes) fault cut in
           told OptionsField bytes faults.Wire fault w.2 (string_cut bytes w.0 w.1)
       | inr content ↦
-          elim (bind_err (or_fault faults.Options (options_of content.0.0)) (λ list. Ok (list, content.0.1)) fault content.2) [
+          elim (bind_err (ok_or (options_of content.0.0) faults.Options) (λ list. Ok (list, content.0.1)) fault content.2) [
             | inl other ↦
-                let w = or_fault_err faults.Options (options_of content.0.0) fault other in
+                let w = none_err (options_of content.0.0) faults.Options fault other in
                 let b = read_begins bytes content.0 fits content.1 in
                 told OptionsField bytes faults.Options fault w.1 (content.0.0, b.0, no_options content.0.0 b.0.fits w.0)
             | inr list ↦ absurd (never_err (list.0, content.0.1) fault list.2)
           ]
     ]
 field_refused AuthorityField bytes fault fits e =
-    elim (bind_err (on_wire (string_at bytes)) (λ blob. on_key faults.Authority (key_at blob.0) >>= λ key. Ok (authority_of blob.0 key, blob.1)) fault e) [
+    elim (bind_err (in_fault cut_short (string_at bytes)) (λ blob. in_fault faults.Authority (key_at blob.0) >>= λ key. Ok (authority_of blob.0 key, blob.1)) fault e) [
       | inl cut ↦
-          let w = on_wire_err (string_at bytes) fault cut in
+          let w = in_fault_err cut_short (string_at bytes) fault cut in
           told AuthorityField bytes faults.Wire fault w.2 (string_cut bytes w.0 w.1)
       | inr blob ↦
-          elim (bind_err (on_key faults.Authority (key_at blob.0.0)) (λ key. Ok (authority_of blob.0.0 key, blob.0.1)) fault blob.2) [
+          elim (bind_err (in_fault faults.Authority (key_at blob.0.0)) (λ key. Ok (authority_of blob.0.0 key, blob.0.1)) fault blob.2) [
             | inl other ↦
-                let w = on_key_err faults.Authority (key_at blob.0.0) fault other in
+                let w = in_fault_err faults.Authority (key_at blob.0.0) fault other in
                 let b = read_begins bytes blob.0 fits blob.1 in
                 told AuthorityField bytes (faults.Authority w.0) fault w.2 (blob.0.0, b.0, key_refused blob.0.0 w.0 b.1 w.1)
             | inr key ↦ absurd (never_err (authority_of blob.0.0 key.0, blob.0.1) fault key.2)
           ]
     ]
 field_refused SignatureField bytes fault fits e =
-    elim (bind_err (on_wire (string_at bytes)) (λ text. or_fault faults.Signature (named text.0 (string_at text.0)) >>= λ signature. Ok (signature, text.1)) fault e) [
+    elim (bind_err (in_fault cut_short (string_at bytes)) (λ text. ok_or (named text.0 (string_at text.0)) faults.Signature >>= λ signature. Ok (signature, text.1)) fault e) [
       | inl cut ↦
-          let w = on_wire_err (string_at bytes) fault cut in
+          let w = in_fault_err cut_short (string_at bytes) fault cut in
           told SignatureField bytes faults.Wire fault w.2 (string_cut bytes w.0 w.1)
       | inr text ↦
-          elim (bind_err (or_fault faults.Signature (named text.0.0 (string_at text.0.0))) (λ signature. Ok (signature, text.0.1)) fault text.2) [
+          elim (bind_err (ok_or (named text.0.0 (string_at text.0.0)) faults.Signature) (λ signature. Ok (signature, text.0.1)) fault text.2) [
             | inl other ↦
-                let w = or_fault_err faults.Signature (named text.0.0 (string_at text.0.0)) fault other in
+                let w = none_err (named text.0.0 (string_at text.0.0)) faults.Signature fault other in
                 let b = read_begins bytes text.0 fits text.1 in
-                told SignatureField bytes faults.Signature fault w.1 (text.0.0, b.0, λ algorithm first. unnamed text.0.0 (string_at text.0.0) (algorithm, first.rest) w.0 (begins_read text.0.0 algorithm first))
+                told SignatureField bytes faults.Signature fault w.1 (text.0.0, b.0, λ algorithm first. unnamed text.0.0 (string_at text.0.0) (algorithm, first.rest) w.0 (string_read text.0.0 algorithm first))
             | inr signature ↦ absurd (never_err (signature.0, text.0.1) fault signature.2)
           ]
     ]
@@ -144,18 +146,18 @@ refusal_read RoleField bytes faults.CertType fits r =
 refusal_read PrincipalsField bytes faults.Wire fits r = rw r refl
 refusal_read PrincipalsField bytes faults.Principals fits r =
     let none : strings_of r.0 ≡ None = some_or_none (strings_of r.0) (λ list e. r.2 list (strings_of_takes r.0 list (begins_fits bytes r.0 fits r.1) e)) in
-    rw (begins_read bytes r.0 r.1, none) refl
+    rw (string_read bytes r.0 r.1, none) refl
 refusal_read OptionsField bytes faults.Wire fits r = rw r refl
 refusal_read OptionsField bytes faults.Options fits r =
     let none : options_of r.0 ≡ None = some_or_none (options_of r.0) (λ list e. r.2 list (options_take r.0 list (begins_fits bytes r.0 fits r.1) e)) in
-    rw (begins_read bytes r.0 r.1, none) refl
+    rw (string_read bytes r.0 r.1, none) refl
 refusal_read AuthorityField bytes faults.Wire fits r = rw r refl
-refusal_read AuthorityField bytes (faults.Authority fault) fits r = rw (begins_read bytes r.0 r.1, first_fault_read r.0 fault r.2) refl
+refusal_read AuthorityField bytes (faults.Authority fault) fits r = rw (string_read bytes r.0 r.1, first_fault_read r.0 fault r.2) refl
 refusal_read SignatureField bytes faults.Wire fits r = rw r refl
 refusal_read SignatureField bytes faults.Signature fits r =
     let inner : IsBytes r.0 = begins_fits bytes r.0 fits r.1 in
     let none : named r.0 (string_at r.0) ≡ None = unnamed_read r.0 (string_at r.0) (λ first e.
     let t = string_takes r.0 first.0 first.1 inner e in
     r.2 first.0 (begins r.0 first.0 first.1 t.0.parts t.1)) in
-    rw (begins_read bytes r.0 r.1, none) refl
+    rw (string_read bytes r.0 r.1, none) refl
 refusal_read field bytes fault fits r = absurd r

@@ -5,10 +5,9 @@ use Rattle.std.specs.Option.{option_and_then}
 use Rattle.std.proofs.lemmas.Bool.{eqb-false, eqb-true, lt-ltb, ltb-true, ne_eqb}
 use Rattle.ssh_wire.specs.declared.fault.WireFault.{WireFault}
 use Rattle.ssh_wire.specs.declared.fault.WireFault.TheVariants.{Short}
-use Rattle.ssh_wire.specs.Wire.{BeginsWith, IsBytes, number, string, strings}
+use Rattle.ssh_wire.specs.Wire.{BeginsWith, IsBytes, string, strings}
 use Rattle.ssh_wire.specs.Reading.{content_at, front_at, number_at, string_at}
-use Rattle.ssh_wire.specs.Fields.{string_again}
-use Rattle.ssh_key.proofs.Wire.{IsBytes-behind, IsBytes-front}
+use Rattle.ssh_key.proofs.Wire.{IsBytes-content}
 use Rattle.ssh_cert.specs.declared.role.Role.{Role}
 use Rattle.ssh_cert.specs.declared.role.Role.TheVariants.{User, Host}
 use Rattle.ssh_cert.specs.Certificate.{role_number}
@@ -92,12 +91,8 @@ unnamed_read text (Err fault) never = refl
 pub begins : (bytes value rest : List ℕ) → bytes ≡ string value ++ rest → length value < 2 ^ 32 → BeginsWith bytes value
 begins bytes value rest e lt = record { rest = rest; spelled = e; fits = lt }
 
-pub begins_read : (bytes value : List ℕ) → (b : BeginsWith bytes value) → string_at bytes ≡ Ok (value, b.rest)
-begins_read bytes value b = ap string_at b.spelled ∙ string_again value b.rest b.fits
-
 pub content_fits : (bytes text rest : List ℕ) → IsBytes bytes → bytes ≡ string text ++ rest → IsBytes text
-unfolding string
-content_fits bytes text rest fits e = IsBytes-behind (number 4 (length text)) text (IsBytes-front (string text) rest (subst IsBytes e fits))
+content_fits bytes text rest fits e = IsBytes-content text rest (subst IsBytes e fits)
 
 pub guard_err : {A : Type 0} (b : Bool) (fault why : WireFault) (x : A) → cond b (Err fault) (Ok x) ≡ Err why → (b ≡ true) × (why ≡ fault)
 guard_err true fault why x e = (refl, cc)

@@ -1,20 +1,22 @@
 -- A field that is read is spelled as its value, and what is spelled so is read.
 use Rattle.std.proofs.Common.{◌≡◌, ℕ, ◌^◌, ◌<◌, List, ◌++◌, length, Result, Ok, refl, ap, subst, ◌∙◌, arith}
+use Rattle.std.specs.Option.{ok_or}
 use Rattle.ssh_wire.specs.Wire.{IsBytes, number, string, strings}
-use Rattle.ssh_wire.specs.Reading.{number_at, string_at}
+use Rattle.ssh_wire.specs.Reading.{◌>>=◌, in_fault, number_at, string_at}
 use Rattle.ssh_wire.specs.Fields.{Takes, number_again, number_takes, string_again, string_takes}
 use Rattle.ssh_key.specs.KeyReading.{key_at, public_at}
 use Rattle.ssh_key.proofs.Keys.{key_again, key_found, public_again, public_found}
+use Rattle.ssh_key.proofs.Refusals.{string_read}
+use Rattle.ssh_key.proofs.Steps.{bind_ok, in_fault_ok, some_ok}
 use Rattle.ssh_key.proofs.Wire.{IsBytes-behind}
 use Rattle.ssh_cert.specs.declared.fault.CertFault.{CertFault}
 use Rattle.ssh_cert.specs.declared.fault.CertFault.TheVariants as faults
 use Rattle.ssh_cert.specs.Certificate.{role_number}
-use Rattle.ssh_cert.specs.CertReading.{◌>>=◌, authority_of, field_at, named, on_key, on_wire, options_of, or_fault, role_of, signature_of}
+use Rattle.ssh_cert.specs.CertReading.{authority_of, cut_short, field_at, named, options_of, role_of, signature_of}
 use Rattle.ssh_cert.specs.Field.{Field, TextField, PublicField, NumberField, RoleField, PrincipalsField, OptionsField, AuthorityField, Signature, SignatureField, IsValue, ValueOf, field_text}
 use Rattle.ssh_cert.specs.Options.{options_text}
 use Rattle.ssh_cert.specs.Strings.{strings_of}
-use Rattle.ssh_cert.proofs.Steps.{bind_ok, on_key_ok, on_wire_ok, or_fault_ok}
-use Rattle.ssh_cert.proofs.FieldLemmas.{begins, begins_read, content_fits, named_is, options_again, options_take, role_again, role_small, role_takes}
+use Rattle.ssh_cert.proofs.FieldLemmas.{begins, content_fits, named_is, options_again, options_take, role_again, role_small, role_takes}
 use Rattle.ssh_cert.proofs.StringLists.{strings_of_again, strings_of_takes}
 
 -- the field's value was taken from the front
@@ -44,47 +46,47 @@ named_read text first signature rest x same e = ap (λ (s : Signature). done Sig
 pub field_takes : (field : Field) (bytes : List ℕ) (x : ValueOf field × List ℕ) → IsBytes bytes → field_at field bytes ≡ Ok x → TakesField field bytes x
 unfolding field_at
 field_takes TextField bytes x fits e =
-    let t = string_takes bytes x.0 x.1 fits (on_wire_ok (string_at bytes) x e) in
+    let t = string_takes bytes x.0 x.1 fits (in_fault_ok cut_short (string_at bytes) x e) in
     record { takes = t.0; allowed = t.1 }
 field_takes (PublicField kind) bytes x fits e =
-    let p = public_found kind bytes x fits (on_key_ok faults.Key (public_at kind bytes) x e) in
+    let p = public_found kind bytes x fits (in_fault_ok faults.Key (public_at kind bytes) x e) in
     let behind : IsBytes x.1 = IsBytes-behind x.0.fields x.1 (subst IsBytes p.1.spelled fits) in
     record { takes = record { parts = p.1.spelled; rest_fits = behind }; allowed = (p.0, p.1.is_key) }
 field_takes NumberField bytes x fits e =
-    let t = number_takes 8 bytes x.0 x.1 fits (on_wire_ok (number_at 8 bytes) x e) in
+    let t = number_takes 8 bytes x.0 x.1 fits (in_fault_ok cut_short (number_at 8 bytes) x e) in
     record { takes = t.0; allowed = t.1 }
 field_takes RoleField bytes x fits e =
-    let a = bind_ok (on_wire (number_at 4 bytes)) (λ n. or_fault faults.CertType (role_of n.0) >>= λ role. Ok (role, n.1)) x e in
-    let b = bind_ok (or_fault faults.CertType (role_of a.0.0)) (λ role. Ok (role, a.0.1)) x a.2 in
-    let t = number_takes 4 bytes a.0.0 a.0.1 fits (on_wire_ok (number_at 4 bytes) a.0 a.1) in
-    let same : a.0.0 ≡ role_number b.0 = role_takes a.0.0 b.0 (or_fault_ok faults.CertType (role_of a.0.0) b.0 b.1) in
+    let a = bind_ok (in_fault cut_short (number_at 4 bytes)) (λ n. ok_or (role_of n.0) faults.CertType >>= λ role. Ok (role, n.1)) x e in
+    let b = bind_ok (ok_or (role_of a.0.0) faults.CertType) (λ role. Ok (role, a.0.1)) x a.2 in
+    let t = number_takes 4 bytes a.0.0 a.0.1 fits (in_fault_ok cut_short (number_at 4 bytes) a.0 a.1) in
+    let same : a.0.0 ≡ role_number b.0 = role_takes a.0.0 b.0 (some_ok (role_of a.0.0) faults.CertType b.0 b.1) in
     taken RoleField bytes b.0 a.0.1 x b.2 (subst (λ (n : ℕ). Takes bytes (number 4 n) a.0.1) same t.0) tt
 field_takes PrincipalsField bytes x fits e =
-    let a = bind_ok (on_wire (string_at bytes)) (λ content. or_fault faults.Principals (strings_of content.0) >>= λ list. Ok (list, content.1)) x e in
-    let b = bind_ok (or_fault faults.Principals (strings_of a.0.0)) (λ list. Ok (list, a.0.1)) x a.2 in
-    let t = string_takes bytes a.0.0 a.0.1 fits (on_wire_ok (string_at bytes) a.0 a.1) in
+    let a = bind_ok (in_fault cut_short (string_at bytes)) (λ content. ok_or (strings_of content.0) faults.Principals >>= λ list. Ok (list, content.1)) x e in
+    let b = bind_ok (ok_or (strings_of a.0.0) faults.Principals) (λ list. Ok (list, a.0.1)) x a.2 in
+    let t = string_takes bytes a.0.0 a.0.1 fits (in_fault_ok cut_short (string_at bytes) a.0 a.1) in
     let inner : IsBytes a.0.0 = content_fits bytes a.0.0 a.0.1 fits t.0.parts in
-    let same : a.0.0 ≡ strings b.0 = strings_of_takes a.0.0 b.0 inner (or_fault_ok faults.Principals (strings_of a.0.0) b.0 b.1) in
+    let same : a.0.0 ≡ strings b.0 = strings_of_takes a.0.0 b.0 inner (some_ok (strings_of a.0.0) faults.Principals b.0 b.1) in
     taken PrincipalsField bytes b.0 a.0.1 x b.2 (respelled bytes a.0.0 (strings b.0) a.0.1 t.0 same) (short a.0.0 (strings b.0) t.1 same)
 field_takes OptionsField bytes x fits e =
-    let a = bind_ok (on_wire (string_at bytes)) (λ content. or_fault faults.Options (options_of content.0) >>= λ list. Ok (list, content.1)) x e in
-    let b = bind_ok (or_fault faults.Options (options_of a.0.0)) (λ list. Ok (list, a.0.1)) x a.2 in
-    let t = string_takes bytes a.0.0 a.0.1 fits (on_wire_ok (string_at bytes) a.0 a.1) in
+    let a = bind_ok (in_fault cut_short (string_at bytes)) (λ content. ok_or (options_of content.0) faults.Options >>= λ list. Ok (list, content.1)) x e in
+    let b = bind_ok (ok_or (options_of a.0.0) faults.Options) (λ list. Ok (list, a.0.1)) x a.2 in
+    let t = string_takes bytes a.0.0 a.0.1 fits (in_fault_ok cut_short (string_at bytes) a.0 a.1) in
     let inner : IsBytes a.0.0 = content_fits bytes a.0.0 a.0.1 fits t.0.parts in
-    let same : a.0.0 ≡ options_text b.0 = options_take a.0.0 b.0 inner (or_fault_ok faults.Options (options_of a.0.0) b.0 b.1) in
+    let same : a.0.0 ≡ options_text b.0 = options_take a.0.0 b.0 inner (some_ok (options_of a.0.0) faults.Options b.0 b.1) in
     taken OptionsField bytes b.0 a.0.1 x b.2 (respelled bytes a.0.0 (options_text b.0) a.0.1 t.0 same) (short a.0.0 (options_text b.0) t.1 same)
 field_takes AuthorityField bytes x fits e =
-    let a = bind_ok (on_wire (string_at bytes)) (λ blob. on_key faults.Authority (key_at blob.0) >>= λ key. Ok (authority_of blob.0 key, blob.1)) x e in
-    let b = bind_ok (on_key faults.Authority (key_at a.0.0)) (λ key. Ok (authority_of a.0.0 key, a.0.1)) x a.2 in
-    let t = string_takes bytes a.0.0 a.0.1 fits (on_wire_ok (string_at bytes) a.0 a.1) in
+    let a = bind_ok (in_fault cut_short (string_at bytes)) (λ blob. in_fault faults.Authority (key_at blob.0) >>= λ key. Ok (authority_of blob.0 key, blob.1)) x e in
+    let b = bind_ok (in_fault faults.Authority (key_at a.0.0)) (λ key. Ok (authority_of a.0.0 key, a.0.1)) x a.2 in
+    let t = string_takes bytes a.0.0 a.0.1 fits (in_fault_ok cut_short (string_at bytes) a.0 a.1) in
     let inner : IsBytes a.0.0 = content_fits bytes a.0.0 a.0.1 fits t.0.parts in
-    taken AuthorityField bytes (authority_of a.0.0 b.0) a.0.1 x b.2 t.0 (key_found a.0.0 b.0 inner (on_key_ok faults.Authority (key_at a.0.0) b.0 b.1))
+    taken AuthorityField bytes (authority_of a.0.0 b.0) a.0.1 x b.2 t.0 (key_found a.0.0 b.0 inner (in_fault_ok faults.Authority (key_at a.0.0) b.0 b.1))
 field_takes SignatureField bytes x fits e =
-    let a = bind_ok (on_wire (string_at bytes)) (λ text. or_fault faults.Signature (named text.0 (string_at text.0)) >>= λ signature. Ok (signature, text.1)) x e in
-    let b = bind_ok (or_fault faults.Signature (named a.0.0 (string_at a.0.0))) (λ signature. Ok (signature, a.0.1)) x a.2 in
-    let t = string_takes bytes a.0.0 a.0.1 fits (on_wire_ok (string_at bytes) a.0 a.1) in
+    let a = bind_ok (in_fault cut_short (string_at bytes)) (λ text. ok_or (named text.0 (string_at text.0)) faults.Signature >>= λ signature. Ok (signature, text.1)) x e in
+    let b = bind_ok (ok_or (named a.0.0 (string_at a.0.0)) faults.Signature) (λ signature. Ok (signature, a.0.1)) x a.2 in
+    let t = string_takes bytes a.0.0 a.0.1 fits (in_fault_ok cut_short (string_at bytes) a.0 a.1) in
     let inner : IsBytes a.0.0 = content_fits bytes a.0.0 a.0.1 fits t.0.parts in
-    let n = named_is a.0.0 (string_at a.0.0) b.0 (or_fault_ok faults.Signature (named a.0.0 (string_at a.0.0)) b.0 b.1) in
+    let n = named_is a.0.0 (string_at a.0.0) b.0 (some_ok (named a.0.0 (string_at a.0.0)) faults.Signature b.0 b.1) in
     let first = string_takes a.0.0 n.0.0 n.0.1 inner n.1 in
     taken SignatureField bytes (signature_of a.0.0 n.0) a.0.1 x (named_read a.0.0 n.0 b.0 a.0.1 x n.2 b.2) t.0 (t.1, begins a.0.0 n.0.0 n.0.1 first.0.parts first.1)
 
@@ -100,4 +102,4 @@ field_again AuthorityField authority rest allowed =
     let lt : length authority.blob < 2 ^ 32 = omega (arith, allowed.short) in
     rw (string_again authority.blob rest lt, key_again authority.blob authority.key allowed) refl
 field_again SignatureField signature rest allowed =
-    rw (string_again signature.text rest allowed.0, begins_read signature.text signature.algorithm allowed.1) refl
+    rw (string_again signature.text rest allowed.0, string_read signature.text signature.algorithm allowed.1) refl

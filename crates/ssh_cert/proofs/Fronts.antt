@@ -3,11 +3,12 @@
 use Rattle.std.proofs.Common.{◌≡◌, ℕ, List, [], ◌∷◌, ◌++◌, Result, Ok, Err, refl, sym, ap, subst, ◌∙◌, append_assoc, inl, inr}
 use Rattle.ssh_wire.specs.Wire.{IsBytes}
 use Rattle.ssh_wire.specs.Fields.{Takes, Takes-then}
+use Rattle.ssh_wire.specs.Reading.{◌>>=◌}
+use Rattle.ssh_key.proofs.Steps.{bind_err, bind_ok, never_err}
 use Rattle.ssh_cert.specs.declared.fault.CertFault.{CertFault}
-use Rattle.ssh_cert.specs.CertReading.{◌>>=◌, field_at, fields_at}
+use Rattle.ssh_cert.specs.CertReading.{field_at, fields_at}
 use Rattle.ssh_cert.specs.Field.{Field, IsValue, AreValues, ValueOf, ValuesOf, field_text, fields_text}
 use Rattle.ssh_cert.specs.FirstFault.{Refuses}
-use Rattle.ssh_cert.proofs.Steps.{bind_err, bind_ok, never_err}
 use Rattle.ssh_cert.proofs.FieldReads.{field_again, field_takes}
 use Rattle.ssh_cert.proofs.FieldFaults.{field_refused, refusal_read}
 

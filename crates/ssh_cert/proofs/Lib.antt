@@ -1,5 +1,4 @@
 pub mod StringLists
-pub mod Steps
 pub mod FieldLemmas
 pub mod FieldReads
 pub mod FieldFaults

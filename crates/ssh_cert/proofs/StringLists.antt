@@ -12,8 +12,8 @@ use Rattle.ssh_wire.specs.Reading.{Reads, content_at, front_at, number_at, strin
 use Rattle.ssh_wire.specs.declared.fault.WireFault.{WireFault}
 use Rattle.ssh_wire.specs.declared.fault.WireFault.TheVariants.{Short}
 use Rattle.ssh_wire.specs.Fields.{length-string, string_again, string_takes}
+use Rattle.ssh_key.proofs.Steps.{ok_is, ok_or_err}
 use Rattle.ssh_cert.specs.Strings.{AreStrings, string_before, strings_in, strings_of, strings_within}
-use Rattle.ssh_cert.proofs.Steps.{ok_is, ok_or_err}
 
 -- ---- what is read is spelled so
 

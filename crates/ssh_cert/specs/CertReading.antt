@@ -1,9 +1,8 @@
 -- Reading a certificate from left to right, with the first fault that is met.
-use Rattle.std.specs.Prelude.{◌≡◌, ℕ, List, [], ◌∷◌, length, Option, Some, None, Result, Ok, Err, ◌==◌, if◌then◌else◌}
-use Rattle.std.specs.Option.{option_and_then}
-use Rattle.ssh_wire.specs.Reading.{number_at, string_at}
+use Rattle.std.specs.Prelude.{ℕ, List, [], ◌∷◌, length, Option, Some, None, Result, Ok, Err, ◌==◌, if◌then◌else◌}
+use Rattle.std.specs.Option.{ok_or, option_and_then}
+use Rattle.ssh_wire.specs.Reading.{◌>>=◌, in_fault, number_at, string_at}
 use Rattle.ssh_wire.specs.declared.fault.WireFault.{WireFault}
-use Rattle.ssh_key.specs.declared.fault.KeyFault.{KeyFault}
 use Rattle.ssh_key.specs.declared.kind.Kind.{Kind}
 use Rattle.ssh_key.specs.Key.{Key}
 use Rattle.ssh_key.specs.KeyReading.{key_at, public_at}
@@ -17,26 +16,9 @@ use Rattle.ssh_cert.specs.Field.{Field, TextField, PublicField, NumberField, Rol
 use Rattle.ssh_cert.specs.Options.{NamedData, pairs_of}
 use Rattle.ssh_cert.specs.Strings.{strings_of}
 
-infixl 10 ◌>>=◌
-abbrev pub ◌>>=◌ : {A B : Type 0}
-    → Result A CertFault → (A → Result B CertFault) → Result B CertFault
-(Ok x) >>= f = f x
-(Err fault) >>= f = Err fault
-
--- a field that is cut short
-abbrev pub on_wire : {A : Type 0} → Result A WireFault → Result A CertFault
-on_wire (Ok x) = Ok x
-on_wire (Err fault) = Err faults.Wire
-
--- a fault of a key, as one of a certificate
-abbrev pub on_key : {A : Type 0} → (KeyFault → CertFault) → Result A KeyFault → Result A CertFault
-on_key told (Ok x) = Ok x
-on_key told (Err fault) = Err (told fault)
-
--- a value, if there is one
-abbrev pub or_fault : {A : Type 0} → CertFault → Option A → Result A CertFault
-or_fault fault None = Err fault
-or_fault fault (Some x) = Ok x
+-- a field that is cut short, whatever the fault of the wire
+abbrev pub cut_short : WireFault → CertFault
+cut_short fault = faults.Wire
 
 abbrev pub role_of : ℕ → Option Role
 role_of n = if n == 1 then Some User else if n == 2 then Some Host else None
@@ -57,28 +39,28 @@ named text (Err fault) = None
 
 -- the value of the field at the front, and the bytes after it
 unfoldable pub field_at : (field : Field) → List ℕ → Result (ValueOf field × List ℕ) CertFault
-field_at TextField bytes = on_wire (string_at bytes)
-field_at (PublicField kind) bytes = on_key faults.Key (public_at kind bytes)
-field_at NumberField bytes = on_wire (number_at 8 bytes)
+field_at TextField bytes = in_fault cut_short (string_at bytes)
+field_at (PublicField kind) bytes = in_fault faults.Key (public_at kind bytes)
+field_at NumberField bytes = in_fault cut_short (number_at 8 bytes)
 field_at RoleField bytes = do
-  number ← on_wire (number_at 4 bytes)
-  role ← or_fault faults.CertType (role_of number.0)
+  number ← in_fault cut_short (number_at 4 bytes)
+  role ← ok_or (role_of number.0) faults.CertType
   Ok (role, number.1)
 field_at PrincipalsField bytes = do
-  content ← on_wire (string_at bytes)
-  principals ← or_fault faults.Principals (strings_of content.0)
+  content ← in_fault cut_short (string_at bytes)
+  principals ← ok_or (strings_of content.0) faults.Principals
   Ok (principals, content.1)
 field_at OptionsField bytes = do
-  content ← on_wire (string_at bytes)
-  options ← or_fault faults.Options (options_of content.0)
+  content ← in_fault cut_short (string_at bytes)
+  options ← ok_or (options_of content.0) faults.Options
   Ok (options, content.1)
 field_at AuthorityField bytes = do
-  blob ← on_wire (string_at bytes)
-  key ← on_key faults.Authority (key_at blob.0)
+  blob ← in_fault cut_short (string_at bytes)
+  key ← in_fault faults.Authority (key_at blob.0)
   Ok (authority_of blob.0 key, blob.1)
 field_at SignatureField bytes = do
-  text ← on_wire (string_at bytes)
-  signature ← or_fault faults.Signature (named text.0 (string_at text.0))
+  text ← in_fault cut_short (string_at bytes)
+  signature ← ok_or (named text.0 (string_at text.0)) faults.Signature
   Ok (signature, text.1)
 
 -- the values of the fields, one after the other, and the bytes after them
@@ -93,8 +75,8 @@ fields_at (field ∷ fields) bytes = do
 -- the kind whose certificates have the name at the front
 unfoldable pub kind_at : List ℕ → Result (Kind × List ℕ) CertFault
 kind_at bytes = do
-  name ← on_wire (string_at bytes)
-  kind ← or_fault faults.UnknownType (kind_certified name.0)
+  name ← in_fault cut_short (string_at bytes)
+  kind ← ok_or (kind_certified name.0) faults.UnknownType
   Ok (kind, name.1)
 
 -- the certificate of the values, without those of the reserved field and the signature
@@ -154,9 +136,3 @@ certificate_at blob = do
   kind ← kind_at blob
   body ← body_at kind.0 kind.1
   if length body.1 == 0 then Ok body.0 else Err faults.Trailing
-
--- A read answered what reading gives, and left the bytes after it.
-abbrev pub Reads : {X Y : Type 0}
-    → (X → Y) → Result X CertFault → List ℕ → Result (Y × List ℕ) CertFault → Type 0
-Reads view (Ok x) left read = read ≡ Ok (view x, left)
-Reads view (Err fault) left read = read ≡ Err fault

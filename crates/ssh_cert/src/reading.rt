@@ -1,8 +1,9 @@
 // Reading a certificate, field by field. A cursor that met a fault is not used again.
 
 ghost use Rattle.std.specs.Prelude.{◌≡◌, ℕ, IfErr, IfOk, Ok};
+ghost use Rattle.ssh_wire.specs.Reading.{Gives};
 ghost use Rattle.ssh_cert.specs.Certificate.{Certificate, IsCertificate};
-ghost use Rattle.ssh_cert.specs.CertReading.{Reads, body_at, certificate_at, field_at, fields_at, kind_at};
+ghost use Rattle.ssh_cert.specs.CertReading.{body_at, certificate_at, field_at, fields_at, kind_at};
 ghost use Rattle.ssh_cert.specs.Field.{AuthorityField, NumberField, OptionsField, PrincipalsField, PublicField, RoleField, SignatureField, TextField, closing_fields, naming_fields};
 ghost use Rattle.ssh_cert.specs.FirstFault.{IsFirstFault};
 ghost use Rattle.ssh_cert.specs.Parts.{closing_values, naming_values, numbered_fields, numbered_values, of_fields};
@@ -113,7 +114,7 @@ fn cert_of<'a>(blob: &'a [u8]) -> Result<Cert<'a>, CertFault>
 /// The kind by the type name.
 #[tactic(auto, unfolding(crate::specs::CertReading::kind_at))]
 fn kind_of(cursor: &mut Cursor) -> Result<Kind, CertFault>
-    ensures { Reads (λ kind. kind) result cursor.new (kind_at cursor.old) }
+    ensures { Gives (λ kind. kind) result cursor.new (kind_at cursor.old) }
 {
     let name = cursor.string()?;
     Kind::of_cert_name(name).ok_or(CertFault::UnknownType)
@@ -122,7 +123,7 @@ fn kind_of(cursor: &mut Cursor) -> Result<Kind, CertFault>
 /// The fields behind the type name.
 #[tactic(auto, unfolding(crate::specs::CertReading::body_at, crate::specs::CertReading::fields_at))]
 fn body_fields<'a>(kind: Kind, cursor: &mut Cursor<'a>) -> Result<Cert<'a>, CertFault>
-    ensures { Reads (λ cert. cert) result cursor.new (body_at kind cursor.old) }
+    ensures { Gives (λ cert. cert) result cursor.new (body_at kind cursor.old) }
 {
     let nonce = text_field(cursor)?;
     let key = public_fields(kind, cursor)?;
@@ -155,7 +156,7 @@ fn of_fields<'a>(nonce: &'a [u8], key: PublicKey<'a>, numbered: Numbered<'a>) ->
 
 #[tactic(auto, unfolding(crate::specs::CertReading::fields_at))]
 fn numbered_part<'a>(cursor: &mut Cursor<'a>) -> Result<Numbered<'a>, CertFault>
-    ensures { Reads numbered_values result cursor.new (fields_at numbered_fields cursor.old) }
+    ensures { Gives numbered_values result cursor.new (fields_at numbered_fields cursor.old) }
 {
     let serial = number_field(cursor)?;
     let role = role_field(cursor)?;
@@ -169,7 +170,7 @@ fn numbered_part<'a>(cursor: &mut Cursor<'a>) -> Result<Numbered<'a>, CertFault>
 
 #[tactic(auto, unfolding(crate::specs::CertReading::fields_at))]
 fn naming_part<'a>(cursor: &mut Cursor<'a>) -> Result<Naming<'a>, CertFault>
-    ensures { Reads naming_values result cursor.new (fields_at naming_fields cursor.old) }
+    ensures { Gives naming_values result cursor.new (fields_at naming_fields cursor.old) }
 {
     let key_id = text_field(cursor)?;
     let principals = principals_field(cursor)?;
@@ -187,7 +188,7 @@ fn naming_part<'a>(cursor: &mut Cursor<'a>) -> Result<Naming<'a>, CertFault>
 
 #[tactic(auto, unfolding(crate::specs::CertReading::fields_at))]
 fn closing_part<'a>(cursor: &mut Cursor<'a>) -> Result<Closing<'a>, CertFault>
-    ensures { Reads closing_values result cursor.new (fields_at closing_fields cursor.old) }
+    ensures { Gives closing_values result cursor.new (fields_at closing_fields cursor.old) }
 {
     let critical = options_field(cursor)?;
     let extensions = options_field(cursor)?;
@@ -206,7 +207,7 @@ fn closing_part<'a>(cursor: &mut Cursor<'a>) -> Result<Closing<'a>, CertFault>
 /// A string.
 #[tactic(auto, unfolding(crate::specs::CertReading::field_at))]
 fn text_field<'a>(cursor: &mut Cursor<'a>) -> Result<&'a [u8], CertFault>
-    ensures { Reads (λ text. text.now) result cursor.new (field_at TextField cursor.old) }
+    ensures { Gives (λ text. text.now) result cursor.new (field_at TextField cursor.old) }
 {
     Ok(cursor.string()?)
 }
@@ -214,7 +215,7 @@ fn text_field<'a>(cursor: &mut Cursor<'a>) -> Result<&'a [u8], CertFault>
 /// The public fields of the plain key.
 #[tactic(auto, unfolding(crate::specs::CertReading::field_at))]
 fn public_fields<'a>(kind: Kind, cursor: &mut Cursor<'a>) -> Result<PublicKey<'a>, CertFault>
-    ensures { Reads (λ key. key) result cursor.new (field_at (PublicField kind) cursor.old) }
+    ensures { Gives (λ key. key) result cursor.new (field_at (PublicField kind) cursor.old) }
 {
     match read_fields(kind, cursor) {
         Ok(key) => Ok(key),
@@ -225,7 +226,7 @@ fn public_fields<'a>(kind: Kind, cursor: &mut Cursor<'a>) -> Result<PublicKey<'a
 /// A number of eight bytes.
 #[tactic(auto, unfolding(crate::specs::CertReading::field_at))]
 fn number_field(cursor: &mut Cursor) -> Result<u64, CertFault>
-    ensures { Reads (λ n. n) result cursor.new (field_at NumberField cursor.old) }
+    ensures { Gives (λ n. n) result cursor.new (field_at NumberField cursor.old) }
 {
     Ok(cursor.u64()?)
 }
@@ -233,7 +234,7 @@ fn number_field(cursor: &mut Cursor) -> Result<u64, CertFault>
 /// What the certificate is for.
 #[tactic(auto, unfolding(crate::specs::CertReading::field_at))]
 fn role_field(cursor: &mut Cursor) -> Result<Role, CertFault>
-    ensures { Reads (λ role. role) result cursor.new (field_at RoleField cursor.old) }
+    ensures { Gives (λ role. role) result cursor.new (field_at RoleField cursor.old) }
 {
     match cursor.u32()? {
         1 => Ok(Role::User),
@@ -245,7 +246,7 @@ fn role_field(cursor: &mut Cursor) -> Result<Role, CertFault>
 /// The principals.
 #[tactic(auto, unfolding(crate::specs::CertReading::field_at))]
 fn principals_field<'a>(cursor: &mut Cursor<'a>) -> Result<Strings<'a>, CertFault>
-    ensures { Reads (λ list. list) result cursor.new (field_at PrincipalsField cursor.old) }
+    ensures { Gives (λ list. list) result cursor.new (field_at PrincipalsField cursor.old) }
 {
     let content = cursor.string()?;
     strings_in(content).ok_or(CertFault::Principals)
@@ -254,7 +255,7 @@ fn principals_field<'a>(cursor: &mut Cursor<'a>) -> Result<Strings<'a>, CertFaul
 /// The critical options or the extensions.
 #[tactic(auto, unfolding(crate::specs::CertReading::field_at))]
 fn options_field<'a>(cursor: &mut Cursor<'a>) -> Result<Options<'a>, CertFault>
-    ensures { Reads (λ list. list) result cursor.new (field_at OptionsField cursor.old) }
+    ensures { Gives (λ list. list) result cursor.new (field_at OptionsField cursor.old) }
 {
     let content = cursor.string()?;
     options_in(content).ok_or(CertFault::Options)
@@ -263,7 +264,7 @@ fn options_field<'a>(cursor: &mut Cursor<'a>) -> Result<Options<'a>, CertFault>
 /// The signature key.
 #[tactic(auto, unfolding(crate::specs::CertReading::field_at))]
 fn authority_field<'a>(cursor: &mut Cursor<'a>) -> Result<Authority<'a>, CertFault>
-    ensures { Reads (λ authority. authority) result cursor.new
+    ensures { Gives (λ authority. authority) result cursor.new
         (field_at AuthorityField cursor.old) }
 {
     let blob = cursor.string()?;
@@ -276,7 +277,7 @@ fn authority_field<'a>(cursor: &mut Cursor<'a>) -> Result<Authority<'a>, CertFau
 /// The signature, of which the name of its algorithm is read.
 #[tactic(auto, unfolding(crate::specs::CertReading::field_at))]
 fn signature_field<'a>(cursor: &mut Cursor<'a>) -> Result<Signature<'a>, CertFault>
-    ensures { Reads (λ signature. signature) result cursor.new
+    ensures { Gives (λ signature. signature) result cursor.new
         (field_at SignatureField cursor.old) }
 {
     let text = cursor.string()?;

@@ -1,7 +1,7 @@
 -- The bytes of a container: what is read is one, each one is read, and the fault that is met is the
 -- first.
-use Rattle.std.proofs.Common.{◌≡◌, ◌≢◌, ℕ, ◌<◌, Bool, true, false, cond, eqb, List, [], ◌∷◌, ◌++◌, length, None, Result, Ok, Err, refl, sym, ap, subst, ◌∙◌, arith, inl, inr, ◌⊎◌}
-use Rattle.std.proofs.lemmas.Bool.{eqb-true, eqb-false, ne_eqb}
+use Rattle.std.proofs.Common.{◌≡◌, ℕ, ◌<◌, Bool, true, false, cond, eqb, List, [], ◌∷◌, ◌++◌, length, None, Result, Ok, Err, refl, sym, ap, subst, ◌∙◌, arith, inl, inr, ◌⊎◌}
+use Rattle.std.proofs.lemmas.Bool.{eqb-true, ne_eqb}
 use Rattle.std.proofs.lemmas.List.{nil_from_length}
 use Rattle.ssh_wire.specs.Wire.{IsBytes, string}
 use Rattle.ssh_wire.specs.Reading.{◌>>=◌}
@@ -15,9 +15,8 @@ use Rattle.ssh_key.specs.declared.private_fault.PrivateFault.{PrivateFault}
 use Rattle.ssh_key.specs.declared.private_fault.PrivateFault.TheVariants as faults
 use Rattle.ssh_key.proofs.Keys.{key_again, key_found}
 use Rattle.ssh_key.proofs.ListLaws.{list_again, list_found, list_met, list_refused}
-use Rattle.ssh_key.proofs.Refusals.{bind_err}
 use Rattle.ssh_key.proofs.RowLaws.{row_again, row_fails, row_refused, row_takes}
-use Rattle.ssh_key.proofs.Steps.{bind_ok}
+use Rattle.ssh_key.proofs.Steps.{above_zero, bind_err, bind_ok}
 use Rattle.ssh_key.proofs.Wire.{IsBytes-behind, IsBytes-content}
 
 -- ---- the parts
@@ -74,9 +73,6 @@ ended_ok o rest r e = by_test (eqb (length rest) 0) refl e
     by_test : (b : Bool) → eqb (length rest) 0 ≡ b → cond {A = Result Opened PrivateFault} b r (Err faults.Trailing) ≡ Ok o → (rest ≡ []) × (r ≡ Ok o)
     by_test true test given = (nil_from_length rest (eqb-true _ _ test), given)
     by_test false test given = absurd cc
-
-above_zero : (n : ℕ) → eqb n 0 ≡ false → 0 < n
-above_zero n e = let ne : n ≢ 0 = eqb-false _ _ e in omega arith
 
 ended_err : (rest : List ℕ) (r : Result Opened PrivateFault) (d : PrivateFault) → cond {A = Result Opened PrivateFault} (eqb (length rest) 0) r (Err faults.Trailing) ≡ Err d → ((rest ≡ []) × (r ≡ Err d)) ⊎ ((0 < length rest) × (d ≡ faults.Trailing))
 ended_err rest r d e = by_test (eqb (length rest) 0) refl e

@@ -26,17 +26,14 @@ use Rattle.ssh_key.specs.declared.kind.Kind.TheVariants.{Dsa, EcdsaSk, Ed25519Sk
 use Rattle.ssh_key.specs.declared.private_fault.PrivateFault.{PrivateFault}
 use Rattle.ssh_key.specs.declared.private_fault.PrivateFault.TheVariants.{Base64, Wire}
 use Rattle.ssh_key.proofs.ListLaws.{front_met, not_front}
+use Rattle.ssh_key.proofs.Public.{both_true}
 
 -- ---- the parts
 
-both : (a b : Bool) → (a && b) ≡ true → (a ≡ true) × (b ≡ true)
-both true b e = (refl, e)
-both false b e = absurd cc
-
 plain_is : (cipher derivation options : List ℕ) → is_plain cipher derivation options ≡ true → (cipher ≡ codes "none") × (derivation ≡ codes "none") × (options ≡ [])
 plain_is cipher derivation options plain =
-    let first = both (bytes_eq cipher (codes "none")) (bytes_eq derivation (codes "none") && length options == 0) plain in
-    let others = both (bytes_eq derivation (codes "none")) (length options == 0) first.1 in (
+    let first = both_true (bytes_eq cipher (codes "none")) (bytes_eq derivation (codes "none") && length options == 0) plain in
+    let others = both_true (bytes_eq derivation (codes "none")) (length options == 0) first.1 in (
       (bytes_eq-Decides cipher (codes "none")).0 first.0,
       (bytes_eq-Decides derivation (codes "none")).0 others.0,
       nil_from_length options (eqb-true _ _ others.1),

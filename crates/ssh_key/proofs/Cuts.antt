@@ -5,7 +5,7 @@ use Rattle.std.proofs.lemmas.List.{length-append, length-drop, length-take, take
 use Rattle.std.proofs.Math.Seq.{take-append-add}
 use Rattle.ssh_wire.specs.declared.fault.WireFault.{WireFault}
 use Rattle.ssh_wire.specs.declared.fault.WireFault.TheVariants.{Short}
-use Rattle.ssh_wire.specs.Wire.{complement, mpint, string}
+use Rattle.ssh_wire.specs.Wire.{mpint, string}
 use Rattle.ssh_wire.specs.Reading.{mpint_at, string_at}
 use Rattle.ssh_wire.specs.Cut.{mpint-cut, string-cut}
 use Rattle.ssh_wire.specs.Fields.{length-string}
@@ -17,6 +17,7 @@ use Rattle.ssh_key.specs.FirstFault.{IsFieldsFault, IsFirstFault, Refuses, in_fi
 use Rattle.ssh_key.proofs.FirstFaults.{stops_in_field}
 use Rattle.ssh_key.proofs.Keys.{length-type_name}
 use Rattle.ssh_key.proofs.Refusals.{Stops, stops_first, stops_later}
+use Rattle.ssh_key.proofs.Wire.{length-mpint}
 
 -- ---- a cut behind the front, and one within it
 
@@ -35,10 +36,6 @@ cut_at read text rest n short lt =
 
 pub string_cut : (text rest : List ℕ) (n : ℕ) → length text < 2 ^ 32 → n < length (string text) → string_at (take n (string text ++ rest)) ≡ Err Short
 string_cut text rest n fits lt = cut_at string_at (string text) rest n (string-cut text fits) lt
-
-length-mpint : (magnitude : List ℕ) → length (mpint magnitude) ≡ 4 + length (complement magnitude)
-unfolding mpint
-length-mpint magnitude = length-string (complement magnitude)
 
 mpint_cut : (magnitude rest : List ℕ) (n : ℕ) → HasLength (mpint magnitude) → n < length (mpint magnitude) → mpint_at (take n (mpint magnitude ++ rest)) ≡ Err Short
 mpint_cut magnitude rest n told lt = cut_at mpint_at (mpint magnitude) rest n (mpint-cut magnitude (omega (arith, length-mpint magnitude))) lt

@@ -1,30 +1,27 @@
 -- Reading a blob meets its first fault, and no other.
 use Rattle.std.proofs.Common.{◌≡◌, ◌≢◌, ℕ, ◌+◌, ◌<◌, ◌≤◌, Bool, true, false, cond, eqb, ltb, List, [], ◌∷◌, ◌++◌, length, Option, Some, None, Result, Ok, Err, refl, sym, ap, subst, ◌∙◌, arith, inl, inr}
 use Rattle.std.specs.Prelude.{IfErr}
-use Rattle.std.proofs.lemmas.Bool.{eqb-false, ne_eqb, ltb-true, ltb-false, lt-ltb, le-ltb}
+use Rattle.std.specs.Option.{ok_or}
+use Rattle.std.proofs.lemmas.Bool.{ne_eqb, ltb-true, ltb-false, lt-ltb, le-ltb}
 use Rattle.std.proofs.lemmas.List.{append-nil, length-append}
 use Rattle.ssh_wire.specs.declared.fault.WireFault.{WireFault}
 use Rattle.ssh_wire.specs.Wire.{BeginsWith, IsBytes, string}
-use Rattle.ssh_wire.specs.Reading.{string_at, ◌>>=◌}
+use Rattle.ssh_wire.specs.Reading.{◌>>=◌, in_fault, string_at}
 use Rattle.ssh_wire.specs.Fields.{Takes, string_takes}
 use Rattle.ssh_key.specs.declared.fault.KeyFault.{KeyFault}
 use Rattle.ssh_key.specs.declared.fault.KeyFault.TheVariants as faults
 use Rattle.ssh_key.specs.declared.kind.Kind.{Kind}
 use Rattle.ssh_key.specs.Kind.{Field, type_name, fields_of, bits_of, kind_named}
 use Rattle.ssh_key.specs.Key.{Key, AreValues, BeginsWithFields, blob_of, fields_text}
-use Rattle.ssh_key.specs.KeyReading.{before_rest, bits_at, fields_at, key_at, kind_at, known, not_too_long, of_size, on_wire, public_at}
+use Rattle.ssh_key.specs.KeyReading.{before_rest, bits_at, fields_at, key_at, kind_at, not_too_long, of_size, public_at}
 use Rattle.ssh_key.specs.FirstFault.{Refuses, Reaches, IsFieldsFault, in_field, long_fields, IsFault, no_name, no_kind, in_fields, after_fields, IsFirstFault, too_long, not_long}
 use Rattle.ssh_key.proofs.Names.{kind_named-name, kind_named-type_name}
-use Rattle.ssh_key.proofs.Steps.{on_wire_ok}
+use Rattle.ssh_key.proofs.Steps.{above_zero, bind_err, failed_err, in_fault_err, in_fault_ok, never_err, none_err}
 use Rattle.ssh_key.proofs.Public.{fields_take, fields_again}
 use Rattle.ssh_key.proofs.Keys.{before_is, bits_ok, kind_again, kind_takes, public_found}
-use Rattle.ssh_key.proofs.Refusals.{bind_err, on_wire_err, never_err, string_read, Stops, fields_refused, stop_read}
+use Rattle.ssh_key.proofs.Refusals.{string_read, Stops, fields_refused, stop_read}
 
 -- ---- what reading meets is a fault
-
-known_err : (o : Option Kind) (d : KeyFault) → known o ≡ Err d → (o ≡ None) × (d ≡ faults.UnknownType)
-known_err None d e = (refl, cc)
-known_err (Some kind) d e = absurd cc
 
 named_none : (name : List ℕ) → kind_named name ≡ None → (kind : Kind) → type_name kind ≢ name
 named_none name none kind same =
@@ -34,13 +31,13 @@ named_none name none kind same =
 kind_refused : (blob : List ℕ) (fault : KeyFault) → IsBytes blob → kind_at blob ≡ Err fault → IsFault blob fault
 unfolding kind_at
 kind_refused blob fault fits e =
-    elim (bind_err (on_wire (string_at blob)) (λ name. known (kind_named name.0) >>= λ kind. Ok (kind, name.1)) fault e) [
-      | inl cut ↦ let w = on_wire_err (string_at blob) fault cut in no_name w.0 w.1 w.2
+    elim (bind_err (in_fault faults.Wire (string_at blob)) (λ name. ok_or (kind_named name.0) faults.UnknownType >>= λ kind. Ok (kind, name.1)) fault e) [
+      | inl cut ↦ let w = in_fault_err faults.Wire (string_at blob) fault cut in no_name w.0 w.1 w.2
       | inr named ↦
-          elim (bind_err (known (kind_named named.0.0)) (λ kind. Ok (kind, named.0.1)) fault named.2) [
+          elim (bind_err (ok_or (kind_named named.0.0) faults.UnknownType) (λ kind. Ok (kind, named.0.1)) fault named.2) [
             | inl unknown ↦
-                let w = known_err (kind_named named.0.0) fault unknown in
-                let t = string_takes blob named.0.0 named.0.1 fits (on_wire_ok (string_at blob) named.0 named.1) in
+                let w = none_err (kind_named named.0.0) faults.UnknownType fault unknown in
+                let t = string_takes blob named.0.0 named.0.1 fits (in_fault_ok faults.Wire (string_at blob) named.0 named.1) in
                 no_kind named.0.0 (record { rest = named.0.1; spelled = t.0.parts; fits = t.1 }) (named_none named.0.0 w.0) w.1
             | inr kind ↦ absurd (never_err (kind.0, named.0.1) fault kind.2)
           ]
@@ -105,13 +102,6 @@ public_refused kind bytes fault fits e =
 
 -- ---- of a whole blob
 
-ended_err : (b : Bool) (key : Key) (d : KeyFault) → cond b (Ok key) (Err faults.Trailing) ≡ Err d → (b ≡ false) × (d ≡ faults.Trailing)
-ended_err true key d e = absurd (never_err key d e)
-ended_err false key d e = (refl, cc)
-
-above_zero : (n : ℕ) → eqb n 0 ≡ false → 0 < n
-above_zero n e = let ne : n ≢ 0 = eqb-false _ _ e in omega arith
-
 reached_end : (kind : Kind) (bytes rest : List ℕ) (key : Key) → (key.kind ≡ kind) × BeginsWithFields bytes key rest → Reaches kind bytes [] rest
 reached_end kind bytes rest key found =
     let is = found.1.is_key in
@@ -124,7 +114,7 @@ reached_end kind bytes rest key found =
 end_refused : (blob fields : List ℕ) (kind : Kind) (found : Key × List ℕ) (fault : KeyFault) → Takes blob (string (type_name kind)) fields → public_at kind fields ≡ Ok found
     → cond {A = Result Key KeyFault} (eqb (length found.1) 0) (Ok found.0) (Err faults.Trailing) ≡ Err fault → IsFault blob fault
 end_refused blob fields kind found fault t read e =
-    let w = ended_err (eqb (length found.1) 0) found.0 fault e in
+    let w = failed_err (eqb (length found.1) 0) found.0 faults.Trailing fault e in
     let taken = public_found kind fields found t.rest_fits read in
     after_fields kind fields found.1 t.parts (reached_end kind fields found.1 found.0 taken) (above_zero (length found.1) w.0) w.1
 

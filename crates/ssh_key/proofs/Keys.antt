@@ -5,7 +5,7 @@ use Rattle.std.specs.Option.{ok_or}
 use Rattle.std.proofs.lemmas.Bool.{eqb-true, ltb-false, le-ltb}
 use Rattle.std.proofs.lemmas.List.{append-nil, nil_from_length, length-append, take_at}
 use Rattle.ssh_wire.specs.Wire.{IsBytes, string}
-use Rattle.ssh_wire.specs.Reading.{Gives, string_at, ◌>>=◌}
+use Rattle.ssh_wire.specs.Reading.{◌>>=◌, Gives, in_fault, string_at}
 use Rattle.ssh_wire.specs.Fields.{Takes, string_again, string_takes}
 use Rattle.ssh_key.specs.declared.fault.KeyFault.{KeyFault}
 use Rattle.ssh_key.specs.declared.fault.KeyFault.TheVariants as faults
@@ -13,27 +13,23 @@ use Rattle.ssh_key.specs.declared.kind.Kind.{Kind}
 use Rattle.ssh_key.specs.declared.kind.Kind.TheVariants.{Rsa, Dsa, Ecdsa256, Ecdsa384, Ecdsa521, Ed25519, EcdsaSk, Ed25519Sk}
 use Rattle.ssh_key.specs.Kind.{type_name, fields_of, bits_of, kind_named}
 use Rattle.ssh_key.specs.Key.{Key, BeginsWithFields, IsKey, AreValues, blob_of, fields_text}
-use Rattle.ssh_key.specs.KeyReading.{before_rest, bits_at, fields_at, key_at, kind_at, known, IsRead, not_too_long, of_size, on_wire, public_at}
+use Rattle.ssh_key.specs.KeyReading.{before_rest, bits_at, fields_at, key_at, kind_at, IsRead, not_too_long, of_size, public_at}
 use Rattle.ssh_key.specs.Value.{SameValues}
 use Rattle.ssh_key.proofs.Names.{kind_named-name, kind_named-type_name}
-use Rattle.ssh_key.proofs.Steps.{bind_ok, on_wire_ok, passed_ok, ok_is}
-use Rattle.ssh_key.proofs.Numbers.{values_same, fields_are_bytes}
+use Rattle.ssh_key.proofs.Steps.{bind_ok, in_fault_ok, ok_is, passed_ok, some_ok}
+use Rattle.ssh_key.proofs.Numbers.{values_same}
 use Rattle.ssh_key.proofs.Public.{fields_take, fields_again}
-use Rattle.ssh_key.proofs.Wire.{IsBytes-append, IsBytes-string, IsBytes-test}
+use Rattle.ssh_key.proofs.Wire.{IsBytes-append, IsBytes-behind, IsBytes-string, IsBytes-test}
 
 -- ---- the kind
-
-known_ok : (o : Option Kind) (kind : Kind) → known o ≡ Ok kind → o ≡ Some kind
-known_ok None kind e = absurd cc
-known_ok (Some k) kind e = let same : k ≡ kind = cc in cc
 
 pub kind_takes : (bytes : List ℕ) (x : Kind × List ℕ) → IsBytes bytes → kind_at bytes ≡ Ok x → Takes bytes (string (type_name x.0)) x.1
 unfolding kind_at
 kind_takes bytes x fits e =
-    let a = bind_ok (on_wire (string_at bytes)) (λ name. known (kind_named name.0) >>= λ kind. Ok (kind, name.1)) x e in
-    let b = bind_ok (known (kind_named a.0.0)) (λ kind. Ok (kind, a.0.1)) x a.2 in
-    let named : type_name b.0 ≡ a.0.0 = kind_named-name a.0.0 b.0 (known_ok (kind_named a.0.0) b.0 b.1) in
-    let t = (string_takes bytes a.0.0 a.0.1 fits (on_wire_ok (string_at bytes) a.0 a.1)).0 in
+    let a = bind_ok (in_fault faults.Wire (string_at bytes)) (λ name. ok_or (kind_named name.0) faults.UnknownType >>= λ kind. Ok (kind, name.1)) x e in
+    let b = bind_ok (ok_or (kind_named a.0.0) faults.UnknownType) (λ kind. Ok (kind, a.0.1)) x a.2 in
+    let named : type_name b.0 ≡ a.0.0 = kind_named-name a.0.0 b.0 (some_ok (kind_named a.0.0) faults.UnknownType b.0 b.1) in
+    let t = (string_takes bytes a.0.0 a.0.1 fits (in_fault_ok faults.Wire (string_at bytes) a.0 a.1)).0 in
     let spelled : Takes bytes (string (type_name b.0)) a.0.1 = subst (λ (s : List ℕ). Takes bytes (string s) a.0.1) (sym named) t in
     let same : (b.0, a.0.1) ≡ x = cc in
     subst (λ (y : Kind × List ℕ). Takes bytes (string (type_name y.0)) y.1) same spelled
@@ -199,8 +195,8 @@ only_key blob a b p q = ok_is a b (key_at blob) (key_again blob a p) (key_again 
 
 pub only_blob : (a b : List ℕ) (k l : Key) → IsBytes a → IsBytes b → (p : IsKey a k) (q : IsKey b l) → k.kind ≡ l.kind → SameValues (fields_of k.kind) p.values q.values → a ≡ b
 only_blob a b k l bytes_a bytes_b p q kinds same =
-    let fields_a : IsBytes k.fields = fields_are_bytes (string (type_name k.kind)) k.fields (subst IsBytes p.spelled bytes_a) in
-    let fields_b : IsBytes l.fields = fields_are_bytes (string (type_name l.kind)) l.fields (subst IsBytes q.spelled bytes_b) in
+    let fields_a : IsBytes k.fields = IsBytes-behind (string (type_name k.kind)) k.fields (subst IsBytes p.spelled bytes_a) in
+    let fields_b : IsBytes l.fields = IsBytes-behind (string (type_name l.kind)) l.fields (subst IsBytes q.spelled bytes_b) in
     let allowed : AreValues (fields_of k.kind) q.values = subst (λ (kind : Kind). AreValues (fields_of kind) q.values) (sym kinds) q.allowed in
     let spelled : l.fields ≡ fields_text (fields_of k.kind) q.values = q.fields ∙ ap (λ (kind : Kind). fields_text (fields_of kind) q.values) (sym kinds) in
     let values : p.values ≡ q.values = values_same (fields_of k.kind) p.values q.values (subst IsBytes p.fields fields_a) (subst IsBytes spelled fields_b) p.allowed allowed same in

@@ -1,5 +1,5 @@
 -- A number has one magnitude, and its bits hold it.
-use Rattle.std.proofs.Common.{◌≡◌, ℕ, zero, suc, ◌+◌, ◌*◌, ◌^◌, ◌<◌, ◌≤◌, List, [], ◌∷◌, ◌++◌, length, Bool, true, false, cond, refl, sym, ap, ◌∙◌, arith}
+use Rattle.std.proofs.Common.{◌≡◌, ℕ, zero, suc, ◌+◌, ◌*◌, ◌^◌, ◌<◌, ◌≤◌, List, [], ◌∷◌, length, Bool, true, false, cond, refl, sym, ap, ◌∙◌, arith}
 use Rattle.std.specs.Prelude.{nat_lt}
 use Rattle.std.proofs.lemmas.Nat.{pow-add, leading_top}
 use Rattle.std.proofs.Math.Nat.{pow-suc, mul-le-mul_left}
@@ -45,9 +45,6 @@ values_same (field ∷ fields) (a ∷ left) (b ∷ right) h k p q same =
     let first : a ≡ b = value_same field a b (IsBytes-front (field_text field a) (fields_text fields left) h) (IsBytes-front (field_text field b) (fields_text fields right) k) p.0 q.0 same.0 in
     let later : left ≡ right = values_same fields left right (IsBytes-behind (field_text field a) (fields_text fields left) h) (IsBytes-behind (field_text field b) (fields_text fields right) k) p.2 q.2 same.1 in
     cc (first, later)
-
-pub fields_are_bytes : (front fields : List ℕ) → IsBytes (front ++ fields) → IsBytes fields
-fields_are_bytes front fields h = IsBytes-behind front fields h
 
 -- ---- bits
 

@@ -20,9 +20,7 @@ use Rattle.ssh_key.proofs.ArmourLaws.{armour_again, armour_bytes, armour_found}
 use Rattle.ssh_key.proofs.DecodedBytes.{IsBytes-decoded}
 use Rattle.ssh_key.proofs.ContainerLaws.{Inside, IsInsideFault, fails, goes_on, inside_again, inside_found, inside_met, inside_refused, refused}
 use Rattle.ssh_key.proofs.ListLaws.{front_met, front_not, front_taken}
-use Rattle.ssh_key.proofs.Refusals.{bind_err}
-use Rattle.ssh_key.proofs.RowLaws.{in_fault_err, in_fault_ok}
-use Rattle.ssh_key.proofs.Steps.{bind_ok, err_is, ok_or_err}
+use Rattle.ssh_key.proofs.Steps.{bind_err, bind_ok, err_is, in_fault_err, in_fault_ok, ok_or_err}
 use Rattle.ssh_key.proofs.Wire.{IsBytes-behind}
 
 -- ---- the name of the format

@@ -12,7 +12,7 @@ use Rattle.ssh_key.specs.declared.fault.KeyFault.TheVariants as faults
 use Rattle.ssh_key.specs.Kind.{Field, Positive, Curve, Point, Sized, Text}
 use Rattle.ssh_key.specs.Key.{HasLength, IsUncompressed, IsValue, AreValues, field_text, fields_text}
 use Rattle.ssh_key.specs.KeyReading.{value_at, fault_in, begins_with_4, unless, field_at, fields_at}
-use Rattle.ssh_key.proofs.Steps.{bind_ok, on_wire_ok}
+use Rattle.ssh_key.proofs.Steps.{bind_ok, in_fault_ok}
 use Rattle.ssh_key.proofs.Wire.{magnitude_is_positive, mpint_told, positive_again}
 
 -- ---- one field
@@ -43,15 +43,15 @@ uncompressed-begins [] h = absurd h
 uncompressed-begins (byte ∷ bytes) h = rw h refl
 
 pub value_takes : (field : Field) (bytes value rest : List ℕ) → IsBytes bytes → value_at field bytes ≡ Ok (value, rest) → Takes bytes (field_text field value) rest
-value_takes Positive bytes value rest fits e = (mpint_takes bytes value rest fits (on_wire_ok (mpint_at bytes) (value, rest) e)).0
-value_takes (Curve name) bytes value rest fits e = (string_takes bytes value rest fits (on_wire_ok (string_at bytes) (value, rest) e)).0
-value_takes (Point size) bytes value rest fits e = (string_takes bytes value rest fits (on_wire_ok (string_at bytes) (value, rest) e)).0
-value_takes (Sized size) bytes value rest fits e = (string_takes bytes value rest fits (on_wire_ok (string_at bytes) (value, rest) e)).0
-value_takes Text bytes value rest fits e = (string_takes bytes value rest fits (on_wire_ok (string_at bytes) (value, rest) e)).0
+value_takes Positive bytes value rest fits e = (mpint_takes bytes value rest fits (in_fault_ok faults.Wire (mpint_at bytes) (value, rest) e)).0
+value_takes (Curve name) bytes value rest fits e = (string_takes bytes value rest fits (in_fault_ok faults.Wire (string_at bytes) (value, rest) e)).0
+value_takes (Point size) bytes value rest fits e = (string_takes bytes value rest fits (in_fault_ok faults.Wire (string_at bytes) (value, rest) e)).0
+value_takes (Sized size) bytes value rest fits e = (string_takes bytes value rest fits (in_fault_ok faults.Wire (string_at bytes) (value, rest) e)).0
+value_takes Text bytes value rest fits e = (string_takes bytes value rest fits (in_fault_ok faults.Wire (string_at bytes) (value, rest) e)).0
 
 value_allowed : (field : Field) (bytes value rest : List ℕ) → IsBytes bytes → value_at field bytes ≡ Ok (value, rest) → fault_in field value ≡ None → IsValue field value
 value_allowed Positive bytes value rest fits e none =
-    magnitude_is_positive value (mpint_takes bytes value rest fits (on_wire_ok (mpint_at bytes) (value, rest) e)).1 (λ empty. let r = rejected (eqb (length value) 0) faults.Number none in absurd (let t : eqb (length value) 0 ≡ true = rw empty refl in cc))
+    magnitude_is_positive value (mpint_takes bytes value rest fits (in_fault_ok faults.Wire (mpint_at bytes) (value, rest) e)).1 (λ empty. let r = rejected (eqb (length value) 0) faults.Number none in absurd (let t : eqb (length value) 0 ≡ true = rw empty refl in cc))
 value_allowed (Curve name) bytes value rest fits e none = (bytes_eq-Decides value name).0 (passed (bytes_eq value name) faults.Curve none)
 value_allowed (Point size) bytes value rest fits e none =
     let both = both_true (eqb (length value) size) (begins_with_4 value) (passed (eqb (length value) size && begins_with_4 value) faults.Point none) in
@@ -64,11 +64,11 @@ string_told : (value : List ℕ) → length value < 2 ^ 32 → HasLength (string
 string_told value lt = omega (arith, length-string value)
 
 pub value_told : (field : Field) (bytes value rest : List ℕ) → IsBytes bytes → value_at field bytes ≡ Ok (value, rest) → HasLength (field_text field value)
-value_told Positive bytes value rest fits e = mpint_told value (mpint_takes bytes value rest fits (on_wire_ok (mpint_at bytes) (value, rest) e)).2
-value_told (Curve name) bytes value rest fits e = string_told value (string_takes bytes value rest fits (on_wire_ok (string_at bytes) (value, rest) e)).1
-value_told (Point size) bytes value rest fits e = string_told value (string_takes bytes value rest fits (on_wire_ok (string_at bytes) (value, rest) e)).1
-value_told (Sized size) bytes value rest fits e = string_told value (string_takes bytes value rest fits (on_wire_ok (string_at bytes) (value, rest) e)).1
-value_told Text bytes value rest fits e = string_told value (string_takes bytes value rest fits (on_wire_ok (string_at bytes) (value, rest) e)).1
+value_told Positive bytes value rest fits e = mpint_told value (mpint_takes bytes value rest fits (in_fault_ok faults.Wire (mpint_at bytes) (value, rest) e)).2
+value_told (Curve name) bytes value rest fits e = string_told value (string_takes bytes value rest fits (in_fault_ok faults.Wire (string_at bytes) (value, rest) e)).1
+value_told (Point size) bytes value rest fits e = string_told value (string_takes bytes value rest fits (in_fault_ok faults.Wire (string_at bytes) (value, rest) e)).1
+value_told (Sized size) bytes value rest fits e = string_told value (string_takes bytes value rest fits (in_fault_ok faults.Wire (string_at bytes) (value, rest) e)).1
+value_told Text bytes value rest fits e = string_told value (string_takes bytes value rest fits (in_fault_ok faults.Wire (string_at bytes) (value, rest) e)).1
 
 pub field_takes : (field : Field) (bytes value rest : List ℕ) → IsBytes bytes → field_at field bytes ≡ Ok (value, rest) → Takes bytes (field_text field value) rest × IsValue field value × HasLength (field_text field value)
 unfolding field_at

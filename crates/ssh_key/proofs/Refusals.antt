@@ -1,11 +1,10 @@
 -- The fault that reading meets is the first fault, and the first fault is what reading meets.
-use Rattle.std.proofs.Common.{◌≡◌, ◌≢◌, ℕ, Bool, true, false, cond, eqb, List, [], ◌∷◌, ◌++◌, length, Option, Some, None, Result, Ok, Err, refl, sym, ap, subst, ◌∙◌, append_assoc, arith, ◌⊎◌, inl, inr}
+use Rattle.std.proofs.Common.{◌≡◌, ◌≢◌, ℕ, Bool, true, false, cond, eqb, List, [], ◌∷◌, ◌++◌, length, Option, Some, None, Ok, Err, refl, sym, ap, subst, ◌∙◌, append_assoc, arith, inl, inr}
 use Rattle.std.specs.Prelude.{◌&&◌}
 use Rattle.std.specs.Str.{bytes_eq}
 use Rattle.std.proofs.lemmas.Bool.{eqb-true, eqb-false, eq-eqb, ne_eqb}
 use Rattle.std.proofs.lemmas.List.{nil_from_length}
 use Rattle.std.proofs.lemmas.Slice.Eq.{bytes_eq-Decides}
-use Rattle.ssh_wire.specs.declared.fault.WireFault.{WireFault}
 use Rattle.ssh_wire.specs.Wire.{BeginsWith, IsBytes, complement, mpint, string}
 use Rattle.ssh_wire.specs.Reading.{magnitude_of, mpint_at, string_at, ◌>>=◌}
 use Rattle.ssh_wire.specs.Fields.{Takes, length-string, string_again}
@@ -14,25 +13,14 @@ use Rattle.ssh_key.specs.declared.fault.KeyFault.TheVariants as faults
 use Rattle.ssh_key.specs.declared.fault.KeyFault.TheVariants.{Wire, Length, Number}
 use Rattle.ssh_key.specs.Kind.{Field, Positive, Curve, Point, Sized, Text}
 use Rattle.ssh_key.specs.Key.{HasLength, IsUncompressed, IsValue, AreValues, field_text, fields_text}
-use Rattle.ssh_key.specs.KeyReading.{on_wire, value_at, fault_in, begins_with_4, unless, field_at, fields_at}
+use Rattle.ssh_key.specs.KeyReading.{value_at, fault_in, begins_with_4, unless, field_at, fields_at}
 use Rattle.ssh_key.specs.FirstFault.{Refuses}
+use Rattle.ssh_key.proofs.Steps.{bind_err, in_fault_err, never_err}
 use Rattle.ssh_key.proofs.Public.{both_true, begins-uncompressed, uncompressed-begins, value_takes, value_told, field_takes, field_again}
-
--- a step that failed, or one after it
-pub bind_err : {A B E : Type 0} (r : Result A E) (f : A → Result B E) (d : E) → (r >>= f) ≡ Err d → (r ≡ Err d) ⊎ ((x : A) × (r ≡ Ok x) × (f x ≡ Err d))
-bind_err (Ok x) f d e = inr (x, refl, e)
-bind_err {E = E} (Err c) f d e = let same : c ≡ d = cc in inl (ap (λ (k : E). Err k) same)
-
-pub on_wire_err : {A : Type 0} (r : Result A WireFault) (d : KeyFault) → on_wire r ≡ Err d → (why : WireFault) × (r ≡ Err why) × (d ≡ Wire why)
-on_wire_err (Ok x) d e = absurd cc
-on_wire_err (Err why) d e = (why, refl, cc)
 
 unless_err : {A : Type 0} (o : Option KeyFault) (x : A) (d : KeyFault) → unless o x ≡ Err d → o ≡ Some d
 unless_err None x d e = absurd cc
 unless_err (Some c) x d e = let same : c ≡ d = cc in ap (λ (k : KeyFault). Some k) same
-
-pub never_err : {A : Type 0} (x : A) (d : KeyFault) → Ok x ≡ Err d → ⊥
-never_err x d e = cc
 
 some_is : (b : Bool) (c d : KeyFault) → cond b (Some c) None ≡ Some d → (b ≡ true) × (c ≡ d)
 some_is true c d e = (refl, cc)
@@ -53,11 +41,11 @@ begins bytes value rest t told = record { rest = rest; spelled = t.parts; fits =
 
 -- a field that is misspelt
 value_refused : (field : Field) (bytes : List ℕ) (fault : KeyFault) → value_at field bytes ≡ Err fault → Refuses field bytes fault
-value_refused Positive bytes fault e = let w = on_wire_err (mpint_at bytes) fault e in subst (λ (d : KeyFault). Refuses Positive bytes d) (sym w.2) w.1
-value_refused (Curve name) bytes fault e = let w = on_wire_err (string_at bytes) fault e in subst (λ (d : KeyFault). Refuses (Curve name) bytes d) (sym w.2) w.1
-value_refused (Point size) bytes fault e = let w = on_wire_err (string_at bytes) fault e in subst (λ (d : KeyFault). Refuses (Point size) bytes d) (sym w.2) w.1
-value_refused (Sized size) bytes fault e = let w = on_wire_err (string_at bytes) fault e in subst (λ (d : KeyFault). Refuses (Sized size) bytes d) (sym w.2) w.1
-value_refused Text bytes fault e = let w = on_wire_err (string_at bytes) fault e in subst (λ (d : KeyFault). Refuses Text bytes d) (sym w.2) w.1
+value_refused Positive bytes fault e = let w = in_fault_err Wire (mpint_at bytes) fault e in subst (λ (d : KeyFault). Refuses Positive bytes d) (sym w.2) w.1
+value_refused (Curve name) bytes fault e = let w = in_fault_err Wire (string_at bytes) fault e in subst (λ (d : KeyFault). Refuses (Curve name) bytes d) (sym w.2) w.1
+value_refused (Point size) bytes fault e = let w = in_fault_err Wire (string_at bytes) fault e in subst (λ (d : KeyFault). Refuses (Point size) bytes d) (sym w.2) w.1
+value_refused (Sized size) bytes fault e = let w = in_fault_err Wire (string_at bytes) fault e in subst (λ (d : KeyFault). Refuses (Sized size) bytes d) (sym w.2) w.1
+value_refused Text bytes fault e = let w = in_fault_err Wire (string_at bytes) fault e in subst (λ (d : KeyFault). Refuses Text bytes d) (sym w.2) w.1
 
 not_both : (size : ℕ) (value : List ℕ) → (eqb (length value) size && begins_with_4 value) ≡ false → ¬ ((length value ≡ size) × IsUncompressed value)
 not_both size value e h =

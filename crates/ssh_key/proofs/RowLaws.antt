@@ -7,8 +7,7 @@ use Rattle.ssh_wire.specs.Fields.{mpint_again, mpint_takes, number_again, number
 use Rattle.ssh_key.specs.Rows.{Fails, Leads, Magnitude, Number, Part, Stands, Step, Text, alone, part_at, row_at, unless_judged}
 use Rattle.ssh_key.specs.declared.private_fault.PrivateFault.{PrivateFault}
 use Rattle.ssh_key.specs.declared.private_fault.PrivateFault.TheVariants.{Wire}
-use Rattle.ssh_key.proofs.Steps.{bind_ok}
-use Rattle.ssh_key.proofs.Refusals.{bind_err}
+use Rattle.ssh_key.proofs.Steps.{bind_err, bind_ok, in_fault_err, in_fault_ok}
 
 -- ---- one part
 
@@ -47,14 +46,6 @@ part_again Magnitude bytes value rest s = ap mpint_at s.spelled ∙ mpint_again 
 part_again Text bytes value rest s = ap string_at s.spelled ∙ string_again value rest s.is_part
 
 -- ---- a step
-
-pub in_fault_ok : {A E F : Type 0} (words : E → F) (r : Result A E) (x : A) → in_fault words r ≡ Ok x → r ≡ Ok x
-in_fault_ok words (Ok y) x e = let same : y ≡ x = cc in cc
-in_fault_ok words (Err fault) x e = absurd cc
-
-pub in_fault_err : {A E F : Type 0} (words : E → F) (r : Result A E) (d : F) → in_fault words r ≡ Err d → (why : E) × (r ≡ Err why) × (d ≡ words why)
-in_fault_err words (Ok y) d e = absurd cc
-in_fault_err words (Err why) d e = (why, refl, cc)
 
 judged_ok : {A : Type 0} (o : Option PrivateFault) (later : Result A PrivateFault) (x : A) → unless_judged o later ≡ Ok x → (o ≡ None) × (later ≡ Ok x)
 judged_ok None later x e = (refl, e)

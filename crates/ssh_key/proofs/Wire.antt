@@ -42,7 +42,7 @@ pub magnitude_is_positive : (magnitude : List ℕ) → IsMagnitude magnitude →
 magnitude_is_positive [] h full = absurd (full refl)
 magnitude_is_positive (byte ∷ bytes) h full = h
 
-length-mpint : (magnitude : List ℕ) → length (mpint magnitude) ≡ 4 + length (complement magnitude)
+pub length-mpint : (magnitude : List ℕ) → length (mpint magnitude) ≡ 4 + length (complement magnitude)
 unfolding mpint
 length-mpint magnitude = length-string (complement magnitude)
 

@@ -1,22 +1,18 @@
 -- Reading a key from left to right, with the first fault that is met.
 use Rattle.std.specs.Prelude.{◌≡◌, ℕ, ◌-◌, Bool, List, [], ◌∷◌, length, take, Option, Some, None, Result, Ok, Err, nat_lt, ◌==◌, ◌&&◌, if◌then◌else◌}
+use Rattle.std.specs.Option.{ok_or}
 use Rattle.std.specs.Str.{bytes_eq}
 use Rattle.ssh_wire.specs.Reading.{◌>>=◌, in_fault, mpint_at, string_at}
-use Rattle.ssh_wire.specs.declared.fault.WireFault.{WireFault}
 use Rattle.ssh_key.specs.declared.fault.KeyFault.{KeyFault}
 use Rattle.ssh_key.specs.declared.fault.KeyFault.TheVariants as faults
 use Rattle.ssh_key.specs.declared.kind.Kind.{Kind}
 use Rattle.ssh_key.specs.Kind.{Field, Positive, Curve, Point, Sized, Text, fields_of, bits_of, kind_named}
 use Rattle.ssh_key.specs.Key.{Key, blob_of, longest_blob}
 
--- a fault of the wire is one of the key
-abbrev pub on_wire : {A : Type 0} → Result A WireFault → Result A KeyFault
-on_wire = in_fault faults.Wire
-
 -- the value at the front, whether or not it may stand there, and the bytes after it
 abbrev pub value_at : Field → List ℕ → Result (List ℕ × List ℕ) KeyFault
-value_at Positive bytes = on_wire (mpint_at bytes)
-value_at field bytes = on_wire (string_at bytes)
+value_at Positive bytes = in_fault faults.Wire (mpint_at bytes)
+value_at field bytes = in_fault faults.Wire (string_at bytes)
 
 abbrev pub begins_with_4 : List ℕ → Bool
 begins_with_4 [] = Bool.false
@@ -48,14 +44,10 @@ fields_at (field ∷ fields) bytes = do
   others ← fields_at fields first.1
   Ok (first.0 ∷ others.0, others.1)
 
-abbrev pub known : Option Kind → Result Kind KeyFault
-known None = Err faults.UnknownType
-known (Some kind) = Ok kind
-
 unfoldable pub kind_at : List ℕ → Result (Kind × List ℕ) KeyFault
 kind_at bytes = do
-  name ← on_wire (string_at bytes)
-  kind ← known (kind_named name.0)
+  name ← in_fault faults.Wire (string_at bytes)
+  kind ← ok_or (kind_named name.0) faults.UnknownType
   Ok (kind, name.1)
 
 -- the size in bits that the public fields give, and the bytes after them
