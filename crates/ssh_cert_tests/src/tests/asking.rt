@@ -1,8 +1,7 @@
 // What a revocation list is asked.
 
-use crate::tests::parts::{
-    AUTHORITY, PUBLISHED, Part, certificate, changed, is_asked, is_right, plain, strings,
-};
+use crate::tests::parts::{AUTHORITY, Part, certificate, changed, is_asked, is_right, plain};
+use parts_for_tests::{PUBLISHED, strings};
 use ssh_cert::{CertFault, CertNames, SubjectFault, subject};
 use ssh_key::KeyFault;
 use ssh_wire::WireFault;

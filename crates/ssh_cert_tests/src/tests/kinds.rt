@@ -1,6 +1,7 @@
 // A certificate of each kind of key.
 
-use crate::tests::parts::{Part, changed, has_fault, is_asked, is_right, strings};
+use crate::tests::parts::{Part, changed, has_fault, is_asked, is_right};
+use parts_for_tests::strings;
 use ssh_cert::{CertFault, read_cert};
 use ssh_key::{KeyFault, Kind};
 use ssh_wire::WireFault;

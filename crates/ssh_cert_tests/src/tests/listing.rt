@@ -1,6 +1,7 @@
 // The listing of a certificate, and instants as they are printed.
 
-use crate::tests::parts::{PUBLISHED, Part, changed, is_right, with};
+use crate::tests::parts::{Part, changed, is_right, with};
+use parts_for_tests::PUBLISHED;
 use ssh_cert::{list_cert, push_escaped, read_cert, time_text, valid_at};
 use ssh_key::Hash;
 use std::alloc::Global;

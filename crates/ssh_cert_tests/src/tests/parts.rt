@@ -1,14 +1,9 @@
 // Certificates from their parts.
 
+use parts_for_tests::strings;
 use ssh_cert::{CertFault, read_cert, subject};
 use std::alloc::{AllocError, Global};
 use std::process::Abort;
-
-/// The public field of the Ed25519 key that GitHub publishes for its hosts.
-pub const PUBLISHED: [u8; 32] = [
-    0xe3, 0x2a, 0xaa, 0x79, 0x15, 0xce, 0xb9, 0xb4, 0x49, 0xd1, 0xba, 0x50, 0xea, 0x2a, 0x28, 0xbb,
-    0x1a, 0x6e, 0x01, 0xf9, 0x0b, 0xda, 0x24, 0x5a, 0x2d, 0x1d, 0x87, 0x69, 0x7d, 0x18, 0xa2, 0x65,
-];
 
 /// The public field of the authority's key.
 pub const AUTHORITY: [u8; 32] = [0x11; 32];
@@ -65,17 +60,6 @@ const FIELDS: [(Part, &[u8]); 14] = [
           \0\0\0\0\0\0\0\0\0\0\0\0\0\0\0\0\0\0\0\0\0\0\0\0\0\0\0\0\0\0\0\0",
     ),
 ];
-
-/// Strings, one after the other: four bytes of length and the bytes of each.
-pub fn strings(alloc: Global, list: &[&[u8]]) -> Result<Vec<u8>, AllocError> {
-    let mut all = Vec::new(alloc);
-    for bytes in list {
-        let [.., a, b, c, d] = bytes.len().to_be_bytes();
-        all.extend_from_slice(&[a, b, c, d])?;
-        all.extend_from_slice(*bytes)?;
-    }
-    Ok(all)
-}
 
 /// The blob of a plain Ed25519 key.
 pub fn plain(alloc: Global, public: &[u8]) -> Result<Vec<u8>, AllocError> {

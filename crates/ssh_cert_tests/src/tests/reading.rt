@@ -1,9 +1,9 @@
 // Certificates read, and the fault of each change of a field.
 
 use crate::tests::parts::{
-    AUTHORITY, PUBLISHED, Part, certificate, changed, has_fault, is_right, plain, relengthened,
-    strings,
+    AUTHORITY, Part, certificate, changed, has_fault, is_right, plain, relengthened,
 };
+use parts_for_tests::{PUBLISHED, strings};
 use ssh_cert::{Cert, CertFault, Role, read_cert};
 use ssh_key::{KeyFault, Kind};
 use ssh_wire::WireFault;

@@ -1,8 +1,7 @@
 // Keys read from blobs, and the faults of blobs.
 
-use crate::tests::parts::{
-    PUBLISHED, has_fault, has_parts, is_made, point, published_key, strings,
-};
+use crate::tests::parts::{has_fault, has_parts, is_made, point, published_key};
+use parts_for_tests::{PUBLISHED, strings};
 use ssh_key::{KeyFault, Kind, read_key};
 use ssh_wire::WireFault;
 use std::alloc::{AllocError, Global};

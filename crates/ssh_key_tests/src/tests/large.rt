@@ -1,7 +1,8 @@
 // Inputs past every page and limit, with memory enough: none is refused for its size.
 
-use crate::tests::parts::{PUBLISHED, has_fault, has_fingerprint, is_made, is_right, strings};
+use crate::tests::parts::{has_fault, has_fingerprint, is_made, is_right};
 use base64::engine::general_purpose::STANDARD;
+use parts_for_tests::{PUBLISHED, strings};
 use ssh_key::{Hash, KeyFault, read_key, read_line};
 use std::alloc::{AllocError, Global};
 

@@ -1,5 +1,6 @@
 // Blobs from their parts.
 
+use parts_for_tests::{PUBLISHED, strings};
 use ssh_key::{Hash, KeyFault, Kind, PublicKey, fingerprint, plain_blob, read_key};
 use std::alloc::{AllocError, Global};
 use std::process::Abort;
@@ -10,24 +11,6 @@ pub const PUBLISHED_TYPE: &str = "ssh-ed25519";
 /// The base64 of that key's blob, as it is published.
 pub const PUBLISHED_BASE64: &str =
     "AAAAC3NzaC1lZDI1NTE5AAAAIOMqqnkVzrm0SdG6UOoqKLsabgH5C9okWi0dh2l9GKJl";
-
-/// The public field of that key.
-pub const PUBLISHED: [u8; 32] = [
-    0xe3, 0x2a, 0xaa, 0x79, 0x15, 0xce, 0xb9, 0xb4, 0x49, 0xd1, 0xba, 0x50, 0xea, 0x2a, 0x28, 0xbb,
-    0x1a, 0x6e, 0x01, 0xf9, 0x0b, 0xda, 0x24, 0x5a, 0x2d, 0x1d, 0x87, 0x69, 0x7d, 0x18, 0xa2, 0x65,
-];
-
-/// Strings, one after the other: four bytes of length and the bytes of each. A number stands here
-/// by the bytes of its string.
-pub fn strings(alloc: Global, list: &[&[u8]]) -> Result<Vec<u8>, AllocError> {
-    let mut all = Vec::new(alloc);
-    for bytes in list {
-        let [.., a, b, c, d] = bytes.len().to_be_bytes();
-        all.extend_from_slice(&[a, b, c, d])?;
-        all.extend_from_slice(*bytes)?;
-    }
-    Ok(all)
-}
 
 /// So many bytes, the first of them and the others.
 pub fn point(alloc: Global, size: usize, first: u8) -> Result<Vec<u8>, AllocError> {

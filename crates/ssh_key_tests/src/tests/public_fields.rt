@@ -1,6 +1,7 @@
 // Public fields read from the front of bytes.
 
-use crate::tests::parts::{PUBLISHED, has_parts, is_made, is_right, published_key, strings};
+use crate::tests::parts::{has_parts, is_made, is_right, published_key};
+use parts_for_tests::{PUBLISHED, strings};
 use ssh_key::{KeyFault, Kind, PublicKey, read_fields};
 use ssh_wire::{Cursor, WireFault};
 use std::alloc::{AllocError, Global};

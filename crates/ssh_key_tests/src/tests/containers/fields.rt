@@ -3,7 +3,8 @@
 use crate::tests::containers::made::{
     Parts, are_refused, joined, plain, published_container, published_list,
 };
-use crate::tests::parts::{point, published_key, strings};
+use crate::tests::parts::{point, published_key};
+use parts_for_tests::strings;
 use ssh_key::{KeyFault, PrivateFault};
 use ssh_wire::WireFault;
 use std::alloc::{AllocError, Global};

@@ -1,7 +1,8 @@
 // Containers of keys of each kind.
 
 use crate::tests::containers::made::{are_refused, armoured, is_read, joined, list, plain};
-use crate::tests::parts::{PUBLISHED, point, strings};
+use crate::tests::parts::point;
+use parts_for_tests::{PUBLISHED, strings};
 use ssh_key::PrivateFault;
 use std::alloc::{AllocError, Global};
 use std::process::Abort;

@@ -3,7 +3,8 @@
 use crate::tests::containers::made::{
     are_refused, armoured, is_read, joined, list, plain, published_fields,
 };
-use crate::tests::parts::{PUBLISHED, PUBLISHED_TYPE, is_right, published_key, strings};
+use crate::tests::parts::{PUBLISHED_TYPE, is_right, published_key};
+use parts_for_tests::{PUBLISHED, strings};
 use ssh_key::{KeyFault, PrivateFault};
 use ssh_wire::WireFault;
 use std::alloc::{AllocError, Global};

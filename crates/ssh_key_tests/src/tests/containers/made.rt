@@ -1,7 +1,8 @@
 // Containers from their parts.
 
-use crate::tests::parts::{PUBLISHED, PUBLISHED_TYPE, published_key, strings};
+use crate::tests::parts::{PUBLISHED_TYPE, published_key};
 use base64::engine::general_purpose::STANDARD;
+use parts_for_tests::{PUBLISHED, strings};
 use ssh_key::{PrivateFault, read_private};
 use std::alloc::{AllocError, Global};
 use std::process::Abort;
