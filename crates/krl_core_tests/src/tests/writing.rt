@@ -4,6 +4,7 @@ use crate::tests::lists::{has_text, header, joined, list_of, read_from, text_of}
 use crate::tests::plain_model::{Said, held_of, hold, id_under, serials_under};
 use crate::tests::subjects::ALL;
 use krl_core::{Revocations, TextFault};
+use parts_for_tests::EIGHT_AND_ONE;
 use serial_set::Held;
 use std::alloc::Global;
 use std::process::Abort;
@@ -63,19 +64,6 @@ fn serials(rt: &impl Abort, alloc: Global, runs: &[(u64, u64)], subsections: &[u
 
 // The ends of runs of serials, and the subsections that these are written by.
 type Row = (&'static [(u64, u64)], &'static [u8]);
-
-// Eight serials that a bitmap takes, and one far below them.
-const EIGHT_AND_ONE: &[(u64, u64)] = &[
-    (1_000_000, 1_000_000),
-    (1_000_002, 1_000_002),
-    (1_000_004, 1_000_004),
-    (1_000_006, 1_000_006),
-    (1_000_008, 1_000_008),
-    (1_000_010, 1_000_010),
-    (1_000_012, 1_000_012),
-    (1_000_014, 1_000_014),
-    (1, 1),
-];
 
 const SERIALS: [Row; 11] = [
     (&[(5, 5)], b"\x20\0\0\0\x08\0\0\0\0\0\0\0\x05"),

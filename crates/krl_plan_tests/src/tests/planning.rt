@@ -1,6 +1,7 @@
 // The least plan of worked lists of runs, and its cost beside that of every plan of short lists.
 
 use krl_plan::{Group, Sort, least_plan, put_least_plan};
+use parts_for_tests::EIGHT_AND_ONE;
 use serial_set::{Held, Spans};
 use std::alloc::{AllocError, Global};
 use std::process::Abort;
@@ -121,20 +122,7 @@ const ROWS: [Row; 10] = [
     (&[(1, u64::MAX)], &[(Sort::Range, 1)]),
     (&[(1, 1), (1_000_000, 1_000_000)], &[(Sort::Serials, 2)]),
     (&[(1, 2), (4, 5)], &[(Sort::Bitmap, 2)]),
-    (
-        &[
-            (1, 1),
-            (1_000_000, 1_000_000),
-            (1_000_002, 1_000_002),
-            (1_000_004, 1_000_004),
-            (1_000_006, 1_000_006),
-            (1_000_008, 1_000_008),
-            (1_000_010, 1_000_010),
-            (1_000_012, 1_000_012),
-            (1_000_014, 1_000_014),
-        ],
-        &[(Sort::Serials, 1), (Sort::Bitmap, 8)],
-    ),
+    (EIGHT_AND_ONE, &[(Sort::Serials, 1), (Sort::Bitmap, 8)]),
 ];
 
 #[test]
