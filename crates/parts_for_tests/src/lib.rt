@@ -1,5 +1,5 @@
-//! What the tests of several crates are made of: strings as the formats spell them, a published key,
-//! and runs of serials.
+//! What the tests of several crates are made of: strings as the formats spell them, a published
+//! key, and runs of serials.
 #![tactic(auto)]
 
 mod serials;

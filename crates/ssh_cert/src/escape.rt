@@ -8,7 +8,7 @@ use std::alloc::AllocError;
 const DIGITS: &[u8; 16] = b"0123456789abcdef";
 
 /// Appends the text with each byte below 0x20 and byte 0x7f as `\x` and two hexadecimal digits, so
-/// that nothing printed moves a terminal's cursor or ends a line.
+/// that no line feed and no escape byte is printed. Bytes from 0x80 on stand as they are.
 #[tactic(auto, unfolding(crate::specs::Escape::escaped))]
 pub fn push_escaped(out: &mut Vec<u8>, text: &[u8]) -> Result<(), AllocError>
     ensures { OnOk result (out.new.items ≡ out.old.items ++ escaped text.now) }
