@@ -4,7 +4,7 @@ use crate::tests::lists::{is_right, list_of, read_from, says, spans_from, with_b
 use crate::tests::rows::{BITMAP, HEADER, ROWS, Row, SERIAL_FIVE};
 use devices_for_tests::{Giver, Then};
 use krl_core::{KrlFault, Reading};
-use serial_set::Held;
+use serial_set::{Held, SpanVec, Spans};
 use ssh_wire::FromRead;
 use std::alloc::Global;
 use std::process::Abort;
@@ -15,9 +15,9 @@ fn told(alloc: Global, giver: Giver<'_>) -> Result<u128, KrlFault> {
 }
 
 // The list of a row is told as the row has it, in pieces of each size.
-fn is_told_in_pieces(rt: &impl Abort, alloc: Global, text: &[u8], row: &Row) {
+fn is_told_in_pieces<S: Spans>(rt: &impl Abort, alloc: Global, text: &[u8], row: &Row) {
     for piece in [1, 3, 7, 1000] {
-        let found = told(alloc, Giver::new(text, piece));
+        let found = spans_from::<S, Giver<'_>>(alloc, Giver::new(text, piece));
         is_right(rt, piece, found == row.due());
     }
 }
@@ -26,7 +26,8 @@ fn is_told_in_pieces(rt: &impl Abort, alloc: Global, text: &[u8], row: &Row) {
 fn rows_in_pieces(rt: HostRuntime) {
     for row in &ROWS {
         let text = list_of(&rt, rt.alloc(), row.sections);
-        is_told_in_pieces(&rt, rt.alloc(), &text, row);
+        is_told_in_pieces::<Held>(&rt, rt.alloc(), &text, row);
+        is_told_in_pieces::<SpanVec>(&rt, rt.alloc(), &text, row);
     }
 }
 
