@@ -1,21 +1,20 @@
 -- What is kept of a list, with the serials that wait.
-use Rattle.std.proofs.Common.{◌≡◌, ℕ, ◌+◌, ◌-◌, ◌*◌, ◌<◌, ◌≤◌, ◌↔◌, Bool, true, false, List, [], ◌∷◌, ◌++◌, length, None, Ok, refl, sym, ap, subst, ◌∙◌, append_assoc, arith, inl, inr}
+use Rattle.std.proofs.Common.{◌≡◌, ℕ, ◌+◌, ◌-◌, ◌≤◌, ◌↔◌, Bool, true, false, List, [], ◌∷◌, ◌++◌, length, Ok, refl, sym, ap, subst, ◌∙◌, append_assoc, arith, inl, inr}
 use Rattle.std.specs.List.{Contains}
 use Rattle.std.specs.List.Sorted.{IsPermutation}
 use Rattle.std.proofs.lemmas.List.{append-nil, length-append}
 use Rattle.std.proofs.lemmas.List.Elements.{Contains-append_left, Contains-append_right, Contains-append_cases}
-use Rattle.std.proofs.lemmas.List.Sorted.{Contains-permutation, IsPermutation-sym, length_permutation}
+use Rattle.std.proofs.lemmas.List.Sorted.{Contains-permutation, IsPermutation-sym}
 use Rattle.krl_core.specs.declared.place.Place.{Place}
 use Rattle.krl_core.specs.declared.place.Place.TheVariants.{SectionType, SubsectionType, SerialsLength, Serial}
-use Rattle.krl_core.specs.Contents.{Means}
 use Rattle.krl_core.specs.Entry.{Entry, SerialsEntry}
 use Rattle.krl_core.specs.Front.{Passes}
 use Rattle.krl_core.specs.Gathered.{Gathered, GathersField, Grows, IsGathered, IsReady, Settles, all_held, may_wait, waiting_entry}
-use Rattle.krl_core.specs.Keeping.{Adds, GrowsWithin, InStep, IsKept, IsStoredWithin, Keeping, KeepsField, KeepsRest, KeepsStored, held_with_open}
-use Rattle.krl_core.specs.Naming.{NamesSame, SomeNamesAt}
+use Rattle.krl_core.specs.Keeping.{Adds, GrowsWithin, InStep, IsKept, Keeping, KeepsField, KeepsRest, KeepsStored, held_with_open}
+use Rattle.krl_core.specs.Naming.{NamesSame}
 use Rattle.krl_core.specs.Place.{authority_after, due, names, next_serial}
 use Rattle.ssh_wire.specs.Wire.{number_of}
-use Rattle.krl_core.proofs.Keeping.{rest_refl, rest_then, stored_then, stored_wider}
+use Rattle.krl_core.proofs.Keeping.{rest_refl, rest_then, stored_then}
 use Rattle.krl_core.proofs.Quiet.{IsOut, out_serial, out_step}
 use Rattle.krl_core.proofs.Same.{same_append, same_between, same_is, same_refl, same_serials, same_swap, same_sym, same_then}
 
@@ -138,9 +137,6 @@ gathers_waiting left behind field next old new ready passes same waits = record 
 
 -- ---- serials that waited
 
-pub settles_refl : (g : Gathered) → Settles g g
-settles_refl g = record { gathered = λ entries h. h; rest = rest_refl g.keeping }
-
 pub settles_then : (a b c : Gathered) → Settles a b → Settles b c → Settles a c
 settles_then a b c h k = record {
   gathered = λ entries g. k.gathered entries (h.gathered entries g);
@@ -187,16 +183,6 @@ settles_last old new serial last h = record {
   rest = h.rest;
 }
 
--- what a field names was gathered, and what waited was added
-pub gathers_settled : (p : Place) (field : List ℕ) (next : Place) (old mid new : Gathered) → GathersField p field next old mid → Settles mid new
-    → GathersField p field next old new
-gathers_settled p field next old mid new h k = record {
-  gathered = λ entries g. k.gathered (entries ++ names p old.keeping.authority field) (h.gathered entries g);
-  authority_is = k.rest.authority_is ∙ h.authority_is;
-  header_is = k.rest.header_is ∙ h.header_is;
-  in_step = subst (λ b. InStep next b) (sym k.rest.bitmap_is) h.in_step;
-}
-
 -- some that waited were added, from the last on
 pub record Settling (old now : Gathered) : Type 0 where
   pub settles : Settles old now
@@ -224,12 +210,6 @@ pub grows_kept : (n : ℕ) (old new : Gathered) → GrowsWithin n old.keeping ne
 grows_kept n old new h same = record {
   held_is = omega (arith, h.held_is, ap length same);
   stored_is = h.stored_is;
-}
-
-pub grows_waiting : (n : ℕ) (old new : Gathered) → 1 ≤ n → new.keeping ≡ old.keeping → length new.waiting ≤ length old.waiting + 1 → Grows n old new
-grows_waiting n old new some same longer = record {
-  held_is = omega (arith, some, longer, ap held_with_open same);
-  stored_is = λ m h. subst (λ (k : Keeping). IsStoredWithin k (m + n)) (sym same) (stored_wider old.keeping m (m + n) (omega arith) h);
 }
 
 pub grows_settled : (n : ℕ) (old mid new : Gathered) → Grows n old mid → all_held new ≤ all_held mid → KeepsStored mid.keeping new.keeping → Grows n old new

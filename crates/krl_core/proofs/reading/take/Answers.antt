@@ -1,4 +1,4 @@
-use Rattle.std.proofs.Common.{◌≡◌, ◌≤◌, ℕ, length, take, subst, arith, rules}
+use Rattle.std.proofs.Common.{◌≡◌, ℕ, length, take, subst, arith, rules}
 use Rattle.std.proofs.lemmas.List.{length-take-le}
 use Rattle.ssh_wire.specs.Pull.{Refuses}
 use Rattle.krl_core.specs.Place.{due}

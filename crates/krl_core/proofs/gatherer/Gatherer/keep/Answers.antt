@@ -1,6 +1,5 @@
 use Rattle.std.proofs.Common.{length}
-use Rattle.std.proofs.lemmas.Result.{on_ok_weaker}
-use Rattle.krl_core.proofs.Gathering.{gathers_settled, grows_settled}
+use Rattle.krl_core.proofs.Gathering.{grows_settled}
 use Rattle.krl_core.proofs.gatherer.Gatherer.keep.Goals as goal
 
 pub returns-clause-grows : goal.returns-clause-grows
