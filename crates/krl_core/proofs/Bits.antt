@@ -19,7 +19,7 @@ use Rattle.krl_core.specs.Keeping.{Keeping, IsKept, AddsEntries, Adds, InStep, K
 use Rattle.ssh_wire.specs.Wire.{number_of}
 use Rattle.krl_core.specs.declared.place.Place.TheVariants.{BitmapByte}
 use Rattle.krl_core.specs.Place.{base_of, bits_judged, judge, next_bits, next_subsection, passes_end, highest_bit}
-use Rattle.serial_set.proofs.Rising.{names_append as either, names_left, names_right}
+use Rattle.serial_set.specs.Rising.{names_append as either, names_left, names_right}
 use Rattle.krl_core.proofs.Same.{AreSerials, serials_append, same_serials, same_append, same_refl, same_is, same_then, same_swap, some_append}
 use Rattle.krl_core.proofs.Keeping.{open_entries}
 use Rattle.krl_core.proofs.Quiet.{out_step, out_subsection}

@@ -9,8 +9,8 @@ use Rattle.std.proofs.lemmas.List.Sums.{sum_by-cons, sum_by-append}
 use Rattle.std.proofs.lemmas.Slice.Eq.{bytes_eq-Decides}
 use Rattle.serial_set.specs.declared.span.Span.{Span}
 use Rattle.serial_set.specs.Span.{Covers}
-use Rattle.serial_set.proofs.Least.{runs_least}
-use Rattle.serial_set.proofs.Rising.{names_append, names_left, names_right}
+use Rattle.serial_set.specs.Least.{runs_least}
+use Rattle.serial_set.specs.Rising.{names_append, names_left, names_right}
 use Rattle.ssh_wire.specs.Wire.{IsBytes, number_of}
 use Rattle.krl_core.specs.declared.place.Place.{Place}
 use Rattle.krl_core.specs.declared.place.Place.TheVariants as places

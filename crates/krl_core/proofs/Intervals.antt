@@ -7,8 +7,8 @@ use Rattle.std.proofs.lemmas.Nat.Bits.{bit_at-lt}
 use Rattle.serial_set.specs.declared.span.Span.{Span}
 use Rattle.serial_set.specs.Span.{Covers}
 use Rattle.serial_set.specs.BitRuns.{BitNames}
-use Rattle.serial_set.proofs.Bits.{bit_below}
-use Rattle.serial_set.proofs.Rising.{names_append, names_left, names_right}
+use Rattle.serial_set.specs.Bits.{bit_below}
+use Rattle.serial_set.specs.Rising.{names_append, names_left, names_right}
 use Rattle.krl_core.specs.Entry.{Entry, SerialsEntry, RangeEntry, BitmapEntry, IdEntry, KeyEntry, Sha1Entry, Sha256Entry}
 use Rattle.krl_core.specs.Naming.{NamesAt}
 use Rattle.krl_core.proofs.Members.{contains_cases, contains_here, contains_later, contains_none}

@@ -9,7 +9,7 @@ use Rattle.std.proofs.lemmas.Cmp.{nat_list_cmp_total, tied_itself}
 use Rattle.std.proofs.lemmas.Map.Lookups.{exact_bytes}
 use Rattle.serial_set.specs.declared.span.Span.{Span}
 use Rattle.serial_set.specs.Span.{Covers, IsRuns}
-use Rattle.serial_set.proofs.Least.{runs_unique}
+use Rattle.serial_set.specs.Least.{runs_unique}
 use Rattle.krl_core.specs.Contents.{Contents, HoldsId, HoldsSerial, IsListed, Means, Section, SomeSection}
 use Rattle.krl_core.specs.Entry.{Entry}
 use Rattle.krl_core.specs.Rising.{bytes_cmp, AllAbove, Rises, RisesBy}

@@ -4,7 +4,7 @@ use Rattle.std.specs.Io.KnownBytes.{Consumes, prepend_known}
 use Rattle.std.proofs.KnownBytes.{Consumes-trans}
 use Rattle.ssh_wire.specs.declared.pull_fault.PullFault.{PullFault}
 use Rattle.ssh_wire.specs.declared.pull_fault.PullFault.TheVariants.{EndsEarly, TooLong, Read, NoMemory}
-use Rattle.ssh_wire.specs.Pull.{Pulled, TakesRest, RefusesRest, after_ahead, untaken}
+use Rattle.ssh_wire.specs.Pull.{Consumes-ahead, Pulled, TakesRest, RefusesRest, after_ahead, untaken}
 use Rattle.krl_runs.specs.Named.{limit, IsLoaded, file_fault}
 
 -- no byte stands ahead
@@ -18,11 +18,6 @@ loads_all before bytes new takes = record {
   consumed = none_ahead before new.source new.ahead bytes takes.none_ahead takes.takes.bytes;
   made = (refl, omega (arith, takes.takes.within), takes.ends, takes.takes.working);
 }
-
--- the byte ahead is the first
-Consumes-ahead : (byte : ℕ) (source : Option (List ℕ)) → Consumes (prepend_known (byte ∷ []) source) source (byte ∷ [])
-Consumes-ahead byte None = tt
-Consumes-ahead byte (Some xs) = refl
 
 -- the byte ahead stands past the limit
 passes_limit : (before source : Option (List ℕ)) (ahead : Option ℕ) (came : List ℕ) (failed : Bool) → Consumes before (after_ahead ahead source) came → IsSome ahead → length came ≡ limit → failed ≡ false → IsLoaded before source failed (Err (file_fault TooLong))

@@ -9,7 +9,7 @@ use Rattle.serial_set.specs.Span.{Covers, IsRuns, IsRunsOf, TouchesNone}
 use Rattle.serial_set.specs.Pages.{replaced, CutsNone, end_of, IsWidened}
 use Rattle.serial_set.proofs.InPage.{runs_each, replaced_at, end-replaced, above_all, replaced_middle}
 use Rattle.serial_set.proofs.InParts.{runs_right, runs_part, runs_take, past_part, flat_at, flat_set}
-use Rattle.serial_set.proofs.Rising.{runs_front}
+use Rattle.serial_set.specs.Rising.{runs_front}
 use Rattle.serial_set.proofs.Widening.{widened_runs}
 
 pub apart_cuts : (new : Span) (xs : List Span) → TouchesNone xs new.lo new.hi → CutsNone new xs

@@ -8,7 +8,7 @@ use Rattle.serial_set.specs.declared.span.Span.{Span}
 use Rattle.serial_set.specs.Pages.{end_of, IsCountBefore}
 use Rattle.serial_set.specs.Span.{IsRuns}
 use Rattle.serial_set.proofs.InPage.{ends_most}
-use Rattle.serial_set.proofs.Rising.{ends_rise}
+use Rattle.serial_set.specs.Rising.{ends_rise}
 
 pub all_upto : {X : Type 0} (key : X → ℕ) (n : ℕ) (xs : List X) (d : X) → IsNonDecreasingBy key xs → 0 < length xs → key (get_or xs (length xs - 1) d) ≤ n → All (λ x. key x ≤ n) (take (length xs) xs)
 all_upto key n xs d rise some last =

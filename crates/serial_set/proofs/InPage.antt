@@ -7,7 +7,7 @@ use Rattle.std.proofs.lemmas.List.Elements.{All-nil, All-cons, All-head, All-tai
 use Rattle.serial_set.specs.declared.span.Span.{Span}
 use Rattle.serial_set.specs.Span.{RunsFrom, IsRuns}
 use Rattle.serial_set.specs.Pages.{below, above, replaced, CutsNone, MissesAll, end_of, IsFirstFrom}
-use Rattle.serial_set.proofs.Rising.{RunsFrom-weaker, runs_front}
+use Rattle.serial_set.specs.Rising.{RunsFrom-weaker, runs_front}
 
 -- ---- filters
 

@@ -9,7 +9,7 @@ use Rattle.std.proofs.lemmas.List.Elements.{All-nil, All-head, All-tail, All-app
 use Rattle.serial_set.specs.declared.span.Span.{Span}
 use Rattle.serial_set.specs.Span.{RunsFrom, IsRuns}
 use Rattle.serial_set.specs.Pages.{above, end_of, IsFirstFrom}
-use Rattle.serial_set.proofs.Rising.{RunsFrom-weaker, runs_front}
+use Rattle.serial_set.specs.Rising.{RunsFrom-weaker, runs_front}
 use Rattle.serial_set.proofs.InPage.{end_less, end_back, above_all, above_none, ends_most, end_least, runs_each, runs_past}
 
 pub all_left : {X : Type 0} (P : X → Type 0) (xs ys : List X) → All P (xs ++ ys) → All P xs

@@ -1,15 +1,13 @@
 pub mod Apart
 pub mod Asked
 pub mod Behind
-pub mod Bits
 pub mod Ends
 pub mod Feeding
-pub mod Least
 pub mod InByte
 pub mod InPage
 pub mod InParts
 pub mod Placed
 pub mod PutParts
-pub mod Rising
+pub mod Refused
 pub mod Touching
 pub mod Widening

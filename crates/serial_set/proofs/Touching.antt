@@ -7,7 +7,7 @@ use Rattle.std.proofs.lemmas.List.{drop-drop, take-append-drop, get_or-take, get
 use Rattle.std.proofs.lemmas.Slice.{between_is}
 use Rattle.serial_set.specs.declared.span.Span.{Span}
 use Rattle.serial_set.specs.Span.{SpanCovers, Covers, RunsFrom, IsRuns, IsRunsOf, TouchesNone}
-use Rattle.serial_set.proofs.Rising.{names_append, names_left, names_right, RunsFrom-weaker, runs_front, runs_middle, runs_apart, runs_join}
+use Rattle.serial_set.specs.Rising.{names_append, names_left, names_right, RunsFrom-weaker, runs_front, runs_middle, runs_apart, runs_join}
 
 -- where the last span of `m ∷ ms` ends
 abbrev pub last_end : Span → List Span → ℕ

@@ -6,7 +6,7 @@ use Rattle.std.proofs.lemmas.List.Elements.{All-cons, All-append, All-head, All-
 use Rattle.serial_set.specs.declared.span.Span.{Span}
 use Rattle.serial_set.specs.Span.{Covers, SpanCovers, RunsFrom, IsRuns, IsRunsOf, TouchesNone, AreSerials}
 use Rattle.serial_set.specs.Pages.{below, above, replaced, CutsNone, MissesAll, IsFirstFrom, IsWidened}
-use Rattle.serial_set.proofs.Rising.{names_append, names_left, names_right, RunsFrom-weaker, runs_middle, runs_apart, runs_join, runs_raise, names_at, names_from, runs_at}
+use Rattle.serial_set.specs.Rising.{names_append, names_left, names_right, RunsFrom-weaker, runs_middle, runs_apart, runs_join, runs_raise, names_at, names_from, runs_at}
 use Rattle.serial_set.proofs.InPage.{runs_each}
 use Rattle.serial_set.proofs.InParts.{all_left, all_right}
 use Rattle.serial_set.proofs.Asked.{none_below}

@@ -4,3 +4,6 @@ pub mod Finished
 pub mod Laws
 pub mod Pages
 pub mod Span
+pub mod Rising
+pub mod Least
+pub mod Bits

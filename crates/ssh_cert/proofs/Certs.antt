@@ -6,14 +6,14 @@ use Rattle.std.proofs.lemmas.Bool.{eqb-true, ne_eqb}
 use Rattle.std.proofs.lemmas.List.{append-nil, nil_from_length}
 use Rattle.ssh_wire.specs.declared.fault.WireFault.TheVariants.{Short}
 use Rattle.ssh_wire.specs.Wire.{BeginsWith, IsBytes, string}
+use Rattle.ssh_wire.specs.Digits.{IsBytes-behind}
 use Rattle.ssh_wire.specs.Reading.{◌>>=◌, Gives, in_fault, string_at}
-use Rattle.ssh_wire.specs.Fields.{Takes, string_again, string_takes}
+use Rattle.ssh_wire.specs.Fields.{HasFront, string_again, string_takes}
 use Rattle.ssh_key.specs.declared.kind.Kind.{Kind}
 use Rattle.ssh_key.specs.declared.kind.Kind.TheVariants.{Rsa, Dsa, Ecdsa256, Ecdsa384, Ecdsa521, Ed25519, EcdsaSk, Ed25519Sk}
 use Rattle.ssh_key.proofs.Names.{certified-certificate_name, certified-name}
 use Rattle.ssh_key.proofs.Refusals.{string_read}
-use Rattle.ssh_key.proofs.Steps.{above_zero, bind_err, bind_ok, failed_err, in_fault_err, in_fault_ok, never_err, none_err, passed_ok, some_ok}
-use Rattle.ssh_key.proofs.Wire.{IsBytes-behind}
+use Rattle.ssh_wire.specs.Steps.{above_zero, bind_err, bind_ok, failed_err, in_fault_err, in_fault_ok, never_err, none_err, passed_ok, some_ok}
 use Rattle.ssh_key.specs.Kind.{certificate_name, kind_certified}
 use Rattle.ssh_cert.specs.declared.fault.CertFault.{CertFault}
 use Rattle.ssh_cert.specs.declared.fault.CertFault.TheVariants as faults
@@ -22,7 +22,7 @@ use Rattle.ssh_cert.specs.CertReading.{body_at, certificate_at, certificate_of, 
 use Rattle.ssh_cert.specs.Field.{AreValues, Field, ValuesOf, fields_of, fields_text}
 use Rattle.ssh_cert.specs.FirstFault.{IsFirstFault, Reaches, after_fields, in_field, no_kind, no_name}
 use Rattle.ssh_cert.proofs.FieldLemmas.{begins, string_cut}
-use Rattle.ssh_cert.proofs.Fronts.{Stops, TakesFields, fields_again, fields_refused, fields_take, stop_read}
+use Rattle.ssh_cert.proofs.Fronts.{RefusedIn, TakesFields, fields_again, fields_refused, fields_take, stop_read}
 
 -- ---- the kind
 
@@ -32,15 +32,15 @@ named kind rest = Ok (kind, rest)
 is_read : (kind : Kind) (rest : List ℕ) (x : Kind × List ℕ) → named kind rest ≡ Ok x → (kind, rest) ≡ x
 is_read kind rest x e = cc
 
-kind_takes : (blob : List ℕ) (x : Kind × List ℕ) → IsBytes blob → kind_at blob ≡ Ok x → Takes blob (string (certificate_name x.0)) x.1
+kind_takes : (blob : List ℕ) (x : Kind × List ℕ) → IsBytes blob → kind_at blob ≡ Ok x → HasFront blob (string (certificate_name x.0)) x.1
 unfolding kind_at
 kind_takes blob x fits e =
     let a = bind_ok (in_fault cut_short (string_at blob)) (λ name. ok_or (kind_certified name.0) faults.UnknownType >>= λ kind. Ok (kind, name.1)) x e in
     let b = bind_ok (ok_or (kind_certified a.0.0) faults.UnknownType) (λ kind. Ok (kind, a.0.1)) x a.2 in
     let name : certificate_name b.0 ≡ a.0.0 = certified-name a.0.0 b.0 (some_ok (kind_certified a.0.0) faults.UnknownType b.0 b.1) in
     let t = (string_takes blob a.0.0 a.0.1 fits (in_fault_ok cut_short (string_at blob) a.0 a.1)).0 in
-    let spelled : Takes blob (string (certificate_name b.0)) a.0.1 = subst (λ (s : List ℕ). Takes blob (string s) a.0.1) (sym name) t in
-    subst (λ (y : Kind × List ℕ). Takes blob (string (certificate_name y.0)) y.1) (is_read b.0 a.0.1 x b.2) spelled
+    let spelled : HasFront blob (string (certificate_name b.0)) a.0.1 = subst (λ (s : List ℕ). HasFront blob (string s) a.0.1) (sym name) t in
+    subst (λ (y : Kind × List ℕ). HasFront blob (string (certificate_name y.0)) y.1) (is_read b.0 a.0.1 x b.2) spelled
 
 pub length-certificate_name : (kind : Kind) → length (certificate_name kind) < 2 ^ 32
 length-certificate_name Rsa = omega arith
@@ -109,7 +109,7 @@ values_allowed blob c is =
     let l = is.lengths in
     (l.nonce_fits, ((refl, is.key), (l.serial_fits, (tt, (l.key_id_fits, (l.principals_fits, (l.after_fits, (l.before_fits, (l.critical_fits, (l.extensions_fits, (l.reserved_fits, (is.authority, ((l.signature_fits, is.signed), tt)))))))))))))
 
-parts_are_certificate : (blob after rest : List ℕ) (kind : Kind) (values : ValuesOf (fields_of kind)) → Takes blob (string (certificate_name kind)) after → Takes after (fields_text (fields_of kind) values) rest → AreValues (fields_of kind) values → rest ≡ [] → IsCertificate blob (certificate_of kind values)
+parts_are_certificate : (blob after rest : List ℕ) (kind : Kind) (values : ValuesOf (fields_of kind)) → HasFront blob (string (certificate_name kind)) after → HasFront after (fields_text (fields_of kind) values) rest → AreValues (fields_of kind) values → rest ≡ [] → IsCertificate blob (certificate_of kind values)
 parts_are_certificate blob after rest kind v first second allowed none = record {
   reserved = v.1.1.1.1.1.1.1.1.1.1.0;
   signature = v.1.1.1.1.1.1.1.1.1.1.1.1.0.text;
@@ -201,12 +201,12 @@ kind_refused blob fault fits e =
           ]
     ]
 
-stops_in_field : (blob after : List ℕ) (kind : Kind) (fault : CertFault) → Takes blob (string (certificate_name kind)) after → Stops (fields_of kind) after fault → IsFirstFault blob fault
-stops_in_field blob after kind fault t s = in_field kind s.field s.later s.rest
+refused_in_field : (blob after : List ℕ) (kind : Kind) (fault : CertFault) → HasFront blob (string (certificate_name kind)) after → RefusedIn (fields_of kind) after fault → IsFirstFault blob fault
+refused_in_field blob after kind fault t s = in_field kind s.field s.later s.rest
     (record { before = s.before; values = s.values; fields = s.parts; allowed = s.allowed; spelled = t.parts ∙ ap (λ (x : List ℕ). string (certificate_name kind) ++ x) s.spelled })
     s.refused
 
-end_refused : (blob after : List ℕ) (kind : Kind) (values : ValuesOf (fields_of kind) × List ℕ) (body : Certificate × List ℕ) (fault : CertFault) → Takes blob (string (certificate_name kind)) after → TakesFields (fields_of kind) after values → values.1 ≡ body.1 → ended body ≡ Err fault → IsFirstFault blob fault
+end_refused : (blob after : List ℕ) (kind : Kind) (values : ValuesOf (fields_of kind) × List ℕ) (body : Certificate × List ℕ) (fault : CertFault) → HasFront blob (string (certificate_name kind)) after → TakesFields (fields_of kind) after values → values.1 ≡ body.1 → ended body ≡ Err fault → IsFirstFault blob fault
 end_refused blob after kind values body fault t second left e =
     let w = failed_err (eqb (length body.1) 0) body.0 faults.Trailing fault e in
     let reached : Reaches blob kind [] values.1 = record {
@@ -226,7 +226,7 @@ certificate_refused blob fault fits e =
       | inr kind ↦
           let t = kind_takes blob kind.0 fits kind.1 in
           elim (bind_err (body_at kind.0.0 kind.0.1) (λ body. ended body) fault kind.2) [
-            | inl refused ↦ stops_in_field blob kind.0.1 kind.0.0 fault t (fields_refused (fields_of kind.0.0) kind.0.1 fault t.rest_fits (body_err kind.0.0 kind.0.1 fault refused))
+            | inl refused ↦ refused_in_field blob kind.0.1 kind.0.0 fault t (fields_refused (fields_of kind.0.0) kind.0.1 fault t.rest_fits (body_err kind.0.0 kind.0.1 fault refused))
             | inr body ↦
                 let v = body_ok kind.0.0 kind.0.1 body.0 body.1 in
                 end_refused blob kind.0.1 kind.0.0 v.0 body.0 fault t (fields_take (fields_of kind.0.0) kind.0.1 v.0 t.rest_fits v.1) v.3 body.2

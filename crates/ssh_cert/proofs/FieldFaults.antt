@@ -1,13 +1,14 @@
 -- A fault of a field is what stands there, and what stands there is told as the fault.
 use Rattle.std.proofs.Common.{◌≡◌, ℕ, ◌^◌, ◌<◌, List, length, Option, Some, None, Ok, Err, refl, sym, ap, subst, ◌∙◌, inl, inr}
 use Rattle.std.specs.Option.{ok_or}
+use Rattle.ssh_wire.specs.Cut.{number-short}
 use Rattle.ssh_wire.specs.Wire.{BeginsWith, IsBytes, strings}
 use Rattle.ssh_wire.specs.Reading.{◌>>=◌, in_fault, number_at, string_at}
-use Rattle.ssh_wire.specs.Fields.{number_again, number_takes, string_takes}
+use Rattle.ssh_wire.specs.Fields.{IsBytes-content, number_again, number_takes, string_takes}
 use Rattle.ssh_key.specs.KeyReading.{key_at, public_at}
 use Rattle.ssh_key.proofs.FirstFaults.{first_fault_read, key_refused, fields_fault_read, public_refused}
 use Rattle.ssh_key.proofs.Refusals.{string_read}
-use Rattle.ssh_key.proofs.Steps.{bind_err, in_fault_err, in_fault_ok, never_err, none_err}
+use Rattle.ssh_wire.specs.Steps.{bind_err, in_fault_err, in_fault_ok, never_err, none_err}
 use Rattle.ssh_cert.specs.declared.fault.CertFault.{CertFault}
 use Rattle.ssh_cert.specs.declared.fault.CertFault.TheVariants as faults
 use Rattle.ssh_cert.specs.CertReading.{authority_of, cut_short, field_at, named, options_of, role_of}
@@ -15,7 +16,7 @@ use Rattle.ssh_cert.specs.Field.{Field, TextField, PublicField, NumberField, Rol
 use Rattle.ssh_cert.specs.FirstFault.{Refuses}
 use Rattle.ssh_cert.specs.Options.{NamedData, options_text}
 use Rattle.ssh_cert.specs.Strings.{strings_of}
-use Rattle.ssh_cert.proofs.FieldLemmas.{begins, content_fits, no_role, no_role-read, number_err, number_short, options_again, options_take, string_cut, unnamed, unnamed_read}
+use Rattle.ssh_cert.proofs.FieldLemmas.{begins, no_role, no_role-read, number_err, options_again, options_take, string_cut, unnamed, unnamed_read}
 use Rattle.ssh_cert.proofs.StringLists.{strings_of_again, strings_of_takes}
 
 told : (field : Field) (bytes : List ℕ) (c d : CertFault) → d ≡ c → Refuses field bytes c → Refuses field bytes d
@@ -27,7 +28,7 @@ told field bytes c d e refused = subst (λ (fault : CertFault). Refuses field by
 read_begins : (bytes : List ℕ) (read : List ℕ × List ℕ) → IsBytes bytes → in_fault cut_short (string_at bytes) ≡ Ok read → BeginsWith bytes read.0 × IsBytes read.0
 read_begins bytes read fits e =
     let t = string_takes bytes read.0 read.1 fits (in_fault_ok cut_short (string_at bytes) read e) in
-    (begins bytes read.0 read.1 t.0.parts t.1, content_fits bytes read.0 read.1 fits t.0.parts)
+    (begins bytes read.0 read.1 t.0.parts t.1, IsBytes-content bytes read.0 read.1 fits t.0.parts)
 
 none_or : {A : Type 0} (o : Option A) → o ≡ None → (x : A) → o ≡ Some x → ⊥
 none_or o none x some = cc
@@ -132,14 +133,14 @@ field_refused SignatureField bytes fault fits e =
 -- ---- is told
 
 begins_fits : (bytes value : List ℕ) → IsBytes bytes → BeginsWith bytes value → IsBytes value
-begins_fits bytes value fits b = content_fits bytes value b.rest fits b.spelled
+begins_fits bytes value fits b = IsBytes-content bytes value b.rest fits b.spelled
 
 pub refusal_read : (field : Field) (bytes : List ℕ) (fault : CertFault) → IsBytes bytes → Refuses field bytes fault → field_at field bytes ≡ Err fault
 unfolding field_at
 refusal_read TextField bytes faults.Wire fits r = rw r refl
 refusal_read (PublicField kind) bytes (faults.Key fault) fits r = rw (fields_fault_read kind bytes fault r) refl
-refusal_read NumberField bytes faults.Wire fits r = rw (number_short 8 bytes r) refl
-refusal_read RoleField bytes faults.Wire fits r = rw (number_short 4 bytes r) refl
+refusal_read NumberField bytes faults.Wire fits r = rw (number-short 8 bytes r) refl
+refusal_read RoleField bytes faults.Wire fits r = rw (number-short 4 bytes r) refl
 refusal_read RoleField bytes faults.CertType fits r =
     let read : number_at 4 bytes ≡ Ok (r.role, r.rest) = ap (number_at 4) r.spelled ∙ number_again 4 r.role r.rest r.fits in
     rw (read, no_role-read r.role r.no_user r.no_host) refl

@@ -1,13 +1,13 @@
 -- A field that is read is spelled as its value, and what is spelled so is read; the fault of a field
 -- is what stands there.
-use Rattle.std.proofs.Common.{◌≡◌, ◌≢◌, ℕ, ◌^◌, ◌<◌, Bool, true, false, cond, eqb, ltb, List, [], ◌∷◌, ◌++◌, length, Option, Some, None, Result, Ok, Err, refl, sym, ap, subst, ◌∙◌, arith, ◌⊎◌, inl, inr}
+use Rattle.std.proofs.Common.{◌≡◌, ◌≢◌, ℕ, ◌^◌, ◌<◌, Bool, true, false, cond, eqb, ltb, List, [], ◌∷◌, ◌++◌, length, Option, Some, None, Result, Ok, Err, refl, sym, ap, ◌∙◌, arith, ◌⊎◌, inl, inr}
 use Rattle.std.specs.Option.{option_and_then}
-use Rattle.std.proofs.lemmas.Bool.{eqb-false, eqb-true, lt-ltb, ltb-true, ne_eqb}
+use Rattle.std.proofs.lemmas.Bool.{eqb-false, eqb-true, ltb-true, ne_eqb}
 use Rattle.ssh_wire.specs.declared.fault.WireFault.{WireFault}
 use Rattle.ssh_wire.specs.declared.fault.WireFault.TheVariants.{Short}
 use Rattle.ssh_wire.specs.Wire.{BeginsWith, IsBytes, string, strings}
+use Rattle.ssh_wire.specs.Steps.{guard_err}
 use Rattle.ssh_wire.specs.Reading.{content_at, front_at, number_at, string_at}
-use Rattle.ssh_key.proofs.Wire.{IsBytes-content}
 use Rattle.ssh_cert.specs.declared.role.Role.{Role}
 use Rattle.ssh_cert.specs.declared.role.Role.TheVariants.{User, Host}
 use Rattle.ssh_cert.specs.Certificate.{role_number}
@@ -91,20 +91,9 @@ unnamed_read text (Err fault) never = refl
 pub begins : (bytes value rest : List ℕ) → bytes ≡ string value ++ rest → length value < 2 ^ 32 → BeginsWith bytes value
 begins bytes value rest e lt = record { rest = rest; spelled = e; fits = lt }
 
-pub content_fits : (bytes text rest : List ℕ) → IsBytes bytes → bytes ≡ string text ++ rest → IsBytes text
-content_fits bytes text rest fits e = IsBytes-content text rest (subst IsBytes e fits)
-
-pub guard_err : {A : Type 0} (b : Bool) (fault why : WireFault) (x : A) → cond b (Err fault) (Ok x) ≡ Err why → (b ≡ true) × (why ≡ fault)
-guard_err true fault why x e = (refl, cc)
-guard_err false fault why x e = absurd cc
-
 pub number_err : (k : ℕ) (bytes : List ℕ) (why : WireFault) → number_at k bytes ≡ Err why → (length bytes < k) × (why ≡ Short)
 unfolding number_at
 number_err k bytes why e = let g = guard_err (ltb (length bytes) k) Short why _ e in (ltb-true (length bytes) k g.0, g.1)
-
-pub number_short : (k : ℕ) (bytes : List ℕ) → length bytes < k → number_at k bytes ≡ Err Short
-unfolding number_at
-number_short k bytes lt = rw (lt-ltb (length bytes) k lt) refl
 
 pub content_err : (read : Result (ℕ × List ℕ) WireFault) (why : WireFault) → ((other : WireFault) → read ≡ Err other → other ≡ Short) → content_at read ≡ Err why → why ≡ Short
 unfolding front_at

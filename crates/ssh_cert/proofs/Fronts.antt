@@ -2,9 +2,9 @@
 -- refused is the fault.
 use Rattle.std.proofs.Common.{◌≡◌, ℕ, List, [], ◌∷◌, ◌++◌, Result, Ok, Err, refl, sym, ap, subst, ◌∙◌, append_assoc, inl, inr}
 use Rattle.ssh_wire.specs.Wire.{IsBytes}
-use Rattle.ssh_wire.specs.Fields.{Takes, Takes-then}
+use Rattle.ssh_wire.specs.Fields.{HasFront, HasFront-then}
 use Rattle.ssh_wire.specs.Reading.{◌>>=◌}
-use Rattle.ssh_key.proofs.Steps.{bind_err, bind_ok, never_err}
+use Rattle.ssh_wire.specs.Steps.{bind_err, bind_ok, never_err}
 use Rattle.ssh_cert.specs.declared.fault.CertFault.{CertFault}
 use Rattle.ssh_cert.specs.CertReading.{field_at, fields_at}
 use Rattle.ssh_cert.specs.Field.{Field, IsValue, AreValues, ValueOf, ValuesOf, field_text, fields_text}
@@ -14,7 +14,7 @@ use Rattle.ssh_cert.proofs.FieldFaults.{field_refused, refusal_read}
 
 -- the fields' values were taken from the front
 pub record TakesFields (fields : List Field) (bytes : List ℕ) (x : ValuesOf fields × List ℕ) : Type 0 where
-  pub takes : Takes bytes (fields_text fields x.0) x.1
+  pub takes : HasFront bytes (fields_text fields x.0) x.1
   pub allowed : AreValues fields x.0
 
 abbrev done : (fields : List Field) → ValuesOf fields → List ℕ → Result (ValuesOf fields × List ℕ) CertFault
@@ -23,7 +23,7 @@ done fields values rest = Ok (values, rest)
 is_read : (fields : List Field) (values : ValuesOf fields) (rest : List ℕ) (x : ValuesOf fields × List ℕ) → done fields values rest ≡ Ok x → (values, rest) ≡ x
 is_read fields values rest x e = cc
 
-taken : (fields : List Field) (bytes : List ℕ) (values : ValuesOf fields) (rest : List ℕ) (x : ValuesOf fields × List ℕ) → done fields values rest ≡ Ok x → Takes bytes (fields_text fields values) rest → AreValues fields values → TakesFields fields bytes x
+taken : (fields : List Field) (bytes : List ℕ) (values : ValuesOf fields) (rest : List ℕ) (x : ValuesOf fields × List ℕ) → done fields values rest ≡ Ok x → HasFront bytes (fields_text fields values) rest → AreValues fields values → TakesFields fields bytes x
 taken fields bytes values rest x e t allowed = subst (λ (y : ValuesOf fields × List ℕ). TakesFields fields bytes y) (is_read fields values rest x e) (record { takes = t; allowed = allowed })
 
 pub fields_take : (fields : List Field) (bytes : List ℕ) (x : ValuesOf fields × List ℕ) → IsBytes bytes → fields_at fields bytes ≡ Ok x → TakesFields fields bytes x
@@ -34,7 +34,7 @@ fields_take (field ∷ fields) bytes x fits e =
     let b = bind_ok (fields_at fields a.0.1) (λ others. Ok ((a.0.0, others.0), others.1)) x a.2 in
     let first = field_takes field bytes a.0 fits a.1 in
     let second = fields_take fields a.0.1 b.0 first.takes.rest_fits b.1 in
-    let both = Takes-then bytes (field_text field a.0.0) a.0.1 (fields_text fields b.0.0) b.0.1 first.takes second.takes in
+    let both = HasFront-then bytes (field_text field a.0.0) a.0.1 (fields_text fields b.0.0) b.0.1 first.takes second.takes in
     taken (field ∷ fields) bytes (a.0.0, b.0.0) b.0.1 x b.2 both (first.allowed, second.allowed)
 
 pub fields_again : (fields : List Field) (values : ValuesOf fields) (rest : List ℕ) → AreValues fields values → fields_at fields (fields_text fields values ++ rest) ≡ Ok (values, rest)
@@ -45,7 +45,7 @@ fields_again (field ∷ fields) values rest allowed =
     ∙ rw (field_again field values.0 (fields_text fields values.1 ++ rest) allowed.0, fields_again fields values.1 rest allowed.1) refl
 
 -- the fields up to the one that is refused
-pub record Stops (fields : List Field) (bytes : List ℕ) (fault : CertFault) : Type 0 where
+pub record RefusedIn (fields : List Field) (bytes : List ℕ) (fault : CertFault) : Type 0 where
   pub before : List Field
   pub field : Field
   pub later : List Field
@@ -56,11 +56,11 @@ pub record Stops (fields : List Field) (bytes : List ℕ) (fault : CertFault) : 
   pub spelled : bytes ≡ fields_text before values ++ rest
   pub refused : Refuses field rest fault
 
-stops_first : (field : Field) (fields : List Field) (bytes : List ℕ) (fault : CertFault) → Refuses field bytes fault → Stops (field ∷ fields) bytes fault
-stops_first field fields bytes fault refused = record { before = []; field = field; later = fields; values = tt; rest = bytes; parts = refl; allowed = tt; spelled = refl; refused = refused }
+refused_first : (field : Field) (fields : List Field) (bytes : List ℕ) (fault : CertFault) → Refuses field bytes fault → RefusedIn (field ∷ fields) bytes fault
+refused_first field fields bytes fault refused = record { before = []; field = field; later = fields; values = tt; rest = bytes; parts = refl; allowed = tt; spelled = refl; refused = refused }
 
-stops_later : (field : Field) (fields : List Field) (bytes : List ℕ) (value : ValueOf field) (after : List ℕ) (fault : CertFault) → Takes bytes (field_text field value) after → IsValue field value → Stops fields after fault → Stops (field ∷ fields) bytes fault
-stops_later field fields bytes value after fault t allowed s = record {
+refused_later : (field : Field) (fields : List Field) (bytes : List ℕ) (value : ValueOf field) (after : List ℕ) (fault : CertFault) → HasFront bytes (field_text field value) after → IsValue field value → RefusedIn fields after fault → RefusedIn (field ∷ fields) bytes fault
+refused_later field fields bytes value after fault t allowed s = record {
   before = field ∷ s.before;
   field = s.field;
   later = s.later;
@@ -72,16 +72,16 @@ stops_later field fields bytes value after fault t allowed s = record {
   refused = s.refused;
 }
 
-pub fields_refused : (fields : List Field) (bytes : List ℕ) (fault : CertFault) → IsBytes bytes → fields_at fields bytes ≡ Err fault → Stops fields bytes fault
+pub fields_refused : (fields : List Field) (bytes : List ℕ) (fault : CertFault) → IsBytes bytes → fields_at fields bytes ≡ Err fault → RefusedIn fields bytes fault
 unfolding fields_at
 fields_refused [] bytes fault fits e = absurd cc
 fields_refused (field ∷ fields) bytes fault fits e =
     elim (bind_err (field_at field bytes) (λ first. fields_at fields first.1 >>= λ others. Ok ((first.0, others.0), others.1)) fault e) [
-      | inl refused ↦ stops_first field fields bytes fault (field_refused field bytes fault fits refused)
+      | inl refused ↦ refused_first field fields bytes fault (field_refused field bytes fault fits refused)
       | inr first ↦
           let t = field_takes field bytes first.0 fits first.1 in
           elim (bind_err (fields_at fields first.0.1) (λ others. Ok ((first.0.0, others.0), others.1)) fault first.2) [
-            | inl later ↦ stops_later field fields bytes first.0.0 first.0.1 fault t.takes t.allowed (fields_refused fields first.0.1 fault t.takes.rest_fits later)
+            | inl later ↦ refused_later field fields bytes first.0.0 first.0.1 fault t.takes t.allowed (fields_refused fields first.0.1 fault t.takes.rest_fits later)
             | inr others ↦ absurd (never_err ((first.0.0, others.0.0), others.0.1) fault others.2)
           ]
     ]

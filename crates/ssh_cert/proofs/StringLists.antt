@@ -1,5 +1,5 @@
 -- Strings that fill bytes: what is read is spelled so, and what is spelled so is read.
-use Rattle.std.proofs.Common.{◌≡◌, ℕ, zero, suc, ◌+◌, ◌^◌, ◌<◌, ◌≤◌, Bool, true, false, cond, ltb, List, [], ◌∷◌, ◌++◌, length, drop, Option, Some, None, Result, Ok, Err, refl, sym, ap, ◌∙◌, arith}
+use Rattle.std.proofs.Common.{◌≡◌, ℕ, zero, suc, ◌+◌, ◌^◌, ◌<◌, ◌≤◌, ltb, List, [], ◌∷◌, ◌++◌, length, drop, Option, Some, None, Result, Ok, Err, refl, sym, ap, ◌∙◌, arith}
 use Rattle.std.specs.Prelude.{unwrap_or}
 use Rattle.std.specs.Borrow.{Bor}
 use Rattle.std.specs.Option.{option_map}
@@ -12,7 +12,7 @@ use Rattle.ssh_wire.specs.Reading.{Reads, content_at, front_at, number_at, strin
 use Rattle.ssh_wire.specs.declared.fault.WireFault.{WireFault}
 use Rattle.ssh_wire.specs.declared.fault.WireFault.TheVariants.{Short}
 use Rattle.ssh_wire.specs.Fields.{length-string, string_again, string_takes}
-use Rattle.ssh_key.proofs.Steps.{ok_is, ok_or_err}
+use Rattle.ssh_wire.specs.Steps.{guard_ok, ok_is, ok_or_err}
 use Rattle.ssh_cert.specs.Strings.{AreStrings, string_before, strings_in, strings_of, strings_within}
 
 -- ---- what is read is spelled so
@@ -73,10 +73,6 @@ strings_of_again list lt = within_again (length (strings list)) list lt (omega a
 no_string : string_at [] ≡ Err Short
 unfolding string_at number_at
 no_string = refl
-
-guard_ok : {A : Type 0} (b : Bool) (fault : WireFault) (x y : A) → cond b (Err fault) (Ok x) ≡ Ok y → (b ≡ false) × (x ≡ y)
-guard_ok true fault x y e = absurd cc
-guard_ok false fault x y e = (refl, cc)
 
 content_shorter : (bytes text rest : List ℕ) (read : Result (ℕ × List ℕ) WireFault) → number_at 4 bytes ≡ read → content_at read ≡ Ok (text, rest) → length rest + 4 ≤ length bytes
 unfolding number_at front_at

@@ -6,11 +6,10 @@ use Rattle.std.specs.Str.{bytes_eq}
 use Rattle.std.proofs.lemmas.Bool.{cases_Bool}
 use Rattle.std.proofs.lemmas.Slice.Eq.{bytes_eq-Decides}
 use Rattle.ssh_wire.specs.Wire.{IsBytes}
-use Rattle.ssh_wire.specs.Digits.{IsBytes-cons, IsBytes-tail, IsBytes-take}
+use Rattle.ssh_wire.specs.Digits.{IsBytes-append, IsBytes-cons, IsBytes-nil, IsBytes-tail, IsBytes-take}
 use Rattle.ssh_key.specs.Armour.{AreInner, IsArmour, armour_at, armoured, begin_line, body_of, end_line, lines_of}
 use Rattle.ssh_key.specs.Lines.{is_newline}
 use Rattle.ssh_key.specs.Blanks.{before_ending}
-use Rattle.ssh_key.proofs.Wire.{IsBytes-append, no_bytes}
 
 -- lines, the first of which that is the end line is there, and their join before it
 record Between (lines : List (List ℕ)) (body : List ℕ) : Type 0 where
@@ -84,14 +83,14 @@ AllBytes (part ∷ parts) = IsBytes part × AllBytes parts
 
 onto_bytes : (byte : ℕ) (parts : List (List ℕ)) → byte < 256 → AllBytes parts → AllBytes (onto_first byte parts)
 unfolding AllBytes
-onto_bytes byte [] lt all = (IsBytes-cons byte [] lt no_bytes, tt)
+onto_bytes byte [] lt all = (IsBytes-cons byte [] lt IsBytes-nil, tt)
 onto_bytes byte (part ∷ parts) lt all = (IsBytes-cons byte part lt all.0, all.1)
 
 split_bytes : (text : List ℕ) → IsBytes text → AllBytes (slice_split is_newline text)
 unfolding AllBytes
-split_bytes [] fits = (no_bytes, tt)
+split_bytes [] fits = (IsBytes-nil, tt)
 split_bytes (byte ∷ text) fits = elim (cases_Bool (is_newline byte)) [
-  | inl feed ↦ rw feed (no_bytes, split_bytes text (IsBytes-tail byte text fits))
+  | inl feed ↦ rw feed (IsBytes-nil, split_bytes text (IsBytes-tail byte text fits))
   | inr other ↦ rw other (onto_bytes byte (slice_split is_newline text) (fits 0) (split_bytes text (IsBytes-tail byte text fits)))
 ]
 
@@ -107,7 +106,7 @@ body_bytes (line ∷ lines) body all e = elim (is_end_or_not line end_line) [
   | inl same ↦
       let h = rw same.0 at e in
       let empty : [] ≡ body = cc in
-      subst IsBytes empty no_bytes
+      subst IsBytes empty IsBytes-nil
   | inr other ↦
       let m = mapped_some line (body_of lines) body (rw other.0 at e) in
       subst IsBytes m.2 (IsBytes-append line m.0 all.0 (body_bytes lines m.0 all.1 m.1))

@@ -4,6 +4,8 @@ use Rattle.std.proofs.Common.{◌≡◌, ℕ, ◌<◌, Bool, true, false, cond, 
 use Rattle.std.proofs.lemmas.Bool.{eqb-true, ne_eqb}
 use Rattle.std.proofs.lemmas.List.{nil_from_length}
 use Rattle.ssh_wire.specs.Wire.{IsBytes, string}
+use Rattle.ssh_wire.specs.Fields.{IsBytes-content}
+use Rattle.ssh_wire.specs.Digits.{IsBytes-behind}
 use Rattle.ssh_wire.specs.Reading.{◌>>=◌}
 use Rattle.ssh_key.specs.Container.{HasParts, IsListFault, IsPrivateList, outer, why_no_key}
 use Rattle.ssh_key.specs.ContainerReading.{Opened, inside_at, list_at, opened}
@@ -16,8 +18,7 @@ use Rattle.ssh_key.specs.declared.private_fault.PrivateFault.TheVariants as faul
 use Rattle.ssh_key.proofs.Keys.{key_again, key_found}
 use Rattle.ssh_key.proofs.ListLaws.{list_again, list_found, list_met, list_refused}
 use Rattle.ssh_key.proofs.RowLaws.{row_again, row_fails, row_refused, row_takes}
-use Rattle.ssh_key.proofs.Steps.{above_zero, bind_err, bind_ok}
-use Rattle.ssh_key.proofs.Wire.{IsBytes-behind, IsBytes-content}
+use Rattle.ssh_wire.specs.Steps.{above_zero, bind_err, bind_ok}
 
 -- ---- the parts
 
@@ -42,9 +43,6 @@ no_fault_key (Err fault) e = absurd cc
 behind : (text rest bytes : List ℕ) → bytes ≡ text ++ rest → IsBytes bytes → IsBytes rest
 behind text rest bytes e fits = IsBytes-behind text rest (subst IsBytes e fits)
 
-content : (text rest bytes : List ℕ) → bytes ≡ string text ++ rest → IsBytes bytes → IsBytes text
-content text rest bytes e fits = IsBytes-content text rest (subst IsBytes e fits)
-
 parts_of : (inside : List ℕ) (values : List (List ℕ)) (rest : List ℕ) → IsBytes inside → Leads outer [] inside values rest → Parts inside values rest
 parts_of inside values rest fits (c, r1, s1, p1, (k, r2, s2, p2, (o, r3, s3, p3, (n, r4, s4, p4, (b, r5, s5, p5, (l, r6, s6, p6, (same, left))))))) =
     let f1 = behind (string c) r1 inside s1.spelled fits in
@@ -61,8 +59,8 @@ parts_of inside values rest fits (c, r1, s1, p1, (k, r2, s2, p2, (o, r3, s3, p3,
       blob = b;
       list = l;
       is = same;
-      blob_fits = content b r5 r4 s5.spelled f4;
-      list_fits = content l r6 r5 s6.spelled f5;
+      blob_fits = IsBytes-content r4 b r5 f4 s5.spelled;
+      list_fits = IsBytes-content r5 l r6 f5 s6.spelled;
       key = key.0;
       read = key.1;
     }

@@ -3,7 +3,7 @@ use Rattle.std.proofs.Common.{◌≡◌, ◌≢◌, ℕ, ◌+◌, ◌-◌, ◌<�
 use Rattle.std.specs.Prelude.{option_map}
 use Rattle.std.specs.List.{slice_split, starts_with, suffix_len}
 use Rattle.std.specs.Str.{bytes_eq}
-use Rattle.std.proofs.lemmas.Bool.{cases_Bool, eqb-true}
+use Rattle.std.proofs.lemmas.Bool.{and_parts, cases_Bool, eqb-true}
 use Rattle.std.proofs.lemmas.Bool.Decides.{same_from_decides}
 use Rattle.std.proofs.lemmas.List.{append_cancel_left, ext_get_or, get_or_append_left, get_or-take, length-append, length-drop, length-take, nil_from_length, take-append-drop, take_all}
 use Rattle.std.proofs.lemmas.List.FromFn.{get_or-range_with_len, length-range_with_len}
@@ -26,14 +26,13 @@ use Rattle.ssh_key.specs.declared.kind.Kind.TheVariants.{Dsa, EcdsaSk, Ed25519Sk
 use Rattle.ssh_key.specs.declared.private_fault.PrivateFault.{PrivateFault}
 use Rattle.ssh_key.specs.declared.private_fault.PrivateFault.TheVariants.{Base64, Wire}
 use Rattle.ssh_key.proofs.ListLaws.{front_met, not_front}
-use Rattle.ssh_key.proofs.Public.{both_true}
 
 -- ---- the parts
 
 plain_is : (cipher derivation options : List ℕ) → is_plain cipher derivation options ≡ true → (cipher ≡ codes "none") × (derivation ≡ codes "none") × (options ≡ [])
 plain_is cipher derivation options plain =
-    let first = both_true (bytes_eq cipher (codes "none")) (bytes_eq derivation (codes "none") && length options == 0) plain in
-    let others = both_true (bytes_eq derivation (codes "none")) (length options == 0) first.1 in (
+    let first = and_parts (bytes_eq cipher (codes "none")) (bytes_eq derivation (codes "none") && length options == 0) plain in
+    let others = and_parts (bytes_eq derivation (codes "none")) (length options == 0) first.1 in (
       (bytes_eq-Decides cipher (codes "none")).0 first.0,
       (bytes_eq-Decides derivation (codes "none")).0 others.0,
       nil_from_length options (eqb-true _ _ others.1),

@@ -2,29 +2,20 @@
 use Rattle.std.proofs.Common.{◌≡◌, ℕ, ◌+◌, ◌-◌, ◌^◌, ◌<◌, ◌≤◌, List, [], ◌∷◌, ◌++◌, length, take, Err, refl, ap, ◌∙◌, arith, inl, inr, Result, drop, sym}
 use Rattle.std.proofs.lemmas.Bool.{cases_lt}
 use Rattle.std.proofs.lemmas.List.{length-append, length-drop, length-take, take-append-drop, take-append-le}
-use Rattle.std.proofs.Math.Seq.{take-append-add}
 use Rattle.ssh_wire.specs.declared.fault.WireFault.{WireFault}
 use Rattle.ssh_wire.specs.declared.fault.WireFault.TheVariants.{Short}
 use Rattle.ssh_wire.specs.Wire.{mpint, string}
 use Rattle.ssh_wire.specs.Reading.{mpint_at, string_at}
-use Rattle.ssh_wire.specs.Cut.{mpint-cut, string-cut}
-use Rattle.ssh_wire.specs.Fields.{length-string}
+use Rattle.ssh_wire.specs.Cut.{mpint-cut, string-cut, take-behind}
+use Rattle.ssh_wire.specs.Fields.{length-mpint, length-string}
 use Rattle.ssh_wire.specs.Laws.{IsShortWhereCut}
 use Rattle.ssh_key.specs.declared.fault.KeyFault.TheVariants.{Wire}
 use Rattle.ssh_key.specs.Kind.{Field, Positive, Curve, Point, Sized, Text, type_name, fields_of}
 use Rattle.ssh_key.specs.Key.{AreValues, HasLength, IsKey, Key, blob_of, field_text, fields_text}
 use Rattle.ssh_key.specs.FirstFault.{IsFieldsFault, IsFirstFault, Refuses, in_fields, no_name, not_long}
-use Rattle.ssh_key.proofs.FirstFaults.{stops_in_field}
+use Rattle.ssh_key.proofs.FirstFaults.{refused_in_field}
 use Rattle.ssh_key.proofs.Keys.{length-type_name}
-use Rattle.ssh_key.proofs.Refusals.{Stops, stops_first, stops_later}
-use Rattle.ssh_key.proofs.Wire.{length-mpint}
-
--- ---- a cut behind the front, and one within it
-
-cut_behind : (front behind : List ℕ) (n : ℕ) → length front ≤ n → take n (front ++ behind) ≡ front ++ take (n - length front) behind
-cut_behind front behind n le =
-    let size : n ≡ length front + (n - length front) = omega arith in
-    ap (λ (k : ℕ). take k (front ++ behind)) size ∙ take-append-add front behind (n - length front)
+use Rattle.ssh_key.proofs.Refusals.{RefusedIn, refused_first, refused_later}
 
 -- ---- strings
 
@@ -52,23 +43,23 @@ field_cut (Point size) value rest n told lt = text_cut value rest n told lt
 field_cut (Sized size) value rest n told lt = text_cut value rest n told lt
 field_cut Text value rest n told lt = text_cut value rest n told lt
 
-fields_cut : (fields : List Field) (values : List (List ℕ)) (n : ℕ) → AreValues fields values → n < length (fields_text fields values) → Stops fields (take n (fields_text fields values)) (Wire Short)
+fields_cut : (fields : List Field) (values : List (List ℕ)) (n : ℕ) → AreValues fields values → n < length (fields_text fields values) → RefusedIn fields (take n (fields_text fields values)) (Wire Short)
 fields_cut [] values n allowed lt = absurd (omega arith)
 fields_cut (field ∷ fields) [] n allowed lt = absurd allowed
 fields_cut (field ∷ fields) (value ∷ values) n allowed lt =
     let text : List ℕ = field_text field value in
     let whole = length-append text (fields_text fields values) in
     elim (cases_lt n (length text)) [
-      | inl within ↦ stops_first field fields (take n (text ++ fields_text fields values)) (Wire Short) (field_cut field value (fields_text fields values) n allowed.1 within)
+      | inl within ↦ refused_first field fields (take n (text ++ fields_text fields values)) (Wire Short) (field_cut field value (fields_text fields values) n allowed.1 within)
       | inr behind ↦
-          stops_later field fields (take n (text ++ fields_text fields values)) value (take (n - length text) (fields_text fields values)) (Wire Short) (cut_behind text (fields_text fields values) n behind) allowed.0 allowed.1
+          refused_later field fields (take n (text ++ fields_text fields values)) value (take (n - length text) (fields_text fields values)) (Wire Short) (take-behind text (fields_text fields values) n behind) allowed.0 allowed.1
           (fields_cut fields values (n - length text) allowed.2 (omega arith))
     ]
 
 pub public_cut : (key : Key) (n : ℕ) → IsKey (blob_of key) key → n < length key.fields → IsFieldsFault key.kind (take n key.fields) (Wire Short)
 public_cut key n is lt =
     let lengths : length key.fields ≡ length (fields_text (fields_of key.kind) is.values) = ap length is.fields in
-    rw (is.fields) (stops_in_field key.kind (take n (fields_text (fields_of key.kind) is.values)) (Wire Short) (fields_cut (fields_of key.kind) is.values n is.allowed (omega arith)))
+    rw (is.fields) (refused_in_field key.kind (take n (fields_text (fields_of key.kind) is.values)) (Wire Short) (fields_cut (fields_of key.kind) is.values n is.allowed (omega arith)))
 
 -- ---- the blob
 
@@ -84,6 +75,6 @@ key_cut blob key n is lt =
       | inl within ↦
           not_long short (no_name Short (ap string_at cut ∙ string_cut (type_name key.kind) text n (omega (arith, length-type_name key.kind)) within) refl)
       | inr behind ↦
-          not_long short (in_fields key.kind (take (n - length name) text) (cut ∙ cut_behind name text n behind)
-          (stops_in_field key.kind (take (n - length name) text) (Wire Short) (fields_cut (fields_of key.kind) is.values (n - length name) is.allowed (omega arith))))
+          not_long short (in_fields key.kind (take (n - length name) text) (cut ∙ take-behind name text n behind)
+          (refused_in_field key.kind (take (n - length name) text) (Wire Short) (fields_cut (fields_of key.kind) is.values (n - length name) is.allowed (omega arith))))
     ]

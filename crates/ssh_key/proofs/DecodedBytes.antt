@@ -12,8 +12,7 @@ use Rattle.base64.specs.declared.decode.DecodeError.{DecodeError}
 use Rattle.base64.specs.declared.engine.DecodePaddingMode.{DecodePaddingMode}
 use Rattle.base64.specs.declared.engine.general_purpose.GeneralPurpose.{GeneralPurpose}
 use Rattle.ssh_wire.specs.Wire.{IsBytes}
-use Rattle.ssh_wire.specs.Digits.{IsBytes-cons, IsBytes-drop, IsBytes-take}
-use Rattle.ssh_key.proofs.Wire.{IsBytes-append, no_bytes}
+use Rattle.ssh_wire.specs.Digits.{IsBytes-append, IsBytes-cons, IsBytes-drop, IsBytes-nil, IsBytes-take}
 
 -- four values of six bits make three bytes
 IsBytes-group : (a b c d : ℕ) → a < 64 → b < 64 → c < 64 → d < 64 → IsBytes (decode_group a b c d)
@@ -22,7 +21,7 @@ IsBytes-group a b c d la lb lc ld =
     let second : b % 16 * 16 + c / 4 < 256 = omega arith in
     let third : c % 4 * 64 + d < 256 = omega arith in
     let last : List ℕ = (c % 4 * 64 + d) ∷ [] in
-    IsBytes-cons (a * 4 + b / 16) ((b % 16 * 16 + c / 4) ∷ last) first (IsBytes-cons (b % 16 * 16 + c / 4) last second (IsBytes-cons (c % 4 * 64 + d) [] third no_bytes))
+    IsBytes-cons (a * 4 + b / 16) ((b % 16 * 16 + c / 4) ∷ last) first (IsBytes-cons (b % 16 * 16 + c / 4) last second (IsBytes-cons (c % 4 * 64 + d) [] third IsBytes-nil))
 
 -- ---- the groups before the last
 
@@ -39,7 +38,7 @@ symbol_small dec text i table fits none = elim (table (slice_index text i) (fits
 
 IsBytes-groups : (dec text : List ℕ) (count : ℕ) → IsDecodeTable dec → IsBytes text → groups_error dec text count ≡ None → IsBytes (groups_bytes dec text count)
 unfolding groups_error groups_bytes
-IsBytes-groups dec text zero table fits none = no_bytes
+IsBytes-groups dec text zero table fits none = IsBytes-nil
 IsBytes-groups dec text (suc count) table fits none =
     let i : ℕ = 4 * count in
     let parts = neither (groups_error dec text count) (group_error dec text i) none in
@@ -76,7 +75,7 @@ IsBytes-suffix enc dec text pad at inverse fits short = elim (read_or_not (scan_
       let value : ℕ → ℕ = slice_index read.0.morsels in
       let group : IsBytes (decode_group (value 0) (value 1) (value 2) (value 3)) = IsBytes-group (value 0) (value 1) (value 2) (value 3) (small 0) (small 1) (small 2) (small 3) in
       rw read.1 (IsBytes-take (read.0.morsels_count * 6 / 8) (decode_group (value 0) (value 1) (value 2) (value 3)) group)
-  | inr refused ↦ rw refused.1 no_bytes
+  | inr refused ↦ rw refused.1 IsBytes-nil
 ]
 
 -- ---- the whole

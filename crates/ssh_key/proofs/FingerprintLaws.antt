@@ -15,15 +15,14 @@ use Rattle.std.specs.Int.{to_be_bytes, w32}
 use Rattle.sha2.specs.Sha256.{digest_bytes, final_hash, initial_hash_256, sha256}
 use Rattle.sha2.proofs.Facts256.{length-sha256}
 use Rattle.ssh_wire.specs.Wire.{IsBytes}
-use Rattle.ssh_wire.specs.Digits.{IsBytes-big}
+use Rattle.ssh_wire.specs.Digits.{IsBytes-append, IsBytes-behind, IsBytes-big, IsBytes-nil}
 use Rattle.ssh_key.specs.declared.hash.Hash.TheVariants.{Sha256}
 use Rattle.ssh_key.specs.Fingerprints.{fingerprint_text, unpadded}
 use Rattle.ssh_key.specs.FingerprintReading.{Encodes, GivesDigest, HasOtherBase64, IsFingerprint, IsFingerprintFault, IsToldFingerprintFault, fingerprint_at, sha256_prefix, sized}
 use Rattle.ssh_key.specs.declared.fingerprint_fault.FingerprintFault.{FingerprintFault}
 use Rattle.ssh_key.specs.declared.fingerprint_fault.FingerprintFault.TheVariants.{Prefix, Base64, Length, NoMemory}
 use Rattle.ssh_key.proofs.DecodedBytes.{engine_fits}
-use Rattle.ssh_key.proofs.Steps.{err_is, ok_or_err}
-use Rattle.ssh_key.proofs.Wire.{IsBytes-append, IsBytes-behind, no_bytes}
+use Rattle.ssh_wire.specs.Steps.{err_is, ok_or_err}
 
 -- ---- the prefix
 
@@ -162,7 +161,7 @@ fingerprint_fault_met text NoMemory fits never = absurd never
 
 digest_are_bytes : (hash : List ℕ) (n : ℕ) → IsBytes (digest_bytes hash n)
 unfolding digest_bytes
-digest_are_bytes hash zero = no_bytes
+digest_are_bytes hash zero = IsBytes-nil
 digest_are_bytes hash (suc n) = IsBytes-append (digest_bytes hash n) (to_be_bytes w32 (slice_index hash n)) (digest_are_bytes hash n) (IsBytes-big 4 (slice_index hash n))
 
 sha256_are_bytes : (bytes : List ℕ) → IsBytes (sha256 bytes)

@@ -7,7 +7,7 @@ use Rattle.std.proofs.lemmas.List.{append-nil, length-append}
 use Rattle.ssh_wire.specs.declared.fault.WireFault.{WireFault}
 use Rattle.ssh_wire.specs.Wire.{BeginsWith, IsBytes, string}
 use Rattle.ssh_wire.specs.Reading.{◌>>=◌, in_fault, string_at}
-use Rattle.ssh_wire.specs.Fields.{Takes, string_takes}
+use Rattle.ssh_wire.specs.Fields.{HasFront, string_takes}
 use Rattle.ssh_key.specs.declared.fault.KeyFault.{KeyFault}
 use Rattle.ssh_key.specs.declared.fault.KeyFault.TheVariants as faults
 use Rattle.ssh_key.specs.declared.kind.Kind.{Kind}
@@ -16,10 +16,10 @@ use Rattle.ssh_key.specs.Key.{Key, AreValues, BeginsWithFields, blob_of, fields_
 use Rattle.ssh_key.specs.KeyReading.{before_rest, bits_at, fields_at, key_at, kind_at, not_too_long, of_size, public_at}
 use Rattle.ssh_key.specs.FirstFault.{Refuses, Reaches, IsFieldsFault, in_field, long_fields, IsFault, no_name, no_kind, in_fields, after_fields, IsFirstFault, too_long, not_long}
 use Rattle.ssh_key.proofs.Names.{kind_named-name, kind_named-type_name}
-use Rattle.ssh_key.proofs.Steps.{above_zero, bind_err, failed_err, in_fault_err, in_fault_ok, never_err, none_err}
+use Rattle.ssh_wire.specs.Steps.{above_zero, bind_err, failed_err, in_fault_err, in_fault_ok, never_err, none_err}
 use Rattle.ssh_key.proofs.Public.{fields_take, fields_again}
 use Rattle.ssh_key.proofs.Keys.{before_is, bits_ok, kind_again, kind_takes, public_found}
-use Rattle.ssh_key.proofs.Refusals.{string_read, Stops, fields_refused, stop_read}
+use Rattle.ssh_key.proofs.Refusals.{string_read, RefusedIn, fields_refused, stop_read}
 
 -- ---- what reading meets is a fault
 
@@ -45,7 +45,7 @@ kind_refused blob fault fits e =
 
 -- ---- of public fields
 
-bits_refused : (kind : Kind) (bytes : List ℕ) (fault : KeyFault) → IsBytes bytes → bits_at kind bytes ≡ Err fault → Stops (fields_of kind) bytes fault
+bits_refused : (kind : Kind) (bytes : List ℕ) (fault : KeyFault) → IsBytes bytes → bits_at kind bytes ≡ Err fault → RefusedIn (fields_of kind) bytes fault
 unfolding bits_at
 bits_refused kind bytes fault fits e =
     elim (bind_err (fields_at (fields_of kind) bytes) (λ values. Ok (bits_of kind values.0, values.1)) fault e) [
@@ -53,8 +53,8 @@ bits_refused kind bytes fault fits e =
       | inr values ↦ absurd (never_err (bits_of kind values.0.0, values.0.1) fault values.2)
     ]
 
-pub stops_in_field : (kind : Kind) (bytes : List ℕ) (fault : KeyFault) → Stops (fields_of kind) bytes fault → IsFieldsFault kind bytes fault
-stops_in_field kind bytes fault s = in_field s.field s.later s.rest
+pub refused_in_field : (kind : Kind) (bytes : List ℕ) (fault : KeyFault) → RefusedIn (fields_of kind) bytes fault → IsFieldsFault kind bytes fault
+refused_in_field kind bytes fault s = in_field s.field s.later s.rest
     (record { before = s.before; values = s.values; fields = s.parts; allowed = s.allowed; spelled = s.spelled })
     s.refused
 
@@ -96,7 +96,7 @@ pub public_refused : (kind : Kind) (bytes : List ℕ) (fault : KeyFault) → IsB
 unfolding public_at
 public_refused kind bytes fault fits e =
     elim (bind_err (bits_at kind bytes) (λ size. not_too_long (of_size kind bytes size) size.1) fault e) [
-      | inl refused ↦ stops_in_field kind bytes fault (bits_refused kind bytes fault fits refused)
+      | inl refused ↦ refused_in_field kind bytes fault (bits_refused kind bytes fault fits refused)
       | inr size ↦ long_refused kind bytes size.0 fault fits size.1 size.2
     ]
 
@@ -111,7 +111,7 @@ reached_end kind bytes rest key found =
     (subst (λ (fields : List Field). bytes ≡ fields_text fields is.values ++ rest) kinds spelled)
     (subst (λ (fields : List Field). AreValues fields is.values) kinds is.allowed)
 
-end_refused : (blob fields : List ℕ) (kind : Kind) (found : Key × List ℕ) (fault : KeyFault) → Takes blob (string (type_name kind)) fields → public_at kind fields ≡ Ok found
+end_refused : (blob fields : List ℕ) (kind : Kind) (found : Key × List ℕ) (fault : KeyFault) → HasFront blob (string (type_name kind)) fields → public_at kind fields ≡ Ok found
     → cond {A = Result Key KeyFault} (eqb (length found.1) 0) (Ok found.0) (Err faults.Trailing) ≡ Err fault → IsFault blob fault
 end_refused blob fields kind found fault t read e =
     let w = failed_err (eqb (length found.1) 0) found.0 faults.Trailing fault e in

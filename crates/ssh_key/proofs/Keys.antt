@@ -5,8 +5,9 @@ use Rattle.std.specs.Option.{ok_or}
 use Rattle.std.proofs.lemmas.Bool.{eqb-true, ltb-false, le-ltb}
 use Rattle.std.proofs.lemmas.List.{append-nil, nil_from_length, length-append, take_at}
 use Rattle.ssh_wire.specs.Wire.{IsBytes, string}
+use Rattle.ssh_wire.specs.Digits.{IsBytes-append, IsBytes-behind}
 use Rattle.ssh_wire.specs.Reading.{◌>>=◌, Gives, in_fault, string_at}
-use Rattle.ssh_wire.specs.Fields.{Takes, string_again, string_takes}
+use Rattle.ssh_wire.specs.Fields.{HasFront, IsBytes-string, string_again, string_takes}
 use Rattle.ssh_key.specs.declared.fault.KeyFault.{KeyFault}
 use Rattle.ssh_key.specs.declared.fault.KeyFault.TheVariants as faults
 use Rattle.ssh_key.specs.declared.kind.Kind.{Kind}
@@ -16,23 +17,23 @@ use Rattle.ssh_key.specs.Key.{Key, BeginsWithFields, IsKey, AreValues, blob_of, 
 use Rattle.ssh_key.specs.KeyReading.{before_rest, bits_at, fields_at, key_at, kind_at, IsRead, not_too_long, of_size, public_at}
 use Rattle.ssh_key.specs.Value.{SameValues}
 use Rattle.ssh_key.proofs.Names.{kind_named-name, kind_named-type_name}
-use Rattle.ssh_key.proofs.Steps.{bind_ok, in_fault_ok, ok_is, passed_ok, some_ok}
+use Rattle.ssh_wire.specs.Steps.{bind_ok, in_fault_ok, ok_is, passed_ok, some_ok}
 use Rattle.ssh_key.proofs.Numbers.{values_same}
 use Rattle.ssh_key.proofs.Public.{fields_take, fields_again}
-use Rattle.ssh_key.proofs.Wire.{IsBytes-append, IsBytes-behind, IsBytes-string, IsBytes-test}
+use Rattle.ssh_key.proofs.Wire.{IsBytes-test}
 
 -- ---- the kind
 
-pub kind_takes : (bytes : List ℕ) (x : Kind × List ℕ) → IsBytes bytes → kind_at bytes ≡ Ok x → Takes bytes (string (type_name x.0)) x.1
+pub kind_takes : (bytes : List ℕ) (x : Kind × List ℕ) → IsBytes bytes → kind_at bytes ≡ Ok x → HasFront bytes (string (type_name x.0)) x.1
 unfolding kind_at
 kind_takes bytes x fits e =
     let a = bind_ok (in_fault faults.Wire (string_at bytes)) (λ name. ok_or (kind_named name.0) faults.UnknownType >>= λ kind. Ok (kind, name.1)) x e in
     let b = bind_ok (ok_or (kind_named a.0.0) faults.UnknownType) (λ kind. Ok (kind, a.0.1)) x a.2 in
     let named : type_name b.0 ≡ a.0.0 = kind_named-name a.0.0 b.0 (some_ok (kind_named a.0.0) faults.UnknownType b.0 b.1) in
     let t = (string_takes bytes a.0.0 a.0.1 fits (in_fault_ok faults.Wire (string_at bytes) a.0 a.1)).0 in
-    let spelled : Takes bytes (string (type_name b.0)) a.0.1 = subst (λ (s : List ℕ). Takes bytes (string s) a.0.1) (sym named) t in
+    let spelled : HasFront bytes (string (type_name b.0)) a.0.1 = subst (λ (s : List ℕ). HasFront bytes (string s) a.0.1) (sym named) t in
     let same : (b.0, a.0.1) ≡ x = cc in
-    subst (λ (y : Kind × List ℕ). Takes bytes (string (type_name y.0)) y.1) same spelled
+    subst (λ (y : Kind × List ℕ). HasFront bytes (string (type_name y.0)) y.1) same spelled
 
 pub length-type_name : (kind : Kind) → length (type_name kind) < 64
 length-type_name Rsa = omega arith
@@ -141,7 +142,7 @@ short_ok : {A : Type 0} (b : Bool) (r : Result A KeyFault) (y : A) → cond b (E
 short_ok true r y e = absurd cc
 short_ok false r y e = (refl, e)
 
-whole_key : (blob fields rest : List ℕ) (kind : Kind) (key : Key) → Takes blob (string (type_name kind)) fields → (key.kind ≡ kind) × BeginsWithFields fields key rest → length rest ≡ 0 → IsKey blob key
+whole_key : (blob fields rest : List ℕ) (kind : Kind) (key : Key) → HasFront blob (string (type_name kind)) fields → (key.kind ≡ kind) × BeginsWithFields fields key rest → length rest ≡ 0 → IsKey blob key
 whole_key blob fields rest kind key named found ended =
     let nothing : rest ≡ [] = nil_from_length rest ended in
     let all : fields ≡ key.fields = found.1.spelled ∙ ap (λ (r : List ℕ). key.fields ++ r) nothing ∙ append-nil key.fields in

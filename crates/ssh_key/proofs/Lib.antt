@@ -1,5 +1,4 @@
 pub mod Names
-pub mod Steps
 pub mod Wire
 pub mod Public
 pub mod Refusals

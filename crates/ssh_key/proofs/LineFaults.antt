@@ -9,7 +9,7 @@ use Rattle.ssh_key.specs.LineFaults.{EncodesOtherKey, HasBadBase64, HasSomeWords
 use Rattle.ssh_key.specs.LineReading.{Gives, checked, content_of, decoded, has_word, line_at}
 use Rattle.ssh_key.proofs.LineBase64.{decoded_again, decoded_bytes, decoded_cases, decoded_takes}
 use Rattle.ssh_key.proofs.LineLaws.{word_again, word_takes}
-use Rattle.ssh_key.proofs.Steps.{err_is, ok_or_err}
+use Rattle.ssh_wire.specs.Steps.{err_is, ok_or_err}
 use Rattle.ssh_key.proofs.TextWords.{IsBytes-words, none_or_words, words_read}
 use Rattle.ssh_wire.specs.Wire.{BeginsWith, IsBytes}
 

@@ -2,6 +2,7 @@
 use Rattle.std.proofs.Common.{◌≡◌, ℕ, ◌<◌, ◌^◌, true, List, ◌++◌, Result, Ok, Err, length, refl, sym, ap, subst, ◌∙◌, inl, inr}
 use Rattle.std.proofs.lemmas.Bool.{cases_Bool}
 use Rattle.std.proofs.lemmas.Slice.Eq.{bytes_eq-Decides}
+use Rattle.ssh_wire.specs.Steps.{ok_is}
 use Rattle.ssh_wire.specs.Reading.{string_at}
 use Rattle.ssh_wire.specs.declared.fault.WireFault.{WireFault}
 use Rattle.ssh_wire.specs.Fields.{string_again, string_takes}
@@ -40,18 +41,12 @@ word_takes word blob fits e =
 
 -- ---- what is read is a key line
 
-abbrev done : Content → Result Content LineFault
-done parts = Ok parts
-
-parts_is : (x y : Content) → done x ≡ done y → x ≡ y
-parts_is x y e = cc
-
 checked_takes : (word : List ℕ) (read : Result (List ℕ) LineFault) (comment : List ℕ) (parts : Content) → checked word read comment ≡ Ok parts → (read ≡ Ok parts.blob) × (has_word word parts.blob ≡ true) × (content word parts.blob comment ≡ parts)
 checked_takes word (Err fault) comment parts e = absurd cc
 checked_takes word (Ok blob) comment parts e = elim (cases_Bool (has_word word blob)) [
   | inl begins ↦
       let h = rw begins at e in
-      let same = parts_is (content word blob comment) parts h in
+      let same = ok_is (content word blob comment) parts (Ok (content word blob comment)) refl h in
       let blobs : blob ≡ parts.blob = ap (λ (p : Content). p.blob) same in
       (ap (λ (xs : List ℕ). Ok xs) blobs, sym (ap (has_word word) blobs) ∙ begins, ap (λ (xs : List ℕ). content word xs comment) (sym blobs) ∙ same)
   | inr differs ↦ absurd (let h = rw differs at e in cc)

@@ -2,10 +2,11 @@
 use Rattle.std.proofs.Common.{◌≡◌, ◌≢◌, ℕ, ◌==◌, ◌&&◌, Bool, true, false, not, cond, List, [], ◌∷◌, ◌++◌, Some, None, refl, sym, ap, subst, ◌∙◌, arith, inl, inr}
 use Rattle.std.proofs.lemmas.Bool.{and_right, both_ways, cases_Bool, cases_eq, eq-eqb, ne_eqb}
 use Rattle.std.proofs.lemmas.List.{append_assoc}
+use Rattle.std.proofs.lemmas.Option.{same_Some, none-some}
 use Rattle.ssh_key.specs.Blanks.{is_blank}
 use Rattle.ssh_key.specs.KeyLine.{IsNoPair, Options, Quoted, options_byte, options_end, options_pair, options_quoted, quoted_byte, quoted_end, quoted_pair}
 use Rattle.ssh_key.specs.LineReading.{after_options, quoted_behind}
-use Rattle.ssh_key.proofs.LineWords.{Stops, not_blank}
+use Rattle.ssh_key.proofs.LineWords.{FailsFirst, not_blank}
 
 -- ---- a step of the scan
 
@@ -80,19 +81,19 @@ quoted_passes inner rest (quoted_byte byte more other apart q) =
 blank_is_no_quote : (byte : ℕ) → not_blank byte ≡ false → byte ≢ 34
 blank_is_no_quote byte blank same = both_ways (not_blank byte) blank (ap not_blank same)
 
-options_apart : (byte : ℕ) (field rest : List ℕ) → Stops not_blank rest → IsNoPair byte field → (byte ≡ 92) → NoQuote (field ++ rest)
+options_apart : (byte : ℕ) (field rest : List ℕ) → FailsFirst not_blank rest → IsNoPair byte field → (byte ≡ 92) → NoQuote (field ++ rest)
 options_apart byte [] [] stops apart backslash = tt
 options_apart byte [] (next ∷ rest) stops apart backslash = blank_is_no_quote next stops
 options_apart byte (next ∷ field) rest stops apart backslash = apart backslash
 
-stops_at_end : (rest : List ℕ) → Stops not_blank rest → after_options false false rest ≡ Some rest
+stops_at_end : (rest : List ℕ) → FailsFirst not_blank rest → after_options false false rest ≡ Some rest
 stops_at_end [] stops = at_end false false
 stops_at_end (byte ∷ rest) stops = elim (cases_Bool (is_blank byte)) [
   | inl blank ↦ ends false false byte rest blank refl
   | inr bare ↦ absurd (both_ways (not_blank byte) stops (ap not bare))
 ]
 
-pub options_again : (field rest : List ℕ) → Options field → Stops not_blank rest → after_options false false (field ++ rest) ≡ Some rest
+pub options_again : (field rest : List ℕ) → Options field → FailsFirst not_blank rest → after_options false false (field ++ rest) ≡ Some rest
 options_again field rest options_end stops = stops_at_end rest stops
 options_again field rest (options_pair more o) stops = pair_passes false (more ++ rest) ∙ options_again more rest o stops
 options_again field rest (options_byte byte more other bare apart o) stops =
@@ -110,7 +111,7 @@ pub record IsOptionsBefore (text rest : List ℕ) : Type 0 where
   pub field : List ℕ
   pub options : Options field
   pub whole : text ≡ field ++ rest
-  pub stops : Stops not_blank rest
+  pub stops : FailsFirst not_blank rest
 
 -- the text is what stands up to the next quote, that quote, a field and the rest
 record IsQuotedBefore (text rest : List ℕ) : Type 0 where
@@ -119,7 +120,7 @@ record IsQuotedBefore (text rest : List ℕ) : Type 0 where
   field : List ℕ
   options : Options field
   whole : text ≡ inner ++ 34 ∷ (field ++ rest)
-  stops : Stops not_blank rest
+  stops : FailsFirst not_blank rest
 
 abbrev Found : Bool → List ℕ → List ℕ → Type 0
 Found true text rest = IsQuotedBefore text rest
@@ -132,17 +133,11 @@ abbrev tail_of : List ℕ → List ℕ
 tail_of [] = []
 tail_of (byte ∷ rest) = rest
 
-some_is : (xs ys : List ℕ) → Some xs ≡ Some ys → xs ≡ ys
-some_is xs ys e = cc
-
-nothing_is : (rest : List ℕ) → None ≡ Some rest → ⊥
-nothing_is rest e = cc
-
 empty : Holds []
-empty true rest e = absurd (nothing_is rest (sym (at_end true false) ∙ e))
+empty true rest e = absurd (none-some rest (sym (at_end true false) ∙ e))
 empty false rest e =
-    let none : [] ≡ rest = some_is [] rest (sym (at_end false false) ∙ e) in
-    record { field = []; options = options_end; whole = none; stops = subst (Stops not_blank) none tt }
+    let none : [] ≡ rest = same_Some [] rest (sym (at_end false false) ∙ e) in
+    record { field = []; options = options_end; whole = none; stops = subst (FailsFirst not_blank) none tt }
 
 apart_from : (byte : ℕ) (text field rest : List ℕ) → text ≡ field ++ rest → ((byte ≡ 92) → NoQuote text) → IsNoPair byte field
 apart_from byte text [] rest whole apart = tt
@@ -210,8 +205,8 @@ step byte text holds after quoted rest e = elim (cases_Bool (is_blank byte && no
           | inl blank ↦ blank
           | inr bare ↦ absurd (both_ways (is_blank byte && not false) (outside byte bare) stop)
         ] in
-        let same : byte ∷ text ≡ rest = some_is (byte ∷ text) rest (sym (ends false false byte text blank refl) ∙ e) in
-        record { field = []; options = options_end; whole = same; stops = subst (Stops not_blank) same (ap not blank) }
+        let same : byte ∷ text ≡ rest = same_Some (byte ∷ text) rest (sym (ends false false byte text blank refl) ∙ e) in
+        record { field = []; options = options_end; whole = same; stops = subst (FailsFirst not_blank) same (ap not blank) }
 
 -- at a text, and behind its first byte
 both : (text : List ℕ) → Holds text × Holds (tail_of text)

@@ -11,16 +11,16 @@ use Rattle.ssh_key.specs.KeyLine.{Comment, comment_after, no_comment}
 use Rattle.ssh_key.specs.LineReading.{after_word}
 
 -- xs does not begin with an element that passes
-abbrev pub Stops : (ℕ → Bool) → List ℕ → Type 0
-Stops p [] = Unit {0}
-Stops p (x ∷ xs) = p x ≡ false
+abbrev pub FailsFirst : (ℕ → Bool) → List ℕ → Type 0
+FailsFirst p [] = Unit {0}
+FailsFirst p (x ∷ xs) = p x ≡ false
 
 abbrev pub not_blank : ℕ → Bool
 not_blank byte = not (is_blank byte)
 
 -- ---- the longest front that passes
 
-pub prefix_len-front : (p : ℕ → Bool) (xs ys : List ℕ) → AllPass p xs → Stops p ys → prefix_len p (xs ++ ys) ≡ length xs
+pub prefix_len-front : (p : ℕ → Bool) (xs ys : List ℕ) → AllPass p xs → FailsFirst p ys → prefix_len p (xs ++ ys) ≡ length xs
 prefix_len-front p xs [] each stops =
     prefix_len_is p (xs ++ []) (length xs) 0 (omega (arith, length-append xs []))
     (λ k h. ap p (get_or_append_left xs [] 0 k h) ∙ each k 0 h)
@@ -30,10 +30,10 @@ prefix_len-front p xs (y ∷ ys) each stops =
     (λ k h. ap p (get_or_append_left xs (y ∷ ys) 0 k h) ∙ each k 0 h)
     (λ h. ap p (get_or_at xs y ys 0 (length xs) refl) ∙ stops)
 
-pub stops_behind : (p : ℕ → Bool) (xs : List ℕ) → Stops p (drop (prefix_len p xs) xs)
+pub stops_behind : (p : ℕ → Bool) (xs : List ℕ) → FailsFirst p (drop (prefix_len p xs) xs)
 stops_behind p xs = elim (cases_lt (prefix_len p xs) (length xs)) [
-  | inl lt ↦ subst (Stops p) (sym (drop_more xs (prefix_len p xs) 0 lt)) (prefix_len_stops p xs 0 lt)
-  | inr le ↦ subst (Stops p) (sym (drop_all (prefix_len p xs) xs le)) tt
+  | inl lt ↦ subst (FailsFirst p) (sym (drop_more xs (prefix_len p xs) 0 lt)) (prefix_len_stops p xs 0 lt)
+  | inr le ↦ subst (FailsFirst p) (sym (drop_all (prefix_len p xs) xs le)) tt
 ]
 
 pub front_passes : (p : ℕ → Bool) (xs : List ℕ) → AllPass p (take (prefix_len p xs) xs)
@@ -43,17 +43,17 @@ front_passes p xs k d h =
 
 -- ---- words and blanks at the front
 
-pub word_front : (word rest : List ℕ) → AllPass not_blank word → Stops not_blank rest → (first_word (word ++ rest) ≡ word) × (after_word (word ++ rest) ≡ rest)
+pub word_front : (word rest : List ℕ) → AllPass not_blank word → FailsFirst not_blank rest → (first_word (word ++ rest) ≡ word) × (after_word (word ++ rest) ≡ rest)
 unfolding first_word after_word
 word_front word rest each ends =
     let size = prefix_len-front not_blank word rest each ends in
     (rw size (take_at word rest (length word) refl), rw size (drop_at word rest (length word) refl))
 
-pub blanks_front : (blanks rest : List ℕ) → AllPass is_blank blanks → Stops is_blank rest → after_blanks (blanks ++ rest) ≡ rest
+pub blanks_front : (blanks rest : List ℕ) → AllPass is_blank blanks → FailsFirst is_blank rest → after_blanks (blanks ++ rest) ≡ rest
 unfolding after_blanks
 blanks_front blanks rest each ends = rw (prefix_len-front is_blank blanks rest each ends) (drop_at blanks rest (length blanks) refl)
 
-pub word_cut : (text : List ℕ) → (text ≡ first_word text ++ after_word text) × Stops not_blank (after_word text)
+pub word_cut : (text : List ℕ) → (text ≡ first_word text ++ after_word text) × FailsFirst not_blank (after_word text)
 unfolding first_word after_word
 word_cut text = (sym (take-append-drop (prefix_len not_blank text) text), stops_behind not_blank text)
 
@@ -61,25 +61,25 @@ word_cut text = (sym (take-append-drop (prefix_len not_blank text) text), stops_
 abbrev pub leading : List ℕ → List ℕ
 leading text = take (prefix_len is_blank text) text
 
-pub blanks_cut : (text : List ℕ) → (text ≡ leading text ++ after_blanks text) × Stops is_blank (after_blanks text) × AllPass is_blank (leading text)
+pub blanks_cut : (text : List ℕ) → (text ≡ leading text ++ after_blanks text) × FailsFirst is_blank (after_blanks text) × AllPass is_blank (leading text)
 unfolding after_blanks
 blanks_cut text = (sym (take-append-drop (prefix_len is_blank text) text), stops_behind is_blank text, front_passes is_blank text)
 
-pub stops_bare : (text : List ℕ) → BeginsWithNoBlank text → Stops is_blank text
-stops_bare [] h = tt
-stops_bare (byte ∷ text) h = h
+pub fails_bare : (text : List ℕ) → BeginsWithNoBlank text → FailsFirst is_blank text
+fails_bare [] h = tt
+fails_bare (byte ∷ text) h = h
 
-pub bare_stops : (text : List ℕ) → Stops is_blank text → BeginsWithNoBlank text
-bare_stops [] h = tt
-bare_stops (byte ∷ text) h = h
+pub bare_fails : (text : List ℕ) → FailsFirst is_blank text → BeginsWithNoBlank text
+bare_fails [] h = tt
+bare_fails (byte ∷ text) h = h
 
 -- blanks end a word
-pub blanks_stop : (blanks rest : List ℕ) → AreBlanks blanks → Stops not_blank (blanks ++ rest)
+pub blanks_stop : (blanks rest : List ℕ) → AreBlanks blanks → FailsFirst not_blank (blanks ++ rest)
 blanks_stop [] rest are = absurd (omega (arith, are.some))
 blanks_stop (byte ∷ blanks) rest are = ap not (are.each 0 0 (omega arith))
 
 -- where a word ends and something stands behind the blanks, there are blanks
-pub gap : (text : List ℕ) → Stops not_blank text → 0 < length (after_blanks text) → AreBlanks (leading text)
+pub gap : (text : List ℕ) → FailsFirst not_blank text → 0 < length (after_blanks text) → AreBlanks (leading text)
 unfolding after_blanks
 gap [] stops some = absurd (omega (arith, some))
 gap (byte ∷ text) stops some =
@@ -88,7 +88,7 @@ gap (byte ∷ text) stops some =
     record { some = omega (arith, one, length-take (prefix_len is_blank (byte ∷ text)) (byte ∷ text)); each = front_passes is_blank (byte ∷ text) }
 
 -- a word stands where no blank does
-pub first_word_is : (text : List ℕ) → 0 < length text → Stops is_blank text → IsWord (first_word text)
+pub first_word_is : (text : List ℕ) → 0 < length text → FailsFirst is_blank text → IsWord (first_word text)
 unfolding first_word
 first_word_is [] some bare = absurd (omega (arith, some))
 first_word_is (byte ∷ text) some bare =
@@ -96,13 +96,13 @@ first_word_is (byte ∷ text) some bare =
     record { some = omega (arith, one, length-take (prefix_len not_blank (byte ∷ text)) (byte ∷ text)); each = front_passes not_blank (byte ∷ text) }
 
 -- and a word begins with no blank, whatever stands behind it
-pub word_stops : (word rest : List ℕ) → IsWord word → Stops is_blank (word ++ rest)
+pub word_stops : (word rest : List ℕ) → IsWord word → FailsFirst is_blank (word ++ rest)
 word_stops [] rest is = absurd (omega (arith, is.some))
 word_stops (byte ∷ word) rest is = not-true (is_blank byte) (is.each 0 0 (omega arith))
 
 -- ---- the comment
 
-pub comment_cut : (end : List ℕ) → Stops not_blank end → Comment end (after_blanks end)
+pub comment_cut : (end : List ℕ) → FailsFirst not_blank end → Comment end (after_blanks end)
 unfolding after_blanks
 comment_cut [] stops = no_comment
 comment_cut (byte ∷ rest) stops =
@@ -110,16 +110,16 @@ comment_cut (byte ∷ rest) stops =
     let one : prefix_len is_blank (byte ∷ rest) ≡ 1 + prefix_len is_blank rest = rw blank refl in
     let are : AreBlanks (leading (byte ∷ rest)) = record { some = omega (arith, one, length-take (prefix_len is_blank (byte ∷ rest)) (byte ∷ rest)); each = front_passes is_blank (byte ∷ rest) } in
     let comment : List ℕ = drop (prefix_len is_blank (byte ∷ rest)) (byte ∷ rest) in
-    let bare = bare_stops comment (stops_behind is_blank (byte ∷ rest)) in
+    let bare = bare_fails comment (stops_behind is_blank (byte ∷ rest)) in
     subst (λ (text : List ℕ). Comment text comment) (take-append-drop (prefix_len is_blank (byte ∷ rest)) (byte ∷ rest)) (comment_after (leading (byte ∷ rest)) comment are bare)
 
-pub comment_stops : (end comment : List ℕ) → Comment end comment → Stops not_blank end × (after_blanks end ≡ comment)
+pub comment_stops : (end comment : List ℕ) → Comment end comment → FailsFirst not_blank end × (after_blanks end ≡ comment)
 unfolding after_blanks
 comment_stops end comment no_comment = (tt, refl)
 comment_stops end comment (comment_after blanks comment' are bare) = (blanks_stop blanks comment' are, blanks_again blanks comment' are bare)
   where
     blanks_again : (blanks comment : List ℕ) → AreBlanks blanks → BeginsWithNoBlank comment → after_blanks (blanks ++ comment) ≡ comment
-    blanks_again blanks comment are bare = blanks_front blanks comment are.each (stops_bare comment bare)
+    blanks_again blanks comment are bare = blanks_front blanks comment are.each (fails_bare comment bare)
 
 -- ---- parts of bytes are bytes
 

@@ -14,7 +14,7 @@ use Rattle.ssh_key.specs.Key.{Key}
 use Rattle.ssh_key.specs.Rows.{Stands, Text, row_at}
 use Rattle.ssh_key.specs.declared.private_fault.PrivateFault.{PrivateFault}
 use Rattle.ssh_key.specs.declared.private_fault.PrivateFault.TheVariants as faults
-use Rattle.ssh_key.proofs.Steps.{bind_err, bind_ok, in_fault_err, in_fault_ok}
+use Rattle.ssh_wire.specs.Steps.{bind_err, bind_ok, in_fault_err, in_fault_ok}
 use Rattle.ssh_key.proofs.RowLaws.{part_again, part_takes, row_again, row_fails, row_refused, row_takes}
 
 -- ---- a front of a list

@@ -1,30 +1,21 @@
 -- A number has one magnitude, and its bits hold it.
-use Rattle.std.proofs.Common.{◌≡◌, ℕ, zero, suc, ◌+◌, ◌*◌, ◌^◌, ◌<◌, ◌≤◌, List, [], ◌∷◌, length, Bool, true, false, cond, refl, sym, ap, ◌∙◌, arith}
-use Rattle.std.specs.Prelude.{nat_lt}
+use Rattle.std.proofs.Common.{◌≡◌, ℕ, suc, ◌+◌, ◌*◌, ◌^◌, ◌<◌, ◌≤◌, List, [], ◌∷◌, length, refl, sym, ap, ◌∙◌, arith}
 use Rattle.std.proofs.lemmas.Nat.{pow-add, leading_top}
 use Rattle.std.proofs.Math.Nat.{pow-suc, mul-le-mul_left}
-use Rattle.ssh_wire.specs.Wire.{IsBytes, complement, mpint, number, number_of, string}
-use Rattle.ssh_wire.specs.Digits.{IsBytes-tail}
-use Rattle.ssh_wire.specs.Magnitudes.{number_of-cons, number_of-lt, same_magnitude}
+use Rattle.ssh_wire.specs.Wire.{IsBytes, complement, mpint, number_of}
+use Rattle.ssh_wire.specs.Digits.{IsBytes-behind, IsBytes-front, IsBytes-tail, bytes_as_bits}
+use Rattle.ssh_wire.specs.Fields.{IsBytes-in_string}
+use Rattle.ssh_wire.specs.Magnitudes.{IsBytes-complement, number_of-cons, number_of-lt, same_magnitude}
 use Rattle.ssh_key.specs.Kind.{Field, Positive, Curve, Point, Sized, Text, bit_count}
 use Rattle.ssh_key.specs.Key.{IsPositive, IsValue, AreValues, field_text, fields_text}
 use Rattle.ssh_key.specs.Value.{SameValue, SameValues}
-use Rattle.ssh_key.proofs.Wire.{IsBytes-behind, IsBytes-front, positive_is_magnitude}
+use Rattle.ssh_key.proofs.Wire.{positive_is_magnitude}
 
 -- ---- parts of bytes are bytes
 
-IsBytes-complement : (m : List ℕ) → IsBytes (complement m) → IsBytes m
-unfolding complement
-IsBytes-complement [] h = h
-IsBytes-complement (byte ∷ bytes) h = by_test (nat_lt byte 128) h
-  where
-    by_test : (b : Bool) → IsBytes (cond b (byte ∷ bytes) (0 ∷ byte ∷ bytes)) → IsBytes (byte ∷ bytes)
-    by_test true k = k
-    by_test false k = IsBytes-tail 0 (byte ∷ bytes) k
-
 IsBytes-mpint : (m : List ℕ) → IsBytes (mpint m) → IsBytes m
-unfolding mpint string
-IsBytes-mpint m h = IsBytes-complement m (IsBytes-behind (number 4 (length (complement m))) (complement m) h)
+unfolding mpint
+IsBytes-mpint m h = IsBytes-complement m (IsBytes-in_string (complement m) h)
 
 -- ---- values that say the same
 
@@ -47,12 +38,6 @@ values_same (field ∷ fields) (a ∷ left) (b ∷ right) h k p q same =
     cc (first, later)
 
 -- ---- bits
-
-bytes_as_bits : (n : ℕ) → 256 ^ n ≡ 2 ^ (8 * n)
-bytes_as_bits zero = refl
-bytes_as_bits (suc n) =
-    let more : 8 * suc n ≡ 8 * n + 8 = omega arith in
-    pow-suc 256 n ∙ ap (λ (p : ℕ). p * 256) (bytes_as_bits n) ∙ sym (ap (λ (k : ℕ). 2 ^ k) more ∙ pow-add 2 (8 * n) 8)
 
 pub bits_hold : (m : List ℕ) → IsBytes m → IsPositive m → (number_of m < 2 ^ bit_count m) × (2 ^ bit_count m ≤ 2 * number_of m)
 bits_hold [] h p = absurd p

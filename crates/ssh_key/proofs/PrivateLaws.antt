@@ -8,6 +8,7 @@ use Rattle.base64.proofs.EngineFacts.{decode_of-encode_of, decode_of_strict}
 use Rattle.base64.specs.Engines.{standard}
 use Rattle.base64.specs.GeneralPurpose.{decode_of}
 use Rattle.ssh_wire.specs.Wire.{IsBytes}
+use Rattle.ssh_wire.specs.Digits.{IsBytes-behind}
 use Rattle.ssh_wire.specs.Reading.{◌>>=◌, in_fault}
 use Rattle.ssh_key.specs.Armour.{IsArmour, armour_at}
 use Rattle.ssh_key.specs.Container.{Holds, IsContainer, IsPrivateFault, IsToldPrivateFault, after_parts, in_list, in_parts, magic, no_armour, no_base64, no_magic}
@@ -20,8 +21,7 @@ use Rattle.ssh_key.proofs.ArmourLaws.{armour_again, armour_bytes, armour_found}
 use Rattle.ssh_key.proofs.DecodedBytes.{IsBytes-decoded}
 use Rattle.ssh_key.proofs.ContainerLaws.{Inside, IsInsideFault, fails, goes_on, inside_again, inside_found, inside_met, inside_refused, refused}
 use Rattle.ssh_key.proofs.ListLaws.{front_met, front_not, front_taken}
-use Rattle.ssh_key.proofs.Steps.{bind_err, bind_ok, err_is, in_fault_err, in_fault_ok, ok_or_err}
-use Rattle.ssh_key.proofs.Wire.{IsBytes-behind}
+use Rattle.ssh_wire.specs.Steps.{bind_err, bind_ok, err_is, in_fault_err, in_fault_ok, ok_or_err}
 
 -- ---- the name of the format
 

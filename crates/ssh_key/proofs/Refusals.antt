@@ -2,12 +2,13 @@
 use Rattle.std.proofs.Common.{◌≡◌, ◌≢◌, ℕ, Bool, true, false, cond, eqb, List, [], ◌∷◌, ◌++◌, length, Option, Some, None, Ok, Err, refl, sym, ap, subst, ◌∙◌, append_assoc, arith, inl, inr}
 use Rattle.std.specs.Prelude.{◌&&◌}
 use Rattle.std.specs.Str.{bytes_eq}
-use Rattle.std.proofs.lemmas.Bool.{eqb-true, eqb-false, eq-eqb, ne_eqb}
+use Rattle.std.proofs.lemmas.Bool.{and_parts, eq-eqb, eqb-false, eqb-true, false_from_ne_true, ne_eqb}
 use Rattle.std.proofs.lemmas.List.{nil_from_length}
 use Rattle.std.proofs.lemmas.Slice.Eq.{bytes_eq-Decides}
+use Rattle.std.proofs.lemmas.Option.{cond_some}
 use Rattle.ssh_wire.specs.Wire.{BeginsWith, IsBytes, complement, mpint, string}
 use Rattle.ssh_wire.specs.Reading.{magnitude_of, mpint_at, string_at, ◌>>=◌}
-use Rattle.ssh_wire.specs.Fields.{Takes, length-string, string_again}
+use Rattle.ssh_wire.specs.Fields.{HasFront, length-string, string_again}
 use Rattle.ssh_key.specs.declared.fault.KeyFault.{KeyFault}
 use Rattle.ssh_key.specs.declared.fault.KeyFault.TheVariants as faults
 use Rattle.ssh_key.specs.declared.fault.KeyFault.TheVariants.{Wire, Length, Number}
@@ -15,16 +16,12 @@ use Rattle.ssh_key.specs.Kind.{Field, Positive, Curve, Point, Sized, Text}
 use Rattle.ssh_key.specs.Key.{HasLength, IsUncompressed, IsValue, AreValues, field_text, fields_text}
 use Rattle.ssh_key.specs.KeyReading.{value_at, fault_in, begins_with_4, unless, field_at, fields_at}
 use Rattle.ssh_key.specs.FirstFault.{Refuses}
-use Rattle.ssh_key.proofs.Steps.{bind_err, in_fault_err, never_err}
-use Rattle.ssh_key.proofs.Public.{both_true, begins-uncompressed, uncompressed-begins, value_takes, value_told, field_takes, field_again}
+use Rattle.ssh_wire.specs.Steps.{bind_err, in_fault_err, never_err}
+use Rattle.ssh_key.proofs.Public.{begins-uncompressed, uncompressed-begins, value_takes, value_told, field_takes, field_again}
 
 unless_err : {A : Type 0} (o : Option KeyFault) (x : A) (d : KeyFault) → unless o x ≡ Err d → o ≡ Some d
 unless_err None x d e = absurd cc
 unless_err (Some c) x d e = let same : c ≡ d = cc in ap (λ (k : KeyFault). Some k) same
-
-some_is : (b : Bool) (c d : KeyFault) → cond b (Some c) None ≡ Some d → (b ≡ true) × (c ≡ d)
-some_is true c d e = (refl, cc)
-some_is false c d e = absurd cc
 
 none_is : (b : Bool) (c d : KeyFault) → cond b None (Some c) ≡ Some d → (b ≡ false) × (c ≡ d)
 none_is true c d e = absurd cc
@@ -34,7 +31,7 @@ mpint-zero : mpint [] ≡ string []
 unfolding mpint complement
 mpint-zero = refl
 
-begins : (bytes value rest : List ℕ) → Takes bytes (string value) rest → HasLength (string value) → BeginsWith bytes value
+begins : (bytes value rest : List ℕ) → HasFront bytes (string value) rest → HasLength (string value) → BeginsWith bytes value
 begins bytes value rest t told = record { rest = rest; spelled = t.parts; fits = omega (arith, length-string value) }
 
 -- ---- what is refused
@@ -55,9 +52,9 @@ not_both size value e h =
     cc
 
 -- a value that may not stand in the field
-judged_refused : (field : Field) (bytes value rest : List ℕ) (fault : KeyFault) → Takes bytes (field_text field value) rest → HasLength (field_text field value) → fault_in field value ≡ Some fault → Refuses field bytes fault
+judged_refused : (field : Field) (bytes value rest : List ℕ) (fault : KeyFault) → HasFront bytes (field_text field value) rest → HasLength (field_text field value) → fault_in field value ≡ Some fault → Refuses field bytes fault
 judged_refused Positive bytes value rest fault t told e =
-    let w = some_is (eqb (length value) 0) Number fault e in
+    let w = cond_some (eqb (length value) 0) Number fault e in
     let empty : value ≡ [] = nil_from_length value (eqb-true _ _ w.0) in
     let zero_string : mpint value ≡ string [] = ap mpint empty ∙ mpint-zero in
     subst (λ (d : KeyFault). Refuses Positive bytes d) w.1 (record { rest = rest; spelled = t.parts ∙ ap (λ (x : List ℕ). x ++ rest) zero_string; fits = omega arith })
@@ -82,7 +79,7 @@ field_refused field bytes fault fits e =
     ]
 
 -- the fields up to the one that is refused
-pub record Stops (fields : List Field) (bytes : List ℕ) (fault : KeyFault) : Type 0 where
+pub record RefusedIn (fields : List Field) (bytes : List ℕ) (fault : KeyFault) : Type 0 where
   pub before : List Field
   pub field : Field
   pub later : List Field
@@ -93,11 +90,11 @@ pub record Stops (fields : List Field) (bytes : List ℕ) (fault : KeyFault) : T
   pub spelled : bytes ≡ fields_text before values ++ rest
   pub refused : Refuses field rest fault
 
-pub stops_first : (field : Field) (fields : List Field) (bytes : List ℕ) (fault : KeyFault) → Refuses field bytes fault → Stops (field ∷ fields) bytes fault
-stops_first field fields bytes fault refused = record { before = []; field = field; later = fields; values = []; rest = bytes; parts = refl; allowed = tt; spelled = refl; refused = refused }
+pub refused_first : (field : Field) (fields : List Field) (bytes : List ℕ) (fault : KeyFault) → Refuses field bytes fault → RefusedIn (field ∷ fields) bytes fault
+refused_first field fields bytes fault refused = record { before = []; field = field; later = fields; values = []; rest = bytes; parts = refl; allowed = tt; spelled = refl; refused = refused }
 
-pub stops_later : (field : Field) (fields : List Field) (bytes value after : List ℕ) (fault : KeyFault) → bytes ≡ field_text field value ++ after → IsValue field value → HasLength (field_text field value) → Stops fields after fault → Stops (field ∷ fields) bytes fault
-stops_later field fields bytes value after fault parts allowed told s = record {
+pub refused_later : (field : Field) (fields : List Field) (bytes value after : List ℕ) (fault : KeyFault) → bytes ≡ field_text field value ++ after → IsValue field value → HasLength (field_text field value) → RefusedIn fields after fault → RefusedIn (field ∷ fields) bytes fault
+refused_later field fields bytes value after fault parts allowed told s = record {
   before = field ∷ s.before;
   field = s.field;
   later = s.later;
@@ -109,16 +106,16 @@ stops_later field fields bytes value after fault parts allowed told s = record {
   refused = s.refused;
 }
 
-pub fields_refused : (fields : List Field) (bytes : List ℕ) (fault : KeyFault) → IsBytes bytes → fields_at fields bytes ≡ Err fault → Stops fields bytes fault
+pub fields_refused : (fields : List Field) (bytes : List ℕ) (fault : KeyFault) → IsBytes bytes → fields_at fields bytes ≡ Err fault → RefusedIn fields bytes fault
 unfolding fields_at
 fields_refused [] bytes fault fits e = absurd cc
 fields_refused (field ∷ fields) bytes fault fits e =
     elim (bind_err (field_at field bytes) (λ first. fields_at fields first.1 >>= λ others. Ok (first.0 ∷ others.0, others.1)) fault e) [
-      | inl refused ↦ stops_first field fields bytes fault (field_refused field bytes fault fits refused)
+      | inl refused ↦ refused_first field fields bytes fault (field_refused field bytes fault fits refused)
       | inr first ↦
           let t = field_takes field bytes first.0.0 first.0.1 fits first.1 in
           elim (bind_err (fields_at fields first.0.1) (λ others. Ok (first.0.0 ∷ others.0, others.1)) fault first.2) [
-            | inl later ↦ stops_later field fields bytes first.0.0 first.0.1 fault t.0.parts t.1 t.2 (fields_refused fields first.0.1 fault t.0.rest_fits later)
+            | inl later ↦ refused_later field fields bytes first.0.0 first.0.1 fault t.0.parts t.1 t.2 (fields_refused fields first.0.1 fault t.0.rest_fits later)
             | inr others ↦ absurd (never_err (first.0.0 ∷ others.0.0, others.0.1) fault others.2)
           ]
     ]
@@ -132,13 +129,9 @@ zero_read : (bytes : List ℕ) (b : BeginsWith bytes []) → mpint_at bytes ≡ 
 unfolding mpint_at magnitude_of
 zero_read bytes b = rw (string_read bytes [] b) refl
 
-test_false : (b : Bool) → (b ≡ true → ⊥) → b ≡ false
-test_false true h = absurd (h refl)
-test_false false h = refl
-
 both_false : (size : ℕ) (value : List ℕ) → ¬ ((length value ≡ size) × IsUncompressed value) → (eqb (length value) size && begins_with_4 value) ≡ false
-both_false size value h = test_false (eqb (length value) size && begins_with_4 value) (λ e.
-    let both = both_true (eqb (length value) size) (begins_with_4 value) e in
+both_false size value h = false_from_ne_true (eqb (length value) size && begins_with_4 value) (λ e.
+    let both = and_parts (eqb (length value) size) (begins_with_4 value) e in
     h (eqb-true _ _ both.0, begins-uncompressed value both.1))
 
 pub refusal_read : (field : Field) (bytes : List ℕ) (fault : KeyFault) → Refuses field bytes fault → field_at field bytes ≡ Err fault
@@ -147,7 +140,7 @@ refusal_read Positive bytes (Wire why) r = rw r refl
 refusal_read Positive bytes Number r = rw (zero_read bytes r) refl
 refusal_read (Curve name) bytes (Wire why) r = rw r refl
 refusal_read (Curve name) bytes faults.Curve r =
-    let other : bytes_eq r.value name ≡ false = test_false (bytes_eq r.value name) (λ e. r.other ((bytes_eq-Decides r.value name).0 e)) in
+    let other : bytes_eq r.value name ≡ false = false_from_ne_true (bytes_eq r.value name) (λ e. r.other ((bytes_eq-Decides r.value name).0 e)) in
     rw (string_read bytes r.value r.begins, other) refl
 refusal_read (Point size) bytes (Wire why) r = rw r refl
 refusal_read (Point size) bytes faults.Point r = rw (string_read bytes r.value r.begins, both_false size r.value r.other) refl

@@ -7,7 +7,7 @@ use Rattle.ssh_wire.specs.Fields.{mpint_again, mpint_takes, number_again, number
 use Rattle.ssh_key.specs.Rows.{Fails, Leads, Magnitude, Number, Part, Stands, Step, Text, alone, part_at, row_at, unless_judged}
 use Rattle.ssh_key.specs.declared.private_fault.PrivateFault.{PrivateFault}
 use Rattle.ssh_key.specs.declared.private_fault.PrivateFault.TheVariants.{Wire}
-use Rattle.ssh_key.proofs.Steps.{bind_err, bind_ok, in_fault_err, in_fault_ok}
+use Rattle.ssh_wire.specs.Steps.{bind_err, bind_ok, in_fault_err, in_fault_ok}
 
 -- ---- one part
 

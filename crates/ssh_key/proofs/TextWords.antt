@@ -2,7 +2,9 @@
 use Rattle.std.proofs.Common.{◌≡◌, ℕ, ◌<◌, ◌⊎◌, true, false, List, [], ◌∷◌, ◌++◌, Option, Some, None, Result, Err, length, Contains, refl, sym, ap, subst, ◌∙◌, arith, inl, inr}
 use Rattle.std.proofs.lemmas.Bool.{both_ways, cases_Bool, cases_lt}
 use Rattle.std.proofs.lemmas.List.{length-append, nil_from_length}
+use Rattle.std.proofs.lemmas.Option.{same_Some}
 use Rattle.ssh_wire.specs.Wire.{IsBytes}
+use Rattle.ssh_wire.specs.Digits.{IsBytes-behind, IsBytes-front}
 use Rattle.ssh_key.specs.declared.line_fault.LineFault.{LineFault}
 use Rattle.ssh_key.specs.declared.line_fault.LineFault.TheVariants.{NoKey}
 use Rattle.ssh_key.specs.Blanks.{after_blanks, first_word, is_blank, trimmed}
@@ -12,8 +14,7 @@ use Rattle.ssh_key.specs.LineReading.{Content, after_options, after_word, blob_a
 use Rattle.ssh_key.specs.TypeName.{is_type_name, type_names}
 use Rattle.ssh_key.proofs.LineNames.{Contains-from_test, name_is_word, test-from_Contains}
 use Rattle.ssh_key.proofs.LineOptions.{options_again, options_take}
-use Rattle.ssh_key.proofs.LineWords.{IsBytes-trimmed, Stops, blanks_cut, blanks_front, blanks_stop, comment_cut, comment_stops, first_word_is, gap, leading, word_cut, word_front, word_stops}
-use Rattle.ssh_key.proofs.Wire.{IsBytes-behind, IsBytes-front}
+use Rattle.ssh_key.proofs.LineWords.{IsBytes-trimmed, FailsFirst, blanks_cut, blanks_front, blanks_stop, comment_cut, comment_stops, first_word_is, gap, leading, word_cut, word_front, word_stops}
 
 -- ---- a line from its type word on
 
@@ -65,13 +66,10 @@ words_again part word encoded comment k =
 
 -- ---- the line from its type word on, behind an options field or not
 
-some_part : (x y : List ℕ) → Some x ≡ Some y → x ≡ y
-some_part x y e = cc
-
 part_at-takes : (line part : List ℕ) → part_at line ≡ Some part → (line ≡ part) × (is_type_name (first_word part) ≡ true)
 unfolding part_at
 part_at-takes line part e = elim (cases_Bool (is_type_name (first_word line))) [
-  | inl name ↦ let same = some_part line part (rw name at e) in (same, sym (ap (λ (xs : List ℕ). is_type_name (first_word xs)) same) ∙ name)
+  | inl name ↦ let same = same_Some line part (rw name at e) in (same, sym (ap (λ (xs : List ℕ). is_type_name (first_word xs)) same) ∙ name)
   | inr other ↦ absurd (let h = rw other at e in cc)
 ]
 
@@ -96,7 +94,7 @@ part_words : (line part : List ℕ) → key_part line ≡ Some part → 0 < leng
 unfolding key_part
 part_words line part found some = elim (cases_Bool (is_type_name (first_word line))) [
   | inl name ↦
-      let same = some_part line part (rw name at found) in
+      let same = same_Some line part (rw name at found) in
       let is_name : is_type_name (first_word part) ≡ true = ap (λ (xs : List ℕ). is_type_name (first_word xs)) (sym same) ∙ name in
       inl (subst (λ (xs : List ℕ). AreWords xs (first_word part) (first_word (rest_of part)) (after_blanks (after_word (rest_of part)))) (sym same) (words_cut part is_name some))
   | inr other ↦
@@ -128,10 +126,10 @@ plain_again line word encoded comment k =
     content_at-again (key_part line) line word (checked word (decoded encoded) comment) found read.0 read.2
 
 -- a part begins with no blank
-part_stops : (part word encoded comment : List ℕ) → AreWords part word encoded comment → Stops is_blank part
+part_stops : (part word encoded comment : List ℕ) → AreWords part word encoded comment → FailsFirst is_blank part
 part_stops part word encoded comment k =
     let is_word = name_is_word word k.name in
-    subst (Stops is_blank) (sym k.spelled) (word_stops word (k.blanks ++ (encoded ++ k.end)) (record { some = is_word.2; each = is_word.0 }))
+    subst (FailsFirst is_blank) (sym k.spelled) (word_stops word (k.blanks ++ (encoded ++ k.end)) (record { some = is_word.2; each = is_word.0 }))
 
 options_line_again : (line word encoded comment : List ℕ) → AreWordsBehindOptions line word encoded comment → content_at (key_part line) ≡ checked word (decoded encoded) comment
 unfolding key_part part_at

@@ -6,8 +6,8 @@ use Rattle.std.specs.Io.KnownBytes.{Consumes, Keeps, prepend_known}
 use Rattle.std.proofs.KnownBytes.{Consumes-kept, Consumes-trans}
 use Rattle.ssh_wire.specs.declared.pull_fault.PullFault.{PullFault}
 use Rattle.ssh_wire.specs.declared.pull_fault.PullFault.TheVariants.{EndsEarly, TooLong, Read, NoMemory}
-use Rattle.ssh_wire.specs.Filling.{Fills, Stops, TellsStop, pulled}
-use Rattle.ssh_wire.specs.Pull.{Misses, MissesRest, Pulled, Refuses, RefusesRest, Tells, TellsRest, after_ahead, left_of}
+use Rattle.ssh_wire.specs.Filling.{Fills, FallsShort, TellsEnd, pulled}
+use Rattle.ssh_wire.specs.Pull.{Misses, MissesRest, Consumes-ahead, Pulled, Refuses, RefusesRest, Tells, TellsRest, after_ahead, left_of}
 use borrow.Rule.Slice.PartMut.{put_mid, post_of}
 use lib.Seq.{take-add, take-append-le}
 
@@ -24,11 +24,6 @@ pub Consumes-filled : (first second third : Option (List ℕ)) (into part : List
 Consumes-filled first second third into part count more within fits before after =
     subst (Consumes first third) (sym (take-put_mid-part count (length into - count) more into part within fits)) (Consumes-trans first second third (take count into) (take more part) before after)
 
--- the byte ahead is the first
-pub Consumes-ahead : (byte : ℕ) (source : Option (List ℕ)) → Consumes (prepend_known (byte ∷ []) source) source (byte ∷ [])
-Consumes-ahead byte None = tt
-Consumes-ahead byte (Some xs) = refl
-
 -- so many bytes came since a count was at its start
 pub record Comes (before after : Option (List ℕ)) (start now : ℕ) : Type 0 where
   pub came : List ℕ
@@ -36,8 +31,8 @@ pub record Comes (before after : Option (List ℕ)) (start now : ℕ) : Type 0 w
   pub count : start + length came ≡ now
 
 -- a front came, and then less than what was left to come
-pub Stops-after : (fault : PullFault) (before mid after : Option (List ℕ)) (failed : Bool) (front : List ℕ) (part size : ℕ) → Consumes before mid front → Stops fault mid after failed part → length front + part ≤ size → Stops fault before after failed size
-Stops-after fault before mid after failed front part size came stops fits = record {
+pub FallsShort-after : (fault : PullFault) (before mid after : Option (List ℕ)) (failed : Bool) (front : List ℕ) (part size : ℕ) → Consumes before mid front → FallsShort fault mid after failed part → length front + part ≤ size → FallsShort fault before after failed size
+FallsShort-after fault before mid after failed front part size came stops fits = record {
   came = front ++ stops.came;
   bytes = Consumes-trans before mid after front stops.came came stops.bytes;
   part = omega (arith, length-append front stops.came, stops.part);
@@ -45,8 +40,8 @@ Stops-after fault before mid after failed front part size came stops fits = reco
 }
 
 -- a front came, and then the reader ended or failed
-pub Stops-front : (fault : PullFault) (before mid after : Option (List ℕ)) (failed : Bool) (front : List ℕ) (size : ℕ) → Consumes before mid front → Keeps mid after → length front < size → TellsStop fault after failed → Stops fault before after failed size
-Stops-front fault before mid after failed front size came kept part tells = record {
+pub FallsShort-front : (fault : PullFault) (before mid after : Option (List ℕ)) (failed : Bool) (front : List ℕ) (size : ℕ) → Consumes before mid front → Keeps mid after → length front < size → TellsEnd fault after failed → FallsShort fault before after failed size
+FallsShort-front fault before mid after failed front size came kept part tells = record {
   came = front;
   bytes = Consumes-kept before mid after front came kept;
   part = part;
@@ -61,20 +56,20 @@ Comes-more before mid after start now slice part comes more size = record {
   count = omega (arith, length-append comes.came slice, comes.count, size);
 }
 
-Tells-stop : (fault : PullFault) (pull : Pulled) (came : ℕ) → TellsStop fault (left_of pull) pull.failed → Tells fault pull came
-Tells-stop EndsEarly pull came tells = tells
-Tells-stop TooLong pull came tells = absurd tells
-Tells-stop Read pull came tells = tells
-Tells-stop NoMemory pull came tells = absurd tells
+Tells-end : (fault : PullFault) (pull : Pulled) (came : ℕ) → TellsEnd fault (left_of pull) pull.failed → Tells fault pull came
+Tells-end EndsEarly pull came tells = tells
+Tells-end TooLong pull came tells = absurd tells
+Tells-end Read pull came tells = tells
+Tells-end NoMemory pull came tells = absurd tells
 
 -- what came is less than a field that has room
-pub Misses-stop : (old new : Pulled) (fault : PullFault) (room size : ℕ) → Stops fault (left_of old) (left_of new) new.failed room → room ≤ size → old.taken + room ≤ old.limit → Misses old size fault new
-Misses-stop old new fault room size stops fits within = record {
+pub Misses-short : (old new : Pulled) (fault : PullFault) (room size : ℕ) → FallsShort fault (left_of old) (left_of new) new.failed room → room ≤ size → old.taken + room ≤ old.limit → Misses old size fault new
+Misses-short old new fault room size stops fits within = record {
   came = stops.came;
   bytes = stops.bytes;
   part = omega (arith, stops.part);
   within = omega (arith, stops.part);
-  tells = Tells-stop fault new (length stops.came) stops.tells;
+  tells = Tells-end fault new (length stops.came) stops.tells;
 }
 
 -- bytes came, and then there was no memory for the rest of the field
@@ -179,9 +174,9 @@ pub take-set_first : (into : List ℕ) (byte : ℕ) → 0 < length into → take
 take-set_first [] byte some = absurd (omega arith)
 take-set_first (x ∷ xs) byte some = refl
 
-Stops-ahead : (fault : PullFault) (byte : ℕ) (source after : Option (List ℕ)) (failed : Bool) (part size : ℕ) → Stops fault source after failed part → part + 1 ≤ size → Stops fault (prepend_known (byte ∷ []) source) after failed size
-Stops-ahead fault byte source after failed part size stops fits =
-    Stops-after fault (prepend_known (byte ∷ []) source) source after failed (byte ∷ []) part size (Consumes-ahead byte source) stops (omega arith)
+FallsShort-ahead : (fault : PullFault) (byte : ℕ) (source after : Option (List ℕ)) (failed : Bool) (part size : ℕ) → FallsShort fault source after failed part → part + 1 ≤ size → FallsShort fault (prepend_known (byte ∷ []) source) after failed size
+FallsShort-ahead fault byte source after failed part size stops fits =
+    FallsShort-after fault (prepend_known (byte ∷ []) source) source after failed (byte ∷ []) part size (Consumes-ahead byte source) stops (omega arith)
 
 pub Fills-ahead : {A : Type 0} (result : Result A PullFault) (byte : ℕ) (source after : Option (List ℕ)) (failed : Bool) (s part : List ℕ) → 0 < length s → take 1 s ≡ byte ∷ [] → length part ≡ length s - 1 → Fills result source after failed part → Fills result (prepend_known (byte ∷ []) source) after failed (put_mid 1 (length s - 1) s part)
 Fills-ahead (Ok filled) byte source after failed s part some first fits fills =
@@ -189,4 +184,4 @@ Fills-ahead (Ok filled) byte source after failed s part some first fits fills =
     (subst (Consumes (prepend_known (byte ∷ []) source) after) (sym whole) (Consumes-trans _ source after (byte ∷ []) part (Consumes-ahead byte source) fills.0), fills.1)
 Fills-ahead (Err fault) byte source after failed s part some first fits fills =
     let whole : put_mid 1 (length s - 1) s part ≡ (byte ∷ []) ++ part = put_mid-first s part some fits ∙ ap (λ (l : List ℕ). l ++ part) first in
-    Stops-ahead fault byte source after failed (length part) _ fills (omega (arith, ap length whole))
+    FallsShort-ahead fault byte source after failed (length part) _ fills (omega (arith, ap length whole))

@@ -1,6 +1,7 @@
 -- Spellings that are cut.
-use Rattle.std.proofs.Common.{◌≡◌, ℕ, ◌^◌, ◌<◌, ◌≤◌, List, ◌++◌, length, take, drop, Err}
+use Rattle.std.proofs.Common.{◌≡◌, ℕ, ◌+◌, ◌-◌, ◌^◌, ◌<◌, ◌≤◌, List, ◌++◌, length, take, drop, Err}
 use Rattle.std.proofs.Common.{refl, sym, ap, ◌∙◌, arith, inl, inr}
+use Rattle.std.proofs.Math.Seq.{take-append-add}
 use Rattle.std.proofs.lemmas.Bool.{cases_lt, lt-ltb}
 use Rattle.std.proofs.lemmas.List.{take_at, take-append-drop, take-append-le}
 use Rattle.std.proofs.lemmas.List.{length-append, length-drop}
@@ -12,7 +13,7 @@ use Rattle.ssh_wire.specs.Reading.{string_at}
 use Rattle.ssh_wire.specs.Fields.{length-number, number_again}
 
 -- fewer than k bytes
-number-short : (k : ℕ) (front : List ℕ) → length front < k → number_at k front ≡ Err Short
+pub number-short : (k : ℕ) (front : List ℕ) → length front < k → number_at k front ≡ Err Short
 unfolding number_at
 number-short k front lt = rw (lt-ltb (length front) k lt) refl
 
@@ -28,6 +29,14 @@ number-cut k n front rest parts some =
       length-number k n,
       length-append front rest,
     ))
+
+-- a cut behind the front
+pub take-behind : (front behind : List ℕ) (n : ℕ) → length front ≤ n
+    → take n (front ++ behind) ≡ front ++ take (n - length front) behind
+take-behind front behind n le =
+    let size : n ≡ length front + (n - length front) = omega arith in
+    ap (λ (k : ℕ). take k (front ++ behind)) size
+    ∙ take-append-add front behind (n - length front)
 
 -- what follows a front of a text in the longer front of another
 after_front : (head text front rest : List ℕ) → head ++ text ≡ front ++ rest

@@ -1,9 +1,11 @@
 -- A number of k bytes has one spelling: two lists of bytes of one length and one number are equal.
 use Rattle.std.proofs.Common.{◌≡◌, ℕ, zero, suc, ◌+◌, ◌-◌, ◌*◌, ◌^◌, ◌<◌, ◌≤◌, List, [], ◌∷◌}
-use Rattle.std.proofs.Common.{length, take, drop, refl, sym, ap, ◌∙◌, arith, inl, inr}
-use Rattle.std.proofs.Math.Nat.{add-mul, mod-eq_of_lt, mod-lt, mul-le-mul_right}
+use Rattle.std.proofs.Common.{◌++◌, length, take, drop, refl, sym, ap, subst, ◌∙◌, arith, inl, inr}
+use Rattle.std.proofs.Math.Nat.{add-mul, mod-eq_of_lt, mod-lt, mul-le-mul_right, pow-suc}
+use Rattle.std.proofs.lemmas.Nat.{pow-add}
 use Rattle.std.proofs.lemmas.Bool.{cases_lt}
-use Rattle.std.proofs.lemmas.List.{append-nil, get_or-drop, get_or-take, get_or_past, length-take}
+use Rattle.std.proofs.lemmas.List.{append-nil, drop_at, get_or-drop, get_or-take, get_or_past}
+use Rattle.std.proofs.lemmas.List.{length-take, take_at}
 use Rattle.std.specs.Int.{byte_at, bytes_high_first}
 use Rattle.byteorder.specs.Endian.{big_number, big_bytes}
 use Rattle.byteorder.specs.Numbers.{big_from-bytes, big_from-cons, big_from-lt, big_from-take}
@@ -34,6 +36,22 @@ pub IsBytes-cons : (byte : ℕ) (bytes : List ℕ) → byte < 256 → IsBytes by
 IsBytes-cons byte bytes lt fits zero = lt
 IsBytes-cons byte bytes lt fits (suc i) = fits i
 
+pub IsBytes-nil : IsBytes []
+IsBytes-nil i = omega arith
+
+pub IsBytes-append : (xs ys : List ℕ) → IsBytes xs → IsBytes ys → IsBytes (xs ++ ys)
+IsBytes-append [] ys front behind = behind
+IsBytes-append (x ∷ xs) ys front behind = IsBytes-cons x (xs ++ ys) (front 0)
+    (IsBytes-append xs ys (IsBytes-tail x xs front) behind)
+
+pub IsBytes-front : (front behind : List ℕ) → IsBytes (front ++ behind) → IsBytes front
+IsBytes-front front behind fits = subst IsBytes (take_at front behind (length front) refl)
+    (IsBytes-take (length front) (front ++ behind) fits)
+
+pub IsBytes-behind : (front behind : List ℕ) → IsBytes (front ++ behind) → IsBytes behind
+IsBytes-behind front behind fits = subst IsBytes (drop_at front behind (length front) refl)
+    (IsBytes-drop (length front) (front ++ behind) fits)
+
 byte_at-lt : (k n : ℕ) → byte_at k n < 256
 byte_at-lt zero n = mod-lt n (omega arith)
 byte_at-lt (suc k) n = mod-lt _ (omega arith)
@@ -43,6 +61,14 @@ pub IsBytes-big : (k n : ℕ) → IsBytes (big_bytes k n)
 IsBytes-big zero n = λ i. omega arith
 IsBytes-big (suc k) n = IsBytes-cons (byte_at k n) (bytes_high_first k n) (byte_at-lt k n)
     (IsBytes-big k n)
+
+-- a digit has eight bits
+pub bytes_as_bits : (k : ℕ) → 256 ^ k ≡ 2 ^ (8 * k)
+bytes_as_bits zero = refl
+bytes_as_bits (suc k) =
+    let more : 8 * suc k ≡ 8 * k + 8 = omega arith in
+    pow-suc 256 k ∙ ap (λ (p : ℕ). p * 256) (bytes_as_bits k)
+    ∙ sym (ap (λ (n : ℕ). 2 ^ n) more ∙ pow-add 2 (8 * k) 8)
 
 -- the first digit of a number below p * p
 first_digit : (p a b r s : ℕ) → r < p → s < p → a * p + r ≡ b * p + s → a ≡ b

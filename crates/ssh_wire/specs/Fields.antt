@@ -1,7 +1,6 @@
 -- Fields at the front of bytes: what a reader took is spelled as its value, and what is spelled so
--- is
--- read again.
-use Rattle.std.proofs.Common.{◌≡◌, ℕ, zero, suc, ◌+◌, ◌-◌, ◌^◌, ◌<◌, ◌≤◌, Bool, true, false, cond}
+-- is read again.
+use Rattle.std.proofs.Common.{◌≡◌, ℕ, zero, suc, ◌+◌, ◌-◌, ◌^◌, ◌<◌, ◌≤◌, false}
 use Rattle.std.proofs.Common.{ltb, List, [], ◌∷◌, ◌++◌, length, take, drop, Result, Ok, Err, refl}
 use Rattle.std.proofs.Common.{sym, ap, subst, ◌∙◌, append_assoc, arith, inl, inr}
 use Rattle.std.specs.Prelude.{IfOk}
@@ -17,31 +16,21 @@ use Rattle.ssh_wire.specs.declared.fault.WireFault.TheVariants.{Short}
 use Rattle.ssh_wire.specs.Wire.{IsBytes, IsMagnitude, complement, mpint, number, number_of, string}
 use Rattle.ssh_wire.specs.Reading.{Lends, content_at, front_at, magnitude_at, magnitude_before}
 use Rattle.ssh_wire.specs.Reading.{magnitude_of, mpint_at, number_at, string_at}
-use Rattle.ssh_wire.specs.Digits.{IsBytes-drop, big_bytes-number}
+use Rattle.ssh_wire.specs.Digits.{IsBytes-append, IsBytes-behind, IsBytes-big, IsBytes-drop}
+use Rattle.ssh_wire.specs.Digits.{IsBytes-front, big_bytes-number}
+use Rattle.ssh_wire.specs.Steps.{guard_ok, ok_is}
 
 -- The bytes are the text and then the rest.
-pub record Takes (bytes text rest : List ℕ) : Type 0 where
+pub record HasFront (bytes text rest : List ℕ) : Type 0 where
   pub parts : bytes ≡ text ++ rest
   pub rest_fits : IsBytes rest
 
-pub Takes-then : (a x b y c : List ℕ) → Takes a x b → Takes b y c → Takes a (x ++ y) c
-Takes-then a x b y c p q = record {
+pub HasFront-then : (a x b y c : List ℕ) → HasFront a x b → HasFront b y c → HasFront a (x ++ y) c
+HasFront-then a x b y c p q = record {
   parts = p.parts ∙ ap (λ (t : List ℕ). x ++ t) q.parts
       ∙ sym (append_assoc x y c);
   rest_fits = q.rest_fits;
 }
-
--- a test that did not fail
-guard_ok : {A : Type 0} (b : Bool) (fault : WireFault) (x y : A) → cond b (Err fault) (Ok x) ≡ Ok y
-    → (b ≡ false) × (x ≡ y)
-guard_ok true fault x y e = absurd cc
-guard_ok false fault x y e = (refl, cc)
-
-abbrev done : {A : Type 0} → A → Result A WireFault
-done x = Ok x
-
-ok_is : {A : Type 0} (x y : A) → done x ≡ done y → x ≡ y
-ok_is x y e = cc
 
 -- ---- numbers
 
@@ -58,20 +47,20 @@ number_of-take k bytes long =
     rw len (big_from-take 0 k k bytes (omega arith))
 
 pub number_takes : (k : ℕ) (bytes : List ℕ) (n : ℕ) (rest : List ℕ) → IsBytes bytes
-    → number_at k bytes ≡ Ok (n, rest) → Takes bytes (number k n) rest × (n < 256 ^ k)
+    → number_at k bytes ≡ Ok (n, rest) → HasFront bytes (number k n) rest × (n < 256 ^ k)
 unfolding number_at number
 number_takes k bytes n rest fits e =
     let g = guard_ok (ltb (length bytes) k) Short (big_number k bytes, drop k bytes) (n, rest) e in
     let long : k ≤ length bytes = ltb-false _ _ g.0 in
     let n-is : big_number k bytes ≡ n = ap (λ (p : ℕ × List ℕ). p.0) g.1 in
     let rest-is : drop k bytes ≡ rest = ap (λ (p : ℕ × List ℕ). p.1) g.1 in
-    let whole : Takes bytes (number k (big_number k bytes)) (drop k bytes) =
+    let whole : HasFront bytes (number k (big_number k bytes)) (drop k bytes) =
     record {
       parts = rw (big_bytes-number k bytes long fits)
           (sym (take-append-drop k bytes));
       rest_fits = IsBytes-drop k bytes fits;
     } in
-    subst (λ (p : ℕ × List ℕ). Takes bytes (number k p.0) p.1 × (p.0 < 256 ^ k)) g.1
+    subst (λ (p : ℕ × List ℕ). HasFront bytes (number k p.0) p.1 × (p.0 < 256 ^ k)) g.1
     (whole, big_from-lt 0 k bytes fits)
 
 -- bytes by the number of the first k and the slice after them
@@ -102,20 +91,35 @@ length-string text = omega (
   length-number 4 (length text),
 )
 
+pub IsBytes-string : (text : List ℕ) → IsBytes text → IsBytes (string text)
+unfolding string number
+IsBytes-string text fits = IsBytes-append (number 4 (length text)) text
+    (IsBytes-big 4 (length text)) fits
+
+pub IsBytes-in_string : (text : List ℕ) → IsBytes (string text) → IsBytes text
+unfolding string
+IsBytes-in_string text fits = IsBytes-behind (number 4 (length text)) text fits
+
+-- the bytes of a string at the front
+pub IsBytes-content : (bytes text rest : List ℕ) → IsBytes bytes → bytes ≡ string text ++ rest
+    → IsBytes text
+IsBytes-content bytes text rest fits e =
+    IsBytes-in_string text (IsBytes-front (string text) rest (subst IsBytes e fits))
+
 pub front_takes : (size : ℕ) (bytes text rest : List ℕ) → IsBytes bytes
-    → front_at size bytes ≡ Ok (text, rest) → Takes bytes text rest × (length text ≡ size)
+    → front_at size bytes ≡ Ok (text, rest) → HasFront bytes text rest × (length text ≡ size)
 unfolding front_at
 front_takes size bytes text rest fits e =
     let g = guard_ok (ltb (length bytes) size) Short (take size bytes, drop size bytes)
     (text, rest) e in
     let long : size ≤ length bytes = ltb-false _ _ g.0 in
-    let whole : Takes bytes (take size bytes) (drop size bytes) =
+    let whole : HasFront bytes (take size bytes) (drop size bytes) =
     record {
       parts = sym (take-append-drop size bytes);
       rest_fits =
           IsBytes-drop size bytes fits;
     } in
-    subst (λ (p : List ℕ × List ℕ). Takes bytes p.0 p.1 × (length p.0 ≡ size)) g.1
+    subst (λ (p : List ℕ × List ℕ). HasFront bytes p.0 p.1 × (length p.0 ≡ size)) g.1
     (whole, omega (arith, length-take size bytes))
 
 pub front_again : (text rest : List ℕ) → front_at (length text) (text ++ rest) ≡ Ok (text, rest)
@@ -140,17 +144,17 @@ string_front size bytes text rest fits long size-is short text-is rest-is =
 
 content_takes : (bytes text rest : List ℕ) (read : Result (ℕ × List ℕ) WireFault) → IsBytes bytes
     → number_at 4 bytes ≡ read → content_at read ≡ Ok (text, rest)
-    → Takes bytes (string text) rest × (length text < 2 ^ 32)
+    → HasFront bytes (string text) rest × (length text < 2 ^ 32)
 unfolding string
 content_takes bytes text rest (Err fault) fits first second = absurd cc
 content_takes bytes text rest (Ok (size, after)) fits first second =
     let t = number_takes 4 bytes size after fits first in
     let u = front_takes size after text rest t.0.rest_fits second in
-    let both = Takes-then bytes (number 4 size) after text rest t.0 u.0 in
-    (subst (λ (k : ℕ). Takes bytes (number 4 k ++ text) rest) (sym u.1) both, omega arith)
+    let both = HasFront-then bytes (number 4 size) after text rest t.0 u.0 in
+    (subst (λ (k : ℕ). HasFront bytes (number 4 k ++ text) rest) (sym u.1) both, omega arith)
 
 pub string_takes : (bytes text rest : List ℕ) → IsBytes bytes → string_at bytes ≡ Ok (text, rest)
-    → Takes bytes (string text) rest × (length text < 2 ^ 32)
+    → HasFront bytes (string text) rest × (length text < 2 ^ 32)
 unfolding string_at
 string_takes bytes text rest fits e = content_takes bytes text rest (number_at 4 bytes) fits refl e
 
@@ -164,6 +168,11 @@ string_again text rest lt =
     ) (front_again text rest)
 
 -- ---- multiple precision integers
+
+pub length-mpint : (magnitude : List ℕ) → length (mpint magnitude) ≡ 4 + length
+    (complement magnitude)
+unfolding mpint
+length-mpint magnitude = length-string (complement magnitude)
 
 pub magnitude_takes : (bytes magnitude : List ℕ) → magnitude_of bytes ≡ Ok magnitude
     → (bytes ≡ complement magnitude) × IsMagnitude magnitude
@@ -217,29 +226,30 @@ before_takes : (text magnitude after rest : List ℕ) (read : Result (List ℕ) 
 before_takes text magnitude after rest (Err fault) first second = absurd cc
 before_takes text magnitude after rest (Ok found) first second =
     let same : found ≡ magnitude = ap (λ (p : List ℕ × List ℕ). p.0)
-    (ok_is (found, after) (magnitude, rest) second) in
+    (ok_is (found, after) (magnitude, rest) (Ok (found, after)) refl second) in
     let h = magnitude_takes text magnitude (first ∙ ap (λ (m : List ℕ). Ok m) same) in
-    (h.0, h.1, ap (λ (p : List ℕ × List ℕ). p.1) (ok_is (found, after) (magnitude, rest) second))
+    (h.0, h.1, ap (λ (p : List ℕ × List ℕ). p.1)
+    (ok_is (found, after) (magnitude, rest) (Ok (found, after)) refl second))
 
 at_takes : (bytes magnitude rest : List ℕ) (read : Result (List ℕ × List ℕ) WireFault)
     → IsBytes bytes → string_at bytes ≡ read → magnitude_at read ≡ Ok (magnitude, rest)
-    → Takes bytes (mpint magnitude) rest × IsMagnitude magnitude
+    → HasFront bytes (mpint magnitude) rest × IsMagnitude magnitude
     × (length (complement magnitude) < 2 ^ 32)
 unfolding mpint
 at_takes bytes magnitude rest (Err fault) fits first second = absurd cc
 at_takes bytes magnitude rest (Ok (text, after)) fits first second =
     let t = string_takes bytes text after fits first in
     let u = before_takes text magnitude after rest (magnitude_of text) refl second in
-    let texts : Takes bytes (string (complement magnitude)) after
+    let texts : HasFront bytes (string (complement magnitude)) after
     × (length (complement magnitude) < 2 ^ 32) =
-    subst (λ (x : List ℕ). Takes bytes (string x) after × (length x < 2 ^ 32)) u.0 t in (
-      subst (λ (x : List ℕ). Takes bytes (string (complement magnitude)) x) u.2 texts.0,
+    subst (λ (x : List ℕ). HasFront bytes (string x) after × (length x < 2 ^ 32)) u.0 t in (
+      subst (λ (x : List ℕ). HasFront bytes (string (complement magnitude)) x) u.2 texts.0,
       u.1,
       texts.1,
     )
 
 pub mpint_takes : (bytes magnitude rest : List ℕ) → IsBytes bytes
-    → mpint_at bytes ≡ Ok (magnitude, rest) → Takes bytes (mpint magnitude) rest
+    → mpint_at bytes ≡ Ok (magnitude, rest) → HasFront bytes (mpint magnitude) rest
     × IsMagnitude magnitude × (length (complement magnitude) < 2 ^ 32)
 unfolding mpint_at
 mpint_takes bytes magnitude rest fits e = at_takes bytes magnitude rest

@@ -25,25 +25,25 @@ pulled source failed ahead taken limit =
     }
 
 -- The reader came to its end, or it failed.
-abbrev pub TellsStop : PullFault → Option (List ℕ) → Bool → Type 0
-TellsStop EndsEarly after failed = IsAtEnd after × (failed ≡ false)
-TellsStop TooLong after failed = ⊥
-TellsStop Read after failed = failed ≡ true
-TellsStop NoMemory after failed = ⊥
+abbrev pub TellsEnd : PullFault → Option (List ℕ) → Bool → Type 0
+TellsEnd EndsEarly after failed = IsAtEnd after × (failed ≡ false)
+TellsEnd TooLong after failed = ⊥
+TellsEnd Read after failed = failed ≡ true
+TellsEnd NoMemory after failed = ⊥
 
 -- Fewer bytes came than so many, since the reader ended or failed.
-pub record Stops
+pub record FallsShort
     (fault : PullFault) (before after : Option (List ℕ)) (failed : Bool) (size : ℕ) : Type 0 where
   pub came : List ℕ
   pub bytes : Consumes before after came
   pub part : length came < size
-  pub tells : TellsStop fault after failed
+  pub tells : TellsEnd fault after failed
 
 -- A slice was filled, or the reader ended or failed before that.
 abbrev pub Fills
     : {A : Type 0} → Result A PullFault → Option (List ℕ) → Option (List ℕ) → Bool → List ℕ → Type 0
 Fills (Ok filled) before after failed slice = Consumes before after slice × (failed ≡ false)
-Fills (Err fault) before after failed slice = Stops fault before after failed (length slice)
+Fills (Err fault) before after failed slice = FallsShort fault before after failed (length slice)
 
 -- Whether a byte stands ahead, unless the reader failed.
 abbrev pub FindsAhead : Result Bool PullFault → Option (List ℕ) → Bool → Option ℕ → Type 0

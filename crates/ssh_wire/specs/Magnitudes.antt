@@ -3,14 +3,13 @@ use Rattle.std.proofs.Common.{◌≡◌, ℕ, zero, suc, ◌+◌, ◌-◌, ◌*�
 use Rattle.std.proofs.Common.{length, refl, sym, ap, subst, ◌∙◌, arith, inl, inr}
 use Rattle.std.proofs.Math.Nat.{mul-le-mul_right, pow-succ'}
 use Rattle.std.proofs.lemmas.Bool.{cases_lt, lt-ltb, le-ltb}
-use Rattle.std.proofs.lemmas.List.{drop_at}
 use Rattle.byteorder.specs.Endian.{big_number}
 use Rattle.byteorder.specs.Numbers.{big_from-cons, big_from-lt}
 use Rattle.ssh_wire.specs.Wire.{IsBytes, IsMagnitude, IsMpint, IsShortest, complement, mpint}
-use Rattle.ssh_wire.specs.Wire.{number, number_of, string}
+use Rattle.ssh_wire.specs.Wire.{number_of, string}
 use Rattle.ssh_wire.specs.Laws.{HasMpint}
-use Rattle.ssh_wire.specs.Digits.{IsBytes-drop, IsBytes-tail, same_bytes}
-use Rattle.ssh_wire.specs.Fields.{length-number}
+use Rattle.ssh_wire.specs.Digits.{IsBytes-tail, same_bytes}
+use Rattle.ssh_wire.specs.Fields.{IsBytes-in_string}
 
 -- the number of a first byte and the bytes after it
 pub number_of-cons : (byte : ℕ) (bytes : List ℕ)
@@ -153,7 +152,7 @@ mpint-is magnitude h fits = record {
       sym (number_of-complement magnitude);
 }
 
-IsBytes-complement : (magnitude : List ℕ) → IsBytes (complement magnitude) → IsBytes magnitude
+pub IsBytes-complement : (magnitude : List ℕ) → IsBytes (complement magnitude) → IsBytes magnitude
 unfolding complement
 IsBytes-complement [] fits = fits
 IsBytes-complement (byte ∷ bytes) fits =
@@ -161,13 +160,6 @@ IsBytes-complement (byte ∷ bytes) fits =
       | inl lt ↦ rw (lt-ltb byte 128 lt) at fits
       | inr le ↦ IsBytes-tail 0 (byte ∷ bytes) (rw (le-ltb byte 128 le) at fits)
     ]
-
--- the bytes after the length
-IsBytes-string : (bytes : List ℕ) → IsBytes (string bytes) → IsBytes bytes
-unfolding string
-IsBytes-string bytes fits =
-    subst IsBytes (drop_at (number 4 (length bytes)) bytes 4 (length-number 4 (length bytes)))
-    (IsBytes-drop 4 (string bytes) fits)
 
 -- each shortest spelling has a magnitude
 pub mpint-has : (text : List ℕ) (n : ℕ) → IsBytes text → IsMpint text n → HasMpint text n
@@ -179,7 +171,7 @@ mpint-has text n fits is =
     record {
       magnitude = found.magnitude;
       is_bytes = IsBytes-complement found.magnitude
-          (IsBytes-string (complement found.magnitude) (subst IsBytes spelled fits));
+          (IsBytes-in_string (complement found.magnitude) (subst IsBytes spelled fits));
       is_magnitude = found.is_magnitude;
       fits = subst (λ (b : List ℕ). length b < 2 ^ 32) found.spelled is.fits;
       value = is.value ∙ ap number_of found.spelled ∙ number_of-complement found.magnitude;

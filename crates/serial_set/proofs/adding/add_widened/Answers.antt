@@ -1,15 +1,9 @@
-use Rattle.std.proofs.Common.{◌≡◌, length, ap, subst, arith, Result, Ok, Err, OnErr, OnOk}
+use Rattle.std.proofs.Common.{◌≡◌, length, ap, subst, arith}
+use Rattle.std.proofs.lemmas.Result.{on_ok_weaker}
 use Rattle.serial_set.specs.Pages.{replaced}
 use Rattle.serial_set.proofs.Widening.{few_runs, widened_runs, widened_touches}
+use Rattle.serial_set.proofs.Refused.{on_err}
 use Rattle.serial_set.proofs.adding.add_widened.Goals as goal
-
-on_err : {A E : Type 0} (r : Result A E) (P : Type 0) → P → OnErr r P
-on_err (Ok x) P p = tt
-on_err (Err e) P p = p
-
-on_ok : {A E : Type 0} (r : Result A E) (P Q : Type 0) → (P → Q) → OnOk r P → OnOk r Q
-on_ok (Ok x) P Q f p = f p
-on_ok (Err e) P Q f p = tt
 
 pub put-requires-clause-few : goal.put-requires-clause-few
 put-requires-clause-few g c = few_runs (g.P.Part.spans c.args.part.now) c.requires.runs c.requires.serials
@@ -29,7 +23,7 @@ returns-in-Err-clause-runs g c =
     let spans = g.P.Part.spans in
     let xs = spans c.args.part.now in
     let new = c.widened-new.result in
-    on_ok _ _ _
+    on_ok_weaker _
     (λ put. widened_runs xs (spans c.put_with_room.new.part) c.args.lo c.args.hi new c.requires.runs c.requires.ordered c.widened-new.ensures (subst (λ l. spans c.put_with_room.new.part ≡ replaced l new) c.in-Err.ensures.refused put))
     c.put_with_room.ensures.put
 

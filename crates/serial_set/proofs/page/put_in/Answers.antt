@@ -1,5 +1,6 @@
-use Rattle.std.proofs.Common.{◌≤◌, ◌∙◌, sym, Result, Ok, Err, OnErr}
+use Rattle.std.proofs.Common.{◌≤◌, ◌∙◌, sym}
 use Rattle.serial_set.proofs.InPage.{found, replaced_at, replaced_between, missed}
+use Rattle.serial_set.proofs.Refused.{on_err}
 use Rattle.serial_set.proofs.page.put_in.Goals as goal
 
 pub returns-then-first-end-clause-put : goal.returns-then-first-end-clause-put
@@ -21,10 +22,6 @@ returns-then-len-ge-PAGE_LEN-clause-misses c =
     let ordered : new.lo ≤ new.hi = c.requires.span.1 in
     let f = found new xs c.deref.result.now c.deref-2.result.now first.result last.result c.deref.ensures.value c.deref-2.ensures.value c.requires.span.0 ordered first.ensures.before first.ensures.rest last.ensures.by last.ensures.rest in
     missed new xs first.result last.result c.if-first-end.false f.0 f.3
-
-on_err : {A E : Type 0} (r : Result A E) (P : Type 0) → P → OnErr r P
-on_err (Ok x) P p = tt
-on_err (Err e) P p = p
 
 pub returns-in_err-insert-clause-misses : goal.returns-in_err-insert-clause-misses
 returns-in_err-insert-clause-misses c =

@@ -4,7 +4,7 @@ use Rattle.std.proofs.lemmas.Bool.{leb-true, leb-false}
 use Rattle.std.proofs.lemmas.List.Elements.{All-weaker}
 use Rattle.std.proofs.lemmas.List.Sorted.{IsPartitionPoint-from_clause, IsPartitionedBy-leb}
 use Rattle.serial_set.proofs.Placed.{All-front, All-back}
-use Rattle.serial_set.proofs.Rising.{starts_rise}
+use Rattle.serial_set.specs.Rising.{starts_rise}
 use Rattle.serial_set.proofs.place.count_beginning_by.Goals as goal
 
 point : (c : goal.After-partition_point) → IsPartitionPoint (λ t. leb (t.lo - 1) c.args.number ≡ true) (λ t. leb (t.lo - 1) c.args.number ≡ false) c.args.spans.now c.partition_point.result

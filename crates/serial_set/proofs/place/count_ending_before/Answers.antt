@@ -4,7 +4,7 @@ use Rattle.std.proofs.lemmas.Bool.{ltb-true, ltb-false}
 use Rattle.std.proofs.lemmas.List.Elements.{All-weaker}
 use Rattle.std.proofs.lemmas.List.Sorted.{IsPartitionPoint-from_clause, IsPartitionedBy-ltb}
 use Rattle.serial_set.proofs.Placed.{All-front, All-back}
-use Rattle.serial_set.proofs.Rising.{ends_rise}
+use Rattle.serial_set.specs.Rising.{ends_rise}
 use Rattle.serial_set.proofs.place.count_ending_before.Goals as goal
 
 point : (c : goal.After-partition_point) → IsPartitionPoint (λ t. ltb t.hi c.args.number ≡ true) (λ t. ltb t.hi c.args.number ≡ false) c.args.spans.now c.partition_point.result

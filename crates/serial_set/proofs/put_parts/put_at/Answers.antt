@@ -1,8 +1,9 @@
-use Rattle.std.proofs.Common.{◌<◌, ◌≤◌, ◌⊎◌, ◌∙◌, length, ap, sym, subst, arith, Result, Ok, Err, OnErr}
+use Rattle.std.proofs.Common.{◌<◌, ◌≤◌, ◌⊎◌, ◌∙◌, length, ap, sym, subst, arith}
 use Rattle.std.proofs.lemmas.List.{get_or-set_same, get_or_default}
 use Rattle.serial_set.specs.Span.{IsRuns}
 use Rattle.serial_set.specs.Pages.{CutsNone}
 use Rattle.serial_set.proofs.InParts.{runs_part, all_part, flat_same, count_cut, count_drop, count_set}
+use Rattle.serial_set.proofs.Refused.{on_err}
 use Rattle.serial_set.proofs.put_parts.put_at.Goals as goal
 
 pub put-requires-clause-runs : goal.put-requires-clause-runs
@@ -30,10 +31,6 @@ put-requires-clause-cuts_none g c =
     let new = c.args.new in
     subst (λ p. CutsNone new (spans p)) (sym c.index_mut.ensures.value)
     (all_part spans (λ t. (t.hi < new.lo) ⊎ (((new.lo ≤ t.lo) × (t.hi ≤ new.hi)) ⊎ (new.hi < t.lo))) xs at part c.requires.within c.requires.cuts_none)
-
-on_err : {A E : Type 0} (r : Result A E) (P : Type 0) → P → OnErr r P
-on_err (Ok x) P p = tt
-on_err (Err e) P p = p
 
 pub returns-in_err-put-clause-refused : goal.returns-in_err-put-clause-refused
 returns-in_err-put-clause-refused g c =

@@ -1,14 +1,11 @@
-use Rattle.std.proofs.Common.{◌+◌, ◌<◌, ◌≤◌, ◌⊎◌, length, take, drop, get_or, sym, subst, arith, Result, Ok, Err, OnErr}
+use Rattle.std.proofs.Common.{◌+◌, ◌<◌, ◌≤◌, ◌⊎◌, length, take, drop, get_or, sym, subst, arith}
 use Rattle.std.specs.List.{All, flat_map}
 use Rattle.serial_set.specs.Span.{IsRuns}
 use Rattle.serial_set.specs.Pages.{end_of}
 use Rattle.serial_set.proofs.InParts.{runs_drop}
 use Rattle.serial_set.proofs.PutParts.{misses_parts, cuts_after, past_put, put_whole}
+use Rattle.serial_set.proofs.Refused.{on_err}
 use Rattle.serial_set.proofs.put_parts.put_in_parts.Goals as goal
-
-on_err : {A E : Type 0} (r : Result A E) (P : Type 0) → P → OnErr r P
-on_err (Ok x) P p = tt
-on_err (Err e) P p = p
 
 pub returns-in_err-gone-clause-misses : goal.returns-in_err-gone-clause-misses
 returns-in_err-gone-clause-misses g c =

@@ -1,6 +1,7 @@
-use Rattle.std.proofs.Common.{arith, subst, sym, ◌+◌, ◌-◌, ◌<◌, ◌≤◌, take, drop, Result, Ok, Err, OnErr}
+use Rattle.std.proofs.Common.{arith, subst, sym, ◌+◌, ◌-◌, ◌<◌, ◌≤◌, take, drop}
 use Rattle.std.specs.List.{All}
 use Rattle.serial_set.proofs.Touching.{added_joined, added_apart, apart_touches_none}
+use Rattle.serial_set.proofs.Refused.{on_err}
 use Rattle.serial_set.proofs.span_vec.add_to.Goals as goal
 
 pub returns-then-first-end-clause-runs : goal.returns-then-first-end-clause-runs
@@ -27,10 +28,6 @@ returns-clause-runs c =
     (subst (λ l. All (λ t. t.hi < lo - 1) (take first.result l)) c.deref.ensures.value first.ensures.before)
     (subst (λ l. All (λ t. hi + 1 < t.lo) (drop end.result l)) c.deref-2.ensures.value end.ensures.rest)
     c.in_ok-insert.ensures.items
-
-on_err : {A E : Type 0} (r : Result A E) (P : Type 0) → P → OnErr r P
-on_err (Ok x) P p = tt
-on_err (Err e) P p = p
 
 pub returns-in_err-insert-clause-needs_room : goal.returns-in_err-insert-clause-needs_room
 returns-in_err-insert-clause-needs_room c =

@@ -9,7 +9,7 @@ use Rattle.ssh_wire.specs.Reading.{Reads}
 use Rattle.ssh_key.specs.KeyReading.{public_at}
 use Rattle.ssh_key.proofs.FirstFaults.{public_refused}
 use Rattle.ssh_key.proofs.Keys.{public_again, public_found}
-use Rattle.ssh_key.proofs.Steps.{ok_is, ok_or_err}
+use Rattle.ssh_wire.specs.Steps.{ok_is, ok_or_err}
 use Rattle.ssh_key.proofs.key.read_fields.Goals as goal
 
 found : (kind : Kind) (old new : List ℕ) (r : Result Key KeyFault) → IsBytes old → Reads (λ key. key) r old new (public_at kind old) → IfOk r (λ key. (key.kind ≡ kind) × BeginsWithFields old key new)

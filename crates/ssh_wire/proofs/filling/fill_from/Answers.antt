@@ -1,7 +1,7 @@
 -- A read filled the next part of the slice.
 use Rattle.std.proofs.Common.{rules, take}
 use Rattle.ssh_wire.specs.declared.pull_fault.PullFault.TheVariants.{Read}
-use Rattle.ssh_wire.proofs.Pulling.{Consumes-filled, Stops-front}
+use Rattle.ssh_wire.proofs.Pulling.{Consumes-filled, FallsShort-front}
 use Rattle.ssh_wire.proofs.filling.fill_from.Goals as goal
 
 pub loop-count-preserved : goal.loop-count-preserved
@@ -13,4 +13,4 @@ loop-count-preserved g c = record {
 }
 
 pub returns-in-Err : goal.returns-in-Err
-returns-in-Err g c = Stops-front Read (g.R.Source.left c.args.reader.now) (g.R.Source.left c.loop-count.reader) _ _ (take c.loop-count.count c.loop-count.into) _ c.loop-count.invariant.taken (search rules) (search rules) (search rules)
+returns-in-Err g c = FallsShort-front Read (g.R.Source.left c.args.reader.now) (g.R.Source.left c.loop-count.reader) _ _ (take c.loop-count.count c.loop-count.into) _ c.loop-count.invariant.taken (search rules) (search rules) (search rules)

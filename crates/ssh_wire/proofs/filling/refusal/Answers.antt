@@ -1,8 +1,8 @@
 -- What came until the reader ended or failed is less than the limit leaves.
 use Rattle.std.proofs.Common.{◌≡◌, ℕ, ◌-◌, length, false, rules, arith}
-use Rattle.ssh_wire.specs.Filling.{Stops, pulled}
+use Rattle.ssh_wire.specs.Filling.{FallsShort, pulled}
 use Rattle.ssh_wire.specs.Pull.{after_ahead}
-use Rattle.ssh_wire.proofs.Pulling.{Comes-more, Stops-after, Misses-stop}
+use Rattle.ssh_wire.proofs.Pulling.{Comes-more, FallsShort-after, Misses-short}
 use Rattle.ssh_wire.proofs.filling.refusal.Goals as goal
 
 pub loop-at-preserved : goal.loop-at-preserved
@@ -16,6 +16,6 @@ pub returns-in-Err-clause-misses : goal.returns-in-Err-clause-misses
 returns-in-Err-clause-misses g c = λ size past.
     let part : length c.fill.new.into ≡ c.min-part.result = search rules in
     let left : ℕ = c.args.limit - c.args.taken in
-    let stops : Stops c.in-Err.fault (after_ahead c.args.ahead.now (g.R.Source.left c.args.reader.now)) (after_ahead c.fill.new.ahead (g.R.Source.left c.fill.new.reader)) (g.R.Source.has_failed c.fill.new.reader) left =
-    Stops-after _ _ _ _ _ _ _ left c.loop-at.invariant.comes.bytes c.in-Err.ensures (omega (arith, c.loop-at.invariant.comes.count, c.min-part.ensures)) in
-    Misses-stop (pulled (g.R.Source.left c.args.reader.now) false c.args.ahead.now c.args.taken c.args.limit) (pulled (g.R.Source.left c.fill.new.reader) (g.R.Source.has_failed c.fill.new.reader) c.fill.new.ahead c.args.taken c.args.limit) c.in-Err.fault left size stops (omega arith) (omega arith)
+    let stops : FallsShort c.in-Err.fault (after_ahead c.args.ahead.now (g.R.Source.left c.args.reader.now)) (after_ahead c.fill.new.ahead (g.R.Source.left c.fill.new.reader)) (g.R.Source.has_failed c.fill.new.reader) left =
+    FallsShort-after _ _ _ _ _ _ _ left c.loop-at.invariant.comes.bytes c.in-Err.ensures (omega (arith, c.loop-at.invariant.comes.count, c.min-part.ensures)) in
+    Misses-short (pulled (g.R.Source.left c.args.reader.now) false c.args.ahead.now c.args.taken c.args.limit) (pulled (g.R.Source.left c.fill.new.reader) (g.R.Source.has_failed c.fill.new.reader) c.fill.new.ahead c.args.taken c.args.limit) c.in-Err.fault left size stops (omega arith) (omega arith)

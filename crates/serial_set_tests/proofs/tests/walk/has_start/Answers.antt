@@ -2,7 +2,7 @@ use Rattle.std.proofs.Common.{subst}
 use Rattle.std.proofs.lemmas.Option.{get_or_from_slice_get}
 use Rattle.serial_set.specs.declared.span.Span.{Span}
 use Rattle.serial_set.specs.Span.{Covers}
-use Rattle.serial_set.proofs.Rising.{names_at}
+use Rattle.serial_set.specs.Rising.{names_at}
 use Rattle.serial_set_tests.proofs.tests.walk.has_start.Goals as goal
 
 pub returns : goal.returns

@@ -1,5 +1,6 @@
 -- Rising lists of spans: what they name, and how they are cut and joined.
-use Rattle.std.proofs.Common.{ℕ, ◌+◌, ◌-◌, ◌<◌, ◌≤◌, List, [], ◌∷◌, ◌++◌, ◌⊎◌, length, get_or, inl, inr, arith, zero, suc}
+use Rattle.std.proofs.Common.{ℕ, ◌+◌, ◌-◌, ◌<◌, ◌≤◌, List, [], ◌∷◌, ◌++◌, ◌⊎◌, length, get_or, inl}
+use Rattle.std.proofs.Common.{inr, arith, zero, suc}
 use Rattle.std.specs.List.{All}
 use Rattle.std.specs.List.Sorted.{IsNonDecreasingBy}
 use Rattle.std.proofs.lemmas.List.Elements.{All-nil, All-cons, All-head, All-tail}
@@ -9,11 +10,15 @@ use Rattle.serial_set.specs.Span.{Covers, RunsFrom}
 pub names_append : (xs ys : List Span) (s : ℕ) → Covers (xs ++ ys) s → Covers xs s ⊎ Covers ys s
 names_append [] ys s n = inr n
 names_append (x ∷ xs) ys s n =
-    elim n [ inl here ↦ inl (inl here) | inr later ↦ elim (names_append xs ys s later) [ inl l ↦ inl (inr l) | inr r ↦ inr r ] ]
+    elim n [
+      | inl here ↦ inl (inl here)
+      | inr later ↦ elim (names_append xs ys s later) [ inl l ↦ inl (inr l) | inr r ↦ inr r ]
+    ]
 
 pub names_left : (xs ys : List Span) (s : ℕ) → Covers xs s → Covers (xs ++ ys) s
 names_left [] ys s n = absurd n
-names_left (x ∷ xs) ys s n = elim n [ inl here ↦ inl here | inr later ↦ inr (names_left xs ys s later) ]
+names_left (x ∷ xs) ys s n =
+    elim n [ inl here ↦ inl here | inr later ↦ inr (names_left xs ys s later) ]
 
 pub names_right : (xs ys : List Span) (s : ℕ) → Covers ys s → Covers (xs ++ ys) s
 names_right [] ys s n = n
@@ -27,32 +32,42 @@ RunsFrom-weaker a b (x ∷ xs) h r = (omega arith, r.1, r.2)
 pub names_from : (a : ℕ) (xs : List Span) (s : ℕ) → RunsFrom a xs → Covers xs s → a ≤ s
 names_from a [] s r n = absurd n
 names_from a (x ∷ xs) s r n =
-    elim n [ inl here ↦ omega arith | inr later ↦ omega (arith, names_from (x.hi + 2) xs s r.2 later) ]
+    elim n [
+      | inl here ↦ omega arith
+      | inr later ↦ omega (arith, names_from (x.hi + 2) xs s r.2 later)
+    ]
 
 pub runs_front : (a : ℕ) (xs ys : List Span) → RunsFrom a (xs ++ ys) → RunsFrom a xs
 runs_front a [] ys r = tt
 runs_front a (x ∷ xs) ys r = (r.0, r.1, runs_front (x.hi + 2) xs ys r.2)
 
 -- a later span is past where the list may begin
-pub runs_reach : (a : ℕ) (xs : List Span) (y : Span) (ys : List Span) → RunsFrom a (xs ++ y ∷ ys) → a ≤ y.lo
+pub runs_reach : (a : ℕ) (xs : List Span) (y : Span) (ys : List Span) → RunsFrom a (xs ++ y ∷ ys)
+    → a ≤ y.lo
 runs_reach a [] y ys r = r.0
 runs_reach a (x ∷ xs) y ys r = omega (arith, runs_reach (x.hi + 2) xs y ys r.2)
 
-pub runs_middle : (a : ℕ) (xs : List Span) (y : Span) (ys : List Span) → RunsFrom a (xs ++ y ∷ ys) → (y.lo ≤ y.hi) × RunsFrom (y.hi + 2) ys
+pub runs_middle : (a : ℕ) (xs : List Span) (y : Span) (ys : List Span) → RunsFrom a (xs ++ y ∷ ys)
+    → (y.lo ≤ y.hi) × RunsFrom (y.hi + 2) ys
 runs_middle a [] y ys r = (r.1, r.2)
 runs_middle a (x ∷ xs) y ys r = runs_middle (x.hi + 2) xs y ys r.2
 
 -- each earlier span ends at least two below a later one
-pub runs_apart : (a : ℕ) (xs : List Span) (y : Span) (ys : List Span) → RunsFrom a (xs ++ y ∷ ys) → All (λ t. t.hi + 2 ≤ y.lo) xs
+pub runs_apart : (a : ℕ) (xs : List Span) (y : Span) (ys : List Span) → RunsFrom a (xs ++ y ∷ ys)
+    → All (λ t. t.hi + 2 ≤ y.lo) xs
 runs_apart a [] y ys r = All-nil (λ t. t.hi + 2 ≤ y.lo)
 runs_apart a (x ∷ xs) y ys r =
-    All-cons (λ t. t.hi + 2 ≤ y.lo) x xs (runs_reach (x.hi + 2) xs y ys r.2) (runs_apart (x.hi + 2) xs y ys r.2)
+    All-cons (λ t. t.hi + 2 ≤ y.lo) x xs (runs_reach (x.hi + 2) xs y ys r.2)
+    (runs_apart (x.hi + 2) xs y ys r.2)
 
 -- two lists joined, where the first ends two below the place from which the second rises
-pub runs_join : (a b : ℕ) (xs ys : List Span) → a ≤ b → RunsFrom a xs → All (λ t. t.hi + 2 ≤ b) xs → RunsFrom b ys → RunsFrom a (xs ++ ys)
+pub runs_join : (a b : ℕ) (xs ys : List Span) → a ≤ b → RunsFrom a xs → All (λ t. t.hi + 2 ≤ b) xs
+    → RunsFrom b ys → RunsFrom a (xs ++ ys)
 runs_join a b [] ys h r below s = RunsFrom-weaker b a ys h s
 runs_join a b (x ∷ xs) ys h r below s =
-    (r.0, r.1, runs_join (x.hi + 2) b xs ys (All-head (λ t. t.hi + 2 ≤ b) x xs below) r.2 (All-tail (λ t. t.hi + 2 ≤ b) x xs below) s)
+    let head = All-head (λ t. t.hi + 2 ≤ b) x xs below in
+    let tail = All-tail (λ t. t.hi + 2 ≤ b) x xs below in
+    (r.0, r.1, runs_join (x.hi + 2) b xs ys head r.2 tail s)
 
 -- a list rises from further up where its first span does
 pub runs_raise : (a b : ℕ) (xs : List Span) → RunsFrom a xs → All (λ t. b ≤ t.lo) xs → RunsFrom b xs
@@ -61,26 +76,33 @@ runs_raise a b (x ∷ xs) r above = (All-head (λ t. b ≤ t.lo) x xs above, r.1
 
 -- ---- by places
 
-pub runs_at : (a : ℕ) (xs : List Span) (i : ℕ) (d : Span) → RunsFrom a xs → i < length xs → (a ≤ (get_or xs i d).lo) × ((get_or xs i d).lo ≤ (get_or xs i d).hi)
+pub runs_at : (a : ℕ) (xs : List Span) (i : ℕ) (d : Span) → RunsFrom a xs → i < length xs
+    → (a ≤ (get_or xs i d).lo) × ((get_or xs i d).lo ≤ (get_or xs i d).hi)
 runs_at a [] i d r h = absurd (omega arith)
 runs_at a (x ∷ xs) zero d r h = (r.0, r.1)
-runs_at a (x ∷ xs) (suc i) d r h = let rest = runs_at (x.hi + 2) xs i d r.2 (omega arith) in (omega arith, rest.1)
+runs_at a (x ∷ xs) (suc i) d r h =
+    let rest = runs_at (x.hi + 2) xs i d r.2 (omega arith) in (omega arith, rest.1)
 
 pub ends_rise : (a : ℕ) (xs : List Span) → RunsFrom a xs → IsNonDecreasingBy (λ t. t.hi) xs
 ends_rise a [] r i j d h k = absurd (omega arith)
 ends_rise a (x ∷ xs) r zero zero d h k = omega arith
-ends_rise a (x ∷ xs) r zero (suc j) d h k = let later = runs_at (x.hi + 2) xs j d r.2 (omega arith) in omega arith
+ends_rise a (x ∷ xs) r zero (suc j) d h k =
+    let later = runs_at (x.hi + 2) xs j d r.2 (omega arith) in omega arith
 ends_rise a (x ∷ xs) r (suc i) zero d h k = absurd (omega arith)
-ends_rise a (x ∷ xs) r (suc i) (suc j) d h k = ends_rise (x.hi + 2) xs r.2 i j d (omega arith) (omega arith)
+ends_rise a (x ∷ xs) r (suc i) (suc j) d h k =
+    ends_rise (x.hi + 2) xs r.2 i j d (omega arith) (omega arith)
 
 pub starts_rise : (a : ℕ) (xs : List Span) → RunsFrom a xs → IsNonDecreasingBy (λ t. t.lo - 1) xs
 starts_rise a [] r i j d h k = absurd (omega arith)
 starts_rise a (x ∷ xs) r zero zero d h k = omega arith
-starts_rise a (x ∷ xs) r zero (suc j) d h k = let later = runs_at (x.hi + 2) xs j d r.2 (omega arith) in omega arith
+starts_rise a (x ∷ xs) r zero (suc j) d h k =
+    let later = runs_at (x.hi + 2) xs j d r.2 (omega arith) in omega arith
 starts_rise a (x ∷ xs) r (suc i) zero d h k = absurd (omega arith)
-starts_rise a (x ∷ xs) r (suc i) (suc j) d h k = starts_rise (x.hi + 2) xs r.2 i j d (omega arith) (omega arith)
+starts_rise a (x ∷ xs) r (suc i) (suc j) d h k =
+    starts_rise (x.hi + 2) xs r.2 i j d (omega arith) (omega arith)
 
-pub names_at : (a : ℕ) (xs : List Span) (i : ℕ) (d : Span) → RunsFrom a xs → i < length xs → Covers xs (get_or xs i d).lo
+pub names_at : (a : ℕ) (xs : List Span) (i : ℕ) (d : Span) → RunsFrom a xs → i < length xs
+    → Covers xs (get_or xs i d).lo
 names_at a [] i d r h = absurd (omega arith)
 names_at a (x ∷ xs) zero d r h = inl (omega arith, r.1)
 names_at a (x ∷ xs) (suc i) d r h = inr (names_at (x.hi + 2) xs i d r.2 (omega arith))

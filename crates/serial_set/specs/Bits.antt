@@ -1,5 +1,6 @@
 -- Which serials the bits of a number name.
-use Rattle.std.proofs.Common.{◌≡◌, ℕ, ◌+◌, ◌-◌, ◌*◌, ◌%◌, ◌^◌, ◌<◌, ◌≤◌, ◌⊎◌, sym, subst, ap, ◌∙◌, inl, inr, arith, suc}
+use Rattle.std.proofs.Common.{◌≡◌, ℕ, ◌+◌, ◌-◌, ◌*◌, ◌%◌, ◌^◌, ◌<◌, ◌≤◌, ◌⊎◌, sym, subst, ap, ◌∙◌}
+use Rattle.std.proofs.Common.{inl, inr, arith, suc}
 use lib.Count.{count_leading_zeros}
 use Rattle.std.specs.Int.{bit_at}
 use Rattle.std.proofs.Math.Nat.{div-eq_of_lt-le, pow-suc}
@@ -22,9 +23,13 @@ top_bit j a h k =
 -- a set bit is no higher than the highest
 pub bit_below : (byte k i : ℕ) → byte < 2 ^ k → bit_at byte i ≡ 1 → i < k
 bit_below byte k i h b =
-    elim (cases_lt i k) [ inl below ↦ below | inr above ↦ absurd (zero_is_not_one _ (bit_at_above byte k i h above) b) ]
+    elim (cases_lt i k) [
+      | inl below ↦ below
+      | inr above ↦ absurd (zero_is_not_one _ (bit_at_above byte k i h above) b)
+    ]
 
-pub highest_bit : (byte z : ℕ) → 0 < byte → byte < 2 ^ 8 → z ≡ count_leading_zeros 8 byte → (bit_at byte (7 - z) ≡ 1) × ((i : ℕ) → bit_at byte i ≡ 1 → i ≤ 7 - z)
+pub highest_bit : (byte z : ℕ) → 0 < byte → byte < 2 ^ 8 → z ≡ count_leading_zeros 8 byte
+    → (bit_at byte (7 - z) ≡ 1) × ((i : ℕ) → bit_at byte i ≡ 1 → i ≤ 7 - z)
 highest_bit byte z h k e =
     let top = leading_top 8 byte h k in
     let place : 7 - z ≡ top.0 = omega (arith, top.1) in (
@@ -33,21 +38,25 @@ highest_bit byte z h k e =
     )
 
 -- one byte more: its eight bits are the lowest, and the others move up by eight
-pub BitNames-split : (base bits byte s : ℕ) → byte < 256 → BitNames base (bits * 256 + byte) s → BitNames (base + 8) bits s ⊎ BitNames base byte s
+pub BitNames-split : (base bits byte s : ℕ) → byte < 256 → BitNames base (bits * 256 + byte) s
+    → BitNames (base + 8) bits s ⊎ BitNames base byte s
 BitNames-split base bits byte s h n =
     elim (cases_lt (s - base) 8) [
       | inl low ↦ inr (n.0, n.1, sym (bit_at_cat_low bits 8 byte (s - base) low) ∙ n.2)
       | inr high ↦ (
           let place : s - base - 8 ≡ s - (base + 8) = omega arith in
-          inl (n.0, omega arith, ap (λ i. bit_at bits i) (sym place) ∙ sym (bit_at_cat_high bits 8 byte (s - base) h high) ∙ n.2))
+          inl (n.0, omega arith, ap (λ i. bit_at bits i) (sym place)
+          ∙ sym (bit_at_cat_high bits 8 byte (s - base) h high) ∙ n.2))
     ]
 
-pub BitNames-join : (base bits byte s : ℕ) → byte < 256 → BitNames (base + 8) bits s ⊎ BitNames base byte s → BitNames base (bits * 256 + byte) s
+pub BitNames-join : (base bits byte s : ℕ) → byte < 256
+    → BitNames (base + 8) bits s ⊎ BitNames base byte s → BitNames base (bits * 256 + byte) s
 BitNames-join base bits byte s h n =
     elim n [
       | inl up ↦ (
           let place : s - base - 8 ≡ s - (base + 8) = omega arith in
-          (up.0, omega arith, bit_at_cat_high bits 8 byte (s - base) h (omega arith) ∙ ap (λ i. bit_at bits i) place ∙ up.2))
+          (up.0, omega arith, bit_at_cat_high bits 8 byte (s - base) h (omega arith)
+          ∙ ap (λ i. bit_at bits i) place ∙ up.2))
       | inr here ↦ (
           let low : s - base < 8 = bit_below byte 8 (s - base) h here.2 in
           (here.0, here.1, bit_at_cat_low bits 8 byte (s - base) low ∙ here.2))
