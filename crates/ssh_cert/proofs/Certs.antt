@@ -56,7 +56,7 @@ pub kind_again : (kind : Kind) (rest : List ℕ) → kind_at (string (certificat
 unfolding kind_at
 kind_again kind rest = rw (string_again (certificate_name kind) rest (length-certificate_name kind), certified-certificate_name kind) refl
 
--- what `kind_of` answers
+-- what `read_kind` answers
 pub kind_read : (bytes name rest : List ℕ) (certified : Option Kind) (r : Result Kind CertFault) → string_at bytes ≡ Ok (name, rest) → kind_certified name ≡ certified → r ≡ ok_or certified faults.UnknownType → Gives (λ kind. kind) r rest (kind_at bytes)
 unfolding kind_at
 kind_read bytes name rest None r string_read certified answer = rw (answer, string_read, certified) refl

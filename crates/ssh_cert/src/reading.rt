@@ -103,8 +103,8 @@ fn cert_of<'a>(blob: &'a [u8]) -> Result<Cert<'a>, CertFault>
     ensures { result ≡ certificate_at blob.now }
 {
     let mut cursor = Cursor::new(blob);
-    let kind = kind_of(&mut cursor)?;
-    let cert = body_fields(kind, &mut cursor)?;
+    let kind = read_kind(&mut cursor)?;
+    let cert = read_body(kind, &mut cursor)?;
     if !cursor.at_end() {
         return Err(CertFault::Trailing);
     }
@@ -113,7 +113,7 @@ fn cert_of<'a>(blob: &'a [u8]) -> Result<Cert<'a>, CertFault>
 
 /// The kind by the type name.
 #[tactic(auto, unfolding(crate::specs::CertReading::kind_at))]
-fn kind_of(cursor: &mut Cursor) -> Result<Kind, CertFault>
+fn read_kind(cursor: &mut Cursor) -> Result<Kind, CertFault>
     ensures { Gives (λ kind. kind) result cursor.new (kind_at cursor.old) }
 {
     let name = cursor.string()?;
@@ -122,12 +122,12 @@ fn kind_of(cursor: &mut Cursor) -> Result<Kind, CertFault>
 
 /// The fields behind the type name.
 #[tactic(auto, unfolding(crate::specs::CertReading::body_at, crate::specs::CertReading::fields_at))]
-fn body_fields<'a>(kind: Kind, cursor: &mut Cursor<'a>) -> Result<Cert<'a>, CertFault>
+fn read_body<'a>(kind: Kind, cursor: &mut Cursor<'a>) -> Result<Cert<'a>, CertFault>
     ensures { Gives (λ cert. cert) result cursor.new (body_at kind cursor.old) }
 {
-    let nonce = text_field(cursor)?;
-    let key = public_fields(kind, cursor)?;
-    let numbered = numbered_part(cursor)?;
+    let nonce = read_text(cursor)?;
+    let key = read_public(kind, cursor)?;
+    let numbered = read_numbered(cursor)?;
     Ok(of_fields(nonce, key, numbered))
 }
 
@@ -155,12 +155,12 @@ fn of_fields<'a>(nonce: &'a [u8], key: PublicKey<'a>, numbered: Numbered<'a>) ->
 }
 
 #[tactic(auto, unfolding(crate::specs::CertReading::fields_at))]
-fn numbered_part<'a>(cursor: &mut Cursor<'a>) -> Result<Numbered<'a>, CertFault>
+fn read_numbered<'a>(cursor: &mut Cursor<'a>) -> Result<Numbered<'a>, CertFault>
     ensures { Gives numbered_values result cursor.new (fields_at numbered_fields cursor.old) }
 {
-    let serial = number_field(cursor)?;
-    let role = role_field(cursor)?;
-    let naming = naming_part(cursor)?;
+    let serial = read_number(cursor)?;
+    let role = read_role(cursor)?;
+    let naming = read_naming(cursor)?;
     Ok(Numbered {
         serial,
         role,
@@ -169,14 +169,14 @@ fn numbered_part<'a>(cursor: &mut Cursor<'a>) -> Result<Numbered<'a>, CertFault>
 }
 
 #[tactic(auto, unfolding(crate::specs::CertReading::fields_at))]
-fn naming_part<'a>(cursor: &mut Cursor<'a>) -> Result<Naming<'a>, CertFault>
+fn read_naming<'a>(cursor: &mut Cursor<'a>) -> Result<Naming<'a>, CertFault>
     ensures { Gives naming_values result cursor.new (fields_at naming_fields cursor.old) }
 {
-    let key_id = text_field(cursor)?;
-    let principals = principals_field(cursor)?;
-    let after = number_field(cursor)?;
-    let before = number_field(cursor)?;
-    let closing = closing_part(cursor)?;
+    let key_id = read_text(cursor)?;
+    let principals = read_principals(cursor)?;
+    let after = read_number(cursor)?;
+    let before = read_number(cursor)?;
+    let closing = read_closing(cursor)?;
     Ok(Naming {
         key_id,
         principals,
@@ -187,14 +187,14 @@ fn naming_part<'a>(cursor: &mut Cursor<'a>) -> Result<Naming<'a>, CertFault>
 }
 
 #[tactic(auto, unfolding(crate::specs::CertReading::fields_at))]
-fn closing_part<'a>(cursor: &mut Cursor<'a>) -> Result<Closing<'a>, CertFault>
+fn read_closing<'a>(cursor: &mut Cursor<'a>) -> Result<Closing<'a>, CertFault>
     ensures { Gives closing_values result cursor.new (fields_at closing_fields cursor.old) }
 {
-    let critical = options_field(cursor)?;
-    let extensions = options_field(cursor)?;
-    let reserved = text_field(cursor)?;
-    let authority = authority_field(cursor)?;
-    let signature = signature_field(cursor)?;
+    let critical = read_options(cursor)?;
+    let extensions = read_options(cursor)?;
+    let reserved = read_text(cursor)?;
+    let authority = read_authority(cursor)?;
+    let signature = read_signature(cursor)?;
     Ok(Closing {
         critical,
         extensions,
@@ -206,7 +206,7 @@ fn closing_part<'a>(cursor: &mut Cursor<'a>) -> Result<Closing<'a>, CertFault>
 
 /// A string.
 #[tactic(auto, unfolding(crate::specs::CertReading::field_at))]
-fn text_field<'a>(cursor: &mut Cursor<'a>) -> Result<&'a [u8], CertFault>
+fn read_text<'a>(cursor: &mut Cursor<'a>) -> Result<&'a [u8], CertFault>
     ensures { Gives (λ text. text.now) result cursor.new (field_at TextField cursor.old) }
 {
     Ok(cursor.string()?)
@@ -214,7 +214,7 @@ fn text_field<'a>(cursor: &mut Cursor<'a>) -> Result<&'a [u8], CertFault>
 
 /// The public fields of the plain key.
 #[tactic(auto, unfolding(crate::specs::CertReading::field_at))]
-fn public_fields<'a>(kind: Kind, cursor: &mut Cursor<'a>) -> Result<PublicKey<'a>, CertFault>
+fn read_public<'a>(kind: Kind, cursor: &mut Cursor<'a>) -> Result<PublicKey<'a>, CertFault>
     ensures { Gives (λ key. key) result cursor.new (field_at (PublicField kind) cursor.old) }
 {
     match read_fields(kind, cursor) {
@@ -225,7 +225,7 @@ fn public_fields<'a>(kind: Kind, cursor: &mut Cursor<'a>) -> Result<PublicKey<'a
 
 /// A number of eight bytes.
 #[tactic(auto, unfolding(crate::specs::CertReading::field_at))]
-fn number_field(cursor: &mut Cursor) -> Result<u64, CertFault>
+fn read_number(cursor: &mut Cursor) -> Result<u64, CertFault>
     ensures { Gives (λ n. n) result cursor.new (field_at NumberField cursor.old) }
 {
     Ok(cursor.u64()?)
@@ -233,7 +233,7 @@ fn number_field(cursor: &mut Cursor) -> Result<u64, CertFault>
 
 /// What the certificate is for.
 #[tactic(auto, unfolding(crate::specs::CertReading::field_at))]
-fn role_field(cursor: &mut Cursor) -> Result<Role, CertFault>
+fn read_role(cursor: &mut Cursor) -> Result<Role, CertFault>
     ensures { Gives (λ role. role) result cursor.new (field_at RoleField cursor.old) }
 {
     match cursor.u32()? {
@@ -245,7 +245,7 @@ fn role_field(cursor: &mut Cursor) -> Result<Role, CertFault>
 
 /// The principals.
 #[tactic(auto, unfolding(crate::specs::CertReading::field_at))]
-fn principals_field<'a>(cursor: &mut Cursor<'a>) -> Result<Strings<'a>, CertFault>
+fn read_principals<'a>(cursor: &mut Cursor<'a>) -> Result<Strings<'a>, CertFault>
     ensures { Gives (λ list. list) result cursor.new (field_at PrincipalsField cursor.old) }
 {
     let content = cursor.string()?;
@@ -254,7 +254,7 @@ fn principals_field<'a>(cursor: &mut Cursor<'a>) -> Result<Strings<'a>, CertFaul
 
 /// The critical options or the extensions.
 #[tactic(auto, unfolding(crate::specs::CertReading::field_at))]
-fn options_field<'a>(cursor: &mut Cursor<'a>) -> Result<Options<'a>, CertFault>
+fn read_options<'a>(cursor: &mut Cursor<'a>) -> Result<Options<'a>, CertFault>
     ensures { Gives (λ list. list) result cursor.new (field_at OptionsField cursor.old) }
 {
     let content = cursor.string()?;
@@ -263,7 +263,7 @@ fn options_field<'a>(cursor: &mut Cursor<'a>) -> Result<Options<'a>, CertFault>
 
 /// The signature key.
 #[tactic(auto, unfolding(crate::specs::CertReading::field_at))]
-fn authority_field<'a>(cursor: &mut Cursor<'a>) -> Result<Authority<'a>, CertFault>
+fn read_authority<'a>(cursor: &mut Cursor<'a>) -> Result<Authority<'a>, CertFault>
     ensures { Gives (λ authority. authority) result cursor.new
         (field_at AuthorityField cursor.old) }
 {
@@ -276,7 +276,7 @@ fn authority_field<'a>(cursor: &mut Cursor<'a>) -> Result<Authority<'a>, CertFau
 
 /// The signature, of which the name of its algorithm is read.
 #[tactic(auto, unfolding(crate::specs::CertReading::field_at))]
-fn signature_field<'a>(cursor: &mut Cursor<'a>) -> Result<Signature<'a>, CertFault>
+fn read_signature<'a>(cursor: &mut Cursor<'a>) -> Result<Signature<'a>, CertFault>
     ensures { Gives (λ signature. signature) result cursor.new
         (field_at SignatureField cursor.old) }
 {

@@ -1,6 +1,6 @@
 use Rattle.ssh_key.proofs.Names.{certified_is}
 use Rattle.ssh_cert.proofs.Certs.{kind_read}
-use Rattle.ssh_cert.proofs.reading.kind_of.Goals as goal
+use Rattle.ssh_cert.proofs.reading.read_kind.Goals as goal
 
 pub returns : goal.returns
 returns c =

@@ -1,6 +1,6 @@
 use Rattle.std.proofs.Common.{rules}
 use Rattle.ssh_cert.specs.CertReading.{field_at}
-use Rattle.ssh_cert.proofs.reading.principals_field.Goals as goal
+use Rattle.ssh_cert.proofs.reading.read_principals.Goals as goal
 
 pub returns : goal.returns
 unfolding field_at

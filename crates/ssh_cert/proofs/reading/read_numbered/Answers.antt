@@ -1,6 +1,6 @@
 use Rattle.std.proofs.Common.{rules}
 use Rattle.ssh_cert.specs.CertReading.{fields_at}
-use Rattle.ssh_cert.proofs.reading.numbered_part.Goals as goal
+use Rattle.ssh_cert.proofs.reading.read_numbered.Goals as goal
 
 pub returns : goal.returns
 unfolding fields_at
