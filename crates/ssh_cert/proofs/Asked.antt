@@ -21,7 +21,7 @@ use Rattle.ssh_cert.specs.declared.subject_fault.SubjectFault.TheVariants as fau
 use Rattle.ssh_cert.specs.CertReading.{certificate_at}
 use Rattle.ssh_cert.specs.Certificate.{Certificate}
 use Rattle.ssh_cert.specs.Subject.{Subject}
-use Rattle.ssh_cert.specs.SubjectReading.{Gives, HasCertificateName, IsSubject, IsSubjectFault, IsToldFault, certificate_subject, certified, is_certificate, is_certified, key_subject, no_certificate, no_key, of_certificate, of_key, plain_key, subject_of}
+use Rattle.ssh_cert.specs.SubjectReading.{AnswersSubject, HasCertificateName, IsSubject, IsSubjectFault, IsToldFault, certificate_subject, certified, is_certificate, is_certified, key_subject, no_certificate, no_key, of_certificate, of_key, plain_key, subject_of}
 use Rattle.ssh_cert.proofs.Certs.{certificate_again, certificate_found, certificate_refused, first_fault_read, length-certificate_name}
 use Rattle.ssh_cert.proofs.FieldLemmas.{begins}
 
@@ -132,18 +132,18 @@ subject_fault_read blob d fits (no_certificate why name fault is) = rw (is, name
 
 -- ---- what functions ensure
 
-pub is_found : (blob : List ℕ) (r : Result Subject SubjectFault) → IsBytes blob → Gives r (subject_of blob) → IfOk r (λ s. IsSubject blob s)
+pub is_found : (blob : List ℕ) (r : Result Subject SubjectFault) → IsBytes blob → AnswersSubject r (subject_of blob) → IfOk r (λ s. IsSubject blob s)
 is_found blob (Ok s) fits given = subject_found blob s fits given
 is_found blob (Err fault) fits given = tt
 
-pub is_told : (blob : List ℕ) (r : Result Subject SubjectFault) → IsBytes blob → Gives r (subject_of blob) → IfErr r (λ fault. IsToldFault blob fault)
+pub is_told : (blob : List ℕ) (r : Result Subject SubjectFault) → IsBytes blob → AnswersSubject r (subject_of blob) → IfErr r (λ fault. IsToldFault blob fault)
 is_told blob (Ok s) fits given = tt
 is_told blob (Err faults.NoMemory) fits given = record { subject = given.subject; is = subject_found blob given.subject fits given.read_as }
 is_told blob (Err (faults.Key why)) fits given = subject_refused blob (faults.Key why) fits given
 is_told blob (Err (faults.Cert why)) fits given = subject_refused blob (faults.Cert why) fits given
 
-pub is_only : (blob : List ℕ) (r : Result Subject SubjectFault) (s : Subject) → Gives r (subject_of blob) → IsSubject blob s → Gives r (Ok s)
-is_only blob r s given is = subst (Gives r) (subject_again blob s is) given
+pub is_only : (blob : List ℕ) (r : Result Subject SubjectFault) (s : Subject) → AnswersSubject r (subject_of blob) → IsSubject blob s → AnswersSubject r (Ok s)
+is_only blob r s given is = subst (AnswersSubject r) (subject_again blob s is) given
 
 -- what `is_certificate` answers
 pub certified_is : (blob bytes name rest : List ℕ) (o : Option Kind) (b : Bool) → bytes ≡ blob → string_at bytes ≡ Ok (name, rest) → kind_certified name ≡ o → b ≡ is_some o → b ≡ is_certificate blob
@@ -151,10 +151,10 @@ unfolding is_certificate
 certified_is blob bytes name rest o b same read is answer = rw (← same, read, is) answer
 
 -- what `asked` answers
-pub certificate_asked : (blob : List ℕ) (r : Result Subject SubjectFault) → is_certificate blob ≡ true → Gives r (certificate_subject (certificate_at blob)) → Gives r (subject_of blob)
+pub certificate_asked : (blob : List ℕ) (r : Result Subject SubjectFault) → is_certificate blob ≡ true → AnswersSubject r (certificate_subject (certificate_at blob)) → AnswersSubject r (subject_of blob)
 unfolding subject_of
 certificate_asked blob r name given = rw name given
 
-pub key_asked : (blob : List ℕ) (r : Result Subject SubjectFault) → is_certificate blob ≡ false → Gives r (key_subject blob (key_at blob)) → Gives r (subject_of blob)
+pub key_asked : (blob : List ℕ) (r : Result Subject SubjectFault) → is_certificate blob ≡ false → AnswersSubject r (key_subject blob (key_at blob)) → AnswersSubject r (subject_of blob)
 unfolding subject_of
 key_asked blob r name given = rw name given

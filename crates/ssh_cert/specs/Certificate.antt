@@ -1,5 +1,6 @@
 -- What a certificate says, and how its blob is spelled (PROTOCOL.certkeys).
-use Rattle.std.specs.Prelude.{◌≡◌, ℕ, ◌<◌, ◌^◌, List, [], ◌∷◌, ◌++◌, length}
+use Rattle.std.specs.Prelude.{◌≡◌, ℕ, ◌<◌, ◌^◌, List, [], ◌∷◌, length}
+use Rattle.std.specs.List.{concat}
 use Rattle.ssh_wire.specs.Wire.{BeginsWith, number, string, strings}
 use Rattle.ssh_key.specs.Key.{IsKey, Key, blob_of}
 use Rattle.ssh_key.specs.Kind.{certificate_name}
@@ -29,11 +30,6 @@ abbrev pub role_number : Role → ℕ
 role_number User = 1
 role_number Host = 2
 
--- texts, one after the other
-abbrev pub joined : List (List ℕ) → List ℕ
-joined [] = []
-joined (text ∷ texts) = text ++ joined texts
-
 -- the fields in their order: the type name first, the signature last
 abbrev pub certificate_parts : Certificate → List ℕ → List ℕ → List (List ℕ)
 certificate_parts certificate reserved signature =
@@ -55,7 +51,7 @@ certificate_parts certificate reserved signature =
 
 abbrev pub certificate_text : Certificate → List ℕ → List ℕ → List ℕ
 certificate_text certificate reserved signature =
-    joined (certificate_parts certificate reserved signature)
+    concat (certificate_parts certificate reserved signature)
 
 -- Four bytes hold the length of each string, and eight bytes each number.
 pub record HasLengths (certificate : Certificate) (reserved signature : List ℕ) : Type 0 where

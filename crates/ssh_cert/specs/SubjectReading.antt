@@ -1,6 +1,6 @@
 -- What a blob asks of a revocation list, and why it asks nothing.
 use Rattle.std.specs.Prelude.{◌≡◌, ℕ, Bool, false, List, Some, None, Result, Ok, Err, is_some, if◌then◌else◌}
-use Rattle.ssh_wire.specs.Reading.{string_at}
+use Rattle.ssh_wire.specs.Reading.{Answers, string_at}
 use Rattle.ssh_wire.specs.declared.fault.WireFault.{WireFault}
 use Rattle.ssh_wire.specs.Wire.{BeginsWith}
 use Rattle.ssh_key.specs.declared.fault.KeyFault.{KeyFault}
@@ -87,8 +87,10 @@ pub record IsAsked (read : Result Subject SubjectFault) : Type 0 where
   pub subject : Subject
   pub read_as : read ≡ Ok subject
 
--- A function returned what reading gives, or found no memory for what it gives.
-abbrev pub Gives : Result Subject SubjectFault → Result Subject SubjectFault → Type 0
-Gives (Ok subject) read = read ≡ Ok subject
-Gives (Err faults.NoMemory) read = IsAsked read
-Gives (Err fault) read = read ≡ Err fault
+-- A fault is the one that reading gives, or there was no memory for what it gives.
+abbrev pub TellsFault : SubjectFault → Result Subject SubjectFault → Type 0
+TellsFault faults.NoMemory read = IsAsked read
+TellsFault fault read = read ≡ Err fault
+
+abbrev pub AnswersSubject : Result Subject SubjectFault → Result Subject SubjectFault → Type 0
+AnswersSubject result read = Answers TellsFault (λ subject. subject) result read

@@ -4,7 +4,7 @@ ghost use Rattle.std.specs.Prelude.{◌≡◌, IfErr, IfOk, Ok};
 ghost use Rattle.ssh_key.specs.KeyReading.{key_at};
 ghost use Rattle.ssh_cert.specs.CertReading.{certificate_at};
 ghost use Rattle.ssh_cert.specs.Subject.{Subject};
-ghost use Rattle.ssh_cert.specs.SubjectReading.{Gives, IsSubject, IsToldFault, certificate_subject, is_certificate, key_subject, subject_of};
+ghost use Rattle.ssh_cert.specs.SubjectReading.{AnswersSubject, IsSubject, IsToldFault, certificate_subject, is_certificate, key_subject, subject_of};
 
 use crate::reading::read_cert;
 use crate::subject_fault::SubjectFault;
@@ -21,17 +21,17 @@ pub fn subject<'a>(alloc: Global, blob: &'a [u8]) -> Result<Subject<'a>, Subject
     // What is asked is that of a plain key or of a certificate.
     ensures found { IfOk result (λ asked. IsSubject blob.now asked) }
     // What is asked of a plain key or of a certificate is answered, unless memory runs out.
-    ensures only { (asked : Subject) → IsSubject blob.now asked → Gives result (Ok asked) }
+    ensures only { (asked : Subject) → IsSubject blob.now asked → AnswersSubject result (Ok asked) }
     // The fault is the first one, or memory ran out.
     ensures fault { IfErr result (λ fault. IsToldFault blob.now fault) }
     // The same, for those who compute with the answer.
-    ensures exact { Gives result (subject_of blob.now) }
+    ensures exact { AnswersSubject result (subject_of blob.now) }
 {
     asked(alloc, blob)
 }
 
 fn asked<'a>(alloc: Global, blob: &'a [u8]) -> Result<Subject<'a>, SubjectFault>
-    ensures { Gives result (subject_of blob.now) }
+    ensures { AnswersSubject result (subject_of blob.now) }
 {
     if is_certificate(blob) {
         of_certificate(alloc, blob)
@@ -52,7 +52,7 @@ fn is_certificate(blob: &[u8]) -> bool
 }
 
 fn of_certificate<'a>(alloc: Global, blob: &'a [u8]) -> Result<Subject<'a>, SubjectFault>
-    ensures { Gives result (certificate_subject (certificate_at blob.now)) }
+    ensures { AnswersSubject result (certificate_subject (certificate_at blob.now)) }
 {
     let cert = match read_cert(blob) {
         Ok(cert) => cert,
@@ -70,7 +70,7 @@ fn of_certificate<'a>(alloc: Global, blob: &'a [u8]) -> Result<Subject<'a>, Subj
 }
 
 fn of_key<'a>(alloc: Global, blob: &'a [u8]) -> Result<Subject<'a>, SubjectFault>
-    ensures { Gives result (key_subject blob.now (key_at blob.now)) }
+    ensures { AnswersSubject result (key_subject blob.now (key_at blob.now)) }
 {
     if let Err(fault) = read_key(blob) {
         return Err(SubjectFault::Key(fault));

@@ -1,7 +1,7 @@
 -- The lines round a container: what is between them is read, and each such text is.
 use Rattle.std.proofs.Common.{◌≡◌, ◌≢◌, ℕ, ◌<◌, map, true, false, List, [], ◌∷◌, ◌++◌, Option, Some, None, refl, sym, ap, subst, ◌∙◌, inl, inr, ◌⊎◌}
 use Rattle.std.specs.Prelude.{option_map}
-use Rattle.std.specs.List.{flat_map, onto_first, slice_split}
+use Rattle.std.specs.List.{concat, onto_first, slice_split}
 use Rattle.std.specs.Str.{bytes_eq}
 use Rattle.std.proofs.lemmas.Bool.{cases_Bool}
 use Rattle.std.proofs.lemmas.Slice.Eq.{bytes_eq-Decides}
@@ -17,7 +17,7 @@ record Between (lines : List (List ℕ)) (body : List ℕ) : Type 0 where
   pub after : List (List ℕ)
   pub spelled : lines ≡ between ++ end_line ∷ after
   pub inner : AreInner between
-  pub joined : body ≡ flat_map (λ line. line) between
+  pub joined : body ≡ concat between
 
 is_end_or_not : (line other : List ℕ) → ((bytes_eq line other ≡ true) × (line ≡ other)) ⊎ ((bytes_eq line other ≡ false) × (line ≢ other))
 is_end_or_not line other = elim (cases_Bool (bytes_eq line other)) [
@@ -49,7 +49,7 @@ body_found (line ∷ lines) x e = elim (is_end_or_not line end_line) [
       }
 ]
 
-body_again : (between after : List (List ℕ)) → AreInner between → body_of (between ++ end_line ∷ after) ≡ Some (flat_map (λ line. line) between)
+body_again : (between after : List (List ℕ)) → AreInner between → body_of (between ++ end_line ∷ after) ≡ Some (concat between)
 body_again [] after inner = refl
 body_again (line ∷ between) after inner = elim (is_end_or_not line end_line) [
   | inl same ↦ absurd (inner.0 same.1)

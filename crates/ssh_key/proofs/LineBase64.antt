@@ -11,8 +11,10 @@ use Rattle.base64.specs.GeneralPurpose.{decode_of, engine_symbols}
 use Rattle.base64.specs.Rfc4648.{encode_group, encode_symbols, padding_len}
 use Rattle.base64.specs.declared.decode.DecodeError.{DecodeError}
 use Rattle.ssh_wire.specs.Wire.{IsBytes}
+use Rattle.ssh_wire.specs.Reading.{in_fault}
+use Rattle.ssh_wire.specs.Steps.{in_fault_ok}
 use Rattle.ssh_key.specs.KeyLine.{base64}
-use Rattle.ssh_key.specs.LineReading.{decoded, or_base64}
+use Rattle.ssh_key.specs.LineReading.{decoded, no_base64}
 use Rattle.ssh_key.specs.declared.line_fault.LineFault.TheVariants.{Base64}
 use Rattle.ssh_key.proofs.DecodedBytes.{IsBytes-decoded}
 use Rattle.ssh_key.proofs.LineWords.{not_blank}
@@ -81,24 +83,20 @@ base64_some (byte ∷ bytes) some =
 
 pub decoded_again : (bytes : List ℕ) → IsBytes bytes → decoded (base64 bytes) ≡ Ok bytes
 unfolding decoded base64
-decoded_again bytes fits = ap or_base64 (decode_of-encode_of standard bytes refl fits)
-
-or_base64_ok : (read : Result (List ℕ) DecodeError) (bytes : List ℕ) → or_base64 read ≡ Ok bytes → read ≡ Ok bytes
-or_base64_ok (Err error) bytes e = absurd cc
-or_base64_ok (Ok found) bytes e = let same : found ≡ bytes = cc in ap (λ (xs : List ℕ). Ok xs) same
+decoded_again bytes fits = ap (in_fault no_base64) (decode_of-encode_of standard bytes refl fits)
 
 pub decoded_takes : (text bytes : List ℕ) → IsBytes text → decoded text ≡ Ok bytes → text ≡ base64 bytes
 unfolding decoded base64
-decoded_takes text bytes fits e = decode_of_strict standard text bytes (refl, refl) fits (or_base64_ok (decode_of standard text) bytes e)
+decoded_takes text bytes fits e = decode_of_strict standard text bytes (refl, refl) fits (in_fault_ok no_base64 (decode_of standard text) bytes e)
 
 pub decoded_bytes : (text bytes : List ℕ) → IsBytes text → decoded text ≡ Ok bytes → IsBytes bytes
 unfolding decoded
-decoded_bytes text bytes fits e = IsBytes-decoded text bytes fits (or_base64_ok (decode_of standard text) bytes e)
+decoded_bytes text bytes fits e = IsBytes-decoded text bytes fits (in_fault_ok no_base64 (decode_of standard text) bytes e)
 
-or_base64_cases : (read : Result (List ℕ) DecodeError) → (or_base64 read ≡ Err Base64) ⊎ ((bytes : List ℕ) × (or_base64 read ≡ Ok bytes))
-or_base64_cases (Err error) = inl refl
-or_base64_cases (Ok bytes) = inr (bytes, refl)
+cases : (read : Result (List ℕ) DecodeError) → (in_fault no_base64 read ≡ Err Base64) ⊎ ((bytes : List ℕ) × (in_fault no_base64 read ≡ Ok bytes))
+cases (Err error) = inl refl
+cases (Ok bytes) = inr (bytes, refl)
 
 pub decoded_cases : (text : List ℕ) → (decoded text ≡ Err Base64) ⊎ ((bytes : List ℕ) × (decoded text ≡ Ok bytes))
 unfolding decoded
-decoded_cases text = or_base64_cases (decode_of standard text)
+decoded_cases text = cases (decode_of standard text)

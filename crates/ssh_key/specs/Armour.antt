@@ -1,7 +1,7 @@
 -- The text form of a private container: base64 between two lines (OpenSSH's PROTOCOL.key).
 use Rattle.std.specs.Prelude.{◌≡◌, ◌≢◌, ℕ, Bool, false, List, [], ◌∷◌, ◌++◌, codes, map, option_map, Option, Some, None, if◌then◌else◌}
 use Rattle.std.specs.Borrow.{Bor}
-use Rattle.std.specs.List.{flat_map, slice_split}
+use Rattle.std.specs.List.{concat, slice_split}
 use Rattle.std.specs.Str.{bytes_eq}
 use Rattle.ssh_key.specs.Blanks.{before_ending}
 use Rattle.ssh_key.specs.Lines.{is_newline, lines_left}
@@ -40,7 +40,7 @@ pub record IsArmour (text body : List ℕ) : Type 0 where
   pub after : List (List ℕ)
   pub lines : lines_of text ≡ begin_line ∷ (between ++ end_line ∷ after)
   pub inner : AreInner between
-  pub joined : body ≡ flat_map (λ line. line) between
+  pub joined : body ≡ concat between
 
 -- the lines before the first end line, joined
 abbrev pub body_of : List (List ℕ) → Option (List ℕ)

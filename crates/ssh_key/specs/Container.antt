@@ -24,8 +24,8 @@ magic = codes "openssh-key-v1" ++ 0 ∷ []
 
 -- ---- the judgements
 
-abbrev pub unless : PrivateFault → Bool → Option PrivateFault
-unless fault holds = if holds then None else Some fault
+abbrev pub fault_unless : PrivateFault → Bool → Option PrivateFault
+fault_unless fault holds = if holds then None else Some fault
 
 -- cipher, derivation and options of a container that is not encrypted
 abbrev pub is_plain : List ℕ → List ℕ → List ℕ → Bool
@@ -35,11 +35,11 @@ is_plain cipher derivation options =
 
 abbrev pub plain : List (List ℕ) → Option PrivateFault
 plain (cipher ∷ derivation ∷ options ∷ []) =
-    unless faults.Encrypted (is_plain cipher derivation options)
+    fault_unless faults.Encrypted (is_plain cipher derivation options)
 plain values = Some faults.Encrypted
 
 abbrev pub one_key : List (List ℕ) → Option PrivateFault
-one_key (cipher ∷ kdf ∷ options ∷ count ∷ []) = unless faults.KeyCount (slice_index count 0 == 1)
+one_key (cipher ∷ kdf ∷ options ∷ count ∷ []) = fault_unless faults.KeyCount (slice_index count 0 == 1)
 one_key values = Some faults.KeyCount
 
 abbrev pub why_no_key : Result Key KeyFault → Option PrivateFault
@@ -51,17 +51,17 @@ public_key (cipher ∷ kdf ∷ options ∷ count ∷ blob ∷ []) = why_no_key (
 public_key values = Some faults.KeyCount
 
 abbrev pub same_check : List (List ℕ) → Option PrivateFault
-same_check (check ∷ again ∷ []) = unless faults.Check (slice_index check 0 == slice_index again 0)
+same_check (check ∷ again ∷ []) = fault_unless faults.Check (slice_index check 0 == slice_index again 0)
 same_check values = Some faults.Check
 
 abbrev pub same_type : Kind → List (List ℕ) → Option PrivateFault
 same_type kind (check ∷ again ∷ name ∷ []) =
-    unless faults.PublicDiffers (bytes_eq name (type_name kind))
+    fault_unless faults.PublicDiffers (bytes_eq name (type_name kind))
 same_type kind values = Some faults.PublicDiffers
 
 -- the private part of an Ed25519 key
 abbrev pub of_64_bytes : List (List ℕ) → Option PrivateFault
-of_64_bytes (public ∷ secret ∷ []) = unless (faults.Key keys.Length) (length secret == 64)
+of_64_bytes (public ∷ secret ∷ []) = fault_unless (faults.Key keys.Length) (length secret == 64)
 of_64_bytes values = Some (faults.Key keys.Length)
 
 -- ---- the rows

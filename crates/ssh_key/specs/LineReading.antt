@@ -5,7 +5,7 @@ use Rattle.std.specs.Str.{bytes_eq}
 use Rattle.base64.specs.Engines.{standard}
 use Rattle.base64.specs.GeneralPurpose.{decode_of}
 use Rattle.base64.specs.declared.decode.DecodeError.{DecodeError}
-use Rattle.ssh_wire.specs.Reading.{string_at}
+use Rattle.ssh_wire.specs.Reading.{in_fault, string_at}
 use Rattle.ssh_wire.specs.declared.fault.WireFault.{WireFault}
 use Rattle.ssh_key.specs.declared.line.Line.{Line}
 use Rattle.ssh_key.specs.declared.line_fault.LineFault.{LineFault}
@@ -26,17 +26,13 @@ content word blob comment = record { word = word; blob = blob; comment = comment
 abbrev pub content_of : Line → Content
 content_of line = content line.word.now line.blob line.comment.now
 
--- What a function returned, seen by view, is what reading gives, unless memory ran out. Where no
--- key stands, no memory was asked for.
-abbrev pub GivesFault : {Y : Type 0} → LineFault → Result Y LineFault → Type 0
-GivesFault NoMemory read = read ≢ Err NoKey
-GivesFault NoKey read = read ≡ Err NoKey
-GivesFault Base64 read = read ≡ Err Base64
-GivesFault WordDiffers read = read ≡ Err WordDiffers
-
-abbrev pub Gives : {X Y : Type 0} → (X → Y) → Result X LineFault → Result Y LineFault → Type 0
-Gives view (Ok x) read = read ≡ Ok (view x)
-Gives view (Err fault) read = GivesFault fault read
+-- A fault is the one that reading gives, unless memory ran out. Where no key stands, no memory was
+-- asked for.
+abbrev pub TellsFault : {Y : Type 0} → LineFault → Result Y LineFault → Type 0
+TellsFault NoMemory read = read ≢ Err NoKey
+TellsFault NoKey read = read ≡ Err NoKey
+TellsFault Base64 read = read ≡ Err Base64
+TellsFault WordDiffers read = read ≡ Err WordDiffers
 
 -- what stands after the first word
 unfoldable pub after_word : List ℕ → List ℕ
@@ -55,12 +51,12 @@ after_options quoted escaped (byte ∷ rest) =
     else after_options (quoted_behind quoted escaped byte) (byte == backslash) rest
 
 -- the line, if a type name is its first word
-unfoldable pub part_at : List ℕ → Option (List ℕ)
-part_at line = if is_type_name (first_word line) then Some line else None
+unfoldable pub named_part : List ℕ → Option (List ℕ)
+named_part line = if is_type_name (first_word line) then Some line else None
 
 abbrev pub part_behind : Option (List ℕ) → Option (List ℕ)
 part_behind None = None
-part_behind (Some rest) = part_at (after_blanks rest)
+part_behind (Some rest) = named_part (after_blanks rest)
 
 -- the line from its type word on
 unfoldable pub key_part : List ℕ → Option (List ℕ)
@@ -68,12 +64,11 @@ key_part line =
     if is_type_name (first_word line) then Some line
     else part_behind (after_options false false line)
 
-abbrev pub or_base64 : Result (List ℕ) DecodeError → Result (List ℕ) LineFault
-or_base64 (Err error) = Err Base64
-or_base64 (Ok bytes) = Ok bytes
+abbrev pub no_base64 : DecodeError → LineFault
+no_base64 error = Base64
 
 unfoldable pub decoded : List ℕ → Result (List ℕ) LineFault
-decoded text = or_base64 (decode_of standard text)
+decoded text = in_fault no_base64 (decode_of standard text)
 
 -- the first string of the key is the word
 abbrev pub is_string : List ℕ → Result (List ℕ × List ℕ) WireFault → Bool

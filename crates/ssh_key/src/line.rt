@@ -2,11 +2,12 @@
 
 ghost use Rattle.std.specs.Prelude.{◌≡◌, ℕ, List, IfErr, IfOk, Ok, option_map};
 ghost use Rattle.ssh_wire.specs.Wire.{IsBytes};
+ghost use Rattle.ssh_wire.specs.Reading.{Answers};
 ghost use Rattle.ssh_key.specs.Blanks.{first_word};
 ghost use Rattle.ssh_key.specs.KeyLine.{IsKeyLine};
 ghost use Rattle.ssh_key.specs.TypeName.{is_type_name};
 ghost use Rattle.ssh_key.specs.LineFaults.{IsToldFault};
-ghost use Rattle.ssh_key.specs.LineReading.{Gives, blob_at, content, content_of, decoded, has_word, key_part, line_at};
+ghost use Rattle.ssh_key.specs.LineReading.{TellsFault, blob_at, content, content_of, decoded, has_word, key_part, line_at};
 
 use crate::line_fault::LineFault;
 use crate::type_name::is_type_name;
@@ -48,18 +49,18 @@ pub fn read_line<'a>(alloc: Global, text: &'a [u8]) -> Result<Line<'a>, LineFaul
         IsKeyLine text.now line.word.now line.blob line.comment.now) }
     // Each key line is read, unless memory runs out.
     ensures only { (word blob comment : List ℕ) → IsKeyLine text.now word blob comment
-        → Gives content_of result (Ok (content word blob comment)) }
+        → Answers TellsFault content_of result (Ok (content word blob comment)) }
     // The fault is the first one of the text, unless memory runs out.
     ensures fault { IfErr result (λ fault. IsToldFault text.now fault) }
     // The same, for those who compute with the answer.
-    ensures exact { Gives content_of result (line_at text.now) }
+    ensures exact { Answers TellsFault content_of result (line_at text.now) }
 {
     read_content(alloc, text)
 }
 
 #[tactic(auto, unfolding(crate::specs::LineReading::line_at))]
 fn read_content<'a>(alloc: Global, text: &'a [u8]) -> Result<Line<'a>, LineFault>
-    ensures exact { Gives content_of result (line_at text.now) }
+    ensures exact { Answers TellsFault content_of result (line_at text.now) }
     ensures bytes { IfOk result (λ line. IsBytes line.blob) }
 {
     let part = key_part(trimmed(text)).ok_or(LineFault::NoKey)?;
@@ -68,7 +69,7 @@ fn read_content<'a>(alloc: Global, text: &'a [u8]) -> Result<Line<'a>, LineFault
 }
 
 /// The line from its type word on, if it has one.
-#[tactic(auto, unfolding(crate::specs::LineReading::key_part, crate::specs::LineReading::part_at))]
+#[tactic(auto, unfolding(crate::specs::LineReading::key_part, crate::specs::LineReading::named_part))]
 fn key_part(line: &[u8]) -> Option<&[u8]>
     ensures { option_map (λ part. part.now) result ≡ key_part line.now }
 {
@@ -93,7 +94,7 @@ fn begins_with_name(line: &[u8]) -> bool
 /// The key's bytes and the comment, from behind the type word and blanks on.
 #[tactic(auto, unfolding(crate::specs::LineReading::blob_at))]
 fn read_blob<'a>(alloc: Global, word: &'a [u8], rest: &'a [u8]) -> Result<Line<'a>, LineFault>
-    ensures exact { Gives content_of result (blob_at word.now rest.now) }
+    ensures exact { Answers TellsFault content_of result (blob_at word.now rest.now) }
     ensures bytes { IfOk result (λ line. IsBytes line.blob) }
 {
     if rest.is_empty() {
@@ -114,7 +115,7 @@ fn read_blob<'a>(alloc: Global, word: &'a [u8], rest: &'a [u8]) -> Result<Line<'
 /// The bytes of base64 with padding, whose unused bits are zero.
 #[tactic(auto, unfolding(crate::specs::LineReading::decoded))]
 fn decoded(alloc: Global, base64: &[u8]) -> Result<Vec<u8>, LineFault>
-    ensures exact { Gives (λ bytes. bytes.items) result (decoded base64.now) }
+    ensures exact { Answers TellsFault (λ bytes. bytes.items) result (decoded base64.now) }
     ensures bytes { IfOk result (λ bytes. IsBytes bytes.items) }
 {
     STANDARD.decode(alloc, base64).map_err(|error| match error {

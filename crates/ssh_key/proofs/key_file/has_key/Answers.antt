@@ -1,8 +1,5 @@
-use Rattle.std.proofs.Common.{ℕ, ◌-◌, ◌≤◌, List, length, ap, arith, rules}
-use Rattle.std.proofs.lemmas.List.{length-drop, length-take}
-use Rattle.std.specs.List.{prefix_len, suffix_len}
+use Rattle.std.proofs.Common.{length, ap, arith, rules}
 use Rattle.ssh_key.specs.Trimmed.{length-trimmed}
-use Rattle.ssh_key.specs.Blanks.{after_blanks, before_ending, is_blank, is_ending, trimmed}
 use Rattle.ssh_key.specs.KeyFile.{has_key}
 use Rattle.ssh_key.proofs.key_file.has_key.Goals as goal
 
