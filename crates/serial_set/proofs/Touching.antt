@@ -6,7 +6,7 @@ use Rattle.std.proofs.lemmas.List.Elements.{All-nil, All-head, All-tail, All-tak
 use Rattle.std.proofs.lemmas.List.{drop-drop, take-append-drop, get_or-take, get_or-drop, get_or_default}
 use Rattle.std.proofs.lemmas.Slice.{between_is}
 use Rattle.serial_set.specs.declared.span.Span.{Span}
-use Rattle.serial_set.specs.Span.{SpanCovers, Covers, RunsFrom, IsRuns, IsRunsOf, TouchesNone}
+use Rattle.serial_set.specs.Span.{SpanCovers, Covers, RunsFrom, IsRuns, TouchesNone, AddsSpan}
 use Rattle.serial_set.specs.Rising.{names_append, names_left, names_right, RunsFrom-weaker, runs_front, runs_middle, runs_apart, runs_join}
 
 -- where the last span of `m ∷ ms` ends
@@ -88,7 +88,7 @@ joined_runs lo hi xs (m ∷ ms) ys r h below above =
     (omega arith, omega arith, RunsFrom-weaker _ (max hi (last_end m ms) + 2) ys (omega arith) (runs_above (last_end m ms + 2) (hi + 1) ys behind above))
 
 pub joined_runs_of : (lo hi : ℕ) (xs ms ys : List Span) → RunsFrom 0 (xs ++ (ms ++ ys)) → lo ≤ hi → All (λ t. t.hi + 1 < lo) xs → All (λ t. lo ≤ t.hi + 1) ms → All (λ t. t.lo ≤ hi + 1) ms → All (λ t. hi + 1 < t.lo) ys
-    → IsRunsOf (xs ++ joined lo hi ms ∷ ys) (λ s. Covers (xs ++ (ms ++ ys)) s ⊎ ((lo ≤ s) × (s ≤ hi)))
+    → AddsSpan (xs ++ (ms ++ ys)) lo hi (xs ++ joined lo hi ms ∷ ys)
 joined_runs_of lo hi xs ms ys r h below end begin above =
     let back = runs_back 0 xs (ms ++ ys) r in
     let inner = runs_front 0 ms ys back in (
@@ -133,18 +133,18 @@ three_parts xs first end h =
     ∙ take-append-drop first xs
 
 added_parts : (xs : List Span) (lo hi first end : ℕ) → first ≤ end → IsRuns xs → lo ≤ hi → All (λ t. t.hi < lo - 1) (take first xs) → All (λ t. lo - 1 ≤ t.hi) (drop first xs) → All (λ t. t.lo ≤ hi + 1) (take end xs) → All (λ t. hi + 1 < t.lo) (drop end xs)
-    → IsRunsOf (take first xs ++ joined lo hi (take (end - first) (drop first xs)) ∷ drop end xs) (λ s. Covers xs s ⊎ ((lo ≤ s) × (s ≤ hi)))
+    → AddsSpan xs lo hi (take first xs ++ joined lo hi (take (end - first) (drop first xs)) ∷ drop end xs)
 added_parts xs lo hi first end h runs ordered below from begin above =
     let parts = three_parts xs first end h in
     let ms = take (end - first) (drop first xs) in
     let whole : RunsFrom 0 (take first xs ++ (ms ++ drop end xs)) = subst (RunsFrom 0) (sym parts) runs in
-    subst (λ l. IsRunsOf (take first xs ++ joined lo hi ms ∷ drop end xs) (λ s. Covers l s ⊎ ((lo ≤ s) × (s ≤ hi)))) parts
+    subst (λ l. AddsSpan l lo hi (take first xs ++ joined lo hi ms ∷ drop end xs)) parts
     (joined_runs_of lo hi (take first xs) ms (drop end xs) whole ordered (λ k d q. let at = below k d q in omega arith)
     (λ k d q. let at = All-take (λ t. lo - 1 ≤ t.hi) (end - first) (drop first xs) from k d q in omega arith)
     (subst (All (λ t. t.lo ≤ hi + 1)) (sym (between_is xs first end)) (All-drop (λ t. t.lo ≤ hi + 1) first (take end xs) begin)) above)
 
 pub added_joined : (xs ys : List Span) (lo hi first end : ℕ) (a b : Span) → first < end → end ≤ length xs → IsRuns xs → lo ≤ hi → All (λ t. t.hi < lo - 1) (take first xs) → All (λ t. lo - 1 ≤ t.hi) (drop first xs) → All (λ t. t.lo ≤ hi + 1) (take end xs) → All (λ t. hi + 1 < t.lo) (drop end xs)
-    → a ≡ get_or xs first a → b ≡ get_or xs (end - 1) b → ys ≡ take first xs ++ record { lo = min lo a.lo; hi = max hi b.hi } ∷ drop end xs → IsRunsOf ys (λ s. Covers xs s ⊎ ((lo ≤ s) × (s ≤ hi)))
+    → a ≡ get_or xs first a → b ≡ get_or xs (end - 1) b → ys ≡ take first xs ++ record { lo = min lo a.lo; hi = max hi b.hi } ∷ drop end xs → AddsSpan xs lo hi ys
 added_joined xs ys lo hi first end a b h within runs ordered below from begin above at_a at_b new =
     let ms = take (end - first) (drop first xs) in
     let len : length ms ≡ end - first = omega (arith, length-take (end - first) (drop first xs), length-drop first xs) in
@@ -159,10 +159,10 @@ added_joined xs ys lo hi first end a b h within runs ordered below from begin ab
     joined-is lo hi ms a (omega arith) ∙ ap (λ (t : Span). record { lo = min lo t.lo; hi = max hi (get_or ms (length ms - 1) a).hi }) begins
     ∙ ap (λ (t : Span). record { lo = min lo a.lo; hi = max hi t.hi }) ends in
     let all : ys ≡ take first xs ++ joined lo hi ms ∷ drop end xs = new ∙ ap (λ t. take first xs ++ t ∷ drop end xs) (sym span) in
-    subst (λ l. IsRunsOf l (λ s. Covers xs s ⊎ ((lo ≤ s) × (s ≤ hi)))) (sym all) (added_parts xs lo hi first end (omega arith) runs ordered below from begin above)
+    subst (λ l. AddsSpan xs lo hi l) (sym all) (added_parts xs lo hi first end (omega arith) runs ordered below from begin above)
 
 pub added_apart : (xs ys : List Span) (lo hi first end : ℕ) → end ≤ first → IsRuns xs → lo ≤ hi → All (λ t. t.hi < lo - 1) (take first xs) → All (λ t. hi + 1 < t.lo) (drop end xs) → ys ≡ take first xs ++ record { lo = lo; hi = hi } ∷ drop first xs
-    → IsRunsOf ys (λ s. Covers xs s ⊎ ((lo ≤ s) × (s ≤ hi)))
+    → AddsSpan xs lo hi ys
 added_apart xs ys lo hi first end h runs ordered below above new =
     let place : end + (first - end) ≡ first = omega arith in
     let behind : drop (first - end) (drop end xs) ≡ drop first xs = drop-drop (first - end) end xs ∙ ap (λ n. drop n xs) place in
@@ -170,8 +170,8 @@ added_apart xs ys lo hi first end h runs ordered below above new =
     let parts = take-append-drop first xs in
     let whole : RunsFrom 0 (take first xs ++ drop first xs) = subst (RunsFrom 0) (sym parts) runs in
     let done = joined_runs_of lo hi (take first xs) [] (drop first xs) whole ordered (λ k d q. let at = below k d q in omega arith) (All-nil (λ t. lo ≤ t.hi + 1)) (All-nil (λ t. t.lo ≤ hi + 1)) past in
-    subst (λ l. IsRunsOf l (λ s. Covers xs s ⊎ ((lo ≤ s) × (s ≤ hi)))) (sym new)
-    (subst (λ l. IsRunsOf (take first xs ++ record { lo = lo; hi = hi } ∷ drop first xs) (λ s. Covers l s ⊎ ((lo ≤ s) × (s ≤ hi)))) parts done)
+    subst (λ l. AddsSpan xs lo hi l) (sym new)
+    (subst (λ l. AddsSpan l lo hi (take first xs ++ record { lo = lo; hi = hi } ∷ drop first xs)) parts done)
 
 -- what lies between the two places is nothing, so no span touches the interval
 pub apart_touches_none : (xs : List Span) (lo hi first end : ℕ) → end ≤ first → All (λ t. t.hi < lo - 1) (take first xs) → All (λ t. hi + 1 < t.lo) (drop end xs) → TouchesNone xs lo hi

@@ -4,7 +4,7 @@ use Rattle.std.specs.List.{All, filter}
 use Rattle.std.proofs.lemmas.Bool.{cases_lt, ltb-true, lt-ltb}
 use Rattle.std.proofs.lemmas.List.Elements.{All-cons, All-append, All-head, All-tail, All-filter, filter_passes}
 use Rattle.serial_set.specs.declared.span.Span.{Span}
-use Rattle.serial_set.specs.Span.{Covers, SpanCovers, RunsFrom, IsRuns, IsRunsOf, TouchesNone, AreSerials}
+use Rattle.serial_set.specs.Span.{Covers, SpanCovers, RunsFrom, IsRuns, TouchesNone, AreSerials, AddsSpan}
 use Rattle.serial_set.specs.Pages.{below, above, replaced, CutsNone, MissesAll, IsFirstFrom, IsWidened}
 use Rattle.serial_set.specs.Rising.{names_append, names_left, names_right, RunsFrom-weaker, runs_middle, runs_apart, runs_join, runs_raise, names_at, names_from, runs_at}
 use Rattle.serial_set.proofs.InPage.{runs_each}
@@ -215,7 +215,7 @@ kept new (x ∷ xs) s each cuts n =
       ]
     ]
 
-pub widened_runs : (xs ys : List Span) (lo hi : ℕ) (new : Span) → IsRuns xs → lo ≤ hi → IsWidened xs lo hi new → ys ≡ replaced xs new → IsRunsOf ys (λ s. Covers xs s ⊎ ((lo ≤ s) × (s ≤ hi)))
+pub widened_runs : (xs ys : List Span) (lo hi : ℕ) (new : Span) → IsRuns xs → lo ≤ hi → IsWidened xs lo hi new → ys ≡ replaced xs new → AddsSpan xs lo hi ys
 widened_runs xs ys lo hi new r ordered w is =
     let each = runs_each 0 xs r in
     let from : new.lo ≤ lo = IsWidened.from w in
@@ -227,7 +227,7 @@ widened_runs xs ys lo hi new r ordered w is =
     let low : RunsFrom 0 (below new.lo xs) = runs_filter (λ t. nat_lt t.hi new.lo) 0 xs r in
     let high : RunsFrom (new.hi + 2) (above new.hi xs) = runs_raise 0 (new.hi + 2) (above new.hi xs) (runs_filter (λ t. nat_lt new.hi t.lo) 0 xs r) begins in
     let rising : RunsFrom 0 (replaced xs new) = runs_join 0 new.lo (below new.lo xs) (new ∷ above new.hi xs) (omega arith) low ends (omega arith, omega arith, high) in
-    subst (λ l. IsRunsOf l (λ s. Covers xs s ⊎ ((lo ≤ s) × (s ≤ hi)))) (sym is) (
+    subst (λ l. AddsSpan xs lo hi l) (sym is) (
       rising,
       λ s. (
         λ n. elim (names_append (below new.lo xs) (new ∷ above new.hi xs) s n) [

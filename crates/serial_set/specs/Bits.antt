@@ -45,8 +45,12 @@ BitNames-split base bits byte s h n =
       | inl low ↦ inr (n.0, n.1, sym (bit_at_cat_low bits 8 byte (s - base) low) ∙ n.2)
       | inr high ↦ (
           let place : s - base - 8 ≡ s - (base + 8) = omega arith in
-          inl (n.0, omega arith, ap (λ i. bit_at bits i) (sym place)
-          ∙ sym (bit_at_cat_high bits 8 byte (s - base) h high) ∙ n.2))
+          inl (
+            n.0,
+            omega arith,
+            ap (λ i. bit_at bits i) (sym place)
+                ∙ sym (bit_at_cat_high bits 8 byte (s - base) h high) ∙ n.2,
+          ))
     ]
 
 pub BitNames-join : (base bits byte s : ℕ) → byte < 256
@@ -54,9 +58,12 @@ pub BitNames-join : (base bits byte s : ℕ) → byte < 256
 BitNames-join base bits byte s h n =
     elim n [
       | inl up ↦ (
-          let place : s - base - 8 ≡ s - (base + 8) = omega arith in
-          (up.0, omega arith, bit_at_cat_high bits 8 byte (s - base) h (omega arith)
-          ∙ ap (λ i. bit_at bits i) place ∙ up.2))
+          let place : s - base - 8 ≡ s - (base + 8) = omega arith in (
+            up.0,
+            omega arith,
+            bit_at_cat_high bits 8 byte (s - base) h (omega arith)
+                ∙ ap (λ i. bit_at bits i) place ∙ up.2,
+          ))
       | inr here ↦ (
           let low : s - base < 8 = bit_below byte 8 (s - base) h here.2 in
           (here.0, here.1, bit_at_cat_low bits 8 byte (s - base) low ∙ here.2))

@@ -126,8 +126,13 @@ least_from a (x ∷ xs) others r to from =
       | inl here ↦ absurd (omega (arith, here.1))
       | inr later ↦ later
     ]) in
-    omega (arith, rest, ap length f.parts, length-append f.front f.back,
-    length-append f.front (f.span ∷ f.back))
+    omega (
+      arith,
+      rest,
+      ap length f.parts,
+      length-append f.front f.back,
+      length-append f.front (f.span ∷ f.back),
+    )
 
 pub runs_least : (runs others : List Span) → IsRuns runs
     → ((s : ℕ) → Covers runs s ↔ Covers others s) → length runs ≤ length others

@@ -26,6 +26,10 @@ IsRuns spans = RunsFrom 0 spans
 abbrev pub IsRunsOf : List Span → (ℕ → Type 0) → Type 0
 IsRunsOf spans Member = IsRuns spans × ((s : ℕ) → Covers spans s ↔ Member s)
 
+-- the list of runs of the numbers of another list, and of those from lo to hi
+abbrev pub AddsSpan : List Span → ℕ → ℕ → List Span → Type 0
+AddsSpan old lo hi new = IsRunsOf new (λ s. Covers old s ⊎ ((lo ≤ s) × (s ≤ hi)))
+
 -- no span of the list has a number in it that is from lo to hi, or beside one of these
 abbrev pub TouchesNone : List Span → ℕ → ℕ → Type 0
 TouchesNone spans lo hi = All (λ span. (span.hi + 1 < lo) ⊎ (hi + 1 < span.lo)) spans

@@ -1,6 +1,6 @@
 //! Membership and additions, over whatever keeps the list.
 ghost use Rattle.std.specs.Prelude.{◌≡◌, ◌+◌, ◌^◌, ◌<◌, ◌≤◌, ◌⊎◌, ◌↔◌, ℕ, length, false, All, IsTrue, OnOk, OnErr};
-ghost use Rattle.serial_set.specs.Span.{Covers, IsRuns, IsRunsOf, TouchesNone, AreSerials};
+ghost use Rattle.serial_set.specs.Span.{AddsSpan, AreSerials, Covers, IsRuns, TouchesNone};
 ghost use Rattle.serial_set.specs.Pages.{replaced, CutsNone, IsWidened};
 
 use crate::part::Part;
@@ -27,8 +27,7 @@ pub fn add_to<P: Part>(part: &mut P, lo: u64, hi: u64) -> Result<(), AllocError>
     requires serials { AreSerials (P.spans part.old) }
     requires from_one { 0 < lo }
     requires ordered { lo ≤ hi }
-    ensures runs { OnOk result
-        (IsRunsOf (P.spans part.new) (λ s. Covers (P.spans part.old) s ⊎ ((lo ≤ s) × (s ≤ hi)))) }
+    ensures runs { OnOk result (AddsSpan (P.spans part.old) lo hi (P.spans part.new)) }
     ensures one_more { length (P.spans part.new) ≤ length (P.spans part.old) + 1 }
     ensures refused { OnErr result (P.spans part.new ≡ P.spans part.old) }
     ensures needs_room { OnErr result (TouchesNone (P.spans part.old) lo hi) }
@@ -45,8 +44,7 @@ fn add_apart<P: Part>(part: &mut P, lo: u64, hi: u64) -> bool
     requires serials { AreSerials (P.spans part.old) }
     requires from_one { 0 < lo }
     requires ordered { lo ≤ hi }
-    ensures runs { IsTrue result
-        → IsRunsOf (P.spans part.new) (λ s. Covers (P.spans part.old) s ⊎ ((lo ≤ s) × (s ≤ hi))) }
+    ensures runs { IsTrue result → AddsSpan (P.spans part.old) lo hi (P.spans part.new) }
     ensures one_more { length (P.spans part.new) ≤ length (P.spans part.old) + 1 }
     ensures same { result ≡ false → P.spans part.new ≡ P.spans part.old }
 {
@@ -62,8 +60,7 @@ fn add_widened<P: Part>(part: &mut P, lo: u64, hi: u64) -> Result<(), AllocError
     requires serials { AreSerials (P.spans part.old) }
     requires from_one { 0 < lo }
     requires ordered { lo ≤ hi }
-    ensures runs { OnOk result
-        (IsRunsOf (P.spans part.new) (λ s. Covers (P.spans part.old) s ⊎ ((lo ≤ s) × (s ≤ hi)))) }
+    ensures runs { OnOk result (AddsSpan (P.spans part.old) lo hi (P.spans part.new)) }
     ensures one_more { length (P.spans part.new) ≤ length (P.spans part.old) + 1 }
     ensures refused { OnErr result (P.spans part.new ≡ P.spans part.old) }
     ensures needs_room { OnErr result (TouchesNone (P.spans part.old) lo hi) }

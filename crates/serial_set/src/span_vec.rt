@@ -1,6 +1,6 @@
 ghost use Rattle.std.specs.Prelude.{◌≡◌, ◌+◌, ◌<◌, ◌≤◌, ◌⊎◌, ◌∷◌, ◌++◌, length, take, drop, OnOk, OnErr};
 ghost use Rattle.std.specs.Vec.{vec_len, vec_capacity};
-ghost use Rattle.serial_set.specs.Span.{Covers, IsRuns, IsRunsOf, TouchesNone, AreSerials, RunsFrom-prop};
+ghost use Rattle.serial_set.specs.Span.{AddsSpan, AreSerials, IsRuns, RunsFrom-prop, TouchesNone};
 
 use crate::place::{count_beginning_by, count_ending_before};
 use crate::span::Span;
@@ -31,9 +31,7 @@ impl Spans for SpanVec {
     fn add(&mut self, lo: u64, hi: u64) -> Result<(), AllocError>
         requires from_one { 0 < lo }
         requires ordered { lo ≤ hi }
-        ensures runs { OnOk result
-            (IsRunsOf self.new.items.items
-            (λ s. Covers self.old.items.items s ⊎ ((lo ≤ s) × (s ≤ hi)))) }
+        ensures runs { OnOk result (AddsSpan self.old.items.items lo hi self.new.items.items) }
         ensures one_more { vec_len self.new.items ≤ vec_len self.old.items + 1 }
         ensures refused { OnErr result (self.new.items.items ≡ self.old.items.items) }
         ensures needs_room { OnErr result (TouchesNone self.old.items.items lo hi) }
@@ -66,8 +64,7 @@ fn add_to(items: &mut Vec<Span>, lo: u64, hi: u64) -> Result<(), AllocError>
     requires runs { IsRuns items.old.items }
     requires from_one { 0 < lo }
     requires ordered { lo ≤ hi }
-    ensures runs { OnOk result
-        (IsRunsOf items.new.items (λ s. Covers items.old.items s ⊎ ((lo ≤ s) × (s ≤ hi)))) }
+    ensures runs { OnOk result (AddsSpan items.old.items lo hi items.new.items) }
     ensures one_more { length items.new.items ≤ length items.old.items + 1 }
     ensures refused { OnErr result (items.new.items ≡ items.old.items) }
     ensures needs_room { OnErr result (TouchesNone items.old.items lo hi) }

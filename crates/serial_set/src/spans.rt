@@ -1,6 +1,6 @@
 ghost use Rattle.std.specs.Prelude.{◌≡◌, ◌+◌, ◌<◌, ◌≤◌, ◌⊎◌, ◌↔◌, ℕ, List, [], length, take, drop, Some, slice_get, IsTrue, IfOk, OnOk, OnErr};
 ghost use Rattle.serial_set.specs.declared.span.Span.{Span};
-ghost use Rattle.serial_set.specs.Span.{Covers, IsRuns, IsRunsOf, TouchesNone, AreSerials};
+ghost use Rattle.serial_set.specs.Span.{AddsSpan, AreSerials, Covers, IsRuns, TouchesNone};
 
 use crate::span::Span;
 use std::alloc::{AllocError, Global};
@@ -20,8 +20,7 @@ pub trait Spans: Drop {
     fn add(&mut self, lo: u64, hi: u64) -> Result<(), AllocError>
         requires from_one { 0 < lo }
         requires ordered { lo ≤ hi }
-        ensures runs { OnOk result
-            (IsRunsOf (spans self.new) (λ s. Covers (spans self.old) s ⊎ ((lo ≤ s) × (s ≤ hi)))) }
+        ensures runs { OnOk result (AddsSpan (spans self.old) lo hi (spans self.new)) }
         ensures one_more { length (spans self.new) ≤ length (spans self.old) + 1 }
         ensures refused { OnErr result (spans self.new ≡ spans self.old) }
         ensures needs_room { OnErr result (TouchesNone (spans self.old) lo hi) };

@@ -10,7 +10,7 @@ use Rattle.ssh_key.specs.declared.line_fault.LineFault.TheVariants.{NoKey}
 use Rattle.ssh_key.specs.Blanks.{after_blanks, first_word, is_blank, trimmed}
 use Rattle.ssh_key.specs.KeyLine.{AreWords, AreWordsBehindOptions, HasWords}
 use Rattle.ssh_key.specs.LineFaults.{HasSomeWords}
-use Rattle.ssh_key.specs.LineReading.{Content, after_options, after_word, blob_at, checked, content_at, decoded, key_part, line_at, named_part, part_behind}
+use Rattle.ssh_key.specs.LineReading.{Content, after_options, after_word, blob_at, checked, content_at, decoded, key_part, line_at, typed, part_behind}
 use Rattle.ssh_key.specs.TypeName.{is_type_name, type_names}
 use Rattle.ssh_key.proofs.LineNames.{Contains-from_test, name_is_word, test-from_Contains}
 use Rattle.ssh_key.proofs.LineOptions.{options_again, options_take}
@@ -66,9 +66,9 @@ words_again part word encoded comment k =
 
 -- ---- the line from its type word on, behind an options field or not
 
-named_part-takes : (line part : List ℕ) → named_part line ≡ Some part → (line ≡ part) × (is_type_name (first_word part) ≡ true)
-unfolding named_part
-named_part-takes line part e = elim (cases_Bool (is_type_name (first_word line))) [
+typed-takes : (line part : List ℕ) → typed line ≡ Some part → (line ≡ part) × (is_type_name (first_word part) ≡ true)
+unfolding typed
+typed-takes line part e = elim (cases_Bool (is_type_name (first_word line))) [
   | inl name ↦ let same = same_Some line part (rw name at e) in (same, sym (ap (λ (xs : List ℕ). is_type_name (first_word xs)) same) ∙ name)
   | inr other ↦ absurd (let h = rw other at e in cc)
 ]
@@ -76,7 +76,7 @@ named_part-takes line part e = elim (cases_Bool (is_type_name (first_word line))
 -- a rest behind an options field leads to the part
 behind_takes : (found : Option (List ℕ)) (part : List ℕ) → part_behind found ≡ Some part → (rest : List ℕ) × (found ≡ Some rest) × (after_blanks rest ≡ part) × (is_type_name (first_word part) ≡ true)
 behind_takes None part e = absurd cc
-behind_takes (Some rest) part e = let h = named_part-takes (after_blanks rest) part e in (rest, refl, h.0, h.1)
+behind_takes (Some rest) part e = let h = typed-takes (after_blanks rest) part e in (rest, refl, h.0, h.1)
 
 test-false : (word : List ℕ) → is_type_name word ≡ false → ¬ Contains type_names word
 test-false word other h = both_ways (is_type_name word) other (test-from_Contains word h)
@@ -132,7 +132,7 @@ part_stops part word encoded comment k =
     subst (FailsFirst is_blank) (sym k.spelled) (word_stops word (k.blanks ++ (encoded ++ k.end)) (record { some = is_word.2; each = is_word.0 }))
 
 options_line_again : (line word encoded comment : List ℕ) → AreWordsBehindOptions line word encoded comment → content_at (key_part line) ≡ checked word (decoded encoded) comment
-unfolding key_part named_part
+unfolding key_part typed
 options_line_again line word encoded comment o =
     let read = words_again o.part word encoded comment o.are_words in
     let other : is_type_name (first_word line) ≡ false = elim (cases_Bool (is_type_name (first_word line))) [

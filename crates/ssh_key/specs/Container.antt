@@ -39,7 +39,8 @@ plain (cipher ∷ derivation ∷ options ∷ []) =
 plain values = Some faults.Encrypted
 
 abbrev pub one_key : List (List ℕ) → Option PrivateFault
-one_key (cipher ∷ kdf ∷ options ∷ count ∷ []) = fault_unless faults.KeyCount (slice_index count 0 == 1)
+one_key (cipher ∷ kdf ∷ options ∷ count ∷ []) =
+    fault_unless faults.KeyCount (slice_index count 0 == 1)
 one_key values = Some faults.KeyCount
 
 abbrev pub why_no_key : Result Key KeyFault → Option PrivateFault
@@ -51,7 +52,8 @@ public_key (cipher ∷ kdf ∷ options ∷ count ∷ blob ∷ []) = why_no_key (
 public_key values = Some faults.KeyCount
 
 abbrev pub same_check : List (List ℕ) → Option PrivateFault
-same_check (check ∷ again ∷ []) = fault_unless faults.Check (slice_index check 0 == slice_index again 0)
+same_check (check ∷ again ∷ []) =
+    fault_unless faults.Check (slice_index check 0 == slice_index again 0)
 same_check values = Some faults.Check
 
 abbrev pub same_type : Kind → List (List ℕ) → Option PrivateFault

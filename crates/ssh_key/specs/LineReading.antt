@@ -51,12 +51,12 @@ after_options quoted escaped (byte ∷ rest) =
     else after_options (quoted_behind quoted escaped byte) (byte == backslash) rest
 
 -- the line, if a type name is its first word
-unfoldable pub named_part : List ℕ → Option (List ℕ)
-named_part line = if is_type_name (first_word line) then Some line else None
+unfoldable pub typed : List ℕ → Option (List ℕ)
+typed line = if is_type_name (first_word line) then Some line else None
 
 abbrev pub part_behind : Option (List ℕ) → Option (List ℕ)
 part_behind None = None
-part_behind (Some rest) = named_part (after_blanks rest)
+part_behind (Some rest) = typed (after_blanks rest)
 
 -- the line from its type word on
 unfoldable pub key_part : List ℕ → Option (List ℕ)

@@ -69,7 +69,7 @@ fn read_content<'a>(alloc: Global, text: &'a [u8]) -> Result<Line<'a>, LineFault
 }
 
 /// The line from its type word on, if it has one.
-#[tactic(auto, unfolding(crate::specs::LineReading::key_part, crate::specs::LineReading::named_part))]
+#[tactic(auto, unfolding(crate::specs::LineReading::key_part, crate::specs::LineReading::typed))]
 fn key_part(line: &[u8]) -> Option<&[u8]>
     ensures { option_map (λ part. part.now) result ≡ key_part line.now }
 {

@@ -227,9 +227,12 @@ before_takes text magnitude after rest (Err fault) first second = absurd cc
 before_takes text magnitude after rest (Ok found) first second =
     let same : found ≡ magnitude = ap (λ (p : List ℕ × List ℕ). p.0)
     (ok_is (found, after) (magnitude, rest) (Ok (found, after)) refl second) in
-    let h = magnitude_takes text magnitude (first ∙ ap (λ (m : List ℕ). Ok m) same) in
-    (h.0, h.1, ap (λ (p : List ℕ × List ℕ). p.1)
-    (ok_is (found, after) (magnitude, rest) (Ok (found, after)) refl second))
+    let h = magnitude_takes text magnitude (first ∙ ap (λ (m : List ℕ). Ok m) same) in (
+      h.0,
+      h.1,
+      ap (λ (p : List ℕ × List ℕ). p.1)
+          (ok_is (found, after) (magnitude, rest) (Ok (found, after)) refl second),
+    )
 
 at_takes : (bytes magnitude rest : List ℕ) (read : Result (List ℕ × List ℕ) WireFault)
     → IsBytes bytes → string_at bytes ≡ read → magnitude_at read ≡ Ok (magnitude, rest)
