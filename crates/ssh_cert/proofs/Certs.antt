@@ -13,7 +13,7 @@ use Rattle.ssh_key.specs.declared.kind.Kind.{Kind}
 use Rattle.ssh_key.specs.declared.kind.Kind.TheVariants.{Rsa, Dsa, Ecdsa256, Ecdsa384, Ecdsa521, Ed25519, EcdsaSk, Ed25519Sk}
 use Rattle.ssh_key.proofs.Names.{certified-certificate_name, certified-name}
 use Rattle.ssh_key.proofs.Refusals.{string_read}
-use Rattle.ssh_wire.specs.Steps.{above_zero, bind_err, bind_ok, failed_err, in_fault_err, in_fault_ok, never_err, none_err, passed_ok, some_ok}
+use Rattle.ssh_wire.specs.Steps.{above_zero, bind_err, bind_ok, failed_err, in_fault_err, in_fault_ok, never_err, none_err, ok_is, passed_ok, some_ok}
 use Rattle.ssh_key.specs.Kind.{certificate_name, kind_certified}
 use Rattle.ssh_cert.specs.declared.fault.CertFault.{CertFault}
 use Rattle.ssh_cert.specs.declared.fault.CertFault.TheVariants as faults
@@ -29,9 +29,6 @@ use Rattle.ssh_cert.proofs.Fronts.{RefusedIn, TakesFields, fields_again, fields_
 abbrev named : Kind → List ℕ → Result (Kind × List ℕ) CertFault
 named kind rest = Ok (kind, rest)
 
-is_read : (kind : Kind) (rest : List ℕ) (x : Kind × List ℕ) → named kind rest ≡ Ok x → (kind, rest) ≡ x
-is_read kind rest x e = cc
-
 kind_takes : (blob : List ℕ) (x : Kind × List ℕ) → IsBytes blob → kind_at blob ≡ Ok x → HasFront blob (string (certificate_name x.0)) x.1
 unfolding kind_at
 kind_takes blob x fits e =
@@ -40,7 +37,7 @@ kind_takes blob x fits e =
     let name : certificate_name b.0 ≡ a.0.0 = certified-name a.0.0 b.0 (some_ok (kind_certified a.0.0) faults.UnknownType b.0 b.1) in
     let t = (string_takes blob a.0.0 a.0.1 fits (in_fault_ok cut_short (string_at blob) a.0 a.1)).0 in
     let spelled : HasFront blob (string (certificate_name b.0)) a.0.1 = subst (λ (s : List ℕ). HasFront blob (string s) a.0.1) (sym name) t in
-    subst (λ (y : Kind × List ℕ). HasFront blob (string (certificate_name y.0)) y.1) (is_read b.0 a.0.1 x b.2) spelled
+    subst (λ (y : Kind × List ℕ). HasFront blob (string (certificate_name y.0)) y.1) (ok_is (b.0, a.0.1) x (named b.0 a.0.1) refl b.2) spelled
 
 pub length-certificate_name : (kind : Kind) → length (certificate_name kind) < 2 ^ 32
 length-certificate_name Rsa = omega arith

@@ -8,7 +8,7 @@ use Rattle.ssh_wire.specs.Fields.{HasFront, IsBytes-content, number_again, numbe
 use Rattle.ssh_key.specs.KeyReading.{key_at, public_at}
 use Rattle.ssh_key.proofs.Keys.{key_again, key_found, public_again, public_found}
 use Rattle.ssh_key.proofs.Refusals.{string_read}
-use Rattle.ssh_wire.specs.Steps.{bind_ok, in_fault_ok, some_ok}
+use Rattle.ssh_wire.specs.Steps.{bind_ok, in_fault_ok, ok_is, some_ok}
 use Rattle.ssh_cert.specs.declared.fault.CertFault.{CertFault}
 use Rattle.ssh_cert.specs.declared.fault.CertFault.TheVariants as faults
 use Rattle.ssh_cert.specs.Certificate.{role_number}
@@ -27,11 +27,8 @@ pub record TakesField (field : Field) (bytes : List ℕ) (x : ValueOf field × L
 abbrev done : (field : Field) → ValueOf field → List ℕ → Result (ValueOf field × List ℕ) CertFault
 done field value rest = Ok (value, rest)
 
-is_read : (field : Field) (value : ValueOf field) (rest : List ℕ) (x : ValueOf field × List ℕ) → done field value rest ≡ Ok x → (value, rest) ≡ x
-is_read field value rest x e = cc
-
 taken : (field : Field) (bytes : List ℕ) (value : ValueOf field) (rest : List ℕ) (x : ValueOf field × List ℕ) → done field value rest ≡ Ok x → HasFront bytes (field_text field value) rest → IsValue field value → TakesField field bytes x
-taken field bytes value rest x e t allowed = subst (λ (y : ValueOf field × List ℕ). TakesField field bytes y) (is_read field value rest x e) (record { takes = t; allowed = allowed })
+taken field bytes value rest x e t allowed = subst (λ (y : ValueOf field × List ℕ). TakesField field bytes y) (ok_is (value, rest) x (done field value rest) refl e) (record { takes = t; allowed = allowed })
 
 -- a string at the front whose content is this text
 respelled : (bytes content text rest : List ℕ) → HasFront bytes (string content) rest → content ≡ text → HasFront bytes (string text) rest

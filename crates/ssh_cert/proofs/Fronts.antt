@@ -4,7 +4,7 @@ use Rattle.std.proofs.Common.{◌≡◌, ℕ, List, [], ◌∷◌, ◌++◌, Res
 use Rattle.ssh_wire.specs.Wire.{IsBytes}
 use Rattle.ssh_wire.specs.Fields.{HasFront, HasFront-then}
 use Rattle.ssh_wire.specs.Reading.{◌>>=◌}
-use Rattle.ssh_wire.specs.Steps.{bind_err, bind_ok, never_err}
+use Rattle.ssh_wire.specs.Steps.{bind_err, bind_ok, never_err, ok_is}
 use Rattle.ssh_cert.specs.declared.fault.CertFault.{CertFault}
 use Rattle.ssh_cert.specs.CertReading.{field_at, fields_at}
 use Rattle.ssh_cert.specs.Field.{Field, IsValue, AreValues, ValueOf, ValuesOf, field_text, fields_text}
@@ -20,11 +20,8 @@ pub record TakesFields (fields : List Field) (bytes : List ℕ) (x : ValuesOf fi
 abbrev done : (fields : List Field) → ValuesOf fields → List ℕ → Result (ValuesOf fields × List ℕ) CertFault
 done fields values rest = Ok (values, rest)
 
-is_read : (fields : List Field) (values : ValuesOf fields) (rest : List ℕ) (x : ValuesOf fields × List ℕ) → done fields values rest ≡ Ok x → (values, rest) ≡ x
-is_read fields values rest x e = cc
-
 taken : (fields : List Field) (bytes : List ℕ) (values : ValuesOf fields) (rest : List ℕ) (x : ValuesOf fields × List ℕ) → done fields values rest ≡ Ok x → HasFront bytes (fields_text fields values) rest → AreValues fields values → TakesFields fields bytes x
-taken fields bytes values rest x e t allowed = subst (λ (y : ValuesOf fields × List ℕ). TakesFields fields bytes y) (is_read fields values rest x e) (record { takes = t; allowed = allowed })
+taken fields bytes values rest x e t allowed = subst (λ (y : ValuesOf fields × List ℕ). TakesFields fields bytes y) (ok_is (values, rest) x (done fields values rest) refl e) (record { takes = t; allowed = allowed })
 
 pub fields_take : (fields : List Field) (bytes : List ℕ) (x : ValuesOf fields × List ℕ) → IsBytes bytes → fields_at fields bytes ≡ Ok x → TakesFields fields bytes x
 unfolding fields_at

@@ -11,6 +11,7 @@ use Rattle.base64.specs.Tables.{is_inverse}
 use Rattle.base64.specs.declared.decode.DecodeError.{DecodeError}
 use Rattle.base64.specs.declared.engine.DecodePaddingMode.{DecodePaddingMode}
 use Rattle.base64.specs.declared.engine.general_purpose.GeneralPurpose.{GeneralPurpose}
+use Rattle.ssh_wire.specs.Steps.{ok_or_not}
 use Rattle.ssh_wire.specs.Wire.{IsBytes}
 use Rattle.ssh_wire.specs.Digits.{IsBytes-append, IsBytes-cons, IsBytes-drop, IsBytes-nil, IsBytes-take}
 
@@ -54,10 +55,6 @@ IsBytes-groups dec text (suc count) table fits none =
 
 -- ---- the last group
 
-read_or_not : {A : Type 0} (r : Result A DecodeError) → ((x : A) × (r ≡ Ok x)) ⊎ ((why : DecodeError) × (r ≡ Err why))
-read_or_not (Ok x) = inl (x, refl)
-read_or_not (Err why) = inr (why, refl)
-
 zeros : (k : ℕ) → slice_index no_leftover.morsels k < 64
 zeros zero = omega arith
 zeros (suc zero) = omega arith
@@ -66,7 +63,7 @@ zeros (suc (suc (suc zero))) = omega arith
 zeros (suc (suc (suc (suc k)))) = omega arith
 
 IsBytes-suffix : (enc dec text : List ℕ) (pad at : ℕ) → is_inverse enc dec ≡ true → IsBytes text → length text ≤ at + 4 → IsBytes (suffix_bytes dec pad at text)
-IsBytes-suffix enc dec text pad at inverse fits short = elim (read_or_not (scan_last dec pad at text)) [
+IsBytes-suffix enc dec text pad at inverse fits short = elim (ok_or_not (scan_last dec pad at text)) [
   | inl read ↦
       let rest : List ℕ = drop at text in
       let held = IsScanned-scan enc dec rest pad at rest no_leftover read.0 0 inverse (IsBytes-drop at text fits) (omega (arith, length-drop at text)) (omega arith) refl

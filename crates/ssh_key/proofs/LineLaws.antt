@@ -2,7 +2,7 @@
 use Rattle.std.proofs.Common.{◌≡◌, ℕ, ◌<◌, ◌^◌, true, List, ◌++◌, Result, Ok, Err, length, refl, sym, ap, subst, ◌∙◌, inl, inr}
 use Rattle.std.proofs.lemmas.Bool.{cases_Bool}
 use Rattle.std.proofs.lemmas.Slice.Eq.{bytes_eq-Decides}
-use Rattle.ssh_wire.specs.Steps.{ok_is}
+use Rattle.ssh_wire.specs.Steps.{ok_is, ok_or_err}
 use Rattle.ssh_wire.specs.Reading.{string_at}
 use Rattle.ssh_wire.specs.declared.fault.WireFault.{WireFault}
 use Rattle.ssh_wire.specs.Fields.{string_again, string_takes}
@@ -52,12 +52,9 @@ checked_takes word (Ok blob) comment parts e = elim (cases_Bool (has_word word b
   | inr differs ↦ absurd (let h = rw differs at e in cc)
 ]
 
-never_read : (parts : Content) (fault : LineFault) (read : Result Content LineFault) → read ≡ Err fault → read ≡ Ok parts → ⊥
-never_read parts fault read p q = cc
-
 pub line_found : (text : List ℕ) (parts : Content) → IsBytes text → line_at text ≡ Ok parts → IsKeyLine text parts.word parts.blob parts.comment
 line_found text parts fits e = elim (none_or_words text) [
-  | inl none ↦ absurd (never_read parts _ (line_at text) none e)
+  | inl none ↦ absurd (ok_or_err parts _ (line_at text) e none)
   | inr has ↦
       let taken = checked_takes has.word (decoded has.encoded) has.comment parts (sym (words_read text has.word has.encoded has.comment has.words) ∙ e) in
       let encoded_fits = IsBytes-words text has.word has.encoded has.comment fits has.words in

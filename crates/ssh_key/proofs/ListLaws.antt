@@ -14,7 +14,7 @@ use Rattle.ssh_key.specs.Key.{Key}
 use Rattle.ssh_key.specs.Rows.{Stands, Text, row_at}
 use Rattle.ssh_key.specs.declared.private_fault.PrivateFault.{PrivateFault}
 use Rattle.ssh_key.specs.declared.private_fault.PrivateFault.TheVariants as faults
-use Rattle.ssh_wire.specs.Steps.{bind_err, bind_ok, in_fault_err, in_fault_ok}
+use Rattle.ssh_wire.specs.Steps.{bind_err, bind_ok, in_fault_err, in_fault_ok, ok_or_err}
 use Rattle.ssh_key.proofs.RowLaws.{part_again, part_takes, row_again, row_fails, row_refused, row_takes}
 
 -- ---- a front of a list
@@ -69,9 +69,6 @@ ended_other key values comment padding other = elim (cases_Bool (bytes_eq (publi
   | inr not ↦ rw not refl
 ]
 
-never : {A : Type 0} (d : PrivateFault) (x : A) (r : Result A PrivateFault) → r ≡ Err d → r ≡ Ok x → ⊥
-never d x r p q = cc
-
 -- ---- the rows of a list
 
 -- what follows the fields of the kind
@@ -110,7 +107,7 @@ list_is key list comment padding x rest values opens stands e = elim (public_or_
         padded = front_taken all_padding padding p.0;
       } in
       subst (IsPrivateList key list) p.1 is
-  | inr other ↦ absurd (never faults.PublicDiffers x (ended (same_as key values) comment padding) (ended_other key values comment padding other) e)
+  | inr other ↦ absurd (ok_or_err x faults.PublicDiffers (ended (same_as key values) comment padding) e (ended_other key values comment padding other))
 ]
 
 pub list_found : (key : Key) (list comment : List ℕ) → IsBytes list → list_at key list ≡ Ok comment → IsPrivateList key list comment

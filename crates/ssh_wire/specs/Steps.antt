@@ -65,6 +65,10 @@ never_err x d e = cc
 
 -- ---- one answer
 
+pub ok_or_not : {A E : Type 0} (r : Result A E) → ((x : A) × (r ≡ Ok x)) ⊎ ((d : E) × (r ≡ Err d))
+ok_or_not (Ok x) = inl (x, refl)
+ok_or_not (Err d) = inr (d, refl)
+
 pub ok_is : {A E : Type 0} (x y : A) (r : Result A E) → r ≡ Ok x → r ≡ Ok y → x ≡ y
 ok_is x y r e f = cc
 
