@@ -10,8 +10,9 @@ use Rattle.krl_core.specs.declared.addition.Addition.TheVariants.{Serials}
 use Rattle.krl_core.specs.Rising.{RisesBy, Rises}
 use Rattle.krl_core.specs.Changes.{Takes, TakesSerials, TakesId, AddsTo, Puts, empty_section}
 use Rattle.krl_core.specs.Contents.{Section, IsListed, size_of}
-use Rattle.krl_core.proofs.Members.{inserts_rise, contains_none, contains_here, contains_cases}
+use Rattle.krl_core.proofs.Members.{inserts_rise}
 use Rattle.krl_core.proofs.Shelving.{changes_rise}
+use Rattle.krl_core.specs.Elements.{contains_none, contains_here, contains_cases}
 
 -- ---- byte strings that are put in
 

@@ -6,10 +6,11 @@ use Rattle.krl_core.specs.declared.addition.Addition.{Addition}
 use Rattle.krl_core.specs.declared.addition.Addition.TheVariants.{Serials, Id}
 use Rattle.krl_core.specs.Changes.{Takes, AddsTo, empty_section}
 use Rattle.krl_core.specs.Contents.{Section, contents_of, SomeSection, IsNamed, held, stored, section_size}
-use Rattle.krl_core.proofs.Members.{contains_here, contains_later, absent_parts}
+use Rattle.krl_core.proofs.Members.{absent_parts}
 use Rattle.krl_core.proofs.Shelving.{takes_authority}
 use Rattle.krl_core.proofs.AddedSections.{put_size}
 use Rattle.krl_core.proofs.SomeSections.{some_at, sum_adds, sum_middle}
+use Rattle.krl_core.specs.Elements.{contains_here, contains_later}
 
 -- a change of each section that keeps a number keeps the sum
 sum_stays : (addition : Addition) (b : List ℕ) (old new : List Section) (f : Section → ℕ) → ((from to : Section) → Takes addition from to → f to ≡ f from) → f (empty_section b) ≡ 0 → AddsTo addition b old new → sum_by f new ≡ sum_by f old

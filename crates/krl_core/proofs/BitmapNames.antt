@@ -3,13 +3,14 @@ use Rattle.std.proofs.Common.{◌≡◌, ℕ, zero, suc, ◌+◌, ◌*◌, ◌/�
 use Rattle.std.specs.Prelude.{◌&&◌, ◌||◌}
 use Rattle.std.specs.Int.{bit_at}
 use Rattle.std.proofs.Math.Nat.{mul_assoc, mul_comm, pow-succ'}
-use Rattle.std.proofs.lemmas.Nat.{pow-add}
-use Rattle.std.proofs.lemmas.Bool.{cases_lt, le-leb}
+use Rattle.std.proofs.lemmas.Bool.{cases_lt, le-leb, false_from_ne_true}
 use Rattle.std.proofs.lemmas.Nat.Bits.{bit_at-suc, bit_at-zero, bit_at_lowest}
 use Rattle.serial_set.specs.declared.span.Span.{Span}
 use Rattle.serial_set.specs.Span.{SpanCovers, IsRuns, Covers, RunsFrom}
+use Rattle.serial_set.specs.Rising.{names_from}
 use Rattle.ssh_wire.specs.Wire.{number_of}
 use Rattle.ssh_wire.specs.Magnitudes.{number_of-cons}
+use Rattle.ssh_wire.specs.Digits.{bytes_as_bits}
 use Rattle.krl_plan.specs.Plan.{end_of, reach}
 use Rattle.krl_plan.specs.Written.{bitmap_of, bits_of, first_of, has}
 use Rattle.krl_plan.specs.BitmapBits.{bits_of_lt, has_before, has_past}
@@ -107,12 +108,6 @@ bits_split runs first (suc m) n =
     let product : 2 ^ suc m * above ≡ 2 * (2 ^ m * above) = ap (λ (p : ℕ). p * above) twice ∙ mul_assoc 2 (2 ^ m) above in
     ap (bits_of runs first) count ∙ omega arith
 
-pow_bytes : (size : ℕ) → 256 ^ size ≡ 2 ^ (8 * size)
-pow_bytes zero = refl
-pow_bytes (suc size) =
-    let count : 8 * suc size ≡ 8 + 8 * size = omega arith in
-    pow-succ' 256 size ∙ ap (λ (n : ℕ). 256 * n) (pow_bytes size) ∙ sym (ap (λ (n : ℕ). 2 ^ n) count ∙ pow-add 2 8 (8 * size))
-
 number_of_none : number_of [] ≡ 0
 unfolding number_of
 number_of_none = refl
@@ -125,7 +120,7 @@ number-bitmap runs first (suc size) =
     let cons = number_of-cons (bits_of runs (first + 8 * size) 8) (bitmap_of runs first size) in
     let split = bits_split runs first (8 * size) 8 in
     let count : 8 * suc size ≡ 8 * size + 8 = omega arith in
-    let power : 256 ^ length (bitmap_of runs first size) ≡ 2 ^ (8 * size) = ap (λ (n : ℕ). 256 ^ n) len ∙ pow_bytes size in
+    let power : 256 ^ length (bitmap_of runs first size) ≡ 2 ^ (8 * size) = ap (λ (n : ℕ). 256 ^ n) len ∙ bytes_as_bits size in
     let product : bits_of runs (first + 8 * size) 8 * 256 ^ length (bitmap_of runs first size) ≡ 2 ^ (8 * size) * bits_of runs (first + 8 * size) 8 =
     ap (λ (p : ℕ). bits_of runs (first + 8 * size) 8 * p) power ∙ mul_comm (bits_of runs (first + 8 * size) 8) (2 ^ (8 * size)) in
     let whole : bits_of runs first (8 * suc size) ≡ bits_of runs first (8 * size + 8) = ap (bits_of runs first) count in
@@ -146,10 +141,6 @@ end_from a run (next ∷ runs) r =
     let above = far.1 in
     (omega arith, omega arith, omega arith)
 
-elim_bool : (b : Bool) → (b ≡ true → ⊥) → b ≡ false
-elim_bool true h = absurd (h refl)
-elim_bool false h = refl
-
 none_above : (a : ℕ) (run : Span) (runs : List Span) (s : ℕ) → RunsFrom a (run ∷ runs) → end_of run runs < s → Covers (run ∷ runs) s → ⊥
 none_above a run [] s r lt n = elim n [ inl here ↦ (let within = here.1 in absurd (omega arith)) | inr later ↦ later ]
 none_above a run (next ∷ runs) s r lt n =
@@ -165,7 +156,7 @@ clear_above : (runs : List Span) (s : ℕ) → IsRuns runs → first_of runs + r
 clear_above [] s r lt = refl
 clear_above (run ∷ runs) s r lt =
     let far = end_from 0 run runs r in
-    elim_bool (has (run ∷ runs) s) (λ e. absurd (none_above 0 run runs s r (omega arith) (names-has (run ∷ runs) s e)))
+    false_from_ne_true (has (run ∷ runs) s) (λ e. absurd (none_above 0 run runs s r (omega arith) (names-has (run ∷ runs) s e)))
 
 -- the highest bit of the first byte is never set
 pub top_bit_clear : (runs : List Span) (top : ℕ) → IsRuns runs → reach runs < 8 * top + 7 → bits_of runs (first_of runs + 8 * top) 8 < 128
@@ -178,16 +169,6 @@ top_bit_clear runs top r lt =
     omega arith
 
 -- ---- all serials of the runs
-
-names_from : (a : ℕ) (runs : List Span) (s : ℕ) → RunsFrom a runs → Covers runs s → a ≤ s
-names_from a [] s r n = absurd n
-names_from a (run ∷ runs) s r n =
-    let begins : a ≤ run.lo = r.0 in
-    let ordered : run.lo ≤ run.hi = r.1 in
-    elim n [
-      | inl here ↦ let low = here.0 in omega arith
-      | inr later ↦ let h = names_from (run.hi + 2) runs s r.2 later in omega arith
-    ]
 
 -- a serial of the runs is not below the first, and not above the last
 pub names_within : (runs : List Span) (s : ℕ) → IsRuns runs → Covers runs s → (first_of runs ≤ s) × (s ≤ first_of runs + reach runs)

@@ -1,17 +1,16 @@
 -- A bitmap by its bytes.
-use Rattle.std.proofs.Common.{◌≡◌, ℕ, zero, suc, ◌+◌, ◌-◌, ◌*◌, ◌<◌, ◌≤◌, ◌^◌, ◌⊎◌, Bool, true, false, cond, eqb, leb, leb-false, List, [], ◌∷◌, length, refl, sym, ap, subst, ◌∙◌, arith, inl, inr}
+use Rattle.std.proofs.Common.{◌≡◌, ℕ, ◌+◌, ◌-◌, ◌*◌, ◌<◌, ◌≤◌, ◌^◌, ◌⊎◌, List, [], ◌∷◌, length, refl, sym, ap, subst, ◌∙◌, arith, inl, inr}
 use Rattle.std.specs.Int.{bit_at}
-use Rattle.std.proofs.lemmas.Bool.{cases_lt, eqb-true}
+use Rattle.std.proofs.lemmas.Bool.{cases_lt}
 use Rattle.std.proofs.lemmas.Nat.Bits.{bit_at-zero, bit_at_above, bit_at_cat_low, bit_at_cat_high}
-use Rattle.std.proofs.Math.Nat.{pow-suc, mul-le-mul_right}
+use Rattle.std.proofs.Math.Nat.{mul-le-mul_right}
 use Rattle.std.proofs.lemmas.Nat.{pow-add}
 use Rattle.serial_set.specs.BitRuns.{big_endian}
 use Rattle.ssh_wire.specs.Magnitudes.{number_of-cons}
 use Rattle.ssh_wire.specs.Wire.{number_of}
+use Rattle.ssh_wire.specs.Digits.{bytes_as_bits}
 use Rattle.krl_core.specs.Entry.{BitmapEntry}
 use Rattle.krl_core.specs.Naming.{NamesSame}
-use Rattle.krl_core.specs.Place.{highest_bit, passes_end}
-use Rattle.krl_core.proofs.Bits.{bit_below}
 use Rattle.krl_core.proofs.Same.{same_serials}
 
 -- the number of a bitmap that is fed byte by byte is the wire's
@@ -21,15 +20,8 @@ bitmap_number [] = refl
 bitmap_number (byte ∷ bytes) =
     ap (λ (m : ℕ). byte * 256 ^ length bytes + m) (bitmap_number bytes) ∙ sym (number_of-cons byte bytes)
 
-pow_256 : (n : ℕ) → 256 ^ n ≡ 2 ^ (8 * n)
-pow_256 zero = refl
-pow_256 (suc n) =
-    let e : 8 * suc n ≡ 8 + 8 * n = omega arith in
-    pow-suc 256 n ∙ ap (λ (m : ℕ). m * 256) (pow_256 n) ∙ (let f : 2 ^ (8 * n) * 256 ≡ 2 ^ 8 * 2 ^ (8 * n) = omega arith in f)
-    ∙ sym (pow-add 2 8 (8 * n)) ∙ ap (λ (m : ℕ). 2 ^ m) (sym e)
-
 pub number_of-byte : (b : ℕ) (bits : List ℕ) → number_of (b ∷ bits) ≡ b * 2 ^ (8 * length bits) + number_of bits
-number_of-byte b bits = number_of-cons b bits ∙ ap (λ (m : ℕ). b * m + number_of bits) (pow_256 (length bits))
+number_of-byte b bits = number_of-cons b bits ∙ ap (λ (m : ℕ). b * m + number_of bits) (bytes_as_bits (length bits))
 
 pub low_more : (b : ℕ) (bits : List ℕ) → b < 256 → number_of bits < 2 ^ (8 * length bits) → number_of (b ∷ bits) < 2 ^ (8 * length (b ∷ bits))
 low_more b bits byte low =
@@ -42,23 +34,6 @@ low_more b bits byte low =
 pub low_none : number_of [] < 2 ^ (8 * length {A = ℕ} [])
 unfolding number_of
 low_none = omega arith
-
-pub not_past_at : (base byte : ℕ) → byte < 256 → passes_end base byte ≡ false → (k : ℕ) → bit_at byte k ≡ 1 → base + k < 2 ^ 64
-not_past_at base byte h passes k bit =
-    elim (either_false (eqb byte 0) (leb 18446744073709551616 (base + highest_bit byte)) passes) [
-      | inl none ↦
-          let z = bit_at-zero k in
-          let o : bit_at 0 k ≡ 1 = subst (λ (n : ℕ). bit_at n k ≡ 1) (eqb-true byte 0 none) bit in
-          absurd (omega (arith, z, o))
-      | inr low ↦
-          let top = bit_below byte k h bit in
-          let lt : base + highest_bit byte < 18446744073709551616 = leb-false 18446744073709551616 (base + highest_bit byte) low in
-          omega (arith, top, lt)
-    ]
-  where
-    either_false : (b c : Bool) → cond b false c ≡ false → (b ≡ true) ⊎ (c ≡ false)
-    either_false true c e = inl refl
-    either_false false c e = inr e
 
 -- the bits of a byte, and those of the bytes after it
 pub bit_of-byte : (b : ℕ) (bits : List ℕ) (k : ℕ) → number_of bits < 2 ^ (8 * length bits) → bit_at (number_of (b ∷ bits)) k ≡ 1

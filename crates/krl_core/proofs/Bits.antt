@@ -4,7 +4,7 @@ use Rattle.std.specs.Option.{option_to_list}
 use Rattle.std.specs.Int.{bit_at}
 use Rattle.std.proofs.lemmas.Bool.{cases_lt, eqb-true, ne_eqb, ltb-true, lt-ltb, le-ltb}
 use Rattle.std.proofs.lemmas.List.{append-nil, length-append, length-reverse, reverse-append}
-use Rattle.std.proofs.lemmas.Nat.Bits.{bit_at_above, bit_at-zero}
+use Rattle.std.proofs.lemmas.Nat.Bits.{bit_at-zero}
 use Rattle.serial_set.specs.declared.span.Span.{Span}
 use Rattle.serial_set.specs.declared.bit_fault.BitFault.{BitFault}
 use Rattle.serial_set.specs.declared.bit_fault.BitFault.TheVariants.{Negative, Wraps}
@@ -20,9 +20,11 @@ use Rattle.ssh_wire.specs.Wire.{number_of}
 use Rattle.krl_core.specs.declared.place.Place.TheVariants.{BitmapByte}
 use Rattle.krl_core.specs.Place.{base_of, bits_judged, judge, next_bits, next_subsection, passes_end, highest_bit}
 use Rattle.serial_set.specs.Rising.{names_append as either, names_left, names_right}
-use Rattle.krl_core.proofs.Same.{AreSerials, serials_append, same_serials, same_append, same_refl, same_is, same_then, same_swap, some_append}
+use Rattle.serial_set.specs.Bits.{bit_below}
+use Rattle.krl_core.proofs.Same.{AreSerials, same_serials, same_append, same_refl, same_is, same_then, same_swap, some_append, IsSerials}
 use Rattle.krl_core.proofs.Keeping.{open_entries}
 use Rattle.krl_core.proofs.Quiet.{out_step, out_subsection}
+use Rattle.krl_core.specs.Elements.{all_append}
 
 -- ---- runs by the numbers in them
 
@@ -73,8 +75,8 @@ fed_same a before byte after finished fed =
     let B = run_entries a (option_to_list before.pending) in
     let E = BitmapEntry a (lowest after) byte ∷ [] in
     same_serials (F ++ O) (B ++ E)
-    (serials_append F O (run_entries-serials a finished) (run_entries-serials a (option_to_list after.pending)))
-    (serials_append B E (run_entries-serials a (option_to_list before.pending)) (tt, tt))
+    (all_append IsSerials F O (run_entries-serials a finished) (run_entries-serials a (option_to_list after.pending)))
+    (all_append IsSerials B E (run_entries-serials a (option_to_list before.pending)) (tt, tt))
     (λ b s.
     let left = some_append F O b s in
     let right = some_append B E b s in
@@ -212,30 +214,28 @@ highest_around byte =
       ])
     ]
 
-pub bit_below : (byte i : ℕ) → byte < 256 → bit_at byte i ≡ 1 → i ≤ highest_bit byte
-bit_below byte i h b =
-    elim (cases_lt (highest_bit byte) i) [
-      | inl above ↦ let none = bit_at_above byte (highest_bit byte + 1) i ((highest_around byte).1 h) (omega arith) in absurd (omega (arith, none, b))
-      | inr below ↦ below
-    ]
+bit_upto : (byte i : ℕ) → byte < 256 → bit_at byte i ≡ 1 → i ≤ highest_bit byte
+bit_upto byte i h b = omega (arith, bit_below byte (highest_bit byte + 1) i ((highest_around byte).1 h) b)
 
-pub not_past : (base byte : ℕ) → byte < 256 → passes_end base byte ≡ false → (s : ℕ) → BitNames base byte s → s < 2 ^ 64
-not_past base byte h passes s bit =
+pub not_past_at : (base byte : ℕ) → byte < 256 → passes_end base byte ≡ false → (k : ℕ) → bit_at byte k ≡ 1 → base + k < 2 ^ 64
+not_past_at base byte h passes k bit =
     elim (either_false (eqb byte 0) (leb 18446744073709551616 (base + highest_bit byte)) passes) [
       | inl none ↦
-          let e : byte ≡ 0 = eqb-true byte 0 none in
-          let z = bit_at-zero (s - base) in
-          let o : bit_at 0 (s - base) ≡ 1 = subst (λ (n : ℕ). bit_at n (s - base) ≡ 1) e bit.2 in
+          let z = bit_at-zero k in
+          let o : bit_at 0 k ≡ 1 = subst (λ (n : ℕ). bit_at n k ≡ 1) (eqb-true byte 0 none) bit in
           absurd (omega (arith, z, o))
       | inr low ↦
-          let k = bit_below byte (s - base) h bit.2 in
+          let top = bit_upto byte k h bit in
           let lt : base + highest_bit byte < 18446744073709551616 = leb-false 18446744073709551616 (base + highest_bit byte) low in
-          omega (arith, k, lt, bit.1)
+          omega (arith, top, lt)
     ]
   where
     either_false : (b c : Bool) → cond b false c ≡ false → (b ≡ true) ⊎ (c ≡ false)
     either_false true c e = inl refl
     either_false false c e = inr e
+
+not_past : (base byte : ℕ) → byte < 256 → passes_end base byte ≡ false → (s : ℕ) → BitNames base byte s → s < 2 ^ 64
+not_past base byte h passes s bit = omega (arith, not_past_at base byte h passes (s - base) bit.2, bit.1)
 
 pub judged_parts : (first sign_free past : Bool) (next place : Place)
     → cond first (cond sign_free (judge (not past) faults.BitmapWraps place) (Err faults.BitmapNegative)) (judge (not past) faults.BitmapWraps place) ≡ Ok next

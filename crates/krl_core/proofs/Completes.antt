@@ -1,9 +1,10 @@
 -- A row of fields that leads to the end of a list spells its sections, and names what they name.
-use Rattle.std.proofs.Common.{◌≡◌, ℕ, zero, suc, ◌+◌, ◌-◌, ◌<◌, ◌≤◌, ◌^◌, ◌⊎◌, Bool, true, false, cond, ltb, List, [], ◌∷◌, ◌++◌, length, map, Result, Ok, Err, refl, sym, ap, subst, ◌∙◌, append_assoc, arith, inl, inr}
+use Rattle.std.proofs.Common.{◌≡◌, ℕ, zero, suc, ◌+◌, ◌-◌, ◌<◌, ◌≤◌, ◌^◌, ◌⊎◌, Bool, true, false, cond, ltb, List, [], ◌∷◌, ◌++◌, length, map, Result, Ok, refl, sym, ap, subst, ◌∙◌, append_assoc, arith, inl, inr}
 use Rattle.std.specs.List.{flat_map, AllByRecursion}
 use Rattle.std.proofs.lemmas.Bool.{ltb-false}
 use Rattle.std.proofs.lemmas.List.{length-append}
 use Rattle.ssh_wire.specs.Wire.{IsBytes, number, number_of, string}
+use Rattle.ssh_wire.specs.Fields.{length-string, length-number}
 use Rattle.krl_core.specs.declared.krl_fault.KrlFault.{KrlFault}
 use Rattle.krl_core.specs.declared.krl_fault.KrlFault.TheVariants as faults
 use Rattle.krl_core.specs.declared.header.Header.{Header}
@@ -12,26 +13,13 @@ use Rattle.krl_core.specs.Entry.{Entry, SerialsEntry, IdEntry, KeyEntry, Sha1Ent
 use Rattle.krl_core.specs.Entries.{entries_of, section_entries, subsection_entries}
 use Rattle.krl_core.specs.Krl.{Section, Certificates, Keys, Sha1s, Sha256s, Signature, Extension, Subsection, SpellsEach, SpellsSection, SpellsSubsection, SignaturesLast, IsSignature}
 use Rattle.krl_core.specs.Naming.{NamesSame}
-use Rattle.krl_core.specs.Place.{judge, within, next_key, next_sha1, next_sha256, next_subsection, next_serial, next_id}
-use Rattle.krl_core.proofs.Numbers.{number_back4, number_back8, number_of-one, length-number4, length-number8}
+use Rattle.krl_core.specs.Place.{within, next_key, next_sha1, next_sha256, next_subsection, next_serial, next_id}
+use Rattle.krl_core.proofs.Numbers.{number_back4, number_back8, number_of-one}
 use Rattle.krl_core.proofs.Rests.{Rest, LastFor, FromSections, FromNumber, FromLength, FromContent, FromItems, FromItem, FromSubsections, FromCertificates, FromExtension, Completes, Any, HasSize, KeyItems, Sha1Items, Sha256Items, SerialItems, IdItems}
 use Rattle.krl_core.proofs.Same.{same_refl, same_is, same_then, same_append}
+use Rattle.krl_core.proofs.Judged.{held_back, same_place}
 
 -- ---- judgements that passed
-
-abbrev done : Place → Result Place KrlFault
-done p = Ok p
-
-pub same_place : (p q : Place) → done p ≡ done q → p ≡ q
-same_place p q e = cc
-
-pub passed : (b : Bool) (why : KrlFault) (p q : Place) → judge b why p ≡ Ok q → (b ≡ true) × (p ≡ q)
-passed true why p q e = (refl, same_place p q e)
-passed false why p q e = absurd (cc)
-
-held_back : (b : Bool) (why : KrlFault) (x : Result Place KrlFault) (q : Place) → cond b (Err why) x ≡ Ok q → (b ≡ false) × (x ≡ Ok q)
-held_back true why x q e = absurd (cc)
-held_back false why x q e = (refl, e)
 
 pub fits_within : (left : ℕ) (next : ℕ → Result Place KrlFault) (size : ℕ) (q : Place) → within left next size ≡ Ok q → (size ≤ left - 4) × (next size ≡ Ok q)
 fits_within left next size q e =
@@ -46,10 +34,6 @@ pub one_byte : (field : List ℕ) → length field ≡ 1 → field ≡ number_of
 one_byte [] len = absurd (omega arith)
 one_byte (a ∷ []) len = ap (λ (n : ℕ). n ∷ []) (sym (number_of-one a))
 one_byte (a ∷ b ∷ field) len = absurd (omega arith)
-
-pub length-string : (bytes : List ℕ) → length (string bytes) ≡ 4 + length bytes
-unfolding string
-length-string bytes = omega (arith, length-append (number 4 (length bytes)) bytes, length-number4 (length bytes))
 
 -- ---- one field in front
 
@@ -108,7 +92,7 @@ serial_more K a left behind field tail more fits size room k =
       rest = k.rest;
       others = k.others;
       parts = ap (λ (x : List ℕ). x ++ tail) (sym n.0) ∙ ap (λ (x : List ℕ). number 8 (number_of field) ++ x) k.parts ∙ sym (append_assoc (number 8 (number_of field)) (flat_map (number 8) k.items) k.rest);
-      size_is = omega (arith, length-append (number 8 (number_of field)) (flat_map (number 8) k.items), length-number8 (number_of field), k.size_is, room);
+      size_is = omega (arith, length-append (number 8 (number_of field)) (flat_map (number 8) k.items), length-number 8 (number_of field), k.size_is, room);
       good = (n.1, k.good);
       named = ap (λ (x : List Entry). SerialsEntry a (number_of field ∷ []) ∷ x) k.named;
       then_is = k.then_is;
@@ -184,7 +168,7 @@ tail_string : (type_byte : ℕ) (content rest bytes : List ℕ) → bytes ≡ st
 tail_string type_byte content rest bytes e = ap (λ (x : List ℕ). type_byte ∷ x) e
 
 -- the length and content of a section
-whole_string : (size : ℕ) (content rest after bytes : List ℕ) → bytes ≡ number 4 size ++ after → after ≡ content ++ rest → length content ≡ size → bytes ≡ string content ++ rest
+pub whole_string : (size : ℕ) (content rest after bytes : List ℕ) → bytes ≡ number 4 size ++ after → after ≡ content ++ rest → length content ≡ size → bytes ≡ string content ++ rest
 unfolding string
 whole_string size content rest after bytes e f len =
     e ∙ ap (λ (n : ℕ). number 4 n ++ after) (sym len) ∙ ap (λ (x : List ℕ). number 4 (length content) ++ x) f ∙ sym (append_assoc (number 4 (length content)) content rest)

@@ -6,17 +6,19 @@ use Rattle.std.specs.Int.{bit_at}
 use Rattle.std.proofs.lemmas.List.{length-append}
 use Rattle.std.proofs.lemmas.Nat.Bits.{bit_at-zero}
 use Rattle.ssh_wire.specs.Wire.{IsBytes, number, number_of, string}
+use Rattle.ssh_wire.specs.Fields.{length-string, length-number}
 use Rattle.krl_core.specs.declared.header.Header.{Header}
 use Rattle.krl_core.specs.Entry.{Entry, SerialsEntry, RangeEntry, BitmapEntry, IdEntry}
 use Rattle.krl_core.specs.Entries.{subsection_entries}
 use Rattle.krl_core.specs.Krl.{Subsection, Serials, Range, Bitmap, Ids, SubsectionExtension, SpellsSubsection, SubsectionContent, subsection_type}
 use Rattle.krl_core.specs.Naming.{NamesSame, SomeNamesAt}
 use Rattle.krl_core.specs.Place.{next_bits, base_of, passes_end}
-use Rattle.krl_core.proofs.Numbers.{number_back4, number_back8, length-number8}
+use Rattle.krl_core.proofs.Numbers.{number_back4, number_back8}
 use Rattle.krl_core.proofs.Rests.{Rest, FromContent, FromSubsections, FromReserved, FromCertificates, FromPart, FromRange, FromMax, FromBits, FromBitmap, FromOffset, FromExtension, FromCritical, FromContents, Completes, SerialItems, IdItems}
-use Rattle.krl_core.proofs.Bitmaps.{low_more, low_none, not_past_at, bit_of-byte, same_no_bits, same_bits}
+use Rattle.krl_core.proofs.Bitmaps.{low_more, low_none, bit_of-byte, same_no_bits, same_bits}
 use Rattle.krl_core.proofs.Same.{AreSerials, same_serials, contains_one, same_refl, same_is, same_then, same_append}
-use Rattle.krl_core.proofs.Completes.{length-string, string_parts, subsections_from}
+use Rattle.krl_core.proofs.Completes.{string_parts, subsections_from}
+use Rattle.krl_core.proofs.Bits.{not_past_at}
 
 -- ---- subsections
 
@@ -195,7 +197,7 @@ pub range_part : (K : Type 0) (a : List ℕ) (left : ℕ) (field tail : List ℕ
     → FromRange K a (left - 4 - number_of field) tail more → FromPart K a 0x21 left (field ++ tail) more
 range_part K a left field tail more fits size room enough sixteen h =
     part_front K a 0x21 left (Range h.min h.max) field tail (number 8 h.min ++ number 8 h.max) h.rest more h.others fits size room enough refl h.parts
-    (omega (arith, length-append (number 8 h.min) (number 8 h.max), length-number8 h.min, length-number8 h.max, sixteen)) (refl, h.ordered, h.fits)
+    (omega (arith, length-append (number 8 h.min) (number 8 h.max), length-number 8 h.min, length-number 8 h.max, sixteen)) (refl, h.ordered, h.fits)
     (same_is more (RangeEntry a h.min h.max ∷ h.others) h.named) h.then_is
 
 pub bitmap_part : (K : Type 0) (a : List ℕ) (left : ℕ) (field tail : List ℕ) (more : List Entry) → IsBytes field → length field ≡ 4 → 4 ≤ left → number_of field ≤ left - 4
@@ -283,7 +285,7 @@ offset_front K a left behind field tail more fits size room h =
       rest = h.rest;
       others = h.others;
       parts = ap (λ (x : List ℕ). x ++ tail) (sym n.0) ∙ ap (λ (x : List ℕ). number 8 (number_of field) ++ x) h.parts ∙ sym (append_assoc (number 8 (number_of field)) (string h.bits) h.rest);
-      size_is = omega (arith, length-append (number 8 (number_of field)) (string h.bits), length-number8 (number_of field), h.size_is, room);
+      size_is = omega (arith, length-append (number 8 (number_of field)) (string h.bits), length-number 8 (number_of field), h.size_is, room);
       spelled = record { bytes = h.bits; spelled = refl; positive = h.positive; value_is = refl; offset_fits = n.1; within = h.within };
       named = h.named;
       then_is = h.then_is;

@@ -1,10 +1,11 @@
 -- A list that is cut short.
-use Rattle.std.proofs.Common.{◌≡◌, ℕ, ◌≤◌, ◌⊎◌, Bool, true, false, ltb, List, [], ◌∷◌, ◌++◌, length, Option, Some, None, Ok, Err, refl, sym, ap, subst, ◌∙◌, append_assoc, arith, inl, inr}
+use Rattle.std.proofs.Common.{◌≡◌, ℕ, ◌≤◌, ◌⊎◌, Bool, true, false, ltb, List, [], ◌∷◌, ◌++◌, length, Option, Some, None, refl, sym, ap, subst, ◌∙◌, append_assoc, arith, inl, inr}
 use Rattle.std.specs.List.{concat}
 use Rattle.std.proofs.lemmas.Bool.{le-ltb}
 use Rattle.std.proofs.lemmas.List.{append-nil, length-append, take_all}
 use Rattle.std.proofs.lemmas.List.Folds.{concat-append}
 use Rattle.ssh_wire.specs.Wire.{IsBytes}
+use Rattle.ssh_wire.specs.Steps.{never_err}
 use Rattle.krl_core.specs.declared.header.Header.{Header}
 use Rattle.krl_core.specs.declared.krl_fault.KrlFault.{KrlFault}
 use Rattle.krl_core.specs.declared.krl_fault.KrlFault.TheVariants as faults
@@ -28,10 +29,7 @@ cut_field p next rest more field after fault pass e (no_room full is) = absurd (
 cut_field p next rest more field after fault pass e (refused field' after' why room parts size judged is) =
     let same = append_same field' field (after' ++ more) after (size ∙ sym pass.whole) (sym (append_assoc field' after' more) ∙ ap (λ (l : List ℕ). l ++ more) (sym parts) ∙ e) in
     let other = sym pass.judged ∙ ap (due p).judged (sym same.0) ∙ judged in
-    absurd (not_both next why other)
-  where
-    not_both : (q : Place) (w : KrlFault) → Ok q ≡ Err w → ⊥
-    not_both q w x = cc
+    absurd (never_err next why other)
 cut_field p next rest more field after fault pass e (too_long room short on is) = absurd (cc (on))
 cut_field p next rest more field after fault pass e (ends_early room short not_end off is) = inr is
 

@@ -10,27 +10,19 @@ use Rattle.krl_core.specs.Changes.{Takes}
 use Rattle.krl_core.specs.Contents.{Section}
 use Rattle.krl_core.specs.Entry.{Entry, RangeEntry, IdEntry}
 use Rattle.krl_core.specs.Naming.{NamesAt, SomeNamesAt}
-use Rattle.krl_core.proofs.Members.{contains_none}
 use Rattle.krl_core.proofs.AddedSections.{put_to, put_from}
 use Rattle.krl_core.proofs.SomeSections.{Step}
+use Rattle.krl_core.specs.Elements.{contains_none, some_cases, some_left, some_right}
 
 -- ---- lists of entries
 
 pub names_to : (entries : List Entry) (entry : Entry) (a : List ℕ) (s : ℕ) → SomeNamesAt (entries ++ entry ∷ []) a s → SomeNamesAt entries a s ⊎ NamesAt entry a s
-names_to [] entry a s h = elim h [ inl here ↦ inr here | inr later ↦ absurd later ]
-names_to (x ∷ xs) entry a s h =
-    elim h [
-      | inl here ↦ inl (inl here)
-      | inr later ↦ elim (names_to xs entry a s later) [ inl was ↦ inl (inr was) | inr new ↦ inr new ]
-    ]
+names_to entries entry a s h =
+    elim (some_cases entries (entry ∷ []) a s h) [ inl was ↦ inl was | inr last ↦ elim last [ inl new ↦ inr new | inr none ↦ absurd none ] ]
 
 pub names_from : (entries : List Entry) (entry : Entry) (a : List ℕ) (s : ℕ) → SomeNamesAt entries a s ⊎ NamesAt entry a s → SomeNamesAt (entries ++ entry ∷ []) a s
-names_from [] entry a s h = elim h [ inl was ↦ absurd was | inr new ↦ inl new ]
-names_from (x ∷ xs) entry a s h =
-    elim h [
-      | inl was ↦ elim was [ inl here ↦ inl here | inr later ↦ inr (names_from xs entry a s (inl later)) ]
-      | inr new ↦ inr (names_from xs entry a s (inr new))
-    ]
+names_from entries entry a s h =
+    elim h [ inl was ↦ some_left entries (entry ∷ []) a s was | inr new ↦ some_right entries (entry ∷ []) a s (inl new) ]
 
 -- an entry of another sort
 pub other_entry : (entries : List Entry) (entry other : Entry) → (entry ≡ other → ⊥) → Contains (entries ++ entry ∷ []) other ↔ Contains entries other

@@ -1,7 +1,7 @@
 -- From each place, whatever the bytes are, the fields lead to where something is told.
-use Rattle.std.proofs.Common.{◌≡◌, ℕ, zero, suc, ◌+◌, ◌*◌, ◌<◌, ◌≤◌, ◌⊎◌, Bool, true, false, ltb, List, [], ◌∷◌, ◌++◌, length, take, drop, Option, Some, None, Result, Ok, Err, refl, sym, ap, arith, inl, inr}
+use Rattle.std.proofs.Common.{◌≡◌, ℕ, zero, suc, ◌+◌, ◌*◌, ◌<◌, ◌≤◌, ◌⊎◌, Bool, true, false, ltb, List, [], ◌∷◌, ◌++◌, length, take, drop, Option, Some, None, Result, Ok, Err, refl, sym, ap, arith, inl, inr, ◌∙◌}
 use Rattle.std.specs.Prelude.{IfSome}
-use Rattle.std.proofs.lemmas.Bool.{cases_lt}
+use Rattle.std.proofs.lemmas.Bool.{cases_lt, cases_Bool, false≢true}
 use Rattle.std.proofs.lemmas.List.{take-append-drop, length-take, length-drop}
 use Rattle.krl_core.specs.declared.krl_fault.KrlFault.{KrlFault}
 use Rattle.krl_core.specs.declared.krl_fault.KrlFault.TheVariants as faults
@@ -12,24 +12,25 @@ use Rattle.krl_core.specs.Front.{Spot, start, spot_after, HasRoom, Told, ended, 
 use Rattle.krl_core.specs.Walk.{Stops}
 use Rattle.krl_core.proofs.Fronts.{first_fault_is}
 use Rattle.krl_core.proofs.Walks.{walks_one, walks_from, stops_here, stops_then}
+use Rattle.krl_core.proofs.Judged.{done, same_place}
 
 room_or_not : (size : ℕ) (room : Option ℕ) → IfSome room (λ left. size ≤ left) ⊎ (IfSome room (λ left. size ≤ left) → ⊥)
 room_or_not size None = inl tt
 room_or_not size (Some left) = elim (cases_lt left size) [ inl lt ↦ inr (λ h. absurd (omega arith)) | inr le ↦ inl le ]
 
-is_true : (b : Bool) → (b ≡ true) ⊎ (b ≡ true → ⊥)
-is_true true = inl refl
-is_true false = inr (λ e. cc)
+-- what is told where the bytes that came are less than the field
+pub end_or_early : (p : Place) (rest : List ℕ) → HasRoom (due p) → length rest < (due p).size → Told p rest false None ⊎ Told p rest false (Some faults.EndsEarly)
+end_or_early p [] room short =
+    elim (cases_Bool (due p).may_end) [
+      | inl here ↦ inl (ended (here, refl) refl refl)
+      | inr other ↦ inr (ends_early room short (λ at. false≢true (sym other ∙ at.0)) refl refl)
+    ]
+end_or_early p (x ∷ rest) room short = inr (ends_early room short (λ at. let none = at.1 in absurd cc) refl refl)
 
 -- a field that is not whole is told
 short_told : (p : Place) (rest : List ℕ) (goes_on : Bool) → HasRoom (due p) → length rest < (due p).size → (fault : Option KrlFault) × Told p rest goes_on fault
 short_told p rest true room short = (Some faults.TooLong, too_long room short refl refl)
-short_told p [] false room short =
-    elim (is_true (due p).may_end) [
-      | inl here ↦ (None, ended (here, refl) refl refl)
-      | inr other ↦ (Some faults.EndsEarly, ends_early room short (λ at. other at.0) refl refl)
-    ]
-short_told p (x ∷ rest) false room short = (Some faults.EndsEarly, ends_early room short (λ at. let none = at.1 in absurd cc) refl refl)
+short_told p rest false room short = elim (end_or_early p rest room short) [ inl end ↦ (None, end) | inr early ↦ (Some faults.EndsEarly, early) ]
 
 -- where a field may be empty, the next one is not
 abbrev pub weight : Place → ℕ
@@ -70,11 +71,8 @@ weight-next_id : (left behind : ℕ) → weight (next_id left behind) ≡ 0
 weight-next_id zero behind = weight-next_subsection behind
 weight-next_id (suc left) behind = refl
 
-abbrev done : Place → Result Place KrlFault
-done p = Ok p
-
 same_weight : (p q : Place) → done p ≡ done q → weight p ≡ weight q
-same_weight p q e = let same : p ≡ q = cc in ap weight same
+same_weight p q e = ap weight (same_place p q e)
 
 -- each field brings the end nearer
 pub nearer : (p q : Place) (field : List ℕ) → (due p).judged field ≡ Ok q → weight q < 2 * (due p).size + weight p

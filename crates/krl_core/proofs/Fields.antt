@@ -1,11 +1,13 @@
 -- The field that is due, in front of what is spelled after it.
-use Rattle.std.proofs.Common.{◌≡◌, ℕ, ◌+◌, ◌-◌, ◌%◌, ◌==◌, ◌<◌, ◌≤◌, Bool, true, false, cond, eqb, ltb, leb, leb-true, eq-eqb, List, [], ◌∷◌, ◌++◌, length, get_or, Ok, Err, refl, sym, ap, subst, ◌∙◌, append_assoc, arith, inl, inr}
+use Rattle.std.proofs.Common.{◌≡◌, ℕ, ◌-◌, ◌%◌, ◌==◌, ◌<◌, ◌≤◌, Bool, true, false, eqb, ltb, leb, leb-true, eq-eqb, List, [], ◌∷◌, ◌++◌, get_or, Ok, refl, sym, ap, subst, ◌∙◌, append_assoc, arith, inl, inr}
 use Rattle.std.specs.List.{concat}
 use Rattle.std.specs.Str.{bytes_eq}
-use Rattle.std.proofs.lemmas.Bool.{cases_lt, eqb-true, ltb-true}
-use Rattle.std.proofs.lemmas.List.{append-nil, get_or-append-add, get_or_append_left, get_or_past}
+use Rattle.std.proofs.lemmas.Bool.{eqb-true, ltb-true}
+use Rattle.std.proofs.lemmas.List.{append-nil}
 use Rattle.std.proofs.lemmas.Slice.Eq.{bytes_eq-Decides}
 use Rattle.ssh_wire.specs.Wire.{IsBytes, number, number_of}
+use Rattle.ssh_wire.specs.Steps.{passed_ok}
+use Rattle.ssh_wire.specs.Digits.{IsBytes-behind, IsBytes-front}
 use Rattle.krl_core.specs.declared.krl_fault.KrlFault.TheVariants as faults
 use Rattle.krl_core.specs.declared.header.Header.{Header}
 use Rattle.krl_core.specs.declared.place.Place.{Place}
@@ -15,11 +17,12 @@ use Rattle.krl_core.specs.Front.{Spot, Passes, Leads, spot_after}
 use Rattle.krl_core.specs.Krl.{magic}
 use Rattle.krl_core.specs.Place.{due, judge, names, authority_after, header_after, next_key, next_sha1, next_sha256, next_subsection, next_serial, next_id, next_bits, section_of_type, subsection_of_type, base_of, passes_end}
 use Rattle.krl_core.proofs.Bits.{judged_parts}
-use Rattle.krl_core.proofs.Completes.{same_place, passed, fits_within, chosen, one_byte, number_front, length_front, content_front, item_front, string_more, serial_more, keys_from, sha1s_from, sha256s_from, subsections_from, serials_from, ids_from, sections_from, keys_section, sha1s_section, sha256s_section, certificates_section, extension_section, signature_section}
+use Rattle.krl_core.proofs.Completes.{fits_within, chosen, one_byte, number_front, length_front, content_front, item_front, string_more, serial_more, keys_from, sha1s_from, sha256s_from, subsections_from, serials_from, ids_from, sections_from, keys_section, sha1s_section, sha256s_section, certificates_section, extension_section, signature_section}
 use Rattle.krl_core.proofs.CompletesParts.{subsections_more, reserved_front, certificates_front, extension_front, contents_front, range_front, serials_part, ids_part, range_part, bitmap_part, extension_part, bits_from, bits_more, bitmap_front, offset_front}
 use Rattle.krl_core.proofs.Numbers.{number_back4, number_back8}
 use Rattle.krl_core.proofs.Same.{same_refl}
 use Rattle.krl_core.proofs.Rests.{FromItem, FromBits, FromSections, FromLength, FromContent, FromExtension, FromCritical, FromComment, FromHeaderReserved, FromFlags, FromDate, FromSubsections, FromReserved, FromCertificates, FromPart, Completes, Any, HasSize, KeyItems, Sha1Items, Sha256Items, IdItems}
+use Rattle.krl_core.proofs.Judged.{held_back, same_place}
 
 -- what is spelled from the place after a field is spelled from the same place by another name
 along : (last h : Header) (a : List ℕ) (p q : Place) (bytes : List ℕ) (more : List Entry) → p ≡ q → Completes last h a q bytes more → Completes last h a p bytes more
@@ -30,7 +33,7 @@ section_front : (last h : Header) (signed : Bool) (q : Place) (n : ℕ) (tail : 
 section_front last h signed q n tail more e k =
     elim (chosen (eqb n 4) places.SignatureKeyLength _ q e) [
       | inl w ↦ byte 4 (eqb-true n 4 w.0) (signature_section (last ≡ h) signed tail more (along last h [] places.SignatureKeyLength q tail more w.1 k))
-      | inr w0 ↦ let s = unsigned signed _ q w0.1 in
+      | inr w0 ↦ let s = held_back signed faults.AfterSignature _ q w0.1 in
           elim (chosen (eqb n 1) places.CertificatesLength _ q s.1) [
             | inl w ↦ byte 1 (eqb-true n 1 w.0) (certificates_section (last ≡ h) signed tail more s.0 (along last h [] places.CertificatesLength q tail more w.1 k))
             | inr w1 ↦ elim (chosen (eqb n 2) places.KeysLength _ q w1.1) [
@@ -51,10 +54,6 @@ section_front last h signed q n tail more e k =
   where
     byte : (m : ℕ) → n ≡ m → FromSections signed (last ≡ h) (m ∷ tail) more → FromSections signed (last ≡ h) (n ∷ tail) more
     byte m same f = subst (λ (x : ℕ). FromSections signed (last ≡ h) (x ∷ tail) more) (sym same) f
-
-    unsigned : (b : Bool) (x : _) (r : Place) → cond b (Err faults.AfterSignature) x ≡ Ok r → (b ≡ false) × (x ≡ Ok r)
-    unsigned true x r f = absurd (cc)
-    unsigned false x r f = (refl, f)
 
 subsection_front : (last h : Header) (a : List ℕ) (left : ℕ) (q : Place) (n : ℕ) (tail : List ℕ) (more : List Entry) → 1 ≤ left → subsection_of_type (left - 1) n ≡ Ok q
     → Completes last h a q tail more → FromSubsections (last ≡ h) a left (n ∷ tail) more
@@ -82,10 +81,10 @@ subsection_front last h a left q n tail more room e k =
 pub field_front : (last h : Header) (a : List ℕ) (p q : Place) (field tail : List ℕ) (more : List Entry) → IsBytes field → Passes p field q
     → Completes last (header_after p h field) (authority_after p a field) q tail more → Completes last h a p (field ++ tail) (names p a field ++ more)
 field_front last h a places.Magic q field tail more fits pass k =
-    let w = passed (bytes_eq field magic) faults.Magic places.FormatVersion q pass.judged in
+    let w = passed_ok (bytes_eq field magic) faults.Magic places.FormatVersion q pass.judged in
     record { rest = tail; parts = ap (λ (x : List ℕ). x ++ tail) ((bytes_eq-Decides field magic).0 w.0); then_is = along last h a places.FormatVersion q tail more w.1 k }
 field_front last h a places.FormatVersion q field tail more fits pass k =
-    let w = passed (eqb (number_of field) 1) faults.FormatVersion places.Version q pass.judged in
+    let w = passed_ok (eqb (number_of field) 1) faults.FormatVersion places.Version q pass.judged in
     let n = number_back4 field pass.whole fits in
     record { rest = tail; parts = ap (λ (x : List ℕ). x ++ tail) (sym n.0 ∙ ap (number 4) (eqb-true (number_of field) 1 w.0)); then_is = along last h a places.Version q tail more w.1 k }
 field_front last h a places.Version q field tail more fits pass k =
@@ -125,7 +124,7 @@ field_front last h a places.Sha1sLength q field tail more fits pass k =
     length_front (Sha1Items (last ≡ h)) field tail more fits pass.whole (sha1s_from last h a (number_of field) tail more (along last h a (next_sha1 (number_of field)) q tail more (same_place (next_sha1 (number_of field)) q pass.judged) k))
 field_front last h a (places.Sha1Length left) q field tail more fits pass k =
     let w = fits_within left (λ size. judge (size == 20) faults.HashLength (places.Sha1 (left - 4 - size))) (number_of field) q pass.judged in
-    let v = passed (eqb (number_of field) 20) faults.HashLength (places.Sha1 (left - 4 - number_of field)) q w.1 in
+    let v = passed_ok (eqb (number_of field) 20) faults.HashLength (places.Sha1 (left - 4 - number_of field)) q w.1 in
     let size : number_of field ≡ 20 = eqb-true (number_of field) 20 v.0 in
     let room : 4 ≤ left = pass.room in
     let one = along last h a (places.Sha1 (left - 4 - number_of field)) q tail more v.1 k in
@@ -137,7 +136,7 @@ field_front last h a places.Sha256sLength q field tail more fits pass k =
     length_front (Sha256Items (last ≡ h)) field tail more fits pass.whole (sha256s_from last h a (number_of field) tail more (along last h a (next_sha256 (number_of field)) q tail more (same_place (next_sha256 (number_of field)) q pass.judged) k))
 field_front last h a (places.Sha256Length left) q field tail more fits pass k =
     let w = fits_within left (λ size. judge (size == 32) faults.HashLength (places.Sha256 (left - 4 - size))) (number_of field) q pass.judged in
-    let v = passed (eqb (number_of field) 32) faults.HashLength (places.Sha256 (left - 4 - number_of field)) q w.1 in
+    let v = passed_ok (eqb (number_of field) 32) faults.HashLength (places.Sha256 (left - 4 - number_of field)) q w.1 in
     let size : number_of field ≡ 32 = eqb-true (number_of field) 32 v.0 in
     let room : 4 ≤ left = pass.room in
     let one = along last h a (places.Sha256 (left - 4 - number_of field)) q tail more v.1 k in
@@ -164,7 +163,7 @@ field_front last h a (places.SubsectionType left) q field tail more fits pass k 
 field_front last h a (places.SerialsLength left) q field tail more fits pass k =
     let n = number_of field in
     let w = fits_within left (λ size. judge (size % 8 == 0) faults.Length (next_serial size (left - 4 - size))) n q pass.judged in
-    let v = passed (n % 8 == 0) faults.Length (next_serial n (left - 4 - n)) q w.1 in
+    let v = passed_ok (n % 8 == 0) faults.Length (next_serial n (left - 4 - n)) q w.1 in
     serials_part (last ≡ h) a left field tail more fits pass.whole pass.room w.0
     (serials_from last h a n (left - 4 - n) tail more (along last h a (next_serial n (left - 4 - n)) q tail more v.1 k))
 field_front last h a (places.Serial left behind) q field tail more fits pass k =
@@ -173,13 +172,13 @@ field_front last h a (places.Serial left behind) q field tail more fits pass k =
 field_front last h a (places.RangeLength left) q field tail more fits pass k =
     let n = number_of field in
     let w = fits_within left (λ size. judge (size == 16) faults.Length (places.RangeMin (left - 4 - size))) n q pass.judged in
-    let v = passed (eqb n 16) faults.Length (places.RangeMin (left - 4 - n)) q w.1 in
+    let v = passed_ok (eqb n 16) faults.Length (places.RangeMin (left - 4 - n)) q w.1 in
     range_part (last ≡ h) a left field tail more fits pass.whole pass.room w.0 (eqb-true n 16 v.0) (along last h a (places.RangeMin (left - 4 - n)) q tail more v.1 k)
 field_front last h a (places.RangeMin behind) q field tail more fits pass k =
     range_front (last ≡ h) a behind field tail more fits pass.whole
     (along last h a (places.RangeMax (number_of field) behind) q tail more (same_place (places.RangeMax (number_of field) behind) q pass.judged) k)
 field_front last h a (places.RangeMax min behind) q field tail more fits pass k =
-    let w = passed (leb min (number_of field)) faults.RangeReversed (next_subsection behind) q pass.judged in
+    let w = passed_ok (leb min (number_of field)) faults.RangeReversed (next_subsection behind) q pass.judged in
     let n = number_back8 field pass.whole fits in
     record {
       max = number_of field;
@@ -199,7 +198,7 @@ field_front last h a (places.BitmapOffset left behind) q field tail more fits pa
     offset_front (last ≡ h) a left behind field tail more fits pass.whole pass.room
     (along last h a (places.BitmapSize (number_of field) (left - 8) behind) q tail more (same_place (places.BitmapSize (number_of field) (left - 8) behind) q pass.judged) k)
 field_front last h a (places.BitmapSize offset left behind) q field tail more fits pass k =
-    let w = passed (eqb (number_of field) (left - 4)) faults.Length (next_bits offset (left - 4) (left - 4) behind) q pass.judged in
+    let w = passed_ok (eqb (number_of field) (left - 4)) faults.Length (next_bits offset (left - 4) (left - 4) behind) q pass.judged in
     bitmap_front (last ≡ h) a offset left behind field tail more fits pass.whole pass.room (eqb-true (number_of field) (left - 4) w.0)
     (bits_from last h a offset (left - 4) (left - 4) behind tail more (along last h a (next_bits offset (left - 4) (left - 4) behind) q tail more w.1 k))
 field_front last h a (places.BitmapByte offset size left behind) q field tail more fits pass k = λ pos.
@@ -240,7 +239,7 @@ field_front last h a (places.ExtensionName n left behind) q field tail more fits
     content_front n (λ n. FromCritical left (FromSubsections (last ≡ h) a behind)) field tail more pass.whole
     (along last h a (places.ExtensionCritical left behind) q tail more (same_place (places.ExtensionCritical left behind) q pass.judged) k)
 field_front last h a (places.ExtensionCritical left behind) q field tail more fits pass k =
-    let w = passed (eqb (number_of field) 0) faults.CriticalExtension (places.ExtensionContentsLength (left - 1) behind) q pass.judged in
+    let w = passed_ok (eqb (number_of field) 0) faults.CriticalExtension (places.ExtensionContentsLength (left - 1) behind) q pass.judged in
     let zero_byte : field ≡ 0 ∷ [] = one_byte field pass.whole ∙ ap (λ (n : ℕ). n ∷ []) (eqb-true (number_of field) 0 w.0) in
     let x = along last h a (places.ExtensionContentsLength (left - 1) behind) q tail more w.1 k in
     let room : 1 ≤ left = pass.room in
@@ -252,7 +251,7 @@ field_front last h a (places.ExtensionCritical left behind) q field tail more fi
       then_is = x.then_is;
     }
 field_front last h a (places.ExtensionContentsLength left behind) q field tail more fits pass k =
-    let w = passed (eqb (number_of field) (left - 4)) faults.Length (places.ExtensionContents (left - 4) behind) q pass.judged in
+    let w = passed_ok (eqb (number_of field) (left - 4)) faults.Length (places.ExtensionContents (left - 4) behind) q pass.judged in
     contents_front left (FromSubsections (last ≡ h) a behind) field tail more fits pass.whole pass.room (eqb-true (number_of field) (left - 4) w.0)
     (along last h a (places.ExtensionContents (left - 4) behind) q tail more w.1 k)
 field_front last h a (places.ExtensionContents n behind) q field tail more fits pass k =
@@ -260,16 +259,6 @@ field_front last h a (places.ExtensionContents n behind) q field tail more fits 
     (subsections_from last h a behind tail more (along last h a (next_subsection behind) q tail more (same_place (next_subsection behind) q pass.judged) k))
 
 -- ---- a row of fields
-
-bytes_front : (xs ys : List ℕ) → IsBytes (xs ++ ys) → IsBytes xs
-bytes_front xs ys h i =
-    elim (cases_lt i (length xs)) [
-      | inl lt ↦ subst (λ (n : ℕ). n < 256) (get_or_append_left xs ys 0 i lt) (h i)
-      | inr le ↦ subst (λ (n : ℕ). n < 256) (sym (get_or_past xs i 0 le)) (omega arith)
-    ]
-
-bytes_rest : (xs ys : List ℕ) → IsBytes (xs ++ ys) → IsBytes ys
-bytes_rest xs ys h i = subst (λ (n : ℕ). n < 256) (get_or-append-add xs ys i 0) (h (length xs + i))
 
 ends_here : (last h : Header) (a : List ℕ) (p : Place) → last ≡ h → (due p).may_end ≡ true → Completes last h a p [] []
 ends_here last h a (places.SectionType true) e may = record { sections = []; spelled = refl; last = tt; named = same_refl []; known = e }
@@ -284,8 +273,8 @@ completes s [] last leads may fits = (
   ends_here last.header s.header s.authority s.place (ap (λ (x : Spot). x.header) (sym leads)) (subst (λ (x : Spot). (due x.place).may_end ≡ true) (sym leads) may),
 )
 completes s (field ∷ fields) last (next, (pass, leads)) may fits =
-    let w = completes (spot_after s field next) fields last leads may (bytes_rest field (concat fields) fits) in (
+    let w = completes (spot_after s field next) fields last leads may (IsBytes-behind field (concat fields) fits) in (
       names s.place s.authority field ++ w.0,
       w.1 ∙ append_assoc s.entries (names s.place s.authority field) w.0,
-      field_front last.header s.header s.authority s.place next field (concat fields) w.0 (bytes_front field (concat fields) fits) pass w.2,
+      field_front last.header s.header s.authority s.place next field (concat fields) w.0 (IsBytes-front field (concat fields) fits) pass w.2,
     )

@@ -14,10 +14,11 @@ use Rattle.krl_core.specs.Text.{bytes_of}
 use Rattle.krl_core.specs.Contents.{Section, SomeSection}
 use Rattle.krl_core.specs.Pages.{joined, first_items, front_of}
 use Rattle.krl_core.specs.Shelf.{section_of, sections_of}
-use Rattle.krl_core.proofs.Members.{absent_below, absent_above, contains_here, contains_later, contains_right}
+use Rattle.krl_core.proofs.Members.{absent_below, absent_above, contains_right}
 use Rattle.krl_core.proofs.Paged.{cut_at}
 use Rattle.krl_core.proofs.Spots.{first_back}
 use Rattle.krl_core.proofs.SomeSections.{some_to, some_at}
+use Rattle.krl_core.specs.Elements.{contains_here, contains_later}
 
 module _ {X : Type 0} (key : X → List ℕ) where
   above_at : (bytes : List ℕ) (front : List X) (x : X) (back : List X) → AllAbove key bytes (front ++ x ∷ back) → bytes_cmp bytes (key x) ≡ Less

@@ -1,18 +1,15 @@
 -- The first fields of a list, of which none says how long another is.
-use Rattle.std.proofs.Common.{◌≡◌, ℕ, ◌+◌, ◌<◌, ◌≤◌, Bool, true, false, List, [], ◌∷◌, length, Result, Ok, refl, sym, subst, ap, ◌∙◌, arith}
+use Rattle.std.proofs.Common.{◌≡◌, ℕ, ◌+◌, ◌<◌, ◌≤◌, true, false, List, [], ◌∷◌, length, Ok, refl, sym, subst, ap, ◌∙◌, arith}
 use Rattle.std.specs.List.{concat}
 use Rattle.std.proofs.lemmas.List.{length-append}
-use Rattle.krl_core.specs.declared.krl_fault.KrlFault.{KrlFault}
 use Rattle.krl_core.specs.declared.krl_fault.KrlFault.TheVariants as faults
 use Rattle.krl_core.specs.declared.place.Place.{Place}
 use Rattle.krl_core.specs.declared.place.Place.TheVariants.{Magic, FormatVersion, Version, Date, Flags, ReservedLength}
 use Rattle.krl_core.specs.Front.{Leads, Passes, Spot, spot_after, start}
-use Rattle.krl_core.specs.Place.{due, judge}
+use Rattle.krl_core.specs.Place.{due}
 use Rattle.krl_core.specs.Reading.{is_fixed}
-
-judge_next : (good : Bool) (fault : KrlFault) (place next : Place) → judge good fault place ≡ Ok next → place ≡ next
-judge_next true fault place next e = cc
-judge_next false fault place next e = absurd (cc)
+use Rattle.krl_core.proofs.Judged.{done, same_place}
+use Rattle.ssh_wire.specs.Steps.{passed_ok}
 
 -- from a place on, the fields that lead past the first ones have so many bytes
 abbrev pub Needs : Place → ℕ → Type 0
@@ -35,11 +32,8 @@ needs_more place size more fixed is needs spot at (field ∷ fields) last leads 
     let rest = needs field after passes.judged (spot_after spot field after) refl fields last leads.1.1 late in
     omega (arith, rest, passes.whole, is, length-append field (concat fields))
 
-abbrev passed : Place → Result Place KrlFault
-passed place = Ok place
-
-after_is : (place after : Place) (more : ℕ) → passed place ≡ Ok after → Needs place more → Needs after more
-after_is place after more e h = let same : place ≡ after = cc in subst (λ (p : Place). Needs p more) same h
+after_is : (place after : Place) (more : ℕ) → done place ≡ Ok after → Needs place more → Needs after more
+after_is place after more e h = subst (λ (p : Place). Needs p more) (same_place place after e) h
 
 needs_reserved : Needs ReservedLength 4
 needs_reserved = needs_more ReservedLength 4 0 refl refl (λ field after e. any_needs after)
@@ -55,11 +49,11 @@ needs_version = needs_more Version 8 20 refl refl (λ field after e. after_is Da
 
 needs_format : Needs FormatVersion 32
 needs_format = needs_more FormatVersion 4 28 refl refl
-    (λ field after e. subst (λ (p : Place). Needs p 28) (judge_next _ faults.FormatVersion Version after e) needs_version)
+    (λ field after e. subst (λ (p : Place). Needs p 28) (passed_ok _ faults.FormatVersion Version after e).1 needs_version)
 
 needs_magic : Needs Magic 40
 needs_magic = needs_more Magic 8 32 refl refl
-    (λ field after e. subst (λ (p : Place). Needs p 32) (judge_next _ faults.Magic FormatVersion after e) needs_format)
+    (λ field after e. subst (λ (p : Place). Needs p 32) (passed_ok _ faults.Magic FormatVersion after e).1 needs_format)
 
 -- past the first fields 40 bytes were read
 pub late_enough : (fields : List (List ℕ)) (last : Spot) → Leads start fields last → is_fixed last.place ≡ false → 40 ≤ length (concat fields)

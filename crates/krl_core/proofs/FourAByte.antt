@@ -7,11 +7,13 @@ use Rattle.std.specs.declared.cmp.Ordering.TheVariants.{Less}
 use Rattle.std.proofs.lemmas.Bool.{false≢true}
 use Rattle.std.proofs.lemmas.List.Sums.{sum_by-cons, sum_by-append}
 use Rattle.std.proofs.lemmas.Slice.Eq.{bytes_eq-Decides}
+use Rattle.std.proofs.lemmas.List.Elements.{All-tail}
 use Rattle.serial_set.specs.declared.span.Span.{Span}
 use Rattle.serial_set.specs.Span.{Covers}
 use Rattle.serial_set.specs.Least.{runs_least}
 use Rattle.serial_set.specs.Rising.{names_append, names_left, names_right}
 use Rattle.ssh_wire.specs.Wire.{IsBytes, number_of}
+use Rattle.ssh_wire.specs.Digits.{IsBytes-behind, IsBytes-front}
 use Rattle.krl_core.specs.declared.place.Place.{Place}
 use Rattle.krl_core.specs.declared.place.Place.TheVariants as places
 use Rattle.krl_core.specs.Contents.{Contents, HoldsSerial, IsListed, Means, Section, SomeSection, held}
@@ -22,9 +24,8 @@ use Rattle.krl_core.specs.Place.{names}
 use Rattle.krl_core.specs.Rising.{AllAbove, RisesBy, bytes_cmp}
 use Rattle.krl_core.proofs.Intervals.{IsByteOnly, authority_of, intervals_name, intervals_of, length-intervals, most, names_intervals}
 use Rattle.krl_core.proofs.Numbers.{number_of-one}
-use Rattle.krl_core.proofs.OneMeaning.{held_first, not_before_itself}
-use Rattle.krl_core.proofs.Sections.{All-tail}
-use Rattle.krl_core.proofs.Spelled.{bytes_head, bytes_tail}
+use Rattle.krl_core.proofs.OneMeaning.{authority_of as key_of, held_first, not_before_itself}
+use Rattle.krl_core.specs.Elements.{all_append}
 
 -- ---- the intervals of entries under one authority
 
@@ -80,9 +81,6 @@ names-all_under a (entry ∷ entries) s small h =
     ]
 
 -- ---- how many they are over all authorities
-
-abbrev key_of : Section → List ℕ
-key_of section = section.authority
 
 abbrev count_under : Entry → Section → ℕ
 count_under entry section = length (under section.authority entry)
@@ -213,10 +211,6 @@ field_bytes (places.Sha1 behind) next authority field p fits = (tt, tt)
 field_bytes (places.Sha256 behind) next authority field p fits = (tt, tt)
 field_bytes place next authority field p fits = tt
 
-all_append : (xs ys : List Entry) → AllByRecursion IsByteOnly xs → AllByRecursion IsByteOnly ys → AllByRecursion IsByteOnly (xs ++ ys)
-all_append [] ys a b = b
-all_append (x ∷ xs) ys a b = (a.0, all_append xs ys a.1 b)
-
 fields_few : (fields : List (List ℕ)) (spot last : Spot) → Leads spot fields last → sum_by most last.entries ≤ sum_by most spot.entries + 4 * length (concat fields)
 fields_few [] spot last leads = omega (arith, ap (λ (s : Spot). sum_by most s.entries) leads)
 fields_few (field ∷ fields) spot last leads =
@@ -228,8 +222,8 @@ fields_bytes : (fields : List (List ℕ)) (spot last : Spot) → Leads spot fiel
 fields_bytes [] spot last leads fits all = subst (λ (s : Spot). AllByRecursion IsByteOnly s.entries) leads all
 fields_bytes (field ∷ fields) spot last leads fits all =
     let named : List Entry = names spot.place spot.authority field in
-    let here = field_bytes spot.place leads.0 spot.authority field leads.1.0 (bytes_head field (concat fields) fits) in
-    fields_bytes fields (spot_after spot field leads.0) last leads.1.1 (bytes_tail field (concat fields) fits) (all_append spot.entries named all here)
+    let here = field_bytes spot.place leads.0 spot.authority field leads.1.0 (IsBytes-front field (concat fields) fits) in
+    fields_bytes fields (spot_after spot field leads.0) last leads.1.1 (IsBytes-behind field (concat fields) fits) (all_append IsByteOnly spot.entries named all here)
 
 pub four_a_byte : (fields : List (List ℕ)) (spot : Spot) (r : Contents) → Leads start fields spot → IsBytes (concat fields) → Means r spot.entries → held r ≤ 4 * length (concat fields)
 four_a_byte fields spot r leads fits means =

@@ -11,6 +11,8 @@ use Rattle.krl_core.specs.declared.place.Place.TheVariants.{SectionType}
 use Rattle.krl_core.specs.Place.{due}
 use Rattle.krl_core.specs.Front.{Spot, start, spot_after, HasRoom, Leads, IsEnd, Told, ended, no_room, refused, too_long, ends_early, IsFront, IsLongestFront, IsFirstFault, limit}
 use Rattle.krl_core.specs.Walk.{Stops}
+use Rattle.krl_core.proofs.Judged.{same_place}
+use Rattle.ssh_wire.specs.Steps.{never_err}
 
 -- fronts of one list that are as long are the same
 pub append_same : (a b x y : List ℕ) → length a ≡ length b → a ++ x ≡ b ++ y → (a ≡ b) × (x ≡ y)
@@ -19,18 +21,9 @@ append_same a b x y len e =
     let m : drop (length b) (a ++ x) ≡ x = ap (λ (k : ℕ). drop k (a ++ x)) (sym len) ∙ drop-append_seam a x in
     (sym n ∙ ap (take (length b)) e ∙ take-append_seam b y, sym m ∙ ap (drop (length b)) e ∙ drop-append_seam b y)
 
-abbrev done : Place → Result Place KrlFault
-done p = Ok p
-
-same_next : (p q : Place) → done p ≡ done q → p ≡ q
-same_next p q e = cc
-
-not_refused : (p : Place) (why : KrlFault) → done p ≡ Err why → ⊥
-not_refused p why e = cc
-
 -- the place after a field is one
 next_is : (p m n : Place) (x y : List ℕ) → x ≡ y → (due p).judged x ≡ Ok m → (due p).judged y ≡ Ok n → m ≡ n
-next_is p m n x y e h k = same_next m n (sym h ∙ ap (due p).judged e ∙ k)
+next_is p m n x y e h k = same_place m n (sym h ∙ ap (due p).judged e ∙ k)
 
 same_after : (spot : Spot) (x y : List ℕ) (m n : Place) → x ≡ y → m ≡ n → spot_after spot y n ≡ spot_after spot x m
 same_after spot x y m n e e' =
@@ -85,7 +78,7 @@ blocked p next rest field after goes_on fault (ended at off is) room size judged
 blocked p next rest field after goes_on fault (no_room none is) room size judged e = none room
 blocked p next rest field after goes_on fault (refused field' after' why room' e' size' judged' is) room size judged e =
     let same = append_same field field' after after' (size ∙ sym size') (sym e ∙ e') in
-    not_refused next why (sym judged ∙ ap (due p).judged same.0 ∙ judged')
+    never_err next why (sym judged ∙ ap (due p).judged same.0 ∙ judged')
 blocked p next rest field after goes_on fault (too_long room' short on is) room size judged e =
     absurd (omega (arith, short, size, ap length e, length-append field after))
 blocked p next rest field after goes_on fault (ends_early room' short not_end off is) room size judged e =

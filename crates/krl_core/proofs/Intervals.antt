@@ -11,7 +11,7 @@ use Rattle.serial_set.specs.Bits.{bit_below}
 use Rattle.serial_set.specs.Rising.{names_append, names_left, names_right}
 use Rattle.krl_core.specs.Entry.{Entry, SerialsEntry, RangeEntry, BitmapEntry, IdEntry, KeyEntry, Sha1Entry, Sha256Entry}
 use Rattle.krl_core.specs.Naming.{NamesAt}
-use Rattle.krl_core.proofs.Members.{contains_cases, contains_here, contains_later, contains_none}
+use Rattle.krl_core.specs.Elements.{contains_cases, contains_here, contains_later, contains_none}
 
 -- ---- numbers in a row
 

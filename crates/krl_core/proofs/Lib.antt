@@ -1,4 +1,5 @@
 pub mod Numbers
+pub mod Judged
 pub mod Fronts
 pub mod Fixed
 pub mod Walks

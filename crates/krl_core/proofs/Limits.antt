@@ -15,7 +15,7 @@ use Rattle.krl_plan.specs.ListTexts.{string_ended}
 use Rattle.krl_plan.specs.OnePlan.{one_plan}
 use Rattle.krl_core.proofs.Sections.{length-authority}
 
-abbrev refused : TextFault → Result (Unit {0}) TextFault
+abbrev pub refused : TextFault → Result (Unit {0}) TextFault
 refused fault = Err fault
 
 -- an addition that is too long makes a longer one too long

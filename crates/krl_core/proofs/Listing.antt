@@ -1,5 +1,5 @@
 -- How far the sections of authorities are put.
-use Rattle.std.proofs.Common.{◌≡◌, ℕ, ◌+◌, ◌<◌, ◌≤◌, List, [], ◌∷◌, ◌++◌, length, Result, Err, refl, sym, ap, subst, ◌∙◌, arith, append_assoc, length-append}
+use Rattle.std.proofs.Common.{◌≡◌, ℕ, ◌+◌, ◌<◌, ◌≤◌, List, [], ◌∷◌, ◌++◌, length, refl, sym, ap, subst, ◌∙◌, arith, append_assoc, length-append}
 use Rattle.std.proofs.lemmas.List.{append-nil}
 use Rattle.krl_core.specs.Front.{limit}
 use Rattle.krl_core.specs.declared.writing.text_fault.TextFault.{TextFault}
@@ -9,10 +9,8 @@ use Rattle.krl_core.specs.Contents.{Section as Listed}
 use Rattle.krl_core.specs.KrlText.{EachPlan, authorities_text, authority_text}
 use Rattle.krl_plan.specs.Plan.{IsLeastPlan}
 use Rattle.krl_core.specs.Within.{AddsAuthorities, AddsAuthority}
+use Rattle.krl_core.proofs.Limits.{refused}
 use Rattle.krl_plan.specs.OnePlan.{one_plan}
-
-abbrev refused : TextFault → Result (Unit {0}) TextFault
-refused fault = Err fault
 
 -- What is put so far, and any least plans of what is left, make up least plans of all, and the other
 -- way round.

@@ -18,6 +18,7 @@ use Rattle.krl_core.specs.Reading.{IsWhole, IsList}
 use Rattle.krl_core.proofs.Fields.{completes}
 use Rattle.krl_core.proofs.Rests.{FromText, FromFormat}
 use Rattle.krl_core.proofs.SameMeaning.{same_meaning}
+use Rattle.krl_core.proofs.Completes.{whole_string}
 
 -- the fields of a header and what follows it, one after the other
 pub header_parts : (header : Header) (flags : ℕ) (reserved rest : List ℕ) → header_text header flags reserved ++ rest
@@ -29,11 +30,6 @@ pub record SpelledBy (text : List ℕ) (header : Header) (entries : List Entry) 
   pub sections : List Section
   pub spelled : Spells text header sections
   pub named : NamesSame entries (entries_of sections)
-
-whole_string : (size : ℕ) (content rest after bytes : List ℕ) → bytes ≡ number 4 size ++ after → after ≡ content ++ rest → length content ≡ size → bytes ≡ string content ++ rest
-unfolding string
-whole_string size content rest after bytes e f len =
-    e ∙ ap (λ (n : ℕ). number 4 n ++ after) (sym len) ∙ ap (λ (x : List ℕ). number 4 (length content) ++ x) f ∙ sym (append_assoc (number 4 (length content)) content rest)
 
 spelled_from : (text : List ℕ) (last h : Header) (more : List Entry) → FromText magic (FromFormat last h) text more → SpelledBy text last more
 spelled_from text last h more h0 =

@@ -1,10 +1,12 @@
 -- What the sections of a list that is written name is what is held.
-use Rattle.std.proofs.Common.{◌≡◌, ℕ, zero, suc, ◌+◌, ◌-◌, ◌*◌, ◌<◌, ◌≤◌, ◌⊎◌, inl, inr, List, [], ◌∷◌, ◌++◌, length, take, drop, map, refl, sym, ap, subst, ◌∙◌, arith}
+use Rattle.std.proofs.Common.{◌≡◌, ℕ, zero, suc, ◌+◌, ◌-◌, ◌*◌, ◌<◌, ◌≤◌, ◌⊎◌, inl, inr, List, [], ◌∷◌, length, take, drop, map, sym, ap, subst, ◌∙◌, arith}
 use Rattle.std.specs.List.{Contains, flat_map}
 use Rattle.std.proofs.lemmas.Bool.{cases_lt}
 use Rattle.std.proofs.lemmas.List.Elements.{Contains-append_cases, Contains-append_left, Contains-append_right}
+use Rattle.std.proofs.lemmas.List.{take-append-drop}
 use Rattle.serial_set.specs.declared.span.Span.{Span}
 use Rattle.serial_set.specs.Span.{AreSerials, IsRuns, Covers as Names, RunsFrom}
+use Rattle.serial_set.specs.Rising.{names_append}
 use Rattle.krl_plan.specs.declared.group.Sort.{Sort}
 use Rattle.krl_plan.specs.declared.group.Sort.TheVariants as sorts
 use Rattle.krl_plan.specs.declared.group.Group.{Group}
@@ -17,36 +19,24 @@ use Rattle.krl_plan.specs.Written.{bitmap_size, first_of, serials_from, serials_
 use Rattle.krl_core.proofs.BitmapNames.{bits-names, names-bits, names_within}
 use Rattle.krl_plan.specs.Chosen.{IsRuns-drop, RunsFrom-take}
 use Rattle.krl_core.proofs.Spelling.{AreSerials-drop, AreSerials-take, names-drop, names-take}
+use Rattle.krl_core.specs.Elements.{contains_here, contains_later, contains_cases, contains_none, some_left, some_right, some_cases}
 
 -- ---- elements
 
-head_in : {X : Type 0} (x : X) (xs : List X) → Contains (x ∷ xs) x
-head_in x xs = (0, omega arith, refl)
-
-pub tail_in : {X : Type 0} (x y : X) (xs : List X) → Contains xs y → Contains (x ∷ xs) y
-tail_in x y xs h = let lt = h.1 in (suc h.0, omega arith, h.2)
-
-pub in_cases : {X : Type 0} (x y : X) (xs : List X) → Contains (x ∷ xs) y → (x ≡ y) ⊎ Contains xs y
-in_cases x y xs (zero, lt, e) = inl e
-in_cases x y xs (suc k, lt, e) = inr (k, omega arith, e)
-
-pub none_in : {X : Type 0} (y : X) → Contains [] y → ⊥
-none_in y h = let lt = h.1 in absurd (omega arith)
-
 pub in_map : {X Y : Type 0} (f : X → Y) (x : X) (xs : List X) → Contains xs x → Contains (map f xs) (f x)
-in_map f x [] h = absurd (none_in x h)
+in_map f x [] h = absurd (contains_none x h)
 in_map f x (first ∷ xs) h =
-    elim (in_cases first x xs h) [
-      | inl e ↦ subst (λ y. Contains (f first ∷ map f xs) y) (ap f e) (head_in (f first) (map f xs))
-      | inr later ↦ tail_in (f first) (f x) (map f xs) (in_map f x xs later)
+    elim (contains_cases first x xs h) [
+      | inl e ↦ subst (λ y. Contains (f first ∷ map f xs) y) (ap f e) (contains_here (f first) (map f xs))
+      | inr later ↦ contains_later (f first) (f x) (map f xs) (in_map f x xs later)
     ]
 
 pub from_map : {X Y : Type 0} (f : X → Y) → ((a b : X) → f a ≡ f b → a ≡ b) → (x : X) (xs : List X) → Contains (map f xs) (f x) → Contains xs x
-from_map f one x [] h = absurd (none_in (f x) h)
+from_map f one x [] h = absurd (contains_none (f x) h)
 from_map f one x (first ∷ xs) h =
-    elim (in_cases (f first) (f x) (map f xs) h) [
-      | inl e ↦ subst (λ y. Contains (first ∷ xs) y) (one first x e) (head_in first xs)
-      | inr later ↦ tail_in first x xs (from_map f one x xs later)
+    elim (contains_cases (f first) (f x) (map f xs) h) [
+      | inl e ↦ subst (λ y. Contains (first ∷ xs) y) (one first x e) (contains_here first xs)
+      | inr later ↦ contains_later first x xs (from_map f one x xs later)
     ]
 
 -- ---- the kinds of entries
@@ -62,24 +52,11 @@ kind (Sha256Entry hash) = 4
 
 -- an element of a mapped list is some value's image
 pub map_kind : {X : Type 0} (f : X → Entry) (n : ℕ) → ((x : X) → kind (f x) ≡ n) → (xs : List X) (e : Entry) → Contains (map f xs) e → kind e ≡ n
-map_kind f n same [] e h = absurd (none_in e h)
+map_kind f n same [] e h = absurd (contains_none e h)
 map_kind f n same (x ∷ xs) e h =
-    elim (in_cases (f x) e (map f xs) h) [ inl eq ↦ sym (ap kind eq) ∙ same x | inr later ↦ map_kind f n same xs e later ]
+    elim (contains_cases (f x) e (map f xs) h) [ inl eq ↦ sym (ap kind eq) ∙ same x | inr later ↦ map_kind f n same xs e later ]
 
 -- ---- serials that some entries name
-
-pub some_left : (xs ys : List Entry) (a : List ℕ) (s : ℕ) → SomeNamesAt xs a s → SomeNamesAt (xs ++ ys) a s
-some_left [] ys a s h = absurd h
-some_left (x ∷ xs) ys a s h = elim h [ inl here ↦ inl here | inr later ↦ inr (some_left xs ys a s later) ]
-
-pub some_right : (xs ys : List Entry) (a : List ℕ) (s : ℕ) → SomeNamesAt ys a s → SomeNamesAt (xs ++ ys) a s
-some_right [] ys a s h = h
-some_right (x ∷ xs) ys a s h = inr (some_right xs ys a s h)
-
-pub some_cases : (xs ys : List Entry) (a : List ℕ) (s : ℕ) → SomeNamesAt (xs ++ ys) a s → SomeNamesAt xs a s ⊎ SomeNamesAt ys a s
-some_cases [] ys a s h = inr h
-some_cases (x ∷ xs) ys a s h =
-    elim h [ inl here ↦ inl (inl here) | inr later ↦ elim (some_cases xs ys a s later) [ inl left ↦ inl (inr left) | inr right ↦ inr right ] ]
 
 -- entries that are no serials name none
 unnamed : (e : Entry) (a : List ℕ) (s : ℕ) → 0 < kind e → NamesAt e a s → ⊥
@@ -101,20 +78,20 @@ in_from : (first count s : ℕ) → first ≤ s → s < first + count → Contai
 in_from first zero s le lt = absurd (omega arith)
 in_from first (suc count) s le lt =
     elim (cases_lt first s) [
-      | inl above ↦ tail_in first s (serials_from (first + 1) count) (in_from (first + 1) count s (omega arith) (omega arith))
-      | inr here ↦ let e : first ≡ s = omega arith in subst (λ n. Contains (first ∷ serials_from (first + 1) count) n) e (head_in first (serials_from (first + 1) count))
+      | inl above ↦ contains_later first s (serials_from (first + 1) count) (in_from (first + 1) count s (omega arith) (omega arith))
+      | inr here ↦ let e : first ≡ s = omega arith in subst (λ n. Contains (first ∷ serials_from (first + 1) count) n) e (contains_here first (serials_from (first + 1) count))
     ]
 
 from_in : (first count s : ℕ) → Contains (serials_from first count) s → (first ≤ s) × (s < first + count)
-from_in first zero s h = absurd (none_in s h)
+from_in first zero s h = absurd (contains_none s h)
 from_in first (suc count) s h =
-    elim (in_cases first s (serials_from (first + 1) count) h) [
+    elim (contains_cases first s (serials_from (first + 1) count) h) [
       | inl e ↦ (omega arith, omega arith)
       | inr later ↦ let rest = from_in (first + 1) count s later in let low = rest.0 in let high = rest.1 in (omega arith, omega arith)
     ]
 
 serials-names : (a : ℕ) (runs : List Span) (s : ℕ) → RunsFrom a runs → Contains (serials_of runs) s → Names runs s
-serials-names a [] s r h = absurd (none_in s h)
+serials-names a [] s r h = absurd (contains_none s h)
 serials-names a (run ∷ runs) s r h =
     elim (Contains-append_cases (serials_from run.lo (run.hi + 1 - run.lo)) (serials_of runs) s h) [
       | inl here ↦
@@ -176,10 +153,7 @@ names_group sorts.Bitmap runs b a s r serials c e n =
 -- ---- a plan
 
 names_split : (n : ℕ) (runs : List Span) (s : ℕ) → Names runs s → Names (take n runs) s ⊎ Names (drop n runs) s
-names_split zero runs s h = inr h
-names_split (suc n) [] s h = inr h
-names_split (suc n) (run ∷ runs) s h =
-    elim h [ inl here ↦ inl (inl here) | inr later ↦ elim (names_split n runs s later) [ inl front ↦ inl (inr front) | inr back ↦ inr back ] ]
+names_split n runs s h = names_append (take n runs) (drop n runs) s (subst (λ (l : List Span). Names l s) (sym (take-append-drop n runs)) h)
 
 pub plan_names : (runs : List Span) (plan : List Group) (b a : List ℕ) (s : ℕ) → IsRuns runs → IsPlan runs plan → SomeNamesAt (flat_map (subsection_entries b) (plan_subsections runs plan)) a s → (b ≡ a) × Names runs s
 plan_names runs [] b a s r p h = absurd h

@@ -3,7 +3,7 @@ use Rattle.std.proofs.Common.{◌≡◌, ℕ, ◌≤◌, ◌⊎◌, inl, inr, Li
 use Rattle.std.specs.List.{All, Contains, flat_map}
 use Rattle.std.proofs.lemmas.Grind.{flat_map-append}
 use Rattle.std.proofs.lemmas.List.{append-nil}
-use Rattle.std.proofs.lemmas.List.Elements.{Contains-append_cases, Contains-append_left, Contains-append_right}
+use Rattle.std.proofs.lemmas.List.Elements.{Contains-append_cases, Contains-append_left, Contains-append_right, All-tail}
 use Rattle.serial_set.specs.declared.span.Span.{Span}
 use Rattle.krl_plan.specs.declared.group.Sort.{Sort}
 use Rattle.krl_plan.specs.declared.group.Sort.TheVariants as sorts
@@ -15,8 +15,8 @@ use Rattle.krl_core.specs.Entries.{entries_of, section_entries, subsection_entri
 use Rattle.krl_core.specs.KrlText.{EachPlan, authority_sections, group_subsection, ids_subsections, listed_sections, plan_subsections, sections_of}
 use Rattle.krl_core.specs.Naming.{SomeNamesAt}
 use Rattle.krl_plan.specs.Plan.{IsPlan}
-use Rattle.krl_core.proofs.Meaning.{from_map, in_cases, in_map, kind, map_kind, map_unnamed, names_plan, none_in, plan_names, some_cases, some_left, some_right, tail_in}
-use Rattle.krl_core.proofs.Sections.{All-tail}
+use Rattle.krl_core.proofs.Meaning.{from_map, in_map, kind, map_kind, map_unnamed, names_plan, plan_names}
+use Rattle.krl_core.specs.Elements.{contains_cases, contains_later, contains_none, some_cases, some_left, some_right, contains_here}
 
 -- ---- a section
 
@@ -34,12 +34,12 @@ section_is plan listed =
     ∙ ap (λ (es : List Entry). flat_map (subsection_entries listed.authority) (plan_subsections listed.spans plan) ++ es) (ids_entries listed.authority listed.ids)
 
 group_kind : (sort : Sort) (runs : List Span) (b : List ℕ) (e : Entry) → Contains (subsection_entries b (group_subsection sort runs)) e → kind e ≡ 0
-group_kind sorts.Serials runs b e h = elim (in_cases _ e [] h) [ inl eq ↦ sym (ap kind eq) | inr none ↦ absurd (none_in e none) ]
-group_kind sorts.Range runs b e h = elim (in_cases _ e [] h) [ inl eq ↦ sym (ap kind eq) | inr none ↦ absurd (none_in e none) ]
-group_kind sorts.Bitmap runs b e h = elim (in_cases _ e [] h) [ inl eq ↦ sym (ap kind eq) | inr none ↦ absurd (none_in e none) ]
+group_kind sorts.Serials runs b e h = elim (contains_cases _ e [] h) [ inl eq ↦ sym (ap kind eq) | inr none ↦ absurd (contains_none e none) ]
+group_kind sorts.Range runs b e h = elim (contains_cases _ e [] h) [ inl eq ↦ sym (ap kind eq) | inr none ↦ absurd (contains_none e none) ]
+group_kind sorts.Bitmap runs b e h = elim (contains_cases _ e [] h) [ inl eq ↦ sym (ap kind eq) | inr none ↦ absurd (contains_none e none) ]
 
 plan_kind : (runs : List Span) (plan : List Group) (b : List ℕ) (e : Entry) → Contains (flat_map (subsection_entries b) (plan_subsections runs plan)) e → kind e ≡ 0
-plan_kind runs [] b e h = absurd (none_in e h)
+plan_kind runs [] b e h = absurd (contains_none e h)
 plan_kind runs (group ∷ groups) b e h =
     elim (Contains-append_cases (subsection_entries b (group_subsection group.sort (take group.count runs))) (flat_map (subsection_entries b) (plan_subsections (drop group.count runs) groups)) e h) [
       | inl here ↦ group_kind group.sort (take group.count runs) b e here
@@ -47,14 +47,14 @@ plan_kind runs (group ∷ groups) b e h =
     ]
 
 from_ids : (b a text : List ℕ) (ids : List (List ℕ)) → Contains (map (IdEntry b) ids) (IdEntry a text) → (b ≡ a) × Contains ids text
-from_ids b a text [] h = absurd (none_in (IdEntry a text) h)
+from_ids b a text [] h = absurd (contains_none (IdEntry a text) h)
 from_ids b a text (id ∷ ids) h =
-    elim (in_cases (IdEntry b id) (IdEntry a text) (map (IdEntry b) ids) h) [
+    elim (contains_cases (IdEntry b id) (IdEntry a text) (map (IdEntry b) ids) h) [
       | inl e ↦
           let same : b ≡ a = cc in
           let text_same : id ≡ text = cc in
-          (same, subst (λ (t : List ℕ). Contains (id ∷ ids) t) text_same (0, omega arith, refl))
-      | inr later ↦ let rest = from_ids b a text ids later in (rest.0, tail_in id text ids rest.1)
+          (same, subst (λ (t : List ℕ). Contains (id ∷ ids) t) text_same (contains_here id ids))
+      | inr later ↦ let rest = from_ids b a text ids later in (rest.0, contains_later id text ids rest.1)
     ]
 
 to_ids : (b a text : List ℕ) (ids : List (List ℕ)) → b ≡ a → Contains ids text → Contains (map (IdEntry b) ids) (IdEntry a text)
@@ -98,7 +98,7 @@ name_authorities (plan ∷ plans) (first ∷ listed) a s all each h =
 
 authorities_id : (plans : List (List Group)) (listed : List Listed) (a text : List ℕ) → EachPlan IsPlan plans listed
     → Contains (entries_of (authority_sections plans listed)) (IdEntry a text) → HoldsId listed a text
-authorities_id [] [] a text each h = none_in (IdEntry a text) h
+authorities_id [] [] a text each h = contains_none (IdEntry a text) h
 authorities_id [] (first ∷ listed) a text each h = absurd each
 authorities_id (plan ∷ plans) [] a text each h = absurd each
 authorities_id (plan ∷ plans) (first ∷ listed) a text each h =
@@ -130,8 +130,8 @@ id_authorities (plan ∷ plans) (first ∷ listed) a text each h =
 
 -- an authority's entries are serials and IDs
 authorities_kind : (plans : List (List Group)) (listed : List Listed) (e : Entry) → Contains (entries_of (authority_sections plans listed)) e → kind e ≤ 1
-authorities_kind [] listed e h = absurd (none_in e h)
-authorities_kind (plan ∷ plans) [] e h = absurd (none_in e h)
+authorities_kind [] listed e h = absurd (contains_none e h)
+authorities_kind (plan ∷ plans) [] e h = absurd (contains_none e h)
 authorities_kind (plan ∷ plans) (first ∷ listed) e h =
     let here : List Entry = flat_map (subsection_entries first.authority) (plan_subsections first.spans plan ++ ids_subsections first.ids) in
     elim (Contains-append_cases here (entries_of (authority_sections plans listed)) e h) [

@@ -1,5 +1,5 @@
 -- What rising lists contain.
-use Rattle.std.proofs.Common.{◌≡◌, ℕ, false, List, [], ◌∷◌, ◌++◌, map, refl, sym, ap, subst, ◌∙◌, inl, inr, arith, zero, suc, ◌⊎◌}
+use Rattle.std.proofs.Common.{◌≡◌, ℕ, false, List, [], ◌∷◌, ◌++◌, map, refl, sym, ap, subst, ◌∙◌, inl, inr}
 use Rattle.std.specs.List.{Contains}
 use Rattle.std.specs.declared.cmp.Ordering.{Ordering}
 use Rattle.std.specs.declared.cmp.Ordering.TheVariants.{Less, Equal, Greater}
@@ -13,10 +13,11 @@ use Rattle.krl_core.specs.Rising.{bytes_cmp, AllBelow, AllAbove, NoneBelow, Rise
 use Rattle.krl_core.specs.Inserting.{Inserts}
 use Rattle.krl_core.proofs.Orders.{before_trans, AllAbove-earlier}
 use Rattle.krl_core.proofs.Paged.{rises_insert}
+use Rattle.krl_core.specs.Elements.{contains_here, contains_cases, contains_none}
 
 -- ---- the order of two byte strings
 
-less_apart : (a b : List ℕ) → bytes_cmp a b ≡ Less → a ≡ b → ⊥
+pub less_apart : (a b : List ℕ) → bytes_cmp a b ≡ Less → a ≡ b → ⊥
 less_apart a b less same =
     let e : Less ≡ Equal = sym less ∙ ap (λ x. bytes_cmp x b) same ∙ tied_itself nat_list_cmp_total b in cc
 
@@ -34,21 +35,6 @@ less_upto : (a b c : List ℕ) (o : Ordering) → bytes_cmp a b ≡ o → is_lt 
 less_upto a b c Less e h less = absurd (false≢true (sym h))
 less_upto a b c Equal e h less = subst (λ x. bytes_cmp x c ≡ Less) (exact_bytes a b e) less
 less_upto a b c Greater e h less = before_trans b a c (nat_list_cmp_total.antisymm b a ∙ ap ordering_reverse e) less
-
--- ---- members
-
-pub contains_here : {X : Type 0} (x : X) (xs : List X) → Contains (x ∷ xs) x
-contains_here x xs = (0, omega arith, refl)
-
-pub contains_later : {X : Type 0} (x y : X) (xs : List X) → Contains xs y → Contains (x ∷ xs) y
-contains_later x y xs (k, h, e) = (suc k, omega arith, e)
-
-pub contains_cases : {X : Type 0} (x y : X) (xs : List X) → Contains (x ∷ xs) y → (x ≡ y) ⊎ Contains xs y
-contains_cases x y xs (zero, h, e) = inl e
-contains_cases x y xs (suc k, h, e) = inr (k, omega arith, e)
-
-pub contains_none : {X : Type 0} (y : X) → Contains [] y → ⊥
-contains_none y (k, h, e) = omega arith
 
 module _ {X : Type 0} (key : X → List ℕ) where
   pub absent_below : (bytes : List ℕ) (xs : List X) → AllBelow key bytes xs → Contains (map key xs) bytes → ⊥

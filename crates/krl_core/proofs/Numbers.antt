@@ -5,14 +5,6 @@ use Rattle.std.proofs.lemmas.Nat.{be_bytes_4, be_bytes_8, from_be_bytes-to_be_by
 use Rattle.ssh_wire.specs.Wire.{number, number_of}
 use Rattle.ssh_wire.specs.Wire.{IsBytes}
 
-pub length-number4 : (n : ℕ) → length (number 4 n) ≡ 4
-unfolding number
-length-number4 n = refl
-
-pub length-number8 : (n : ℕ) → length (number 8 n) ≡ 8
-unfolding number
-length-number8 n = refl
-
 -- the number that four bytes spell
 pub value4 : (a b c d : ℕ) → number_of (a ∷ b ∷ c ∷ d ∷ []) ≡ from_be_bytes w32 (a ∷ b ∷ c ∷ d ∷ [])
 unfolding number_of

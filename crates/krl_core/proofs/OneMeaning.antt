@@ -1,21 +1,22 @@
 -- What is held is one for the entries that it means.
-use Rattle.std.proofs.Common.{◌≡◌, ℕ, ◌<◌, List, [], ◌∷◌, length, refl, sym, ap, subst, ◌∙◌, inl, inr, arith}
+use Rattle.std.proofs.Common.{◌≡◌, ℕ, List, [], ◌∷◌, refl, sym, ap, subst, ◌∙◌, inl, inr, arith}
 use Rattle.std.specs.Prelude.{◌↔◌}
 use Rattle.std.specs.List.{Contains, All}
 use Rattle.std.specs.declared.cmp.Ordering.{Ordering}
 use Rattle.std.specs.declared.cmp.Ordering.TheVariants.{Less, Equal, Greater}
 use Rattle.std.specs.Ordering.{ordering_reverse}
-use Rattle.std.proofs.lemmas.Cmp.{nat_list_cmp_total, tied_itself}
+use Rattle.std.proofs.lemmas.Cmp.{nat_list_cmp_total}
 use Rattle.std.proofs.lemmas.Map.Lookups.{exact_bytes}
+use Rattle.std.proofs.lemmas.List.Elements.{All-tail}
 use Rattle.serial_set.specs.declared.span.Span.{Span}
-use Rattle.serial_set.specs.Span.{Covers, IsRuns}
+use Rattle.serial_set.specs.Span.{Covers}
 use Rattle.serial_set.specs.Least.{runs_unique}
-use Rattle.krl_core.specs.Contents.{Contents, HoldsId, HoldsSerial, IsListed, Means, Section, SomeSection}
+use Rattle.krl_core.specs.Contents.{Contents, HoldsId, HoldsSerial, IsListed, Means, Section, SomeSection, contents_of}
 use Rattle.krl_core.specs.Entry.{Entry}
 use Rattle.krl_core.specs.Rising.{bytes_cmp, AllAbove, Rises, RisesBy}
-use Rattle.krl_core.proofs.Members.{contains_cases, contains_here, contains_later, contains_none}
 use Rattle.krl_core.proofs.Orders.{AllAbove-earlier, before_trans}
-use Rattle.krl_core.proofs.Sections.{All-tail}
+use Rattle.krl_core.specs.Elements.{contains_cases, contains_here, contains_later, contains_none, some_serial, some_text}
+use Rattle.krl_core.proofs.Members.{less_apart}
 
 -- ---- the order of two byte strings
 
@@ -34,7 +35,7 @@ placed : (a b : List ℕ) → Placed a b
 placed a b = placed_by a b (bytes_cmp a b) refl
 
 pub not_before_itself : (a : List ℕ) → bytes_cmp a a ≡ Less → ⊥
-not_before_itself a less = let e : Less ≡ Equal = sym less ∙ tied_itself nat_list_cmp_total a in cc
+not_before_itself a less = less_apart a a less refl
 
 -- ---- byte strings in order
 
@@ -112,14 +113,6 @@ record Alike (xs ys : List Section) : Type 0 where
   serials : (a : List ℕ) (s : ℕ) → HoldsSerial xs a s → HoldsSerial ys a s
   ids : (a text : List ℕ) → HoldsId xs a text → HoldsId ys a text
 
-some_serial : (spans : List Span) → 0 < length spans → IsRuns spans → (s : ℕ) × Covers spans s
-some_serial [] lt r = absurd (omega arith)
-some_serial (x ∷ xs) lt r = (x.lo, inl (omega arith, r.1))
-
-some_text : (texts : List (List ℕ)) → 0 < length texts → (text : List ℕ) × Contains texts text
-some_text [] lt = absurd (omega arith)
-some_text (x ∷ xs) lt = (x, contains_here x xs)
-
 -- a section that comes before all others has nothing that they have
 not_listed : (x y : Section) (xs ys : List Section) → IsListed x → RisesBy authority_of (y ∷ ys) → Alike (x ∷ xs) (y ∷ ys) → bytes_cmp x.authority y.authority ≡ Less → ⊥
 not_listed x y xs ys is rise alike less =
@@ -184,9 +177,6 @@ same_sections (x ∷ xs) (y ∷ ys) r t p q to from =
 same_members : (Named : List ℕ → Type 0) (xs ys : List (List ℕ)) → Rises xs → Rises ys → ((text : List ℕ) → Contains xs text ↔ Named text) → ((text : List ℕ) → Contains ys text ↔ Named text) → xs ≡ ys
 same_members Named xs ys r t p q = same_texts xs ys r t (λ text m. (q text).1 ((p text).0 m)) (λ text m. (p text).1 ((q text).0 m))
 
-abbrev held_as : List Section → (keys sha1s sha256s : List (List ℕ)) → Contents
-held_as sections keys sha1s sha256s = record { sections = sections; keys = keys; sha1s = sha1s; sha256s = sha256s }
-
 alike_of : (r other : Contents) (entries : List Entry) → Means r entries → Means other entries → Alike r.sections other.sections
 alike_of r other entries m n =
     record { serials = λ a s h. (n.serials a s).1 ((m.serials a s).0 h); ids = λ a text h. (n.ids a text).1 ((m.ids a text).0 h) }
@@ -199,5 +189,5 @@ one_meaning r other entries m n =
     let keys = same_members _ r.keys other.keys o.keys_rise p.keys_rise m.keys n.keys in
     let sha1s = same_members _ r.sha1s other.sha1s o.sha1s_rise p.sha1s_rise m.sha1s n.sha1s in
     let sha256s = same_members _ r.sha256s other.sha256s o.sha256s_rise p.sha256s_rise m.sha256s n.sha256s in
-    ap (λ (z : List Section). held_as z r.keys r.sha1s r.sha256s) sections ∙ ap (λ (z : List (List ℕ)). held_as other.sections z r.sha1s r.sha256s) keys
-    ∙ ap (λ (z : List (List ℕ)). held_as other.sections other.keys z r.sha256s) sha1s ∙ ap (λ (z : List (List ℕ)). held_as other.sections other.keys other.sha1s z) sha256s
+    ap (λ (z : List Section). contents_of z r.keys r.sha1s r.sha256s) sections ∙ ap (λ (z : List (List ℕ)). contents_of other.sections z r.sha1s r.sha256s) keys
+    ∙ ap (λ (z : List (List ℕ)). contents_of other.sections other.keys z r.sha256s) sha1s ∙ ap (λ (z : List (List ℕ)). contents_of other.sections other.keys other.sha1s z) sha256s

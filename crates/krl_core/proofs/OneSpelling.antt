@@ -3,25 +3,26 @@ use Rattle.std.proofs.Common.{◌≡◌, ℕ, ◌+◌, ◌<◌, ◌^◌, List, [
 use Rattle.std.specs.List.{AllByRecursion}
 use Rattle.std.proofs.lemmas.List.{append-nil, append_cancel_left, length-append}
 use Rattle.ssh_wire.specs.Wire.{number, number_of, string, strings}
+use Rattle.ssh_wire.specs.Fields.{length-number, length-string}
 use Rattle.krl_core.specs.declared.header.Header.{Header}
 use Rattle.krl_core.specs.Krl.{Section, Certificates, Keys, Sha1s, Sha256s, Signature, Extension, Subsection, Serials, Range, Bitmap, Ids, SubsectionExtension, Spells, SpellsEach, SpellsSection, SpellsSubsection, SpellsContent, SpellsCertificates, SubsectionContent, SpellsBitmap, header_text, numbers_text, magic, subsection_type}
-use Rattle.krl_core.proofs.Completes.{length-string}
 use Rattle.krl_core.proofs.Fronts.{append_same}
 use Rattle.krl_core.proofs.Lists.{header_parts}
-use Rattle.krl_core.proofs.Numbers.{length-number4, length-number8, number_again4, number_again8}
+use Rattle.krl_core.proofs.Numbers.{number_again4, number_again8}
+use Rattle.krl_plan.specs.ListTexts.{length-numbers}
 
 -- ---- fields
 
 same_number8 : (m n : ℕ) (x y : List ℕ) → m < 2 ^ 64 → n < 2 ^ 64 → number 8 m ++ x ≡ number 8 n ++ y → (m ≡ n) × (x ≡ y)
 same_number8 m n x y fits fits' e =
-    let s = append_same (number 8 m) (number 8 n) x y (length-number8 m ∙ sym (length-number8 n)) e in
+    let s = append_same (number 8 m) (number 8 n) x y (length-number 8 m ∙ sym (length-number 8 n)) e in
     (sym (number_again8 m fits) ∙ ap number_of s.0 ∙ number_again8 n fits', s.1)
 
 same_string : (s t x y : List ℕ) → length s < 2 ^ 32 → length t < 2 ^ 32 → string s ++ x ≡ string t ++ y → (s ≡ t) × (x ≡ y)
 unfolding string
 same_string s t x y fits fits' e =
     let whole : number 4 (length s) ++ (s ++ x) ≡ number 4 (length t) ++ (t ++ y) = sym (append_assoc (number 4 (length s)) s x) ∙ e ∙ append_assoc (number 4 (length t)) t y in
-    let n = append_same (number 4 (length s)) (number 4 (length t)) (s ++ x) (t ++ y) (length-number4 (length s) ∙ sym (length-number4 (length t))) whole in
+    let n = append_same (number 4 (length s)) (number 4 (length t)) (s ++ x) (t ++ y) (length-number 4 (length s) ∙ sym (length-number 4 (length t))) whole in
     let len : length s ≡ length t = sym (number_again4 (length s) fits) ∙ ap number_of n.0 ∙ number_again4 (length t) fits' in
     append_same s t x y len n.1
 
@@ -42,13 +43,10 @@ same_strings (text ∷ texts) (other ∷ others) fits e =
     let more = same_strings texts others (omega arith) s.1 in
     ap (λ (x : List ℕ). x ∷ texts) s.0 ∙ ap (λ (x : List (List ℕ)). other ∷ x) more
 
-length-numbers : (n : ℕ) (numbers : List ℕ) → length (numbers_text (n ∷ numbers)) ≡ 8 + length (numbers_text numbers)
-length-numbers n numbers = omega (arith, length-append (number 8 n) (numbers_text numbers), length-number8 n)
-
 same_numbers : (xs ys : List ℕ) → AllByRecursion (λ n. n < 2 ^ 64) xs → AllByRecursion (λ n. n < 2 ^ 64) ys → numbers_text xs ≡ numbers_text ys → xs ≡ ys
 same_numbers [] [] a b e = refl
-same_numbers [] (y ∷ ys) a b e = absurd (omega (arith, ap length e, length-numbers y ys))
-same_numbers (x ∷ xs) [] a b e = absurd (omega (arith, ap length e, length-numbers x xs))
+same_numbers [] (y ∷ ys) a b e = absurd (omega (arith, ap length e, length-numbers (y ∷ ys)))
+same_numbers (x ∷ xs) [] a b e = absurd (omega (arith, ap length e, length-numbers (x ∷ xs)))
 same_numbers (x ∷ xs) (y ∷ ys) a b e =
     let s = same_number8 x y (numbers_text xs) (numbers_text ys) a.0 b.0 e in
     ap (λ (n : ℕ). n ∷ xs) s.0 ∙ ap (λ (ns : List ℕ). y ∷ ns) (same_numbers xs ys a.1 b.1 s.1)

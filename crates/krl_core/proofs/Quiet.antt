@@ -6,7 +6,7 @@ use Rattle.ssh_wire.specs.Wire.{number_of}
 use Rattle.krl_core.specs.declared.krl_fault.KrlFault.{KrlFault}
 use Rattle.krl_core.specs.declared.krl_fault.KrlFault.TheVariants as faults
 use Rattle.krl_core.specs.declared.place.Place.{Place}
-use Rattle.krl_core.specs.declared.place.Place.TheVariants.{Magic, FormatVersion, Flags, ReservedLength, Reserved, CommentLength, SignatureKeyLength, SignatureKey, SignatureLength, Signature, KeysLength, KeyLength, Sha1sLength, Sha1Length, Sha256sLength, Sha256Length, CertificatesLength, AuthorityLength, SectionReservedLength, SectionReserved, SubsectionType, SerialsLength, RangeLength, RangeMin, BitmapLength, BitmapOffset, IdsLength, IdLength, ExtensionLength, SubsectionExtensionLength, ExtensionNameLength, ExtensionName, ExtensionCritical, ExtensionContentsLength, ExtensionContents, Version, Date, Comment, SectionType, Authority, Serial, RangeMax, BitmapSize, BitmapByte, Id, Key, Sha1, Sha256}
+use Rattle.krl_core.specs.declared.place.Place.TheVariants.{Magic, FormatVersion, KeysLength, KeyLength, Sha1sLength, Sha1Length, Sha256sLength, Sha256Length, AuthorityLength, SectionReservedLength, SectionReserved, SubsectionType, SerialsLength, RangeLength, RangeMin, BitmapLength, BitmapOffset, IdsLength, IdLength, SubsectionExtensionLength, ExtensionNameLength, ExtensionName, ExtensionCritical, ExtensionContentsLength, ExtensionContents, Version, Date, Comment, SectionType, Authority, Serial, RangeMax, BitmapSize, BitmapByte, Id, Key, Sha1, Sha256}
 use Rattle.krl_core.specs.Entry.{Entry}
 use Rattle.krl_core.specs.Keeping.{Keeping, InStep, IsKept, KeepsField}
 use Rattle.krl_core.specs.Place.{due, judge, within, next_id, next_key, next_serial, next_sha1, next_sha256, next_subsection, subsection_of_type}
@@ -157,73 +157,5 @@ keeps_quiet kept (Id n m k) next field quiet judged step = absurd quiet
 keeps_quiet kept (Key n m) next field quiet judged step = absurd quiet
 keeps_quiet kept (Sha1 n) next field quiet judged step = absurd quiet
 keeps_quiet kept (Sha256 n) next field quiet judged step = absurd quiet
-keeps_quiet kept Magic next field quiet judged step =
-    record { kept = kept_still kept; authority_is = refl; header_is = refl; in_step = out_step next kept.bitmap (is_out Magic next field quiet judged) step }
-keeps_quiet kept FormatVersion next field quiet judged step =
-    record { kept = kept_still kept; authority_is = refl; header_is = refl; in_step = out_step next kept.bitmap (is_out FormatVersion next field quiet judged) step }
-keeps_quiet kept Flags next field quiet judged step =
-    record { kept = kept_still kept; authority_is = refl; header_is = refl; in_step = out_step next kept.bitmap (is_out Flags next field quiet judged) step }
-keeps_quiet kept ReservedLength next field quiet judged step =
-    record { kept = kept_still kept; authority_is = refl; header_is = refl; in_step = out_step next kept.bitmap (is_out ReservedLength next field quiet judged) step }
-keeps_quiet kept (Reserved n) next field quiet judged step =
-    record { kept = kept_still kept; authority_is = refl; header_is = refl; in_step = out_step next kept.bitmap (is_out (Reserved n) next field quiet judged) step }
-keeps_quiet kept CommentLength next field quiet judged step =
-    record { kept = kept_still kept; authority_is = refl; header_is = refl; in_step = out_step next kept.bitmap (is_out CommentLength next field quiet judged) step }
-keeps_quiet kept SignatureKeyLength next field quiet judged step =
-    record { kept = kept_still kept; authority_is = refl; header_is = refl; in_step = out_step next kept.bitmap (is_out SignatureKeyLength next field quiet judged) step }
-keeps_quiet kept (SignatureKey n) next field quiet judged step =
-    record { kept = kept_still kept; authority_is = refl; header_is = refl; in_step = out_step next kept.bitmap (is_out (SignatureKey n) next field quiet judged) step }
-keeps_quiet kept SignatureLength next field quiet judged step =
-    record { kept = kept_still kept; authority_is = refl; header_is = refl; in_step = out_step next kept.bitmap (is_out SignatureLength next field quiet judged) step }
-keeps_quiet kept (Signature n) next field quiet judged step =
-    record { kept = kept_still kept; authority_is = refl; header_is = refl; in_step = out_step next kept.bitmap (is_out (Signature n) next field quiet judged) step }
-keeps_quiet kept KeysLength next field quiet judged step =
-    record { kept = kept_still kept; authority_is = refl; header_is = refl; in_step = out_step next kept.bitmap (is_out KeysLength next field quiet judged) step }
-keeps_quiet kept (KeyLength n) next field quiet judged step =
-    record { kept = kept_still kept; authority_is = refl; header_is = refl; in_step = out_step next kept.bitmap (is_out (KeyLength n) next field quiet judged) step }
-keeps_quiet kept Sha1sLength next field quiet judged step =
-    record { kept = kept_still kept; authority_is = refl; header_is = refl; in_step = out_step next kept.bitmap (is_out Sha1sLength next field quiet judged) step }
-keeps_quiet kept (Sha1Length n) next field quiet judged step =
-    record { kept = kept_still kept; authority_is = refl; header_is = refl; in_step = out_step next kept.bitmap (is_out (Sha1Length n) next field quiet judged) step }
-keeps_quiet kept Sha256sLength next field quiet judged step =
-    record { kept = kept_still kept; authority_is = refl; header_is = refl; in_step = out_step next kept.bitmap (is_out Sha256sLength next field quiet judged) step }
-keeps_quiet kept (Sha256Length n) next field quiet judged step =
-    record { kept = kept_still kept; authority_is = refl; header_is = refl; in_step = out_step next kept.bitmap (is_out (Sha256Length n) next field quiet judged) step }
-keeps_quiet kept CertificatesLength next field quiet judged step =
-    record { kept = kept_still kept; authority_is = refl; header_is = refl; in_step = out_step next kept.bitmap (is_out CertificatesLength next field quiet judged) step }
-keeps_quiet kept (AuthorityLength n) next field quiet judged step =
-    record { kept = kept_still kept; authority_is = refl; header_is = refl; in_step = out_step next kept.bitmap (is_out (AuthorityLength n) next field quiet judged) step }
-keeps_quiet kept (SectionReservedLength n) next field quiet judged step =
-    record { kept = kept_still kept; authority_is = refl; header_is = refl; in_step = out_step next kept.bitmap (is_out (SectionReservedLength n) next field quiet judged) step }
-keeps_quiet kept (SectionReserved n m) next field quiet judged step =
-    record { kept = kept_still kept; authority_is = refl; header_is = refl; in_step = out_step next kept.bitmap (is_out (SectionReserved n m) next field quiet judged) step }
-keeps_quiet kept (SubsectionType n) next field quiet judged step =
-    record { kept = kept_still kept; authority_is = refl; header_is = refl; in_step = out_step next kept.bitmap (is_out (SubsectionType n) next field quiet judged) step }
-keeps_quiet kept (SerialsLength n) next field quiet judged step =
-    record { kept = kept_still kept; authority_is = refl; header_is = refl; in_step = out_step next kept.bitmap (is_out (SerialsLength n) next field quiet judged) step }
-keeps_quiet kept (RangeLength n) next field quiet judged step =
-    record { kept = kept_still kept; authority_is = refl; header_is = refl; in_step = out_step next kept.bitmap (is_out (RangeLength n) next field quiet judged) step }
-keeps_quiet kept (RangeMin n) next field quiet judged step =
-    record { kept = kept_still kept; authority_is = refl; header_is = refl; in_step = out_step next kept.bitmap (is_out (RangeMin n) next field quiet judged) step }
-keeps_quiet kept (BitmapLength n) next field quiet judged step =
-    record { kept = kept_still kept; authority_is = refl; header_is = refl; in_step = out_step next kept.bitmap (is_out (BitmapLength n) next field quiet judged) step }
-keeps_quiet kept (BitmapOffset n m) next field quiet judged step =
-    record { kept = kept_still kept; authority_is = refl; header_is = refl; in_step = out_step next kept.bitmap (is_out (BitmapOffset n m) next field quiet judged) step }
-keeps_quiet kept (IdsLength n) next field quiet judged step =
-    record { kept = kept_still kept; authority_is = refl; header_is = refl; in_step = out_step next kept.bitmap (is_out (IdsLength n) next field quiet judged) step }
-keeps_quiet kept (IdLength n m) next field quiet judged step =
-    record { kept = kept_still kept; authority_is = refl; header_is = refl; in_step = out_step next kept.bitmap (is_out (IdLength n m) next field quiet judged) step }
-keeps_quiet kept ExtensionLength next field quiet judged step =
-    record { kept = kept_still kept; authority_is = refl; header_is = refl; in_step = out_step next kept.bitmap (is_out ExtensionLength next field quiet judged) step }
-keeps_quiet kept (SubsectionExtensionLength n) next field quiet judged step =
-    record { kept = kept_still kept; authority_is = refl; header_is = refl; in_step = out_step next kept.bitmap (is_out (SubsectionExtensionLength n) next field quiet judged) step }
-keeps_quiet kept (ExtensionNameLength n m) next field quiet judged step =
-    record { kept = kept_still kept; authority_is = refl; header_is = refl; in_step = out_step next kept.bitmap (is_out (ExtensionNameLength n m) next field quiet judged) step }
-keeps_quiet kept (ExtensionName n m k) next field quiet judged step =
-    record { kept = kept_still kept; authority_is = refl; header_is = refl; in_step = out_step next kept.bitmap (is_out (ExtensionName n m k) next field quiet judged) step }
-keeps_quiet kept (ExtensionCritical n m) next field quiet judged step =
-    record { kept = kept_still kept; authority_is = refl; header_is = refl; in_step = out_step next kept.bitmap (is_out (ExtensionCritical n m) next field quiet judged) step }
-keeps_quiet kept (ExtensionContentsLength n m) next field quiet judged step =
-    record { kept = kept_still kept; authority_is = refl; header_is = refl; in_step = out_step next kept.bitmap (is_out (ExtensionContentsLength n m) next field quiet judged) step }
-keeps_quiet kept (ExtensionContents n m) next field quiet judged step =
-    record { kept = kept_still kept; authority_is = refl; header_is = refl; in_step = out_step next kept.bitmap (is_out (ExtensionContents n m) next field quiet judged) step }
+keeps_quiet kept p next field quiet judged step =
+    record { kept = kept_still kept; authority_is = refl; header_is = refl; in_step = out_step next kept.bitmap (is_out p next field quiet judged) step }

@@ -1,19 +1,20 @@
 -- Lists of entries that name the same.
 use Rattle.std.proofs.Common.{◌≡◌, ℕ, ◌<◌, ◌≤◌, ◌⊎◌, ◌↔◌, List, [], ◌∷◌, ◌++◌, sym, subst, append_assoc, arith, inl, inr}
 use Rattle.std.specs.List.{AllByRecursion, Contains}
-use Rattle.std.proofs.lemmas.List.Elements.{Contains-append_left, Contains-append_right, Contains-append_cases, Contains-push, Contains-push_cases}
+use Rattle.std.proofs.lemmas.List.Elements.{Contains-append_left, Contains-append_right, Contains-append_cases}
 use Rattle.krl_core.specs.Entry.{Entry, SerialsEntry, RangeEntry, BitmapEntry, IdEntry, KeyEntry, Sha1Entry, Sha256Entry}
 use Rattle.krl_core.specs.Naming.{SomeNamesAt, NamesSame}
+use Rattle.krl_core.specs.Elements.{contains_here, contains_later, contains_cases, contains_none, some_left, some_right, some_cases}
 
 -- ---- one way and back
 
 iff_refl : {A : Type 0} → A ↔ A
 iff_refl = (λ x. x, λ x. x)
 
-iff_sym : {A B : Type 0} → (A ↔ B) → (B ↔ A)
+pub iff_sym : {A B : Type 0} → (A ↔ B) → (B ↔ A)
 iff_sym h = (h.1, h.0)
 
-iff_then : {A B C : Type 0} → (A ↔ B) → (B ↔ C) → (A ↔ C)
+pub iff_then : {A B C : Type 0} → (A ↔ B) → (B ↔ C) → (A ↔ C)
 iff_then h k = (λ x. k.0 (h.0 x), λ x. h.1 (k.1 x))
 
 iff_or : {A B C D : Type 0} → (A ↔ B) → (C ↔ D) → ((A ⊎ C) ↔ (B ⊎ D))
@@ -31,18 +32,8 @@ iff_swap = (
 -- ---- joined lists
 
 pub some_append : (xs ys : List Entry) (a : List ℕ) (s : ℕ) → SomeNamesAt (xs ++ ys) a s ↔ (SomeNamesAt xs a s ⊎ SomeNamesAt ys a s)
-some_append [] ys a s = (λ h. inr h, λ h. elim h [ inl no_one ↦ absurd no_one | inr k ↦ k ])
-some_append (x ∷ xs) ys a s =
-    let more = some_append xs ys a s in (
-      λ h. elim h [
-        | inl here ↦ inl (inl here)
-        | inr later ↦ elim (more.0 later) [ inl k ↦ inl (inr k) | inr k ↦ inr k ]
-      ],
-      λ h. elim h [
-        | inl k ↦ elim k [ inl here ↦ inl here | inr later ↦ inr (more.1 (inl later)) ]
-        | inr k ↦ inr (more.1 (inr k))
-      ],
-    )
+some_append xs ys a s =
+    (some_cases xs ys a s, λ h. elim h [ inl k ↦ some_left xs ys a s k | inr k ↦ some_right xs ys a s k ])
 
 contains_append : (xs ys : List Entry) (x : Entry) → Contains (xs ++ ys) x ↔ (Contains xs x ⊎ Contains ys x)
 contains_append xs ys x = (
@@ -128,21 +119,11 @@ IsSerials _ = ⊥
 abbrev pub AreSerials : List Entry → Type 0
 AreSerials entries = AllByRecursion IsSerials entries
 
-pub serials_append : (xs ys : List Entry) → AreSerials xs → AreSerials ys → AreSerials (xs ++ ys)
-serials_append [] ys h k = k
-serials_append (x ∷ xs) ys h k = (h.0, serials_append xs ys h.1 k)
-
-none_contained : (x : Entry) → Contains [] x → ⊥
-none_contained x h = omega (arith, h.1)
-
 serials_contain : (xs : List Entry) (x : Entry) → AreSerials xs → Contains xs x → IsSerials x
-serials_contain [] x h k = absurd (none_contained x k)
+serials_contain [] x h k = absurd (contains_none x k)
 serials_contain (y ∷ xs) x h k =
-    elim (Contains-append_cases (y ∷ []) xs x k) [
-      | inl here ↦ elim (Contains-push_cases [] y x here) [
-        | inl none ↦ absurd (none_contained x none)
-        | inr same ↦ subst IsSerials same h.0
-      ]
+    elim (contains_cases y x xs k) [
+      | inl same ↦ subst IsSerials same h.0
       | inr later ↦ serials_contain xs x h.1 later
     ]
 
@@ -162,14 +143,8 @@ same_serials xs ys h k serials = record {
 
 pub contains_one : (xs : List ℕ) (x y : ℕ) → Contains (x ∷ xs) y ↔ ((x ≡ y) ⊎ Contains xs y)
 contains_one xs x y = (
-  λ h. elim (Contains-append_cases (x ∷ []) xs y h) [
-    | inl here ↦ elim (Contains-push_cases [] x y here) [ inl none ↦ absurd (omega (arith, none.1)) | inr same ↦ inl same ]
-    | inr later ↦ inr later
-  ],
-  λ h. elim h [
-    | inl same ↦ Contains-append_left (x ∷ []) xs y (subst (Contains (x ∷ [])) same (Contains-push [] x))
-    | inr later ↦ Contains-append_right (x ∷ []) xs y later
-  ],
+  contains_cases x y xs,
+  λ h. elim h [ inl same ↦ subst (Contains (x ∷ xs)) same (contains_here x xs) | inr later ↦ contains_later x y xs later ],
 )
 
 -- a range of one serial

@@ -1,6 +1,7 @@
 -- The sections of a list that is written are spelled, one behind the other.
-use Rattle.std.proofs.Common.{◌≡◌, ℕ, suc, ◌+◌, ◌^◌, ◌<◌, ◌≤◌, List, [], ◌∷◌, ◌++◌, length, refl, arith, length-append}
-use Rattle.std.specs.List.{All, AllByRecursion}
+use Rattle.std.proofs.Common.{◌≡◌, ℕ, ◌+◌, ◌^◌, ◌<◌, ◌≤◌, List, [], ◌∷◌, ◌++◌, length, refl, arith, length-append}
+use Rattle.std.specs.List.{All}
+use Rattle.std.proofs.lemmas.List.Elements.{All-tail, recursion_from_All}
 use Rattle.ssh_wire.specs.Wire.{number, string, strings}
 use Rattle.ssh_wire.specs.Fields.{length-number, length-string}
 use Rattle.krl_core.specs.Front.{limit}
@@ -12,13 +13,6 @@ use Rattle.krl_core.specs.KrlText.{EachPlan, authorities_text, authority_content
 use Rattle.krl_plan.specs.Plan.{IsPlan}
 use Rattle.krl_plan.specs.Written.{plan_text}
 use Rattle.krl_core.proofs.Spelling.{each_append, each_one, plan_spelled}
-
-pub All-tail : {X : Type 0} (P : X → Type 0) (x : X) (xs : List X) → All P (x ∷ xs) → All P xs
-All-tail P x xs all k d lt = all (suc k) d (omega arith)
-
-All-by_recursion : {X : Type 0} (P : X → Type 0) (xs : List X) → All P xs → AllByRecursion P xs
-All-by_recursion P [] all = tt
-All-by_recursion P (x ∷ xs) all = (all 0 x (omega arith), All-by_recursion P xs (All-tail P x xs all))
 
 -- ---- an authority
 
@@ -99,7 +93,7 @@ keys_spelled (blob ∷ blobs) lt =
 sha1s_spelled : (hashes : List (List ℕ)) → All (λ hash. length hash ≡ 20) hashes → length (listed_text 3 hashes) < 2 ^ 32 → SpellsEach SpellsSection (listed_text 3 hashes) (listed_sections Sha1s hashes)
 sha1s_spelled [] all lt = refl
 sha1s_spelled (hash ∷ hashes) all lt =
-    let sizes = All-by_recursion (λ (h : List ℕ). length h ≡ 20) (hash ∷ hashes) all in
+    let sizes = recursion_from_All (λ (h : List ℕ). length h ≡ 20) (hash ∷ hashes) all in
     let spelled : SpellsSection (listed_text 3 (hash ∷ hashes)) (Sha1s (hash ∷ hashes)) = record {
       content = strings (hash ∷ hashes);
       spelled = refl;
@@ -111,7 +105,7 @@ sha1s_spelled (hash ∷ hashes) all lt =
 sha256s_spelled : (hashes : List (List ℕ)) → All (λ hash. length hash ≡ 32) hashes → length (listed_text 5 hashes) < 2 ^ 32 → SpellsEach SpellsSection (listed_text 5 hashes) (listed_sections Sha256s hashes)
 sha256s_spelled [] all lt = refl
 sha256s_spelled (hash ∷ hashes) all lt =
-    let sizes = All-by_recursion (λ (h : List ℕ). length h ≡ 32) (hash ∷ hashes) all in
+    let sizes = recursion_from_All (λ (h : List ℕ). length h ≡ 32) (hash ∷ hashes) all in
     let spelled : SpellsSection (listed_text 5 (hash ∷ hashes)) (Sha256s (hash ∷ hashes)) = record {
       content = strings (hash ∷ hashes);
       spelled = refl;

@@ -1,6 +1,7 @@
 -- The length of a list that is written.
 use Rattle.std.proofs.Common.{◌≡◌, ℕ, ◌+◌, ◌*◌, List, [], ◌∷◌, ◌++◌, length, refl, ◌∙◌, arith, length-append}
 use Rattle.std.specs.List.{All}
+use Rattle.std.proofs.lemmas.List.Elements.{All-tail}
 use Rattle.ssh_wire.specs.Wire.{string, strings}
 use Rattle.ssh_wire.specs.Fields.{length-string}
 use Rattle.krl_core.specs.declared.header.Header.{Header}
@@ -11,7 +12,7 @@ use Rattle.krl_core.specs.KrlText.{EachPlan, authorities_text, authority_content
 use Rattle.krl_plan.specs.Plan.{IsPlan}
 use Rattle.krl_core.specs.Size.{authorities_size, authority_size, hashes_size, listed_size, strings_size, text_size}
 use Rattle.krl_plan.specs.OnePlan.{length-plan}
-use Rattle.krl_core.proofs.Sections.{All-tail, length-authority, length-header}
+use Rattle.krl_core.proofs.Sections.{length-authority, length-header}
 
 length-strings : (texts : List (List ℕ)) → length (strings texts) ≡ strings_size texts
 length-strings [] = refl

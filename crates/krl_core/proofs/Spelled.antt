@@ -3,8 +3,10 @@ use Rattle.std.proofs.Common.{◌≡◌, ℕ, zero, suc, ◌+◌, ◌-◌, ◌*�
 use Rattle.std.specs.List.{AllByRecursion}
 use Rattle.std.specs.Int.{bit_at}
 use Rattle.std.proofs.lemmas.Bool.{cases_lt, le-ltb, lt-ltb, le-leb, lt-leb, eqb-true}
-use Rattle.std.proofs.lemmas.List.{length-append, get_or-append-add, get_or_append_left, get_or_past}
+use Rattle.std.proofs.lemmas.List.{length-append}
 use Rattle.ssh_wire.specs.Wire.{IsBytes, number, number_of, string, strings}
+use Rattle.ssh_wire.specs.Digits.{IsBytes-behind, IsBytes-front}
+use Rattle.ssh_wire.specs.Fields.{IsBytes-in_string, length-string, length-number}
 use Rattle.krl_core.specs.declared.krl_fault.KrlFault.{KrlFault}
 use Rattle.krl_core.specs.declared.krl_fault.KrlFault.TheVariants as faults
 use Rattle.krl_core.specs.declared.header.Header.{Header}
@@ -18,10 +20,10 @@ use Rattle.std.proofs.lemmas.Nat.{pow-add}
 use Rattle.std.proofs.lemmas.Nat.Bits.{bit_at_above, bit_at_cat_low, bit_at_cat_high}
 use Rattle.krl_core.proofs.Bitmaps.{number_of-byte, low_more, low_none}
 use Rattle.krl_core.proofs.Bits.{highest_around}
-use Rattle.krl_core.proofs.Completes.{length-string}
 use Rattle.krl_core.proofs.Goes.{Goes, goes_none, goes_one, goes_then, goes_from}
 use Rattle.krl_core.proofs.Lists.{header_parts}
-use Rattle.krl_core.proofs.Numbers.{length-number4, length-number8, number_again4, number_again8, number_of-one}
+use Rattle.krl_core.proofs.Numbers.{number_again4, number_again8, number_of-one}
+use Rattle.krl_plan.specs.ListTexts.{length-numbers}
 
 -- ---- a field, and what follows it
 
@@ -29,7 +31,7 @@ use Rattle.krl_core.proofs.Numbers.{length-number4, length-number8, number_again
 length_goes : (p : Place) (q : ℕ → Place) (n : ℕ) (rest : List ℕ) → HasRoom (due p) → (due p).size ≡ 4 → n < 2 ^ 32
     → ((m : ℕ) (field : List ℕ) → number_of field ≡ m → m ≡ n → (due p).judged field ≡ Ok (q m)) → Goes p (number 4 n ++ rest) (q n) rest
 length_goes p q n rest room size fits judged =
-    goes_one p (q n) (number 4 n) rest room (length-number4 n ∙ sym size) (judged n (number 4 n) (number_again4 n fits) refl)
+    goes_one p (q n) (number 4 n) rest room (length-number 4 n ∙ sym size) (judged n (number 4 n) (number_again4 n fits) refl)
 
 -- a string: its length, and its content
 pub string_goes : (p : Place) (q : Place) (r : Place) (content rest : List ℕ) → HasRoom (due p) → (due p).size ≡ 4 → length content < 2 ^ 32
@@ -39,7 +41,7 @@ unfolding string
 string_goes p q r content rest room size fits judged room' size' judged' =
     goes_from p r (string content ++ rest) (number 4 (length content) ++ (content ++ rest)) rest (append_assoc (number 4 (length content)) content rest)
     (goes_then p q r (number 4 (length content) ++ (content ++ rest)) (content ++ rest) rest
-    (goes_one p q (number 4 (length content)) (content ++ rest) room (length-number4 (length content) ∙ sym size) (judged (number 4 (length content)) (number_again4 (length content) fits)))
+    (goes_one p q (number 4 (length content)) (content ++ rest) room (length-number 4 (length content) ∙ sym size) (judged (number 4 (length content)) (number_again4 (length content) fits)))
     (goes_one q r content rest room' size' judged'))
 
 -- a length of content that is read in parts
@@ -49,7 +51,7 @@ unfolding string
 content_goes p q r content rest room size fits judged w =
     goes_from p r (string content ++ rest) (number 4 (length content) ++ (content ++ rest)) rest (append_assoc (number 4 (length content)) content rest)
     (goes_then p q r (number 4 (length content) ++ (content ++ rest)) (content ++ rest) rest
-    (goes_one p q (number 4 (length content)) (content ++ rest) room (length-number4 (length content) ∙ sym size) (judged (number 4 (length content)) (number_again4 (length content) fits))) w)
+    (goes_one p q (number 4 (length content)) (content ++ rest) room (length-number 4 (length content) ∙ sym size) (judged (number 4 (length content)) (number_again4 (length content) fits))) w)
 
 -- a length that fits is judged by what follows
 pub within_is : (left : ℕ) (next : ℕ → Result Place KrlFault) (size n : ℕ) → size ≡ n → n ≤ left - 4 → within left next size ≡ next n
@@ -77,9 +79,9 @@ header_goes header flags reserved rest fits fits' =
     let w1 = goes_then places.ReservedLength places.CommentLength (places.SectionType false) r2 r1 rest
     (string_goes places.ReservedLength (places.Reserved (length reserved)) places.CommentLength reserved r1 tt refl fits
     (λ field e. ap (λ (n : ℕ). Ok (places.Reserved n)) e) tt refl refl) w0 in
-    let w2 = goes_then places.Flags places.ReservedLength (places.SectionType false) r3 r2 rest (goes_one places.Flags places.ReservedLength (number 8 flags) r2 tt (length-number8 flags) refl) w1 in
-    let w3 = goes_then places.Date places.Flags (places.SectionType false) r4 r3 rest (goes_one places.Date places.Flags (number 8 header.date) r3 tt (length-number8 header.date) refl) w2 in
-    let w4 = goes_then places.Version places.Date (places.SectionType false) r5 r4 rest (goes_one places.Version places.Date (number 8 header.version) r4 tt (length-number8 header.version) refl) w3 in
+    let w2 = goes_then places.Flags places.ReservedLength (places.SectionType false) r3 r2 rest (goes_one places.Flags places.ReservedLength (number 8 flags) r2 tt (length-number 8 flags) refl) w1 in
+    let w3 = goes_then places.Date places.Flags (places.SectionType false) r4 r3 rest (goes_one places.Date places.Flags (number 8 header.date) r3 tt (length-number 8 header.date) refl) w2 in
+    let w4 = goes_then places.Version places.Date (places.SectionType false) r5 r4 rest (goes_one places.Version places.Date (number 8 header.version) r4 tt (length-number 8 header.version) refl) w3 in
     let w5 = goes_then places.FormatVersion places.Version (places.SectionType false) r6 r5 rest (goes_one places.FormatVersion places.Version (number 4 1) r5 tt refl refl) w4 in
     goes_from places.Magic (places.SectionType false) (header_text header flags reserved ++ rest) (magic ++ r6) rest (header_parts header flags reserved rest)
     (goes_then places.Magic places.FormatVersion (places.SectionType false) (magic ++ r6) r6 rest (goes_one places.Magic places.FormatVersion magic r6 tt refl refl) w5)
@@ -163,21 +165,16 @@ serial_goes zero left behind n rest e = absurd (omega arith)
 serial_goes (suc k) left behind n rest e =
     let after : suc k - 8 ≡ left = omega arith in
     let room : 8 ≤ suc k = omega arith in
-    goes_one (places.Serial (suc k) behind) (next_serial left behind) (number 8 n) rest room (length-number8 n) (ap (λ (m : ℕ). Ok (next_serial m behind)) after)
+    goes_one (places.Serial (suc k) behind) (next_serial left behind) (number 8 n) rest room (length-number 8 n) (ap (λ (m : ℕ). Ok (next_serial m behind)) after)
 
 serials_go : (items : List ℕ) (total left behind : ℕ) (rest : List ℕ) → total ≡ length (numbers_text items) + left → Goes (next_serial total behind) (numbers_text items ++ rest) (next_serial left behind) rest
 serials_go [] total left behind rest e = subst (λ (m : ℕ). Goes (next_serial total behind) rest (next_serial m behind) rest) (let same : total ≡ left = omega arith in same) (goes_none (next_serial total behind) rest)
 serials_go (n ∷ items) total left behind rest e =
     let mid : ℕ = length (numbers_text items) + left in
-    let whole : length (numbers_text (n ∷ items)) ≡ 8 + length (numbers_text items) = omega (arith, length-append (number 8 n) (numbers_text items), length-number8 n) in
+    let whole : length (numbers_text (n ∷ items)) ≡ 8 + length (numbers_text items) = omega (arith, length-append (number 8 n) (numbers_text items), length-number 8 n) in
     goes_from (next_serial total behind) (next_serial left behind) (numbers_text (n ∷ items) ++ rest) (number 8 n ++ (numbers_text items ++ rest)) rest (append_assoc (number 8 n) (numbers_text items) rest)
     (goes_then (next_serial total behind) (next_serial mid behind) (next_serial left behind) (number 8 n ++ (numbers_text items ++ rest)) (numbers_text items ++ rest) rest
     (serial_goes total mid behind n (numbers_text items ++ rest) (omega arith)) (serials_go items mid left behind rest refl))
-
--- as many bytes as eight a number
-serials_size : (items : List ℕ) → length (numbers_text items) ≡ 8 * length items
-serials_size [] = refl
-serials_size (n ∷ items) = omega (arith, length-append (number 8 n) (numbers_text items), length-number8 n, serials_size items)
 
 eights : (n m : ℕ) → n ≡ 8 * m → n % 8 ≡ 0
 eights n m e = omega (arith, e)
@@ -255,20 +252,6 @@ bits_go (b ∷ bits) offset size behind rest fits le sign within =
 
 -- ---- subsections
 
-pub bytes_tail : (a b : List ℕ) → IsBytes (a ++ b) → IsBytes b
-bytes_tail a b h i = subst (λ (n : ℕ). n < 256) (get_or-append-add a b i 0) (h (length a + i))
-
-pub bytes_head : (a b : List ℕ) → IsBytes (a ++ b) → IsBytes a
-bytes_head a b h i =
-    elim (cases_lt i (length a)) [
-      | inl lt ↦ subst (λ (n : ℕ). n < 256) (get_or_append_left a b 0 i lt) (h i)
-      | inr le ↦ subst (λ (n : ℕ). n < 256) (sym (get_or_past a i 0 le)) (omega arith)
-    ]
-
-pub string_bytes : (content : List ℕ) → IsBytes (string content) → IsBytes content
-unfolding string
-string_bytes content h = bytes_tail (number 4 (length content)) content h
-
 -- an extension that fills what has as many bytes left
 pub extension_goes : (left behind : ℕ) (content rest : List ℕ) → SpellsExtension content → left ≡ length content → left < 2 ^ 32
     → Goes (places.ExtensionNameLength left behind) (content ++ rest) (next_subsection behind) rest
@@ -312,7 +295,7 @@ subsection_goes left (Serials numbers) text rest h le fits =
     let behind : left - 1 - 4 - n ≡ left - length text = omega (arith, size) in
     let room : 1 ≤ left = omega (arith, size) in
     let all : n ≡ length (numbers_text numbers) = ap length h.content_is.0 in
-    let eight : n % 8 ≡ 0 = eights n (length numbers) (all ∙ serials_size numbers) in
+    let eight : n % 8 ≡ 0 = eights n (length numbers) (all ∙ length-numbers numbers) in
     let walk = serials_go numbers n 0 (left - length text) rest (omega (arith, all)) in
     goes_from (places.SubsectionType left) (next_subsection (left - length text)) (text ++ rest) (0x20 ∷ (string content ++ rest)) rest (ap (λ (x : List ℕ). x ++ rest) h.spelled)
     (goes_then (places.SubsectionType left) (places.SerialsLength (left - 1)) (next_subsection (left - length text)) (0x20 ∷ (string content ++ rest)) (string content ++ rest) rest
@@ -326,13 +309,13 @@ subsection_goes left (Range min max) text rest h le fits =
     let size : length text ≡ 5 + n = ap length h.spelled ∙ (let e : length (0x21 ∷ string content) ≡ 5 + n = omega (arith, length-string content) in e) in
     let behind : left - 1 - 4 - n ≡ left - length text = omega (arith, size) in
     let room : 1 ≤ left = omega (arith, size) in
-    let all : n ≡ 16 = ap length h.content_is.0 ∙ length-append (number 8 min) (number 8 max) ∙ (let e : length (number 8 min) + length (number 8 max) ≡ 16 = omega (arith, length-number8 min, length-number8 max) in e) in
+    let all : n ≡ 16 = ap length h.content_is.0 ∙ length-append (number 8 min) (number 8 max) ∙ (let e : length (number 8 min) + length (number 8 max) ≡ 16 = omega (arith, length-number 8 min, length-number 8 max) in e) in
     let b = left - length text in
     let low : number_of (number 8 min) ≡ min = number_again8 min (omega (arith, h.content_is.1, h.content_is.2)) in
     let high : number_of (number 8 max) ≡ max = number_again8 max h.content_is.2 in
-    let second = goes_one (places.RangeMax min b) (next_subsection b) (number 8 max) rest tt (length-number8 max)
+    let second = goes_one (places.RangeMax min b) (next_subsection b) (number 8 max) rest tt (length-number 8 max)
     (judge_is (leb min (number_of (number 8 max))) faults.RangeReversed (next_subsection b) (le-leb min (number_of (number 8 max)) (omega (arith, high, h.content_is.1)))) in
-    let first = goes_one (places.RangeMin b) (places.RangeMax min b) (number 8 min) (number 8 max ++ rest) tt (length-number8 min) (ap (λ (m : ℕ). Ok (places.RangeMax m b)) low) in
+    let first = goes_one (places.RangeMin b) (places.RangeMax min b) (number 8 min) (number 8 max ++ rest) tt (length-number 8 min) (ap (λ (m : ℕ). Ok (places.RangeMax m b)) low) in
     let parts : content ++ rest ≡ number 8 min ++ (number 8 max ++ rest) = ap (λ (x : List ℕ). x ++ rest) h.content_is.0 ∙ append_assoc (number 8 min) (number 8 max) rest in
     let walk = goes_from (places.RangeMin b) (next_subsection b) (content ++ rest) (number 8 min ++ (number 8 max ++ rest)) rest parts
     (goes_then (places.RangeMin b) (places.RangeMax min b) (next_subsection b) (number 8 min ++ (number 8 max ++ rest)) (number 8 max ++ rest) rest first second) in
@@ -351,9 +334,9 @@ subsection_goes left (Bitmap offset value) text rest h le fits =
     let behind : left - 1 - 4 - n ≡ left - length text = omega (arith, size) in
     let room : 1 ≤ left = omega (arith, size) in
     let b = left - length text in
-    let all : n ≡ 8 + (4 + length bits) = ap length m.spelled ∙ length-append (number 8 offset) (string bits) ∙ (let e : length (number 8 offset) + length (string bits) ≡ 8 + (4 + length bits) = omega (arith, length-number8 offset, length-string bits) in e) in
-    let content_bytes : IsBytes content = string_bytes content (bytes_tail (0x22 ∷ []) (string content) (subst IsBytes h.spelled fits)) in
-    let bits_bytes : IsBytes bits = string_bytes bits (bytes_tail (number 8 offset) (string bits) (subst IsBytes m.spelled content_bytes)) in
+    let all : n ≡ 8 + (4 + length bits) = ap length m.spelled ∙ length-append (number 8 offset) (string bits) ∙ (let e : length (number 8 offset) + length (string bits) ≡ 8 + (4 + length bits) = omega (arith, length-number 8 offset, length-string bits) in e) in
+    let content_bytes : IsBytes content = IsBytes-in_string content (IsBytes-behind (0x22 ∷ []) (string content) (subst IsBytes h.spelled fits)) in
+    let bits_bytes : IsBytes bits = IsBytes-in_string bits (IsBytes-behind (number 8 offset) (string bits) (subst IsBytes m.spelled content_bytes)) in
     let less : n - 8 ≡ 4 + length bits = omega (arith, all) in
     let fewer : n - 8 - 4 ≡ length bits = omega (arith, all) in
     let within' : (k : ℕ) → bit_at (number_of bits) k ≡ 1 → offset + k < 2 ^ 64 = λ k set. m.within k (subst (λ (v : ℕ). bit_at v k ≡ 1) (sym m.value_is) set) in
@@ -361,7 +344,7 @@ subsection_goes left (Bitmap offset value) text rest h le fits =
     let sized = content_goes (places.BitmapSize offset (n - 8) b) (next_bits offset (length bits) (length bits) b) (next_subsection b) bits rest (let r : 4 ≤ n - 8 = omega (arith, all) in r) refl (omega (arith, all, h.fits))
     (λ field e. judge_is (eqb (number_of field) (n - 8 - 4)) faults.Length (next_bits offset (n - 8 - 4) (n - 8 - 4) b) (eq-eqb (number_of field) (n - 8 - 4) (e ∙ sym fewer))
     ∙ ap (λ (k : ℕ). Ok (next_bits offset k k b)) fewer) walk_bits in
-    let first = goes_one (places.BitmapOffset n b) (places.BitmapSize offset (n - 8) b) (number 8 offset) (string bits ++ rest) (let r : 8 ≤ n = omega (arith, all) in r) (length-number8 offset)
+    let first = goes_one (places.BitmapOffset n b) (places.BitmapSize offset (n - 8) b) (number 8 offset) (string bits ++ rest) (let r : 8 ≤ n = omega (arith, all) in r) (length-number 8 offset)
     (ap (λ (k : ℕ). Ok (places.BitmapSize k (n - 8) b)) (number_again8 offset m.offset_fits)) in
     let parts : content ++ rest ≡ number 8 offset ++ (string bits ++ rest) = ap (λ (x : List ℕ). x ++ rest) m.spelled ∙ append_assoc (number 8 offset) (string bits) rest in
     let walk = goes_from (places.BitmapOffset n b) (next_subsection b) (content ++ rest) (number 8 offset ++ (string bits ++ rest)) rest parts
@@ -416,5 +399,5 @@ subsections_go (sub ∷ subs) body rest (suc k) (first, (later, (parts, spelled,
     let left : suc k - length first ≡ length later = omega (arith, e, ap length parts, len) in
     goes_from (places.SubsectionType (suc k)) (places.SectionType false) (body ++ rest) (first ++ (later ++ rest)) rest (ap (λ (x : List ℕ). x ++ rest) parts ∙ append_assoc first later rest)
     (goes_then (places.SubsectionType (suc k)) (next_subsection (suc k - length first)) (places.SectionType false) (first ++ (later ++ rest)) (later ++ rest) rest
-    (subsection_goes (suc k) sub first (later ++ rest) spelled (omega (arith, e, ap length parts, len)) (bytes_head first later all))
-    (subsections_go subs later rest (suc k - length first) others left (bytes_tail first later all)))
+    (subsection_goes (suc k) sub first (later ++ rest) spelled (omega (arith, e, ap length parts, len)) (IsBytes-front first later all))
+    (subsections_go subs later rest (suc k - length first) others left (IsBytes-behind first later all)))

@@ -3,6 +3,8 @@ use Rattle.std.proofs.Common.{◌≡◌, ℕ, ◌+◌, ◌-◌, ◌<◌, ◌≤�
 use Rattle.std.proofs.lemmas.Bool.{le-ltb}
 use Rattle.std.proofs.lemmas.List.{length-append, take_all}
 use Rattle.ssh_wire.specs.Wire.{IsBytes, number_of, string, strings}
+use Rattle.ssh_wire.specs.Digits.{IsBytes-behind, IsBytes-front}
+use Rattle.ssh_wire.specs.Fields.{IsBytes-in_string, length-string}
 use Rattle.krl_core.specs.declared.krl_fault.KrlFault.{KrlFault}
 use Rattle.krl_core.specs.declared.krl_fault.KrlFault.TheVariants as faults
 use Rattle.krl_core.specs.declared.header.Header.{Header}
@@ -12,11 +14,10 @@ use Rattle.krl_core.specs.Front.{start, limit, IsFirstFault, Told, ended}
 use Rattle.krl_core.specs.Krl.{Section, Certificates, Keys, Sha1s, Sha256s, Signature, Extension, Spells, SpellsEach, SpellsSection, header_text}
 use Rattle.krl_core.specs.Place.{due, next_key, next_sha1, next_sha256, next_subsection}
 use Rattle.krl_core.specs.Reading.{Says, starved, failed_read, first}
-use Rattle.krl_core.proofs.Completes.{length-string}
 use Rattle.krl_core.proofs.Fronts.{first_fault_is, one_told}
 use Rattle.krl_core.proofs.Goes.{Goes, goes_none, goes_one, goes_then, goes_from, arrives}
 use Rattle.krl_core.proofs.Rests.{LastFor}
-use Rattle.krl_core.proofs.Spelled.{string_goes, content_goes, within_is, header_goes, keys_go, sha1s_go, sha256s_go, extension_goes, subsections_go, bytes_head, bytes_tail, string_bytes}
+use Rattle.krl_core.proofs.Spelled.{string_goes, content_goes, within_is, header_goes, keys_go, sha1s_go, sha256s_go, extension_goes, subsections_go}
 
 abbrev signed_after : Section → Bool
 signed_after Signature = true
@@ -57,8 +58,8 @@ unfolding number_of
 section_goes (Certificates authority subs) true text rest h last fits = absurd last.0
 section_goes (Certificates authority subs) false text rest h last fits =
     let c = h.content_is in
-    let all = string_bytes h.content (bytes_tail (1 ∷ []) (string h.content) (subst IsBytes h.spelled fits)) in
-    let body_bytes = bytes_tail (string c.reserved) c.body (bytes_tail (string authority) (string c.reserved ++ c.body) (subst IsBytes c.spelled all)) in
+    let all = IsBytes-in_string h.content (IsBytes-behind (1 ∷ []) (string h.content) (subst IsBytes h.spelled fits)) in
+    let body_bytes = IsBytes-behind (string c.reserved) c.body (IsBytes-behind (string authority) (string c.reserved ++ c.body) (subst IsBytes c.spelled all)) in
     goes_from (places.SectionType false) (places.SectionType false) (text ++ rest) (1 ∷ (string h.content ++ rest)) rest (ap (λ (x : List ℕ). x ++ rest) h.spelled)
     (typed_goes false 1 places.CertificatesLength h.content rest refl h.fits refl (places.SectionType false)
     (content_goes places.CertificatesLength (places.AuthorityLength (length h.content)) (places.SectionType false) h.content rest tt refl h.fits (λ field e. ap (λ (n : ℕ). Ok (places.AuthorityLength n)) e)
@@ -123,8 +124,8 @@ sections_go [] signed body h last fits = (signed, goes_from (places.SectionType 
 sections_go (section ∷ sections) signed body (first_one, (later, (parts, spelled, others))) last fits =
     let all = subst IsBytes parts fits in
     let both = last_first signed section sections last in
-    let one = section_goes section signed first_one later spelled both.0 (bytes_head first_one later all) in
-    let more = sections_go sections (signed_after section) later others both.1 (bytes_tail first_one later all) in (
+    let one = section_goes section signed first_one later spelled both.0 (IsBytes-front first_one later all) in
+    let more = sections_go sections (signed_after section) later others both.1 (IsBytes-behind first_one later all) in (
       more.0,
       goes_from (places.SectionType signed) (places.SectionType more.0) body (first_one ++ later) [] parts
           (goes_then (places.SectionType signed) (places.SectionType (signed_after section)) (places.SectionType more.0) (first_one ++ later) later [] one more.1),
@@ -133,7 +134,7 @@ sections_go (section ∷ sections) signed body (first_one, (later, (parts, spell
 -- what is spelled within the limit has no fault
 pub spelled_unfaulted : (text : List ℕ) (header : Header) (sections : List Section) → IsBytes text → Spells text header sections → length text ≤ limit → IsFirstFault text None
 spelled_unfaulted text header sections fits h le =
-    let body_bytes = bytes_tail (header_text header h.flags h.reserved) h.body (subst IsBytes h.spelled fits) in
+    let body_bytes = IsBytes-behind (header_text header h.flags h.reserved) h.body (subst IsBytes h.spelled fits) in
     let rest = sections_go sections false h.body h.sections_are h.signatures_last body_bytes in
     let walk = goes_from places.Magic (places.SectionType rest.0) text (header_text header h.flags h.reserved ++ h.body) [] h.spelled
     (goes_then places.Magic (places.SectionType false) (places.SectionType rest.0) (header_text header h.flags h.reserved ++ h.body) h.body []
@@ -151,7 +152,6 @@ spelled_unfaulted text header sections fits h le =
 not_some : (fault : KrlFault) → Some fault ≡ None → ⊥
 not_some fault e = cc
 
--- what is spelled is refused only where memory ran out or the reader failed
 -- of a list that is spelled nothing else is said than that memory ran out or that the reader failed
 pub only_broken_off : (fault : KrlFault) (failed : Bool) (text : List ℕ) (header : Header) (sections : List Section) → Says fault text failed → IsBytes text → Spells text header sections → length text ≤ limit
     → (fault ≡ faults.NoMemory) ⊎ ((fault ≡ faults.Read) × (failed ≡ true))

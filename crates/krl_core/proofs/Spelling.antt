@@ -1,9 +1,10 @@
 -- The text of a list that is written is spelled.
 use Rattle.std.proofs.Common.{◌≡◌, ℕ, zero, suc, ◌+◌, ◌-◌, ◌*◌, ◌/◌, ◌^◌, ◌<◌, ◌≤◌, inl, inr, List, [], ◌∷◌, ◌++◌, length, take, drop, refl, sym, ap, subst, ◌∙◌, arith, append_assoc, length-append}
 use Rattle.std.specs.List.{AllByRecursion}
-use Rattle.std.proofs.lemmas.List.{append-nil}
+use Rattle.std.proofs.lemmas.List.{append-nil, take-append-drop}
 use Rattle.serial_set.specs.declared.span.Span.{Span}
 use Rattle.serial_set.specs.Span.{AreSerials, IsRuns, Covers as Names, RunsFrom}
+use Rattle.serial_set.specs.Rising.{names_left, names_right}
 use Rattle.ssh_wire.specs.Wire.{number, string}
 use Rattle.ssh_wire.specs.Fields.{length-number, length-string}
 use Rattle.krl_plan.specs.declared.group.Sort.{Sort}
@@ -14,6 +15,7 @@ use Rattle.krl_plan.specs.Plan.{Covers, IsGroup, IsPlan, end_of, reach}
 use Rattle.krl_plan.specs.Written.{bitmap_of, bitmap_size, bits_of, content_of, first_of, group_text, plan_text, serials_from, serials_of}
 use Rattle.krl_core.specs.KrlText.{group_subsection, plan_subsections}
 use Rattle.krl_core.proofs.BitmapNames.{bits-names, number-bitmap, top_bit_clear}
+use Rattle.krl_core.specs.Elements.{all_append}
 use Rattle.krl_plan.specs.Chosen.{IsRuns-drop, RunsFrom-take}
 use Rattle.krl_plan.specs.GroupTexts.{length-bitmap_of}
 use Rattle.krl_plan.specs.ListTexts.{length-listed, small_few}
@@ -24,14 +26,10 @@ AreSerials-tail : (run : Span) (runs : List Span) → AreSerials (run ∷ runs) 
 AreSerials-tail run runs h s n = h s (inr n)
 
 pub names-take : (n : ℕ) (runs : List Span) (s : ℕ) → Names (take n runs) s → Names runs s
-names-take zero runs s h = absurd h
-names-take (suc n) [] s h = absurd h
-names-take (suc n) (run ∷ runs) s h = elim h [ inl here ↦ inl here | inr later ↦ inr (names-take n runs s later) ]
+names-take n runs s h = subst (λ (l : List Span). Names l s) (take-append-drop n runs) (names_left (take n runs) (drop n runs) s h)
 
 pub names-drop : (n : ℕ) (runs : List Span) (s : ℕ) → Names (drop n runs) s → Names runs s
-names-drop zero runs s h = h
-names-drop (suc n) [] s h = absurd h
-names-drop (suc n) (run ∷ runs) s h = inr (names-drop n runs s h)
+names-drop n runs s h = subst (λ (l : List Span). Names l s) (take-append-drop n runs) (names_right (take n runs) (drop n runs) s h)
 
 pub AreSerials-take : (n : ℕ) (runs : List Span) → AreSerials runs → AreSerials (take n runs)
 AreSerials-take n runs h s named = h s (names-take n runs s named)
@@ -62,16 +60,12 @@ all_from : (first count most : ℕ) → first + count ≤ most → AllByRecursio
 all_from first zero most le = tt
 all_from first (suc count) most le = (omega arith, all_from (first + 1) count most (omega arith))
 
-all_append : (most : ℕ) (xs ys : List ℕ) → AllByRecursion (λ n. n < most) xs → AllByRecursion (λ n. n < most) ys → AllByRecursion (λ n. n < most) (xs ++ ys)
-all_append most [] ys p q = q
-all_append most (x ∷ xs) ys p q = (p.0, all_append most xs ys p.1 q)
-
 all_serials : (a : ℕ) (runs : List Span) → RunsFrom a runs → AreSerials runs → AllByRecursion (λ n. n < 2 ^ 64) (serials_of runs)
 all_serials a [] r h = tt
 all_serials a (run ∷ runs) r h =
     let end = end_fits a run runs r h in
     let ordered : run.lo ≤ run.hi = r.1 in
-    all_append (2 ^ 64) (serials_from run.lo (run.hi + 1 - run.lo)) (serials_of runs) (all_from run.lo (run.hi + 1 - run.lo) (2 ^ 64) (omega arith))
+    all_append (λ n. n < 2 ^ 64) (serials_from run.lo (run.hi + 1 - run.lo)) (serials_of runs) (all_from run.lo (run.hi + 1 - run.lo) (2 ^ 64) (omega arith))
     (all_serials (run.hi + 2) runs r.2 (AreSerials-tail run runs h))
 
 -- ---- a group

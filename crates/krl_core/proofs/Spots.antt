@@ -9,7 +9,8 @@ use Rattle.krl_core.specs.Rising.{AllAbove, NoneBelow, RisesBy}
 use Rattle.krl_core.specs.Inserting.{Inserts}
 use Rattle.krl_core.specs.Pages.{joined, first_items, front_of, back_of, IsSpot, StandsAt}
 use Rattle.krl_core.proofs.Paged.{cut_at, first_past, joined_past, rises_right}
-use Rattle.krl_core.proofs.Members.{contains_here, contains_right, absent_parts, above_from, above_absent}
+use Rattle.krl_core.proofs.Members.{contains_right, absent_parts, above_from, above_absent}
+use Rattle.krl_core.specs.Elements.{contains_here}
 
 module _ {X : Type 0} (key : X → List ℕ) where
   back_rises : (pages : List (Page X)) (n at : ℕ) → RisesBy key (joined pages) → RisesBy key (back_of pages n at)

@@ -1,19 +1,21 @@
 -- What a step of a reading did to the fields that were read, and what its faults say of the text.
-use Rattle.std.proofs.Common.{◌≡◌, ℕ, zero, suc, ◌+◌, ◌-◌, ◌<◌, ◌≤◌, ◌⊎◌, Bool, true, false, ltb, List, [], ◌∷◌, ◌++◌, length, take, get_or, Option, Some, None, Err, refl, sym, ap, subst, ◌∙◌, append_assoc, arith, inl, inr, IsSome}
+use Rattle.std.proofs.Common.{◌≡◌, ℕ, ◌+◌, ◌-◌, ◌<◌, ◌≤◌, ◌⊎◌, Bool, true, false, ltb, List, [], ◌∷◌, ◌++◌, length, take, Option, Some, None, Err, refl, sym, ap, subst, ◌∙◌, append_assoc, arith, inl, inr, IsSome}
 use Rattle.std.specs.List.{concat}
 use Rattle.std.specs.Io.KnownBytes.{Consumes, IsAtEnd, Keeps}
-use Rattle.std.proofs.lemmas.Bool.{cases_lt, le-ltb, lt-ltb}
-use Rattle.std.proofs.lemmas.List.{append-nil, length-append, take_all, get_or-append-add, get_or_append_left}
+use Rattle.std.proofs.lemmas.Bool.{le-ltb, lt-ltb}
+use Rattle.std.proofs.lemmas.List.{append-nil, length-append, take_all}
 use Rattle.std.proofs.lemmas.List.Folds.{concat-append}
 use Rattle.std.proofs.Math.Seq.{take-append_seam}
 use Rattle.ssh_wire.specs.Wire.{IsBytes}
 use Rattle.ssh_wire.specs.Pull.{Pulled, Looks, Takes, Refuses, left_of}
 use Rattle.ssh_wire.specs.declared.pull_fault.PullFault.{PullFault}
 use Rattle.ssh_wire.specs.declared.pull_fault.PullFault.TheVariants as pulls
+use Rattle.ssh_wire.specs.Cut.{take-behind}
+use Rattle.ssh_wire.specs.Digits.{IsBytes-append}
 use Rattle.krl_core.specs.declared.krl_fault.KrlFault.{KrlFault}
 use Rattle.krl_core.specs.declared.krl_fault.KrlFault.TheVariants as faults
 use Rattle.krl_core.specs.declared.place.Place.{Place}
-use Rattle.krl_core.specs.Front.{Spot, start, spot_after, Leads, Passes, HasRoom, Told, ended, no_room, refused, too_long, ends_early, IsFirstFault, limit}
+use Rattle.krl_core.specs.Front.{Spot, start, spot_after, Leads, Passes, HasRoom, Told, no_room, refused, too_long, ends_early, IsFirstFault, limit}
 use Rattle.krl_core.specs.Gathered.{Gathered, GathersField, Grows, IsGathered}
 use Rattle.krl_core.specs.Keeping.{IsStoredWithin}
 use Rattle.krl_core.specs.Place.{due, names, authority_after, header_after}
@@ -21,6 +23,7 @@ use Rattle.krl_core.specs.Reading.{Position, working, HasRead, IsBounded, LooksF
 use Rattle.krl_core.proofs.Fixed.{late_enough}
 use Rattle.krl_core.proofs.Fronts.{first_fault_is, end_size, end_room}
 use Rattle.krl_core.proofs.Walks.{Leads-push}
+use Rattle.krl_core.proofs.Exists.{end_or_early}
 
 -- ---- what a reader has left
 
@@ -51,20 +54,13 @@ ahead_some p rest left some none = ahead_left p.ahead p.source rest p refl refl 
 
 -- ---- the front that was read
 
-pub take_front : (done rest : List ℕ) (n : ℕ) → length done ≤ n → take n (done ++ rest) ≡ done ++ take (n - length done) rest
-take_front [] rest n le = ap (λ (k : ℕ). take k rest) (let e : n ≡ n - 0 = omega arith in e)
-take_front (x ∷ done) rest zero le = absurd (omega arith)
-take_front (x ∷ done) rest (suc n) le =
-    ap (λ (l : List ℕ). x ∷ l) (take_front done rest n (omega arith))
-    ∙ ap (λ (k : ℕ). x ∷ (done ++ take k rest)) (let e : n - length done ≡ suc n - suc (length done) = omega arith in e)
-
 -- what is told at the place that was reached is the first fault
 pub told_there : (text : List ℕ) (fields : List (List ℕ)) (p : Position) (h : HasRead text fields p) (fault : Option KrlFault)
     → length (concat fields) ≤ limit
     → Told p.place (take (limit - length (concat fields)) h.rest) (ltb limit (length text)) fault → IsFirstFault text fault
 told_there text fields p h fault le told =
     let parts : take limit text ≡ concat fields ++ take (limit - length (concat fields)) h.rest =
-    ap (take limit) h.parts ∙ take_front (concat fields) h.rest limit le in
+    ap (take limit) h.parts ∙ take-behind (concat fields) h.rest limit le in
     first_fault_is text fault (record {
       last = h.spot;
       rest = take (limit - length (concat fields)) h.rest;
@@ -85,20 +81,6 @@ told_given fields spot came fault leads le told =
       walks = record { fields = fields; leads = leads; parts = whole };
       told = subst (λ (b : Bool). Told spot.place came b fault) (sym off) told;
     })
-
-is_true : (b : Bool) → (b ≡ true) ⊎ (b ≡ true → ⊥)
-is_true true = inl refl
-is_true false = inr (λ e. cc)
-
--- what is told where the bytes that came are less than the field
-end_or_early : (place : Place) (came : List ℕ) → HasRoom (due place) → length came < (due place).size
-    → Told place came false None ⊎ Told place came false (Some faults.EndsEarly)
-end_or_early place [] room short =
-    elim (is_true (due place).may_end) [
-      | inl here ↦ inl (ended (here, refl) refl refl)
-      | inr other ↦ inr (ends_early room short (λ at_end. other at_end.0) refl refl)
-    ]
-end_or_early place (x ∷ came) room short = inr (ends_early room short (λ at_end. let none = at_end.1 in absurd cc) refl refl)
 
 -- ---- faults
 
@@ -204,20 +186,11 @@ refused_says old mid new field fault bounded looks takes room size (inr judged) 
     let after = consumes_some (left_of mid) (left_of new) h.rest field left takes.bytes in
     let within : length (concat fields) + length field ≤ limit = omega (arith, takes.within, looks.taken, looks.limit_is, bounded.limit_is, h.taken_is) in
     let front : take (limit - length (concat fields)) h.rest ≡ field ++ take (limit - length (concat fields) - length field) after.0 =
-    ap (take (limit - length (concat fields))) after.2 ∙ take_front field after.0 (limit - length (concat fields)) (omega arith) in
+    ap (take (limit - length (concat fields))) after.2 ∙ take-behind field after.0 (limit - length (concat fields)) (omega arith) in
     first (told_there text fields old h (Some fault) (omega arith)
     (refused field (take (limit - length (concat fields) - length field) after.0) fault room front size judged refl)) takes.working
 
 -- ---- one field more
-
-bytes_append : (xs ys : List ℕ) → IsBytes xs → IsBytes ys → IsBytes (xs ++ ys)
-bytes_append xs ys h k i =
-    elim (cases_lt i (length xs)) [
-      | inl lt ↦ subst (λ (n : ℕ). n < 256) (sym (get_or_append_left xs ys 0 i lt)) (h i)
-      | inr le ↦
-          let e : i ≡ length xs + (i - length xs) = omega arith in
-          subst (λ (n : ℕ). n < 256) (sym (ap (λ (j : ℕ). get_or (xs ++ ys) j 0) e ∙ get_or-append-add xs ys (i - length xs) 0)) (k (i - length xs))
-    ]
 
 pub one_more : (old : Position) (mid new : Pulled) (place : Place) (gathered : Gathered) (field : List ℕ) → old.fault ≡ None
     → LooksFor old.place old.pull false mid → Takes mid field new → Passes old.place field place → IsBytes field
@@ -242,7 +215,7 @@ one_more old mid new place gathered field faultless looks takes passes bytes kee
         authority_is = keeps.authority_is ∙ authority;
         header_is = keeps.header_is ∙ header;
         gathered = subst (λ n. IsGathered gathered (h.spot.entries ++ n)) named (keeps.gathered h.spot.entries h.gathered);
-        are_bytes = subst IsBytes (sym joined) (bytes_append (concat fields) field h.are_bytes bytes);
+        are_bytes = subst IsBytes (sym joined) (IsBytes-append (concat fields) field h.are_bytes bytes);
         rest = after.0;
         left_is = after.1;
         parts = h.parts ∙ ap (λ (l : List ℕ). concat fields ++ l) after.2 ∙ sym (append_assoc (concat fields) field after.0) ∙ ap (λ (l : List ℕ). l ++ after.0) (sym joined);

@@ -1,9 +1,10 @@
 -- What is held revokes just what its test says.
-use Rattle.std.proofs.Common.{◌≡◌, ℕ, zero, suc, ◌<◌, Bool, true, false, ◌⊎◌, List, [], ◌∷◌, length, get_or, refl, sym, ap, ◌∙◌, arith, inl, inr}
+use Rattle.std.proofs.Common.{◌≡◌, ℕ, Bool, true, false, ◌⊎◌, List, [], ◌∷◌, refl, sym, ap, ◌∙◌, inl, inr, subst}
 use Rattle.std.specs.Prelude.{◌↔◌, ◌||◌, ◌&&◌, Option, Some, None, IsTrue}
 use Rattle.std.specs.List.{Contains}
 use Rattle.std.specs.Str.{bytes_eq}
 use Rattle.std.proofs.lemmas.Slice.Eq.{bytes_eq-Decides}
+use Rattle.std.specs.Cmp.{both_ways}
 use Rattle.sha1.specs.Sha1.{sha1}
 use Rattle.sha2.specs.Sha256.{sha256}
 use Rattle.serial_set.specs.Span.{Covers}
@@ -16,6 +17,7 @@ use Rattle.krl_core.specs.Tested.{holds_cert, holds_key, holds_under, is_among, 
 use Rattle.krl_plan.specs.Written.{has}
 use Rattle.krl_core.proofs.Asking.{asked_key, asked_cert}
 use Rattle.krl_core.proofs.BitmapNames.{has-names, names-has}
+use Rattle.krl_core.specs.Elements.{contains_here, contains_later, contains_cases, contains_none}
 
 -- ---- tests of one thing or another
 
@@ -30,19 +32,15 @@ and_tested : {A B : Type 0} (a b : Bool) → (IsTrue a ↔ A) → (IsTrue b ↔ 
 and_tested true b h k = (λ yes. (h.0 refl, k.0 yes), λ both. k.1 both.1)
 and_tested false b h k = (λ yes. absurd cc, λ both. absurd (let no = h.1 both.0 in cc))
 
-at_or_in : (first : List ℕ) (texts : List (List ℕ)) (text : List ℕ) (k : ℕ) → k < length (first ∷ texts) → get_or (first ∷ texts) k text ≡ text → (first ≡ text) ⊎ Contains texts text
-at_or_in first texts text zero lt e = inl e
-at_or_in first texts text (suc k) lt e = inr (k, omega arith, e)
-
 among_tested : (texts : List (List ℕ)) (text : List ℕ) → IsTrue (is_among texts text) ↔ Contains texts text
-among_tested [] text = (λ yes. absurd cc, λ found. absurd (omega (arith, found.1)))
+among_tested [] text = (λ yes. absurd cc, λ found. absurd (contains_none text found))
 among_tested (first ∷ texts) text =
     let either = or_tested (bytes_eq first text) (is_among texts text) (bytes_eq-Decides first text) (among_tested texts text) in (
       λ yes. elim (either.0 yes) [
-        | inl same ↦ (0, omega arith, same)
-        | inr more ↦ (suc more.0, omega (arith, more.1), more.2)
+        | inl same ↦ subst (Contains (first ∷ texts)) same (contains_here first texts)
+        | inr more ↦ contains_later first text texts more
       ],
-      λ found. either.1 (at_or_in first texts text found.0 found.1 found.2),
+      λ found. either.1 (contains_cases first text texts found),
     )
 
 -- ---- what is held
@@ -81,14 +79,9 @@ cert_tested r cert =
 
 -- ---- the answer
 
-same_test : (a b : Bool) → (IsTrue a → IsTrue b) → (IsTrue b → IsTrue a) → a ≡ b
-same_test true b there back = sym (there refl)
-same_test false true there back = back refl
-same_test false false there back = refl
-
 key_same : (r : Contents) (blob : List ℕ) (answer : Bool) → (IsTrue answer ↔ HoldsKey r blob) → answer ≡ holds_key r blob
 key_same r blob answer asked =
-    let tested = key_tested r blob in same_test answer (holds_key r blob) (λ yes. tested.1 (asked.0 yes)) (λ yes. asked.1 (tested.0 yes))
+    let tested = key_tested r blob in both_ways answer (holds_key r blob) (λ yes. tested.1 (asked.0 yes)) (λ yes. asked.1 (tested.0 yes))
 
 pub tested_key : (r : Contents) (plain : List ℕ) (cert : Option Names) (key : Bool) → (IsTrue key ↔ HoldsKey r plain) → key ≡ true → true ≡ revokes r (record { plain = plain; cert = cert })
 unfolding revokes
@@ -104,7 +97,7 @@ tested_none r cert none = ap (holds_cert r) (sym none)
 pub tested_some : (r : Contents) (cert : Option Names) (names : Names) (answer : Bool) → cert ≡ Some names → (IsTrue answer ↔ HoldsCert r names) → answer ≡ holds_cert r cert
 tested_some r cert names answer some asked =
     let tested = cert_tested r names in
-    same_test answer (holds_cert r (Some names)) (λ yes. tested.1 (asked.0 yes)) (λ yes. asked.1 (tested.0 yes)) ∙ ap (holds_cert r) (sym some)
+    both_ways answer (holds_cert r (Some names)) (λ yes. tested.1 (asked.0 yes)) (λ yes. asked.1 (tested.0 yes)) ∙ ap (holds_cert r) (sym some)
 
 cert_meant : (r : Contents) (entries : List Entry) → Means r entries → (cert : Option Names) → IsTrue (holds_cert r cert) ↔ CertRevoked entries cert
 cert_meant r entries means None = (λ yes. absurd cc, λ named. absurd named)

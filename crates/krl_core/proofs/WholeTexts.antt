@@ -1,5 +1,5 @@
 -- A whole list, put part behind part.
-use Rattle.std.proofs.Common.{◌≡◌, ℕ, ◌+◌, ◌<◌, ◌≤◌, List, [], ◌∷◌, ◌++◌, length, Result, Err, refl, ap, ◌∙◌, arith, append_assoc, length-append}
+use Rattle.std.proofs.Common.{◌≡◌, ℕ, ◌+◌, ◌<◌, ◌≤◌, List, [], ◌∷◌, ◌++◌, length, Err, refl, ap, ◌∙◌, arith, append_assoc, length-append}
 use Rattle.ssh_wire.specs.Wire.{number, string}
 use Rattle.krl_core.specs.Front.{limit}
 use Rattle.krl_core.specs.declared.header.Header.{Header}
@@ -11,10 +11,8 @@ use Rattle.krl_core.specs.Krl.{header_text, magic}
 use Rattle.krl_core.specs.KrlText.{EachPlan, IsKrlText, authorities_text, listed_text, sections_text, text_of}
 use Rattle.krl_plan.specs.Plan.{IsLeastPlan}
 use Rattle.krl_core.specs.Within.{AddsAuthorities, AddsWithin, IsWritten}
+use Rattle.krl_core.proofs.Limits.{refused}
 use Rattle.krl_plan.specs.OnePlan.{one_plan}
-
-abbrev refused : TextFault → Result (Unit {0}) TextFault
-refused fault = Err fault
 
 -- ---- the header
 

@@ -13,6 +13,7 @@ pub mod Gathered
 pub mod Walk
 pub mod Inserting
 pub mod Naming
+pub mod Elements
 pub mod Pages
 pub mod Revoked
 pub mod Rising

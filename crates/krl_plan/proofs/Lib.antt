@@ -1,4 +1,4 @@
 pub mod Filling
-pub mod Ranges
+pub mod Zero
 pub mod Windows
 pub mod PlanTexts

@@ -6,26 +6,19 @@ use Rattle.std.specs.Prelude.{◌&&◌, ◌||◌}
 use Rattle.std.proofs.Math.Nat.{pow-le-pow_right, pow-succ'}
 use Rattle.std.proofs.lemmas.Bool.{cases_lt, le-leb, lt-leb}
 use Rattle.std.proofs.lemmas.List.{get_or_default}
+use Rattle.std.proofs.Math.Bool.{and-false, or-false}
 use Rattle.serial_set.specs.declared.span.Span.{Span}
 use Rattle.serial_set.specs.Span.{RunsFrom}
+use Rattle.serial_set.specs.Rising.{runs_at}
 use Rattle.krl_plan.specs.Written.{Above, bitmap_of, bits_of, has}
-use Rattle.krl_plan.specs.Loops.{at_least}
 
 -- ---- one serial
-
-and_false : (b : Bool) → (b && false) ≡ false
-and_false true = refl
-and_false false = refl
-
-or_false : (b : Bool) → (b || false) ≡ b
-or_false true = refl
-or_false false = refl
 
 pub has_past : (run : Span) (runs : List Span) (serial : ℕ) → run.hi < serial
     → has (run ∷ runs) serial ≡ has runs serial
 has_past run runs serial lt =
     ap (λ (b : Bool). (leb run.lo serial && b) || has runs serial) (lt-leb serial run.hi lt)
-    ∙ ap (λ (b : Bool). b || has runs serial) (and_false (leb run.lo serial))
+    ∙ ap (λ (b : Bool). b || has runs serial) (and-false (leb run.lo serial))
 
 pub has_before : (run : Span) (runs : List Span) (serial : ℕ) → serial < run.lo
     → has (run ∷ runs) serial ≡ has runs serial
@@ -61,11 +54,11 @@ last_run_left a (run ∷ runs) zero serial d r above le =
     ap (λ (b : Bool). (b && leb serial run.hi) || has runs serial) (le-leb run.lo serial le)
     ∙ ap (λ (b : Bool). leb serial run.hi || b)
     (has_none runs serial (λ k e lt. above.above (suc k) e (omega arith) (omega arith)))
-    ∙ or_false (leb serial run.hi)
+    ∙ or-false (leb serial run.hi)
 last_run_left a (run ∷ runs) (suc left) serial d r above le =
     let tail = Above-tail run runs (suc left) (serial + 1) above in
     let w = tail.within in
-    let far = (at_least (run.hi + 2) runs left d r.2 (omega arith)).0 in
+    let far = (runs_at (run.hi + 2) runs left d r.2 (omega arith)).0 in
     has_past run runs serial (omega arith)
     ∙ last_run_left (run.hi + 2) runs left serial d r.2 tail le
 

@@ -5,6 +5,7 @@ use Rattle.std.proofs.lemmas.Bool.{cases_lt}
 use Rattle.std.proofs.lemmas.List.{length-take-le}
 use Rattle.serial_set.specs.declared.span.Span.{Span}
 use Rattle.serial_set.specs.Span.{IsRuns, RunsFrom}
+use Rattle.serial_set.specs.Rising.{RunsFrom-weaker}
 use Rattle.krl_plan.specs.declared.group.Sort.{Sort}
 use Rattle.krl_plan.specs.declared.group.Sort.TheVariants.{Serials, Range, Bitmap}
 use Rattle.krl_plan.specs.declared.group.Group.{Group}
@@ -21,12 +22,8 @@ RunsFrom-take a zero runs r = tt
 RunsFrom-take a (suc n) [] r = tt
 RunsFrom-take a (suc n) (run ∷ runs) r = (r.0, r.1, RunsFrom-take (run.hi + 2) n runs r.2)
 
-pub RunsFrom-zero : (a : ℕ) (runs : List Span) → RunsFrom a runs → IsRuns runs
-RunsFrom-zero a [] r = tt
-RunsFrom-zero a (run ∷ runs) r = (omega arith, r.1, r.2)
-
 pub IsRuns-drop : (a n : ℕ) (runs : List Span) → RunsFrom a runs → IsRuns (drop n runs)
-IsRuns-drop a zero runs r = RunsFrom-zero a runs r
+IsRuns-drop a zero runs r = RunsFrom-weaker a 0 runs (omega arith) r
 IsRuns-drop a (suc n) [] r = tt
 IsRuns-drop a (suc n) (run ∷ runs) r = IsRuns-drop (run.hi + 2) n runs r.2
 

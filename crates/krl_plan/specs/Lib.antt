@@ -8,3 +8,4 @@ pub mod BitmapBits
 pub mod ListTexts
 pub mod GroupTexts
 pub mod OnePlan
+pub mod Ranges

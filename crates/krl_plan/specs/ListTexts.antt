@@ -10,7 +10,7 @@ use Rattle.ssh_wire.specs.Fields.{length-number}
 use Rattle.krl_plan.specs.Plan.{IsSmall, serial_count}
 use Rattle.krl_plan.specs.Written.{serials_from, serials_of}
 
-length-numbers : (numbers : List ℕ) → length (flat_map (number 8) numbers) ≡ 8 * length numbers
+pub length-numbers : (numbers : List ℕ) → length (flat_map (number 8) numbers) ≡ 8 * length numbers
 length-numbers [] = refl
 length-numbers (n ∷ numbers) =
     omega (

@@ -6,7 +6,8 @@ use Rattle.std.specs.List.{All}
 use Rattle.std.proofs.lemmas.Bool.{cases_lt}
 use Rattle.std.proofs.lemmas.List.{length-take-le, get_or-take, get_or_default, take_more}
 use Rattle.serial_set.specs.declared.span.Span.{Span}
-use Rattle.serial_set.specs.Span.{IsRuns, RunsFrom}
+use Rattle.serial_set.specs.Span.{IsRuns}
+use Rattle.serial_set.specs.Rising.{ends_rise, runs_at}
 use Rattle.krl_plan.specs.declared.group.Sort.{Sort}
 use Rattle.krl_plan.specs.declared.group.Sort.TheVariants.{Serials, Range, Bitmap}
 use Rattle.krl_plan.specs.declared.group.Group.{Group}
@@ -163,36 +164,15 @@ reach-take (run ∷ runs) i d lt =
     let h = end_take run runs i d (omega arith) in
     rw add-one (ap (λ (n : ℕ). n - run.lo) h)
 
-pub at_least : (a : ℕ) (runs : List Span) (i : ℕ) (d : Span) → RunsFrom a runs → i < length runs
-    → (a ≤ (get_or runs i d).lo) × ((get_or runs i d).lo ≤ (get_or runs i d).hi)
-at_least a [] i d r lt = absurd (omega arith)
-at_least a (run ∷ runs) zero d r lt = (r.0, r.1)
-at_least a (run ∷ runs) (suc i) d r lt =
-    let h = at_least (run.hi + 2) runs i d r.2 (omega arith) in
-    let h0 : a ≤ run.lo = r.0 in
-    let h1 : run.lo ≤ run.hi = r.1 in
-    (omega arith, h.1)
-
 -- the first run begins below each one's end
 pub first_below : (runs : List Span) (i : ℕ) (d : Span) → IsRuns runs → i < length runs
     → (get_or runs 0 d).lo ≤ (get_or runs i d).hi
 first_below [] i d r lt = absurd (omega arith)
 first_below (run ∷ runs) zero d r lt = r.1
 first_below (run ∷ runs) (suc i) d r lt =
-    let h = at_least (run.hi + 2) runs i d r.2 (omega arith) in
+    let h = runs_at (run.hi + 2) runs i d r.2 (omega arith) in
     let h1 : run.lo ≤ run.hi = r.1 in
     omega arith
-
-ends_rise : (a : ℕ) (runs : List Span) (i j : ℕ) (d : Span) → RunsFrom a runs → i ≤ j
-    → j < length runs → (get_or runs i d).hi ≤ (get_or runs j d).hi
-ends_rise a [] i j d r le lt = absurd (omega arith)
-ends_rise a (run ∷ runs) zero zero d r le lt = omega arith
-ends_rise a (run ∷ runs) zero (suc j) d r le lt =
-    let h = at_least (run.hi + 2) runs j d r.2 (omega arith) in
-    omega arith
-ends_rise a (run ∷ runs) (suc i) zero d r le lt = absurd (omega arith)
-ends_rise a (run ∷ runs) (suc i) (suc j) d r le lt =
-    ends_rise (run.hi + 2) runs i j d r.2 (omega arith) (omega arith)
 
 -- one run more in a bitmap
 pub bitmap_more : (runs : List Span) (i : ℕ) (d : Span) → i < length runs
@@ -219,7 +199,7 @@ not_near runs i d r lt far count g =
           let is : reach (take count runs) ≡ (get_or runs (count - 1) d).hi -
           (get_or runs 0 d).lo = ap (λ (n : ℕ). reach (take n runs)) last ∙ reach-take runs
           (count - 1) d (omega arith) in
-          let up = ends_rise 0 runs i (count - 1) d r (omega arith) (omega arith) in
+          let up = ends_rise 0 runs r i (count - 1) d (omega arith) (omega arith) in
           absurd (omega arith)
     ]
 

@@ -13,7 +13,7 @@ loop-low-preserved-in-Less g c =
     let inside : middle < length items = omega arith in
     let x = c.index-items-middle.result in
     let before : bytes_cmp (key (get_or items middle x)) bytes ≡ Less =
-    ap (λ y. bytes_cmp (key y) bytes) (sym c.index-items-middle.is) ∙ ap (λ k. bytes_cmp k bytes) (sym c.key.ensures) ∙ sym c.in-Less.ensures in
+    ap (λ y. bytes_cmp (key y) bytes) (sym c.index-items-middle.is) ∙ ap (λ k. bytes_cmp k bytes) (sym c.key.ensures) ∙ sym {b = bytes_cmp c.key.result.now bytes} c.in-Less.ensures in
     record {
       ordered = omega arith;
       within = c.loop-low.invariant.within;
@@ -30,7 +30,7 @@ loop-low-preserved g c =
     let inside : middle < length items = omega arith in
     let x = c.index-items-middle.result in
     let same : bytes_cmp (key (get_or items middle x)) bytes ≡ c.compare.result =
-    ap (λ y. bytes_cmp (key y) bytes) (sym c.index-items-middle.is) ∙ ap (λ k. bytes_cmp k bytes) (sym c.key.ensures) ∙ sym c.compare.ensures in
+    ap (λ y. bytes_cmp (key y) bytes) (sym c.index-items-middle.is) ∙ ap (λ k. bytes_cmp k bytes) (sym c.key.ensures) ∙ sym {b = bytes_cmp c.key.result.now bytes} c.compare.ensures in
     record {
       ordered = omega arith;
       within = omega arith;

@@ -20,7 +20,7 @@ returns-in-Equal g c =
     let short : at < length c.as_slice-items.result.now = omega arith in
     let within : at < length (first_items (drop n pages)) = subst (λ l. at < length l) items short in
     let is : x ≡ get_or (first_items (drop n pages)) at x = c.index-items-spot.is ∙ ap (λ l. get_or l at x) items in
-    let same : key x ≡ c.args.bytes.now = sym c.key.ensures ∙ exact_bytes c.key.result.now c.args.bytes.now (sym c.in-Equal.ensures) in (
+    let same : key x ≡ c.args.bytes.now = sym c.key.ensures ∙ exact_bytes c.key.result.now c.args.bytes.now (sym {b = bytes_cmp c.key.result.now c.args.bytes.now} c.in-Equal.ensures) in (
       λ h. record { page_within = inside; within = within; same = λ d. ap key (get_or_default (first_items (drop n pages)) at d x within ∙ sym is) ∙ same },
       λ m. refl,
     )

@@ -1,11 +1,8 @@
 use Rattle.std.proofs.Common.{◌≡◌, ◌+◌, ◌-◌, suc, ℕ, leb, subst, sym, ap, ◌∙◌, arith}
-use Rattle.serial_set.specs.declared.span.Span.{Span}
 use Rattle.krl_plan.specs.Written.{Above}
 use Rattle.krl_plan.specs.BitmapBits.{last_run_left, no_run_left}
+use Rattle.krl_plan.proofs.Zero.{zero_span}
 use Rattle.krl_plan.proofs.bitmap.has_serial.Goals as goal
-
-abbrev zero_span : Span
-zero_span = record { lo = 0; hi = 0 }
 
 pub returns-then-from-serial-clause-has : goal.returns-then-from-serial-clause-has
 returns-then-from-serial-clause-has c =

@@ -1,12 +1,9 @@
 use Rattle.std.proofs.Common.{◌≡◌, ◌+◌, ◌-◌, ◌*◌, ◌++◌, [], ◌∷◌, List, ℕ, ap, subst, ◌∙◌, arith}
-use Rattle.serial_set.specs.declared.span.Span.{Span}
 use Rattle.krl_plan.specs.Written.{Above, bitmap_of, bits_of, first_of}
 use Rattle.krl_plan.specs.BitmapBits.{bytes_more}
 use Rattle.krl_plan.specs.GroupTexts.{first-get}
+use Rattle.krl_plan.proofs.Zero.{zero_span}
 use Rattle.krl_plan.proofs.bitmap.put_bits.Goals as goal
-
-abbrev zero_span : Span
-zero_span = record { lo = 0; hi = 0 }
 
 pub loop-place-preserved : goal.loop-place-preserved
 loop-place-preserved c =

@@ -2,17 +2,15 @@ use Rattle.std.proofs.Common.{◌≡◌, ◌+◌, ◌++◌, [], ◌∷◌, List,
 use Rattle.std.specs.List.{flat_map}
 use Rattle.std.proofs.lemmas.List.{take_more}
 use Rattle.serial_set.specs.declared.span.Span.{Span}
+use Rattle.serial_set.specs.Rising.{runs_at}
 use Rattle.ssh_wire.specs.Wire.{number, string}
 use Rattle.krl_plan.specs.Written.{serials_of}
 use Rattle.krl_plan.specs.ListTexts.{all_listed, length-all_listed, listed_more, small_few, string_ended}
-use Rattle.krl_plan.specs.Loops.{at_least}
+use Rattle.krl_plan.proofs.Zero.{zero_span}
 use Rattle.krl_plan.proofs.group_text.put_listed.Goals as goal
 
-abbrev zero_span : Span
-zero_span = record { lo = 0; hi = 0 }
-
 pub put_serials-requires-clause-ordered : goal.put_serials-requires-clause-ordered
-put_serials-requires-clause-ordered c = (at_least 0 c.args.runs.now c.loop-run.run-index zero_span c.requires.rising c.loop-run-test.true).1
+put_serials-requires-clause-ordered c = (runs_at 0 c.args.runs.now c.loop-run.run-index zero_span c.requires.rising c.loop-run-test.true).1
 
 pub loop-run-preserved : goal.loop-run-preserved
 loop-run-preserved c =

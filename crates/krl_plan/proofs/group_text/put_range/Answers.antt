@@ -1,14 +1,11 @@
 use Rattle.std.proofs.Common.{◌≡◌, ◌+◌, ◌-◌, ◌++◌, ◌∷◌, ℕ, arith, get_or, length, sym, ap, ◌∙◌}
-use Rattle.serial_set.specs.declared.span.Span.{Span}
+use Rattle.serial_set.specs.Rising.{runs_at}
 use Rattle.ssh_wire.specs.Wire.{number, string}
 use Rattle.krl_plan.specs.Plan.{reach}
 use Rattle.krl_plan.specs.Written.{first_of}
 use Rattle.krl_plan.specs.GroupTexts.{first-get, range_put, reach-get}
-use Rattle.krl_plan.specs.Loops.{at_least}
+use Rattle.krl_plan.proofs.Zero.{zero_span}
 use Rattle.krl_plan.proofs.group_text.put_range.Goals as goal
-
-abbrev zero_span : Span
-zero_span = record { lo = 0; hi = 0 }
 
 pub returns : goal.returns
 returns c =
@@ -17,7 +14,7 @@ returns c =
     let lo = first-get runs zero_span (omega arith) in
     let at : length runs - 1 ≡ 0 = omega arith in
     let far : reach runs ≡ (get_or runs 0 zero_span).hi - (get_or runs 0 zero_span).lo = reach-get runs zero_span (omega arith) ∙ ap (λ (n : ℕ). (get_or runs n zero_span).hi - (get_or runs 0 zero_span).lo) at in
-    let ordered = (at_least 0 runs 0 zero_span c.requires.rising (omega arith)).1 in
+    let ordered = (runs_at 0 runs 0 zero_span c.requires.rising (omega arith)).1 in
     let hi : (get_or runs 0 zero_span).hi ≡ first_of runs + reach runs = omega arith in
     rw (c.in_ok-put_u64-2.ensures.appends, c.in_ok-put_u64.ensures.appends, c.in_ok-put_u32.ensures.appends, c.in_ok-put_byte.ensures.appends)
     (range_put c.args.out.now.items (get_or runs 0 zero_span).lo (get_or runs 0 zero_span).hi

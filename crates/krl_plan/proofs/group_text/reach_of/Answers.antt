@@ -1,11 +1,8 @@
 use Rattle.std.proofs.Common.{◌-◌, arith, length, sym}
-use Rattle.serial_set.specs.declared.span.Span.{Span}
 use Rattle.krl_plan.specs.GroupTexts.{reach-get}
 use Rattle.krl_plan.specs.Loops.{first_below}
+use Rattle.krl_plan.proofs.Zero.{zero_span}
 use Rattle.krl_plan.proofs.group_text.reach_of.Goals as goal
-
-abbrev zero_span : Span
-zero_span = record { lo = 0; hi = 0 }
 
 pub overflow_sub-result-2 : goal.overflow_sub-result-2
 overflow_sub-result-2 c = first_below c.args.runs.now (length c.args.runs.now - 1) zero_span c.requires.rising (omega arith)

@@ -1,11 +1,8 @@
 use Rattle.std.proofs.Common.{◌<◌, arith, length}
-use Rattle.serial_set.specs.declared.span.Span.{Span}
 use Rattle.krl_plan.specs.declared.group.Sort.TheVariants.{Bitmap}
 use Rattle.krl_plan.specs.Loops.{SoFar-done, SoFar-more, all_seen, bitmap_more, first_below, not_near, reach-take}
+use Rattle.krl_plan.proofs.Zero.{zero_span}
 use Rattle.krl_plan.proofs.search.best_bitmap.Goals as goal
-
-abbrev zero_span : Span
-zero_span = record { lo = 0; hi = 0 }
 
 pub overflow_sub-reach : goal.overflow_sub-reach
 overflow_sub-reach c = first_below c.args.runs.now c.loop-i.i zero_span c.requires.rising (omega arith)

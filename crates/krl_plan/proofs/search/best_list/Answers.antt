@@ -1,14 +1,12 @@
 use Rattle.std.proofs.Common.{◌<◌, arith, length}
-use Rattle.serial_set.specs.declared.span.Span.{Span}
+use Rattle.serial_set.specs.Rising.{runs_at}
 use Rattle.krl_plan.specs.declared.group.Sort.TheVariants.{Serials}
-use Rattle.krl_plan.specs.Loops.{AllSmall-more, SoFar-done, SoFar-more, at_least, list_more, not_small, serial_count-more}
+use Rattle.krl_plan.specs.Loops.{AllSmall-more, SoFar-done, SoFar-more, list_more, not_small, serial_count-more}
+use Rattle.krl_plan.proofs.Zero.{zero_span}
 use Rattle.krl_plan.proofs.search.best_list.Goals as goal
 
-abbrev zero_span : Span
-zero_span = record { lo = 0; hi = 0 }
-
 pub overflow_sub-more : goal.overflow_sub-more
-overflow_sub-more c = (at_least 0 c.args.runs.now c.loop-i.i zero_span c.requires.rising (omega arith)).1
+overflow_sub-more c = (runs_at 0 c.args.runs.now c.loop-i.i zero_span c.requires.rising (omega arith)).1
 
 pub returns-then-more-gt1-clause-beats : goal.returns-then-more-gt1-clause-beats
 returns-then-more-gt1-clause-beats c =
@@ -20,7 +18,7 @@ loop-i-preserved c =
     let runs = c.args.runs.now in
     let i = c.loop-i.i in
     let within : i < length runs = omega arith in
-    let ordered = (at_least 0 runs i zero_span c.requires.rising within).1 in
+    let ordered = (runs_at 0 runs i zero_span c.requires.rising within).1 in
     let small = c.if-more-gt1.false in
     let count = serial_count-more runs i zero_span within in
     let so_far = c.loop-i.invariant.bytes in
