@@ -11,7 +11,7 @@ use Rattle.krl_core.specs.declared.header.Header.{Header}
 use Rattle.krl_core.specs.declared.place.Place.{Place}
 use Rattle.krl_core.specs.Entry.{Entry, SerialsEntry, IdEntry, KeyEntry, Sha1Entry, Sha256Entry}
 use Rattle.krl_core.specs.Entries.{entries_of, section_entries, subsection_entries}
-use Rattle.krl_core.specs.Krl.{Section, Certificates, Keys, Sha1s, Sha256s, Signature, Extension, Subsection, SpellsEach, SpellsSection, SpellsSubsection, SignaturesLast, IsSignature}
+use Rattle.krl_core.specs.Krl.{SpelledSection, Certificates, Keys, Sha1s, Sha256s, Signature, Extension, Subsection, SpellsEach, SpellsSection, SpellsSubsection, SignaturesLast, IsSignature}
 use Rattle.krl_core.specs.Naming.{NamesSame}
 use Rattle.krl_core.specs.Place.{within, next_key, next_sha1, next_sha256, next_subsection, next_serial, next_id}
 use Rattle.krl_core.proofs.Numbers.{number_back4, number_back8, number_of-one}
@@ -152,7 +152,7 @@ sections_from K a bytes more h = only h.subsections h.body h.spelled h.size_is h
 
 -- ---- sections
 
-sections_more : (signed : Bool) (K : Type 0) (section : Section) (text tail rest : List ℕ) (more others : List Entry) (k : FromSections false K rest others)
+sections_more : (signed : Bool) (K : Type 0) (section : SpelledSection) (text tail rest : List ℕ) (more others : List Entry) (k : FromSections false K rest others)
     → tail ≡ text ++ rest → SpellsSection text section → NamesSame more (section_entries section ++ others) → SignaturesLast (section ∷ k.sections)
     → signed ≡ false → FromSections signed K tail more
 sections_more signed K section text tail rest more others k parts spelled named last off = record {
@@ -213,7 +213,7 @@ extension_section K signed bytes more off l =
     sections_more signed K Extension (255 ∷ string h.content) (255 ∷ bytes) h.rest more more h.then_is (tail_string 255 h.content h.rest bytes parts)
     (record { content = h.content; spelled = refl; fits = omega (arith, l.fits, h.size_is); content_is = h.spelled }) (same_refl more) h.then_is.last off
 
-signature_last : (signed : Bool) (sections : List Section) → AllByRecursion IsSignature sections → LastFor signed (Signature ∷ sections)
+signature_last : (signed : Bool) (sections : List SpelledSection) → AllByRecursion IsSignature sections → LastFor signed (Signature ∷ sections)
 signature_last true sections h = (tt, h)
 signature_last false sections h = h
 

@@ -11,7 +11,7 @@ use Rattle.krl_core.specs.declared.krl_fault.KrlFault.{KrlFault}
 use Rattle.krl_core.specs.declared.krl_fault.KrlFault.TheVariants as faults
 use Rattle.krl_core.specs.declared.place.Place.{Place}
 use Rattle.krl_core.specs.Front.{Spot, start, limit, Passes, Leads, IsFirstFault, Told, ended, no_room, refused, too_long, ends_early}
-use Rattle.krl_core.specs.Krl.{Section, Spells}
+use Rattle.krl_core.specs.Krl.{SpelledSection, Spells}
 use Rattle.krl_core.specs.Place.{due}
 use Rattle.krl_core.proofs.Exists.{each_is_told}
 use Rattle.krl_core.proofs.Fronts.{append_same, end_room, end_size, fronts_compare, leads_to_one, Leads-split}
@@ -87,7 +87,7 @@ cut_told text prefix more fields last fault parts le leads may all h =
     ]
 
 -- A front of the bytes of a spelled list within the limit is itself spelled, or ends early.
-pub cut_short : (text prefix more : List ℕ) (header : Header) (sections : List Section) → IsBytes text → Spells text header sections → length text ≤ limit → text ≡ prefix ++ more
+pub cut_short : (text prefix more : List ℕ) (header : Header) (sections : List SpelledSection) → IsBytes text → Spells text header sections → length text ≤ limit → text ≡ prefix ++ more
     → IsFirstFault prefix None ⊎ IsFirstFault prefix (Some faults.EndsEarly)
 cut_short text prefix more header sections fits h le parts =
     let row = unfaulted_row text (spelled_unfaulted text header sections fits h le) in

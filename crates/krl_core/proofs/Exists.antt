@@ -9,9 +9,8 @@ use Rattle.krl_core.specs.declared.place.Place.{Place}
 use Rattle.krl_core.specs.declared.place.Place.TheVariants.{Reserved, Comment, SignatureKey, Signature, Key, Authority, SectionReserved, Id, ExtensionName, ExtensionContents, SectionType, SignatureLength, CommentLength, SectionReservedLength, ExtensionCritical}
 use Rattle.krl_core.specs.Place.{due, next_key, next_id, next_subsection}
 use Rattle.krl_core.specs.Front.{Spot, start, spot_after, HasRoom, Told, ended, no_room, refused, too_long, ends_early, IsFirstFault, limit}
-use Rattle.krl_core.specs.Walk.{Stops}
 use Rattle.krl_core.proofs.Fronts.{first_fault_is}
-use Rattle.krl_core.proofs.Walks.{walks_one, walks_from, stops_here, stops_then}
+use Rattle.krl_core.proofs.Walks.{EndsTold, walks_one, walks_from, told_here, told_then}
 use Rattle.krl_core.proofs.Judged.{done, same_place}
 
 room_or_not : (size : ℕ) (room : Option ℕ) → IfSome room (λ left. size ≤ left) ⊎ (IfSome room (λ left. size ≤ left) → ⊥)
@@ -92,14 +91,14 @@ outcome_of : (r : Result Place KrlFault) → ((q : Place) × (r ≡ Ok q)) ⊎ (
 outcome_of (Ok q) = inl (q, refl)
 outcome_of (Err why) = inr (why, refl)
 
-pub told_from : (n : ℕ) (p : Spot) (bytes : List ℕ) (goes_on : Bool) → 2 * length bytes + weight p.place < n → (fault : Option KrlFault) × Stops p bytes goes_on fault
+pub told_from : (n : ℕ) (p : Spot) (bytes : List ℕ) (goes_on : Bool) → 2 * length bytes + weight p.place < n → (fault : Option KrlFault) × EndsTold p bytes goes_on fault
 told_from zero p bytes goes_on lt = absurd (omega arith)
 told_from (suc n) p bytes goes_on lt =
     elim (room_or_not (due p.place).size (due p.place).room) [
-      | inr full ↦ (Some faults.Length, stops_here p bytes goes_on (Some faults.Length) (no_room full refl))
+      | inr full ↦ (Some faults.Length, told_here p bytes goes_on (Some faults.Length) (no_room full refl))
       | inl room ↦
           elim (cases_lt (length bytes) (due p.place).size) [
-            | inl short ↦ let t = short_told p.place bytes goes_on room short in (t.0, stops_here p bytes goes_on t.0 t.1)
+            | inl short ↦ let t = short_told p.place bytes goes_on room short in (t.0, told_here p bytes goes_on t.0 t.1)
             | inr enough ↦
                 let field : List ℕ = take (due p.place).size bytes in
                 let rest : List ℕ = drop (due p.place).size bytes in
@@ -111,11 +110,11 @@ told_from (suc n) p bytes goes_on lt =
                       let near = nearer p.place w.0 field w.1 in
                       let t = told_from n (spot_after p field w.0) rest goes_on (omega (arith, near, left, lt)) in (
                         t.0,
-                        stops_then p (spot_after p field w.0) bytes rest goes_on t.0
+                        told_then p (spot_after p field w.0) bytes rest goes_on t.0
                             (walks_from p (spot_after p field w.0) bytes (field ++ rest) rest parts
                             (walks_one p w.0 field rest (record { room = room; whole = size; judged = w.1 }))) t.1,
                       )
-                  | inr w ↦ (Some w.0, stops_here p bytes goes_on (Some w.0) (refused field rest w.0 room parts size w.1 refl))
+                  | inr w ↦ (Some w.0, told_here p bytes goes_on (Some w.0) (refused field rest w.0 room parts size w.1 refl))
                 ]
           ]
     ]

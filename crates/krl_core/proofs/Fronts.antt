@@ -10,7 +10,7 @@ use Rattle.krl_core.specs.declared.place.Place.{Place}
 use Rattle.krl_core.specs.declared.place.Place.TheVariants.{SectionType}
 use Rattle.krl_core.specs.Place.{due}
 use Rattle.krl_core.specs.Front.{Spot, start, spot_after, HasRoom, Leads, IsEnd, Told, ended, no_room, refused, too_long, ends_early, IsFront, IsLongestFront, IsFirstFault, limit}
-use Rattle.krl_core.specs.Walk.{Stops}
+use Rattle.krl_core.proofs.Walks.{EndsTold}
 use Rattle.krl_core.proofs.Judged.{same_place}
 use Rattle.ssh_wire.specs.Steps.{never_err}
 
@@ -101,7 +101,7 @@ is_longest text fields p rest goes_on fault front told = record {
 }
 
 -- what stops a walk from the first byte is the first fault
-pub first_fault_is : (text : List ℕ) (fault : Option KrlFault) → Stops start (take limit text) (ltb limit (length text)) fault → IsFirstFault text fault
+pub first_fault_is : (text : List ℕ) (fault : Option KrlFault) → EndsTold start (take limit text) (ltb limit (length text)) fault → IsFirstFault text fault
 first_fault_is text fault h =
     let front : IsFront text h.walks.fields h.last h.rest = record { leads = h.walks.leads; parts = h.walks.parts } in
     record { fields = h.walks.fields; spot = h.last; rest = h.rest; front = is_longest text h.walks.fields h.last h.rest (ltb limit (length text)) fault front h.told; told = h.told }

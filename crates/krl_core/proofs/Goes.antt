@@ -6,7 +6,7 @@ use Rattle.std.proofs.lemmas.List.Folds.{concat-append}
 use Rattle.krl_core.specs.declared.place.Place.{Place}
 use Rattle.krl_core.specs.Front.{Spot, Passes, HasRoom, spot_after, Leads}
 use Rattle.krl_core.specs.Place.{due}
-use Rattle.krl_core.specs.Walk.{Walks}
+use Rattle.krl_core.proofs.Walks.{Walks}
 
 -- from the place some fields lead to the last place, and leave the rest of the bytes
 abbrev pub Along : Place → List (List ℕ) → Place → Type 0

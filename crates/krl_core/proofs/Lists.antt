@@ -11,7 +11,7 @@ use Rattle.std.proofs.lemmas.List.{append-nil, take_all}
 use Rattle.krl_core.specs.declared.krl_fault.KrlFault.{KrlFault}
 use Rattle.krl_core.specs.declared.place.Place.{Place}
 use Rattle.krl_core.specs.Front.{Spot, start, Leads, limit, IsEnd, IsFirstFault, Told, ended, no_room, refused, too_long, ends_early}
-use Rattle.krl_core.specs.Krl.{Section, Spells, header_text, magic}
+use Rattle.krl_core.specs.Krl.{SpelledSection, Spells, header_text, magic}
 use Rattle.krl_core.specs.Naming.{NamesSame}
 use Rattle.krl_core.specs.Place.{due}
 use Rattle.krl_core.specs.Reading.{IsWhole, IsList}
@@ -27,7 +27,7 @@ header_parts header flags reserved rest = simp append_assoc
 
 -- a header and sections spell the text, and the sections name the same as the entries
 pub record SpelledBy (text : List ℕ) (header : Header) (entries : List Entry) : Type 0 where
-  pub sections : List Section
+  pub sections : List SpelledSection
   pub spelled : Spells text header sections
   pub named : NamesSame entries (entries_of sections)
 
@@ -110,7 +110,7 @@ unfaulted_row text h =
 
 -- a text without a fault leads to the end of a list
 pub unfaulted_spelled : (text : List ℕ) → IsBytes text → IsFirstFault text None
-    → (length text ≤ limit) × ((header : Header) × ((sections : List Section) × Spells text header sections))
+    → (length text ≤ limit) × ((header : Header) × ((sections : List SpelledSection) × Spells text header sections))
 unfaulted_spelled text fits h =
     let row = unfaulted_row text h in
     let k = row_spelled row.0 row.1 row.2.0 row.2.1 (subst IsBytes row.2.2 fits) in

@@ -10,7 +10,7 @@ use Rattle.krl_plan.specs.declared.group.Sort.TheVariants as sorts
 use Rattle.krl_plan.specs.declared.group.Group.{Group}
 use Rattle.krl_core.specs.Contents.{Contents, HoldsId, HoldsSerial, IsListed, IsOrderly, Means, Section as Listed}
 use Rattle.krl_core.specs.Entry.{Entry, IdEntry, KeyEntry, Sha1Entry, Sha256Entry}
-use Rattle.krl_core.specs.Krl.{Keys, Section, Sha1s, Sha256s}
+use Rattle.krl_core.specs.Krl.{Keys, SpelledSection, Sha1s, Sha256s}
 use Rattle.krl_core.specs.Entries.{entries_of, section_entries, subsection_entries}
 use Rattle.krl_core.specs.KrlText.{EachPlan, authority_sections, group_subsection, ids_subsections, listed_sections, plan_subsections, sections_of}
 use Rattle.krl_core.specs.Naming.{SomeNamesAt}
@@ -166,7 +166,7 @@ all_of plans r = entries_of (authority_sections plans r.sections) ++ (map KeyEnt
 
 entries_are : (plans : List (List Group)) (r : Contents) → entries_of (sections_of plans r) ≡ all_of plans r
 entries_are plans r =
-    let hashes : List Section = listed_sections Sha1s r.sha1s ++ listed_sections Sha256s r.sha256s in
+    let hashes : List SpelledSection = listed_sections Sha1s r.sha1s ++ listed_sections Sha256s r.sha256s in
     let two : entries_of hashes ≡ hashes_of r =
     flat_map-append section_entries (listed_sections Sha1s r.sha1s) (listed_sections Sha256s r.sha256s)
     ∙ ap (λ (es : List Entry). es ++ entries_of (listed_sections Sha256s r.sha256s)) (sha1s_are r.sha1s)

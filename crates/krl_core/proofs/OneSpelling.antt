@@ -5,7 +5,7 @@ use Rattle.std.proofs.lemmas.List.{append-nil, append_cancel_left, length-append
 use Rattle.ssh_wire.specs.Wire.{number, number_of, string, strings}
 use Rattle.ssh_wire.specs.Fields.{length-number, length-string}
 use Rattle.krl_core.specs.declared.header.Header.{Header}
-use Rattle.krl_core.specs.Krl.{Section, Certificates, Keys, Sha1s, Sha256s, Signature, Extension, Subsection, Serials, Range, Bitmap, Ids, SubsectionExtension, Spells, SpellsEach, SpellsSection, SpellsSubsection, SpellsContent, SpellsCertificates, SubsectionContent, SpellsBitmap, header_text, numbers_text, magic, subsection_type}
+use Rattle.krl_core.specs.Krl.{SpelledSection, Certificates, Keys, Sha1s, Sha256s, Signature, Extension, Subsection, Serials, Range, Bitmap, Ids, SubsectionExtension, Spells, SpellsEach, SpellsSection, SpellsSubsection, SpellsContent, SpellsCertificates, SubsectionContent, SpellsBitmap, header_text, numbers_text, magic, subsection_type}
 use Rattle.krl_core.proofs.Fronts.{append_same}
 use Rattle.krl_core.proofs.Lists.{header_parts}
 use Rattle.krl_core.proofs.Numbers.{number_again4, number_again8}
@@ -149,7 +149,7 @@ same_certificates content authority authority' subs subs' fits h k =
     let more = same_each SpellsSubsection one_subsection some_subsection h.body k.body subs subs' t.1 h.subsections_are k.subsections_are in
     ap (λ (a : List ℕ). Certificates a subs) s.0 ∙ ap (λ (xs : List Subsection). Certificates authority' xs) more
 
-abbrev section_type : Section → ℕ
+abbrev section_type : SpelledSection → ℕ
 section_type (Certificates authority subs) = 1
 section_type (Keys blobs) = 2
 section_type (Sha1s hashes) = 3
@@ -158,7 +158,7 @@ section_type (Sha256s hashes) = 5
 section_type Extension = 255
 
 -- the text begins with the type byte of the section
-section_head : (x : Section) (text : List ℕ) → SpellsSection text x → (more : List ℕ) × (text ≡ section_type x ∷ more)
+section_head : (x : SpelledSection) (text : List ℕ) → SpellsSection text x → (more : List ℕ) × (text ≡ section_type x ∷ more)
 section_head (Certificates authority subs) text h = (string h.content, h.spelled)
 section_head (Keys blobs) text h = (string h.content, h.spelled)
 section_head (Sha1s hashes) text h = (string h.content, h.spelled)
@@ -166,7 +166,7 @@ section_head Signature text h = (string h.key ++ string h.signature, h.spelled)
 section_head (Sha256s hashes) text h = (string h.content, h.spelled)
 section_head Extension text h = (string h.content, h.spelled)
 
-same_type : (x y : Section) (text other rest rest' : List ℕ) → SpellsSection text x → SpellsSection other y → text ++ rest ≡ other ++ rest' → section_type x ≡ section_type y
+same_type : (x y : SpelledSection) (text other rest rest' : List ℕ) → SpellsSection text x → SpellsSection other y → text ++ rest ≡ other ++ rest' → section_type x ≡ section_type y
 same_type x y text other rest rest' h k e =
     let p = section_head x text h in
     let q = section_head y other k in
@@ -218,7 +218,7 @@ made version date comment = record { version = version; date = date; comment = c
 same_header : (h k : Header) → h.version ≡ k.version → h.date ≡ k.date → h.comment ≡ k.comment → h ≡ k
 same_header h k v d c = ap (λ (x : ℕ). made x h.date h.comment) v ∙ ap (λ (x : ℕ). made k.version x h.comment) d ∙ ap (λ (x : List ℕ). made k.version k.date x) c
 
-pub spelled_once : (text : List ℕ) (header header' : Header) (sections sections' : List Section) → Spells text header sections → Spells text header' sections' → (header ≡ header') × (sections ≡ sections')
+pub spelled_once : (text : List ℕ) (header header' : Header) (sections sections' : List SpelledSection) → Spells text header sections → Spells text header' sections' → (header ≡ header') × (sections ≡ sections')
 spelled_once text header header' sections sections' h k =
     let e : header_text header h.flags h.reserved ++ h.body ≡ header_text header' k.flags k.reserved ++ k.body = sym h.spelled ∙ k.spelled in
     let e0 = append_cancel_left magic _ _ (sym (header_parts header h.flags h.reserved h.body) ∙ e ∙ header_parts header' k.flags k.reserved k.body) in

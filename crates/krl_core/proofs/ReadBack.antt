@@ -5,7 +5,7 @@ use Rattle.krl_plan.specs.declared.group.Group.{Group}
 use Rattle.krl_core.specs.Contents.{Contents, IsOrderly, Means, Section as Listed}
 use Rattle.krl_core.specs.Entries.{entries_of}
 use Rattle.krl_core.specs.Front.{limit}
-use Rattle.krl_core.specs.Krl.{Section, Spells}
+use Rattle.krl_core.specs.Krl.{SpelledSection, Spells}
 use Rattle.krl_core.specs.KrlText.{EachPlan, IsKrlText, sections_of}
 use Rattle.krl_plan.specs.Plan.{IsLeastPlan, IsPlan}
 use Rattle.krl_core.specs.Reading.{IsList}
@@ -23,7 +23,7 @@ are_plans (plan ∷ plans) (first ∷ listed) each = (each.0.is_cheapest.is_plan
 
 -- a list that was written: the sections that it spells, which mean what is held
 pub record SpelledOf (header : Header) (r : Contents) (text : List ℕ) : Type 0 where
-  pub sections : List Section
+  pub sections : List SpelledSection
   pub spelled : Spells text header sections
   pub means : Means r (entries_of sections)
 
@@ -42,5 +42,5 @@ written_spelled header r text is short version date orderly =
 pub read_back : (header read : Header) (r held : Contents) (text : List ℕ) → SpelledOf header r text → IsList text read held → (read ≡ header) × (held ≡ r)
 read_back header read r held text w h =
     let one = spelled_once text read header h.sections w.sections h.spelled w.spelled in
-    let means : Means held (entries_of w.sections) = subst (λ (sections : List Section). Means held (entries_of sections)) one.1 h.means in
+    let means : Means held (entries_of w.sections) = subst (λ (sections : List SpelledSection). Means held (entries_of sections)) one.1 h.means in
     (one.0, one_meaning held r (entries_of w.sections) means w.means)

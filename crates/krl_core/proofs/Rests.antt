@@ -9,19 +9,19 @@ use Rattle.krl_core.specs.declared.place.Place.{Place}
 use Rattle.krl_core.specs.declared.place.Place.TheVariants as places
 use Rattle.krl_core.specs.Entry.{Entry, SerialsEntry, RangeEntry, BitmapEntry, IdEntry, KeyEntry, Sha1Entry, Sha256Entry}
 use Rattle.krl_core.specs.Entries.{entries_of, subsection_entries}
-use Rattle.krl_core.specs.Krl.{Section, Subsection, SpellsEach, SpellsSection, SpellsSubsection, SubsectionContent, SpellsExtension, SpellsBitmap, SignaturesLast, IsSignature, IsPositive, subsection_type, magic}
+use Rattle.krl_core.specs.Krl.{SpelledSection, Subsection, SpellsEach, SpellsSection, SpellsSubsection, SubsectionContent, SpellsExtension, SpellsBitmap, SignaturesLast, IsSignature, IsPositive, subsection_type, magic}
 use Rattle.krl_core.specs.Naming.{NamesSame}
 
 -- what holds of the bytes that are left and of what their fields name
 abbrev pub Rest : Type 1
 Rest = List ℕ → List Entry → Type 0
 
-abbrev pub LastFor : Bool → List Section → Type 0
+abbrev pub LastFor : Bool → List SpelledSection → Type 0
 LastFor true sections = AllByRecursion IsSignature sections
 LastFor false sections = SignaturesLast sections
 
 pub record FromSections (signed : Bool) (K : Type 0) (bytes : List ℕ) (more : List Entry) : Type 0 where
-  pub sections : List Section
+  pub sections : List SpelledSection
   pub spelled : SpellsEach SpellsSection bytes sections
   pub last : LastFor signed sections
   pub named : NamesSame more (entries_of sections)

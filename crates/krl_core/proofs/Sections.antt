@@ -8,7 +8,7 @@ use Rattle.krl_core.specs.Front.{limit}
 use Rattle.krl_plan.specs.declared.group.Group.{Group}
 use Rattle.krl_core.specs.declared.header.Header.{Header}
 use Rattle.krl_core.specs.Contents.{Contents, IsListed, IsOrderly, Section as Listed}
-use Rattle.krl_core.specs.Krl.{Certificates, Ids, Keys, Section, Sha1s, Sha256s, SignaturesLast, Spells, SpellsEach, SpellsSection, SpellsSubsection, header_text}
+use Rattle.krl_core.specs.Krl.{Certificates, Ids, Keys, SpelledSection, Sha1s, Sha256s, SignaturesLast, Spells, SpellsEach, SpellsSection, SpellsSubsection, header_text}
 use Rattle.krl_core.specs.KrlText.{EachPlan, authorities_text, authority_content, authority_sections, authority_text, ids_subsections, listed_sections, listed_text, plan_subsections, sections_of, sections_text, text_of}
 use Rattle.krl_plan.specs.Plan.{IsPlan}
 use Rattle.krl_plan.specs.Written.{plan_text}
@@ -120,18 +120,18 @@ sha256s_unsigned : (hashes : List (List ℕ)) → SignaturesLast (listed_section
 sha256s_unsigned [] = tt
 sha256s_unsigned (hash ∷ hashes) = tt
 
-sha1s_unsigned : (hashes : List (List ℕ)) (rest : List Section) → SignaturesLast rest → SignaturesLast (listed_sections Sha1s hashes ++ rest)
+sha1s_unsigned : (hashes : List (List ℕ)) (rest : List SpelledSection) → SignaturesLast rest → SignaturesLast (listed_sections Sha1s hashes ++ rest)
 sha1s_unsigned [] rest h = h
 sha1s_unsigned (hash ∷ hashes) rest h = h
 
-keys_unsigned : (blobs : List (List ℕ)) (rest : List Section) → SignaturesLast rest → SignaturesLast (listed_sections Keys blobs ++ rest)
+keys_unsigned : (blobs : List (List ℕ)) (rest : List SpelledSection) → SignaturesLast rest → SignaturesLast (listed_sections Keys blobs ++ rest)
 keys_unsigned [] rest h = h
 keys_unsigned (blob ∷ blobs) rest h = h
 
 rest_unsigned : (r : Contents) → SignaturesLast (listed_sections Keys r.keys ++ (listed_sections Sha1s r.sha1s ++ listed_sections Sha256s r.sha256s))
 rest_unsigned r = keys_unsigned r.keys _ (sha1s_unsigned r.sha1s _ (sha256s_unsigned r.sha256s))
 
-unsigned : (plans : List (List Group)) (listed : List Listed) (rest : List Section) → SignaturesLast rest → SignaturesLast (authority_sections plans listed ++ rest)
+unsigned : (plans : List (List Group)) (listed : List Listed) (rest : List SpelledSection) → SignaturesLast rest → SignaturesLast (authority_sections plans listed ++ rest)
 unsigned [] listed rest h = h
 unsigned (plan ∷ plans) [] rest h = h
 unsigned (plan ∷ plans) (first ∷ listed) rest h = unsigned plans listed rest h

@@ -11,7 +11,7 @@ use Rattle.krl_core.specs.declared.header.Header.{Header}
 use Rattle.krl_core.specs.declared.place.Place.{Place}
 use Rattle.krl_core.specs.declared.place.Place.TheVariants as places
 use Rattle.krl_core.specs.Front.{start, limit, IsFirstFault, Told, ended}
-use Rattle.krl_core.specs.Krl.{Section, Certificates, Keys, Sha1s, Sha256s, Signature, Extension, Spells, SpellsEach, SpellsSection, header_text}
+use Rattle.krl_core.specs.Krl.{SpelledSection, Certificates, Keys, Sha1s, Sha256s, Signature, Extension, Spells, SpellsEach, SpellsSection, header_text}
 use Rattle.krl_core.specs.Place.{due, next_key, next_sha1, next_sha256, next_subsection}
 use Rattle.krl_core.specs.Reading.{Says, starved, failed_read, first}
 use Rattle.krl_core.proofs.Fronts.{first_fault_is, one_told}
@@ -19,7 +19,7 @@ use Rattle.krl_core.proofs.Goes.{Goes, goes_none, goes_one, goes_then, goes_from
 use Rattle.krl_core.proofs.Rests.{LastFor}
 use Rattle.krl_core.proofs.Spelled.{string_goes, content_goes, within_is, header_goes, keys_go, sha1s_go, sha256s_go, extension_goes, subsections_go}
 
-abbrev signed_after : Section → Bool
+abbrev signed_after : SpelledSection → Bool
 signed_after Signature = true
 signed_after _ = false
 
@@ -52,7 +52,7 @@ certificates_go content rest authority reserved body total parts size fits w =
     (omega (arith, len, len', a, r, size))
     (λ field e. within_is total (λ m. Ok (places.Authority m (total - 4 - m))) (number_of field) (length authority) e (omega (arith, len, len', a, r, size)) ∙ ap (λ (m : ℕ). Ok (places.Authority (length authority) m)) first_left) tt refl refl) second)
 
-section_goes : (section : Section) (signed : Bool) (text rest : List ℕ) → SpellsSection text section → LastFor signed (section ∷ []) → IsBytes text
+section_goes : (section : SpelledSection) (signed : Bool) (text rest : List ℕ) → SpellsSection text section → LastFor signed (section ∷ []) → IsBytes text
     → Goes (places.SectionType signed) (text ++ rest) (places.SectionType (signed_after section)) rest
 unfolding number_of
 section_goes (Certificates authority subs) true text rest h last fits = absurd last.0
@@ -104,7 +104,7 @@ section_goes Signature signed text rest h last fits =
     (string_goes places.SignatureKeyLength (places.SignatureKey (length h.key)) places.SignatureLength h.key r1 tt refl h.key_fits (λ field e. ap (λ (n : ℕ). Ok (places.SignatureKey n)) e) tt refl refl)
     (string_goes places.SignatureLength (places.Signature (length h.signature)) (places.SectionType true) h.signature rest tt refl h.signature_fits (λ field e. ap (λ (n : ℕ). Ok (places.Signature n)) e) tt refl refl)))
 
-last_first : (signed : Bool) (section : Section) (sections : List Section) → LastFor signed (section ∷ sections) → LastFor signed (section ∷ []) × LastFor (signed_after section) sections
+last_first : (signed : Bool) (section : SpelledSection) (sections : List SpelledSection) → LastFor signed (section ∷ sections) → LastFor signed (section ∷ []) × LastFor (signed_after section) sections
 last_first true Signature sections h = ((tt, tt), h.1)
 last_first true (Certificates a s) sections h = absurd h.0
 last_first true (Keys b) sections h = absurd h.0
@@ -118,7 +118,7 @@ last_first false (Sha1s b) sections h = (tt, h)
 last_first false (Sha256s b) sections h = (tt, h)
 last_first false Extension sections h = (tt, h)
 
-sections_go : (sections : List Section) (signed : Bool) (body : List ℕ) → SpellsEach SpellsSection body sections → LastFor signed sections → IsBytes body
+sections_go : (sections : List SpelledSection) (signed : Bool) (body : List ℕ) → SpellsEach SpellsSection body sections → LastFor signed sections → IsBytes body
     → (b : Bool) × Goes (places.SectionType signed) body (places.SectionType b) []
 sections_go [] signed body h last fits = (signed, goes_from (places.SectionType signed) (places.SectionType signed) body [] [] h (goes_none (places.SectionType signed) []))
 sections_go (section ∷ sections) signed body (first_one, (later, (parts, spelled, others))) last fits =
@@ -132,7 +132,7 @@ sections_go (section ∷ sections) signed body (first_one, (later, (parts, spell
     )
 
 -- what is spelled within the limit has no fault
-pub spelled_unfaulted : (text : List ℕ) (header : Header) (sections : List Section) → IsBytes text → Spells text header sections → length text ≤ limit → IsFirstFault text None
+pub spelled_unfaulted : (text : List ℕ) (header : Header) (sections : List SpelledSection) → IsBytes text → Spells text header sections → length text ≤ limit → IsFirstFault text None
 spelled_unfaulted text header sections fits h le =
     let body_bytes = IsBytes-behind (header_text header h.flags h.reserved) h.body (subst IsBytes h.spelled fits) in
     let rest = sections_go sections false h.body h.sections_are h.signatures_last body_bytes in
@@ -153,14 +153,14 @@ not_some : (fault : KrlFault) → Some fault ≡ None → ⊥
 not_some fault e = cc
 
 -- of a list that is spelled nothing else is said than that memory ran out or that the reader failed
-pub only_broken_off : (fault : KrlFault) (failed : Bool) (text : List ℕ) (header : Header) (sections : List Section) → Says fault text failed → IsBytes text → Spells text header sections → length text ≤ limit
+pub only_broken_off : (fault : KrlFault) (failed : Bool) (text : List ℕ) (header : Header) (sections : List SpelledSection) → Says fault text failed → IsBytes text → Spells text header sections → length text ≤ limit
     → (fault ≡ faults.NoMemory) ⊎ ((fault ≡ faults.Read) × (failed ≡ true))
 only_broken_off fault failed text header sections (starved is some) fits h le = inl is
 only_broken_off fault failed text header sections (failed_read is given) fits h le = inr (is, given.failed_is)
 only_broken_off fault failed text header sections (first told works) fits h le =
     absurd (not_some fault (one_told text (Some fault) None told (spelled_unfaulted text header sections fits h le)))
 
-pub only_starved : (fault : KrlFault) (failed : Bool) (text : List ℕ) (header : Header) (sections : List Section) → Says fault text failed → IsBytes text → Spells text header sections → length text ≤ limit
+pub only_starved : (fault : KrlFault) (failed : Bool) (text : List ℕ) (header : Header) (sections : List SpelledSection) → Says fault text failed → IsBytes text → Spells text header sections → length text ≤ limit
     → (fault ≡ faults.NoMemory) ⊎ (fault ≡ faults.Read)
 only_starved fault failed text header sections says fits h le =
     elim (only_broken_off fault failed text header sections says fits h le) [ inl memory ↦ inl memory | inr read ↦ inr read.0 ]

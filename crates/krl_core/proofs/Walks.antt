@@ -1,4 +1,4 @@
--- Rows of fields joined, and a stop behind a row.
+-- Going from field to field, and what is told where that ends.
 use Rattle.std.proofs.Common.{◌≡◌, ℕ, Bool, List, [], ◌∷◌, ◌++◌, Option, refl, sym, ap, subst, ◌∙◌, append_assoc}
 use Rattle.std.specs.List.{concat}
 use Rattle.std.proofs.lemmas.List.{append-nil}
@@ -6,7 +6,19 @@ use Rattle.std.proofs.lemmas.List.Folds.{concat-append}
 use Rattle.krl_core.specs.declared.krl_fault.KrlFault.{KrlFault}
 use Rattle.krl_core.specs.declared.place.Place.{Place}
 use Rattle.krl_core.specs.Front.{Spot, Passes, spot_after, Leads, Told}
-use Rattle.krl_core.specs.Walk.{Walks, Stops}
+
+-- a row of whole fields leads from one spot to another, and leaves the rest of the bytes
+pub record Walks (spot : Spot) (bytes : List ℕ) (last : Spot) (rest : List ℕ) : Type 0 where
+  pub fields : List (List ℕ)
+  pub leads : Leads spot fields last
+  pub parts : bytes ≡ concat fields ++ rest
+
+-- it leads to a place where this is told
+pub record EndsTold (spot : Spot) (bytes : List ℕ) (goes_on : Bool) (fault : Option KrlFault) : Type 0 where
+  pub last : Spot
+  pub rest : List ℕ
+  pub walks : Walks spot bytes last rest
+  pub told : Told last.place rest goes_on fault
 
 pub Leads-append : (p q r : Spot) (fields more : List (List ℕ)) → Leads p fields q → Leads q more r → Leads p (fields ++ more) r
 Leads-append p q r [] more h k = subst (λ (x : Spot). Leads x more r) (sym h) k
@@ -41,9 +53,9 @@ walks_then p q r a b c h k = record {
 pub walks_from : (p q : Spot) (a b rest : List ℕ) → a ≡ b → Walks p b q rest → Walks p a q rest
 walks_from p q a b rest e w = subst (λ (x : List ℕ). Walks p x q rest) (sym e) w
 
-pub stops_then : (p q : Spot) (a b : List ℕ) (goes_on : Bool) (fault : Option KrlFault) → Walks p a q b → Stops q b goes_on fault → Stops p a goes_on fault
-stops_then p q a b goes_on fault h k =
+pub told_then : (p q : Spot) (a b : List ℕ) (goes_on : Bool) (fault : Option KrlFault) → Walks p a q b → EndsTold q b goes_on fault → EndsTold p a goes_on fault
+told_then p q a b goes_on fault h k =
     record { last = k.last; rest = k.rest; walks = walks_then p q k.last a b k.rest h k.walks; told = k.told }
 
-pub stops_here : (p : Spot) (bytes : List ℕ) (goes_on : Bool) (fault : Option KrlFault) → Told p.place bytes goes_on fault → Stops p bytes goes_on fault
-stops_here p bytes goes_on fault told = record { last = p; rest = bytes; walks = walks_none p bytes; told = told }
+pub told_here : (p : Spot) (bytes : List ℕ) (goes_on : Bool) (fault : Option KrlFault) → Told p.place bytes goes_on fault → EndsTold p bytes goes_on fault
+told_here p bytes goes_on fault told = record { last = p; rest = bytes; walks = walks_none p bytes; told = told }

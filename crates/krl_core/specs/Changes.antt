@@ -3,7 +3,8 @@ use Rattle.std.specs.Prelude.{◌≡◌, ℕ, ◌+◌, ◌<◌, ◌≤◌, ◌�
 use Rattle.serial_set.specs.Span.{Covers, IsRunsOf}
 use Rattle.krl_core.specs.declared.addition.Addition.{Addition}
 use Rattle.krl_core.specs.declared.addition.Addition.TheVariants.{Serials, Id}
-use Rattle.krl_core.specs.Contents.{Section}
+use Rattle.krl_core.specs.Contents.{Contents, Means, Section}
+use Rattle.krl_core.specs.Entry.{Entry}
 use Rattle.krl_core.specs.Inserting.{Inserts}
 
 -- the list with the bytes, which stay where they were or are put in
@@ -27,9 +28,9 @@ Takes (Serials lo hi) from to = TakesSerials lo hi from to
 Takes (Id text) from to = TakesId text.now from to
 
 -- the numbers are serials in order
-abbrev pub IsSound : Addition → Type 0
-IsSound (Serials lo hi) = (0 < lo) × (lo ≤ hi)
-IsSound (Id text) = ⊤
+abbrev pub IsOrdered : Addition → Type 0
+IsOrdered (Serials lo hi) = (0 < lo) × (lo ≤ hi)
+IsOrdered (Id text) = ⊤
 
 -- a section without anything
 abbrev pub empty_section : List ℕ → Section
@@ -57,3 +58,7 @@ pub record Starts (addition : Addition) (authority : List ℕ) (old new : List S
 abbrev pub AddsTo : Addition → List ℕ → (old new : List Section) → Type 0
 AddsTo addition authority old new =
     ChangesOne (Takes addition) authority old new ⊎ Starts addition authority old new
+
+-- What is held means these entries more.
+abbrev pub MeansMore : (old new : Contents) (more : List Entry) → Type 0
+MeansMore old new more = (entries : List Entry) → Means old entries → Means new (entries ++ more)

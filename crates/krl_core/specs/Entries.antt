@@ -2,7 +2,7 @@
 use Rattle.std.specs.Prelude.{ℕ, List, [], ◌∷◌, map}
 use Rattle.std.specs.List.{flat_map}
 use Rattle.krl_core.specs.Entry.{Entry, SerialsEntry, RangeEntry, BitmapEntry, IdEntry, KeyEntry, Sha1Entry, Sha256Entry}
-use Rattle.krl_core.specs.Krl.{Section, Certificates, Keys, Sha1s, Sha256s, Signature, Extension, Subsection, Serials, Range, Bitmap, Ids, SubsectionExtension}
+use Rattle.krl_core.specs.Krl.{SpelledSection, Certificates, Keys, Sha1s, Sha256s, Signature, Extension, Subsection, Serials, Range, Bitmap, Ids, SubsectionExtension}
 
 -- what a part of an authority's section names
 abbrev pub subsection_entries : List ℕ → Subsection → List Entry
@@ -13,7 +13,7 @@ subsection_entries authority (Ids texts) = map (IdEntry authority) texts
 subsection_entries authority SubsectionExtension = []
 
 -- what a section names
-abbrev pub section_entries : Section → List Entry
+abbrev pub section_entries : SpelledSection → List Entry
 section_entries (Certificates authority subsections) =
     flat_map (subsection_entries authority) subsections
 section_entries (Keys blobs) = map KeyEntry blobs
@@ -23,5 +23,5 @@ section_entries Signature = []
 section_entries Extension = []
 
 -- what the sections name, in order
-abbrev pub entries_of : List Section → List Entry
+abbrev pub entries_of : List SpelledSection → List Entry
 entries_of sections = flat_map section_entries sections

@@ -19,18 +19,18 @@ pub data Subsection : Type 0 where
   SubsectionExtension : Subsection
 
 -- a section of a list
-pub data Section : Type 0 where
+pub data SpelledSection : Type 0 where
   -- what is revoked of an authority, or of all authorities where its bytes are none
-  Certificates : (authority : List ℕ) (subsections : List Subsection) → Section
+  Certificates : (authority : List ℕ) (subsections : List Subsection) → SpelledSection
   -- explicit keys, each a blob
-  Keys : (blobs : List (List ℕ)) → Section
+  Keys : (blobs : List (List ℕ)) → SpelledSection
   -- hashes of keys
-  Sha1s : (hashes : List (List ℕ)) → Section
-  Sha256s : (hashes : List (List ℕ)) → Section
+  Sha1s : (hashes : List (List ℕ)) → SpelledSection
+  Sha256s : (hashes : List (List ℕ)) → SpelledSection
   -- a signature, of which nothing is read
-  Signature : Section
+  Signature : SpelledSection
   -- an extension that may be passed over
-  Extension : Section
+  Extension : SpelledSection
 
 -- `SSHKRL`, a line feed and a zero byte
 abbrev pub magic : List ℕ
@@ -131,7 +131,7 @@ pub record SpellsSignature (text : List ℕ) : Type 0 where
   pub key_fits : length key < 2 ^ 32
   pub signature_fits : length signature < 2 ^ 32
 
-abbrev pub SpellsSection : List ℕ → Section → Type 0
+abbrev pub SpellsSection : List ℕ → SpelledSection → Type 0
 SpellsSection text (Certificates authority subsections) =
     SpellsContent 1 (λ content. SpellsCertificates content authority subsections) text
 SpellsSection text (Keys blobs) = SpellsContent 2 (λ content. content ≡ strings blobs) text
@@ -142,19 +142,19 @@ SpellsSection text (Sha256s hashes) =
     SpellsContent 5 (λ content. SpellsHashes 32 content hashes) text
 SpellsSection text Extension = SpellsContent 255 SpellsExtension text
 
-abbrev pub IsSignature : Section → Type 0
+abbrev pub IsSignature : SpelledSection → Type 0
 IsSignature Signature = Unit {0}
 IsSignature _ = ⊥
 
 -- signatures stand last
-abbrev pub SignaturesLast : List Section → Type 0
+abbrev pub SignaturesLast : List SpelledSection → Type 0
 SignaturesLast [] = Unit {0}
 SignaturesLast (Signature ∷ sections) = AllByRecursion IsSignature sections
 SignaturesLast (section ∷ sections) = SignaturesLast sections
 
 -- The text is the header, then the sections one after the other. Flags and the reserved string may
 -- be any.
-pub record Spells (text : List ℕ) (header : Header) (sections : List Section) : Type 0 where
+pub record Spells (text : List ℕ) (header : Header) (sections : List SpelledSection) : Type 0 where
   pub flags : ℕ
   pub reserved : List ℕ
   pub body : List ℕ

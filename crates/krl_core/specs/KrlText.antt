@@ -7,7 +7,7 @@ use Rattle.krl_plan.specs.declared.group.Sort.{Sort}
 use Rattle.krl_plan.specs.declared.group.Sort.TheVariants as sorts
 use Rattle.krl_plan.specs.declared.group.Group.{Group}
 use Rattle.krl_core.specs.Contents.{Contents, Section as Listed}
-use Rattle.krl_core.specs.Krl.{Section, Certificates, Keys, Sha1s, Sha256s, Subsection, Serials, Range, Bitmap, Ids, header_text}
+use Rattle.krl_core.specs.Krl.{SpelledSection, Certificates, Keys, Sha1s, Sha256s, Subsection, Serials, Range, Bitmap, Ids, header_text}
 use Rattle.krl_plan.specs.Plan.{IsLeastPlan, reach}
 use Rattle.krl_plan.specs.Written.{bitmap_size, bits_of, first_of, plan_text, serials_of}
 
@@ -78,19 +78,19 @@ abbrev pub ids_subsections : List (List ℕ) → List Subsection
 ids_subsections [] = []
 ids_subsections (id ∷ ids) = Ids (id ∷ ids) ∷ []
 
-abbrev pub authority_sections : List (List Group) → List Listed → List Section
+abbrev pub authority_sections : List (List Group) → List Listed → List SpelledSection
 authority_sections [] listed = []
 authority_sections (plan ∷ plans) [] = []
 authority_sections (plan ∷ plans) (first ∷ listed) =
     Certificates first.authority (plan_subsections first.spans plan ++ ids_subsections first.ids)
     ∷ authority_sections plans listed
 
-abbrev pub listed_sections : (List (List ℕ) → Section) → List (List ℕ) → List Section
+abbrev pub listed_sections : (List (List ℕ) → SpelledSection) → List (List ℕ) → List SpelledSection
 listed_sections section [] = []
 listed_sections section (text ∷ texts) = section (text ∷ texts) ∷ []
 
 -- the sections that the text spells
-abbrev pub sections_of : List (List Group) → Contents → List Section
+abbrev pub sections_of : List (List Group) → Contents → List SpelledSection
 sections_of plans r =
     authority_sections plans r.sections
     ++ (listed_sections Keys r.keys

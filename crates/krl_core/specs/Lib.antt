@@ -10,7 +10,6 @@ pub mod Place
 pub mod Part
 pub mod Front
 pub mod Gathered
-pub mod Walk
 pub mod Inserting
 pub mod Naming
 pub mod Elements

@@ -13,7 +13,7 @@ use Rattle.krl_core.specs.declared.place.Place.TheVariants.{Magic, FormatVersion
 use Rattle.krl_core.specs.declared.header.Header.{Header}
 use Rattle.krl_core.specs.Contents.{Contents, Means, held, stored}
 use Rattle.krl_core.specs.Entries.{entries_of}
-use Rattle.krl_core.specs.Krl.{Section, Spells}
+use Rattle.krl_core.specs.Krl.{SpelledSection, Spells}
 use Rattle.krl_core.specs.Front.{Spot, start, Leads, Passes, HasRoom, IsFirstFault, limit}
 use Rattle.krl_core.specs.Gathered.{Gathered, IsGathered, IsReady, all_held}
 use Rattle.krl_core.specs.Keeping.{IsStoredWithin}
@@ -75,6 +75,10 @@ pub record FailsAfter (text : List ℕ) (failed : Bool) : Type 0 where
   pub parts : text ≡ given ++ later
   pub failed_is : failed ≡ true
   pub told : IsFirstFault given None ⊎ IsFirstFault given (Some EndsEarly)
+
+-- The reader is said to have failed only where one like it has.
+abbrev pub MayFail : {R : Type 0} → (R → Bool) → Bool → Type 0
+MayFail {R} has_failed failed = failed ≡ true → (last : R) × (has_failed last ≡ true)
 
 -- the first fields of a list, of 40 bytes together, of which none says how long another is
 abbrev pub is_fixed : Place → Bool
@@ -156,7 +160,7 @@ pub record IsWhole (text : List ℕ) (header : Header) (contents : Contents) : T
 -- A list was read: a header and sections spell the text, and what is held means what the sections
 -- name.
 pub record IsList (text : List ℕ) (header : Header) (contents : Contents) : Type 0 where
-  pub sections : List Section
+  pub sections : List SpelledSection
   pub spelled : Spells text header sections
   pub within : length text ≤ limit
   pub means : Means contents (entries_of sections)

@@ -5,8 +5,8 @@ ghost use Rattle.ssh_wire.specs.Wire.{IsBytes};
 ghost use Rattle.krl_core.specs.declared.header.Header.{Header as HeaderOf};
 ghost use Rattle.krl_core.specs.declared.krl_fault.KrlFault.TheVariants.{NoMemory, Read};
 ghost use Rattle.krl_core.specs.Front.{IsFirstFault, limit};
-ghost use Rattle.krl_core.specs.Krl.{Section, Spells};
-ghost use Rattle.krl_core.specs.Reading.{IsList, Says};
+ghost use Rattle.krl_core.specs.Krl.{SpelledSection, Spells};
+ghost use Rattle.krl_core.specs.Reading.{IsList, MayFail, Says};
 
 use crate::header::Header;
 use crate::krl_fault::KrlFault;
@@ -29,12 +29,11 @@ pub fn read_krl<S: Spans, R: Source + Drop>(
     ensures no_fault { IfOk result (λ list. (text : List ℕ) → R.left reader ≡ Some text
         → IsFirstFault text None) }
     ensures only { IfErr result (λ fault.
-        (text : List ℕ) → (header : HeaderOf) → (sections : List Section)
+        (text : List ℕ) → (header : HeaderOf) → (sections : List SpelledSection)
         → R.left reader ≡ Some text → IsBytes text → Spells text header sections
         → length text ≤ limit → (fault ≡ NoMemory) ⊎ (fault ≡ Read)) }
     // Whether the reader failed, which is not said where it did not.
-    ensures fault { IfErr result (λ fault. (failed : Bool)
-        × (failed ≡ true → (last : R) × (R.has_failed last ≡ true))
+    ensures fault { IfErr result (λ fault. (failed : Bool) × MayFail R.has_failed failed
         × ((text : List ℕ) → R.left reader ≡ Some text → Says fault text failed)) }
 {
     let mut reading = Reading::new(alloc, reader);

@@ -1,8 +1,9 @@
 // What is revoked.
-ghost use Rattle.std.specs.Prelude.{◌≡◌, ◌+◌, ◌<◌, ◌≤◌, ◌∷◌, ◌++◌, [], List, length, OnOk, OnErr};
+ghost use Rattle.std.specs.Prelude.{◌≡◌, ◌+◌, ◌<◌, ◌≤◌, ◌∷◌, [], length, OnOk, OnErr};
 ghost use Rattle.krl_core.specs.Authority.{authority_bytes, IsAuthority};
+ghost use Rattle.krl_core.specs.Changes.{MeansMore};
 ghost use Rattle.krl_core.specs.Contents.{IsNamed, Means, nothing, held, stored};
-ghost use Rattle.krl_core.specs.Entry.{Entry, RangeEntry, IdEntry, KeyEntry, Sha1Entry, Sha256Entry};
+ghost use Rattle.krl_core.specs.Entry.{RangeEntry, IdEntry, KeyEntry, Sha1Entry, Sha256Entry};
 
 use crate::addition::Addition;
 use crate::bookmark::Bookmark;
@@ -71,8 +72,8 @@ impl<S: Spans> Revocations<S> {
         requires from_one { 0 < lo }
         requires ordered { lo ≤ hi }
         requires authority { IsAuthority authority }
-        ensures means { OnOk result ((entries : List Entry) → Means self.old entries
-            → Means self.new (entries ++ RangeEntry (authority_bytes authority.entry) lo hi ∷ [])) }
+        ensures means { OnOk result (MeansMore self.old self.new
+            (RangeEntry (authority_bytes authority.entry) lo hi ∷ [])) }
         ensures refused { OnErr result (self.new ≡ self.old) }
         ensures held { held self.new ≤ held self.old + 1 }
         ensures stored { stored self.new
@@ -97,8 +98,8 @@ impl<S: Spans> Revocations<S> {
     /// where memory runs out, and changes nothing then.
     pub fn add_id(&mut self, authority: Option<&[u8]>, id: &[u8]) -> Result<(), AllocError>
         requires { IsAuthority authority }
-        ensures means { OnOk result ((entries : List Entry) → Means self.old entries
-            → Means self.new (entries ++ IdEntry (authority_bytes authority.entry) id.now ∷ [])) }
+        ensures means { OnOk result (MeansMore self.old self.new
+            (IdEntry (authority_bytes authority.entry) id.now ∷ [])) }
         ensures refused { OnErr result (self.new ≡ self.old) }
         ensures held { held self.new ≡ held self.old }
         ensures stored { stored self.new
@@ -121,8 +122,7 @@ impl<S: Spans> Revocations<S> {
 
     /// Revokes a key by its blob. Fails only where memory runs out, and changes nothing then.
     pub fn add_key(&mut self, blob: &[u8]) -> Result<(), AllocError>
-        ensures means { OnOk result ((entries : List Entry) → Means self.old entries
-            → Means self.new (entries ++ KeyEntry blob.now ∷ [])) }
+        ensures means { OnOk result (MeansMore self.old self.new (KeyEntry blob.now ∷ [])) }
         ensures refused { OnErr result (self.new ≡ self.old) }
         ensures held { held self.new ≡ held self.old }
         ensures stored { stored self.new ≤ stored self.old + length blob.now }
@@ -135,8 +135,7 @@ impl<S: Spans> Revocations<S> {
     /// Revokes a key by the SHA-1 of its blob. Fails only where memory runs out, and changes
     /// nothing then.
     pub fn add_sha1(&mut self, hash: &[u8; 20]) -> Result<(), AllocError>
-        ensures means { OnOk result ((entries : List Entry) → Means self.old entries
-            → Means self.new (entries ++ Sha1Entry hash.now ∷ [])) }
+        ensures means { OnOk result (MeansMore self.old self.new (Sha1Entry hash.now ∷ [])) }
         ensures refused { OnErr result (self.new ≡ self.old) }
         ensures held { held self.new ≡ held self.old }
         ensures stored { stored self.new ≤ stored self.old + 20 }
@@ -149,8 +148,7 @@ impl<S: Spans> Revocations<S> {
     /// Revokes a key by the SHA-256 of its blob. Fails only where memory runs out, and changes
     /// nothing then.
     pub fn add_sha256(&mut self, hash: &[u8; 32]) -> Result<(), AllocError>
-        ensures means { OnOk result ((entries : List Entry) → Means self.old entries
-            → Means self.new (entries ++ Sha256Entry hash.now ∷ [])) }
+        ensures means { OnOk result (MeansMore self.old self.new (Sha256Entry hash.now ∷ [])) }
         ensures refused { OnErr result (self.new ≡ self.old) }
         ensures held { held self.new ≡ held self.old }
         ensures stored { stored self.new ≤ stored self.old + 32 }

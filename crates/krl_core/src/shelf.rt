@@ -1,6 +1,6 @@
 // What is held under one authority.
 ghost use Rattle.std.specs.Prelude.{◌≡◌, MatchResult, IfOk};
-ghost use Rattle.krl_core.specs.Changes.{Takes, IsSound, empty_section};
+ghost use Rattle.krl_core.specs.Changes.{Takes, IsOrdered, empty_section};
 
 use crate::addition::Addition;
 use crate::keyed::Keyed;
@@ -37,7 +37,7 @@ impl<S: Spans> Shelf<S> {
         authority: &[u8],
         addition: Addition<'_>,
     ) -> Result<Shelf<S>, AllocError>
-        requires { IsSound addition }
+        requires { IsOrdered addition }
         ensures { IfOk result (λ shelf.
             Takes addition.entry (empty_section authority.now) (section_of S.spans shelf)) }
     {
@@ -51,7 +51,7 @@ impl<S: Spans> Shelf<S> {
     }
 
     pub(crate) fn add(&mut self, alloc: Global, addition: Addition<'_>) -> Result<(), AllocError>
-        requires { IsSound addition }
+        requires { IsOrdered addition }
         ensures { MatchResult result
             (λ _. Takes addition.entry (section_of S.spans self.old) (section_of S.spans self.new))
             (λ _. section_of S.spans self.new ≡ section_of S.spans self.old) }

@@ -1,7 +1,7 @@
 // The shelves of all authorities.
 ghost use Rattle.std.specs.Prelude.{◌≡◌, ◌<◌, ℕ, List, length, map, drop, Contains, IsSome, IsNone, IfOk, OnOk, OnErr};
 ghost use Rattle.krl_core.specs.Chapters.{values, pages_at, IsMarked};
-ghost use Rattle.krl_core.specs.Changes.{Takes, IsSound, ChangesOne, AddsTo};
+ghost use Rattle.krl_core.specs.Changes.{Takes, IsOrdered, ChangesOne, AddsTo};
 ghost use Rattle.krl_core.specs.Shelf.{sections_of, AddsAt, AddsUnder};
 ghost use Rattle.krl_core.specs.Pages.{joined, first_items, StandsAt};
 
@@ -18,7 +18,7 @@ use std::alloc::{AllocError, Global};
 impl<S: Spans> Page<Shelf<S>> {
     fn add(&mut self, alloc: Global, at: usize, addition: Addition<'_>) -> Result<(), AllocError>
         requires within { at < length self.old.items.items }
-        requires sound { IsSound addition }
+        requires ordered { IsOrdered addition }
         ensures { AddsAt S.spans addition.entry result at
             self.old.items.items self.new.items.items }
     {
@@ -34,7 +34,7 @@ fn add_at<S: Spans>(
 ) -> Result<(), AllocError>
     requires page { spot.page < length pages.old.items }
     requires within { spot.at < length (first_items (drop spot.page pages.old.items)) }
-    requires sound { IsSound addition }
+    requires ordered { IsOrdered addition }
     ensures changed { (authority : List ℕ)
         → StandsAt (λ shelf. shelf.authority.items) pages.old.items authority spot.page spot.at
         → AddsUnder S.spans addition.entry result authority
@@ -53,7 +53,7 @@ impl<S: Spans> Page<Page<Shelf<S>>> {
     ) -> Result<(), AllocError>
         requires page { spot.page < length self.old.items.items }
         requires within { spot.at < length (first_items (drop spot.page self.old.items.items)) }
-        requires sound { IsSound addition }
+        requires ordered { IsOrdered addition }
         ensures { (authority : List ℕ)
             → StandsAt (λ shelf. shelf.authority.items) self.old.items.items authority
             spot.page spot.at
@@ -74,7 +74,7 @@ fn add_marked<S: Spans>(
     requires page { mark.spot.page < length (pages_at chapters.old.items mark.chapter) }
     requires within { mark.spot.at < length
         (first_items (drop mark.spot.page (pages_at chapters.old.items mark.chapter))) }
-    requires sound { IsSound addition }
+    requires ordered { IsOrdered addition }
     ensures { (authority : List ℕ)
         → IsMarked (λ shelf. shelf.authority.items) chapters.old.items authority mark
         → AddsUnder S.spans addition.entry result authority
@@ -93,7 +93,7 @@ impl<S: Spans> Rows<Shelf<S>> {
         authority: &[u8],
         addition: Addition<'_>,
     ) -> Result<Option<Bookmark>, AllocError>
-        requires { IsSound addition }
+        requires { IsOrdered addition }
         ensures found { IfOk result (λ mark. IsSome mark
             → ChangesOne (Takes addition.entry) authority.now
             (sections_of S.spans self.old) (sections_of S.spans self.new)) }
@@ -119,7 +119,7 @@ pub(crate) fn add_under<S: Spans>(
     authority: &[u8],
     addition: Addition<'_>,
 ) -> Result<(), AllocError>
-    requires { IsSound addition }
+    requires { IsOrdered addition }
     ensures ok { OnOk result (AddsTo addition.entry authority.now
         (sections_of S.spans shelves.old) (sections_of S.spans shelves.new)) }
     ensures err { OnErr result (sections_of S.spans shelves.new

@@ -12,7 +12,7 @@ use Rattle.krl_core.specs.Contents.{Contents, IsOrderly, Means}
 use Rattle.krl_core.specs.Entries.{entries_of}
 use Rattle.krl_core.specs.Entry.{Entry}
 use Rattle.krl_core.specs.Front.{IsFirstFault, limit}
-use Rattle.krl_core.specs.Krl.{Section, Spells}
+use Rattle.krl_core.specs.Krl.{SpelledSection, Spells}
 use Rattle.krl_core.specs.KrlText.{IsKrlText}
 use Rattle.krl_core.specs.Reading.{IsList, Says}
 use Rattle.krl_core.specs.Revoked.{Revoked}
@@ -177,7 +177,7 @@ file_stops authority files i file stop old mid lt item (front, (read, adds)) is 
 abbrev pub WrittenNames : Type 0
 WrittenNames =
     (header : Header) (r : Contents) (text : List ℕ) → IsKrlText header r text → length text ≤ limit → header.version < 2 ^ 64 → header.date < 2 ^ 64 → IsOrderly r
-    → (sections : List Section) × (Spells text header sections × Means r (entries_of sections))
+    → (sections : List SpelledSection) × (Spells text header sections × Means r (entries_of sections))
 
 -- the law that what is held revokes what is meant
 abbrev pub HeldRevokes : Type 0

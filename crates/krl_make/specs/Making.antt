@@ -5,7 +5,7 @@ use Rattle.krl_core.specs.Contents.{Contents, Means, nothing}
 use Rattle.krl_core.specs.Entries.{entries_of}
 use Rattle.krl_core.specs.Entry.{Entry}
 use Rattle.krl_core.specs.Front.{IsFirstFault, limit}
-use Rattle.krl_core.specs.Krl.{Section, Spells}
+use Rattle.krl_core.specs.Krl.{SpelledSection, Spells}
 use Rattle.krl_core.specs.KrlText.{IsKrlText}
 use Rattle.krl_core.specs.Reading.{Says}
 use Rattle.krl_core.specs.Revoked.{Revoked}
@@ -245,7 +245,7 @@ AddsFiles AtHand read (Err stop) old new = IsStop (ender_of stop.cause) AtHand r
 
 -- The text is a list that names just what some entries name.
 pub record NamesSame (header : Header) (text : List ℕ) (entries : List Entry) : Type 0 where
-  pub sections : List Section
+  pub sections : List SpelledSection
   pub spelled : Spells text header sections
   pub same : (asked : Subject) → Revoked (entries_of sections) asked ↔ Revoked entries asked
 
@@ -322,7 +322,7 @@ base_of header contents =
 -- A header and sections spell the old list, and what is held means what the sections name.
 pub record IsOldList (text : List ℕ) (base : Base) : Type 0 where
   pub header : Header
-  pub sections : List Section
+  pub sections : List SpelledSection
   pub spelled : Spells text header sections
   pub no_fault : IsFirstFault text None
   pub means : Means base.revocations (entries_of sections)

@@ -13,39 +13,32 @@ use Rattle.krl_plan.specs.declared.group.Sort.TheVariants.{Serials, Range, Bitma
 use Rattle.krl_plan.specs.declared.group.Group.{Group}
 use Rattle.krl_plan.specs.declared.cell.Cell.{Cell}
 use Rattle.krl_plan.specs.Plan.{Covers, IsGroup, IsSmall, end_of, reach, serial_count}
-use Rattle.krl_plan.specs.Search.{Beats, IsBest, IsCandidate, Wins, cell_with, cost_with, rest_cost}
+use Rattle.krl_plan.specs.Search.{Beats, IsBest, IsBestOf, IsCandidate, Wins, cell_with, cost_with, rest_cost}
 use Rattle.krl_plan.specs.Chosen.{group_few}
 
 abbrev pub group_of : Sort → ℕ → Group
 group_of sort count = record { sort = sort; count = count }
 
--- what a loop has found among the groups with at most so many runs
-pub record SoFar (costs : List ℕ) (runs : List Span) (sort : Sort) (most : ℕ) (old best : Cell)
-    : Type 0 where
-  pub candidate : IsCandidate costs runs best
-  pub kept : (other : Cell) → Wins old other → Wins best other
-  pub beats : Beats costs runs sort most best
-
 wins_itself : (cell : Cell) → Wins cell cell
 wins_itself cell = inr (refl, inr (refl, omega arith))
 
-pub SoFar-start : (costs : List ℕ) (runs : List Span) (sort : Sort) (old : Cell)
-    → IsCandidate costs runs old → SoFar costs runs sort 0 old old
-SoFar-start costs runs sort old c = record {
+pub IsBestOf-start : (costs : List ℕ) (runs : List Span) (sort : Sort) (old : Cell)
+    → IsCandidate costs runs old → IsBestOf costs runs sort 0 old old
+IsBestOf-start costs runs sort old c = record {
   candidate = c;
   kept = λ other w. w;
   beats = λ count le g. let some = IsGroup.some g in absurd (omega arith);
 }
 
 -- one group more
-pub SoFar-more : (costs : List ℕ) (runs : List Span) (sort : Sort) (most : ℕ)
-    (old best cell new : Cell) → SoFar costs runs sort most old best
+pub IsBestOf-more : (costs : List ℕ) (runs : List Span) (sort : Sort) (most : ℕ)
+    (old best cell new : Cell) → IsBestOf costs runs sort most old best
     → IsGroup runs (group_of sort (most + 1)) → cell.group ≡ group_of sort (most + 1)
     → cell.cost ≡ cost_with costs runs (group_of sort (most + 1))
     → (new ≡ best) ⊎ (new ≡ cell) → ((other : Cell) → Wins best other → Wins new other)
     → ((other : Cell) → Wins cell other → Wins new other)
-    → SoFar costs runs sort (most + 1) old new
-SoFar-more costs runs sort most old best cell new s g group cost one first second =
+    → IsBestOf costs runs sort (most + 1) old new
+IsBestOf-more costs runs sort most old best cell new s g group cost one first second =
     let made : ℕ → Group → Cell = λ c h. record { cost = c; group = h } in
     let is : cell ≡ cell_with costs runs (group_of sort (most + 1)) =
     ap (λ (n : ℕ). made n cell.group) cost
@@ -70,11 +63,15 @@ SoFar-more costs runs sort most old best cell new s g group cost one first secon
     }
 
 -- no group has more runs than a bound
-pub SoFar-done : (costs : List ℕ) (runs : List Span) (sort : Sort) (most : ℕ) (old best : Cell)
-    → SoFar costs runs sort most old best
+pub IsBestOf-all : (costs : List ℕ) (runs : List Span) (sort : Sort) (most : ℕ) (old best : Cell)
+    → IsBestOf costs runs sort most old best
     → ((count : ℕ) → IsGroup runs (group_of sort count) → count ≤ most)
-    → Beats costs runs sort (length runs) best
-SoFar-done costs runs sort most old best s none count le g = s.beats count (none count g) g
+    → IsBestOf costs runs sort (length runs) old best
+IsBestOf-all costs runs sort most old best s none = record {
+  candidate = s.candidate;
+  kept = s.kept;
+  beats = λ count le g. s.beats count (none count g) g;
+}
 
 -- all that fit were seen
 pub all_seen : (runs : List Span) (sort : Sort) (most : ℕ) → IsRuns runs

@@ -1,6 +1,7 @@
 -- The search for a least plan, from the last run to the first.
-use Rattle.std.specs.Prelude.{◌≡◌, ℕ, ◌+◌, ◌-◌, ◌*◌, ◌<◌, ◌≤◌, ◌⊎◌, List, ◌∷◌, length, take, drop, slice_index, slice_index_or as get_or, min}
+use Rattle.std.specs.Prelude.{◌≡◌, ℕ, ◌+◌, ◌-◌, ◌*◌, ◌^◌, ◌<◌, ◌≤◌, ◌⊎◌, List, ◌∷◌, length, take, drop, slice_index, slice_index_or as get_or, min}
 use Rattle.serial_set.specs.declared.span.Span.{Span}
+use Rattle.serial_set.specs.Span.{IsRuns}
 use Rattle.krl_plan.specs.declared.group.Sort.{Sort}
 use Rattle.krl_plan.specs.declared.group.Group.{Group}
 use Rattle.krl_plan.specs.declared.cell.Cell.{Cell}
@@ -43,6 +44,23 @@ Beats costs runs sort most cell =
 pub record IsBest (costs : List ℕ) (runs : List Span) (cell : Cell) : Type 0 where
   pub is_candidate : IsCandidate costs runs cell
   pub wins : (group : Group) → IsGroup runs group → Wins cell (cell_with costs runs group)
+
+-- no cost is so large that a sum of two would not fit
+abbrev pub AreSmall : List ℕ → Type 0
+AreSmall costs = (k : ℕ) → slice_index costs k < 2 ^ 100
+
+-- The costs are small, and those of what is behind each group at the front of the runs are there.
+pub record CanSearch (costs : List ℕ) (runs : List Span) : Type 0 where
+  pub rising : IsRuns runs
+  pub small : AreSmall costs
+  pub enough : min (length runs) 1024 ≤ length costs
+
+-- the best of a cell and of the groups of a sort with at most so many runs
+pub record IsBestOf (costs : List ℕ) (runs : List Span) (sort : Sort) (most : ℕ) (old best : Cell)
+    : Type 0 where
+  pub candidate : IsCandidate costs runs best
+  pub kept : (other : Cell) → Wins old other → Wins best other
+  pub beats : Beats costs runs sort most best
 
 -- ---- the table
 

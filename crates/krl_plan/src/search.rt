@@ -1,10 +1,10 @@
 // The best group at the front of some runs.
 
-ghost use Rattle.std.specs.Prelude.{◌≡◌, ℕ, ◌+◌, ◌*◌, ◌^◌, ◌<◌, ◌≤◌, length, min, slice_index};
-ghost use Rattle.serial_set.specs.Span.{IsRuns};
+ghost use Rattle.std.specs.Prelude.{◌≡◌, ◌+◌, ◌^◌, ◌<◌, ◌≤◌, length, min};
 ghost use Rattle.krl_plan.specs.declared.cell.Cell.{Cell};
 ghost use Rattle.krl_plan.specs.declared.group.Sort.TheVariants.{Serials, Bitmap};
-ghost use Rattle.krl_plan.specs.Search.{Beats, IsBest, IsCandidate, Wins, rest_cost};
+ghost use Rattle.krl_plan.specs.Search.{AreSmall, CanSearch, rest_cost};
+ghost use Rattle.krl_plan.specs.Search.{IsBest, IsBestOf, IsCandidate};
 
 use crate::cell::{Cell, winner};
 use crate::group::{Group, Sort};
@@ -20,9 +20,7 @@ const FARTHEST: u64 = 2047;
 // with what the runs behind the first one cost at least.
 pub(crate) fn best(runs: &[Span], costs: &[u128]) -> Cell
     requires some { 0 < length runs.now }
-    requires rising { IsRuns runs.now }
-    requires bounded { (k : ℕ) → slice_index costs.now k < 2 ^ 100 }
-    requires enough { min (length runs.now) 1024 ≤ length costs.now }
+    requires search { CanSearch costs.now runs.now }
     ensures best { IsBest costs.now runs.now result }
     ensures bounded { result.cost ≤ 21 + rest_cost costs.now 1 }
 {
@@ -48,14 +46,10 @@ fn cost_behind(costs: &[u128], count: usize) -> u128
 
 // The best of a cell and of the lists at the front of the runs.
 fn best_list(runs: &[Span], costs: &[u128], most: usize, best: Cell) -> Cell
-    requires rising { IsRuns runs.now }
-    requires bounded { (k : ℕ) → slice_index costs.now k < 2 ^ 100 }
+    requires search { CanSearch costs.now runs.now }
     requires most { most ≡ min (length runs.now) 1024 }
-    requires enough { most ≤ length costs.now }
     requires candidate { IsCandidate costs.now runs.now best }
-    ensures candidate { IsCandidate costs.now runs.now result }
-    ensures kept { (other : Cell) → Wins best other → Wins result other }
-    ensures beats { Beats costs.now runs.now Serials (length runs.now) result }
+    ensures { IsBestOf costs.now runs.now Serials (length runs.now) best result }
 {
     let mut best = best;
     let mut bytes: u128 = 5;
@@ -74,14 +68,10 @@ fn best_list(runs: &[Span], costs: &[u128], most: usize, best: Cell) -> Cell
 
 // The best of a cell and of the bitmaps at the front of the runs.
 fn best_bitmap(runs: &[Span], costs: &[u128], most: usize, best: Cell) -> Cell
-    requires rising { IsRuns runs.now }
-    requires bounded { (k : ℕ) → slice_index costs.now k < 2 ^ 100 }
+    requires search { CanSearch costs.now runs.now }
     requires most { most ≡ min (length runs.now) 1024 }
-    requires enough { most ≤ length costs.now }
     requires candidate { IsCandidate costs.now runs.now best }
-    ensures candidate { IsCandidate costs.now runs.now result }
-    ensures kept { (other : Cell) → Wins best other → Wins result other }
-    ensures beats { Beats costs.now runs.now Bitmap (length runs.now) result }
+    ensures { IsBestOf costs.now runs.now Bitmap (length runs.now) best result }
 {
     let mut best = best;
     for i in 0..most {
@@ -102,7 +92,7 @@ fn cell_of(sort: Sort, count: usize, bytes: u128, costs: &[u128]) -> Cell
     requires within { count ≤ length costs.now }
     requires most { count ≤ 1024 }
     requires small { bytes < 2 ^ 100 }
-    requires bounded { (k : ℕ) → slice_index costs.now k < 2 ^ 100 }
+    requires costs { AreSmall costs.now }
     ensures cost { result.cost ≡ bytes + rest_cost costs.now count }
     ensures group { result.group ≡ record { sort = sort; count = count } }
 {

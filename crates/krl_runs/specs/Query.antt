@@ -3,7 +3,7 @@ use Rattle.std.specs.Prelude.{◌↔◌, ℕ, Bool, true, false, List, [], ◌�
 use Rattle.krl_core.specs.Contents.{Contents, Means}
 use Rattle.krl_core.specs.Entries.{entries_of}
 use Rattle.krl_core.specs.Front.{IsFirstFault}
-use Rattle.krl_core.specs.Krl.{Section, Spells}
+use Rattle.krl_core.specs.Krl.{SpelledSection, Spells}
 use Rattle.krl_core.specs.Reading.{Says}
 use Rattle.krl_core.specs.Revoked.{Revoked}
 use Rattle.krl_core.specs.Tested.{revokes}
@@ -49,7 +49,7 @@ ask contents = record {
 -- The text is a list without a fault: a header and sections spell it, what is held means what the
 -- sections name, and the answers are just those of what they name.
 pub record IsHeld (text : List ℕ) (known : Known) : Type 0 where
-  pub sections : List Section
+  pub sections : List SpelledSection
   pub spelled : Spells text known.header sections
   pub no_fault : IsFirstFault text None
   pub means : Means known.contents (entries_of sections)

@@ -7,11 +7,10 @@ ghost use Rattle.krl_core.specs.Part.{part_of};
 ghost use Rattle.krl_core.specs.Place.{due};
 
 use crate::field::u32_of;
+use crate::header::MAGIC;
 use crate::judging::judge;
 use crate::krl_fault::KrlFault;
 use crate::place::Place;
-
-const MAGIC: [u8; 8] = *b"SSHKRL\n\0";
 
 /// Judges the whole field that was due at one of these places.
 pub(crate) fn after(place: Place, field: &[u8]) -> Result<Place, KrlFault>
@@ -22,7 +21,7 @@ pub(crate) fn after(place: Place, field: &[u8]) -> Result<Place, KrlFault>
 {
     match place {
         Place::Magic => judge(
-            field == MAGIC.as_slice(),
+            field == MAGIC,
             KrlFault::Magic,
             Place::FormatVersion,
         ),

@@ -8,7 +8,7 @@ ghost use Rattle.ssh_wire.specs.Wire.{IsBytes, number_of};
 ghost use Rattle.krl_core.specs.declared.header.Header.{Header};
 ghost use Rattle.std.specs.List.{concat};
 ghost use Rattle.krl_core.specs.Contents.{Contents, Means, held};
-ghost use Rattle.krl_core.specs.Krl.{Section, Spells};
+ghost use Rattle.krl_core.specs.Krl.{SpelledSection, Spells};
 ghost use Rattle.krl_core.specs.declared.krl_fault.KrlFault.{KrlFault};
 ghost use Rattle.krl_core.specs.Front.{Spot, IsFirstFault, IsFront, limit};
 
@@ -33,17 +33,17 @@ pub fn each_text_is_told()
 
 /// A text of bytes has no fault just where a header and sections spell it within the limit.
 pub fn no_fault_where_spelled()
-    ensures spelled { (text : List ℕ) (header : Header) (sections : List Section) → IsBytes text
+    ensures spelled { (text : List ℕ) (header : Header) (sections : List SpelledSection) → IsBytes text
         → Spells text header sections → length text ≤ limit → IsFirstFault text None }
     ensures unfaulted { (text : List ℕ) → IsBytes text → IsFirstFault text None
         → (length text ≤ limit)
-        × ((header : Header) × ((sections : List Section) × Spells text header sections)) }
+        × ((header : Header) × ((sections : List SpelledSection) × Spells text header sections)) }
 {}
 
 /// A spelled list within the limit that is cut short at any byte is itself spelled, so that it has
 /// no fault, or ends early.
 pub fn a_cut_ends_early()
-    ensures { (text prefix more : List ℕ) (header : Header) (sections : List Section)
+    ensures { (text prefix more : List ℕ) (header : Header) (sections : List SpelledSection)
         → IsBytes text → Spells text header sections → length text ≤ limit
         → text ≡ prefix ++ more
         → IsFirstFault prefix None ⊎ IsFirstFault prefix (Some EndsEarly) }
@@ -51,7 +51,7 @@ pub fn a_cut_ends_early()
 
 /// The header and the sections that a text spells are the only ones.
 pub fn one_spelling()
-    ensures { (text : List ℕ) (header other : Header) (sections others : List Section)
+    ensures { (text : List ℕ) (header other : Header) (sections others : List SpelledSection)
         → Spells text header sections → Spells text other others
         → (header ≡ other) × (sections ≡ others) }
 {}

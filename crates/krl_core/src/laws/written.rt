@@ -6,7 +6,7 @@ ghost use Rattle.krl_core.specs.Front.{IsFirstFault, limit};
 ghost use Rattle.krl_plan.specs.declared.group.Group.{Group};
 ghost use Rattle.krl_core.specs.Contents.{Contents, IsOrderly, Means};
 ghost use Rattle.krl_core.specs.declared.header.Header.{Header};
-ghost use Rattle.krl_core.specs.Krl.{Section, Spells};
+ghost use Rattle.krl_core.specs.Krl.{SpelledSection, Spells};
 ghost use Rattle.krl_core.specs.Entries.{entries_of};
 ghost use Rattle.krl_core.specs.KrlText.{EachPlan, IsKrlText, sections_of, text_of};
 ghost use Rattle.krl_plan.specs.Plan.{IsPlan};
@@ -35,7 +35,7 @@ pub fn sections_mean_what_is_held()
 pub fn written_list_names_what_is_held()
     ensures { (header : Header) (r : Contents) (text : List ℕ) → IsKrlText header r text
         → length text ≤ limit → header.version < 2 ^ 64 → header.date < 2 ^ 64 → IsOrderly r
-        → (sections : List Section) × (Spells text header sections
+        → (sections : List SpelledSection) × (Spells text header sections
         × Means r (entries_of sections)) }
 {}
 

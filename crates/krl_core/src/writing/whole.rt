@@ -4,15 +4,13 @@ ghost use Rattle.std.specs.Prelude.{[]};
 ghost use Rattle.krl_core.specs.Krl.{header_text};
 ghost use Rattle.krl_core.specs.Within.{AddsWithin, IsWritten};
 
-use crate::header::Header;
+use crate::header::{Header, MAGIC};
 use crate::writing::authorities::{Authorities, add_authorities};
 use crate::writing::strings::{Strings, add_listed, add_string};
 use crate::writing::text_fault::TextFault;
 use serial_set::Spans;
 use ssh_wire::{put_string, put_u32, put_u64};
 use std::alloc::Global;
-
-const MAGIC: &[u8] = b"SSHKRL\n\0";
 
 /// What a list is written from, each part a walk.
 pub(crate) struct Parts<A, K, H, G> {

@@ -3,7 +3,7 @@ use Rattle.std.proofs.Common.{◌≡◌, ◌⊎◌, ℕ, false, List, Result, Ok
 use Rattle.krl_core.specs.Contents.{Contents, Means}
 use Rattle.krl_core.specs.Entries.{entries_of}
 use Rattle.krl_core.specs.Front.{IsFirstFault}
-use Rattle.krl_core.specs.Krl.{Section}
+use Rattle.krl_core.specs.Krl.{SpelledSection}
 use Rattle.krl_core.specs.Reading.{Says, starved, failed_read, first}
 use Rattle.krl_core.specs.declared.header.Header.{Header}
 use Rattle.krl_core.specs.declared.krl_fault.KrlFault.{KrlFault}
@@ -24,7 +24,7 @@ returns c = one_way
     held_once : (text : List ℕ) (one other : Known) → IsHeld text one → IsHeld text other → one ≡ other
     held_once text one other h k =
         let spelled = c.one_spelling.ensures text one.header other.header h.sections k.sections h.spelled k.spelled in
-        let means = subst (λ (sections : List Section). Means other.contents (entries_of sections)) (sym spelled.1) k.means in
+        let means = subst (λ (sections : List SpelledSection). Means other.contents (entries_of sections)) (sym spelled.1) k.means in
         let contents = c.entries_decide_what_is_held.ensures one.contents other.contents (entries_of h.sections) h.means means in
         ap (λ (header : Header). record { header = header; contents = one.contents }) spelled.0
         ∙ ap (λ (contents : Contents). record { header = other.header; contents = contents }) contents
