@@ -3,15 +3,10 @@ use Rattle.std.proofs.Common.{◌≡◌, ℕ, ◌<◌, ◌≤◌, ◌^◌, ◌==
 use Rattle.std.specs.Char.{digit_value, is_ascii_digit}
 use Rattle.std.specs.List.{list_all}
 use Rattle.std.specs.Str.Parse.{AllDigits, IsNumeral, digits_value, without_leading_plus}
+use Rattle.std.proofs.Math.Bool.{and-false}
+use Rattle.std.proofs.lemmas.Bool.{and_parts}
 use Rattle.std.proofs.lemmas.Bool.Decides.{nat_tests}
 use Rattle.krl_job.specs.Job.{is_version, version_called}
-
-both : (a b : Bool) → a && b ≡ true → (a ≡ true) × (b ≡ true)
-both true b holds = (refl, holds)
-both false b holds = absurd (impossible holds)
-  where
-    impossible : false ≡ true → ⊥
-    impossible e = cc
 
 pub no_version : (text : List ℕ) → is_version text ≡ false → version_called text ≡ None
 no_version text fails = rw fails refl
@@ -22,15 +17,11 @@ too_long text long =
     no_version text (rw fails refl)
 
 pub no_digits : (text : List ℕ) → list_all is_ascii_digit text ≡ false → version_called text ≡ None
-no_digits text fails = no_version text (rw fails (and_false (nat_le (length text) 20)))
-  where
-    and_false : (a : Bool) → a && false ≡ false
-    and_false true = refl
-    and_false false = refl
+no_digits text fails = no_version text (rw fails (and-false (nat_le (length text) 20)))
 
 digit_of : (c : ℕ) → is_ascii_digit c ≡ true → (48 ≤ c) × (c ≤ 57)
 digit_of c holds =
-    let p = both (nat_le 48 c) (nat_le c 57) holds in
+    let p = and_parts (nat_le 48 c) (nat_le c 57) holds in
     (grind (arith, nat_tests), grind (arith, nat_tests))
 
 value_below : (c : ℕ) → 48 ≤ c → c ≤ 57 → digit_value c < 10
@@ -39,7 +30,7 @@ value_below c low high = grind (arith, nat_tests)
 pub all_digits : (text : List ℕ) → list_all is_ascii_digit text ≡ true → AllDigits 10 text
 all_digits [] holds = tt
 all_digits (c ∷ text) holds =
-    let p = both (is_ascii_digit c) (list_all is_ascii_digit text) holds in
+    let p = and_parts (is_ascii_digit c) (list_all is_ascii_digit text) holds in
     let d = digit_of c p.0 in
     (value_below c d.0 d.1, all_digits text p.1)
 
@@ -47,7 +38,7 @@ all_digits (c ∷ text) holds =
 pub no_plus : (text : List ℕ) → list_all is_ascii_digit text ≡ true → without_leading_plus text ≡ text
 no_plus [] holds = refl
 no_plus (c ∷ text) holds =
-    let p = both (is_ascii_digit c) (list_all is_ascii_digit text) holds in
+    let p = and_parts (is_ascii_digit c) (list_all is_ascii_digit text) holds in
     let d = digit_of c p.0 in
     let fails : (c == 43) ≡ false = grind (arith, nat_tests) in
     rw fails refl

@@ -1,8 +1,8 @@
 -- The job that words ask for by what they hold of the options (ssh-keygen(1), SYNOPSIS).
 use Rattle.std.specs.Prelude.{ℕ, ◌^◌, ◌==◌, ◌&&◌, ◌||◌, not, Bool, true, false, nat_le, nat_lt, if◌then◌else◌, List, length, map, Option, None, Some, is_some, option_and_then, codes}
-use Rattle.std.specs.Char.{is_ascii_digit, to_ascii_lowercase}
+use Rattle.std.specs.Char.{is_ascii_digit}
 use Rattle.std.specs.List.{list_all}
-use Rattle.std.specs.Str.{bytes_eq}
+use Rattle.std.specs.Str.{str_eq_ignore_ascii_case}
 use Rattle.std.specs.Str.Parse.{digits_value}
 use Rattle.ssh_key.specs.declared.hash.Hash.{Hash}
 use Rattle.ssh_key.specs.declared.hash.Hash.TheVariants.{Md5, Sha256}
@@ -51,14 +51,10 @@ asked_of job = record {
 
 -- ---- the values of options
 
--- the text is the name, in any case of ASCII letters
-abbrev pub is_named : List ℕ → List ℕ → Bool
-is_named name text = bytes_eq (map to_ascii_lowercase text) name
-
 abbrev pub hash_called : List ℕ → Option Hash
 hash_called text =
-    if is_named (codes "md5") text then Some Md5
-    else if is_named (codes "sha256") text then Some Sha256
+    if str_eq_ignore_ascii_case text (codes "md5") then Some Md5
+    else if str_eq_ignore_ascii_case text (codes "sha256") then Some Sha256
     else None
 
 -- SHA-256 where no hash is named
@@ -79,7 +75,8 @@ version_named None = Some None
 version_named (Some text) = version_called text
 
 abbrev pub authority_called : List ℕ → Authority
-authority_called text = if is_named (codes "none") text then All else File text
+authority_called text =
+    if str_eq_ignore_ascii_case text (codes "none") then All else File text
 
 abbrev pub authority_named : Option (List ℕ) → Authority
 authority_named None = NotGiven

@@ -1,13 +1,9 @@
 -- Making a list: what is read of the old one, of the authority's file and of the files.
 use Rattle.std.proofs.Common.{◌≡◌, ◌↔◌, ℕ, ◌+◌, ◌^◌, ◌<◌, ◌≤◌, Bool, false, List, [], ◌∷◌, ◌++◌, length, take, drop, get_or, Option, Some, None, Result, Ok, Err, inl, inr, refl, sym, ap, ◌∙◌, arith, append_assoc}
-use Rattle.std.specs.Prelude.{IsTrue}
-use Rattle.std.proofs.lemmas.List.{append-nil, length-append, take_more, take-append-drop}
-use Rattle.ssh_wire.specs.Fields.{length-string}
-use Rattle.ssh_wire.specs.Wire.{string}
+use Rattle.std.proofs.lemmas.List.{append-nil, take_more, take-append-drop}
 use Rattle.ssh_key.specs.Container.{IsContainer}
-use Rattle.ssh_key.specs.Kind.{type_name}
 use Rattle.ssh_cert.specs.Subject.{Subject}
-use Rattle.ssh_cert.specs.SubjectReading.{IsSubject, plain_key, certified}
+use Rattle.ssh_cert.specs.SubjectReading.{IsSubject}
 use Rattle.krl_core.specs.Contents.{Contents, IsOrderly, Means}
 use Rattle.krl_core.specs.Entries.{entries_of}
 use Rattle.krl_core.specs.Entry.{Entry}
@@ -15,17 +11,16 @@ use Rattle.krl_core.specs.Front.{IsFirstFault, limit}
 use Rattle.krl_core.specs.Krl.{SpelledSection, Spells}
 use Rattle.krl_core.specs.KrlText.{IsKrlText}
 use Rattle.krl_core.specs.Reading.{IsList, Says}
-use Rattle.krl_core.specs.Revoked.{Revoked}
-use Rattle.krl_core.specs.Tested.{revokes}
 use Rattle.krl_core.specs.declared.header.Header.{Header}
 use Rattle.krl_core.specs.declared.krl_fault.KrlFault.{KrlFault}
 use Rattle.krl_make.specs.declared.base.Base.{Base}
-use Rattle.krl_make.specs.Making.{HasNumbers, IsAtHand, IsAuthorityAtHand, IsFileAtHand, authority_file, lines, new_list, old_list, IsOldRead, IsStop, Made, Makes, NamesSame, WritesList, WritesMade, WritesMore, after_version, authority_of, base_of, cause_stop, content_entries, file_entries, files_entries, header_of, made_of, make_run_of, then_entries, version_of}
-use Rattle.krl_runs.specs.Query.{krl_cause}
+use Rattle.krl_make.specs.Making.{Added, HasNumbers, IsAtHand, IsAuthorityAtHand, IsFileAtHand, authority_file, lines, new_list, old_list, IsOldRead, IsStop, Made, Makes, NamesSame, WritesList, WritesMade, WritesMore, after_version, authority_of, base_of, cause_stop, content_entries, file_entries, files_entries, header_of, made_of, make_run_of, then_entries, version_of}
+use Rattle.krl_runs.specs.Query.{HeldRevokes, krl_cause}
 use Rattle.krl_make.specs.declared.authority.Authority.{Authority}
 use Rattle.krl_core.specs.declared.krl_fault.KrlFault.TheVariants as faults
 use Rattle.krl_runs.specs.Run.{File}
 use Rattle.krl_spec.specs.Adding.{AddsEntries}
+use Rattle.krl_spec.specs.Keys.{key_room, plain_is_key}
 use Rattle.krl_spec.specs.SpecFile.{ReadsSpec, StopsAt, lines_of}
 use Rattle.krl_spec.specs.declared.spec_cause.SpecCause.{SpecCause}
 use Rattle.krl_spec.specs.declared.spec_cause.SpecCause.TheVariants as specs
@@ -39,13 +34,10 @@ pub old_read : (left : Option (List ℕ)) (header : Header) (contents : Contents
     → IsOldRead (Some left) false (Ok (base_of header contents))
 old_read None header contents list none = tt
 old_read (Some text) header contents list none =
-    let is = list text refl in
     record {
       header = header;
-      sections = is.sections;
-      spelled = is.spelled;
+      list = list text refl;
       no_fault = none text refl;
-      means = is.means;
       version_is = refl;
       comment_is = refl;
     }
@@ -60,21 +52,15 @@ old_refused (Some text) failed fault says = says text refl
 
 -- the plain key of what is asked has some bytes
 pub plain_has_bytes : (blob : List ℕ) (asked : Subject) → IsSubject blob asked → 0 < length asked.plain
-plain_has_bytes blob asked (plain_key key is same) =
-    rw same (omega (arith, ap length is.spelled, length-append (string (type_name key.kind)) key.fields, length-string (type_name key.kind)))
-plain_has_bytes blob asked (certified certificate is same) =
-    rw same (omega (arith, length-append (string (type_name certificate.key.kind)) certificate.key.fields, length-string (type_name certificate.key.kind)))
+plain_has_bytes blob asked is =
+    let plain = plain_is_key blob asked is in
+    omega (arith, key_room asked.plain plain.0 plain.1)
 
 -- the key of a container has some bytes
 pub inside_has_bytes : (text blob comment : List ℕ) → IsContainer text blob comment → 0 < length blob
-inside_has_bytes text blob comment is =
-    omega (arith, ap length is.is_key.spelled, length-append (string (type_name is.key.kind)) is.key.fields, length-string (type_name is.key.kind))
+inside_has_bytes text blob comment is = omega (arith, key_room blob is.key is.is_key)
 
 -- ---- the files
-
--- what was read of files was added
-abbrev pub Added : Result (List Entry) Stop → Contents → Contents → Type 0
-Added read old new = (entries : List Entry) × ((read ≡ Ok entries) × AddsEntries old new entries)
 
 pub text_added : (authority : Option (List ℕ)) (name text : List ℕ) (old new : Contents)
     → ReadsSpec authority text (Ok (tt {0})) old new
@@ -178,10 +164,6 @@ abbrev pub WrittenNames : Type 0
 WrittenNames =
     (header : Header) (r : Contents) (text : List ℕ) → IsKrlText header r text → length text ≤ limit → header.version < 2 ^ 64 → header.date < 2 ^ 64 → IsOrderly r
     → (sections : List SpelledSection) × (Spells text header sections × Means r (entries_of sections))
-
--- the law that what is held revokes what is meant
-abbrev pub HeldRevokes : Type 0
-HeldRevokes = (r : Contents) (entries : List Entry) (subject : Subject) → Means r entries → (IsTrue (revokes r subject) ↔ Revoked entries subject)
 
 both_ways : {P Q R : Type 0} → (P ↔ Q) → (P ↔ R) → (Q ↔ R)
 both_ways to from = (λ q. from.0 (to.1 q), λ r. to.0 (from.1 r))

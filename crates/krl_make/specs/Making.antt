@@ -7,7 +7,7 @@ use Rattle.krl_core.specs.Entry.{Entry}
 use Rattle.krl_core.specs.Front.{IsFirstFault, limit}
 use Rattle.krl_core.specs.Krl.{SpelledSection, Spells}
 use Rattle.krl_core.specs.KrlText.{IsKrlText}
-use Rattle.krl_core.specs.Reading.{Says}
+use Rattle.krl_core.specs.Reading.{IsList, Says}
 use Rattle.krl_core.specs.Revoked.{Revoked}
 use Rattle.krl_core.specs.declared.header.Header.{Header}
 use Rattle.krl_core.specs.declared.krl_fault.KrlFault.{KrlFault}
@@ -32,7 +32,7 @@ use Rattle.krl_runs.specs.declared.output.cause.Cause.TheVariants as causes
 use Rattle.krl_spec.specs.declared.spec_cause.SpecCause.{SpecCause}
 use Rattle.krl_spec.specs.declared.spec_cause.SpecCause.TheVariants as specs
 use Rattle.krl_spec.specs.declared.spec_fault.SpecFault.{SpecFault}
-use Rattle.krl_runs.specs.Query.{krl_cause}
+use Rattle.krl_runs.specs.Query.{TellsFailure, krl_cause}
 use Rattle.krl_runs.specs.Run.{File, stop_at}
 use Rattle.krl_spec.specs.Adding.{AddsEntries}
 use Rattle.krl_spec.specs.SpecFile.{lines_of}
@@ -236,11 +236,14 @@ abbrev pub Returns : {X Y : Type 0} → (X → Y) → (List ℕ → Type 0) → 
 Returns view AtHand read (Ok x) = read ≡ Ok (view x)
 Returns view AtHand read (Err stop) = IsStop (ender_of stop.cause) AtHand read stop
 
+-- what was read of files was added
+abbrev pub Added : Result (List Entry) Stop → Contents → Contents → Type 0
+Added read old new = (entries : List Entry) × ((read ≡ Ok entries) × AddsEntries old new entries)
+
 -- What the files name was added, or the run stopped.
 abbrev pub AddsFiles : {A : Type 0} → (List ℕ → Type 0) → Result (List Entry) Stop → Result A Stop
     → Contents → Contents → Type 0
-AddsFiles AtHand read (Ok done) old new =
-    (entries : List Entry) × ((read ≡ Ok entries) × AddsEntries old new entries)
+AddsFiles AtHand read (Ok done) old new = Added read old new
 AddsFiles AtHand read (Err stop) old new = IsStop (ender_of stop.cause) AtHand read stop
 
 -- The text is a list that names just what some entries name.
@@ -319,13 +322,11 @@ abbrev pub base_of : Header → Contents → Base
 base_of header contents =
     record { version = Some header.version; comment = header.comment; revocations = contents }
 
--- A header and sections spell the old list, and what is held means what the sections name.
+-- The text is a list without a fault, and this is held of it.
 pub record IsOldList (text : List ℕ) (base : Base) : Type 0 where
   pub header : Header
-  pub sections : List SpelledSection
-  pub spelled : Spells text header sections
+  pub list : IsList text header base.revocations
   pub no_fault : IsFirstFault text None
-  pub means : Means base.revocations (entries_of sections)
   pub version_is : base.version ≡ Some header.version
   pub comment_is : base.comment ≡ header.comment
 
@@ -336,3 +337,11 @@ IsOldRead None failed reading = (reading ≡ Ok new_base) × Means nothing []
 IsOldRead (Some None) failed reading = ⊤
 IsOldRead (Some (Some text)) failed (Ok base) = IsOldList text base
 IsOldRead (Some (Some text)) failed (Err fault) = Says fault text failed
+
+-- This is what reading the old list gave, where there is one and the bytes that its reader had left
+-- are known.
+pub record IsBaseRead {R : Type 0} (has_failed : R → Bool) (left : Option (Option (List ℕ)))
+    (reading : Result Base KrlFault) : Type 0 where
+  pub failed : Bool
+  pub tells : TellsFailure has_failed failed
+  pub read : IsOldRead left failed reading

@@ -104,7 +104,7 @@ fn first_line_key<'a>(alloc: Global, name: &'a str, text: &[u8]) -> Result<Bytes
     'lines: loop {
         let (line, after) = split_line(rest);
         if has_key(line) {
-            return key_of(alloc, name, passed + 1, line);
+            return line_key(alloc, name, passed + 1, line);
         }
         let Some(after) = after else {
             return Err(RunFault::whole(name, Cause::File(FileFault::NoKeys)));
@@ -115,7 +115,12 @@ fn first_line_key<'a>(alloc: Global, name: &'a str, text: &[u8]) -> Result<Bytes
 }
 
 /// The blob of the plain key of a line.
-fn key_of<'a>(alloc: Global, name: &'a str, number: u64, text: &[u8]) -> Result<Bytes, RunFault<'a>>
+fn line_key<'a>(
+    alloc: Global,
+    name: &'a str,
+    number: u64,
+    text: &[u8],
+) -> Result<Bytes, RunFault<'a>>
     ensures read { Returns (λ blob. blob) (λ at. name.now ≡ at)
         (line_key name.now number text.now) result }
     ensures some { IfOk result (λ blob. 0 < length blob) }
@@ -125,11 +130,11 @@ fn key_of<'a>(alloc: Global, name: &'a str, number: u64, text: &[u8]) -> Result<
         Err(LineFault::NoMemory) => return Err(RunFault::whole(name, Cause::NoMemory)),
         Err(fault) => return Err(RunFault::at_line(name, number, Cause::Line(fault))),
     };
-    plain_of(alloc, name, number, line.blob.as_slice())
+    subject_key(alloc, name, number, line.blob.as_slice())
 }
 
 /// The blob of the plain key of what a line's blob asks.
-fn plain_of<'a>(
+fn subject_key<'a>(
     alloc: Global,
     name: &'a str,
     number: u64,

@@ -1,9 +1,9 @@
 // What a list is made of before the lines.
 
-ghost use Rattle.std.specs.Prelude.{◌≡◌, ◌<◌, ◌^◌, Bool, Err, IfSome, MatchResult, Ok, Result, false, option_map, true};
+ghost use Rattle.std.specs.Prelude.{◌≡◌, ◌<◌, ◌^◌, Err, IfSome, MatchResult, Ok, Result, false, option_map};
 ghost use Rattle.std.specs.Option.{ForSome};
 ghost use Rattle.krl_core.specs.declared.krl_fault.KrlFault.{KrlFault as FaultOf};
-ghost use Rattle.krl_make.specs.Making.{IsOldRead, base_of, version_of};
+ghost use Rattle.krl_make.specs.Making.{IsBaseRead, base_of, version_of};
 ghost use Rattle.krl_runs.specs.Query.{krl_cause};
 ghost use Rattle.krl_runs.specs.Stop.{stop_of};
 ghost use Rattle.krl_make.specs.declared.base.Base.{Base as BaseOf};
@@ -30,9 +30,8 @@ pub fn read_base<'a, R: Source + Drop>(
     list: Option<R>,
 ) -> Result<Base, RunFault<'a>>
     requires { ForSome list (λ reader. R.has_failed reader ≡ false) }
-    ensures { (reading : Result BaseOf FaultOf) × (failed : Bool)
-        × (failed ≡ true → (last : R) × (R.has_failed last ≡ true))
-        × IsOldRead (option_map R.left list) failed reading
+    ensures { (reading : Result BaseOf FaultOf)
+        × IsBaseRead R.has_failed (option_map R.left list) reading
         × MatchResult result (λ base. reading ≡ Ok base)
         (λ stop. (fault : FaultOf) × ((reading ≡ Err fault)
         × (stop ≡ stop_of name.now (krl_cause fault)))) }

@@ -62,12 +62,12 @@ fn add_text<'a, S: Spans>(
 {
     match read_spec(alloc, revocations, under, text) {
         Ok(()) => Ok(()),
-        Err(fault) => Err(stop_at(name, fault)),
+        Err(fault) => Err(cause_stop(name, fault)),
     }
 }
 
 /// Where memory runs out, it is for the run itself, and no line is told.
-fn stop_at<'a>(name: &'a str, fault: SpecFault) -> RunFault<'a>
+fn cause_stop<'a>(name: &'a str, fault: SpecFault) -> RunFault<'a>
     ensures { result ≡ cause_stop name.now fault.line fault.cause }
 {
     if fault.cause == SpecCause::NoMemory {

@@ -1,9 +1,9 @@
 // Making a list of an old one and of specification files.
 
-ghost use Rattle.std.specs.Prelude.{◌≡◌, Bool, Ok, Result, false, option_map, true};
+ghost use Rattle.std.specs.Prelude.{◌≡◌, Ok, Result, false, option_map};
 ghost use Rattle.std.specs.Option.{ForSome};
 ghost use Rattle.krl_core.specs.declared.krl_fault.KrlFault.{KrlFault as FaultOf};
-ghost use Rattle.krl_make.specs.Making.{HasNumbers, IsFileAtHand, IsOldRead, Makes, WritesList, WritesMore, after_old, files_entries, make_run_of};
+ghost use Rattle.krl_make.specs.Making.{HasNumbers, IsBaseRead, IsFileAtHand, Makes, WritesList, WritesMore, after_old, files_entries, make_run_of};
 ghost use Rattle.krl_spec.specs.Entry.{IsUnder, authority_under};
 ghost use Rattle.krl_make.specs.declared.base.Base.{Base as BaseOf};
 
@@ -41,10 +41,8 @@ pub fn make_run<'a, R: Source + Drop>(
     moment: u64,
 ) -> Result<Vec<u8>, RunFault<'a>>
     requires { ForSome old.list (λ reader. R.has_failed reader ≡ false) }
-    // Whether the reader failed, which is not said where it did not.
-    ensures { (reading : Result BaseOf FaultOf) × (failed : Bool)
-        × (failed ≡ true → (last : R) × (R.has_failed last ≡ true))
-        × IsOldRead (option_map R.left old.entry.list) failed reading
+    ensures { (reading : Result BaseOf FaultOf)
+        × IsBaseRead R.has_failed (option_map R.left old.entry.list) reading
         × Makes (λ made. made.items) old.entry.name.now reading authority.now version files.now
         (make_run_of old.entry.name.now reading authority.now version files.now moment) result }
 {

@@ -2,6 +2,7 @@
 use Rattle.std.proofs.Common.{◌≡◌, ℕ, ◌+◌, ◌<◌, ◌||◌, Bool, true, false, List, [], ◌∷◌, ◌++◌, length, take, drop, get_or, Option, None, Some, Result, Ok, Err, refl, sym, ap, subst, ◌∙◌, append_assoc}
 use Rattle.std.specs.Option.{option_to_list}
 use Rattle.std.proofs.lemmas.List.{append-nil, take_more, take-append-drop}
+use Rattle.std.proofs.Math.Bool.{or-false, or-true}
 use Rattle.std.proofs.lemmas.List.Concat.{flat_map-append}
 use Rattle.krl_runs.specs.declared.output.cause.Cause.TheVariants.{File, NoMemory, Private}
 use Rattle.ssh_cert.specs.Subject.{Subject}
@@ -19,7 +20,7 @@ use Rattle.ssh_key.specs.declared.private_fault.PrivateFault.{PrivateFault}
 use Rattle.krl_runs.specs.Carries.{Carries}
 use Rattle.krl_runs.specs.declared.output.answer.Answer.{Answer}
 use Rattle.krl_runs.specs.Printer.{Printed}
-use Rattle.krl_runs.specs.Run.{File as FileOf, Item, Answered, Answering, Gives, GivesAnswer, Passed, Stopped, IsWithheld, name_of, content_item, container_item, key_item, stop_in, subject_item, file_items, files_items, held_by, item_of, line_items, or_silence, said, silence_of, tells}
+use Rattle.krl_runs.specs.Run.{File as FileOf, Item, Answered, Answering, GivesAnswer, GivesItem, Passed, Stopped, IsWithheld, name_of, content_item, container_item, key_item, stop_in, subject_item, file_items, files_items, held_by, item_of, line_items, or_silence, said, silence_of, tells}
 use Rattle.krl_runs.specs.Stop.{Stop, ByMemory, ender_of, stop_of}
 use Rattle.krl_runs.proofs.Carrying.{carries_more, carries_none, carries_passed, carries_then, carries_withheld, no_item}
 
@@ -71,7 +72,7 @@ unfolding item_of
 line_item answer name number line content has is_line = rw has (ap Some (ap (content_item answer name number) is_line))
 
 -- what was found out of a blob is that of its line
-pub item_given : (item : Option Item) (read : Item) (name : List ℕ) (result : Result (Option Answer) Stop) → item ≡ Some read → GivesAnswer read name result → Gives item name result
+pub item_given : (item : Option Item) (read : Item) (name : List ℕ) (result : Result (Option Answer) Stop) → item ≡ Some read → GivesAnswer read name result → GivesItem item name result
 item_given item read name (Ok None) is given = ap (λ (i : Option Item). tells (option_to_list i)) is ∙ ap (λ (i : Item). tells (i ∷ [])) given
 item_given item read name (Ok (Some answer)) is given = is ∙ ap Some given
 item_given item read name (Err stop) is given = rw is given
@@ -94,6 +95,12 @@ container_refused answer name fault read is = ap (λ (r : Result Opened PrivateF
 pub container_passed : (item : Item) (name : List ℕ) (now : Printed) → item ≡ Passed name → now.failed ≡ false → Carries (item ∷ []) (Ok false) now now
 container_passed item name now is working =
     rw is (carries_then (Passed name ∷ []) [] tt (Ok false) now now now (carries_passed name now working) (carries_none false now working))
+
+-- it is answered
+pub container_answered : (item : Item) (name : List ℕ) (answer : Answer) (old new : Printed) → item ≡ Answered name answer
+    → Carries (Answered name answer ∷ []) (Ok (tt {0})) old new → Carries (item ∷ []) (Ok true) old new
+container_answered item name answer old new is carries =
+    rw is (record { says = carries.says; failed = carries.failed; writer = carries.writer })
 
 -- ---- the lines of a text
 
@@ -132,14 +139,6 @@ one_reached answer name items number line lines found old now new reached carrie
   any = ap (λ (b : Bool). b || tells (option_to_list (item_of answer name number line))) reached.any ∙ tells-append reached.done (option_to_list (item_of answer name number line));
 }
 
-or_true : (b : Bool) → b || true ≡ true
-or_true true = refl
-or_true false = refl
-
-or_false : (b : Bool) → b || false ≡ b
-or_false true = refl
-or_false false = refl
-
 -- a line of which nothing is said
 silent_carries : (item : Option Item) (now : Printed) → tells (option_to_list item) ≡ false → now.failed ≡ false → Carries (option_to_list item) (Ok (tt {0})) now now
 silent_carries None now silent working = carries_none tt now working
@@ -154,7 +153,7 @@ pub line_passed : (answer : Answering) (name : List ℕ) (items : List Item) (nu
 line_passed answer name items number line lines found old now reached none =
     let carries = silent_carries (item_of answer name number line) now none reached.carried.failed in
     let next = one_reached answer name items number line lines found old now now reached carries in
-    let same : found || tells (option_to_list (item_of answer name number line)) ≡ found = ap (λ (b : Bool). found || b) none ∙ or_false found in
+    let same : found || tells (option_to_list (item_of answer name number line)) ≡ found = ap (λ (b : Bool). found || b) none ∙ or-false found in
     subst (λ (b : Bool). IsReached answer name items (number + 1) lines b old now) same next
 
 -- the next line is answered
@@ -164,7 +163,7 @@ pub line_answered : (answer : Answering) (name : List ℕ) (items : List Item) (
 line_answered answer name items number line lines found other reply old now new reached is_item carries =
     let carried : Carries (option_to_list (item_of answer name number line)) (Ok (tt {0})) now new = rw is_item carries in
     let next = one_reached answer name items number line lines found old now new reached carried in
-    let same : found || tells (option_to_list (item_of answer name number line)) ≡ true = ap (λ (i : Option Item). found || tells (option_to_list i)) is_item ∙ or_true found in
+    let same : found || tells (option_to_list (item_of answer name number line)) ≡ true = ap (λ (i : Option Item). found || tells (option_to_list i)) is_item ∙ or-true found in
     subst (λ (b : Bool). IsReached answer name items (number + 1) lines b old new) same next
 
 -- the next line stopped the run

@@ -1,35 +1,27 @@
 -- A run by what is held of a list, or by why the list is refused.
 use Rattle.std.proofs.Common.{◌≡◌, ℕ, true, false, List, [], ◌∷◌, ◌++◌, Bool, Some, None, Result, Ok, Err, refl, sym, ap, ◌∙◌, append_assoc}
-use Rattle.std.specs.Prelude.{IsTrue, ◌↔◌}
 use Rattle.std.specs.List.{concat}
-use Rattle.krl_core.specs.Contents.{Contents, Means}
+use Rattle.krl_core.specs.Contents.{Contents}
 use Rattle.krl_core.specs.Entries.{entries_of}
-use Rattle.krl_core.specs.Entry.{Entry}
 use Rattle.krl_core.specs.Front.{IsFirstFault}
 use Rattle.krl_core.specs.Reading.{IsList}
-use Rattle.krl_core.specs.Revoked.{Revoked}
-use Rattle.krl_core.specs.Tested.{revokes}
 use Rattle.krl_core.specs.declared.header.Header.{Header}
 use Rattle.krl_core.specs.declared.krl_fault.KrlFault.{KrlFault}
 use Rattle.krl_core.specs.declared.krl_fault.KrlFault.TheVariants as faults
-use Rattle.ssh_cert.specs.Subject.{Subject}
 use Rattle.krl_runs.specs.Carries.{Carries}
 use Rattle.krl_runs.specs.Printer.{Printed}
 use Rattle.krl_runs.specs.Contents.{Known, all_said, contents_items, dump_text, known_lines, known_of}
-use Rattle.krl_runs.specs.Query.{IsHeld, ask, krl_cause, query_run_of}
+use Rattle.krl_runs.specs.Query.{HeldRevokes, IsHeld, ask, krl_cause, query_run_of}
 use Rattle.krl_runs.specs.Run.{File, Item, Outcome, Passed, Stopped, before, files_items, outcome_of}
 use Rattle.krl_runs.specs.Stop.{Stop, stop_of}
 use Rattle.krl_runs.proofs.Carrying.{carries_more, carries_passed, carries_then, carries_withheld}
 
 -- A list that was read is held.
 pub held : (text : List ℕ) (header : Header) (contents : Contents)
-    → ((r : Contents) (entries : List Entry) (subject : Subject) → Means r entries → (IsTrue (revokes r subject) ↔ Revoked entries subject))
-    → IsList text header contents → IsFirstFault text None → IsHeld text (known_of header contents)
+    → HeldRevokes → IsList text header contents → IsFirstFault text None → IsHeld text (known_of header contents)
 held text header contents law list none = record {
-  sections = list.sections;
-  spelled = list.spelled;
+  list = list;
   no_fault = none;
-  means = list.means;
   answers = λ asked. law contents (entries_of list.sections) asked list.means;
 }
 

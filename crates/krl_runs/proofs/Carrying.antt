@@ -2,19 +2,24 @@
 use Rattle.std.proofs.Common.{◌≡◌, ℕ, ◌<◌, false, List, [], ◌∷◌, ◌++◌, length, Option, None, Some, Result, Ok, Err, refl, sym, ap, subst, ◌∙◌, append_assoc, lit<}
 use Rattle.std.specs.Option.{option_to_list}
 use Rattle.std.specs.Result.{result_err}
+use Rattle.std.proofs.KnownBytes.{Appends-nil}
 use Rattle.std.proofs.lemmas.List.{append-nil}
+use Rattle.std.proofs.lemmas.Option.{same_Some}
 use Rattle.krl_runs.specs.declared.output.answer.Answer.{Answer}
 use Rattle.krl_runs.specs.declared.output.cause.Cause.TheVariants.{NoMemory}
 use Rattle.krl_runs.specs.Carries.{Carries, IsEnded, Reaches}
 use Rattle.krl_runs.specs.Printer.{Printed, HasSaid, Sends, and_answer, chunk, nothing_printed}
 use Rattle.krl_runs.specs.Run.{Item, Answered, Passed, Stopped, IsWithheld, name_of}
 use Rattle.krl_runs.specs.Stop.{Stop, Ender, ByOutput, ByMemory, ByInput, ender_of, is_by_output, stop_of}
-use Rattle.krl_runs.proofs.Saying.{Appends-none, added, passed, sent_all, sent_part, waits}
+use Rattle.krl_runs.proofs.Saying.{added, passed, sent_all, sent_part}
 
 -- nothing was said yet
 pub begun : (taken : Option (List ℕ)) (writer : ℕ) → HasSaid taken [] (nothing_printed taken false writer)
 begun taken writer =
-    record { unstopped = refl; gone = []; parts = refl; short = lit< tt; taken = Appends-none taken; counted = refl; revoked = refl; working = refl }
+    record {
+      added = record { unstopped = refl; gone = []; parts = refl; taken = Appends-nil taken; counted = refl; revoked = refl; working = refl };
+      short = lit< tt;
+    }
 
 pub carries_none : {A : Type 0} (value : A) (now : Printed) → now.failed ≡ false → Carries [] (Ok value) now now
 carries_none value now working = record {
@@ -36,9 +41,11 @@ carries_then xs ys value result old mid new first second = record {
 -- What stands behind an end does not count.
 ended_more : (ender : Ender) (before : Option (List ℕ)) (items more : List Item) (stop : Stop) (now : Printed) → IsEnded ender before items stop now → IsEnded ender before (items ++ more) stop now
 ended_more (ByOutput count) before items more stop now p =
-    record { said = p.said; later = p.later ++ more; parts = ap (λ (xs : List Item). xs ++ more) p.parts ∙ append_assoc p.said p.later more; unstopped = p.unstopped; named = p.named; cut = p.cut; broken = p.broken }
+    record { said = p.said; later = p.later ++ more; parts = ap (λ (xs : List Item). xs ++ more) p.parts ∙ append_assoc p.said p.later more; unstopped = p.unstopped; cut_off = p.cut_off }
 ended_more ByMemory before items more stop now p =
-    record { said = p.said; next = p.next; later = p.later ++ more; parts = ap (λ (xs : List Item). xs ++ more) p.parts ∙ append_assoc p.said (p.next ∷ p.later) more; named = p.named; has_said = p.has_said }
+    let s = p.starves in
+    let parts = ap (λ (xs : List Item). xs ++ more) s.parts ∙ append_assoc p.said (s.next ∷ s.later) more in
+    record { said = p.said; starves = record { next = s.next; later = s.later ++ more; parts = parts; named = s.named }; has_said = p.has_said }
 ended_more ByInput before items more stop now p =
     record { said = p.said; later = p.later ++ more; parts = ap (λ (xs : List Item). xs ++ more) p.parts ∙ append_assoc p.said (Stopped stop ∷ p.later) more; has_said = p.has_said }
 
@@ -55,17 +62,13 @@ ends_here : (ender : Ender) (item : Item) (name : List ℕ) (stop : Stop) (now :
     → ((before : Option (List ℕ)) (said : List Item) → HasSaid before said now → IsEnded ender before (said ++ item ∷ []) stop now) × (is_by_output ender ≡ false)
 ends_here (ByOutput count) item name stop now withheld = absurd withheld
 ends_here ByMemory item name stop now withheld =
-    let found : item ≡ withheld.1.0 = same item withheld.1.0 withheld.1.1 in
+    let found : item ≡ withheld.1.0 = same_Some item withheld.1.0 withheld.1.1 in
     let named : name ≡ name_of item = sym withheld.1.2 ∙ ap name_of (sym found) in
-    (λ before said has. record { said = said; next = item; later = []; parts = refl; named = withheld.0 ∙ ap (λ (n : List ℕ). stop_of n NoMemory) named; has_said = has }, refl)
-  where
-    same : (a b : Item) → Some a ≡ Some b → a ≡ b
-    same a b e = cc
+    let is = withheld.0 ∙ ap (λ (n : List ℕ). stop_of n NoMemory) named in
+    (λ before said has. record { said = said; starves = record { next = item; later = []; parts = refl; named = is }; has_said = has }, refl)
 ends_here ByInput item name stop now withheld =
-    (λ before said has. record { said = said; later = []; parts = ap (λ (i : Item). said ++ i ∷ []) (same item (Stopped stop) withheld); has_said = has }, refl)
-  where
-    same : (a b : Item) → Some a ≡ Some b → a ≡ b
-    same a b e = cc
+    let found : item ≡ Stopped stop = same_Some item (Stopped stop) withheld in
+    (λ before said has. record { said = said; later = []; parts = ap (λ (i : Item). said ++ i ∷ []) found; has_said = has }, refl)
 
 pub no_item : (ender : Ender) (name : List ℕ) (stop : Stop) → IsWithheld ender None name stop → ⊥
 no_item (ByOutput count) name stop withheld = withheld
@@ -82,7 +85,7 @@ carries_withheld (Some item) name stop now working withheld =
 
 -- something of which nothing is said
 pub carries_passed : (name : List ℕ) (now : Printed) → now.failed ≡ false → Carries (Passed name ∷ []) (Ok (tt {0})) now now
-carries_passed name now working = record { says = λ before said has. passed before said name now has; failed = working; writer = refl }
+carries_passed name now working = record { says = λ before said has. record { added = passed before said name now has.added; short = has.short }; failed = working; writer = refl }
 
 -- an answer for which no memory was left
 pub carries_refused : {A : Type 0} (name : List ℕ) (answer : Answer) (now : Printed) → now.failed ≡ false
@@ -94,7 +97,7 @@ carries_refused name answer now working =
 pub carries_added : {A : Type 0} (value : A) (name : List ℕ) (answer : Answer) (old : Printed) → old.failed ≡ false → length (and_answer old answer).waiting < chunk
     → Carries (Answered name answer ∷ []) (Ok value) old (and_answer old answer)
 carries_added value name answer old working short = record {
-  says = λ before said has. waits before (said ++ Answered name answer ∷ []) (and_answer old answer) (added before said name answer old has) short;
+  says = λ before said has. record { added = added before said name answer old has.added; short = short };
   failed = working;
   writer = refl;
 }
@@ -103,22 +106,24 @@ carries_added value name answer old working short = record {
 pub carries_sent : {A : Type 0} (result : Result A Stop) (name : List ℕ) (answer : Answer) (old new : Printed) → Sends result (and_answer old answer) new → new.writer ≡ old.writer
     → Carries (Answered name answer ∷ []) result old new
 carries_sent (Ok value) name answer old new sends writer = record {
-  says = λ before said has. sent_all before (said ++ Answered name answer ∷ []) (and_answer old answer) new (added before said name answer old has) sends;
+  says = λ before said has. sent_all before (said ++ Answered name answer ∷ []) (and_answer old answer) new (added before said name answer old has.added) sends;
   failed = sends.working;
   writer = writer;
 }
 carries_sent (Err stop) name answer old new sends writer =
     rw sends.named (record {
       says = λ before said has.
-          let whole = added before said name answer old has in
+          let whole = added before said name answer old has.added in
           record {
             said = said ++ Answered name answer ∷ [];
             later = [];
             parts = sym (append-nil (said ++ Answered name answer ∷ []));
             unstopped = whole.unstopped;
-            named = refl;
-            cut = sent_part before (said ++ Answered name answer ∷ []) stop (and_answer old answer) new whole sends;
-            broken = sends.broken;
+            cut_off = record {
+              named = refl;
+              cut = sent_part before (said ++ Answered name answer ∷ []) stop (and_answer old answer) new whole sends;
+              broken = sends.broken;
+            };
           };
       failed = sends.broken;
       writer = writer;

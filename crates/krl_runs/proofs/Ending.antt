@@ -11,12 +11,13 @@ use Rattle.krl_runs.specs.Printer.{Printed, HasSaid, IsPartSent, IsSent, Sends, 
 use Rattle.krl_runs.specs.Run.{Item, Outcome, Stopped, outcome_of, status_of}
 use Rattle.krl_runs.specs.Stop.{Stop, Ender, ByOutput, ByMemory, ByInput, ender_of, is_by_output, is_lost}
 use Rattle.krl_runs.proofs.Carrying.{begun}
-use Rattle.krl_runs.proofs.Saying.{as_added, cut_of_front, outcome_of-append, sent_part, taken_all}
+use Rattle.krl_runs.proofs.Saying.{cut_of_front, outcome_of-append, sent_part, taken_all}
 
 -- the output had failed
 lost_by : (ender : Ender) (run : List Item) (before : Option (List ℕ)) (stop : Stop) (now : Printed) → is_by_output ender ≡ true → IsEnded ender before run stop now → EndsBy ender run before now.taken now.failed stop
 lost_by (ByOutput count) run before stop now lost p =
-    record { named = p.named; cut = cut_of_front run p.said p.later before now.taken count p.parts p.unstopped p.cut; broken = p.broken }
+    let off = p.cut_off in
+    record { named = off.named; cut = cut_of_front run p.said p.later before now.taken count p.parts p.unstopped off.cut; broken = off.broken }
 lost_by ByMemory run before stop now lost p = absurd cc
 lost_by ByInput run before stop now lost p = absurd cc
 
@@ -33,7 +34,7 @@ record IsFront (before : Option (List ℕ)) (run : List Item) (now : Printed) : 
 
 front_by : (ender : Ender) (before : Option (List ℕ)) (run : List Item) (stop : Stop) (now : Printed) → is_by_output ender ≡ false → IsEnded ender before run stop now → IsFront before run now
 front_by (ByOutput count) before run stop now kept p = absurd cc
-front_by ByMemory before run stop now kept p = record { said = p.said; later = p.next ∷ p.later; parts = p.parts; has_said = p.has_said }
+front_by ByMemory before run stop now kept p = record { said = p.said; later = p.starves.next ∷ p.starves.later; parts = p.starves.parts; has_said = p.has_said }
 front_by ByInput before run stop now kept p = record { said = p.said; later = Stopped stop ∷ p.later; parts = p.parts; has_said = p.has_said }
 
 front_of : (before : Option (List ℕ)) (run : List Item) (stop : Option Stop) (now : Printed) → is_lost stop ≡ false → Reaches before run stop now → IsFront before run now
@@ -43,27 +44,27 @@ front_of before run (Some stop) now kept p = front_by (ender_of stop.cause) befo
 -- the output failed at the end
 ends_cut : (run : List Item) (before : Option (List ℕ)) (fault : Stop) (old new : Printed) → IsFront before run old → IsPartSent fault old new → Ends run before new.taken new.failed 255 (Some fault)
 ends_cut run before fault old new front part =
-    let cut = sent_part before front.said fault old new (as_added before front.said old front.has_said) part in
-    rw part.named (record { named = refl; cut = cut_of_front run front.said front.later before new.taken (told_count (old.sent + part.count)) front.parts front.has_said.unstopped cut; broken = part.broken }, refl)
+    let cut = sent_part before front.said fault old new front.has_said.added part in
+    rw part.named (record { named = refl; cut = cut_of_front run front.said front.later before new.taken (told_count (old.sent + part.count)) front.parts front.has_said.added.unstopped cut; broken = part.broken }, refl)
 
 -- the rest was sent
 whole_by : (ender : Ender) (run : List Item) (before : Option (List ℕ)) (stop : Stop) (old new : Printed) → is_by_output ender ≡ false → IsEnded ender before run stop old → IsSent old new → EndsBy ender run before new.taken new.failed stop
 whole_by (ByOutput count) run before stop old new kept p sent = absurd cc
 whole_by ByMemory run before stop old new kept p sent =
-    record { done = p.said; next = p.next; later = p.later; parts = p.parts; named = p.named; unstopped = p.has_said.unstopped; taken = taken_all before p.said old new (as_added before p.said old p.has_said) sent; working = sent.working }
+    record { done = p.said; starves = p.starves; unstopped = p.has_said.added.unstopped; taken = taken_all before p.said old new p.has_said.added sent; working = sent.working }
 whole_by ByInput run before stop old new kept p sent =
-    let whole = ap outcome_of p.parts ∙ outcome_of-append p.said (Stopped stop ∷ p.later) p.has_said.unstopped in
+    let whole = ap outcome_of p.parts ∙ outcome_of-append p.said (Stopped stop ∷ p.later) p.has_said.added.unstopped in
     let text : (outcome_of run).text ≡ (outcome_of p.said).text = ap (λ (o : Outcome). o.text) whole ∙ append-nil (outcome_of p.said).text in
     record {
       told = ap (λ (o : Outcome). o.stop) whole;
-      taken = subst (λ (t : List ℕ). Appends before new.taken t) (sym text) (taken_all before p.said old new (as_added before p.said old p.has_said) sent);
+      taken = subst (λ (t : List ℕ). Appends before new.taken t) (sym text) (taken_all before p.said old new p.has_said.added sent);
       working = sent.working;
     }
 
 ends_whole : (run : List Item) (before : Option (List ℕ)) (stop : Option Stop) (old new : Printed) → is_lost stop ≡ false → Reaches before run stop old → IsSent old new → Ends run before new.taken new.failed (status_of (is_some stop) new.revoked) stop
 ends_whole run before None old new kept has sent =
-    let revoked : new.revoked ≡ (outcome_of run).revoked = sent.revoked ∙ has.revoked in
-    (record { told = has.unstopped; taken = taken_all before run old new (as_added before run old has) sent; working = sent.working }, ap (status_of false) revoked)
+    let revoked : new.revoked ≡ (outcome_of run).revoked = sent.revoked ∙ has.added.revoked in
+    (record { told = has.added.unstopped; taken = taken_all before run old new has.added sent; working = sent.working }, ap (status_of false) revoked)
 ends_whole run before (Some stop) old new kept p sent = (whole_by (ender_of stop.cause) run before stop old new kept p sent, refl)
 
 -- the rest of what was said was sent, or the output failed

@@ -1,5 +1,7 @@
 -- What is said of a line, by what reading the line and its blob gives.
-use Rattle.std.proofs.Common.{◌≡◌, ℕ, Bool, true, false, List, Option, None, Some, Result, Ok, Err, refl, sym, ap, subst, ◌∙◌}
+use Rattle.std.proofs.Common.{◌≡◌, ℕ, Bool, true, false, List, Option, None, Some, Result, Ok, Err, refl, ap, subst}
+use Rattle.std.proofs.lemmas.Option.{same_Some}
+use Rattle.ssh_wire.specs.Steps.{ok_is}
 use Rattle.ssh_key.specs.Key.{IsKey, Key}
 use Rattle.ssh_key.specs.KeyFile.{has_key}
 use Rattle.ssh_key.specs.KeyLine.{IsKeyLine}
@@ -12,12 +14,13 @@ use Rattle.ssh_cert.specs.declared.fault.CertFault.{CertFault}
 use Rattle.ssh_key.specs.declared.hash.Hash.{Hash}
 use Rattle.krl_runs.specs.Listing.{certificate_answer, listed_certificate}
 use Rattle.ssh_cert.specs.Subject.{Subject}
-use Rattle.ssh_cert.specs.SubjectReading.{IsSubject, plain_key, certified, subject_of}
+use Rattle.ssh_cert.specs.SubjectReading.{IsSubject, subject_of}
 use Rattle.ssh_cert.specs.declared.subject_fault.SubjectFault.{SubjectFault}
+use Rattle.krl_spec.specs.Keys.{plain_is_key}
 use Rattle.krl_runs.specs.declared.output.answer.Answer.{Answer}
 use Rattle.krl_runs.specs.declared.output.cause.Cause.TheVariants.{Line}
 use Rattle.krl_runs.specs.Items.{SpellsKey}
-use Rattle.krl_runs.specs.Run.{Item, Answered, Answering, Stopped, content_item, key_item, subject_item, item_of, said, stop_at}
+use Rattle.krl_runs.specs.Run.{Answered, Answering, Stopped, content_item, key_item, subject_item, item_of, said, stop_at}
 
 pub no_item_of : (answer : Answering) (name : List ℕ) (number : ℕ) (text : List ℕ) → has_key text ≡ false → item_of answer name number text ≡ None
 unfolding item_of
@@ -27,11 +30,6 @@ pub faulty_line : (answer : Answering) (name : List ℕ) (number : ℕ) (text : 
     → item_of answer name number text ≡ Some (Stopped (stop_at name number (Line fault)))
 unfolding item_of
 faulty_line answer name number text fault has is_fault = rw has (ap Some (ap (content_item answer name number) is_fault))
-
--- what is asked has a plain key
-plain_is_key : (blob : List ℕ) (asked : Subject) → IsSubject blob asked → (key : Key) × IsKey asked.plain key
-plain_is_key blob asked (plain_key key is_key same) = (key, rw same is_key)
-plain_is_key blob asked (certified certificate is_certificate same) = (certificate.key, rw same is_certificate.key)
 
 -- an answer has been read off a key line
 pub record FromLine (answer : Answering) (name : List ℕ) (number : ℕ) (text : List ℕ) (reply : Answer) : Type 0 where
@@ -63,15 +61,12 @@ from_line answer name number text other reply item = of_line (line_at text) refl
     of_line (Ok line) is_line e = of_blob line (subject_of line.blob) is_line refl e
     of_line (Err fault) is_line e = absurd cc
 
-some_is : (a b : Item) → Some a ≡ Some b → a ≡ b
-some_is a b e = cc
-
 pub answered_line : (answer : Answering) (name : List ℕ) (number : ℕ) (text other : List ℕ) (reply : Answer) → item_of answer name number text ≡ Some (Answered other reply) → FromLine answer name number text reply
 unfolding item_of
 answered_line answer name number text other reply item = by_test (has_key text) refl
   where
     by_test : (has : Bool) → has_key text ≡ has → FromLine answer name number text reply
-    by_test true has = let e = rw has at item in from_line answer name number text other reply (some_is _ _ e)
+    by_test true has = let e = rw has at item in from_line answer name number text other reply (same_Some _ _ e)
     by_test false has = let e = rw has at item in absurd cc
 
 -- and so the line spells it
@@ -79,17 +74,11 @@ pub spelled_line : (answer : Answering) (name : List ℕ) (number : ℕ) (text :
     → ((key : Key) → IsKey from.asked.plain key → key_at from.asked.plain ≡ Ok key) → (line : Content) × (asked : Subject) × (key : Key) × SpellsKey text line asked key × (Some reply ≡ answer.say name (Some number) line asked key)
 spelled_line answer name number text reply from is_line is_asked reads =
     let plain = plain_is_key from.line.blob from.asked is_asked in
-    let same : plain.0 ≡ from.key = same_key plain.0 from.key (sym (reads plain.0 plain.1) ∙ from.is_key) in
+    let same : plain.0 ≡ from.key = ok_is plain.0 from.key (key_at from.asked.plain) (reads plain.0 plain.1) from.is_key in
     (from.line, from.asked, from.key, record { is_line = is_line; is_asked = is_asked; is_key = subst (λ (key : Key). IsKey from.asked.plain key) same plain.1 }, from.is_reply)
-  where
-    same_key : (a b : Key) → (let r : Result Key KeyFault = Ok b in Ok a ≡ r) → a ≡ b
-    same_key a b e = cc
 
 -- what is answered in a run over certificates lists one
 pub certificate_answered : (hash : Hash) (moment : ℕ) (name : List ℕ) (number : ℕ) (reply : Answer) (read : Result Certificate CertFault) → Some reply ≡ certificate_answer hash moment name (Some number) read
     → (certificate : Certificate) × (read ≡ Ok certificate) × (reply ≡ listed_certificate hash moment name number certificate)
-certificate_answered hash moment name number reply (Ok certificate) e = (certificate, refl, same reply (listed_certificate hash moment name number certificate) e)
-  where
-    same : (a b : Answer) → Some a ≡ Some b → a ≡ b
-    same a b e = cc
+certificate_answered hash moment name number reply (Ok certificate) e = (certificate, refl, same_Some reply (listed_certificate hash moment name number certificate) e)
 certificate_answered hash moment name number reply (Err fault) e = absurd cc

@@ -1,28 +1,22 @@
 -- What items say one after the other, and what a printer has said after an answer and after a send.
-use Rattle.std.proofs.Common.{◌≡◌, ℕ, ◌+◌, ◌<◌, ◌||◌, Bool, true, false, List, [], ◌∷◌, ◌++◌, length, take, Option, None, Some, refl, sym, ap, subst, ◌∙◌, append_assoc, arith, length-append}
+use Rattle.std.proofs.Common.{◌≡◌, ℕ, ◌+◌, ◌||◌, Bool, List, [], ◌∷◌, ◌++◌, length, take, Option, None, refl, sym, ap, subst, ◌∙◌, append_assoc, arith, length-append}
 use Rattle.std.proofs.lemmas.List.{append-nil, take-append-le}
+use Rattle.std.proofs.KnownBytes.{Appends-trans}
+use Rattle.std.proofs.Math.Bool.{or-false, or_assoc}
 use Rattle.std.proofs.Math.Seq.{take-append-add}
 use Rattle.std.specs.Io.KnownBytes.{Appends}
 use Rattle.krl_runs.specs.declared.output.answer.Answer.{Answer}
-use Rattle.krl_runs.specs.Printer.{Printed, HasSaid, IsCut, IsSent, IsPartSent, and_answer, chunk, told_count}
+use Rattle.krl_runs.specs.Printer.{Printed, HasAdded, HasSaid, IsCut, IsSent, IsPartSent, and_answer, told_count}
 use Rattle.krl_runs.specs.Run.{Item, Outcome, Answered, Passed, Stopped, before, outcome_of}
 use Rattle.krl_runs.specs.Stop.{Stop}
 
-or_assoc : (a b c : Bool) → (a || b) || c ≡ a || (b || c)
-or_assoc true b c = refl
-or_assoc false b c = refl
-
-or_false : (a : Bool) → a || false ≡ a
-or_false true = refl
-or_false false = refl
-
 -- two parts, of which the first did not stop
-abbrev pub joined : Outcome → Outcome → Outcome
-joined first second =
+abbrev pub followed_by : Outcome → Outcome → Outcome
+followed_by first second =
     record { text = first.text ++ second.text; revoked = first.revoked || second.revoked; stop = second.stop }
 
 pub outcome_of-append : (xs ys : List Item) → (outcome_of xs).stop ≡ None
-    → outcome_of (xs ++ ys) ≡ joined (outcome_of xs) (outcome_of ys)
+    → outcome_of (xs ++ ys) ≡ followed_by (outcome_of xs) (outcome_of ys)
 outcome_of-append [] ys unstopped = refl
 outcome_of-append (Stopped stop ∷ xs) ys unstopped = absurd cc
 outcome_of-append (Passed name ∷ xs) ys unstopped = outcome_of-append xs ys unstopped
@@ -47,35 +41,12 @@ cut_of_front run said later before after count parts unstopped cut =
       short = omega (arith, length-append (outcome_of said).text (outcome_of later).text);
     })
 
-pub Appends-none : (before : Option (List ℕ)) → Appends before before []
-Appends-none None = tt
-Appends-none (Some xs) = sym (append-nil xs)
-
-Appends-then : (first second third : Option (List ℕ)) (bytes more : List ℕ) → Appends first second bytes → Appends second third more → Appends first third (bytes ++ more)
-Appends-then None second third bytes more p q = tt
-Appends-then (Some xs) None third bytes more p q = absurd p
-Appends-then (Some xs) (Some ys) None bytes more p q = absurd q
-Appends-then (Some xs) (Some ys) (Some zs) bytes more p q = q ∙ ap (λ (l : List ℕ). l ++ more) p ∙ append_assoc xs bytes more
-
 told_count-more : (a b : ℕ) → told_count (told_count a + b) ≡ told_count (a + b)
 told_count-more a b = omega arith
 
 -- An answer waits behind what was said.
-pub record HasAdded (before : Option (List ℕ)) (items : List Item) (now : Printed) : Type 0 where
-  pub unstopped : (outcome_of items).stop ≡ None
-  pub gone : List ℕ
-  pub parts : (outcome_of items).text ≡ gone ++ now.waiting
-  pub taken : Appends before now.taken gone
-  pub counted : now.sent ≡ told_count (length gone)
-  pub revoked : now.revoked ≡ (outcome_of items).revoked
-  pub working : now.failed ≡ false
-
-pub as_added : (before : Option (List ℕ)) (items : List Item) (now : Printed) → HasSaid before items now → HasAdded before items now
-as_added before items now has =
-    record { unstopped = has.unstopped; gone = has.gone; parts = has.parts; taken = has.taken; counted = has.counted; revoked = has.revoked; working = has.working }
-
 pub added : (before : Option (List ℕ)) (said : List Item) (name : List ℕ) (answer : Answer) (old : Printed)
-    → HasSaid before said old → HasAdded before (said ++ Answered name answer ∷ []) (and_answer old answer)
+    → HasAdded before said old → HasAdded before (said ++ Answered name answer ∷ []) (and_answer old answer)
 added before said name answer old has =
     let whole = outcome_of-append said (Answered name answer ∷ []) has.unstopped in
     let text : (outcome_of said).text ++ (answer.text ++ []) ≡ has.gone ++ (old.waiting ++ answer.text) =
@@ -86,49 +57,45 @@ added before said name answer old has =
       parts = ap (λ (o : Outcome). o.text) whole ∙ text;
       taken = has.taken;
       counted = has.counted;
-      revoked = ap (λ (b : Bool). b || answer.revoked) has.revoked ∙ ap (λ (b : Bool). (outcome_of said).revoked || b) (sym (or_false answer.revoked)) ∙ sym (ap (λ (o : Outcome). o.revoked) whole);
+      revoked = ap (λ (b : Bool). b || answer.revoked) has.revoked ∙ ap (λ (b : Bool). (outcome_of said).revoked || b) (sym (or-false answer.revoked)) ∙ sym (ap (λ (o : Outcome). o.revoked) whole);
       working = has.working;
     }
 
 -- nothing is said of what was read
-pub passed : (before : Option (List ℕ)) (said : List Item) (name : List ℕ) (now : Printed) → HasSaid before said now → HasSaid before (said ++ Passed name ∷ []) now
+pub passed : (before : Option (List ℕ)) (said : List Item) (name : List ℕ) (now : Printed) → HasAdded before said now → HasAdded before (said ++ Passed name ∷ []) now
 passed before said name now has =
     let whole = outcome_of-append said (Passed name ∷ []) has.unstopped in
     record {
       unstopped = ap (λ (o : Outcome). o.stop) whole;
       gone = has.gone;
       parts = ap (λ (o : Outcome). o.text) whole ∙ append-nil (outcome_of said).text ∙ has.parts;
-      short = has.short;
       taken = has.taken;
       counted = has.counted;
-      revoked = has.revoked ∙ sym (or_false (outcome_of said).revoked) ∙ sym (ap (λ (o : Outcome). o.revoked) whole);
+      revoked = has.revoked ∙ sym (or-false (outcome_of said).revoked) ∙ sym (ap (λ (o : Outcome). o.revoked) whole);
       working = has.working;
     }
-
--- it waits while that is less than a chunk
-pub waits : (before : Option (List ℕ)) (items : List Item) (now : Printed) → HasAdded before items now → length now.waiting < chunk → HasSaid before items now
-waits before items now has short =
-    record { unstopped = has.unstopped; gone = has.gone; parts = has.parts; short = short; taken = has.taken; counted = has.counted; revoked = has.revoked; working = has.working }
 
 -- all was sent
 pub sent_all : (before : Option (List ℕ)) (items : List Item) (old new : Printed) → HasAdded before items old → IsSent old new → HasSaid before items new
 sent_all before items old new has sent =
     let none = sent.none_waits in
     record {
-      unstopped = has.unstopped;
-      gone = has.gone ++ old.waiting;
-      parts = has.parts ∙ sym (append-nil (has.gone ++ old.waiting)) ∙ ap (λ (xs : List ℕ). (has.gone ++ old.waiting) ++ xs) (sym none);
+      added = record {
+        unstopped = has.unstopped;
+        gone = has.gone ++ old.waiting;
+        parts = has.parts ∙ sym (append-nil (has.gone ++ old.waiting)) ∙ ap (λ (xs : List ℕ). (has.gone ++ old.waiting) ++ xs) (sym none);
+        taken = Appends-trans before old.taken new.taken has.gone old.waiting has.taken sent.taken;
+        counted = sent.counted ∙ ap (λ (n : ℕ). told_count (n + length old.waiting)) has.counted ∙ told_count-more (length has.gone) (length old.waiting) ∙ ap told_count (sym (length-append has.gone old.waiting));
+        revoked = sent.revoked ∙ has.revoked;
+        working = sent.working;
+      };
       short = omega (arith, ap (λ (xs : List ℕ). length xs) none);
-      taken = Appends-then before old.taken new.taken has.gone old.waiting has.taken sent.taken;
-      counted = sent.counted ∙ ap (λ (n : ℕ). told_count (n + length old.waiting)) has.counted ∙ told_count-more (length has.gone) (length old.waiting) ∙ ap told_count (sym (length-append has.gone old.waiting));
-      revoked = sent.revoked ∙ has.revoked;
-      working = sent.working;
     }
 
 -- what was said was all taken
 pub taken_all : (before : Option (List ℕ)) (items : List Item) (old new : Printed) → HasAdded before items old → IsSent old new → Appends before new.taken (outcome_of items).text
 taken_all before items old new has sent =
-    subst (λ (t : List ℕ). Appends before new.taken t) (sym has.parts) (Appends-then before old.taken new.taken has.gone old.waiting has.taken sent.taken)
+    subst (λ (t : List ℕ). Appends before new.taken t) (sym has.parts) (Appends-trans before old.taken new.taken has.gone old.waiting has.taken sent.taken)
 
 -- a part was sent
 pub sent_part : (before : Option (List ℕ)) (items : List Item) (stop : Stop) (old new : Printed) → HasAdded before items old → (part : IsPartSent stop old new)
@@ -138,6 +105,6 @@ sent_part before items stop old new has part =
     rw has.parts (record {
       gone = length has.gone + part.count;
       counted = ap (λ (n : ℕ). told_count (n + part.count)) has.counted ∙ told_count-more (length has.gone) part.count;
-      taken = subst (λ (t : List ℕ). Appends before new.taken t) (sym (take-append-add has.gone old.waiting part.count)) (Appends-then before old.taken new.taken has.gone (take part.count old.waiting) has.taken part.taken);
+      taken = subst (λ (t : List ℕ). Appends before new.taken t) (sym (take-append-add has.gone old.waiting part.count)) (Appends-trans before old.taken new.taken has.gone (take part.count old.waiting) has.taken part.taken);
       short = omega (arith, length-append has.gone old.waiting);
     })

@@ -1,10 +1,10 @@
 -- What a part of a run does: it says all of its items, or it ends the run.
-use Rattle.std.specs.Prelude.{◌≡◌, ℕ, true, List, ◌∷◌, ◌++◌, Option, None, Some, Result}
+use Rattle.std.specs.Prelude.{◌≡◌, ℕ, List, ◌∷◌, ◌++◌, Option, None, Some, Result}
 use Rattle.std.specs.Result.{result_err}
-use Rattle.krl_runs.specs.declared.output.cause.Cause.TheVariants.{NoMemory}
-use Rattle.krl_runs.specs.Printer.{Printed, HasSaid, IsCut}
-use Rattle.krl_runs.specs.Run.{Item, Stopped, name_of, outcome_of}
-use Rattle.krl_runs.specs.Stop.{Stop, Ender, ByOutput, ByMemory, ByInput, ender_of, is_lost, output_stop, stop_of}
+use Rattle.krl_runs.specs.Done.{IsCutOff, StarvesAfter}
+use Rattle.krl_runs.specs.Printer.{Printed, HasSaid}
+use Rattle.krl_runs.specs.Run.{Item, Stopped, outcome_of}
+use Rattle.krl_runs.specs.Stop.{Stop, Ender, ByOutput, ByMemory, ByInput, ender_of, is_lost}
 
 -- The next item ends the run: all before it was said.
 pub record IsStopped (before : Option (List ℕ)) (items : List Item) (stop : Stop)
@@ -14,14 +14,11 @@ pub record IsStopped (before : Option (List ℕ)) (items : List Item) (stop : St
   pub parts : items ≡ said ++ Stopped stop ∷ later
   pub has_said : HasSaid before said now
 
--- Memory ran out at the next item: all before it was said. What is at hand is named, and no line.
+-- Memory ran out at the next item: all before it was said.
 pub record IsStarved (before : Option (List ℕ)) (items : List Item) (stop : Stop)
     (now : Printed) : Type 0 where
   pub said : List Item
-  pub next : Item
-  pub later : List Item
-  pub parts : items ≡ said ++ next ∷ later
-  pub named : stop ≡ stop_of (name_of next) NoMemory
+  pub starves : StarvesAfter said items stop
   pub has_said : HasSaid before said now
 
 -- The output failed within what the first items say.
@@ -31,9 +28,7 @@ pub record IsLost (before : Option (List ℕ)) (items : List Item) (count : ℕ)
   pub later : List Item
   pub parts : items ≡ said ++ later
   pub unstopped : (outcome_of said).stop ≡ None
-  pub named : stop ≡ output_stop count
-  pub cut : IsCut (outcome_of said).text before now.taken count
-  pub broken : now.failed ≡ true
+  pub cut_off : IsCutOff said before now.taken now.failed stop count
 
 abbrev pub IsEnded : Ender → Option (List ℕ) → List Item → Stop → Printed → Type 0
 IsEnded (ByOutput count) before items stop now = IsLost before items count stop now

@@ -20,15 +20,18 @@ pub record IsCutOff (run : List Item) (before after : Option (List ℕ)) (failed
   pub cut : IsCut (outcome_of run).text before after count
   pub broken : failed ≡ true
 
--- Memory ran out. The whole lines of the run's first answers were taken; what is at hand is named,
--- and no line of it.
+-- Memory ran out at the next item of a run after these. What is at hand is named, and no line.
+pub record StarvesAfter (said run : List Item) (stop : Stop) : Type 0 where
+  pub next : Item
+  pub later : List Item
+  pub parts : run ≡ said ++ next ∷ later
+  pub named : stop ≡ stop_of (name_of next) NoMemory
+
+-- Memory ran out. The whole lines of the run's first answers were taken.
 pub record IsBrokenOff (run : List Item) (before after : Option (List ℕ)) (failed : Bool)
     (stop : Stop) : Type 0 where
   pub done : List Item
-  pub next : Item
-  pub later : List Item
-  pub parts : run ≡ done ++ next ∷ later
-  pub named : stop ≡ stop_of (name_of next) NoMemory
+  pub starves : StarvesAfter done run stop
   pub unstopped : (outcome_of done).stop ≡ None
   pub taken : Appends before after (outcome_of done).text
   pub working : failed ≡ false

@@ -58,17 +58,21 @@ abbrev pub Sends : {A : Type 0} → Result A Stop → Printed → Printed → Ty
 Sends (Ok value) old new = IsSent old new
 Sends (Err stop) old new = IsPartSent stop old new
 
--- A printer has said just these items, over a writer that had taken some bytes before: the writer
--- has taken the front of their text, and less than a chunk of it waits.
-pub record HasSaid (before : Option (List ℕ)) (items : List Item) (now : Printed) : Type 0 where
+-- A printer was given just these items, over a writer that had taken some bytes before: the writer
+-- has taken the front of their text, and the rest waits.
+pub record HasAdded (before : Option (List ℕ)) (items : List Item) (now : Printed) : Type 0 where
   pub unstopped : (outcome_of items).stop ≡ None
   pub gone : List ℕ
   pub parts : (outcome_of items).text ≡ gone ++ now.waiting
-  pub short : length now.waiting < chunk
   pub taken : Appends before now.taken gone
   pub counted : now.sent ≡ told_count (length gone)
   pub revoked : now.revoked ≡ (outcome_of items).revoked
   pub working : now.failed ≡ false
+
+-- It has said them: less than a chunk waits.
+pub record HasSaid (before : Option (List ℕ)) (items : List Item) (now : Printed) : Type 0 where
+  pub added : HasAdded before items now
+  pub short : length now.waiting < chunk
 
 -- A writer had taken some bytes before, and then the beginning of a text, but not all of it.
 pub record IsCut (text : List ℕ) (before after : Option (List ℕ)) (count : ℕ) : Type 0 where

@@ -1,10 +1,11 @@
 -- Asking a list about keys (ssh-keygen(1), KEY REVOCATION LISTS).
-use Rattle.std.specs.Prelude.{◌↔◌, ℕ, Bool, true, false, List, [], ◌∷◌, ◌++◌, None, Some, Result, Ok, Err, IsTrue, codes}
+use Rattle.std.specs.Prelude.{◌≡◌, ◌↔◌, ℕ, Bool, true, false, List, [], ◌∷◌, ◌++◌}
+use Rattle.std.specs.Prelude.{Option, None, Some, Result, Ok, Err, IsTrue, codes}
 use Rattle.krl_core.specs.Contents.{Contents, Means}
 use Rattle.krl_core.specs.Entries.{entries_of}
+use Rattle.krl_core.specs.Entry.{Entry}
 use Rattle.krl_core.specs.Front.{IsFirstFault}
-use Rattle.krl_core.specs.Krl.{SpelledSection, Spells}
-use Rattle.krl_core.specs.Reading.{Says}
+use Rattle.krl_core.specs.Reading.{IsList, Says}
 use Rattle.krl_core.specs.Revoked.{Revoked}
 use Rattle.krl_core.specs.Tested.{revokes}
 use Rattle.krl_core.specs.declared.krl_fault.KrlFault.{KrlFault}
@@ -46,20 +47,35 @@ ask contents = record {
   silence = files.NoKeys;
 }
 
--- The text is a list without a fault: a header and sections spell it, what is held means what the
--- sections name, and the answers are just those of what they name.
+-- What is held revokes what it means.
+abbrev pub HeldRevokes : Type 0
+HeldRevokes =
+    (r : Contents) (entries : List Entry) (subject : Subject) → Means r entries
+    → (IsTrue (revokes r subject) ↔ Revoked entries subject)
+
+-- The text is a list without a fault, this is known of it, and the answers are just those of what
+-- its sections name.
 pub record IsHeld (text : List ℕ) (known : Known) : Type 0 where
-  pub sections : List SpelledSection
-  pub spelled : Spells text known.header sections
+  pub list : IsList text known.header known.contents
   pub no_fault : IsFirstFault text None
-  pub means : Means known.contents (entries_of sections)
   pub answers : (asked : Subject)
-      → IsTrue (revokes known.contents asked) ↔ Revoked (entries_of sections) asked
+      → IsTrue (revokes known.contents asked) ↔ Revoked (entries_of list.sections) asked
 
 -- What reading a list gives: what is known of it, or its fault, by whether its reader failed.
 abbrev pub IsRead : List ℕ → Bool → Result Known KrlFault → Type 0
 IsRead text failed (Ok known) = IsHeld text known
 IsRead text failed (Err fault) = Says fault text failed
+
+-- Where it is said that a reader failed, one of its type did.
+abbrev pub TellsFailure : {R : Type 0} → (R → Bool) → Bool → Type 0
+TellsFailure {R} has_failed failed = failed ≡ true → (last : R) × (has_failed last ≡ true)
+
+-- This is what reading a list gave, where the bytes that its reader had left are known.
+pub record IsListRead {R : Type 0} (has_failed : R → Bool) (left : Option (List ℕ))
+    (reading : Result Known KrlFault) : Type 0 where
+  pub failed : Bool
+  pub tells : TellsFailure has_failed failed
+  pub read : (text : List ℕ) → left ≡ Some text → IsRead text failed reading
 
 -- Where memory runs out, it is for the run itself.
 abbrev pub krl_cause : KrlFault → Cause

@@ -173,10 +173,10 @@ IsWithheld ByMemory item name stop =
 IsWithheld (ByOutput count) item name stop = ⊥
 
 -- What was found out of a line of a file of this name is its item, unless memory ran out.
-abbrev pub Gives : Option Item → List ℕ → Result (Option Answer) Stop → Type 0
-Gives item name (Ok None) = tells (option_to_list item) ≡ false
-Gives item name (Ok (Some answer)) = item ≡ Some (Answered name answer)
-Gives item name (Err stop) = IsWithheld (ender_of stop.cause) item name stop
+abbrev pub GivesItem : Option Item → List ℕ → Result (Option Answer) Stop → Type 0
+GivesItem item name (Ok None) = tells (option_to_list item) ≡ false
+GivesItem item name (Ok (Some answer)) = item ≡ Some (Answered name answer)
+GivesItem item name (Err stop) = IsWithheld (ender_of stop.cause) item name stop
 
 abbrev pub GivesAnswer : Item → List ℕ → Result (Option Answer) Stop → Type 0
 GivesAnswer item name (Ok answer) = item ≡ said name answer

@@ -12,6 +12,6 @@ pub use input::file_fault::FileFault;
 pub use input::named::{Named, load};
 pub use output::cause::Cause;
 pub use output::done::{Done, FAILED};
-pub use output::run_fault::{RunFault, fault_text};
+pub use output::run_fault::{RunFault, fault_line};
 pub use runs::listing::{ListMode, list_run};
 pub use runs::query::{cause_of, query_run};

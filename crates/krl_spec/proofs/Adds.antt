@@ -1,17 +1,13 @@
 -- What was read is added.
-use Rattle.std.proofs.Common.{◌≡◌, ℕ, ◌+◌, ◌<◌, ◌≤◌, ◌==◌, false, List, [], ◌∷◌, length, Some, Result, Ok, refl, ap, arith}
+use Rattle.std.proofs.Common.{◌≡◌, ℕ, ◌+◌, ◌≤◌, ◌==◌, false, List, [], ◌∷◌, length, Some, Result, Ok, refl, arith}
 use Rattle.std.proofs.lemmas.Bool.Decides.{nat_tests}
-use Rattle.std.proofs.lemmas.List.{length-append}
-use Rattle.ssh_wire.specs.Fields.{length-string}
-use Rattle.ssh_wire.specs.Wire.{string}
-use Rattle.ssh_key.specs.Kind.{type_name}
-use Rattle.ssh_key.specs.Key.{IsKey, Key}
 use Rattle.ssh_cert.specs.Subject.{Names, Subject}
 use Rattle.ssh_cert.specs.SubjectReading.{IsSubject, plain_key, certified}
 use Rattle.krl_core.specs.Contents.{Contents, held}
 use Rattle.krl_core.specs.Entry.{Entry, IdEntry, RangeEntry}
 use Rattle.krl_spec.specs.Adding.{Adds, AddsEntries}
 use Rattle.krl_spec.specs.Entry.{HasAuthority, certificate_entry, id_order}
+use Rattle.krl_spec.specs.Keys.{key_room}
 use Rattle.krl_spec.specs.declared.spec_cause.SpecCause.{SpecCause}
 
 pub one_added : (Stores : Contents → Contents → Type 0) (read : Result Entry SpecCause) (entry : Entry) (old new : Contents) → read ≡ Ok entry
@@ -40,12 +36,9 @@ by_serial names some = grind (arith, nat_tests)
 
 -- ---- the authority of a certificate is a key, so it has some bytes
 
-key_has_bytes : (blob : List ℕ) (key : Key) → IsKey blob key → 0 < length blob
-key_has_bytes blob key is =
-    omega (arith, ap length is.spelled, length-append (string (type_name key.kind)) key.fields, length-string (type_name key.kind))
-
 pub has_authority : (blob : List ℕ) (asked : Subject) → IsSubject blob asked → HasAuthority asked.cert
 has_authority blob asked (plain_key key is same) =
     rw same tt
 has_authority blob asked (certified certificate is same) =
-    rw same (key_has_bytes certificate.authority certificate.authority_key is.authority)
+    let room = key_room certificate.authority certificate.authority_key is.authority in
+    rw same (omega (arith, room))

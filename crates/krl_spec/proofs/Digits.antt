@@ -1,6 +1,6 @@
 -- What the standard library reads of digits is the number that they spell.
 use Rattle.std.proofs.Common.{◌≡◌, ℕ, zero, suc, ◌^◌, ◌<◌, ◌≤◌, ◌&&◌, Bool, true, false, nat_lt, if◌then◌else◌, List, [], ◌∷◌, length, get_or, Option, Some, None, rules, arith, refl, ap}
-use Rattle.std.proofs.lemmas.Bool.{lt-ltb, ltb-true}
+use Rattle.std.proofs.lemmas.Bool.{and_parts, lt-ltb, ltb-true}
 use Rattle.std.proofs.lemmas.Str.{IsUtf8-from_ascii}
 use Rattle.std.specs.Char.{digit_value, is_digit}
 use Rattle.std.specs.List.{list_all}
@@ -24,10 +24,6 @@ AllDigits-ascii base (c ∷ cs) small all =
 pub digits_are_text : (base : ℕ) (digits : List ℕ) → base ≤ 36 → AllDigits base digits → IsUtf8 digits
 digits_are_text base digits small all = IsUtf8-from_ascii digits (AllDigits-ascii base digits small all)
 
-both_parts : (a b : Bool) → (a && b) ≡ true → (a ≡ true) × (b ≡ true)
-both_parts true b e = (refl, e)
-both_parts false b e = absurd (grind (arith, e))
-
 digits_pass : (base : ℕ) (digits : List ℕ) → AllDigits base digits → list_all (λ c. is_digit c base) digits ≡ true
 digits_pass base [] all = refl
 digits_pass base (c ∷ cs) all =
@@ -38,7 +34,7 @@ digits_pass base (c ∷ cs) all =
 passing_digits : (base : ℕ) (digits : List ℕ) → list_all (λ c. is_digit c base) digits ≡ true → AllDigits base digits
 passing_digits base [] e = tt
 passing_digits base (c ∷ cs) e =
-    let parts = both_parts (nat_lt (digit_value c) base) (list_all (λ d. is_digit d base) cs) e in
+    let parts = and_parts (nat_lt (digit_value c) base) (list_all (λ d. is_digit d base) cs) e in
     (ltb-true (digit_value c) base parts.0, passing_digits base cs parts.1)
 
 spelled : (base : ℕ) (digits : List ℕ) → spells_number base digits ≡ true
@@ -46,8 +42,8 @@ spelled : (base : ℕ) (digits : List ℕ) → spells_number base digits ≡ tru
 spelled base digits e =
     let some = nat_lt 0 (length digits) in
     let each = list_all (λ c. is_digit c base) digits in
-    let outer = both_parts (some && each) (nat_lt (digits_value base digits) (2 ^ 64)) e in
-    let inner = both_parts some each outer.0 in
+    let outer = and_parts (some && each) (nat_lt (digits_value base digits) (2 ^ 64)) e in
+    let inner = and_parts some each outer.0 in
     ((ltb-true 0 (length digits) inner.0, passing_digits base digits inner.1), ltb-true (digits_value base digits) (2 ^ 64) outer.1)
 
 spells : (base : ℕ) (digits : List ℕ) → IsNumeral base digits → digits_value base digits < 2 ^ 64

@@ -1,32 +1,31 @@
 -- How much more is stored after each line.
 use Rattle.std.proofs.Common.{◌≡◌, ℕ, ◌+◌, ◌-◌, ◌*◌, ◌==◌, ◌≤◌, false, List, [], ◌∷◌, length, Option, Some, None, Result, Ok, Err, inl, inr, ap, arith}
+use Rattle.ssh_wire.specs.Reading.{in_fault}
 use Rattle.ssh_key.specs.LineReading.{Content, line_at}
 use Rattle.ssh_cert.specs.Subject.{Subject}
 use Rattle.ssh_cert.specs.SubjectReading.{subject_of}
 use Rattle.krl_core.specs.Contents.{Contents, IsNamed, stored}
 use Rattle.krl_core.specs.Entry.{Entry}
 use Rattle.krl_spec.specs.Adding.{Adds, AddsLine}
-use Rattle.krl_spec.specs.Entry.{bare_entry, counted_entry, line_entry, names_entry, or_line_fault, or_subject_fault, order_entry, subject_in, text_entry}
+use Rattle.krl_spec.specs.Entry.{bare_entry, counted_entry, line_entry, line_cause, names_entry, order_entry, subject_cause, subject_in, text_entry}
 use Rattle.krl_spec.specs.Line.{Order, bare_line, order_in}
 use Rattle.krl_spec.specs.Stored.{Grows, GrowsUnder, IsWithinBlob, asked_size, bytes_under}
 use Rattle.krl_spec.proofs.Sizes.{length-bare_line, order_room}
 use Rattle.krl_spec.specs.declared.spec_cause.SpecCause.{SpecCause}
 
--- Serials under the authority at hand are added, whose bytes are counted where it was not named.
-pub serials_grow : (under : Option (List ℕ)) (a : List ℕ) (size : ℕ) (old new : Contents) → under ≡ Some a → (IsNamed old a → stored new ≤ stored old)
-    → stored new ≤ stored old + length a → IsNamed new a → GrowsUnder (bytes_under under) size old new
-serials_grow under a size old new is known unknown named = rw is (λ n within. record {
-  now = elim within.next [ inl was ↦ (let few = known was in omega (arith, few, within.now)) | inr with_it ↦ omega (arith, unknown, with_it) ];
-  next = inl named;
-})
-
--- The same of a key ID, which is counted too.
+-- A key ID under the authority at hand is added, whose bytes are counted where it was not named.
 pub id_grows : (under : Option (List ℕ)) (a : List ℕ) (size : ℕ) (old new : Contents) → under ≡ Some a → (IsNamed old a → stored new ≤ stored old + size)
     → stored new ≤ stored old + length a + size → IsNamed new a → GrowsUnder (bytes_under under) size old new
 id_grows under a size old new is known unknown named = rw is (λ n within. record {
   now = elim within.next [ inl was ↦ (let few = known was in omega (arith, few, within.now)) | inr with_it ↦ omega (arith, unknown, with_it) ];
   next = inl named;
 })
+
+-- The same of serials, which have no bytes of their own.
+pub serials_grow : (under : Option (List ℕ)) (a : List ℕ) (size : ℕ) (old new : Contents) → under ≡ Some a → (IsNamed old a → stored new ≤ stored old)
+    → stored new ≤ stored old + length a → IsNamed new a → GrowsUnder (bytes_under under) size old new
+serials_grow under a size old new is known unknown named =
+    id_grows under a size old new is (λ was. let few = known was in omega (arith, few)) (omega (arith, unknown)) named
 
 -- An entry without an authority is added.
 pub text_grows : (size more : ℕ) (old new : Contents) → size ≤ more → new.sections ≡ old.sections → stored new ≤ stored old + size → Grows more old new
@@ -42,17 +41,6 @@ whole_text_grows size old new same few = text_grows size size old new (omega ari
 pub hash_grows : (size more : ℕ) (old new : Contents) → size ≤ 32 → 32 ≤ more → new.sections ≡ old.sections → stored new ≤ stored old + size → Grows more old new
 hash_grows size more old new fits least same few = text_grows size more old new (omega (arith, fits, least)) same few
 
-pub grows_more : (a : List ℕ) (size more : ℕ) (old new : Contents) → size ≤ more → GrowsUnder a size old new → GrowsUnder a more old new
-grows_more a size more old new fits grows n within =
-    let then = grows n within in
-    record {
-      now = omega (arith, then.now);
-      next = elim then.next [ inl named ↦ inl named | inr with_it ↦ inr (omega arith) ];
-    }
-
-pub all_grow_more : (size more : ℕ) (old new : Contents) → size ≤ more → Grows size old new → Grows more old new
-all_grow_more size more old new fits grows authority = grows_more authority size more old new fits (grows authority)
-
 pub none_grows : (a : List ℕ) (size : ℕ) (r : Contents) → GrowsUnder a size r r
 none_grows a size r n within =
     record {
@@ -67,6 +55,13 @@ grows_then a one two more old mid new fits first second n within =
       now = omega (arith, then.now);
       next = elim then.next [ inl named ↦ inl named | inr with_it ↦ inr (omega arith) ];
     }
+
+pub grows_more : (a : List ℕ) (size more : ℕ) (old new : Contents) → size ≤ more → GrowsUnder a size old new → GrowsUnder a more old new
+grows_more a size more old new fits grows =
+    grows_then a size 0 more old new new (omega (arith, fits)) grows (none_grows a 0 new)
+
+pub all_grow_more : (size more : ℕ) (old new : Contents) → size ≤ more → Grows size old new → Grows more old new
+all_grow_more size more old new fits grows authority = grows_more authority size more old new fits (grows authority)
 
 -- The authority at hand is counted from the start.
 pub grown : (a : List ℕ) (size more : ℕ) (old new : Contents) → size ≤ more → GrowsUnder a size old new → stored new ≤ stored old + more + length a
@@ -94,7 +89,7 @@ under_adds a size read result old new adds = adds_more (Grows size) (GrowsUnder 
 
 -- a line without a directive
 pub bare_adds : {A : Type 0} (text : List ℕ) (content : Content) (asked : Subject) (result : Result A SpecCause) (old new : Contents)
-    → or_line_fault (line_at text) ≡ Ok content → or_subject_fault (subject_of content.blob) ≡ Ok asked
+    → in_fault line_cause (line_at text) ≡ Ok content → in_fault subject_cause (subject_of content.blob) ≡ Ok asked
     → 4 * length content.blob + 24 ≤ 3 * length text → IsWithinBlob content.blob asked
     → Adds (Grows (asked_size asked.plain asked.cert)) (Ok (names_entry asked.plain asked.cert)) result old new
     → Adds (Grows (length text)) (bare_entry (subject_in text)) result old new

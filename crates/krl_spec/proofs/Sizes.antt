@@ -7,13 +7,12 @@ use Rattle.std.proofs.lemmas.List.Elements.{All-append, All-contains, All-map}
 use Rattle.base64.specs.Engines.{standard, standard_no_pad}
 use Rattle.base64.specs.Rfc4648.{encode, encode_group, encode_symbols, padding_len}
 use Rattle.ssh_wire.specs.Fields.{length-number, length-string}
-use Rattle.ssh_wire.specs.Wire.{complement, mpint, string}
+use Rattle.ssh_wire.specs.Wire.{string}
 use Rattle.ssh_key.specs.Blanks.{after_blanks, before_ending, is_blank, is_ending, trimmed}
 use Rattle.ssh_key.specs.FingerprintReading.{IsFingerprint, sha256_prefix}
 use Rattle.ssh_key.specs.Fingerprints.{unpadded}
-use Rattle.ssh_key.specs.Key.{AreValues, IsKey, Key, field_text, fields_text}
 use Rattle.ssh_key.specs.KeyLine.{AreWords, HasWords, IsKeyLine, base64}
-use Rattle.ssh_key.specs.Kind.{Field, Positive, Curve, Point, Sized, Text, certificate_name, fields_of, kinds, type_name}
+use Rattle.ssh_key.specs.Kind.{certificate_name, kinds, type_name}
 use Rattle.ssh_key.specs.TypeName.{certificate_names, plain_names, type_names}
 use Rattle.ssh_key.specs.declared.kind.Kind.{Kind}
 use Rattle.ssh_key.specs.declared.kind.Kind.TheVariants.{Rsa, Dsa, Ecdsa256, Ecdsa384, Ecdsa521, Ed25519, EcdsaSk, Ed25519Sk}
@@ -23,6 +22,7 @@ use Rattle.ssh_cert.specs.SubjectReading.{IsSubject, plain_key, certified, of_ce
 use Rattle.krl_spec.specs.Blanks.{after_endings}
 use Rattle.krl_spec.specs.Line.{Order, bare_line, directive_named, is_colon, is_hash, order, order_in}
 use Rattle.krl_spec.specs.declared.directive.Directive.{Directive}
+use Rattle.krl_spec.specs.Keys.{key_room}
 use Rattle.krl_spec.specs.Stored.{IsWithinBlob}
 
 -- ---- texts without their ends
@@ -125,44 +125,6 @@ line_room text word blob comment is = omega (arith, has_words_room text word blo
 pub fingerprint_room : (text digest : List ℕ) → IsFingerprint text digest → 32 ≤ length text
 fingerprint_room text digest is =
     omega (arith, is.size, ap length is.encodes.spelled, length-append sha256_prefix (unpadded digest), unpadded_room digest)
-
--- ---- keys
-
-field_room : (field : Field) (value : List ℕ) → 4 ≤ length (field_text field value)
-unfolding mpint
-field_room Positive value = omega (arith, length-string (complement value))
-field_room (Curve name) value = omega (arith, length-string value)
-field_room (Point size) value = omega (arith, length-string value)
-field_room (Sized size) value = omega (arith, length-string value)
-field_room Text value = omega (arith, length-string value)
-
-fields_room : (fields : List Field) (values : List (List ℕ)) → AreValues fields values → 4 * length fields ≤ length (fields_text fields values)
-fields_room [] values are = omega arith
-fields_room (field ∷ fields) [] are = absurd are
-fields_room (field ∷ fields) (value ∷ values) are =
-    omega (arith, field_room field value, fields_room fields values are.2, length-append (field_text field value) (fields_text fields values))
-
-kind_room : (kind : Kind) → 15 ≤ length (type_name kind) + 4 * length (fields_of kind)
-kind_room Rsa = omega arith
-kind_room Dsa = omega arith
-kind_room Ecdsa256 = omega arith
-kind_room Ecdsa384 = omega arith
-kind_room Ecdsa521 = omega arith
-kind_room Ed25519 = omega arith
-kind_room EcdsaSk = omega arith
-kind_room Ed25519Sk = omega arith
-
-key_room : (blob : List ℕ) (key : Key) → IsKey blob key → 19 ≤ length blob
-key_room blob key is =
-    omega (
-      arith,
-      kind_room key.kind,
-      fields_room (fields_of key.kind) is.values is.allowed,
-      ap length is.fields,
-      ap length is.spelled,
-      length-append (string (type_name key.kind)) key.fields,
-      length-string (type_name key.kind),
-    )
 
 -- ---- certificates
 

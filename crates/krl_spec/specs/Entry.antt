@@ -2,9 +2,9 @@
 use Rattle.std.specs.Prelude.{ℕ, ◌<◌, ◌==◌, if◌then◌else◌, List, [], ◌∷◌, length, Option, Some, None, Result, Ok, Err, ⊤}
 use Rattle.sha1.specs.Sha1.{sha1}
 use Rattle.sha2.specs.Sha256.{sha256}
+use Rattle.ssh_wire.specs.Reading.{◌>>=◌, in_fault}
 use Rattle.ssh_key.specs.FingerprintReading.{fingerprint_at}
-use Rattle.ssh_key.specs.LineReading.{Content, line_at}
-use Rattle.ssh_key.specs.declared.fingerprint_fault.FingerprintFault.{FingerprintFault}
+use Rattle.ssh_key.specs.LineReading.{line_at}
 use Rattle.ssh_key.specs.declared.line_fault.LineFault.{LineFault}
 use Rattle.ssh_cert.specs.Subject.{Names, Subject}
 use Rattle.ssh_cert.specs.SubjectReading.{subject_of}
@@ -50,21 +50,18 @@ id_order (Some authority) (byte ∷ bytes) = Ok (IdEntry authority (byte ∷ byt
 
 -- ---- keys
 
-abbrev pub or_line_fault : Result Content LineFault → Result Content SpecCause
-or_line_fault (Ok content) = Ok content
-or_line_fault (Err fault) = Err (causes.Key (keys.Line fault))
+-- the faults of a key line and of what its blob asks, as causes
+abbrev pub line_cause : LineFault → SpecCause
+line_cause fault = causes.Key (keys.Line fault)
 
-abbrev pub or_subject_fault : Result Subject SubjectFault → Result Subject SpecCause
-or_subject_fault (Ok asked) = Ok asked
-or_subject_fault (Err fault) = Err (causes.Key (keys.Subject fault))
-
-abbrev pub content_subject : Result Content SpecCause → Result Subject SpecCause
-content_subject (Ok content) = or_subject_fault (subject_of content.blob)
-content_subject (Err cause) = Err cause
+abbrev pub subject_cause : SubjectFault → SpecCause
+subject_cause fault = causes.Key (keys.Subject fault)
 
 -- what the key of a key line asks
 unfoldable pub subject_in : List ℕ → Result Subject SpecCause
-subject_in text = content_subject (or_line_fault (line_at text))
+subject_in text = do
+  content ← in_fault line_cause (line_at text)
+  in_fault subject_cause (subject_of content.blob)
 
 abbrev pub plain_of : Result Subject SpecCause → Result (List ℕ) SpecCause
 plain_of (Ok asked) = Ok asked.plain
@@ -95,10 +92,6 @@ abbrev pub bare_entry : Result Subject SpecCause → Result Entry SpecCause
 bare_entry (Ok asked) = Ok (names_entry asked.plain asked.cert)
 bare_entry (Err cause) = Err cause
 
-abbrev pub or_fingerprint_fault : Result (List ℕ) FingerprintFault → Result (List ℕ) SpecCause
-or_fingerprint_fault (Ok digest) = Ok digest
-or_fingerprint_fault (Err fault) = Err (causes.Fingerprint fault)
-
 abbrev pub sha1_entry : List ℕ → Entry
 sha1_entry blob = Sha1Entry (sha1 blob)
 
@@ -114,7 +107,7 @@ order_entry authority Key given = made_entry KeyEntry (plain_of (subject_in give
 order_entry authority Sha1 given = made_entry sha1_entry (plain_of (subject_in given))
 order_entry authority Sha256 given = made_entry sha256_entry (plain_of (subject_in given))
 order_entry authority Hash given =
-    made_entry Sha256Entry (or_fingerprint_fault (fingerprint_at given))
+    made_entry Sha256Entry (in_fault causes.Fingerprint (fingerprint_at given))
 
 abbrev pub text_entry : Option (List ℕ) → List ℕ → Option Order → Result Entry SpecCause
 text_entry authority text None = bare_entry (subject_in text)

@@ -1,4 +1,5 @@
 pub mod Blanks
+pub mod Keys
 pub mod Number
 pub mod Stored
 pub mod Adding

@@ -1,8 +1,7 @@
 -- The lines of specification files (ssh-keygen(1), KEY REVOCATION LISTS).
-use Rattle.std.specs.Prelude.{ℕ, Bool, ◌+◌, ◌==◌, nat_lt, if◌then◌else◌, List, [], ◌∷◌, length, drop, map, codes, Option, None, option_map}
-use Rattle.std.specs.Char.{to_ascii_lowercase}
+use Rattle.std.specs.Prelude.{ℕ, Bool, ◌+◌, ◌==◌, nat_lt, if◌then◌else◌, List, [], ◌∷◌, length, drop, codes, Option, None, option_map}
 use Rattle.std.specs.List.{before_first, find, position_or_len}
-use Rattle.std.specs.Str.{bytes_eq}
+use Rattle.std.specs.Str.{str_eq_ignore_ascii_case}
 use Rattle.ssh_key.specs.Blanks.{after_blanks, before_ending}
 use Rattle.krl_spec.specs.Blanks.{after_endings}
 use Rattle.krl_spec.specs.declared.directive.Directive.{Directive}
@@ -33,7 +32,7 @@ directives = Serial ∷ Id ∷ Key ∷ Sha1 ∷ Sha256 ∷ Hash ∷ []
 
 -- the name is that of the directive, in either case of letters
 abbrev pub is_named : Directive → List ℕ → Bool
-is_named directive name = bytes_eq (map to_ascii_lowercase name) (name_of directive)
+is_named directive name = str_eq_ignore_ascii_case name (name_of directive)
 
 unfoldable pub directive_named : List ℕ → Option Directive
 directive_named name = find (λ directive. is_named directive name) directives

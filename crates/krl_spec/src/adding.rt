@@ -1,15 +1,16 @@
 // Adding what a line of a specification file names.
 
 ghost use Rattle.std.specs.Prelude.{◌≡◌, ◌+◌, ◌<◌, length, MatchResult, None, Some, Ok};
+ghost use Rattle.ssh_wire.specs.Reading.{in_fault};
 ghost use Rattle.ssh_key.specs.FingerprintReading.{fingerprint_at};
 ghost use Rattle.ssh_cert.specs.Subject.{Subject};
 ghost use Rattle.krl_core.specs.Authority.{IsAuthority, authority_bytes};
 ghost use Rattle.krl_core.specs.Entry.{KeyEntry, Sha256Entry};
 ghost use Rattle.krl_spec.specs.Adding.{Adds, AddsLine};
-ghost use Rattle.krl_spec.specs.Entry.{HasAuthority, IsUnder, authority_under, bare_entry, certificate_entry, id_order, line_entry, made_entry, names_entry, or_fingerprint_fault, order_entry, plain_of, serial_order, sha1_entry, sha256_entry, subject_in, text_entry};
+ghost use Rattle.krl_spec.specs.Entry.{HasAuthority, IsUnder, authority_under, bare_entry, certificate_entry, id_order, line_entry, made_entry, names_entry, order_entry, plain_of, serial_order, sha1_entry, sha256_entry, subject_in, text_entry};
 ghost use Rattle.krl_spec.specs.Line.{order_in};
 ghost use Rattle.krl_spec.specs.Stored.{Grows, GrowsUnder, asked_size, bytes_under};
-ghost use Rattle.krl_spec.specs.declared.spec_cause.SpecCause.TheVariants.{NoAuthority};
+ghost use Rattle.krl_spec.specs.declared.spec_cause.SpecCause.TheVariants.{Fingerprint, NoAuthority};
 
 use crate::blanks::bare_line;
 use crate::directive::{Directive, order_in};
@@ -127,7 +128,7 @@ fn add_hash<S: Spans>(
     text: &[u8],
 ) -> Result<(), SpecCause>
     ensures { Adds (Grows (length text.now))
-        (made_entry Sha256Entry (or_fingerprint_fault (fingerprint_at text.now))) result
+        (made_entry Sha256Entry (in_fault Fingerprint (fingerprint_at text.now))) result
         revocations.old revocations.new }
 {
     let digest = read_hash(alloc, text)?;

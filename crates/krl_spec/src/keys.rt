@@ -1,13 +1,15 @@
 // Keys, certificates and fingerprints that lines of specification files name.
 
 ghost use Rattle.std.specs.Prelude.{◌+◌, ◌*◌, ◌≤◌, IfOk, length};
+ghost use Rattle.ssh_wire.specs.Reading.{in_fault};
 ghost use Rattle.ssh_key.specs.FingerprintReading.{fingerprint_at};
 ghost use Rattle.ssh_key.specs.LineReading.{content_of, line_at};
 ghost use Rattle.ssh_cert.specs.Subject.{Subject};
 ghost use Rattle.ssh_cert.specs.SubjectReading.{subject_of};
 ghost use Rattle.krl_spec.specs.Adding.{Gives};
-ghost use Rattle.krl_spec.specs.Entry.{HasAuthority, or_fingerprint_fault, or_line_fault, or_subject_fault, plain_of, subject_in};
+ghost use Rattle.krl_spec.specs.Entry.{HasAuthority, line_cause, plain_of, subject_cause, subject_in};
 ghost use Rattle.krl_spec.specs.Stored.{IsWithinBlob};
+ghost use Rattle.krl_spec.specs.declared.spec_cause.SpecCause.TheVariants.{Fingerprint};
 
 use crate::spec_cause::{KeyCause, SpecCause};
 use ssh_cert::{Subject, SubjectFault, subject};
@@ -17,7 +19,7 @@ use std::alloc::Global;
 
 /// What a key line holds.
 pub fn key_line<'a>(alloc: Global, text: &'a [u8]) -> Result<Line<'a>, SpecCause>
-    ensures read { Gives content_of result (or_line_fault (line_at text.now)) }
+    ensures read { Gives content_of result (in_fault line_cause (line_at text.now)) }
     ensures room { IfOk result (λ line. 4 * length line.blob + 24 ≤ 3 * length text.now) }
 {
     match read_line(alloc, text) {
@@ -29,7 +31,7 @@ pub fn key_line<'a>(alloc: Global, text: &'a [u8]) -> Result<Line<'a>, SpecCause
 
 /// What a key's blob asks.
 pub fn ask<'a>(alloc: Global, blob: &'a [u8]) -> Result<Subject<'a>, SpecCause>
-    ensures asked { Gives (λ asked. asked) result (or_subject_fault (subject_of blob.now)) }
+    ensures asked { Gives (λ asked. asked) result (in_fault subject_cause (subject_of blob.now)) }
     ensures authority { IfOk result (λ asked. HasAuthority asked.cert) }
     ensures room { IfOk result (λ asked. IsWithinBlob blob.now asked) }
 {
@@ -55,7 +57,7 @@ pub fn plain_key(alloc: Global, text: &[u8]) -> Result<Bytes, SpecCause>
 /// The digest that a fingerprint names.
 pub fn read_hash(alloc: Global, text: &[u8]) -> Result<[u8; 32], SpecCause>
     ensures read { Gives (λ digest. digest) result
-        (or_fingerprint_fault (fingerprint_at text.now)) }
+        (in_fault Fingerprint (fingerprint_at text.now)) }
     ensures room { IfOk result (λ digest. 32 ≤ length text.now) }
 {
     match parse_fingerprint(alloc, text) {

@@ -11,7 +11,7 @@ use crate::files::{open, open_authority, open_inputs, open_list, open_or_input};
 use krl_job::{Job, Mode};
 use krl_make::{Old, make_run};
 use krl_runs::{
-    Cause, Done, FAILED, FileFault, ListMode, RunFault, fault_text, list_run, query_run,
+    Cause, Done, FAILED, FileFault, ListMode, RunFault, fault_line, list_run, query_run,
 };
 use krl_words::{CommandFault, command_of};
 use ssh_wire::{FromRead, Source, ToWrite, send};
@@ -182,7 +182,7 @@ fn end(rt: &HostRuntime, done: &Done) -> u8
     ensures { result ≡ done.now.status }
 {
     if let Some(fault) = &done.fault
-        && let Ok(text) = fault_text(rt.alloc(), fault)
+        && let Ok(text) = fault_line(rt.alloc(), fault)
     {
         tell(rt, text.as_slice());
     }

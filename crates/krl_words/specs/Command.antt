@@ -53,9 +53,9 @@ TellsError error NoMemory = ⊤
 -- ask for or Usage; else why they are not read.
 abbrev pub IsCommand : List (List ℕ) → Result Job CommandFault → Type 0
 IsCommand words (Ok job) =
-    (fault_of program words ≡ []) × (job_of (given_in words) ≡ Some (asked_of job))
+    (fault_of program words ≡ []) × AsksFor (given_in words) (Ok job)
 IsCommand words (Err Usage) =
-    (fault_of program words ≡ []) × (job_of (given_in words) ≡ None)
+    (fault_of program words ≡ []) × AsksFor (given_in words) (Err Usage)
 IsCommand words (Err (Words help text)) =
     (kind : ErrorKind) × IsAmong kind (fault_of program words) × (help ≡ is_help kind)
 IsCommand words (Err NoMemory) = ⊤

@@ -7,7 +7,7 @@ ghost use Rattle.ssh_key.specs.ContainerReading.{private_at};
 ghost use Rattle.ssh_key.specs.KeyReading.{key_at};
 ghost use Rattle.ssh_key.specs.LineReading.{content_of};
 ghost use Rattle.ssh_cert.specs.SubjectReading.{subject_of};
-ghost use Rattle.krl_runs.specs.Run.{Gives, GivesAnswer, container_item, content_items, file_items, files_items, item_of, key_item, line_items, stop_in, subject_item, tells, text_items};
+ghost use Rattle.krl_runs.specs.Run.{GivesAnswer, GivesItem, container_item, content_items, file_items, files_items, item_of, key_item, line_items, stop_in, subject_item, tells, text_items};
 ghost use Rattle.ssh_key.specs.Lines.{is_newline};
 
 use crate::input::named::Named;
@@ -186,7 +186,8 @@ fn answer_line<'a, A: Answers>(
     number: u64,
     text: &[u8],
 ) -> Result<Option<Answer>, RunFault<'a>>
-    ensures { Gives (item_of (A.answer_to answers.now) name.now number text.now) name.now result }
+    ensures { GivesItem (item_of (A.answer_to answers.now) name.now number text.now) name.now
+        result }
 {
     if !has_key(text) {
         return Ok(None);

@@ -1,7 +1,8 @@
 // Where and why a run stopped, and the line that tells it.
 
-ghost use Rattle.std.specs.Prelude.{◌≡◌, ◌++◌, None, Some, IfOk, OnOk};
-ghost use Rattle.krl_runs.specs.Stop.{fault_line, line_part};
+ghost use Rattle.std.specs.Prelude.{◌≡◌, ◌++◌, IfOk, OnOk};
+ghost use Rattle.krl_runs.specs.Run.{stop_at};
+ghost use Rattle.krl_runs.specs.Stop.{fault_line, line_part, stop_of};
 
 use crate::output::cause::Cause;
 use ssh_cert::push_escaped;
@@ -33,7 +34,7 @@ impl<'a> Model for RunFault<'a> {
 impl<'a> RunFault<'a> {
     /// Of a file as a whole, or of the output.
     pub fn whole(name: &'a str, cause: Cause) -> RunFault<'a>
-        ensures { result ≡ record { name = name.now; line = None; cause = cause } }
+        ensures { result ≡ stop_of name.now cause }
     {
         RunFault {
             name,
@@ -44,7 +45,7 @@ impl<'a> RunFault<'a> {
 
     /// Of a line of a file.
     pub fn at_line(name: &'a str, number: u64, cause: Cause) -> RunFault<'a>
-        ensures { result ≡ record { name = name.now; line = Some number; cause = cause } }
+        ensures { result ≡ stop_at name.now number cause }
     {
         RunFault {
             name,
@@ -57,7 +58,7 @@ impl<'a> RunFault<'a> {
 /// The line for standard error, without its line feed: the program, the name with its control
 /// bytes escaped, the line of the file, and the fault.
 #[tactic(auto, unfolding(crate::specs::Stop::fault_line))]
-pub fn fault_text(alloc: Global, fault: &RunFault) -> Result<Vec<u8>, AllocError>
+pub fn fault_line(alloc: Global, fault: &RunFault) -> Result<Vec<u8>, AllocError>
     ensures { IfOk result (λ text. text.items ≡ fault_line fault.now) }
 {
     let mut text = Vec::from_slice(alloc, b"ssh-keygen: ")?;

@@ -1,11 +1,11 @@
 // Asking a list about the keys of files (ssh-keygen(1), KEY REVOCATION LISTS).
 
-ghost use Rattle.std.specs.Prelude.{◌≡◌, ◌++◌, ℕ, Bool, IfOk, List, Ok, Result, OnOk, Some, false, true};
+ghost use Rattle.std.specs.Prelude.{◌≡◌, ◌++◌, IfOk, Ok, Result, OnOk, false};
 ghost use Rattle.krl_core.specs.declared.krl_fault.KrlFault.{KrlFault as FaultOf};
 ghost use Rattle.krl_runs.specs.Carries.{Carries};
 ghost use Rattle.krl_runs.specs.Contents.{Known, known_of};
 ghost use Rattle.krl_runs.specs.Done.{Ends};
-ghost use Rattle.krl_runs.specs.Query.{IsRead, ask, comment_part, krl_cause, query_line, query_run_of, verdict};
+ghost use Rattle.krl_runs.specs.Query.{IsListRead, ask, comment_part, krl_cause, query_line, query_run_of, verdict};
 
 use crate::input::file_fault::FileFault;
 use crate::input::named::Named;
@@ -94,10 +94,7 @@ pub fn query_run<'a, R: Source + Drop, W: Sink>(
 ) -> Done<'a>
     requires fresh { R.has_failed krl ≡ false }
     requires working { W.has_failed out.old ≡ false }
-    // Whether the reader failed, which is not said where it did not.
-    ensures { (reading : Result Known FaultOf) × (failed : Bool)
-        × (failed ≡ true → (last : R) × (R.has_failed last ≡ true))
-        × ((text : List ℕ) → R.left krl ≡ Some text → IsRead text failed reading)
+    ensures { (reading : Result Known FaultOf) × IsListRead R.has_failed (R.left krl) reading
         × Ends (query_run_of krl_name.now reading dump files.now) (W.taken out.old)
         (W.taken out.new) (W.has_failed out.new) result.status result.fault }
 {
@@ -120,9 +117,7 @@ fn ask_list<'a, R: Source + Drop, W: Sink>(
 ) -> Result<(), RunFault<'a>>
     requires fresh { R.has_failed krl ≡ false }
     requires working { printer.old.failed ≡ false }
-    ensures { (reading : Result Known FaultOf) × (failed : Bool)
-        × (failed ≡ true → (last : R) × (R.has_failed last ≡ true))
-        × ((text : List ℕ) → R.left krl ≡ Some text → IsRead text failed reading)
+    ensures { (reading : Result Known FaultOf) × IsListRead R.has_failed (R.left krl) reading
         × Carries (query_run_of krl_name.now reading dump files.now) result
         printer.old printer.new }
 {

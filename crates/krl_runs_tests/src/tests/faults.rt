@@ -2,7 +2,7 @@
 
 use crate::tests::bytes::same;
 use krl_core::KrlFault;
-use krl_runs::{Cause, FileFault, RunFault, fault_text};
+use krl_runs::{Cause, FileFault, RunFault, fault_line};
 use ssh_cert::{CertFault, SubjectFault};
 use ssh_key::{KeyFault, LineFault, PrivateFault};
 use ssh_wire::WireFault;
@@ -12,7 +12,7 @@ use std::process::Abort;
 /// A fault is told so, behind the name of the program, and its cause has this number. Another
 /// number tells it from the others of a test.
 fn is_told(rt: &impl Abort, alloc: Global, place: usize, fault: &RunFault, number: u8, want: &str) {
-    let text = fault_text(alloc, fault).expect(rt, "there is memory");
+    let text = fault_line(alloc, fault).expect(rt, "there is memory");
     let name = b"ssh-keygen: ".as_slice();
     let told = text.strip_prefix(name).unwrap_or(b"no name");
     same(rt, place, told, want.as_bytes());
@@ -170,7 +170,7 @@ fn long_name(rt: &impl Abort, alloc: Global) -> String {
 fn a_long_name(rt: HostRuntime) {
     let name = long_name(&rt, rt.alloc());
     let fault = RunFault::whole(name.as_str(), Cause::NoMemory);
-    let text = fault_text(rt.alloc(), &fault).expect(&rt, "there is memory");
+    let text = fault_line(rt.alloc(), &fault).expect(&rt, "there is memory");
     assert!(rt; text.len() == 12 + 10_000 * 5 + 2 + 14);
     assert!(rt; text.as_slice().ends_with(b"a\\x7f: run 1 NoMemory"));
 }

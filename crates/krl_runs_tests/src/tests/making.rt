@@ -8,7 +8,7 @@ use crate::tests::certificates::certificate_line;
 use crate::tests::containers::plain;
 use crate::tests::runs::{CLOSED, File, GITHUB_LINE, OTHER_LINE, all_named, holding, named};
 use krl_make::{Authority, Old, make_run};
-use krl_runs::{RunFault, fault_text};
+use krl_runs::{RunFault, fault_line};
 use ssh_wire::FromRead;
 use std::alloc::Global;
 use std::process::Abort;
@@ -28,7 +28,7 @@ impl Outcome {
             Ok(list) => Outcome { list, fault: none },
             Err(fault) => Outcome {
                 list: none,
-                fault: fault_text(alloc, &fault).expect(rt, "there is memory"),
+                fault: fault_line(alloc, &fault).expect(rt, "there is memory"),
             },
         }
     }

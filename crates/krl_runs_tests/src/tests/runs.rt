@@ -3,7 +3,7 @@
 use crate::tests::bytes::{joined, same};
 use crate::tests::streams::{giving, taking};
 use devices_for_tests::{Giver, Taker};
-use krl_runs::{Done, FileFault, ListMode, Named, fault_text, list_run, query_run};
+use krl_runs::{Done, FileFault, ListMode, Named, fault_line, list_run, query_run};
 use ssh_key::Hash;
 use ssh_wire::{Bytes, FromRead, ToWrite};
 use std::alloc::Global;
@@ -78,7 +78,7 @@ pub fn all_named<'a>(rt: &impl Abort, alloc: Global, files: &[File<'a>]) -> Vec<
 /// What is said of a run's end.
 pub fn told(rt: &impl Abort, alloc: Global, text: Vec<u8>, done: &Done) -> Ran {
     let fault = match &done.fault {
-        Some(fault) => fault_text(alloc, fault).expect(rt, "there is memory"),
+        Some(fault) => fault_line(alloc, fault).expect(rt, "there is memory"),
         None => Vec::new(alloc),
     };
     Ran {

@@ -8,13 +8,15 @@ use Rattle.krl_runs.proofs.runs.query.ask_list.Goals as goal
 pub returns-in-Ok : goal.returns-in-Ok
 returns-in-Ok g c = (
   Ok (known_of c.in-Ok.header c.in-Ok.list),
-  false,
-  λ on. absurd (false≢true on),
-  λ text e. held text _ c.in-Ok.list c.revokes_what_is_meant.ensures (c.in-Ok.ensures.found text e) (c.in-Ok.ensures.no_fault text e),
+  record {
+    failed = false;
+    tells = λ on. absurd (false≢true on);
+    read = λ text e. held text _ c.in-Ok.list c.revokes_what_is_meant.ensures (c.in-Ok.ensures.found text e) (c.in-Ok.ensures.no_fault text e);
+  },
   c.ask_held.ensures,
 )
 
 pub returns-in-Err : goal.returns-in-Err
 returns-in-Err g c =
     let says = c.in-Err.ensures.fault in
-    (Err c.in-Err.fault, says.0, says.1, says.2, rw (c.whole.ensures, c.cause_of.ensures) (refused_run c.args.krl_name.now c.args.dump c.args.files.now c.in-Err.fault _ c.requires.working))
+    (Err c.in-Err.fault, record { failed = says.0; tells = says.1; read = says.2 }, rw (c.whole.ensures, c.cause_of.ensures) (refused_run c.args.krl_name.now c.args.dump c.args.files.now c.in-Err.fault _ c.requires.working))

@@ -1,6 +1,6 @@
 -- The plain key has some bytes.
 use Rattle.krl_make.proofs.MadeLists.{plain_has_bytes}
-use Rattle.krl_make.proofs.authority.plain_of.Goals as goal
+use Rattle.krl_make.proofs.authority.subject_key.Goals as goal
 
 pub returns-in-Ok-clause-some : goal.returns-in-Ok-clause-some
 returns-in-Ok-clause-some c =
