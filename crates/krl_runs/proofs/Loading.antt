@@ -5,14 +5,14 @@ use Rattle.std.proofs.KnownBytes.{Consumes-trans}
 use Rattle.ssh_wire.specs.declared.pull_fault.PullFault.{PullFault}
 use Rattle.ssh_wire.specs.declared.pull_fault.PullFault.TheVariants.{EndsEarly, TooLong, Read, NoMemory}
 use Rattle.ssh_wire.specs.Pull.{Consumes-ahead, Pulled, TakesRest, RefusesRest, after_ahead, untaken}
-use Rattle.krl_runs.specs.Named.{limit, IsLoaded, file_fault}
+use Rattle.krl_runs.specs.Named.{file_limit, IsLoaded, file_fault}
 
 -- no byte stands ahead
 none_ahead : (before source : Option (List ℕ)) (ahead : Option ℕ) (came : List ℕ) → ahead ≡ None → Consumes before (after_ahead ahead source) came → Consumes before source came
 none_ahead before source ahead came none bytes = subst (λ (a : Option ℕ). Consumes before (after_ahead a source) came) none bytes
 
 -- all that was left came
-pub loads_all : (before : Option (List ℕ)) (bytes : List ℕ) (new : Pulled) → TakesRest (untaken before limit) bytes new → IsLoaded before new.source new.failed (Ok bytes)
+pub loads_all : (before : Option (List ℕ)) (bytes : List ℕ) (new : Pulled) → TakesRest (untaken before file_limit) bytes new → IsLoaded before new.source new.failed (Ok bytes)
 loads_all before bytes new takes = record {
   taken = bytes;
   consumed = none_ahead before new.source new.ahead bytes takes.none_ahead takes.takes.bytes;
@@ -20,7 +20,7 @@ loads_all before bytes new takes = record {
 }
 
 -- the byte ahead stands past the limit
-passes_limit : (before source : Option (List ℕ)) (ahead : Option ℕ) (came : List ℕ) (failed : Bool) → Consumes before (after_ahead ahead source) came → IsSome ahead → length came ≡ limit → failed ≡ false → IsLoaded before source failed (Err (file_fault TooLong))
+passes_limit : (before source : Option (List ℕ)) (ahead : Option ℕ) (came : List ℕ) (failed : Bool) → Consumes before (after_ahead ahead source) came → IsSome ahead → length came ≡ file_limit → failed ≡ false → IsLoaded before source failed (Err (file_fault TooLong))
 passes_limit before source None came failed bytes some full working = search (rules, some)
 passes_limit before source (Some byte) came failed bytes some full working = record {
   taken = came ++ (byte ∷ []);
@@ -29,11 +29,11 @@ passes_limit before source (Some byte) came failed bytes some full working = rec
 }
 
 -- not all that was left came
-pub loads_none : (before : Option (List ℕ)) (fault : PullFault) (new : Pulled) → RefusesRest (untaken before limit) fault new → IsLoaded before new.source new.failed (Err (file_fault fault))
+pub loads_none : (before : Option (List ℕ)) (fault : PullFault) (new : Pulled) → RefusesRest (untaken before file_limit) fault new → IsLoaded before new.source new.failed (Err (file_fault fault))
 loads_none before EndsEarly new refuses = absurd refuses.misses.tells
 loads_none before TooLong new refuses =
     let misses = refuses.misses in
-    let full : length misses.came ≡ limit = omega (arith, misses.tells.0, refuses.taken, refuses.limit) in
+    let full : length misses.came ≡ file_limit = omega (arith, misses.tells.0, refuses.taken, refuses.limit) in
     passes_limit before new.source new.ahead misses.came new.failed misses.bytes misses.tells.1 full misses.tells.2
 loads_none before Read new refuses =
     let misses = refuses.misses in

@@ -4,7 +4,8 @@ use Rattle.std.specs.Io.KnownBytes.{Appends}
 use Rattle.krl_runs.specs.declared.output.cause.Cause.TheVariants.{NoMemory}
 use Rattle.krl_runs.specs.Printer.{IsCut}
 use Rattle.krl_runs.specs.Run.{Item, name_of, outcome_of, status_of}
-use Rattle.krl_runs.specs.Stop.{Stop, Ender, ByOutput, ByMemory, ByInput, ender_of, output_stop, stop_of}
+use Rattle.krl_runs.specs.Stop.{Stop, Ender, ByOutput, ByMemory, ByInput, ender_of, output_stop}
+use Rattle.krl_runs.specs.Stop.{stop_of}
 
 -- All of the run's text was taken, and the run's own end is told.
 pub record IsWhole (run : List Item) (before after : Option (List ℕ)) (failed : Bool)

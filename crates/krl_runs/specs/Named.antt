@@ -1,14 +1,17 @@
 -- What loading a file gives.
-use Rattle.std.specs.Prelude.{◌≡◌, ℕ, ◌≤◌, ◌<◌, Bool, true, false, List, length, Option, Result, Ok, Err}
+use Rattle.std.specs.Prelude.{◌≡◌, ℕ, ◌≤◌, ◌<◌, Bool, true, false, List, length, Option, Result, Ok}
+use Rattle.std.specs.Prelude.{Err}
 use Rattle.std.specs.Io.KnownBytes.{Consumes, IsAtEnd}
 use Rattle.ssh_wire.specs.declared.pull_fault.PullFault.{PullFault}
 use Rattle.ssh_wire.specs.declared.pull_fault.PullFault.TheVariants as pulls
 use Rattle.krl_runs.specs.declared.input.file_fault.FileFault.{FileFault}
-use Rattle.krl_runs.specs.declared.input.file_fault.FileFault.TheVariants.{Open, Read, TooLong, NoMemory, NoKeys, NoCertificate}
+use Rattle.krl_runs.specs.declared.input.file_fault.FileFault.TheVariants.{Open, Read, TooLong}
+use Rattle.krl_runs.specs.declared.input.file_fault.FileFault.TheVariants.{NoMemory, NoKeys}
+use Rattle.krl_runs.specs.declared.input.file_fault.FileFault.TheVariants.{NoCertificate}
 
 -- how many bytes a file may have
-abbrev pub limit : ℕ
-limit = 16777216
+abbrev pub file_limit : ℕ
+file_limit = 16777216
 
 -- what is told of a file that could not be taken whole
 abbrev pub file_fault : PullFault → FileFault
@@ -21,11 +24,11 @@ file_fault pulls.NoMemory = NoMemory
 -- Memory does not run out before a byte was read.
 abbrev pub IsContent : List ℕ → Option (List ℕ) → Bool → Result (List ℕ) FileFault → Type 0
 IsContent taken left failed (Ok bytes) =
-    (bytes ≡ taken) × (length taken ≤ limit) × IsAtEnd left × (failed ≡ false)
-IsContent taken left failed (Err TooLong) = (limit < length taken) × (failed ≡ false)
-IsContent taken left failed (Err Read) = (length taken ≤ limit) × (failed ≡ true)
+    (bytes ≡ taken) × (length taken ≤ file_limit) × IsAtEnd left × (failed ≡ false)
+IsContent taken left failed (Err TooLong) = (file_limit < length taken) × (failed ≡ false)
+IsContent taken left failed (Err Read) = (length taken ≤ file_limit) × (failed ≡ true)
 IsContent taken left failed (Err NoMemory) =
-    (0 < length taken) × (length taken ≤ limit) × (failed ≡ false)
+    (0 < length taken) × (length taken ≤ file_limit) × (failed ≡ false)
 IsContent taken left failed (Err Open) = ⊥
 IsContent taken left failed (Err NoKeys) = ⊥
 IsContent taken left failed (Err NoCertificate) = ⊥

@@ -1,5 +1,6 @@
 -- What a printer has at hand, and what it has printed in all.
-use Rattle.std.specs.Prelude.{◌≡◌, ℕ, ◌+◌, ◌-◌, ◌^◌, ◌<◌, ◌||◌, Bool, true, false, List, [], ◌++◌, Option, None, Result, Ok, Err, length, min, take}
+use Rattle.std.specs.Prelude.{◌≡◌, ℕ, ◌+◌, ◌-◌, ◌^◌, ◌<◌, ◌||◌, Bool, true, false, List, [], ◌++◌}
+use Rattle.std.specs.Prelude.{Option, None, Result, Ok, Err, length, min, take}
 use Rattle.std.specs.Io.KnownBytes.{Appends}
 use Rattle.krl_runs.specs.declared.output.answer.Answer.{Answer}
 use Rattle.krl_runs.specs.Run.{Item, outcome_of}

@@ -1,11 +1,15 @@
 -- Why a run stopped, and the line that tells it.
-use Rattle.std.specs.Prelude.{ℕ, Bool, true, false, List, [], ◌++◌, Option, Some, None, codes, decimal}
-use Rattle.ssh_key.specs.LineFault.{fault_number as line_fault_number, fault_text as line_fault_text}
+use Rattle.std.specs.Prelude.{ℕ, Bool, true, false, List, [], ◌++◌, Option, Some, None, codes}
+use Rattle.std.specs.Prelude.{decimal}
+use Rattle.ssh_key.specs.LineFault.{fault_number as line_fault_number}
+use Rattle.ssh_key.specs.LineFault.{fault_text as line_fault_text}
 use Rattle.ssh_key.specs.PrivateFault.{private_fault_number, private_fault_text}
 use Rattle.krl_core.specs.KrlFault.{fault_number as krl_fault_number, fault_text as krl_fault_text}
 use Rattle.ssh_cert.specs.SubjectFault.{subject_fault_number, subject_fault_text}
 use Rattle.krl_runs.specs.declared.output.cause.Cause.{Cause}
-use Rattle.krl_runs.specs.declared.output.cause.Cause.TheVariants.{File, Krl, Line, Private, Subject, Spec, NoMemory, VersionFull, TextTooLong, Output}
+use Rattle.krl_runs.specs.declared.output.cause.Cause.TheVariants.{File, Krl, Line, Private}
+use Rattle.krl_runs.specs.declared.output.cause.Cause.TheVariants.{Subject, Spec, NoMemory}
+use Rattle.krl_runs.specs.declared.output.cause.Cause.TheVariants.{VersionFull, TextTooLong, Output}
 use Rattle.ssh_cert.specs.Escape.{escaped}
 use Rattle.krl_runs.specs.FileFault.{file_fault_number, file_fault_text}
 use Rattle.krl_spec.specs.SpecCause.{spec_cause_number, spec_cause_text}

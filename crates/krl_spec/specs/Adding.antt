@@ -1,5 +1,6 @@
 -- What reading lines of a specification file adds to what is held.
-use Rattle.std.specs.Prelude.{◌≡◌, ◌+◌, ◌≤◌, List, [], ◌∷◌, ◌++◌, Option, Some, None, Result, Ok, Err, ⊤}
+use Rattle.std.specs.Prelude.{◌≡◌, ◌+◌, ◌≤◌, List, [], ◌∷◌, ◌++◌, Option, Some, None, Result, Ok}
+use Rattle.std.specs.Prelude.{Err, ⊤}
 use Rattle.ssh_key.specs.declared.fingerprint_fault.FingerprintFault.TheVariants as fingerprints
 use Rattle.ssh_key.specs.declared.line_fault.LineFault.TheVariants as lines
 use Rattle.krl_core.specs.Contents.{Contents, Means, held}

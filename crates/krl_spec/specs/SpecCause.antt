@@ -6,7 +6,9 @@ use Rattle.ssh_cert.specs.SubjectFault.{subject_fault_text}
 use Rattle.krl_spec.specs.declared.spec_cause.KeyCause.{KeyCause}
 use Rattle.krl_spec.specs.declared.spec_cause.KeyCause.TheVariants.{Line, Subject}
 use Rattle.krl_spec.specs.declared.spec_cause.SpecCause.{SpecCause}
-use Rattle.krl_spec.specs.declared.spec_cause.SpecCause.TheVariants.{Number, Zero, Reversed, NoAuthority, EmptyId, Key, Fingerprint, NoMemory}
+use Rattle.krl_spec.specs.declared.spec_cause.SpecCause.TheVariants.{Number, Zero, Reversed}
+use Rattle.krl_spec.specs.declared.spec_cause.SpecCause.TheVariants.{NoAuthority, EmptyId, Key}
+use Rattle.krl_spec.specs.declared.spec_cause.SpecCause.TheVariants.{Fingerprint, NoMemory}
 
 abbrev pub spec_cause_number : SpecCause → ℕ
 spec_cause_number Number = 1

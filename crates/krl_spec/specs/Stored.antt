@@ -17,6 +17,10 @@ abbrev pub GrowsUnder : List ℕ → ℕ → Contents → Contents → Type 0
 GrowsUnder authority size old new =
     (n : ℕ) → IsStoredWithin authority old n → IsStoredWithin authority new (n + size)
 
+-- The same for the bytes of a text, where some authority is at hand or none.
+abbrev pub GrowsBy : Option (List ℕ) → List ℕ → Contents → Contents → Type 0
+GrowsBy authority text = GrowsUnder (bytes_under authority) (length text)
+
 -- The same whatever authority is at hand.
 abbrev pub Grows : ℕ → Contents → Contents → Type 0
 Grows size old new = (authority : List ℕ) → GrowsUnder authority size old new

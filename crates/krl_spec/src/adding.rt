@@ -9,7 +9,7 @@ ghost use Rattle.krl_core.specs.Entry.{KeyEntry, Sha256Entry};
 ghost use Rattle.krl_spec.specs.Adding.{Adds, AddsLine};
 ghost use Rattle.krl_spec.specs.Entry.{HasAuthority, IsUnder, authority_under, bare_entry, certificate_entry, id_order, line_entry, made_entry, names_entry, order_entry, plain_of, serial_order, sha1_entry, sha256_entry, subject_in, text_entry};
 ghost use Rattle.krl_spec.specs.Line.{order_in};
-ghost use Rattle.krl_spec.specs.Stored.{Grows, GrowsUnder, asked_size, bytes_under};
+ghost use Rattle.krl_spec.specs.Stored.{Grows, GrowsBy, asked_size};
 ghost use Rattle.krl_spec.specs.declared.spec_cause.SpecCause.TheVariants.{Fingerprint, NoAuthority};
 
 use crate::blanks::bare_line;
@@ -26,7 +26,7 @@ use ssh_key::{sha1_of, sha256_of};
 use std::alloc::Global;
 
 /// The authority of serials and key IDs that name none themselves; None for all authorities.
-fn authority_of<'a>(under: Under<'a>) -> Result<Option<&'a [u8]>, SpecCause>
+fn authority_at_hand<'a>(under: Under<'a>) -> Result<Option<&'a [u8]>, SpecCause>
     requires { IsUnder under }
     ensures { MatchResult result
         (λ authority. IsAuthority authority
@@ -47,11 +47,11 @@ fn add_serials<S: Spans>(
     text: &[u8],
 ) -> Result<(), SpecCause>
     requires { IsUnder under }
-    ensures { Adds (GrowsUnder (bytes_under (authority_under under.entry)) (length text.now))
+    ensures { Adds (GrowsBy (authority_under under.entry) text.now)
         (serial_order (authority_under under.entry) text.now) result
         revocations.old revocations.new }
 {
-    let authority = authority_of(under)?;
+    let authority = authority_at_hand(under)?;
     let serials = read_serials(text)?;
     revocations.add_serials(authority, serials.lo, serials.hi)?;
     Ok(())
@@ -64,11 +64,11 @@ fn add_id<S: Spans>(
     text: &[u8],
 ) -> Result<(), SpecCause>
     requires { IsUnder under }
-    ensures { Adds (GrowsUnder (bytes_under (authority_under under.entry)) (length text.now))
+    ensures { Adds (GrowsBy (authority_under under.entry) text.now)
         (id_order (authority_under under.entry) text.now) result
         revocations.old revocations.new }
 {
-    let authority = authority_of(under)?;
+    let authority = authority_at_hand(under)?;
     if text.is_empty() {
         return Err(SpecCause::EmptyId);
     }
@@ -197,7 +197,7 @@ fn add_order<S: Spans>(
     given: &[u8],
 ) -> Result<(), SpecCause>
     requires { IsUnder under }
-    ensures { Adds (GrowsUnder (bytes_under (authority_under under.entry)) (length given.now))
+    ensures { Adds (GrowsBy (authority_under under.entry) given.now)
         (order_entry (authority_under under.entry) directive given.now) result
         revocations.old revocations.new }
 {
@@ -219,7 +219,7 @@ fn add_text<S: Spans>(
     text: &[u8],
 ) -> Result<(), SpecCause>
     requires { IsUnder under }
-    ensures { Adds (GrowsUnder (bytes_under (authority_under under.entry)) (length text.now))
+    ensures { Adds (GrowsBy (authority_under under.entry) text.now)
         (text_entry (authority_under under.entry) text.now (order_in text.now)) result
         revocations.old revocations.new }
 {
@@ -238,7 +238,7 @@ pub fn add_line<S: Spans>(
     line: &[u8],
 ) -> Result<(), SpecCause>
     requires { IsUnder under }
-    ensures { AddsLine (GrowsUnder (bytes_under (authority_under under.entry)) (length line.now))
+    ensures { AddsLine (GrowsBy (authority_under under.entry) line.now)
         (line_entry (authority_under under.entry) line.now) result
         revocations.old revocations.new }
 {

@@ -1,12 +1,14 @@
 -- Which words ask for which job (ssh-keygen(1), SYNOPSIS), and the faults of the command line:
 -- their numbers, and the statuses that they end with.
-use Rattle.std.specs.Prelude.{◌≡◌, ◌≢◌, ℕ, ⊤, Bool, true, false, List, [], None, Some, Result, Ok, Err}
+use Rattle.std.specs.Prelude.{◌≡◌, ◌≢◌, ℕ, ⊤, Bool, true, false, List, [], None, Some, Result, Ok}
+use Rattle.std.specs.Prelude.{Err}
 use Rattle.clap.specs.Faults.{fault_of}
 use Rattle.clap.specs.Kinds.{IsAmong}
 use Rattle.clap.specs.Values.{kind_of}
 use Rattle.clap.specs.declared.error.Error.{Error}
 use Rattle.clap.specs.declared.error.kind.ErrorKind.{ErrorKind}
-use Rattle.clap.specs.declared.error.kind.ErrorKind.TheVariants.{DisplayHelp, DisplayVersion, OutOfMemory}
+use Rattle.clap.specs.declared.error.kind.ErrorKind.TheVariants.{DisplayHelp, DisplayVersion}
+use Rattle.clap.specs.declared.error.kind.ErrorKind.TheVariants.{OutOfMemory}
 use Rattle.krl_words.specs.declared.command.CommandFault.{CommandFault}
 use Rattle.krl_words.specs.declared.command.CommandFault.TheVariants.{Usage, Words, NoMemory}
 use Rattle.krl_job.specs.declared.job.Job.{Job}
