@@ -3,6 +3,7 @@
 ghost use Rattle.std.specs.Prelude.{IfOk};
 ghost use Rattle.std.specs.Counts.{IsPrefixLen};
 
+use crate::calls::begin;
 use std::io::{self, ErrorKind, Read};
 
 /// What a reader does once its bytes are given.
@@ -37,6 +38,11 @@ impl<'a> Giver<'a> {
         }
     }
 
+    /// A reader that gives all of its bytes at once.
+    pub fn whole(bytes: &'a [u8]) -> Giver<'a> {
+        Giver::new(bytes, usize::MAX)
+    }
+
     // What a call gives once the bytes are given.
     fn read_then(&mut self, into: &mut [u8]) -> io::Result<usize>
         ensures { IfOk result (λ count. IsPrefixLen count into.new) }
@@ -56,14 +62,7 @@ impl<'a> Giver<'a> {
 
 impl<'a> Read for Giver<'a> {
     fn read(&mut self, into: &mut [u8]) -> io::Result<usize> {
-        if self.interruptions > 0 {
-            self.interruptions -= 1;
-            return Err(ErrorKind::Interrupted.into());
-        }
-        if self.calls_before_failure == 0 {
-            return Err(ErrorKind::Other.into());
-        }
-        self.calls_before_failure -= 1;
+        begin(&mut self.interruptions, &mut self.calls_before_failure)?;
         if self.bytes.is_empty() && !into.is_empty() {
             return self.read_then(into);
         }

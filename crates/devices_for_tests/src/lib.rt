@@ -2,6 +2,7 @@
 //! interrupted, and fail.
 #![tactic(auto)]
 
+mod calls;
 mod giver;
 mod taker;
 

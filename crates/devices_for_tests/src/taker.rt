@@ -1,7 +1,8 @@
 // Writers that take few bytes at a call, are interrupted, or fail.
 
+use crate::calls::begin;
 use std::alloc::Global;
-use std::io::{self, ErrorKind, Write};
+use std::io::{self, Write};
 
 /// Takes at most so many bytes at a call, after so many interruptions. It fails from the call on
 /// that is to fail.
@@ -23,18 +24,16 @@ impl Taker {
             calls_before_failure,
         }
     }
+
+    /// A writer that takes all that it is given.
+    pub fn whole(alloc: Global) -> Taker {
+        Taker::new(alloc, usize::MAX, usize::MAX)
+    }
 }
 
 impl Write for Taker {
     fn write(&mut self, bytes: &[u8]) -> io::Result<usize> {
-        if self.interruptions > 0 {
-            self.interruptions -= 1;
-            return Err(ErrorKind::Interrupted.into());
-        }
-        if self.calls_before_failure == 0 {
-            return Err(ErrorKind::Other.into());
-        }
-        self.calls_before_failure -= 1;
+        begin(&mut self.interruptions, &mut self.calls_before_failure)?;
         let count = bytes.len().min(self.piece);
         self.taken.extend_from_slice(&bytes[..count])?;
         Ok(count)

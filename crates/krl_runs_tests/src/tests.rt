@@ -15,4 +15,3 @@ mod listing;
 mod making;
 mod runs;
 mod spec_files;
-mod streams;

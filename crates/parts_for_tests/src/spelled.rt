@@ -19,3 +19,12 @@ pub fn strings(alloc: Global, list: &[&[u8]]) -> Result<Vec<u8>, AllocError> {
     }
     Ok(all)
 }
+
+/// The parts, one after the other.
+pub fn joined(alloc: Global, parts: &[&[u8]]) -> Result<Vec<u8>, AllocError> {
+    let mut all = Vec::new(alloc);
+    for part in parts {
+        all.extend_from_slice(*part)?;
+    }
+    Ok(all)
+}

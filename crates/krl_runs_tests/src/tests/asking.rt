@@ -1,7 +1,8 @@
 // Asking lists about the keys of files.
 
-use crate::tests::bytes::{GITHUB, HEADER, ONE_KEY, joined, list_of_one};
+use crate::tests::bytes::{GITHUB, ONE_KEY, joined, list_of_one};
 use crate::tests::runs::{CLOSED, File, KEY, OTHER_LINE, Said, asks};
+use parts_for_tests::HEADER;
 
 const OTHER: File<'static> = ("a", Some(&[OTHER_LINE, b" x y\n"]));
 

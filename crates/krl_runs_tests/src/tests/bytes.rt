@@ -1,13 +1,9 @@
 // Lists and keys for the tests, built from their parts.
 
+use crate::tests::encoding::strings;
+use parts_for_tests::HEADER;
 use std::alloc::Global;
 use std::process::Abort;
-
-/// The header of an empty list: version 1, date 0, no flags, no reserved string, no comment.
-pub const HEADER: [u8; 44] = [
-    0x53, 0x53, 0x48, 0x4b, 0x52, 0x4c, 0x0a, 0x00, 0, 0, 0, 1, 0, 0, 0, 0, 0, 0, 0, 1, 0, 0, 0, 0,
-    0, 0, 0, 0, 0, 0, 0, 0, 0, 0, 0, 0, 0, 0, 0, 0, 0, 0, 0, 0,
-];
 
 /// The blob of GitHub's published Ed25519 host key.
 pub const GITHUB: [u8; 51] = [
@@ -32,9 +28,6 @@ pub const THIRD: [u8; 51] = [
 
 /// What stands before the blob of a section with one key of 51 bytes.
 pub const ONE_KEY: [u8; 9] = [2, 0, 0, 0, 0x37, 0, 0, 0, 0x33];
-
-/// The section of serial 5 of all authorities.
-pub const FIVE: &[u8] = b"\x01\0\0\0\x15\0\0\0\0\0\0\0\0\x20\0\0\0\x08\0\0\0\0\0\0\0\x05";
 
 /// The section of the key ID `a` of all authorities.
 pub const ID_A: &[u8] = b"\x01\0\0\0\x12\0\0\0\0\0\0\0\0\x23\0\0\0\x05\0\0\0\x01a";
@@ -69,11 +62,7 @@ pub fn put(rt: &impl Abort, all: &mut Vec<u8>, bytes: &[u8]) {
 
 /// The parts one after the other.
 pub fn joined(rt: &impl Abort, alloc: Global, parts: &[&[u8]]) -> Vec<u8> {
-    let mut all = Vec::new(alloc);
-    for part in parts {
-        put(rt, &mut all, *part);
-    }
-    all
+    parts_for_tests::joined(alloc, parts).expect(rt, "there is memory")
 }
 
 /// The parts one after the other, so many times.
@@ -95,6 +84,61 @@ pub fn list_of(rt: &impl Abort, alloc: Global, sections: &[&[u8]]) -> Vec<u8> {
 /// The list that names one key.
 pub fn list_of_one(rt: &impl Abort, alloc: Global, blob: &[u8]) -> Vec<u8> {
     joined(rt, alloc, &[&HEADER, &ONE_KEY, blob])
+}
+
+/// The section of this key ID of all authorities.
+pub fn id_section(rt: &impl Abort, alloc: Global, id: &[u8]) -> Vec<u8> {
+    let ids = strings(rt, alloc, &[id]);
+    let subsection = strings(rt, alloc, &[&ids]);
+    let content = joined(rt, alloc, &[b"\0\0\0\0\0\0\0\0\x23", &subsection]);
+    let content = strings(rt, alloc, &[&content]);
+    joined(rt, alloc, &[b"\x01", &content])
+}
+
+/// The section of one key.
+pub fn key_section(rt: &impl Abort, alloc: Global, blob: &[u8]) -> Vec<u8> {
+    let keys = strings(rt, alloc, &[blob]);
+    let content = strings(rt, alloc, &[&keys]);
+    joined(rt, alloc, &[b"\x02", &content])
+}
+
+/// A list of this version, with a comment and these sections.
+pub fn commented(
+    rt: &impl Abort,
+    alloc: Global,
+    version: u64,
+    comment: &[u8],
+    sections: &[&[u8]],
+) -> Vec<u8> {
+    let number = version.to_be_bytes();
+    let comment = strings(rt, alloc, &[comment]);
+    let sections = joined(rt, alloc, sections);
+    joined(
+        rt,
+        alloc,
+        &[&HEADER[..12], &number, &[0; 20], &comment, &sections],
+    )
+}
+
+/// How many bytes a text has, or how many lines a file, that is longer than blocks of memory. Each
+/// is one more than a multiple of eight, as the length of a comment of one letter is.
+pub const LONG: [usize; 3] = [1_025, 4_097, 70_001];
+
+/// A text, and how it is printed.
+#[derive(Drop)]
+pub struct Escaped {
+    pub text: String,
+    pub printed: Vec<u8>,
+}
+
+/// A text of so many pairs of a letter and a byte that is escaped.
+pub fn long_text(rt: &impl Abort, alloc: Global, pairs: usize) -> Escaped {
+    let mut text = String::new(alloc);
+    for _ in 0..pairs {
+        text.push_str("a\x7f").expect(rt, "there is memory");
+    }
+    let printed = repeated(rt, alloc, &[b"a\\x7f"], pairs);
+    Escaped { text, printed }
 }
 
 /// The lines of so many odd serials.

@@ -1,9 +1,13 @@
 // Printing what lists hold.
 
-use crate::tests::bytes::{FIVE, GITHUB, HEADER, ONE_KEY, joined, list_of, odd_lines, put};
+use crate::tests::bytes::{
+    GITHUB, LONG, ONE_KEY, commented, id_section, joined, key_section, list_of, long_text,
+    odd_lines, put,
+};
+use crate::tests::encoding::base64;
 use crate::tests::runs::{CLOSED, KEY, Ran, asked, asks, says};
-use crate::tests::streams::giving;
-use devices_for_tests::Taker;
+use devices_for_tests::{Giver, Taker};
+use parts_for_tests::{FIVE, HEADER};
 use std::alloc::Global;
 use std::process::Abort;
 
@@ -154,7 +158,7 @@ fn a_fault_comes_before_the_contents(rt: HostRuntime) {
 fn printed_in_part(rt: &impl Abort, alloc: Global, calls: usize) -> Ran {
     let list = list_of(rt, alloc, &[FIVE]);
     let device = Taker::new(alloc, 7, calls);
-    asked(rt, alloc, giving(&list), true, &[], device)
+    asked(rt, alloc, Giver::whole(&list), true, &[], device)
 }
 
 /// The fault of an output that has taken so many bytes.
@@ -192,4 +196,33 @@ fn many_lines(rt: HostRuntime) {
     let lines = odd_lines(&rt, rt.alloc(), 5_000);
     let text = joined(&rt, rt.alloc(), &[HEAD, b"# CA all\n", &lines]);
     asks(&rt, rt.alloc(), 0, (&list, true), &[], (&text, 0, ""));
+}
+
+/// A list with a long comment, a long key ID and a key of a long blob is printed.
+fn prints_long(rt: &impl Abort, alloc: Global, pairs: usize) {
+    let long = long_text(rt, alloc, pairs);
+    let bytes = long.text.as_bytes();
+    let id = id_section(rt, alloc, bytes);
+    let key = key_section(rt, alloc, bytes);
+    let list = commented(rt, alloc, 1, bytes, &[&id, &key]);
+    let digits = base64(rt, alloc, bytes);
+    let parts: [&[u8]; 8] = [
+        HEAD,
+        b"# Comment: ",
+        &long.printed,
+        b"\n# CA all\nid: ",
+        &long.printed,
+        b"\nkey: ",
+        &digits,
+        b"\n",
+    ];
+    let text = joined(rt, alloc, &parts);
+    asks(rt, alloc, pairs, (&list, true), &[], (&text, 0, ""))
+}
+
+#[test]
+fn long_lines(rt: HostRuntime) {
+    for pairs in LONG {
+        prints_long(&rt, rt.alloc(), pairs);
+    }
 }

@@ -1,8 +1,11 @@
 // Listing the keys of files.
 
+use crate::tests::bytes::{LONG, joined, long_text};
 use crate::tests::encoding::key_line;
 use crate::tests::runs::{GITHUB_LINE, OTHER_LINE, lists};
 use ssh_key::Hash;
+use std::alloc::Global;
+use std::process::Abort;
 
 /// A hash, the parts of a file, and what is listed.
 type Listed<'a> = (Hash, &'a [&'a [u8]], &'a [u8]);
@@ -42,6 +45,23 @@ fn each_key(rt: HostRuntime) {
     for (i, (hash, parts, text)) in LISTED.iter().enumerate() {
         let file = ("-", Some(*parts));
         lists(&rt, rt.alloc(), i, *hash, &file, (*text, 0, ""));
+    }
+}
+
+/// A key with a long comment is listed.
+fn is_listed(rt: &impl Abort, alloc: Global, pairs: usize) {
+    let long = long_text(rt, alloc, pairs);
+    let parts = [OTHER_LINE, b" ", long.text.as_bytes()];
+    let file = ("k", Some(parts.as_slice()));
+    let front = b"256 SHA256:SQfC+vTbLURn9cTkVxIS8fGQ3FKNAJWeB0o139+gV4M ";
+    let line = joined(rt, alloc, &[front, &long.printed, b" (ED25519)\n"]);
+    lists(rt, alloc, pairs, Hash::Sha256, &file, (&line, 0, ""))
+}
+
+#[test]
+fn long_comments(rt: HostRuntime) {
+    for pairs in LONG {
+        is_listed(&rt, rt.alloc(), pairs);
     }
 }
 

@@ -4,7 +4,6 @@ use crate::tests::bytes::{GITHUB, filled, list_of_one};
 use crate::tests::runs::{
     CLOSED, File, GITHUB_LINE, Ran, Said, all_named, asked, listed, named, says,
 };
-use crate::tests::streams::giving;
 use devices_for_tests::{Giver, Taker};
 use krl_runs::{FileFault, ListMode, load};
 use ssh_key::Hash;
@@ -17,7 +16,14 @@ use std::process::Abort;
 pub fn asked_of_key(rt: &impl Abort, alloc: Global, files: &[File], device: Taker) -> Ran {
     let list = list_of_one(rt, alloc, &GITHUB);
     let files = all_named(rt, alloc, files);
-    asked(rt, alloc, giving(&list), false, files.as_slice(), device)
+    asked(
+        rt,
+        alloc,
+        Giver::whole(&list),
+        false,
+        files.as_slice(),
+        device,
+    )
 }
 
 /// What is loaded of the file `a` that a device gives.

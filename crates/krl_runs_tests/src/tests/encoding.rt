@@ -8,13 +8,7 @@ const DIGITS: &[u8; 64] = b"ABCDEFGHIJKLMNOPQRSTUVWXYZabcdefghijklmnopqrstuvwxyz
 
 /// Strings, one after the other: four bytes of length and the bytes of each.
 pub fn strings(rt: &impl Abort, alloc: Global, list: &[&[u8]]) -> Vec<u8> {
-    let mut all = Vec::new(alloc);
-    for bytes in list {
-        let [.., a, b, c, d] = bytes.len().to_be_bytes();
-        put(rt, &mut all, &[a, b, c, d]);
-        put(rt, &mut all, *bytes);
-    }
-    all
+    parts_for_tests::strings(alloc, list).expect(rt, "there is memory")
 }
 
 /// The digit of a number below 64.

@@ -1,6 +1,6 @@
 // The lines that tell why a run stopped.
 
-use crate::tests::bytes::same;
+use crate::tests::bytes::{long_text, same};
 use krl_core::KrlFault;
 use krl_runs::{Cause, FileFault, RunFault, fault_line};
 use ssh_cert::{CertFault, SubjectFault};
@@ -156,19 +156,10 @@ fn file_faults(rt: HostRuntime) {
     }
 }
 
-/// A name of 10,000 pairs of a letter and a byte that is escaped.
-fn long_name(rt: &impl Abort, alloc: Global) -> String {
-    let mut name = String::new(alloc);
-    for _ in 0..10_000 {
-        name.push_str("a\x7f").expect(rt, "there is memory");
-    }
-    name
-}
-
 // A body that is out of memory above some size meets the contract. It fails here.
 #[test]
 fn a_long_name(rt: HostRuntime) {
-    let name = long_name(&rt, rt.alloc());
+    let name = long_text(&rt, rt.alloc(), 10_000).text;
     let fault = RunFault::whole(name.as_str(), Cause::NoMemory);
     let text = fault_line(rt.alloc(), &fault).expect(&rt, "there is memory");
     assert!(rt; text.len() == 12 + 10_000 * 5 + 2 + 14);

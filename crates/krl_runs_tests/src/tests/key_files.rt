@@ -1,6 +1,6 @@
 // What a run says of the lines of key files.
 
-use crate::tests::bytes::{GITHUB, list_of_one};
+use crate::tests::bytes::{GITHUB, LONG, joined, list_of_one, long_text};
 use crate::tests::encoding::key_line;
 use crate::tests::runs::{File, GITHUB_LINE, OTHER_LINE, Said, asks};
 use std::alloc::Global;
@@ -62,6 +62,35 @@ fn told_of_each_line(rt: HostRuntime) {
     for (i, (name, parts, text, status)) in TOLD.iter().enumerate() {
         let file = (*name, Some(*parts));
         tells(&rt, rt.alloc(), i, &[file], (*text, *status, ""));
+    }
+}
+
+/// The file of this name and these parts is told of in this text, which revokes nothing.
+fn is_ok<'a>(
+    rt: &impl Abort,
+    alloc: Global,
+    number: usize,
+    name: &'a str,
+    parts: &'a [&'a [u8]],
+    text: &[u8],
+) {
+    let file = (name, Some(parts));
+    tells(rt, alloc, number, &[file], (text, 0, ""))
+}
+
+/// A file of a long name is told of, with a key whose comment is as long.
+fn is_told(rt: &impl Abort, alloc: Global, pairs: usize) {
+    let long = long_text(rt, alloc, pairs);
+    let line = joined(rt, alloc, &[OTHER_LINE, b" ", long.text.as_bytes()]);
+    let said: [&[u8]; 4] = [&long.printed, b" (", &long.printed, b"): ok\n"];
+    let text = joined(rt, alloc, &said);
+    is_ok(rt, alloc, pairs, long.text.as_str(), &[&line], &text)
+}
+
+#[test]
+fn told_of_long_names_and_comments(rt: HostRuntime) {
+    for pairs in LONG {
+        is_told(&rt, rt.alloc(), pairs);
     }
 }
 

@@ -1,6 +1,6 @@
 // Listing the certificates of files.
 
-use crate::tests::bytes::{GITHUB, joined, put};
+use crate::tests::bytes::{GITHUB, LONG, joined, long_text, put};
 use crate::tests::certificates::{FREE, Terms, certificate_line, certificate_on, line_of};
 use crate::tests::containers::plain;
 use crate::tests::encoding::{key_line, strings};
@@ -133,6 +133,34 @@ fn with_lists(rt: HostRuntime) {
     let line = line_of(&rt, alloc, &blob);
     let text = [b"c.pub:1:\n", FIRST, FOREVER, lists];
     gives(&rt, alloc, 0, ("c.pub", &line, 0), &text, "");
+}
+
+/// A certificate with a long principal is listed, of a file with a name that is as long.
+fn lists_long(rt: &impl Abort, alloc: Global, pairs: usize) {
+    let long = long_text(rt, alloc, pairs);
+    let principals = strings(rt, alloc, &[long.text.as_bytes()]);
+    let terms = Terms {
+        lists: [&principals, b"", b""],
+        ..FREE
+    };
+    let line = line_on(rt, alloc, &terms);
+    let text: [&[u8]; 7] = [
+        &long.printed,
+        b":1:\n",
+        FIRST,
+        FOREVER,
+        b"        Principals:\n                ",
+        &long.printed,
+        b"\n        Critical Options: (none)\n        Extensions: (none)\n",
+    ];
+    gives(rt, alloc, pairs, (long.text.as_str(), &line, 0), &text, "")
+}
+
+#[test]
+fn long_names_and_principals(rt: HostRuntime) {
+    for pairs in LONG {
+        lists_long(&rt, rt.alloc(), pairs);
+    }
 }
 
 #[test]

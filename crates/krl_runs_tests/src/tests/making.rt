@@ -1,14 +1,15 @@
 // Lists that are made and updated.
 
 use crate::tests::bytes::{
-    FIVE, GITHUB, HEADER, ID_A, ID_A_UNDER_OTHER, ONE_KEY, OTHER, SHA256, joined, list_of,
+    GITHUB, ID_A, ID_A_UNDER_OTHER, LONG, ONE_KEY, OTHER, SHA256, commented, joined, list_of,
     odd_lines, repeated, same,
 };
 use crate::tests::certificates::certificate_line;
-use crate::tests::containers::plain;
+use crate::tests::containers::{commented_with, plain};
 use crate::tests::runs::{CLOSED, File, GITHUB_LINE, OTHER_LINE, all_named, holding, named};
 use krl_make::{Authority, Old, make_run};
 use krl_runs::{RunFault, fault_line};
+use parts_for_tests::{FIVE, HEADER};
 use ssh_wire::FromRead;
 use std::alloc::Global;
 use std::process::Abort;
@@ -88,25 +89,6 @@ fn refuses(
 ) {
     let made = made(rt, alloc, old, authority, None, &[("s", Some(&[lines]))]);
     same(rt, number, &made.fault, fault.as_bytes());
-}
-
-/// A list of this version, with a comment and these sections.
-fn commented(
-    rt: &impl Abort,
-    alloc: Global,
-    version: u64,
-    comment: &[u8],
-    sections: &[&[u8]],
-) -> Vec<u8> {
-    let [.., a, b, c, d] = comment.len().to_be_bytes();
-    let number = version.to_be_bytes();
-    let size = [a, b, c, d];
-    let sections = joined(rt, alloc, sections);
-    joined(
-        rt,
-        alloc,
-        &[&HEADER[..12], &number, &[0; 20], &size, comment, &sections],
-    )
 }
 
 const FIVE_AND_SIX: &[u8] =
@@ -347,6 +329,25 @@ fn the_first_key_of_the_file_is_the_authority(rt: HostRuntime) {
     let container = plain(&rt, rt.alloc(), 1, 4);
     is_authority(&rt, rt.alloc(), 0, &lines, &FIVE_UNDER_OTHER);
     is_authority(&rt, rt.alloc(), 1, &container, &FIVE_UNDER_GITHUB);
+}
+
+/// A file of so many lines without a key, one of which is as long, and of the line of the other key
+/// with a comment that is as long.
+fn long_lines(rt: &impl Abort, alloc: Global, letters: &[u8]) -> Vec<u8> {
+    let lines = repeated(rt, alloc, &[b"# a\n"], letters.len());
+    let parts: [&[u8]; 7] = [&lines, b"#", letters, b"\n", OTHER_LINE, b" ", letters];
+    joined(rt, alloc, &parts)
+}
+
+#[test]
+fn the_first_key_of_a_long_file_is_the_authority(rt: HostRuntime) {
+    for size in LONG {
+        let letters = repeated(&rt, rt.alloc(), &[b"a"], size);
+        let lines = long_lines(&rt, rt.alloc(), &letters);
+        let container = commented_with(&rt, rt.alloc(), &letters);
+        is_authority(&rt, rt.alloc(), size, &lines, &FIVE_UNDER_OTHER);
+        is_authority(&rt, rt.alloc(), size, &container, &FIVE_UNDER_GITHUB);
+    }
 }
 
 /// The file of this text names no authority, for this fault.

@@ -1,7 +1,6 @@
 // Runs over files that the tests make, and what they answer.
 
 use crate::tests::bytes::{joined, same};
-use crate::tests::streams::{giving, taking};
 use devices_for_tests::{Giver, Taker};
 use krl_runs::{Done, FileFault, ListMode, Named, fault_line, list_run, query_run};
 use ssh_key::Hash;
@@ -120,10 +119,10 @@ pub fn asks(
     let ran = asked(
         rt,
         alloc,
-        giving(krl),
+        Giver::whole(krl),
         dump,
         files.as_slice(),
-        taking(alloc),
+        Taker::whole(alloc),
     );
     says(rt, number, &ran, said);
 }
@@ -147,7 +146,15 @@ pub fn listed<'a>(
 /// The keys of the file are listed so.
 pub fn lists(rt: &impl Abort, alloc: Global, number: usize, hash: Hash, file: &File, said: Said) {
     let file = named(rt, alloc, file);
-    let ran = listed(rt, alloc, ListMode::Keys, hash, &file, 0, taking(alloc));
+    let ran = listed(
+        rt,
+        alloc,
+        ListMode::Keys,
+        hash,
+        &file,
+        0,
+        Taker::whole(alloc),
+    );
     says(rt, number, &ran, said);
 }
 
@@ -168,7 +175,7 @@ pub fn certifies(
         Hash::Sha256,
         &file,
         moment,
-        taking(alloc),
+        Taker::whole(alloc),
     );
     says(rt, number, &ran, said);
 }

@@ -3,13 +3,15 @@
 ghost use Rattle.krl_spec.specs.Entry.{IsUnder};
 
 use crate::tests::bytes::{
-    FIVE, GITHUB, ID_A, ID_A_UNDER_OTHER, ONE_KEY, OTHER, SERIAL_7_UNDER_OTHER, SHA256, joined,
-    list_of, same,
+    GITHUB, ID_A, ID_A_UNDER_OTHER, LONG, ONE_KEY, OTHER, SERIAL_7_UNDER_OTHER, SHA256, joined,
+    key_section, list_of, repeated, same,
 };
 use crate::tests::certificates::certificate_line;
+use crate::tests::encoding::{key_line, strings};
 use crate::tests::runs::GITHUB_LINE;
 use krl_core::{Header, Revocations, krl_text};
 use krl_spec::{Under, read_spec};
+use parts_for_tests::FIVE;
 use serial_set::Held;
 use ssh_wire::Bytes;
 use std::alloc::Global;
@@ -237,5 +239,56 @@ const REFUSED: [(&[u8], &str); 19] = [
 fn refused(rt: HostRuntime) {
     for (i, (text, fault)) in REFUSED.iter().enumerate() {
         adds(&rt, rt.alloc(), i, (Under::All, *text), &[], *fault);
+    }
+}
+
+/// A file of lines with comments of so many letters, and of as many lines that add nothing.
+fn long_file(rt: &impl Abort, alloc: Global, size: usize) -> Vec<u8> {
+    let letters = repeated(rt, alloc, &[b"a"], size);
+    let lines = repeated(rt, alloc, &[b"# a\n"], size);
+    let parts: [&[u8]; 13] = [
+        b"#",
+        &letters,
+        b"\nserial: 5 # ",
+        &letters,
+        b"\nkey: ",
+        GITHUB_LINE,
+        b" ",
+        &letters,
+        b"\n",
+        &lines,
+        b"sha256: ",
+        GITHUB_LINE,
+        b" ",
+    ];
+    let front = joined(rt, alloc, &parts);
+    joined(rt, alloc, &[&front, &letters])
+}
+
+#[test]
+fn long_files_are_read(rt: HostRuntime) {
+    for size in LONG {
+        let text = long_file(&rt, rt.alloc(), size);
+        let sections: [&[u8]; 4] = [FIVE, &ONE_KEY, &GITHUB, SHA256];
+        adds(&rt, rt.alloc(), size, (Under::All, &text), &sections, "");
+    }
+}
+
+/// A key of a device whose application has so many letters is added.
+fn adds_long_key(rt: &impl Abort, alloc: Global, size: usize) {
+    let application = repeated(rt, alloc, &[b"a"], size);
+    let word = b"sk-ssh-ed25519@openssh.com".as_slice();
+    let fields: [&[u8]; 2] = [&[0x33; 32], &application];
+    let line = key_line(rt, alloc, word, &fields);
+    let text = joined(rt, alloc, &[b"key: ", &line]);
+    let blob = strings(rt, alloc, &[word, fields[0], fields[1]]);
+    let section = key_section(rt, alloc, &blob);
+    adds(rt, alloc, size, (Under::NotGiven, &text), &[&section], "")
+}
+
+#[test]
+fn long_keys_are_read(rt: HostRuntime) {
+    for size in [1_025, 4_097, 60_001] {
+        adds_long_key(&rt, rt.alloc(), size);
     }
 }
