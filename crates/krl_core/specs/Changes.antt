@@ -1,6 +1,6 @@
 -- What an addition changes.
 use Rattle.std.specs.Prelude.{◌≡◌, ℕ, ◌+◌, ◌<◌, ◌≤◌, ◌⊎◌, List, [], ◌∷◌, ◌++◌, length, Contains, ⊤}
-use Rattle.serial_set.specs.Span.{Covers, IsRunsOf}
+use Rattle.serial_set.specs.Span.{AddsSpan}
 use Rattle.krl_core.specs.declared.addition.Addition.{Addition}
 use Rattle.krl_core.specs.declared.addition.Addition.TheVariants.{Serials, Id}
 use Rattle.krl_core.specs.Contents.{Contents, Means, Section}
@@ -14,7 +14,7 @@ Puts old text new = ((new ≡ old) × Contains old text) ⊎ Inserts (λ bytes. 
 -- the section with the serials from lo to hi
 pub record TakesSerials (lo hi : ℕ) (from to : Section) : Type 0 where
   pub same : to ≡ record from { spans = to.spans }
-  pub runs : IsRunsOf to.spans (λ s. Covers from.spans s ⊎ ((lo ≤ s) × (s ≤ hi)))
+  pub runs : AddsSpan from.spans lo hi to.spans
   pub one_more : length to.spans ≤ length from.spans + 1
 
 -- the section with the key ID

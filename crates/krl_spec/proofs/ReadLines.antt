@@ -151,7 +151,7 @@ starved authority lines passed line rest old new at = record {
 
 stops : (authority : Option (List ℕ)) (text : List ℕ) (passed : ℕ) (line : List ℕ) (rest : List (List ℕ)) (old new : Contents)
     (read : Result Entry SpecCause) (cause : SpecCause) → IsAt authority (slice_split is_newline text) passed (line ∷ rest) old new
-    → line_entry authority line ≡ Some read → Tells read cause → StopsAt authority text (passed + 1) cause old new
+    → line_entry authority line ≡ Some read → Tells cause read → StopsAt authority text (passed + 1) cause old new
 stops authority text passed line rest old new read causes.NoMemory at is tells = starved authority _ passed line rest old new at
 stops authority text passed line rest old new read causes.Number at is tells = told authority text passed line rest old new _ at (is ∙ ap Some tells)
 stops authority text passed line rest old new read causes.Zero at is tells = told authority text passed line rest old new _ at (is ∙ ap Some tells)

@@ -1,7 +1,7 @@
 -- What a line names has no more bytes than the line.
 use Rattle.std.proofs.Common.{◌≡◌, ℕ, ◌+◌, ◌-◌, ◌*◌, ◌≤◌, Bool, true, false, nat_lt, List, [], ◌∷◌, ◌++◌, length, drop, get_or, replicate, Option, Some, None, inl, inr, refl, sym, ap, ◌∙◌, arith}
 use Rattle.std.specs.Prelude.{option_map}
-use Rattle.std.specs.List.{Contains, before_first, position_or_len, prefix_len, suffix_len}
+use Rattle.std.specs.List.{Contains, before_first, concat, position_or_len, prefix_len, suffix_len}
 use Rattle.std.proofs.lemmas.List.{length-append, length-drop, length-take}
 use Rattle.std.proofs.lemmas.List.Elements.{All-append, All-contains, All-map}
 use Rattle.base64.specs.Engines.{standard, standard_no_pad}
@@ -9,6 +9,7 @@ use Rattle.base64.specs.Rfc4648.{encode, encode_group, encode_symbols, padding_l
 use Rattle.ssh_wire.specs.Fields.{length-number, length-string}
 use Rattle.ssh_wire.specs.Wire.{string}
 use Rattle.ssh_key.specs.Blanks.{after_blanks, before_ending, is_blank, is_ending, trimmed}
+use Rattle.ssh_key.specs.Trimmed.{length-after_blanks, length-before_ending, length-trimmed}
 use Rattle.ssh_key.specs.FingerprintReading.{IsFingerprint, sha256_prefix}
 use Rattle.ssh_key.specs.Fingerprints.{unpadded}
 use Rattle.ssh_key.specs.KeyLine.{AreWords, HasWords, IsKeyLine, base64}
@@ -16,7 +17,7 @@ use Rattle.ssh_key.specs.Kind.{certificate_name, kinds, type_name}
 use Rattle.ssh_key.specs.TypeName.{certificate_names, plain_names, type_names}
 use Rattle.ssh_key.specs.declared.kind.Kind.{Kind}
 use Rattle.ssh_key.specs.declared.kind.Kind.TheVariants.{Rsa, Dsa, Ecdsa256, Ecdsa384, Ecdsa521, Ed25519, EcdsaSk, Ed25519Sk}
-use Rattle.ssh_cert.specs.Certificate.{Certificate, IsCertificate, certificate_parts, joined}
+use Rattle.ssh_cert.specs.Certificate.{Certificate, IsCertificate, certificate_parts}
 use Rattle.ssh_cert.specs.Subject.{Subject}
 use Rattle.ssh_cert.specs.SubjectReading.{IsSubject, plain_key, certified, of_certificate}
 use Rattle.krl_spec.specs.Blanks.{after_endings}
@@ -27,21 +28,9 @@ use Rattle.krl_spec.specs.Stored.{IsWithinBlob}
 
 -- ---- texts without their ends
 
-pub length-after_blanks : (text : List ℕ) → length (after_blanks text) ≤ length text
-unfolding after_blanks
-length-after_blanks text = omega (arith, length-drop (prefix_len is_blank text) text)
-
-length-before_ending : (text : List ℕ) → length (before_ending text) ≤ length text
-unfolding before_ending
-length-before_ending text = omega (arith, length-take (length text - suffix_len is_ending text) text)
-
 length-after_endings : (text : List ℕ) → length (after_endings text) ≤ length text
 unfolding after_endings
 length-after_endings text = omega (arith, length-drop (prefix_len is_ending text) text)
-
-length-trimmed : (text : List ℕ) → length (trimmed text) ≤ length text
-unfolding trimmed
-length-trimmed text = omega (arith, length-before_ending (after_blanks text), length-after_blanks text)
 
 pub length-bare_line : (line : List ℕ) → length (bare_line line) ≤ length line
 unfolding bare_line
@@ -132,13 +121,13 @@ abbrev total : List (List ℕ) → ℕ
 total [] = 0
 total (text ∷ texts) = length text + total texts
 
-length-joined : (texts : List (List ℕ)) → length (joined texts) ≡ total texts
-length-joined [] = refl
-length-joined (text ∷ texts) = omega (arith, length-append text (joined texts), length-joined texts)
+length-concat : (texts : List (List ℕ)) → length (concat texts) ≡ total texts
+length-concat [] = refl
+length-concat (text ∷ texts) = omega (arith, length-append text (concat texts), length-concat texts)
 
 certificate_room : (blob : List ℕ) (certificate : Certificate) → IsCertificate blob certificate → IsWithinBlob blob (of_certificate certificate)
 certificate_room blob certificate is =
-    let size = ap length is.spelled ∙ length-joined (certificate_parts certificate is.reserved is.signature) in
+    let size = ap length is.spelled ∙ length-concat (certificate_parts certificate is.reserved is.signature) in
     let kind = certificate.key.kind in
     let name = length-string (certificate_name kind) in
     let id = length-string certificate.key_id in

@@ -28,14 +28,9 @@ MayStarve (Ok found) = ⊤
 MayStarve (Err cause) = MayHide cause
 
 -- The cause is the one that was read, or memory ran out.
-abbrev pub Tells : {A : Type 0} → Result A SpecCause → SpecCause → Type 0
-Tells read causes.NoMemory = MayStarve read
-Tells read cause = read ≡ Err cause
-
--- What was found is what reading gives, seen by a view; else the cause is told.
-abbrev pub Gives : {X Y : Type 0} → (X → Y) → Result X SpecCause → Result Y SpecCause → Type 0
-Gives view (Ok found) read = read ≡ Ok (view found)
-Gives view (Err cause) read = Tells read cause
+abbrev pub Tells : {A : Type 0} → SpecCause → Result A SpecCause → Type 0
+Tells causes.NoMemory read = MayStarve read
+Tells cause read = read ≡ Err cause
 
 -- what was held means some entries more
 abbrev pub AddsEntries : Contents → Contents → List Entry → Type 0
@@ -49,7 +44,7 @@ abbrev pub Adds : {A : Type 0} → (Contents → Contents → Type 0) → Result
 Adds Stores read (Ok done) old new =
     (entry : Entry) × ((read ≡ Ok entry)
     × (AddsEntries old new (entry ∷ []) × ((held new ≤ held old + 1) × Stores old new)))
-Adds Stores read (Err cause) old new = Tells read cause × (new ≡ old)
+Adds Stores read (Err cause) old new = Tells cause read × (new ≡ old)
 
 -- The same of a line, of which nothing need count.
 abbrev pub AddsLine : {A : Type 0} → (Contents → Contents → Type 0)
