@@ -15,14 +15,14 @@ use Rattle.krl_core.specs.declared.place.Place.{Place}
 use Rattle.krl_core.specs.Entry.{Entry, BitmapEntry}
 use Rattle.krl_core.specs.Naming.{SomeNamesAt, NamesSame}
 use Rattle.krl_core.specs.Contents.{Means, held}
-use Rattle.krl_core.specs.Keeping.{Keeping, IsKept, AddsEntries, Adds, InStep, KeepsBits, KeepsField, Closes, held_with_open, open_run, run_entries}
+use Rattle.krl_core.specs.Keeping.{Keeping, IsKept, AddsEntries, Adds, InStep, KeepsBits, KeepsField, Closes, held_with_open, open_run, run_entries, KeepsStored}
 use Rattle.ssh_wire.specs.Wire.{number_of}
 use Rattle.krl_core.specs.declared.place.Place.TheVariants.{BitmapByte}
 use Rattle.krl_core.specs.Place.{base_of, bits_judged, judge, next_bits, next_subsection, passes_end, highest_bit}
 use Rattle.serial_set.specs.Rising.{names_append as either, names_left, names_right}
 use Rattle.serial_set.specs.Bits.{bit_below}
 use Rattle.krl_core.proofs.Same.{AreSerials, same_serials, same_append, same_refl, same_is, same_then, same_swap, some_append, IsSerials}
-use Rattle.krl_core.proofs.Keeping.{open_entries}
+use Rattle.krl_core.proofs.Keeping.{open_entries, stored_same, stored_then}
 use Rattle.krl_core.proofs.Quiet.{out_step, out_subsection}
 use Rattle.krl_core.specs.Elements.{all_append}
 
@@ -180,11 +180,20 @@ bits_close old mid new last_one byte last finished on fed contents authority hea
     }
 
 -- a byte makes at most four runs more
-pub bits_held : (old mid new : Keeping) (byte : ℕ) (finished : List Span) → Feeds old.bitmap byte mid.bitmap finished
+bits_held : (old mid new : Keeping) (byte : ℕ) (finished : List Span) → Feeds old.bitmap byte mid.bitmap finished
     → mid.contents ≡ old.contents → held_with_open new ≤ held_with_open mid + length finished → held_with_open new ≤ held_with_open old + 4
 bits_held old mid new byte finished fed contents h =
     let same : held mid.contents ≡ held old.contents = ap held contents in
     omega (arith, fed.four_more, h, same, length-append (option_to_list mid.bitmap.pending) (reverse finished), length-reverse finished)
+
+-- A byte was fed, and of the runs that it finished some were added.
+pub fed_few : (old mid new : Keeping) (byte : ℕ) (finished : List Span) → Feeds old.bitmap byte mid.bitmap finished
+    → mid ≡ record old { bitmap = mid.bitmap } → held_with_open new ≤ held_with_open mid + length finished → KeepsStored mid new
+    → (held_with_open new ≤ held_with_open old + 4) × KeepsStored old new
+fed_few old mid new byte finished fed rest held stored =
+    let contents = ap (λ (k : Keeping). k.contents) rest in
+    let authority = ap (λ (k : Keeping). k.authority) rest in
+    (bits_held old mid new byte finished fed contents held, stored_then old mid new (stored_same old mid contents authority) stored)
 
 -- ---- a byte that passes its judgement shows no fault
 

@@ -6,7 +6,7 @@ use Rattle.serial_set.specs.declared.span.Span.{Span}
 use Rattle.krl_core.specs.Contents.{Means}
 use Rattle.krl_core.specs.Entry.{Entry, RangeEntry, SerialsEntry}
 use Rattle.krl_core.specs.Naming.{NamesSame}
-use Rattle.krl_core.specs.Keeping.{Keeping, IsKept, Adds, KeepsRest, Closes, KeepsStored, GrowsWithin, IsStoredWithin, held_with_open, open_run, run_entries}
+use Rattle.krl_core.specs.Keeping.{Keeping, IsKept, Adds, KeepsRest, Closes, KeepsStored, GrowsWithin, StoresWithin, held_with_open, open_run, run_entries}
 use Rattle.krl_core.proofs.Same.{same_refl, same_is, same_then, same_append, same_between, same_zero, same_none}
 
 abbrev pub open_entries : Keeping → List Entry
@@ -76,7 +76,7 @@ adds_to_zero k min max e = subst (λ (x : ℕ). Adds k (RangeEntry k.authority m
     (adds_same k k [] (RangeEntry k.authority min 0 ∷ []) (same_none k.authority min) (adds_none k))
 
 -- what is within a number is within any larger one
-pub stored_wider : (k : Keeping) (n m : ℕ) → n ≤ m → IsStoredWithin k n → IsStoredWithin k m
+pub stored_wider : (k : Keeping) (n m : ℕ) → n ≤ m → StoresWithin k n → StoresWithin k m
 stored_wider k n m le h = record {
   now = omega (arith, h.now);
   next = elim h.next [ inl named ↦ inl named | inr fits ↦ inr (omega (arith, fits)) ];

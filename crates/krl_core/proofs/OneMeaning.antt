@@ -11,7 +11,7 @@ use Rattle.std.proofs.lemmas.List.Elements.{All-tail}
 use Rattle.serial_set.specs.declared.span.Span.{Span}
 use Rattle.serial_set.specs.Span.{Covers}
 use Rattle.serial_set.specs.Least.{runs_unique}
-use Rattle.krl_core.specs.Contents.{Contents, HoldsId, HoldsSerial, IsListed, Means, Section, SomeSection, contents_of}
+use Rattle.krl_core.specs.Contents.{Contents, HoldsId, HoldsSerial, IsListed, Means, Section, SomeSection, contents_of, section_with}
 use Rattle.krl_core.specs.Entry.{Entry}
 use Rattle.krl_core.specs.Rising.{bytes_cmp, AllAbove, Rises, RisesBy}
 use Rattle.krl_core.proofs.Orders.{AllAbove-earlier, before_trans}
@@ -139,11 +139,8 @@ alike_later x y xs ys e rise alike =
       ids = λ a text h. held_later (λ section. Contains section.ids text) (λ section. Contains section.ids text) x y xs ys a e rise.0 h (alike.ids a text (inr h));
     }
 
-abbrev made : List ℕ → List Span → List (List ℕ) → Section
-made authority spans ids = record { authority = authority; spans = spans; ids = ids }
-
 same_section : (x y : Section) → x.authority ≡ y.authority → x.spans ≡ y.spans → x.ids ≡ y.ids → x ≡ y
-same_section x y a s i = ap (λ (z : List ℕ). made z x.spans x.ids) a ∙ ap (λ (z : List Span). made y.authority z x.ids) s ∙ ap (λ (z : List (List ℕ)). made y.authority y.spans z) i
+same_section x y a s i = ap (λ (z : List ℕ). section_with z x.spans x.ids) a ∙ ap (λ (z : List Span). section_with y.authority z x.ids) s ∙ ap (λ (z : List (List ℕ)). section_with y.authority y.spans z) i
 
 same_sections : (xs ys : List Section) → RisesBy authority_of xs → RisesBy authority_of ys → All IsListed xs → All IsListed ys → Alike xs ys → Alike ys xs → xs ≡ ys
 same_sections [] [] r t p q to from = refl

@@ -6,26 +6,25 @@ use Rattle.std.specs.declared.cmp.Ordering.TheVariants.{Less}
 use Rattle.std.specs.Ordering.{is_lt}
 use Rattle.std.proofs.lemmas.Bool.{cases_lt}
 use Rattle.std.proofs.lemmas.List.{take-append-drop, take_all, drop_all}
+use Rattle.std.proofs.lemmas.Grind.{flat_map-append}
 use Rattle.krl_core.specs.declared.page.Page.{Page}
 use Rattle.krl_core.specs.Rising.{bytes_cmp, AllBelow, AllAbove, NoneBelow, RisesBy}
 use Rattle.krl_core.specs.Inserting.{last_key}
 use Rattle.krl_core.specs.Pages.{joined, first_items, front_of, back_of}
 use Rattle.krl_core.proofs.Orders.{before_trans, not_is_lt, NoneBelow-above}
+use Rattle.krl_core.specs.Elements.{all_append}
 
 module _ {X : Type 0} (key : X → List ℕ) where
   -- ---- lists that follow each other
 
   pub AllBelow-append : (bytes : List ℕ) (xs ys : List X) → AllBelow key bytes xs → AllBelow key bytes ys → AllBelow key bytes (xs ++ ys)
-  AllBelow-append bytes [] ys a b = b
-  AllBelow-append bytes (x ∷ xs) ys a b = (a.0, AllBelow-append bytes xs ys a.1 b)
+  AllBelow-append bytes xs ys a b = all_append (λ x. bytes_cmp (key x) bytes ≡ Less) xs ys a b
 
   pub NoneBelow-append : (bytes : List ℕ) (xs ys : List X) → NoneBelow key bytes xs → NoneBelow key bytes ys → NoneBelow key bytes (xs ++ ys)
-  NoneBelow-append bytes [] ys a b = b
-  NoneBelow-append bytes (x ∷ xs) ys a b = (a.0, NoneBelow-append bytes xs ys a.1 b)
+  NoneBelow-append bytes xs ys a b = all_append (λ x. is_lt (bytes_cmp (key x) bytes) ≡ false) xs ys a b
 
   pub AllAbove-append : (bytes : List ℕ) (xs ys : List X) → AllAbove key bytes xs → AllAbove key bytes ys → AllAbove key bytes (xs ++ ys)
-  AllAbove-append bytes [] ys a b = b
-  AllAbove-append bytes (x ∷ xs) ys a b = (a.0, AllAbove-append bytes xs ys a.1 b)
+  AllAbove-append bytes xs ys a b = all_append (λ x. bytes_cmp bytes (key x) ≡ Less) xs ys a b
 
   pub AllAbove-left : (bytes : List ℕ) (xs ys : List X) → AllAbove key bytes (xs ++ ys) → AllAbove key bytes xs
   AllAbove-left bytes [] ys a = tt
@@ -92,8 +91,7 @@ module _ {X : Type 0} (key : X → List ℕ) where
   )
 
   pub joined-append : (ps qs : List (Page X)) → joined (ps ++ qs) ≡ joined ps ++ joined qs
-  joined-append [] qs = refl
-  joined-append (p ∷ ps) qs = ap (λ l. p.items.items ++ l) (joined-append ps qs) ∙ sym (append_assoc p.items.items (joined ps) (joined qs))
+  joined-append ps qs = flat_map-append (λ (page : Page X). page.items.items) ps qs
 
   pub first_rises : (pages : List (Page X)) (n : ℕ) → RisesBy key (joined pages) → RisesBy key (first_items (drop n pages))
   first_rises [] zero r = tt

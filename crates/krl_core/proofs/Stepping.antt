@@ -17,7 +17,7 @@ use Rattle.krl_core.specs.declared.krl_fault.KrlFault.TheVariants as faults
 use Rattle.krl_core.specs.declared.place.Place.{Place}
 use Rattle.krl_core.specs.Front.{Spot, start, spot_after, Leads, Passes, HasRoom, Told, no_room, refused, too_long, ends_early, IsFirstFault, limit}
 use Rattle.krl_core.specs.Gathered.{Gathered, GathersField, Grows, IsGathered}
-use Rattle.krl_core.specs.Keeping.{IsStoredWithin}
+use Rattle.krl_core.specs.Keeping.{StoresWithin}
 use Rattle.krl_core.specs.Place.{due, names, authority_after, header_after}
 use Rattle.krl_core.specs.Reading.{Position, working, HasRead, IsBounded, LooksFor, Missed, no_room as room_missed, cut, Says, starved, failed_read, first, Refused, is_fixed, told_as}
 use Rattle.krl_core.proofs.Fixed.{late_enough}
@@ -233,7 +233,7 @@ bounded_more old mid new gathered field b looks takes grows =
       limit_is = takes.limit ∙ looks.limit_is ∙ b.limit_is;
       within = omega (arith, takes.within, takes.taken, looks.limit_is, b.limit_is);
       held_is = omega (arith, grows.held_is, b.held_is, taken);
-      stored_is = subst (λ (n : ℕ). IsStoredWithin gathered.keeping n) (sym taken) (grows.stored_is old.pull.taken b.stored_is);
+      stored_is = subst (λ (n : ℕ). StoresWithin gathered.keeping n) (sym taken) (grows.stored_is old.pull.taken b.stored_is);
     }
 
 -- ---- the parts of a step

@@ -3,7 +3,7 @@ use Rattle.std.specs.Prelude.{◌≡◌, ℕ, ◌+◌, ◌<◌, ◌≤◌, ◌�
 use Rattle.serial_set.specs.Span.{AddsSpan}
 use Rattle.krl_core.specs.declared.addition.Addition.{Addition}
 use Rattle.krl_core.specs.declared.addition.Addition.TheVariants.{Serials, Id}
-use Rattle.krl_core.specs.Contents.{Contents, Means, Section}
+use Rattle.krl_core.specs.Contents.{Contents, Means, Section, section_with}
 use Rattle.krl_core.specs.Entry.{Entry}
 use Rattle.krl_core.specs.Inserting.{Inserts}
 
@@ -34,7 +34,7 @@ IsOrdered (Id text) = ⊤
 
 -- a section without anything
 abbrev pub empty_section : List ℕ → Section
-empty_section authority = record { authority = authority; spans = []; ids = [] }
+empty_section authority = section_with authority [] []
 
 -- one section under the authority is changed, and the others stay
 pub record ChangesOne (Change : Section → Section → Type 0) (authority : List ℕ)

@@ -1,5 +1,6 @@
 -- What revocations hold, as lists, and which entries they mean.
-use Rattle.std.specs.Prelude.{◌≡◌, ℕ, ◌+◌, ◌<◌, ◌⊎◌, ◌↔◌, List, [], ◌∷◌, length, sum_by, All, Contains}
+use Rattle.std.specs.Prelude.{◌≡◌, ℕ, ◌+◌, ◌<◌, ◌≤◌, ◌⊎◌, ◌↔◌, List, [], ◌∷◌, length, sum_by, All}
+use Rattle.std.specs.Prelude.{Contains}
 use Rattle.serial_set.specs.declared.span.Span.{Span}
 use Rattle.serial_set.specs.Span.{Covers, IsRuns, AreSerials}
 use Rattle.krl_core.specs.Entry.{Entry, IdEntry, KeyEntry, Sha1Entry, Sha256Entry}
@@ -11,6 +12,9 @@ pub record Section : Type 0 where
   pub authority : List ℕ
   pub spans : List Span
   pub ids : List (List ℕ)
+
+abbrev pub section_with : (authority : List ℕ) → List Span → (ids : List (List ℕ)) → Section
+section_with authority spans ids = record { authority = authority; spans = spans; ids = ids }
 
 -- all that is held
 pub record Contents : Type 0 where
@@ -97,3 +101,8 @@ section_size section = length section.authority + size_of section.ids
 abbrev pub stored : Contents → ℕ
 stored r =
     sum_by section_size r.sections + size_of r.keys + size_of r.sha1s + size_of r.sha256s
+
+-- What is stored has at most n bytes, and so it has where the authority at hand is counted too.
+pub record IsStoredWithin (authority : List ℕ) (r : Contents) (n : ℕ) : Type 0 where
+  pub now : stored r ≤ n
+  pub next : IsNamed r authority ⊎ (stored r + length authority ≤ n)

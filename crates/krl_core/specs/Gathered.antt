@@ -1,9 +1,11 @@
 -- What a reading keeps, where serials that come in no order wait to be kept in order.
-use Rattle.std.specs.Prelude.{◌≡◌, ℕ, ◌+◌, ◌*◌, ◌≤◌, Bool, true, false, List, [], ◌∷◌, ◌++◌, length}
+use Rattle.std.specs.Prelude.{◌≡◌, ℕ, ◌+◌, ◌*◌, ◌<◌, ◌≤◌, Bool, true, false, List, [], ◌∷◌, ◌++◌}
+use Rattle.std.specs.Prelude.{length, Result, OnErr, OnOk}
 use Rattle.krl_core.specs.declared.place.Place.{Place}
 use Rattle.krl_core.specs.declared.place.Place.TheVariants.{SubsectionType, SerialsLength, Serial}
 use Rattle.krl_core.specs.Entry.{Entry, SerialsEntry}
-use Rattle.krl_core.specs.Keeping.{Keeping, InStep, IsKept, IsStoredWithin, KeepsRest, held_with_open}
+use Rattle.krl_core.specs.Keeping.{Keeping, InStep, IsKept, StoresWithin, KeepsRest, KeepsStored}
+use Rattle.krl_core.specs.Keeping.{held_with_open}
 use Rattle.krl_core.specs.Naming.{NamesSame}
 use Rattle.krl_core.specs.Place.{names, authority_after, header_after}
 
@@ -43,6 +45,14 @@ pub record Settles (old new : Gathered) : Type 0 where
   pub gathered : (entries : List Entry) → IsGathered old entries → IsGathered new entries
   pub rest : KeepsRest old.keeping new.keeping
 
+-- All serials that waited were added, or memory ran out before all were.
+pub record SettlesAll {A E : Type 0} (result : Result A E) (old new : Gathered) : Type 0 where
+  pub settles : OnOk result (Settles old new)
+  pub settled : OnOk result (new.waiting ≡ [])
+  pub some : OnErr result (0 < length old.waiting)
+  pub held : all_held new ≤ all_held old
+  pub stored : KeepsStored old.keeping new.keeping
+
 -- What a field names was gathered, and the authority, the header and the bitmap are as after it.
 pub record GathersField (place : Place) (field : List ℕ) (next : Place) (old new : Gathered)
     : Type 0 where
@@ -56,4 +66,4 @@ pub record GathersField (place : Place) (field : List ℕ) (next : Place) (old n
 -- At most n bytes of the list made it grow, also where memory ran out in between.
 pub record Grows (n : ℕ) (old new : Gathered) : Type 0 where
   pub held_is : all_held new ≤ all_held old + 4 * n
-  pub stored_is : (m : ℕ) → IsStoredWithin old.keeping m → IsStoredWithin new.keeping (m + n)
+  pub stored_is : (m : ℕ) → StoresWithin old.keeping m → StoresWithin new.keeping (m + n)

@@ -1,12 +1,14 @@
 -- What a reading keeps of the fields that it has read.
-use Rattle.std.specs.Prelude.{◌≡◌, ℕ, ◌+◌, ◌-◌, ◌<◌, Bool, true, false, ◌*◌, ◌≤◌, ◌⊎◌, None, List, [], ◌∷◌, ◌++◌, length}
+use Rattle.std.specs.Prelude.{◌≡◌, ℕ, ◌+◌, ◌-◌, ◌<◌, Bool, true, false, ◌*◌, ◌≤◌, None, List}
+use Rattle.std.specs.Prelude.{[], ◌∷◌, ◌++◌, length}
 use Rattle.std.specs.Option.{option_to_list}
 use Rattle.serial_set.specs.declared.span.Span.{Span}
-use Rattle.serial_set.specs.BitRuns.{FedBitmap}
+use Rattle.serial_set.specs.declared.bit_fault.BitFault.{BitFault}
+use Rattle.serial_set.specs.BitRuns.{FedBitmap, HasFault}
 use Rattle.krl_core.specs.declared.header.Header.{Header}
 use Rattle.krl_core.specs.declared.place.Place.{Place}
 use Rattle.krl_core.specs.declared.place.Place.TheVariants.{BitmapByte}
-use Rattle.krl_core.specs.Contents.{Contents, IsNamed, Means, held, stored}
+use Rattle.krl_core.specs.Contents.{Contents, IsStoredWithin, Means, held}
 use Rattle.krl_core.specs.Entry.{Entry, RangeEntry, BitmapEntry}
 use Rattle.krl_core.specs.Naming.{NamesSame}
 use Rattle.krl_core.specs.Place.{names, authority_after, header_after, base_of}
@@ -50,11 +52,9 @@ InStep _ bitmap = bitmap.pending ≡ None
 abbrev pub held_with_open : Keeping → ℕ
 held_with_open keeping = held keeping.contents + length (open_run keeping)
 
--- What is stored has at most n bytes, and so it has where the authority in force is counted too.
-pub record IsStoredWithin (keeping : Keeping) (n : ℕ) : Type 0 where
-  pub now : stored keeping.contents ≤ n
-  pub next : IsNamed keeping.contents keeping.authority
-      ⊎ (stored keeping.contents + length keeping.authority ≤ n)
+-- what is held is stored within n bytes, and so it is with the authority in force
+abbrev pub StoresWithin : Keeping → ℕ → Type 0
+StoresWithin keeping n = IsStoredWithin keeping.authority keeping.contents n
 
 -- nothing changed but what is held
 pub record KeepsRest (old new : Keeping) : Type 0 where
@@ -80,6 +80,11 @@ pub record KeepsField (place : Place) (field : List ℕ) (next : Place) (old new
   pub header_is : new.header ≡ header_after place old.header field
   pub in_step : InStep next new.bitmap
 
+-- a byte of the bitmap is due, and this one has no fault
+pub record TakesByte (bitmap : FedBitmap) (byte : ℕ) : Type 0 where
+  pub due : 0 < bitmap.due
+  pub good : (fault : BitFault) → HasFault bitmap byte fault → ⊥
+
 -- What a byte of the bitmap at hand names was added. After the last one no run is open.
 pub record KeepsBits (byte : ℕ) (last : Bool) (old new : Keeping) : Type 0 where
   pub kept : AddsEntries old
@@ -99,9 +104,9 @@ pub record Closes (old new : Keeping) : Type 0 where
 
 -- What is stored stays within any number that it is within.
 abbrev pub KeepsStored : Keeping → Keeping → Type 0
-KeepsStored old new = (m : ℕ) → IsStoredWithin old m → IsStoredWithin new m
+KeepsStored old new = (m : ℕ) → StoresWithin old m → StoresWithin new m
 
 -- At most n bytes of the list made it grow, also where memory ran out in between.
 pub record GrowsWithin (n : ℕ) (old new : Keeping) : Type 0 where
   pub held_is : held_with_open new ≤ held_with_open old + 4 * n
-  pub stored_is : (m : ℕ) → IsStoredWithin old m → IsStoredWithin new (m + n)
+  pub stored_is : (m : ℕ) → StoresWithin old m → StoresWithin new (m + n)

@@ -1,7 +1,13 @@
 -- The numbers and the printed names of the faults of a revocation list.
 use Rattle.std.specs.Prelude.{ℕ, List, codes}
 use Rattle.krl_core.specs.declared.krl_fault.KrlFault.{KrlFault}
-use Rattle.krl_core.specs.declared.krl_fault.KrlFault.TheVariants.{Magic, FormatVersion, EndsEarly, UnknownSection, UnknownCertSection, Length, RangeReversed, BitmapNegative, BitmapWraps, HashLength, AfterSignature, TooLong, Read, NoMemory, CriticalExtension}
+use Rattle.krl_core.specs.declared.krl_fault.KrlFault.TheVariants.{Magic, FormatVersion, EndsEarly}
+use Rattle.krl_core.specs.declared.krl_fault.KrlFault.TheVariants.{UnknownSection}
+use Rattle.krl_core.specs.declared.krl_fault.KrlFault.TheVariants.{UnknownCertSection, Length}
+use Rattle.krl_core.specs.declared.krl_fault.KrlFault.TheVariants.{RangeReversed, BitmapNegative}
+use Rattle.krl_core.specs.declared.krl_fault.KrlFault.TheVariants.{BitmapWraps, HashLength}
+use Rattle.krl_core.specs.declared.krl_fault.KrlFault.TheVariants.{AfterSignature, TooLong, Read}
+use Rattle.krl_core.specs.declared.krl_fault.KrlFault.TheVariants.{NoMemory, CriticalExtension}
 
 abbrev pub fault_number : KrlFault → ℕ
 fault_number Magic = 1

@@ -3,7 +3,8 @@ use Rattle.std.specs.Prelude.{◌≡◌, ℕ, ◌<◌, ◌≤◌, ◌⊎◌, ◌
 use Rattle.sha1.specs.Sha1.{sha1}
 use Rattle.sha2.specs.Sha256.{sha256}
 use Rattle.serial_set.specs.BitRuns.{BitNames}
-use Rattle.krl_core.specs.Entry.{Entry, SerialsEntry, RangeEntry, BitmapEntry, IdEntry, KeyEntry, Sha1Entry, Sha256Entry}
+use Rattle.krl_core.specs.Entry.{Entry, SerialsEntry, RangeEntry, BitmapEntry, IdEntry, KeyEntry}
+use Rattle.krl_core.specs.Entry.{Sha1Entry, Sha256Entry}
 
 -- The entry stands under just this authority, which is empty for all authorities, and names the
 -- serial number s. The number 0 names no certificate.

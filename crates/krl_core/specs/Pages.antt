@@ -1,13 +1,12 @@
 -- A rising list that is held in pages.
 use Rattle.std.specs.Prelude.{◌≡◌, ℕ, ◌+◌, ◌<◌, ◌≤◌, List, [], ◌∷◌, ◌++◌, length, take, drop}
-use Rattle.std.specs.List.{slice_index_or as get_or}
+use Rattle.std.specs.List.{flat_map, slice_index_or as get_or}
 use Rattle.krl_core.specs.declared.page.Page.{Page}
 use Rattle.krl_core.specs.Rising.{AllBelow, NoneBelow}
 
 -- the values of some pages, one after the other
 abbrev pub joined : {X : Type 0} → List (Page X) → List X
-joined [] = []
-joined (page ∷ pages) = page.items.items ++ joined pages
+joined {X} pages = flat_map (λ (page : Page X). page.items.items) pages
 
 -- the values of the first page
 abbrev pub first_items : {X : Type 0} → List (Page X) → List X

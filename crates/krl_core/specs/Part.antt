@@ -1,6 +1,8 @@
 -- The part of a list that the field of each place stands in.
 use Rattle.krl_core.specs.declared.part.Part.{Part}
-use Rattle.krl_core.specs.declared.part.Part.TheVariants.{Header, Signature, Keys, Hashes, Certificates, Serials, Bitmap, Ids, Extension}
+use Rattle.krl_core.specs.declared.part.Part.TheVariants.{Header, Signature, Keys, Hashes}
+use Rattle.krl_core.specs.declared.part.Part.TheVariants.{Certificates, Serials, Bitmap, Ids}
+use Rattle.krl_core.specs.declared.part.Part.TheVariants.{Extension}
 use Rattle.krl_core.specs.declared.place.Place.{Place}
 use Rattle.krl_core.specs.declared.place.Place.TheVariants as places
 

@@ -1,14 +1,36 @@
 -- The places in a list where a field can be due, and the table of what is due at each
 -- (PROTOCOL.krl).
-use Rattle.std.specs.Prelude.{ℕ, zero, suc, ◌+◌, ◌-◌, ◌*◌, ◌%◌, ◌==◌, nat_lt, nat_le, if◌then◌else◌, Bool, true, false, not, List, [], ◌∷◌, Option, Some, None, Result, Ok, Err}
+use Rattle.std.specs.Prelude.{ℕ, zero, suc, ◌+◌, ◌-◌, ◌*◌, ◌%◌, ◌==◌, nat_lt, nat_le, if◌then◌else◌}
+use Rattle.std.specs.Prelude.{Bool, true, false, not, List, [], ◌∷◌, Option, Some, None, Result, Ok}
+use Rattle.std.specs.Prelude.{Err}
 use Rattle.std.specs.Str.{bytes_eq}
 use Rattle.ssh_wire.specs.Wire.{number_of}
 use Rattle.krl_core.specs.declared.krl_fault.KrlFault.{KrlFault}
 use Rattle.krl_core.specs.declared.krl_fault.KrlFault.TheVariants as faults
 use Rattle.krl_core.specs.declared.header.Header.{Header}
 use Rattle.krl_core.specs.declared.place.Place.{Place}
-use Rattle.krl_core.specs.declared.place.Place.TheVariants.{Magic, FormatVersion, Version, Date, Flags, ReservedLength, Reserved, CommentLength, Comment, SectionType, SignatureKeyLength, SignatureKey, SignatureLength, Signature, KeysLength, KeyLength, Key, Sha1sLength, Sha1Length, Sha1, Sha256sLength, Sha256Length, Sha256, CertificatesLength, AuthorityLength, Authority, SectionReservedLength, SectionReserved, SubsectionType, SerialsLength, Serial, RangeLength, RangeMin, RangeMax, BitmapLength, BitmapOffset, BitmapSize, BitmapByte, IdsLength, IdLength, Id, ExtensionLength, SubsectionExtensionLength, ExtensionNameLength, ExtensionName, ExtensionCritical, ExtensionContentsLength, ExtensionContents}
-use Rattle.krl_core.specs.Entry.{Entry, SerialsEntry, RangeEntry, BitmapEntry, IdEntry, KeyEntry, Sha1Entry, Sha256Entry}
+use Rattle.krl_core.specs.declared.place.Place.TheVariants.{Magic, FormatVersion, Version, Date}
+use Rattle.krl_core.specs.declared.place.Place.TheVariants.{Flags, ReservedLength, Reserved}
+use Rattle.krl_core.specs.declared.place.Place.TheVariants.{CommentLength, Comment, SectionType}
+use Rattle.krl_core.specs.declared.place.Place.TheVariants.{SignatureKeyLength, SignatureKey}
+use Rattle.krl_core.specs.declared.place.Place.TheVariants.{SignatureLength, Signature, KeysLength}
+use Rattle.krl_core.specs.declared.place.Place.TheVariants.{KeyLength, Key, Sha1sLength, Sha1Length}
+use Rattle.krl_core.specs.declared.place.Place.TheVariants.{Sha1, Sha256sLength, Sha256Length}
+use Rattle.krl_core.specs.declared.place.Place.TheVariants.{Sha256, CertificatesLength}
+use Rattle.krl_core.specs.declared.place.Place.TheVariants.{AuthorityLength, Authority}
+use Rattle.krl_core.specs.declared.place.Place.TheVariants.{SectionReservedLength, SectionReserved}
+use Rattle.krl_core.specs.declared.place.Place.TheVariants.{SubsectionType, SerialsLength, Serial}
+use Rattle.krl_core.specs.declared.place.Place.TheVariants.{RangeLength, RangeMin, RangeMax}
+use Rattle.krl_core.specs.declared.place.Place.TheVariants.{BitmapLength, BitmapOffset, BitmapSize}
+use Rattle.krl_core.specs.declared.place.Place.TheVariants.{BitmapByte, IdsLength, IdLength, Id}
+use Rattle.krl_core.specs.declared.place.Place.TheVariants.{ExtensionLength}
+use Rattle.krl_core.specs.declared.place.Place.TheVariants.{SubsectionExtensionLength}
+use Rattle.krl_core.specs.declared.place.Place.TheVariants.{ExtensionNameLength, ExtensionName}
+use Rattle.krl_core.specs.declared.place.Place.TheVariants.{ExtensionCritical}
+use Rattle.krl_core.specs.declared.place.Place.TheVariants.{ExtensionContentsLength}
+use Rattle.krl_core.specs.declared.place.Place.TheVariants.{ExtensionContents}
+use Rattle.krl_core.specs.Entry.{Entry, SerialsEntry, RangeEntry, BitmapEntry, IdEntry, KeyEntry}
+use Rattle.krl_core.specs.Entry.{Sha1Entry, Sha256Entry}
 use Rattle.krl_core.specs.Krl.{magic}
 
 -- A field that is due: how many bytes it has; how many bytes what it stands in has left for it,

@@ -1,5 +1,6 @@
 -- How far a list is read, a field at a time.
-use Rattle.std.specs.Prelude.{◌≡◌, ℕ, ◌+◌, ◌*◌, ◌≤◌, ◌⊎◌, Bool, true, false, List, [], ◌∷◌, ◌++◌, length, Option, Some, None, IsSome}
+use Rattle.std.specs.Prelude.{◌≡◌, ℕ, ◌+◌, ◌*◌, ◌≤◌, ◌⊎◌, Bool, true, false, List, [], ◌∷◌, ◌++◌}
+use Rattle.std.specs.Prelude.{length, Option, Some, None, IsSome}
 use Rattle.std.specs.List.{concat}
 use Rattle.std.specs.Io.KnownBytes.{IsAtEnd, Keeps}
 use Rattle.ssh_wire.specs.Wire.{IsBytes}
@@ -7,16 +8,18 @@ use Rattle.ssh_wire.specs.Pull.{Pulled, Refuses, left_of}
 use Rattle.ssh_wire.specs.declared.pull_fault.PullFault.{PullFault}
 use Rattle.ssh_wire.specs.declared.pull_fault.PullFault.TheVariants as pulls
 use Rattle.krl_core.specs.declared.krl_fault.KrlFault.{KrlFault}
-use Rattle.krl_core.specs.declared.krl_fault.KrlFault.TheVariants.{EndsEarly, Length, TooLong, Read, NoMemory}
+use Rattle.krl_core.specs.declared.krl_fault.KrlFault.TheVariants.{EndsEarly, Length, TooLong, Read}
+use Rattle.krl_core.specs.declared.krl_fault.KrlFault.TheVariants.{NoMemory}
 use Rattle.krl_core.specs.declared.place.Place.{Place}
-use Rattle.krl_core.specs.declared.place.Place.TheVariants.{Magic, FormatVersion, Version, Date, Flags, ReservedLength}
+use Rattle.krl_core.specs.declared.place.Place.TheVariants.{Magic, FormatVersion, Version, Date}
+use Rattle.krl_core.specs.declared.place.Place.TheVariants.{Flags, ReservedLength}
 use Rattle.krl_core.specs.declared.header.Header.{Header}
 use Rattle.krl_core.specs.Contents.{Contents, Means, held, stored}
 use Rattle.krl_core.specs.Entries.{entries_of}
 use Rattle.krl_core.specs.Krl.{SpelledSection, Spells}
 use Rattle.krl_core.specs.Front.{Spot, start, Leads, Passes, HasRoom, IsFirstFault, limit}
 use Rattle.krl_core.specs.Gathered.{Gathered, IsGathered, IsReady, all_held}
-use Rattle.krl_core.specs.Keeping.{IsStoredWithin}
+use Rattle.krl_core.specs.Keeping.{StoresWithin}
 use Rattle.krl_core.specs.Place.{due}
 
 -- the reader, the place where the next field is due, what is gathered, and the fault that was met
@@ -134,7 +137,7 @@ pub record IsBounded (pull : Pulled) (gathered : Gathered) : Type 0 where
   pub limit_is : pull.limit ≡ limit
   pub within : pull.taken ≤ limit
   pub held_is : all_held gathered ≤ 4 * pull.taken
-  pub stored_is : IsStoredWithin gathered.keeping pull.taken
+  pub stored_is : StoresWithin gathered.keeping pull.taken
 
 -- The position is that of a reading.
 pub record IsSound (position : Position) : Type 0 where

@@ -1,5 +1,6 @@
 -- Lists that rise by some bytes of their elements.
 use Rattle.std.specs.Prelude.{◌≡◌, ℕ, List, [], ◌∷◌, false, ⊤}
+use Rattle.std.specs.List.{AllByRecursion}
 use Rattle.std.specs.declared.cmp.Ordering.{Ordering}
 use Rattle.std.specs.declared.cmp.Ordering.TheVariants.{Less}
 use Rattle.std.specs.Ordering.{nat_cmp, is_lt}
@@ -12,18 +13,15 @@ bytes_cmp = slice_cmp nat_cmp
 module _ {X : Type 0} (key : X → List ℕ) where
   -- the bytes of each element come before these
   abbrev pub AllBelow : List ℕ → List X → Type 0
-  AllBelow bytes [] = ⊤
-  AllBelow bytes (x ∷ xs) = (bytes_cmp (key x) bytes ≡ Less) × AllBelow bytes xs
+  AllBelow bytes xs = AllByRecursion (λ x. bytes_cmp (key x) bytes ≡ Less) xs
 
   -- the bytes of each element come after these
   abbrev pub AllAbove : List ℕ → List X → Type 0
-  AllAbove bytes [] = ⊤
-  AllAbove bytes (x ∷ xs) = (bytes_cmp bytes (key x) ≡ Less) × AllAbove bytes xs
+  AllAbove bytes xs = AllByRecursion (λ x. bytes_cmp bytes (key x) ≡ Less) xs
 
   -- the bytes of no element come before these
   abbrev pub NoneBelow : List ℕ → List X → Type 0
-  NoneBelow bytes [] = ⊤
-  NoneBelow bytes (x ∷ xs) = (is_lt (bytes_cmp (key x) bytes) ≡ false) × NoneBelow bytes xs
+  NoneBelow bytes xs = AllByRecursion (λ x. is_lt (bytes_cmp (key x) bytes) ≡ false) xs
 
   -- the bytes of each element come before those of each later one
   abbrev pub RisesBy : List X → Type 0

@@ -1,9 +1,12 @@
 -- Text that is added to a list that is written, within the limit.
-use Rattle.std.specs.Prelude.{◌≡◌, ℕ, ◌+◌, ◌<◌, ◌≤◌, Bool, true, false, List, ◌++◌, length, take, Option, Result, Ok, Err, ⊤}
+use Rattle.std.specs.Prelude.{◌≡◌, ℕ, ◌+◌, ◌<◌, ◌≤◌, Bool, true, false, List, ◌++◌, length, take}
+use Rattle.std.specs.Prelude.{Option, Result, Ok, Err, ⊤}
 use Rattle.std.specs.Io.KnownBytes.{Appends}
 use Rattle.krl_core.specs.Front.{limit}
 use Rattle.krl_core.specs.declared.writing.krl_text.WriteFault.{WriteFault}
-use Rattle.krl_core.specs.declared.writing.krl_text.WriteFault.TheVariants.{Write, NoMemory as NoMemory', TooLong as TooLong'}
+use Rattle.krl_core.specs.declared.writing.krl_text.WriteFault.TheVariants.{Write}
+use Rattle.krl_core.specs.declared.writing.krl_text.WriteFault.TheVariants.{NoMemory as NoMemory'}
+use Rattle.krl_core.specs.declared.writing.krl_text.WriteFault.TheVariants.{TooLong as TooLong'}
 use Rattle.krl_core.specs.declared.writing.text_fault.TextFault.{TextFault}
 use Rattle.krl_core.specs.declared.writing.text_fault.TextFault.TheVariants.{NoMemory, TooLong}
 use Rattle.krl_plan.specs.declared.group.Group.{Group}

@@ -1,9 +1,10 @@
 // Gathering serials that come in no order, to add them in order.
 
-ghost use Rattle.std.specs.Prelude.{◌≡◌, ◌+◌, ◌^◌, ◌<◌, ◌≤◌, [], false, true, None, OnErr, OnOk, length};
+ghost use Rattle.std.specs.Prelude.{◌≡◌, ◌^◌, ◌<◌, [], false, true, None, OnErr, OnOk, length};
 ghost use Rattle.krl_core.specs.Front.{Passes, start};
-ghost use Rattle.krl_core.specs.Gathered.{GathersField, Grows, IsGathered, IsReady, Settles, all_held, may_wait};
-ghost use Rattle.krl_core.specs.Keeping.{IsStoredWithin, KeepsStored};
+ghost use Rattle.krl_core.specs.Gathered.{GathersField, Grows, IsGathered, IsReady, SettlesAll};
+ghost use Rattle.krl_core.specs.Gathered.{all_held, may_wait};
+ghost use Rattle.krl_core.specs.Keeping.{StoresWithin};
 ghost use Rattle.krl_core.specs.Reading.{is_fixed};
 
 use crate::field::u64_of;
@@ -47,7 +48,7 @@ impl<S: Spans> Gatherer<S> {
         ensures closed { result.keeping.bitmap.pending ≡ None }
         ensures settled { result.waiting ≡ [] }
         ensures held { all_held result ≡ 0 }
-        ensures stored { IsStoredWithin result.keeping 0 }
+        ensures stored { StoresWithin result.keeping 0 }
     {
         Gatherer {
             keeper: Keeper::new(alloc),
@@ -123,11 +124,7 @@ impl<S: Spans> Gatherer<S> {
 
     // Adds the serials that wait.
     fn settle(&mut self) -> Result<(), AllocError>
-        ensures settles { OnOk result (Settles self.old self.new) }
-        ensures settled { OnOk result (self.new.waiting ≡ []) }
-        ensures some { OnErr result (0 < length self.old.waiting) }
-        ensures held { all_held self.new ≤ all_held self.old }
-        ensures stored { KeepsStored self.old.keeping self.new.keeping }
+        ensures { SettlesAll result self.old self.new }
     {
         self.lowest = u64::MAX;
         self.highest = 0;
@@ -137,11 +134,7 @@ impl<S: Spans> Gatherer<S> {
 
     // Adds the serials that wait, the last first.
     fn add_waiting(&mut self) -> Result<(), AllocError>
-        ensures settles { OnOk result (Settles self.old self.new) }
-        ensures settled { OnOk result (self.new.waiting ≡ []) }
-        ensures some { OnErr result (0 < length self.old.waiting) }
-        ensures held { all_held self.new ≤ all_held self.old }
-        ensures stored { KeepsStored self.old.keeping self.new.keeping }
+        ensures { SettlesAll result self.old self.new }
     {
         while let Some(serial) = self.waiting.pop() {
             self.keeper.add_serial(serial)?;

@@ -1,5 +1,6 @@
 // How pages take a value in, and how a full one is cut in two.
-ghost use Rattle.std.specs.Prelude.{◌≡◌, ◌+◌, ◌<◌, ◌≤◌, ◌++◌, ◌∷◌, [], length, drop, OnOk, OnErr, IfOk, IsTrue, insert};
+ghost use Rattle.std.specs.Prelude.{◌≡◌, ◌+◌, ◌<◌, ◌≤◌, ◌++◌, ◌∷◌, [], length, drop, OnOk, OnErr};
+ghost use Rattle.std.specs.Prelude.{IfOk, IsTrue, insert};
 ghost use Rattle.krl_core.specs.Pages.{joined, first_items, front_of, back_of};
 
 use crate::keyed::Keyed;

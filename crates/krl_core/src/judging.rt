@@ -1,7 +1,15 @@
 // What follows a field of a list, or why it is refused.
 
 ghost use Rattle.std.specs.Prelude.{◌≡◌, ◌-◌, ◌<◌, ◌≤◌};
-ghost use Rattle.krl_core.specs.Place.{judge as judged_by, within as within_of, base_of, bits_judged as bits_judged_of, passes_end as passes_end_of, highest_bit as highest_bit_of, next_bits as bits_after, next_id as id_after, next_key as key_after, next_serial as serial_after, next_sha1 as sha1_after, next_sha256 as sha256_after, next_subsection as subsection_after, section_of_type as section_of, subsection_of_type as subsection_of};
+ghost use Rattle.krl_core.specs.Place.{judge as judged_by, within as within_of, base_of};
+ghost use Rattle.krl_core.specs.Place.{bits_judged as bits_judged_of, passes_end as passes_end_of};
+ghost use Rattle.krl_core.specs.Place.{highest_bit as highest_bit_of, next_bits as bits_after};
+ghost use Rattle.krl_core.specs.Place.{next_id as id_after, next_key as key_after};
+ghost use Rattle.krl_core.specs.Place.{next_serial as serial_after, next_sha1 as sha1_after};
+ghost use Rattle.krl_core.specs.Place.{next_sha256 as sha256_after};
+ghost use Rattle.krl_core.specs.Place.{next_subsection as subsection_after};
+ghost use Rattle.krl_core.specs.Place.{section_of_type as section_of};
+ghost use Rattle.krl_core.specs.Place.{subsection_of_type as subsection_of};
 
 use crate::krl_fault::KrlFault;
 use crate::place::Place;

@@ -1,13 +1,16 @@
 // Keeping what the fields of a list name.
 
-ghost use Rattle.std.specs.Prelude.{◌≡◌, ◌+◌, ◌^◌, ◌<◌, ◌≤◌, ◌∷◌, [], ℕ, None, OnErr, OnOk, false, length, All};
-ghost use Rattle.serial_set.specs.declared.bit_fault.BitFault.{BitFault as BitFaultOf};
-ghost use Rattle.serial_set.specs.BitRuns.{Feeds, HasFault, IsInterval};
+ghost use Rattle.std.specs.Prelude.{◌≡◌, ◌+◌, ◌^◌, ◌<◌, ◌≤◌, ◌∷◌, [], ℕ, None, OnErr, OnOk, false};
+ghost use Rattle.std.specs.Prelude.{length, All};
+ghost use Rattle.serial_set.specs.BitRuns.{Feeds, IsInterval};
 ghost use Rattle.serial_set.specs.Finished.{finished_of};
 ghost use Rattle.krl_core.specs.Authority.{IsAuthority, authority_bytes};
-ghost use Rattle.krl_core.specs.Entry.{SerialsEntry, RangeEntry, IdEntry, KeyEntry, Sha1Entry, Sha256Entry};
+ghost use Rattle.krl_core.specs.Entry.{SerialsEntry, RangeEntry, IdEntry, KeyEntry, Sha1Entry};
+ghost use Rattle.krl_core.specs.Entry.{Sha256Entry};
 ghost use Rattle.krl_core.specs.Front.{Passes, start};
-ghost use Rattle.krl_core.specs.Keeping.{Adds, Closes, GrowsWithin, InStep, IsKept, IsStoredWithin, KeepsBits, KeepsField, KeepsRest, KeepsStored, held_with_open, run_entries};
+ghost use Rattle.krl_core.specs.Keeping.{Adds, Closes, GrowsWithin, InStep, IsKept, StoresWithin};
+ghost use Rattle.krl_core.specs.Keeping.{KeepsBits, KeepsField, KeepsRest, KeepsStored, TakesByte};
+ghost use Rattle.krl_core.specs.Keeping.{held_with_open, run_entries};
 ghost use Rattle.krl_core.specs.Reading.{is_fixed};
 
 use crate::field::{byte_of, u64_of};
@@ -55,7 +58,7 @@ impl<S: Spans> Keeper<S> {
         ensures start { (result.authority ≡ []) × (result.header ≡ start.header) }
         ensures in_step { result.bitmap.pending ≡ None }
         ensures held { held_with_open result ≡ 0 }
-        ensures stored { IsStoredWithin result 0 }
+        ensures stored { StoresWithin result 0 }
     {
         Keeper {
             version: 0,
@@ -222,8 +225,7 @@ impl<S: Spans> Keeper<S> {
     // Feeds a byte to the bitmap at hand, and adds the runs that it finishes. With the last byte
     // the open run is finished too.
     fn add_bits(&mut self, byte: u8, last: bool) -> Result<(), AllocError>
-        requires due { 0 < self.old.bitmap.due }
-        requires good { (fault : BitFaultOf) → HasFault self.old.bitmap byte fault → ⊥ }
+        requires { TakesByte self.old.bitmap byte }
         ensures kept { OnOk result (KeepsBits byte last self.old self.new) }
         ensures grows { GrowsWithin 1 self.old self.new }
     {
@@ -233,8 +235,7 @@ impl<S: Spans> Keeper<S> {
     }
 
     fn feed(&mut self, byte: u8) -> Finished
-        requires due { 0 < self.old.bitmap.due }
-        requires good { (fault : BitFaultOf) → HasFault self.old.bitmap byte fault → ⊥ }
+        requires { TakesByte self.old.bitmap byte }
         ensures fed { Feeds self.old.bitmap byte self.new.bitmap (finished_of result) }
         ensures runs { All IsInterval (finished_of result) }
         ensures rest { self.new ≡ record self.old { bitmap = self.new.bitmap } }

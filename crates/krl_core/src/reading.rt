@@ -1,6 +1,7 @@
 // Reading a list in one pass, a field at a time.
 
-ghost use Rattle.std.specs.Prelude.{◌≡◌, ◌+◌, ◌*◌, ◌<◌, ◌≤◌, ◌⊎◌, ℕ, false, true, None, Some, Ok, Err, List, [], IfOk, IfErr, IfSome, IsTrue, OnOk, length};
+ghost use Rattle.std.specs.Prelude.{◌≡◌, ◌+◌, ◌*◌, ◌<◌, ◌≤◌, ◌⊎◌, ℕ, false, true, None, Some, Ok};
+ghost use Rattle.std.specs.Prelude.{Err, List, [], IfOk, IfErr, IfSome, IsTrue, OnOk, length};
 ghost use Rattle.std.specs.List.{concat};
 ghost use Rattle.ssh_wire.specs.Wire.{IsBytes};
 ghost use Rattle.ssh_wire.specs.Pull.{Refuses, Takes};
@@ -9,7 +10,9 @@ ghost use Rattle.krl_core.specs.declared.krl_fault.KrlFault.TheVariants.{NoMemor
 ghost use Rattle.krl_core.specs.Front.{HasRoom, Passes, limit};
 ghost use Rattle.krl_core.specs.Gathered.{GathersField, Grows, IsReady, all_held};
 ghost use Rattle.krl_core.specs.Place.{due};
-ghost use Rattle.krl_core.specs.Reading.{Ends, Follows, HasRead, IsBounded, IsSound, IsList, IsWhole, LooksFor, Missed, ReadsOneMore, Refused, is_fixed, told_as, working};
+ghost use Rattle.krl_core.specs.Reading.{Ends, Follows, HasRead, IsBounded, IsSound, IsList};
+ghost use Rattle.krl_core.specs.Reading.{IsWhole, LooksFor, Missed, ReadsOneMore, Refused};
+ghost use Rattle.krl_core.specs.Reading.{is_fixed, told_as, working};
 
 use crate::gatherer::Gatherer;
 use crate::header::Header;

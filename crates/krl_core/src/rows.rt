@@ -1,5 +1,6 @@
 // Values in order of their bytes, each bytes once.
-ghost use Rattle.std.specs.Prelude.{◌≡◌, ◌<◌, ◌↔◌, List, [], length, map, IfOk, IfSome, IfNone, Some, Contains, IsTrue, OnErr, slice_get};
+ghost use Rattle.std.specs.Prelude.{◌≡◌, ◌<◌, ◌↔◌, List, [], length, map, IfOk, IfSome, IfNone};
+ghost use Rattle.std.specs.Prelude.{Some, Contains, IsTrue, OnErr, slice_get};
 ghost use Rattle.krl_core.specs.Asked.{Stands};
 ghost use Rattle.krl_core.specs.Chapters.{values};
 ghost use Rattle.krl_core.specs.Inserting.{AddsNew};

@@ -1,5 +1,6 @@
 // The shelves of all authorities.
-ghost use Rattle.std.specs.Prelude.{◌≡◌, ◌<◌, ℕ, List, length, map, drop, Contains, IsSome, IsNone, IfOk, OnOk, OnErr};
+ghost use Rattle.std.specs.Prelude.{◌≡◌, ◌<◌, ℕ, List, length, map, drop, Contains, IsSome, IsNone};
+ghost use Rattle.std.specs.Prelude.{IfOk, OnOk, OnErr};
 ghost use Rattle.krl_core.specs.Chapters.{values, pages_at, IsMarked};
 ghost use Rattle.krl_core.specs.Changes.{Takes, IsOrdered, ChangesOne, AddsTo};
 ghost use Rattle.krl_core.specs.Shelf.{sections_of, AddsAt, AddsUnder};

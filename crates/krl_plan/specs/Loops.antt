@@ -13,7 +13,8 @@ use Rattle.krl_plan.specs.declared.group.Sort.TheVariants.{Serials, Range, Bitma
 use Rattle.krl_plan.specs.declared.group.Group.{Group}
 use Rattle.krl_plan.specs.declared.cell.Cell.{Cell}
 use Rattle.krl_plan.specs.Plan.{Covers, IsGroup, IsSmall, end_of, reach, serial_count}
-use Rattle.krl_plan.specs.Search.{Beats, IsBest, IsBestOf, IsCandidate, Wins, cell_with, cost_with, rest_cost}
+use Rattle.krl_plan.specs.Search.{Beats, IsBest, IsBestOf, IsCandidate, Wins, cell_with, cost_with}
+use Rattle.krl_plan.specs.Search.{rest_cost}
 use Rattle.krl_plan.specs.Chosen.{group_few}
 
 abbrev pub group_of : Sort → ℕ → Group

@@ -20,11 +20,7 @@ pub(crate) fn after(place: Place, field: &[u8]) -> Result<Place, KrlFault>
     ensures { result ≡ (due place).judged field.now }
 {
     match place {
-        Place::Magic => judge(
-            field == MAGIC,
-            KrlFault::Magic,
-            Place::FormatVersion,
-        ),
+        Place::Magic => judge(field == MAGIC, KrlFault::Magic, Place::FormatVersion),
         Place::FormatVersion => judge(u32_of(field) == 1, KrlFault::FormatVersion, Place::Version),
         Place::Version => Ok(Place::Date),
         Place::Date => Ok(Place::Flags),

@@ -33,8 +33,9 @@ pub fn each_text_is_told()
 
 /// A text of bytes has no fault just where a header and sections spell it within the limit.
 pub fn no_fault_where_spelled()
-    ensures spelled { (text : List ℕ) (header : Header) (sections : List SpelledSection) → IsBytes text
-        → Spells text header sections → length text ≤ limit → IsFirstFault text None }
+    ensures spelled { (text : List ℕ) (header : Header) (sections : List SpelledSection)
+        → IsBytes text → Spells text header sections → length text ≤ limit
+        → IsFirstFault text None }
     ensures unfaulted { (text : List ℕ) → IsBytes text → IsFirstFault text None
         → (length text ≤ limit)
         × ((header : Header) × ((sections : List SpelledSection) × Spells text header sections)) }

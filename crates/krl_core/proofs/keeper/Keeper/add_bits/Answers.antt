@@ -2,9 +2,9 @@ use Rattle.std.proofs.Common.{ap, arith}
 use Rattle.std.proofs.lemmas.Result.{on_ok_weaker}
 use Rattle.serial_set.specs.Finished.{finished_of}
 use Rattle.krl_core.specs.Keeping.{Adds, run_entries, held_with_open}
-use Rattle.std.proofs.Common.{◌≡◌, ◌≤◌, ◌+◌, length}
-use Rattle.krl_core.proofs.Bits.{bits_go_on, bits_close, bits_held}
-use Rattle.krl_core.proofs.Keeping.{grows_one, stored_same, stored_then}
+use Rattle.std.proofs.Common.{◌≤◌, ◌+◌, length}
+use Rattle.krl_core.proofs.Bits.{bits_go_on, bits_close, fed_few}
+use Rattle.krl_core.proofs.Keeping.{grows_one, stored_then}
 use Rattle.krl_core.proofs.keeper.Keeper.add_bits.Goals as goal
 
 pub returns-in_err-add_spans-clause-grows : goal.returns-in_err-add_spans-clause-grows
@@ -12,34 +12,28 @@ returns-in_err-add_spans-clause-grows g c =
     let old = c.args.self.now in
     let mid = c.feed-finished.new.self in
     let new = c.add_spans.new.self in
-    let contents : mid.contents ≡ old.contents = ap (λ k. k.contents) c.feed-finished.ensures.rest in
-    let authority : mid.authority ≡ old.authority = ap (λ k. k.authority) c.feed-finished.ensures.rest in
     let held : held_with_open new ≤ held_with_open mid + length (finished_of c.feed-finished.result) = rw c.as_slice.ensures at c.add_spans.ensures.held in
-    grows_one old new 4 (bits_held old mid new c.args.byte (finished_of c.feed-finished.result) c.feed-finished.ensures.fed contents held) (omega arith)
-    (stored_then old mid new (stored_same old mid contents authority) c.add_spans.ensures.stored)
+    let few = fed_few old mid new c.args.byte (finished_of c.feed-finished.result) c.feed-finished.ensures.fed c.feed-finished.ensures.rest held c.add_spans.ensures.stored in
+    grows_one old new 4 few.0 (omega arith) few.1
 
 pub returns-else-last-clause-grows : goal.returns-else-last-clause-grows
 returns-else-last-clause-grows g c =
     let old = c.args.self.now in
     let mid = c.feed-finished.new.self in
     let new = c.add_spans.new.self in
-    let contents : mid.contents ≡ old.contents = ap (λ k. k.contents) c.feed-finished.ensures.rest in
-    let authority : mid.authority ≡ old.authority = ap (λ k. k.authority) c.feed-finished.ensures.rest in
     let held : held_with_open new ≤ held_with_open mid + length (finished_of c.feed-finished.result) = rw c.as_slice.ensures at c.add_spans.ensures.held in
-    grows_one old new 4 (bits_held old mid new c.args.byte (finished_of c.feed-finished.result) c.feed-finished.ensures.fed contents held) (omega arith)
-    (stored_then old mid new (stored_same old mid contents authority) c.add_spans.ensures.stored)
+    let few = fed_few old mid new c.args.byte (finished_of c.feed-finished.result) c.feed-finished.ensures.fed c.feed-finished.ensures.rest held c.add_spans.ensures.stored in
+    grows_one old new 4 few.0 (omega arith) few.1
 
 pub returns-then-last-clause-grows : goal.returns-then-last-clause-grows
 returns-then-last-clause-grows g c =
     let old = c.args.self.now in
     let mid = c.feed-finished.new.self in
     let new = c.add_spans.new.self in
-    let contents : mid.contents ≡ old.contents = ap (λ k. k.contents) c.feed-finished.ensures.rest in
-    let authority : mid.authority ≡ old.authority = ap (λ k. k.authority) c.feed-finished.ensures.rest in
     let held : held_with_open new ≤ held_with_open mid + length (finished_of c.feed-finished.result) = rw c.as_slice.ensures at c.add_spans.ensures.held in
-    let four = bits_held old mid new c.args.byte (finished_of c.feed-finished.result) c.feed-finished.ensures.fed contents held in
-    grows_one old c.close.new.self 4 (omega (arith, four, c.close.ensures.held)) (omega arith)
-    (stored_then old new c.close.new.self (stored_then old mid new (stored_same old mid contents authority) c.add_spans.ensures.stored) c.close.ensures.stored)
+    let few = fed_few old mid new c.args.byte (finished_of c.feed-finished.result) c.feed-finished.ensures.fed c.feed-finished.ensures.rest held c.add_spans.ensures.stored in
+    grows_one old c.close.new.self 4 (omega (arith, few.0, c.close.ensures.held)) (omega arith)
+    (stored_then old new c.close.new.self few.1 c.close.ensures.stored)
 
 pub returns-else-last-clause-kept : goal.returns-else-last-clause-kept
 returns-else-last-clause-kept g c =

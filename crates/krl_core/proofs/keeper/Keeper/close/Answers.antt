@@ -1,6 +1,6 @@
 use Rattle.std.proofs.Common.{refl, ap, sym, ◌∙◌}
 use Rattle.std.proofs.lemmas.Result.{on_ok_weaker}
-use Rattle.krl_core.proofs.Keeping.{closes_run, stored_same, stored_then}
+use Rattle.krl_core.proofs.Keeping.{closes_run}
 use Rattle.krl_core.proofs.keeper.Keeper.close.Goals as goal
 
 pub returns-in-Some-clause-closes : goal.returns-in-Some-clause-closes
@@ -11,4 +11,4 @@ returns-in-Some-clause-closes g c =
 
 pub returns-in-Some-clause-stored : goal.returns-in-Some-clause-stored
 returns-in-Some-clause-stored g c =
-    rw (← c.self.view_is) (stored_then _ _ c.add_span.new.self (stored_same _ _ refl refl) c.add_span.ensures.stored)
+    rw (← c.self.view_is) c.add_span.ensures.stored

@@ -26,17 +26,15 @@ returns-in-RangeMax-clause-grows g c =
     let size : length c.args.field.now ≡ 8 = rw c.in-RangeMax.is at c.requires.passes.whole in
     grows_more c.args.self.now c.add_range.new.self 1 (length c.args.field.now) (omega (arith, size)) c.add_range.ensures.grows
 
-pub add_bits-requires-clause-due : goal.add_bits-requires-clause-due
-add_bits-requires-clause-due g c =
-    let step = subst (λ (p : Place). InStep p c.args.self.now.bitmap) c.in-BitmapByte.is c.requires.in_step in
-    omega (arith, step.0, ap (λ p. p.due) step.1)
-
-pub add_bits-requires-clause-good : goal.add_bits-requires-clause-good
-add_bits-requires-clause-good g c =
+pub add_bits-requires : goal.add_bits-requires
+add_bits-requires g c =
     let step = subst (λ (p : Place). InStep p c.args.self.now.bitmap) c.in-BitmapByte.is c.requires.in_step in
     let judged = rw (c.in-BitmapByte.is, ← c.byte_of.ensures) at c.requires.passes.judged in
-    good_bits c.args.self.now.bitmap c.in-BitmapByte.offset c.in-BitmapByte.size c.in-BitmapByte.left c.in-BitmapByte.behind c.byte_of.result c.args.next
-    (omega arith) step.1 judged
+    record {
+      due = omega (arith, step.0, ap (λ p. p.due) step.1);
+      good = good_bits c.args.self.now.bitmap c.in-BitmapByte.offset c.in-BitmapByte.size c.in-BitmapByte.left c.in-BitmapByte.behind c.byte_of.result c.args.next
+          (omega arith) step.1 judged;
+    }
 
 pub returns-in-BitmapByte-clause-kept : goal.returns-in-BitmapByte-clause-kept
 returns-in-BitmapByte-clause-kept g c =
