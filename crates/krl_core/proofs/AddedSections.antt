@@ -76,13 +76,13 @@ pub record InOrder (section : Section) : Type 0 where
 empty_in_order : (authority : List ℕ) → InOrder (empty_section authority)
 empty_in_order authority = record { runs = tt; serials = λ s n. absurd n; ids_rise = tt }
 
-some_span : (spans : List Span) (s : ℕ) → Covers spans s → 0 < length spans
-some_span [] s n = absurd n
-some_span (x ∷ xs) s n = omega arith
+has_span : (spans : List Span) (s : ℕ) → Covers spans s → 0 < length spans
+has_span [] s n = absurd n
+has_span (x ∷ xs) s n = omega arith
 
-some_text : (texts : List (List ℕ)) (t : List ℕ) → Contains texts t → 0 < length texts
-some_text [] t h = absurd (contains_none t h)
-some_text (x ∷ xs) t h = omega arith
+has_text : (texts : List (List ℕ)) (t : List ℕ) → Contains texts t → 0 < length texts
+has_text [] t h = absurd (contains_none t h)
+has_text (x ∷ xs) t h = omega arith
 
 takes_serials_listed : (lo hi : ℕ) (from to : Section) → 0 < lo → lo ≤ hi → hi < 2 ^ 64 → InOrder from → TakesSerials lo hi from to → IsListed to
 takes_serials_listed lo hi from to least order fits o t =
@@ -91,7 +91,7 @@ takes_serials_listed lo hi from to least order fits o t =
       runs = t.runs.0;
       serials = λ s n. elim ((t.runs.1 s).0 n) [ inl was ↦ o.serials s was | inr new ↦ (omega (arith, new.0), omega (arith, new.1)) ];
       ids_rise = subst Rises (sym ids) o.ids_rise;
-      some = inl (some_span to.spans lo ((t.runs.1 lo).1 (inr (omega arith, order))));
+      some = inl (has_span to.spans lo ((t.runs.1 lo).1 (inr (omega arith, order))));
     }
 
 pub takes_id_listed : (text : List ℕ) (from to : Section) → InOrder from → TakesId text from to → IsListed to
@@ -101,7 +101,7 @@ takes_id_listed text from to o t =
       runs = subst IsRuns (sym spans) o.runs;
       serials = subst AreSerials (sym spans) o.serials;
       ids_rise = put_rises from.ids text to.ids t.put o.ids_rise;
-      some = inr (some_text to.ids text (put_has from.ids text to.ids t.put));
+      some = inr (has_text to.ids text (put_has from.ids text to.ids t.put));
     }
 
 middle_listed : (front : List Section) (from to : Section) (back : List Section) → All IsListed (front ++ from ∷ back) → IsListed to → All IsListed (front ++ to ∷ back)

@@ -60,12 +60,12 @@ module _ {S : Type 0} (spans : S → List Span) where
   pub none_under : (a : List ℕ) (P : Section → Type 0) → ((section : Section) → P section → section.authority ≡ a) → (shelves : List (Shelf S)) → (Contains (map (λ shelf. shelf.authority.items) shelves) a → ⊥) → SomeSection P (sections_of spans shelves) → ⊥
   none_under a P under shelves absent h = absent (some_shelf a P under shelves h)
 
-  some_cases : (P : Section → Type 0) (front back : List Section) → SomeSection P (front ++ back) → SomeSection P front ⊎ SomeSection P back
-  some_cases P [] back h = inr h
-  some_cases P (x ∷ front) back h =
+  section_cases : (P : Section → Type 0) (front back : List Section) → SomeSection P (front ++ back) → SomeSection P front ⊎ SomeSection P back
+  section_cases P [] back h = inr h
+  section_cases P (x ∷ front) back h =
       elim h [
         | inl here ↦ inl (inl here)
-        | inr later ↦ elim (some_cases P front back later) [ inl l ↦ inl (inr l) | inr r ↦ inr r ]
+        | inr later ↦ elim (section_cases P front back later) [ inl l ↦ inl (inr l) | inr r ↦ inr r ]
       ]
 
   -- what holds under an authority holds of its shelf
@@ -78,7 +78,7 @@ module _ {S : Type 0} (spans : S → List Span) where
       let parts : sections_of spans shelves ≡ front ++ section_of spans shelf ∷ back = ap (sections_of spans) stands.parts ∙ map-append (section_of spans) stands.front (shelf ∷ stands.back) in (
         λ h. elim (some_to P front (section_of spans shelf) back (subst (SomeSection P) parts h)) [
           | inl at ↦ at
-          | inr other ↦ elim (some_cases P front back other) [
+          | inr other ↦ elim (section_cases P front back other) [
             | inl l ↦ absurd (absent_below key a stands.front stands.below (some_shelf a P under stands.front l))
             | inr r ↦ absurd (absent_above key a stands.back stands.above (some_shelf a P under stands.back r))
           ]

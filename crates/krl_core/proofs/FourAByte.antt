@@ -24,7 +24,7 @@ use Rattle.krl_core.specs.Place.{names}
 use Rattle.krl_core.specs.Rising.{AllAbove, RisesBy, bytes_cmp}
 use Rattle.krl_core.proofs.Intervals.{IsByteOnly, authority_of, intervals_name, intervals_of, length-intervals, most, names_intervals}
 use Rattle.krl_core.proofs.Numbers.{number_of-one}
-use Rattle.krl_core.proofs.OneMeaning.{authority_of as key_of, held_first, not_before_itself}
+use Rattle.krl_core.proofs.OneMeaning.{authority_of as key_of, held_first, not_before_itself, above_named}
 use Rattle.krl_core.specs.Elements.{all_append}
 
 -- ---- the intervals of entries under one authority
@@ -151,21 +151,13 @@ count_most (entry ∷ entries) sections rise =
 
 -- ---- what is held
 
-above_named : (a b : List ℕ) (xs : List Section) → AllAbove key_of a xs → SomeSection (λ section. section.authority ≡ b) xs → bytes_cmp a b ≡ Less
-above_named a b [] above h = absurd h
-above_named a b (x ∷ xs) above h =
-    elim h [
-      | inl here ↦ subst (λ (t : List ℕ). bytes_cmp a t ≡ Less) here above.0
-      | inr later ↦ above_named a b xs above.1 later
-    ]
-
 -- under the authorities of the sections just the serials are held that the entries name
 abbrev AreHeld : List Section → List Entry → Type 0
 AreHeld sections entries =
     (a : List ℕ) (s : ℕ) → SomeSection (λ section. section.authority ≡ a) sections → HoldsSerial sections a s ↔ SomeNamesAt entries a s
 
-held_later : (x : Section) (xs : List Section) (entries : List Entry) → AllAbove key_of x.authority xs → AreHeld (x ∷ xs) entries → AreHeld xs entries
-held_later x xs entries above h a s some = (
+held_behind : (x : Section) (xs : List Section) (entries : List Entry) → AllAbove key_of x.authority xs → AreHeld (x ∷ xs) entries → AreHeld xs entries
+held_behind x xs entries above h a s some = (
   λ k. (h a s (inr some)).0 (inr k),
   λ n. elim ((h a s (inr some)).1 n) [
     | inl here ↦ absurd (not_before_itself x.authority (subst (λ (t : List ℕ). bytes_cmp x.authority t ≡ Less) (sym here.0) (above_named x.authority a xs above some)))
@@ -185,7 +177,7 @@ held_few (x ∷ xs) entries small rise listed h =
       λ c. names-all_under x.authority entries s small ((h x.authority s (inl refl)).0 (inl (refl, c))),
       λ n. held_first (λ section. Covers section.spans s) x xs rise.0 ((h x.authority s (inl refl)).1 (all_under-names x.authority entries s n)),
     )) in
-    let rest = held_few xs entries small rise.1 (All-tail IsListed x xs listed) (held_later x xs entries rise.0 h) in
+    let rest = held_few xs entries small rise.1 (All-tail IsListed x xs listed) (held_behind x xs entries rise.0 h) in
     omega (arith, sum_by-cons spans_held x xs, sum_by-cons (count_all entries) x xs)
 
 -- ---- fields

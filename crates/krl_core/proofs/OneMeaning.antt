@@ -15,7 +15,7 @@ use Rattle.krl_core.specs.Contents.{Contents, HoldsId, HoldsSerial, IsListed, Me
 use Rattle.krl_core.specs.Entry.{Entry}
 use Rattle.krl_core.specs.Rising.{bytes_cmp, AllAbove, Rises, RisesBy}
 use Rattle.krl_core.proofs.Orders.{AllAbove-earlier, before_trans}
-use Rattle.krl_core.specs.Elements.{contains_cases, contains_here, contains_later, contains_none, some_serial, some_text}
+use Rattle.krl_core.specs.Elements.{contains_cases, contains_here, contains_later, contains_none, some_serial, some_text, some_weaker}
 use Rattle.krl_core.proofs.Members.{less_apart}
 
 -- ---- the order of two byte strings
@@ -82,14 +82,18 @@ same_texts (x ∷ xs) (y ∷ ys) r t to from =
 abbrev pub authority_of : Section → List ℕ
 authority_of section = section.authority
 
--- something is held under some authority of sections that come after it
-pub above_held : (P : Section → Type 0) (a b : List ℕ) (xs : List Section) → AllAbove authority_of a xs → SomeSection (λ section. (section.authority ≡ b) × P section) xs → bytes_cmp a b ≡ Less
-above_held P a b [] above h = absurd h
-above_held P a b (x ∷ xs) above h =
+-- some authority of sections that come after it
+pub above_named : (a b : List ℕ) (xs : List Section) → AllAbove authority_of a xs → SomeSection (λ section. section.authority ≡ b) xs → bytes_cmp a b ≡ Less
+above_named a b [] above h = absurd h
+above_named a b (x ∷ xs) above h =
     elim h [
-      | inl here ↦ subst (λ (t : List ℕ). bytes_cmp a t ≡ Less) here.0 above.0
-      | inr later ↦ above_held P a b xs above.1 later
+      | inl here ↦ subst (λ (t : List ℕ). bytes_cmp a t ≡ Less) here above.0
+      | inr later ↦ above_named a b xs above.1 later
     ]
+
+-- something is held under it
+pub above_held : (P : Section → Type 0) (a b : List ℕ) (xs : List Section) → AllAbove authority_of a xs → SomeSection (λ section. (section.authority ≡ b) × P section) xs → bytes_cmp a b ≡ Less
+above_held P a b xs above h = above_named a b xs above (some_weaker (λ section both. both.0) xs h)
 
 -- what is held under the authority of the first section is held in it
 pub held_first : (P : Section → Type 0) (x : Section) (xs : List Section) → AllAbove authority_of x.authority xs → SomeSection (λ section. (section.authority ≡ x.authority) × P section) (x ∷ xs) → P x

@@ -5,6 +5,7 @@ use Rattle.std.proofs.Common.{arith}
 use Rattle.std.specs.List.{AllByRecursion, Contains}
 use Rattle.serial_set.specs.declared.span.Span.{Span}
 use Rattle.serial_set.specs.Span.{Covers, IsRuns}
+use Rattle.krl_core.specs.Contents.{Section, SomeSection}
 use Rattle.krl_core.specs.Entry.{Entry}
 use Rattle.krl_core.specs.Naming.{SomeNamesAt}
 
@@ -61,3 +62,11 @@ some_cases (x ∷ xs) ys a s h =
         | inr right ↦ inr right
       ]
     ]
+
+-- ---- sections of which something holds
+
+pub some_weaker : {P Q : Section → Type 0} → ((section : Section) → P section → Q section)
+    → (sections : List Section) → SomeSection P sections → SomeSection Q sections
+some_weaker weaker [] h = absurd h
+some_weaker weaker (section ∷ sections) (inl here) = inl (weaker section here)
+some_weaker weaker (section ∷ sections) (inr later) = inr (some_weaker weaker sections later)
