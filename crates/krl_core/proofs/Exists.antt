@@ -3,6 +3,7 @@ use Rattle.std.proofs.Common.{◌≡◌, ℕ, zero, suc, ◌+◌, ◌*◌, ◌<�
 use Rattle.std.specs.Prelude.{IfSome}
 use Rattle.std.proofs.lemmas.Bool.{cases_lt, cases_Bool, false≢true}
 use Rattle.std.proofs.lemmas.List.{take-append-drop, length-take, length-drop}
+use Rattle.ssh_wire.specs.Steps.{ok_or_not}
 use Rattle.krl_core.specs.declared.krl_fault.KrlFault.{KrlFault}
 use Rattle.krl_core.specs.declared.krl_fault.KrlFault.TheVariants as faults
 use Rattle.krl_core.specs.declared.place.Place.{Place}
@@ -87,10 +88,6 @@ nearer (ExtensionName n m k) q field e = omega (arith, same_weight (ExtensionCri
 nearer (ExtensionContents n m) q field e = omega (arith, same_weight (next_subsection m) q e, weight-next_subsection m)
 nearer _ q field e = omega (arith, weight_below q)
 
-outcome_of : (r : Result Place KrlFault) → ((q : Place) × (r ≡ Ok q)) ⊎ ((why : KrlFault) × (r ≡ Err why))
-outcome_of (Ok q) = inl (q, refl)
-outcome_of (Err why) = inr (why, refl)
-
 pub told_from : (n : ℕ) (p : Spot) (bytes : List ℕ) (goes_on : Bool) → 2 * length bytes + weight p.place < n → (fault : Option KrlFault) × EndsTold p bytes goes_on fault
 told_from zero p bytes goes_on lt = absurd (omega arith)
 told_from (suc n) p bytes goes_on lt =
@@ -105,7 +102,7 @@ told_from (suc n) p bytes goes_on lt =
                 let parts : bytes ≡ field ++ rest = sym (take-append-drop (due p.place).size bytes) in
                 let size : length field ≡ (due p.place).size = omega (arith, length-take (due p.place).size bytes) in
                 let left : length rest + (due p.place).size ≡ length bytes = omega (arith, length-drop (due p.place).size bytes) in
-                elim (outcome_of ((due p.place).judged field)) [
+                elim (ok_or_not ((due p.place).judged field)) [
                   | inl w ↦
                       let near = nearer p.place w.0 field w.1 in
                       let t = told_from n (spot_after p field w.0) rest goes_on (omega (arith, near, left, lt)) in (

@@ -19,7 +19,7 @@ use Rattle.krl_runs.specs.Query.{HeldRevokes, krl_cause}
 use Rattle.krl_make.specs.declared.authority.Authority.{Authority}
 use Rattle.krl_core.specs.declared.krl_fault.KrlFault.TheVariants as faults
 use Rattle.krl_runs.specs.Run.{File}
-use Rattle.krl_spec.specs.Adding.{AddsEntries}
+use Rattle.krl_core.specs.Changes.{MeansMore}
 use Rattle.krl_spec.specs.Keys.{key_room, plain_is_key}
 use Rattle.krl_spec.specs.SpecFile.{ReadsSpec, StopsAt, lines_of}
 use Rattle.krl_spec.specs.declared.spec_cause.SpecCause.{SpecCause}
@@ -180,7 +180,7 @@ names_same header contents text written within numbers spelled law entries means
     }
 
 pub made_written : {X : Type 0} (view : X → List ℕ) (name : List ℕ) (made : Made) (contents : Contents) (result : Result X Stop)
-    → AddsEntries made.old contents made.entries → WritesList view name made.header contents result → WritesMade view name made result
+    → MeansMore made.old contents made.entries → WritesList view name made.header contents result → WritesMade view name made result
 made_written view name made contents (Ok text) adds (written, within, names) =
     record {
       contents = contents;

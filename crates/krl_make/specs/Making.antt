@@ -9,7 +9,7 @@ use Rattle.krl_core.specs.Entry.{Entry}
 use Rattle.krl_core.specs.Front.{IsFirstFault, limit}
 use Rattle.krl_core.specs.Krl.{SpelledSection, Spells}
 use Rattle.krl_core.specs.KrlText.{IsKrlText}
-use Rattle.krl_core.specs.Reading.{IsList, Says}
+use Rattle.krl_core.specs.Reading.{IsList, MayFail, Says}
 use Rattle.krl_core.specs.Revoked.{Revoked}
 use Rattle.krl_core.specs.declared.header.Header.{Header}
 use Rattle.krl_core.specs.declared.krl_fault.KrlFault.{KrlFault}
@@ -31,12 +31,12 @@ use Rattle.krl_make.specs.declared.base.Base.{Base}
 use Rattle.krl_runs.specs.declared.input.file_fault.FileFault.{FileFault}
 use Rattle.krl_runs.specs.declared.input.file_fault.FileFault.TheVariants as files
 use Rattle.krl_runs.specs.declared.output.cause.Cause.TheVariants as causes
+use Rattle.krl_core.specs.Changes.{MeansMore}
 use Rattle.krl_spec.specs.declared.spec_cause.SpecCause.{SpecCause}
 use Rattle.krl_spec.specs.declared.spec_cause.SpecCause.TheVariants as specs
 use Rattle.krl_spec.specs.declared.spec_fault.SpecFault.{SpecFault}
-use Rattle.krl_runs.specs.Query.{TellsFailure, krl_cause}
+use Rattle.krl_runs.specs.Query.{krl_cause}
 use Rattle.krl_runs.specs.Run.{File, stop_at}
-use Rattle.krl_spec.specs.Adding.{AddsEntries}
 use Rattle.krl_spec.specs.SpecFile.{lines_of}
 use Rattle.ssh_key.specs.Lines.{is_newline}
 use Rattle.krl_runs.specs.Stop.{Stop, Ender, ByInput, ByMemory, ByOutput, ender_of, stop_of}
@@ -240,7 +240,7 @@ Returns view AtHand read (Err stop) = IsStop (ender_of stop.cause) AtHand read s
 
 -- what was read of files was added
 abbrev pub Added : Result (List Entry) Stop → Contents → Contents → Type 0
-Added read old new = (entries : List Entry) × ((read ≡ Ok entries) × AddsEntries old new entries)
+Added read old new = (entries : List Entry) × ((read ≡ Ok entries) × MeansMore old new entries)
 
 -- What the files name was added, or the run stopped.
 abbrev pub AddsFiles : {A : Type 0} → (List ℕ → Type 0) → Result (List Entry) Stop → Result A Stop
@@ -258,7 +258,7 @@ pub record NamesSame (header : Header) (text : List ℕ) (entries : List Entry) 
 -- just what any entries that the old list means and those of the lines revoke.
 pub record IsMade (made : Made) (text : List ℕ) : Type 0 where
   pub contents : Contents
-  pub adds : AddsEntries made.old contents made.entries
+  pub adds : MeansMore made.old contents made.entries
   pub written : IsKrlText made.header contents text
   pub within : length text ≤ limit
   pub names : (olds : List Entry) → Means made.old olds
@@ -267,7 +267,7 @@ pub record IsMade (made : Made) (text : List ℕ) : Type 0 where
 -- The list that would be written is longer than one that can be read.
 pub record IsTooLong (made : Made) : Type 0 where
   pub contents : Contents
-  pub adds : AddsEntries made.old contents made.entries
+  pub adds : MeansMore made.old contents made.entries
   pub long : (text : List ℕ) → IsKrlText made.header contents text → limit < length text
 
 -- the text of a list was too long
@@ -345,5 +345,5 @@ IsOldRead (Some (Some text)) failed (Err fault) = Says fault text failed
 pub record IsBaseRead {R : Type 0} (has_failed : R → Bool) (left : Option (Option (List ℕ)))
     (reading : Result Base KrlFault) : Type 0 where
   pub failed : Bool
-  pub tells : TellsFailure has_failed failed
+  pub tells : MayFail has_failed failed
   pub read : IsOldRead left failed reading

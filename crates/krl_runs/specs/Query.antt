@@ -5,7 +5,7 @@ use Rattle.krl_core.specs.Contents.{Contents, Means}
 use Rattle.krl_core.specs.Entries.{entries_of}
 use Rattle.krl_core.specs.Entry.{Entry}
 use Rattle.krl_core.specs.Front.{IsFirstFault}
-use Rattle.krl_core.specs.Reading.{IsList, Says}
+use Rattle.krl_core.specs.Reading.{IsList, MayFail, Says}
 use Rattle.krl_core.specs.Revoked.{Revoked}
 use Rattle.krl_core.specs.Tested.{revokes}
 use Rattle.krl_core.specs.declared.krl_fault.KrlFault.{KrlFault}
@@ -66,15 +66,11 @@ abbrev pub IsRead : List ℕ → Bool → Result Known KrlFault → Type 0
 IsRead text failed (Ok known) = IsHeld text known
 IsRead text failed (Err fault) = Says fault text failed
 
--- Where it is said that a reader failed, one of its type did.
-abbrev pub TellsFailure : {R : Type 0} → (R → Bool) → Bool → Type 0
-TellsFailure {R} has_failed failed = failed ≡ true → (last : R) × (has_failed last ≡ true)
-
 -- This is what reading a list gave, where the bytes that its reader had left are known.
 pub record IsListRead {R : Type 0} (has_failed : R → Bool) (left : Option (List ℕ))
     (reading : Result Known KrlFault) : Type 0 where
   pub failed : Bool
-  pub tells : TellsFailure has_failed failed
+  pub tells : MayFail has_failed failed
   pub read : (text : List ℕ) → left ≡ Some text → IsRead text failed reading
 
 -- Where memory runs out, it is for the run itself.

@@ -5,18 +5,19 @@ use Rattle.ssh_cert.specs.Subject.{Names, Subject}
 use Rattle.ssh_cert.specs.SubjectReading.{IsSubject, plain_key, certified}
 use Rattle.krl_core.specs.Contents.{Contents, held}
 use Rattle.krl_core.specs.Entry.{Entry, IdEntry, RangeEntry}
-use Rattle.krl_spec.specs.Adding.{Adds, AddsEntries}
+use Rattle.krl_core.specs.Changes.{MeansMore}
+use Rattle.krl_spec.specs.Adding.{Adds}
 use Rattle.krl_spec.specs.Entry.{HasAuthority, certificate_entry, id_order}
 use Rattle.krl_spec.specs.Keys.{key_room}
 use Rattle.krl_spec.specs.declared.spec_cause.SpecCause.{SpecCause}
 
 pub one_added : (Stores : Contents → Contents → Type 0) (read : Result Entry SpecCause) (entry : Entry) (old new : Contents) → read ≡ Ok entry
-    → AddsEntries old new (entry ∷ []) → held new ≤ held old + 1 → Stores old new → Adds Stores read (Ok (tt {0})) old new
+    → MeansMore old new (entry ∷ []) → held new ≤ held old + 1 → Stores old new → Adds Stores read (Ok (tt {0})) old new
 one_added Stores read entry old new is adds few stores = (entry, (is, (adds, (few, stores))))
 
 -- the same where no span is added
 pub none_more : (Stores : Contents → Contents → Type 0) (read : Result Entry SpecCause) (entry : Entry) (old new : Contents) → read ≡ Ok entry
-    → AddsEntries old new (entry ∷ []) → held new ≡ held old → Stores old new → Adds Stores read (Ok (tt {0})) old new
+    → MeansMore old new (entry ∷ []) → held new ≡ held old → Stores old new → Adds Stores read (Ok (tt {0})) old new
 none_more Stores read entry old new is adds same stores =
     let few : held new ≤ held old + 1 = omega arith in
     (entry, (is, (adds, (few, stores))))

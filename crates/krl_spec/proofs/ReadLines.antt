@@ -4,7 +4,8 @@ use Rattle.std.proofs.lemmas.List.{length-append, append-nil}
 use Rattle.std.specs.List.{slice_split}
 use Rattle.krl_core.specs.Contents.{Contents, held}
 use Rattle.krl_core.specs.Entry.{Entry}
-use Rattle.krl_spec.specs.Adding.{AddsEntries, AddsLine, Tells}
+use Rattle.krl_core.specs.Changes.{MeansMore}
+use Rattle.krl_spec.specs.Adding.{AddsLine, Tells}
 use Rattle.krl_spec.specs.Entry.{line_entry}
 use Rattle.krl_spec.specs.SpecFile.{Named, ReadsSpec, StarvesAt, StopsAt, before_later, lines_from, lines_of}
 use Rattle.ssh_key.specs.Lines.{is_newline}
@@ -43,7 +44,7 @@ pub record IsAt (authority : Option (List ℕ)) (lines : List (List ℕ)) (passe
   pub parts : lines ≡ before ++ rest
   pub counted : length before ≡ passed
   pub faultless : (lines_from authority 1 before).fault ≡ None
-  pub adds : AddsEntries old new (lines_from authority 1 before).entries
+  pub adds : MeansMore old new (lines_from authority 1 before).entries
   pub few : held new ≤ held old + length (lines_from authority 1 before).entries
 
 pub none_read : (authority : Option (List ℕ)) (lines : List (List ℕ)) (r : Contents) → IsAt authority lines 0 lines r r
@@ -60,7 +61,7 @@ none_read authority lines r = record {
 record LineAdds (authority : Option (List ℕ)) (number : ℕ) (line : List ℕ) (old new : Contents) : Type 0 where
   named : List Entry
   is : lines_from authority number (line ∷ []) ≡ record { entries = named; fault = None }
-  adds : AddsEntries old new named
+  adds : MeansMore old new named
   few : held new ≤ held old + length named
 
 line_adds : (Stores : Contents → Contents → Type 0) (authority : Option (List ℕ)) (number : ℕ) (line : List ℕ) (old new : Contents)
@@ -126,7 +127,7 @@ front_is_few authority lines passed rest old new at =
 -- The fault of a line is the first one.
 told : (authority : Option (List ℕ)) (text : List ℕ) (passed : ℕ) (line : List ℕ) (rest : List (List ℕ)) (old new : Contents) (cause : SpecCause)
     → IsAt authority (slice_split is_newline text) passed (line ∷ rest) old new → line_entry authority line ≡ Some (Err cause)
-    → ((lines_of authority text).fault ≡ Some (record { line = passed + 1; cause = cause })) × AddsEntries old new (lines_of authority text).entries
+    → ((lines_of authority text).fault ≡ Some (record { line = passed + 1; cause = cause })) × MeansMore old new (lines_of authority text).entries
 unfolding lines_of
 told authority text passed line rest old new cause at is =
     let e = (lines_from authority 1 at.before).entries in

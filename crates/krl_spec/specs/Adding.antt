@@ -3,7 +3,8 @@ use Rattle.std.specs.Prelude.{◌≡◌, ◌+◌, ◌≤◌, List, [], ◌∷◌
 use Rattle.std.specs.Prelude.{Err, ⊤}
 use Rattle.ssh_key.specs.declared.fingerprint_fault.FingerprintFault.TheVariants as fingerprints
 use Rattle.ssh_key.specs.declared.line_fault.LineFault.TheVariants as lines
-use Rattle.krl_core.specs.Contents.{Contents, Means, held}
+use Rattle.krl_core.specs.Changes.{MeansMore}
+use Rattle.krl_core.specs.Contents.{Contents, held}
 use Rattle.krl_core.specs.Entry.{Entry}
 use Rattle.krl_spec.specs.declared.spec_cause.KeyCause.TheVariants as keys
 use Rattle.krl_spec.specs.declared.spec_cause.SpecCause.{SpecCause}
@@ -32,18 +33,13 @@ abbrev pub Tells : {A : Type 0} → SpecCause → Result A SpecCause → Type 0
 Tells causes.NoMemory read = MayStarve read
 Tells cause read = read ≡ Err cause
 
--- what was held means some entries more
-abbrev pub AddsEntries : Contents → Contents → List Entry → Type 0
-AddsEntries old new named =
-    (entries : List Entry) → Means old entries → Means new (entries ++ named)
-
 -- What was read is added, and what is stored grows in a stated way. Else the cause is told, and
 -- nothing changed.
 abbrev pub Adds : {A : Type 0} → (Contents → Contents → Type 0) → Result Entry SpecCause
     → Result A SpecCause → Contents → Contents → Type 0
 Adds Stores read (Ok done) old new =
     (entry : Entry) × ((read ≡ Ok entry)
-    × (AddsEntries old new (entry ∷ []) × ((held new ≤ held old + 1) × Stores old new)))
+    × (MeansMore old new (entry ∷ []) × ((held new ≤ held old + 1) × Stores old new)))
 Adds Stores read (Err cause) old new = Tells cause read × (new ≡ old)
 
 -- The same of a line, of which nothing need count.

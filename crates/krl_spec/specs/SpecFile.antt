@@ -4,7 +4,7 @@ use Rattle.std.specs.Prelude.{Ok, Err}
 use Rattle.std.specs.List.{slice_split}
 use Rattle.krl_core.specs.Contents.{Contents}
 use Rattle.krl_core.specs.Entry.{Entry}
-use Rattle.krl_spec.specs.Adding.{AddsEntries}
+use Rattle.krl_core.specs.Changes.{MeansMore}
 use Rattle.krl_spec.specs.Entry.{line_entry}
 use Rattle.ssh_key.specs.Lines.{is_newline}
 use Rattle.krl_spec.specs.declared.spec_cause.SpecCause.{SpecCause}
@@ -43,7 +43,7 @@ pub record StarvesAt (authority : Option (List ℕ)) (lines : List (List ℕ)) (
   pub parts : lines ≡ before ++ line ∷ after
   pub counted : length before + 1 ≡ number
   pub faultless : (lines_from authority 1 before).fault ≡ None
-  pub adds : AddsEntries old new (lines_from authority 1 before).entries
+  pub adds : MeansMore old new (lines_from authority 1 before).entries
 
 -- What the lines name up to the first fault was added, and the fault is told.
 abbrev pub StopsAt : Option (List ℕ) → List ℕ → ℕ → SpecCause → Contents → Contents → Type 0
@@ -51,11 +51,11 @@ StopsAt authority text number NoMemory old new =
     StarvesAt authority (slice_split is_newline text) number old new
 StopsAt authority text number cause old new =
     ((lines_of authority text).fault ≡ Some (record { line = number; cause = cause }))
-    × AddsEntries old new (lines_of authority text).entries
+    × MeansMore old new (lines_of authority text).entries
 
 -- All that the lines name was added, and they have no fault; or reading stopped at one.
 abbrev pub ReadsSpec : {A : Type 0} → Option (List ℕ) → List ℕ → Result A SpecFault
     → Contents → Contents → Type 0
 ReadsSpec authority text (Ok done) old new =
-    ((lines_of authority text).fault ≡ None) × AddsEntries old new (lines_of authority text).entries
+    ((lines_of authority text).fault ≡ None) × MeansMore old new (lines_of authority text).entries
 ReadsSpec authority text (Err fault) old new = StopsAt authority text fault.line fault.cause old new
