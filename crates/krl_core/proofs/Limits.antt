@@ -6,7 +6,7 @@ use Rattle.krl_core.specs.Front.{limit}
 use Rattle.krl_core.specs.declared.writing.text_fault.TextFault.{TextFault}
 use Rattle.krl_core.specs.declared.writing.text_fault.TextFault.TheVariants.{NoMemory, TooLong}
 use Rattle.krl_plan.specs.declared.group.Group.{Group}
-use Rattle.krl_core.specs.Contents.{Section as Listed}
+use Rattle.krl_core.specs.Contents.{Section}
 use Rattle.krl_core.specs.KrlText.{authority_content, authority_text, listed_text}
 use Rattle.krl_plan.specs.Plan.{IsLeastPlan}
 use Rattle.krl_core.specs.Within.{AddsAuthority, AddsWithin}
@@ -24,7 +24,7 @@ pub too_long : (fault : TextFault) (old new text old' new' text' : List ℕ) →
 too_long NoMemory old new text old' new' text' h le = tt
 too_long TooLong old new text old' new' text' h le = omega (arith, h)
 
-pub too_long_authority : (fault : TextFault) (old new text old' new' : List ℕ) (listed : Listed) → AddsWithin (refused fault) old new text
+pub too_long_authority : (fault : TextFault) (old new text old' new' : List ℕ) (listed : Section) → AddsWithin (refused fault) old new text
     → ((plan : List Group) → IsLeastPlan listed.spans plan → length old + length text ≤ length old' + length (authority_text plan listed))
     → AddsAuthority (refused fault) old' new' listed
 too_long_authority NoMemory old new text old' new' listed h le = tt
@@ -100,17 +100,17 @@ put_four old begun kept a e p out authority plan ids b k ae ee pe oe =
     ∙ ap (λ (t : List ℕ). t ++ (string [] ++ (plan ++ ids))) ae ∙ append_assoc kept (string authority) (string [] ++ (plan ++ ids))
     ∙ ap (λ (t : List ℕ). t ++ (string authority ++ (string [] ++ (plan ++ ids)))) (k ∙ ap (λ (t : List ℕ). t ++ number 4 0) b)
 
-pub length-section : (plan : List Group) (listed : Listed) →
+pub length-section : (plan : List Group) (listed : Section) →
     length (authority_text plan listed) ≡ 13 + length listed.authority + length (plan_text listed.spans plan) + length (listed_text 0x23 listed.ids)
 length-section plan listed = omega (arith, length-string (authority_content plan listed), length-authority plan listed)
 
-pub authority_front : (plan : List Group) (listed : Listed) (old begun kept : List ℕ) → begun ≡ old ++ 1 ∷ [] → kept ≡ begun ++ number 4 0
+pub authority_front : (plan : List Group) (listed : Section) (old begun kept : List ℕ) → begun ≡ old ++ 1 ∷ [] → kept ≡ begun ++ number 4 0
     → length kept + length (string listed.authority) ≤ length old + length (authority_text plan listed)
 authority_front plan listed old begun kept b k =
     omega (arith, length-section plan listed, ap length k, ap length b, length-append begun (number 4 0), length-append old (1 ∷ []), length-number 4 0, length-string listed.authority)
 
 -- as long as all but the IDs
-pub length-planned : (plan : List Group) (listed : Listed) (old begun kept a e p : List ℕ) → begun ≡ old ++ 1 ∷ [] → kept ≡ begun ++ number 4 0
+pub length-planned : (plan : List Group) (listed : Section) (old begun kept a e p : List ℕ) → begun ≡ old ++ 1 ∷ [] → kept ≡ begun ++ number 4 0
     → a ≡ kept ++ string listed.authority → e ≡ a ++ string [] → p ≡ e ++ plan_text listed.spans plan
     → length p + length (listed_text 0x23 listed.ids) ≡ length old + length (authority_text plan listed)
 length-planned plan listed old begun kept a e p b k ae ee pe =
@@ -133,7 +133,7 @@ length-planned plan listed old begun kept a e p b k ae ee pe =
     )
 
 -- the same for any least plan, since there is one
-pub length-planned_any : (one other : List Group) (listed : Listed) (old begun kept a e p : List ℕ) → IsLeastPlan listed.spans one → IsLeastPlan listed.spans other
+pub length-planned_any : (one other : List Group) (listed : Section) (old begun kept a e p : List ℕ) → IsLeastPlan listed.spans one → IsLeastPlan listed.spans other
     → begun ≡ old ++ 1 ∷ [] → kept ≡ begun ++ number 4 0
     → a ≡ kept ++ string listed.authority → e ≡ a ++ string [] → p ≡ e ++ plan_text listed.spans one
     → length p + length (listed_text 0x23 listed.ids) ≡ length old + length (authority_text other listed)

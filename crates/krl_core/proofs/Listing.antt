@@ -5,7 +5,7 @@ use Rattle.krl_core.specs.Front.{limit}
 use Rattle.krl_core.specs.declared.writing.text_fault.TextFault.{TextFault}
 use Rattle.krl_core.specs.declared.writing.text_fault.TextFault.TheVariants.{NoMemory, TooLong}
 use Rattle.krl_plan.specs.declared.group.Group.{Group}
-use Rattle.krl_core.specs.Contents.{Section as Listed}
+use Rattle.krl_core.specs.Contents.{Section}
 use Rattle.krl_core.specs.KrlText.{EachPlan, authorities_text, authority_text}
 use Rattle.krl_plan.specs.Plan.{IsLeastPlan}
 use Rattle.krl_core.specs.Within.{AddsAuthorities, AddsAuthority}
@@ -14,17 +14,17 @@ use Rattle.krl_plan.specs.OnePlan.{one_plan}
 
 -- What is put so far, and any least plans of what is left, make up least plans of all, and the other
 -- way round.
-pub record Listing (old out : List ℕ) (all left : List Listed) : Type 0 where
+pub record Listing (old out : List ℕ) (all left : List Section) : Type 0 where
   pub within : length out ≤ limit
   pub joins : (plans : List (List Group)) → EachPlan IsLeastPlan plans left
       → (whole : List (List Group)) × (EachPlan IsLeastPlan whole all × (out ++ authorities_text plans left ≡ old ++ authorities_text whole all))
   pub parts : (whole : List (List Group)) → EachPlan IsLeastPlan whole all
       → (plans : List (List Group)) × (EachPlan IsLeastPlan plans left × (length out + length (authorities_text plans left) ≡ length old + length (authorities_text whole all)))
 
-pub Listing-start : (old : List ℕ) (all : List Listed) → length old ≤ limit → Listing old old all all
+pub Listing-start : (old : List ℕ) (all : List Section) → length old ≤ limit → Listing old old all all
 Listing-start old all short = record { within = short; joins = λ plans e. (plans, (e, refl)); parts = λ whole e. (whole, (e, refl)) }
 
-parts_more : (old out : List ℕ) (all rest : List Listed) (first : Listed) (plan : List Group) (total : ℕ) → IsLeastPlan first.spans plan → (plans : List (List Group)) → EachPlan IsLeastPlan plans (first ∷ rest)
+parts_more : (old out : List ℕ) (all rest : List Section) (first : Section) (plan : List Group) (total : ℕ) → IsLeastPlan first.spans plan → (plans : List (List Group)) → EachPlan IsLeastPlan plans (first ∷ rest)
     → length out + length (authorities_text plans (first ∷ rest)) ≡ total
     → (others : List (List Group)) × (EachPlan IsLeastPlan others rest × (length (out ++ authority_text plan first) + length (authorities_text others rest) ≡ total))
 parts_more old out all rest first plan total least [] each e = absurd each
@@ -33,11 +33,11 @@ parts_more old out all rest first plan total least (one ∷ plans) each e =
     let text : length (authority_text one first) ≡ length (authority_text plan first) = ap (λ (gs : List Group). length (authority_text gs first)) same in
     (plans, (each.1, omega (arith, length-append out (authority_text plan first), length-append (authority_text one first) (authorities_text plans rest))))
 
-pub Listing-more : (old out new : List ℕ) (all left rest : List Listed) (first : Listed) → left ≡ first ∷ rest → Listing old out all left
+pub Listing-more : (old out new : List ℕ) (all left rest : List Section) (first : Section) → left ≡ first ∷ rest → Listing old out all left
     → (plan : List Group) × (IsLeastPlan first.spans plan × ((new ≡ out ++ authority_text plan first) × (length new ≤ limit))) → Listing old new all rest
 Listing-more old out new all left rest first is l done =
     let plan : List Group = done.0 in
-    let here : Listing old out all (first ∷ rest) = subst (λ (xs : List Listed). Listing old out all xs) is l in
+    let here : Listing old out all (first ∷ rest) = subst (λ (xs : List Section). Listing old out all xs) is l in
     let made : new ≡ out ++ authority_text plan first = done.1.1.0 in
     record {
       within = done.1.1.1;
@@ -50,24 +50,24 @@ Listing-more old out new all left rest first is l done =
           (after.0, (after.1.0, ap (λ (t : List ℕ). length t + length (authorities_text after.0 rest)) made ∙ after.1.1));
     }
 
-long_front : (out : List ℕ) (rest : List Listed) (first : Listed) (total : ℕ) → ((plan : List Group) → IsLeastPlan first.spans plan → limit < length out + length (authority_text plan first))
+long_front : (out : List ℕ) (rest : List Section) (first : Section) (total : ℕ) → ((plan : List Group) → IsLeastPlan first.spans plan → limit < length out + length (authority_text plan first))
     → (plans : List (List Group)) → EachPlan IsLeastPlan plans (first ∷ rest) → length out + length (authorities_text plans (first ∷ rest)) ≡ total → limit < total
 long_front out rest first total long [] each e = absurd each
 long_front out rest first total long (plan ∷ plans) each e =
     let front = long plan each.0 in
     omega (arith, length-append (authority_text plan first) (authorities_text plans rest))
 
-pub Listing-refused : (fault : TextFault) (old out new : List ℕ) (all left rest : List Listed) (first : Listed) → left ≡ first ∷ rest → Listing old out all left
+pub Listing-refused : (fault : TextFault) (old out new : List ℕ) (all left rest : List Section) (first : Section) → left ≡ first ∷ rest → Listing old out all left
     → AddsAuthority (refused fault) out new first → AddsAuthorities (refused fault) old new all
 Listing-refused NoMemory old out new all left rest first is l h = tt
 Listing-refused TooLong old out new all left rest first is l h = λ whole each.
-    let here : Listing old out all (first ∷ rest) = subst (λ (xs : List Listed). Listing old out all xs) is l in
+    let here : Listing old out all (first ∷ rest) = subst (λ (xs : List Section). Listing old out all xs) is l in
     let before = here.parts whole each in
     long_front out rest first (length old + length (authorities_text whole all)) h before.0 before.1.0 before.1.1
 
-pub Listing-end : (old out : List ℕ) (all left : List Listed) → left ≡ [] → Listing old out all left
+pub Listing-end : (old out : List ℕ) (all left : List Section) → left ≡ [] → Listing old out all left
     → (plans : List (List Group)) × (EachPlan IsLeastPlan plans all × ((out ≡ old ++ authorities_text plans all) × (length out ≤ limit)))
 Listing-end old out all left is l =
-    let here : Listing old out all [] = subst (λ (xs : List Listed). Listing old out all xs) is l in
+    let here : Listing old out all [] = subst (λ (xs : List Section). Listing old out all xs) is l in
     let whole = here.joins [] tt in
     (whole.0, (whole.1.0, (sym (append-nil out) ∙ whole.1.1, here.within)))

@@ -8,7 +8,7 @@ use Rattle.serial_set.specs.declared.span.Span.{Span}
 use Rattle.krl_plan.specs.declared.group.Sort.{Sort}
 use Rattle.krl_plan.specs.declared.group.Sort.TheVariants as sorts
 use Rattle.krl_plan.specs.declared.group.Group.{Group}
-use Rattle.krl_core.specs.Contents.{Contents, HoldsId, HoldsSerial, IsListed, IsOrderly, Means, Section as Listed}
+use Rattle.krl_core.specs.Contents.{Contents, HoldsId, HoldsSerial, IsListed, IsOrderly, Means, Section}
 use Rattle.krl_core.specs.Entry.{Entry, IdEntry, KeyEntry, Sha1Entry, Sha256Entry}
 use Rattle.krl_core.specs.Krl.{Keys, SpelledSection, Sha1s, Sha256s}
 use Rattle.krl_core.specs.Entries.{entries_of, section_entries, subsection_entries}
@@ -25,10 +25,10 @@ ids_entries b [] = refl
 ids_entries b (id ∷ ids) = append-nil (map (IdEntry b) (id ∷ ids))
 
 -- the entries of a section: serials and then IDs
-abbrev entries_under : List Group → Listed → List Entry
+abbrev entries_under : List Group → Section → List Entry
 entries_under plan listed = flat_map (subsection_entries listed.authority) (plan_subsections listed.spans plan) ++ map (IdEntry listed.authority) listed.ids
 
-section_is : (plan : List Group) (listed : Listed) → flat_map (subsection_entries listed.authority) (plan_subsections listed.spans plan ++ ids_subsections listed.ids) ≡ entries_under plan listed
+section_is : (plan : List Group) (listed : Section) → flat_map (subsection_entries listed.authority) (plan_subsections listed.spans plan ++ ids_subsections listed.ids) ≡ entries_under plan listed
 section_is plan listed =
     flat_map-append (subsection_entries listed.authority) (plan_subsections listed.spans plan) (ids_subsections listed.ids)
     ∙ ap (λ (es : List Entry). flat_map (subsection_entries listed.authority) (plan_subsections listed.spans plan) ++ es) (ids_entries listed.authority listed.ids)
@@ -62,7 +62,7 @@ to_ids b a text ids e h = subst (λ (c : List ℕ). Contains (map (IdEntry b) id
 
 -- ---- all authorities
 
-authorities_name : (plans : List (List Group)) (listed : List Listed) (a : List ℕ) (s : ℕ) → All IsListed listed → EachPlan IsPlan plans listed
+authorities_name : (plans : List (List Group)) (listed : List Section) (a : List ℕ) (s : ℕ) → All IsListed listed → EachPlan IsPlan plans listed
     → SomeNamesAt (entries_of (authority_sections plans listed)) a s → HoldsSerial listed a s
 authorities_name [] [] a s all each h = h
 authorities_name [] (first ∷ listed) a s all each h = absurd each
@@ -80,7 +80,7 @@ authorities_name (plan ∷ plans) (first ∷ listed) a s all each h =
       | inr later ↦ inr (authorities_name plans listed a s (All-tail IsListed first listed all) each.1 later)
     ]
 
-name_authorities : (plans : List (List Group)) (listed : List Listed) (a : List ℕ) (s : ℕ) → All IsListed listed → EachPlan IsPlan plans listed
+name_authorities : (plans : List (List Group)) (listed : List Section) (a : List ℕ) (s : ℕ) → All IsListed listed → EachPlan IsPlan plans listed
     → HoldsSerial listed a s → SomeNamesAt (entries_of (authority_sections plans listed)) a s
 name_authorities [] [] a s all each h = h
 name_authorities [] (first ∷ listed) a s all each h = absurd each
@@ -96,7 +96,7 @@ name_authorities (plan ∷ plans) (first ∷ listed) a s all each h =
       | inr later ↦ some_right here (entries_of (authority_sections plans listed)) a s (name_authorities plans listed a s (All-tail IsListed first listed all) each.1 later)
     ]
 
-authorities_id : (plans : List (List Group)) (listed : List Listed) (a text : List ℕ) → EachPlan IsPlan plans listed
+authorities_id : (plans : List (List Group)) (listed : List Section) (a text : List ℕ) → EachPlan IsPlan plans listed
     → Contains (entries_of (authority_sections plans listed)) (IdEntry a text) → HoldsId listed a text
 authorities_id [] [] a text each h = contains_none (IdEntry a text) h
 authorities_id [] (first ∷ listed) a text each h = absurd each
@@ -113,7 +113,7 @@ authorities_id (plan ∷ plans) (first ∷ listed) a text each h =
       | inr later ↦ inr (authorities_id plans listed a text each.1 later)
     ]
 
-id_authorities : (plans : List (List Group)) (listed : List Listed) (a text : List ℕ) → EachPlan IsPlan plans listed
+id_authorities : (plans : List (List Group)) (listed : List Section) (a text : List ℕ) → EachPlan IsPlan plans listed
     → HoldsId listed a text → Contains (entries_of (authority_sections plans listed)) (IdEntry a text)
 id_authorities [] [] a text each h = absurd h
 id_authorities [] (first ∷ listed) a text each h = absurd each
@@ -129,7 +129,7 @@ id_authorities (plan ∷ plans) (first ∷ listed) a text each h =
     ]
 
 -- an authority's entries are serials and IDs
-authorities_kind : (plans : List (List Group)) (listed : List Listed) (e : Entry) → Contains (entries_of (authority_sections plans listed)) e → kind e ≤ 1
+authorities_kind : (plans : List (List Group)) (listed : List Section) (e : Entry) → Contains (entries_of (authority_sections plans listed)) e → kind e ≤ 1
 authorities_kind [] listed e h = absurd (contains_none e h)
 authorities_kind (plan ∷ plans) [] e h = absurd (contains_none e h)
 authorities_kind (plan ∷ plans) (first ∷ listed) e h =

@@ -2,7 +2,7 @@
 use Rattle.std.proofs.Common.{◌≡◌, ℕ, ◌<◌, ◌≤◌, ◌^◌, List, [], ◌∷◌, length, sym, subst}
 use Rattle.krl_core.specs.declared.header.Header.{Header}
 use Rattle.krl_plan.specs.declared.group.Group.{Group}
-use Rattle.krl_core.specs.Contents.{Contents, IsOrderly, Means, Section as Listed}
+use Rattle.krl_core.specs.Contents.{Contents, IsOrderly, Means, Section}
 use Rattle.krl_core.specs.Entries.{entries_of}
 use Rattle.krl_core.specs.Front.{limit}
 use Rattle.krl_core.specs.Krl.{SpelledSection, Spells}
@@ -15,7 +15,7 @@ use Rattle.krl_core.proofs.OneSpelling.{spelled_once}
 use Rattle.krl_core.proofs.Sections.{text_spelled}
 
 -- each least plan is a plan
-pub are_plans : (plans : List (List Group)) (listed : List Listed) → EachPlan IsLeastPlan plans listed → EachPlan IsPlan plans listed
+pub are_plans : (plans : List (List Group)) (listed : List Section) → EachPlan IsLeastPlan plans listed → EachPlan IsPlan plans listed
 are_plans [] [] each = tt
 are_plans [] (first ∷ listed) each = absurd each
 are_plans (plan ∷ plans) [] each = absurd each

@@ -7,7 +7,7 @@ use Rattle.ssh_wire.specs.Fields.{length-number, length-string}
 use Rattle.krl_core.specs.Front.{limit}
 use Rattle.krl_plan.specs.declared.group.Group.{Group}
 use Rattle.krl_core.specs.declared.header.Header.{Header}
-use Rattle.krl_core.specs.Contents.{Contents, IsListed, IsOrderly, Section as Listed}
+use Rattle.krl_core.specs.Contents.{Contents, IsListed, IsOrderly, Section}
 use Rattle.krl_core.specs.Krl.{Certificates, Ids, Keys, SpelledSection, Sha1s, Sha256s, SignaturesLast, Spells, SpellsEach, SpellsSection, SpellsSubsection, header_text}
 use Rattle.krl_core.specs.KrlText.{EachPlan, authorities_text, authority_content, authority_sections, authority_text, ids_subsections, listed_sections, listed_text, plan_subsections, sections_of, sections_text, text_of}
 use Rattle.krl_plan.specs.Plan.{IsPlan}
@@ -27,7 +27,7 @@ ids_spelled (id ∷ ids) lt =
     } in
     each_one SpellsSubsection (listed_text 0x23 (id ∷ ids)) (Ids (id ∷ ids)) spelled
 
-pub length-authority : (plan : List Group) (listed : Listed) →
+pub length-authority : (plan : List Group) (listed : Section) →
     length (authority_content plan listed) ≡ 8 + length listed.authority + length (plan_text listed.spans plan) + length (listed_text 0x23 listed.ids)
 length-authority plan listed =
     let subsections : List ℕ = plan_text listed.spans plan ++ listed_text 0x23 listed.ids in
@@ -40,7 +40,7 @@ length-authority plan listed =
       length-string [],
     )
 
-authority_spelled : (plan : List Group) (listed : Listed) → IsListed listed → IsPlan listed.spans plan → length (authority_text plan listed) < 2 ^ 32
+authority_spelled : (plan : List Group) (listed : Section) → IsListed listed → IsPlan listed.spans plan → length (authority_text plan listed) < 2 ^ 32
     → SpellsSection (authority_text plan listed) (Certificates listed.authority (plan_subsections listed.spans plan ++ ids_subsections listed.ids))
 authority_spelled plan listed is p lt =
     let content : List ℕ = authority_content plan listed in
@@ -59,7 +59,7 @@ authority_spelled plan listed is p lt =
       };
     }
 
-pub authorities_spelled : (plans : List (List Group)) (listed : List Listed) → All IsListed listed → EachPlan IsPlan plans listed → length (authorities_text plans listed) < 2 ^ 32
+pub authorities_spelled : (plans : List (List Group)) (listed : List Section) → All IsListed listed → EachPlan IsPlan plans listed → length (authorities_text plans listed) < 2 ^ 32
     → SpellsEach SpellsSection (authorities_text plans listed) (authority_sections plans listed)
 authorities_spelled [] [] all each lt = refl
 authorities_spelled [] (first ∷ listed) all each lt = absurd each
@@ -131,7 +131,7 @@ keys_unsigned (blob ∷ blobs) rest h = h
 rest_unsigned : (r : Contents) → SignaturesLast (listed_sections Keys r.keys ++ (listed_sections Sha1s r.sha1s ++ listed_sections Sha256s r.sha256s))
 rest_unsigned r = keys_unsigned r.keys _ (sha1s_unsigned r.sha1s _ (sha256s_unsigned r.sha256s))
 
-unsigned : (plans : List (List Group)) (listed : List Listed) (rest : List SpelledSection) → SignaturesLast rest → SignaturesLast (authority_sections plans listed ++ rest)
+unsigned : (plans : List (List Group)) (listed : List Section) (rest : List SpelledSection) → SignaturesLast rest → SignaturesLast (authority_sections plans listed ++ rest)
 unsigned [] listed rest h = h
 unsigned (plan ∷ plans) [] rest h = h
 unsigned (plan ∷ plans) (first ∷ listed) rest h = unsigned plans listed rest h

@@ -6,7 +6,7 @@ use Rattle.ssh_wire.specs.Wire.{string, strings}
 use Rattle.ssh_wire.specs.Fields.{length-string}
 use Rattle.krl_core.specs.declared.header.Header.{Header}
 use Rattle.krl_plan.specs.declared.group.Group.{Group}
-use Rattle.krl_core.specs.Contents.{Contents, IsListed, IsOrderly, Section as Listed}
+use Rattle.krl_core.specs.Contents.{Contents, IsListed, IsOrderly, Section}
 use Rattle.krl_core.specs.Krl.{header_text}
 use Rattle.krl_core.specs.KrlText.{EachPlan, authorities_text, authority_content, authority_text, listed_text, sections_text, text_of}
 use Rattle.krl_plan.specs.Plan.{IsPlan}
@@ -40,11 +40,11 @@ listed-sha256s : (hashes : List (List ℕ)) → All (λ hash. length hash ≡ 32
 listed-sha256s [] all = refl
 listed-sha256s (hash ∷ hashes) all = omega (arith, strings-hashes 32 (hash ∷ hashes) all)
 
-length-authority_text : (plan : List Group) (listed : Listed) → IsListed listed → IsPlan listed.spans plan → length (authority_text plan listed) ≡ authority_size plan listed
+length-authority_text : (plan : List Group) (listed : Section) → IsListed listed → IsPlan listed.spans plan → length (authority_text plan listed) ≡ authority_size plan listed
 length-authority_text plan listed is p =
     omega (arith, length-string (authority_content plan listed), length-authority plan listed, length-plan listed.spans plan is.runs p, length-listed 0x23 listed.ids)
 
-length-authorities : (plans : List (List Group)) (listed : List Listed) → All IsListed listed → EachPlan IsPlan plans listed → length (authorities_text plans listed) ≡ authorities_size plans listed
+length-authorities : (plans : List (List Group)) (listed : List Section) → All IsListed listed → EachPlan IsPlan plans listed → length (authorities_text plans listed) ≡ authorities_size plans listed
 length-authorities [] [] all each = refl
 length-authorities [] (first ∷ listed) all each = absurd each
 length-authorities (plan ∷ plans) [] all each = absurd each

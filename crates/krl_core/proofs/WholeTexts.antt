@@ -6,7 +6,7 @@ use Rattle.krl_core.specs.declared.header.Header.{Header}
 use Rattle.krl_core.specs.declared.writing.text_fault.TextFault.{TextFault}
 use Rattle.krl_core.specs.declared.writing.text_fault.TextFault.TheVariants.{NoMemory, TooLong}
 use Rattle.krl_plan.specs.declared.group.Group.{Group}
-use Rattle.krl_core.specs.Contents.{Contents, Section as Listed}
+use Rattle.krl_core.specs.Contents.{Contents, Section}
 use Rattle.krl_core.specs.Krl.{header_text, magic}
 use Rattle.krl_core.specs.KrlText.{EachPlan, IsKrlText, authorities_text, listed_text, sections_text, text_of}
 use Rattle.krl_plan.specs.Plan.{IsLeastPlan}
@@ -44,7 +44,7 @@ behind_none out new text none e = e ∙ ap (λ (t : List ℕ). t ++ text) none
 
 -- ---- the parts
 
-one_each : (one other : List (List Group)) (listed : List Listed) → EachPlan IsLeastPlan one listed → EachPlan IsLeastPlan other listed → one ≡ other
+one_each : (one other : List (List Group)) (listed : List Section) → EachPlan IsLeastPlan one listed → EachPlan IsLeastPlan other listed → one ≡ other
 one_each [] [] [] p q = refl
 one_each [] [] (first ∷ listed) p q = refl
 one_each [] (b ∷ other) [] p q = absurd q

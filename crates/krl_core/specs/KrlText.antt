@@ -6,7 +6,7 @@ use Rattle.krl_core.specs.declared.header.Header.{Header}
 use Rattle.krl_plan.specs.declared.group.Sort.{Sort}
 use Rattle.krl_plan.specs.declared.group.Sort.TheVariants as sorts
 use Rattle.krl_plan.specs.declared.group.Group.{Group}
-use Rattle.krl_core.specs.Contents.{Contents, Section as Listed}
+use Rattle.krl_core.specs.Contents.{Contents, Section}
 use Rattle.krl_core.specs.Krl.{SpelledSection, Certificates, Keys, Sha1s, Sha256s, Subsection}
 use Rattle.krl_core.specs.Krl.{Serials, Range, Bitmap, Ids, header_text}
 use Rattle.krl_plan.specs.Plan.{IsLeastPlan, reach}
@@ -20,17 +20,17 @@ listed_text type_byte [] = []
 listed_text type_byte (text ∷ texts) = type_byte ∷ string (strings (text ∷ texts))
 
 -- what the section of an authority has in it
-abbrev pub authority_content : List Group → Listed → List ℕ
+abbrev pub authority_content : List Group → Section → List ℕ
 authority_content plan listed =
     string listed.authority
     ++ (string [] ++ (plan_text listed.spans plan ++ listed_text 0x23 listed.ids))
 
 -- the section of an authority
-abbrev pub authority_text : List Group → Listed → List ℕ
+abbrev pub authority_text : List Group → Section → List ℕ
 authority_text plan listed = 1 ∷ string (authority_content plan listed)
 
 -- the sections of some authorities, with a plan for each
-abbrev pub authorities_text : List (List Group) → List Listed → List ℕ
+abbrev pub authorities_text : List (List Group) → List Section → List ℕ
 authorities_text [] listed = []
 authorities_text (plan ∷ plans) [] = []
 authorities_text (plan ∷ plans) (first ∷ listed) =
@@ -47,7 +47,7 @@ abbrev pub text_of : Header → List (List Group) → Contents → List ℕ
 text_of header plans r = header_text header 0 [] ++ sections_text plans r
 
 -- there is a plan of each authority's runs
-abbrev pub EachPlan : (List Span → List Group → Type 0) → List (List Group) → List Listed → Type 0
+abbrev pub EachPlan : (List Span → List Group → Type 0) → List (List Group) → List Section → Type 0
 EachPlan Holds [] [] = Unit {0}
 EachPlan Holds [] (first ∷ listed) = ⊥
 EachPlan Holds (plan ∷ plans) [] = ⊥
@@ -79,7 +79,7 @@ abbrev pub ids_subsections : List (List ℕ) → List Subsection
 ids_subsections [] = []
 ids_subsections (id ∷ ids) = Ids (id ∷ ids) ∷ []
 
-abbrev pub authority_sections : List (List Group) → List Listed → List SpelledSection
+abbrev pub authority_sections : List (List Group) → List Section → List SpelledSection
 authority_sections [] listed = []
 authority_sections (plan ∷ plans) [] = []
 authority_sections (plan ∷ plans) (first ∷ listed) =

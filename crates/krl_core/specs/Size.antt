@@ -2,7 +2,7 @@
 use Rattle.std.specs.Prelude.{ℕ, ◌+◌, ◌*◌, List, [], ◌∷◌, length}
 use Rattle.krl_core.specs.declared.header.Header.{Header}
 use Rattle.krl_plan.specs.declared.group.Group.{Group}
-use Rattle.krl_core.specs.Contents.{Contents, Section as Listed}
+use Rattle.krl_core.specs.Contents.{Contents, Section}
 use Rattle.krl_plan.specs.Plan.{cost}
 
 -- strings one behind the other, each with four bytes of length
@@ -21,12 +21,12 @@ hashes_size each [] = 0
 hashes_size each (hash ∷ hashes) = 5 + each * length (hash ∷ hashes)
 
 -- the section of an authority
-abbrev pub authority_size : List Group → Listed → ℕ
+abbrev pub authority_size : List Group → Section → ℕ
 authority_size plan listed =
     13 + length listed.authority + cost listed.spans plan + listed_size listed.ids
 
 -- the sections of some authorities, with a plan for each
-abbrev pub authorities_size : List (List Group) → List Listed → ℕ
+abbrev pub authorities_size : List (List Group) → List Section → ℕ
 authorities_size [] listed = 0
 authorities_size (plan ∷ plans) [] = 0
 authorities_size (plan ∷ plans) (first ∷ listed) =

@@ -11,7 +11,7 @@ use Rattle.krl_core.specs.declared.writing.text_fault.TextFault.{TextFault}
 use Rattle.krl_core.specs.declared.writing.text_fault.TextFault.TheVariants.{NoMemory, TooLong}
 use Rattle.krl_plan.specs.declared.group.Group.{Group}
 use Rattle.krl_core.specs.declared.header.Header.{Header}
-use Rattle.krl_core.specs.Contents.{Contents, Section as Listed}
+use Rattle.krl_core.specs.Contents.{Contents, Section}
 use Rattle.krl_core.specs.KrlText.{EachPlan, IsKrlText, authorities_text, authority_text}
 use Rattle.krl_plan.specs.Plan.{IsLeastPlan}
 
@@ -26,7 +26,7 @@ AddsWithin (Err NoMemory) old new text = ⊤
 AddsWithin (Err TooLong) old new text = limit < length old + length text
 
 -- The same for the section of an authority, by the least plan of its runs.
-abbrev pub AddsAuthority : {A : Type 0} → Result A TextFault → List ℕ → List ℕ → Listed → Type 0
+abbrev pub AddsAuthority : {A : Type 0} → Result A TextFault → List ℕ → List ℕ → Section → Type 0
 AddsAuthority (Ok done) old new listed =
     (plan : List Group) × (IsLeastPlan listed.spans plan
     × ((new ≡ old ++ authority_text plan listed) × (length new ≤ limit)))
@@ -37,7 +37,7 @@ AddsAuthority (Err TooLong) old new listed =
 
 -- The same for the sections of some authorities.
 abbrev pub AddsAuthorities : {A : Type 0}
-    → Result A TextFault → List ℕ → List ℕ → List Listed → Type 0
+    → Result A TextFault → List ℕ → List ℕ → List Section → Type 0
 AddsAuthorities (Ok done) old new listed =
     (plans : List (List Group)) × (EachPlan IsLeastPlan plans listed
     × ((new ≡ old ++ authorities_text plans listed) × (length new ≤ limit)))

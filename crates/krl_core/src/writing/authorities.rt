@@ -2,7 +2,7 @@
 
 ghost use Rattle.std.specs.Prelude.{◌≡◌, ◌≤◌, ◌∷◌, [], List, length, MatchOption};
 ghost use Rattle.krl_core.specs.Front.{limit};
-ghost use Rattle.krl_core.specs.Contents.{Section as Listed};
+ghost use Rattle.krl_core.specs.Contents.{Section};
 ghost use Rattle.krl_core.specs.Within.{AddsAuthorities};
 
 use crate::writing::authority::add_authority;
@@ -22,7 +22,7 @@ pub(crate) struct Authority<'a, S: 'a, W: Drop> {
 /// A walk over authorities and what is held under them.
 pub(crate) trait Authorities<'a, S: Spans + 'a, W: Strings<'a>>: Drop {
     // what is left
-    ghost left: { Self → List Listed };
+    ghost left: { Self → List Section };
 
     /// The next authority.
     fn next_authority(&mut self) -> Option<Authority<'a, S, W>>
