@@ -8,19 +8,13 @@ mod reader;
 mod rest;
 mod writer;
 
+use parts_for_tests::printed;
 use ssh_wire::{Bytes, PullFault, WireFault};
-use std::alloc::{AllocError, Global};
-use std::fmt::Display;
 use std::process::Abort;
 
 /// What a test says of a case is right; the number tells the case from the others of the test.
 fn is_right(rt: &impl Abort, number: usize, right: bool) {
     assert!(rt; right, "in case {number}");
-}
-
-/// How a fault prints.
-fn printed(alloc: Global, fault: &impl Display) -> Result<String, AllocError> {
-    format!(in alloc; "{fault}")
 }
 
 /// A fault, its number, and how it prints.

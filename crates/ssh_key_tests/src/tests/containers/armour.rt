@@ -1,10 +1,9 @@
 // The lines round a container.
 
-use crate::tests::containers::made::{
-    armoured, around, is_read, is_refused, joined, published_container,
-};
+use crate::tests::containers::made::{armoured, is_read, is_refused, published_container};
 use crate::tests::parts::{is_right, published_key};
 use base64::engine::general_purpose::STANDARD;
+use parts_for_tests::{around, joined};
 use ssh_key::{PrivateFault, is_container};
 use std::alloc::{AllocError, Global};
 use std::process::Abort;

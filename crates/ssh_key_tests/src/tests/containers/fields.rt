@@ -1,10 +1,8 @@
 // The fields of a container before its private list: changed, cut, lengthened and repeated.
 
-use crate::tests::containers::made::{
-    Parts, are_refused, joined, plain, published_container, published_list,
-};
+use crate::tests::containers::made::{are_refused, plain, published_container, published_list};
 use crate::tests::parts::{point, published_key};
-use parts_for_tests::strings;
+use parts_for_tests::{Parts, joined, strings};
 use ssh_key::{KeyFault, PrivateFault};
 use ssh_wire::WireFault;
 use std::alloc::{AllocError, Global};

@@ -1,15 +1,15 @@
 // Containers of keys of each kind.
 
-use crate::tests::containers::made::{are_refused, armoured, is_read, joined, list, plain};
+use crate::tests::containers::made::{are_refused, armoured, is_read, plain};
 use crate::tests::parts::point;
-use parts_for_tests::{PUBLISHED, strings};
+use parts_for_tests::{PUBLISHED, joined, private_list, strings};
 use ssh_key::PrivateFault;
 use std::alloc::{AllocError, Global};
 use std::process::Abort;
 
 /// The container of a blob whose private list has these fields.
 fn container(alloc: Global, blob: &[u8], fields: &[u8]) -> Result<Vec<u8>, AllocError> {
-    let list = list(alloc, (9, 9), fields, b"c d", &[1, 2])?;
+    let list = private_list(alloc, (9, 9), fields, b"c d", &[1, 2])?;
     plain(alloc, blob, &list)
 }
 

@@ -1,10 +1,8 @@
 // The private list of a container: its fields changed, cut, lengthened and repeated.
 
-use crate::tests::containers::made::{
-    are_refused, armoured, is_read, joined, list, plain, published_fields,
-};
+use crate::tests::containers::made::{are_refused, armoured, is_read, plain, published_fields};
 use crate::tests::parts::{PUBLISHED_TYPE, is_right, published_key};
-use parts_for_tests::{PUBLISHED, strings};
+use parts_for_tests::{PUBLISHED, joined, private_list, strings};
 use ssh_key::{KeyFault, PrivateFault};
 use ssh_wire::WireFault;
 use std::alloc::{AllocError, Global};
@@ -27,7 +25,10 @@ fn check_words(rt: HostRuntime) {
     let alloc = rt.alloc();
     let fields = published_fields(alloc).expect(&rt, "there is memory");
     for checks in [(1, 2), (2, 1), (0, 0xffff_ffff), (0x0100_0000, 1)] {
-        let list = list(alloc, checks, &fields, b"a", &[1, 2, 3, 4]).expect(&rt, "there is memory");
+        let list = private_list(alloc, checks, &fields, b"a", &[1, 2, 3, 4]).expect(
+            &rt,
+            "there is memory",
+        );
         list_refused(&rt, alloc, &list, PrivateFault::Check).expect(&rt, "there is memory");
     }
 }
@@ -40,7 +41,7 @@ fn fields_refused(
     fault: PrivateFault,
 ) -> Result<(), AllocError> {
     let fields = strings(alloc, fields)?;
-    let list = list(alloc, (7, 7), &fields, b"a", &[1, 2, 3, 4])?;
+    let list = private_list(alloc, (7, 7), &fields, b"a", &[1, 2, 3, 4])?;
     list_refused(rt, alloc, &list, fault)
 }
 
@@ -161,7 +162,7 @@ fn rising(alloc: Global, size: usize) -> Result<Vec<u8>, AllocError> {
 fn container(alloc: Global, comment: &[u8], padding: &[u8]) -> Result<Vec<u8>, AllocError> {
     let blob = published_key(alloc)?;
     let fields = published_fields(alloc)?;
-    let list = list(alloc, (1, 1), &fields, comment, padding)?;
+    let list = private_list(alloc, (1, 1), &fields, comment, padding)?;
     plain(alloc, &blob, &list)
 }
 
@@ -207,7 +208,7 @@ fn large_comments(rt: HostRuntime) {
 /// The container of the published key with this padding is refused.
 fn badly_padded(rt: &impl Abort, alloc: Global, padding: &[u8]) -> Result<(), AllocError> {
     let fields = published_fields(alloc)?;
-    let list = list(alloc, (1, 1), &fields, b"a", padding)?;
+    let list = private_list(alloc, (1, 1), &fields, b"a", padding)?;
     list_refused(rt, alloc, &list, PrivateFault::Padding)
 }
 
