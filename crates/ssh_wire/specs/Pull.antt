@@ -1,6 +1,6 @@
 -- How far a reader was pulled, and what taking a field from it does.
 use Rattle.std.specs.Prelude.{◌≡◌, ℕ, ◌+◌, ◌≤◌, ◌<◌, Bool, true, false, List, [], ◌∷◌, length}
-use Rattle.std.specs.Prelude.{Option, Some, None, IsSome, MatchBool}
+use Rattle.std.specs.Prelude.{Option, Some, None, Result, Err, IfSome, IsSome, MatchBool}
 use Rattle.std.proofs.Common.{refl}
 use Rattle.std.specs.Io.KnownBytes.{Consumes, IsAtEnd, Keeps, prepend_known}
 use Rattle.ssh_wire.specs.declared.pull_fault.PullFault.{PullFault}
@@ -70,6 +70,10 @@ pub record Refuses (old : Pulled) (size : ℕ) (fault : PullFault) (new : Pulled
   pub taken : new.taken ≡ old.taken
   pub limit : new.limit ≡ old.limit
   pub fault_is : new.fault ≡ Some fault
+
+-- After a fault nothing is taken, and the same fault is told again.
+abbrev pub RefusesAgain : {A : Type 0} → Result A PullFault → Pulled → Pulled → Type 0
+RefusesAgain result old new = IfSome old.fault (λ fault. (result ≡ Err fault) × (new ≡ old))
 
 -- All that was left was taken, within the limit.
 pub record TakesRest (old : Pulled) (rest : List ℕ) (new : Pulled) : Type 0 where

@@ -1,8 +1,8 @@
 // Taking fields from a reader, whatever pieces it gives.
 
-ghost use Rattle.std.specs.Prelude.{◌≡◌, ◌≢◌, ◌<◌, ◌∷◌, [], None, Err, length, IfOk, IfErr, IfSome};
+ghost use Rattle.std.specs.Prelude.{◌≡◌, ◌≢◌, ◌<◌, ◌∷◌, [], None, Err, length, IfOk, IfErr};
 ghost use Rattle.std.specs.Prelude.{OnOk, OnErr, ◌+◌, ◌≤◌, false, vec_capacity, vec_len};
-ghost use Rattle.ssh_wire.specs.Pull.{Looks, Refuses, RefusesRest, Takes, TakesRest, untaken};
+ghost use Rattle.ssh_wire.specs.Pull.{Looks, Refuses, RefusesAgain, RefusesRest, Takes, TakesRest, untaken};
 ghost use Rattle.ssh_wire.specs.declared.pull_fault.PullFault.TheVariants.{NoMemory, Read};
 
 use crate::bytes::Bytes;
@@ -72,8 +72,7 @@ impl<R: Source + Drop> Pull<R> {
         ensures ok { IfOk result (λ ended. Looks self.old ended self.new) }
         ensures err { self.old.fault ≡ None → IfErr result (λ fault.
             (fault ≡ Read) × Refuses self.old 1 fault self.new) }
-        ensures again { IfSome self.old.fault (λ fault.
-            (result ≡ Err fault) × (self.new ≡ self.old)) }
+        ensures again { RefusesAgain result self.old self.new }
     {
         if let Some(fault) = self.fault {
             return Err(fault);
@@ -92,8 +91,7 @@ impl<R: Source + Drop> Pull<R> {
         ensures ok { OnOk result (Takes self.old into.new self.new) }
         ensures err { self.old.fault ≡ None → IfErr result (λ fault.
             (fault ≢ NoMemory) × Refuses self.old (length into.old) fault self.new) }
-        ensures again { IfSome self.old.fault (λ fault.
-            (result ≡ Err fault) × (self.new ≡ self.old)) }
+        ensures again { RefusesAgain result self.old self.new }
     {
         self.refuse_past_limit(into.len() as u64)?;
         match fill(&mut self.reader, &mut self.ahead, into) {
@@ -113,8 +111,7 @@ impl<R: Source + Drop> Pull<R> {
         ensures ok { IfOk result (λ byte. Takes self.old (byte ∷ []) self.new) }
         ensures err { self.old.fault ≡ None → IfErr result (λ fault.
             (fault ≢ NoMemory) × Refuses self.old 1 fault self.new) }
-        ensures again { IfSome self.old.fault (λ fault.
-            (result ≡ Err fault) × (self.new ≡ self.old)) }
+        ensures again { RefusesAgain result self.old self.new }
     {
         let mut into = [0];
         self.fill(&mut into)?;
@@ -127,8 +124,7 @@ impl<R: Source + Drop> Pull<R> {
         ensures size { IfOk result (λ field. length field ≡ N) }
         ensures err { self.old.fault ≡ None → IfErr result (λ fault.
             (fault ≢ NoMemory) × Refuses self.old N fault self.new) }
-        ensures again { IfSome self.old.fault (λ fault.
-            (result ≡ Err fault) × (self.new ≡ self.old)) }
+        ensures again { RefusesAgain result self.old self.new }
     {
         let mut into = [0; N];
         self.fill(&mut into)?;
@@ -146,8 +142,7 @@ impl<R: Source + Drop> Pull<R> {
         // Where the vector has room, no growth is refused.
         ensures full { self.old.fault ≡ None → result ≡ Err NoMemory
             → vec_capacity out.old < size }
-        ensures again { IfSome self.old.fault (λ fault.
-            (result ≡ Err fault) × (self.new ≡ self.old)) }
+        ensures again { RefusesAgain result self.old self.new }
     {
         out.clear();
         self.refuse_past_limit(size as u64)?;
@@ -172,8 +167,7 @@ impl<R: Source + Drop> Pull<R> {
             Refuses self.old size fault self.new) }
         // No bytes take no memory.
         ensures full { self.old.fault ≡ None → result ≡ Err NoMemory → 0 < size }
-        ensures again { IfSome self.old.fault (λ fault.
-            (result ≡ Err fault) × (self.new ≡ self.old)) }
+        ensures again { RefusesAgain result self.old self.new }
     {
         let mut out = Vec::new(alloc);
         self.bytes_into(&mut out, size)?;
@@ -185,8 +179,7 @@ impl<R: Source + Drop> Pull<R> {
         ensures ok { IfOk result (λ rest. TakesRest self.old rest self.new) }
         ensures err { self.old.fault ≡ None → IfErr result (λ fault.
             RefusesRest self.old fault self.new) }
-        ensures again { IfSome self.old.fault (λ fault.
-            (result ≡ Err fault) × (self.new ≡ self.old)) }
+        ensures again { RefusesAgain result self.old self.new }
     {
         if let Some(fault) = self.fault {
             return Err(fault);
@@ -221,8 +214,7 @@ impl<R: Source + Drop> Pull<R> {
         ensures faultless { OnOk result (self.old.fault ≡ None) }
         ensures err { self.old.fault ≡ None → IfErr result (λ fault.
             (fault ≢ NoMemory) × Refuses self.old size fault self.new) }
-        ensures again { IfSome self.old.fault (λ fault.
-            (result ≡ Err fault) × (self.new ≡ self.old)) }
+        ensures again { RefusesAgain result self.old self.new }
     {
         if let Some(fault) = self.fault {
             return Err(fault);
