@@ -1,16 +1,11 @@
 -- How much more is stored by reading what a specification file names.
-use Rattle.std.specs.Prelude.{ℕ, ◌+◌, ◌≤◌, ◌⊎◌, List, [], length, Option, Some, None, unwrap_or}
+use Rattle.std.specs.Prelude.{ℕ, ◌+◌, ◌≤◌, List, [], length, Option, Some, None, unwrap_or}
 use Rattle.ssh_cert.specs.Subject.{Names, Subject}
-use Rattle.krl_core.specs.Contents.{Contents, IsNamed, stored}
+use Rattle.krl_core.specs.Contents.{Contents, IsStoredWithin}
 
 -- The bytes of the authority at hand: all authorities have none, nor has one that is not given.
 abbrev pub bytes_under : Option (List ℕ) → List ℕ
 bytes_under authority = unwrap_or authority []
-
--- What is stored has at most n bytes, and so it has where the authority at hand is counted too.
-pub record IsStoredWithin (authority : List ℕ) (r : Contents) (n : ℕ) : Type 0 where
-  pub now : stored r ≤ n
-  pub next : IsNamed r authority ⊎ (stored r + length authority ≤ n)
 
 -- At most so many bytes more are stored, the authority at hand counted once.
 abbrev pub GrowsUnder : List ℕ → ℕ → Contents → Contents → Type 0
