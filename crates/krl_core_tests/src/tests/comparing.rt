@@ -3,8 +3,8 @@
 ghost use Rattle.std.specs.Prelude.{◌≤◌, ◌<◌};
 
 use crate::tests::plain_model::{Asked, Names, Said, held_of, is_revoked, revokes};
-use crate::tests::random::Random;
 use krl_core::Revocations;
+use parts_for_tests::Random;
 use serial_set::{Held, SpanVec, Spans};
 use ssh_key::{sha1_of, sha256_of};
 use std::alloc::Global;

@@ -1,10 +1,11 @@
 // Lists that would take much where they were not read a field at a time, into sets of their own.
 
 use crate::tests::full::Full;
-use crate::tests::lists::{joined, list_of, read_from, spans_from};
+use crate::tests::lists::{list_of, read_from, spans_from};
 use crate::tests::rows::BITMAP;
 use devices_for_tests::{Giver, Then};
 use krl_core::{KrlFault, Revocations};
+use parts_for_tests::joined;
 use serial_set::{Held, SpanVec};
 use std::alloc::Global;
 use std::process::Abort;
@@ -52,7 +53,7 @@ fn is_added_once(rt: &impl Abort, alloc: Global) {
     is_added(rt, alloc, RANGE, 1);
     is_added(rt, alloc, BITMAP, 4);
     let others = [0xff; 999];
-    let bits = joined(rt, alloc, &[LONG_BITMAP, b"\x7f", &others]);
+    let bits = joined(alloc, &[LONG_BITMAP, b"\x7f", &others]).expect(rt, "there is memory");
     is_added(rt, alloc, &bits, 1)
 }
 
@@ -79,7 +80,7 @@ fn is_told(
     due: Result<usize, KrlFault>,
 ) {
     let first = list_of(rt, alloc, sections);
-    let mut reader = Giver::new(&first, usize::MAX);
+    let mut reader = Giver::whole(&first);
     reader.then = Then::Zeros(zeros);
     assert!(rt; keys_from(alloc, reader) == due);
 }

@@ -1,8 +1,8 @@
 // The making, reading and writing of lists. What the contracts of these calls say ends here, since
 // a test only compares values, and its proof is the cheaper for each fact that it does not carry.
 
-use crate::tests::rows::HEADER;
 use krl_core::{Header, KrlFault, Revocations, TextFault, krl_text, read_krl};
+use parts_for_tests::{HEADER, joined};
 use serial_set::{Held, Spans};
 use ssh_wire::{Bytes, FromRead};
 use std::alloc::Global;
@@ -14,18 +14,9 @@ pub fn is_right(rt: &impl Abort, number: usize, right: bool) {
     assert!(rt; right, "in case {number}");
 }
 
-/// The parts, one after the other.
-pub fn joined(rt: &impl Abort, alloc: Global, parts: &[&[u8]]) -> Vec<u8> {
-    let mut bytes = Vec::new(alloc);
-    for part in parts {
-        bytes.extend_from_slice(part).expect(rt, "there is memory");
-    }
-    bytes
-}
-
 /// The list with these bytes after its header.
 pub fn list_of(rt: &impl Abort, alloc: Global, sections: &[u8]) -> Vec<u8> {
-    joined(rt, alloc, &[HEADER, sections])
+    joined(alloc, &[&HEADER, sections]).expect(rt, "there is memory")
 }
 
 /// The bytes with one of them set.

@@ -3,8 +3,7 @@
 ghost use Rattle.std.specs.Prelude.{◌<◌, ◌≤◌, ◌^◌, length};
 
 use crate::tests::beside::is_read_alike;
-use crate::tests::random::Random;
-use crate::tests::rows::HEADER;
+use parts_for_tests::{HEADER, Random};
 use ssh_wire::{put_byte, put_string, put_u64};
 use std::alloc::Global;
 use std::process::Abort;
@@ -157,7 +156,7 @@ fn put_section(rt: &impl Abort, out: &mut Vec<u8>, alloc: Global, random: &mut R
 }
 
 fn some_list(rt: &impl Abort, alloc: Global, random: &mut Random) -> Vec<u8> {
-    let mut text = Vec::from_slice(alloc, HEADER).expect(rt, "there is memory");
+    let mut text = Vec::from_slice(alloc, &HEADER).expect(rt, "there is memory");
     for _ in 0..random.below(6) {
         put_section(rt, &mut text, alloc, random);
     }

@@ -1,9 +1,10 @@
 // Lists, read from a slice and in pieces.
 
 use crate::tests::lists::{is_right, list_of, read_from, says, spans_from, with_byte};
-use crate::tests::rows::{BITMAP, HEADER, ROWS, Row, SERIAL_FIVE};
+use crate::tests::rows::{BITMAP, ROWS, Row};
 use devices_for_tests::{Giver, Then};
 use krl_core::{KrlFault, Reading};
+use parts_for_tests::{FIVE, HEADER};
 use serial_set::{Held, SpanVec, Spans};
 use ssh_wire::FromRead;
 use std::alloc::Global;
@@ -52,7 +53,7 @@ fn front_is_told(rt: &impl Abort, alloc: Global, front: &[u8]) {
 
 #[test]
 fn each_front_of_a_list(rt: HostRuntime) {
-    let text = list_of(&rt, rt.alloc(), SERIAL_FIVE);
+    let text = list_of(&rt, rt.alloc(), FIVE);
     assert!(rt; text.len() == 70);
     for n in 0..71 {
         front_is_told(&rt, rt.alloc(), &text[..n]);
@@ -84,7 +85,7 @@ fn faults_of_the_header(rt: HostRuntime) {
         is_refused(&rt, rt.alloc(), Giver::new(*bytes, 1000), *fault);
     }
     for (place, byte, fault) in &CHANGES {
-        let text = with_byte(&rt, rt.alloc(), HEADER, *place, *byte);
+        let text = with_byte(&rt, rt.alloc(), &HEADER, *place, *byte);
         is_refused(&rt, rt.alloc(), Giver::new(&text, 1000), *fault);
     }
 }
@@ -98,7 +99,7 @@ fn a_fault_before_the_reader_fails(rt: HostRuntime) {
 
 #[test]
 fn interruptions_are_passed_over(rt: HostRuntime) {
-    let text = list_of(&rt, rt.alloc(), SERIAL_FIVE);
+    let text = list_of(&rt, rt.alloc(), FIVE);
     for (interruptions, due) in [(1000, Ok(1)), (1001, Err(KrlFault::Read))] {
         let mut giver = Giver::new(&text, 7);
         giver.interruptions = interruptions;

@@ -2,14 +2,6 @@
 
 use krl_core::KrlFault;
 
-/// The header with version 1, of 44 bytes.
-pub const HEADER: &[u8] = b"SSHKRL\n\0\0\0\0\x01\0\0\0\0\0\0\0\x01\
-\0\0\0\0\0\0\0\0\0\0\0\0\0\0\0\0\0\0\0\0\0\0\0\0";
-
-/// Serial 5 of all authorities.
-pub const SERIAL_FIVE: &[u8] = b"\x01\0\0\0\x15\0\0\0\0\0\0\0\0\x20\0\0\0\x08\
-\0\0\0\0\0\0\0\x05";
-
 /// The serials 1, 3, 5 and 7 of all authorities.
 pub const BITMAP: &[u8] = b"\x01\0\0\0\x1a\0\0\0\0\0\0\0\0\x22\0\0\0\x0d\
 \0\0\0\0\0\0\0\x01\0\0\0\x01\x55";

@@ -1,10 +1,10 @@
 // Lists that go out to a writer, which may fail.
 
 use crate::tests::lists::{header, list_of};
-use crate::tests::rows::SERIAL_FIVE;
 use crate::tests::writing::of_runs;
 use devices_for_tests::Taker;
 use krl_core::{Revocations, WriteFault, write_krl};
+use parts_for_tests::FIVE;
 use serial_set::Held;
 use ssh_wire::ToWrite;
 use std::alloc::Global;
@@ -37,7 +37,7 @@ fn is_sent(
     count: usize,
     due: Result<(), WriteFault>,
 ) {
-    let text = list_of(rt, alloc, SERIAL_FIVE);
+    let text = list_of(rt, alloc, FIVE);
     let (done, taken) = sent(rt, alloc, piece, calls);
     assert!(rt; done == due);
     assert!(rt; text.get(..count) == Some(taken.as_slice()));

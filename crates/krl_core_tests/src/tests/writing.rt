@@ -1,10 +1,10 @@
 // Whole lists (PROTOCOL.krl), byte for byte, each read back.
 
-use crate::tests::lists::{has_text, header, joined, list_of, read_from, text_of};
+use crate::tests::lists::{has_text, header, list_of, read_from, text_of};
 use crate::tests::plain_model::{Said, held_of, hold, id_under, serials_under};
 use crate::tests::subjects::ALL;
 use krl_core::{Revocations, TextFault};
-use parts_for_tests::EIGHT_AND_ONE;
+use parts_for_tests::{EIGHT_AND_ONE, joined};
 use serial_set::Held;
 use std::alloc::Global;
 use std::process::Abort;
@@ -48,11 +48,8 @@ fn has_length(rt: &impl Abort, alloc: Global, ends: &[(u64, u64)], length: u64) 
 // The section of all authorities with these subsections.
 fn under_all(rt: &impl Abort, alloc: Global, subsections: &[u8]) -> Vec<u8> {
     let [.., a, b, c, d] = subsections.len().saturating_add(8).to_be_bytes();
-    joined(
-        rt,
-        alloc,
-        &[&[1, a, b, c, d], b"\0\0\0\0\0\0\0\0", subsections],
-    )
+    let front = [1, a, b, c, d, 0, 0, 0, 0, 0, 0, 0, 0];
+    joined(alloc, &[&front, subsections]).expect(rt, "there is memory")
 }
 
 // The serials of all authorities are written by these subsections.
@@ -126,7 +123,7 @@ fn odd_serials(rt: &impl Abort, alloc: Global) -> Vec<(u64, u64)> {
 fn odd_serials_are_written(rt: &impl Abort, alloc: Global) {
     let runs = odd_serials(rt, alloc);
     let front = b"\x22\0\0\0\x2c\0\0\0\0\0\0\0\x01\0\0\0\x20";
-    let due = joined(rt, alloc, &[front, &[0x55; 32]]);
+    let due = joined(alloc, &[front, &[0x55; 32]]).expect(rt, "there is memory");
     serials(rt, alloc, &runs, &due)
 }
 

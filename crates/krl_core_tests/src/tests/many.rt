@@ -1,0 +1,105 @@
+// What is held, written and read past each page and each chapter, with memory enough.
+
+use crate::tests::lists::{has_text, header, list_of, read_from, spans_from, text_of};
+use crate::tests::plain_model::{Said, hold, id_under, serials_under};
+use crate::tests::subjects::ALL;
+use krl_core::{Authorities, Listed, Revocations};
+use parts_for_tests::{joined, strings};
+use serial_set::{Held, Spans};
+use std::alloc::{AllocError, Global};
+use std::process::Abort;
+
+/// How many of each sort: a chapter has at most 512 pages, and a page at most 64 values.
+const COUNT: usize = 40_000;
+
+// Holds a key, its hashes, an authority with a serial and a key ID, and a key ID of all
+// authorities, all by one number.
+fn hold_each(rt: &impl Abort, held: &mut Revocations<Held>, number: u64) {
+    let mut hash = [0; 32];
+    hash[..8].copy_from_slice(&number.to_be_bytes());
+    let name = &hash[..8];
+    hold(rt, held, Said::Key(name));
+    hold(rt, held, Said::Sha1(&hash[..20]));
+    hold(rt, held, Said::Sha256(&hash));
+    hold(rt, held, serials_under(name, 5, 5));
+    hold(rt, held, id_under(name, name));
+    hold(rt, held, id_under(ALL, name));
+}
+
+// What is held by so many numbers, in an order that is not theirs.
+fn held_by_many(rt: &impl Abort, alloc: Global) -> Revocations<Held> {
+    let mut held: Revocations<Held> = Revocations::new(alloc);
+    for number in 0..COUNT as u64 {
+        hold_each(rt, &mut held, number.wrapping_mul(0x9e37_79b9_7f4a_7c15));
+    }
+    held
+}
+
+// How many keys and hashes are held.
+fn counts(held: &Revocations<Held>) -> [usize; 3] {
+    [held.keys(), held.sha1s(), held.sha256s()]
+}
+
+// How many key IDs and spans are held under an authority.
+fn of_authority(listed: &Listed<'_, Held>) -> (usize, usize) {
+    (listed.ids(), listed.spans().len())
+}
+
+// How many key IDs and spans the next authority of a walk has.
+fn next(walk: &mut Authorities<'_, Held>) -> Option<(usize, usize)> {
+    let listed = walk.next()?;
+    Some(of_authority(&listed))
+}
+
+// All authorities have the key IDs, and each other one has a key ID and a serial.
+fn are_listed(rt: &impl Abort, held: &Revocations<Held>) {
+    let mut walk = held.walk_authorities();
+    assert!(rt; next(&mut walk) == Some((COUNT, 0)));
+    for _ in 0..COUNT {
+        assert!(rt; next(&mut walk) == Some((1, 1)));
+    }
+    assert!(rt; next(&mut walk).is_none());
+}
+
+// What is held has a text of so many bytes, which is read back.
+fn has_length(rt: &impl Abort, alloc: Global, held: &Revocations<Held>, length: usize) {
+    let text = text_of(alloc, &header(alloc), held).expect(rt, "what is held has a text");
+    assert!(rt; text.len() == length);
+    let (header, held) = read_from::<Held, &[u8]>(alloc, &text).expect(rt, "the list is spelled");
+    assert!(rt; counts(&held) == [COUNT; 3]);
+    has_text(rt, alloc, &header, &held, &text);
+}
+
+#[test]
+fn many_of_each_sort(rt: HostRuntime) {
+    let held = held_by_many(&rt, rt.alloc());
+    assert!(rt; counts(&held) == [COUNT; 3]);
+    are_listed(&rt, &held);
+    // the header, the key IDs of all authorities and the sections of the others, and the keys, the
+    // SHA-1s and the SHA-256s
+    let others = 5 + 12 + 4 + 13 + 17;
+    let length = 44 + (18 + 12 * COUNT) + others * COUNT + (15 + (12 + 24 + 36) * COUNT);
+    has_length(&rt, rt.alloc(), &held, length);
+}
+
+// The section of all authorities with so many odd serials, in no order.
+fn in_no_order(alloc: Global, count: u64) -> Result<Vec<u8>, AllocError> {
+    let mut serials = Vec::new(alloc);
+    for number in 0..count {
+        // the multiplier has no divisor in common with the count, so each serial comes once
+        let place = number.wrapping_mul(7_919).checked_rem(count).unwrap_or(0);
+        let serial = place.wrapping_mul(2).wrapping_add(1);
+        serials.extend_from_slice(&serial.to_be_bytes())?;
+    }
+    let subsection = strings(alloc, &[&serials])?;
+    let content = joined(alloc, &[b"\0\0\0\0\0\0\0\0\x20", &subsection])?;
+    let content = strings(alloc, &[&content])?;
+    joined(alloc, &[b"\x01", &content])
+}
+
+#[test]
+fn many_serials_in_no_order(rt: HostRuntime) {
+    let sections = in_no_order(rt.alloc(), 100_000).expect(&rt, "there is memory");
+    let list = list_of(&rt, rt.alloc(), &sections);
+    assert!(rt; spans_from::<Held, &[u8]>(rt.alloc(), &list) == Ok(100_000));
+}
