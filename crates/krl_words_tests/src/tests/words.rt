@@ -284,3 +284,76 @@ fn told_in_words(rt: HostRuntime) -> Result<(), Fail> {
     }
     Ok(())
 }
+
+// The first words, and so many names of files after them.
+fn with_files(
+    alloc: Global,
+    first: &[&'static str],
+    count: usize,
+) -> Result<Vec<&'static str>, AllocError> {
+    let mut words = Vec::from_slice(alloc, first)?;
+    for _ in 0..count {
+        words.push("file")?;
+    }
+    Ok(words)
+}
+
+// Whether the words with so many files after them ask for these files.
+fn asks_for_files(alloc: Global, first: &[&'static str], count: usize) -> Result<bool, Fail> {
+    let words = with_files(alloc, first, count)?;
+    let job = job_by(alloc, &words)?;
+    let files = words.get(4..).unwrap_or(&[]);
+    Ok(job.files.len() == count && job.files.as_slice() == files)
+}
+
+#[test]
+fn many_files(rt: HostRuntime) -> Result<(), Fail> {
+    let rows: [&[&str]; 2] = [
+        &["ssh-keygen", "-Q", "-f", "k"],
+        &["ssh-keygen", "-k", "-f", "l"],
+    ];
+    for (i, first) in rows.iter().enumerate() {
+        for count in [1_025, 5_000] {
+            assert!(rt;
+                asks_for_files(rt.alloc(), *first, count)?,
+                "{count} files of row {i}"
+            );
+        }
+    }
+    Ok(())
+}
+
+// So many letters.
+fn letters(alloc: Global, size: usize) -> Result<String, AllocError> {
+    let mut text = String::new(alloc);
+    for _ in 0..size {
+        text.push('a')?;
+    }
+    Ok(text)
+}
+
+// Whether a long name of the list and of a file is taken.
+fn takes_names(alloc: Global, size: usize) -> Result<bool, Fail> {
+    let name = letters(alloc, size)?;
+    let words = ["ssh-keygen", "-Q", "-f", name.as_str(), name.as_str()];
+    let job = job_by(alloc, &words)?;
+    Ok(job.file == name.as_str() && job.files.as_slice() == &words[4..])
+}
+
+// Whether a long word that is no option is told.
+fn tells_word(alloc: Global, size: usize) -> Result<bool, Fail> {
+    let name = letters(alloc, size)?;
+    let word = format!(in alloc; "--{}", name.as_str())?;
+    let words = ["ssh-keygen", word.as_str()];
+    let fault = fault_by(alloc, &words)?;
+    Ok(tells(&fault, false))
+}
+
+#[test]
+fn long_words(rt: HostRuntime) -> Result<(), Fail> {
+    for size in [1_025, 4_097, 70_001] {
+        assert!(rt; takes_names(rt.alloc(), size)?, "of {size} letters");
+        assert!(rt; tells_word(rt.alloc(), size)?, "of {size} letters");
+    }
+    Ok(())
+}
