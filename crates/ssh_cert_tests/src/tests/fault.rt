@@ -1,16 +1,10 @@
 // Faults, by their numbers and as they print.
 
 use crate::tests::parts::is_right;
+use parts_for_tests::printed;
 use ssh_cert::{CertFault, SubjectFault};
 use ssh_key::KeyFault;
 use ssh_wire::WireFault;
-use std::alloc::{AllocError, Global};
-use std::fmt::Display;
-
-/// How a fault prints.
-fn printed(alloc: Global, fault: &impl Display) -> Result<String, AllocError> {
-    format!(in alloc; "{fault}")
-}
 
 /// A fault, its number, and how it prints.
 type Row<F> = (F, u8, &'static str);

@@ -1,10 +1,11 @@
 // The listing of a certificate, and instants as they are printed.
 
 use crate::tests::parts::{Part, changed, is_right, with};
-use parts_for_tests::PUBLISHED;
+use parts_for_tests::{PUBLISHED, joined, strings};
 use ssh_cert::{list_cert, push_escaped, read_cert, time_text, valid_at};
 use ssh_key::Hash;
-use std::alloc::Global;
+use std::alloc::{AllocError, Global};
+use std::process::Abort;
 
 /// The listing of the blob's certificate at the moment 0.
 fn listing(alloc: Global, blob: &[u8], hash: Hash) -> Option<Vec<u8>> {
@@ -76,9 +77,9 @@ const LISTED: [Listed<'static>; 4] = [
 ];
 
 /// Whether the listing of the blob's certificate ends with these lines.
-fn lists(alloc: Global, blob: &[u8], hash: Hash, lines: &str) -> bool {
+fn lists(alloc: Global, blob: &[u8], hash: Hash, lines: &[u8]) -> bool {
     match listing(alloc, blob, hash) {
-        Some(text) => text.as_slice().ends_with(lines.as_bytes()),
+        Some(text) => text.as_slice().ends_with(lines),
         None => false,
     }
 }
@@ -87,7 +88,117 @@ fn lists(alloc: Global, blob: &[u8], hash: Hash, lines: &str) -> bool {
 fn principals_options_and_extensions_are_listed(rt: HostRuntime) {
     for (i, (hash, part, strings, lines)) in LISTED.iter().enumerate() {
         let blob = with(rt.alloc(), *part, *strings).expect(&rt, "there is memory");
-        is_right(&rt, i, lists(rt.alloc(), &blob, *hash, *lines));
+        is_right(&rt, i, lists(rt.alloc(), &blob, *hash, lines.as_bytes()));
+    }
+}
+
+/// How many bytes a text has that is longer than blocks of memory.
+const LONG: [usize; 3] = [1_025, 4_097, 70_001];
+
+/// The lines of the certificate by the other key before its ID.
+const BEFORE_THE_ID: &[u8] = b"        Type: ssh-ed25519-cert-v01@openssh.com user certificate\n\
+     \x20       Public key: ED25519-CERT SHA256:+DiY3wvvV6TuJJhbpZisF/zLDA0zPMSvHdkr4UvCOqU\n\
+     \x20       Signing CA: ED25519 SHA256:SQfC+vTbLURn9cTkVxIS8fGQ3FKNAJWeB0o139+gV4M \
+     (using ssh-ed25519)\n\
+     \x20       Key ID: \"";
+
+/// Those after it.
+const AFTER_THE_ID: &[u8] = b"\"\n\
+     \x20       Serial: 7\n\
+     \x20       Valid: forever\n\
+     \x20       Valid now: yes\n\
+     \x20       Principals: (none)\n\
+     \x20       Critical Options: (none)\n\
+     \x20       Extensions: (none)\n";
+
+/// Whether a certificate with a key ID of so many escape bytes is listed with each of them.
+fn lists_id(alloc: Global, size: usize) -> Result<bool, AllocError> {
+    let id = vec![in alloc; 0x1b; size]?;
+    let field = strings(alloc, &[&id])?;
+    let blob = changed(alloc, Part::KeyId, &field)?;
+    let escaped = times(alloc, b"\\x1b", size)?;
+    let wanted = joined(alloc, &[BEFORE_THE_ID, &escaped, AFTER_THE_ID])?;
+    Ok(listing(alloc, &blob, Hash::Sha256) == Some(wanted))
+}
+
+/// The bytes so many times.
+fn times(alloc: Global, bytes: &[u8], count: usize) -> Result<Vec<u8>, AllocError> {
+    let mut all = Vec::new(alloc);
+    for _ in 0..count {
+        all.extend_from_slice(bytes)?;
+    }
+    Ok(all)
+}
+
+#[test]
+fn long_key_ids_are_listed(rt: HostRuntime) {
+    for size in LONG {
+        let right = lists_id(rt.alloc(), size).expect(&rt, "there is memory");
+        is_right(&rt, size, right);
+    }
+}
+
+/// Whether a certificate with these strings in a field is listed with these lines last.
+fn lists_last(
+    alloc: Global,
+    part: Part,
+    strings: &[&[u8]],
+    lines: &[u8],
+) -> Result<bool, AllocError> {
+    let blob = with(alloc, part, strings)?;
+    Ok(lists(alloc, &blob, Hash::Md5, lines))
+}
+
+const NO_OPTIONS: &[u8] = b"\n        Critical Options: (none)\n        Extensions: (none)\n";
+
+/// Whether a certificate is listed with a principal of so many letters.
+fn lists_principal(alloc: Global, size: usize) -> Result<bool, AllocError> {
+    let long = vec![in alloc; b'a'; size]?;
+    let front = b"        Principals:\n                ";
+    let lines = joined(alloc, &[front, &long, NO_OPTIONS])?;
+    lists_last(alloc, Part::Principals, &[&long], &lines)
+}
+
+/// Whether a certificate is listed with so many principals.
+fn lists_principals(alloc: Global, count: usize) -> Result<bool, AllocError> {
+    let names = times(alloc, b"\0\0\0\x01a", count)?;
+    let field = strings(alloc, &[&names])?;
+    let blob = changed(alloc, Part::Principals, &field)?;
+    let shown = times(alloc, b"\n                a", count)?;
+    let lines = joined(alloc, &[b"        Principals:", &shown, NO_OPTIONS])?;
+    Ok(lists(alloc, &blob, Hash::Md5, &lines))
+}
+
+/// Whether a certificate is listed with a command of so many letters.
+fn lists_command(alloc: Global, size: usize) -> Result<bool, AllocError> {
+    let long = vec![in alloc; b'a'; size]?;
+    let command = strings(alloc, &[&long])?;
+    let front = b"        Critical Options:\n                force-command ";
+    let lines = joined(alloc, &[front, &long, b"\n        Extensions: (none)\n"])?;
+    lists_last(alloc, Part::Critical, &[b"force-command", &command], &lines)
+}
+
+/// Whether a certificate is listed with an extension of so many letters, and as many of its data.
+fn lists_extension(alloc: Global, size: usize) -> Result<bool, AllocError> {
+    let long = vec![in alloc; b'a'; size]?;
+    let digits = times(alloc, b"61", size)?;
+    let front = b"        Extensions:\n                ";
+    let lines = joined(alloc, &[front, &long, b" hex:", &digits, b"\n"])?;
+    lists_last(alloc, Part::Extensions, &[&long, &long], &lines)
+}
+
+/// The case is right, with the memory that it takes.
+fn is_listed(rt: &impl Abort, size: usize, right: Result<bool, AllocError>) {
+    is_right(rt, size, right.expect(rt, "there is memory"));
+}
+
+#[test]
+fn long_principals_options_and_extensions_are_listed(rt: HostRuntime) {
+    for size in LONG {
+        is_listed(&rt, size, lists_principal(rt.alloc(), size));
+        is_listed(&rt, size, lists_principals(rt.alloc(), size));
+        is_listed(&rt, size, lists_command(rt.alloc(), size));
+        is_listed(&rt, size, lists_extension(rt.alloc(), size));
     }
 }
 
@@ -138,7 +249,11 @@ fn times_are_listed(rt: HostRuntime) {
             &rt,
             "there is memory",
         );
-        is_right(&rt, i, lists(rt.alloc(), &blob, Hash::Sha256, *lines));
+        is_right(
+            &rt,
+            i,
+            lists(rt.alloc(), &blob, Hash::Sha256, lines.as_bytes()),
+        );
     }
 }
 
