@@ -1,7 +1,7 @@
 // The least plan of worked lists of runs, and its cost beside that of every plan of short lists.
 
 use krl_plan::{Group, Sort, least_plan, put_least_plan};
-use parts_for_tests::EIGHT_AND_ONE;
+use parts_for_tests::{EIGHT_AND_ONE, Random};
 use serial_set::{Held, Spans};
 use std::alloc::{AllocError, Global};
 use std::process::Abort;
@@ -189,22 +189,20 @@ fn no_plan_of_a_short_list_costs_less(rt: HostRuntime) {
 }
 
 // The run that comes at random above a serial.
-fn run_above(seed: u64, serial: u64) -> Run {
-    let gap = [1, 2, 5, 30, 200, 1000, 5000, 100_000][(seed >> 33) as usize % 8];
-    let more = [0, 0, 0, 1, 1, 2, 20, 300][(seed >> 40) as usize % 8];
+fn run_above(random: &mut Random, serial: u64) -> Run {
+    let number = random.below(0x8000_0000) as usize;
+    let gap = [1, 2, 5, 30, 200, 1000, 5000, 100_000][number % 8];
+    let more = [0, 0, 0, 1, 1, 2, 20, 300][(number >> 7) % 8];
     let lo = serial.wrapping_add(gap);
     (lo, lo.wrapping_add(more))
 }
 
 // So many runs at random.
-fn some_runs(alloc: Global, seed: &mut u64, count: usize) -> Result<Vec<Run>, AllocError> {
+fn some_runs(alloc: Global, random: &mut Random, count: usize) -> Result<Vec<Run>, AllocError> {
     let mut runs = Vec::new(alloc);
     let mut next: u64 = 1;
     for _ in 0..count {
-        *seed = seed
-            .wrapping_mul(6_364_136_223_846_793_005)
-            .wrapping_add(1_442_695_040_888_963_407);
-        let (lo, hi) = run_above(*seed, next);
+        let (lo, hi) = run_above(random, next);
         runs.push((lo, hi))?;
         next = hi.wrapping_add(1);
     }
@@ -213,10 +211,10 @@ fn some_runs(alloc: Global, seed: &mut u64, count: usize) -> Result<Vec<Run>, Al
 
 #[test]
 fn no_plan_of_a_random_list_costs_less(rt: HostRuntime) {
-    let mut seed: u64 = 2026;
+    let mut random = Random::new(2026);
     for _ in 0..6 {
         for count in 3..13usize {
-            let runs = some_runs(rt.alloc(), &mut seed, count).expect(&rt, "there is memory");
+            let runs = some_runs(rt.alloc(), &mut random, count).expect(&rt, "there is memory");
             costs_least(&rt, rt.alloc(), &runs).expect(&rt, "there is memory");
         }
     }
@@ -233,12 +231,17 @@ fn serials_apart(alloc: Global, apart: u64, count: u64) -> Result<Vec<Run>, Allo
     Ok(runs)
 }
 
-// So many serials, this far apart, and the plan of the longest groups of a sort.
+// So many serials, this far apart, the plan of the longest groups of a sort, and how many bytes
+// their subsections take: 5 and 8 a serial, or 18 and an eighth of the reach.
 #[test]
 fn plans_long_lists(rt: HostRuntime) {
-    for (apart, sort) in [(2, Sort::Bitmap), (5000, Sort::Serials)] {
+    for (apart, sort, bytes) in [
+        (2, Sort::Bitmap, 3 * 18 + 255 + 255 + 112),
+        (5000, Sort::Serials, 3 * 5 + 8 * 2500),
+    ] {
         let runs = serials_apart(rt.alloc(), apart, 2500).expect(&rt, "there is memory");
         let due = [(sort, 1024), (sort, 1024), (sort, 452)];
         is_planned(&rt, rt.alloc(), &runs, &due).expect(&rt, "there is memory");
+        assert!(rt; bytes_put(rt.alloc(), &runs).expect(&rt, "there is memory") == bytes);
     }
 }
