@@ -10,12 +10,6 @@ mod writer;
 
 use parts_for_tests::printed;
 use ssh_wire::{Bytes, PullFault, WireFault};
-use std::process::Abort;
-
-/// What a test says of a case is right; the number tells the case from the others of the test.
-fn is_right(rt: &impl Abort, number: usize, right: bool) {
-    assert!(rt; right, "in case {number}");
-}
 
 /// A fault, its number, and how it prints.
 type Row<F> = (F, u8, &'static str);
@@ -29,9 +23,9 @@ const WIRE_FAULTS: [Row<WireFault>; 3] = [
 #[test]
 fn faults_have_numbers_and_texts(rt: HostRuntime) {
     for (i, (fault, number, text)) in WIRE_FAULTS.iter().enumerate() {
-        is_right(&rt, i, fault.number() == *number);
+        assert!(rt; fault.number() == *number, "in case {i}");
         let printed = printed(rt.alloc(), fault).expect(&rt, "there is memory");
-        is_right(&rt, i, printed.as_str() == *text);
+        assert!(rt; printed.as_str() == *text, "in case {i}");
     }
 }
 
@@ -45,9 +39,9 @@ const PULL_FAULTS: [Row<PullFault>; 4] = [
 #[test]
 fn pull_faults_have_numbers_and_texts(rt: HostRuntime) {
     for (i, (fault, number, text)) in PULL_FAULTS.iter().enumerate() {
-        is_right(&rt, i, fault.number() == *number);
+        assert!(rt; fault.number() == *number, "in case {i}");
         let printed = printed(rt.alloc(), fault).expect(&rt, "there is memory");
-        is_right(&rt, i, printed.as_str() == *text);
+        assert!(rt; printed.as_str() == *text, "in case {i}");
     }
 }
 

@@ -1,7 +1,6 @@
 // What each entry revokes, over each set of serials.
 
 use crate::tests::full::Full;
-use crate::tests::lists::is_right;
 use crate::tests::plain_model::{Asked, Names, Said, held_of, revokes};
 use crate::tests::subjects::{A, ALL, B, G};
 use serial_set::{Held, SpanVec, Spans};
@@ -31,7 +30,7 @@ fn says<S: Spans>(rt: &impl Abort, alloc: Global, said: &[Said<'_>], rows: &[(Ab
     let held = held_of::<S>(rt, alloc, said);
     for (i, (about, due)) in rows.iter().enumerate() {
         let found = revokes(rt, alloc, &held, asked_about(*about));
-        is_right(rt, i, found == *due);
+        assert!(rt; found == *due, "in case {i}");
     }
 }
 

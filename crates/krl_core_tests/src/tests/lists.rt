@@ -9,11 +9,6 @@ use std::alloc::Global;
 use std::io::Read;
 use std::process::Abort;
 
-/// What a test says of a case is right; the number tells the case from the others of the test.
-pub fn is_right(rt: &impl Abort, number: usize, right: bool) {
-    assert!(rt; right, "in case {number}");
-}
-
 /// The list with these bytes after its header.
 pub fn list_of(rt: &impl Abort, alloc: Global, sections: &[u8]) -> Vec<u8> {
     joined(alloc, &[&HEADER, sections]).expect(rt, "there is memory")

@@ -1,6 +1,6 @@
 // Lists, read from a slice and in pieces.
 
-use crate::tests::lists::{is_right, list_of, read_from, says, spans_from, with_byte};
+use crate::tests::lists::{list_of, read_from, says, spans_from, with_byte};
 use crate::tests::rows::{BITMAP, ROWS, Row};
 use devices_for_tests::{Giver, Then};
 use krl_core::{KrlFault, Reading};
@@ -19,7 +19,7 @@ fn told(alloc: Global, giver: Giver<'_>) -> Result<u128, KrlFault> {
 fn is_told_in_pieces<S: Spans>(rt: &impl Abort, alloc: Global, text: &[u8], row: &Row) {
     for piece in [1, 3, 7, 1000] {
         let found = spans_from::<S, Giver<'_>>(alloc, Giver::new(text, piece));
-        is_right(rt, piece, found == row.due());
+        assert!(rt; found == row.due(), "in case {piece}");
     }
 }
 
@@ -46,9 +46,9 @@ fn front_is_told(rt: &impl Abort, alloc: Global, front: &[u8]) {
         _ => Some(KrlFault::EndsEarly),
     };
     let found = told(alloc, Giver::new(front, 1000)).err();
-    is_right(rt, front.len(), found == fault);
+    assert!(rt; found == fault, "in case {}", front.len());
     let found = told(alloc, failing(front)).err();
-    is_right(rt, front.len(), found == Some(KrlFault::Read));
+    assert!(rt; found == Some(KrlFault::Read), "in case {}", front.len());
 }
 
 #[test]
@@ -132,7 +132,7 @@ fn hold_at_each_moment(rt: &impl Abort, reading: &mut OfSlice<'_>) {
             break;
         }
         let due = if taken(reading) < 75 { 0 } else { 4 };
-        is_right(rt, at, held(reading) == due);
+        assert!(rt; held(reading) == due, "in case {at}");
     }
 }
 

@@ -1,6 +1,5 @@
 ghost use Rattle.std.specs.Prelude.{◌≡◌, ◌<◌, ◌≤◌};
 
-use crate::tests::is_right;
 use crate::tests::walk::{add, empty, lists};
 use serial_set::{Held, Span, SpanPages, SpanVec, Spans};
 use std::alloc::Global;
@@ -33,7 +32,7 @@ fn adds<S: Spans>(rt: &impl Abort, alloc: Global, number: usize, row: &Row) {
     let mut set: S = empty(rt, alloc);
     for (lo, hi, length) in intervals {
         add(rt, &mut set, *lo, *hi);
-        is_right(rt, number, set.len() == *length);
+        assert!(rt; set.len() == *length, "in case {number}");
     }
     lists(rt, alloc, number, &set, last);
 }
@@ -58,7 +57,7 @@ fn odd_numbers(rt: &impl Abort, alloc: Global) -> Held {
 #[test]
 fn joins_many(rt: HostRuntime) {
     let mut set = odd_numbers(&rt, rt.alloc());
-    is_right(&rt, 128, set.len() == 128);
+    assert!(rt; set.len() == 128, "in case 128");
     add(&rt, &mut set, 2, 254);
     lists(&rt, rt.alloc(), 254, &set, &[Span { lo: 1, hi: 255 }]);
 }

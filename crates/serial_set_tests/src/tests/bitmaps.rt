@@ -1,6 +1,5 @@
 ghost use Rattle.std.specs.Prelude.{◌≡◌, ◌+◌, ◌<◌, ◌≤◌, IsTrue, OnSome};
 
-use crate::tests::is_right;
 use crate::tests::walk::{add, empty, lists};
 use serial_set::{BitFault, BitRuns, Held, Span, Spans};
 use std::alloc::Global;
@@ -34,8 +33,8 @@ fn reads(rt: &impl Abort, alloc: Global, number: usize, row: &Row) {
     let (offset, bytes, due) = *row;
     match (read(rt, alloc, offset, bytes), due) {
         (Ok(set), Ok(runs)) => lists(rt, alloc, number, &set, runs),
-        (Err(fault), Err(due)) => is_right(rt, number, fault == due),
-        _ => is_right(rt, number, false),
+        (Err(fault), Err(due)) => assert!(rt; fault == due, "in case {number}"),
+        _ => assert!(rt; false, "in case {number}"),
     }
 }
 

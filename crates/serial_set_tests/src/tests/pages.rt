@@ -1,7 +1,6 @@
 // Sets that fill many pages, over both representations.
 ghost use Rattle.std.specs.Prelude.{◌≡◌, ◌+◌, ◌*◌, ◌^◌, ◌<◌, ◌≤◌};
 
-use crate::tests::is_right;
 use crate::tests::walk::{add, empty, list_of, lists};
 use serial_set::{Span, SpanPages, SpanVec, Spans};
 use std::alloc::Global;
@@ -60,19 +59,17 @@ const ROWS: [(u64, u64, usize, usize, Span); 3] = [
 
 fn has_rows<S: Spans>(rt: &impl Abort, alloc: Global, order: Order) {
     let mut set: S = odd_numbers(rt, alloc, order, 1024);
-    is_right(
-        rt,
-        1024,
+    assert!(rt;
         has_span(&set, 1024, 511, Span { lo: 1023, hi: 1023 }),
+        "in case 1024"
     );
     for (i, (lo, hi, length, at, span)) in ROWS.iter().enumerate() {
         add(rt, &mut set, *lo, *hi);
-        is_right(rt, i, has_span(&set, *length, *at, *span));
+        assert!(rt; has_span(&set, *length, *at, *span), "in case {i}");
     }
-    is_right(
-        rt,
-        2047,
+    assert!(rt;
         set.has(1) && set.has(2047) && !set.has(0) && !set.has(2048),
+        "in case 2047"
     );
 }
 
@@ -120,9 +117,9 @@ const JOINED: [Span; 3] = [
 fn fills(rt: &impl Abort, alloc: Global, order: Order) {
     let mut set: SpanPages = odd_numbers(rt, alloc, order, 600_000);
     for (at, span) in &PLACES {
-        is_right(rt, *at, has_span(&set, 600_000, *at, *span));
+        assert!(rt; has_span(&set, 600_000, *at, *span), "in case {}", *at);
     }
-    is_right(rt, 524_289, set.has(524_289) && !set.has(524_290));
+    assert!(rt; set.has(524_289) && !set.has(524_290), "in case 524_289");
     add(rt, &mut set, 4, 1_199_996);
     lists(rt, alloc, 3, &set, &JOINED);
 }

@@ -1,7 +1,6 @@
 // Code over any representation, proved from what `Spans` promises alone.
 ghost use Rattle.std.specs.Prelude.{◌≡◌, ◌<◌, ◌≤◌, length, IsTrue, IfOk};
 
-use crate::tests::is_right;
 use serial_set::{Span, SpanPages, SpanVec, Spans};
 use std::alloc::{AllocError, Global};
 use std::process::Abort;
@@ -24,7 +23,7 @@ pub fn list_of<S: Spans>(alloc: Global, set: &S) -> Result<Vec<Span>, AllocError
 // The set has these spans alone; a number tells the case from the others of a test.
 pub fn lists<S: Spans>(rt: &impl Abort, alloc: Global, number: usize, set: &S, due: &[Span]) {
     let list = list_of(alloc, set).expect(rt, "there is memory");
-    is_right(rt, number, list.as_slice() == due);
+    assert!(rt; list.as_slice() == due, "in case {number}");
 }
 
 // A set of no spans.

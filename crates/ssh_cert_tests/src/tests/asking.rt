@@ -1,6 +1,6 @@
 // What a revocation list is asked.
 
-use crate::tests::parts::{AUTHORITY, Part, certificate, changed, is_asked, is_right, plain};
+use crate::tests::parts::{AUTHORITY, Part, certificate, changed, is_asked, plain};
 use parts_for_tests::{PUBLISHED, strings};
 use ssh_cert::{CertFault, CertNames, SubjectFault, subject};
 use ssh_key::KeyFault;
@@ -82,7 +82,7 @@ fn faults_are_those_of_keys_or_of_certificates(rt: HostRuntime) {
     let blob = certificate(rt.alloc()).expect(&rt, "there is memory");
     for (size, fault) in &FRONTS {
         let front = blob.get(..*size).expect(&rt, "the certificate is longer");
-        is_right(&rt, *size, refuses(rt.alloc(), front, *fault));
+        assert!(rt; refuses(rt.alloc(), front, *fault), "in case {}", *size);
     }
     let other = b"\0\0\0\x20ssh-ed25519-cert-v02@openssh.com";
     assert!(rt; refuses(rt.alloc(), other, SubjectFault::Key(KeyFault::UnknownType)));

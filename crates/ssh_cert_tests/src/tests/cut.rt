@@ -1,6 +1,6 @@
 // Certificates that are cut, and certificates with one byte changed.
 
-use crate::tests::parts::{certificate, has_fault, is_right};
+use crate::tests::parts::{certificate, has_fault};
 use ssh_cert::{CertFault, read_cert, subject};
 use ssh_key::KeyFault;
 use ssh_wire::WireFault;
@@ -17,7 +17,7 @@ fn cut_to_any_length(rt: HostRuntime) {
         } else {
             CertFault::Wire
         };
-        is_right(&rt, size, has_fault(&blob[..size], fault));
+        assert!(rt; has_fault(&blob[..size], fault), "in case {size}");
     }
 }
 
@@ -38,7 +38,7 @@ fn any_byte_changed(rt: HostRuntime) {
             if let Some(there) = blob.get_mut(place) {
                 *there = byte;
             }
-            is_right(&rt, place, is_read_where_asked(rt.alloc(), &blob));
+            assert!(rt; is_read_where_asked(rt.alloc(), &blob), "in case {place}");
         }
     }
 }

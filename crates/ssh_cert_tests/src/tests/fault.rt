@@ -1,6 +1,5 @@
 // Faults, by their numbers and as they print.
 
-use crate::tests::parts::is_right;
 use parts_for_tests::printed;
 use ssh_cert::{CertFault, SubjectFault};
 use ssh_key::KeyFault;
@@ -37,9 +36,9 @@ const OF_CERTIFICATES: [Row<CertFault>; 10] = [
 #[test]
 fn faults_of_certificates(rt: HostRuntime) {
     for (i, (fault, number, text)) in OF_CERTIFICATES.iter().enumerate() {
-        is_right(&rt, i, fault.number() == *number);
+        assert!(rt; fault.number() == *number, "in case {i}");
         let printed = printed(rt.alloc(), fault).expect(&rt, "there is memory");
-        is_right(&rt, i, printed.as_str() == *text);
+        assert!(rt; printed.as_str() == *text, "in case {i}");
     }
 }
 
@@ -60,8 +59,8 @@ const OF_SUBJECTS: [Row<SubjectFault>; 3] = [
 #[test]
 fn faults_of_subjects(rt: HostRuntime) {
     for (i, (fault, number, text)) in OF_SUBJECTS.iter().enumerate() {
-        is_right(&rt, i, fault.number() == *number);
+        assert!(rt; fault.number() == *number, "in case {i}");
         let printed = printed(rt.alloc(), fault).expect(&rt, "there is memory");
-        is_right(&rt, i, printed.as_str() == *text);
+        assert!(rt; printed.as_str() == *text, "in case {i}");
     }
 }

@@ -1,6 +1,6 @@
 // A certificate of each kind of key.
 
-use crate::tests::parts::{Part, changed, has_fault, is_asked, is_right};
+use crate::tests::parts::{Part, changed, has_fault, is_asked};
 use parts_for_tests::strings;
 use ssh_cert::{CertFault, read_cert};
 use ssh_key::{KeyFault, Kind};
@@ -56,7 +56,7 @@ fn keys_of_numbers_and_of_32_bytes(rt: HostRuntime) {
     for (i, (kind, fields, bits)) in KEYS.iter().enumerate() {
         let public = strings(rt.alloc(), *fields).expect(&rt, "there is memory");
         let right = reads(rt.alloc(), *kind, &public, *bits).expect(&rt, "there is memory");
-        is_right(&rt, i, right);
+        assert!(rt; right, "in case {i}");
     }
 }
 
@@ -93,7 +93,7 @@ fn keys_on_curves(rt: HostRuntime) {
             "there is memory",
         );
         let right = reads(rt.alloc(), *kind, &public, *bits).expect(&rt, "there is memory");
-        is_right(&rt, i, right);
+        assert!(rt; right, "in case {i}");
     }
 }
 

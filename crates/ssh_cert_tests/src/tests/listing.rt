@@ -1,6 +1,6 @@
 // The listing of a certificate, and instants as they are printed.
 
-use crate::tests::parts::{Part, changed, is_right, with};
+use crate::tests::parts::{Part, changed, with};
 use parts_for_tests::{PUBLISHED, joined, strings};
 use ssh_cert::{list_cert, push_escaped, read_cert, time_text, valid_at};
 use ssh_key::Hash;
@@ -88,7 +88,10 @@ fn lists(alloc: Global, blob: &[u8], hash: Hash, lines: &[u8]) -> bool {
 fn principals_options_and_extensions_are_listed(rt: HostRuntime) {
     for (i, (hash, part, strings, lines)) in LISTED.iter().enumerate() {
         let blob = with(rt.alloc(), *part, *strings).expect(&rt, "there is memory");
-        is_right(&rt, i, lists(rt.alloc(), &blob, *hash, lines.as_bytes()));
+        assert!(rt;
+            lists(rt.alloc(), &blob, *hash, lines.as_bytes()),
+            "in case {i}"
+        );
     }
 }
 
@@ -134,7 +137,7 @@ fn times(alloc: Global, bytes: &[u8], count: usize) -> Result<Vec<u8>, AllocErro
 fn long_key_ids_are_listed(rt: HostRuntime) {
     for size in LONG {
         let right = lists_id(rt.alloc(), size).expect(&rt, "there is memory");
-        is_right(&rt, size, right);
+        assert!(rt; right, "in case {size}");
     }
 }
 
@@ -189,7 +192,7 @@ fn lists_extension(alloc: Global, size: usize) -> Result<bool, AllocError> {
 
 /// The case is right, with the memory that it takes.
 fn is_listed(rt: &impl Abort, size: usize, right: Result<bool, AllocError>) {
-    is_right(rt, size, right.expect(rt, "there is memory"));
+    assert!(rt; right.expect(rt, "there is memory"), "in case {size}");
 }
 
 #[test]
@@ -249,10 +252,9 @@ fn times_are_listed(rt: HostRuntime) {
             &rt,
             "there is memory",
         );
-        is_right(
-            &rt,
-            i,
+        assert!(rt;
             lists(rt.alloc(), &blob, Hash::Sha256, lines.as_bytes()),
+            "in case {i}"
         );
     }
 }
@@ -270,7 +272,7 @@ const INSTANTS: [(u64, &str); 6] = [
 fn instants_as_they_are_printed(rt: HostRuntime) {
     for (i, (seconds, wanted)) in INSTANTS.iter().enumerate() {
         let text = time_text(rt.alloc(), *seconds).expect(&rt, "there is memory");
-        is_right(&rt, i, text.as_slice() == wanted.as_bytes());
+        assert!(rt; text.as_slice() == wanted.as_bytes(), "in case {i}");
     }
 }
 
@@ -300,7 +302,7 @@ fn valid_from_the_first_second_before_the_last(rt: HostRuntime) {
             &rt,
             "there is memory",
         );
-        is_right(&rt, i, is_valid(&blob, *moment, *wanted));
+        assert!(rt; is_valid(&blob, *moment, *wanted), "in case {i}");
     }
 }
 

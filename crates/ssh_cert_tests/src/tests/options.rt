@@ -1,6 +1,6 @@
 // The principals, options and extensions of certificates.
 
-use crate::tests::parts::{Part, is_right, with};
+use crate::tests::parts::{Part, with};
 use ssh_cert::{Options, Strings, read_cert};
 
 /// Whether these names and data are the options, after which none comes.
@@ -97,6 +97,6 @@ fn has_lists(blob: &[u8], row: &Row<'_>) -> bool {
 fn lists_in_their_order(rt: HostRuntime) {
     for (i, row) in ROWS.iter().enumerate() {
         let blob = with(rt.alloc(), row.part, row.strings).expect(&rt, "there is memory");
-        is_right(&rt, i, has_lists(&blob, row));
+        assert!(rt; has_lists(&blob, row), "in case {i}");
     }
 }

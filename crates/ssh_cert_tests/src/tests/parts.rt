@@ -3,7 +3,6 @@
 use parts_for_tests::strings;
 use ssh_cert::{CertFault, read_cert, subject};
 use std::alloc::{AllocError, Global};
-use std::process::Abort;
 
 /// The public field of the authority's key.
 pub const AUTHORITY: [u8; 32] = [0x11; 32];
@@ -113,9 +112,4 @@ pub fn is_asked(alloc: Global, blob: &[u8], plain: &[u8]) -> bool {
         Ok(asked) => asked.plain.as_slice() == plain,
         Err(_) => false,
     }
-}
-
-/// What a test says of a case is right; the number tells the case from the others of the test.
-pub fn is_right(rt: &impl Abort, number: usize, right: bool) {
-    assert!(rt; right, "in case {number}");
 }

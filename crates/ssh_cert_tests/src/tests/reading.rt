@@ -1,8 +1,6 @@
 // Certificates read, and the fault of each change of a field.
 
-use crate::tests::parts::{
-    AUTHORITY, Part, certificate, changed, has_fault, is_right, plain, relengthened,
-};
+use crate::tests::parts::{AUTHORITY, Part, certificate, changed, has_fault, plain, relengthened};
 use parts_for_tests::{PUBLISHED, strings};
 use ssh_cert::{Cert, CertFault, Role, read_cert};
 use ssh_key::{KeyFault, Kind};
@@ -102,7 +100,7 @@ const CHANGED: [(Part, &[u8], CertFault); 8] = [
 fn changed_fields_have_their_faults(rt: HostRuntime) {
     for (i, (part, field, fault)) in CHANGED.iter().enumerate() {
         let blob = changed(rt.alloc(), *part, *field).expect(&rt, "there is memory");
-        is_right(&rt, i, has_fault(&blob, *fault));
+        assert!(rt; has_fault(&blob, *fault), "in case {i}");
     }
 }
 
@@ -156,6 +154,6 @@ fn lengths_one_more_and_one_less(rt: HostRuntime) {
     for (i, (part, length, fault)) in LENGTHS.iter().enumerate() {
         let field = relengthened(rt.alloc(), *part, *length).expect(&rt, "there is memory");
         let blob = changed(rt.alloc(), *part, &field).expect(&rt, "there is memory");
-        is_right(&rt, i, has_fault(&blob, *fault));
+        assert!(rt; has_fault(&blob, *fault), "in case {i}");
     }
 }

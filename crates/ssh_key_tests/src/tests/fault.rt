@@ -1,6 +1,5 @@
 // The texts of faults.
 
-use crate::tests::parts::is_right;
 use parts_for_tests::printed;
 use ssh_key::{FingerprintFault, KeyFault, LineFault, PrivateFault};
 use ssh_wire::WireFault;
@@ -36,9 +35,9 @@ const OF_KEYS: [Row<KeyFault>; 10] = [
 #[test]
 fn faults_of_keys(rt: HostRuntime) {
     for (i, (fault, number, text)) in OF_KEYS.iter().enumerate() {
-        is_right(&rt, i, fault.number() == *number);
+        assert!(rt; fault.number() == *number, "in case {i}");
         let printed = printed(rt.alloc(), fault).expect(&rt, "there is memory");
-        is_right(&rt, i, printed.as_str() == *text);
+        assert!(rt; printed.as_str() == *text, "in case {i}");
     }
 }
 
@@ -52,9 +51,9 @@ const OF_LINES: [Row<LineFault>; 4] = [
 #[test]
 fn faults_of_lines(rt: HostRuntime) {
     for (i, (fault, number, text)) in OF_LINES.iter().enumerate() {
-        is_right(&rt, i, fault.number() == *number);
+        assert!(rt; fault.number() == *number, "in case {i}");
         let printed = printed(rt.alloc(), fault).expect(&rt, "there is memory");
-        is_right(&rt, i, printed.as_str() == *text);
+        assert!(rt; printed.as_str() == *text, "in case {i}");
     }
 }
 
@@ -68,9 +67,9 @@ const OF_FINGERPRINTS: [Row<FingerprintFault>; 4] = [
 #[test]
 fn faults_of_fingerprints(rt: HostRuntime) {
     for (i, (fault, number, text)) in OF_FINGERPRINTS.iter().enumerate() {
-        is_right(&rt, i, fault.number() == *number);
+        assert!(rt; fault.number() == *number, "in case {i}");
         let printed = printed(rt.alloc(), fault).expect(&rt, "there is memory");
-        is_right(&rt, i, printed.as_str() == *text);
+        assert!(rt; printed.as_str() == *text, "in case {i}");
     }
 }
 
@@ -100,8 +99,8 @@ const OF_CONTAINERS: [Row<PrivateFault>; 12] = [
 #[test]
 fn faults_of_containers(rt: HostRuntime) {
     for (i, (fault, number, text)) in OF_CONTAINERS.iter().enumerate() {
-        is_right(&rt, i, fault.number() == *number);
+        assert!(rt; fault.number() == *number, "in case {i}");
         let printed = printed(rt.alloc(), fault).expect(&rt, "there is memory");
-        is_right(&rt, i, printed.as_str() == *text);
+        assert!(rt; printed.as_str() == *text, "in case {i}");
     }
 }

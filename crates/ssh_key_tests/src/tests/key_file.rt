@@ -1,6 +1,5 @@
 // Lines of a key file with a key, and without one.
 
-use crate::tests::parts::is_right;
 use ssh_key::has_key;
 
 const WITH_A_KEY: [&str; 6] = ["a", " a", "\ta \r", "a # b", "\r#", "ssh-rsa AAAA"];
@@ -12,13 +11,13 @@ const WITHOUT_A_KEY: [&str; 9] = [
 #[test]
 fn lines_with_a_key(rt: HostRuntime) {
     for (i, line) in WITH_A_KEY.iter().enumerate() {
-        is_right(&rt, i, has_key(line.as_bytes()));
+        assert!(rt; has_key(line.as_bytes()), "in case {i}");
     }
 }
 
 #[test]
 fn lines_without_a_key(rt: HostRuntime) {
     for (i, line) in WITHOUT_A_KEY.iter().enumerate() {
-        is_right(&rt, i, !has_key(line.as_bytes()));
+        assert!(rt; !has_key(line.as_bytes()), "in case {i}");
     }
 }

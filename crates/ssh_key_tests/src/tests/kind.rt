@@ -1,6 +1,5 @@
 // The names of kinds.
 
-use crate::tests::parts::is_right;
 use ssh_key::Kind;
 
 const NAMES: [(Kind, &str, &str); 8] = [
@@ -42,8 +41,8 @@ fn is_found(name: &str, kind: Option<Kind>) -> bool {
 #[test]
 fn names(rt: HostRuntime) {
     for (i, (kind, name, short_name)) in NAMES.iter().enumerate() {
-        is_right(&rt, i, has_names(*kind, *name, *short_name));
-        is_right(&rt, i, is_found(*name, Some(*kind)));
+        assert!(rt; has_names(*kind, *name, *short_name), "in case {i}");
+        assert!(rt; is_found(*name, Some(*kind)), "in case {i}");
     }
 }
 
@@ -60,7 +59,7 @@ const OTHER_NAMES: [&str; 7] = [
 #[test]
 fn other_names(rt: HostRuntime) {
     for (i, name) in OTHER_NAMES.iter().enumerate() {
-        is_right(&rt, i, is_found(*name, None));
+        assert!(rt; is_found(*name, None), "in case {i}");
     }
 }
 
@@ -77,8 +76,8 @@ fn is_certified(name: &str, kind: Option<Kind>) -> bool {
 #[test]
 fn certificate_names(rt: HostRuntime) {
     for (i, (kind, name)) in CERTIFICATE_NAMES.iter().enumerate() {
-        is_right(&rt, i, certifies(*kind, *name));
-        is_right(&rt, i, is_certified(*name, Some(*kind)));
+        assert!(rt; certifies(*kind, *name), "in case {i}");
+        assert!(rt; is_certified(*name, Some(*kind)), "in case {i}");
     }
 }
 
@@ -94,6 +93,6 @@ const NO_CERTIFICATE_NAMES: [&str; 6] = [
 #[test]
 fn no_certificate_names(rt: HostRuntime) {
     for (i, name) in NO_CERTIFICATE_NAMES.iter().enumerate() {
-        is_right(&rt, i, is_certified(*name, None));
+        assert!(rt; is_certified(*name, None), "in case {i}");
     }
 }

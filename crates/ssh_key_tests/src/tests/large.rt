@@ -1,6 +1,6 @@
 // Inputs past every page and limit, with memory enough: none is refused for its size.
 
-use crate::tests::parts::{has_fault, has_fingerprint, is_made, is_right};
+use crate::tests::parts::{has_fault, has_fingerprint, is_made};
 use base64::engine::general_purpose::STANDARD;
 use parts_for_tests::{PUBLISHED, strings};
 use ssh_key::{Hash, KeyFault, read_key, read_line};
@@ -56,9 +56,9 @@ fn lines(rt: HostRuntime) {
     let alloc = rt.alloc();
     for size in [0, 1_000, 1_025, 4_097, 65_466, 70_000, 300_000] {
         let right = reads_line(alloc, size, 1).expect(&rt, "there is memory");
-        is_right(&rt, size, right);
+        assert!(rt; right, "in case {size}");
         let right = reads_line(alloc, 1, size).expect(&rt, "there is memory");
-        is_right(&rt, size, right);
+        assert!(rt; right, "in case {size}");
     }
 }
 

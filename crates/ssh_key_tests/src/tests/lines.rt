@@ -1,6 +1,6 @@
 // Lines that give the key, and lines that give none.
 
-use crate::tests::parts::{PUBLISHED_BASE64, PUBLISHED_TYPE, is_right, published_key};
+use crate::tests::parts::{PUBLISHED_BASE64, PUBLISHED_TYPE, published_key};
 use ssh_key::{LineFault, read_line};
 use std::alloc::{AllocError, Global};
 
@@ -53,7 +53,7 @@ const READ: [(&str, &str, &str); 13] = [
 fn read(rt: HostRuntime) {
     for (i, (before, after, comment)) in READ.iter().enumerate() {
         let right = reads(rt.alloc(), *before, *after, *comment).expect(&rt, "there is memory");
-        is_right(&rt, i, right);
+        assert!(rt; right, "in case {i}");
     }
 }
 
@@ -95,7 +95,10 @@ const REFUSED: [(&str, &str, LineFault); 15] = [
 fn refused(rt: HostRuntime) {
     for (i, (before, after, fault)) in REFUSED.iter().enumerate() {
         let line = line(rt.alloc(), *before, *after).expect(&rt, "there is memory");
-        is_right(&rt, i, is_refused(rt.alloc(), line.as_str(), *fault));
+        assert!(rt;
+            is_refused(rt.alloc(), line.as_str(), *fault),
+            "in case {i}"
+        );
     }
 }
 
@@ -123,7 +126,7 @@ const WITHOUT_THE_KEY: [(&str, LineFault); 16] = [
 #[test]
 fn refused_without_the_key(rt: HostRuntime) {
     for (i, (line, fault)) in WITHOUT_THE_KEY.iter().enumerate() {
-        is_right(&rt, i, is_refused(rt.alloc(), *line, *fault));
+        assert!(rt; is_refused(rt.alloc(), *line, *fault), "in case {i}");
     }
 }
 

@@ -1,6 +1,6 @@
 // Fingerprints that are read, and texts that are none.
 
-use crate::tests::parts::{has_digits, is_right, published_key};
+use crate::tests::parts::{has_digits, published_key};
 use ssh_key::{FingerprintFault, Hash, fingerprint, parse_fingerprint, sha256_of};
 use std::alloc::{AllocError, Global};
 
@@ -49,7 +49,10 @@ const REFUSED: [(&str, FingerprintFault); 11] = [
 #[test]
 fn refused(rt: HostRuntime) {
     for (i, (text, fault)) in REFUSED.iter().enumerate() {
-        is_right(&rt, i, is_refused(rt.alloc(), text.as_bytes(), *fault));
+        assert!(rt;
+            is_refused(rt.alloc(), text.as_bytes(), *fault),
+            "in case {i}"
+        );
     }
 }
 
@@ -72,6 +75,6 @@ const LONG: [(&str, FingerprintFault); 2] = [
 fn long_texts(rt: HostRuntime) {
     for (i, (end, fault)) in LONG.iter().enumerate() {
         let text = long_text(rt.alloc(), 100_000, *end).expect(&rt, "there is memory");
-        is_right(&rt, i, is_refused(rt.alloc(), &text, *fault));
+        assert!(rt; is_refused(rt.alloc(), &text, *fault), "in case {i}");
     }
 }

@@ -60,7 +60,7 @@ pub fn has_fault(rt: &impl Abort, blob: &[u8], fault: KeyFault) {
         Ok(_) => false,
         Err(found) => found == fault,
     };
-    is_right(rt, blob.len(), right);
+    assert!(rt; right, "in case {}", blob.len());
 }
 
 /// The bytes have this fingerprint.
@@ -86,9 +86,4 @@ pub fn has_digits(
     let found = hex::encode(alloc, digest)?;
     assert!(rt; found.as_str() == digits);
     Ok(())
-}
-
-/// What a test says of a case is right; the number tells the case from the others of the test.
-pub fn is_right(rt: &impl Abort, number: usize, right: bool) {
-    assert!(rt; right, "in case {number}");
 }

@@ -1,6 +1,5 @@
 // Fields that are read from the front of bytes, and those that are not there.
 
-use crate::tests::is_right;
 use ssh_wire::{Cursor, WireFault};
 
 /// What is asked of a cursor, and what it answers.
@@ -72,7 +71,7 @@ fn refuses_what_is_cut_off_and_stays(rt: HostRuntime) {
             Rest(bytes),
         ];
         let asked = if size < 4 { 6 } else { 4 };
-        is_right(&rt, size, met(bytes, &steps[..asked]) == asked);
+        assert!(rt; met(bytes, &steps[..asked]) == asked, "in case {size}");
     }
 }
 
@@ -101,6 +100,6 @@ fn reads(bytes: &[u8], read: Result<&[u8], WireFault>) -> bool {
 #[test]
 fn reads_shortest_numbers_alone(rt: HostRuntime) {
     for (i, (bytes, read)) in NUMBERS.iter().enumerate() {
-        is_right(&rt, i, reads(*bytes, *read));
+        assert!(rt; reads(*bytes, *read), "in case {i}");
     }
 }

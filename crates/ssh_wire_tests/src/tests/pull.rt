@@ -1,6 +1,5 @@
 // Fields from readers that give few bytes at a call, fail, or never end.
 
-use crate::tests::is_right;
 use devices_for_tests::{Giver, Then};
 use ssh_wire::{FromRead, Pull, PullFault};
 use std::alloc::{AllocError, Global};
@@ -256,7 +255,7 @@ fn answers_do_not_hang_on_the_pieces(rt: HostRuntime) {
                 &rt,
                 "there is memory",
             );
-            is_right(&rt, i, right);
+            assert!(rt; right, "in case {i}");
         }
     }
 }
@@ -286,7 +285,7 @@ fn large_fields_come_whole(rt: HostRuntime) {
         let field = text.get(..size).expect(&rt, "the text is longer");
         for piece in [7, 1000, 100_000] {
             let right = comes_whole(rt.alloc(), &text, field, piece).expect(&rt, "there is memory");
-            is_right(&rt, size, right);
+            assert!(rt; right, "in case {size}");
         }
     }
 }

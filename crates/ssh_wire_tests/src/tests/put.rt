@@ -1,6 +1,5 @@
 // Fields that are put after what stands in a vector.
 
-use crate::tests::is_right;
 use ssh_wire::{put_byte, put_mpint, put_string, put_u32, put_u64};
 use std::alloc::AllocError;
 
@@ -133,7 +132,7 @@ fn long_strings_are_put(rt: HostRuntime) {
     for (size, length) in &LENGTHS {
         let string = bytes.get(..*size).expect(&rt, "the text is longer");
         let right = puts_string(&mut out, string, *length).expect(&rt, "there is memory");
-        is_right(&rt, *size, right);
+        assert!(rt; right, "in case {}", *size);
     }
     let front = b"\0\x01\x11\x71\0\x81";
     let right = puts_number(&mut out, &bytes, 70_005, front).expect(&rt, "there is memory");

@@ -1,6 +1,5 @@
 // Readers that are interrupted, give few bytes, or fail.
 
-use crate::tests::is_right;
 use ssh_wire::{Failed, FromRead, Source};
 use std::cell::Cell;
 use std::io::{self, ErrorKind, Read};
@@ -139,6 +138,6 @@ fn met(row: &Row<'_>) -> usize {
 #[test]
 fn calls_are_answered_so(rt: HostRuntime) {
     for (i, row) in ROWS.iter().enumerate() {
-        is_right(&rt, i, met(row) == row.steps.len());
+        assert!(rt; met(row) == row.steps.len(), "in case {i}");
     }
 }

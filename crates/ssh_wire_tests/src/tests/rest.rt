@@ -1,6 +1,5 @@
 // All that is left of readers that give few bytes at a call, fail, or never end.
 
-use crate::tests::is_right;
 use crate::tests::pull::Step::{AtEnd, Byte, Rest, RestRefused, Taken};
 use crate::tests::pull::{Reader, TEXT, gives_rest, meets_all, of_text, pull, text_of};
 use devices_for_tests::Then;
@@ -50,7 +49,7 @@ fn the_rest_comes_whole(rt: HostRuntime) {
     for size in [0, 1, 65_535, 65_536, 65_537, 131_072, 131_073] {
         let bytes = text.get(..size).expect(&rt, "the text is longer");
         let right = each_comes_whole(rt.alloc(), bytes).expect(&rt, "there is memory");
-        is_right(&rt, size, right);
+        assert!(rt; right, "in case {size}");
     }
 }
 
@@ -66,7 +65,7 @@ fn the_rest_begins_after_the_last_byte_taken(rt: HostRuntime) {
         let mut reader = of_text(piece, Then::Ends, 23);
         assert!(rt; takes_five(&mut reader));
         let right = meets_all(&mut reader, rt.alloc(), &steps).expect(&rt, "there is memory");
-        is_right(&rt, piece, right);
+        assert!(rt; right, "in case {piece}");
     }
 }
 
@@ -121,7 +120,7 @@ const REFUSED: [(Then, u64, PullFault); 7] = [
 fn a_rest_that_is_refused_is_answered_again(rt: HostRuntime) {
     for (i, (then, limit, fault)) in REFUSED.iter().enumerate() {
         let right = refuses(rt.alloc(), TEXT, *then, *limit, *fault).expect(&rt, "there is memory");
-        is_right(&rt, i, right);
+        assert!(rt; right, "in case {i}");
     }
 }
 
@@ -142,7 +141,7 @@ fn a_long_rest_that_is_refused_is_answered_again(rt: HostRuntime) {
             &rt,
             "there is memory",
         );
-        is_right(&rt, i, right);
+        assert!(rt; right, "in case {i}");
     }
 }
 

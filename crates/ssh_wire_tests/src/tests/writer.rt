@@ -1,6 +1,5 @@
 // Writers that are interrupted, take few bytes, or fail.
 
-use crate::tests::is_right;
 use devices_for_tests::Taker;
 use ssh_wire::{Failed, Sent, Sink, ToWrite, send};
 use std::alloc::Global;
@@ -65,7 +64,7 @@ fn sends_long_texts(rt: HostRuntime) {
     let text = vec![in rt.alloc(); 7; 70_000].expect(&rt, "there is memory");
     for piece in [1000, 4096, 100_000] {
         let mut inner = fresh(rt.alloc(), piece, 0, 255);
-        is_right(&rt, piece, sends(&mut inner, &text, Ok(())));
+        assert!(rt; sends(&mut inner, &text, Ok(())), "in case {piece}");
         assert!(rt; inner.taken.as_slice() == text.as_slice());
     }
 }

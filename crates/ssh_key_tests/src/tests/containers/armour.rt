@@ -1,7 +1,7 @@
 // The lines round a container.
 
 use crate::tests::containers::made::{armoured, is_read, is_refused, published_container};
-use crate::tests::parts::{is_right, published_key};
+use crate::tests::parts::published_key;
 use base64::engine::general_purpose::STANDARD;
 use parts_for_tests::{around, joined};
 use ssh_key::{PrivateFault, is_container};
@@ -90,7 +90,7 @@ fn lines(rt: HostRuntime) {
     for (i, (before, within, after)) in CUT.iter().enumerate() {
         let text = cut(rt.alloc(), *before, *within, *after).expect(&rt, "there is memory");
         let right = is_published(rt.alloc(), &text).expect(&rt, "there is memory");
-        is_right(&rt, i, right);
+        assert!(rt; right, "in case {i}");
     }
 }
 
@@ -188,6 +188,6 @@ const FIRST_LINES: [(&str, bool); 7] = [
 #[test]
 fn container_files(rt: HostRuntime) {
     for (i, (text, is)) in FIRST_LINES.iter().enumerate() {
-        is_right(&rt, i, is_container(text.as_bytes()) == *is);
+        assert!(rt; is_container(text.as_bytes()) == *is, "in case {i}");
     }
 }

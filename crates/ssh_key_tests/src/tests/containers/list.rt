@@ -1,7 +1,7 @@
 // The private list of a container: its fields changed, cut, lengthened and repeated.
 
 use crate::tests::containers::made::{are_refused, armoured, is_read, plain, published_fields};
-use crate::tests::parts::{PUBLISHED_TYPE, is_right, published_key};
+use crate::tests::parts::{PUBLISHED_TYPE, published_key};
 use parts_for_tests::{PUBLISHED, joined, private_list, strings};
 use ssh_key::{KeyFault, PrivateFault};
 use ssh_wire::WireFault;
@@ -176,7 +176,11 @@ fn padded(
     let blob = published_key(alloc)?;
     let bytes = container(alloc, comment, padding)?;
     let text = armoured(alloc, &bytes)?;
-    is_right(rt, padding.len(), is_read(alloc, &text, &blob, comment));
+    assert!(rt;
+        is_read(alloc, &text, &blob, comment),
+        "in case {}",
+        padding.len()
+    );
     Ok(())
 }
 
