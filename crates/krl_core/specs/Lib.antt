@@ -25,3 +25,4 @@ pub mod KrlText
 pub mod Within
 pub mod Tested
 pub mod Size
+pub mod Laws

@@ -4,6 +4,7 @@ use Rattle.std.proofs.lemmas.List.{append-nil, take_more, take-append-drop}
 use Rattle.ssh_key.specs.Container.{IsContainer}
 use Rattle.ssh_cert.specs.Subject.{Subject}
 use Rattle.ssh_cert.specs.SubjectReading.{IsSubject}
+use Rattle.krl_core.specs.Laws.{HeldRevokes, WrittenNames}
 use Rattle.krl_core.specs.Contents.{Contents, IsOrderly, Means}
 use Rattle.krl_core.specs.Entries.{entries_of}
 use Rattle.krl_core.specs.Entry.{Entry}
@@ -15,7 +16,7 @@ use Rattle.krl_core.specs.declared.header.Header.{Header}
 use Rattle.krl_core.specs.declared.krl_fault.KrlFault.{KrlFault}
 use Rattle.krl_make.specs.declared.base.Base.{Base}
 use Rattle.krl_make.specs.Making.{Added, HasNumbers, IsAtHand, IsAuthorityAtHand, IsFileAtHand, authority_file, lines, new_list, old_list, IsOldRead, IsStop, Made, Makes, NamesSame, WritesList, WritesMade, WritesMore, after_version, authority_of, base_of, cause_stop, content_entries, file_entries, files_entries, header_of, made_of, make_run_of, then_entries, version_of}
-use Rattle.krl_runs.specs.Query.{HeldRevokes, krl_cause}
+use Rattle.krl_runs.specs.Query.{krl_cause}
 use Rattle.krl_make.specs.declared.authority.Authority.{Authority}
 use Rattle.krl_core.specs.declared.krl_fault.KrlFault.TheVariants as faults
 use Rattle.krl_runs.specs.Run.{File}
@@ -158,12 +159,6 @@ file_stops authority files i file stop old mid lt item (front, (read, adds)) is 
     is
 
 -- ---- the list that is written
-
--- the law that a written list names what is held
-abbrev pub WrittenNames : Type 0
-WrittenNames =
-    (header : Header) (r : Contents) (text : List ℕ) → IsKrlText header r text → length text ≤ limit → header.version < 2 ^ 64 → header.date < 2 ^ 64 → IsOrderly r
-    → (sections : List SpelledSection) × (Spells text header sections × Means r (entries_of sections))
 
 both_ways : {P Q R : Type 0} → (P ↔ Q) → (P ↔ R) → (Q ↔ R)
 both_ways to from = (λ q. from.0 (to.1 q), λ r. to.0 (from.1 r))

@@ -1,6 +1,7 @@
 -- A run by what is held of a list, or by why the list is refused.
 use Rattle.std.proofs.Common.{◌≡◌, ℕ, true, false, List, [], ◌∷◌, ◌++◌, Bool, Some, None, Result, Ok, Err, refl, sym, ap, ◌∙◌, append_assoc}
 use Rattle.std.specs.List.{concat}
+use Rattle.krl_core.specs.Laws.{HeldRevokes}
 use Rattle.krl_core.specs.Contents.{Contents}
 use Rattle.krl_core.specs.Entries.{entries_of}
 use Rattle.krl_core.specs.Front.{IsFirstFault}
@@ -11,7 +12,7 @@ use Rattle.krl_core.specs.declared.krl_fault.KrlFault.TheVariants as faults
 use Rattle.krl_runs.specs.Carries.{Carries}
 use Rattle.krl_runs.specs.Printer.{Printed}
 use Rattle.krl_runs.specs.Contents.{Known, all_said, contents_items, dump_text, known_lines, known_of}
-use Rattle.krl_runs.specs.Query.{HeldRevokes, IsHeld, ask, krl_cause, query_run_of}
+use Rattle.krl_runs.specs.Query.{IsHeld, ask, krl_cause, query_run_of}
 use Rattle.krl_runs.specs.Run.{File, Item, Outcome, Passed, Stopped, before, files_items, outcome_of}
 use Rattle.krl_runs.specs.Stop.{Stop, stop_of}
 use Rattle.krl_runs.proofs.Carrying.{carries_more, carries_passed, carries_then, carries_withheld}

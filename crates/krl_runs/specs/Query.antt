@@ -47,12 +47,6 @@ ask contents = record {
   silence = files.NoKeys;
 }
 
--- What is held revokes what it means.
-abbrev pub HeldRevokes : Type 0
-HeldRevokes =
-    (r : Contents) (entries : List Entry) (subject : Subject) → Means r entries
-    → (IsTrue (revokes r subject) ↔ Revoked entries subject)
-
 -- The text is a list without a fault, this is known of it, and the answers are just those of what
 -- its sections name.
 pub record IsHeld (text : List ℕ) (known : Known) : Type 0 where

@@ -5,6 +5,7 @@ use Rattle.std.proofs.lemmas.List.Elements.{All-head, All-tail, Contains-append_
 use Rattle.serial_set.specs.declared.span.Span.{Span}
 use Rattle.serial_set.specs.Span.{Covers, IsRuns}
 use Rattle.krl_plan.specs.Ranges.{ranges, ranges_plan}
+use Rattle.krl_core.specs.Laws.{SectionsMean}
 use Rattle.krl_core.specs.Elements.{some_left, some_serial, some_text, some_weaker}
 use Rattle.krl_core.specs.Contents.{Contents, HoldsId, HoldsSerial, IsListed, IsNamed, IsOrderly, Means, Section, SomeSection, stored}
 use Rattle.krl_core.specs.Entries.{entries_of}
@@ -27,24 +28,19 @@ plans_are : (sections : List Section) → EachPlan IsPlan (plans_of sections) se
 plans_are [] = tt
 plans_are (section ∷ sections) = (ranges_plan section.spans, plans_are sections)
 
--- the law that the sections of a list mean what is held
-abbrev pub SectionsMean : Type 0
-SectionsMean =
-    (plans : List (List Group)) (r : Contents) → IsOrderly r → EachPlan IsPlan plans r.sections → Means r (entries_of (sections_of plans r))
-
 -- ---- what is named has a serial or a key ID
 
-abbrev Held : List Section → List ℕ → Type 0
-Held sections a = ((s : ℕ) × HoldsSerial sections a s) ⊎ ((id : List ℕ) × HoldsId sections a id)
+abbrev HoldsSome : List Section → List ℕ → Type 0
+HoldsSome sections a = ((s : ℕ) × HoldsSerial sections a s) ⊎ ((id : List ℕ) × HoldsId sections a id)
 
-held_here : (section : Section) (sections : List Section) (a : List ℕ) → IsListed section → section.authority ≡ a → Held (section ∷ sections) a
+held_here : (section : Section) (sections : List Section) (a : List ℕ) → IsListed section → section.authority ≡ a → HoldsSome (section ∷ sections) a
 held_here section sections a listed is =
     elim listed.some [
       | inl spans ↦ let s = some_serial section.spans spans listed.runs in inl (s.0, inl (is, s.1))
       | inr ids ↦ let id = some_text section.ids ids in inr (id.0, inl (is, id.1))
     ]
 
-held_of : (sections : List Section) (a : List ℕ) → All IsListed sections → SomeSection (λ section. section.authority ≡ a) sections → Held sections a
+held_of : (sections : List Section) (a : List ℕ) → All IsListed sections → SomeSection (λ section. section.authority ≡ a) sections → HoldsSome sections a
 held_of [] a listed named = absurd named
 held_of (section ∷ sections) a listed (inl is) = held_here section sections a (All-head IsListed section sections listed) is
 held_of (section ∷ sections) a listed (inr later) =
