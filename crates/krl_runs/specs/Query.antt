@@ -1,9 +1,8 @@
 -- Asking a list about keys (ssh-keygen(1), KEY REVOCATION LISTS).
 use Rattle.std.specs.Prelude.{◌≡◌, ◌↔◌, ℕ, Bool, true, false, List, [], ◌∷◌, ◌++◌}
 use Rattle.std.specs.Prelude.{Option, None, Some, Result, Ok, Err, IsTrue, codes}
-use Rattle.krl_core.specs.Contents.{Contents, Means}
+use Rattle.krl_core.specs.Contents.{Contents}
 use Rattle.krl_core.specs.Entries.{entries_of}
-use Rattle.krl_core.specs.Entry.{Entry}
 use Rattle.krl_core.specs.Front.{IsFirstFault}
 use Rattle.krl_core.specs.Reading.{IsList, MayFail, Says}
 use Rattle.krl_core.specs.Revoked.{Revoked}

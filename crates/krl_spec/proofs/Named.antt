@@ -1,20 +1,15 @@
 -- An authority that is named stays named.
-use Rattle.std.proofs.Common.{◌≡◌, ℕ, ◌+◌, ◌<◌, ◌≤◌, ◌⊎◌, List, [], ◌∷◌, ◌++◌, length, inl, inr, refl, arith}
-use Rattle.std.specs.List.{All, Contains}
+use Rattle.std.proofs.Common.{◌≡◌, ℕ, ◌+◌, ◌≤◌, ◌⊎◌, List, [], ◌∷◌, length, inl, inr, arith}
+use Rattle.std.specs.List.{All}
 use Rattle.std.proofs.lemmas.List.Elements.{All-head, All-tail, Contains-append_left}
-use Rattle.serial_set.specs.declared.span.Span.{Span}
-use Rattle.serial_set.specs.Span.{Covers, IsRuns}
 use Rattle.krl_plan.specs.Ranges.{ranges, ranges_plan}
 use Rattle.krl_core.specs.Laws.{SectionsMean}
 use Rattle.krl_core.specs.Elements.{some_left, some_serial, some_text, some_weaker}
 use Rattle.krl_core.specs.Contents.{Contents, HoldsId, HoldsSerial, IsListed, IsNamed, IsOrderly, Means, Section, SomeSection, stored}
-use Rattle.krl_core.specs.Entries.{entries_of}
 use Rattle.krl_core.specs.Entry.{Entry, IdEntry}
-use Rattle.krl_core.specs.KrlText.{EachPlan, sections_of}
-use Rattle.krl_core.specs.Naming.{SomeNamesAt}
+use Rattle.krl_core.specs.KrlText.{EachPlan}
 use Rattle.krl_plan.specs.Plan.{IsPlan}
 use Rattle.krl_plan.specs.declared.group.Group.{Group}
-use Rattle.krl_plan.specs.declared.group.Sort.TheVariants.{Range}
 use Rattle.krl_core.specs.Changes.{MeansMore}
 use Rattle.krl_spec.specs.Stored.{Grows}
 

@@ -1,14 +1,14 @@
 -- What a line names has no more bytes than the line.
-use Rattle.std.proofs.Common.{◌≡◌, ℕ, ◌+◌, ◌-◌, ◌*◌, ◌≤◌, Bool, true, false, nat_lt, List, [], ◌∷◌, ◌++◌, length, drop, get_or, replicate, Option, Some, None, inl, inr, refl, sym, ap, ◌∙◌, arith}
+use Rattle.std.proofs.Common.{◌≡◌, ℕ, ◌+◌, ◌*◌, ◌≤◌, Bool, true, false, nat_lt, List, [], ◌∷◌, ◌++◌, length, drop, get_or, replicate, Option, Some, None, inl, inr, refl, sym, ap, ◌∙◌, arith}
 use Rattle.std.specs.Prelude.{option_map}
-use Rattle.std.specs.List.{Contains, before_first, concat, position_or_len, prefix_len, suffix_len}
+use Rattle.std.specs.List.{Contains, before_first, concat, position_or_len, prefix_len}
 use Rattle.std.proofs.lemmas.List.{length-append, length-drop, length-take}
 use Rattle.std.proofs.lemmas.List.Elements.{All-append, All-contains, All-map}
 use Rattle.base64.specs.Engines.{standard, standard_no_pad}
 use Rattle.base64.specs.Rfc4648.{encode, encode_group, encode_symbols, padding_len}
 use Rattle.ssh_wire.specs.Fields.{length-number, length-string}
 use Rattle.ssh_wire.specs.Wire.{string}
-use Rattle.ssh_key.specs.Blanks.{after_blanks, before_ending, is_blank, is_ending, trimmed}
+use Rattle.ssh_key.specs.Blanks.{after_blanks, is_ending, trimmed}
 use Rattle.ssh_key.specs.Trimmed.{length-after_blanks, length-before_ending, length-trimmed}
 use Rattle.ssh_key.specs.FingerprintReading.{IsFingerprint, sha256_prefix}
 use Rattle.ssh_key.specs.Fingerprints.{unpadded}

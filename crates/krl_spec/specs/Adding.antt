@@ -1,5 +1,5 @@
 -- What reading lines of a specification file adds to what is held.
-use Rattle.std.specs.Prelude.{◌≡◌, ◌+◌, ◌≤◌, List, [], ◌∷◌, ◌++◌, Option, Some, None, Result, Ok}
+use Rattle.std.specs.Prelude.{◌≡◌, ◌+◌, ◌≤◌, [], ◌∷◌, Option, Some, None, Result, Ok}
 use Rattle.std.specs.Prelude.{Err, ⊤}
 use Rattle.ssh_key.specs.declared.fingerprint_fault.FingerprintFault.TheVariants as fingerprints
 use Rattle.ssh_key.specs.declared.line_fault.LineFault.TheVariants as lines
