@@ -12,7 +12,7 @@ use Rattle.krl_core.specs.Naming.{NamesAt, SomeNamesAt}
 use Rattle.krl_core.proofs.AddedSections.{adds_rise, adds_listed, serials_listed, takes_id_listed}
 use Rattle.krl_core.proofs.SomeSections.{some_adds}
 use Rattle.krl_core.proofs.Entries.{names_to, names_from, other_entry, serials_step, serials_ids_step, id_step, id_serials_step}
-use Rattle.krl_core.proofs.Same.{iff_sym, iff_then}
+use Rattle.std.proofs.Math.Logic.Iff as Iff
 use Rattle.std.proofs.lemmas.List.Elements.{Contains-push, Contains-push_cases, Contains-append_left}
 
 -- ---- order
@@ -62,7 +62,7 @@ unchanged p q r = (
 )
 
 pub same_side : {B C D : Type 0} → B ↔ C → D ↔ C → B ↔ D
-same_side q r = iff_then q (iff_sym r)
+same_side q r = Iff.trans q (Iff.symm r)
 
 pub serials_mean : (lo hi : ℕ) (b : List ℕ) (old new : List Section) (keys sha1s sha256s : List (List ℕ)) (entries : List Entry) → 0 < lo → lo ≤ hi → hi < 2 ^ 64 → AddsTo (Serials lo hi) b old new
     → Means (contents_of old keys sha1s sha256s) entries → Means (contents_of new keys sha1s sha256s) (entries ++ RangeEntry b lo hi ∷ [])

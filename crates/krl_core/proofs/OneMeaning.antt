@@ -79,11 +79,11 @@ same_texts (x ∷ xs) (y ∷ ys) r t to from =
 
 -- ---- sections in order
 
-abbrev pub authority_of : Section → List ℕ
-authority_of section = section.authority
+abbrev pub section_authority : Section → List ℕ
+section_authority section = section.authority
 
 -- some authority of sections that come after it
-pub above_named : (a b : List ℕ) (xs : List Section) → AllAbove authority_of a xs → SomeSection (λ section. section.authority ≡ b) xs → bytes_cmp a b ≡ Less
+pub above_named : (a b : List ℕ) (xs : List Section) → AllAbove section_authority a xs → SomeSection (λ section. section.authority ≡ b) xs → bytes_cmp a b ≡ Less
 above_named a b [] above h = absurd h
 above_named a b (x ∷ xs) above h =
     elim h [
@@ -92,11 +92,11 @@ above_named a b (x ∷ xs) above h =
     ]
 
 -- something is held under it
-pub above_held : (P : Section → Type 0) (a b : List ℕ) (xs : List Section) → AllAbove authority_of a xs → SomeSection (λ section. (section.authority ≡ b) × P section) xs → bytes_cmp a b ≡ Less
+pub above_held : (P : Section → Type 0) (a b : List ℕ) (xs : List Section) → AllAbove section_authority a xs → SomeSection (λ section. (section.authority ≡ b) × P section) xs → bytes_cmp a b ≡ Less
 above_held P a b xs above h = above_named a b xs above (some_weaker (λ section both. both.0) xs h)
 
 -- what is held under the authority of the first section is held in it
-pub held_first : (P : Section → Type 0) (x : Section) (xs : List Section) → AllAbove authority_of x.authority xs → SomeSection (λ section. (section.authority ≡ x.authority) × P section) (x ∷ xs) → P x
+pub held_first : (P : Section → Type 0) (x : Section) (xs : List Section) → AllAbove section_authority x.authority xs → SomeSection (λ section. (section.authority ≡ x.authority) × P section) (x ∷ xs) → P x
 held_first P x xs above h =
     elim h [
       | inl here ↦ here.1
@@ -104,7 +104,7 @@ held_first P x xs above h =
     ]
 
 -- what is held under a later authority is held in a later section
-held_later : (P Q : Section → Type 0) (x y : Section) (xs ys : List Section) (a : List ℕ) → x.authority ≡ y.authority → AllAbove authority_of x.authority xs
+held_later : (P Q : Section → Type 0) (x y : Section) (xs ys : List Section) (a : List ℕ) → x.authority ≡ y.authority → AllAbove section_authority x.authority xs
     → SomeSection (λ section. (section.authority ≡ a) × P section) xs → SomeSection (λ section. (section.authority ≡ a) × Q section) (y ∷ ys) → SomeSection (λ section. (section.authority ≡ a) × Q section) ys
 held_later P Q x y xs ys a e above h k =
     elim k [
@@ -118,9 +118,9 @@ record Alike (xs ys : List Section) : Type 0 where
   ids : (a text : List ℕ) → HoldsId xs a text → HoldsId ys a text
 
 -- a section that comes before all others has nothing that they have
-not_listed : (x y : Section) (xs ys : List Section) → IsListed x → RisesBy authority_of (y ∷ ys) → Alike (x ∷ xs) (y ∷ ys) → bytes_cmp x.authority y.authority ≡ Less → ⊥
+not_listed : (x y : Section) (xs ys : List Section) → IsListed x → RisesBy section_authority (y ∷ ys) → Alike (x ∷ xs) (y ∷ ys) → bytes_cmp x.authority y.authority ≡ Less → ⊥
 not_listed x y xs ys is rise alike less =
-    let above : AllAbove authority_of x.authority (y ∷ ys) = (less, AllAbove-earlier authority_of x.authority y.authority ys less rise.0) in
+    let above : AllAbove section_authority x.authority (y ∷ ys) = (less, AllAbove-earlier section_authority x.authority y.authority ys less rise.0) in
     elim is.some [
       | inl spans ↦
           let s = some_serial x.spans spans is.runs in
@@ -130,13 +130,13 @@ not_listed x y xs ys is rise alike less =
           not_before_itself x.authority (above_held (λ section. Contains section.ids t.0) x.authority x.authority (y ∷ ys) above (alike.ids x.authority t.0 (inl (refl, t.1))))
     ]
 
-spans_to : (x y : Section) (xs ys : List Section) → x.authority ≡ y.authority → RisesBy authority_of (y ∷ ys) → Alike (x ∷ xs) (y ∷ ys) → (s : ℕ) → Covers x.spans s → Covers y.spans s
+spans_to : (x y : Section) (xs ys : List Section) → x.authority ≡ y.authority → RisesBy section_authority (y ∷ ys) → Alike (x ∷ xs) (y ∷ ys) → (s : ℕ) → Covers x.spans s → Covers y.spans s
 spans_to x y xs ys e rise alike s h = held_first (λ section. Covers section.spans s) y ys rise.0 (alike.serials y.authority s (inl (e, h)))
 
-ids_to : (x y : Section) (xs ys : List Section) → x.authority ≡ y.authority → RisesBy authority_of (y ∷ ys) → Alike (x ∷ xs) (y ∷ ys) → (text : List ℕ) → Contains x.ids text → Contains y.ids text
+ids_to : (x y : Section) (xs ys : List Section) → x.authority ≡ y.authority → RisesBy section_authority (y ∷ ys) → Alike (x ∷ xs) (y ∷ ys) → (text : List ℕ) → Contains x.ids text → Contains y.ids text
 ids_to x y xs ys e rise alike text h = held_first (λ section. Contains section.ids text) y ys rise.0 (alike.ids y.authority text (inl (e, h)))
 
-alike_later : (x y : Section) (xs ys : List Section) → x.authority ≡ y.authority → RisesBy authority_of (x ∷ xs) → Alike (x ∷ xs) (y ∷ ys) → Alike xs ys
+alike_later : (x y : Section) (xs ys : List Section) → x.authority ≡ y.authority → RisesBy section_authority (x ∷ xs) → Alike (x ∷ xs) (y ∷ ys) → Alike xs ys
 alike_later x y xs ys e rise alike =
     record {
       serials = λ a s h. held_later (λ section. Covers section.spans s) (λ section. Covers section.spans s) x y xs ys a e rise.0 h (alike.serials a s (inr h));
@@ -146,7 +146,7 @@ alike_later x y xs ys e rise alike =
 same_section : (x y : Section) → x.authority ≡ y.authority → x.spans ≡ y.spans → x.ids ≡ y.ids → x ≡ y
 same_section x y a s i = ap (λ (z : List ℕ). section_with z x.spans x.ids) a ∙ ap (λ (z : List Span). section_with y.authority z x.ids) s ∙ ap (λ (z : List (List ℕ)). section_with y.authority y.spans z) i
 
-same_sections : (xs ys : List Section) → RisesBy authority_of xs → RisesBy authority_of ys → All IsListed xs → All IsListed ys → Alike xs ys → Alike ys xs → xs ≡ ys
+same_sections : (xs ys : List Section) → RisesBy section_authority xs → RisesBy section_authority ys → All IsListed xs → All IsListed ys → Alike xs ys → Alike ys xs → xs ≡ ys
 same_sections [] [] r t p q to from = refl
 same_sections [] (y ∷ ys) r t p q to from =
     let is : IsListed y = q 0 y (omega arith) in

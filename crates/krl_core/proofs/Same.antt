@@ -2,20 +2,12 @@
 use Rattle.std.proofs.Common.{◌≡◌, ℕ, ◌<◌, ◌≤◌, ◌⊎◌, ◌↔◌, List, [], ◌∷◌, ◌++◌, sym, subst, append_assoc, arith, inl, inr}
 use Rattle.std.specs.List.{AllByRecursion, Contains}
 use Rattle.std.proofs.lemmas.List.Elements.{Contains-append_left, Contains-append_right, Contains-append_cases}
+use Rattle.std.proofs.Math.Logic.Iff as Iff
 use Rattle.krl_core.specs.Entry.{Entry, SerialsEntry, RangeEntry, BitmapEntry, IdEntry, KeyEntry, Sha1Entry, Sha256Entry}
 use Rattle.krl_core.specs.Naming.{SomeNamesAt, NamesSame}
 use Rattle.krl_core.specs.Elements.{contains_here, contains_later, contains_cases, contains_none, some_left, some_right, some_cases}
 
 -- ---- one way and back
-
-iff_refl : {A : Type 0} → A ↔ A
-iff_refl = (λ x. x, λ x. x)
-
-pub iff_sym : {A B : Type 0} → (A ↔ B) → (B ↔ A)
-iff_sym h = (h.1, h.0)
-
-pub iff_then : {A B C : Type 0} → (A ↔ B) → (B ↔ C) → (A ↔ C)
-iff_then h k = (λ x. k.0 (h.0 x), λ x. h.1 (k.1 x))
 
 iff_or : {A B C D : Type 0} → (A ↔ B) → (C ↔ D) → ((A ⊎ C) ↔ (B ⊎ D))
 iff_or h k = (
@@ -43,11 +35,11 @@ contains_append xs ys x = (
 
 pub same_refl : (xs : List Entry) → NamesSame xs xs
 same_refl xs = record {
-  serials = λ a s. iff_refl;
-  ids = λ a text. iff_refl;
-  keys = λ blob. iff_refl;
-  sha1s = λ hash. iff_refl;
-  sha256s = λ hash. iff_refl;
+  serials = λ a s. Iff.rfl;
+  ids = λ a text. Iff.rfl;
+  keys = λ blob. Iff.rfl;
+  sha1s = λ hash. Iff.rfl;
+  sha256s = λ hash. Iff.rfl;
 }
 
 pub same_is : (xs ys : List Entry) → xs ≡ ys → NamesSame xs ys
@@ -55,30 +47,30 @@ same_is xs ys e = subst (NamesSame xs) e (same_refl xs)
 
 pub same_sym : (xs ys : List Entry) → NamesSame xs ys → NamesSame ys xs
 same_sym xs ys h = record {
-  serials = λ a s. iff_sym (h.serials a s);
-  ids = λ a text. iff_sym (h.ids a text);
-  keys = λ blob. iff_sym (h.keys blob);
-  sha1s = λ hash. iff_sym (h.sha1s hash);
-  sha256s = λ hash. iff_sym (h.sha256s hash);
+  serials = λ a s. Iff.symm (h.serials a s);
+  ids = λ a text. Iff.symm (h.ids a text);
+  keys = λ blob. Iff.symm (h.keys blob);
+  sha1s = λ hash. Iff.symm (h.sha1s hash);
+  sha256s = λ hash. Iff.symm (h.sha256s hash);
 }
 
 pub same_then : (xs ys zs : List Entry) → NamesSame xs ys → NamesSame ys zs → NamesSame xs zs
 same_then xs ys zs h k = record {
-  serials = λ a s. iff_then (h.serials a s) (k.serials a s);
-  ids = λ a text. iff_then (h.ids a text) (k.ids a text);
-  keys = λ blob. iff_then (h.keys blob) (k.keys blob);
-  sha1s = λ hash. iff_then (h.sha1s hash) (k.sha1s hash);
-  sha256s = λ hash. iff_then (h.sha256s hash) (k.sha256s hash);
+  serials = λ a s. Iff.trans (h.serials a s) (k.serials a s);
+  ids = λ a text. Iff.trans (h.ids a text) (k.ids a text);
+  keys = λ blob. Iff.trans (h.keys blob) (k.keys blob);
+  sha1s = λ hash. Iff.trans (h.sha1s hash) (k.sha1s hash);
+  sha256s = λ hash. Iff.trans (h.sha256s hash) (k.sha256s hash);
 }
 
 contains_join : (xs ys xs' ys' : List Entry) (x : Entry) → (Contains xs x ↔ Contains xs' x) → (Contains ys x ↔ Contains ys' x)
     → (Contains (xs ++ ys) x ↔ Contains (xs' ++ ys') x)
 contains_join xs ys xs' ys' x h k =
-    iff_then (contains_append xs ys x) (iff_then (iff_or h k) (iff_sym (contains_append xs' ys' x)))
+    Iff.trans (contains_append xs ys x) (Iff.trans (iff_or h k) (Iff.symm (contains_append xs' ys' x)))
 
 pub same_append : (xs ys xs' ys' : List Entry) → NamesSame xs xs' → NamesSame ys ys' → NamesSame (xs ++ ys) (xs' ++ ys')
 same_append xs ys xs' ys' h k = record {
-  serials = λ a s. iff_then (some_append xs ys a s) (iff_then (iff_or (h.serials a s) (k.serials a s)) (iff_sym (some_append xs' ys' a s)));
+  serials = λ a s. Iff.trans (some_append xs ys a s) (Iff.trans (iff_or (h.serials a s) (k.serials a s)) (Iff.symm (some_append xs' ys' a s)));
   ids = λ a text. contains_join xs ys xs' ys' (IdEntry a text) (h.ids a text) (k.ids a text);
   keys = λ blob. contains_join xs ys xs' ys' (KeyEntry blob) (h.keys blob) (k.keys blob);
   sha1s = λ hash. contains_join xs ys xs' ys' (Sha1Entry hash) (h.sha1s hash) (k.sha1s hash);
@@ -86,11 +78,11 @@ same_append xs ys xs' ys' h k = record {
 }
 
 contains_swap : (xs ys : List Entry) (x : Entry) → Contains (xs ++ ys) x ↔ Contains (ys ++ xs) x
-contains_swap xs ys x = iff_then (contains_append xs ys x) (iff_then iff_swap (iff_sym (contains_append ys xs x)))
+contains_swap xs ys x = Iff.trans (contains_append xs ys x) (Iff.trans iff_swap (Iff.symm (contains_append ys xs x)))
 
 pub same_swap : (xs ys : List Entry) → NamesSame (xs ++ ys) (ys ++ xs)
 same_swap xs ys = record {
-  serials = λ a s. iff_then (some_append xs ys a s) (iff_then iff_swap (iff_sym (some_append ys xs a s)));
+  serials = λ a s. Iff.trans (some_append xs ys a s) (Iff.trans iff_swap (Iff.symm (some_append ys xs a s)));
   ids = λ a text. contains_swap xs ys (IdEntry a text);
   keys = λ blob. contains_swap xs ys (KeyEntry blob);
   sha1s = λ hash. contains_swap xs ys (Sha1Entry hash);

@@ -15,7 +15,7 @@ use Rattle.krl_core.specs.Front.{limit, IsFirstFault, ended}
 use Rattle.krl_core.specs.Keeping.{Keeping, InStep, run_entries, open_run}
 use Rattle.krl_core.specs.Naming.{NamesSame}
 use Rattle.krl_core.specs.Place.{due}
-use Rattle.krl_core.specs.Reading.{Position, HasRead, Follows, IsSound, IsWhole}
+use Rattle.krl_core.specs.Reading.{Position, HasRead, Follows, IsReached, IsWhole}
 use Rattle.krl_core.proofs.Exists.{weight, nearer}
 use Rattle.krl_core.proofs.Fronts.{first_fault_is}
 use Rattle.krl_core.proofs.Gathering.{early_same, none_wait}
@@ -40,7 +40,7 @@ pub none_open : (p : Place) (keeping : Keeping) → (due p).may_end ≡ true →
 none_open (SectionType signed) keeping may step = step
 none_open _ keeping may step = absurd (cc)
 
-pub whole_list : (text : List ℕ) (fields : List (List ℕ)) (p : Position) → IsSound p → HasRead text fields p → text ≡ concat fields
+pub whole_list : (text : List ℕ) (fields : List (List ℕ)) (p : Position) → IsReached p → HasRead text fields p → text ≡ concat fields
     → (due p.place).may_end ≡ true → IsWhole text p.gathered.keeping.header p.gathered.keeping.contents
 whole_list text fields p sound h all may =
     let ready = sound.ready h.faultless in

@@ -139,8 +139,8 @@ pub record IsBounded (pull : Pulled) (gathered : Gathered) : Type 0 where
   pub held_is : all_held gathered ≤ 4 * pull.taken
   pub stored_is : StoresWithin gathered.keeping pull.taken
 
--- The position is that of a reading.
-pub record IsSound (position : Position) : Type 0 where
+-- The position is one that a reading reaches.
+pub record IsReached (position : Position) : Type 0 where
   pub ready : position.fault ≡ None → IsReady position.place position.gathered
   pub pull_faultless : position.fault ≡ None → position.pull.fault ≡ None
   pub bounded : IsBounded position.pull position.gathered

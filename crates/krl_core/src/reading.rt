@@ -10,7 +10,7 @@ ghost use Rattle.krl_core.specs.declared.krl_fault.KrlFault.TheVariants.{NoMemor
 ghost use Rattle.krl_core.specs.Front.{HasRoom, Passes, limit};
 ghost use Rattle.krl_core.specs.Gathered.{GathersField, Grows, IsReady, all_held};
 ghost use Rattle.krl_core.specs.Place.{due};
-ghost use Rattle.krl_core.specs.Reading.{Ends, Follows, HasRead, IsBounded, IsSound, IsList};
+ghost use Rattle.krl_core.specs.Reading.{Ends, Follows, HasRead, IsBounded, IsReached, IsList};
 ghost use Rattle.krl_core.specs.Reading.{IsWhole, LooksFor, Missed, ReadsOneMore, Refused};
 ghost use Rattle.krl_core.specs.Reading.{is_fixed, told_as, working};
 
@@ -43,7 +43,7 @@ pub struct Reading<S: Spans, R: Source + Drop> {
 }
 
 impl<S: Spans, R: Source + Drop> Model for Reading<S, R> {
-    ghost use Rattle.krl_core.specs.Reading.{Position, IsSound as Sound};
+    ghost use Rattle.krl_core.specs.Reading.{Position, IsReached as Reached};
 
     ghost Value = { Position };
 
@@ -54,7 +54,7 @@ impl<S: Spans, R: Source + Drop> Model for Reading<S, R> {
       fault = reading.fault;
     } };
 
-    ghost invariant = { λ reading. Sound (record {
+    ghost invariant = { λ reading. Reached (record {
       pull = reading.pull;
       place = reading.place;
       gathered = reading.gatherer;
@@ -237,7 +237,7 @@ fn advance<S: Spans, R: Source + Drop>(
     gatherer: &mut Gatherer<S>,
     large: &mut Vec<u8>,
 ) -> Result<bool, KrlFault>
-    requires { IsSound (working pull.old place.old gatherer.old) }
+    requires { IsReached (working pull.old place.old gatherer.old) }
     ensures more { IfOk result (λ more. IsTrue more → ReadsOneMore
         (working pull.old place.old gatherer.old) (working pull.new place.new gatherer.new)) }
     ensures follows { IfOk result (λ more. IsTrue more → Follows
@@ -246,7 +246,7 @@ fn advance<S: Spans, R: Source + Drop>(
         (working pull.old place.old gatherer.old) (working pull.new place.new gatherer.new)) }
     ensures fault { IfErr result (λ fault. Refused fault
         (working pull.old place.old gatherer.old) pull.new) }
-    ensures sound { OnOk result (IsSound (working pull.new place.new gatherer.new)) }
+    ensures sound { OnOk result (IsReached (working pull.new place.new gatherer.new)) }
     ensures bounds { IsBounded pull.new gatherer.new }
 {
     match ends(pull, *place) {

@@ -126,14 +126,14 @@ abbrev Found : Bool → List ℕ → List ℕ → Type 0
 Found true text rest = IsQuotedBefore text rest
 Found false text rest = IsOptionsBefore text rest
 
-abbrev Holds : List ℕ → Type 0
-Holds text = (quoted : Bool) (rest : List ℕ) → after_options quoted false text ≡ Some rest → Found quoted text rest
+abbrev FindsEnd : List ℕ → Type 0
+FindsEnd text = (quoted : Bool) (rest : List ℕ) → after_options quoted false text ≡ Some rest → Found quoted text rest
 
 abbrev tail_of : List ℕ → List ℕ
 tail_of [] = []
 tail_of (byte ∷ rest) = rest
 
-empty : Holds []
+empty : FindsEnd []
 empty true rest e = absurd (none-some rest (sym (at_end true false) ∙ e))
 empty false rest e =
     let none : [] ≡ rest = same_Some [] rest (sym (at_end false false) ∙ e) in
@@ -148,7 +148,7 @@ apart_from_quote byte text [] rest whole apart = λ backslash. subst NoQuote who
 apart_from_quote byte text (next ∷ inner) rest whole apart = λ backslash. subst NoQuote whole (apart backslash)
 
 -- a byte that is no quote, before what the scan goes on with
-plain_byte : (byte : ℕ) (text : List ℕ) → Holds text → byte ≢ 34 → ((byte ≡ 92) → NoQuote text) → (quoted : Bool) (rest : List ℕ) → (is_blank byte && not quoted) ≡ false → after_options quoted false (byte ∷ text) ≡ Some rest → Found quoted (byte ∷ text) rest
+plain_byte : (byte : ℕ) (text : List ℕ) → FindsEnd text → byte ≢ 34 → ((byte ≡ 92) → NoQuote text) → (quoted : Bool) (rest : List ℕ) → (is_blank byte && not quoted) ≡ false → after_options quoted false (byte ∷ text) ≡ Some rest → Found quoted (byte ∷ text) rest
 plain_byte byte text holds other apart true rest stays e =
     let f = holds true rest (sym (passes true byte text other stays apart) ∙ e) in
     record { inner = byte ∷ f.inner; is_quoted = quoted_byte byte f.inner other (apart_from_quote byte text f.inner (f.field ++ rest) f.whole apart) f.is_quoted; field = f.field; options = f.options; whole = ap (λ (xs : List ℕ). byte ∷ xs) f.whole; stops = f.stops }
@@ -161,7 +161,7 @@ plain_byte byte text holds other apart false rest stays e =
     record { field = byte ∷ f.field; options = options_byte byte f.field other bare (apart_from byte text f.field rest f.whole apart) f.options; whole = ap (λ (xs : List ℕ). byte ∷ xs) f.whole; stops = f.stops }
 
 -- a quote that is not escaped
-quote_byte : (text : List ℕ) → Holds text → (quoted : Bool) (rest : List ℕ) → after_options quoted false (34 ∷ text) ≡ Some rest → Found quoted (34 ∷ text) rest
+quote_byte : (text : List ℕ) → FindsEnd text → (quoted : Bool) (rest : List ℕ) → after_options quoted false (34 ∷ text) ≡ Some rest → Found quoted (34 ∷ text) rest
 quote_byte text holds true rest e =
     let f = holds false rest (sym (quote_closes text) ∙ e) in
     record { inner = []; is_quoted = quoted_end; field = f.field; options = f.options; whole = ap (λ (xs : List ℕ). 34 ∷ xs) f.whole; stops = f.stops }
@@ -170,7 +170,7 @@ quote_byte text holds false rest e =
     record { field = 34 ∷ (f.inner ++ 34 ∷ f.field); options = options_quoted f.inner f.field f.is_quoted f.options; whole = ap (λ (xs : List ℕ). 34 ∷ xs) (f.whole ∙ sym (append_assoc f.inner (34 ∷ f.field) rest)); stops = f.stops }
 
 -- a pair
-pair_bytes : (text : List ℕ) → Holds text → (quoted : Bool) (rest : List ℕ) → after_options quoted false (92 ∷ 34 ∷ text) ≡ Some rest → Found quoted (92 ∷ 34 ∷ text) rest
+pair_bytes : (text : List ℕ) → FindsEnd text → (quoted : Bool) (rest : List ℕ) → after_options quoted false (92 ∷ 34 ∷ text) ≡ Some rest → Found quoted (92 ∷ 34 ∷ text) rest
 pair_bytes text holds true rest e =
     let f = holds true rest (sym (pair_passes true text) ∙ e) in
     record { inner = 92 ∷ 34 ∷ f.inner; is_quoted = quoted_pair f.inner f.is_quoted; field = f.field; options = f.options; whole = ap (λ (xs : List ℕ). 92 ∷ 34 ∷ xs) f.whole; stops = f.stops }
@@ -179,14 +179,14 @@ pair_bytes text holds false rest e =
     record { field = 92 ∷ 34 ∷ f.field; options = options_pair f.field f.options; whole = ap (λ (xs : List ℕ). 92 ∷ 34 ∷ xs) f.whole; stops = f.stops }
 
 -- a backslash
-backslash_byte : (text : List ℕ) → Holds text → Holds (tail_of text) → (quoted : Bool) (rest : List ℕ) → after_options quoted false (92 ∷ text) ≡ Some rest → Found quoted (92 ∷ text) rest
+backslash_byte : (text : List ℕ) → FindsEnd text → FindsEnd (tail_of text) → (quoted : Bool) (rest : List ℕ) → after_options quoted false (92 ∷ text) ≡ Some rest → Found quoted (92 ∷ text) rest
 backslash_byte [] holds after quoted rest e = plain_byte 92 [] holds (omega arith) (λ same. tt) quoted rest refl e
 backslash_byte (next ∷ text) holds after quoted rest e = elim (cases_eq next 34) [
   | inl quote ↦ subst (λ (b : ℕ). Found quoted (92 ∷ b ∷ text) rest) (sym quote) (pair_bytes text after quoted rest (subst (λ (b : ℕ). after_options quoted false (92 ∷ b ∷ text) ≡ Some rest) quote e))
   | inr other ↦ plain_byte 92 (next ∷ text) holds (omega arith) (λ same. other) quoted rest refl e
 ]
 
-step : (byte : ℕ) (text : List ℕ) → Holds text → Holds (tail_of text) → Holds (byte ∷ text)
+step : (byte : ℕ) (text : List ℕ) → FindsEnd text → FindsEnd (tail_of text) → FindsEnd (byte ∷ text)
 step byte text holds after quoted rest e = elim (cases_Bool (is_blank byte && not quoted)) [
   | inl stop ↦ blank_byte byte text quoted rest stop e
   | inr stays ↦ elim (cases_eq byte 34) [
@@ -209,7 +209,7 @@ step byte text holds after quoted rest e = elim (cases_Bool (is_blank byte && no
         record { field = []; options = options_end; whole = same; stops = subst (FailsFirst not_blank) same (ap not blank) }
 
 -- at a text, and behind its first byte
-both : (text : List ℕ) → Holds text × Holds (tail_of text)
+both : (text : List ℕ) → FindsEnd text × FindsEnd (tail_of text)
 both [] = (empty, empty)
 both (byte ∷ text) = let held = both text in (step byte text held.0 held.1, held.0)
 
