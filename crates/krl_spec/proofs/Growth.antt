@@ -92,17 +92,17 @@ pub bare_adds : {A : Type 0} (text : List ℕ) (content : Content) (asked : Subj
     → in_fault line_cause (line_at text) ≡ Ok content → in_fault subject_cause (subject_of content.blob) ≡ Ok asked
     → 4 * length content.blob + 24 ≤ 3 * length text → IsWithinBlob content.blob asked
     → Adds (Grows (asked_size asked.plain asked.cert)) (Ok (names_entry asked.plain asked.cert)) result old new
-    → Adds (Grows (length text)) (bare_entry (subject_in text)) result old new
+    → Adds (Grows (length text)) (bare_entry text) result old new
 unfolding subject_in
 bare_adds text content asked result old new line subject room within adds =
     let fits : asked_size asked.plain asked.cert ≤ length text = omega (arith, room, within.asked_is) in
     rw (line, subject) (adds_more (Grows (asked_size asked.plain asked.cert)) (Grows (length text)) (Ok (names_entry asked.plain asked.cert)) result old new (λ grows. all_grow_more (asked_size asked.plain asked.cert) (length text) old new fits grows) adds)
 
 pub text_bare_adds : {A : Type 0} (authority : Option (List ℕ)) (text : List ℕ) (result : Result A SpecCause) (old new : Contents)
-    → order_in text ≡ None → Adds (Grows (length text)) (bare_entry (subject_in text)) result old new
+    → order_in text ≡ None → Adds (Grows (length text)) (bare_entry text) result old new
     → Adds (GrowsUnder (bytes_under authority) (length text)) (text_entry authority text (order_in text)) result old new
 text_bare_adds authority text result old new none adds =
-    rw none (under_adds (bytes_under authority) (length text) (bare_entry (subject_in text)) result old new adds)
+    rw none (under_adds (bytes_under authority) (length text) (bare_entry text) result old new adds)
 
 -- a line with one
 pub text_order_adds : {A : Type 0} (authority : Option (List ℕ)) (text : List ℕ) (found : Order) (result : Result A SpecCause) (old new : Contents)

@@ -16,7 +16,6 @@ use Rattle.krl_spec.specs.Line.{Order, bare_line, order_in}
 use Rattle.krl_spec.specs.declared.directive.Directive.{Directive}
 use Rattle.krl_spec.specs.declared.directive.Directive.TheVariants.{Serial, Id, Key, Sha1, Sha256}
 use Rattle.krl_spec.specs.declared.directive.Directive.TheVariants.{Hash}
-use Rattle.krl_spec.specs.declared.number.Bounds.{Bounds}
 use Rattle.krl_spec.specs.declared.spec_cause.KeyCause.TheVariants as keys
 use Rattle.krl_spec.specs.declared.spec_cause.SpecCause.{SpecCause}
 use Rattle.krl_spec.specs.declared.spec_cause.SpecCause.TheVariants as causes
@@ -37,13 +36,11 @@ IsUnder (Of bytes) = 0 < length bytes.now
 
 -- ---- serials and key IDs, under the authority at hand
 
-abbrev pub serials_entry : List ℕ → Result Bounds SpecCause → Result Entry SpecCause
-serials_entry authority (Ok bounds) = Ok (RangeEntry authority bounds.lo bounds.hi)
-serials_entry authority (Err cause) = Err cause
-
 abbrev pub serial_order : Option (List ℕ) → List ℕ → Result Entry SpecCause
 serial_order None text = Err causes.NoAuthority
-serial_order (Some authority) text = serials_entry authority (serials_of_text text)
+serial_order (Some authority) text = do
+  bounds ← serials_of_text text
+  Ok (RangeEntry authority bounds.lo bounds.hi)
 
 abbrev pub id_order : Option (List ℕ) → List ℕ → Result Entry SpecCause
 id_order None text = Err causes.NoAuthority
@@ -65,14 +62,31 @@ subject_in text = do
   content ← in_fault line_cause (line_at text)
   in_fault subject_cause (subject_of content.blob)
 
-abbrev pub plain_of : Result Subject SpecCause → Result (List ℕ) SpecCause
-plain_of (Ok asked) = Ok asked.plain
-plain_of (Err cause) = Err cause
+-- the blob of its plain key
+unfoldable pub plain_in : List ℕ → Result (List ℕ) SpecCause
+plain_in text = do
+  asked ← subject_in text
+  Ok asked.plain
 
--- an entry that is made of bytes that were read
-abbrev pub made_entry : (List ℕ → Entry) → Result (List ℕ) SpecCause → Result Entry SpecCause
-made_entry made (Ok bytes) = Ok (made bytes)
-made_entry made (Err cause) = Err cause
+abbrev pub key_order : List ℕ → Result Entry SpecCause
+key_order text = do
+  plain ← plain_in text
+  Ok (KeyEntry plain)
+
+abbrev pub sha1_order : List ℕ → Result Entry SpecCause
+sha1_order text = do
+  plain ← plain_in text
+  Ok (Sha1Entry (sha1 plain))
+
+abbrev pub sha256_order : List ℕ → Result Entry SpecCause
+sha256_order text = do
+  plain ← plain_in text
+  Ok (Sha256Entry (sha256 plain))
+
+abbrev pub hash_order : List ℕ → Result Entry SpecCause
+hash_order text = do
+  digest ← in_fault causes.Fingerprint (fingerprint_at text)
+  Ok (Sha256Entry digest)
 
 -- the authority of a certificate has some bytes
 abbrev pub HasAuthority : Option Names → Type 0
@@ -89,30 +103,24 @@ abbrev pub names_entry : List ℕ → Option Names → Entry
 names_entry plain None = KeyEntry plain
 names_entry plain (Some names) = certificate_entry names
 
--- A plain key is named by its blob.
-abbrev pub bare_entry : Result Subject SpecCause → Result Entry SpecCause
-bare_entry (Ok asked) = Ok (names_entry asked.plain asked.cert)
-bare_entry (Err cause) = Err cause
-
-abbrev pub sha1_entry : List ℕ → Entry
-sha1_entry blob = Sha1Entry (sha1 blob)
-
-abbrev pub sha256_entry : List ℕ → Entry
-sha256_entry blob = Sha256Entry (sha256 blob)
+-- A line without a directive names a plain key by its blob, and a certificate as above.
+abbrev pub bare_entry : List ℕ → Result Entry SpecCause
+bare_entry text = do
+  asked ← subject_in text
+  Ok (names_entry asked.plain asked.cert)
 
 -- ---- lines
 
 abbrev pub order_entry : Option (List ℕ) → Directive → List ℕ → Result Entry SpecCause
 order_entry authority Serial given = serial_order authority given
 order_entry authority Id given = id_order authority given
-order_entry authority Key given = made_entry KeyEntry (plain_of (subject_in given))
-order_entry authority Sha1 given = made_entry sha1_entry (plain_of (subject_in given))
-order_entry authority Sha256 given = made_entry sha256_entry (plain_of (subject_in given))
-order_entry authority Hash given =
-    made_entry Sha256Entry (in_fault causes.Fingerprint (fingerprint_at given))
+order_entry authority Key given = key_order given
+order_entry authority Sha1 given = sha1_order given
+order_entry authority Sha256 given = sha256_order given
+order_entry authority Hash given = hash_order given
 
 abbrev pub text_entry : Option (List ℕ) → List ℕ → Option Order → Result Entry SpecCause
-text_entry authority text None = bare_entry (subject_in text)
+text_entry authority text None = bare_entry text
 text_entry authority text (Some order) = order_entry authority order.directive order.given
 
 -- what a line names, if anything counts of it

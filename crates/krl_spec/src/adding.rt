@@ -1,16 +1,13 @@
 // Adding what a line of a specification file names.
 
 ghost use Rattle.std.specs.Prelude.{◌≡◌, ◌+◌, ◌<◌, length, MatchResult, None, Some, Ok};
-ghost use Rattle.ssh_wire.specs.Reading.{in_fault};
-ghost use Rattle.ssh_key.specs.FingerprintReading.{fingerprint_at};
 ghost use Rattle.ssh_cert.specs.Subject.{Subject};
 ghost use Rattle.krl_core.specs.Authority.{IsAuthority, authority_bytes};
-ghost use Rattle.krl_core.specs.Entry.{KeyEntry, Sha256Entry};
 ghost use Rattle.krl_spec.specs.Adding.{Adds, AddsLine};
-ghost use Rattle.krl_spec.specs.Entry.{HasAuthority, IsUnder, authority_under, bare_entry, certificate_entry, id_order, line_entry, made_entry, names_entry, order_entry, plain_of, serial_order, sha1_entry, sha256_entry, subject_in, text_entry};
+ghost use Rattle.krl_spec.specs.Entry.{HasAuthority, IsUnder, authority_under, bare_entry, certificate_entry, hash_order, id_order, key_order, line_entry, names_entry, order_entry, serial_order, sha1_order, sha256_order, text_entry};
 ghost use Rattle.krl_spec.specs.Line.{order_in};
 ghost use Rattle.krl_spec.specs.Stored.{Grows, GrowsBy, asked_size};
-ghost use Rattle.krl_spec.specs.declared.spec_cause.SpecCause.TheVariants.{Fingerprint, NoAuthority};
+ghost use Rattle.krl_spec.specs.declared.spec_cause.SpecCause.TheVariants.{NoAuthority};
 
 use crate::blanks::bare_line;
 use crate::directive::{Directive, order_in};
@@ -82,8 +79,7 @@ fn add_key<S: Spans>(
     revocations: &mut Revocations<S>,
     text: &[u8],
 ) -> Result<(), SpecCause>
-    ensures { Adds (Grows (length text.now))
-        (made_entry KeyEntry (plain_of (subject_in text.now))) result
+    ensures { Adds (Grows (length text.now)) (key_order text.now) result
         revocations.old revocations.new }
 {
     let plain = plain_key(alloc, text)?;
@@ -97,8 +93,7 @@ fn add_sha1<S: Spans>(
     revocations: &mut Revocations<S>,
     text: &[u8],
 ) -> Result<(), SpecCause>
-    ensures { Adds (Grows (length text.now))
-        (made_entry sha1_entry (plain_of (subject_in text.now))) result
+    ensures { Adds (Grows (length text.now)) (sha1_order text.now) result
         revocations.old revocations.new }
 {
     let plain = plain_key(alloc, text)?;
@@ -112,8 +107,7 @@ fn add_sha256<S: Spans>(
     revocations: &mut Revocations<S>,
     text: &[u8],
 ) -> Result<(), SpecCause>
-    ensures { Adds (Grows (length text.now))
-        (made_entry sha256_entry (plain_of (subject_in text.now))) result
+    ensures { Adds (Grows (length text.now)) (sha256_order text.now) result
         revocations.old revocations.new }
 {
     let plain = plain_key(alloc, text)?;
@@ -127,8 +121,7 @@ fn add_hash<S: Spans>(
     revocations: &mut Revocations<S>,
     text: &[u8],
 ) -> Result<(), SpecCause>
-    ensures { Adds (Grows (length text.now))
-        (made_entry Sha256Entry (in_fault Fingerprint (fingerprint_at text.now))) result
+    ensures { Adds (Grows (length text.now)) (hash_order text.now) result
         revocations.old revocations.new }
 {
     let digest = read_hash(alloc, text)?;
@@ -180,7 +173,7 @@ fn add_bare<S: Spans>(
     revocations: &mut Revocations<S>,
     text: &[u8],
 ) -> Result<(), SpecCause>
-    ensures { Adds (Grows (length text.now)) (bare_entry (subject_in text.now)) result
+    ensures { Adds (Grows (length text.now)) (bare_entry text.now) result
         revocations.old revocations.new }
 {
     let line = key_line(alloc, text)?;
