@@ -1,6 +1,7 @@
 -- Making a list: what is read of the old one, of the authority's file and of the files.
-use Rattle.std.proofs.Common.{◌≡◌, ◌↔◌, ℕ, ◌+◌, ◌<◌, ◌≤◌, Bool, false, List, [], ◌∷◌, ◌++◌, length, take, drop, get_or, Option, Some, None, Result, Ok, Err, inl, inr, refl, sym, ap, ◌∙◌, arith, append_assoc}
+use Rattle.std.proofs.Common.{◌≡◌, ℕ, ◌+◌, ◌<◌, ◌≤◌, Bool, false, List, [], ◌∷◌, ◌++◌, length, take, drop, get_or, Option, Some, None, Result, Ok, Err, inl, inr, refl, sym, ap, ◌∙◌, arith, append_assoc}
 use Rattle.std.proofs.lemmas.List.{append-nil, take_more, take-append-drop}
+use Rattle.std.proofs.Math.Logic.Iff as Iff
 use Rattle.ssh_key.specs.Container.{IsContainer}
 use Rattle.ssh_cert.specs.Subject.{Subject}
 use Rattle.ssh_cert.specs.SubjectReading.{IsSubject}
@@ -14,7 +15,7 @@ use Rattle.krl_core.specs.Reading.{IsList, Says}
 use Rattle.krl_core.specs.declared.header.Header.{Header}
 use Rattle.krl_core.specs.declared.krl_fault.KrlFault.{KrlFault}
 use Rattle.krl_make.specs.declared.base.Base.{Base}
-use Rattle.krl_make.specs.Making.{Added, HasNumbers, IsAtHand, IsAuthorityAtHand, IsFileAtHand, authority_file, lines, new_list, old_list, IsOldRead, IsStop, Made, Makes, NamesSame, WritesList, WritesMade, WritesMore, after_version, authority_of, base_of, cause_stop, content_entries, file_entries, files_entries, header_of, made_of, make_run_of, then_entries, version_of}
+use Rattle.krl_make.specs.Making.{Added, HasNumbers, IsAtHand, IsAuthorityAtHand, IsFileAtHand, authority_file, lines, new_list, old_list, IsOldRead, IsStop, Made, Makes, NamesSame, WritesList, WritesMade, WritesMore, after_old, base_of, cause_stop, file_entries, files_entries, header_of, made_of, make_run_of, named_blob, text_entries, then_entries, version_of}
 use Rattle.krl_runs.specs.Query.{krl_cause}
 use Rattle.krl_make.specs.declared.authority.Authority.{Authority}
 use Rattle.krl_core.specs.declared.krl_fault.KrlFault.TheVariants as faults
@@ -64,14 +65,14 @@ inside_has_bytes text blob comment is = omega (arith, key_room blob is.key is.is
 
 pub text_added : (authority : Option (List ℕ)) (name text : List ℕ) (old new : Contents)
     → ReadsSpec authority text (Ok (tt {0})) old new
-    → Added (content_entries authority name (Ok text)) old new
+    → Added (text_entries authority name text) old new
 text_added authority name text old new reads =
     ((lines_of authority text).entries, (rw reads.0 refl, reads.1))
 
 -- Where the lines of a text stop, the run stops.
 pub text_stops : (authority : Option (List ℕ)) (name text : List ℕ) (number : ℕ) (cause : SpecCause) (old new : Contents)
     → StopsAt authority text number cause old new
-    → IsStop (ender_of (cause_stop name number cause).cause) (λ at. name ≡ at) (content_entries authority name (Ok text)) (cause_stop name number cause)
+    → IsStop (ender_of (cause_stop name number cause).cause) (λ at. name ≡ at) (text_entries authority name text) (cause_stop name number cause)
 text_stops authority name text number specs.NoMemory old new stops = (name, (refl, refl))
 text_stops authority name text number cause old new (told, adds) = rw told refl
 
@@ -159,9 +160,6 @@ file_stops authority files i file stop old mid lt item (front, (read, adds)) is 
 
 -- ---- the list that is written
 
-both_ways : {P Q R : Type 0} → (P ↔ Q) → (P ↔ R) → (Q ↔ R)
-both_ways to from = (λ q. from.0 (to.1 q), λ r. to.0 (from.1 r))
-
 pub names_same : (header : Header) (contents : Contents) (text : List ℕ) → IsKrlText header contents text
     → length text ≤ limit → HasNumbers header → WrittenNames → HeldRevokes
     → (entries : List Entry) → Means contents entries → NamesSame header text entries
@@ -170,7 +168,7 @@ names_same header contents text written within numbers spelled law entries means
     record {
       sections = w.0;
       spelled = w.1.0;
-      same = λ asked. both_ways (law contents (entries_of w.0) asked w.1.1) (law contents entries asked means);
+      same = λ asked. Iff.trans (Iff.symm (law contents (entries_of w.0) asked w.1.1)) (law contents entries asked means);
     }
 
 pub made_written : {X : Type 0} (view : X → List ℕ) (name : List ℕ) (made : Made) (contents : Contents) (result : Result X Stop)
@@ -203,22 +201,22 @@ base_refused name authority version files moment fault = refl
 -- The fault of the authority's file stops the run.
 pub signer_stops : (name : List ℕ) (given : Option ℕ) (authority : Authority) (moment : ℕ) (base : Base) (files : List File) (version : ℕ) (stop : Stop)
     → version_of given base.version ≡ Some version
-    → IsStop (ender_of stop.cause) (IsAuthorityAtHand authority) (authority_of authority) stop
-    → IsStop (ender_of stop.cause) (AtHand name base authority given files (after_version name (version_of given base.version) authority moment base files)) (after_version name (version_of given base.version) authority moment base files) stop
+    → IsStop (ender_of stop.cause) (IsAuthorityAtHand authority) (named_blob authority) stop
+    → IsStop (ender_of stop.cause) (AtHand name base authority given files (after_old name authority given moment files base)) (after_old name authority given moment files base) stop
 signer_stops name given authority moment base files version stop is stops =
-    let read = after_version name (version_of given base.version) authority moment base files in
-    stop_of_part (ender_of stop.cause) (IsAuthorityAtHand authority) (AtHand name base authority given files read) (authority_of authority) read stop
+    let read = after_old name authority given moment files base in
+    stop_of_part (ender_of stop.cause) (IsAuthorityAtHand authority) (AtHand name base authority given files read) (named_blob authority) read stop
     (λ at has. authority_file base version refl is has)
     (λ same. rw (is, same) refl)
     stops
 
 -- The fault of a file or of a line stops the run.
 files_stop : (name : List ℕ) (given : Option ℕ) (authority : Authority) (moment : ℕ) (base : Base) (files : List File) (version : ℕ) (signer : Option (List ℕ)) (stop : Stop)
-    → version_of given base.version ≡ Some version → authority_of authority ≡ Ok signer
+    → version_of given base.version ≡ Some version → named_blob authority ≡ Ok signer
     → IsStop (ender_of stop.cause) (IsFileAtHand signer files) (files_entries signer files) stop
-    → IsStop (ender_of stop.cause) (AtHand name base authority given files (after_version name (version_of given base.version) authority moment base files)) (after_version name (version_of given base.version) authority moment base files) stop
+    → IsStop (ender_of stop.cause) (AtHand name base authority given files (after_old name authority given moment files base)) (after_old name authority given moment files base) stop
 files_stop name given authority moment base files version signer stop is signed stops =
-    let read = after_version name (version_of given base.version) authority moment base files in
+    let read = after_old name authority given moment files base in
     stop_of_part (ender_of stop.cause) (IsFileAtHand signer files) (AtHand name base authority given files read) (files_entries signer files) read stop
     (λ at has. lines base version signer refl is signed has)
     (λ same. rw (is, signed, same) refl)
@@ -235,11 +233,11 @@ made_read view name given authority base files read made (Err stop) whole (inr (
 
 -- The list is written of what was held and of the files, or the run stops there.
 pub list_written : {X : Type 0} (view : X → List ℕ) (name : List ℕ) (given : Option ℕ) (authority : Authority) (moment : ℕ) (base : Base) (files : List File) (version : ℕ) (signer : Option (List ℕ)) (result : Result X Stop)
-    → version_of given base.version ≡ Some version → authority_of authority ≡ Ok signer
+    → version_of given base.version ≡ Some version → named_blob authority ≡ Ok signer
     → WritesMore view name (header_of version moment base) base.revocations (IsFileAtHand signer files) (files_entries signer files) result
-    → Makes view name (Ok base) authority given files (after_version name (version_of given base.version) authority moment base files) result
+    → Makes view name (Ok base) authority given files (after_old name authority given moment files base) result
 list_written view name given authority moment base files version signer result is signed (inl (entries, (read, written))) =
-    let whole = after_version name (version_of given base.version) authority moment base files in
+    let whole = after_old name authority given moment files base in
     made_read view name given authority base files whole (made_of (header_of version moment base) base.revocations entries) result (rw (is, signed, read) refl) written
 list_written view name given authority moment base files version signer result is signed (inr (stop, (stopped, stops))) =
     rw stopped (inl (files_stop name given authority moment base files version signer stop is signed stops))

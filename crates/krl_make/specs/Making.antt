@@ -3,6 +3,8 @@ use Rattle.std.specs.Prelude.{◌≡◌, ◌↔◌, ℕ, ◌+◌, ◌-◌, ◌^�
 use Rattle.std.specs.Prelude.{if◌then◌else◌, List, [], ◌∷◌, ◌++◌, length, Option, Some, None}
 use Rattle.std.specs.Prelude.{Result, Ok, Err}
 use Rattle.std.specs.List.{slice_split}
+use Rattle.std.specs.Option.{ok_or}
+use Rattle.ssh_wire.specs.Reading.{◌>>=◌, in_fault}
 use Rattle.krl_core.specs.Contents.{Contents, Means, nothing}
 use Rattle.krl_core.specs.Entries.{entries_of}
 use Rattle.krl_core.specs.Entry.{Entry}
@@ -15,9 +17,9 @@ use Rattle.krl_core.specs.declared.header.Header.{Header}
 use Rattle.krl_core.specs.declared.krl_fault.KrlFault.{KrlFault}
 use Rattle.krl_core.specs.declared.krl_fault.KrlFault.TheVariants as faults
 use Rattle.ssh_key.specs.Armour.{begins_container}
-use Rattle.ssh_key.specs.ContainerReading.{Opened, private_at}
+use Rattle.ssh_key.specs.ContainerReading.{private_at}
 use Rattle.ssh_key.specs.KeyFile.{has_key}
-use Rattle.ssh_key.specs.LineReading.{Content, line_at}
+use Rattle.ssh_key.specs.LineReading.{line_at}
 use Rattle.ssh_key.specs.declared.line_fault.LineFault.{LineFault}
 use Rattle.ssh_key.specs.declared.private_fault.PrivateFault.{PrivateFault}
 use Rattle.ssh_cert.specs.Subject.{Subject}
@@ -41,51 +43,72 @@ use Rattle.krl_spec.specs.SpecFile.{lines_of}
 use Rattle.ssh_key.specs.Lines.{is_newline}
 use Rattle.krl_runs.specs.Stop.{Stop, Ender, ByInput, ByMemory, ByOutput, ender_of, stop_of}
 
+-- ---- faults, as stops of the run
+
+abbrev pub list_stop : List ℕ → KrlFault → Stop
+list_stop name fault = stop_of name (krl_cause fault)
+
+abbrev pub file_stop : List ℕ → FileFault → Stop
+file_stop name fault = stop_of name (causes.File fault)
+
+abbrev pub container_stop : List ℕ → PrivateFault → Stop
+container_stop name fault = stop_of name (causes.Private fault)
+
+abbrev pub key_line_stop : List ℕ → ℕ → LineFault → Stop
+key_line_stop name number fault = stop_at name number (causes.Line fault)
+
+abbrev pub subject_stop : List ℕ → ℕ → SubjectFault → Stop
+subject_stop name number fault = stop_at name number (causes.Subject fault)
+
+-- a fault of a line; memory runs out for the run itself, and at no line
+abbrev pub cause_stop : List ℕ → ℕ → SpecCause → Stop
+cause_stop name number specs.NoMemory = stop_of name causes.NoMemory
+cause_stop name number cause = stop_at name number (causes.Spec cause)
+
+abbrev pub line_stop : List ℕ → SpecFault → Stop
+line_stop name fault = stop_at name fault.line (causes.Spec fault.cause)
+
 -- ---- the authority
 
-abbrev pub subject_key : List ℕ → ℕ → Result Subject SubjectFault → Result (List ℕ) Stop
-subject_key name number (Ok asked) = Ok asked.plain
-subject_key name number (Err fault) = Err (stop_at name number (causes.Subject fault))
-
-abbrev pub content_key : List ℕ → ℕ → Result Content LineFault → Result (List ℕ) Stop
-content_key name number (Ok content) = subject_key name number (subject_of content.blob)
-content_key name number (Err fault) = Err (stop_at name number (causes.Line fault))
+-- the plain key of what a line's blob asks
+abbrev pub subject_key : List ℕ → ℕ → List ℕ → Result (List ℕ) Stop
+subject_key name number blob = do
+  asked ← in_fault (subject_stop name number) (subject_of blob)
+  Ok asked.plain
 
 -- the blob of the plain key of a line
 abbrev pub line_key : List ℕ → ℕ → List ℕ → Result (List ℕ) Stop
-line_key name number line = content_key name number (line_at line)
+line_key name number line = do
+  content ← in_fault (key_line_stop name number) (line_at line)
+  subject_key name number content.blob
 
 -- the first key of lines, of which the first has this number
 abbrev pub first_key_from : List ℕ → ℕ → List (List ℕ) → Result (List ℕ) Stop
-first_key_from name number [] = Err (stop_of name (causes.File files.NoKeys))
+first_key_from name number [] = Err (file_stop name files.NoKeys)
 first_key_from name number (line ∷ lines) =
     if has_key line then line_key name number line else first_key_from name (number + 1) lines
 
 -- the key of a container, whose faults have no line
-abbrev pub inside_key : List ℕ → Result Opened PrivateFault → Result (List ℕ) Stop
-inside_key name (Ok opened) = Ok opened.blob
-inside_key name (Err fault) = Err (stop_of name (causes.Private fault))
+abbrev pub inside_key : List ℕ → List ℕ → Result (List ℕ) Stop
+inside_key name text = do
+  opened ← in_fault (container_stop name) (private_at text)
+  Ok opened.blob
 
 -- the first key of a file's text
 unfoldable pub first_key_of : List ℕ → List ℕ → Result (List ℕ) Stop
 first_key_of name text =
-    if begins_container text then inside_key name (private_at text)
+    if begins_container text then inside_key name text
     else first_key_from name 1 (slice_split is_newline text)
-
-abbrev pub content_first_key : List ℕ → Result (List ℕ) FileFault → Result (List ℕ) Stop
-content_first_key name (Ok text) = first_key_of name text
-content_first_key name (Err fault) = Err (stop_of name (causes.File fault))
-
-abbrev pub named_authority : Result (List ℕ) Stop → Result (Option (List ℕ)) Stop
-named_authority (Ok blob) = Ok (Some blob)
-named_authority (Err stop) = Err stop
 
 -- Where one is given, all authorities have no bytes, and a file names the authority by its first
 -- key.
-abbrev pub authority_of : Authority → Result (Option (List ℕ)) Stop
-authority_of NotGiven = Ok None
-authority_of All = Ok (Some [])
-authority_of (FileOf file) = named_authority (content_first_key file.name file.content)
+abbrev pub named_blob : Authority → Result (Option (List ℕ)) Stop
+named_blob NotGiven = Ok None
+named_blob All = Ok (Some [])
+named_blob (FileOf file) = do
+  text ← in_fault (file_stop file.name) file.content
+  blob ← first_key_of file.name text
+  Ok (Some blob)
 
 -- the authority that is named, with the blob of its key
 abbrev pub signer_authority : Signer → Option (List ℕ)
@@ -101,33 +124,26 @@ IsSigner (signers.Of blob) = 0 < length blob
 
 -- ---- the files
 
--- a fault of a line; memory runs out for the run itself, and at no line
-abbrev pub cause_stop : List ℕ → ℕ → SpecCause → Stop
-cause_stop name number specs.NoMemory = stop_of name causes.NoMemory
-cause_stop name number cause = stop_at name number (causes.Spec cause)
-
-abbrev pub line_stop : List ℕ → SpecFault → Stop
-line_stop name fault = stop_at name fault.line (causes.Spec fault.cause)
-
 abbrev pub unless_fault : List ℕ → List Entry → Option SpecFault → Result (List Entry) Stop
 unless_fault name entries None = Ok entries
 unless_fault name entries (Some fault) = Err (line_stop name fault)
 
-abbrev pub content_entries : Option (List ℕ) → List ℕ → Result (List ℕ) FileFault
-    → Result (List Entry) Stop
-content_entries authority name (Ok text) =
+abbrev pub text_entries : Option (List ℕ) → List ℕ → List ℕ → Result (List Entry) Stop
+text_entries authority name text =
     unless_fault name (lines_of authority text).entries (lines_of authority text).fault
-content_entries authority name (Err fault) = Err (stop_of name (causes.File fault))
 
 -- what the lines of a file name, or where it stops the run
 unfoldable pub file_entries : Option (List ℕ) → File → Result (List Entry) Stop
-file_entries authority file = content_entries authority file.name file.content
+file_entries authority file = do
+  text ← in_fault (file_stop file.name) file.content
+  text_entries authority file.name text
 
 abbrev pub then_entries : Result (List Entry) Stop → Result (List Entry) Stop
     → Result (List Entry) Stop
-then_entries (Ok entries) (Ok later) = Ok (entries ++ later)
-then_entries (Ok entries) (Err stop) = Err stop
-then_entries (Err stop) later = Err stop
+then_entries first second = do
+  entries ← first
+  later ← second
+  Ok (entries ++ later)
 
 -- what the lines of all files name, or the first stop
 abbrev pub files_entries : Option (List ℕ) → List File → Result (List Entry) Stop
@@ -153,10 +169,6 @@ pub record Made : Type 0 where
 abbrev pub made_of : Header → Contents → List Entry → Made
 made_of header old entries = record { header = header; old = old; entries = entries }
 
-abbrev pub after_files : Header → Contents → Result (List Entry) Stop → Result Made Stop
-after_files header old (Ok entries) = Ok (made_of header old entries)
-after_files header old (Err stop) = Err stop
-
 -- the header of the list that is made
 abbrev pub header_of : ℕ → ℕ → Base → Header
 header_of version moment base =
@@ -166,30 +178,21 @@ header_of version moment base =
 abbrev pub HasNumbers : Header → Type 0
 HasNumbers header = (header.version < 2 ^ 64) × (header.date < 2 ^ 64)
 
-abbrev pub after_authority : ℕ → ℕ → Base → List File → Result (Option (List ℕ)) Stop
-    → Result Made Stop
-after_authority version moment base files (Ok authority) =
-    after_files (header_of version moment base) base.revocations (files_entries authority files)
-after_authority version moment base files (Err stop) = Err stop
+-- What a list of this name is made of after an old one: that its version is the greatest, then the
+-- fault of the authority's file, then those of the files and lines in order stop the run.
+abbrev pub after_old : List ℕ → Authority → Option ℕ → ℕ → List File → Base → Result Made Stop
+after_old name authority given moment files base = do
+  version ← ok_or (version_of given base.version) (stop_of name causes.VersionFull)
+  signer ← named_blob authority
+  entries ← files_entries signer files
+  Ok (made_of (header_of version moment base) base.revocations entries)
 
-abbrev pub after_version : List ℕ → Option ℕ → Authority → ℕ → Base → List File → Result Made Stop
-after_version name None authority moment base files = Err (stop_of name causes.VersionFull)
-after_version name (Some version) authority moment base files =
-    after_authority version moment base files (authority_of authority)
-
-abbrev pub after_old : List ℕ → Authority → Option ℕ → ℕ → List File → Result Base KrlFault
-    → Result Made Stop
-after_old name authority version moment files (Ok base) =
-    after_version name (version_of version base.version) authority moment base files
-after_old name authority version moment files (Err fault) = Err (stop_of name (krl_cause fault))
-
--- What a list of this name is made of, by what reading the old one gave: its fault, then that its
--- version is the greatest, then the fault of the authority's file, then those of the files and
--- lines in order stop the run.
+-- The same by what reading the old list gave, whose fault is the first.
 unfoldable pub make_run_of : List ℕ → Result Base KrlFault → Authority → Option ℕ → List File → ℕ
     → Result Made Stop
-make_run_of name reading authority version files moment =
-    after_old name authority version moment files reading
+make_run_of name reading authority version files moment = do
+  base ← in_fault (list_stop name) reading
+  after_old name authority version moment files base
 
 -- ---- what the run gives
 
@@ -220,7 +223,7 @@ pub data IsAtHand (name : List ℕ) (reading : Result Base KrlFault) (authority 
       → version_of given base.version ≡ Some version → IsAuthorityAtHand authority at
       → IsAtHand name reading authority given files read at
   lines : (base : Base) (version : ℕ) (signer : Option (List ℕ)) → reading ≡ Ok base
-      → version_of given base.version ≡ Some version → authority_of authority ≡ Ok signer
+      → version_of given base.version ≡ Some version → named_blob authority ≡ Ok signer
       → IsFileAtHand signer files at → IsAtHand name reading authority given files read at
   new_list : (made : Made) → read ≡ Ok made → name ≡ at
       → IsAtHand name reading authority given files read at

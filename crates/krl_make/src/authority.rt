@@ -2,9 +2,7 @@
 
 ghost use Rattle.std.specs.Prelude.{◌≡◌, ◌<◌, Some, IfOk, length};
 ghost use Rattle.std.specs.List.{slice_split};
-ghost use Rattle.ssh_key.specs.ContainerReading.{private_at};
-ghost use Rattle.ssh_cert.specs.SubjectReading.{subject_of};
-ghost use Rattle.krl_make.specs.Making.{IsAuthorityAtHand, IsSigner, Returns, authority_of, first_key_from, first_key_of, inside_key, line_key, signer_authority, subject_key};
+ghost use Rattle.krl_make.specs.Making.{IsAuthorityAtHand, IsSigner, Returns, first_key_from, first_key_of, inside_key, line_key, named_blob, signer_authority, subject_key};
 ghost use Rattle.krl_spec.specs.Entry.{IsUnder, authority_under};
 ghost use Rattle.ssh_key.specs.Lines.{is_newline};
 
@@ -53,7 +51,7 @@ impl Signer {
 /// The authority that is named. Of its file only the first key is read.
 pub fn signer_of<'a>(alloc: Global, authority: &'a Authority<'a>) -> Result<Signer, RunFault<'a>>
     ensures read { Returns signer_authority (IsAuthorityAtHand authority.now)
-        (authority_of authority.now) result }
+        (named_blob authority.now) result }
     ensures some { IfOk result IsSigner }
 {
     match authority {
@@ -83,7 +81,7 @@ fn first_key<'a>(alloc: Global, name: &'a str, text: &[u8]) -> Result<Bytes, Run
 /// The blob of the key of a container. A fault of it has no line.
 fn key_inside<'a>(alloc: Global, name: &'a str, text: &[u8]) -> Result<Bytes, RunFault<'a>>
     ensures read { Returns (λ blob. blob) (λ at. name.now ≡ at)
-        (inside_key name.now (private_at text.now)) result }
+        (inside_key name.now text.now) result }
     ensures some { IfOk result (λ blob. 0 < length blob) }
 {
     match read_private(alloc, text) {
@@ -141,7 +139,7 @@ fn subject_key<'a>(
     blob: &[u8],
 ) -> Result<Bytes, RunFault<'a>>
     ensures read { Returns (λ blob. blob) (λ at. name.now ≡ at)
-        (subject_key name.now number (subject_of blob.now)) result }
+        (subject_key name.now number blob.now) result }
     ensures some { IfOk result (λ blob. 0 < length blob) }
 {
     match subject(alloc, blob) {

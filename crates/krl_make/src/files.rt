@@ -1,7 +1,7 @@
 // What specification files add to a list.
 
 ghost use Rattle.std.specs.Prelude.{◌≡◌, Ok};
-ghost use Rattle.krl_make.specs.Making.{AddsFiles, IsFileAtHand, cause_stop, content_entries, file_entries, files_entries};
+ghost use Rattle.krl_make.specs.Making.{AddsFiles, IsFileAtHand, cause_stop, file_entries, files_entries, text_entries};
 ghost use Rattle.krl_spec.specs.Entry.{IsUnder, authority_under};
 
 use krl_core::Revocations;
@@ -57,7 +57,7 @@ fn add_text<'a, S: Spans>(
 ) -> Result<(), RunFault<'a>>
     requires { IsUnder under }
     ensures { AddsFiles (λ at. name.now ≡ at)
-        (content_entries (authority_under under.entry) name.now (Ok text.now))
+        (text_entries (authority_under under.entry) name.now text.now)
         result revocations.old revocations.new }
 {
     match read_spec(alloc, revocations, under, text) {

@@ -62,7 +62,7 @@ fn make_over<'a>(
     moment: u64,
 ) -> Result<Vec<u8>, RunFault<'a>>
     ensures { Makes (λ made. made.items) name.now (Ok base) authority.now version files.now
-        (after_old name.now authority.now version moment files.now (Ok base)) result }
+        (after_old name.now authority.now version moment files.now base) result }
 {
     let Base {
         version: old_version,
