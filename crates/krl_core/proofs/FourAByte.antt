@@ -22,9 +22,9 @@ use Rattle.krl_core.specs.Front.{Leads, Passes, Spot, spot_after, start}
 use Rattle.krl_core.specs.Naming.{NamesAt, SomeNamesAt}
 use Rattle.krl_core.specs.Place.{names}
 use Rattle.krl_core.specs.Rising.{AllAbove, RisesBy, bytes_cmp}
-use Rattle.krl_core.proofs.Intervals.{IsByteOnly, section_authority, intervals_name, intervals_of, length-intervals, most, names_intervals}
+use Rattle.krl_core.proofs.Intervals.{IsByteOnly, entry_authority, intervals_name, intervals_of, length-intervals, most, names_intervals}
 use Rattle.krl_core.proofs.Numbers.{number_of-one}
-use Rattle.krl_core.proofs.OneMeaning.{section_authority as key_of, held_first, not_before_itself, above_named}
+use Rattle.krl_core.proofs.OneMeaning.{section_authority, held_first, not_before_itself, above_named}
 use Rattle.krl_core.specs.Elements.{all_append}
 
 -- ---- the intervals of entries under one authority
@@ -34,7 +34,7 @@ if_under true spans = spans
 if_under false spans = []
 
 pub under : List ℕ → Entry → List Span
-under a entry = if_under (bytes_eq (section_authority entry) a) (intervals_of entry)
+under a entry = if_under (bytes_eq (entry_authority entry) a) (intervals_of entry)
 
 pub all_under : List ℕ → List Entry → List Span
 all_under a [] = []
@@ -53,14 +53,14 @@ covers-if_under false spans s e h = absurd (false≢true e)
 under_names : (a : List ℕ) (entry : Entry) (s : ℕ) → Covers (under a entry) s → NamesAt entry a s
 unfolding under
 under_names a entry s h =
-    let w = if_under-covers (bytes_eq (section_authority entry) a) (intervals_of entry) s h in
-    intervals_name entry a s ((bytes_eq-Decides (section_authority entry) a).0 w.0) w.1
+    let w = if_under-covers (bytes_eq (entry_authority entry) a) (intervals_of entry) s h in
+    intervals_name entry a s ((bytes_eq-Decides (entry_authority entry) a).0 w.0) w.1
 
 names_under : (a : List ℕ) (entry : Entry) (s : ℕ) → IsByteOnly entry → NamesAt entry a s → Covers (under a entry) s
 unfolding under
 names_under a entry s small h =
     let w = names_intervals entry a s small h in
-    covers-if_under (bytes_eq (section_authority entry) a) (intervals_of entry) s ((bytes_eq-Decides (section_authority entry) a).1 w.0) w.1
+    covers-if_under (bytes_eq (entry_authority entry) a) (intervals_of entry) s ((bytes_eq-Decides (entry_authority entry) a).1 w.0) w.1
 
 all_under-names : (a : List ℕ) (entries : List Entry) (s : ℕ) → Covers (all_under a entries) s → SomeNamesAt entries a s
 unfolding all_under
@@ -86,9 +86,9 @@ abbrev count_under : Entry → Section → ℕ
 count_under entry section = length (under section.authority entry)
 
 -- under an authority that comes later an entry names nothing
-none_under : (a : List ℕ) (entry : Entry) → (section_authority entry ≡ a → ⊥) → length (under a entry) ≡ 0
+none_under : (a : List ℕ) (entry : Entry) → (entry_authority entry ≡ a → ⊥) → length (under a entry) ≡ 0
 unfolding under if_under
-none_under a entry apart = none_if (bytes_eq (section_authority entry) a) (λ e. apart ((bytes_eq-Decides (section_authority entry) a).0 e))
+none_under a entry apart = none_if (bytes_eq (entry_authority entry) a) (λ e. apart ((bytes_eq-Decides (entry_authority entry) a).0 e))
   where
     none_if : (b : Bool) → (b ≡ true → ⊥) → length (if_under b (intervals_of entry)) ≡ 0
     none_if true no_way = absurd (no_way refl)
@@ -96,32 +96,32 @@ none_under a entry apart = none_if (bytes_eq (section_authority entry) a) (λ e.
 
 under_most : (a : List ℕ) (entry : Entry) → length (under a entry) ≤ most entry
 unfolding under if_under
-under_most a entry = most_if (bytes_eq (section_authority entry) a)
+under_most a entry = most_if (bytes_eq (entry_authority entry) a)
   where
     most_if : (b : Bool) → length (if_under b (intervals_of entry)) ≤ most entry
     most_if true = length-intervals entry
     most_if false = omega arith
 
-none_later : (entry : Entry) (sections : List Section) → AllAbove key_of (section_authority entry) sections → sum_by (count_under entry) sections ≡ 0
+none_later : (entry : Entry) (sections : List Section) → AllAbove section_authority (entry_authority entry) sections → sum_by (count_under entry) sections ≡ 0
 none_later entry [] above = refl
 none_later entry (x ∷ xs) above =
-    let apart : section_authority entry ≡ x.authority → ⊥ = λ e. not_before_itself x.authority (subst (λ (t : List ℕ). bytes_cmp t x.authority ≡ Less) e above.0) in
+    let apart : entry_authority entry ≡ x.authority → ⊥ = λ e. not_before_itself x.authority (subst (λ (t : List ℕ). bytes_cmp t x.authority ≡ Less) e above.0) in
     omega (arith, sum_by-cons (count_under entry) x xs, none_under x.authority entry apart, none_later entry xs above.1)
 
-once_more : (entry : Entry) (x : Section) (xs : List Section) (b : Bool) → bytes_eq (section_authority entry) x.authority ≡ b → RisesBy key_of (x ∷ xs) → sum_by (count_under entry) xs ≤ most entry
+once_more : (entry : Entry) (x : Section) (xs : List Section) (b : Bool) → bytes_eq (entry_authority entry) x.authority ≡ b → RisesBy section_authority (x ∷ xs) → sum_by (count_under entry) xs ≤ most entry
     → sum_by (count_under entry) (x ∷ xs) ≤ most entry
 once_more entry x xs true e rise rest =
-    let same = (bytes_eq-Decides (section_authority entry) x.authority).0 e in
-    let above : AllAbove key_of (section_authority entry) xs = subst (λ (t : List ℕ). AllAbove key_of t xs) (sym same) rise.0 in
+    let same = (bytes_eq-Decides (entry_authority entry) x.authority).0 e in
+    let above : AllAbove section_authority (entry_authority entry) xs = subst (λ (t : List ℕ). AllAbove section_authority t xs) (sym same) rise.0 in
     omega (arith, sum_by-cons (count_under entry) x xs, under_most x.authority entry, none_later entry xs above)
 once_more entry x xs false e rise rest =
-    let apart : section_authority entry ≡ x.authority → ⊥ = λ same. false≢true (sym e ∙ (bytes_eq-Decides (section_authority entry) x.authority).1 same) in
+    let apart : entry_authority entry ≡ x.authority → ⊥ = λ same. false≢true (sym e ∙ (bytes_eq-Decides (entry_authority entry) x.authority).1 same) in
     omega (arith, sum_by-cons (count_under entry) x xs, none_under x.authority entry apart, rest)
 
 -- an entry names something under one authority only
-once : (entry : Entry) (sections : List Section) → RisesBy key_of sections → sum_by (count_under entry) sections ≤ most entry
+once : (entry : Entry) (sections : List Section) → RisesBy section_authority sections → sum_by (count_under entry) sections ≤ most entry
 once entry [] rise = omega arith
-once entry (x ∷ xs) rise = once_more entry x xs (bytes_eq (section_authority entry) x.authority) refl rise (once entry xs rise.1)
+once entry (x ∷ xs) rise = once_more entry x xs (bytes_eq (entry_authority entry) x.authority) refl rise (once entry xs rise.1)
 
 abbrev count_all : List Entry → Section → ℕ
 count_all entries section = length (all_under section.authority entries)
@@ -144,7 +144,7 @@ count_more entry entries (x ∷ xs) =
       count_more entry entries xs,
     )
 
-count_most : (entries : List Entry) (sections : List Section) → RisesBy key_of sections → sum_by (count_all entries) sections ≤ sum_by most entries
+count_most : (entries : List Entry) (sections : List Section) → RisesBy section_authority sections → sum_by (count_all entries) sections ≤ sum_by most entries
 count_most [] sections rise = omega (arith, count_none sections)
 count_most (entry ∷ entries) sections rise =
     omega (arith, count_more entry entries sections, once entry sections rise, count_most entries sections rise, sum_by-cons most entry entries)
@@ -156,7 +156,7 @@ abbrev AreHeld : List Section → List Entry → Type 0
 AreHeld sections entries =
     (a : List ℕ) (s : ℕ) → SomeSection (λ section. section.authority ≡ a) sections → HoldsSerial sections a s ↔ SomeNamesAt entries a s
 
-held_behind : (x : Section) (xs : List Section) (entries : List Entry) → AllAbove key_of x.authority xs → AreHeld (x ∷ xs) entries → AreHeld xs entries
+held_behind : (x : Section) (xs : List Section) (entries : List Entry) → AllAbove section_authority x.authority xs → AreHeld (x ∷ xs) entries → AreHeld xs entries
 held_behind x xs entries above h a s some = (
   λ k. (h a s (inr some)).0 (inr k),
   λ n. elim ((h a s (inr some)).1 n) [
@@ -168,7 +168,7 @@ held_behind x xs entries above h a s some = (
 abbrev spans_held : Section → ℕ
 spans_held section = length section.spans
 
-held_few : (sections : List Section) (entries : List Entry) → AllByRecursion IsByteOnly entries → RisesBy key_of sections → All IsListed sections → AreHeld sections entries
+held_few : (sections : List Section) (entries : List Entry) → AllByRecursion IsByteOnly entries → RisesBy section_authority sections → All IsListed sections → AreHeld sections entries
     → sum_by spans_held sections ≤ sum_by (count_all entries) sections
 held_few [] entries small rise listed h = omega arith
 held_few (x ∷ xs) entries small rise listed h =

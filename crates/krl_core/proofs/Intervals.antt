@@ -219,11 +219,11 @@ length-of_numbers (n ∷ numbers) =
     omega (arith, length-append (serials_between n n) (of_numbers numbers), length-between n n, length-of_numbers numbers)
 
 -- the authority under which an entry names serials
-pub section_authority : Entry → List ℕ
-section_authority (SerialsEntry authority numbers) = authority
-section_authority (RangeEntry authority min max) = authority
-section_authority (BitmapEntry authority offset number) = authority
-section_authority _ = []
+pub entry_authority : Entry → List ℕ
+entry_authority (SerialsEntry authority numbers) = authority
+entry_authority (RangeEntry authority min max) = authority
+entry_authority (BitmapEntry authority offset number) = authority
+entry_authority _ = []
 
 pub intervals_of : Entry → List Span
 intervals_of (SerialsEntry authority numbers) = of_numbers numbers
@@ -253,8 +253,8 @@ length-intervals (KeyEntry blob) = omega arith
 length-intervals (Sha1Entry hash) = omega arith
 length-intervals (Sha256Entry hash) = omega arith
 
-pub names_intervals : (entry : Entry) (a : List ℕ) (s : ℕ) → IsByteOnly entry → NamesAt entry a s → (section_authority entry ≡ a) × Covers (intervals_of entry) s
-unfolding section_authority intervals_of
+pub names_intervals : (entry : Entry) (a : List ℕ) (s : ℕ) → IsByteOnly entry → NamesAt entry a s → (entry_authority entry ≡ a) × Covers (intervals_of entry) s
+unfolding entry_authority intervals_of
 names_intervals (SerialsEntry authority numbers) a s small h = (h.0, named_numbers numbers s h.1.0 h.1.1)
 names_intervals (RangeEntry authority min max) a s small h = (h.0, between_covers min max s h.1.0 h.1.1.0 h.1.1.1)
 names_intervals (BitmapEntry authority offset number) a s small h = (h.0, names_byte offset number s small h.1)
@@ -263,8 +263,8 @@ names_intervals (KeyEntry blob) a s small h = absurd h
 names_intervals (Sha1Entry hash) a s small h = absurd h
 names_intervals (Sha256Entry hash) a s small h = absurd h
 
-pub intervals_name : (entry : Entry) (a : List ℕ) (s : ℕ) → section_authority entry ≡ a → Covers (intervals_of entry) s → NamesAt entry a s
-unfolding section_authority intervals_of
+pub intervals_name : (entry : Entry) (a : List ℕ) (s : ℕ) → entry_authority entry ≡ a → Covers (intervals_of entry) s → NamesAt entry a s
+unfolding entry_authority intervals_of
 intervals_name (SerialsEntry authority numbers) a s e h = (e, numbers_named numbers s h)
 intervals_name (RangeEntry authority min max) a s e h = (e, covers_between min max s h)
 intervals_name (BitmapEntry authority offset number) a s e h = (e, byte_names offset number s h)
