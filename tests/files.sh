@@ -83,7 +83,7 @@ for _ in {1..2000}; do cat g.pub; done >many
 for _ in {1..2000}; do printf %s "$listed"; done >wanted
 expect 'a long listing' 0 "$(cat wanted)"$'\n' '' -l -f many
 
-# cut_off NAME SIZE: the output takes so many times 1,024 bytes and no more, as a file does at the
+# cut_off NAME SIZE: the output takes SIZE times 1,024 bytes and no more, as a file does at the
 # greatest size that is allowed.
 cut_off() {
   local got

@@ -17,7 +17,7 @@ for authority in one two; do
   done
 done
 
-# dense COUNT WIDTH START: so many serials, each one of WIDTH from START on.
+# dense COUNT WIDTH START: COUNT serials, each one of WIDTH from START on.
 dense() {
   local i
   for ((i = 0; i < $1; i++)); do

@@ -11,12 +11,12 @@ use std::io::{self, ErrorKind, Read};
 pub enum Then {
     Ends,
     Fails,
-    /// Gives so many zero bytes, and ends then.
+    /// Gives this many zero bytes, and ends then.
     Zeros(usize),
 }
 
-/// Gives its bytes, at most so many at a call, after so many interruptions. It fails from the call
-/// on that is to fail.
+/// Gives its bytes, at most `piece` at a call, once it was interrupted `interruptions` times. It
+/// fails from the call on that is to fail.
 #[derive(Drop)]
 pub struct Giver<'a> {
     pub bytes: &'a [u8],

@@ -4,8 +4,8 @@ use crate::calls::begin;
 use std::alloc::Global;
 use std::io::{self, Write};
 
-/// Takes at most so many bytes at a call, after so many interruptions. It fails from the call on
-/// that is to fail.
+/// Takes at most `piece` bytes at a call, once it was interrupted `interruptions` times. It fails
+/// from the call on that is to fail.
 #[derive(Drop)]
 pub struct Taker {
     pub taken: Vec<u8>,

@@ -18,11 +18,11 @@ use Rattle.krl_core.proofs.Fronts.{append_same, end_room, end_size, fronts_compa
 use Rattle.krl_core.proofs.Lists.{unfaulted_row}
 use Rattle.krl_core.proofs.SpelledLists.{spelled_unfaulted}
 
--- what may be told of a cut
+-- what may be reported of a cut
 abbrev IsCutFault : Option KrlFault → Type 0
 IsCutFault fault = (fault ≡ None) ⊎ (fault ≡ Some faults.EndsEarly)
 
--- where the field that passes is cut, nothing else is told
+-- where the field that passes is cut, nothing else is reported
 cut_field : (p next : Place) (rest more field after : List ℕ) (fault : Option KrlFault) → Passes p field next → rest ++ more ≡ field ++ after → Told p rest false fault → IsCutFault fault
 cut_field p next rest more field after fault pass e (ended at_end off is) = inl is
 cut_field p next rest more field after fault pass e (no_room full is) = absurd (full pass.room)
@@ -33,7 +33,7 @@ cut_field p next rest more field after fault pass e (refused field' after' why r
 cut_field p next rest more field after fault pass e (too_long room short on is) = absurd (cc (on))
 cut_field p next rest more field after fault pass e (ends_early room short not_end off is) = inr is
 
--- at the end of the list nothing is told but its end
+-- at the end of the list nothing is reported but its end
 cut_end : (p : Place) (rest : List ℕ) (fault : Option KrlFault) → (due p).may_end ≡ true → rest ≡ [] → Told p rest false fault → IsCutFault fault
 cut_end p rest fault may none (ended at_end off is) = inl is
 cut_end p rest fault may none (no_room full is) = absurd (full (end_room p may))

@@ -1,4 +1,4 @@
--- From each place, whatever the bytes are, the fields lead to where something is told.
+-- From each place, whatever the bytes are, the fields lead to where something is reported.
 use Rattle.std.proofs.Common.{◌≡◌, ℕ, zero, suc, ◌+◌, ◌*◌, ◌<◌, ◌≤◌, ◌⊎◌, Bool, true, false, ltb, List, [], ◌∷◌, ◌++◌, length, take, drop, Option, Some, None, Ok, refl, sym, ap, arith, inl, inr, ◌∙◌}
 use Rattle.std.specs.Prelude.{IfSome}
 use Rattle.std.proofs.lemmas.Bool.{cases_lt, cases_Bool, false≢true}
@@ -18,7 +18,7 @@ room_or_not : (size : ℕ) (room : Option ℕ) → IfSome room (λ left. size �
 room_or_not size None = inl tt
 room_or_not size (Some left) = elim (cases_lt left size) [ inl lt ↦ inr (λ h. absurd (omega arith)) | inr le ↦ inl le ]
 
--- what is told where the bytes that came are less than the field
+-- what is reported where the bytes that came are less than the field
 pub end_or_early : (p : Place) (rest : List ℕ) → HasRoom (due p) → length rest < (due p).size → Told p rest false None ⊎ Told p rest false (Some faults.EndsEarly)
 end_or_early p [] room short =
     elim (cases_Bool (due p).may_end) [
@@ -27,7 +27,7 @@ end_or_early p [] room short =
     ]
 end_or_early p (x ∷ rest) room short = inr (ends_early room short (λ at. let none = at.1 in absurd cc) refl refl)
 
--- a field that is not whole is told
+-- a field that is not whole is reported
 short_told : (p : Place) (rest : List ℕ) (goes_on : Bool) → HasRoom (due p) → length rest < (due p).size → (fault : Option KrlFault) × Told p rest goes_on fault
 short_told p rest true room short = (Some faults.TooLong, too_long room short refl refl)
 short_told p rest false room short = elim (end_or_early p rest room short) [ inl end ↦ (None, end) | inr early ↦ (Some faults.EndsEarly, early) ]

@@ -11,7 +11,7 @@ use Rattle.krl_core.specs.Reading.{is_fixed}
 use Rattle.krl_core.proofs.Judged.{done, same_place}
 use Rattle.ssh_wire.specs.Steps.{passed_ok}
 
--- from a place on, the fields that lead past the first ones have so many bytes
+-- from a place on, the fields that lead past the first ones have at least this many bytes
 abbrev pub Needs : Place → ℕ → Type 0
 Needs place size = (spot : Spot) → spot.place ≡ place → (fields : List (List ℕ)) (last : Spot) → Leads spot fields last
     → is_fixed last.place ≡ false → size ≤ length (concat fields)

@@ -1,4 +1,4 @@
--- Fronts of one text: one begins the other, the longest is one, and what is told after it is one.
+-- Fronts of one text: one begins the other, the longest is one, and what is reported there is one.
 use Rattle.std.proofs.Common.{◌≡◌, ℕ, ◌<◌, Bool, true, false, ltb, List, [], ◌∷◌, ◌++◌, length, take, drop, Option, Some, None, Result, Ok, Err, refl, sym, ap, subst, ◌∙◌, append_assoc, arith, inl, inr, ◌⊎◌}
 use Rattle.std.specs.List.{concat}
 use Rattle.std.proofs.lemmas.List.{append-nil, length-append}
@@ -68,7 +68,7 @@ pub end_room : (p : Place) → (due p).may_end ≡ true → HasRoom (due p)
 end_room (SectionType signed) e = tt
 end_room _ e = absurd (cc)
 
--- where something is told, no next field passes
+-- where something is reported, no next field passes
 pub blocked : (p next : Place) (rest field after : List ℕ) (goes_on : Bool) (fault : Option KrlFault) → Told p rest goes_on fault
     → HasRoom (due p) → length field ≡ (due p).size → (due p).judged field ≡ Ok next → rest ≡ field ++ after → ⊥
 blocked p next rest field after goes_on fault (ended at off is) room size judged e =
@@ -106,7 +106,7 @@ first_fault_is text fault h =
     let front : IsFront text h.walks.fields h.last h.rest = record { leads = h.walks.leads; parts = h.walks.parts } in
     record { fields = h.walks.fields; spot = h.last; rest = h.rest; front = is_longest text h.walks.fields h.last h.rest (ltb limit (length text)) fault front h.told; told = h.told }
 
--- ---- what is told is one
+-- ---- what is reported is one
 
 ended_only : (p : Place) (rest : List ℕ) (goes_on : Bool) (fault : Option KrlFault) → IsEnd p rest → goes_on ≡ false → Told p rest goes_on fault → None ≡ fault
 ended_only p rest goes_on fault at off (ended at' off' is) = sym is

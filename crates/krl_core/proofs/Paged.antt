@@ -157,7 +157,7 @@ first_at [] n d h = absurd (omega arith)
 first_at (page ∷ pages) zero d h = refl
 first_at (page ∷ pages) (suc n) d h = first_at pages n d (omega arith)
 
--- behind the last page there is nothing
+-- after the last page there is nothing
 pub first_past : {X : Type 0} (pages : List (Page X)) (n : ℕ) → length pages ≤ n → first_items (drop n pages) ≡ []
 first_past [] zero h = refl
 first_past [] (suc n) h = refl

@@ -129,7 +129,8 @@ pub record FromCertificates (K : Type 0) (left : ℕ) (bytes : List ℕ) (more :
   pub named : NamesSame more (flat_map (subsection_entries authority) subsections ++ others)
   pub then_is : FromSections false K rest others
 
--- the content of a subsection as a string, where so many bytes are left of the section, and what follows it
+-- the content of a subsection as a string, with this many bytes left of the section, and what
+-- follows it
 pub record FromPart (K : Type 0) (a : List ℕ) (type_byte left : ℕ) (bytes : List ℕ) (more : List Entry) : Type 0 where
   pub subsection : Subsection
   pub content : List ℕ

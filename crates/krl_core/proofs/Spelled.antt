@@ -53,7 +53,7 @@ content_goes p q r content rest room size fits judged w =
     (goes_then p q r (number 4 (length content) ++ (content ++ rest)) (content ++ rest) rest
     (goes_one p q (number 4 (length content)) (content ++ rest) room (length-number 4 (length content) ∙ sym size) (judged (number 4 (length content)) (number_again4 (length content) fits))) w)
 
--- a length that fits is judged by what follows
+-- a length that fits is checked by what follows
 pub within_is : (left : ℕ) (next : ℕ → Result Place KrlFault) (size n : ℕ) → size ≡ n → n ≤ left - 4 → within left next size ≡ next n
 within_is left next size n e le =
     let f : ltb (left - 4) size ≡ false = le-ltb (left - 4) size (omega arith) in

@@ -112,7 +112,7 @@ group_spelled sorts.Range runs r h c =
     record { content = content_of sorts.Range runs; spelled = refl; fits = content_few sorts.Range runs c; content_is = (refl, fits.0, fits.1) }
 group_spelled sorts.Bitmap runs r h c = record { content = content_of sorts.Bitmap runs; spelled = refl; fits = content_few sorts.Bitmap runs c; content_is = bitmap_spelled runs r h }
 
--- ---- one item behind another
+-- ---- one item after another
 
 pub each_append : {X : Type 0} (Spelling : List ℕ → X → Type 0) (a b : List ℕ) (xs ys : List X) → SpellsEach Spelling a xs → SpellsEach Spelling b ys → SpellsEach Spelling (a ++ b) (xs ++ ys)
 each_append Spelling a b [] ys p q = subst (λ (t : List ℕ). SpellsEach Spelling (t ++ b) ys) (sym p) q

@@ -16,7 +16,7 @@ module _ {X : Type 0} (key : X → List ℕ) where
   back_rises : (pages : List (Page X)) (n at : ℕ) → RisesBy key (joined pages) → RisesBy key (back_of pages n at)
   back_rises pages n at r = rises_right key (front_of pages n at) (back_of pages n at) (subst (RisesBy key) (cut_at key pages n at) r)
 
-  -- nothing stands from a spot behind all pages on
+  -- nothing stands from a spot after all pages on
   pub absent_past : (pages : List (Page X)) (bytes : List ℕ) (n at : ℕ) → length pages ≤ n → IsSpot key pages bytes n at → Contains (map key (joined pages)) bytes → ⊥
   absent_past pages bytes n at past spot m =
       let later : length pages ≤ n + 1 = omega arith in

@@ -54,7 +54,7 @@ ahead_some p rest left some none = ahead_left p.ahead p.source rest p refl refl 
 
 -- ---- the front that was read
 
--- what is told at the place that was reached is the first fault
+-- what is reported at the place that was reached is the first fault
 pub told_there : (text : List ℕ) (fields : List (List ℕ)) (p : Position) (h : HasRead text fields p) (fault : Option KrlFault)
     → length (concat fields) ≤ limit
     → Told p.place (take (limit - length (concat fields)) h.rest) (ltb limit (length text)) fault → IsFirstFault text fault

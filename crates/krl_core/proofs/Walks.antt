@@ -1,4 +1,4 @@
--- Going from field to field, and what is told where that ends.
+-- Going from field to field, and what is reported where that ends.
 use Rattle.std.proofs.Common.{◌≡◌, ℕ, Bool, List, [], ◌∷◌, ◌++◌, Option, refl, sym, ap, subst, ◌∙◌, append_assoc}
 use Rattle.std.specs.List.{concat}
 use Rattle.std.proofs.lemmas.List.{append-nil}
@@ -13,7 +13,7 @@ pub record Walks (spot : Spot) (bytes : List ℕ) (last : Spot) (rest : List ℕ
   pub leads : Leads spot fields last
   pub parts : bytes ≡ concat fields ++ rest
 
--- it leads to a place where this is told
+-- it leads to a place where this is reported
 pub record EndsTold (spot : Spot) (bytes : List ℕ) (goes_on : Bool) (fault : Option KrlFault) : Type 0 where
   pub last : Spot
   pub rest : List ℕ

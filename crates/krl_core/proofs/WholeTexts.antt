@@ -1,4 +1,4 @@
--- A whole list, put part behind part.
+-- A whole list, put part after part.
 use Rattle.std.proofs.Common.{◌≡◌, ℕ, ◌+◌, ◌<◌, ◌≤◌, List, [], ◌∷◌, ◌++◌, length, Err, refl, ap, ◌∙◌, arith, append_assoc, length-append}
 use Rattle.ssh_wire.specs.Wire.{number, string}
 use Rattle.krl_core.specs.Front.{limit}
@@ -38,7 +38,7 @@ header_front header o a b c d e f ha hb hc hd he hf =
     let whole = ap length (header_put header o a b c d e f (f ++ string header.comment) ha hb hc hd he hf refl) in
     omega (arith, length-append f (string header.comment), length-append o (header_text header 0 []))
 
--- what is put behind nothing
+-- what is put after nothing
 pub behind_none : (out new text : List ℕ) → out ≡ [] → new ≡ out ++ text → new ≡ text
 behind_none out new text none e = e ∙ ap (λ (t : List ℕ). t ++ text) none
 

@@ -10,7 +10,7 @@ use Rattle.krl_core.specs.declared.place.Place.TheVariants.{Magic}
 use Rattle.krl_core.specs.Entry.{Entry}
 use Rattle.krl_core.specs.Place.{Due, due, names, authority_after, header_after}
 
--- at most so many bytes of a list are read
+-- at most this many bytes of a list are read
 abbrev pub limit : ℕ
 limit = 67108864
 
@@ -73,13 +73,13 @@ pub record IsLongestFront (text : List ℕ) (fields : List (List ℕ)) (spot : S
 abbrev pub IsEnd : Place → List ℕ → Type 0
 IsEnd place rest = ((due place).may_end ≡ true) × (rest ≡ [])
 
--- What is told at the end of a longest front: at this place, with this rest up to the limit, past
--- which the text may go on. `None` is told where the list ends as it should.
+-- What is reported at the end of a longest front: at this place, with this rest up to the limit,
+-- past which the text may go on. `None` is reported where the list ends as it should.
 pub data Told (place : Place) (rest : List ℕ) (goes_on : Bool) (fault : Option KrlFault)
     : Type 0 where
   -- the end of the text is due, and is there
   ended : IsEnd place rest → goes_on ≡ false → fault ≡ None → Told place rest goes_on fault
-  -- what is left cannot hold the field: told before any of its bytes
+  -- what is left cannot hold the field: reported before any of its bytes
   no_room : (HasRoom (due place) → ⊥) → fault ≡ Some faults.Length → Told place rest goes_on fault
   -- the field is whole within the limit, and refused
   refused : (field after : List ℕ) (why : KrlFault) → HasRoom (due place) → rest ≡ field ++ after
@@ -92,7 +92,7 @@ pub data Told (place : Place) (rest : List ℕ) (goes_on : Bool) (fault : Option
   ends_early : HasRoom (due place) → length rest < (due place).size → (IsEnd place rest → ⊥)
       → goes_on ≡ false → fault ≡ Some faults.EndsEarly → Told place rest goes_on fault
 
--- The first fault of a text, told after its longest front.
+-- The first fault of a text, reported after its longest front.
 pub record IsFirstFault (text : List ℕ) (fault : Option KrlFault) : Type 0 where
   pub fields : List (List ℕ)
   pub spot : Spot

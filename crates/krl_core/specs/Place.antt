@@ -34,8 +34,8 @@ use Rattle.krl_core.specs.Entry.{Sha1Entry, Sha256Entry}
 use Rattle.krl_core.specs.Krl.{magic}
 
 -- A field that is due: how many bytes it has; how many bytes what it stands in has left for it,
--- where it stands in something and no length before it has told; whether the list may end in its
--- place; and what the whole field is judged to be: the place after it, or why it is refused.
+-- where it stands in something and no length before it has said how many; whether the list may end
+-- in its place; and what the whole field is judged to be: the place after it, or why it is refused.
 pub record Due : Type 0 where
   pub size : ℕ
   pub room : Option ℕ

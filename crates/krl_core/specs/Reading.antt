@@ -105,7 +105,7 @@ abbrev pub Refused : KrlFault → Position → Pulled → Type 0
 Refused fault old new =
     (text : List ℕ) (fields : List (List ℕ)) → HasRead text fields old → Says fault text new.failed
 
--- what a fault of a reader is told as
+-- what a fault of a reader is reported as
 abbrev pub told_as : PullFault → KrlFault
 told_as pulls.EndsEarly = EndsEarly
 told_as pulls.TooLong = TooLong

@@ -5,7 +5,7 @@ use Rattle.krl_plan.specs.declared.group.Group.{Group}
 use Rattle.krl_core.specs.Contents.{Contents, Section}
 use Rattle.krl_plan.specs.Plan.{cost}
 
--- strings one behind the other, each with four bytes of length
+-- strings one after the other, each with four bytes of length
 abbrev pub strings_size : List (List ℕ) → ℕ
 strings_size [] = 0
 strings_size (text ∷ texts) = 4 + length text + strings_size texts
@@ -15,7 +15,7 @@ abbrev pub listed_size : List (List ℕ) → ℕ
 listed_size [] = 0
 listed_size (text ∷ texts) = 5 + strings_size (text ∷ texts)
 
--- a type byte, a length and hashes that take so many bytes each, where there are any
+-- a type byte, a length and hashes that take this many bytes each, where there are any
 abbrev pub hashes_size : ℕ → List (List ℕ) → ℕ
 hashes_size each [] = 0
 hashes_size each (hash ∷ hashes) = 5 + each * length (hash ∷ hashes)

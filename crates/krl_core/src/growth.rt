@@ -45,7 +45,7 @@ impl<T> Page<T> {
     }
 }
 
-// Puts a value behind all others.
+// Puts a value after all others.
 fn put_last<T: Keyed>(alloc: Global, pages: &mut Vec<Page<T>>, value: T) -> Result<Spot, AllocError>
     ensures ok { OnOk result (joined pages.new.items ≡ joined pages.old.items ++ value ∷ []) }
     ensures err { OnErr result (joined pages.new.items ≡ joined pages.old.items) }

@@ -24,10 +24,10 @@ use ssh_wire::{Pull, PullFault, Source};
 use std::alloc::Global;
 use std::marker::Model;
 
-/// At most so many bytes of a list are read.
+/// At most this many bytes of a list are read.
 pub const LIMIT: u64 = 67_108_864;
 
-// Fields of at most so many bytes take no memory: numbers, lengths and hashes.
+// Fields of at most this many bytes take no memory: numbers, lengths and hashes.
 const SMALL: usize = 32;
 
 /// A list that is read from a reader in one pass. No more of its bytes is held than the field at
@@ -140,7 +140,7 @@ impl<S: Spans, R: Source + Drop> Reading<S, R> {
     }
 }
 
-// What a fault of the reader is told as.
+// What a fault of the reader is reported as.
 fn told(fault: PullFault) -> KrlFault
     ensures { result ≡ told_as fault }
 {

@@ -81,7 +81,7 @@ impl<T: Keyed> Rows<T> {
         ensures ok { IfOk result (λ mark. AddsNew T.key mark self.old value self.new) }
         ensures err { OnErr result (self.new ≡ self.old) }
     {
-        // No machine has memory for so many.
+        // No machine has memory for that many.
         if self.count == usize::MAX {
             return Err(AllocError);
         }

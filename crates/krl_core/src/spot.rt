@@ -7,7 +7,7 @@ use crate::keyed::Keyed;
 use crate::page::{Page, compare, count_below};
 use std::cmp::Ordering;
 
-/// A page, and a spot in it. Behind all values it is the spot 0 behind the last page.
+/// A page, and a spot in it. After all values it is the spot 0 after the last page.
 #[derive(Clone, Copy, Debug)]
 pub(crate) struct Spot {
     pub page: usize,

@@ -66,7 +66,7 @@ fn add_text<'a, S: Spans>(
     }
 }
 
-/// Where memory runs out, it is for the run itself, and no line is told.
+/// Where memory runs out, it is for the run itself, and no line is named.
 fn cause_stop<'a>(name: &'a str, fault: SpecFault) -> RunFault<'a>
     ensures { result ≡ cause_stop name.now fault.line fault.cause }
 {

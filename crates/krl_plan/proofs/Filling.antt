@@ -162,7 +162,7 @@ front_best more costs window runs cell f r b =
           subst (λ (n : ℕ). Wins cell (record { cost = n; group = other })) (front_cost costs window runs other f.is_front (IsGroup.within there)) (b.wins other there);
     }
 
--- the window and the runs behind some first ones
+-- the window and the runs after some first ones
 pub front_drop : (more n : ℕ) (window runs : List Span) → IsFront more window runs → n ≤ more → IsFront 0 (drop n window) (drop n runs)
 front_drop more n window runs f le =
     let len = length-drop n window in
@@ -180,7 +180,7 @@ front_drop more n window runs f le =
       enough = elim f.enough [ inl same ↦ inl (omega arith) | inr large ↦ inr (omega arith) ];
     }
 
--- the window of some runs and of those behind them
+-- the window of some runs and of those after them
 pub window_front : (spans window : List Span) (from some end : ℕ) → some ≤ from → from ≤ length spans → end ≡ from + min (length spans - from) 1024
     → window ≡ take (end - (from - some)) (drop (from - some) spans) → IsFront some window (drop (from - some) spans)
 window_front spans window from some end le within e is =

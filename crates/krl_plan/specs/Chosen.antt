@@ -1,4 +1,4 @@
--- The best groups, one behind the other, are the least plan.
+-- The best groups, one after the other, are the least plan.
 use Rattle.std.proofs.Common.{◌≡◌, ℕ, zero, suc, ◌+◌, ◌-◌, ◌*◌, ◌<◌, ◌≤◌, inl, inr, List, [], ◌∷◌}
 use Rattle.std.proofs.Common.{length, take, drop, refl, sym, ap, subst, ◌∙◌, arith}
 use Rattle.std.proofs.lemmas.Bool.{cases_lt}
@@ -57,7 +57,7 @@ group_few runs group r g =
 
 -- ---- plans
 
--- the cost of what is behind each group is known
+-- the cost of what follows each group is known
 abbrev pub Rests : List ℕ → List Span → Type 0
 Rests costs runs = (count : ℕ) → 0 < count → count ≤ length runs → count ≤ 1024 → IsLeastCost
     (drop count runs) (rest_cost costs count)
@@ -113,7 +113,7 @@ group_one a b e f =
     let made : Sort → ℕ → Group = λ s n. record { sort = s; count = n } in
     ap (λ (s : Sort). made s a.count) (place_one a.sort b.sort e) ∙ ap (made b.sort) f
 
--- what is behind the first group of a cheapest plan is a cheapest plan
+-- what follows the first group of a cheapest plan is a cheapest plan
 tail_cheapest : (runs : List Span) (group : Group) (groups : List Group)
     → IsCheapest runs (group ∷ groups) → IsCheapest (drop group.count runs) groups
 tail_cheapest runs group groups c = record {

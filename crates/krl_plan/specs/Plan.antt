@@ -52,7 +52,7 @@ group_cost runs group = bytes_of group.sort (take group.count runs)
 
 -- ---- plans
 
--- the groups name the runs, one group behind the other
+-- the groups name the runs, one group after the other
 abbrev pub IsPlan : List Span → List Group → Type 0
 IsPlan runs [] = length runs ≡ 0
 IsPlan runs (group ∷ groups) = IsGroup runs group × IsPlan (drop group.count runs) groups

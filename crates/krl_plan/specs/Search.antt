@@ -14,11 +14,11 @@ abbrev pub IsAtOrBefore : Group → Group → Type 0
 IsAtOrBefore a b =
     (place a.sort < place b.sort) ⊎ ((place a.sort ≡ place b.sort) × (b.count ≤ a.count))
 
--- the one costs less, or as much with a group that is not behind the other's
+-- the one costs less, or as much with a group that does not come after the other's
 abbrev pub Wins : Cell → Cell → Type 0
 Wins a b = (a.cost < b.cost) ⊎ ((a.cost ≡ b.cost) × IsAtOrBefore a.group b.group)
 
--- what the runs behind the first `count` ones cost at least, where the costs end with those of all
+-- what the runs after the first `count` ones cost at least, where the costs end with those of all
 -- but the first run
 abbrev pub rest_cost : List ℕ → ℕ → ℕ
 rest_cost costs count = slice_index costs (length costs - count)
@@ -35,7 +35,7 @@ pub record IsCandidate (costs : List ℕ) (runs : List Span) (cell : Cell) : Typ
   pub is_group : IsGroup runs cell.group
   pub cost_is : cell.cost ≡ cost_with costs runs cell.group
 
--- the cell wins against the groups of a sort with at most so many runs
+-- the cell wins against the groups of a sort with at most this many runs
 abbrev pub Beats : List ℕ → List Span → Sort → ℕ → Cell → Type 0
 Beats costs runs sort most cell =
     (count : ℕ) → count ≤ most → IsGroup runs (record { sort = sort; count = count })
@@ -50,13 +50,13 @@ pub record IsBest (costs : List ℕ) (runs : List Span) (cell : Cell) : Type 0 w
 abbrev pub AreSmall : List ℕ → Type 0
 AreSmall costs = (k : ℕ) → slice_index costs k < 2 ^ 100
 
--- The costs are small, and those of what is behind each group at the front of the runs are there.
+-- The costs are small, and those of what follows each group at the front of the runs are there.
 pub record CanSearch (costs : List ℕ) (runs : List Span) : Type 0 where
   pub rising : IsRuns runs
   pub small : AreSmall costs
   pub enough : min (length runs) 1024 ≤ length costs
 
--- the best of a cell and of the groups of a sort with at most so many runs
+-- the best of a cell and of the groups of a sort with at most this many runs
 pub record IsBestOf (costs : List ℕ) (runs : List Span) (sort : Sort) (most : ℕ) (old best : Cell)
     : Type 0 where
   pub candidate : IsCandidate costs runs best
@@ -70,7 +70,7 @@ pub record IsLeastCost (runs : List Span) (least : ℕ) : Type 0 where
   pub below : (plan : List Group) → IsPlan runs plan → least ≤ cost runs plan
   pub reached : (plan : List Group) × (IsPlan runs plan × (cost runs plan ≡ least))
 
--- Whatever least plan goes on behind the group, with the group it is the least plan of the runs.
+-- Whatever least plan goes on after the group, with the group it is the least plan of the runs.
 abbrev pub IsFirst : List Span → Group → Type 0
 IsFirst runs group =
     (rest : List Group) → IsLeastPlan (drop group.count runs) rest → IsLeastPlan runs (group ∷ rest)

@@ -12,7 +12,7 @@ use Rattle.krl_plan.specs.Plan.{reach}
 
 -- ---- serials
 
--- so many serials, from the first on
+-- this many serials, from the first on
 abbrev pub serials_from : ℕ → ℕ → List ℕ
 serials_from first zero = []
 serials_from first (suc count) = first ∷ serials_from (first + 1) count
@@ -31,14 +31,14 @@ abbrev pub has : List Span → ℕ → Bool
 has [] serial = false
 has (run ∷ runs) serial = (nat_le run.lo serial && nat_le serial run.hi) || has runs serial
 
--- the number, of so many bits, whose bit N says whether the runs have the serial that is N above
+-- the number, of this many bits, whose bit N says whether the runs have the serial that is N above
 -- the first
 abbrev pub bits_of : List Span → ℕ → ℕ → ℕ
 bits_of runs first zero = 0
 bits_of runs first (suc count) =
     (if has runs first then 1 else 0) + 2 * bits_of runs (first + 1) count
 
--- the bits of so many bytes, the highest byte first
+-- the bits of this many bytes, the highest byte first
 abbrev pub bitmap_of : List Span → ℕ → ℕ → List ℕ
 bitmap_of runs first zero = []
 bitmap_of runs first (suc size) = bits_of runs (first + 8 * size) 8 ∷ bitmap_of runs first size

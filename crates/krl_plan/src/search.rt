@@ -17,7 +17,7 @@ pub(crate) const MOST: usize = 1024;
 const FARTHEST: u64 = 2047;
 
 // The group that a least plan of the runs begins with, and the cost of that plan. The costs end
-// with what the runs behind the first one cost at least.
+// with what the runs after the first one cost at least.
 pub(crate) fn best(runs: &[Span], costs: &[u128]) -> Cell
     requires some { 0 < length runs.now }
     requires search { CanSearch costs.now runs.now }
@@ -35,7 +35,7 @@ pub(crate) fn best(runs: &[Span], costs: &[u128]) -> Cell
     best_bitmap(runs, costs, some, listed)
 }
 
-// What the runs behind the first `count` ones cost at least.
+// What the runs after the first `count` ones cost at least.
 fn cost_behind(costs: &[u128], count: usize) -> u128
     requires some { 0 < count }
     requires within { count ≤ length costs.now }
@@ -86,7 +86,7 @@ fn best_bitmap(runs: &[Span], costs: &[u128], most: usize, best: Cell) -> Cell
     best
 }
 
-// A group of so many bytes, and what it costs with what comes behind it.
+// A group of this many bytes, and what it costs with what comes after it.
 fn cell_of(sort: Sort, count: usize, bytes: u128, costs: &[u128]) -> Cell
     requires some { 0 < count }
     requires within { count ≤ length costs.now }

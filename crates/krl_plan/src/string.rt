@@ -6,7 +6,7 @@ ghost use Rattle.ssh_wire.specs.Wire.{string};
 
 use byteorder::{BigEndian, ByteOrder};
 
-/// Makes a string of the bytes behind a place: four bytes at the place get the length.
+/// Makes a string of the bytes after a place: four bytes at the place get the length.
 #[tactic(auto, unfolding(ssh_wire::specs::Wire::string, ssh_wire::specs::Wire::number))]
 pub fn end_string(out: &mut Vec<u8>, at: usize)
     requires within { at + 4 ≤ vec_len out.old }

@@ -43,7 +43,7 @@ dump_stops {A} {B} name dump files known stop old new working first =
     carries_then (Passed name ∷ []) (contents_items name dump known ++ files_items (ask known.contents) files) tt (Err stop) old old new (carries_passed name old working)
     (carries_more {A = A} {B = B} (contents_items name dump known) (files_items (ask known.contents) files) stop old new first)
 
--- The list's fault, or a want of memory, ended the run before anything was said.
+-- The run ended before anything was said: the list had a fault, or memory ran out.
 pub refused_run : (name : List ℕ) (dump : Bool) (files : List File) (fault : KrlFault) (now : Printed) → now.failed ≡ false
     → Carries {A = Unit {0}} (query_run_of name (Err fault) dump files) (Err (stop_of name (krl_cause fault))) now now
 unfolding query_run_of

@@ -44,7 +44,7 @@ cut_of_front run said later before after count parts unstopped cut =
 told_count-more : (a b : ℕ) → told_count (told_count a + b) ≡ told_count (a + b)
 told_count-more a b = omega arith
 
--- An answer waits behind what was said.
+-- An answer waits after what was said.
 pub added : (before : Option (List ℕ)) (said : List Item) (name : List ℕ) (answer : Answer) (old : Printed)
     → HasAdded before said old → HasAdded before (said ++ Answered name answer ∷ []) (and_answer old answer)
 added before said name answer old has =

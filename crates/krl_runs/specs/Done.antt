@@ -7,14 +7,14 @@ use Rattle.krl_runs.specs.Run.{Item, name_of, outcome_of, status_of}
 use Rattle.krl_runs.specs.Stop.{Stop, Ender, ByOutput, ByMemory, ByInput, ender_of, output_stop}
 use Rattle.krl_runs.specs.Stop.{stop_of}
 
--- All of the run's text was taken, and the run's own end is told.
+-- All of the run's text was taken, and the run's own end is reported.
 pub record IsWhole (run : List Item) (before after : Option (List ℕ)) (failed : Bool)
     (stop : Option Stop) : Type 0 where
   pub told : (outcome_of run).stop ≡ stop
   pub taken : Appends before after (outcome_of run).text
   pub working : failed ≡ false
 
--- The writer failed after so many bytes of the run's text.
+-- The writer failed after this many bytes of the run's text.
 pub record IsCutOff (run : List Item) (before after : Option (List ℕ)) (failed : Bool)
     (stop : Stop) (count : ℕ) : Type 0 where
   pub named : stop ≡ output_stop count

@@ -13,7 +13,7 @@ use Rattle.krl_runs.specs.declared.input.file_fault.FileFault.TheVariants.{NoCer
 abbrev pub file_limit : ℕ
 file_limit = 16777216
 
--- what is told of a file that could not be taken whole
+-- what is reported of a file that could not be taken whole
 abbrev pub file_fault : PullFault → FileFault
 file_fault pulls.EndsEarly = Read
 file_fault pulls.TooLong = TooLong

@@ -35,7 +35,7 @@ and_answer old answer =
 abbrev pub chunk : ℕ
 chunk = 65536
 
--- a count of bytes as it is told: one past 2^64-1 as that number
+-- a count of bytes as it is reported: one past 2^64-1 as that number
 abbrev pub told_count : ℕ → ℕ
 told_count count = min count (2 ^ 64 - 1)
 

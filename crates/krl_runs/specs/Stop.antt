@@ -60,13 +60,13 @@ fault_line stop =
 abbrev pub stop_of : List ℕ → Cause → Stop
 stop_of name cause = record { name = name; line = None; cause = cause }
 
--- The output failed after so many bytes. It has no line.
+-- The output failed after this many bytes. It has no line.
 abbrev pub output_stop : ℕ → Stop
 output_stop count = stop_of (codes "output") (Output count)
 
 -- what ended a run before its end
 pub data Ender : Type 0 where
-  -- the output, after so many bytes
+  -- the output, after this many bytes
   ByOutput : ℕ → Ender
   -- memory, which ran out
   ByMemory : Ender

@@ -83,7 +83,7 @@ pub fn containers_by_what_is_spelled()
     asked_where_spelled();
 }
 
-/// In a run over certificates, the certificate of a line is listed behind the file's name and the
+/// In a run over certificates, the certificate of a line is listed after the file's name and the
 /// line's number, and nothing else is answered.
 pub fn certificates_by_what_is_spelled()
     ensures listed { (hash : Hash) (moment : ℕ) (name : List ℕ) (number : ℕ)

@@ -33,8 +33,8 @@ abbrev pub Tells : {A : Type 0} → SpecCause → Result A SpecCause → Type 0
 Tells causes.NoMemory read = MayStarve read
 Tells cause read = read ≡ Err cause
 
--- What was read is added, and what is stored grows in a stated way. Else the cause is told, and
--- nothing changed.
+-- What was read is added, and what is stored grows in a stated way. Else the cause is reported,
+-- and nothing changed.
 abbrev pub Adds : {A : Type 0} → (Contents → Contents → Type 0) → Result Entry SpecCause
     → Result A SpecCause → Contents → Contents → Type 0
 Adds Stores read (Ok done) old new =

@@ -45,7 +45,7 @@ pub record StarvesAt (authority : Option (List ℕ)) (lines : List (List ℕ)) (
   pub faultless : (lines_from authority 1 before).fault ≡ None
   pub adds : MeansMore old new (lines_from authority 1 before).entries
 
--- What the lines name up to the first fault was added, and the fault is told.
+-- What the lines name up to the first fault was added, and the fault is reported.
 abbrev pub StopsAt : Option (List ℕ) → List ℕ → ℕ → SpecCause → Contents → Contents → Type 0
 StopsAt authority text number NoMemory old new =
     StarvesAt authority (slice_split is_newline text) number old new

@@ -7,7 +7,7 @@ use Rattle.krl_core.specs.Contents.{Contents, IsStoredWithin}
 abbrev pub bytes_under : Option (List ℕ) → List ℕ
 bytes_under authority = unwrap_or authority []
 
--- At most so many bytes more are stored, the authority at hand counted once.
+-- At most this many bytes more are stored, the authority at hand counted once.
 abbrev pub GrowsUnder : List ℕ → ℕ → Contents → Contents → Type 0
 GrowsUnder authority size old new =
     (n : ℕ) → IsStoredWithin authority old n → IsStoredWithin authority new (n + size)

@@ -10,7 +10,7 @@ use std::io::BufReader;
 /// How many bytes of a list are read ahead.
 const BUFFER: usize = 65_536;
 
-/// The list of this name, behind a buffer: it is read a field at a time.
+/// The list of this name, with a buffer, since it is read a field at a time.
 pub fn open_list(rt: &HostRuntime, name: &str) -> Result<BufReader<File>, Cause> {
     let Ok(file) = fs::open(rt, name) else {
         return Err(Cause::File(FileFault::Open));

@@ -189,7 +189,7 @@ fn end(rt: &HostRuntime, done: &Done) -> u8
     done.status
 }
 
-/// Prints a line on standard error. A fault of standard error cannot be told.
+/// Prints a line on standard error. A fault of standard error cannot be reported.
 fn tell(rt: &HostRuntime, line: &[u8]) {
     let mut err = ToWrite::new(rt.stderr());
     if send(&mut err, line).is_ok() {

@@ -3,7 +3,7 @@
 use crate::spelled::{joined, strings};
 use std::alloc::{AllocError, Global};
 
-/// The fields of a container behind the name of its format.
+/// The fields of a container after the name of its format.
 #[derive(Drop)]
 pub struct Parts<'a> {
     pub cipher: &'a [u8],

@@ -10,7 +10,7 @@ use Rattle.serial_set.specs.BitRuns.{BitNames, IsInterval, IsInStep}
 use Rattle.serial_set.specs.Rising.{RunsFrom-weaker, runs_at, names_at}
 use Rattle.serial_set.specs.Bits.{bit_below}
 
--- the pending run begins at n and the others rise behind it; with none pending they rise from past n
+-- the pending run begins at n and the others rise after it; with none pending they rise from past n
 abbrev pub OnFrom : ℕ → Option Span → List Span → Type 0
 OnFrom n None rest = RunsFrom (n + 1) rest
 OnFrom n (Some run) rest = (run.lo ≡ n) × (0 < run.lo) × RunsFrom n (run ∷ rest)

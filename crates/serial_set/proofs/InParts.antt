@@ -98,7 +98,7 @@ rest_after f some (x ∷ xs) n at lo r within ends is =
           subst (λ l. All (λ t. lo ≤ t.lo) (flat_map f l)) (sym none) (All-nil (λ t. lo ≤ t.lo)))
     ]
 
--- ---- one part in place of another, and one behind it
+-- ---- one part in place of another, and one after it
 
 pub flat_set : {X : Type 0} (f : X → List Span) (xs : List X) (at : ℕ) (y : X) → at < length xs → flat_map f (set xs at y) ≡ flat_map f (take at xs) ++ (f y ++ flat_map f (drop (at + 1) xs))
 flat_set f xs at y h =

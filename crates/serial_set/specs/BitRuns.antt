@@ -72,7 +72,7 @@ pub record Feeds (before : FedBitmap) (byte : ℕ) (after : FedBitmap) (finished
   pub ends : All (λ run. ¬ SpanCovers run (lowest after)) finished
   pub four_more : length (runs_after after finished) ≤ length (option_to_list before.pending) + 4
 
--- so many bytes, fed one after the other, lead from one state to another and finish these runs
+-- these bytes, fed one after the other, lead from one state to another and finish these runs
 abbrev pub FeedsAll : FedBitmap → List ℕ → FedBitmap → List Span → Type 0
 FeedsAll before [] after finished = (after ≡ before) × (finished ≡ [])
 FeedsAll before (byte ∷ bytes) after finished =

@@ -13,7 +13,7 @@ same_span : (x y : Span) → x.lo ≡ y.lo → x.hi ≡ y.hi → x ≡ y
 same_span x y p q =
     ap (λ (n : ℕ). record { lo = n; hi = x.hi }) p ∙ ap (λ (n : ℕ). record { lo = y.lo; hi = n }) q
 
--- the number behind the first span is not named
+-- the number after the first span is not named
 gap : (a : ℕ) (x : Span) (xs : List Span) → RunsFrom a (x ∷ xs) → Covers (x ∷ xs) (x.hi + 1) → ⊥
 gap a x xs r n =
     elim n [

@@ -38,7 +38,7 @@ IsFirstFrom spans number (Some span) =
     (front : List Span) × ((rest : List Span) × ((spans ≡ front ++ span ∷ rest)
     × All (λ t. t.hi < number) front × (number ≤ span.hi)))
 
--- so many spans end before a number
+-- this many spans end before a number
 pub record IsCountBefore (spans : List Span) (number count : ℕ) : Type 0 where
   pub within : count ≤ length spans
   pub before : All (λ t. t.hi < number) (take count spans)
@@ -69,6 +69,6 @@ flat_some f some [] h = absurd (omega arith)
 flat_some f some (x ∷ xs) h =
     let this = some x in omega (arith, length-append (f x) (flat_map f xs))
 
--- spans behind a gap that does not fill the vector
+-- spans after a gap that does not fill the vector
 pub spans_some : (xs : List Span) (gap : ℕ) → gap < length xs → 0 < length (drop gap xs)
 spans_some xs gap h = omega (arith, length-drop gap xs)

@@ -1,4 +1,4 @@
-//! Spans in a vector behind a gap, so that one can be put before them and none is moved.
+//! Spans in a vector after a gap, so that one can be put before them and none is moved.
 ghost use Rattle.std.specs.Prelude.{◌≡◌, ◌+◌, ◌-◌, ◌<◌, ◌≤◌, ◌∷◌, ◌++◌, length, take, drop, IfOk, OnErr};
 ghost use Rattle.std.specs.Vec.{vec_len};
 
@@ -6,7 +6,7 @@ use crate::page::PAGE_LEN;
 use crate::span::Span;
 use std::alloc::AllocError;
 
-// Puts a span at a place among those behind the gap, and gives the gap that is left. A vector of
+// Puts a span at a place among those after the gap, and gives the gap that is left. A vector of
 // 256 with the gap takes no more in its midst.
 pub fn put_behind(
     items: &mut Vec<Span>,

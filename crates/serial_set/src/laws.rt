@@ -37,7 +37,7 @@ pub fn whole_bitmap()
         → IsRunsOf (runs_after after finished) (λ s. BitNames offset (big_endian bytes) s)) }
 {}
 
-/// One byte that is fed behind others.
+/// One byte that is fed after others.
 pub fn one_byte_more()
     ensures { (before middle after : FedBitmap) (bytes : List ℕ) (byte : ℕ)
         (finished more : List Span)

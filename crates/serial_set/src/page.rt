@@ -13,7 +13,7 @@ use std::alloc::{AllocError, Global};
 /// How many spans a page has at most.
 pub const PAGE_LEN: usize = 256;
 
-/// From one to 256 spans in a row behind a gap, and where the last of them ends.
+/// From one to 256 spans in a row after a gap, and where the last of them ends.
 #[derive(Drop)]
 pub struct Page {
     items: Vec<Span>,
@@ -31,7 +31,7 @@ impl Page {
         &self.items[self.gap..]
     }
 
-    // How many spans end before a number. The last span tells it, or the first one behind a gap,
+    // How many spans end before a number. The last span tells it, or the first one after a gap,
     // where spans come in order.
     fn count_before(&self, number: u64) -> usize
         requires { IsRuns (drop self.now.gap self.now.items.items) }
@@ -212,7 +212,7 @@ fn apart_place(spans: &[Span], at: usize, new: Span) -> Option<usize>
     }
 }
 
-// Whether the spans from a place on begin past the number behind `number`.
+// Whether the spans from a place on begin past the number after `number`.
 fn is_past(items: &[Span], at: usize, number: u64) -> bool
     requires runs { IsRuns items.now }
     requires within { at ≤ length items.now }

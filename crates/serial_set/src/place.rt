@@ -19,14 +19,14 @@ pub fn count_ending_before(spans: &[Span], number: u64) -> usize
     )
 }
 
-// How many spans begin at the number behind `number`, or lower.
+// How many spans begin at the number after `number`, or lower.
 pub fn count_beginning_by(spans: &[Span], number: u64) -> usize
     requires { IsRuns spans.now }
     ensures within { result ≤ length spans.now }
     ensures by { All (λ t. t.lo ≤ number + 1) (take result spans.now) }
     ensures rest { All (λ t. number + 1 < t.lo) (drop result spans.now) }
 {
-    // The number behind the largest one cannot be written, so the beginning is moved instead.
+    // The number after the largest one cannot be written, so the beginning is moved instead.
     spans.partition_point(
         |span: &Span| -> bool
             ensures { result ≡ nat_le (span.now.lo - 1) number }

@@ -8,7 +8,7 @@ use crate::spans::Spans;
 use std::alloc::{AllocError, Global};
 
 /// The runs in one sorted vector. A member and the place of an addition are found by binary search;
-/// an addition moves the spans behind it once.
+/// an addition moves the spans after it once.
 #[derive(Drop)]
 pub struct SpanVec {
     items: Vec<Span>,
@@ -83,7 +83,7 @@ fn add_to(items: &mut Vec<Span>, lo: u64, hi: u64) -> Result<(), AllocError>
     Ok(())
 }
 
-// Puts one span in place of those from `first` up to `end`, and moves those behind them once.
+// Puts one span in place of those from `first` up to `end`, and moves those after them once.
 pub fn join(items: &mut Vec<Span>, first: usize, end: usize, span: Span)
     requires some { first < end }
     requires within { end ≤ vec_len items.old }

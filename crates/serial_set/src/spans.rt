@@ -38,7 +38,7 @@ pub trait Spans: Drop {
         requires { at < length (spans self.now) }
         ensures { slice_get (spans self.now) at ≡ Some result };
 
-    /// The spans from a place on, as many as lie together. A loop that goes on behind each piece
+    /// The spans from a place on, as many as lie together. A loop that goes on after each piece
     /// visits the whole list in linear time, whatever the representation.
     fn piece(&self, at: usize) -> &[Span]
         requires { at < length (spans self.now) }

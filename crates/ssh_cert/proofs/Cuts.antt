@@ -39,11 +39,11 @@ longer (n ∷ a) x (m ∷ b) y e le =
     let rest = longer a x b y tails fewer in
     record { between = rest.between; front = ap (λ (k : ℕ). k ∷ b) (sym heads) ∙ ap (λ (l : List ℕ). n ∷ l) rest.front; behind = rest.behind }
 
--- nothing stands behind all of a text
+-- nothing stands after all of a text
 none_behind : (p q : List ℕ) → [] ≡ p ++ q → 0 < length q → ⊥
 none_behind p q e some = let lengths : 0 ≡ length p + length q = ap length e ∙ length-append p q in omega arith
 
--- a refusal that is told as a field cut short
+-- a refusal that is reported as a field cut short
 pub record Cut {A : Type 0} (read : Result A CertFault) : Type 0 where
   pub fault : CertFault
   pub refused : read ≡ Err fault
@@ -81,7 +81,7 @@ field_cut AuthorityField authority front missing fits allowed e some =
     wire AuthorityField front (rw (string-cut authority.blob lt front missing e some) refl)
 field_cut SignatureField signature front missing fits allowed e some = wire SignatureField front (rw (string-cut signature.text allowed.0 front missing e some) refl)
 
--- bytes that end within a text or behind it
+-- bytes that end within a text or after it
 pub data Ends (text later front missing : List ℕ) : Type 0 where
   within : (between : List ℕ) → text ≡ front ++ between → 0 < length between → Ends text later front missing
   behind : (between : List ℕ) → front ≡ text ++ between → later ≡ between ++ missing → Ends text later front missing

@@ -1,4 +1,4 @@
--- A fault of a field is what stands there, and what stands there is told as the fault.
+-- A fault of a field is what stands there, and what stands there is reported as the fault.
 use Rattle.std.proofs.Common.{◌≡◌, ℕ, ◌^◌, ◌<◌, List, length, Option, Some, None, Ok, Err, refl, sym, ap, subst, ◌∙◌, inl, inr}
 use Rattle.std.specs.Option.{ok_or}
 use Rattle.ssh_wire.specs.Cut.{number-short}
@@ -130,7 +130,7 @@ field_refused SignatureField bytes fault fits e =
           ]
     ]
 
--- ---- is told
+-- ---- is reported
 
 begins_fits : (bytes value : List ℕ) → IsBytes bytes → BeginsWith bytes value → IsBytes value
 begins_fits bytes value fits b = IsBytes-content bytes value b.rest fits b.spelled

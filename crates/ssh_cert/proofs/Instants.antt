@@ -62,7 +62,7 @@ year_in_range year h =
 
 -- ---- the date of a day number and the time of day of its seconds
 
--- the date so many days into a month of a year
+-- the date this many days into a month of a year
 date_of : (days year left month passed : ℕ) → days < 2_932_532 → day_count (pos 1_970) 1 1 + days ≡ day_count (pos year) 1 1 + left → IsMonthAt year 1 left (month, passed) → (date : Date) × ((epoch_day date ≡ pos days) × (date_text date ≡ date_digits year (month, passed)))
 unfolding date_digits
 date_of days year left month passed h of_year of_month =
@@ -92,7 +92,7 @@ date_found days h =
     let month = month_found (year_at days 1_970 days).0 11 1 left refl (omega arith) (omega (arith, year.1)) in
     date_of days _ left _ _ h year.0 month
 
--- the time has so many seconds, and is written so
+-- the time has this many seconds, and is written so
 abbrev pub IsClockTime : ℕ → Time → Type 0
 IsClockTime seconds time =
     (time_nanos time ≡ seconds * 1_000_000_000) × (time_text None time ≡ clock_text seconds)
@@ -115,7 +115,7 @@ time_found seconds h = (
 
 -- ---- the text of an instant
 
--- the datetime is at so many seconds, and is written so
+-- the datetime is at this many seconds, and is written so
 abbrev pub IsInstant : ℕ → DateTime → Type 0
 IsInstant seconds datetime =
     (civil_nanos datetime ≡ pos seconds *ℤ pos 1_000_000_000)

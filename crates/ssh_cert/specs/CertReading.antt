@@ -124,7 +124,7 @@ certificate_of kind (
   algorithm = signature.algorithm;
 }
 
--- the certificate whose fields behind the type name stand at the front, and the bytes after them
+-- the certificate whose fields after the type name stand at the front, and the bytes after them
 unfoldable pub body_at : Kind → List ℕ → Result (Certificate × List ℕ) CertFault
 body_at kind bytes = do
   values ← fields_at (fields_of kind) bytes

@@ -1,4 +1,4 @@
--- The fields of a certificate behind its type name: what stands in each, and how it is spelled.
+-- The fields of a certificate after its type name: what stands in each, and how it is spelled.
 use Rattle.std.specs.Prelude.{◌≡◌, ℕ, ◌<◌, ◌^◌, List, [], ◌∷◌, ◌++◌, length}
 use Rattle.ssh_wire.specs.Wire.{BeginsWith, number, string, strings}
 use Rattle.ssh_key.specs.Key.{IsKey, Key, blob_of}

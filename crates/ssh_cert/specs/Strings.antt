@@ -10,7 +10,7 @@ abbrev pub string_before : Result (List ℕ × List ℕ) WireFault
 string_before (Err fault) others = None
 string_before (Ok (first, rest)) others = option_map (λ list. first ∷ list) (others rest)
 
--- at most so many strings, to the end of the bytes
+-- at most this many strings, to the end of the bytes
 unfoldable pub strings_within : ℕ → List ℕ → Option (List (List ℕ))
 strings_within most [] = Some []
 strings_within zero (byte ∷ bytes) = None

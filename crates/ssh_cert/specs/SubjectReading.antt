@@ -56,7 +56,7 @@ pub record HasSubject (blob : List ℕ) : Type 0 where
   pub subject : Subject
   pub is : IsSubject blob subject
 
--- What is told of a blob: its fault, or want of memory for what is asked of it.
+-- What is reported of a blob: its fault, or that there is no memory for what is asked of it.
 abbrev pub IsToldFault : List ℕ → SubjectFault → Type 0
 IsToldFault blob faults.NoMemory = HasSubject blob
 IsToldFault blob fault = IsSubjectFault blob fault

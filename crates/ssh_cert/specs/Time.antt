@@ -34,7 +34,7 @@ date_digits year (month, passed) =
     two_digits (year / 100) ++ (two_digits (year % 100) ++ (codes "-"
     ++ (two_digits month ++ (codes "-" ++ two_digits (passed + 1)))))
 
--- the date so many days from the first of 1970 on
+-- the date this many days from the first of 1970 on
 unfoldable pub day_text : ℕ → List ℕ
 day_text days =
     let year = year_at days 1970 days in
@@ -54,7 +54,7 @@ instant_text seconds =
     ++ (codes "T" ++ (clock_text (seconds % 86_400) ++ codes "Z"))
     else codes "@" ++ decimal seconds
 
--- The text is the date and the time of day, in UTC, at so many seconds from the first of 1970 on.
+-- The text is the date and the time of day, in UTC, at this many seconds from the first of 1970 on.
 pub record IsDateText (seconds : ℕ) (text : List ℕ) : Type 0 where
   pub datetime : DateTime
   pub instant : civil_nanos datetime ≡ pos seconds *ℤ pos 1_000_000_000

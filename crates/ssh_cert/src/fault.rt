@@ -9,8 +9,8 @@ use ssh_wire::WireFault;
 use std::error::Error;
 use std::fmt;
 
-/// Why a blob is not a certificate. Of several faults the first is told, in the order of the
-/// fields. It prints as `cert`, its number and its name; behind `Key` and `Authority` comes the
+/// Why a blob is not a certificate. Of several faults the first is reported, in the order of the
+/// fields. It prints as `cert`, its number and its name; after `Key` and `Authority` comes the
 /// fault of the key.
 #[derive(Clone, Copy, Debug, PartialEq, Eq)]
 pub enum CertFault {

@@ -61,7 +61,7 @@ fn type_value(alloc: Global, cert: &Cert) -> Result<Vec<u8>, AllocError>
     Ok(text)
 }
 
-/// A text and another behind it.
+/// A text and another after it.
 fn both(alloc: Global, first: &[u8], second: &[u8]) -> Result<Vec<u8>, AllocError>
     ensures { IfOk result (λ text. text.items ≡ first.now ++ second.now) }
 {
@@ -70,7 +70,7 @@ fn both(alloc: Global, first: &[u8], second: &[u8]) -> Result<Vec<u8>, AllocErro
     Ok(text)
 }
 
-/// Three texts, one behind the other.
+/// Three texts, one after the other.
 fn joined(alloc: Global, first: &[u8], second: &[u8], third: &[u8]) -> Result<Vec<u8>, AllocError>
     ensures { IfOk result (λ text. text.items ≡ first.now ++ (second.now ++ third.now)) }
 {
@@ -134,7 +134,7 @@ fn valid_value(cert: &Cert, moment: u64) -> &'static [u8]
     }
 }
 
-/// The data of an option as it is printed behind its name: nothing where it is empty, the text of
+/// The data of an option as it is printed after its name: nothing where it is empty, the text of
 /// the options that have one, and else its hexadecimal digits.
 #[tactic(auto, unfolding(crate::specs::Listing::data_text))]
 fn push_data(
@@ -381,7 +381,7 @@ fn push_lists(alloc: Global, out: &mut Vec<u8>, cert: &Cert) -> Result<(), Alloc
     push_options(alloc, out, b"Extensions", cert.extensions())
 }
 
-/// The lines behind the first one, with the time in which the certificate is valid.
+/// The lines after the first one, with the time in which the certificate is valid.
 fn listing(
     alloc: Global,
     cert: &Cert,
@@ -399,7 +399,7 @@ fn listing(
     Ok(text)
 }
 
-/// The listing of a certificate, in the lines behind its first one, which names the file. The
+/// The listing of a certificate, in the lines after its first one, which names the file. The
 /// fingerprints are by this hash, the moment is in seconds from 1970 on, and what others wrote
 /// stands escaped. Fails only where memory runs out.
 #[tactic(auto, unfolding(crate::specs::Listing::listing_of))]

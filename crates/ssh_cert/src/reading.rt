@@ -82,7 +82,7 @@ struct Numbered<'a> {
 /// more. The plain key and the signature key are plain keys as `read_key` knows them. Takes no
 /// memory: every part is lent from the blob. The signature is not checked.
 ///
-/// Of several faults the first is told, in the order in which the fields stand, and `Trailing`
+/// Of several faults the first is reported, in the order in which the fields stand, and `Trailing`
 /// last.
 pub fn read_cert<'a>(blob: &'a [u8]) -> Result<Cert<'a>, CertFault>
     // What is read is spelled so.
@@ -120,7 +120,7 @@ fn read_kind(cursor: &mut Cursor) -> Result<Kind, CertFault>
     Kind::of_cert_name(name).ok_or(CertFault::UnknownType)
 }
 
-/// The fields behind the type name.
+/// The fields after the type name.
 #[tactic(auto, unfolding(crate::specs::CertReading::body_at, crate::specs::CertReading::fields_at))]
 fn read_body<'a>(kind: Kind, cursor: &mut Cursor<'a>) -> Result<Cert<'a>, CertFault>
     ensures { Gives (λ cert. cert) result cursor.new (body_at kind cursor.old) }

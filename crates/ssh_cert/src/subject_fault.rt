@@ -11,7 +11,7 @@ use std::error::Error;
 use std::fmt;
 
 /// Why a revocation list cannot be asked about a blob. It prints as `subject`, its number and its
-/// name; behind `Key` and `Cert` comes the fault of the key or of the certificate.
+/// name; after `Key` and `Cert` comes the fault of the key or of the certificate.
 #[derive(Clone, Copy, Debug, PartialEq, Eq)]
 pub enum SubjectFault {
     /// Its first string is not the type name of a certificate, and it is no plain key.

@@ -79,7 +79,7 @@ ended_err rest r d e = by_test (eqb (length rest) 0) refl e
     by_test true test given = inl (nil_from_length rest (eqb-true _ _ test), given)
     by_test false test given = inr (above_zero (length rest) test, cc)
 
--- what stands behind the name of the format
+-- what stands after the name of the format
 pub record Inside (inside blob comment : List ℕ) : Type 0 where
   pub list : List ℕ
   pub parts : HasParts inside blob list
@@ -132,7 +132,7 @@ inside_again inside blob comment is =
 
 -- ---- what is refused
 
--- the first fault of what stands behind the name of the format
+-- the first fault of what stands after the name of the format
 pub data IsInsideFault (inside : List ℕ) (fault : PrivateFault) : Type 0 where
   fails : Fails outer [] inside fault → IsInsideFault inside fault
   goes_on : (rest : List ℕ) (values : List (List ℕ)) → Leads outer [] inside values rest → 0 < length rest → fault ≡ faults.Trailing → IsInsideFault inside fault

@@ -35,7 +35,7 @@ prefix_met text rest e = (starts_is Decides-eqb text sha256_prefix (starts_with 
 behind : (text rest : List ℕ) → text ≡ sha256_prefix ++ rest → drop 7 text ≡ rest
 behind text rest e = rw e (drop_at sha256_prefix rest 7 refl)
 
--- reading goes on behind the prefix, or stops at it
+-- reading goes on after the prefix, or stops at it
 pub prefixed_at : (text rest : List ℕ) → text ≡ sha256_prefix ++ rest → fingerprint_at text ≡ sized (decode_of standard_no_pad rest)
 unfolding fingerprint_at
 prefixed_at text rest e =

@@ -94,7 +94,7 @@ first_line_fault_met text WordDiffers fits k = elim (cases_Bool (has_word k.word
 ]
 first_line_fault_met text NoMemory fits k = absurd k
 
--- ---- the fault that is told
+-- ---- the fault that is reported
 
 words_stand : (text : List ℕ) → line_at text ≢ Err NoKey → HasSomeWords text
 words_stand text some = elim (none_or_words text) [

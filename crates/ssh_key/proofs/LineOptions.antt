@@ -1,4 +1,4 @@
--- The options field: what the scan stops behind is a field, and behind a field it stops.
+-- The options field: what the scan stops after is a field, and after a field it stops.
 use Rattle.std.proofs.Common.{◌≡◌, ◌≢◌, ℕ, ◌==◌, ◌&&◌, Bool, true, false, not, cond, List, [], ◌∷◌, ◌++◌, Some, None, refl, sym, ap, subst, ◌∙◌, arith, inl, inr}
 use Rattle.std.proofs.lemmas.Bool.{and_right, both_ways, cases_Bool, cases_eq, eq-eqb, ne_eqb}
 use Rattle.std.proofs.lemmas.List.{append_assoc}
@@ -43,7 +43,7 @@ unfolding after_options
 unescaped quoted [] other = refl
 unescaped quoted (byte ∷ rest) other = rw (ne_eqb byte 34 other) refl
 
--- a byte that is no quote, where a quote behind it is not escaped by it
+-- a byte that is no quote, where a quote after it is not escaped by it
 passes : (quoted : Bool) (byte : ℕ) (rest : List ℕ) → byte ≢ 34 → (is_blank byte && not quoted) ≡ false → ((byte ≡ 92) → NoQuote rest) → after_options quoted false (byte ∷ rest) ≡ after_options quoted false rest
 passes quoted byte rest other stays apart =
     let step : after_options quoted false (byte ∷ rest) ≡ after_options quoted (byte == 92) rest =
@@ -66,7 +66,7 @@ quote_closes : (rest : List ℕ) → after_options true false (34 ∷ rest) ≡ 
 unfolding after_options
 quote_closes rest = refl
 
--- ---- behind a field the scan stops
+-- ---- after a field the scan stops
 
 quoted_apart : (byte : ℕ) (inner rest : List ℕ) → IsNoPair byte (inner ++ 34 ∷ []) → (byte ≡ 92) → NoQuote (inner ++ 34 ∷ rest)
 quoted_apart byte [] rest apart backslash = apart backslash
@@ -104,7 +104,7 @@ options_again field rest (options_quoted inner more q o) stops =
     ∙ quoted_passes inner (more ++ rest) q
     ∙ options_again more rest o stops
 
--- ---- what the scan stops behind is a field
+-- ---- what the scan stops after is a field
 
 -- the text is a field and the rest
 pub record IsOptionsBefore (text rest : List ℕ) : Type 0 where
@@ -208,7 +208,7 @@ step byte text holds after quoted rest e = elim (cases_Bool (is_blank byte && no
         let same : byte ∷ text ≡ rest = same_Some (byte ∷ text) rest (sym (ends false false byte text blank refl) ∙ e) in
         record { field = []; options = options_end; whole = same; stops = subst (FailsFirst not_blank) same (ap not blank) }
 
--- at a text, and behind its first byte
+-- at a text, and after its first byte
 both : (text : List ℕ) → FindsEnd text × FindsEnd (tail_of text)
 both [] = (empty, empty)
 both (byte ∷ text) = let held = both text in (step byte text held.0 held.1, held.0)

@@ -19,7 +19,7 @@ first_line_at (byte ∷ text) (suc i) lt no_feed feed =
     let later = first_line_at text i (omega arith) (λ k below. no_feed (suc k) (omega arith)) feed in
     rw (here, later) refl
 
--- the same, with the text behind the line feed as a slice
+-- the same, with the text after the line feed as a slice
 pub first_line : (text : List ℕ) (i : ℕ) → i < length text → ((k : ℕ) → k < i → (get_or text k 0 == 10) ≡ false) → (get_or text i 0 == 10) ≡ true → slice_split is_newline text ≡ take i text ∷ slice_split is_newline (take (length text - (i + 1)) (drop (i + 1) text))
 first_line text i lt no_feed feed =
     let rest : take (length text - (i + 1)) (drop (i + 1) text) ≡ drop (i + 1) text = take_all _ _ (omega (arith, length-drop (i + 1) text)) in

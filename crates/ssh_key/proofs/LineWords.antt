@@ -78,7 +78,7 @@ pub blanks_stop : (blanks rest : List ℕ) → AreBlanks blanks → FailsFirst n
 blanks_stop [] rest are = absurd (omega (arith, are.some))
 blanks_stop (byte ∷ blanks) rest are = ap not (are.each 0 0 (omega arith))
 
--- where a word ends and something stands behind the blanks, there are blanks
+-- where a word ends and something stands after the blanks, there are blanks
 pub gap : (text : List ℕ) → FailsFirst not_blank text → 0 < length (after_blanks text) → AreBlanks (leading text)
 unfolding after_blanks
 gap [] stops some = absurd (omega (arith, some))
@@ -95,7 +95,7 @@ first_word_is (byte ∷ text) some bare =
     let one : prefix_len not_blank (byte ∷ text) ≡ 1 + prefix_len not_blank text = rw bare refl in
     record { some = omega (arith, one, length-take (prefix_len not_blank (byte ∷ text)) (byte ∷ text)); each = front_passes not_blank (byte ∷ text) }
 
--- and a word begins with no blank, whatever stands behind it
+-- and a word begins with no blank, whatever stands after it
 pub word_stops : (word rest : List ℕ) → IsWord word → FailsFirst is_blank (word ++ rest)
 word_stops [] rest is = absurd (omega (arith, is.some))
 word_stops (byte ∷ word) rest is = not-true (is_blank byte) (is.each 0 0 (omega arith))

@@ -54,7 +54,7 @@ value_allowed (Point size) bytes value rest fits e none =
 value_allowed (Sized size) bytes value rest fits e none = eqb-true _ _ (passed (eqb (length value) size) faults.Length none)
 value_allowed Text bytes value rest fits e none = tt
 
--- a string whose length is told
+-- a string whose length four bytes can tell
 string_told : (value : List ℕ) → length value < 2 ^ 32 → HasLength (string value)
 string_told value lt = omega (arith, length-string value)
 

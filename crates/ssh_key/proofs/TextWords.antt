@@ -18,7 +18,7 @@ use Rattle.ssh_key.proofs.LineWords.{IsBytes-trimmed, FailsFirst, blanks_cut, bl
 
 -- ---- a line from its type word on
 
--- what stands behind the type word and blanks
+-- what stands after the type word and blanks
 abbrev rest_of : List ℕ → List ℕ
 rest_of part = after_blanks (after_word part)
 
@@ -31,7 +31,7 @@ blob_at-none : (word rest : List ℕ) → rest ≡ [] → blob_at word rest ≡ 
 unfolding blob_at
 blob_at-none word rest none = rw none refl
 
--- where something stands behind the type word, there are words
+-- where something stands after the type word, there are words
 words_cut : (part : List ℕ) → is_type_name (first_word part) ≡ true → 0 < length (rest_of part) → AreWords part (first_word part) (first_word (rest_of part)) (after_blanks (after_word (rest_of part)))
 words_cut part name some =
     let behind : List ℕ = after_word part in
@@ -64,7 +64,7 @@ words_again part word encoded comment k =
     let read : checked word (decoded (first_word rest)) (after_blanks (after_word rest)) ≡ checked word (decoded encoded) comment = rw (texts.0, texts.1, ended.1) refl in
     (first, test-from_Contains word k.name, ap (blob_at word) left ∙ blob_at-some word rest (omega (arith, length-append encoded k.end)) ∙ read)
 
--- ---- the line from its type word on, behind an options field or not
+-- ---- the line from its type word on, after an options field or not
 
 typed-takes : (line part : List ℕ) → typed line ≡ Some part → (line ≡ part) × (is_type_name (first_word part) ≡ true)
 unfolding typed
@@ -73,7 +73,7 @@ typed-takes line part e = elim (cases_Bool (is_type_name (first_word line))) [
   | inr other ↦ absurd (let h = rw other at e in cc)
 ]
 
--- a rest behind an options field leads to the part
+-- a rest after an options field leads to the part
 behind_takes : (found : Option (List ℕ)) (part : List ℕ) → part_behind found ≡ Some part → (rest : List ℕ) × (found ≡ Some rest) × (after_blanks rest ≡ part) × (is_type_name (first_word part) ≡ true)
 behind_takes None part e = absurd cc
 behind_takes (Some rest) part e = let h = typed-takes (after_blanks rest) part e in (rest, refl, h.0, h.1)
@@ -89,7 +89,7 @@ name_some line name =
 abbrev LineWords : List ℕ → List ℕ → List ℕ → List ℕ → Type 0
 LineWords line word encoded comment = AreWords line word encoded comment ⊎ AreWordsBehindOptions line word encoded comment
 
--- a part with something behind its type word gives the words of the line
+-- a part with something after its type word gives the words of the line
 part_words : (line part : List ℕ) → key_part line ≡ Some part → 0 < length (rest_of part) → LineWords line (first_word part) (first_word (rest_of part)) (after_blanks (after_word (rest_of part)))
 unfolding key_part
 part_words line part found some = elim (cases_Bool (is_type_name (first_word line))) [
@@ -148,7 +148,7 @@ options_line_again line word encoded comment o =
 
 -- ---- a text
 
--- where a text has its words, they are what is judged
+-- where a text has its words, they are what is checked
 pub words_read : (text word encoded comment : List ℕ) → HasWords text word encoded comment → line_at text ≡ checked word (decoded encoded) comment
 unfolding line_at
 words_read text word encoded comment (inl k) = plain_again (trimmed text) word encoded comment k

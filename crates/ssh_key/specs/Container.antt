@@ -182,7 +182,7 @@ pub data IsListFault (key : Key) (list : List ℕ) (fault : PrivateFault) : Type
       → ((unused : List ℕ) → all_padding ≢ padding ++ unused) → fault ≡ faults.Padding
       → IsListFault key list fault
 
--- The first fault of a text that is no container. Want of memory is never the text's.
+-- The first fault of a text that is no container. `NoMemory` is never the text's.
 pub data IsPrivateFault (text : List ℕ) (fault : PrivateFault) : Type 0 where
   no_armour : ((body : List ℕ) → ¬ IsArmour text body) → fault ≡ faults.Armour
       → IsPrivateFault text fault
@@ -200,7 +200,7 @@ pub data IsPrivateFault (text : List ℕ) (fault : PrivateFault) : Type 0 where
       → HasParts inside blob list → IsKey blob key → IsListFault key list fault
       → IsPrivateFault text fault
 
--- What is told of a text: its fault, or want of memory, where it is armoured.
+-- What is reported of a text: its fault, or, where it is armoured, that there is no memory.
 abbrev pub IsToldPrivateFault : List ℕ → PrivateFault → Type 0
 IsToldPrivateFault text faults.NoMemory = (body : List ℕ) × IsArmour text body
 IsToldPrivateFault text fault = IsPrivateFault text fault

@@ -16,7 +16,7 @@ abbrev pub IsWithin : Size → ℕ → Type 0
 IsWithin (Bits bits) limit = Unit {0}
 IsWithin (Magnitude bytes) limit = length bytes.now ≤ limit
 
--- the size of a key that has these fields and so many bits, and the bytes after them
+-- the size of a key that has these fields and this many bits, and the bytes after them
 abbrev pub sized_at : List Field → ℕ → List ℕ → Result (ℕ × List ℕ) KeyFault
 sized_at fields bits bytes = do
   values ← fields_at fields bytes

@@ -28,14 +28,14 @@ pub record HasOtherBase64 (text : List ℕ) : Type 0 where
   pub prefixed : text ≡ sha256_prefix ++ rest
   pub none : (bytes : List ℕ) → IsBytes bytes → unpadded bytes ≢ rest
 
--- The fault of a text. Want of memory is never the text's.
+-- The fault of a text. `NoMemory` is never the text's.
 abbrev pub IsFingerprintFault : List ℕ → FingerprintFault → Type 0
 IsFingerprintFault text Prefix = (rest : List ℕ) → text ≢ sha256_prefix ++ rest
 IsFingerprintFault text Base64 = HasOtherBase64 text
 IsFingerprintFault text Length = (bytes : List ℕ) × Encodes text bytes × (length bytes ≢ 32)
 IsFingerprintFault text NoMemory = ⊥
 
--- What is told of a text: its fault, or want of memory, where the prefix stands.
+-- What is reported of a text: its fault, or, where the prefix stands, that there is no memory.
 abbrev pub IsToldFingerprintFault : List ℕ → FingerprintFault → Type 0
 IsToldFingerprintFault text NoMemory = (rest : List ℕ) × (text ≡ sha256_prefix ++ rest)
 IsToldFingerprintFault text fault = IsFingerprintFault text fault

@@ -56,7 +56,7 @@ pub record AreWords (line word encoded comment : List ℕ) : Type 0 where
   pub ended : Comment end comment
   pub spelled : line ≡ word ++ (blanks ++ (encoded ++ end))
 
--- the same behind an options field: the first word of the line is no type name
+-- the same after an options field: the first word of the line is no type name
 pub record AreWordsBehindOptions (line word encoded comment : List ℕ) : Type 0 where
   pub other : ¬ Contains type_names (first_word line)
   pub options : List ℕ
@@ -67,13 +67,13 @@ pub record AreWordsBehindOptions (line word encoded comment : List ℕ) : Type 0
   pub are_words : AreWords part word encoded comment
   pub spelled : line ≡ options ++ (blanks ++ part)
 
--- the type word of a text, the word behind it and the comment
+-- the type word of a text, the word after it and the comment
 abbrev pub HasWords : List ℕ → List ℕ → List ℕ → List ℕ → Type 0
 HasWords text word encoded comment =
     AreWords (trimmed text) word encoded comment
     ⊎ AreWordsBehindOptions (trimmed text) word encoded comment
 
--- The word behind the type word is the base64 of the key. The key begins with the string of the
+-- The word after the type word is the base64 of the key. The key begins with the string of the
 -- type word.
 pub record IsKeyLine (text word blob comment : List ℕ) : Type 0 where
   pub words : HasWords text word (base64 blob) comment

@@ -50,7 +50,7 @@ unfoldable pub kind_certified : List ℕ → Option Kind
 kind_certified name = find (λ kind. bytes_eq (certificate_name kind) name) kinds
 
 -- What stands in a public field: a number above zero; the name of the curve; an uncompressed point
--- of so many bytes; any string of so many bytes; any string.
+-- of this many bytes; any string of this many bytes; any string.
 pub data Field : Type 0 where
   Positive : Field
   Curve : (name : List ℕ) → Field

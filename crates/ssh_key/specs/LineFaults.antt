@@ -5,14 +5,14 @@ use Rattle.ssh_key.specs.declared.line_fault.LineFault.{LineFault}
 use Rattle.ssh_key.specs.declared.line_fault.LineFault.TheVariants.{NoKey, Base64, WordDiffers, NoMemory}
 use Rattle.ssh_key.specs.KeyLine.{HasWords, base64}
 
--- a type word stands in the text, and behind it a word that may encode a key
+-- a type word stands in the text, and after it a word that may encode a key
 pub record HasSomeWords (text : List ℕ) : Type 0 where
   pub word : List ℕ
   pub encoded : List ℕ
   pub comment : List ℕ
   pub words : HasWords text word encoded comment
 
--- the word behind the type word is not the base64 of any list of bytes
+-- the word after the type word is not the base64 of any list of bytes
 pub record HasBadBase64 (text : List ℕ) : Type 0 where
   pub has : HasSomeWords text
   pub none : (blob : List ℕ) → IsBytes blob → base64 blob ≢ has.encoded
@@ -26,14 +26,15 @@ pub record EncodesOtherKey (text : List ℕ) : Type 0 where
   pub bytes : IsBytes blob
   pub differs : ¬ BeginsWith blob word
 
--- The fault of a text. Want of memory is never the text's.
+-- The fault of a text. `NoMemory` is never the text's.
 abbrev pub IsFirstLineFault : List ℕ → LineFault → Type 0
 IsFirstLineFault text NoKey = ¬ HasSomeWords text
 IsFirstLineFault text Base64 = HasBadBase64 text
 IsFirstLineFault text WordDiffers = EncodesOtherKey text
 IsFirstLineFault text NoMemory = ⊥
 
--- What is told of a text: its fault, or want of memory, where a word stands that may encode a key.
+-- What is reported of a text: its fault, or, where a word stands that may encode a key, that there
+-- is no memory.
 abbrev pub IsToldFault : List ℕ → LineFault → Type 0
 IsToldFault text NoMemory = HasSomeWords text
 IsToldFault text fault = IsFirstLineFault text fault

@@ -38,11 +38,11 @@ TellsFault WordDiffers read = read ≡ Err WordDiffers
 unfoldable pub after_word : List ℕ → List ℕ
 after_word text = drop (prefix_len (λ byte. not (is_blank byte)) text) text
 
--- whether the place behind a byte is between quotes: a quote behind a backslash changes nothing
+-- whether the place after a byte is between quotes: a quote after a backslash changes nothing
 abbrev pub quoted_behind : Bool → Bool → ℕ → Bool
 quoted_behind quoted escaped byte = if (byte == quote) && not escaped then not quoted else quoted
 
--- What stands after an options field. The place is between quotes or not, and behind a backslash
+-- What stands after an options field. The place is between quotes or not, and after a backslash
 -- or not.
 unfoldable pub after_options : Bool → Bool → List ℕ → Option (List ℕ)
 after_options quoted escaped [] = if quoted then None else Some []
@@ -83,7 +83,7 @@ checked word (Err fault) comment = Err fault
 checked word (Ok blob) comment =
     if has_word word blob then Ok (content word blob comment) else Err WordDiffers
 
--- the base64 word and the comment, behind the type word
+-- the base64 word and the comment, after the type word
 unfoldable pub blob_at : List ℕ → List ℕ → Result Content LineFault
 blob_at word [] = Err NoKey
 blob_at word (byte ∷ bytes) =

@@ -6,7 +6,7 @@ use Rattle.ssh_wire.specs.declared.fault.WireFault.{WireFault}
 use Rattle.ssh_key.specs.declared.private_fault.PrivateFault.{PrivateFault}
 use Rattle.ssh_key.specs.declared.private_fault.PrivateFault.TheVariants.{Wire}
 
--- a number of so many bytes, a number that is not negative, or a string
+-- a number of this many bytes, a number that is not negative, or a string
 pub data Part : Type 0 where
   Number : (size : ℕ) → Part
   Magnitude : Part

@@ -38,11 +38,11 @@ pub struct Private {
 /// The text is the base64 of the container, in lines of any length, between the line that begins a
 /// container and the first line that ends one. Blanks and carriage returns at the end of a line are
 /// passed over, and what follows the end line is not read. The private part has to be of the kind
-/// of the public key, with its public fields; the private numbers themselves are not judged.
+/// of the public key, with its public fields; the private numbers themselves are not checked.
 ///
 /// Faults come in the order in which their fields stand. `Trailing`, that bytes follow the private
-/// list, is told before the list is read. The bytes are decoded into memory that is asked for
-/// before they are judged, so `NoMemory` may stand in place of any answer but `Armour`.
+/// list, is reported before the list is read. The bytes are decoded into memory that is asked for
+/// before they are checked, so `NoMemory` may stand in place of any answer but `Armour`.
 ///
 /// Private bytes are copied no further than the decoded container. The memory that held them is
 /// overwritten before it is given back.

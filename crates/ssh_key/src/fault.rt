@@ -8,8 +8,8 @@ use ssh_wire::WireFault;
 use std::error::Error;
 use std::fmt;
 
-/// Why a blob is not a key. Of several faults the first is told, in the order of the fields. It
-/// prints as `key`, its number and its name; behind `Wire` comes the fault of the wire.
+/// Why a blob is not a key. Of several faults the first is reported, in the order of the fields. It
+/// prints as `key`, its number and its name; after `Wire` comes the fault of the wire.
 #[derive(Clone, Copy, Debug, PartialEq, Eq)]
 pub enum KeyFault {
     /// A field is cut short or misspelt.
@@ -26,7 +26,7 @@ pub enum KeyFault {
     Number,
     /// Bytes follow the last field.
     Trailing,
-    /// The blob is longer than 65,536 bytes. Told before all else.
+    /// The blob is longer than 65,536 bytes. Reported before all else.
     TooLong,
 }
 

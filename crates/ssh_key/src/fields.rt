@@ -16,7 +16,7 @@ const ED25519_SIZE: usize = 32;
 /// How large a key is.
 #[derive(Drop)]
 pub enum Size<'a> {
-    /// As every key of its kind: so many bits.
+    /// As every key of its kind: this many bits.
     Bits(u32),
     /// As large as the number of this magnitude.
     Magnitude(&'a [u8]),
@@ -64,7 +64,7 @@ fn read_prime<'a>(cursor: &mut Cursor<'a>) -> Result<Size<'a>, KeyFault>
     Ok(Size::Magnitude(prime))
 }
 
-/// Reads the public fields of a key on this curve, whose points have so many bytes.
+/// Reads the public fields of a key on this curve, whose points have this many bytes.
 #[tactic(auto, unfolding(crate::specs::KeyReading::fields_at))]
 fn read_ecdsa<'a>(
     cursor: &mut Cursor<'a>,
@@ -140,7 +140,7 @@ fn read_curve<'a>(cursor: &mut Cursor<'a>, name: &str) -> Result<&'a [u8], KeyFa
     Ok(string)
 }
 
-/// A point of a curve, uncompressed, in so many bytes.
+/// A point of a curve, uncompressed, in this many bytes.
 #[tactic(auto, unfolding(crate::specs::KeyReading::field_at))]
 fn read_point<'a>(cursor: &mut Cursor<'a>, size: usize) -> Result<&'a [u8], KeyFault>
     ensures { Gives (λ value. value.now) result cursor.new (field_at (Point size) cursor.old) }
@@ -155,7 +155,7 @@ fn read_point<'a>(cursor: &mut Cursor<'a>, size: usize) -> Result<&'a [u8], KeyF
     }
 }
 
-/// A string of so many bytes.
+/// A string of this many bytes.
 #[tactic(auto, unfolding(crate::specs::KeyReading::field_at))]
 fn read_sized<'a>(cursor: &mut Cursor<'a>, size: usize) -> Result<&'a [u8], KeyFault>
     ensures { Gives (λ value. value.now) result cursor.new (field_at (Sized size) cursor.old) }

@@ -84,8 +84,8 @@ impl<'a> PublicKey<'a> {
 /// Each number is above zero and spelled in as few bytes as can be, so a key has one blob. Takes no
 /// memory: the key is lent from the blob.
 ///
-/// Of several faults the first is told: `TooLong` before all else, then those of the type name and
-/// of each field, in the order in which they stand, and `Trailing` last.
+/// Of several faults the first is reported: `TooLong` before all else, then those of the type name
+/// and of each field, in the order in which they stand, and `Trailing` last.
 pub fn read_key<'a>(blob: &'a [u8]) -> Result<PublicKey<'a>, KeyFault>
     // What is read is spelled so.
     ensures found { IfOk result (λ key. IsKey blob.now key) }
@@ -128,8 +128,8 @@ fn read_kind(cursor: &mut Cursor) -> Result<Kind, KeyFault>
 /// the type name, as they stand in a certificate (OpenSSH's PROTOCOL.certkeys). What follows them
 /// is left. A refusal takes nothing. Takes no memory.
 ///
-/// Of several faults the first is told: those of each field, in the order in which they stand, and
-/// then `TooLong` where the blob of the type name and these fields would be longer than 65,536
+/// Of several faults the first is reported: those of each field, in the order in which they stand,
+/// and then `TooLong` where the blob of the type name and these fields would be longer than 65,536
 /// bytes.
 pub fn read_fields<'a>(kind: Kind, cursor: &mut Cursor<'a>) -> Result<PublicKey<'a>, KeyFault>
     // What is read stands at the front, and is taken.

@@ -30,7 +30,7 @@ pub struct Line<'a> {
     pub word: &'a [u8],
     /// The key's bytes. Only their first string, the type word, has been read.
     pub blob: Bytes,
-    /// What stands behind the key, lent from the line; it may be empty.
+    /// What stands after the key, lent from the line; it may be empty.
     pub comment: &'a [u8],
 }
 
@@ -42,7 +42,7 @@ pub struct Line<'a> {
 /// certificate, and it is the first string of the key's bytes; what follows it there is not read.
 ///
 /// Faults come in the order of their numbers. The key's bytes are decoded into memory that is asked
-/// for before they are judged, so `NoMemory` may stand in place of any answer but `NoKey`.
+/// for before they are checked, so `NoMemory` may stand in place of any answer but `NoKey`.
 pub fn read_line<'a>(alloc: Global, text: &'a [u8]) -> Result<Line<'a>, LineFault>
     // What is read is a key line.
     ensures found { IfOk result (λ line.
@@ -91,7 +91,7 @@ fn begins_with_name(line: &[u8]) -> bool
     is_type_name(word)
 }
 
-/// The key's bytes and the comment, from behind the type word and blanks on.
+/// The key's bytes and the comment, from what follows the type word and blanks.
 #[tactic(auto, unfolding(crate::specs::LineReading::blob_at))]
 fn read_blob<'a>(alloc: Global, word: &'a [u8], rest: &'a [u8]) -> Result<Line<'a>, LineFault>
     ensures exact { Answers TellsFault content_of result (blob_at word.now rest.now) }

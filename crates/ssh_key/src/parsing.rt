@@ -14,7 +14,7 @@ use std::alloc::Global;
 /// and the base64 of 32 bytes without padding.
 ///
 /// Faults come in the order of their numbers. The bytes are decoded into memory that is asked for
-/// before they are judged, so `NoMemory` may stand in place of any answer but `Prefix`.
+/// before they are checked, so `NoMemory` may stand in place of any answer but `Prefix`.
 pub fn parse_fingerprint(alloc: Global, text: &[u8]) -> Result<[u8; 32], FingerprintFault>
     // What is read is a fingerprint.
     ensures found { IfOk result (λ digest. IsFingerprint text.now digest) }

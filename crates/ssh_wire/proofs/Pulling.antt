@@ -24,7 +24,7 @@ pub Consumes-filled : (first second third : Option (List ℕ)) (into part : List
 Consumes-filled first second third into part count more within fits before after =
     subst (Consumes first third) (sym (take-put_mid-part count (length into - count) more into part within fits)) (Consumes-trans first second third (take count into) (take more part) before after)
 
--- so many bytes came since a count was at its start
+-- a count rose from its start by as many bytes as came
 pub record Comes (before after : Option (List ℕ)) (start now : ℕ) : Type 0 where
   pub came : List ℕ
   pub bytes : Consumes before after came

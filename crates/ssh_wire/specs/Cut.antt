@@ -30,7 +30,7 @@ number-cut k n front rest parts some =
       length-append front rest,
     ))
 
--- a cut behind the front
+-- a cut after the front
 pub take-behind : (front behind : List ℕ) (n : ℕ) → length front ≤ n
     → take n (front ++ behind) ≡ front ++ take (n - length front) behind
 take-behind front behind n le =

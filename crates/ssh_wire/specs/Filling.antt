@@ -12,7 +12,7 @@ pub record IsSound (failed : Bool) (taken limit : ℕ) (fault : Option PullFault
   pub within : taken ≤ limit
   pub working : fault ≡ None → failed ≡ false
 
--- a reader with these bytes left, which failed or not, of which so many bytes were taken
+-- a reader with these bytes left, which failed or not, of which this many bytes were taken
 abbrev pub pulled : Option (List ℕ) → Bool → Option ℕ → ℕ → ℕ → Pulled
 pulled source failed ahead taken limit =
     record {
@@ -31,7 +31,7 @@ TellsEnd TooLong after failed = ⊥
 TellsEnd Read after failed = failed ≡ true
 TellsEnd NoMemory after failed = ⊥
 
--- Fewer bytes came than so many, since the reader ended or failed.
+-- Fewer than this many bytes came, since the reader ended or failed.
 pub record FallsShort
     (fault : PullFault) (before after : Option (List ℕ)) (failed : Bool) (size : ℕ) : Type 0 where
   pub came : List ℕ

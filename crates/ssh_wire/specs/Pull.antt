@@ -47,8 +47,8 @@ pub record Takes (old : Pulled) (field : List ℕ) (new : Pulled) : Type 0 where
   pub was_faultless : old.fault ≡ None
   pub is_faultless : new.fault ≡ None
 
--- What a fault says, where so many bytes of a field came. EndsEarly: no byte is left. TooLong: the
--- limit is reached, and a byte stands past it. Read: the reader failed.
+-- What a fault says, where this many bytes of a field came. EndsEarly: no byte is left. TooLong:
+-- the limit is reached, and a byte stands past it. Read: the reader failed.
 abbrev pub Tells : PullFault → Pulled → ℕ → Type 0
 Tells EndsEarly pull came = IsAtEnd (left_of pull) × (pull.failed ≡ false)
 Tells TooLong pull came =
@@ -56,7 +56,7 @@ Tells TooLong pull came =
 Tells Read pull came = pull.failed ≡ true
 Tells NoMemory pull came = pull.failed ≡ false
 
--- Of a field of so many bytes not all came, within the limit, and the fault says why.
+-- Of a field of this many bytes not all came, within the limit, and the fault says why.
 pub record Misses (old : Pulled) (size : ℕ) (fault : PullFault) (new : Pulled) : Type 0 where
   pub came : List ℕ
   pub bytes : Consumes (left_of old) (left_of new) came
@@ -64,14 +64,14 @@ pub record Misses (old : Pulled) (size : ℕ) (fault : PullFault) (new : Pulled)
   pub within : old.taken + length came ≤ old.limit
   pub tells : Tells fault new (length came)
 
--- A field of so many bytes was refused. What came of it does not count as taken.
+-- A field of this many bytes was refused. What came of it does not count as taken.
 pub record Refuses (old : Pulled) (size : ℕ) (fault : PullFault) (new : Pulled) : Type 0 where
   pub misses : Misses old size fault new
   pub taken : new.taken ≡ old.taken
   pub limit : new.limit ≡ old.limit
   pub fault_is : new.fault ≡ Some fault
 
--- After a fault nothing is taken, and the same fault is told again.
+-- After a fault nothing is taken, and the same fault is reported again.
 abbrev pub RefusesAgain : {A : Type 0} → Result A PullFault → Pulled → Pulled → Type 0
 RefusesAgain result old new = IfSome old.fault (λ fault. (result ≡ Err fault) × (new ≡ old))
 
@@ -81,7 +81,7 @@ pub record TakesRest (old : Pulled) (rest : List ℕ) (new : Pulled) : Type 0 wh
   pub none_ahead : new.ahead ≡ None
   pub ends : IsAtEnd new.source
 
--- What a fault says, where so many of the bytes to the reader's end came. Each byte that came is
+-- What a fault says, where this many of the bytes to the reader's end came. Each byte that came is
 -- among them, but for one that stands past the limit. Memory is not refused before a byte came.
 abbrev pub TellsRest : PullFault → Pulled → ℕ → Type 0
 TellsRest EndsEarly pull came = ⊥

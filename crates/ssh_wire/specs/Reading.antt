@@ -58,7 +58,7 @@ abbrev pub in_fault : {A E F : Type 0} → (E → F) → Result A E → Result A
 in_fault words (Ok x) = Ok x
 in_fault words (Err fault) = Err (words fault)
 
--- A function answered what reading gives, seen by a view, or its fault is told in a stated way.
+-- A function answered what reading gives, seen by a view, or its fault is reported in a stated way.
 abbrev pub Answers
     : {X Y E : Type 0} → (E → Result Y E → Type 0) → (X → Y) → Result X E → Result Y E → Type 0
 Answers Tells view (Ok x) read = read ≡ Ok (view x)

@@ -12,7 +12,7 @@ pub bind_ok : {A B E : Type 0} (r : Result A E) (f : A → Result B E) (y : B) �
 bind_ok (Ok x) f y e = (x, refl, e)
 bind_ok (Err d) f y e = absurd cc
 
--- a step whose fault is told in other words
+-- a step whose fault is reported in other words
 pub in_fault_ok : {A E F : Type 0} (words : E → F) (r : Result A E) (x : A)
     → in_fault words r ≡ Ok x → r ≡ Ok x
 in_fault_ok words (Ok y) x e = let same : y ≡ x = cc in cc

@@ -105,7 +105,7 @@ pub(crate) fn refusal<R: Source>(
     }
 }
 
-/// Fills an empty vector with so many bytes. It grows only as they come.
+/// Fills an empty vector with this many bytes. It grows only as they come.
 pub(crate) fn fill_vec<R: Source>(
     reader: &mut R,
     ahead: &mut Option<u8>,

@@ -118,7 +118,7 @@ impl<R: Source + Drop> Pull<R> {
         Ok(into[0])
     }
 
-    /// Takes so many bytes as an array has.
+    /// Takes as many bytes as an array has.
     pub fn array<const N: usize>(&mut self) -> Result<[u8; N], PullFault>
         ensures ok { IfOk result (λ field. Takes self.old field self.new) }
         ensures size { IfOk result (λ field. length field ≡ N) }
@@ -131,8 +131,8 @@ impl<R: Source + Drop> Pull<R> {
         Ok(into)
     }
 
-    /// Takes so many bytes into a vector, in place of what it holds. The vector grows only as bytes
-    /// come, so a length that is not true takes no memory. A refusal leaves it empty.
+    /// Takes this many bytes into a vector, in place of what it holds. The vector grows only as
+    /// bytes come, so a length that is not true takes no memory. A refusal leaves it empty.
     pub fn bytes_into(&mut self, out: &mut Vec<u8>, size: usize) -> Result<(), PullFault>
         ensures ok { OnOk result (Takes self.old out.new.items self.new) }
         ensures size { OnOk result (vec_len out.new ≡ size) }
@@ -159,7 +159,7 @@ impl<R: Source + Drop> Pull<R> {
         }
     }
 
-    /// Takes so many bytes. Memory is taken only as bytes come.
+    /// Takes this many bytes. Memory is taken only as bytes come.
     pub fn bytes(&mut self, alloc: Global, size: usize) -> Result<Bytes, PullFault>
         ensures ok { IfOk result (λ field. Takes self.old field self.new) }
         ensures size { IfOk result (λ field. length field ≡ size) }

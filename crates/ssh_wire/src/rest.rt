@@ -38,7 +38,7 @@ fn read_on<R: Source>(
 }
 
 /// Fills an empty vector with the byte that was looked at and all that the reader gives, where
-/// there is room for so many bytes. The vector grows only as they come.
+/// there is room for this many bytes. The vector grows only as they come.
 pub(crate) fn fill_rest<R: Source>(
     reader: &mut R,
     ahead: &mut Option<u8>,

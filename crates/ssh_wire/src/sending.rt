@@ -5,7 +5,7 @@ ghost use Rattle.std.specs.Io.KnownBytes.{Appends};
 
 use crate::device::Sink;
 
-/// A writer failed once it had taken so many bytes.
+/// A writer failed once it had taken that many bytes.
 #[derive(Clone, Copy, Debug, PartialEq, Eq)]
 pub struct Sent {
     /// The bytes that went out, counted from the first of those that were to be sent.

@@ -26,7 +26,7 @@ pub fn one_first_fault()
         → IsFirstFault text fault → IsFirstFault text fault' → fault ≡ fault' }
 {}
 
-/// Each text has a first fault, or is told to have none.
+/// Each text has a first fault, or is reported to have none.
 pub fn each_text_is_told()
     ensures { (text : List ℕ) → (fault : Option KrlFault) × IsFirstFault text fault }
 {}

@@ -34,7 +34,7 @@ pub(crate) trait Authorities<'a, S: Spans + 'a, W: Strings<'a>>: Drop {
             } ∷ left self.new) };
 }
 
-// Appends the sections of authorities, one behind the other.
+// Appends the sections of authorities, one after the other.
 pub(crate) fn add_authorities<'a, S: Spans + 'a, W: Strings<'a>, A: Authorities<'a, S, W>>(
     out: &mut Vec<u8>,
     alloc: Global,

@@ -33,7 +33,7 @@ pub fn krl_text<S: Spans>(
 /// Why a list was not written.
 #[derive(Clone, Copy, Debug, PartialEq, Eq)]
 pub enum WriteFault {
-    /// The writer failed once it had taken so many bytes.
+    /// The writer failed once it had taken that many bytes.
     Write { count: usize },
     /// There was no memory. Nothing was written.
     NoMemory,

@@ -1,4 +1,4 @@
-// Strings one behind the other, as long as the whole stays within the limit.
+// Strings one after the other, as long as the whole stays within the limit.
 
 ghost use Rattle.std.specs.Prelude.{◌≡◌, ◌≤◌, ◌∷◌, [], ℕ, List, length, MatchOption};
 ghost use Rattle.ssh_wire.specs.Wire.{string, strings};
@@ -38,7 +38,7 @@ pub(crate) fn add_string(out: &mut Vec<u8>, text: &[u8]) -> Result<(), TextFault
     Ok(())
 }
 
-// Appends strings, one behind the other.
+// Appends strings, one after the other.
 pub(crate) fn add_strings<'a, W: Strings<'a>>(
     out: &mut Vec<u8>,
     mut texts: W,

@@ -119,7 +119,7 @@ fn agree_on_many<S: Spans>(rt: &impl Abort, alloc: Global, random: &mut Random, 
     }
 }
 
-// So many times what is said at random is asked about.
+// What is said at random is asked about, this many times.
 fn compare<S: Spans>(rt: &impl Abort, alloc: Global, seed: u64, times: u32) {
     let hashes = Hashes::new();
     let mut random = Random::new(seed);

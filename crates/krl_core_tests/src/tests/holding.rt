@@ -96,7 +96,7 @@ fn spans<S: Spans>(listed: &Listed<'_, S>) -> usize {
     listed.spans().len()
 }
 
-// An authority comes next in a walk, with so many key IDs and spans.
+// An authority comes next in a walk, with these numbers of key IDs and spans.
 fn comes_next<S: Spans>(
     rt: &impl Abort,
     walk: &mut Authorities<'_, S>,
@@ -232,7 +232,7 @@ fn spans_and_authorities_over_each_set(rt: HostRuntime) {
     spans_and_authorities::<Full<SpanVec, 2>>(&rt, rt.alloc());
 }
 
-// Adds so many keys and hashes, in an order that is not theirs.
+// Adds this many keys and hashes, in an order that is not theirs.
 fn add_many(rt: &impl Abort, r: &mut Revocations<Held>, count: u64) {
     for number in 0..count {
         let bytes = number.wrapping_mul(0x9e37_79b9_7f4a_7c15).to_be_bytes();
@@ -248,7 +248,7 @@ fn next_key<'a>(walk: &mut Texts<'a, Text>) -> Option<&'a [u8]> {
     walk.next()
 }
 
-// Each key comes behind the one before it.
+// Each key is greater than the one before it.
 fn rise(rt: &impl Abort, r: &Revocations<Held>, count: usize) {
     let mut last = b"".as_slice();
     let mut walk = r.walk_keys();
@@ -269,7 +269,7 @@ fn are_walked(rt: &impl Abort, r: &Revocations<Held>) {
     }
 }
 
-// So many keys and hashes are held, in their order.
+// This many keys and hashes are held, in their order.
 fn are_in_order(rt: &impl Abort, r: &Revocations<Held>, count: usize) {
     assert!(rt; r.keys() == count);
     assert!(rt; r.sha1s() == count);

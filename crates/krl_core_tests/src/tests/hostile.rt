@@ -71,7 +71,7 @@ fn keys_from(alloc: Global, reader: Giver<'_>) -> Result<usize, KrlFault> {
     }
 }
 
-// A list that goes on with zero bytes has this fault, or so many keys.
+// A list that goes on with zero bytes has this fault, or this many keys.
 fn is_told(
     rt: &impl Abort,
     alloc: Global,

@@ -26,7 +26,7 @@ fn hold_each(rt: &impl Abort, held: &mut Revocations<Held>, number: u64) {
     hold(rt, held, id_under(ALL, name));
 }
 
-// What is held by so many numbers, in an order that is not theirs.
+// What is held by `COUNT` numbers, in an order that is not theirs.
 fn held_by_many(rt: &impl Abort, alloc: Global) -> Revocations<Held> {
     let mut held: Revocations<Held> = Revocations::new(alloc);
     for number in 0..COUNT as u64 {
@@ -61,7 +61,7 @@ fn are_listed(rt: &impl Abort, held: &Revocations<Held>) {
     assert!(rt; next(&mut walk).is_none());
 }
 
-// What is held has a text of so many bytes, which is read back.
+// What is held has a text of this many bytes, which is read back.
 fn has_length(rt: &impl Abort, alloc: Global, held: &Revocations<Held>, length: usize) {
     let text = text_of(alloc, &header(alloc), held).expect(rt, "what is held has a text");
     assert!(rt; text.len() == length);
@@ -82,7 +82,7 @@ fn many_of_each_sort(rt: HostRuntime) {
     has_length(&rt, rt.alloc(), &held, length);
 }
 
-// The section of all authorities with so many odd serials, in no order.
+// The section of all authorities with this many odd serials, in no order.
 fn in_no_order(alloc: Global, count: u64) -> Result<Vec<u8>, AllocError> {
     let mut serials = Vec::new(alloc);
     for number in 0..count {

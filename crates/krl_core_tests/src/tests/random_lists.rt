@@ -168,7 +168,7 @@ fn some_list(rt: &impl Abort, alloc: Global, random: &mut Random) -> Vec<u8> {
     text
 }
 
-// Sets a byte of the list, mostly one behind the header.
+// Sets a byte of the list, mostly one after the header.
 fn change(text: &mut Vec<u8>, random: &mut Random) {
     let at = random.below(300) as usize;
     let byte = [0, 1, 2, 4, 8, 0x20, 0x7f, 0x80, 0xff][random.below(9) as usize];

@@ -15,7 +15,7 @@ fn told(alloc: Global, giver: Giver<'_>) -> Result<u128, KrlFault> {
     spans_from::<Held, Giver<'_>>(alloc, giver)
 }
 
-// The list of a row is told as the row has it, in pieces of each size.
+// The list of a row gives what the row has, in pieces of each size.
 fn is_told_in_pieces<S: Spans>(rt: &impl Abort, alloc: Global, text: &[u8], row: &Row) {
     for piece in [1, 3, 7, 1000] {
         let found = spans_from::<S, Giver<'_>>(alloc, Giver::new(text, piece));
@@ -39,7 +39,7 @@ fn failing(bytes: &[u8]) -> Giver<'_> {
     giver
 }
 
-// So many bytes of the list of serial 5 have this fault, and that of the reader where it fails.
+// A front of the list of serial 5 has its fault, and that of the reader where it fails.
 fn front_is_told(rt: &impl Abort, alloc: Global, front: &[u8]) {
     let fault = match front.len() {
         44 | 70 => None,

@@ -37,7 +37,7 @@ pub fn of_runs(rt: &impl Abort, alloc: Global, runs: &[(u64, u64)]) -> Revocatio
     held
 }
 
-// The runs with these ends have a text of so many bytes, which is read back.
+// The runs with these ends have a text of this many bytes, which is read back.
 fn has_length(rt: &impl Abort, alloc: Global, ends: &[(u64, u64)], length: u64) {
     let held = of_runs(rt, alloc, ends);
     let text = text_of(alloc, &header(alloc), &held).expect(rt, "what is held has a text");
@@ -205,7 +205,7 @@ fn text_length(alloc: Global, held: &Revocations<Held>) -> Result<usize, TextFau
     }
 }
 
-// The length of the text of one key ID of so many letters, or why there is none.
+// The length of the text of one key ID of this many letters, or why there is none.
 fn length_of(rt: &impl Abort, alloc: Global, letters: usize) -> Result<usize, TextFault> {
     let id = vec![in alloc; b'a'; letters].expect(rt, "there is memory");
     let held = held_of::<Held>(rt, alloc, &[id_under(ALL, &id)]);

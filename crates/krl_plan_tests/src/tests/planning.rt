@@ -151,7 +151,7 @@ fn bytes_put(alloc: Global, runs: &[Run]) -> Result<u64, AllocError> {
 }
 
 // What a set's least plan costs is what the cheapest of all plans costs, and its subsections have
-// just so many bytes.
+// just that many bytes.
 fn costs_least(rt: &impl Abort, alloc: Global, runs: &[Run]) -> Result<(), AllocError> {
     let least = least_of(rt, alloc, runs)?;
     let bytes = bytes_put(alloc, runs)?;
@@ -197,7 +197,7 @@ fn run_above(random: &mut Random, serial: u64) -> Run {
     (lo, lo.wrapping_add(more))
 }
 
-// So many runs at random.
+// This many runs at random.
 fn some_runs(alloc: Global, random: &mut Random, count: usize) -> Result<Vec<Run>, AllocError> {
     let mut runs = Vec::new(alloc);
     let mut next: u64 = 1;
@@ -220,7 +220,7 @@ fn no_plan_of_a_random_list_costs_less(rt: HostRuntime) {
     }
 }
 
-// So many serials, each so far above the one before it.
+// This many serials, each this far above the one before it.
 fn serials_apart(alloc: Global, apart: u64, count: u64) -> Result<Vec<Run>, AllocError> {
     let mut runs = Vec::new(alloc);
     let mut serial: u64 = 1;
@@ -231,7 +231,7 @@ fn serials_apart(alloc: Global, apart: u64, count: u64) -> Result<Vec<Run>, Allo
     Ok(runs)
 }
 
-// So many serials, this far apart, the plan of the longest groups of a sort, and how many bytes
+// Many serials, this far apart, the plan of the longest groups of a sort, and how many bytes
 // their subsections take: 5 and 8 a serial, or 18 and an eighth of the reach.
 #[test]
 fn plans_long_lists(rt: HostRuntime) {

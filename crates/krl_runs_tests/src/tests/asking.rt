@@ -80,7 +80,7 @@ fn told_of_each_key_or_stopped_at_a_fault(rt: HostRuntime) {
     }
 }
 
-/// What is said of the key by so many bytes of the list that names it.
+/// What is said of the key by this many bytes of the list that names it.
 fn said_by_front(size: usize) -> Said<'static> {
     match size {
         44 => (b"g.pub: ok\n", 0, ""),

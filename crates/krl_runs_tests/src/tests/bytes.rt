@@ -55,7 +55,7 @@ pub fn same(rt: &impl Abort, number: usize, found: &[u8], wanted: &[u8]) {
     assert_eq!(rt; found, wanted, "in case {number}");
 }
 
-/// Adds bytes behind those that are there.
+/// Adds bytes after those that are there.
 pub fn put(rt: &impl Abort, all: &mut Vec<u8>, bytes: &[u8]) {
     all.extend_from_slice(bytes).expect(rt, "there is memory");
 }
@@ -65,7 +65,7 @@ pub fn joined(rt: &impl Abort, alloc: Global, parts: &[&[u8]]) -> Vec<u8> {
     parts_for_tests::joined(alloc, parts).expect(rt, "there is memory")
 }
 
-/// The parts one after the other, so many times.
+/// The parts one after the other, this many times.
 pub fn repeated(rt: &impl Abort, alloc: Global, parts: &[&[u8]], times: usize) -> Vec<u8> {
     let once = joined(rt, alloc, parts);
     let mut all = Vec::new(alloc);
@@ -131,7 +131,7 @@ pub struct Escaped {
     pub printed: Vec<u8>,
 }
 
-/// A text of so many pairs of a letter and a byte that is escaped.
+/// A text of this many pairs of a letter and a byte that is escaped.
 pub fn long_text(rt: &impl Abort, alloc: Global, pairs: usize) -> Escaped {
     let mut text = String::new(alloc);
     for _ in 0..pairs {
@@ -141,7 +141,7 @@ pub fn long_text(rt: &impl Abort, alloc: Global, pairs: usize) -> Escaped {
     Escaped { text, printed }
 }
 
-/// The lines of so many odd serials.
+/// The lines of this many odd serials.
 pub fn odd_lines(rt: &impl Abort, alloc: Global, count: u32) -> Vec<u8> {
     let mut lines = Vec::new(alloc);
     for half in 0..count {

@@ -22,19 +22,19 @@ const TIMES: usize = 5_000;
 /// What goes out in the first chunk: the first whole lines that reach 65,536 bytes.
 const CHUNK: usize = 65_550;
 
-/// The lines of a file of the key so many times.
+/// The lines of a file that has the key `TIMES` times.
 fn often(rt: &impl Abort, alloc: Global) -> Vec<u8> {
     repeated(rt, alloc, &[GITHUB_LINE, b"\n"], TIMES)
 }
 
-/// Asks about the key so many times, and then about a file that cannot be opened.
+/// Asks about the key `TIMES` times, and then about a file that cannot be opened.
 fn asked_often(rt: &impl Abort, alloc: Global, writes_before_failure: usize) -> Ran {
     let lines = often(rt, alloc);
     let device = Taker::new(alloc, 1_000_000, writes_before_failure);
     asked_of_key(rt, alloc, &[("g.pub", Some(&[&lines])), CLOSED], device)
 }
 
-/// Where the output fails after so many writes, it has taken so many bytes of the lines.
+/// Where the output fails after this many writes, it has taken this many bytes of the lines.
 fn sends(rt: &impl Abort, alloc: Global, writes: usize, count: usize, fault: &str) {
     let ran = asked_often(rt, alloc, writes);
     let text = repeated(rt, alloc, &[SAID], TIMES);

@@ -161,7 +161,7 @@ fn printed_in_part(rt: &impl Abort, alloc: Global, calls: usize) -> Ran {
     asked(rt, alloc, Giver::whole(&list), true, &[], device)
 }
 
-/// The fault of an output that has taken so many bytes.
+/// The fault of an output that has taken this many bytes.
 fn write_fault(rt: &impl Abort, alloc: Global, count: usize) -> String {
     format!(in alloc; "ssh-keygen: output: output 1 Write after {count} bytes").expect(
         rt,
@@ -180,7 +180,7 @@ fn the_output_fails_within_the_contents(rt: HostRuntime) {
     }
 }
 
-/// A list of the first odd serials, so many that their lines and their pages are several.
+/// A list of the first odd serials, enough of them that their lines and their pages are several.
 fn odd_serials(rt: &impl Abort, alloc: Global) -> Vec<u8> {
     let start = b"\x01\0\0\x9c\x4d\0\0\0\0\0\0\0\0\x20\0\0\x9c\x40".as_slice();
     let mut list = joined(rt, alloc, &[&HEADER, start]);

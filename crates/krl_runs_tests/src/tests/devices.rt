@@ -49,7 +49,7 @@ fn refuses<R: Read + Drop>(rt: &impl Abort, alloc: Global, device: R, fault: Fil
     }
 }
 
-/// In pieces of so many bytes the line of the key takes so many calls, all of which are made.
+/// In pieces of this many bytes the line of the key takes this many calls, all of which are made.
 fn takes(rt: &impl Abort, alloc: Global, piece: usize, calls: usize) {
     for calls_before_failure in 0..90 {
         let mut device = Giver::new(GITHUB_LINE, piece);

@@ -9,7 +9,7 @@ use ssh_wire::WireFault;
 use std::alloc::Global;
 use std::process::Abort;
 
-/// A fault is told so, behind the name of the program, and its cause has this number. Another
+/// A fault is printed so, after the name of the program, and its cause has this number. Another
 /// number tells it from the others of a test.
 fn is_told(rt: &impl Abort, alloc: Global, place: usize, fault: &RunFault, number: u8, want: &str) {
     let text = fault_line(alloc, fault).expect(rt, "there is memory");
@@ -21,7 +21,7 @@ fn is_told(rt: &impl Abort, alloc: Global, place: usize, fault: &RunFault, numbe
 
 const SHORT: KeyFault = KeyFault::Wire(WireFault::Short);
 
-/// A name, a line, a cause, its number, and how the three are told.
+/// A name, a line, a cause, its number, and how the three are printed.
 type Row<'a> = (&'a str, Option<u64>, Cause, u8, &'a str);
 
 const ROWS: [Row<'static>; 15] = [

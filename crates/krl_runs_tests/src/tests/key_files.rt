@@ -65,7 +65,7 @@ fn told_of_each_line(rt: HostRuntime) {
     }
 }
 
-/// The file of this name and these parts is told of in this text, which revokes nothing.
+/// This text is said of the file of this name and these parts, and nothing is revoked.
 fn is_ok<'a>(
     rt: &impl Abort,
     alloc: Global,
@@ -78,7 +78,7 @@ fn is_ok<'a>(
     tells(rt, alloc, number, &[file], (text, 0, ""))
 }
 
-/// A file of a long name is told of, with a key whose comment is as long.
+/// What is said of a file of a long name, with a key whose comment is as long.
 fn is_told(rt: &impl Abort, alloc: Global, pairs: usize) {
     let long = long_text(rt, alloc, pairs);
     let line = joined(rt, alloc, &[OTHER_LINE, b" ", long.text.as_bytes()]);

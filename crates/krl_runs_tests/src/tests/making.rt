@@ -331,8 +331,8 @@ fn the_first_key_of_the_file_is_the_authority(rt: HostRuntime) {
     is_authority(&rt, rt.alloc(), 1, &container, &FIVE_UNDER_GITHUB);
 }
 
-/// A file of so many lines without a key, one of which is as long, and of the line of the other key
-/// with a comment that is as long.
+/// A file with as many lines without a key as there are letters, and one more of all the letters.
+/// The line of the other key comes last, with the letters as its comment.
 fn long_lines(rt: &impl Abort, alloc: Global, letters: &[u8]) -> Vec<u8> {
     let lines = repeated(rt, alloc, &[b"# a\n"], letters.len());
     let parts: [&[u8]; 7] = [&lines, b"#", letters, b"\n", OTHER_LINE, b" ", letters];
@@ -397,14 +397,14 @@ fn a_file_that_cannot_be_opened(rt: HostRuntime) {
     same(&rt, 0, &made.fault, b"ssh-keygen: none: file 1 Open");
 }
 
-/// The line of a key ID of so many bytes.
+/// The line of a key ID of this many bytes.
 fn long_id(rt: &impl Abort, alloc: Global, size: usize) -> Vec<u8> {
     let line = repeated(rt, alloc, &[&[0x61; 4096]], size / 4096);
     let rest = repeated(rt, alloc, &[b"a"], size % 4096);
     joined(rt, alloc, &[b"id: ", &line, &rest])
 }
 
-/// The list of a key ID of so many bytes has so many.
+/// The list of a key ID of `id` bytes has `size` bytes.
 fn has_size(rt: &impl Abort, alloc: Global, id: usize, size: usize) {
     let line = long_id(rt, alloc, id);
     let made = made(

@@ -242,7 +242,7 @@ fn refused(rt: HostRuntime) {
     }
 }
 
-/// A file of lines with comments of so many letters, and of as many lines that add nothing.
+/// A file of lines with comments of this many letters, and of as many lines that add nothing.
 fn long_file(rt: &impl Abort, alloc: Global, size: usize) -> Vec<u8> {
     let letters = repeated(rt, alloc, &[b"a"], size);
     let lines = repeated(rt, alloc, &[b"# a\n"], size);
@@ -274,7 +274,7 @@ fn long_files_are_read(rt: HostRuntime) {
     }
 }
 
-/// A key of a device whose application has so many letters is added.
+/// A key of a device whose application has this many letters is added.
 fn adds_long_key(rt: &impl Abort, alloc: Global, size: usize) {
     let application = repeated(rt, alloc, &[b"a"], size);
     let word = b"sk-ssh-ed25519@openssh.com".as_slice();

@@ -285,7 +285,7 @@ fn told_in_words(rt: HostRuntime) -> Result<(), Fail> {
     Ok(())
 }
 
-// The first words, and so many names of files after them.
+// The first words, and this many names of files after them.
 fn with_files(
     alloc: Global,
     first: &[&'static str],
@@ -298,7 +298,7 @@ fn with_files(
     Ok(words)
 }
 
-// Whether the words with so many files after them ask for these files.
+// Whether the words with this many files after them ask for these files.
 fn asks_for_files(alloc: Global, first: &[&'static str], count: usize) -> Result<bool, Fail> {
     let words = with_files(alloc, first, count)?;
     let job = job_by(alloc, &words)?;
@@ -323,7 +323,7 @@ fn many_files(rt: HostRuntime) -> Result<(), Fail> {
     Ok(())
 }
 
-// So many letters.
+// This many letters.
 fn letters(alloc: Global, size: usize) -> Result<String, AllocError> {
     let mut text = String::new(alloc);
     for _ in 0..size {
@@ -340,7 +340,7 @@ fn takes_names(alloc: Global, size: usize) -> Result<bool, Fail> {
     Ok(job.file == name.as_str() && job.files.as_slice() == &words[4..])
 }
 
-// Whether a long word that is no option is told.
+// Whether a long word that is no option is reported.
 fn tells_word(alloc: Global, size: usize) -> Result<bool, Fail> {
     let name = letters(alloc, size)?;
     let word = format!(in alloc; "--{}", name.as_str())?;

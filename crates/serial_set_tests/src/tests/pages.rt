@@ -45,7 +45,7 @@ fn odd_numbers<S: Spans>(rt: &impl Abort, alloc: Global, order: Order, count: u6
     set
 }
 
-// Whether the set has so many spans, and this one at a place.
+// Whether the set has this many spans, and this one at a place.
 fn has_span<S: Spans>(set: &S, length: usize, at: usize, span: Span) -> bool {
     set.len() == length && at < length && set.get(at) == span
 }

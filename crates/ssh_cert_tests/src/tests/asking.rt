@@ -36,7 +36,7 @@ fn a_key_is_asked_by_its_blob_and_a_certificate_by_its_key_and_its_authority(rt:
     assert!(rt; has_names(alloc, &blob, Some(&authority)));
 }
 
-/// A string of so many bytes.
+/// A string of this many bytes.
 fn long(alloc: Global, byte: u8, size: usize) -> Result<Vec<u8>, AllocError> {
     let bytes = vec![in alloc; byte; size]?;
     strings(alloc, &[&bytes])

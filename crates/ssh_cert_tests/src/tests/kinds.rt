@@ -60,7 +60,7 @@ fn keys_of_numbers_and_of_32_bytes(rt: HostRuntime) {
     }
 }
 
-/// The public fields of a key on a curve, whose point is uncompressed and has so many bytes; the
+/// The public fields of a key on a curve, whose point is uncompressed and has this many bytes; the
 /// key of a device has an application too.
 fn on_curve(
     alloc: Global,

@@ -114,7 +114,7 @@ const AFTER_THE_ID: &[u8] = b"\"\n\
      \x20       Critical Options: (none)\n\
      \x20       Extensions: (none)\n";
 
-/// Whether a certificate with a key ID of so many escape bytes is listed with each of them.
+/// Whether a certificate with a key ID of this many escape bytes is listed with each of them.
 fn lists_id(alloc: Global, size: usize) -> Result<bool, AllocError> {
     let id = vec![in alloc; 0x1b; size]?;
     let field = strings(alloc, &[&id])?;
@@ -124,7 +124,7 @@ fn lists_id(alloc: Global, size: usize) -> Result<bool, AllocError> {
     Ok(listing(alloc, &blob, Hash::Sha256) == Some(wanted))
 }
 
-/// The bytes so many times.
+/// The bytes this many times.
 fn times(alloc: Global, bytes: &[u8], count: usize) -> Result<Vec<u8>, AllocError> {
     let mut all = Vec::new(alloc);
     for _ in 0..count {
@@ -154,7 +154,7 @@ fn lists_last(
 
 const NO_OPTIONS: &[u8] = b"\n        Critical Options: (none)\n        Extensions: (none)\n";
 
-/// Whether a certificate is listed with a principal of so many letters.
+/// Whether a certificate is listed with a principal of this many letters.
 fn lists_principal(alloc: Global, size: usize) -> Result<bool, AllocError> {
     let long = vec![in alloc; b'a'; size]?;
     let front = b"        Principals:\n                ";
@@ -162,7 +162,7 @@ fn lists_principal(alloc: Global, size: usize) -> Result<bool, AllocError> {
     lists_last(alloc, Part::Principals, &[&long], &lines)
 }
 
-/// Whether a certificate is listed with so many principals.
+/// Whether a certificate is listed with this many principals.
 fn lists_principals(alloc: Global, count: usize) -> Result<bool, AllocError> {
     let names = times(alloc, b"\0\0\0\x01a", count)?;
     let field = strings(alloc, &[&names])?;
@@ -172,7 +172,7 @@ fn lists_principals(alloc: Global, count: usize) -> Result<bool, AllocError> {
     Ok(lists(alloc, &blob, Hash::Md5, &lines))
 }
 
-/// Whether a certificate is listed with a command of so many letters.
+/// Whether a certificate is listed with a command of this many letters.
 fn lists_command(alloc: Global, size: usize) -> Result<bool, AllocError> {
     let long = vec![in alloc; b'a'; size]?;
     let command = strings(alloc, &[&long])?;
@@ -181,7 +181,7 @@ fn lists_command(alloc: Global, size: usize) -> Result<bool, AllocError> {
     lists_last(alloc, Part::Critical, &[b"force-command", &command], &lines)
 }
 
-/// Whether a certificate is listed with an extension of so many letters, and as many of its data.
+/// Whether a certificate is listed with an extension of this many letters, and as many of its data.
 fn lists_extension(alloc: Global, size: usize) -> Result<bool, AllocError> {
     let long = vec![in alloc; b'a'; size]?;
     let digits = times(alloc, b"61", size)?;

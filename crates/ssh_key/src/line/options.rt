@@ -6,7 +6,7 @@ ghost use Rattle.ssh_key.specs.LineReading.{after_options, quoted_behind};
 use crate::line::words::is_blank;
 
 /// What stands after the options field, which ends at the first blank outside double quotes. A
-/// quote behind a backslash is a byte like any other. None if the text ends inside quotes.
+/// quote after a backslash is a byte like any other. None if the text ends inside quotes.
 pub fn after_options(text: &[u8]) -> Option<&[u8]>
     ensures { option_map (λ rest. rest.now) result ≡ after_options false false text.now }
 {
@@ -22,7 +22,7 @@ pub fn after_options(text: &[u8]) -> Option<&[u8]>
     if quoted { None } else { Some(&[]) }
 }
 
-/// Whether the place behind a byte is between quotes, by the place before it.
+/// Whether the place after a byte is between quotes, by the place before it.
 fn quoted_behind(quoted: bool, escaped: bool, byte: u8) -> bool
     ensures { result ≡ quoted_behind quoted escaped byte }
 {

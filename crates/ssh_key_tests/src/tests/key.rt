@@ -170,7 +170,7 @@ fn faults_of_points(rt: HostRuntime) {
     let other_curve = ("ecdsa-sha2-nistp256", "nistp384");
     let rows = [
         (other_curve, 65, 4, KeyFault::Curve),
-        // The curve is told before its point.
+        // The curve is reported before its point.
         (other_curve, 64, 4, KeyFault::Curve),
         // A compressed point, a short one, and one of another curve.
         (p256, 65, 2, KeyFault::Point),

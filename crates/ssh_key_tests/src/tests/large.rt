@@ -6,7 +6,7 @@ use parts_for_tests::{PUBLISHED, strings};
 use ssh_key::{Hash, KeyFault, read_key, read_line};
 use std::alloc::{AllocError, Global};
 
-/// A key of a device whose application has so many bytes.
+/// A key of a device whose application has this many bytes.
 fn device_key(alloc: Global, size: usize) -> Result<Vec<u8>, AllocError> {
     let application = vec![in alloc; b'x'; size]?;
     strings(
@@ -33,7 +33,7 @@ fn gives(alloc: Global, text: &[u8], blob: &[u8], comment: &[u8]) -> bool {
     }
 }
 
-/// Whether the line of a key and a comment of so many bytes is read.
+/// Whether the line of a key and a comment of this many bytes is read.
 fn reads_line(alloc: Global, application: usize, comment: usize) -> Result<bool, AllocError> {
     let blob = device_key(alloc, application)?;
     let comment = vec![in alloc; b'c'; comment]?;

@@ -66,7 +66,7 @@ fn is_refused(alloc: Global, line: &str, fault: LineFault) -> bool {
 }
 
 const REFUSED: [(&str, &str, LineFault); 15] = [
-    // Another type name before the key, and behind an options field, and one of a certificate.
+    // Another type name before the key, and after an options field, and one of a certificate.
     ("ssh-rsa ", "", LineFault::WordDiffers),
     ("no-pty ssh-dss ", "", LineFault::WordDiffers),
     (

@@ -56,7 +56,7 @@ fn refused(rt: HostRuntime) {
     }
 }
 
-/// The prefix and so many letters, with this text after them.
+/// The prefix and this many letters, with this text after them.
 fn long_text(alloc: Global, letters: usize, end: &str) -> Result<Vec<u8>, AllocError> {
     let mut text = Vec::from_slice(alloc, b"SHA256:")?;
     for _ in 0..letters {

@@ -12,7 +12,7 @@ pub const PUBLISHED_TYPE: &str = "ssh-ed25519";
 pub const PUBLISHED_BASE64: &str =
     "AAAAC3NzaC1lZDI1NTE5AAAAIOMqqnkVzrm0SdG6UOoqKLsabgH5C9okWi0dh2l9GKJl";
 
-/// So many bytes, the first of them and the others.
+/// This many bytes, with this one first.
 pub fn point(alloc: Global, size: usize, first: u8) -> Result<Vec<u8>, AllocError> {
     let mut bytes = vec![in alloc; 0x55; size]?;
     if let Some(front) = bytes.first_mut() {

@@ -77,7 +77,7 @@ fn faults_of_long_fields(rt: HostRuntime) {
     let long = vec![in alloc; 1; 70_000].expect(&rt, "there is memory");
     let device: [&[u8]; 2] = [&PUBLISHED, &long];
     refuses(&rt, alloc, Kind::Ed25519Sk, &device, KeyFault::TooLong).expect(&rt, "there is memory");
-    // A fault of a field is told before it.
+    // A fault of a field is reported before it.
     refuses(&rt, alloc, Kind::Rsa, &[&long, &[]], KeyFault::Number).expect(&rt, "there is memory");
 }
 

@@ -260,7 +260,7 @@ fn answers_do_not_hang_on_the_pieces(rt: HostRuntime) {
     }
 }
 
-/// So many bytes: those from 0 to 250, again and again.
+/// This many bytes: those from 0 to 250, again and again.
 pub fn text_of(alloc: Global, size: u64) -> Result<Vec<u8>, AllocError> {
     let mut text = Vec::new(alloc);
     let mut byte: u8 = 0;
@@ -271,7 +271,7 @@ pub fn text_of(alloc: Global, size: u64) -> Result<Vec<u8>, AllocError> {
     Ok(text)
 }
 
-/// Whether these bytes come whole at so many bytes a call.
+/// Whether these bytes come whole at this many bytes a call.
 fn comes_whole(alloc: Global, text: &[u8], field: &[u8], piece: usize) -> Result<bool, AllocError> {
     let steps = [AtEnd(Ok(false)), Bytes(field), Taken(field.len() as u64)];
     let mut reader = pull(text, piece, Then::Ends, 70_000);

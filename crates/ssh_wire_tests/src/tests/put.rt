@@ -97,7 +97,7 @@ fn long_vectors_grow(rt: HostRuntime) {
     assert!(rt; out.len() == 310_000);
 }
 
-/// Whether a number of up to 100,000 bytes is put as so many bytes, which begin with these.
+/// Whether a number of up to 100,000 bytes is put as this many bytes, which begin with these.
 #[tactic(auto, using(ssh_wire::specs::Magnitudes::complement_fits))]
 fn puts_number(
     out: &mut Vec<u8>,

@@ -33,7 +33,7 @@ impl<'a> Read for Device<'a> {
 /// What is done with a reader and a buffer of four bytes.
 #[derive(Clone, Copy)]
 enum Step {
-    /// So many interruptions come next.
+    /// This many interruptions come next.
     Interrupted(u16),
     /// The answer to a read into the buffer from a place on. The reader has failed by an error.
     Reads(usize, Result<usize, Failed>),

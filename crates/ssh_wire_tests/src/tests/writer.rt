@@ -4,7 +4,7 @@ use devices_for_tests::Taker;
 use ssh_wire::{Failed, Sent, Sink, ToWrite, send};
 use std::alloc::Global;
 
-// A writer that is interrupted so many times first.
+// A writer that is interrupted this many times first.
 fn fresh(alloc: Global, piece: usize, interruptions: usize, calls_before_failure: usize) -> Taker {
     let mut taker = Taker::new(alloc, piece, calls_before_failure);
     taker.interruptions = interruptions;

@@ -131,7 +131,7 @@ fn bytes_behind(rt: HostRuntime) {
     are_refused(&rt, alloc, &bytes, PrivateFault::Trailing).expect(&rt, "there is memory");
 }
 
-/// Bytes behind the list are told before it is read.
+/// Bytes after the list are reported before it is read.
 #[test]
 fn bytes_behind_an_empty_list(rt: HostRuntime) {
     let alloc = rt.alloc();

@@ -66,7 +66,7 @@ fn other_fields(rt: HostRuntime) {
     }
 }
 
-/// A private field of another length, which is told before the public one.
+/// A private field of another length, which is reported before the public one.
 #[test]
 fn private_fields(rt: HostRuntime) {
     let name = PUBLISHED_TYPE.as_bytes();

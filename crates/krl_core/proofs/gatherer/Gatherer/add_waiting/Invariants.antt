@@ -2,7 +2,7 @@ use Rattle.std.proofs.Common.{length}
 use Rattle.krl_core.proofs.Gathering.{Settling}
 use Rattle.krl_core.proofs.gatherer.Gatherer.add_waiting.Given as goal
 
--- those that waited behind the others were added
+-- the last of those that waited were added
 abbrev pub invariant-loop-serial : goal.invariant-loop-serial
 invariant-loop-serial g l = Settling l.fn.self (record { keeping = l.self-inside.keeper; waiting = l.self-inside.waiting.items })
 

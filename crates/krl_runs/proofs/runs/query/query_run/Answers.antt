@@ -1,4 +1,4 @@
--- What was said is sent, and the end of the run told.
+-- What was said is sent, and the end of the run reported.
 use Rattle.std.proofs.Common.{rules}
 use Rattle.krl_runs.proofs.Ending.{ends_known}
 use Rattle.krl_runs.proofs.runs.query.query_run.Goals as goal
