@@ -1,33 +1,23 @@
 """Revocation lists (PROTOCOL.krl) of every shape, at about a given size in bytes."""
 
+import os
 import random
 import struct
+import sys
 
-HEADER = b"SSHKRL\n\0" + struct.pack(">IQQQII", 1, 1, 0, 0, 0, 0)
+from measure import TOP
+
+sys.path.insert(0, os.path.join(TOP, "tests"))
+from wire import HEADER, bitmap, certificates, serials, span, string
+
 # Bytes of one section at the most, and of one bitmap: OpenSSH reads none that is larger.
 PIECE = 1 << 16
 BITMAP = 1 << 11
 
 
-def string(content):
-    return struct.pack(">I", len(content)) + content
-
-
 def key(number):
     """The blob of an Ed25519 key that stands for a number."""
     return string(b"ssh-ed25519") + string(struct.pack(">Q", number) + bytes(24))
-
-
-def certificates(authority, subsections):
-    return b"\1" + string(string(authority) + string(b"") + subsections)
-
-
-def serials(numbers):
-    return b"\x20" + string(struct.pack(">%dQ" % len(numbers), *numbers))
-
-
-def bitmap(offset, content):
-    return b"\x22" + string(struct.pack(">Q", offset) + string(content))
 
 
 def pieces(items, count):
@@ -36,7 +26,8 @@ def pieces(items, count):
 
 def of_serials(numbers):
     """A list of these serials under all authorities, in this order."""
-    return HEADER + certificates(b"", b"".join(serials(part) for part in pieces(numbers, PIECE // 8)))
+    parts = (serials(*part) for part in pieces(numbers, PIECE // 8))
+    return HEADER + certificates(b"", *parts)
 
 
 def of_strings(section, strings):
@@ -66,21 +57,21 @@ def alternating_serials(size):
 def ranges(size):
     source = random.Random(size)
     starts = [source.randrange(1, 1 << 63) for _ in range(size // 21)]
-    return HEADER + certificates(b"", b"".join(b"\x21" + string(struct.pack(">QQ", lo, lo + 999)) for lo in starts))
+    return HEADER + certificates(b"", *(span(lo, lo + 999) for lo in starts))
 
 
 def bitmaps(size):
     """Each second serial, in large bitmaps."""
     content = b"\x55" * BITMAP
     parts = (bitmap(1 + 8 * BITMAP * at, content) for at in range(size // BITMAP))
-    return HEADER + certificates(b"", b"".join(parts))
+    return HEADER + certificates(b"", *parts)
 
 
 def small_bitmaps(size, step):
     """Bitmaps of eight bytes, at offsets that rise or fall."""
     count = size // 25
     offsets = [1 + 128 * at for at in range(count)][::step]
-    return HEADER + certificates(b"", b"".join(bitmap(offset, b"\x55" * 8) for offset in offsets))
+    return HEADER + certificates(b"", *(bitmap(offset, b"\x55" * 8) for offset in offsets))
 
 
 def rising_bitmaps(size):
@@ -94,12 +85,14 @@ def falling_bitmaps(size):
 def ids(size):
     source = random.Random(size)
     names = [b"user-%012x" % source.randrange(1 << 48) for _ in range(size // 21)]
-    return HEADER + certificates(b"", b"".join(b"\x23" + string(b"".join(map(string, part))) for part in pieces(names, 1024)))
+    parts = (b"\x23" + string(b"".join(map(string, part))) for part in pieces(names, 1024))
+    return HEADER + certificates(b"", *parts)
 
 
 def authorities(size):
     """Many authorities, each with one serial."""
-    return HEADER + b"".join(certificates(key(number), serials([number + 1])) for number in shuffled(size // 81))
+    numbers = shuffled(size // 81)
+    return HEADER + b"".join(certificates(key(it), serials(it + 1)) for it in numbers)
 
 
 def shuffled(count):

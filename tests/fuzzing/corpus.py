@@ -4,7 +4,8 @@ import os
 import random
 import subprocess
 
-HIGHEST = 2**64 - 1
+from wire import HIGHEST
+
 KEYS = [("ed25519", "ed25519", None), ("rsa", "rsa", "1024"), ("ecdsa", "ecdsa", "256")]
 KEYS += [("ecdsa384", "ecdsa", "384"), ("ecdsa521", "ecdsa", "521"), ("dsa", "dsa", None)]
 AUTHORITIES = [("ca-one", "ed25519", None), ("ca-two", "ecdsa", "256"), ("ca-three", "rsa", "1024")]

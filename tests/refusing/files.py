@@ -4,17 +4,9 @@ import base64
 import hashlib
 import struct
 
-HIGHEST = 2**64 - 1
+from wire import HEADER, HIGHEST, bitmap, certificates, section, serials, span, string, strings
+
 CERT = "ssh-ed25519-cert-v01@openssh.com"
-HEADER = b"SSHKRL\n\0" + struct.pack(">IQQQII", 1, 1, 0, 0, 0, 0)
-
-
-def string(content):
-    return struct.pack(">I", len(content)) + content
-
-
-def strings(*contents):
-    return b"".join(string(it if isinstance(it, bytes) else it.encode()) for it in contents)
 
 
 def ed25519(byte):
@@ -69,28 +61,8 @@ def container(public, private, comment):
     return "\n".join(["-----BEGIN " + name] + lines + ["-----END " + name, ""])
 
 
-def section(sort, *contents):
-    return bytes([sort]) + string(b"".join(contents))
-
-
-def serials(*numbers):
-    return section(0x20, struct.pack(">%dQ" % len(numbers), *numbers))
-
-
-def span(least, most):
-    return section(0x21, struct.pack(">QQ", least, most))
-
-
-def bitmap(offset, bits):
-    return section(0x22, struct.pack(">Q", offset), string(bits))
-
-
 def ids(*texts):
     return section(0x23, strings(*texts))
-
-
-def certificates(authority, *subsections):
-    return section(1, strings(authority, b""), *subsections)
 
 
 def extension(sort):
