@@ -61,18 +61,10 @@ for cert in "${certs[@]}"; do
   done
 done
 
-# asked NAME KEY..: of the list of these keys, both programs say the same of all keys and certificates.
-asked() {
-  local name=$1 files=("${keys[@]/%/.pub}" "${certs[@]}") output status
-  shift
-  "$openssh" -q -k -f made.krl "$@" >"$scratch/error" 2>&1 || cat "$scratch/error"
-  output=$("$openssh" -Q -f made.krl "${files[@]}")
-  status=$?
-  expect "$name" $status "$output"$'\n' '' -Q -f made.krl "${files[@]}"
-}
-asked 'certificates asked of a list of no key'
-asked 'certificates asked of a list of all keys' "${keys[@]/%/.pub}"
-asked 'certificates asked of a list of all authorities' "${authorities[@]/%/.pub}"
+asked=("${keys[@]/%/.pub}" "${certs[@]}")
+same_of 'certificates asked of a list of no key'
+same_of 'certificates asked of a list of all keys' "${keys[@]/%/.pub}"
+same_of 'certificates asked of a list of all authorities' "${authorities[@]/%/.pub}"
 for key in "${keys[@]}" "${authorities[@]}"; do
-  asked "certificates asked of a list of $key" "$key.pub"
+  same_of "certificates asked of a list of $key" "$key.pub"
 done

@@ -28,22 +28,16 @@ for version in '' +1 0x1 1a 18446744073709551616 000000000000000000001; do
 done
 judge 'nothing is made of a misuse' "$(ls made.krl 2>/dev/null)"
 
-# list_of DIGITS: the bytes of the list that was made, but for its date.
-list_of() {
-  local digits
-  digits=$(od -An -v -tx1 made.krl | tr -d ' \n')
-  printf %s "${digits:0:40}${digits:56}"
-}
 # makes NAME DIGITS WORD..: a list is made, with these bytes but for its date.
 makes() {
   local name=$1 digits=$2
   shift 2
   expect "$name" 0 '' '' -k -f made.krl "$@"
-  judge "$name: the list" "$(differs 'the list' "$digits" "$(list_of)")"
+  judge "$name: the list" "$(differs 'the list' "$digits" "$(digits made.krl)")"
 }
 five=01000000150000000000000000200000000800000000000000 && five+=05
 head=${H:0:24}
-rest=${H:56}
+rest=${H:40}
 printf 'serial: 5\n' >five
 printf 'serial: 6\n' >six
 makes 'a list of one serial' "${head}0000000000000001$rest$five" -s none -z 1 five
@@ -64,7 +58,7 @@ expect 'a line without an authority' 255 '' $'ssh-keygen: six: line 1: spec 4 No
 expect 'a specification file that is not there' 255 '' $'ssh-keygen: none: file 1 Open\n' \
   -k -f made.krl -s none none
 judge 'a refused list is not written' "$(
-  differs 'the list' "${head}ffffffffffffffff$rest$six" "$(list_of)"
+  differs 'the list' "${head}ffffffffffffffff$rest$six" "$(digits made.krl)"
 )"
 expect 'an update of a list that is not there' 255 '' $'ssh-keygen: new.krl: file 1 Open\n' \
   -k -u -f new.krl -s none six

@@ -57,6 +57,30 @@ judge() {
   fi
 }
 
+# digits FILE: the bytes of a list in hexadecimal, with zeros in place of its time.
+digits() {
+  local all
+  all=$(od -An -v -tx1 "$1" | tr -d ' \n')
+  printf '%s%016d%s' "${all:0:40}" 0 "${all:56}"
+}
+
+# same NAME: both programs say the same of the list made.krl, asked about the files that the array
+# asked names.
+same() {
+  local output status
+  output=$("$openssh" -Q -f made.krl "${asked[@]}")
+  status=$?
+  expect "$1" $status "$output"$'\n' '' -Q -f made.krl "${asked[@]}"
+}
+
+# same_of NAME KEY..: the same of the list that OpenSSH makes of these keys.
+same_of() {
+  local name=$1
+  shift
+  "$openssh" -q -k -f made.krl "$@" >"$scratch/error" 2>&1 || cat "$scratch/error"
+  same "$name"
+}
+
 # tell FILE: prints what other tests said in the file, and adds up what its last line counts.
 tell() {
   local last

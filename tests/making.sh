@@ -6,12 +6,6 @@ highest=18446744073709551615
 line ssh-ed25519 "$G" >g.pub
 line ssh-ed25519 "$A" >a
 
-# digits FILE: the bytes of a list in hexadecimal, with zeros in place of its time.
-digits() {
-  local all
-  all=$(od -An -v -tx1 "$1" | tr -d ' \n')
-  printf '%s%016d%s' "${all:0:40}" 0 "${all:56}"
-}
 # made DIGITS: the last run was silent and made the list with these digits.
 made() {
   judge "$name" "$(

@@ -49,18 +49,10 @@ done
 for key in "${made[@]}"; do
   sed -i "s/\$/ of $key/" "$key"
 done
-# same NAME KEY..: of the list of these keys, both programs print the same for all keys.
-same() {
-  local name=$1 output status
-  shift
-  "$openssh" -q -k -f made.krl "$@" >"$scratch/error" || cat "$scratch/error"
-  output=$("$openssh" -Q -f made.krl "${made[@]}")
-  status=$?
-  expect "$name" $status "$output"$'\n' '' -Q -f made.krl "${made[@]}"
-}
-same 'a list of no key'
-same 'a list of all keys' "${made[@]}"
-same 'a list of the first keys' "${made[@]:0:6}"
+asked=("${made[@]}")
+same_of 'a list of no key'
+same_of 'a list of all keys' "${made[@]}"
+same_of 'a list of the first keys' "${made[@]:0:6}"
 for key in "${made[@]}"; do
-  same "a list of $key" "$key"
+  same_of "a list of $key" "$key"
 done

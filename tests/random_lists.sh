@@ -10,13 +10,6 @@ make_list() {
   "$openssh" -q -k ${3:-} -f made.krl -s "$2" -z $((RANDOM % 100 + 1)) spec >"$scratch/error" 2>&1 ||
     judge "OpenSSH makes the list $1 $2" "  $(cat "$scratch/error")"
 }
-# same NAME: both programs say the same of the list.
-same() {
-  local output status
-  output=$("$openssh" -Q -f made.krl "${asked[@]}")
-  status=$?
-  expect "$1" $status "$output"$'\n' '' -Q -f made.krl "${asked[@]}"
-}
 for sort in dense sparse clustered ranges mixed ends top ids keys authority both; do
   for round in 1 2; do
     make_list $sort ca-one.pub

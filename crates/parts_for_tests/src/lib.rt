@@ -1,5 +1,6 @@
-//! What the tests of several crates are made of: strings as the formats spell them, a published
-//! key and its containers, lists and runs of serials, numbers that look random, and printed texts.
+//! What the tests of several crates are made of: strings and points as the formats spell them, a
+//! published key and its containers, lists and runs of serials, numbers that look random, and
+//! printed texts.
 #![tactic(auto)]
 
 mod containers;
@@ -14,4 +15,4 @@ pub use lists::{FIVE, HEADER};
 pub use printing::printed;
 pub use random::Random;
 pub use serials::EIGHT_AND_ONE;
-pub use spelled::{PUBLISHED, joined, strings};
+pub use spelled::{PUBLISHED, joined, point, repeated, strings};

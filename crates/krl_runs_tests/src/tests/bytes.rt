@@ -68,11 +68,7 @@ pub fn joined(rt: &impl Abort, alloc: Global, parts: &[&[u8]]) -> Vec<u8> {
 /// The parts one after the other, this many times.
 pub fn repeated(rt: &impl Abort, alloc: Global, parts: &[&[u8]], times: usize) -> Vec<u8> {
     let once = joined(rt, alloc, parts);
-    let mut all = Vec::new(alloc);
-    for _ in 0..times {
-        put(rt, &mut all, &once);
-    }
-    all
+    parts_for_tests::repeated(alloc, &once, times).expect(rt, "there is memory")
 }
 
 /// The list of version 1 with these sections.

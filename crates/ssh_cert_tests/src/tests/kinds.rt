@@ -1,7 +1,7 @@
 // A certificate of each kind of key.
 
 use crate::tests::parts::{Part, changed, has_fault, is_asked};
-use parts_for_tests::strings;
+use parts_for_tests::{point, strings};
 use ssh_cert::{CertFault, read_cert};
 use ssh_key::{KeyFault, Kind};
 use ssh_wire::WireFault;
@@ -68,11 +68,8 @@ fn on_curve(
     size: usize,
     application: &[u8],
 ) -> Result<Vec<u8>, AllocError> {
-    let mut point = vec![in alloc; 0x55; size]?;
-    if let Some(front) = point.first_mut() {
-        *front = 4;
-    }
-    let mut public = strings(alloc, &[curve.as_bytes(), &point])?;
+    let q = point(alloc, size, 4)?;
+    let mut public = strings(alloc, &[curve.as_bytes(), &q])?;
     public.extend_from_slice(application)?;
     Ok(public)
 }

@@ -1,7 +1,7 @@
 // The listing of a certificate, and instants as they are printed.
 
 use crate::tests::parts::{Part, changed, with};
-use parts_for_tests::{PUBLISHED, joined, strings};
+use parts_for_tests::{PUBLISHED, joined, repeated, strings};
 use ssh_cert::{list_cert, push_escaped, read_cert, time_text, valid_at};
 use ssh_key::Hash;
 use std::alloc::{AllocError, Global};
@@ -119,18 +119,9 @@ fn lists_id(alloc: Global, size: usize) -> Result<bool, AllocError> {
     let id = vec![in alloc; 0x1b; size]?;
     let field = strings(alloc, &[&id])?;
     let blob = changed(alloc, Part::KeyId, &field)?;
-    let escaped = times(alloc, b"\\x1b", size)?;
+    let escaped = repeated(alloc, b"\\x1b", size)?;
     let wanted = joined(alloc, &[BEFORE_THE_ID, &escaped, AFTER_THE_ID])?;
     Ok(listing(alloc, &blob, Hash::Sha256) == Some(wanted))
-}
-
-/// The bytes this many times.
-fn times(alloc: Global, bytes: &[u8], count: usize) -> Result<Vec<u8>, AllocError> {
-    let mut all = Vec::new(alloc);
-    for _ in 0..count {
-        all.extend_from_slice(bytes)?;
-    }
-    Ok(all)
 }
 
 #[test]
@@ -164,10 +155,10 @@ fn lists_principal(alloc: Global, size: usize) -> Result<bool, AllocError> {
 
 /// Whether a certificate is listed with this many principals.
 fn lists_principals(alloc: Global, count: usize) -> Result<bool, AllocError> {
-    let names = times(alloc, b"\0\0\0\x01a", count)?;
+    let names = repeated(alloc, b"\0\0\0\x01a", count)?;
     let field = strings(alloc, &[&names])?;
     let blob = changed(alloc, Part::Principals, &field)?;
-    let shown = times(alloc, b"\n                a", count)?;
+    let shown = repeated(alloc, b"\n                a", count)?;
     let lines = joined(alloc, &[b"        Principals:", &shown, NO_OPTIONS])?;
     Ok(lists(alloc, &blob, Hash::Md5, &lines))
 }
@@ -184,7 +175,7 @@ fn lists_command(alloc: Global, size: usize) -> Result<bool, AllocError> {
 /// Whether a certificate is listed with an extension of this many letters, and as many of its data.
 fn lists_extension(alloc: Global, size: usize) -> Result<bool, AllocError> {
     let long = vec![in alloc; b'a'; size]?;
-    let digits = times(alloc, b"61", size)?;
+    let digits = repeated(alloc, b"61", size)?;
     let front = b"        Extensions:\n                ";
     let lines = joined(alloc, &[front, &long, b" hex:", &digits, b"\n"])?;
     lists_last(alloc, Part::Extensions, &[&long, &long], &lines)

@@ -1,7 +1,7 @@
 // Keys read from blobs, and the faults of blobs.
 
-use crate::tests::parts::{has_fault, has_parts, is_made, point, published_key};
-use parts_for_tests::{PUBLISHED, strings};
+use crate::tests::parts::{ON_CURVES, OnCurve, has_fault, has_parts, is_made, published_key};
+use parts_for_tests::{PUBLISHED, point, strings};
 use ssh_key::{KeyFault, Kind, read_key};
 use ssh_wire::WireFault;
 use std::alloc::{AllocError, Global};
@@ -55,56 +55,30 @@ fn keys_of_numbers_and_of_32_bytes(rt: HostRuntime) {
     }
 }
 
-/// The kind of a key on a curve, its type name and its curve, the size of its point, what follows
-/// that, and its own size.
-type OnCurve<'a> = (Kind, &'a str, &'a str, usize, &'a [&'a [u8]], u32);
-
-const ON_CURVES: [OnCurve<'static>; 4] = [
-    (
-        Kind::Ecdsa256,
-        "ecdsa-sha2-nistp256",
-        "nistp256",
-        65,
-        &[],
-        256,
-    ),
-    (
-        Kind::Ecdsa384,
-        "ecdsa-sha2-nistp384",
-        "nistp384",
-        97,
-        &[],
-        384,
-    ),
-    (
-        Kind::Ecdsa521,
-        "ecdsa-sha2-nistp521",
-        "nistp521",
-        133,
-        &[],
-        521,
-    ),
-    // a device has an application
-    (
-        Kind::EcdsaSk,
-        "sk-ecdsa-sha2-nistp256@openssh.com",
-        "nistp256",
-        65,
-        &[b"ssh:"],
-        256,
-    ),
-];
-
 /// A key on a curve is read.
 fn on_curve(rt: &impl Abort, alloc: Global, row: &OnCurve) -> Result<(), AllocError> {
-    let (kind, name, curve, size, more, bits) = *row;
+    let (kind, name, curve, size, bits) = *row;
     let q = point(alloc, size, 4)?;
-    let mut list: Vec<&[u8]> = Vec::new(alloc);
-    list.push(name.as_bytes())?;
-    list.push(curve.as_bytes())?;
-    list.push(&q)?;
-    list.extend_from_slice(more)?;
-    reads(rt, alloc, &list, kind, bits)
+    reads(
+        rt,
+        alloc,
+        &[name.as_bytes(), curve.as_bytes(), &q],
+        kind,
+        bits,
+    )
+}
+
+/// A key of a device is read, which has an application after its point.
+fn on_curve_of_a_device(rt: &impl Abort, alloc: Global) -> Result<(), AllocError> {
+    let q = point(alloc, 65, 4)?;
+    let name = b"sk-ecdsa-sha2-nistp256@openssh.com";
+    reads(
+        rt,
+        alloc,
+        &[name, b"nistp256", &q, b"ssh:"],
+        Kind::EcdsaSk,
+        256,
+    )
 }
 
 #[test]
@@ -112,6 +86,7 @@ fn keys_on_curves(rt: HostRuntime) {
     for row in &ON_CURVES {
         on_curve(&rt, rt.alloc(), row).expect(&rt, "there is memory");
     }
+    on_curve_of_a_device(&rt, rt.alloc()).expect(&rt, "there is memory");
 }
 
 const SHORT: KeyFault = KeyFault::Wire(WireFault::Short);

@@ -12,14 +12,15 @@ pub const PUBLISHED_TYPE: &str = "ssh-ed25519";
 pub const PUBLISHED_BASE64: &str =
     "AAAAC3NzaC1lZDI1NTE5AAAAIOMqqnkVzrm0SdG6UOoqKLsabgH5C9okWi0dh2l9GKJl";
 
-/// This many bytes, with this one first.
-pub fn point(alloc: Global, size: usize, first: u8) -> Result<Vec<u8>, AllocError> {
-    let mut bytes = vec![in alloc; 0x55; size]?;
-    if let Some(front) = bytes.first_mut() {
-        *front = first;
-    }
-    Ok(bytes)
-}
+/// The kind of a key on a curve, its type name and its curve, the size of its point, and its own
+/// size.
+pub type OnCurve<'a> = (Kind, &'a str, &'a str, usize, u32);
+
+pub const ON_CURVES: [OnCurve<'static>; 3] = [
+    (Kind::Ecdsa256, "ecdsa-sha2-nistp256", "nistp256", 65, 256),
+    (Kind::Ecdsa384, "ecdsa-sha2-nistp384", "nistp384", 97, 384),
+    (Kind::Ecdsa521, "ecdsa-sha2-nistp521", "nistp521", 133, 521),
+];
 
 /// The blob of the published key.
 pub fn published_key(alloc: Global) -> Result<Vec<u8>, AllocError> {

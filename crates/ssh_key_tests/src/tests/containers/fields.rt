@@ -1,8 +1,8 @@
 // The fields of a container before its private list: changed, cut, lengthened and repeated.
 
 use crate::tests::containers::made::{are_refused, plain, published_container, published_list};
-use crate::tests::parts::{point, published_key};
-use parts_for_tests::{Parts, joined, strings};
+use crate::tests::parts::published_key;
+use parts_for_tests::{Parts, joined, point, strings};
 use ssh_key::{KeyFault, PrivateFault};
 use ssh_wire::WireFault;
 use std::alloc::{AllocError, Global};

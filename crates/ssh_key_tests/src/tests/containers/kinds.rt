@@ -1,8 +1,8 @@
 // Containers of keys of each kind.
 
 use crate::tests::containers::made::{are_refused, armoured, is_read, plain};
-use crate::tests::parts::point;
-use parts_for_tests::{PUBLISHED, joined, private_list, strings};
+use crate::tests::parts::{ON_CURVES, OnCurve};
+use parts_for_tests::{PUBLISHED, joined, point, private_list, strings};
 use ssh_key::PrivateFault;
 use std::alloc::{AllocError, Global};
 use std::process::Abort;
@@ -100,13 +100,8 @@ fn curve_differs(
 }
 
 /// The container of a key on this curve is read, and that of another point is not.
-fn on_curve(
-    rt: &impl Abort,
-    alloc: Global,
-    name: &str,
-    curve: &str,
-    size: usize,
-) -> Result<(), AllocError> {
+fn on_curve(rt: &impl Abort, alloc: Global, row: &OnCurve) -> Result<(), AllocError> {
+    let (_, name, curve, size, _) = *row;
     let q = point(alloc, size, 4)?;
     let blob = strings(alloc, &[name.as_bytes(), curve.as_bytes(), &q])?;
     for private in [[3].as_slice(), &[]] {
@@ -120,13 +115,8 @@ fn on_curve(
 
 #[test]
 fn ecdsa(rt: HostRuntime) {
-    let rows = [
-        ("ecdsa-sha2-nistp256", "nistp256", 65),
-        ("ecdsa-sha2-nistp384", "nistp384", 97),
-        ("ecdsa-sha2-nistp521", "nistp521", 133),
-    ];
-    for (name, curve, size) in rows {
-        on_curve(&rt, rt.alloc(), name, curve, size).expect(&rt, "there is memory");
+    for row in &ON_CURVES {
+        on_curve(&rt, rt.alloc(), row).expect(&rt, "there is memory");
     }
 }
 
