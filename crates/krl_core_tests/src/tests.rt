@@ -12,6 +12,7 @@ mod plain_model;
 mod plain_reader;
 mod random_lists;
 mod reading;
+mod refused;
 mod rows;
 mod sending;
 mod subjects;

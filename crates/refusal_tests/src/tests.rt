@@ -1,3 +1,0 @@
-mod lists;
-mod puts;
-mod sets;
