@@ -8,7 +8,7 @@ use crate::keyed::Keyed;
 use crate::spot::{Spot, found_spot, stands_at};
 
 /// A chapter, and a spot in its pages.
-#[derive(Clone, Copy, Debug)]
+#[derive(Clone, Copy)]
 pub(crate) struct Bookmark {
     pub chapter: usize,
     pub spot: Spot,

@@ -8,7 +8,7 @@ use crate::page::{Page, compare, count_below};
 use std::cmp::Ordering;
 
 /// A page, and a spot in it. After all values it is the spot 0 after the last page.
-#[derive(Clone, Copy, Debug)]
+#[derive(Clone, Copy)]
 pub(crate) struct Spot {
     pub page: usize,
     pub at: usize,

@@ -26,7 +26,7 @@ pub enum Authority<'a> {
 }
 
 /// The same, with the blob of the key.
-#[derive(Debug, Drop)]
+#[derive(Drop)]
 pub enum Signer {
     NotGiven,
     All,

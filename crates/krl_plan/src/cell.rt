@@ -7,7 +7,7 @@ ghost use Rattle.krl_plan.specs.Search.{IsAtOrBefore, Wins};
 
 use crate::group::Group;
 
-#[derive(Clone, Copy, Debug)]
+#[derive(Clone, Copy)]
 pub(crate) struct Cell {
     pub(crate) cost: u128,
     pub(crate) group: Group,

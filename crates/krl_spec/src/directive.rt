@@ -16,7 +16,7 @@ const DIRECTIVES: [Directive; 6] = [
 ];
 
 /// What a line begins with, before a colon.
-#[derive(Clone, Copy, Debug, PartialEq, Eq)]
+#[derive(Clone, Copy)]
 pub enum Directive {
     /// A serial, or a range of them, under the authority at hand.
     Serial,

@@ -10,7 +10,7 @@ use ssh_key::after_blanks;
 use std::str;
 
 /// The first and the last number of a range.
-#[derive(Clone, Copy, Debug, PartialEq, Eq)]
+#[derive(Clone, Copy)]
 pub struct Bounds {
     pub lo: u64,
     pub hi: u64,

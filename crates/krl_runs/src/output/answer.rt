@@ -3,7 +3,7 @@
 use ssh_wire::Bytes;
 
 /// What a run says of a key, or of a list.
-#[derive(Debug, Drop)]
+#[derive(Drop)]
 pub struct Answer {
     /// Whole lines of the output, each with its line feed.
     pub text: Bytes,

@@ -8,7 +8,7 @@ use ssh_cert::push_escaped;
 use std::alloc::{AllocError, Global};
 
 /// What some bytes of a list are.
-#[derive(Clone, Copy, Debug, PartialEq, Eq)]
+#[derive(Clone, Copy)]
 pub enum Fact {
     /// A key ID.
     Id,
