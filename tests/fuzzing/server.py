@@ -5,13 +5,6 @@ import struct
 import subprocess
 
 
-def built_library(folder):
-    library = os.path.join(folder, "serving.so")
-    source = os.path.join(os.path.dirname(os.path.abspath(__file__)), "serving.c")
-    subprocess.run(["cc", "-O2", "-shared", "-fPIC", "-o", library, source], check=True)
-    return library
-
-
 class Request:
     """What is run, and the files for what it prints."""
 

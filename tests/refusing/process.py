@@ -3,6 +3,7 @@
 import os
 import signal
 import struct
+from pathlib import Path
 
 MOMENT = 951782400
 SECONDS = 20
@@ -41,11 +42,6 @@ class Counts:
         self.descriptor = descriptor
 
 
-def content_of(name):
-    with open(name, "rb") as file:
-        return file.read()
-
-
 class Program:
     """The program, in the folder at hand, which holds the files that it reads."""
 
@@ -82,12 +78,12 @@ class Program:
         signal.alarm(SECONDS)
         status = os.waitstatus_to_exitcode(os.waitpid(self.process, 0)[1])
         signal.alarm(0)
-        numbers = struct.unpack("9Q", content_of("report"))
+        numbers = struct.unpack("9Q", Path("report").read_bytes())
         return Ended(
             status,
-            content_of("output"),
-            content_of("error"),
-            content_of("made.krl") if os.path.exists("made.krl") else None,
+            Path("output").read_bytes(),
+            Path("error").read_bytes(),
+            Path("made.krl").read_bytes() if os.path.exists("made.krl") else None,
             {
                 sort: Counts(*numbers[3 * at : 3 * at + 3])
                 for at, sort in enumerate(["MEMORY", "READ", "WRITE"])
