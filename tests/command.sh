@@ -51,6 +51,12 @@ six=010000001a000000000000000022 && six+=0000000d00000000000000050000000103
 makes 'an update' "${head}0000000000000015$rest$six" -u -s none six
 makes 'an update with a version' "${head}ffffffffffffffff$rest$six" \
   -u -z 18446744073709551615 -s none
+makes 'an update asked for twice' "${head}0000000000000003$rest$six" -u -u -z 3 -s none
+makes 'a list of which all but the files is said twice' "${head}0000000000000002$rest$five" \
+  -k -s none.pub -s none -z x -z 2 -f other.krl -f made.krl five
+judge 'the first of two lists is not made' "$(ls other.krl 2>/dev/null)"
+makes 'the list that there was' "${head}ffffffffffffffff$rest$six" \
+  -u -z 18446744073709551615 -s none six
 expect 'an update past the greatest version' 255 '' \
   $'ssh-keygen: made.krl: run 2 VersionFull\n' -k -u -f made.krl -s none six
 expect 'a line without an authority' 255 '' $'ssh-keygen: six: line 1: spec 4 NoAuthority\n' \
@@ -75,7 +81,17 @@ expect_text 'help beside other options' 0 output -Q -h
 expect_text 'an unknown option' 2 error -Z
 expect_text 'an unknown long option' 2 error --nothing
 expect_text 'an option without its value' 2 error -l -f
-expect_text 'an option given twice' 2 error -l -f g.pub -f g.pub
+expect_text 'a second time without its value' 2 error -l -f g.pub -f
+
+expect 'a question asked twice, of the last of two lists' 1 $'g.pub: REVOKED\n' '' \
+  -Q -f none.krl -Q -f r.krl g.pub
+for words in '-E md5 -E sha256' '-l -E sha256 -E md5'; do
+  expect "the last of two hashes: $words" 0 "$("$openssh" -l $words -f g.pub)"$'\n' '' \
+    -l $words -f g.pub
+done
+expect 'the last of two hashes is none' 2 '' "$usage" -l -E md5 -E sha1 -f g.pub
+expect 'the last of two versions is none' 2 '' "$usage" -k -f made.krl -z 1 -z x
+judge 'nothing is made of it' "$(ls made.krl 2>/dev/null)"
 
 expect 'options in one word' 1 $'g.pub: REVOKED\n' '' -Qfr.krl g.pub
 expect 'files before the options' 1 $'g.pub: REVOKED\n' '' g.pub -f r.krl -Q

@@ -1,5 +1,5 @@
 -- The options that the program has (ssh-keygen(1), SYNOPSIS), and what words hold of them.
-use Rattle.std.specs.Prelude.{ℕ, Bool, false, List, [], ◌∷◌, ◌++◌, Some, codes, unwrap_or}
+use Rattle.std.specs.Prelude.{ℕ, Bool, true, false, List, [], ◌∷◌, ◌++◌, Some, codes, unwrap_or}
 use Rattle.std.specs.Option.{option_map_or}
 use Rattle.std.specs.Str.{bytes_eq}
 use Rattle.clap.specs.Lexer.{usize_max}
@@ -49,11 +49,16 @@ abbrev pub with_rules : App → List Rule → App
 with_rules app [] = app
 with_rules app (rule ∷ rules) = with_rules (with_rule app rule) rules
 
-abbrev pub program : App
-program = record {
-  top = record (new_shape (codes "ssh-keygen")) { rules = modes ++ (names ++ terms) };
+-- The program without its options. A use of an option undoes an earlier use of the same option: of
+-- several values the last one counts, and an option without a value counts once.
+abbrev pub bare : App
+bare = record {
+  top = record (new_shape (codes "ssh-keygen")) { args_override_self = true };
   subs = [];
 }
+
+abbrev pub program : App
+program = with_rules bare (modes ++ (names ++ terms))
 
 abbrev pub is_set : List ℕ → List Row → Bool
 is_set id rows = option_map_or (λ text. bytes_eq text (codes "true")) (first_of id rows) false

@@ -19,14 +19,15 @@ const EXAMPLES: &str = "Examples:
   ssh-keygen -k -f list.krl -s ca.pub lines     a list made of specification files
   ssh-keygen -Q -f list.krl key.pub             whether keys are revoked";
 
-/// The program as its words are read.
+/// The program as its words are read. Of an option that is given more than once the last counts.
 pub fn program<'a>(alloc: Global) -> Result<Command<'a>, AllocError>
     ensures { IfOk result (λ command. app_of command ≡ program) }
 {
     let bare = Command::new(alloc, "ssh-keygen")
         .about("Lists keys and certificates; makes, prints and asks key revocation lists")
         .override_usage(USAGE)
-        .after_help(EXAMPLES);
+        .after_help(EXAMPLES)
+        .args_override_self(true);
     let with_modes = add_modes(alloc, bare)?;
     let with_names = add_names(alloc, with_modes)?;
     add_terms(alloc, with_names)

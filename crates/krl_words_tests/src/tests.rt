@@ -1,3 +1,4 @@
 // Which words give which command.
 
+mod repeated;
 mod words;

@@ -7,7 +7,7 @@ use std::alloc::{AllocError, Global};
 use std::test::Fail;
 
 // The job that the words ask for, the program's name before them.
-fn job_by<'a>(alloc: Global, words: &'a [&'a str]) -> Result<Job<'a>, &'static str> {
+pub(super) fn job_by<'a>(alloc: Global, words: &'a [&'a str]) -> Result<Job<'a>, &'static str> {
     match command_of(alloc, words) {
         Ok(job) => Ok(job),
         Err(_) => Err("the words ask for a job"),
@@ -15,7 +15,7 @@ fn job_by<'a>(alloc: Global, words: &'a [&'a str]) -> Result<Job<'a>, &'static s
 }
 
 // Why the words ask for none.
-fn fault_by(alloc: Global, words: &[&str]) -> Result<CommandFault, &'static str> {
+pub(super) fn fault_by(alloc: Global, words: &[&str]) -> Result<CommandFault, &'static str> {
     match command_of(alloc, words) {
         Ok(_) => Err("the words ask for nothing"),
         Err(fault) => Ok(fault),
@@ -23,7 +23,7 @@ fn fault_by(alloc: Global, words: &[&str]) -> Result<CommandFault, &'static str>
 }
 
 // The words, and the job that they ask for: the mode, the file, the hash and the files.
-type Asked<'a> = (&'a [&'a str], Mode, &'a str, Hash, &'a [&'a str]);
+pub(super) type Asked<'a> = (&'a [&'a str], Mode, &'a str, Hash, &'a [&'a str]);
 
 const JOBS: [Asked<'static>; 11] = [
     (&["ssh-keygen", "-LfE"], Mode::Certs, "E", Hash::Sha256, &[]),
@@ -99,7 +99,7 @@ const JOBS: [Asked<'static>; 11] = [
     ),
 ];
 
-fn is_asked(job: &Job, row: &Asked) -> bool {
+pub(super) fn is_asked(job: &Job, row: &Asked) -> bool {
     let (_, mode, file, hash, files) = row;
     job.mode == *mode && job.file == *file && job.hash == *hash && job.files.as_slice() == *files
 }
@@ -130,7 +130,7 @@ fn contents_are_asked_for(rt: HostRuntime) -> Result<(), Fail> {
 }
 
 // Words of `-k`, whether it updates, the authority, the version and the files.
-type Making<'a> = (&'a [&'a str], bool, &'a str, Option<u64>, &'a [&'a str]);
+pub(super) type Making<'a> = (&'a [&'a str], bool, &'a str, Option<u64>, &'a [&'a str]);
 
 const MAKING: [Making<'static>; 7] = [
     (&["ssh-keygen", "-k", "-f", "l"], false, "", None, &[]),
@@ -187,7 +187,7 @@ fn is_authority(authority: &AuthorityName, words: &str) -> bool {
     }
 }
 
-fn is_making(job: &Job, row: &Making) -> bool {
+pub(super) fn is_making(job: &Job, row: &Making) -> bool {
     let (_, update, authority, version, files) = row;
     job.mode == Mode::Make
         && job.file == "l"
@@ -243,7 +243,7 @@ const MISUSED: [&[&str]; 33] = [
 ];
 
 // Whether the fault is that of a misuse, and says so.
-fn is_misuse(alloc: Global, fault: &CommandFault) -> Result<bool, AllocError> {
+pub(super) fn is_misuse(alloc: Global, fault: &CommandFault) -> Result<bool, AllocError> {
     let text = format!(in alloc; "{fault}")?;
     Ok(fault.number() == 1 && text.as_str() == "usage 1 Usage")
 }
@@ -258,7 +258,7 @@ fn misused(rt: HostRuntime) -> Result<(), Fail> {
 }
 
 // Whether the fault is of words that are not read, or that ask for help, with something to print.
-fn tells(fault: &CommandFault, of_help: bool) -> bool {
+pub(super) fn tells(fault: &CommandFault, of_help: bool) -> bool {
     match fault {
         CommandFault::Words { help, text } => *help == of_help && !text.is_empty(),
         _ => false,
@@ -273,7 +273,7 @@ const TOLD: [(&[&str], bool); 7] = [
     (&["ssh-keygen", "-Q", "-f", "k", "-y"], false),
     (&["ssh-keygen", "--query", "-f", "k"], false),
     (&["ssh-keygen", "-Q", "-f"], false),
-    (&["ssh-keygen", "-Q", "-f", "k", "-f", "k"], false),
+    (&["ssh-keygen", "-Q", "-f", "--"], false),
 ];
 
 #[test]
