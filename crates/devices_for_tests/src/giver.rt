@@ -11,6 +11,8 @@ use std::io::{self, ErrorKind, Read};
 pub enum Then {
     Ends,
     Fails,
+    /// Ends, and fails where it is asked again.
+    EndsOnce,
     /// Gives this many zero bytes, and ends then.
     Zeros(usize),
 }
@@ -50,6 +52,10 @@ impl<'a> Giver<'a> {
         match self.then {
             Then::Ends => Ok(0),
             Then::Fails => Err(ErrorKind::Other.into()),
+            Then::EndsOnce => {
+                self.then = Then::Fails;
+                Ok(0)
+            }
             Then::Zeros(left) => {
                 let count = left.min(into.len()).min(self.piece);
                 into[..count].fill(0);

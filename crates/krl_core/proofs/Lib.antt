@@ -12,9 +12,9 @@ pub mod Meant
 pub mod Same
 pub mod Keeping
 pub mod Quiet
-pub mod Gathering
 pub mod Bits
 pub mod Stepping
+pub mod Ending
 pub mod Whole
 pub mod Bitmaps
 pub mod Rests

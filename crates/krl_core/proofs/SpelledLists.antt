@@ -1,5 +1,5 @@
 -- A list that is spelled has no fault, where it is within the limit.
-use Rattle.std.proofs.Common.{◌≡◌, ℕ, ◌+◌, ◌-◌, ◌<◌, ◌≤◌, ◌^◌, ◌⊎◌, Bool, true, false, ltb, List, [], ◌∷◌, ◌++◌, length, take, Some, None, Ok, refl, sym, ap, subst, ◌∙◌, append_assoc, arith, inl, inr}
+use Rattle.std.proofs.Common.{◌≡◌, ℕ, ◌+◌, ◌-◌, ◌<◌, ◌≤◌, ◌^◌, ◌⊎◌, Bool, true, false, ltb, List, [], ◌∷◌, ◌++◌, length, take, Some, None, Ok, refl, sym, ap, subst, ◌∙◌, append_assoc, arith, inl, inr, Option}
 use Rattle.std.proofs.lemmas.Bool.{le-ltb}
 use Rattle.std.proofs.lemmas.List.{length-append, take_all}
 use Rattle.ssh_wire.specs.Wire.{IsBytes, number_of, string, strings}
@@ -153,14 +153,14 @@ not_some : (fault : KrlFault) → Some fault ≡ None → ⊥
 not_some fault e = cc
 
 -- of a list that is spelled nothing else is said than that memory ran out or that the reader failed
-pub only_broken_off : (fault : KrlFault) (failed : Bool) (text : List ℕ) (header : Header) (sections : List SpelledSection) → Says fault text failed → IsBytes text → Spells text header sections → length text ≤ limit
+pub only_broken_off : (fault : KrlFault) (failed : Bool) (left : Option (List ℕ)) (text : List ℕ) (header : Header) (sections : List SpelledSection) → Says fault text failed left → IsBytes text → Spells text header sections → length text ≤ limit
     → (fault ≡ faults.NoMemory) ⊎ ((fault ≡ faults.Read) × (failed ≡ true))
-only_broken_off fault failed text header sections (starved is some) fits h le = inl is
-only_broken_off fault failed text header sections (failed_read is given) fits h le = inr (is, given.failed_is)
-only_broken_off fault failed text header sections (first told works) fits h le =
+only_broken_off fault failed left text header sections (starved is some works) fits h le = inl is
+only_broken_off fault failed left text header sections (failed_read is given) fits h le = inr (is, given.failed_is)
+only_broken_off fault failed left text header sections (first told works) fits h le =
     absurd (not_some fault (one_told text (Some fault) None told (spelled_unfaulted text header sections fits h le)))
 
-pub only_starved : (fault : KrlFault) (failed : Bool) (text : List ℕ) (header : Header) (sections : List SpelledSection) → Says fault text failed → IsBytes text → Spells text header sections → length text ≤ limit
+pub only_starved : (fault : KrlFault) (failed : Bool) (left : Option (List ℕ)) (text : List ℕ) (header : Header) (sections : List SpelledSection) → Says fault text failed left → IsBytes text → Spells text header sections → length text ≤ limit
     → (fault ≡ faults.NoMemory) ⊎ (fault ≡ faults.Read)
-only_starved fault failed text header sections says fits h le =
-    elim (only_broken_off fault failed text header sections says fits h le) [ inl memory ↦ inl memory | inr read ↦ inr read.0 ]
+only_starved fault failed left text header sections says fits h le =
+    elim (only_broken_off fault failed left text header sections says fits h le) [ inl memory ↦ inl memory | inr read ↦ inr read.0 ]

@@ -7,7 +7,7 @@ use Rattle.std.proofs.lemmas.List.{append-nil, length-append, take_all}
 use Rattle.std.proofs.lemmas.List.Folds.{concat-append}
 use Rattle.std.proofs.Math.Seq.{take-append_seam}
 use Rattle.ssh_wire.specs.Wire.{IsBytes}
-use Rattle.ssh_wire.specs.Pull.{Pulled, Looks, Takes, Refuses, left_of}
+use Rattle.ssh_wire.specs.Pull.{Pulled, Looks, Takes, Refuses, after_ahead, left_of}
 use Rattle.ssh_wire.specs.declared.pull_fault.PullFault.{PullFault}
 use Rattle.ssh_wire.specs.declared.pull_fault.PullFault.TheVariants as pulls
 use Rattle.ssh_wire.specs.Cut.{take-behind}
@@ -16,8 +16,7 @@ use Rattle.krl_core.specs.declared.krl_fault.KrlFault.{KrlFault}
 use Rattle.krl_core.specs.declared.krl_fault.KrlFault.TheVariants as faults
 use Rattle.krl_core.specs.declared.place.Place.{Place}
 use Rattle.krl_core.specs.Front.{Spot, start, spot_after, Leads, Passes, HasRoom, Told, no_room, refused, too_long, ends_early, IsFirstFault, limit}
-use Rattle.krl_core.specs.Gathered.{Gathered, GathersField, Grows, IsGathered}
-use Rattle.krl_core.specs.Keeping.{StoresWithin}
+use Rattle.krl_core.specs.Keeping.{GrowsWithin, IsKept, Keeping, KeepsField, StoresWithin}
 use Rattle.krl_core.specs.Place.{due, names, authority_after, header_after}
 use Rattle.krl_core.specs.Reading.{Position, working, HasRead, IsBounded, LooksFor, Missed, no_room as room_missed, cut, Says, starved, failed_read, first, Refused, is_fixed, told_as}
 use Rattle.krl_core.proofs.Fixed.{late_enough}
@@ -52,6 +51,10 @@ ahead_left (Some byte) (Some xs) rest p e f left some none = let l = rw (e, f) a
 pub ahead_some : (p : Pulled) (rest : List ℕ) → left_of p ≡ Some rest → IsSome p.ahead → rest ≡ [] → ⊥
 ahead_some p rest left some none = ahead_left p.ahead p.source rest p refl refl left some none
 
+-- where no byte was looked at, what is left is what the reader has
+none_ahead : (p : Pulled) → p.ahead ≡ None → left_of p ≡ p.source
+none_ahead p none = ap (λ (ahead : Option ℕ). after_ahead ahead p.source) none
+
 -- ---- the front that was read
 
 -- what is reported at the place that was reached is the first fault
@@ -84,13 +87,13 @@ told_given fields spot came fault leads le told =
 
 -- ---- faults
 
-says_as : (a b : KrlFault) (text : List ℕ) (failed : Bool) → b ≡ a → Says a text failed → Says b text failed
-says_as a b text failed e h = subst (λ (f : KrlFault). Says f text failed) (sym e) h
+says_as : (a b : KrlFault) (text : List ℕ) (failed : Bool) (left : Option (List ℕ)) → b ≡ a → Says a text failed left → Says b text failed left
+says_as a b text failed left e h = subst (λ (f : KrlFault). Says f text failed left) (sym e) h
 
 -- the reader failed in a field, or where the end was looked for
-pub says_read : (old : Position) (mid new : Pulled) (text : List ℕ) (fields : List (List ℕ)) → IsBounded old.pull old.gathered
+pub says_read : (old : Position) (mid new : Pulled) (text : List ℕ) (fields : List (List ℕ)) → IsBounded old.pull old.keeping
     → HasRead text fields old → Keeps (left_of old.pull) (left_of mid) → mid.taken ≡ old.pull.taken → mid.limit ≡ old.pull.limit
-    → HasRoom (due old.place) → Refuses mid (due old.place).size pulls.Read new → Says faults.Read text new.failed
+    → HasRoom (due old.place) → Refuses mid (due old.place).size pulls.Read new → Says faults.Read text new.failed new.source
 says_read old mid new text fields bounded h keeps taken limit_is room r =
     let left = keeps_some (left_of old.pull) (left_of mid) h.rest h.left_is keeps in
     let m = r.misses in
@@ -102,16 +105,17 @@ says_read old mid new text fields bounded h keeps taken limit_is room r =
       given = concat fields ++ m.came;
       later = after.0;
       parts = h.parts ∙ ap (λ (l : List ℕ). concat fields ++ l) after.2 ∙ sym (append_assoc (concat fields) m.came after.0);
-      failed_is = m.tells;
+      left_is = sym (none_ahead new m.tells.0) ∙ after.1;
+      failed_is = m.tells.1;
       told = elim (end_or_early h.spot.place m.came room' short) [
         | inl t ↦ inl (told_given fields h.spot m.came None h.leads le t)
         | inr t ↦ inr (told_given fields h.spot m.came (Some faults.EndsEarly) h.leads le t)
       ];
     })
 
-says_early : (old : Position) (mid new : Pulled) (text : List ℕ) (fields : List (List ℕ)) → IsBounded old.pull old.gathered
+says_early : (old : Position) (mid new : Pulled) (text : List ℕ) (fields : List (List ℕ)) → IsBounded old.pull old.keeping
     → HasRead text fields old → LooksFor old.place old.pull false mid
-    → HasRoom (due old.place) → Refuses mid (due old.place).size pulls.EndsEarly new → Says faults.EndsEarly text new.failed
+    → HasRoom (due old.place) → Refuses mid (due old.place).size pulls.EndsEarly new → Says faults.EndsEarly text new.failed new.source
 says_early old mid new text fields bounded h looks room r =
     let left = keeps_some (left_of old.pull) (left_of mid) h.rest h.left_is looks.bytes in
     let m = r.misses in
@@ -128,9 +132,9 @@ says_early old mid new text fields bounded h looks room r =
     first (told_there text fields old h (Some faults.EndsEarly) (omega arith)
     (rw (whole, off) told)) m.tells.1
 
-says_long : (old : Position) (mid new : Pulled) (text : List ℕ) (fields : List (List ℕ)) → IsBounded old.pull old.gathered
+says_long : (old : Position) (mid new : Pulled) (text : List ℕ) (fields : List (List ℕ)) → IsBounded old.pull old.keeping
     → HasRead text fields old → LooksFor old.place old.pull false mid
-    → HasRoom (due old.place) → Refuses mid (due old.place).size pulls.TooLong new → Says faults.TooLong text new.failed
+    → HasRoom (due old.place) → Refuses mid (due old.place).size pulls.TooLong new → Says faults.TooLong text new.failed new.source
 says_long old mid new text fields bounded h looks room r =
     let left = keeps_some (left_of old.pull) (left_of mid) h.rest h.left_is looks.bytes in
     let m = r.misses in
@@ -152,35 +156,35 @@ says_long old mid new text fields bounded h looks room r =
 
 -- after the first fields a text has 40 bytes
 says_starved : (old : Position) (new : Pulled) (text : List ℕ) (fields : List (List ℕ)) (fault : KrlFault) → HasRead text fields old
-    → is_fixed old.place ≡ false → fault ≡ faults.NoMemory → Says fault text new.failed
-says_starved old new text fields fault h late is =
+    → is_fixed old.place ≡ false → fault ≡ faults.NoMemory → new.failed ≡ false → Says fault text new.failed new.source
+says_starved old new text fields fault h late is works =
     let some = late_enough fields h.spot h.leads (subst (λ (p : Place). is_fixed p ≡ false) h.place_is late) in
-    starved is (omega (arith, some, ap length h.parts, length-append (concat fields) h.rest))
+    starved is (omega (arith, some, ap length h.parts, length-append (concat fields) h.rest)) works
 
-says_cut : (old : Position) (mid new : Pulled) (text : List ℕ) (fields : List (List ℕ)) (why : PullFault) → IsBounded old.pull old.gathered
+says_cut : (old : Position) (mid new : Pulled) (text : List ℕ) (fields : List (List ℕ)) (why : PullFault) → IsBounded old.pull old.keeping
     → HasRead text fields old → LooksFor old.place old.pull false mid
-    → HasRoom (due old.place) → Refuses mid (due old.place).size why new → (told_as why ≡ faults.NoMemory → is_fixed old.place ≡ false) → Says (told_as why) text new.failed
+    → HasRoom (due old.place) → Refuses mid (due old.place).size why new → (told_as why ≡ faults.NoMemory → is_fixed old.place ≡ false) → Says (told_as why) text new.failed new.source
 says_cut old mid new text fields pulls.EndsEarly bounded h looks room r late = says_early old mid new text fields bounded h looks room r
 says_cut old mid new text fields pulls.TooLong bounded h looks room r late = says_long old mid new text fields bounded h looks room r
 says_cut old mid new text fields pulls.Read bounded h looks room r late =
     says_read old mid new text fields bounded h looks.bytes looks.taken looks.limit_is room r
-says_cut old mid new text fields pulls.NoMemory bounded h looks room r late = says_starved old new text fields faults.NoMemory h (late refl) refl
+says_cut old mid new text fields pulls.NoMemory bounded h looks room r late = says_starved old new text fields faults.NoMemory h (late refl) refl r.misses.tells
 
 -- a field that was not taken
-pub missed_says : (old : Position) (mid new : Pulled) (fault : KrlFault) → IsBounded old.pull old.gathered
+pub missed_says : (old : Position) (mid new : Pulled) (fault : KrlFault) → IsBounded old.pull old.keeping
     → LooksFor old.place old.pull false mid → Missed old.place mid fault new → (fault ≡ faults.NoMemory → is_fixed old.place ≡ false) → Refused fault old new
 missed_says old mid new fault bounded looks (room_missed full is same) late text fields h =
     let le : length (concat fields) ≤ limit = omega (arith, bounded.within, h.taken_is) in
-    says_as faults.Length fault text new.failed is
-    (first (told_there text fields old h (Some faults.Length) le (no_room full refl)) (ap (λ p. p.failed) same ∙ looks.works h.works))
+    says_as faults.Length fault text new.failed new.source is
+    (first (told_there text fields old h (Some faults.Length) le (no_room full refl)) (ap (λ p. p.failed) same ∙ looks.works))
 missed_says old mid new fault bounded looks (cut why room r is) late text fields h =
-    says_as (told_as why) fault text new.failed is (says_cut old mid new text fields why bounded h looks room r (λ e. late (is ∙ e)))
+    says_as (told_as why) fault text new.failed new.source is (says_cut old mid new text fields why bounded h looks room r (λ e. late (is ∙ e)))
 
 -- a field that was refused
-pub refused_says : (old : Position) (mid new : Pulled) (field : List ℕ) (fault : KrlFault) → IsBounded old.pull old.gathered
+pub refused_says : (old : Position) (mid new : Pulled) (field : List ℕ) (fault : KrlFault) → IsBounded old.pull old.keeping
     → LooksFor old.place old.pull false mid → Takes mid field new → HasRoom (due old.place) → length field ≡ (due old.place).size
     → ((fault ≡ faults.NoMemory) × (is_fixed old.place ≡ false)) ⊎ ((due old.place).judged field ≡ Err fault) → Refused fault old new
-refused_says old mid new field fault bounded looks takes room size (inl none) text fields h = says_starved old new text fields fault h none.1 none.0
+refused_says old mid new field fault bounded looks takes room size (inl none) text fields h = says_starved old new text fields fault h none.1 none.0 takes.working
 refused_says old mid new field fault bounded looks takes room size (inr judged) text fields h =
     let left = keeps_some (left_of old.pull) (left_of mid) h.rest h.left_is looks.bytes in
     let after = consumes_some (left_of mid) (left_of new) h.rest field left takes.bytes in
@@ -192,11 +196,11 @@ refused_says old mid new field fault bounded looks takes room size (inr judged) 
 
 -- ---- one field more
 
-pub one_more : (old : Position) (mid new : Pulled) (place : Place) (gathered : Gathered) (field : List ℕ) → old.fault ≡ None
+pub one_more : (old : Position) (mid new : Pulled) (place : Place) (keeping : Keeping) (field : List ℕ) → old.fault ≡ None
     → LooksFor old.place old.pull false mid → Takes mid field new → Passes old.place field place → IsBytes field
-    → GathersField old.place field place old.gathered gathered → (text : List ℕ) (fields : List (List ℕ)) → HasRead text fields old
-    → (f : List ℕ) × HasRead text (fields ++ f ∷ []) (working new place gathered)
-one_more old mid new place gathered field faultless looks takes passes bytes keeps text fields h =
+    → KeepsField old.place field place old.keeping keeping → (text : List ℕ) (fields : List (List ℕ)) → HasRead text fields old
+    → (f : List ℕ) × HasRead text (fields ++ f ∷ []) (working new place keeping)
+one_more old mid new place keeping field faultless looks takes passes bytes keeps text fields h =
     let left = keeps_some (left_of old.pull) (left_of mid) h.rest h.left_is looks.bytes in
     let after = consumes_some (left_of mid) (left_of new) h.rest field left takes.bytes in
     let pass : Passes h.spot.place field place = subst (λ (p : Place). Passes p field place) h.place_is passes in
@@ -204,9 +208,9 @@ one_more old mid new place gathered field faultless looks takes passes bytes kee
     let place_is = h.place_is in
     let authority_is = h.authority_is in
     let header_is = h.header_is in
-    let named : names old.place old.gathered.keeping.authority field ≡ names h.spot.place h.spot.authority field = cc in
-    let authority : authority_after old.place old.gathered.keeping.authority field ≡ authority_after h.spot.place h.spot.authority field = cc in
-    let header : header_after old.place old.gathered.keeping.header field ≡ header_after h.spot.place h.spot.header field = cc in (
+    let named : names old.place old.keeping.authority field ≡ names h.spot.place h.spot.authority field = cc in
+    let authority : authority_after old.place old.keeping.authority field ≡ authority_after h.spot.place h.spot.authority field = cc in
+    let header : header_after old.place old.keeping.header field ≡ header_after h.spot.place h.spot.header field = cc in (
       field,
       record {
         spot = spot_after h.spot field place;
@@ -214,7 +218,7 @@ one_more old mid new place gathered field faultless looks takes passes bytes kee
         place_is = refl;
         authority_is = keeps.authority_is ∙ authority;
         header_is = keeps.header_is ∙ header;
-        gathered = subst (λ n. IsGathered gathered (h.spot.entries ++ n)) named (keeps.gathered h.spot.entries h.gathered);
+        kept = subst (λ n. IsKept keeping (h.spot.entries ++ n)) named (keeps.kept h.spot.entries h.kept);
         are_bytes = subst IsBytes (sym joined) (IsBytes-append (concat fields) field h.are_bytes bytes);
         rest = after.0;
         left_is = after.1;
@@ -225,15 +229,15 @@ one_more old mid new place gathered field faultless looks takes passes bytes kee
       },
     )
 
-pub bounded_more : (old : Position) (mid new : Pulled) (gathered : Gathered) (field : List ℕ) → IsBounded old.pull old.gathered
-    → LooksFor old.place old.pull false mid → Takes mid field new → Grows (length field) old.gathered gathered → IsBounded new gathered
-bounded_more old mid new gathered field b looks takes grows =
+pub bounded_more : (old : Position) (mid new : Pulled) (keeping : Keeping) (field : List ℕ) → IsBounded old.pull old.keeping
+    → LooksFor old.place old.pull false mid → Takes mid field new → GrowsWithin (length field) old.keeping keeping → IsBounded new keeping
+bounded_more old mid new keeping field b looks takes grows =
     let taken : new.taken ≡ old.pull.taken + length field = omega (arith, takes.taken, looks.taken) in
     record {
       limit_is = takes.limit ∙ looks.limit_is ∙ b.limit_is;
       within = omega (arith, takes.within, takes.taken, looks.limit_is, b.limit_is);
       held_is = omega (arith, grows.held_is, b.held_is, taken);
-      stored_is = subst (λ (n : ℕ). StoresWithin gathered.keeping n) (sym taken) (grows.stored_is old.pull.taken b.stored_is);
+      stored_is = subst (λ (n : ℕ). StoresWithin keeping n) (sym taken) (grows.stored_is old.pull.taken b.stored_is);
     }
 
 -- ---- the parts of a step
@@ -247,7 +251,7 @@ looks_at place old new true may h = record {
   bytes = h.bytes;
   taken = h.taken;
   limit_is = h.limit;
-  works = λ _. h.working;
+  works = h.working;
   faultless = h.is_faultless;
   at_end = λ _. (may, h.answer);
   goes_on = λ off. absurd (cc);
@@ -256,17 +260,17 @@ looks_at place old new false may h = record {
   bytes = h.bytes;
   taken = h.taken;
   limit_is = h.limit;
-  works = λ _. h.working;
+  works = h.working;
   faultless = h.is_faultless;
   at_end = λ on. absurd (cc);
   goes_on = λ _ _. h.answer;
 }
 
 -- the reader failed where the end was looked for
-pub end_refused : (old : Position) (new : Pulled) (fault : KrlFault) → IsBounded old.pull old.gathered → fault ≡ faults.Read
+pub end_refused : (old : Position) (new : Pulled) (fault : KrlFault) → IsBounded old.pull old.keeping → fault ≡ faults.Read
     → (due old.place).may_end ≡ true → Refuses old.pull 1 pulls.Read new → Refused fault old new
 end_refused old new fault bounded is may r text fields h =
     let one : (due old.place).size ≡ 1 = end_size old.place may in
     let refuses : Refuses old.pull (due old.place).size pulls.Read new = subst (λ (n : ℕ). Refuses old.pull n pulls.Read new) (sym one) r in
-    says_as faults.Read fault text new.failed is
+    says_as faults.Read fault text new.failed new.source is
     (says_read old old.pull new text fields bounded h (keeps_refl (left_of old.pull)) refl refl (end_room old.place may) refuses)

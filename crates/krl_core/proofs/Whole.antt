@@ -18,8 +18,6 @@ use Rattle.krl_core.specs.Place.{due}
 use Rattle.krl_core.specs.Reading.{Position, HasRead, Follows, IsReached, IsWhole}
 use Rattle.krl_core.proofs.Exists.{weight, nearer}
 use Rattle.krl_core.proofs.Fronts.{first_fault_is}
-use Rattle.krl_core.proofs.Gathering.{early_same, none_wait}
-use Rattle.krl_core.proofs.Same.{same_then}
 use Rattle.krl_core.proofs.SameMeaning.{same_meaning}
 
 -- some fields of what the reader had were read, without a fault
@@ -41,17 +39,15 @@ none_open (SectionType signed) keeping may step = step
 none_open _ keeping may step = absurd (cc)
 
 pub whole_list : (text : List ℕ) (fields : List (List ℕ)) (p : Position) → IsReached p → HasRead text fields p → text ≡ concat fields
-    → (due p.place).may_end ≡ true → IsWhole text p.gathered.keeping.header p.gathered.keeping.contents
+    → (due p.place).may_end ≡ true → IsWhole text p.keeping.header p.keeping.contents
 whole_list text fields p sound h all may =
-    let ready = sound.ready h.faultless in
-    let keeping = p.gathered.keeping in
-    let kept = h.gathered.kept in
-    let none = none_open p.place keeping may ready.in_step in
+    let keeping = p.keeping in
+    let kept = h.kept in
+    let none = none_open p.place keeping may (sound.in_step h.faultless) in
     let size : p.pull.taken ≡ length text = h.taken_is ∙ sym (ap length all) in
     let open_none : kept.closed ++ run_entries keeping.authority (open_run keeping) ≡ kept.closed =
     ap (λ (o : Option Span). kept.closed ++ run_entries keeping.authority (option_to_list o)) none ∙ append-nil kept.closed in
-    let early : NamesSame kept.closed h.gathered.early = subst (λ (xs : List Entry). NamesSame xs h.gathered.early) open_none kept.same in
-    let same = same_then kept.closed h.gathered.early h.spot.entries early (early_same p.gathered h.spot.entries h.gathered (none_wait p.place p.gathered may ready)) in
+    let same : NamesSame kept.closed h.spot.entries = subst (λ (xs : List Entry). NamesSame xs h.spot.entries) open_none kept.same in
     record {
       fields = fields;
       spot = h.spot;

@@ -9,7 +9,6 @@ pub mod Krl
 pub mod Place
 pub mod Part
 pub mod Front
-pub mod Gathered
 pub mod Inserting
 pub mod Naming
 pub mod Elements

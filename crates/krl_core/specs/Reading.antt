@@ -1,6 +1,6 @@
 -- How far a list is read, a field at a time.
-use Rattle.std.specs.Prelude.{◌≡◌, ℕ, ◌+◌, ◌*◌, ◌≤◌, ◌⊎◌, Bool, true, false, List, [], ◌∷◌, ◌++◌}
-use Rattle.std.specs.Prelude.{length, Option, Some, None, IsSome}
+use Rattle.std.specs.Prelude.{◌≡◌, ℕ, ◌+◌, ◌*◌, ◌≤◌, ◌⊎◌, ◌↔◌, Bool, true, false, List, [], ◌∷◌, ◌++◌}
+use Rattle.std.specs.Prelude.{length, Option, Some, None, IsSome, Result, Ok, Err}
 use Rattle.std.specs.List.{concat}
 use Rattle.std.specs.Io.KnownBytes.{IsAtEnd, Keeps}
 use Rattle.ssh_wire.specs.Wire.{IsBytes}
@@ -18,31 +18,32 @@ use Rattle.krl_core.specs.Contents.{Contents, Means, held, stored}
 use Rattle.krl_core.specs.Entries.{entries_of}
 use Rattle.krl_core.specs.Krl.{SpelledSection, Spells}
 use Rattle.krl_core.specs.Front.{Spot, start, Leads, Passes, HasRoom, IsFirstFault, limit}
-use Rattle.krl_core.specs.Gathered.{Gathered, IsGathered, IsReady, all_held}
-use Rattle.krl_core.specs.Keeping.{StoresWithin}
+use Rattle.krl_core.specs.Keeping.{InStep, IsKept, Keeping, StoresWithin, held_with_open}
 use Rattle.krl_core.specs.Place.{due}
 
--- the reader, the place where the next field is due, what is gathered, and the fault that was met
+-- the reader, the place where the next field is due, what is kept, whether the list's end was found,
+-- and the fault that was met
 pub record Position : Type 0 where
   pub pull : Pulled
   pub place : Place
-  pub gathered : Gathered
+  pub keeping : Keeping
+  pub ended : Bool
   pub fault : Option KrlFault
 
--- a position without a fault
-abbrev pub working : Pulled → Place → Gathered → Position
-working pull place gathered =
-    record { pull = pull; place = place; gathered = gathered; fault = None }
+-- a position before the list's end, without a fault
+abbrev pub working : Pulled → Place → Keeping → Position
+working pull place keeping =
+    record { pull = pull; place = place; keeping = keeping; ended = false; fault = None }
 
--- These fields of the text were read and no others: they lead to this position, what is gathered
--- means what they name, and the reader has the rest of the text left.
+-- These fields of the text were read and no others: they lead to this position, what is kept means
+-- what they name, and the reader has the rest of the text left.
 pub record HasRead (text : List ℕ) (fields : List (List ℕ)) (position : Position) : Type 0 where
   pub spot : Spot
   pub leads : Leads start fields spot
   pub place_is : position.place ≡ spot.place
-  pub authority_is : position.gathered.keeping.authority ≡ spot.authority
-  pub header_is : position.gathered.keeping.header ≡ spot.header
-  pub gathered : IsGathered position.gathered spot.entries
+  pub authority_is : position.keeping.authority ≡ spot.authority
+  pub header_is : position.keeping.header ≡ spot.header
+  pub kept : IsKept position.keeping spot.entries
   pub are_bytes : IsBytes (concat fields)
   pub rest : List ℕ
   pub left_is : left_of position.pull ≡ Some rest
@@ -67,21 +68,24 @@ pub record Follows (old new : Position) : Type 0 where
 -- The list is at its end: the end is due, and no byte is left.
 pub record Ends (old new : Position) : Type 0 where
   pub may_end : (due new.place).may_end ≡ true
+  pub at_end : IsAtEnd (left_of new.pull)
   pub still : (text : List ℕ) (fields : List (List ℕ)) → HasRead text fields old
       → HasRead text fields new × (text ≡ concat fields)
 
--- The reader failed after it had given these bytes of the text, which end where a field or the end
--- is due.
-pub record FailsAfter (text : List ℕ) (failed : Bool) : Type 0 where
+-- The reader failed when it had given the first bytes of the text and had these left. The bytes that
+-- it gave end where a field or the end is due.
+pub record FailsAfter (text : List ℕ) (failed : Bool) (left : Option (List ℕ)) : Type 0 where
   pub given : List ℕ
   pub later : List ℕ
   pub parts : text ≡ given ++ later
+  pub left_is : left ≡ Some later
   pub failed_is : failed ≡ true
   pub told : IsFirstFault given None ⊎ IsFirstFault given (Some EndsEarly)
 
--- The reader is said to have failed only where one like it has.
-abbrev pub MayFail : {R : Type 0} → (R → Bool) → Bool → Type 0
-MayFail {R} has_failed failed = failed ≡ true → (last : R) × (has_failed last ≡ true)
+-- Read is reported exactly where the reader failed.
+abbrev pub ReportsFailure : {A : Type 0} → Result A KrlFault → Bool → Type 0
+ReportsFailure (Ok a) failed = failed ≡ false
+ReportsFailure (Err fault) failed = fault ≡ Read ↔ failed ≡ true
 
 -- the first fields of a list, of 40 bytes together, of which none says how long another is
 abbrev pub is_fixed : Place → Bool
@@ -93,17 +97,19 @@ is_fixed Flags = true
 is_fixed ReservedLength = true
 is_fixed _ = false
 
--- What a fault says of a text, by whether the reader failed. Memory runs out only after the first
--- fields.
-pub data Says (fault : KrlFault) (text : List ℕ) (failed : Bool) : Type 0 where
-  starved : fault ≡ NoMemory → 40 ≤ length text → Says fault text failed
-  failed_read : fault ≡ Read → FailsAfter text failed → Says fault text failed
-  first : IsFirstFault text (Some fault) → failed ≡ false → Says fault text failed
+-- What a fault says of a text, by whether the reader failed and the bytes that it has left. Memory
+-- runs out only after the first fields.
+pub data Says (fault : KrlFault) (text : List ℕ) (failed : Bool) (left : Option (List ℕ))
+    : Type 0 where
+  starved : fault ≡ NoMemory → 40 ≤ length text → failed ≡ false → Says fault text failed left
+  failed_read : fault ≡ Read → FailsAfter text failed left → Says fault text failed left
+  first : IsFirstFault text (Some fault) → failed ≡ false → Says fault text failed left
 
 -- Whatever fields of a text were read before, the fault says that of the text.
 abbrev pub Refused : KrlFault → Position → Pulled → Type 0
 Refused fault old new =
-    (text : List ℕ) (fields : List (List ℕ)) → HasRead text fields old → Says fault text new.failed
+    (text : List ℕ) (fields : List (List ℕ)) → HasRead text fields old
+    → Says fault text new.failed new.source
 
 -- what a fault of a reader is reported as
 abbrev pub told_as : PullFault → KrlFault
@@ -119,7 +125,7 @@ pub record LooksFor (place : Place) (old : Pulled) (ended : Bool) (new : Pulled)
   pub bytes : Keeps (left_of old) (left_of new)
   pub taken : new.taken ≡ old.taken
   pub limit_is : new.limit ≡ old.limit
-  pub works : old.failed ≡ false → new.failed ≡ false
+  pub works : new.failed ≡ false
   pub faultless : new.fault ≡ None
   pub at_end : ended ≡ true → ((due place).may_end ≡ true) × IsAtEnd (left_of new)
   pub goes_on : ended ≡ false → (due place).may_end ≡ true → IsSome new.ahead
@@ -133,17 +139,25 @@ pub data Missed (place : Place) (old : Pulled) (fault : KrlFault) (new : Pulled)
       → fault ≡ told_as why → Missed place old fault new
 
 -- What is held and stored is within what was taken, which is within the limit.
-pub record IsBounded (pull : Pulled) (gathered : Gathered) : Type 0 where
+pub record IsBounded (pull : Pulled) (keeping : Keeping) : Type 0 where
   pub limit_is : pull.limit ≡ limit
   pub within : pull.taken ≤ limit
-  pub held_is : all_held gathered ≤ 4 * pull.taken
-  pub stored_is : StoresWithin gathered.keeping pull.taken
+  pub held_is : held_with_open keeping ≤ 4 * pull.taken
+  pub stored_is : StoresWithin keeping pull.taken
+
+-- The end of the list was found: it is due, no byte is left, and no fault was met.
+pub record IsEnded (position : Position) : Type 0 where
+  pub may_end : (due position.place).may_end ≡ true
+  pub at_end : IsAtEnd (left_of position.pull)
+  pub faultless : position.fault ≡ None
 
 -- The position is one that a reading reaches.
 pub record IsReached (position : Position) : Type 0 where
-  pub ready : position.fault ≡ None → IsReady position.place position.gathered
+  pub in_step : position.fault ≡ None → InStep position.place position.keeping.bitmap
   pub pull_faultless : position.fault ≡ None → position.pull.fault ≡ None
-  pub bounded : IsBounded position.pull position.gathered
+  pub works : position.fault ≡ None → position.pull.failed ≡ false
+  pub ends : position.ended ≡ true → IsEnded position
+  pub bounded : IsBounded position.pull position.keeping
 
 -- A whole list was read: its fields lead from the first byte to its end, and the header and what is
 -- held are what they say.
@@ -169,3 +183,17 @@ pub record IsList (text : List ℕ) (header : Header) (contents : Contents) : Ty
   pub means : Means contents (entries_of sections)
   pub held_is : held contents ≤ 4 * length text
   pub stored_is : stored contents ≤ length text
+
+-- What reading a text gives: what is known of it, or its fault, by whether the reader failed and the
+-- bytes that it has left.
+abbrev pub IsReadAs : {K : Type 0} → (List ℕ → K → Type 0) → List ℕ → Result K KrlFault → Bool
+    → Option (List ℕ) → Type 0
+IsReadAs Knows text (Ok known) failed left = Knows text known
+IsReadAs Knows text (Err fault) failed left = Says fault text failed left
+
+-- What reading gave, where the bytes that the reader had left before are known. Read is reported
+-- exactly where the reader failed.
+pub record IsReadingOf {K : Type 0} (Knows : List ℕ → K → Type 0) (before : Option (List ℕ))
+    (reading : Result K KrlFault) (failed : Bool) (left : Option (List ℕ)) : Type 0 where
+  pub failure : ReportsFailure reading failed
+  pub read : (text : List ℕ) → before ≡ Some text → IsReadAs Knows text reading failed left

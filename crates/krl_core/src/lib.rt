@@ -6,7 +6,6 @@ mod bookmark;
 mod chapter;
 mod due;
 mod field;
-mod gatherer;
 mod getters;
 mod growth;
 mod header;

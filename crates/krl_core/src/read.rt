@@ -1,13 +1,13 @@
 // Reading a whole list.
 
-ghost use Rattle.std.specs.Prelude.{◌≡◌, ◌≤◌, ◌⊎◌, length, false, true, Bool, ℕ, List, None, Some};
+ghost use Rattle.std.specs.Prelude.{◌≡◌, ◌≤◌, ◌⊎◌, length, false, ℕ, List, None, Some};
 ghost use Rattle.std.specs.Prelude.{IfOk, IfErr};
 ghost use Rattle.ssh_wire.specs.Wire.{IsBytes};
 ghost use Rattle.krl_core.specs.declared.header.Header.{Header as HeaderOf};
 ghost use Rattle.krl_core.specs.declared.krl_fault.KrlFault.TheVariants.{NoMemory, Read};
 ghost use Rattle.krl_core.specs.Front.{IsFirstFault, limit};
 ghost use Rattle.krl_core.specs.Krl.{SpelledSection, Spells};
-ghost use Rattle.krl_core.specs.Reading.{IsList, MayFail, Says};
+ghost use Rattle.krl_core.specs.Reading.{IsList, ReportsFailure, Says};
 
 use crate::header::Header;
 use crate::krl_fault::KrlFault;
@@ -17,32 +17,35 @@ use serial_set::Spans;
 use ssh_wire::Source;
 use std::alloc::Global;
 
-/// Reads a list to its end, a field at a time. A list is refused with its first fault; where the
-/// reader fails, with the first fault of the bytes that it gave, and with `Read` where these have
-/// none but their end.
+/// Reads a list to its end, a field at a time, and gives the reader back. A list is refused with its
+/// first fault; where the reader fails, with the first fault of the bytes that it gave, and with
+/// `Read` where these have none but their end.
 pub fn read_krl<S: Spans, R: Source + Drop>(
     alloc: Global,
     reader: R,
-) -> Result<(Header, Revocations<S>), KrlFault>
+) -> (Result<(Header, Revocations<S>), KrlFault>, R)
     requires { R.has_failed reader ≡ false }
-    ensures found { IfOk result (λ list. (text : List ℕ) → R.left reader ≡ Some text
+    ensures found { IfOk result.0 (λ list. (text : List ℕ) → R.left reader ≡ Some text
         → IsList text list.0 list.1) }
-    ensures no_fault { IfOk result (λ list. (text : List ℕ) → R.left reader ≡ Some text
+    ensures no_fault { IfOk result.0 (λ list. (text : List ℕ) → R.left reader ≡ Some text
         → IsFirstFault text None) }
-    ensures only { IfErr result (λ fault.
+    ensures only { IfErr result.0 (λ fault.
         (text : List ℕ) → (header : HeaderOf) → (sections : List SpelledSection)
         → R.left reader ≡ Some text → IsBytes text → Spells text header sections
         → length text ≤ limit → (fault ≡ NoMemory) ⊎ (fault ≡ Read)) }
-    // Whether the reader failed, which is not said where it did not.
-    ensures fault { IfErr result (λ fault. (failed : Bool) × MayFail R.has_failed failed
-        × ((text : List ℕ) → R.left reader ≡ Some text → Says fault text failed)) }
+    ensures fault { IfErr result.0 (λ fault. (text : List ℕ) → R.left reader ≡ Some text
+        → Says fault text (R.has_failed result.1) (R.left result.1)) }
+    ensures failure { ReportsFailure result.0 (R.has_failed result.1) }
 {
     let mut reading = Reading::new(alloc, reader);
     'fields: loop {
         match reading.step() {
             Ok(true) => {}
-            Ok(false) => return Ok(reading.done()),
-            Err(fault) => return Err(fault),
+            Ok(false) => {
+                let (header, revocations, reader) = reading.done();
+                return (Ok((header, revocations)), reader);
+            }
+            Err(fault) => return (Err(fault), reading.into_reader()),
         }
     }
 }

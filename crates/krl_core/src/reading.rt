@@ -8,14 +8,14 @@ ghost use Rattle.ssh_wire.specs.Pull.{Refuses, Takes};
 ghost use Rattle.ssh_wire.specs.declared.pull_fault.PullFault.TheVariants as pulls;
 ghost use Rattle.krl_core.specs.declared.krl_fault.KrlFault.TheVariants.{NoMemory, Read};
 ghost use Rattle.krl_core.specs.Front.{HasRoom, Passes, limit};
-ghost use Rattle.krl_core.specs.Gathered.{GathersField, Grows, IsReady, all_held};
+ghost use Rattle.krl_core.specs.Keeping.{GrowsWithin, InStep, KeepsField, held_with_open};
 ghost use Rattle.krl_core.specs.Place.{due};
 ghost use Rattle.krl_core.specs.Reading.{Ends, Follows, HasRead, IsBounded, IsReached, IsList};
 ghost use Rattle.krl_core.specs.Reading.{IsWhole, LooksFor, Missed, ReadsOneMore, Refused};
-ghost use Rattle.krl_core.specs.Reading.{is_fixed, told_as, working};
+ghost use Rattle.krl_core.specs.Reading.{ReportsFailure, is_fixed, told_as, working};
 
-use crate::gatherer::Gatherer;
 use crate::header::Header;
+use crate::keeper::Keeper;
 use crate::krl_fault::KrlFault;
 use crate::place::Place;
 use crate::revocations::Revocations;
@@ -36,9 +36,10 @@ const SMALL: usize = 32;
 pub struct Reading<S: Spans, R: Source + Drop> {
     pull: Pull<R>,
     place: Place,
-    gatherer: Gatherer<S>,
+    keeper: Keeper<S>,
     // the field at hand, where it is large
     large: Vec<u8>,
+    ended: bool,
     fault: Option<KrlFault>,
 }
 
@@ -50,14 +51,16 @@ impl<S: Spans, R: Source + Drop> Model for Reading<S, R> {
     ghost view = { λ reading. record {
       pull = reading.pull;
       place = reading.place;
-      gathered = reading.gatherer;
+      keeping = reading.keeper;
+      ended = reading.ended;
       fault = reading.fault;
     } };
 
     ghost invariant = { λ reading. Reached (record {
       pull = reading.pull;
       place = reading.place;
-      gathered = reading.gatherer;
+      keeping = reading.keeper;
+      ended = reading.ended;
       fault = reading.fault;
     }) };
 }
@@ -67,14 +70,15 @@ impl<S: Spans, R: Source + Drop> Reading<S, R> {
     pub fn new(alloc: Global, reader: R) -> Self
         requires { R.has_failed reader ≡ false }
         ensures start { (text : List ℕ) → R.left reader ≡ Some text → HasRead text [] result }
-        ensures bounds { IsBounded result.pull result.gathered }
+        ensures bounds { IsBounded result.pull result.keeping }
         ensures faultless { result.fault ≡ None }
     {
         Reading {
             pull: Pull::new(reader, LIMIT),
             place: Place::Magic,
-            gatherer: Gatherer::new(alloc),
+            keeper: Keeper::new(alloc),
             large: Vec::new(alloc),
+            ended: false,
             fault: None,
         }
     }
@@ -85,24 +89,35 @@ impl<S: Spans, R: Source + Drop> Reading<S, R> {
         ensures more { IfOk result (λ more. IsTrue more → ReadsOneMore self.old self.new) }
         ensures follows { IfOk result (λ more. IsTrue more → Follows self.old self.new) }
         ensures ends { IfOk result (λ more. more ≡ false → Ends self.old self.new) }
+        ensures ended { IfOk result (λ more. more ≡ false → self.new.ended ≡ true) }
+        // Once the end was found, the reader is not asked again.
+        ensures rests { self.old.ended ≡ true → (result ≡ Ok false) × (self.new ≡ self.old) }
         ensures fault { self.old.fault ≡ None
             → IfErr result (λ fault. Refused fault self.old self.new.pull) }
+        ensures failure { self.old.fault ≡ None
+            → ReportsFailure result self.new.pull.failed }
         ensures stays { IfErr result (λ fault. self.new.fault ≡ Some fault) }
         ensures again { IfSome self.old.fault (λ fault.
             (result ≡ Err fault) × (self.new ≡ self.old)) }
         ensures working { OnOk result (self.new.fault ≡ None) }
-        ensures bounds { IsBounded self.new.pull self.new.gathered }
+        ensures bounds { IsBounded self.new.pull self.new.keeping }
     {
         if let Some(fault) = self.fault {
             return Err(fault);
         }
+        if self.ended {
+            return Ok(false);
+        }
         match advance(
             &mut self.pull,
             &mut self.place,
-            &mut self.gatherer,
+            &mut self.keeper,
             &mut self.large,
         ) {
-            Ok(more) => Ok(more),
+            Ok(more) => {
+                self.ended = !more;
+                Ok(more)
+            }
             Err(fault) => {
                 self.fault = Some(fault);
                 Err(fault)
@@ -110,25 +125,34 @@ impl<S: Spans, R: Source + Drop> Reading<S, R> {
         }
     }
 
-    /// How many spans are held of the list so far, with the run of a bitmap that may still grow and
-    /// a span for each serial that waits to be added in order.
+    /// How many spans are held of the list so far, with the run of a bitmap that may still grow.
     pub fn held(&self) -> u128
-        ensures value { result ≡ all_held self.now.gathered }
+        ensures value { result ≡ held_with_open self.now.keeping }
         ensures four_a_byte { result ≤ 4 * self.now.pull.taken }
     {
-        self.gatherer.held()
+        self.keeper.held()
     }
 
-    /// What was read, after a step that answered false.
-    pub fn done(self) -> (Header, Revocations<S>)
+    /// What was read, after a step that answered false, and the reader.
+    pub fn done(self) -> (Header, Revocations<S>, R)
         ensures whole { (text : List ℕ) → (fields : List (List ℕ)) → HasRead text fields self
             → text ≡ concat fields → (due self.place).may_end ≡ true
             → IsWhole text result.0 result.1 }
         ensures list { (text : List ℕ) → (fields : List (List ℕ)) → HasRead text fields self
             → text ≡ concat fields → (due self.place).may_end ≡ true
             → IsList text result.0 result.1 }
+        ensures failed { R.has_failed result.2 ≡ self.pull.failed }
     {
-        self.gatherer.done()
+        let (header, revocations) = self.keeper.done();
+        (header, revocations, self.pull.into_inner())
+    }
+
+    /// The reader, which goes on after the last byte that was taken or looked at.
+    pub fn into_reader(self) -> R
+        ensures left { R.left result ≡ self.pull.source }
+        ensures failed { R.has_failed result ≡ self.pull.failed }
+    {
+        self.pull.into_inner()
     }
 
     /// How many bytes of the list were taken.
@@ -154,7 +178,8 @@ fn told(fault: PullFault) -> KrlFault
 
 // Whether the list ends here.
 fn ends<R: Source + Drop>(pull: &mut Pull<R>, place: Place) -> Result<bool, KrlFault>
-    requires { pull.old.fault ≡ None }
+    requires faultless { pull.old.fault ≡ None }
+    requires works { pull.old.failed ≡ false }
     ensures ok { IfOk result (λ ended. LooksFor place pull.old ended pull.new) }
     ensures err { IfErr result (λ fault. (fault ≡ Read) × ((due place).may_end ≡ true)
         × Refuses pull.old 1 pulls.Read pull.new) }
@@ -199,21 +224,16 @@ fn take<'a, R: Source + Drop>(
     }
 }
 
-// Judges the field that was taken, and gathers what it names.
-fn pass<S: Spans>(
-    place: &mut Place,
-    gatherer: &mut Gatherer<S>,
-    field: &[u8],
-) -> Result<(), KrlFault>
+// Judges the field that was taken, and keeps what it names.
+fn pass<S: Spans>(place: &mut Place, keeper: &mut Keeper<S>, field: &[u8]) -> Result<(), KrlFault>
     requires room { HasRoom (due place.old) }
     requires size { length field.now ≡ (due place.old).size }
-    requires ready { IsReady place.old gatherer.old }
+    requires in_step { InStep place.old keeper.old.bitmap }
     ensures passes { OnOk result (Passes place.old field.now place.new) }
-    ensures gathers { OnOk result
-        (GathersField place.old field.now place.new gatherer.old gatherer.new) }
-    ensures ready { OnOk result (IsReady place.new gatherer.new) }
+    ensures keeps { OnOk result
+        (KeepsField place.old field.now place.new keeper.old keeper.new) }
     ensures bytes { IsBytes field.now }
-    ensures grows { Grows (length field.now) gatherer.old gatherer.new }
+    ensures grows { GrowsWithin (length field.now) keeper.old keeper.new }
     ensures err { IfErr result (λ fault. ((fault ≡ NoMemory) × (is_fixed place.old ≡ false))
         ⊎ ((due place.old).judged field.now ≡ Err fault)) }
 {
@@ -221,7 +241,7 @@ fn pass<S: Spans>(
         Ok(next) => next,
         Err(fault) => return Err(fault),
     };
-    match gatherer.keep(*place, field, next) {
+    match keeper.keep(*place, field, next) {
         Ok(()) => {
             *place = next;
             Ok(())
@@ -234,20 +254,21 @@ fn pass<S: Spans>(
 fn advance<S: Spans, R: Source + Drop>(
     pull: &mut Pull<R>,
     place: &mut Place,
-    gatherer: &mut Gatherer<S>,
+    keeper: &mut Keeper<S>,
     large: &mut Vec<u8>,
 ) -> Result<bool, KrlFault>
-    requires { IsReached (working pull.old place.old gatherer.old) }
+    requires { IsReached (working pull.old place.old keeper.old) }
     ensures more { IfOk result (λ more. IsTrue more → ReadsOneMore
-        (working pull.old place.old gatherer.old) (working pull.new place.new gatherer.new)) }
+        (working pull.old place.old keeper.old) (working pull.new place.new keeper.new)) }
     ensures follows { IfOk result (λ more. IsTrue more → Follows
-        (working pull.old place.old gatherer.old) (working pull.new place.new gatherer.new)) }
+        (working pull.old place.old keeper.old) (working pull.new place.new keeper.new)) }
     ensures ends { IfOk result (λ more. more ≡ false → Ends
-        (working pull.old place.old gatherer.old) (working pull.new place.new gatherer.new)) }
+        (working pull.old place.old keeper.old) (working pull.new place.new keeper.new)) }
     ensures fault { IfErr result (λ fault. Refused fault
-        (working pull.old place.old gatherer.old) pull.new) }
-    ensures sound { OnOk result (IsReached (working pull.new place.new gatherer.new)) }
-    ensures bounds { IsBounded pull.new gatherer.new }
+        (working pull.old place.old keeper.old) pull.new) }
+    ensures sound { OnOk result (IsReached (working pull.new place.new keeper.new)) }
+    ensures failure { ReportsFailure result pull.new.failed }
+    ensures bounds { IsBounded pull.new keeper.new }
 {
     match ends(pull, *place) {
         Ok(true) => return Ok(false),
@@ -259,7 +280,7 @@ fn advance<S: Spans, R: Source + Drop>(
         Ok(field) => field,
         Err(fault) => return Err(fault),
     };
-    match pass(place, gatherer, field) {
+    match pass(place, keeper, field) {
         Ok(()) => Ok(true),
         Err(fault) => Err(fault),
     }

@@ -11,11 +11,11 @@ use Rattle.krl_core.specs.Entries.{entries_of}
 use Rattle.krl_core.specs.Entry.{Entry}
 use Rattle.krl_core.specs.Front.{IsFirstFault, limit}
 use Rattle.krl_core.specs.KrlText.{IsKrlText}
-use Rattle.krl_core.specs.Reading.{IsList, Says}
+use Rattle.krl_core.specs.Reading.{IsList}
 use Rattle.krl_core.specs.declared.header.Header.{Header}
 use Rattle.krl_core.specs.declared.krl_fault.KrlFault.{KrlFault}
 use Rattle.krl_make.specs.declared.base.Base.{Base}
-use Rattle.krl_make.specs.Making.{Added, HasNumbers, IsAtHand, IsAuthorityAtHand, IsFileAtHand, authority_file, lines, new_list, old_list, IsOldRead, IsStop, Made, Makes, NamesSame, WritesList, WritesMade, WritesMore, after_old, base_of, cause_stop, file_entries, files_entries, header_of, made_of, make_run_of, named_blob, text_entries, then_entries, version_of}
+use Rattle.krl_make.specs.Making.{Added, HasNumbers, IsAtHand, IsAuthorityAtHand, IsFileAtHand, authority_file, lines, new_list, old_list, IsOldList, IsStop, Made, Makes, NamesSame, WritesList, WritesMade, WritesMore, after_old, base_of, cause_stop, file_entries, files_entries, header_of, made_of, make_run_of, named_blob, text_entries, then_entries, version_of}
 use Rattle.krl_runs.specs.Query.{krl_cause}
 use Rattle.krl_make.specs.declared.authority.Authority.{Authority}
 use Rattle.krl_core.specs.declared.krl_fault.KrlFault.TheVariants as faults
@@ -29,25 +29,15 @@ use Rattle.krl_runs.specs.Stop.{Stop, Ender, ByInput, ByMemory, ByOutput, ender_
 
 -- ---- the old list
 
-pub old_read : (left : Option (List ℕ)) (header : Header) (contents : Contents)
-    → ((text : List ℕ) → left ≡ Some text → IsList text header contents)
-    → ((text : List ℕ) → left ≡ Some text → IsFirstFault text None)
-    → IsOldRead (Some left) false (Ok (base_of header contents))
-old_read None header contents list none = tt
-old_read (Some text) header contents list none =
-    record {
-      header = header;
-      list = list text refl;
-      no_fault = none text refl;
-      version_is = refl;
-      comment_is = refl;
-    }
-
-pub old_refused : (left : Option (List ℕ)) (failed : Bool) (fault : KrlFault)
-    → ((text : List ℕ) → left ≡ Some text → Says fault text failed)
-    → IsOldRead (Some left) failed (Err fault)
-old_refused None failed fault says = tt
-old_refused (Some text) failed fault says = says text refl
+pub old_read : (text : List ℕ) (header : Header) (contents : Contents) → IsList text header contents → IsFirstFault text None
+    → IsOldList text (base_of header contents)
+old_read text header contents list none = record {
+  header = header;
+  list = list;
+  no_fault = none;
+  version_is = refl;
+  comment_is = refl;
+}
 
 -- ---- the authority
 

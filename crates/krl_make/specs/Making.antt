@@ -11,7 +11,7 @@ use Rattle.krl_core.specs.Entry.{Entry}
 use Rattle.krl_core.specs.Front.{IsFirstFault, limit}
 use Rattle.krl_core.specs.Krl.{SpelledSection, Spells}
 use Rattle.krl_core.specs.KrlText.{IsKrlText}
-use Rattle.krl_core.specs.Reading.{IsList, MayFail, Says}
+use Rattle.krl_core.specs.Reading.{IsList, IsReadingOf}
 use Rattle.krl_core.specs.Revoked.{Revoked}
 use Rattle.krl_core.specs.declared.header.Header.{Header}
 use Rattle.krl_core.specs.declared.krl_fault.KrlFault.{KrlFault}
@@ -335,18 +335,11 @@ pub record IsOldList (text : List ℕ) (base : Base) : Type 0 where
   pub version_is : base.version ≡ Some header.version
   pub comment_is : base.comment ≡ header.comment
 
--- What reading an old list gives, where there is one and its bytes are known: what it holds, or its
--- fault, by whether its reader failed.
-abbrev pub IsOldRead : Option (Option (List ℕ)) → Bool → Result Base KrlFault → Type 0
-IsOldRead None failed reading = (reading ≡ Ok new_base) × Means nothing []
-IsOldRead (Some None) failed reading = ⊤
-IsOldRead (Some (Some text)) failed (Ok base) = IsOldList text base
-IsOldRead (Some (Some text)) failed (Err fault) = Says fault text failed
-
--- This is what reading the old list gave, where there is one and the bytes that its reader had left
--- are known.
-pub record IsBaseRead {R : Type 0} (has_failed : R → Bool) (left : Option (Option (List ℕ)))
-    (reading : Result Base KrlFault) : Type 0 where
-  pub failed : Bool
-  pub tells : MayFail has_failed failed
-  pub read : IsOldRead left failed reading
+-- This is what reading the old list gave, where there is one, by its reader before and after it.
+abbrev pub IsBaseRead : {R : Type 0} → (R → Option (List ℕ)) → (R → Bool) → Option R
+    → Result Base KrlFault → Option R → Type 0
+IsBaseRead left has_failed None reading back =
+    (reading ≡ Ok new_base) × Means nothing [] × (back ≡ None)
+IsBaseRead left has_failed (Some reader) reading None = ⊥
+IsBaseRead left has_failed (Some reader) reading (Some back) =
+    IsReadingOf IsOldList (left reader) reading (has_failed back) (left back)

@@ -1,9 +1,10 @@
 // What a list is made of before the lines.
 
-ghost use Rattle.std.specs.Prelude.{◌≡◌, ◌<◌, ◌^◌, Err, IfSome, MatchResult, Ok, Result, false, option_map};
+ghost use Rattle.std.specs.Prelude.{◌≡◌, ◌<◌, ◌^◌, [], Err, IfSome, MatchResult, Ok, Result, false};
 ghost use Rattle.std.specs.Option.{ForSome};
 ghost use Rattle.krl_core.specs.declared.krl_fault.KrlFault.{KrlFault as FaultOf};
-ghost use Rattle.krl_make.specs.Making.{IsBaseRead, base_of, version_of};
+ghost use Rattle.krl_core.specs.Contents.{Means, nothing};
+ghost use Rattle.krl_make.specs.Making.{IsBaseRead, base_of, new_base, version_of};
 ghost use Rattle.krl_runs.specs.Query.{krl_cause};
 ghost use Rattle.krl_runs.specs.Stop.{stop_of};
 ghost use Rattle.krl_make.specs.declared.base.Base.{Base as BaseOf};
@@ -23,29 +24,38 @@ pub struct Base {
     pub revocations: Revocations<Held>,
 }
 
-/// Reads the old list, where there is one.
+/// Reads the old list, where there is one, and gives its reader back.
 pub fn read_base<'a, R: Source + Drop>(
     alloc: Global,
     name: &'a str,
     list: Option<R>,
-) -> Result<Base, RunFault<'a>>
+) -> (Result<Base, RunFault<'a>>, Option<R>)
     requires { ForSome list (λ reader. R.has_failed reader ≡ false) }
     ensures { (reading : Result BaseOf FaultOf)
-        × IsBaseRead R.has_failed (option_map R.left list) reading
-        × MatchResult result (λ base. reading ≡ Ok base)
+        × IsBaseRead R.left R.has_failed list reading result.1
+        × MatchResult result.0 (λ base. reading ≡ Ok base)
         (λ stop. (fault : FaultOf) × ((reading ≡ Err fault)
         × (stop ≡ stop_of name.now (krl_cause fault)))) }
 {
     let Some(reader) = list else {
-        return Ok(Base {
-            version: None,
-            comment: Bytes::from_vec(Vec::new(alloc)),
-            revocations: Revocations::new(alloc),
-        });
+        return (Ok(new_base(alloc)), None);
     };
-    match read_krl::<Held, R>(alloc, reader) {
-        Ok((header, revocations)) => Ok(base_of(header, revocations)),
-        Err(fault) => Err(RunFault::whole(name, cause_of(fault))),
+    let (read, reader) = read_krl::<Held, R>(alloc, reader);
+    match read {
+        Ok((header, revocations)) => (Ok(base_of(header, revocations)), Some(reader)),
+        Err(fault) => (Err(RunFault::whole(name, cause_of(fault))), Some(reader)),
+    }
+}
+
+/// What is there before a list that is new.
+fn new_base(alloc: Global) -> Base
+    ensures base { result ≡ new_base }
+    ensures nothing { Means nothing [] }
+{
+    Base {
+        version: None,
+        comment: Bytes::from_vec(Vec::new(alloc)),
+        revocations: Revocations::new(alloc),
     }
 }
 

@@ -1,6 +1,6 @@
 // Making a list of an old one and of specification files.
 
-ghost use Rattle.std.specs.Prelude.{◌≡◌, Ok, Result, false, option_map};
+ghost use Rattle.std.specs.Prelude.{◌≡◌, Ok, Result, false};
 ghost use Rattle.std.specs.Option.{ForSome};
 ghost use Rattle.krl_core.specs.declared.krl_fault.KrlFault.{KrlFault as FaultOf};
 ghost use Rattle.krl_make.specs.Making.{HasNumbers, IsBaseRead, IsFileAtHand, Makes, WritesList, WritesMore, after_old, files_entries, make_run_of};
@@ -27,7 +27,8 @@ pub struct Old<'a, R: Source + Drop> {
 
 /// The bytes of a list that holds what the old one held and what the lines of the files name. Its
 /// version is the one that is given, else one more than that of the old list, else 0; its date is
-/// the moment in seconds since 1970, and its comment that of the old list.
+/// the moment in seconds since 1970, and its comment that of the old list. The old list's reader is
+/// given back.
 ///
 /// The first fault stops the run: that of the old list, that its version is the greatest, that of
 /// the authority's file, those of the files and lines in order, that the list would be too long to
@@ -39,16 +40,21 @@ pub fn make_run<'a, R: Source + Drop>(
     version: Option<u64>,
     files: &'a [Named<'a>],
     moment: u64,
-) -> Result<Vec<u8>, RunFault<'a>>
+) -> (Result<Vec<u8>, RunFault<'a>>, Option<R>)
     requires { ForSome old.list (λ reader. R.has_failed reader ≡ false) }
     ensures { (reading : Result BaseOf FaultOf)
-        × IsBaseRead R.has_failed (option_map R.left old.entry.list) reading
+        × IsBaseRead R.left R.has_failed old.entry.list reading result.1
         × Makes (λ made. made.items) old.entry.name.now reading authority.now version files.now
-        (make_run_of old.entry.name.now reading authority.now version files.now moment) result }
+        (make_run_of old.entry.name.now reading authority.now version files.now moment) result.0 }
 {
     let Old { name, list } = old;
-    let base = read_base(alloc, name, list)?;
-    make_over(alloc, name, base, authority, version, files, moment)
+    let (read, reader) = read_base(alloc, name, list);
+    let base = match read {
+        Ok(base) => base,
+        Err(stop) => return (Err(stop), reader),
+    };
+    let made = make_over(alloc, name, base, authority, version, files, moment);
+    (made, reader)
 }
 
 /// The bytes of a list that holds what was held before and what the lines of the files name.

@@ -4,7 +4,7 @@ use Rattle.std.specs.Prelude.{Option, None, Some, Result, Ok, Err, IsTrue, codes
 use Rattle.krl_core.specs.Contents.{Contents}
 use Rattle.krl_core.specs.Entries.{entries_of}
 use Rattle.krl_core.specs.Front.{IsFirstFault}
-use Rattle.krl_core.specs.Reading.{IsList, MayFail, Says}
+use Rattle.krl_core.specs.Reading.{IsList, IsReadAs, IsReadingOf}
 use Rattle.krl_core.specs.Revoked.{Revoked}
 use Rattle.krl_core.specs.Tested.{revokes}
 use Rattle.krl_core.specs.declared.krl_fault.KrlFault.{KrlFault}
@@ -54,17 +54,13 @@ pub record IsHeld (text : List ℕ) (known : Known) : Type 0 where
   pub answers : (asked : Subject)
       → IsTrue (revokes known.contents asked) ↔ Revoked (entries_of list.sections) asked
 
--- What reading a list gives: what is known of it, or its fault, by whether its reader failed.
-abbrev pub IsRead : List ℕ → Bool → Result Known KrlFault → Type 0
-IsRead text failed (Ok known) = IsHeld text known
-IsRead text failed (Err fault) = Says fault text failed
+-- what reading the text of a list gives
+abbrev pub IsRead : List ℕ → Result Known KrlFault → Bool → Option (List ℕ) → Type 0
+IsRead = IsReadAs IsHeld
 
--- This is what reading a list gave, where the bytes that its reader had left are known.
-pub record IsListRead {R : Type 0} (has_failed : R → Bool) (left : Option (List ℕ))
-    (reading : Result Known KrlFault) : Type 0 where
-  pub failed : Bool
-  pub tells : MayFail has_failed failed
-  pub read : (text : List ℕ) → left ≡ Some text → IsRead text failed reading
+-- This is what reading a list gave, by its reader before and after it.
+abbrev pub IsListRead : Option (List ℕ) → Result Known KrlFault → Bool → Option (List ℕ) → Type 0
+IsListRead = IsReadingOf IsHeld
 
 -- Where memory runs out, it is for the run itself.
 abbrev pub krl_cause : KrlFault → Cause

@@ -1,6 +1,6 @@
 //! Laws of what runs say. Each function does nothing: its contract is the law.
 
-ghost use Rattle.std.specs.Prelude.{◌≡◌, ◌⊎◌, ℕ, [], true, false, List, Result, Ok, Err, Some, None};
+ghost use Rattle.std.specs.Prelude.{◌≡◌, ◌⊎◌, ℕ, [], true, false, List, Result, Ok, Err, Some, None, Option};
 ghost use Rattle.ssh_wire.specs.Wire.{IsBytes};
 ghost use Rattle.ssh_cert.specs.Certificate.{Certificate, IsCertificate};
 ghost use Rattle.ssh_cert.specs.Subject.{Subject};
@@ -117,8 +117,8 @@ pub fn contents_stand_first()
 /// Where its reader does not fail, a text is read in one way, unless memory runs out: what is known
 /// of it is one, or its fault is.
 pub fn one_reading()
-    ensures { (text : List ℕ) (one other : Result Known KrlFault)
-        → IsRead text false one → IsRead text false other
+    ensures { (text : List ℕ) (one other : Result Known KrlFault) (left later : Option (List ℕ))
+        → IsRead text one false left → IsRead text other false later
         → (one ≡ other) ⊎ ((one ≡ Err NoMemory) ⊎ (other ≡ Err NoMemory)) }
 {
     one_spelling();

@@ -85,7 +85,7 @@ fn ask_list(rt: &HostRuntime, job: &Job) -> u8 {
         }
     }
     let mut out = ToWrite::new(rt.stdout());
-    let done = query_run(
+    let (done, _) = query_run(
         rt.alloc(),
         job.file,
         FromRead::new(krl),
@@ -120,14 +120,15 @@ fn write_over<R: Source + Drop>(rt: &HostRuntime, job: &Job, list: Option<R>) ->
         name: job.file,
         list,
     };
-    match make_run(
+    let (made, _) = make_run(
         rt.alloc(),
         old,
         &authority,
         job.version,
         files.as_slice(),
         moment(rt),
-    ) {
+    );
+    match made {
         Ok(text) => write(rt, job.file, &text),
         Err(fault) => end(rt, &stopped(fault)),
     }

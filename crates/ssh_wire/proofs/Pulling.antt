@@ -56,20 +56,20 @@ Comes-more before mid after start now slice part comes more size = record {
   count = omega (arith, length-append comes.came slice, comes.count, size);
 }
 
-Tells-end : (fault : PullFault) (pull : Pulled) (came : ℕ) → TellsEnd fault (left_of pull) pull.failed → Tells fault pull came
-Tells-end EndsEarly pull came tells = tells
-Tells-end TooLong pull came tells = absurd tells
-Tells-end Read pull came tells = tells
-Tells-end NoMemory pull came tells = absurd tells
+Tells-end : (fault : PullFault) (pull : Pulled) (came : ℕ) → TellsEnd fault (left_of pull) pull.failed → pull.ahead ≡ None → Tells fault pull came
+Tells-end EndsEarly pull came tells none_ahead = tells
+Tells-end TooLong pull came tells none_ahead = absurd tells
+Tells-end Read pull came tells none_ahead = (none_ahead, tells)
+Tells-end NoMemory pull came tells none_ahead = absurd tells
 
 -- what came is less than a field that has room
-pub Misses-short : (old new : Pulled) (fault : PullFault) (room size : ℕ) → FallsShort fault (left_of old) (left_of new) new.failed room → room ≤ size → old.taken + room ≤ old.limit → Misses old size fault new
-Misses-short old new fault room size stops fits within = record {
+pub Misses-short : (old new : Pulled) (fault : PullFault) (room size : ℕ) → FallsShort fault (left_of old) (left_of new) new.failed room → new.ahead ≡ None → room ≤ size → old.taken + room ≤ old.limit → Misses old size fault new
+Misses-short old new fault room size stops none_ahead fits within = record {
   came = stops.came;
   bytes = stops.bytes;
   part = omega (arith, stops.part);
   within = omega (arith, stops.part);
-  tells = Tells-end fault new (length stops.came) stops.tells;
+  tells = Tells-end fault new (length stops.came) stops.tells none_ahead;
 }
 
 -- bytes came, and then there was no memory for the rest of the field

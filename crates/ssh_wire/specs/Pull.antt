@@ -48,12 +48,12 @@ pub record Takes (old : Pulled) (field : List ℕ) (new : Pulled) : Type 0 where
   pub is_faultless : new.fault ≡ None
 
 -- What a fault says, where this many bytes of a field came. EndsEarly: no byte is left. TooLong:
--- the limit is reached, and a byte stands past it. Read: the reader failed.
+-- the limit is reached, and a byte stands past it. Read: the reader failed, and no byte stands ahead.
 abbrev pub Tells : PullFault → Pulled → ℕ → Type 0
 Tells EndsEarly pull came = IsAtEnd (left_of pull) × (pull.failed ≡ false)
 Tells TooLong pull came =
     (pull.taken + came ≡ pull.limit) × IsSome pull.ahead × (pull.failed ≡ false)
-Tells Read pull came = pull.failed ≡ true
+Tells Read pull came = (pull.ahead ≡ None) × (pull.failed ≡ true)
 Tells NoMemory pull came = pull.failed ≡ false
 
 -- Of a field of this many bytes not all came, within the limit, and the fault says why.

@@ -1,7 +1,7 @@
 // Reading on until a slice or a vector is full.
 
-ghost use Rattle.std.specs.Prelude.{◌≡◌, ◌≢◌, ◌<◌, ◌≤◌, ◌+◌, ℕ, [], Err, OnOk, IfErr, false};
-ghost use Rattle.std.specs.Prelude.{vec_len, vec_capacity};
+ghost use Rattle.std.specs.Prelude.{◌≡◌, ◌≢◌, ◌<◌, ◌≤◌, ◌+◌, ℕ, [], None, Err, OnOk, OnErr, IfErr};
+ghost use Rattle.std.specs.Prelude.{false, vec_len, vec_capacity};
 ghost use Rattle.std.specs.Io.KnownBytes.{Consumes, Keeps};
 ghost use Rattle.ssh_wire.specs.Filling.{Fills, FindsAhead, pulled};
 ghost use Rattle.ssh_wire.specs.Pull.{Misses, after_ahead};
@@ -21,8 +21,9 @@ pub(crate) fn fill<R: Source>(
     into: &mut [u8],
 ) -> Result<(), PullFault>
     requires { R.has_failed reader.old ≡ false }
-    ensures { Fills result (after_ahead ahead.old (R.left reader.old))
+    ensures fills { Fills result (after_ahead ahead.old (R.left reader.old))
         (after_ahead ahead.new (R.left reader.new)) (R.has_failed reader.new) into.new }
+    ensures none_ahead { OnErr result (ahead.new ≡ None) }
 {
     if let Some(byte) = *ahead
         && !into.is_empty()

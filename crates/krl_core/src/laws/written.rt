@@ -1,6 +1,6 @@
 // Laws of the lists that are written. Each function does nothing: its contract is the law.
 
-ghost use Rattle.std.specs.Prelude.{◌≡◌, ◌≤◌, ◌<◌, ◌^◌, ◌⊎◌, ℕ, Bool, true, List, None, length};
+ghost use Rattle.std.specs.Prelude.{◌≡◌, ◌≤◌, ◌<◌, ◌^◌, ◌⊎◌, ℕ, Bool, true, List, Option, None, length};
 ghost use Rattle.ssh_wire.specs.Wire.{IsBytes};
 ghost use Rattle.krl_core.specs.Front.{IsFirstFault, limit};
 ghost use Rattle.krl_plan.specs.declared.group.Group.{Group};
@@ -52,7 +52,8 @@ pub fn written_list_has_no_fault()
     ensures refused { (header : Header) (r : Contents) (text : List ℕ)
         → IsKrlText header r text → length text ≤ limit
         → header.version < 2 ^ 64 → header.date < 2 ^ 64 → IsOrderly r
-        → IsBytes text → (fault : KrlFault) (failed : Bool) → Says fault text failed
+        → IsBytes text → (fault : KrlFault) (failed : Bool) (left : Option (List ℕ))
+        → Says fault text failed left
         → (fault ≡ NoMemory) ⊎ ((fault ≡ Read) × (failed ≡ true)) }
 {}
 

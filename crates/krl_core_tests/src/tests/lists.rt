@@ -28,7 +28,8 @@ pub fn read_from<S: Spans, R: Read + Drop>(
     alloc: Global,
     reader: R,
 ) -> Result<(Header, Revocations<S>), KrlFault> {
-    read_krl::<S, FromRead<R>>(alloc, FromRead::new(reader))
+    let (read, _) = read_krl::<S, FromRead<R>>(alloc, FromRead::new(reader));
+    read
 }
 
 /// How many spans are held of a list.

@@ -144,9 +144,63 @@ fn stays_at_the_end(rt: &impl Abort, reading: &mut OfSlice<'_>) {
     }
 }
 
+// Reads to the end, which the reader tells once.
+fn ends_once(rt: &impl Abort, alloc: Global, text: &[u8]) {
+    let mut giver = Giver::new(text, 7);
+    giver.then = Then::EndsOnce;
+    let mut reading = Reading::<Held, FromRead<Giver<'_>>>::new(alloc, FromRead::new(giver));
+    for _ in 0..100 {
+        if reading.step() != Ok(true) {
+            break;
+        }
+    }
+    for _ in 0..3 {
+        assert!(rt; reading.step() == Ok(false));
+        assert!(rt; reading.taken() == text.len() as u64);
+    }
+}
+
+// The end is found once: a reader that would fail after it is not asked again.
+#[test]
+fn the_end_is_kept(rt: HostRuntime) {
+    for sections in [b"".as_slice(), FIVE, BITMAP] {
+        let text = list_of(&rt, rt.alloc(), sections);
+        ends_once(&rt, rt.alloc(), &text);
+    }
+}
+
+// A list of the serials 1, 9, 3, 3 and 2.
+const NO_ORDER: &[u8] = b"\x01\0\0\0\x35\0\0\0\0\0\0\0\0\x20\0\0\0\x28\0\0\0\0\0\0\0\x01\
+\0\0\0\0\0\0\0\x09\0\0\0\0\0\0\0\x03\0\0\0\0\0\0\0\x03\0\0\0\0\0\0\0\x02";
+
+// How many spans are held after each of the serials; before them none is.
+fn holds_at_once(rt: &impl Abort, reading: &mut OfSlice<'_>, due: &[u128]) {
+    for _ in 0..100 {
+        if taken(reading) == 70 - 8 {
+            break;
+        }
+        assert!(rt; step(reading) == Ok(true));
+        assert!(rt; held(reading) == 0);
+    }
+    for spans in due {
+        assert!(rt; step(reading) == Ok(true));
+        assert!(rt; held(reading) == *spans);
+    }
+    assert!(rt; step(reading) == Ok(false));
+}
+
+// Serials in no order are held at once. One that is there already takes nothing, and one between two
+// others joins them.
+#[test]
+fn serials_are_held_at_once(rt: HostRuntime) {
+    let text = list_of(&rt, rt.alloc(), NO_ORDER);
+    let mut reading = OfSlice::new(rt.alloc(), FromRead::new(text.as_slice()));
+    holds_at_once(&rt, &mut reading, &[1, 2, 3, 3, 2]);
+}
+
 // The version of what was read, and how many spans are held of it.
 fn done(reading: OfSlice<'_>) -> (u64, u128) {
-    let (header, held) = reading.done();
+    let (header, held, _) = reading.done();
     (header.version, held.held())
 }
 

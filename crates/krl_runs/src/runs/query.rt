@@ -83,7 +83,7 @@ fn push_comment(text: &mut Vec<u8>, comment: &[u8]) -> Result<(), AllocError>
 }
 
 /// Reads a list, prints its contents where `dump` is true, asks it about each key of each file, and
-/// says of each in a line whether it is revoked.
+/// says of each in a line whether it is revoked. It gives the list's reader back.
 pub fn query_run<'a, R: Source + Drop, W: Sink>(
     alloc: Global,
     krl_name: &'a str,
@@ -91,19 +91,20 @@ pub fn query_run<'a, R: Source + Drop, W: Sink>(
     dump: bool,
     files: &'a [Named<'a>],
     out: &mut W,
-) -> Done<'a>
+) -> (Done<'a>, R)
     requires fresh { R.has_failed krl ≡ false }
     requires working { W.has_failed out.old ≡ false }
-    ensures { (reading : Result Known FaultOf) × IsListRead R.has_failed (R.left krl) reading
+    ensures { (reading : Result Known FaultOf)
+        × IsListRead (R.left krl) reading (R.has_failed result.1) (R.left result.1)
         × Ends (query_run_of krl_name.now reading dump files.now) (W.taken out.old)
-        (W.taken out.new) (W.has_failed out.new) result.status result.fault }
+        (W.taken out.new) (W.has_failed out.new) result.0.status result.0.fault }
 {
     let mut page = Vec::new(alloc);
     let mut printer = Printer::new(&mut page, out);
-    let stop = ask_list(alloc, krl_name, krl, dump, files, &mut printer).err();
-    let done = printer.finish(stop);
+    let (asked, reader) = ask_list(alloc, krl_name, krl, dump, files, &mut printer);
+    let done = printer.finish(asked.err());
     let Printer { out: _out, .. } = printer;
-    done
+    (done, reader)
 }
 
 /// Reads a list and asks it about each key of each file.
@@ -114,17 +115,22 @@ fn ask_list<'a, R: Source + Drop, W: Sink>(
     dump: bool,
     files: &'a [Named<'a>],
     printer: &mut Printer<W>,
-) -> Result<(), RunFault<'a>>
+) -> (Result<(), RunFault<'a>>, R)
     requires fresh { R.has_failed krl ≡ false }
     requires working { printer.old.failed ≡ false }
-    ensures { (reading : Result Known FaultOf) × IsListRead R.has_failed (R.left krl) reading
-        × Carries (query_run_of krl_name.now reading dump files.now) result
+    ensures { (reading : Result Known FaultOf)
+        × IsListRead (R.left krl) reading (R.has_failed result.1) (R.left result.1)
+        × Carries (query_run_of krl_name.now reading dump files.now) result.0
         printer.old printer.new }
 {
     revokes_what_is_meant();
-    match read_krl::<Held, R>(alloc, krl) {
-        Ok((header, list)) => ask_held(alloc, krl_name, &header, &list, dump, files, printer),
-        Err(fault) => Err(RunFault::whole(krl_name, cause_of(fault))),
+    let (read, reader) = read_krl::<Held, R>(alloc, krl);
+    match read {
+        Ok((header, list)) => {
+            let asked = ask_held(alloc, krl_name, &header, &list, dump, files, printer);
+            (asked, reader)
+        }
+        Err(fault) => (Err(RunFault::whole(krl_name, cause_of(fault))), reader),
     }
 }
 

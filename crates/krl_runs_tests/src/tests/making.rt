@@ -53,7 +53,7 @@ fn made(
         name: "r.krl",
         list,
     };
-    let made = make_run(alloc, old, authority, version, files.as_slice(), 0);
+    let (made, _) = make_run(alloc, old, authority, version, files.as_slice(), 0);
     Outcome::of(rt, alloc, made)
 }
 

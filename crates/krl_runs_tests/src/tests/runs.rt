@@ -98,7 +98,7 @@ pub fn asked<'a>(
     mut device: Taker,
 ) -> Ran {
     let mut out = ToWrite::new(&mut device);
-    let done = query_run(alloc, "r.krl", FromRead::new(krl), dump, files, &mut out);
+    let (done, _) = query_run(alloc, "r.krl", FromRead::new(krl), dump, files, &mut out);
     drop(out);
     told(rt, alloc, device.taken, &done)
 }

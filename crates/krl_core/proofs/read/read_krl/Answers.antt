@@ -1,4 +1,4 @@
-use Rattle.std.proofs.Common.{[], ◌∷◌, ◌++◌, ap, ◌∙◌}
+use Rattle.std.proofs.Common.{[], ◌∷◌, ◌++◌}
 use Rattle.krl_core.proofs.SpelledLists.{only_starved}
 use Rattle.krl_core.proofs.Whole.{step_nearer, whole_unfaulted}
 use Rattle.krl_core.proofs.read.read_krl.Goals as goal
@@ -28,23 +28,21 @@ returns-in-Ok-false-clause-found g c = λ text e.
     let h = c.fields.invariant.reads text e in
     let ends = c.in-Ok-false.ensures.ends c.in-Ok-false.field-0-test in
     let still = ends.still text h.0 h.1 in
-    c.done.ensures.list text h.0 still.0 still.1 ends.may_end
+    c.done-header.ensures.list text h.0 still.0 still.1 ends.may_end
 
 pub returns-in-Ok-false-clause-no_fault : goal.returns-in-Ok-false-clause-no_fault
 returns-in-Ok-false-clause-no_fault g c = λ text e.
     let h = c.fields.invariant.reads text e in
     let ends = c.in-Ok-false.ensures.ends c.in-Ok-false.field-0-test in
     let still = ends.still text h.0 h.1 in
-    whole_unfaulted text _ _ (c.done.ensures.whole text h.0 still.0 still.1 ends.may_end)
+    whole_unfaulted text _ _ (c.done-header.ensures.whole text h.0 still.0 still.1 ends.may_end)
 
 pub returns-in-Err-clause-fault : goal.returns-in-Err-clause-fault
-returns-in-Err-clause-fault g c = (
-  c.step.new.self.pull.failed,
-  λ on. (c.drop.inside.reader, ap (λ p. p.failed) c.drop.view_is ∙ ap (λ p. p.pull.failed) c.reading.view_is ∙ on),
-  λ text e. let h = c.fields.invariant.reads text e in c.in-Err.ensures.fault c.fields.invariant.faultless text h.0 h.1,
-)
+returns-in-Err-clause-fault g c = λ text e.
+    let h = c.fields.invariant.reads text e in
+    rw (c.into_reader.ensures.left, c.into_reader.ensures.failed) (c.in-Err.ensures.fault c.fields.invariant.faultless text h.0 h.1)
 
 pub returns-in-Err-clause-only : goal.returns-in-Err-clause-only
 returns-in-Err-clause-only g c = λ text header sections e fits spelled le.
     let h = c.fields.invariant.reads text e in
-    only_starved c.in-Err.fault c.step.new.self.pull.failed text header sections (c.in-Err.ensures.fault c.fields.invariant.faultless text h.0 h.1) fits spelled le
+    only_starved c.in-Err.fault c.step.new.self.pull.failed c.step.new.self.pull.source text header sections (c.in-Err.ensures.fault c.fields.invariant.faultless text h.0 h.1) fits spelled le

@@ -1,22 +1,24 @@
 -- The old list is read, or refused.
-use Rattle.std.proofs.Common.{false, Ok, Err, refl, ap, ◌∙◌}
-use Rattle.std.proofs.lemmas.Bool.{false≢true}
+use Rattle.std.proofs.Common.{Ok, Err, refl, ap, ◌∙◌}
 use Rattle.krl_runs.specs.Stop.{stop_of}
-use Rattle.krl_make.proofs.MadeLists.{old_read, old_refused}
+use Rattle.krl_make.proofs.MadeLists.{old_read}
 use Rattle.krl_make.proofs.base.read_base.Goals as goal
 
 pub returns-in-Ok : goal.returns-in-Ok
-returns-in-Ok g c = (
-  Ok c.base_of.result,
-  record {
-    failed = false;
-    tells = λ on. absurd (false≢true on);
-    read = rw (c.in-Some.is, c.base_of.ensures) (old_read _ _ _ c.in-Ok.ensures.found c.in-Ok.ensures.no_fault);
-  },
-  refl,
-)
+returns-in-Ok g c =
+    let read = rw c.in-Ok.is at c.read_krl-read.ensures in (
+      Ok c.base_of.result,
+      rw (c.in-Some.is, c.base_of.ensures) (record {
+        failure = read.failure;
+        read = λ text e. old_read text _ _ (read.found text e) (read.no_fault text e);
+      }),
+      refl,
+    )
 
 pub returns-in-Err : goal.returns-in-Err
 returns-in-Err g c =
-    let says = c.in-Err.ensures.fault in
-    (Err c.in-Err.fault, record { failed = says.0; tells = says.1; read = rw c.in-Some.is (old_refused _ _ _ says.2) }, (c.in-Err.fault, (refl, c.whole.ensures ∙ ap (stop_of c.args.name.now) c.cause_of.ensures)))
+    let read = rw c.in-Err.is at c.read_krl-read.ensures in (
+      Err c.in-Err.fault,
+      rw c.in-Some.is (record { failure = read.failure; read = read.fault }),
+      (c.in-Err.fault, (refl, c.whole.ensures ∙ ap (stop_of c.args.name.now) c.cause_of.ensures)),
+    )

@@ -8,6 +8,6 @@ returns-clause-unfaulted c header r text is short version date orderly bytes =
     spelled_unfaulted text header w.sections bytes w.spelled short
 
 pub returns-clause-refused : goal.returns-clause-refused
-returns-clause-refused c header r text is short version date orderly bytes fault failed says =
+returns-clause-refused c header r text is short version date orderly bytes fault failed left says =
     let w = written_spelled header r text is short version date orderly in
-    only_broken_off fault failed text header w.sections says bytes w.spelled short
+    only_broken_off fault failed left text header w.sections says bytes w.spelled short

@@ -1,4 +1,5 @@
-use Rattle.std.proofs.Common.{◌≡◌, None, ap, ◌∙◌}
+use Rattle.std.proofs.Common.{◌≡◌, None, false, ap, ◌∙◌}
+use Rattle.krl_core.proofs.Ending.{ends_now}
 use Rattle.krl_core.proofs.reading.Reading.step.Goals as goal
 
 pub returns-in-Some-clause-fault : goal.returns-in-Some-clause-fault
@@ -7,11 +8,19 @@ returns-in-Some-clause-fault g c = λ faultless text fields h.
     absurd (cc (none, c.in-Some.is))
 
 pub returns-in-Ok-clause-more : goal.returns-in-Ok-clause-more
-returns-in-Ok-clause-more g c =
+returns-in-Ok-clause-more g c = λ on.
     let none : c.self.inside.fault ≡ None = c.in_default.is in
-    rw (← c.self.view_is, none) c.in-Ok.ensures.more
+    let before : c.self.inside.ended ≡ false = c.if-self.false in
+    rw (← c.self.view_is, none, before, on) (c.in-Ok.ensures.more on)
+
+pub returns-in-Ok-clause-ends : goal.returns-in-Ok-clause-ends
+returns-in-Ok-clause-ends g c = λ off.
+    let none : c.self.inside.fault ≡ None = c.in_default.is in
+    let before : c.self.inside.ended ≡ false = c.if-self.false in
+    rw (← c.self.view_is, none, before, off) (ends_now _ c.advance.new.pull c.advance.new.place c.advance.new.keeper (c.in-Ok.ensures.ends off))
 
 pub returns-in-Err-clause-fault : goal.returns-in-Err-clause-fault
 returns-in-Err-clause-fault g c =
     let none : c.self.inside.fault ≡ None = c.in_default.is in
-    rw (← c.self.view_is, none) (λ _. c.in-Err.ensures.fault)
+    let before : c.self.inside.ended ≡ false = c.if-self.false in
+    rw (← c.self.view_is, none, before) (λ _. c.in-Err.ensures.fault)

@@ -5,6 +5,6 @@ use Rattle.krl_runs.proofs.runs.query.query_run.Goals as goal
 
 pub returns : goal.returns
 returns g c =
-    let run = c.ask_list.ensures in
+    let run = c.ask_list-asked.ensures in
     let carries = rw (c.new-printer.ensures, c.requires.working) at run.2 in
-    (run.0, run.1, ends_known _ c.ask_list.result _ _ _ _ _ _ _ _ _ _ carries c.err-stop.ensures.value c.finish-done.ensures.ends (search rules) (search rules))
+    (run.0, run.1, ends_known _ c.ask_list-asked.result.0 _ _ _ _ _ _ _ _ _ _ carries c.err.ensures.value c.finish-done.ensures.ends (search rules) (search rules))
