@@ -26,7 +26,21 @@ fails 'an empty key file' $'g.pub: REVOKED\n' 'empty: file 5 NoKeys' -Q -f r.krl
 fails 'an empty file to list' '' 'empty: file 5 NoKeys' -l -f empty
 fails 'empty standard input' '' '-: file 5 NoKeys' -l -f -
 fails 'a file of comments' '' 'comments: file 5 NoKeys' -l -f comments
+# A hyphen is standard input for what is listed and for the files of -k, and else a name.
 fails 'a hyphen is a name in a query' '' '-: file 1 Open' -Q -f r.krl - <g.pub
+fails 'a hyphen is a name of a list' '' '-: file 1 Open' -Q -f - g.pub <r.krl
+fails 'a hyphen is a name of a list to update' '' '-: file 1 Open' -k -u -f - empty <r.krl
+fails 'a hyphen is a name of an authority' '' '-: file 1 Open' -k -f made.krl -s - empty <g.pub
+printf 'serial: 7\n' >spec
+cp a ./-
+expect 'an authority in a file of this name' 0 '' '' -k -f made.krl -s - -z 1 spec <g.pub
+judge 'it is the authority' "$(
+  differs 'the list' "${H}01$(string "$(string "$A")$(words '')20000000080000000000000007")" \
+    "$(digits made.krl)"
+)"
+expect 'a list of this name' 0 '' '' -k -f - -z 1 empty <g.pub
+judge 'it is made' "$(differs 'the list' "$H" "$(digits ./-)")"
+rm ./- made.krl
 
 # Root may read what no one else may, so root asks as nobody, whom the scratch folder lets in.
 touch closed && chmod 000 closed
@@ -40,6 +54,12 @@ cp g.pub "$control"
 expect 'a name with control bytes' 1 'a\x09b\x1b\x7f: REVOKED'$'\n' '' -Q -f r.krl "$control"
 fails 'a missing name with control bytes' '' 'no\x0ane: file 1 Open' -Q -f r.krl $'no\nne'
 fails 'a missing list with control bytes' '' '\x01: file 1 Open' -Q -f $'\x01' g.pub
+# However long the name is, a fault is one whole line.
+for length in 200 255 256 257 300 1000 5000; do
+  long=$(repeat $length n)
+  fails "a missing file whose name has $length bytes" '' "$long: file 1 Open" -l -f "$long"
+  fails "a missing list whose name has $length bytes" '' "$long: file 1 Open" -Q -f "$long"
+done
 cp g.pub 'Zoë x'
 expect 'a name in UTF-8 with a blank' 1 $'Zoë x: REVOKED\n' '' -Q -f r.krl 'Zoë x'
 

@@ -6,7 +6,7 @@
      READ=K-L:HOW:PIECE      the same of reads, and WRITE of writes; HOW is the error's number, or 0 for a
                              call that ends well and moves nothing, or -1 for one that moves one byte. All
                              other calls move at most PIECE bytes
-     MOMENT=N                the clock shows so many seconds since 1970
+     MOMENT=N                the clock shows so many seconds since 1970, before it where N is negative
      REPORT=FILE             the counts of what was called and of what failed stand there at the end */
 #define _GNU_SOURCE
 #include <errno.h>
@@ -39,8 +39,8 @@ static struct order orders[SORTS] = {
     [READ] = {.piece = UINT64_MAX},
     [WRITE] = {.piece = UINT64_MAX},
 };
-static long moment = -1;
-static int is_ready;
+static long moment;
+static int has_moment, is_ready;
 
 void *__libc_malloc(size_t);
 void *__libc_realloc(void *, size_t);
@@ -57,8 +57,10 @@ __attribute__((constructor)) static void begin(void) {
   take("MEMORY", &orders[MEMORY]);
   take("READ", &orders[READ]);
   take("WRITE", &orders[WRITE]);
-  if (time)
+  if (time) {
+    has_moment = 1;
     moment = atol(time);
+  }
   if (file) {
     int report = open(file, O_RDWR);
     void *shared = mmap(NULL, sizeof own, PROT_READ | PROT_WRITE, MAP_SHARED, report, 0);
@@ -120,7 +122,7 @@ ssize_t write(int descriptor, const void *from, size_t size) {
 }
 
 int clock_gettime(clockid_t clock, struct timespec *time) {
-  if (moment < 0)
+  if (!has_moment)
     return syscall(SYS_clock_gettime, clock, time);
   *time = (struct timespec){.tv_sec = moment};
   return 0;

@@ -1,8 +1,10 @@
 """Single cases, each with its answer."""
 
 import errno
+import struct
 
 from refusing.runs import Run
+from wire import HEADER
 
 FULL = "4-4:%d:3" % errno.ENOSPC
 
@@ -32,6 +34,14 @@ def fault(room, name, says, words, output=b"", made=None, **failing):
     room.judge(name, [] if is_right else [got.shown()])
 
 
+def made_at(room, moment, date):
+    """The list that is made when the clock shows the moment has this date."""
+    got = asked(room, "-k -f made.krl empty", MOMENT=str(moment))
+    due = HEADER[:12] + struct.pack(">QQ", 0, date) + HEADER[28:]
+    name = "a list that is made %d seconds after 1970" % moment
+    room.judge(name, [] if got.says() == (0, b"", b"", due) else [got.shown()])
+
+
 def failing_after(count):
     """Reads of one byte, of which all after the first ones fail."""
     return "%d-%d:%d:1" % (count + 1, 1 << 62, errno.EIO)
@@ -56,6 +66,8 @@ def all_rows(room):
         made=b"SSHKRL\n\0\0",
         WRITE=FULL,
     )
+    for moment in (-1, -(1 << 40), 0, 1, 1 << 32):
+        made_at(room, moment, max(moment, 0))
     for count in range(len(room.files["four.krl"]) + 1):
         fault(
             room,

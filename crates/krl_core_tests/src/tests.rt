@@ -12,7 +12,6 @@ mod plain_model;
 mod plain_reader;
 mod random_lists;
 mod reading;
-mod refused;
 mod rows;
 mod sending;
 mod subjects;

@@ -1,5 +1,6 @@
 // Vectors, which a refused put leaves as they were.
 
+use crate::tests::answered::ran_out;
 use ssh_wire::{put_byte, put_mpint, put_string, put_u32, put_u64};
 use std::alloc::AllocError;
 use std::test::*;
@@ -23,6 +24,7 @@ fn a_vector(rt: HostRuntime) -> Result<(), Fail> {
         let length = out.len();
         if put(&mut out, sort).is_err() {
             assert_eq!(rt; out.len(), length);
+            ran_out(&rt);
             put(&mut out, sort)?;
         }
     }

@@ -1,0 +1,15 @@
+// Each call that allocates, with what it answers where there is memory, and what stands where it was
+// refused.
+
+mod answered;
+mod holding;
+mod keys;
+mod page;
+mod parts;
+mod puts;
+mod reading;
+mod runs;
+mod sets;
+mod spec_files;
+mod texts;
+mod words;

@@ -1,0 +1,119 @@
+// What is held, which a refused addition leaves as it was.
+
+use crate::tests::answered::{answered, ran_out};
+use crate::tests::parts::{GITHUB_LINE, SHA256, blob_of};
+use krl_core::Revocations;
+use serial_set::Held;
+use std::alloc::AllocError;
+use std::io::{self, Write};
+use std::process::Abort;
+use std::test::Fail;
+
+/// Counts the bytes that it takes.
+#[derive(Drop)]
+pub struct Counter {
+    pub count: usize,
+}
+
+impl Write for Counter {
+    fn write(&mut self, bytes: &[u8]) -> io::Result<usize> {
+        self.count = self.count.saturating_add(bytes.len());
+        Ok(bytes.len())
+    }
+
+    fn flush(&mut self) -> io::Result<()> {
+        Ok(())
+    }
+}
+
+// What is added.
+#[derive(Clone, Copy)]
+enum Entry {
+    Key,
+    Serial,
+    Id,
+    Sha1,
+    Sha256,
+}
+
+const SORTS: [Entry; 5] = [
+    Entry::Key,
+    Entry::Serial,
+    Entry::Id,
+    Entry::Sha1,
+    Entry::Sha256,
+];
+
+/// How many spans, key IDs, keys and hashes are held.
+pub fn size(held: &Revocations<Held>) -> usize {
+    let mut ids = 0usize;
+    for index in 0..held.authorities() {
+        ids = ids.saturating_add(held.authority_at(index).ids());
+    }
+    let others = [
+        held.keys(),
+        held.sha1s(),
+        held.sha256s(),
+        held.held() as usize,
+    ];
+    for count in others {
+        ids = ids.saturating_add(count);
+    }
+    ids
+}
+
+fn add(held: &mut Revocations<Held>, entry: Entry, byte: u8) -> Result<(), AllocError> {
+    match entry {
+        Entry::Key => held.add_key(&[byte; 51]),
+        Entry::Serial => held.add_serials(Some(&[byte; 51]), 5, 5),
+        Entry::Id => held.add_id(None, &[byte; 9]),
+        Entry::Sha1 => held.add_sha1(&[byte; 20]),
+        Entry::Sha256 => held.add_sha256(&[byte; 32]),
+    }
+}
+
+// Adds a new entry, again where it is refused.
+fn insist(
+    rt: &(impl AllocGlobal + Abort + Print),
+    held: &mut Revocations<Held>,
+    entry: Entry,
+    byte: u8,
+) -> Result<(), AllocError> {
+    let before = (size(held), held.authorities());
+    if add(held, entry, byte).is_err() {
+        ran_out(rt);
+        assert!(rt; (size(held), held.authorities()) == before);
+        add(held, entry, byte)?;
+    }
+    assert!(rt; size(held) == before.0 + 1);
+    Ok(())
+}
+
+/// Two hundred of each sort.
+pub fn held(rt: &(impl AllocGlobal + Abort + Print)) -> Option<Revocations<Held>> {
+    let mut held = Revocations::new(rt.alloc());
+    for byte in 0..200 {
+        for entry in SORTS {
+            insist(rt, &mut held, entry, byte).ok()?;
+        }
+    }
+    Some(held)
+}
+
+#[test]
+fn each_addition(rt: HostRuntime) -> Result<(), Fail> {
+    let held = held(&rt).ok_or("a second refusal")?;
+    assert!(rt; size(&held) == 1000 && held.authorities() == 201);
+    Ok(())
+}
+
+/// Serial 5 and key ID `a` of all authorities, the published key and its SHA-256.
+pub fn one_of_each(rt: &(impl AllocGlobal + Abort + Print)) -> Option<Revocations<Held>> {
+    let blob = blob_of(rt, GITHUB_LINE)?;
+    let mut held = Revocations::new(rt.alloc());
+    answered(rt, held.add_serials(None, 5, 5), AllocError)?;
+    answered(rt, held.add_id(None, b"a"), AllocError)?;
+    answered(rt, held.add_key(blob.as_slice()), AllocError)?;
+    answered(rt, held.add_sha256(&SHA256), AllocError)?;
+    Some(held)
+}

@@ -1,0 +1,43 @@
+// A writer that asks for no memory.
+
+use std::io::{self, ErrorKind, Write};
+
+/// How many bytes it takes.
+const ROOM: usize = 4096;
+
+/// Holds the bytes that it took.
+#[derive(Drop)]
+pub struct Page {
+    bytes: [u8; ROOM],
+    count: usize,
+}
+
+impl Page {
+    pub fn new() -> Page {
+        Page {
+            bytes: [0; ROOM],
+            count: 0,
+        }
+    }
+
+    /// What it took.
+    pub fn text(&self) -> &[u8] {
+        self.bytes.get(..self.count).unwrap_or(&[])
+    }
+}
+
+impl Write for Page {
+    fn write(&mut self, bytes: &[u8]) -> io::Result<usize> {
+        let end = self.count.saturating_add(bytes.len());
+        match self.bytes.get_mut(self.count..end) {
+            Some(room) => room.copy_from_slice(bytes),
+            None => return Err(ErrorKind::Other.into()),
+        }
+        self.count = end;
+        Ok(bytes.len())
+    }
+
+    fn flush(&mut self) -> io::Result<()> {
+        Ok(())
+    }
+}

@@ -1,0 +1,123 @@
+// Sets of spans, which a refused addition leaves as they were.
+
+use crate::tests::answered::ran_out;
+use serial_set::{SpanPages, SpanVec, Spans};
+use std::alloc::AllocError;
+use std::process::Abort;
+use std::test::Fail;
+
+fn empty<S: Spans>(rt: &(impl AllocGlobal + Abort + Print)) -> Result<S, AllocError> {
+    match S::empty(rt.alloc()) {
+        Ok(set) => Ok(set),
+        Err(_) => {
+            ran_out(rt);
+            S::empty(rt.alloc())
+        }
+    }
+}
+
+/// In which order 1, 3, 5, .. 2047 are added.
+#[derive(Clone, Copy)]
+enum Order {
+    Rising,
+    Falling,
+    /// 1, 2047, 3, 2045, ..
+    BothEnds,
+}
+
+const COUNT: u64 = 1024;
+
+// The number that is added at a step.
+fn number(order: Order, step: u64) -> u64 {
+    let rises = match order {
+        Order::Rising => true,
+        Order::Falling => false,
+        Order::BothEnds => step % 2 == 0,
+    };
+    match (order, rises) {
+        (Order::BothEnds, true) => 1 + step % COUNT,
+        (Order::BothEnds, false) => 2 * COUNT - step % COUNT,
+        (_, true) => 1 + 2 * (step % COUNT),
+        (_, false) => 2 * COUNT - 1 - 2 * (step % COUNT),
+    }
+}
+
+// The set has just the numbers before a step, each in a span of its own.
+fn is_before<S: Spans>(rt: &(impl AllocGlobal + Abort + Print), set: &S, order: Order, step: u64) {
+    assert!(rt; set.len() as u64 == step && !set.has(number(order, step)));
+    for earlier in 0..step {
+        assert!(rt; set.has(number(order, earlier)));
+    }
+}
+
+// Adds the number of a step, again where it is refused.
+fn add<S: Spans>(
+    rt: &(impl AllocGlobal + Abort + Print),
+    set: &mut S,
+    order: Order,
+    step: u64,
+) -> Result<(), Fail> {
+    let serial = number(order, step);
+    assert!(rt; serial > 0);
+    if set.add(serial, serial).is_err() {
+        ran_out(rt);
+        is_before(rt, set, order, step);
+        set.add(serial, serial)?;
+    }
+    Ok(())
+}
+
+// Adds them all, and then one interval that joins them, which needs no memory.
+fn fill<S: Spans>(rt: &(impl AllocGlobal + Abort + Print), order: Order) -> Result<(), Fail> {
+    let mut set: S = empty(rt)?;
+    for step in 0..COUNT {
+        add(rt, &mut set, order, step)?;
+    }
+    assert!(rt; set.len() as u64 == COUNT);
+    set.add(2, 2 * COUNT - 2)?;
+    assert!(rt; set.len() == 1 && set.has(1) && set.has(2 * COUNT - 1) && !set.has(2 * COUNT));
+    Ok(())
+}
+
+#[test]
+fn pages(rt: HostRuntime) -> Result<(), Fail> {
+    fill::<SpanPages>(&rt, Order::Rising)?;
+    fill::<SpanPages>(&rt, Order::Falling)?;
+    fill::<SpanPages>(&rt, Order::BothEnds)
+}
+
+#[test]
+fn one_vector(rt: HostRuntime) -> Result<(), Fail> {
+    fill::<SpanVec>(&rt, Order::Rising)?;
+    fill::<SpanVec>(&rt, Order::Falling)?;
+    fill::<SpanVec>(&rt, Order::BothEnds)
+}
+
+/// What is added, and how many spans there are then.
+const JOINING: [(u64, u64, usize); 4] = [(5, 5, 1), (7, 7, 2), (6, 6, 1), (8, u64::MAX, 1)];
+
+// Adds what touches and what does not, again where it is refused.
+fn join<S: Spans>(rt: &(impl AllocGlobal + Abort + Print)) -> Result<(), Fail> {
+    let mut set: S = empty(rt)?;
+    for (lo, hi, due) in JOINING {
+        assert!(rt; 0 < lo && lo <= hi);
+        let before = set.len();
+        if set.add(lo, hi).is_err() {
+            ran_out(rt);
+            assert!(rt; set.len() == before && !set.has(hi));
+            set.add(lo, hi)?;
+        }
+        assert!(rt; set.len() == due && set.has(lo) && set.has(hi));
+    }
+    Ok(())
+}
+
+#[test]
+fn joined_pages(rt: HostRuntime) -> Result<(), Fail> {
+    join::<SpanPages>(&rt)
+}
+
+#[test]
+fn a_joined_vector(rt: HostRuntime) -> Result<(), Fail> {
+    join::<SpanVec>(&rt)
+}

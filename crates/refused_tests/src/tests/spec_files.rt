@@ -1,0 +1,44 @@
+// Specification files, of which a refusal leaves just the lines before it.
+
+use crate::tests::answered::{answered, ran_out};
+use crate::tests::holding::size;
+use crate::tests::parts::{CERT_LINE, GITHUB_LINE, GITHUB_PRINT, OTHER_LINE};
+use krl_core::Revocations;
+use krl_spec::{SpecCause, Under, read_spec};
+use parts_for_tests::joined;
+use serial_set::Held;
+use std::alloc::AllocError;
+
+/// Eight lines, of which each names one entry more.
+const LINES: [&[u8]; 14] = [
+    b"serial: 0x10-020\n",
+    b"id: a\n",
+    b"key: ",
+    GITHUB_LINE,
+    b"\nsha1: ",
+    GITHUB_LINE,
+    b"\nhash: ",
+    GITHUB_PRINT,
+    b"\nsha256: ",
+    OTHER_LINE,
+    b"\n",
+    CERT_LINE,
+    b"\n",
+    b"serial: 20-30",
+];
+
+#[test]
+fn a_file(rt: HostRuntime) {
+    let Some(text) = answered(&rt, joined(rt.alloc(), &LINES), AllocError) else {
+        return;
+    };
+    let mut held: Revocations<Held> = Revocations::new(rt.alloc());
+    match read_spec(rt.alloc(), &mut held, Under::All, &text) {
+        Ok(()) => assert!(rt; size(&held) == 8),
+        Err(fault) => {
+            assert!(rt; fault.cause == SpecCause::NoMemory);
+            assert!(rt; size(&held) + 1 == fault.line as usize);
+            ran_out(&rt);
+        }
+    }
+}
