@@ -45,21 +45,15 @@ const SORTS: [Entry; 5] = [
 ];
 
 /// How many spans, key IDs, keys and hashes are held.
-pub fn size(held: &Revocations<Held>) -> usize {
-    let mut ids = 0usize;
+pub fn size(held: &Revocations<Held>) -> u128 {
+    let mut size = held.held();
     for index in 0..held.authorities() {
-        ids = ids.saturating_add(held.authority_at(index).ids());
+        size = size.saturating_add(held.authority_at(index).ids() as u128);
     }
-    let others = [
-        held.keys(),
-        held.sha1s(),
-        held.sha256s(),
-        held.held() as usize,
-    ];
-    for count in others {
-        ids = ids.saturating_add(count);
+    for count in [held.keys(), held.sha1s(), held.sha256s()] {
+        size = size.saturating_add(count as u128);
     }
-    ids
+    size
 }
 
 fn add(held: &mut Revocations<Held>, entry: Entry, byte: u8) -> Result<(), AllocError> {
@@ -85,7 +79,7 @@ fn insist(
         assert!(rt; (size(held), held.authorities()) == before);
         add(held, entry, byte)?;
     }
-    assert!(rt; size(held) == before.0 + 1);
+    assert!(rt; size(held) == before.0.saturating_add(1));
     Ok(())
 }
 

@@ -74,14 +74,15 @@ fn is_whole_or_stopped(
 
 // Asks a list about the keys of files.
 fn query<'a>(alloc: Global, krl: &[u8], files: &'a [Named<'a>], said: &mut Page) -> Done<'a> {
-    query_run(
+    let (done, _) = query_run(
         alloc,
         "r.krl",
         FromRead::new(krl),
         true,
         files,
         &mut ToWrite::new(said),
-    )
+    );
+    done
 }
 
 /// What a list with the published key says of three files, with the list itself before it.
@@ -161,7 +162,8 @@ fn make(alloc: Global, old: &[u8], files: &[Named]) -> Result<Vec<u8>, Cause> {
         name: "r.krl",
         list: Some(FromRead::new(old)),
     };
-    match make_run(alloc, old, &Authority::All, None, files, 0) {
+    let (made, _) = make_run(alloc, old, &Authority::All, None, files, 0);
+    match made {
         Ok(text) => Ok(text),
         Err(fault) => Err(fault.cause),
     }

@@ -37,7 +37,7 @@ fn a_file(rt: HostRuntime) {
         Ok(()) => assert!(rt; size(&held) == 8),
         Err(fault) => {
             assert!(rt; fault.cause == SpecCause::NoMemory);
-            assert!(rt; size(&held) + 1 == fault.line as usize);
+            assert!(rt; size(&held).saturating_add(1) == fault.line as u128);
             ran_out(&rt);
         }
     }
