@@ -72,6 +72,22 @@ zeros=$((67108864 - 44 - 9))
 expect 'a list of the greatest length' 0 $'a: ok\n' '' -Q -f most.krl a
 { cat most.krl && printf '\0'; } >more.krl
 fails 'a list of one byte more' '' 'more.krl: krl 12 TooLong' -Q -f more.krl a
+
+# without_end DIGITS DIGITS: the first bytes, and then the others again and again.
+without_end() {
+  bytes "$(repeat 20000 "$2")" >piece
+  bytes "$1" && while cat piece; do :; done 2>/dev/null
+}
+# endless NAME DIGITS DIGITS: a list that goes on so is refused once it is too long.
+endless() {
+  fails "$1 without end" '' '/dev/stdin: krl 12 TooLong' -Q -f /dev/stdin < <(without_end "$2" "$3")
+}
+endless 'a reserved string' "${H:0:72}ffffffff" 00
+endless 'a comment' "${H:0:80}ffffffff" 00
+endless 'a key' "${H}02fffffffffffffffb" 00
+endless 'empty sections of keys' "$H" 0200000000
+endless 'sections of certificates with nothing in them' "$H" 01000000080000000000000000
+endless 'one authority and no serials' "$H" 010000000e000000014100000000"2000000000"
 limit=16777216
 { cat g.pub && head -c $((limit - 81)) /dev/zero | tr '\0' '#'; } >most.pub
 expect 'a key file of the greatest length' 0 "$listed" '' -l -f most.pub
