@@ -1,4 +1,9 @@
-pub mod Filling
 pub mod Zero
 pub mod Windows
 pub mod PlanTexts
+pub mod Stairs
+pub mod Best
+pub mod ListMarks
+pub mod MapMarks
+pub mod EightWindows
+pub mod Filling

@@ -1,9 +1,13 @@
 pub mod Sorts
 pub mod Plan
 pub mod Search
+pub mod Window
+pub mod Lists
+pub mod Bitmaps
+pub mod Table
 pub mod Written
 pub mod Chosen
-pub mod Loops
+pub mod Reach
 pub mod BitmapBits
 pub mod ListTexts
 pub mod GroupTexts

@@ -2,15 +2,17 @@
 #![tactic(auto)]
 
 mod bitmap;
+mod bitmaps;
 mod cell;
 mod group;
 mod group_text;
 pub mod laws;
+mod lists;
 mod plan_text;
 mod planner;
-mod search;
 mod string;
 mod table;
+mod window;
 
 pub use group::{Group, Sort};
 pub use plan_text::put_least_plan;

@@ -4,10 +4,12 @@ ghost use Rattle.std.specs.Prelude.{◌≡◌, ◌-◌, ◌*◌, ◌≤◌, leng
 ghost use Rattle.krl_plan.specs.Plan.{IsLeastPlan, cost};
 
 use crate::group::Group;
-use crate::search::MOST;
 use crate::table::Table;
 use serial_set::{Span, Spans};
 use std::alloc::{AllocError, Global};
+
+// How many runs are copied from a set at a time.
+const PIECE: usize = 1024;
 
 /// The plan of a set's runs that costs least. Of plans that cost the same it is the one whose group
 /// comes first where they differ: a list of serials, a range, a bitmap, and of one sort the longer.
@@ -16,16 +18,14 @@ pub fn least_plan<S: Spans>(alloc: Global, set: &S) -> Result<Vec<Group>, AllocE
     ensures small { IfOk result
         (λ plan. cost (S.spans set.now) plan.items ≤ 21 * length (S.spans set.now)) }
 {
-    let mut table = Table::new(alloc)?;
-    let mut window = Vec::new(alloc);
     let mut from = set.len();
+    let mut table = Table::new(alloc, from);
+    let mut window = Vec::new(alloc);
     while from > 0 {
-        let some = from.min(MOST);
-        let rest = set.len() - from;
-        let end = from + rest.min(MOST);
-        from -= some;
+        let end = from;
+        from -= end.min(PIECE);
         copy_runs(set, from, end, &mut window)?;
-        table.add_all(&window, some)?;
+        table.add_all(&window, from)?;
     }
     table.plan(alloc)
 }

@@ -1,39 +1,57 @@
-use Rattle.std.proofs.Common.{◌≡◌, ◌+◌, ◌-◌, ◌∙◌, List, ℕ, ap, arith, drop, subst, sym}
-use Rattle.std.proofs.lemmas.List.{drop-drop}
+use Rattle.std.proofs.Common.{◌≡◌, ℕ, ◌+◌, ◌-◌, ◌*◌, ◌++◌, ◌≤◌, List, arith, drop, length, subst, sym, take}
+use Rattle.std.proofs.lemmas.Result.{IfOk-weaker}
 use Rattle.serial_set.specs.declared.span.Span.{Span}
-use Rattle.krl_plan.specs.Search.{IsTable}
-use Rattle.krl_plan.specs.Chosen.{IsRuns-drop, RunsFrom-take}
-use Rattle.krl_plan.proofs.Filling.{window_front}
+use Rattle.serial_set.specs.Span.{IsRuns}
+use Rattle.krl_plan.specs.declared.table.Table.{Table}
+use Rattle.krl_plan.specs.Plan.{IsLeastPlan, cost}
+use Rattle.krl_plan.specs.Ranges.{cheapest_small}
+use Rattle.krl_plan.specs.Chosen.{IsRuns-drop}
+use Rattle.krl_plan.specs.Table.{Knows}
+use Rattle.krl_plan.proofs.Filling.{part_end, part_rest}
 use Rattle.krl_plan.proofs.planner.least_plan.Goals as goal
 
-pub add_all-requires-clause-rising : goal.add_all-requires-clause-rising
-add_all-requires-clause-rising g c =
+-- what is known after a part of a set
+behind : (table : Table) (spans window : List Span) (from end : ℕ) → end ≤ length spans → from ≤ end → window ≡ take (end - from) (drop from spans) → Knows table end (drop end spans) → Knows table (from + length window) (drop end spans)
+behind table spans window from end within le is knows = subst (λ (n : ℕ). Knows table n (drop end spans)) (part_end spans window from end within le is) knows
+
+pub add_all-requires-clause-known : goal.add_all-requires-clause-known
+add_all-requires-clause-known g c =
     let spans = g.S.Spans.spans c.args.set.now in
-    let from = c.loop-from.from - c.min-some.result in
-    let end = c.loop-from.from + c.min.result in
-    let runs = IsRuns-drop 0 from spans (g.met.S.Spans.law c.args.set.now).0 in
-    rw (c.deref.ensures.value, c.in_ok-copy_runs.ensures) (RunsFrom-take 0 (end - from) (drop from spans) runs)
+    let end = c.loop-from.from in
+    let from = end - c.min-from.result in
+    let window : c.deref.result.now ≡ take (end - from) (drop from spans) = rw c.deref.ensures.value c.in_ok-copy_runs.ensures in
+    let rest = part_rest spans c.deref.result.now from end (omega arith) window in (
+      drop end spans,
+      (
+        subst IsRuns (sym rest) (IsRuns-drop 0 from spans (g.met.S.Spans.law c.args.set.now).0),
+        behind c.loop-from.table spans c.deref.result.now from end c.loop-from.invariant.within (omega arith) window c.loop-from.invariant.known,
+      ),
+    )
 
 pub loop-from-preserved : goal.loop-from-preserved
 loop-from-preserved g c =
     let spans = g.S.Spans.spans c.args.set.now in
-    let some = c.min-some.result in
-    let from = c.loop-from.from - some in
-    let end = c.loop-from.from + c.min.result in
-    let one = c.min-some.ensures in
-    let rest = c.min.ensures in
-    let len = c.len.ensures in
-    let known = c.loop-from.invariant.known in
-    let more = c.in_ok-add_all.ensures.more in
-    let runs = IsRuns-drop 0 from spans (g.met.S.Spans.law c.args.set.now).0 in
-    let window = c.deref.ensures.value ∙ c.in_ok-copy_runs.ensures in
-    let front = window_front spans c.deref.result.now c.loop-from.from some end (omega arith) (omega arith) (omega arith) window in
-    let at : from + some ≡ c.loop-from.from = omega arith in
-    let same : drop c.loop-from.from spans ≡ drop some (drop from spans) = ap (λ (n : ℕ). drop n spans) (sym at) ∙ sym (drop-drop some from spans) in
-    let before : IsTable (drop some (drop from spans)) c.loop-from.table.costs.items c.loop-from.table.choices.items =
-    subst (λ (xs : List Span). IsTable xs c.loop-from.table.costs.items c.loop-from.table.choices.items) same c.loop-from.invariant.table in
+    let end = c.loop-from.from in
+    let from = end - c.min-from.result in
+    let within = c.loop-from.invariant.within in
+    let window : c.deref.result.now ≡ take (end - from) (drop from spans) = rw c.deref.ensures.value c.in_ok-copy_runs.ensures in
+    let rest = part_rest spans c.deref.result.now from end (omega arith) window in
+    let after : Knows c.add_all.new.self from (c.deref.result.now ++ drop end spans) =
+    c.in_ok-add_all.ensures (drop end spans) (subst IsRuns (sym rest) (IsRuns-drop 0 from spans (g.met.S.Spans.law c.args.set.now).0))
+    (behind c.loop-from.table spans c.deref.result.now from end within (omega arith) window c.loop-from.invariant.known) in
     record {
-      known = omega arith;
-      ready = c.in_ok-add_all.ensures.ready;
-      table = c.in_ok-add_all.ensures.table (drop from spans) front runs before;
+      within = omega arith;
+      known = subst (λ (xs : List Span). Knows c.add_all.new.self from xs) rest after;
     }
+
+pub returns-clause-least : goal.returns-clause-least
+returns-clause-least g c =
+    let spans = g.S.Spans.spans c.args.set.now in
+    let none : c.loop-from.from ≡ 0 = omega arith in
+    c.plan.ensures 0 spans (subst (λ (n : ℕ). Knows c.loop-from.table n (drop n spans)) none c.loop-from.invariant.known)
+
+pub returns-clause-small : goal.returns-clause-small
+returns-clause-small g c =
+    let spans = g.S.Spans.spans c.args.set.now in
+    IfOk-weaker c.plan.result (λ plan. IsLeastPlan spans plan.items) (λ plan. cost spans plan.items ≤ 21 * length spans)
+    (λ plan chosen. cheapest_small spans plan.items chosen.is_cheapest) (returns-clause-least g c)

@@ -1,0 +1,131 @@
+-- The lists that the first of some runs may begin, with one run more.
+use Rattle.std.proofs.Common.{◌≡◌, ℕ, zero, suc, ◌+◌, ◌-◌, ◌*◌, ◌^◌, ◌<◌, ◌≤◌, ◌⊎◌, inl, inr, List, [], ◌∷◌, get_or, length, take, refl, ap, ◌∙◌, arith}
+use Rattle.std.specs.List.{All, Contains}
+use Rattle.std.proofs.lemmas.List.{length-take-le}
+use Rattle.std.proofs.lemmas.List.Elements.{All-cons, All-head, All-nil, All-tail, Contains-get_or}
+use Rattle.serial_set.specs.declared.span.Span.{Span}
+use Rattle.krl_plan.specs.declared.group.Sort.TheVariants.{Serials}
+use Rattle.krl_plan.specs.declared.cell.Cell.{Cell}
+use Rattle.krl_plan.specs.declared.window.Mark.{Mark}
+use Rattle.krl_plan.specs.Plan.{Covers, IsGroup, IsSmall, serial_count}
+use Rattle.krl_plan.specs.Lists.{IsList, list_mark}
+use Rattle.krl_plan.specs.Search.{IsBestOf, IsCandidate, Wins, cell_with, rest_cost}
+use Rattle.krl_plan.specs.Window.{Forgets, IsFilled, IsLeastOf, Pushes}
+use Rattle.krl_plan.proofs.Best.{group_of, one_better, same_cell}
+use Rattle.krl_plan.proofs.Stairs.{forgets_filled, pushes_filled, same_mark}
+
+pub list_small : (run : Span) (runs : List Span) (count : ℕ) → IsList (run ∷ runs) count → IsSmall run
+list_small run runs zero g = let some : 0 < 0 = g.some in absurd (omega arith)
+list_small run runs (suc count) g =
+    let covers : Covers Serials (run ∷ take count runs) = g.covers in
+    All-head IsSmall run (take count runs) covers.1
+
+list_first : (run : Span) (runs : List Span) → IsSmall run → IsList (run ∷ runs) 1
+list_first run runs small = record {
+  some = omega arith;
+  within = omega arith;
+  covers = (omega arith, All-cons IsSmall run [] small (All-nil IsSmall));
+}
+
+list_up : (run : Span) (runs : List Span) (count : ℕ) → IsSmall run → IsList runs count → count < 1024 → IsList (run ∷ runs) (suc count)
+list_up run runs count small g few =
+    let within : count ≤ length runs = g.within in
+    let covers : Covers Serials (take count runs) = g.covers in
+    let len = length-take-le count runs within in
+    record {
+      some = omega arith;
+      within = omega arith;
+      covers = (omega arith, All-cons IsSmall run (take count runs) small covers.1);
+    }
+
+list_down : (run : Span) (runs : List Span) (count : ℕ) → IsList (run ∷ runs) count → (count ≡ 1) ⊎ ((before : ℕ) × ((count ≡ suc before) × (IsList runs before × (before < 1024))))
+list_down run runs zero g = let some : 0 < 0 = g.some in absurd (omega arith)
+list_down run runs (suc zero) g = inl refl
+list_down run runs (suc (suc count)) g =
+    let within : suc (suc count) ≤ suc (length runs) = g.within in
+    let covers : Covers Serials (run ∷ take (suc count) runs) = g.covers in
+    let few : suc (length (take (suc count) runs)) ≤ 1024 = covers.0 in
+    let len = length-take-le (suc count) runs (omega arith) in
+    let group : IsList runs (suc count) = record {
+      some = omega arith;
+      within = omega arith;
+      covers = (omega arith, All-tail IsSmall run (take (suc count) runs) covers.1);
+    } in
+    inr (suc count, (refl, (group, omega arith)))
+
+-- no list has more than 1,024 runs
+pub list_few : (runs : List Span) (count : ℕ) → IsList runs count → count ≤ 1024
+list_few runs count g =
+    let covers : Covers Serials (take count runs) = g.covers in
+    let few : length (take count runs) ≤ 1024 = covers.0 in
+    let len = length-take-le count runs g.within in
+    omega arith
+
+-- ---- marks
+
+list_one : (base more at rest : ℕ) (run : Span) (runs : List Span) (rests : List ℕ) (mark : Mark) → more + 8 * (run.hi + 1 - run.lo) ≡ base
+    → mark.place ≡ at + 1 → mark.value ≡ base + rest → mark.end ≡ at + 1 → list_mark more at (run ∷ runs) (rest ∷ rests) 1 ≡ mark
+list_one base more at rest run runs rests mark e place value end = same_mark (list_mark more at (run ∷ runs) (rest ∷ rests) 1) mark (omega arith) (omega arith) (omega arith)
+
+list_more : (base more at rest count : ℕ) (run : Span) (runs : List Span) (rests : List ℕ) → more + 8 * (run.hi + 1 - run.lo) ≡ base → 0 < count
+    → list_mark more at (run ∷ runs) (rest ∷ rests) (suc count) ≡ list_mark base (at + 1) runs rests count
+list_more base more at rest zero run runs rests e some = absurd (omega arith)
+list_more base more at rest (suc count) run runs rests e some =
+    same_mark (list_mark more at (run ∷ runs) (rest ∷ rests) (suc (suc count))) (list_mark base (at + 1) runs rests (suc count)) (omega arith) (omega arith) (omega arith)
+
+-- the window with one run more
+pub list_filled : (old near marks : List Mark) (mark : Mark) (base more at rest : ℕ) (run : Span) (runs : List Span) (rests : List ℕ)
+    → IsFilled old (IsList runs) (list_mark base (at + 1) runs rests) → Forgets (at + 1024) old near → Pushes mark near marks → IsSmall run → more + 8 * (run.hi + 1 - run.lo) ≡ base
+    → mark.place ≡ at + 1 → mark.value ≡ base + rest → mark.end ≡ at + 1 → mark.value < 2 ^ 101 → IsFilled marks (IsList (run ∷ runs)) (list_mark more at (run ∷ runs) (rest ∷ rests))
+list_filled old near marks mark base more at rest run runs rests f g p small e place value end fits =
+    let Near : ℕ → Type 0 = λ count. IsList runs count × (count < 1024) in
+    let within : IsFilled near Near (list_mark base (at + 1) runs rests) =
+    forgets_filled old near (at + 1024) (IsList runs) Near (list_mark base (at + 1) runs rests) f g
+    (λ count is le. (is, omega arith)) (λ count is. (is.0, omega arith)) in
+    pushes_filled near marks mark Near (IsList (run ∷ runs)) (list_mark base (at + 1) runs rests) (list_mark more at (run ∷ runs) (rest ∷ rests)) within p fits
+    (list_first run runs small) (list_one base more at rest run runs rests mark e place value end)
+    (λ count is. (list_up run runs count small is.0 is.1, list_more base more at rest count run runs rests e (IsGroup.some is.0)))
+    (list_down run runs)
+
+-- ---- the best
+
+-- what is known of a mark
+pub list_is : (marks : List Mark) (base at : ℕ) (runs : List Span) (rests : List ℕ) (mark : Mark) → IsFilled marks (IsList runs) (list_mark base at runs rests) → Contains marks mark
+    → (base ≤ mark.value) × ((at < mark.end) × (mark.end ≤ at + 1024)) × (mark.value < 2 ^ 101)
+list_is marks base at runs rests mark f c =
+    let is = f.only mark c in
+    let count : ℕ = is.0 in
+    let few = list_few runs count is.1.0 in
+    let some : 0 < count = IsGroup.some is.1.0 in
+    let value : mark.value ≡ base + 8 * serial_count (take count runs) + rest_cost rests count = ap (λ (m : Mark). m.value) is.1.1 in
+    let end : mark.end ≡ at + count = ap (λ (m : Mark). m.end) is.1.1 in
+    (omega arith, (omega arith, omega arith), f.small mark c)
+
+pub list_best : (marks : List Mark) (base at : ℕ) (runs : List Span) (rests : List ℕ) (least : Mark) (old cell best : Cell) → IsFilled marks (IsList runs) (list_mark base at runs rests)
+    → IsLeastOf marks least → IsCandidate rests runs old → cell.cost ≡ 5 + (least.value - base) → cell.group ≡ group_of Serials (least.end - at)
+    → (best ≡ old) ⊎ (best ≡ cell) → ((other : Cell) → Wins old other → Wins best other) → ((other : Cell) → Wins cell other → Wins best other) → IsBestOf rests runs Serials (IsList runs) old best
+list_best marks base at runs rests least old cell best f l c cost group one first second =
+    let is = f.only least l.one in
+    let count : ℕ = is.0 in
+    let value : least.value ≡ base + 8 * serial_count (take count runs) + rest_cost rests count = ap (λ (m : Mark). m.value) is.1.1 in
+    let place : least.place ≡ at + count = ap (λ (m : Mark). m.place) is.1.1 in
+    let end : least.end ≡ at + count = ap (λ (m : Mark). m.end) is.1.1 in
+    let counted : least.end - at ≡ count = omega arith in
+    let costs : cell.cost ≡ 5 + 8 * serial_count (take count runs) + rest_cost rests count = omega arith in
+    let same : cell ≡ cell_with rests runs (group_of Serials count) = same_cell cell (cell_with rests runs (group_of Serials count)) costs (group ∙ ap (group_of Serials) counted) in
+    let wins : (other : ℕ) → IsList runs other → Wins (cell_with rests runs (group_of Serials count)) (cell_with rests runs (group_of Serials other)) =
+    λ other it. elim (l.first (list_mark base at runs rests other) (f.all other it)) [
+      | inl lt ↦ inl (omega arith)
+      | inr tie ↦ inr (omega arith, inr (refl, omega arith))
+    ] in
+    one_better rests runs Serials (IsList runs) old cell best count c is.1.0 same wins one first second
+
+-- all marks that are left lie past a new one
+pub list_past : (old near : List Mark) (base at limit : ℕ) (runs : List Span) (rests : List ℕ) → IsFilled old (IsList runs) (list_mark base at runs rests) → Forgets limit old near
+    → All (λ other. at < other.place) near
+list_past old near base at limit runs rests f g k d lt =
+    let mark : Mark = get_or near k d in
+    let is = f.only mark (g.only mark (Contains-get_or near k d lt)).0 in
+    let some : 0 < is.0 = IsGroup.some is.1.0 in
+    let place : mark.place ≡ at + is.0 = ap (λ (m : Mark). m.place) is.1.1 in
+    omega arith

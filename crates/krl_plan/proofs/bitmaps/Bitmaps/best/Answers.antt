@@ -1,0 +1,41 @@
+use Rattle.std.proofs.Common.{◌≡◌, ◌+◌, ◌%◌, ◌∷◌, inl, inr, arith, refl, take}
+use Rattle.std.proofs.lemmas.Bool.{cases_lt}
+use Rattle.krl_plan.specs.declared.group.Sort.TheVariants.{Bitmap}
+use Rattle.krl_plan.specs.Bitmaps.{last_of}
+use Rattle.krl_plan.specs.Search.{cell_with}
+use Rattle.krl_plan.proofs.Best.{group_of}
+use Rattle.krl_plan.proofs.bitmaps.Bitmaps.best.Goals as goal
+
+pub loop-remainder-init : goal.loop-remainder-init
+loop-remainder-init c runs rests rises mapped candidate = record {
+  candidate = candidate;
+  kept = λ other w. w;
+  beats = λ count is. let lt = is.1.0 in absurd (omega arith);
+}
+
+pub loop-remainder-preserved : goal.loop-remainder-preserved
+loop-remainder-preserved c runs rests rises mapped candidate =
+    let run = c.args.run in
+    let before = c.loop-remainder.invariant runs rests rises mapped candidate in
+    let one = c.best_of-best.ensures runs rests rises mapped before.candidate in
+    record {
+      candidate = one.candidate;
+      kept = λ other w. one.kept other (before.kept other w);
+      beats = λ count is. elim (cases_lt is.0 c.loop-remainder.remainder) [
+        | inl lt ↦ one.kept (cell_with rests (run ∷ runs) (group_of Bitmap count)) (before.beats count (is.0, (lt, is.1.1)))
+        | inr ge ↦
+            let lt = is.1.0 in
+            let here : is.0 ≡ c.loop-remainder.remainder = omega arith in
+            one.beats count (rw here at is.1.1)
+      ];
+    }
+
+pub returns : goal.returns
+returns c runs rests rises mapped candidate =
+    let run = c.args.run in
+    let all = c.loop-remainder.invariant runs rests rises mapped candidate in
+    record {
+      candidate = all.candidate;
+      kept = all.kept;
+      beats = λ count is. all.beats count ((last_of (take count (run ∷ runs)) + 1) % 8, (omega arith, record { is_map = is; leaves = refl }));
+    }

@@ -1,0 +1,39 @@
+-- The bitmaps that the first of some runs may begin.
+use Rattle.std.specs.Prelude.{◌≡◌, ℕ, ◌+◌, ◌/◌, ◌%◌, ◌<◌, List, [], ◌∷◌, take}
+use Rattle.std.specs.Prelude.{slice_index_or as get_or}
+use Rattle.serial_set.specs.declared.span.Span.{Span}
+use Rattle.krl_plan.specs.declared.bitmaps.Bitmaps.{Bitmaps}
+use Rattle.krl_plan.specs.declared.group.Sort.TheVariants.{Bitmap}
+use Rattle.krl_plan.specs.declared.window.Mark.{Mark}
+use Rattle.krl_plan.specs.declared.window.Window.{Window}
+use Rattle.krl_plan.specs.Plan.{IsGroup, end_of}
+use Rattle.krl_plan.specs.Search.{rest_cost}
+use Rattle.krl_plan.specs.Window.{IsFilled}
+
+-- the last serial of some runs
+abbrev pub last_of : List Span → ℕ
+last_of [] = 0
+last_of (run ∷ runs) = end_of run runs
+
+-- the first so many runs may be a bitmap
+abbrev pub IsMap : List Span → ℕ → Type 0
+IsMap runs count = IsGroup runs (record { sort = Bitmap; count = count })
+
+-- the first so many runs may be a bitmap, and the serial after the last leaves this remainder
+pub record IsMapOf (runs : List Span) (remainder count : ℕ) : Type 0 where
+  pub is_map : IsMap runs count
+  pub leaves : (last_of (take count runs) + 1) % 8 ≡ remainder
+
+-- the mark of that bitmap, where the first run is at a place of the set
+abbrev pub map_mark : ℕ → List Span → List ℕ → ℕ → Mark
+map_mark at runs rests count = record {
+  place = last_of (take count runs);
+  value = (last_of (take count runs) + 1) / 8 + rest_cost rests count;
+  end = at + count;
+}
+
+-- the bitmaps of the runs from a place on, a window for each remainder
+abbrev pub IsMapped : Bitmaps → ℕ → List Span → List ℕ → Type 0
+IsMapped bitmaps at runs rests =
+    (r : ℕ) (d : Window) → r < 8
+    → IsFilled (get_or bitmaps.windows r d).marks.items (IsMapOf runs r) (map_mark at runs rests)

@@ -1,0 +1,31 @@
+-- What the table knows of the last runs of a set.
+use Rattle.std.specs.Prelude.{◌≡◌, ℕ, ◌+◌, ◌-◌, ◌*◌, ◌<◌, ◌≤◌, List, ◌∷◌, length, drop}
+use Rattle.std.specs.Prelude.{slice_index, slice_index_or as get_or}
+use Rattle.serial_set.specs.declared.span.Span.{Span}
+use Rattle.krl_plan.specs.declared.group.Group.{Group}
+use Rattle.krl_plan.specs.declared.table.Table.{Table}
+use Rattle.krl_plan.specs.Bitmaps.{IsMapped}
+use Rattle.krl_plan.specs.Lists.{IsListed}
+use Rattle.krl_plan.specs.Search.{IsFirst, IsLeastCost}
+
+-- The choices are one for each run, that of the first run last. No choice has more runs than there
+-- are.
+pub record AreChoices (runs : List Span) (choices : List Group) : Type 0 where
+  pub one_each : length choices ≡ length runs
+  pub firsts : (k : ℕ) (d : Group) → k < length choices
+      → IsFirst (drop (length choices - 1 - k) runs) (get_or choices k d)
+  pub fits : (k : ℕ) (d : Group) → k < length choices
+      → (0 < (get_or choices k d).count) × ((get_or choices k d).count ≤ k + 1)
+
+-- The rests are what all runs but the first cost at least, then all but the first two, and so on.
+pub record IsKnown (table : Table) (at : ℕ) (runs : List Span) (rests : List ℕ) : Type 0 where
+  pub listed : IsListed table.lists at runs rests
+  pub mapped : IsMapped table.bitmaps at runs rests
+  pub costs : (k : ℕ) → k ≤ length runs
+      → IsLeastCost (drop k runs) (slice_index (table.least ∷ rests) k)
+  pub bounded : table.least ≤ 21 * length table.choices.items
+  pub choices : AreChoices runs table.choices.items
+
+-- the table is that of the runs from a place on
+abbrev pub Knows : Table → ℕ → List Span → Type 0
+Knows table at runs = (rests : List ℕ) × IsKnown table at runs rests

@@ -1,0 +1,78 @@
+// The best list of serials at the front of some runs.
+
+ghost use Rattle.std.specs.Prelude.{◌≡◌, ℕ, ◌+◌, ◌^◌, ◌<◌, ◌≤◌, List, [], ◌∷◌, OnOk};
+ghost use Rattle.serial_set.specs.declared.span.Span.{Span};
+ghost use Rattle.krl_plan.specs.declared.group.Sort.TheVariants.{Serials};
+ghost use Rattle.krl_plan.specs.Search.{IsBestOf, IsCandidate};
+
+use crate::cell::{Cell, winner};
+use crate::group::{Group, Sort};
+use crate::window::{Mark, Window};
+use serial_set::Span;
+use std::alloc::{AllocError, Global};
+
+// The runs that a list may have (any more go into another).
+pub(crate) const MOST: usize = 1024;
+
+// The lists that the first of the known runs may begin. What such a list costs with what follows
+// it is 5 and what its mark's value is above the base: the base falls by the bytes of each serial.
+#[derive(Drop)]
+pub(crate) struct Lists {
+    window: Window,
+    base: u128,
+}
+
+impl Lists {
+    ghost use Rattle.krl_plan.specs.Lists.{IsList, IsListed};
+
+    // The lists of no run, where so many are to come. None has more than two serials.
+    pub(crate) fn new(alloc: Global, runs: usize) -> Lists
+        ensures { IsListed result runs [] [] }
+    {
+        Lists {
+            window: Window::new(alloc),
+            base: 16 * runs as u128,
+        }
+    }
+
+    // Takes the run at a place of the set, and what the runs after it cost at least.
+    pub(crate) fn add(&mut self, run: Span, at: usize, rest: u128) -> Result<(), AllocError>
+        requires ordered { run.lo ≤ run.hi }
+        requires below { at < usize.MAX }
+        requires small { rest < 2 ^ 100 }
+        requires listed { (runs : List Span) × ((rests : List ℕ) × IsListed self.old (at + 1) runs rests) }
+        ensures { (runs : List Span) (rests : List ℕ) → IsListed self.old (at + 1) runs rests
+            → OnOk result (IsListed self.new at (run ∷ runs) (rest ∷ rests)) }
+    {
+        let more = run.hi - run.lo;
+        if more > 1 {
+            self.window.clear();
+            return Ok(());
+        }
+        self.window.forget_past(at as u128 + 1024);
+        self.window.push(Mark {
+            place: at as u64 + 1,
+            value: self.base + rest,
+            end: at + 1,
+        })?;
+        self.base -= 8 * (more as u128 + 1);
+        Ok(())
+    }
+
+    // The best of a cell and of the lists that the run at a place begins.
+    pub(crate) fn best(&self, at: usize, best: Cell) -> Cell
+        requires listed { (runs : List Span) × ((rests : List ℕ) × IsListed self.now at runs rests) }
+        ensures { (runs : List Span) (rests : List ℕ) → IsListed self.now at runs rests
+            → IsCandidate rests runs best → IsBestOf rests runs Serials (IsList runs) best result }
+    {
+        let Some(mark) = self.window.least() else {
+            return best
+        };
+        let group = Group {
+            sort: Sort::Serials,
+            count: (mark.end - at) as u16,
+        };
+        let cost = 5 + (mark.value - self.base);
+        winner(best, Cell { cost, group })
+    }
+}
