@@ -1,1 +1,2 @@
 pub mod MadeLists
+pub mod FirstKeys

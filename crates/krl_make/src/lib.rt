@@ -4,6 +4,7 @@
 mod authority;
 mod base;
 mod files;
+pub mod laws;
 mod run;
 
 pub use authority::Authority;

@@ -37,7 +37,7 @@ passing_digits base (c ∷ cs) e =
     let parts = and_parts (nat_lt (digit_value c) base) (list_all (λ d. is_digit d base) cs) e in
     (ltb-true (digit_value c) base parts.0, passing_digits base cs parts.1)
 
-spelled : (base : ℕ) (digits : List ℕ) → spells_number base digits ≡ true
+pub spelled : (base : ℕ) (digits : List ℕ) → spells_number base digits ≡ true
     → IsNumeral base digits × (digits_value base digits < 2 ^ 64)
 spelled base digits e =
     let some = nat_lt 0 (length digits) in
@@ -46,7 +46,7 @@ spelled base digits e =
     let inner = and_parts some each outer.0 in
     ((ltb-true 0 (length digits) inner.0, passing_digits base digits inner.1), ltb-true (digits_value base digits) (2 ^ 64) outer.1)
 
-spells : (base : ℕ) (digits : List ℕ) → IsNumeral base digits → digits_value base digits < 2 ^ 64
+pub spells : (base : ℕ) (digits : List ℕ) → IsNumeral base digits → digits_value base digits < 2 ^ 64
     → spells_number base digits ≡ true
 spells base digits numeral fits =
     let some : nat_lt 0 (length digits) ≡ true = lt-ltb 0 (length digits) numeral.0 in

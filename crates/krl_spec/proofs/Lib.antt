@@ -4,3 +4,10 @@ pub mod Growth
 pub mod ReadLines
 pub mod Named
 pub mod Sizes
+pub mod Cuts
+pub mod CountedLaws
+pub mod NumberLaws
+pub mod SerialLaws
+pub mod OrderLaws
+pub mod KeyLaws
+pub mod NamingLaws

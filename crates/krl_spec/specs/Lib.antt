@@ -7,3 +7,5 @@ pub mod SpecCause
 pub mod Entry
 pub mod SpecFile
 pub mod Line
+pub mod Spelled
+pub mod Naming

@@ -5,6 +5,7 @@ mod adding;
 mod blanks;
 mod directive;
 mod keys;
+pub mod laws;
 mod lines;
 mod number;
 mod spec_cause;

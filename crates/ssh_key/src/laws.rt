@@ -142,6 +142,12 @@ pub fn fingerprint_read_where_spelled()
         → (fingerprint_at text ≡ Ok digest) ↔ IsFingerprint text digest }
 {}
 
+/// Reading meets a fault exactly where it is the first fault of the text as a fingerprint.
+pub fn fingerprint_refused_by_first_fault()
+    ensures { (text : List ℕ) (fault : FingerprintFault) → IsBytes text
+        → (fingerprint_at text ≡ Err fault) ↔ IsFingerprintFault text fault }
+{}
+
 /// A text has one first fault as a fingerprint at most, and a fingerprint has none.
 pub fn one_fingerprint_fault()
     ensures one { (text : List ℕ) (a b : FingerprintFault) → IsBytes text

@@ -1,0 +1,52 @@
+-- The first key of a file, which names an authority (ssh-keygen(1), option -s).
+use Rattle.std.specs.Prelude.{◌≡◌, ℕ, ◌+◌, true, false, List, ◌∷◌, ◌++◌, length}
+use Rattle.std.specs.List.{All, slice_split}
+use Rattle.ssh_cert.specs.Subject.{Subject}
+use Rattle.ssh_key.specs.Armour.{begins_container}
+use Rattle.ssh_key.specs.Container.{IsContainer, IsPrivateFault}
+use Rattle.ssh_key.specs.KeyFile.{has_key}
+use Rattle.ssh_key.specs.Lines.{is_newline}
+use Rattle.ssh_key.specs.declared.private_fault.PrivateFault.{PrivateFault}
+use Rattle.krl_spec.specs.Naming.{IsKeyFault, IsSubjectLine}
+use Rattle.krl_spec.specs.declared.spec_cause.KeyCause.{KeyCause}
+use Rattle.krl_spec.specs.declared.spec_cause.KeyCause.TheVariants as keys
+use Rattle.krl_runs.specs.Stop.{Stop}
+use Rattle.krl_runs.specs.declared.input.file_fault.FileFault.TheVariants as files
+use Rattle.krl_make.specs.Making.{container_stop, file_stop, key_line_stop, subject_stop}
+
+-- no line has a key
+abbrev pub HaveNoKey : List (List ℕ) → Type 0
+HaveNoKey lines = All (λ line. has_key line ≡ false) lines
+
+-- A line of a text has a key, those before it have none, and its number counts from 1.
+pub record IsFirstKeyLine (text : List ℕ) (number : ℕ) (line : List ℕ) : Type 0 where
+  pub before : List (List ℕ)
+  pub after : List (List ℕ)
+  pub parts : slice_split is_newline text ≡ before ++ line ∷ after
+  pub none : HaveNoKey before
+  pub has : has_key line ≡ true
+  pub counted : number ≡ 1 + length before
+
+-- The key of a container, or the plain key of the first line that has one.
+pub data IsFirstKey (text blob : List ℕ) : Type 0 where
+  of_container : (comment : List ℕ) → begins_container text ≡ true → IsContainer text blob comment
+      → IsFirstKey text blob
+  of_line : (number : ℕ) (line : List ℕ) (asked : Subject) → begins_container text ≡ false
+      → IsFirstKeyLine text number line → IsSubjectLine line asked → blob ≡ asked.plain
+      → IsFirstKey text blob
+
+-- the stop of a run by a line that gives no key
+abbrev pub key_stop : List ℕ → ℕ → KeyCause → Stop
+key_stop name number (keys.Line fault) = key_line_stop name number fault
+key_stop name number (keys.Subject fault) = subject_stop name number fault
+
+-- Why a file of this name has no first key: the fault of a container, which has no line, no line
+-- with a key, or the fault of the first line that has one.
+pub data IsFirstKeyFault (name text : List ℕ) (stop : Stop) : Type 0 where
+  in_container : (fault : PrivateFault) → begins_container text ≡ true → IsPrivateFault text fault
+      → stop ≡ container_stop name fault → IsFirstKeyFault name text stop
+  without_key : begins_container text ≡ false → HaveNoKey (slice_split is_newline text)
+      → stop ≡ file_stop name files.NoKeys → IsFirstKeyFault name text stop
+  in_line : (number : ℕ) (line : List ℕ) (fault : KeyCause) → begins_container text ≡ false
+      → IsFirstKeyLine text number line → IsKeyFault line fault
+      → stop ≡ key_stop name number fault → IsFirstKeyFault name text stop

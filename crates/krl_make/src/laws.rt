@@ -1,0 +1,30 @@
+//! What holds for every file that names an authority, as the contract of a function that does
+//! nothing.
+
+ghost use Rattle.std.specs.Prelude.{◌≡◌, ◌↔◌, ℕ, List, Err, Ok};
+ghost use Rattle.krl_make.specs.FirstKey.{IsFirstKey, IsFirstKeyFault};
+ghost use Rattle.krl_make.specs.Making.{first_key_of};
+ghost use Rattle.krl_runs.specs.Stop.{Stop};
+ghost use Rattle.ssh_wire.specs.Wire.{IsBytes};
+
+use ssh_cert::laws::{asked_where_spelled, not_asked_by_first_fault};
+use ssh_key::laws::{
+    line_read_where_spelled, line_refused_by_first_fault, private_read_where_spelled,
+    private_refused_by_first_fault,
+};
+
+/// A key is read of a file exactly where it is the file's first, and the file stops the run exactly
+/// by its first fault.
+pub fn first_key_where_spelled()
+    ensures read { (name text blob : List ℕ) → IsBytes text
+        → (first_key_of name text ≡ Ok blob) ↔ IsFirstKey text blob }
+    ensures refused { (name text : List ℕ) (stop : Stop) → IsBytes text
+        → (first_key_of name text ≡ Err stop) ↔ IsFirstKeyFault name text stop }
+{
+    line_read_where_spelled();
+    line_refused_by_first_fault();
+    asked_where_spelled();
+    not_asked_by_first_fault();
+    private_read_where_spelled();
+    private_refused_by_first_fault();
+}
