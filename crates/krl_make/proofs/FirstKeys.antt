@@ -1,46 +1,39 @@
 -- The first key of a file is read where the file spells it, and refused by its first fault.
-use Rattle.std.proofs.Common.{◌≡◌, ◌↔◌, ℕ, ◌+◌, ◌<◌, Bool, true, false, List, [], ◌∷◌, ◌++◌, length, get_or, Result, Ok, Err, refl, sym, ap, subst, ◌∙◌, arith, inl, inr, ◌⊎◌}
-use Rattle.std.specs.List.{All, onto_first, slice_split}
+use Rattle.std.proofs.Common.{◌≡◌, ◌↔◌, ℕ, ◌+◌, true, false, List, [], ◌∷◌, ◌++◌, length, Ok, Err, refl, sym, ap, subst, ◌∙◌, arith, inl, inr, ◌⊎◌}
+use Rattle.std.specs.List.{All, slice_split}
 use Rattle.std.proofs.lemmas.Bool.{cases_Bool}
 use Rattle.std.proofs.lemmas.List.{get_or_at, length-append}
 use Rattle.std.proofs.lemmas.List.Elements.{All-cons, All-head, All-nil, All-tail}
-use Rattle.ssh_wire.specs.Digits.{IsBytes-cons, IsBytes-nil, IsBytes-tail}
-use Rattle.ssh_wire.specs.Reading.{◌>>=◌, in_fault}
-use Rattle.ssh_wire.specs.Steps.{bind_err, bind_ok, in_fault_err, in_fault_ok}
+use Rattle.ssh_wire.specs.Reading.{in_fault}
+use Rattle.ssh_wire.specs.Steps.{bind_err, bind_ok, err_is, in_fault_err, in_fault_ok, ok_is, ok_or_err, ok_or_not}
 use Rattle.ssh_wire.specs.Wire.{IsBytes}
 use Rattle.ssh_key.specs.Armour.{begins_container}
 use Rattle.ssh_key.specs.Container.{IsContainer, IsPrivateFault}
-use Rattle.ssh_key.specs.ContainerReading.{Opened, private_at}
+use Rattle.ssh_key.specs.ContainerReading.{private_at}
 use Rattle.ssh_key.specs.KeyFile.{has_key}
-use Rattle.ssh_key.specs.KeyLine.{IsKeyLine}
-use Rattle.ssh_key.specs.LineFaults.{IsFirstLineFault}
-use Rattle.ssh_key.specs.LineReading.{Content, content, line_at}
+use Rattle.ssh_key.specs.LineReading.{line_at}
 use Rattle.ssh_key.specs.Lines.{is_newline}
-use Rattle.ssh_key.specs.declared.line_fault.LineFault.{LineFault}
 use Rattle.ssh_key.specs.declared.private_fault.PrivateFault.{PrivateFault}
 use Rattle.ssh_cert.specs.Subject.{Subject}
-use Rattle.ssh_cert.specs.SubjectReading.{IsSubject, IsSubjectFault, subject_of}
-use Rattle.ssh_cert.specs.declared.subject_fault.SubjectFault.{SubjectFault}
-use Rattle.krl_spec.specs.Naming.{HasSubjectFault, IsKeyFault, IsSubjectLine}
+use Rattle.ssh_cert.specs.SubjectReading.{subject_of}
+use Rattle.krl_spec.specs.Entry.{subject_in}
+use Rattle.krl_spec.specs.LineBytes.{lines_bytes}
+use Rattle.krl_spec.specs.Naming.{IsKeyCause, IsKeyFault, IsSubjectLine}
 use Rattle.krl_spec.specs.declared.spec_cause.KeyCause.{KeyCause}
 use Rattle.krl_spec.specs.declared.spec_cause.KeyCause.TheVariants as keys
+use Rattle.krl_spec.specs.declared.spec_cause.SpecCause.{SpecCause}
+use Rattle.krl_spec.specs.declared.spec_cause.SpecCause.TheVariants as causes
 use Rattle.krl_runs.specs.Stop.{Stop}
 use Rattle.krl_runs.specs.declared.input.file_fault.FileFault.TheVariants as files
 use Rattle.krl_make.specs.FirstKey.{HaveNoKey, IsFirstKey, IsFirstKeyFault, IsFirstKeyLine, in_container, in_line, key_stop, of_container, of_line, without_key}
-use Rattle.krl_make.specs.Making.{container_stop, file_stop, first_key_from, first_key_of, inside_key, key_line_stop, line_key, subject_key, subject_stop}
+use Rattle.krl_make.specs.Making.{container_stop, file_stop, first_key_from, first_key_of, inside_key, line_key}
 
--- the laws of key lines, of what blobs ask and of containers
+-- the laws of key lines and of containers
 pub record KeyLaws : Type 0 where
-  pub line_read : (text word blob comment : List ℕ) → IsKeyLine text word blob comment
-      → line_at text ≡ Ok (content word blob comment)
-  pub line_found : (text : List ℕ) (line : Content) → IsBytes text → line_at text ≡ Ok line
-      → IsKeyLine text line.word line.blob line.comment
-  pub line_refused : (text : List ℕ) (fault : LineFault) → IsBytes text
-      → (line_at text ≡ Err fault) ↔ IsFirstLineFault text fault
-  pub asked : (blob : List ℕ) (asked : Subject) → IsBytes blob
-      → (subject_of blob ≡ Ok asked) ↔ IsSubject blob asked
-  pub not_asked : (blob : List ℕ) (fault : SubjectFault) → IsBytes blob
-      → (subject_of blob ≡ Err fault) ↔ IsSubjectFault blob fault
+  pub keys : (text : List ℕ) (asked : Subject) → IsBytes text
+      → (subject_in text ≡ Ok asked) ↔ IsSubjectLine text asked
+  pub no_keys : (text : List ℕ) (cause : SpecCause) → IsBytes text
+      → (subject_in text ≡ Err cause) ↔ IsKeyCause text cause
   pub opened : (text blob comment : List ℕ) → IsBytes text
       → (private_at text ≡ Ok (record { blob = blob; comment = comment }))
       ↔ IsContainer text blob comment
@@ -49,55 +42,56 @@ pub record KeyLaws : Type 0 where
 
 -- ---- the key of a line
 
--- what the blob of a line asks, and its plain key
-abbrev asked_in : List ℕ → ℕ → Content → Result (List ℕ) Stop
-asked_in name number line = subject_key name number line.blob
+-- what is read of a line, here and of a line of a specification file
+data ReadLine (name : List ℕ) (number : ℕ) (line : List ℕ) : Type 0 where
+  asks : (asked : Subject) → subject_in line ≡ Ok asked → line_key name number line ≡ Ok asked.plain → ReadLine name number line
+  asks_nothing : (fault : KeyCause) → subject_in line ≡ Err (causes.Key fault) → line_key name number line ≡ Err (key_stop name number fault) → ReadLine name number line
 
-line_key_found : KeyLaws → (name : List ℕ) (number : ℕ) (line blob : List ℕ) → IsBytes line → line_key name number line ≡ Ok blob
-    → (asked : Subject) × IsSubjectLine line asked × (blob ≡ asked.plain)
-line_key_found laws name number line blob fits e =
-    let read = bind_ok (in_fault (key_line_stop name number) (line_at line)) (asked_in name number) blob e in
-    let asks = bind_ok (in_fault (subject_stop name number) (subject_of read.0.blob)) (λ asked. Ok asked.plain) blob read.2 in
-    let is_line = laws.line_found line read.0 fits (in_fault_ok (key_line_stop name number) (line_at line) read.0 read.1) in
-    let is : IsSubjectLine line asks.0 = record {
-      word = read.0.word;
-      blob = read.0.blob;
-      comment = read.0.comment;
-      line = is_line;
-      asks = (laws.asked read.0.blob asks.0 is_line.bytes).0 (in_fault_ok (subject_stop name number) (subject_of read.0.blob) asks.0 asks.1);
-    } in
-    (asks.0, is, cc)
-
-line_key_again : KeyLaws → (name : List ℕ) (number : ℕ) (line : List ℕ) (asked : Subject) → IsSubjectLine line asked → line_key name number line ≡ Ok asked.plain
-line_key_again laws name number line asked is =
-    rw (laws.line_read line is.word is.blob is.comment is.line, (laws.asked is.blob asked is.line.bytes).1 is.asks) refl
-
-line_key_refused : KeyLaws → (name : List ℕ) (number : ℕ) (line : List ℕ) (stop : Stop) → IsBytes line → line_key name number line ≡ Err stop
-    → (fault : KeyCause) × IsKeyFault line fault × (stop ≡ key_stop name number fault)
-line_key_refused laws name number line stop fits e = elim (bind_err (in_fault (key_line_stop name number) (line_at line)) (asked_in name number) stop e) [
-  | inl refused ↦
-      let why = in_fault_err (key_line_stop name number) (line_at line) stop refused in
-      (keys.Line why.0, (laws.line_refused line why.0 fits).0 why.1, why.2)
-  | inr read ↦ elim (bind_err (in_fault (subject_stop name number) (subject_of read.0.blob)) (λ asked. Ok asked.plain) stop read.2) [
-    | inl refused ↦
-        let is_line = laws.line_found line read.0 fits (in_fault_ok (key_line_stop name number) (line_at line) read.0 read.1) in
-        let why = in_fault_err (subject_stop name number) (subject_of read.0.blob) stop refused in
-        let has : HasSubjectFault line why.0 = record {
-          word = read.0.word;
-          blob = read.0.blob;
-          comment = read.0.comment;
-          line = is_line;
-          is = (laws.not_asked read.0.blob why.0 is_line.bytes).0 why.1;
-        } in
-        (keys.Subject why.0, has, why.2)
-    | inr asks ↦ absurd (let h = asks.2 in cc)
+read_line : (name : List ℕ) (number : ℕ) (line : List ℕ) → ReadLine name number line
+unfolding subject_in
+read_line name number line = elim (ok_or_not (line_at line)) [
+  | inr no_line ↦ asks_nothing (keys.Line no_line.0) (rw no_line.1 refl) (rw no_line.1 refl)
+  | inl read ↦ elim (ok_or_not (subject_of read.0.blob)) [
+    | inl asked ↦ asks asked.0 (rw (read.1, asked.1) refl) (rw (read.1, asked.1) refl)
+    | inr no_subject ↦ asks_nothing (keys.Subject no_subject.0) (rw (read.1, no_subject.1) refl) (rw (read.1, no_subject.1) refl)
   ]
 ]
 
+line_key_found : KeyLaws → (name : List ℕ) (number : ℕ) (line blob : List ℕ) → IsBytes line → line_key name number line ≡ Ok blob
+    → (asked : Subject) × IsSubjectLine line asked × (blob ≡ asked.plain)
+line_key_found laws name number line blob fits e = elim (read_line name number line) [
+  | asks asked read key ↦ (asked, (laws.keys line asked fits).0 read, ok_is blob asked.plain (line_key name number line) e key)
+  | asks_nothing fault read stop ↦ absurd (ok_or_err blob (key_stop name number fault) (line_key name number line) e stop)
+]
+
+line_key_again : KeyLaws → (name : List ℕ) (number : ℕ) (line : List ℕ) (asked : Subject) → IsBytes line → IsSubjectLine line asked → line_key name number line ≡ Ok asked.plain
+line_key_again laws name number line asked fits is =
+    let given = (laws.keys line asked fits).1 is in
+    elim (read_line name number line) [
+      | asks other read key ↦ key ∙ ap (λ (s : Subject). Ok s.plain) (ok_is other asked (subject_in line) read given)
+      | asks_nothing fault read stop ↦ absurd (ok_or_err asked (causes.Key fault) (subject_in line) given read)
+    ]
+
+line_key_refused : KeyLaws → (name : List ℕ) (number : ℕ) (line : List ℕ) (stop : Stop) → IsBytes line → line_key name number line ≡ Err stop
+    → (fault : KeyCause) × IsKeyFault line fault × (stop ≡ key_stop name number fault)
+line_key_refused laws name number line stop fits e = elim (read_line name number line) [
+  | asks asked read key ↦ absurd (ok_or_err asked.plain stop (line_key name number line) key e)
+  | asks_nothing fault read told ↦
+      let first = (laws.no_keys line (causes.Key fault) fits).0 read in
+      let same : first.0 ≡ fault = let h = first.2 in cc in
+      (fault, subst (IsKeyFault line) same first.1, err_is stop (key_stop name number fault) (line_key name number line) e told)
+]
+
 line_fault_met : KeyLaws → (name : List ℕ) (number : ℕ) (line : List ℕ) (fault : KeyCause) → IsBytes line → IsKeyFault line fault → line_key name number line ≡ Err (key_stop name number fault)
-line_fault_met laws name number line (keys.Line fault) fits first = rw ((laws.line_refused line fault fits).1 first) refl
-line_fault_met laws name number line (keys.Subject fault) fits has =
-    rw (laws.line_read line has.word has.blob has.comment has.line, (laws.not_asked has.blob fault has.line.bytes).1 has.is) refl
+line_fault_met laws name number line fault fits first =
+    let given = (laws.no_keys line (causes.Key fault) fits).1 (fault, first, refl) in
+    elim (read_line name number line) [
+      | asks asked read key ↦ absurd (ok_or_err asked (causes.Key fault) (subject_in line) read given)
+      | asks_nothing other read stop ↦
+          let causes_same = err_is (causes.Key other) (causes.Key fault) (subject_in line) read given in
+          let same : other ≡ fault = cc in
+          stop ∙ ap (λ (f : KeyCause). Err (key_stop name number f)) same
+    ]
 
 -- ---- the key of a container
 
@@ -166,28 +160,12 @@ first_from name number (other ∷ before) line after none has =
     let same : number + 1 + length before ≡ number + length (other ∷ before) = omega arith in
     rw here later ∙ ap (λ (n : ℕ). line_key name n line) same
 
--- ---- lines of bytes
-
-cut_bytes : (byte : ℕ) (lines : List (List ℕ)) → byte < 256 → All IsBytes lines → All IsBytes (onto_first byte lines)
-cut_bytes byte [] lt each = All-cons IsBytes (byte ∷ []) [] (IsBytes-cons byte [] lt IsBytes-nil) (All-nil IsBytes)
-cut_bytes byte (line ∷ lines) lt each =
-    All-cons IsBytes (byte ∷ line) lines (IsBytes-cons byte line lt (All-head IsBytes line lines each)) (All-tail IsBytes line lines each)
-
-lines_bytes : (text : List ℕ) → IsBytes text → All IsBytes (slice_split is_newline text)
-lines_bytes [] fits = All-cons IsBytes [] [] IsBytes-nil (All-nil IsBytes)
-lines_bytes (byte ∷ text) fits =
-    let others = lines_bytes text (IsBytes-tail byte text fits) in
-    elim (cases_Bool (is_newline byte)) [
-      | inl feed ↦ rw feed (All-cons IsBytes [] (slice_split is_newline text) IsBytes-nil others)
-      | inr none ↦ rw none (cut_bytes byte (slice_split is_newline text) (fits 0) others)
-    ]
+-- ---- the first key
 
 line_bytes : (text : List ℕ) (number : ℕ) (line : List ℕ) → IsFirstKeyLine text number line → IsBytes text → IsBytes line
 line_bytes text number line is fits =
     let each : All IsBytes (is.before ++ line ∷ is.after) = subst (All IsBytes) is.parts (lines_bytes text fits) in
     subst IsBytes (get_or_at is.before line is.after [] (length is.before) refl) (each (length is.before) [] (omega (arith, length-append is.before (line ∷ is.after))))
-
--- ---- the first key
 
 first_line : (name text : List ℕ) (number : ℕ) (line : List ℕ) → IsFirstKeyLine text number line → first_key_from name 1 (slice_split is_newline text) ≡ line_key name number line
 first_line name text number line is =
@@ -223,7 +201,7 @@ first_key_found laws name text blob fits e = elim (cases_Bool (begins_container 
 pub first_key_again : KeyLaws → (name text blob : List ℕ) → IsBytes text → IsFirstKey text blob → first_key_of name text ≡ Ok blob
 first_key_again laws name text blob fits (of_container comment begins is) = by_container name text begins ∙ inside_again laws name text blob comment fits is
 first_key_again laws name text blob fits (of_line number line asked plain is is_line same) =
-    by_lines name text plain ∙ first_line name text number line is ∙ line_key_again laws name number line asked is_line ∙ ap (λ (xs : List ℕ). Ok xs) (sym same)
+    by_lines name text plain ∙ first_line name text number line is ∙ line_key_again laws name number line asked (line_bytes text number line is fits) is_line ∙ ap (λ (xs : List ℕ). Ok xs) (sym same)
 
 pub first_key_refused : KeyLaws → (name text : List ℕ) (stop : Stop) → IsBytes text → first_key_of name text ≡ Err stop → IsFirstKeyFault name text stop
 first_key_refused laws name text stop fits e = elim (cases_Bool (begins_container text)) [

@@ -7,11 +7,8 @@ ghost use Rattle.krl_make.specs.Making.{first_key_of};
 ghost use Rattle.krl_runs.specs.Stop.{Stop};
 ghost use Rattle.ssh_wire.specs.Wire.{IsBytes};
 
-use ssh_cert::laws::{asked_where_spelled, not_asked_by_first_fault};
-use ssh_key::laws::{
-    line_read_where_spelled, line_refused_by_first_fault, private_read_where_spelled,
-    private_refused_by_first_fault,
-};
+use krl_spec::laws::key_where_spelled;
+use ssh_key::laws::{private_read_where_spelled, private_refused_by_first_fault};
 
 /// A key is read of a file exactly where it is the file's first, and the file stops the run exactly
 /// by its first fault.
@@ -21,10 +18,7 @@ pub fn first_key_where_spelled()
     ensures refused { (name text : List ℕ) (stop : Stop) → IsBytes text
         → (first_key_of name text ≡ Err stop) ↔ IsFirstKeyFault name text stop }
 {
-    line_read_where_spelled();
-    line_refused_by_first_fault();
-    asked_where_spelled();
-    not_asked_by_first_fault();
+    key_where_spelled();
     private_read_where_spelled();
     private_refused_by_first_fault();
 }

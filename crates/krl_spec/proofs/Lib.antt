@@ -11,3 +11,4 @@ pub mod SerialLaws
 pub mod OrderLaws
 pub mod KeyLaws
 pub mod NamingLaws
+pub mod FileLaws

@@ -9,3 +9,5 @@ pub mod SpecFile
 pub mod Line
 pub mod Spelled
 pub mod Naming
+pub mod FileNaming
+pub mod LineBytes

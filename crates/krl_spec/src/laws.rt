@@ -2,13 +2,17 @@
 //! nothing.
 
 ghost use Rattle.std.specs.Prelude.{◌≡◌, ◌↔◌, ℕ, [], List, Err, None, Ok, Option, Some};
+ghost use Rattle.std.specs.List.{slice_split};
 ghost use Rattle.ssh_wire.specs.Wire.{IsBytes};
+ghost use Rattle.ssh_key.specs.Lines.{is_newline};
 ghost use Rattle.ssh_cert.specs.Subject.{Subject};
 ghost use Rattle.krl_core.specs.Entry.{Entry};
 ghost use Rattle.krl_spec.specs.Entry.{line_entry, subject_in};
+ghost use Rattle.krl_spec.specs.FileNaming.{AreNamed};
 ghost use Rattle.krl_spec.specs.Line.{bare_line, order, order_in};
 ghost use Rattle.krl_spec.specs.Naming.{HasMeaning, IsKeyCause, IsLineFault, IsSubjectLine, LineNames};
 ghost use Rattle.krl_spec.specs.Number.{number_of_text, serials_of_text};
+ghost use Rattle.krl_spec.specs.SpecFile.{Named, lines_of};
 ghost use Rattle.krl_spec.specs.Spelled.{AreSerials, Counts, HasOrder, IsNumber, IsOrder, IsSerialsFault};
 ghost use Rattle.krl_spec.specs.declared.directive.Directive.{Directive};
 ghost use Rattle.krl_spec.specs.declared.number.Bounds.{Bounds};
@@ -93,5 +97,15 @@ pub fn one_meaning()
     ensures one_text { (line a b : List ℕ) → Counts line a → Counts line b → a ≡ b }
 {
     counted_where_spelled();
+    named_where_spelled();
+}
+
+/// The lines of a file are read exactly as they spell: the entries of those before the first fault,
+/// and that fault with the number of its line.
+pub fn lines_where_spelled()
+    ensures { (authority : Option (List ℕ)) (text : List ℕ) (named : Named) → IsBytes text
+        → (lines_of authority text ≡ named)
+        ↔ AreNamed authority 1 (slice_split is_newline text) named }
+{
     named_where_spelled();
 }
