@@ -40,7 +40,8 @@ impl Lists {
         requires ordered { run.lo ≤ run.hi }
         requires below { at < usize.MAX }
         requires small { rest < 2 ^ 100 }
-        requires listed { (runs : List Span) × ((rests : List ℕ) × IsListed self.old (at + 1) runs rests) }
+        requires listed { (runs : List Span)
+            × ((rests : List ℕ) × IsListed self.old (at + 1) runs rests) }
         ensures { (runs : List Span) (rests : List ℕ) → IsListed self.old (at + 1) runs rests
             → OnOk result (IsListed self.new at (run ∷ runs) (rest ∷ rests)) }
     {
@@ -61,7 +62,8 @@ impl Lists {
 
     // The best of a cell and of the lists that the run at a place begins.
     pub(crate) fn best(&self, at: usize, best: Cell) -> Cell
-        requires listed { (runs : List Span) × ((rests : List ℕ) × IsListed self.now at runs rests) }
+        requires listed { (runs : List Span)
+            × ((rests : List ℕ) × IsListed self.now at runs rests) }
         ensures { (runs : List Span) (rests : List ℕ) → IsListed self.now at runs rests
             → IsCandidate rests runs best → IsBestOf rests runs Serials (IsList runs) best result }
     {

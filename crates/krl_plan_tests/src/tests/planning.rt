@@ -7,7 +7,7 @@ use std::alloc::{AllocError, Global};
 use std::process::Abort;
 
 // The ends of a run of serials.
-type Run = (u64, u64);
+pub(super) type Run = (u64, u64);
 
 // The bytes of a subsection, as PROTOCOL.krl lays it out, or none where it may not stand.
 fn bytes_of(sort: Sort, runs: &[Run]) -> Option<u64> {
@@ -56,7 +56,7 @@ fn least_cost(runs: &[Run]) -> Option<u64> {
 }
 
 // What a plan of the runs costs.
-fn cost_of(plan: &[Group], runs: &[Run]) -> Option<u64> {
+pub(super) fn cost_of(plan: &[Group], runs: &[Run]) -> Option<u64> {
     let mut at: usize = 0;
     let mut cost: u64 = 0;
     for group in plan {
@@ -79,7 +79,7 @@ fn set_of(alloc: Global, runs: &[Run]) -> Result<Held, AllocError> {
 }
 
 // The least plan of a set with these runs.
-fn plan_of(alloc: Global, runs: &[Run]) -> Result<Vec<Group>, AllocError> {
+pub(super) fn plan_of(alloc: Global, runs: &[Run]) -> Result<Vec<Group>, AllocError> {
     let set = set_of(alloc, runs)?;
     least_plan(alloc, &set)
 }
