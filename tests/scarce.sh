@@ -3,10 +3,11 @@
 line ssh-ed25519 "$G" >g
 bytes "$H" "$(section "$G")" >r.krl
 count=22000
-mapfile -t files < <(yes g | head -n $count)
-yes 'g: REVOKED' | head -n $count >answers
+line ssh-ed25519 "$A" >last
+mapfile -t files < <(yes g | head -n $count && echo last)
+{ yes 'g: REVOKED' | head -n $count && echo 'last: ok'; } >answers
 : >nothing
-"$binary" -k -f whole.krl g
+"$binary" -k -f whole.krl g last
 
 # within KIB WORD..: runs the program with so much memory.
 within() {
