@@ -7,6 +7,8 @@ import re
 NO_MEMORY = re.compile(rb"ssh-keygen: (?:usage 3 NoMemory|[^\n]+: (?:file 4|run 1) NoMemory)\n")
 READ = re.compile(rb"ssh-keygen: [^\n]+: (?:file 2|krl 13) Read\n")
 WRITE = b"ssh-keygen: %s: output 1 Write after %d bytes\n"
+COUNT = re.compile(rb"ssh-keygen: made.krl: output 1 Write after (\d+) bytes\n")
+OPEN = b"ssh-keygen: made.krl: file 1 Open\n"
 FAULT = 255
 OUTPUT, ERROR = 1, 2
 
@@ -26,7 +28,7 @@ def stopped(run, ample, got):
         return "the status"
     if not is_front(got.output, ample.output):
         return "standard output"
-    if run.makes() and got.made != run.before:
+    if run.makes() and (got.made, got.left) != (run.before, 0):
         return "the list is not as it was"
     return None
 
@@ -69,11 +71,43 @@ def after_write(run, ample, got):
         return "standard output"
     if run.words == ["-h"]:
         return None if (got.status, got.error) == (0, b"") else "help that could not be printed"
-    name, stands, whole = b"output", got.output, ample.output
     if descriptor != OUTPUT:
-        name, stands, whole = b"made.krl", got.made, ample.made
-    if stands is None or not whole.startswith(stands):
-        return "what was written"
-    if got.error != WRITE % (name, len(stands)):
+        return after_list(run, ample, got)
+    if got.error != WRITE % (b"output", len(got.output)):
         return "standard error"
     return None if got.status == FAULT else "the status"
+
+
+def after_list(run, ample, got):
+    """Writing a list failed: the old one stands, and not all bytes went out."""
+    told = COUNT.fullmatch(got.error)
+    if not told or int(told[1]) >= len(ample.made):
+        return "standard error"
+    return stopped(run, ample, got)
+
+
+def unbegun(run, ample, got):
+    """No byte of the list went out."""
+    if got.error != (OPEN if run.before is None else WRITE % (b"made.krl", 0)):
+        return "standard error"
+    return stopped(run, ample, got)
+
+
+def unended(run, ample, got):
+    """All bytes of the list went out, and then it was not given its name."""
+    if got.error != WRITE % (b"made.krl", len(ample.made)):
+        return "standard error"
+    return stopped(run, ample, got)
+
+
+def unsynced(run, ample, got):
+    """The sync of the list comes first, then that of its folder, which no fault tells of."""
+    return (unended if got.counts["RENAME"].called == 0 else same)(run, ample, got)
+
+
+def unremoved(run, ample, got):
+    """The list was not given its name, nor could the new file be removed."""
+    if got.left != 1:
+        return "whether a file is left"
+    got.left = 0
+    return unended(run, ample, got)

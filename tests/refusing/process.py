@@ -7,24 +7,30 @@ from pathlib import Path
 
 MOMENT = 951782400
 SECONDS = 20
+# What the library counts, in its order.
+SORTS = "MEMORY READ WRITE CREATE MODE OWNER SYNC CLOSE RENAME REMOVE".split()
+LIST = "made.krl"
 
 
 class Ended:
     """How a run ended: a status below zero is a signal. The counts are those of the library."""
 
-    def __init__(self, status, output, error, made, counts):
+    def __init__(self, status, output, error, made, left, counts):
         self.status = status
         self.output = output
         self.error = error
         # What stands in the list that -k was to make, or None.
         self.made = made
+        # How many files with other names the run left.
+        self.left = left
         self.counts = counts
 
     def says(self):
-        return self.status, self.output, self.error, self.made
+        return self.status, self.output, self.error, self.made, self.left
 
     def shown(self):
         made = "" if self.made is None else ", a list of %d bytes" % len(self.made)
+        made += ", %d files more" % self.left if self.left else ""
         return "status %d, output %r, error %r%s" % (
             self.status,
             self.output[-90:],
@@ -57,7 +63,7 @@ class Program:
     def run(self, words, given=os.devnull, old=None, **failing):
         """Runs it with the words, and standard input from the file given. Where the words make a
         list, old is what stands there already."""
-        for name, content in [("report", bytes(72)), ("made.krl", old)]:
+        for name, content in [("report", bytes(24 * len(SORTS))), (LIST, old)]:
             if content is None:
                 if os.path.exists(name):
                     os.remove(name)
@@ -65,6 +71,7 @@ class Program:
             with open(name, "wb") as out:
                 out.write(content)
         wanted = os.O_WRONLY | os.O_CREAT | os.O_TRUNC
+        names = {*os.listdir(), LIST, "output", "error"}
         self.process = os.posix_spawn(
             self.program,
             ["ssh-keygen"] + words,
@@ -78,14 +85,19 @@ class Program:
         signal.alarm(SECONDS)
         status = os.waitstatus_to_exitcode(os.waitpid(self.process, 0)[1])
         signal.alarm(0)
-        numbers = struct.unpack("9Q", Path("report").read_bytes())
+        numbers = struct.unpack("%dQ" % (3 * len(SORTS)), Path("report").read_bytes())
         return Ended(
             status,
             Path("output").read_bytes(),
             Path("error").read_bytes(),
-            Path("made.krl").read_bytes() if os.path.exists("made.krl") else None,
-            {
-                sort: Counts(*numbers[3 * at : 3 * at + 3])
-                for at, sort in enumerate(["MEMORY", "READ", "WRITE"])
-            },
+            Path(LIST).read_bytes() if os.path.exists(LIST) else None,
+            remove_all({*os.listdir()} - names),
+            {sort: Counts(*numbers[3 * at : 3 * at + 3]) for at, sort in enumerate(SORTS)},
         )
+
+
+def remove_all(names):
+    """Removes the files, and gives their number."""
+    for name in names:
+        os.remove(name)
+    return len(names)

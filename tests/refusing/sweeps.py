@@ -47,6 +47,16 @@ MEMORY = [
     Sweep("refused allocations", "MEMORY", answers.without_memory),
     Sweep("last allocations refused", "MEMORY", answers.without_any_memory, lasts=True),
 ]
+FILES = [
+    Sweep("lists that are not created", "CREATE", answers.unbegun, errno.ENOSPC),
+    Sweep("folders that take no new file", "CREATE", answers.same, errno.EACCES),
+    Sweep("folders that cannot be written", "CREATE", answers.same, errno.EROFS),
+    Sweep("modes that are not kept", "MODE", answers.unbegun, errno.EIO),
+    Sweep("owners that are not kept", "OWNER", answers.same, errno.EPERM),
+    Sweep("syncs that fail", "SYNC", answers.unsynced, errno.EIO),
+    Sweep("closings that fail", "CLOSE", answers.unended, errno.EIO),
+    Sweep("lists that get no name", "RENAME", answers.unended, errno.EIO),
+]
 ALL = MEMORY + READS + WRITES
 
 
@@ -121,10 +131,19 @@ class Room:
                 name = "%s: %d interruptions of a %s" % (run.name, count, sort.lower())
                 self.once(name, run, ample, {sort: "1-%d:%d" % (count, errno.EINTR)}, answer)
 
+    def unremoved(self, run):
+        """Neither does the list get its name, nor can the new file be removed."""
+        ample = self.start(run, {})
+        if not ample.counts["RENAME"].called:
+            return
+        failing = {"RENAME": "1-1:%d" % errno.EIO, "REMOVE": "1-1:%d" % errno.EIO}
+        self.once(run.name + ": a new file that stays", run, ample, failing, answers.unremoved)
+
     def all(self, run):
         run.before = self.files[run.old] if run.old else None
-        for sweep in ALL:
+        for sweep in ALL + (FILES if run.makes() else []):
             self.sweep(run, sweep)
+        self.unremoved(run)
         self.pieces(run)
         if run.is_patient:
             self.patience(run)

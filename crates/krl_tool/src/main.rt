@@ -6,17 +6,19 @@ ghost use Rattle.std.specs.Option.{ForSome};
 ghost use Rattle.krl_words.specs.Command.{command_fault_status};
 
 mod files;
+mod replacing;
 
 use crate::files::{open, open_authority, open_inputs, open_list, open_or_input};
+use crate::replacing::write_list;
 use krl_job::{Job, Mode};
 use krl_make::{Old, make_run};
 use krl_runs::{
-    Cause, Done, FAILED, FileFault, ListMode, RunFault, fault_line, list_run, query_run,
+    Cause, Done, FAILED, ListMode, RunFault, fault_line, list_run, query_run,
 };
 use krl_words::{CommandFault, command_of};
 use ssh_wire::{FromRead, Source, ToWrite, send};
 use std::env;
-use std::fs::{self, File};
+use std::fs::File;
 use std::io::{self, BufReader, ErrorKind};
 use std::process::ExitCode;
 use std::time::{SystemTime, UNIX_EPOCH};
@@ -145,17 +147,11 @@ fn moment(rt: &HostRuntime) -> u64 {
     }
 }
 
-/// Writes the file of this name, in place of what it held.
+/// Writes the list of this name.
 fn write(rt: &HostRuntime, name: &str, text: &[u8]) -> u8 {
-    let Ok(file) = fs::create(rt, name) else {
-        return end(rt, &failed(name, Cause::File(FileFault::Open)));
-    };
-    match send(&mut ToWrite::new(file), text) {
+    match write_list(rt, name, text) {
         Ok(()) => 0,
-        Err(part) => {
-            let count = part.count as u64;
-            end(rt, &failed(name, Cause::Output { count }))
-        }
+        Err(cause) => end(rt, &failed(name, cause)),
     }
 }
 

@@ -1,0 +1,50 @@
+// The names of the list's file and of the new file beside it.
+
+use std::alloc::Global;
+use std::fs;
+use std::io::{self, ErrorKind};
+use std::random::RandomSource;
+
+/// How many links are followed to a file, as Linux does.
+const LINKS: usize = 40;
+/// How many bytes of the list's name stand in the new one. So the new one is short enough for file
+/// systems that take only 143 bytes.
+const FRONT: usize = 100;
+
+/// The path of the file that the name leads to, over links. There need be none.
+pub fn followed(rt: &HostRuntime, name: &str) -> io::Result<String> {
+    let mut path = String::from_str(rt.alloc(), name)?;
+    for _ in 0..LINKS {
+        let target = match fs::read_link(rt, path.as_str()) {
+            Ok(target) => target,
+            Err(error) if matches!(error.kind(), ErrorKind::InvalidInput | ErrorKind::NotFound) => {
+                return Ok(path);
+            }
+            Err(error) => return Err(error),
+        };
+        path = beside(rt.alloc(), path.as_str(), target.as_str())?;
+    }
+    Err(io::Error::from(ErrorKind::FilesystemLoop))
+}
+
+/// The path of a name as it stands in the folder of another path.
+pub fn beside(alloc: Global, path: &str, name: &str) -> io::Result<String> {
+    match path.rsplit_once('/') {
+        Some((folder, _)) if !name.starts_with('/') => Ok(format!(in alloc; "{folder}/{name}")?),
+        _ => Ok(String::from_str(alloc, name)?),
+    }
+}
+
+/// A path in the same folder, of a file that is most likely not there.
+pub fn new_name(rt: &HostRuntime, path: &str) -> io::Result<String> {
+    let last = match path.rsplit_once('/') {
+        Some((_, last)) => last,
+        None => path,
+    };
+    let front = &last[..last.floor_char_boundary(FRONT)];
+    let mut bytes = [0u8; 8];
+    rt.fill_bytes(&mut bytes)?;
+    let number = u64::from_ne_bytes(bytes);
+    let name = format!(in rt.alloc(); ".{front}.{number:016x}.new")?;
+    beside(rt.alloc(), path, name.as_str())
+}
