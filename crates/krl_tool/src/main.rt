@@ -7,13 +7,15 @@ ghost use Rattle.krl_words.specs.Command.{command_fault_status};
 
 mod files;
 mod replacing;
+mod streams;
 
 use crate::files::{open, open_authority, open_inputs, open_list, open_or_input};
 use crate::replacing::write_list;
+use crate::streams::{NOTHING, hold_places};
 use krl_job::{Job, Mode};
 use krl_make::{Old, make_run};
 use krl_runs::{
-    Cause, Done, FAILED, ListMode, RunFault, fault_line, list_run, query_run,
+    Cause, Done, FAILED, FileFault, ListMode, RunFault, fault_line, list_run, query_run,
 };
 use krl_words::{CommandFault, command_of};
 use ssh_wire::{FromRead, Source, ToWrite, send};
@@ -27,7 +29,15 @@ use std::time::{SystemTime, UNIX_EPOCH};
 const MISUSED: u8 = 2;
 
 fn main(rt: HostRuntime) -> ExitCode {
-    ExitCode::from(run(&rt))
+    let status = match hold_places(&rt) {
+        Ok(places) => {
+            let status = run(&rt);
+            drop(places);
+            status
+        }
+        Err(_) => end(&rt, &failed(NOTHING, Cause::File(FileFault::Open))),
+    };
+    ExitCode::from(status)
 }
 
 fn run(rt: &HostRuntime) -> u8 {
