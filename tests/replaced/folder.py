@@ -109,7 +109,9 @@ class Folder:
         wrong = []
         if sorted(os.listdir()) != sorted(names):
             wrong.append("the folder has %r" % sorted(os.listdir()))
-        if content is not None:
+        if content is not None and not os.path.exists(name):
+            wrong.append("there is no list")
+        elif content is not None:
             with open(name, "rb") as file:
                 got = file.read()
             if timeless(got) != timeless(content):
