@@ -53,7 +53,9 @@ class Folder:
             for found in os.listdir(path):
                 os.remove(os.path.join(path, found))
         else:
-            shutil.rmtree(path, ignore_errors=True)
+            if os.path.exists(path):
+                os.chmod(path, 0o755)
+                shutil.rmtree(path)
             os.mkdir(path)
         os.chdir(path)
         texts = {"../key.pub": files.line(files.KEY), "../spec": SPEC}
