@@ -54,7 +54,7 @@ FILES = [
     Sweep("modes that are not kept", "MODE", answers.unbegun, errno.EIO),
     Sweep("owners that are not kept", "OWNER", answers.same, errno.EPERM),
     Sweep("syncs that fail", "SYNC", answers.unsynced, errno.EIO),
-    Sweep("closings that fail", "CLOSE", answers.unended, errno.EIO),
+    Sweep("closings that fail", "CLOSE", answers.same, errno.EIO),
     Sweep("lists that get no name", "RENAME", answers.unended, errno.EIO),
 ]
 ALL = MEMORY + READS + WRITES

@@ -7,7 +7,6 @@ use krl_runs::{Cause, FileFault};
 use ssh_wire::{ToWrite, send};
 use std::fs::{self, File, Metadata, OpenOptions, Permissions};
 use std::io::{self, ErrorKind};
-use std::os::fd::IntoRawFd;
 use std::os::unix::fs::{MetadataExt, OpenOptionsExt, PermissionsExt, fchown};
 
 mod names;
@@ -38,7 +37,7 @@ pub fn write_list(rt: &HostRuntime, name: &str, text: &[u8]) -> Result<(), Cause
     };
     match old.metadata() {
         Ok(found) if found.is_file() => replace(rt, name, Some(&found), text),
-        Ok(_) => fill(old, text).map_err(output_fault),
+        Ok(_) => send_all(&old, text).map_err(output_fault),
         Err(_) => Err(output_fault(0)),
     }
 }
@@ -137,13 +136,7 @@ fn finish(file: File, old: Option<&Metadata>, text: &[u8]) -> Result<(), u64>
     {
         return Err(0);
     }
-    send_all(&file, text)?;
-    let is_synced = file.sync_all().is_ok();
-    if close(file) && is_synced {
-        Ok(())
-    } else {
-        Err(text.len() as u64)
-    }
+    send_and_sync(&file, text)
 }
 
 /// Gives the file the mode of the old list, and its owner and group where the user may do that.
@@ -166,20 +159,19 @@ fn sync_folder(rt: &HostRuntime, path: &str) {
 /// Writes the file itself, which has nothing of what it held from its opening on.
 fn write_in_place(rt: &HostRuntime, name: &str, text: &[u8]) -> Result<(), Cause> {
     match fs::create(rt, name) {
-        Ok(file) => fill(file, text).map_err(output_fault),
+        Ok(file) => send_and_sync(&file, text).map_err(output_fault),
         Err(_) => Err(Cause::File(FileFault::Open)),
     }
 }
 
-/// Writes the bytes and closes the file.
-fn fill(file: File, text: &[u8]) -> Result<(), u64>
+/// Writes the bytes, and has them synced: what happens when the file is closed then loses none.
+fn send_and_sync(file: &File, text: &[u8]) -> Result<(), u64>
     ensures bound { IfErr result (λ count. count ≤ length text.now) }
 {
-    send_all(&file, text)?;
-    if close(file) {
-        Ok(())
-    } else {
-        Err(text.len() as u64)
+    send_all(file, text)?;
+    match file.sync_all() {
+        Ok(()) => Ok(()),
+        Err(_) => Err(text.len() as u64),
     }
 }
 
@@ -191,12 +183,6 @@ fn send_all(file: &File, text: &[u8]) -> Result<(), u64>
         Ok(()) => Ok(()),
         Err(part) => Err(part.count as u64),
     }
-}
-
-/// Closes the file, and says whether the system did so without an error: some file systems tell
-/// only then that bytes were lost.
-fn close(file: File) -> bool {
-    libc::close(file.into_raw_fd()) == 0
 }
 
 fn output_fault(count: u64) -> Cause {

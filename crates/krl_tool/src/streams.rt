@@ -7,6 +7,8 @@ use std::os::fd::AsFd;
 /// What stands where a standard stream is closed. It gives no byte and takes none, as a closed
 /// stream.
 pub const NOTHING: &str = "/";
+/// Linux's number of the error that a descriptor is not open, EBADF.
+const NOT_OPEN: i32 = 9;
 
 /// The files that stand in the places of closed streams, as long as this is held.
 #[derive(Drop)]
@@ -33,7 +35,7 @@ pub fn hold_places(rt: &HostRuntime) -> io::Result<Places> {
 /// The file that takes the stream's place, if that is closed.
 fn hold_place<S: AsFd>(rt: &HostRuntime, stream: &S) -> io::Result<Option<File>> {
     match stream.as_fd().try_clone_to_owned() {
-        Err(error) if error.raw_os_error() == Some(libc::EBADF) => Ok(Some(fs::open(rt, NOTHING)?)),
+        Err(error) if error.raw_os_error() == Some(NOT_OPEN) => Ok(Some(fs::open(rt, NOTHING)?)),
         _ => Ok(None),
     }
 }
