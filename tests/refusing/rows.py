@@ -39,7 +39,7 @@ def made_at(room, moment, date):
     got = asked(room, "-k -f made.krl empty", MOMENT=str(moment))
     due = HEADER[:12] + struct.pack(">QQ", 0, date) + HEADER[28:]
     name = "a list that is made %d seconds after 1970" % moment
-    room.judge(name, [] if got.says() == (0, b"", b"", due) else [got.shown()])
+    room.judge(name, [] if got.says() == (0, b"", b"", due, 0) else [got.shown()])
 
 
 def failing_after(count):
