@@ -1,6 +1,7 @@
 PREFIX = /usr/local
-# The name under which the program is installed; beside OpenSSH's, krl-keygen is a good one.
-NAME = ssh-keygen
+# The name under which the program is installed. Under ssh-keygen it would hide OpenSSH's program where
+# its folder stands first on the PATH.
+NAME = krl-keygen
 # How long make fuzz goes on.
 SECONDS = 60
 

@@ -24,45 +24,55 @@ of() {
 }
 
 made 'make install' 0 install
-holds 'what is installed' $(of ssh-keygen usr/local)
-runs 'the installed program' "$root/usr/local/bin/ssh-keygen"
-judge 'the manual page is installed' "$(cmp "$top/docs/ssh-keygen.1" "$root/usr/local/share/man/man1/ssh-keygen.1" 2>&1)"
-made 'make install once more' 0 install
-made 'make install under another name' 0 install PREFIX=/opt/krl NAME=krl-keygen
-runs 'the program of another name' "$root/opt/krl/bin/krl-keygen"
-holds 'what is installed by then' $(of ssh-keygen usr/local) $(of krl-keygen opt/krl)
-judge 'the manual page has the other name' \
-  "$(grep -n -e 'Nm ssh-keygen' -e 'SSH-KEYGEN' -e '[$|].* ssh-keygen -' "$root/opt/krl/share/man/man1/krl-keygen.1")"
+holds 'what is installed' $(of krl-keygen usr/local)
+runs 'the installed program' "$root/usr/local/bin/krl-keygen"
+judge 'the manual page has the name of the program' \
+  "$(grep -n -e 'Nm ssh-keygen' -e 'SSH-KEYGEN' -e '[$|].* ssh-keygen -' "$root/usr/local/share/man/man1/krl-keygen.1")"
 for file in bash-completion/completions/krl-keygen zsh/site-functions/_krl-keygen \
   fish/vendor_completions.d/krl-keygen.fish; do
-  judge "the other name in $file" "$(grep -n ssh-keygen "$root/opt/krl/share/$file")"
+  judge "the name of the program in $file" "$(grep -n ssh-keygen "$root/usr/local/share/$file")"
 done
-made 'make uninstall of another name' 0 uninstall PREFIX=/opt/krl NAME=krl-keygen
-holds 'what is left' $(of ssh-keygen usr/local)
-made 'make uninstall of what is not there' 2 uninstall PREFIX=/opt/krl NAME=krl-keygen
+made 'make install once more' 0 install
+made 'make install under the name ssh-keygen' 0 install PREFIX=/opt/krl NAME=ssh-keygen
+runs 'the program of the name ssh-keygen' "$root/opt/krl/bin/ssh-keygen"
+holds 'what is installed by then' $(of krl-keygen usr/local) $(of ssh-keygen opt/krl)
+judge 'the manual page of the name ssh-keygen' \
+  "$(cmp "$top/docs/ssh-keygen.1" "$root/opt/krl/share/man/man1/ssh-keygen.1" 2>&1)"
+made 'make uninstall of the name ssh-keygen' 0 uninstall PREFIX=/opt/krl NAME=ssh-keygen
+holds 'what is left' $(of krl-keygen usr/local)
+made 'make uninstall of what is not there' 2 uninstall PREFIX=/opt/krl NAME=ssh-keygen
 
-echo changed >>"$root/usr/local/share/man/man1/ssh-keygen.1"
+echo changed >>"$root/usr/local/share/man/man1/krl-keygen.1"
 made 'make install over a page that was changed' 2 install
 made 'make uninstall of the rest' 0 uninstall
-holds 'the page that was changed' ./usr/local/share/man/man1/ssh-keygen.1
+holds 'the page that was changed' ./usr/local/share/man/man1/krl-keygen.1
 rm -r "$root"
 
 mkdir -p "$root/usr/bin" && echo another >"$root/usr/bin/ssh-keygen"
-made 'make install over another program' 2 install PREFIX=/usr
+made 'make install beside OpenSSH' 0 install PREFIX=/usr
+judge 'the program of OpenSSH is left' "$(differs content another "$(cat "$root/usr/bin/ssh-keygen")")"
+holds 'what is installed beside OpenSSH' ./usr/bin/ssh-keygen $(of krl-keygen usr)
+made 'make uninstall beside OpenSSH' 0 uninstall PREFIX=/usr
+made 'make install over another program' 2 install PREFIX=/usr NAME=ssh-keygen
 judge 'the other program and where it stands are told' \
   "$(grep -q "^packaging/install: $root/usr/bin/ssh-keygen$" "$scratch/output" || cat "$scratch/output")"
 judge 'the other program is left' "$(differs content another "$(cat "$root/usr/bin/ssh-keygen")")"
 holds 'nothing beside the other program' ./usr/bin/ssh-keygen
-made 'make install over another program where it is told to' 0 install PREFIX=/usr FORCE=1
+made 'make install over another program where it is told to' 0 install PREFIX=/usr NAME=ssh-keygen FORCE=1
 runs 'the program in place of the other' "$root/usr/bin/ssh-keygen"
 rm -r "$root"
 
+. "$tests/needs.sh"
+need lintian lintian || judge 'lintian is there' '  install it, on Debian by apt-get install lintian'
+need strip binutils || judge 'strip is there' '  install it, on Debian by apt-get install binutils'
 PROGRAM=$binary "$top/packaging/deb" "$scratch" >"$scratch/output" 2>&1
 judge 'a Debian package is made' "$([ $? = 0 ] || cat "$scratch/output")"
 package=$(tail -n 1 "$scratch/output")
 judge 'the name of the package' "$(differs name krl-keygen "$(dpkg-deb --field "$package" Package 2>&1)")"
+judge 'lintian finds no error in the package' \
+  "$(found=$(lintian --allow-root --fail-on error "$package" 2>&1) || printf '%s\n' "$found" failed)"
 dpkg-deb --extract "$package" "$root"
 runs 'the program of the package' "$root/usr/bin/krl-keygen"
 holds 'what the package holds' $(of krl-keygen usr | grep -v -e sha256 -e /man1/) \
-  ./usr/share/man/man1/krl-keygen.1.gz ./usr/share/doc/krl-keygen/README.md
+  ./usr/share/man/man1/krl-keygen.1.gz $(printf './usr/share/doc/krl-keygen/%s\n' README.md changelog.gz copyright)
 rm -r "$root"
