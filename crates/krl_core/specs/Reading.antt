@@ -1,6 +1,6 @@
 -- How far a list is read, a field at a time.
-use Rattle.std.specs.Prelude.{◌≡◌, ℕ, ◌+◌, ◌*◌, ◌≤◌, ◌⊎◌, ◌↔◌, Bool, true, false, List, [], ◌∷◌, ◌++◌}
-use Rattle.std.specs.Prelude.{length, Option, Some, None, IsSome, Result, Ok, Err}
+use Rattle.std.specs.Prelude.{◌≡◌, ℕ, ◌+◌, ◌*◌, ◌≤◌, ◌⊎◌, ◌↔◌, Bool, true, false, List, []}
+use Rattle.std.specs.Prelude.{◌∷◌, ◌++◌, length, Option, Some, None, IsSome, Result, Ok, Err}
 use Rattle.std.specs.List.{concat}
 use Rattle.std.specs.Io.KnownBytes.{IsAtEnd, Keeps}
 use Rattle.ssh_wire.specs.Wire.{IsBytes}
@@ -21,8 +21,8 @@ use Rattle.krl_core.specs.Front.{Spot, start, Leads, Passes, HasRoom, IsFirstFau
 use Rattle.krl_core.specs.Keeping.{InStep, IsKept, Keeping, StoresWithin, held_with_open}
 use Rattle.krl_core.specs.Place.{due}
 
--- the reader, the place where the next field is due, what is kept, whether the list's end was found,
--- and the fault that was met
+-- the reader, the place where the next field is due, what is kept, whether the list's end was
+-- found, and the fault that was met
 pub record Position : Type 0 where
   pub pull : Pulled
   pub place : Place
@@ -72,8 +72,8 @@ pub record Ends (old new : Position) : Type 0 where
   pub still : (text : List ℕ) (fields : List (List ℕ)) → HasRead text fields old
       → HasRead text fields new × (text ≡ concat fields)
 
--- The reader failed when it had given the first bytes of the text and had these left. The bytes that
--- it gave end where a field or the end is due.
+-- The reader failed when it had given the first bytes of the text and had these left. The bytes
+-- that it gave end where a field or the end is due.
 pub record FailsAfter (text : List ℕ) (failed : Bool) (left : Option (List ℕ)) : Type 0 where
   pub given : List ℕ
   pub later : List ℕ
@@ -184,8 +184,8 @@ pub record IsList (text : List ℕ) (header : Header) (contents : Contents) : Ty
   pub held_is : held contents ≤ 4 * length text
   pub stored_is : stored contents ≤ length text
 
--- What reading a text gives: what is known of it, or its fault, by whether the reader failed and the
--- bytes that it has left.
+-- What reading a text gives: what is known of it, or its fault, by whether the reader failed and
+-- the bytes that it has left.
 abbrev pub IsReadAs : {K : Type 0} → (List ℕ → K → Type 0) → List ℕ → Result K KrlFault → Bool
     → Option (List ℕ) → Type 0
 IsReadAs Knows text (Ok known) failed left = Knows text known

@@ -17,9 +17,9 @@ use serial_set::Spans;
 use ssh_wire::Source;
 use std::alloc::Global;
 
-/// Reads a list to its end, a field at a time, and gives the reader back. A list is refused with its
-/// first fault; where the reader fails, with the first fault of the bytes that it gave, and with
-/// `Read` where these have none but their end.
+/// Reads a list to its end, a field at a time, and gives the reader back. A list is refused with
+/// its first fault; where the reader fails, with the first fault of the bytes that it gave, and
+/// with `Read` where these have none but their end.
 pub fn read_krl<S: Spans, R: Source + Drop>(
     alloc: Global,
     reader: R,

@@ -48,7 +48,8 @@ pub record Takes (old : Pulled) (field : List ℕ) (new : Pulled) : Type 0 where
   pub is_faultless : new.fault ≡ None
 
 -- What a fault says, where this many bytes of a field came. EndsEarly: no byte is left. TooLong:
--- the limit is reached, and a byte stands past it. Read: the reader failed, and no byte stands ahead.
+-- the limit is reached, and a byte stands past it. Read: the reader failed, and no byte stands
+-- ahead.
 abbrev pub Tells : PullFault → Pulled → ℕ → Type 0
 Tells EndsEarly pull came = IsAtEnd (left_of pull) × (pull.failed ≡ false)
 Tells TooLong pull came =

@@ -189,8 +189,8 @@ fn holds_at_once(rt: &impl Abort, reading: &mut OfSlice<'_>, due: &[u128]) {
     assert!(rt; step(reading) == Ok(false));
 }
 
-// Serials in no order are held at once. One that is there already takes nothing, and one between two
-// others joins them.
+// Serials in no order are held at once. One that is there already takes nothing, and one between
+// two others joins them.
 #[test]
 fn serials_are_held_at_once(rt: HostRuntime) {
     let text = list_of(&rt, rt.alloc(), NO_ORDER);
