@@ -5,7 +5,7 @@ NAME = krl-keygen
 # How long make fuzz goes on.
 SECONDS = 60
 
-.PHONY: build test hostile fuzz bench install uninstall deb
+.PHONY: build test fault_injection fuzz bench install uninstall deb
 
 # Proves and builds the program.
 build:
@@ -16,8 +16,8 @@ test:
 	tests/all
 
 # Each allocation, read and write of many runs fails in turn; make test does this for fewer of them.
-hostile: build
-	tests/hostile
+fault_injection: build
+	tests/inject_faults
 
 # Files changed at random, beside OpenSSH.
 fuzz: build

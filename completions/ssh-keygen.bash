@@ -1,13 +1,13 @@
 # What bash offers for the words of ssh-keygen, as its manual page has them.
 
-# The options of the words before the one at hand: their letters in seen, and in due the letter of
+# The options of the words before the one at hand: their letters in seen, and in open the letter of
 # the option whose value comes next, if one does.
 _krl_keygen_seen() {
   local word
-  seen= due=
+  seen= open=
   for word in "${COMP_WORDS[@]:1:COMP_CWORD-1}"; do
-    if [ -n "$due" ]; then
-      due=
+    if [ -n "$open" ]; then
+      open=
     elif [ "$word" = -- ]; then
       seen+=-
     elif [[ $word == -[!-]* && $seen != *-* ]]; then
@@ -22,7 +22,7 @@ _krl_keygen_letters() {
   while [ -n "$rest" ]; do
     seen+=${rest:0:1}
     if [[ $rest == [fEsz]* ]]; then
-      [ ${#rest} -gt 1 ] || due=$rest
+      [ ${#rest} -gt 1 ] || open=$rest
       return
     fi
     rest=${rest:1}
@@ -52,10 +52,10 @@ _krl_keygen_options() {
 }
 
 _krl_keygen() {
-  local seen due offered word=${COMP_WORDS[COMP_CWORD]}
+  local seen open offered word=${COMP_WORDS[COMP_CWORD]}
   _krl_keygen_seen
   COMPREPLY=()
-  case $due in
+  case $open in
     E) offered=$(compgen -W 'md5 sha256' -- "$word") ;;
     s) offered=$(compgen -W none -- "$word" && compgen -f -- "$word" || compgen -f -- "$word") ;;
     z) offered= ;;
@@ -69,7 +69,7 @@ _krl_keygen() {
       ;;
   esac
   [ -z "$offered" ] || mapfile -t COMPREPLY <<<"$offered"
-  [[ $due == [sf] || $word != -* ]] && compopt -o filenames 2>/dev/null
+  [[ $open == [sf] || $word != -* ]] && compopt -o filenames 2>/dev/null
   return 0
 }
 

@@ -26,7 +26,7 @@ static char *texts[MOST_WORDS + 1];
 static char **own_words;
 static int own_count, is_late, is_late_copy;
 
-/* Whether so many bytes were there to read. */
+/* Whether all the bytes were there to read. */
 static int is_read(void *into, size_t size) {
   char *at = into;
   while (size > 0) {

@@ -18,7 +18,7 @@ def section_ends(content):
 
 
 def limits(place, made):
-    """Files may not be longer than so many bytes."""
+    """Files may not be longer than this number of bytes."""
     lengths = {*range(64), *range(0, len(made), 509)}
     for end in section_ends(made)[:-1]:
         lengths |= {end - 1, end, end + 1}
@@ -31,7 +31,7 @@ def limits(place, made):
         wrong += ["%d bytes: %s" % (length, it) for it in found]
         if found:
             place.enter()
-    place.judge("files of at most so many bytes: %d lengths" % len(lengths), wrong)
+    place.judge("files of a limited length: %d lengths" % len(lengths), wrong)
 
 
 def new_limits(place, made):
@@ -43,11 +43,11 @@ def new_limits(place, made):
         done = place.run("-k", "-f", LIST, "-s", "none", "../spec", limit=length)
         found = place.differs(done, 255, fault(length)) + place.stands(None, names=[])
         wrong += ["%d bytes: %s" % (length, it) for it in found]
-    place.judge("a new list, and files of at most so many bytes", wrong)
+    place.judge("a new list, and files of a limited length", wrong)
 
 
 def full(place, made):
-    """A file system with room for so many pages. Two sections of the list end with a page."""
+    """A file system with room for a number of pages. Two sections of the list end with a page."""
     path = os.path.join(place.scratch, "small")
     os.mkdir(path)
     words = ["mount", "-t", "tmpfs", "-o", "size=256k,mode=755", "none", path]
@@ -70,7 +70,7 @@ def full(place, made):
 
 
 def fill(place, pages):
-    """Leaves so many pages free."""
+    """Leaves this number of pages free."""
     place.enter("small")
     room = os.statvfs(".")
     place.put("filler", bytes(room.f_bfree * room.f_bsize - pages * PAGE))

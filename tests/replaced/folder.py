@@ -6,7 +6,7 @@ import shutil
 import signal
 import subprocess
 
-from refusing import files
+from fault_injection import files
 from wire import HEADER, certificates, section, strings
 
 LIST = "r.krl"

@@ -2,7 +2,7 @@
 
 import errno
 
-from refusing import answers
+from fault_injection import answers
 
 ALWAYS = 1 << 62
 SHORT, NOTHING = -1, 0

@@ -3,7 +3,7 @@
 import errno
 import struct
 
-from refusing.runs import Run
+from fault_injection.runs import Run
 from wire import HEADER
 
 FULL = "4-4:%d:3" % errno.ENOSPC
@@ -37,9 +37,9 @@ def fault(room, name, says, words, output=b"", **failing):
 def made_at(room, moment, date):
     """The list that is made when the clock shows the moment has this date."""
     got = asked(room, "-k -f made.krl empty", MOMENT=str(moment))
-    due = HEADER[:12] + struct.pack(">QQ", 0, date) + HEADER[28:]
+    wanted = HEADER[:12] + struct.pack(">QQ", 0, date) + HEADER[28:]
     name = "a list that is made %d seconds after 1970" % moment
-    room.judge(name, [] if got.says() == (0, b"", b"", due, 0) else [got.shown()])
+    room.judge(name, [] if got.says() == (0, b"", b"", wanted, 0) else [got.shown()])
 
 
 def failing_after(count):

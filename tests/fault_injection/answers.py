@@ -52,7 +52,7 @@ def without_any_memory(run, ample, got):
 
 
 def after_read(run, ample, got):
-    """A read failed: it is told, unless the run has an earlier fault to tell."""
+    """A read failed: it is reported, unless the run has an earlier fault to report."""
     if ample.status == FAULT and got.says() == ample.says():
         return None
     if not READ.fullmatch(got.error):
@@ -61,12 +61,12 @@ def after_read(run, ample, got):
 
 
 def after_write(run, ample, got):
-    """A write failed: just what was written before it stands, and its length is told."""
+    """A write failed: just what was written before it stands, and its length is reported."""
     descriptor = got.counts["WRITE"].descriptor
     if descriptor == ERROR:
         said = (got.status, got.output, got.made) == (ample.status, ample.output, ample.made)
         is_front_of_line = ample.error.startswith(got.error)
-        return None if said and is_front_of_line else "a line that could not be told"
+        return None if said and is_front_of_line else "a line that could not be written"
     if descriptor == OUTPUT and not ample.output.startswith(got.output):
         return "standard output"
     if run.words == ["-h"]:
@@ -80,8 +80,8 @@ def after_write(run, ample, got):
 
 def after_list(run, ample, got):
     """Writing a list failed: the old one stands, and not all bytes went out."""
-    told = COUNT.fullmatch(got.error)
-    if not told or int(told[1]) >= len(ample.made):
+    count = COUNT.fullmatch(got.error)
+    if not count or int(count[1]) >= len(ample.made):
         return "standard error"
     return stopped(run, ample, got)
 

@@ -10,7 +10,7 @@
                              of those of an owner, SYNC of syncs, CLOSE of the closing of files that were
                              opened so, RENAME and REMOVE of those of a name
      KILL=K                  the K-th write moves half of its bytes, and then the program is killed
-     MOMENT=N                the clock shows so many seconds since 1970, before it where N is negative
+     MOMENT=N                the clock shows N seconds since 1970, before it where N is negative
      REPORT=FILE             the counts of what was called and of what failed stand there at the end */
 #define _GNU_SOURCE
 #include <errno.h>

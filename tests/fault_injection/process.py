@@ -19,7 +19,7 @@ class Ended:
         self.status = status
         self.output = output
         self.error = error
-        # What stands in the list that -k was to make, or None.
+        # The bytes of the list that -k was to make, or None.
         self.made = made
         # How many files with other names the run left.
         self.left = left

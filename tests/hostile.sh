@@ -1,6 +1,0 @@
-# Allocations, reads and writes that fail one after the other: tests/hostile in its short form.
-
-. "$tests/needs.sh"
-need cc gcc || judge 'a C compiler is there' '  install gcc'
-PROGRAM=$binary "$tests/hostile" --short >"$scratch/output" 2>&1
-tell "$scratch/output"
