@@ -23,6 +23,21 @@ def rising_serials(count, source):
     return lines
 
 
+def each_number(step):
+    """Each second number, each third and so on, in order."""
+    return lambda count, _: ["serial: %d\n" % (1 + step * at) for at in range(count)]
+
+
+def ranges(count, source):
+    """Ten numbers in a row, at random places."""
+    starts = (source.randrange(1, 1 << 48) for _ in range(count))
+    return ["serial: %d-%d\n" % (at, at + 9) for at in starts]
+
+
+def ids(count, source):
+    return ["id: user-%012x\n" % source.randrange(1 << 48) for _ in range(count)]
+
+
 def keys(count, source):
     return [key_line(source.randrange(1 << 64)) for _ in range(count)]
 
@@ -61,10 +76,10 @@ SHAPES = {
 
 
 def write(lines, count, files):
-    """The names of so many files, each with so many lines of the shape."""
-    source = random.Random(count)
+    """The names of a number of files, each with a number of lines, together lines of the shape."""
+    every = lines(count * files, random.Random(count))
     names = ["spec%d" % at for at in range(files)]
-    for name in names:
+    for at, name in enumerate(names):
         with open(name, "w") as out:
-            out.writelines(lines(count, source))
+            out.writelines(every[at * count : (at + 1) * count])
     return names

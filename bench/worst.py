@@ -5,11 +5,25 @@ import struct
 from lists import BITMAP, HEADER, bitmap, certificates, key, of_strings, shuffled, string
 
 
-def alternating_bitmaps(size):
-    """Each second serial in large bitmaps, in no order: four intervals a byte."""
-    content = b"\x55" * BITMAP
-    parts = (bitmap(1 + 8 * BITMAP * at, content) for at in shuffled(size // (BITMAP + 17)))
-    return HEADER + certificates(b"", b"".join(parts))
+def large_bitmaps(*contents, order=shuffled):
+    """Bitmaps of 2,048 bytes, all with the one content and then all with the next, in an order."""
+
+    def shape(size):
+        count = size // (BITMAP + 17) // len(contents)
+        parts = (bitmap(1 + 8 * BITMAP * at, bits) for bits in contents for at in order(count))
+        return HEADER + certificates(b"", b"".join(parts))
+
+    return shape
+
+
+def far_apart(content):
+    """Small bitmaps, each in windows of its own, in no order."""
+
+    def shape(size):
+        offsets = (1 + 1000 * at + 37 for at in shuffled(size // (17 + len(content))))
+        return HEADER + certificates(b"", b"".join(bitmap(it, content) for it in offsets))
+
+    return shape
 
 
 def short_ids(size):
@@ -100,8 +114,19 @@ def lying_bitmap(size):
     return HEADER + head + b"\x55" * size
 
 
+# What takes the most memory for its bytes: many intervals in few bytes, or few in windows of their own.
+BITMAPS = {
+    "bitmaps of 0x55, in no order": large_bitmaps(b"\x55" * BITMAP),
+    "bitmaps of 0x55, in order": large_bitmaps(b"\x55" * BITMAP, order=range),
+    "bitmaps of 0x77, in no order": large_bitmaps(b"\x77" * BITMAP),
+    "runs over each window's end": large_bitmaps(b"\x01\xff" * (BITMAP // 2)),
+    "bitmaps of 8 bytes, far apart": far_apart(b"\x55" * 8),
+    "bitmaps of 1 byte, far apart": far_apart(b"\x55"),
+    "even bits, then odd ones": large_bitmaps(b"\x55" * BITMAP, b"\x2a" * BITMAP),
+}
+
 SHAPES = {
-    "bitmaps of 0x55, in no order": alternating_bitmaps,
+    **BITMAPS,
     "key IDs of one byte": short_ids,
     "key IDs of three bytes": three_byte_ids,
     "keys of no byte": empty_keys,

@@ -111,7 +111,7 @@ fault='ssh-keygen: output: output 1 Write after 0 bytes'
 full 'a listing on a full device' 255 "$fault" -l -f g.pub
 full 'a query on a full device' 255 "$fault" -Q -f r.krl g.pub a
 full 'a query of no revoked key on a full device' 255 "$fault" -Q -f r.krl a
-full 'a missing file, told to a full device' 255 "$fault" -Q -f r.krl g.pub none
+full 'a missing file, reported to a full device' 255 "$fault" -Q -f r.krl g.pub none
 full 'nothing to write on a full device' 0 '' -Q -f r.krl
 
 # A listing that is written in several pieces: 2,000 lines of 76 bytes.

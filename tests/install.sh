@@ -54,11 +54,11 @@ judge 'the program of OpenSSH is left' "$(differs content another "$(cat "$root/
 holds 'what is installed beside OpenSSH' ./usr/bin/ssh-keygen $(of krl-keygen usr)
 made 'make uninstall beside OpenSSH' 0 uninstall PREFIX=/usr
 made 'make install over another program' 2 install PREFIX=/usr NAME=ssh-keygen
-judge 'the other program and where it stands are told' \
+judge 'the other program and where it is are named' \
   "$(grep -q "^packaging/install: $root/usr/bin/ssh-keygen$" "$scratch/output" || cat "$scratch/output")"
 judge 'the other program is left' "$(differs content another "$(cat "$root/usr/bin/ssh-keygen")")"
 holds 'nothing beside the other program' ./usr/bin/ssh-keygen
-made 'make install over another program where it is told to' 0 install PREFIX=/usr NAME=ssh-keygen FORCE=1
+made 'make install over another program where FORCE says so' 0 install PREFIX=/usr NAME=ssh-keygen FORCE=1
 runs 'the program in place of the other' "$root/usr/bin/ssh-keygen"
 rm -r "$root"
 

@@ -76,7 +76,7 @@ makes 'a certificate of serial number 0' "$(cat cert-0-a)" \
 makes 'a certificate' "$(cat cert-7-a)" \
   "${H}01$(string "$(string "$A")$(words '')20000000080000000000000007")" -z 1
 makes 'the key of a certificate' "key: $(cat cert-0-a)" "$H$(section "$G")" -z 1
-makes 'a key, a comment behind it' "$(cat g.pub) # c\n" "$H$(section "$G")" -z 1
+makes 'a key, a comment after it' "$(cat g.pub) # c\n" "$H$(section "$G")" -z 1
 makes 'keys in order, each once' "$(cat g.pub)\nkey: $(cat a)\n$(cat g.pub)\n" "$H$(section "$A" "$G")" -z 1
 makes 'the hashes of a key' "SHA1: $(cat a)\nsha256: $(cat a)\n" \
   "${H}03$(string "$(string "$(bytes "$A" | sha1sum | cut -c1-40)")")05$(

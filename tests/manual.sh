@@ -14,9 +14,9 @@ rendered() {
   mandoc -T ascii -O width=200 "$page" | sed 's/.\x08//g' |
     awk -v section="$1" '/^[A-Z]/ { on = $0 == section; next } on && NF { sub(/^ +/, ""); print }'
 }
-told=$("$program" --help |
+forms=$("$program" --help |
   awk '/^Usage:/ { on = 1; sub(/^Usage:/, "") } on && !NF { exit } on { sub(/^ +/, ""); print }')
-judge 'the synopsis is what --help tells' "$(differs 'forms of use' "$told" "$(rendered SYNOPSIS)")"
+judge 'the synopsis is what --help says' "$(differs 'forms of use' "$forms" "$(rendered SYNOPSIS)")"
 
 cp -r "$top/demo" demo && cd demo || exit 1
 transcript 'the examples of the manual page' < <(sed -n '/^\.Sh EXAMPLES/,/^\.Sh DIAGNOSTICS/p' "$page" |

@@ -54,8 +54,8 @@ done
 refuses '6 Length' 'a key that passes its section' "$H" 02 00000005 00000002 00
 refuses '6 Length' 'a section with room for no length' "$H" 02 00000003 000000
 refuses '6 Length' 'three bytes after a key' "$H" 02 00000008 00000001 00 000000
-refuses '6 Length' 'three bytes due after a key' "$H" 02 00000008 00000001 00
-refuses '6 Length' 'a key due that passes its section' "$H" 02 00000005 00000002
+refuses '6 Length' 'three bytes left after a key' "$H" 02 00000008 00000001 00
+refuses '6 Length' 'a key that passes its section' "$H" 02 00000005 00000002
 
 # certificates DIGITS: a section of certificates under all authorities, of these subsections.
 certificates() {
@@ -90,7 +90,7 @@ refuses '9 BitmapWraps' 'a bitmap past the greatest serial' "$H" \
   "$(certificates "22$(string "$last$(string 02)")")"
 refuses '10 HashLength' 'a SHA-1 of 19 bytes' "$H" "03$(string "$(string "$(repeat 19 00)")")"
 refuses '10 HashLength' 'a SHA-256 of 20 bytes' "$H" "05$(string "$(string "$(repeat 20 00)")")"
-refuses '11 AfterSignature' 'keys behind a signature' "$H" "$signature" "$(section "$G")"
+refuses '11 AfterSignature' 'keys after a signature' "$H" "$signature" "$(section "$G")"
 refuses '15 CriticalExtension' 'a critical extension' "$H" "ff$critical"
 refuses '15 CriticalExtension' 'a critical extension of certificates' "$H" "$(certificates "39$critical")"
 

@@ -48,7 +48,7 @@ fn refuse<T>(why: &str) -> io::Result<T> {
     Err(io::Error::new(io::ErrorKind::InvalidData, why.to_string()))
 }
 
-/// Bytes of a section, of which so many are left.
+/// Bytes of a section, and how many are left.
 struct Part<'r, R> {
     reader: &'r mut R,
     left: u64,
@@ -109,10 +109,10 @@ fn bitmap<R: Read>(part: &mut Part<R>, spans: &mut Spans) -> io::Result<()> {
     let offset = part.u64()?;
     let size = part.u32()?;
     let mut open: Option<(u64, u64)> = None;
-    for due in (0..size).rev() {
+    for after in (0..size).rev() {
         let byte = part.byte()?;
         for bit in (0..8).rev() {
-            let serial = offset.wrapping_add(8 * due + bit);
+            let serial = offset.wrapping_add(8 * after + bit);
             if byte >> bit & 1 == 1 && serial > 0 {
                 open = Some((serial, open.map_or(serial, |(_, hi)| hi)));
             } else if let Some((lo, hi)) = open.take() {

@@ -1,7 +1,7 @@
 -- Additions keep the order of what is held, and mean one entry more.
-use Rattle.std.proofs.Common.{◌≡◌, ℕ, ◌+◌, ◌<◌, ◌≤◌, ◌^◌, ◌⊎◌, List, [], ◌∷◌, ◌++◌, length, sym, ap, subst, inl, inr, arith}
+use Rattle.std.proofs.Common.{◌≡◌, ℕ, ◌+◌, ◌<◌, ◌≤◌, ◌^◌, ◌⊎◌, List, [], ◌∷◌, ◌++◌, ◌↔◌, length, refl, sym, ap, subst, inl, inr, arith}
 use Rattle.std.specs.List.{Contains, All}
-use Rattle.std.proofs.lemmas.List.Elements.{All-cons, All-head, All-tail, Contains-append_left, Contains-append_right, Contains-append_cases}
+use Rattle.std.proofs.lemmas.List.Elements.{All-cons, All-head, All-tail}
 use Rattle.std.proofs.lemmas.List.Sums.{sum_by-cons, sum_by-append}
 use Rattle.serial_set.specs.declared.span.Span.{Span}
 use Rattle.serial_set.specs.Span.{Covers, IsRuns, AreSerials}
@@ -10,9 +10,11 @@ use Rattle.krl_core.specs.declared.addition.Addition.TheVariants.{Serials}
 use Rattle.krl_core.specs.Rising.{RisesBy, Rises}
 use Rattle.krl_core.specs.Changes.{Takes, TakesSerials, TakesId, AddsTo, Puts, empty_section}
 use Rattle.krl_core.specs.Contents.{Section, IsListed, size_of}
-use Rattle.krl_core.proofs.Members.{inserts_rise}
+use Rattle.krl_core.proofs.Ordered.{inserts_rise}
 use Rattle.krl_core.proofs.Shelving.{changes_rise}
-use Rattle.krl_core.specs.Elements.{contains_none, contains_here, contains_cases}
+use Rattle.std.proofs.Math.Logic.Iff as Iff
+use Rattle.krl_core.proofs.BothWays.{contains_middle, iff_or, iff_swap}
+use Rattle.krl_core.specs.Elements.{contains_none}
 
 -- ---- byte strings that are put in
 
@@ -20,42 +22,15 @@ pub put_rises : (old : List (List ℕ)) (text : List ℕ) (new : List (List ℕ)
 put_rises old text new p r =
     elim p [ inl same ↦ subst Rises (sym same.0) r | inr i ↦ inserts_rise (λ bytes. bytes) old text new r i ]
 
-only_one : (text t : List ℕ) → Contains (text ∷ []) t → t ≡ text
-only_one text t h =
-    elim (contains_cases text t [] h) [ inl here ↦ sym here | inr later ↦ absurd (contains_none t later) ]
-
-pub put_to : (old : List (List ℕ)) (text : List ℕ) (new : List (List ℕ)) → Puts old text new → (t : List ℕ) → Contains new t → Contains old t ⊎ (t ≡ text)
-put_to old text new p t h =
-    elim p [
-      | inl same ↦ inl (subst (λ l. Contains l t) same.0 h)
-      | inr i ↦ elim (Contains-append_cases i.front (text ∷ i.back) t (subst (λ l. Contains l t) i.after h)) [
-        | inl l ↦ inl (subst (λ l. Contains l t) (sym i.before) (Contains-append_left i.front i.back t l))
-        | inr r ↦ elim (Contains-append_cases (text ∷ []) i.back t r) [
-          | inl at ↦ inr (only_one text t at)
-          | inr q ↦ inl (subst (λ l. Contains l t) (sym i.before) (Contains-append_right i.front i.back t q))
-        ]
-      ]
-    ]
-
-pub put_has : (old : List (List ℕ)) (text : List ℕ) (new : List (List ℕ)) → Puts old text new → Contains new text
-put_has old text new p =
-    elim p [
-      | inl same ↦ subst (λ l. Contains l text) (sym same.0) same.1
-      | inr i ↦ subst (λ l. Contains l text) (sym i.after) (Contains-append_right i.front (text ∷ i.back) text (contains_here text i.back))
-    ]
-
-pub put_from : (old : List (List ℕ)) (text : List ℕ) (new : List (List ℕ)) → Puts old text new → (t : List ℕ) → Contains old t ⊎ (t ≡ text) → Contains new t
-put_from old text new p t h =
-    elim h [
-      | inl was ↦ elim p [
-        | inl same ↦ subst (λ l. Contains l t) (sym same.0) was
-        | inr i ↦ elim (Contains-append_cases i.front i.back t (subst (λ l. Contains l t) i.before was)) [
-          | inl l ↦ subst (λ l. Contains l t) (sym i.after) (Contains-append_left i.front (text ∷ i.back) t l)
-          | inr r ↦ subst (λ l. Contains l t) (sym i.after) (Contains-append_right i.front (text ∷ i.back) t (Contains-append_right (text ∷ []) i.back t r))
-        ]
-      ]
-      | inr is ↦ subst (Contains new) (sym is) (put_has old text new p)
-    ]
+pub put_held : (old : List (List ℕ)) (text : List ℕ) (new : List (List ℕ)) → Puts old text new → (t : List ℕ) → Contains new t ↔ (Contains old t ⊎ (text ≡ t))
+put_held old text new (inl same) t = (
+  λ h. inl (subst (λ (l : List (List ℕ)). Contains l t) same.0 h),
+  λ h. subst (λ (l : List (List ℕ)). Contains l t) (sym same.0) (elim h [ inl was ↦ was | inr is ↦ subst (Contains old) is same.1 ]),
+)
+put_held old text new (inr i) t =
+    let now = subst (λ (l : List (List ℕ)). Contains l t ↔ ((text ≡ t) ⊎ Contains (i.front ++ i.back) t)) (sym i.after) (contains_middle i.front text i.back t) in
+    let was = subst (λ (l : List (List ℕ)). Contains (i.front ++ i.back) t ↔ Contains l t) (sym i.before) Iff.rfl in
+    Iff.trans now (Iff.trans iff_swap (iff_or was Iff.rfl))
 
 pub put_size : (old : List (List ℕ)) (text : List ℕ) (new : List (List ℕ)) → Puts old text new → size_of new ≤ size_of old + length text
 put_size old text new p =
@@ -101,22 +76,17 @@ takes_id_listed text from to o t =
       runs = subst IsRuns (sym spans) o.runs;
       serials = subst AreSerials (sym spans) o.serials;
       ids_rise = put_rises from.ids text to.ids t.put o.ids_rise;
-      some = inr (has_text to.ids text (put_has from.ids text to.ids t.put));
+      some = inr (has_text to.ids text ((put_held from.ids text to.ids t.put text).1 (inr refl)));
     }
 
-middle_listed : (front : List Section) (from to : Section) (back : List Section) → All IsListed (front ++ from ∷ back) → IsListed to → All IsListed (front ++ to ∷ back)
-middle_listed [] from to back a h = All-cons IsListed to back h (All-tail IsListed from back a)
-middle_listed (x ∷ front) from to back a h =
-    All-cons IsListed x (front ++ to ∷ back) (All-head IsListed x (front ++ from ∷ back) a) (middle_listed front from to back (All-tail IsListed x (front ++ from ∷ back) a) h)
-
-middle_put : (front : List Section) (to : Section) (back : List Section) → All IsListed (front ++ back) → IsListed to → All IsListed (front ++ to ∷ back)
-middle_put [] to back a h = All-cons IsListed to back h a
-middle_put (x ∷ front) to back a h =
-    All-cons IsListed x (front ++ to ∷ back) (All-head IsListed x (front ++ back) a) (middle_put front to back (All-tail IsListed x (front ++ back) a) h)
-
-middle_is : (front : List Section) (from : Section) (back : List Section) → All IsListed (front ++ from ∷ back) → IsListed from
-middle_is [] from back a = All-head IsListed from back a
-middle_is (x ∷ front) from back a = middle_is front from back (All-tail IsListed x (front ++ from ∷ back) a)
+-- what holds of each holds of what stands in the middle, and of all others
+pub all_middle : {X : Type 0} (P : X → Type 0) (front : List X) (x : X) (back : List X) → All P (front ++ x ∷ back) ↔ (P x × All P (front ++ back))
+all_middle P [] x back = (λ h. (All-head P x back h, All-tail P x back h), λ h. All-cons P x back h.0 h.1)
+all_middle P (y ∷ front) x back =
+    let rest = all_middle P front x back in (
+      λ h. let k = rest.0 (All-tail P y (front ++ x ∷ back) h) in (k.0, All-cons P y (front ++ back) (All-head P y (front ++ x ∷ back) h) k.1),
+      λ h. All-cons P y (front ++ x ∷ back) (All-head P y (front ++ back) h.1) (rest.1 (h.0, All-tail P y (front ++ back) h.1)),
+    )
 
 in_order : (section : Section) → IsListed section → InOrder section
 in_order section l = record { runs = l.runs; serials = l.serials; ids_rise = l.ids_rise }
@@ -125,10 +95,10 @@ pub adds_listed : (addition : Addition) (authority : List ℕ) (old new : List S
 adds_listed addition authority old new lists adds a =
     elim adds [
       | inl c ↦
-          let was = subst (All IsListed) c.before a in
-          subst (All IsListed) (sym c.after) (middle_listed c.front c.from c.to c.back was (lists c.from c.to (in_order c.from (middle_is c.front c.from c.back was)) c.changed))
+          let was = (all_middle IsListed c.front c.from c.back).0 (subst (All IsListed) c.before a) in
+          subst (All IsListed) (sym c.after) ((all_middle IsListed c.front c.to c.back).1 (lists c.from c.to (in_order c.from was.0) c.changed, was.1))
       | inr n ↦
-          subst (All IsListed) (sym n.put.after) (middle_put n.put.front n.section n.put.back (subst (All IsListed) n.put.before a) (lists (empty_section authority) n.section (empty_in_order authority) n.takes))
+          subst (All IsListed) (sym n.put.after) ((all_middle IsListed n.put.front n.section n.put.back).1 (lists (empty_section authority) n.section (empty_in_order authority) n.takes, subst (All IsListed) n.put.before a))
     ]
 
 pub serials_listed : (lo hi : ℕ) (authority : List ℕ) (old new : List Section) → 0 < lo → lo ≤ hi → hi < 2 ^ 64 → AddsTo (Serials lo hi) authority old new → All IsListed old → All IsListed new

@@ -9,7 +9,7 @@ use Rattle.krl_core.specs.Contents.{Section, contents_of, SomeSection, IsNamed, 
 use Rattle.krl_core.proofs.Members.{absent_parts}
 use Rattle.krl_core.proofs.Shelving.{takes_authority}
 use Rattle.krl_core.proofs.AddedSections.{put_size}
-use Rattle.krl_core.proofs.SomeSections.{some_at, sum_adds, sum_middle}
+use Rattle.krl_core.proofs.SomeSections.{some_middle, sum_adds, sum_middle}
 use Rattle.krl_core.specs.Elements.{contains_here, contains_later}
 
 -- a change of each section that keeps a number keeps the sum
@@ -88,6 +88,6 @@ pub adds_named : (addition : Addition) (b : List ℕ) (old new : List Section) �
 adds_named addition b old new adds =
     let P : Section → Type 0 = λ section. section.authority ≡ b in
     elim adds [
-      | inl c ↦ subst (SomeSection P) (sym c.after) (some_at P c.front c.to c.back (takes_authority addition c.from c.to c.changed ∙ c.under))
-      | inr n ↦ subst (SomeSection P) (sym n.put.after) (some_at P n.put.front n.section n.put.back (takes_authority addition (empty_section b) n.section n.takes))
+      | inl c ↦ subst (SomeSection P) (sym c.after) ((some_middle P c.front c.to c.back).1 (inl (takes_authority addition c.from c.to c.changed ∙ c.under)))
+      | inr n ↦ subst (SomeSection P) (sym n.put.after) ((some_middle P n.put.front n.section n.put.back).1 (inl (takes_authority addition (empty_section b) n.section n.takes)))
     ]

@@ -1,51 +1,30 @@
 -- What a bitmap that is written names, and the number that its bytes are.
 use Rattle.std.proofs.Common.{◌≡◌, ℕ, zero, suc, ◌+◌, ◌*◌, ◌/◌, ◌^◌, ◌<◌, ◌≤◌, inl, inr, Bool, true, false, leb, cond, List, [], ◌∷◌, length, refl, sym, ap, subst, ◌∙◌, arith}
-use Rattle.std.specs.Prelude.{◌&&◌, ◌||◌}
+use Rattle.std.specs.Prelude.{◌↔◌, ◌&&◌, IsTrue}
+use Rattle.std.proofs.Math.Logic.Iff as Iff
+use Rattle.krl_core.proofs.BothWays.{and_tested, or_tested}
 use Rattle.std.specs.Int.{bit_at}
 use Rattle.std.proofs.Math.Nat.{mul_assoc, mul_comm, pow-succ'}
-use Rattle.std.proofs.lemmas.Bool.{cases_lt, le-leb, false_from_ne_true}
+use Rattle.std.proofs.lemmas.Bool.{cases_lt, false_from_ne_true, le-leb, leb-true}
 use Rattle.std.proofs.lemmas.Nat.Bits.{bit_at-suc, bit_at-zero, bit_at_lowest}
 use Rattle.serial_set.specs.declared.span.Span.{Span}
-use Rattle.serial_set.specs.Span.{SpanCovers, IsRuns, Covers, RunsFrom}
+use Rattle.serial_set.specs.Span.{IsRuns, Covers, RunsFrom}
 use Rattle.serial_set.specs.Rising.{names_from}
 use Rattle.ssh_wire.specs.Wire.{number_of}
 use Rattle.ssh_wire.specs.Magnitudes.{number_of-cons}
 use Rattle.ssh_wire.specs.Digits.{bytes_as_bits}
 use Rattle.krl_plan.specs.Plan.{end_of, reach}
 use Rattle.krl_plan.specs.Written.{bitmap_of, bits_of, first_of, has}
-use Rattle.krl_plan.specs.BitmapBits.{bits_of_lt, has_before, has_past}
+use Rattle.krl_plan.specs.BitmapBits.{bits_of_lt}
 use Rattle.krl_plan.specs.GroupTexts.{length-bitmap_of}
 
 -- ---- membership
 
-has_here : (run : Span) (runs : List Span) (s : ℕ) → SpanCovers run s → has (run ∷ runs) s ≡ true
-has_here run runs s h =
-    ap (λ (b : Bool). (b && leb s run.hi) || has runs s) (le-leb run.lo s h.0) ∙ ap (λ (b : Bool). b || has runs s) (le-leb s run.hi h.1)
-
-has_later : (run : Span) (runs : List Span) (s : ℕ) → has runs s ≡ true → has (run ∷ runs) s ≡ true
-has_later run runs s h =
-    elim (cases_lt s run.lo) [
-      | inl lt ↦ has_before run runs s lt ∙ h
-      | inr le ↦ elim (cases_lt run.hi s) [
-        | inl lt ↦ has_past run runs s lt ∙ h
-        | inr within ↦ has_here run runs s (le, within)
-      ]
-    ]
-
-pub has-names : (runs : List Span) (s : ℕ) → Covers runs s → has runs s ≡ true
-has-names [] s n = absurd n
-has-names (run ∷ runs) s n = elim n [ inl here ↦ has_here run runs s here | inr later ↦ has_later run runs s (has-names runs s later) ]
-
-pub names-has : (runs : List Span) (s : ℕ) → has runs s ≡ true → Covers runs s
-names-has [] s h = absurd cc
-names-has (run ∷ runs) s h =
-    elim (cases_lt s run.lo) [
-      | inl lt ↦ inr (names-has runs s (sym (has_before run runs s lt) ∙ h))
-      | inr le ↦ elim (cases_lt run.hi s) [
-        | inl lt ↦ inr (names-has runs s (sym (has_past run runs s lt) ∙ h))
-        | inr within ↦ inl (le, within)
-      ]
-    ]
+pub has_names : (runs : List Span) (s : ℕ) → IsTrue (has runs s) ↔ Covers runs s
+has_names [] s = (λ yes. absurd cc, λ no. absurd no)
+has_names (run ∷ runs) s =
+    let upto : (a b : ℕ) → IsTrue (leb a b) ↔ (a ≤ b) = λ a b. (leb-true a b, le-leb a b) in
+    or_tested (leb run.lo s && leb s run.hi) (has runs s) (and_tested (leb run.lo s) (leb s run.hi) (upto run.lo s) (upto s run.hi)) (has_names runs s)
 
 -- ---- bits
 
@@ -56,9 +35,9 @@ bit_small : (b : Bool) → cond {A = ℕ} b 1 0 ≤ 1
 bit_small true = omega arith
 bit_small false = omega arith
 
-bit_one : (b : Bool) → cond {A = ℕ} b 1 0 ≡ 1 → b ≡ true
-bit_one true e = refl
-bit_one false e = absurd (omega (arith, e))
+bit_one : (b : Bool) → (cond {A = ℕ} b 1 0 ≡ 1) ↔ IsTrue b
+bit_one true = (λ e. refl, λ yes. refl)
+bit_one false = (λ e. absurd (omega (arith, e)), λ yes. absurd cc)
 
 -- the lowest bit, and those above it
 lowest_bit : (b : Bool) (m : ℕ) → bit_at (cond {A = ℕ} b 1 0 + 2 * m) 0 ≡ cond {A = ℕ} b 1 0
@@ -70,26 +49,22 @@ higher_bit b m i =
     let half : (cond {A = ℕ} b 1 0 + 2 * m) / 2 ≡ m = omega arith in
     bit_at-suc (cond {A = ℕ} b 1 0 + 2 * m) i ∙ ap (λ (n : ℕ). bit_at n i) half
 
-pub bits-names : (runs : List Span) (first count i : ℕ) → bit_at (bits_of runs first count) i ≡ 1 → (i < count) × Covers runs (first + i)
-bits-names runs first zero i e = let none = bit_at-zero i in absurd (omega arith)
-bits-names runs first (suc count) zero e =
-    let set : cond {A = ℕ} (has runs first) 1 0 ≡ 1 = sym (lowest_bit (has runs first) (bits_of runs (first + 1) count)) ∙ e in
+pub bits_name : (runs : List Span) (first count i : ℕ) → (bit_at (bits_of runs first count) i ≡ 1) ↔ ((i < count) × Covers runs (first + i))
+bits_name runs first zero i = (λ e. let none = bit_at-zero i in absurd (omega (arith, e)), λ h. absurd (omega (arith, h.0)))
+bits_name runs first (suc count) zero =
     let at : first ≡ first + 0 = omega arith in
-    (omega arith, subst (λ (s : ℕ). Covers runs s) at (names-has runs first (bit_one (has runs first) set)))
-bits-names runs first (suc count) (suc i) e =
-    let rest = bits-names runs (first + 1) count i (sym (higher_bit (has runs first) (bits_of runs (first + 1) count) i) ∙ e) in
+    let bit = lowest_bit (has runs first) (bits_of runs (first + 1) count) in
+    let one = Iff.trans (bit_one (has runs first)) (has_names runs first) in (
+      λ e. (omega arith, subst (λ (s : ℕ). Covers runs s) at (one.0 (sym bit ∙ e))),
+      λ h. bit ∙ one.1 (subst (λ (s : ℕ). Covers runs s) (sym at) h.1),
+    )
+bits_name runs first (suc count) (suc i) =
     let at : first + 1 + i ≡ first + suc i = omega arith in
-    let lt = rest.0 in
-    (omega arith, subst (λ (s : ℕ). Covers runs s) at rest.1)
-
-pub names-bits : (runs : List Span) (first count i : ℕ) → i < count → Covers runs (first + i) → bit_at (bits_of runs first count) i ≡ 1
-names-bits runs first zero i lt n = absurd (omega arith)
-names-bits runs first (suc count) zero lt n =
-    let at : first + 0 ≡ first = omega arith in
-    lowest_bit (has runs first) (bits_of runs (first + 1) count) ∙ ap (λ (b : Bool). cond {A = ℕ} b 1 0) (has-names runs first (subst (λ (s : ℕ). Covers runs s) at n))
-names-bits runs first (suc count) (suc i) lt n =
-    let at : first + suc i ≡ first + 1 + i = omega arith in
-    higher_bit (has runs first) (bits_of runs (first + 1) count) i ∙ names-bits runs (first + 1) count i (omega arith) (subst (λ (s : ℕ). Covers runs s) at n)
+    let bit = higher_bit (has runs first) (bits_of runs (first + 1) count) i in
+    let rest = bits_name runs (first + 1) count i in (
+      λ e. let named = rest.0 (sym bit ∙ e) in (omega (arith, named.0), subst (λ (s : ℕ). Covers runs s) at named.1),
+      λ h. bit ∙ rest.1 (omega (arith, h.0), subst (λ (s : ℕ). Covers runs s) (sym at) h.1),
+    )
 
 -- ---- the number of the bytes
 
@@ -156,7 +131,7 @@ clear_above : (runs : List Span) (s : ℕ) → IsRuns runs → first_of runs + r
 clear_above [] s r lt = refl
 clear_above (run ∷ runs) s r lt =
     let far = end_from 0 run runs r in
-    false_from_ne_true (has (run ∷ runs) s) (λ e. absurd (none_above 0 run runs s r (omega arith) (names-has (run ∷ runs) s e)))
+    false_from_ne_true (has (run ∷ runs) s) (λ e. absurd (none_above 0 run runs s r (omega arith) ((has_names (run ∷ runs) s).0 e)))
 
 -- the highest bit of the first byte is never set
 pub top_bit_clear : (runs : List Span) (top : ℕ) → IsRuns runs → reach runs < 8 * top + 7 → bits_of runs (first_of runs + 8 * top) 8 < 128

@@ -59,7 +59,7 @@ pub same_bits : (a : List ℕ) (offset b : ℕ) (bits : List ℕ) → b < 256 �
 same_bits a offset b bits byte low =
     let n = 8 * length bits in
     let whole : (k v : ℕ) → bit_at (b * 2 ^ n + number_of bits) k ≡ v → bit_at (number_of (b ∷ bits)) k ≡ v = λ k v e. subst (λ (m : ℕ). bit_at m k ≡ v) (sym (number_of-byte b bits)) e in
-    same_serials _ _ (tt, (tt, tt)) (tt, tt) (λ c s. (
+    same_serials (BitmapEntry a (offset + n) b ∷ BitmapEntry a offset (number_of bits) ∷ []) (BitmapEntry a offset (number_of (b ∷ bits)) ∷ []) (tt, (tt, tt)) (tt, tt) (λ c s. (
       λ h. elim h [
         | inl k ↦
             let le : n ≤ s - offset = omega (arith, k.1.1) in

@@ -12,54 +12,36 @@ use Rattle.serial_set.specs.Span.{Covers}
 use Rattle.serial_set.specs.BitRuns.{FedBitmap, BitNames, Feeds, HasFault, ShowsFault, lowest}
 use Rattle.krl_core.specs.declared.krl_fault.KrlFault.TheVariants as faults
 use Rattle.krl_core.specs.declared.place.Place.{Place}
-use Rattle.krl_core.specs.Entry.{Entry, BitmapEntry}
-use Rattle.krl_core.specs.Naming.{SomeNamesAt, NamesSame}
+use Rattle.krl_core.specs.Entry.{Entry, BitmapEntry, RangeEntry}
+use Rattle.krl_core.specs.Naming.{EntryNames, NamesSame, SerialOf, SomeNames}
 use Rattle.krl_core.specs.Contents.{Means, held}
 use Rattle.krl_core.specs.Keeping.{Keeping, IsKept, AddsEntries, Adds, InStep, KeepsBits, KeepsField, Closes, held_with_open, open_run, run_entries, KeepsStored}
 use Rattle.ssh_wire.specs.Wire.{number_of}
 use Rattle.krl_core.specs.declared.place.Place.TheVariants.{BitmapByte}
 use Rattle.krl_core.specs.Place.{base_of, bits_judged, judge, next_bits, next_subsection, passes_end, highest_bit}
-use Rattle.serial_set.specs.Rising.{names_append as either, names_left, names_right}
 use Rattle.serial_set.specs.Bits.{bit_below}
-use Rattle.krl_core.proofs.Same.{AreSerials, same_serials, same_append, same_refl, same_is, same_then, same_swap, some_append, IsSerials}
+use Rattle.krl_core.proofs.Same.{AreSerials, same_serials, same_append, same_refl, same_is, same_then, same_swap, some_append, one_more, IsSerials}
+use Rattle.std.proofs.Math.Logic.Iff as Iff
+use Rattle.krl_core.proofs.BothWays.{covers_append, iff_both, iff_none, iff_or, iff_swap}
 use Rattle.krl_core.proofs.Keeping.{open_entries, stored_same, stored_then}
 use Rattle.krl_core.proofs.Quiet.{out_step, out_subsection}
 use Rattle.krl_core.specs.Elements.{all_append}
 
 -- ---- runs by the numbers in them
 
-names_append : (xs ys : List Span) (s : ℕ) → Covers (xs ++ ys) s ↔ (Covers xs s ⊎ Covers ys s)
-names_append xs ys s =
-    (either xs ys s, λ h. elim h [ inl l ↦ names_left xs ys s l | inr r ↦ names_right xs ys s r ])
-
 names_reverse : (xs : List Span) (s : ℕ) → Covers (reverse xs) s ↔ Covers xs s
-names_reverse [] s = (λ h. h, λ h. h)
+names_reverse [] s = Iff.rfl
 names_reverse (x ∷ xs) s =
-    let turned : reverse (x ∷ xs) ≡ reverse xs ++ x ∷ [] = reverse-append (x ∷ []) xs in
-    let both = names_append (reverse xs) (x ∷ []) s in
-    let more = names_reverse xs s in (
-      λ h. elim (both.0 (subst (λ (l : List Span). Covers l s) turned h)) [
-        | inl k ↦ inr (more.0 k)
-        | inr k ↦ elim k [ inl here ↦ inl here | inr none ↦ absurd none ]
-      ],
-      λ h. subst (λ (l : List Span). Covers l s) (sym turned) (elim h [ inl here ↦ both.1 (inr (inl here)) | inr later ↦ both.1 (inl (more.1 later)) ]),
-    )
+    subst (λ (l : List Span). Covers l s ↔ Covers (x ∷ xs) s) (sym (reverse-append (x ∷ []) xs))
+    (Iff.trans (covers_append (reverse xs) (x ∷ []) s) (Iff.trans iff_swap (iff_or (Iff.symm (iff_none (λ no. no))) (names_reverse xs s))))
 
 -- the entries of runs name the numbers in them
 run_entries-name : (a : List ℕ) (runs : List Span) (b : List ℕ) (s : ℕ)
-    → SomeNamesAt (run_entries a runs) b s ↔ ((a ≡ b) × ((0 < s) × Covers runs s))
-run_entries-name a [] b s = (λ h. absurd h, λ h. absurd h.1.1)
+    → SomeNames (run_entries a runs) (SerialOf b s) ↔ (((a ≡ b) × (0 < s)) × Covers runs s)
+run_entries-name a [] b s = (λ h. absurd h, λ h. absurd h.1)
 run_entries-name a (run ∷ runs) b s =
-    let more = run_entries-name a runs b s in (
-      λ h. elim h [
-        | inl here ↦ (here.0, (here.1.0, inl here.1.1))
-        | inr later ↦ let k = more.0 later in (k.0, (k.1.0, inr k.1.1))
-      ],
-      λ h. elim h.1.1 [
-        | inl here ↦ inl (h.0, (h.1.0, here))
-        | inr later ↦ inr (more.1 (h.0, (h.1.0, later)))
-      ],
-    )
+    let here : EntryNames (RangeEntry a run.lo run.hi) (SerialOf b s) ↔ (((a ≡ b) × (0 < s)) × ((run.lo ≤ s) × (s ≤ run.hi))) = (λ h. ((h.0, h.1.0), h.1.1), λ h. (h.0.0, (h.0.1, h.1))) in
+    Iff.trans (iff_or here (run_entries-name a runs b s)) iff_both
 
 pub run_entries-serials : (a : List ℕ) (runs : List Span) → AreSerials (run_entries a runs)
 run_entries-serials a [] = tt
@@ -78,30 +60,12 @@ fed_same a before byte after finished fed =
     (all_append IsSerials F O (run_entries-serials a finished) (run_entries-serials a (option_to_list after.pending)))
     (all_append IsSerials B E (run_entries-serials a (option_to_list before.pending)) (tt, tt))
     (λ b s.
-    let left = some_append F O b s in
-    let right = some_append B E b s in
-    let runs = fed.runs.1 s in
-    let joined = names_append (option_to_list after.pending) (reverse finished) s in
-    let turned = names_reverse finished s in
-    let given : (a ≡ b) → 0 < s → Covers (option_to_list after.pending ++ reverse finished) s → SomeNamesAt (B ++ E) b s = λ same pos n.
-    elim (runs.0 n) [
-      | inl was ↦ right.1 (inl ((run_entries-name a (option_to_list before.pending) b s).1 (same, (pos, was))))
-      | inr bit ↦ right.1 (inr (inl (same, bit)))
-    ] in
-    let back : (a ≡ b) → 0 < s → Covers (option_to_list before.pending) s ⊎ BitNames (lowest after) byte s → SomeNamesAt (F ++ O) b s = λ same pos m.
-    elim (joined.0 (runs.1 m)) [
-      | inl opened ↦ left.1 (inr ((run_entries-name a (option_to_list after.pending) b s).1 (same, (pos, opened))))
-      | inr done ↦ left.1 (inl ((run_entries-name a finished b s).1 (same, (pos, turned.0 done))))
-    ] in (
-      λ h. elim (left.0 h) [
-        | inl k ↦ let w = (run_entries-name a finished b s).0 k in given w.0 w.1.0 (joined.1 (inr (turned.1 w.1.1)))
-        | inr k ↦ let w = (run_entries-name a (option_to_list after.pending) b s).0 k in given w.0 w.1.0 (joined.1 (inl w.1.1))
-      ],
-      λ h. elim (right.0 h) [
-        | inl k ↦ let w = (run_entries-name a (option_to_list before.pending) b s).0 k in back w.0 w.1.0 (inl w.1.1)
-        | inr k ↦ elim k [ inl here ↦ back here.0 here.1.0 (inr here.1) | inr none ↦ absurd none ]
-      ],
-    ))
+    let left = Iff.trans (some_append F O (SerialOf b s)) (Iff.trans (iff_or (run_entries-name a finished b s) (run_entries-name a (option_to_list after.pending) b s)) iff_both) in
+    let bit : ((a ≡ b) × BitNames (lowest after) byte s) ↔ (((a ≡ b) × (0 < s)) × BitNames (lowest after) byte s) = (λ h. ((h.0, h.1.0), h.1), λ h. (h.0.0, h.1)) in
+    let right = Iff.trans (one_more B (BitmapEntry a (lowest after) byte) (SerialOf b s)) (Iff.trans (iff_or (run_entries-name a (option_to_list before.pending) b s) bit) iff_both) in
+    let joined = Iff.trans (covers_append (option_to_list after.pending) (reverse finished) s) (iff_or Iff.rfl (names_reverse finished s)) in
+    let runs = Iff.trans iff_swap (Iff.trans (Iff.symm joined) (fed.runs.1 s)) in
+    Iff.trans left (Iff.trans (Iff.and Iff.rfl runs) (Iff.symm right)))
 
 -- A byte was fed, and the runs that it finished were added.
 pub bits_kept : (old mid new : Keeping) (byte : ℕ) (finished : List Span) → Feeds old.bitmap byte mid.bitmap finished

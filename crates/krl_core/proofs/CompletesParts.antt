@@ -1,6 +1,6 @@
 -- A row of fields that leads to the end of a list spells the subsections of a section of
 -- certificates, and names what they name.
-use Rattle.std.proofs.Common.{◌≡◌, ℕ, zero, suc, ◌+◌, ◌-◌, ◌*◌, ◌<◌, ◌≤◌, false, List, [], ◌∷◌, ◌++◌, length, map, refl, sym, ap, subst, ◌∙◌, append_assoc, arith, inl, inr}
+use Rattle.std.proofs.Common.{◌≡◌, ℕ, zero, suc, ◌+◌, ◌-◌, ◌*◌, ◌<◌, ◌≤◌, ◌↔◌, false, List, [], ◌∷◌, ◌++◌, length, map, refl, sym, ap, subst, ◌∙◌, append_assoc, arith, inl, inr}
 use Rattle.std.specs.List.{flat_map}
 use Rattle.std.specs.Int.{bit_at}
 use Rattle.std.proofs.lemmas.List.{length-append}
@@ -11,12 +11,13 @@ use Rattle.krl_core.specs.declared.header.Header.{Header}
 use Rattle.krl_core.specs.Entry.{Entry, SerialsEntry, RangeEntry, BitmapEntry, IdEntry}
 use Rattle.krl_core.specs.Entries.{subsection_entries}
 use Rattle.krl_core.specs.Krl.{Subsection, Serials, Range, Bitmap, Ids, SubsectionExtension, SpellsSubsection, SubsectionContent, subsection_type}
-use Rattle.krl_core.specs.Naming.{NamesSame, SomeNamesAt}
+use Rattle.krl_core.specs.Naming.{EntryNames, NamesSame, SerialOf}
 use Rattle.krl_core.specs.Place.{next_bits, base_of, passes_end}
 use Rattle.krl_core.proofs.Numbers.{number_back4, number_back8}
 use Rattle.krl_core.proofs.Rests.{Rest, FromContent, FromSubsections, FromReserved, FromCertificates, FromPart, FromRange, FromMax, FromBits, FromBitmap, FromOffset, FromExtension, FromCritical, FromContents, Completes, SerialItems, IdItems}
 use Rattle.krl_core.proofs.Bitmaps.{low_more, low_none, bit_of-byte, same_no_bits, same_bits}
-use Rattle.krl_core.proofs.Same.{AreSerials, same_serials, contains_one, same_refl, same_is, same_then, same_append}
+use Rattle.krl_core.proofs.BothWays.{contains_one}
+use Rattle.krl_core.proofs.Same.{AreSerials, mapped_name, same_serials, same_refl, same_is, same_then, same_append}
 use Rattle.krl_core.proofs.Completes.{string_parts, subsections_from}
 use Rattle.krl_core.proofs.Bits.{not_past_at}
 
@@ -151,33 +152,17 @@ range_front K a behind field tail more fits size h =
 -- ---- serials
 
 serials_same : (a : List ℕ) (numbers : List ℕ) → NamesSame (map (λ n. SerialsEntry a (n ∷ [])) numbers) (SerialsEntry a numbers ∷ [])
-serials_same a numbers = same_serials _ _ (all_serials numbers) (tt, tt) (λ b s. (into b s numbers, from b s numbers))
+serials_same a numbers = same_serials (map (λ n. SerialsEntry a (n ∷ [])) numbers) (SerialsEntry a numbers ∷ []) (all_serials numbers) (tt, tt) (λ b s.
+    let each : (n : ℕ) → EntryNames (SerialsEntry a (n ∷ [])) (SerialOf b s) ↔ (((a ≡ b) × (0 < s)) × (n ≡ s)) = λ n.
+    (λ k. ((k.0, k.1.0), (contains_one n s).0 k.1.1), λ k. (k.0.0, (k.0.1, (contains_one n s).1 k.1))) in
+    let all = mapped_name (λ n. SerialsEntry a (n ∷ [])) (SerialOf b s) ((a ≡ b) × (0 < s)) s each numbers in (
+      λ h. let k = all.0 h in inl (k.0.0, (k.0.1, k.1)),
+      λ h. elim h [ inl k ↦ all.1 ((k.0, k.1.0), k.1.1) | inr none ↦ absurd none ],
+    ))
   where
     all_serials : (ns : List ℕ) → AreSerials (map (λ n. SerialsEntry a (n ∷ [])) ns)
     all_serials [] = tt
     all_serials (n ∷ ns) = (tt, all_serials ns)
-
-    into : (b : List ℕ) (s : ℕ) (ns : List ℕ) → SomeNamesAt (map (λ n. SerialsEntry a (n ∷ [])) ns) b s → SomeNamesAt (SerialsEntry a ns ∷ []) b s
-    into b s [] h = absurd h
-    into b s (n ∷ ns) h =
-        elim h [
-          | inl k ↦ elim ((contains_one [] n s).0 k.1.1) [
-            | inl same ↦ inl (k.0, (k.1.0, (contains_one ns n s).1 (inl same)))
-            | inr none ↦ absurd (omega (arith, none.1))
-          ]
-          | inr r ↦ elim (into b s ns r) [ inl k ↦ inl (k.0, (k.1.0, (contains_one ns n s).1 (inr k.1.1))) | inr none ↦ absurd none ]
-        ]
-
-    from : (b : List ℕ) (s : ℕ) (ns : List ℕ) → SomeNamesAt (SerialsEntry a ns ∷ []) b s → SomeNamesAt (map (λ n. SerialsEntry a (n ∷ [])) ns) b s
-    from b s [] h = elim h [ inl k ↦ absurd (omega (arith, k.1.1.1)) | inr none ↦ absurd none ]
-    from b s (n ∷ ns) h =
-        elim h [
-          | inl k ↦ elim ((contains_one ns n s).0 k.1.1) [
-            | inl same ↦ inl (k.0, (k.1.0, (contains_one [] n s).1 (inl same)))
-            | inr later ↦ inr (from b s ns (inl (k.0, (k.1.0, later))))
-          ]
-          | inr none ↦ absurd none
-        ]
 
 pub serials_part : (K : Type 0) (a : List ℕ) (left : ℕ) (field tail : List ℕ) (more : List Entry) → IsBytes field → length field ≡ 4 → 4 ≤ left → number_of field ≤ left - 4
     → SerialItems K a (number_of field) (left - 4 - number_of field) tail more → FromPart K a 0x20 left (field ++ tail) more

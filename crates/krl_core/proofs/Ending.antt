@@ -1,5 +1,5 @@
 -- The end of a list, once it was found.
-use Rattle.std.proofs.Common.{◌≡◌, ℕ, true, false, List, [], ◌++◌, None, refl, ap, ◌∙◌, sym}
+use Rattle.std.proofs.Common.{ℕ, true, List, ◌++◌, None, refl, ap, ◌∙◌}
 use Rattle.std.specs.List.{concat}
 use Rattle.std.proofs.lemmas.List.{append-nil}
 use Rattle.ssh_wire.specs.Pull.{Pulled, left_of}

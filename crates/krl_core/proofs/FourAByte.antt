@@ -11,7 +11,8 @@ use Rattle.std.proofs.lemmas.List.Elements.{All-tail}
 use Rattle.serial_set.specs.declared.span.Span.{Span}
 use Rattle.serial_set.specs.Span.{Covers}
 use Rattle.serial_set.specs.Least.{runs_least}
-use Rattle.serial_set.specs.Rising.{names_append, names_left, names_right}
+use Rattle.std.proofs.Math.Logic.Iff as Iff
+use Rattle.krl_core.proofs.BothWays.{covers_append, iff_or}
 use Rattle.ssh_wire.specs.Wire.{IsBytes, number_of}
 use Rattle.ssh_wire.specs.Digits.{IsBytes-behind, IsBytes-front}
 use Rattle.krl_core.specs.declared.place.Place.{Place}
@@ -19,10 +20,10 @@ use Rattle.krl_core.specs.declared.place.Place.TheVariants as places
 use Rattle.krl_core.specs.Contents.{Contents, HoldsSerial, IsListed, Means, Section, SomeSection, held}
 use Rattle.krl_core.specs.Entry.{Entry}
 use Rattle.krl_core.specs.Front.{Leads, Passes, Spot, spot_after, start}
-use Rattle.krl_core.specs.Naming.{NamesAt, SomeNamesAt}
+use Rattle.krl_core.specs.Naming.{EntryNames, SerialOf, SomeNames}
 use Rattle.krl_core.specs.Place.{names}
 use Rattle.krl_core.specs.Rising.{AllAbove, RisesBy, bytes_cmp}
-use Rattle.krl_core.proofs.Intervals.{IsByteOnly, entry_authority, intervals_name, intervals_of, length-intervals, most, names_intervals}
+use Rattle.krl_core.proofs.Intervals.{IsByteOnly, entry_authority, interval_names, intervals_of, length-intervals, most}
 use Rattle.krl_core.proofs.Numbers.{number_of-one}
 use Rattle.krl_core.proofs.OneMeaning.{section_authority, held_first, not_before_itself, above_named}
 use Rattle.krl_core.specs.Elements.{all_append}
@@ -40,45 +41,22 @@ pub all_under : List ℕ → List Entry → List Span
 all_under a [] = []
 all_under a (entry ∷ entries) = under a entry ++ all_under a entries
 
-if_under-covers : (b : Bool) (spans : List Span) (s : ℕ) → Covers (if_under b spans) s → (b ≡ true) × Covers spans s
+covers_if : (b : Bool) (spans : List Span) (s : ℕ) → Covers (if_under b spans) s ↔ ((b ≡ true) × Covers spans s)
 unfolding if_under
-if_under-covers true spans s h = (refl, h)
-if_under-covers false spans s h = absurd h
+covers_if true spans s = (λ h. (refl, h), λ h. h.1)
+covers_if false spans s = (λ h. absurd h, λ h. absurd (false≢true h.0))
 
-covers-if_under : (b : Bool) (spans : List Span) (s : ℕ) → b ≡ true → Covers spans s → Covers (if_under b spans) s
-unfolding if_under
-covers-if_under true spans s e h = h
-covers-if_under false spans s e h = absurd (false≢true e)
-
-under_names : (a : List ℕ) (entry : Entry) (s : ℕ) → Covers (under a entry) s → NamesAt entry a s
+under_names : (a : List ℕ) (entry : Entry) (s : ℕ) → IsByteOnly entry → Covers (under a entry) s ↔ EntryNames entry (SerialOf a s)
 unfolding under
-under_names a entry s h =
-    let w = if_under-covers (bytes_eq (entry_authority entry) a) (intervals_of entry) s h in
-    intervals_name entry a s ((bytes_eq-Decides (entry_authority entry) a).0 w.0) w.1
+under_names a entry s small =
+    Iff.trans (covers_if (bytes_eq (entry_authority entry) a) (intervals_of entry) s)
+    (Iff.trans (Iff.and (bytes_eq-Decides (entry_authority entry) a) Iff.rfl) (interval_names entry a s small))
 
-names_under : (a : List ℕ) (entry : Entry) (s : ℕ) → IsByteOnly entry → NamesAt entry a s → Covers (under a entry) s
-unfolding under
-names_under a entry s small h =
-    let w = names_intervals entry a s small h in
-    covers-if_under (bytes_eq (entry_authority entry) a) (intervals_of entry) s ((bytes_eq-Decides (entry_authority entry) a).1 w.0) w.1
-
-all_under-names : (a : List ℕ) (entries : List Entry) (s : ℕ) → Covers (all_under a entries) s → SomeNamesAt entries a s
+all_under_names : (a : List ℕ) (entries : List Entry) (s : ℕ) → AllByRecursion IsByteOnly entries → Covers (all_under a entries) s ↔ SomeNames entries (SerialOf a s)
 unfolding all_under
-all_under-names a [] s h = absurd h
-all_under-names a (entry ∷ entries) s h =
-    elim (names_append (under a entry) (all_under a entries) s h) [
-      | inl here ↦ inl (under_names a entry s here)
-      | inr later ↦ inr (all_under-names a entries s later)
-    ]
-
-names-all_under : (a : List ℕ) (entries : List Entry) (s : ℕ) → AllByRecursion IsByteOnly entries → SomeNamesAt entries a s → Covers (all_under a entries) s
-unfolding all_under
-names-all_under a [] s small h = absurd h
-names-all_under a (entry ∷ entries) s small h =
-    elim h [
-      | inl here ↦ names_left (under a entry) (all_under a entries) s (names_under a entry s small.0 here)
-      | inr later ↦ names_right (under a entry) (all_under a entries) s (names-all_under a entries s small.1 later)
-    ]
+all_under_names a [] s small = Iff.rfl
+all_under_names a (entry ∷ entries) s small =
+    Iff.trans (covers_append (under a entry) (all_under a entries) s) (iff_or (under_names a entry s small.0) (all_under_names a entries s small.1))
 
 -- ---- how many they are over all authorities
 
@@ -154,7 +132,7 @@ count_most (entry ∷ entries) sections rise =
 -- under the authorities of the sections just the serials are held that the entries name
 abbrev AreHeld : List Section → List Entry → Type 0
 AreHeld sections entries =
-    (a : List ℕ) (s : ℕ) → SomeSection (λ section. section.authority ≡ a) sections → HoldsSerial sections a s ↔ SomeNamesAt entries a s
+    (a : List ℕ) (s : ℕ) → SomeSection (λ section. section.authority ≡ a) sections → HoldsSerial sections a s ↔ SomeNames entries (SerialOf a s)
 
 held_behind : (x : Section) (xs : List Section) (entries : List Entry) → AllAbove section_authority x.authority xs → AreHeld (x ∷ xs) entries → AreHeld xs entries
 held_behind x xs entries above h a s some = (
@@ -174,8 +152,8 @@ held_few [] entries small rise listed h = omega arith
 held_few (x ∷ xs) entries small rise listed h =
     let is : IsListed x = listed 0 x (omega arith) in
     let here = runs_least x.spans (all_under x.authority entries) is.runs (λ s. (
-      λ c. names-all_under x.authority entries s small ((h x.authority s (inl refl)).0 (inl (refl, c))),
-      λ n. held_first (λ section. Covers section.spans s) x xs rise.0 ((h x.authority s (inl refl)).1 (all_under-names x.authority entries s n)),
+      λ c. (all_under_names x.authority entries s small).1 ((h x.authority s (inl refl)).0 (inl (refl, c))),
+      λ n. (held_first (λ section. Covers section.spans s) x.authority x xs refl rise.0).0 ((h x.authority s (inl refl)).1 ((all_under_names x.authority entries s small).0 n)),
     )) in
     let rest = held_few xs entries small rise.1 (All-tail IsListed x xs listed) (held_behind x xs entries rise.0 h) in
     omega (arith, sum_by-cons spans_held x xs, sum_by-cons (count_all entries) x xs)
@@ -220,6 +198,6 @@ fields_bytes (field ∷ fields) spot last leads fits all =
 pub four_a_byte : (fields : List (List ℕ)) (spot : Spot) (r : Contents) → Leads start fields spot → IsBytes (concat fields) → Means r spot.entries → held r ≤ 4 * length (concat fields)
 four_a_byte fields spot r leads fits means =
     let small = fields_bytes fields start spot leads fits tt in
-    let few = held_few r.sections spot.entries small means.orderly.authorities_rise means.orderly.listed (λ a s some. means.serials a s) in
+    let few = held_few r.sections spot.entries small means.orderly.authorities_rise means.orderly.listed (λ a s some. means.names (SerialOf a s)) in
     let counted = count_most spot.entries r.sections means.orderly.authorities_rise in
     omega (arith, few, counted, fields_few fields start spot leads)

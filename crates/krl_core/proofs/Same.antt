@@ -1,93 +1,44 @@
 -- Lists of entries that name the same.
-use Rattle.std.proofs.Common.{◌≡◌, ℕ, ◌<◌, ◌≤◌, ◌⊎◌, ◌↔◌, List, [], ◌∷◌, ◌++◌, sym, subst, append_assoc, arith, inl, inr}
+use Rattle.std.proofs.Common.{◌≡◌, ℕ, ◌<◌, ◌≤◌, ◌⊎◌, ◌↔◌, List, [], ◌∷◌, ◌++◌, map, sym, subst, append_assoc, arith, inl, inr}
 use Rattle.std.specs.List.{AllByRecursion, Contains}
-use Rattle.std.proofs.lemmas.List.Elements.{Contains-append_left, Contains-append_right, Contains-append_cases}
 use Rattle.std.proofs.Math.Logic.Iff as Iff
-use Rattle.krl_core.specs.Entry.{Entry, SerialsEntry, RangeEntry, BitmapEntry, IdEntry, KeyEntry, Sha1Entry, Sha256Entry}
-use Rattle.krl_core.specs.Naming.{SomeNamesAt, NamesSame}
-use Rattle.krl_core.specs.Elements.{contains_here, contains_later, contains_cases, contains_none, some_left, some_right, some_cases}
-
--- ---- one way and back
-
-iff_or : {A B C D : Type 0} → (A ↔ B) → (C ↔ D) → ((A ⊎ C) ↔ (B ⊎ D))
-iff_or h k = (
-  λ x. elim x [ inl a ↦ inl (h.0 a) | inr c ↦ inr (k.0 c) ],
-  λ x. elim x [ inl b ↦ inl (h.1 b) | inr d ↦ inr (k.1 d) ],
-)
-
-iff_swap : {A B : Type 0} → (A ⊎ B) ↔ (B ⊎ A)
-iff_swap = (
-  λ x. elim x [ inl a ↦ inr a | inr b ↦ inl b ],
-  λ x. elim x [ inl b ↦ inr b | inr a ↦ inl a ],
-)
+use Rattle.krl_core.specs.Entry.{Entry, SerialsEntry, RangeEntry, BitmapEntry}
+use Rattle.krl_core.specs.Naming.{EntryNames, Name, NamesSame, SerialOf, SomeNames}
+use Rattle.krl_core.specs.Elements.{contains_none, some_left, some_right, some_cases}
+use Rattle.krl_core.proofs.BothWays.{contains_cons, contains_one, iff_both, iff_none, iff_or, iff_swap}
 
 -- ---- joined lists
 
-pub some_append : (xs ys : List Entry) (a : List ℕ) (s : ℕ) → SomeNamesAt (xs ++ ys) a s ↔ (SomeNamesAt xs a s ⊎ SomeNamesAt ys a s)
-some_append xs ys a s =
-    (some_cases xs ys a s, λ h. elim h [ inl k ↦ some_left xs ys a s k | inr k ↦ some_right xs ys a s k ])
+pub some_append : (xs ys : List Entry) (name : Name) → SomeNames (xs ++ ys) name ↔ (SomeNames xs name ⊎ SomeNames ys name)
+some_append xs ys name =
+    (some_cases xs ys name, λ h. elim h [ inl k ↦ some_left xs ys name k | inr k ↦ some_right xs ys name k ])
 
-contains_append : (xs ys : List Entry) (x : Entry) → Contains (xs ++ ys) x ↔ (Contains xs x ⊎ Contains ys x)
-contains_append xs ys x = (
-  Contains-append_cases xs ys x,
-  λ h. elim h [ inl k ↦ Contains-append_left xs ys x k | inr k ↦ Contains-append_right xs ys x k ],
-)
+-- entries in front or behind that do not name it
+pub some_first : (xs ys : List Entry) (name : Name) → (SomeNames ys name → ⊥) → SomeNames xs name ↔ SomeNames (xs ++ ys) name
+some_first xs ys name none = Iff.trans (iff_none none) (Iff.symm (some_append xs ys name))
+
+pub some_last : (xs ys : List Entry) (name : Name) → (SomeNames xs name → ⊥) → SomeNames ys name ↔ SomeNames (xs ++ ys) name
+some_last xs ys name none = Iff.trans (iff_none none) (Iff.trans iff_swap (Iff.symm (some_append xs ys name)))
+
+-- one entry more
+pub one_more : (entries : List Entry) (entry : Entry) (name : Name) → SomeNames (entries ++ entry ∷ []) name ↔ (SomeNames entries name ⊎ EntryNames entry name)
+one_more entries entry name = Iff.trans (some_append entries (entry ∷ []) name) (iff_or Iff.rfl (Iff.symm (iff_none (λ h. h))))
 
 pub same_refl : (xs : List Entry) → NamesSame xs xs
-same_refl xs = record {
-  serials = λ a s. Iff.rfl;
-  ids = λ a text. Iff.rfl;
-  keys = λ blob. Iff.rfl;
-  sha1s = λ hash. Iff.rfl;
-  sha256s = λ hash. Iff.rfl;
-}
+same_refl xs name = Iff.rfl
 
 pub same_is : (xs ys : List Entry) → xs ≡ ys → NamesSame xs ys
 same_is xs ys e = subst (NamesSame xs) e (same_refl xs)
 
-pub same_sym : (xs ys : List Entry) → NamesSame xs ys → NamesSame ys xs
-same_sym xs ys h = record {
-  serials = λ a s. Iff.symm (h.serials a s);
-  ids = λ a text. Iff.symm (h.ids a text);
-  keys = λ blob. Iff.symm (h.keys blob);
-  sha1s = λ hash. Iff.symm (h.sha1s hash);
-  sha256s = λ hash. Iff.symm (h.sha256s hash);
-}
-
 pub same_then : (xs ys zs : List Entry) → NamesSame xs ys → NamesSame ys zs → NamesSame xs zs
-same_then xs ys zs h k = record {
-  serials = λ a s. Iff.trans (h.serials a s) (k.serials a s);
-  ids = λ a text. Iff.trans (h.ids a text) (k.ids a text);
-  keys = λ blob. Iff.trans (h.keys blob) (k.keys blob);
-  sha1s = λ hash. Iff.trans (h.sha1s hash) (k.sha1s hash);
-  sha256s = λ hash. Iff.trans (h.sha256s hash) (k.sha256s hash);
-}
-
-contains_join : (xs ys xs' ys' : List Entry) (x : Entry) → (Contains xs x ↔ Contains xs' x) → (Contains ys x ↔ Contains ys' x)
-    → (Contains (xs ++ ys) x ↔ Contains (xs' ++ ys') x)
-contains_join xs ys xs' ys' x h k =
-    Iff.trans (contains_append xs ys x) (Iff.trans (iff_or h k) (Iff.symm (contains_append xs' ys' x)))
+same_then xs ys zs h k name = Iff.trans (h name) (k name)
 
 pub same_append : (xs ys xs' ys' : List Entry) → NamesSame xs xs' → NamesSame ys ys' → NamesSame (xs ++ ys) (xs' ++ ys')
-same_append xs ys xs' ys' h k = record {
-  serials = λ a s. Iff.trans (some_append xs ys a s) (Iff.trans (iff_or (h.serials a s) (k.serials a s)) (Iff.symm (some_append xs' ys' a s)));
-  ids = λ a text. contains_join xs ys xs' ys' (IdEntry a text) (h.ids a text) (k.ids a text);
-  keys = λ blob. contains_join xs ys xs' ys' (KeyEntry blob) (h.keys blob) (k.keys blob);
-  sha1s = λ hash. contains_join xs ys xs' ys' (Sha1Entry hash) (h.sha1s hash) (k.sha1s hash);
-  sha256s = λ hash. contains_join xs ys xs' ys' (Sha256Entry hash) (h.sha256s hash) (k.sha256s hash);
-}
-
-contains_swap : (xs ys : List Entry) (x : Entry) → Contains (xs ++ ys) x ↔ Contains (ys ++ xs) x
-contains_swap xs ys x = Iff.trans (contains_append xs ys x) (Iff.trans iff_swap (Iff.symm (contains_append ys xs x)))
+same_append xs ys xs' ys' h k name =
+    Iff.trans (some_append xs ys name) (Iff.trans (iff_or (h name) (k name)) (Iff.symm (some_append xs' ys' name)))
 
 pub same_swap : (xs ys : List Entry) → NamesSame (xs ++ ys) (ys ++ xs)
-same_swap xs ys = record {
-  serials = λ a s. Iff.trans (some_append xs ys a s) (Iff.trans iff_swap (Iff.symm (some_append ys xs a s)));
-  ids = λ a text. contains_swap xs ys (IdEntry a text);
-  keys = λ blob. contains_swap xs ys (KeyEntry blob);
-  sha1s = λ hash. contains_swap xs ys (Sha1Entry hash);
-  sha256s = λ hash. contains_swap xs ys (Sha256Entry hash);
-}
+same_swap xs ys name = Iff.trans (some_append xs ys name) (Iff.trans iff_swap (Iff.symm (some_append ys xs name)))
 
 -- more entries in front of the last ones
 pub same_between : (xs ys zs others : List Entry) → NamesSame (xs ++ ys) others → NamesSame ((xs ++ zs) ++ ys) (others ++ zs)
@@ -111,73 +62,68 @@ IsSerials _ = ⊥
 abbrev pub AreSerials : List Entry → Type 0
 AreSerials entries = AllByRecursion IsSerials entries
 
-serials_contain : (xs : List Entry) (x : Entry) → AreSerials xs → Contains xs x → IsSerials x
-serials_contain [] x h k = absurd (contains_none x k)
-serials_contain (y ∷ xs) x h k =
-    elim (contains_cases y x xs k) [
-      | inl same ↦ subst IsSerials same h.0
-      | inr later ↦ serials_contain xs x h.1 later
-    ]
+abbrev pub IsSerial : Name → Type 0
+IsSerial (SerialOf a s) = Unit {0}
+IsSerial _ = ⊥
 
-neither : {A B : Type 0} → (A → ⊥) → (B → ⊥) → (A ↔ B)
-neither h k = (λ x. absurd (h x), λ x. absurd (k x))
+serials_name : (entry : Entry) (name : Name) → IsSerials entry → EntryNames entry name → IsSerial name
+serials_name entry (SerialOf a s) is h = tt
+serials_name (SerialsEntry b numbers) name is h = h
+serials_name (RangeEntry b min max) name is h = h
+serials_name (BitmapEntry b offset number) name is h = h
+serials_name entry name is h = absurd is
 
-pub same_serials : (xs ys : List Entry) → AreSerials xs → AreSerials ys → ((a : List ℕ) (s : ℕ) → SomeNamesAt xs a s ↔ SomeNamesAt ys a s) → NamesSame xs ys
-same_serials xs ys h k serials = record {
-  serials = serials;
-  ids = λ a text. neither (serials_contain xs (IdEntry a text) h) (serials_contain ys (IdEntry a text) k);
-  keys = λ blob. neither (serials_contain xs (KeyEntry blob) h) (serials_contain ys (KeyEntry blob) k);
-  sha1s = λ hash. neither (serials_contain xs (Sha1Entry hash) h) (serials_contain ys (Sha1Entry hash) k);
-  sha256s = λ hash. neither (serials_contain xs (Sha256Entry hash) h) (serials_contain ys (Sha256Entry hash) k);
-}
+pub serials_only : (xs : List Entry) (name : Name) → AreSerials xs → SomeNames xs name → IsSerial name
+serials_only [] name are h = absurd h
+serials_only (x ∷ xs) name are h =
+    elim h [ inl here ↦ serials_name x name are.0 here | inr later ↦ serials_only xs name are.1 later ]
+
+pub same_serials : (xs ys : List Entry) → AreSerials xs → AreSerials ys → ((a : List ℕ) (s : ℕ) → SomeNames xs (SerialOf a s) ↔ SomeNames ys (SerialOf a s)) → NamesSame xs ys
+same_serials xs ys h k serials (SerialOf a s) = serials a s
+same_serials xs ys h k serials name = (λ n. absurd (serials_only xs name h n), λ n. absurd (serials_only ys name k n))
 
 -- ---- one entry for another
 
-pub contains_one : (xs : List ℕ) (x y : ℕ) → Contains (x ∷ xs) y ↔ ((x ≡ y) ⊎ Contains xs y)
-contains_one xs x y = (
-  contains_cases x y xs,
-  λ h. elim h [ inl same ↦ subst (Contains (x ∷ xs)) same (contains_here x xs) | inr later ↦ contains_later x y xs later ],
-)
+-- entries of one kind each name what stands for it
+pub mapped_name : {X : Type 0} (f : X → Entry) (name : Name) (P : Type 0) (x : X) → ((y : X) → EntryNames (f y) name ↔ (P × (y ≡ x))) → (xs : List X) → SomeNames (map f xs) name ↔ (P × Contains xs x)
+mapped_name f name P x each [] = (λ h. absurd h, λ h. absurd (contains_none x h.1))
+mapped_name f name P x each (y ∷ xs) =
+    let here : (P × ((y ≡ x) ⊎ Contains xs x)) ↔ (P × Contains (y ∷ xs) x) = Iff.and Iff.rfl (Iff.symm (contains_cons y xs x)) in
+    Iff.trans (iff_or (each y) (mapped_name f name P x each xs)) (Iff.trans iff_both here)
 
 -- a range of one serial
 pub same_serial : (a : List ℕ) (n : ℕ) → NamesSame (RangeEntry a n n ∷ []) (SerialsEntry a (n ∷ []) ∷ [])
-same_serial a n = same_serials _ _ (tt, tt) (tt, tt) (λ b s. (
+same_serial a n = same_serials (RangeEntry a n n ∷ []) (SerialsEntry a (n ∷ []) ∷ []) (tt, tt) (tt, tt) (λ b s. (
   λ h. elim h [
-    | inl k ↦ inl (k.0, (k.1.0, (contains_one [] n s).1 (inl (let e : n ≡ s = omega (arith, k.1.1.0, k.1.1.1) in e))))
+    | inl k ↦ inl (k.0, (k.1.0, (contains_one n s).1 (let e : n ≡ s = omega (arith, k.1.1.0, k.1.1.1) in e)))
     | inr no_one ↦ absurd no_one
   ],
   λ h. elim h [
-    | inl k ↦ elim ((contains_one [] n s).0 k.1.1) [
-      | inl same ↦ inl (k.0, (k.1.0, (omega (arith, same), omega (arith, same))))
-      | inr none ↦ absurd (omega (arith, none.1))
-    ]
+    | inl k ↦ let same = (contains_one n s).0 k.1.1 in inl (k.0, (k.1.0, (omega (arith, same), omega (arith, same))))
     | inr no_one ↦ absurd no_one
   ],
 ))
 
 -- the serial 0 names none
 pub same_zero : (a : List ℕ) → NamesSame [] (SerialsEntry a (0 ∷ []) ∷ [])
-same_zero a = same_serials _ _ tt (tt, tt) (λ b s. (
+same_zero a = same_serials [] (SerialsEntry a (0 ∷ []) ∷ []) tt (tt, tt) (λ b s. (
   λ h. absurd h,
   λ h. elim h [
-    | inl k ↦ elim ((contains_one [] 0 s).0 k.1.1) [
-      | inl same ↦ absurd (omega (arith, same, k.1.0))
-      | inr none ↦ absurd (omega (arith, none.1))
-    ]
+    | inl k ↦ absurd (let same = (contains_one 0 s).0 k.1.1 in omega (arith, same, k.1.0))
     | inr no_one ↦ no_one
   ],
 ))
 
 -- a range to 0 names none
 pub same_none : (a : List ℕ) (min : ℕ) → NamesSame [] (RangeEntry a min 0 ∷ [])
-same_none a min = same_serials _ _ tt (tt, tt) (λ b s. (
+same_none a min = same_serials [] (RangeEntry a min 0 ∷ []) tt (tt, tt) (λ b s. (
   λ h. absurd h,
   λ h. elim h [ inl k ↦ absurd (omega (arith, k.1.0, k.1.1.1)) | inr no_one ↦ no_one ],
 ))
 
 -- a range from 0 is one from 1
 pub same_from_one : (a : List ℕ) (min low max : ℕ) → (s : (s : ℕ) → 0 < s → (low ≤ s) ↔ (min ≤ s)) → NamesSame (RangeEntry a low max ∷ []) (RangeEntry a min max ∷ [])
-same_from_one a min low max from = same_serials _ _ (tt, tt) (tt, tt) (λ b s. (
+same_from_one a min low max from = same_serials (RangeEntry a low max ∷ []) (RangeEntry a min max ∷ []) (tt, tt) (tt, tt) (λ b s. (
   λ h. elim h [ inl k ↦ inl (k.0, (k.1.0, ((from s k.1.0).0 k.1.1.0, k.1.1.1))) | inr no_one ↦ absurd no_one ],
   λ h. elim h [ inl k ↦ inl (k.0, (k.1.0, ((from s k.1.0).1 k.1.1.0, k.1.1.1))) | inr no_one ↦ absurd no_one ],
 ))

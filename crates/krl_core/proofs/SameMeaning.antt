@@ -1,27 +1,34 @@
 -- Lists of entries that name the same, and what is held.
-use Rattle.std.proofs.Common.{List}
-use Rattle.krl_core.specs.Contents.{Contents, Means}
-use Rattle.krl_core.specs.Entry.{Entry}
-use Rattle.krl_core.specs.Naming.{NamesSame}
+use Rattle.std.proofs.Common.{List, ◌++◌, ◌∷◌, [], rules}
+use Rattle.std.specs.Prelude.{◌↔◌, ◌⊎◌}
 use Rattle.std.proofs.Math.Logic.Iff as Iff
+use Rattle.krl_core.specs.Contents.{Contents, HoldsName, IsOrderly, Means, nothing}
+use Rattle.krl_core.specs.Entry.{Entry}
+use Rattle.krl_core.specs.Naming.{EntryNames, IdOf, KeyOf, Name, NamesSame, SerialOf, Sha1Of, Sha256Of, SomeNames}
+use Rattle.krl_core.specs.Elements.{contains_none}
+use Rattle.krl_core.proofs.BothWays.{iff_or}
+use Rattle.krl_core.proofs.Same.{one_more}
 
 pub same_meaning : (r : Contents) (entries others : List Entry) → Means r entries → NamesSame entries others → Means r others
-same_meaning r entries others m same =
-    record {
-      orderly = m.orderly;
-      serials = λ a s. Iff.trans (m.serials a s) (same.serials a s);
-      ids = λ a text. Iff.trans (m.ids a text) (same.ids a text);
-      keys = λ blob. Iff.trans (m.keys blob) (same.keys blob);
-      sha1s = λ hash. Iff.trans (m.sha1s hash) (same.sha1s hash);
-      sha256s = λ hash. Iff.trans (m.sha256s hash) (same.sha256s hash);
-    }
+same_meaning r entries others m same = record { orderly = m.orderly; names = λ name. Iff.trans (m.names name) (same name) }
 
 pub same_naming : (r : Contents) (entries others : List Entry) → Means r entries → Means r others → NamesSame entries others
-same_naming r entries others m n =
-    record {
-      serials = λ a s. Iff.trans (Iff.symm (m.serials a s)) (n.serials a s);
-      ids = λ a text. Iff.trans (Iff.symm (m.ids a text)) (n.ids a text);
-      keys = λ blob. Iff.trans (Iff.symm (m.keys blob)) (n.keys blob);
-      sha1s = λ hash. Iff.trans (Iff.symm (m.sha1s hash)) (n.sha1s hash);
-      sha256s = λ hash. Iff.trans (Iff.symm (m.sha256s hash)) (n.sha256s hash);
-    }
+same_naming r entries others m n name = Iff.trans (Iff.symm (m.names name)) (n.names name)
+
+-- what is held means one entry more where just what that one names is held beside it
+pub means_more : (old new : Contents) (entries : List Entry) (entry : Entry) → IsOrderly new → ((name : Name) → HoldsName new name ↔ (HoldsName old name ⊎ EntryNames entry name)) → Means old entries → Means new (entries ++ entry ∷ [])
+means_more old new entries entry orderly gains m = record {
+  orderly = orderly;
+  names = λ name. Iff.trans (gains name) (Iff.trans (iff_or (m.names name) Iff.rfl) (Iff.symm (one_more entries entry name)));
+}
+
+-- without entries nothing is held
+pub nothing_meant : Means nothing []
+nothing_meant = record { orderly = search rules; names = names }
+  where
+    names : (name : Name) → HoldsName nothing name ↔ SomeNames [] name
+    names (SerialOf a s) = Iff.rfl
+    names (IdOf a text) = Iff.rfl
+    names (KeyOf blob) = (contains_none blob, λ no. absurd no)
+    names (Sha1Of hash) = (contains_none hash, λ no. absurd no)
+    names (Sha256Of hash) = (contains_none hash, λ no. absurd no)

@@ -1,74 +1,27 @@
 -- What an addition to one shelf does to the sections of all.
-use Rattle.std.proofs.Common.{◌≡◌, ℕ, ◌+◌, ◌<◌, List, [], ◌∷◌, ◌++◌, length, map, get_or, set, take, drop, refl, sym, ap, subst, ◌∙◌, add-one, append_assoc, Ok, Err}
-use Rattle.std.specs.Prelude.{Result, MatchResult, OnErr, Option, Some, None, IsNone}
+use Rattle.std.proofs.Common.{◌≡◌, ℕ, zero, suc, ◌+◌, ◌<◌, List, [], length, ◌∷◌, ◌++◌, refl, sym, ap, subst, ◌∙◌, inl, inr, arith}
+use Rattle.std.specs.Prelude.{Option, Some, None, Result, Ok, Err, IfSome, MatchResult, OnErr, OnOk, slice_set}
 use Rattle.std.specs.declared.alloc.AllocError.{AllocError}
-use Rattle.std.proofs.lemmas.List.{set_split, map-append, length-map, length-append, get_or_default}
+use Rattle.std.specs.List.{AllByRecursion, Contains, slice_get}
+use Rattle.std.proofs.lemmas.List.{map-append}
 use Rattle.serial_set.specs.declared.span.Span.{Span}
-use Rattle.std.specs.declared.cmp.Ordering.TheVariants.{Less}
 use Rattle.krl_core.specs.declared.addition.Addition.{Addition}
 use Rattle.krl_core.specs.declared.addition.Addition.TheVariants.{Serials, Id}
-use Rattle.krl_core.specs.declared.page.Page.{Page}
 use Rattle.krl_core.specs.declared.shelf.Shelf.{Shelf}
-use Rattle.krl_core.specs.Rising.{bytes_cmp, AllBelow, AllAbove, RisesBy}
+use Rattle.krl_core.specs.Asked.{Stands}
+use Rattle.krl_core.specs.Rising.{RisesBy}
+use Rattle.krl_core.specs.Changes.{Takes, AddsTo, ChangesOne, empty_section}
+use Rattle.krl_core.specs.Contents.{Section, SomeSection}
+use Rattle.krl_core.specs.Elements.{all_append, contains_cases, contains_here, contains_later, contains_none}
 use Rattle.krl_core.specs.Inserting.{Inserts}
-use Rattle.krl_core.specs.Changes.{Takes, ChangesOne}
-use Rattle.krl_core.specs.Contents.{Section}
-use Rattle.krl_core.specs.Shelf.{section_of, sections_of, AddsAt, AddsUnder}
-use Rattle.krl_core.specs.Chapters.{values, pages_at}
-use Rattle.krl_core.specs.Pages.{joined, first_items, front_of, StandsAt}
-use Rattle.krl_core.proofs.Paged.{cut_at}
-use Rattle.krl_core.proofs.Spots.{first_back}
-use Rattle.krl_core.proofs.Grown.{joined-set}
-use Rattle.krl_core.proofs.InChapters.{chapter_parts, values-set, around}
-
--- ---- sections
+use Rattle.krl_core.specs.Shelf.{AddsAt, Alters, AreApart, ArePlaced, IsRecent, place_of, section_at, section_from, section_of, sections_of}
+use Rattle.krl_core.specs.TextMap.{Enters, name_of, names_of}
+use Rattle.krl_core.proofs.Ordered.{above_map, below_map, inserts_map, rises_changed}
+use Rattle.krl_core.proofs.Parted.{all_left, all_right, all_weaker}
 
 pub takes_authority : (addition : Addition) (from to : Section) → Takes addition from to → to.authority ≡ from.authority
 takes_authority (Serials lo hi) from to t = ap (λ (s : Section). s.authority) t.same
 takes_authority (Id text) from to t = ap (λ (s : Section). s.authority) t.same
-
-module _ {X : Type 0} (key : X → List ℕ) where
-  above_changed : (bytes : List ℕ) (front : List X) (from to : X) (back : List X) → key from ≡ key to → AllAbove key bytes (front ++ from ∷ back) → AllAbove key bytes (front ++ to ∷ back)
-  above_changed bytes [] from to back same a = (subst (λ k. bytes_cmp bytes k ≡ Less) same a.0, a.1)
-  above_changed bytes (x ∷ front) from to back same a = (a.0, above_changed bytes front from to back same a.1)
-
-  -- a value with the same bytes in the spot of another
-  pub rises_changed : (front : List X) (from to : X) (back : List X) → key from ≡ key to → RisesBy key (front ++ from ∷ back) → RisesBy key (front ++ to ∷ back)
-  rises_changed [] from to back same r = (subst (λ k. AllAbove key k back) same r.0, r.1)
-  rises_changed (x ∷ front) from to back same r = (above_changed (key x) front from to back same r.0, rises_changed front from to back same r.1)
-
-  above_map : {Y : Type 0} (f : Y → X) (bytes : List ℕ) (ys : List Y) → AllAbove (λ y. key (f y)) bytes ys → AllAbove key bytes (map f ys)
-  above_map f bytes [] a = tt
-  above_map f bytes (y ∷ ys) a = (a.0, above_map f bytes ys a.1)
-
-  -- a list rises as what it shows does
-  pub rises_map : {Y : Type 0} (f : Y → X) (ys : List Y) → RisesBy (λ y. key (f y)) ys → RisesBy key (map f ys)
-  rises_map f [] r = tt
-  rises_map f (y ∷ ys) r = (above_map f (key (f y)) ys r.0, rises_map f ys r.1)
-
-  below_map : {Y : Type 0} (f : Y → X) (bytes : List ℕ) (ys : List Y) → AllBelow (λ y. key (f y)) bytes ys → AllBelow key bytes (map f ys)
-  below_map f bytes [] a = tt
-  below_map f bytes (y ∷ ys) a = (a.0, below_map f bytes ys a.1)
-
-  -- a value is put into a list as what it shows is put into what the list shows
-  pub inserts_map : {Y : Type 0} (f : Y → X) (old : List Y) (value : Y) (new : List Y) → Inserts (λ y. key (f y)) old value new → Inserts key (map f old) (f value) (map f new)
-  inserts_map f old value new i =
-      record {
-        front = map f i.front;
-        back = map f i.back;
-        before = ap (map f) i.before ∙ map-append f i.front i.back;
-        after = ap (map f) i.after ∙ map-append f i.front (value ∷ i.back);
-        below = below_map f (key (f value)) i.front i.below;
-        above = above_map f (key (f value)) i.back i.above;
-      }
-
-  above_unmap : {Y : Type 0} (f : Y → X) (bytes : List ℕ) (ys : List Y) → AllAbove key bytes (map f ys) → AllAbove (λ y. key (f y)) bytes ys
-  above_unmap f bytes [] a = tt
-  above_unmap f bytes (y ∷ ys) a = (a.0, above_unmap f bytes ys a.1)
-
-  pub rises_unmap : {Y : Type 0} (f : Y → X) (ys : List Y) → RisesBy key (map f ys) → RisesBy (λ y. key (f y)) ys
-  rises_unmap f [] r = tt
-  rises_unmap f (y ∷ ys) r = (above_unmap f (key (f y)) ys r.0, rises_unmap f ys r.1)
 
 pub changes_rise : (addition : Addition) (authority : List ℕ) (old new : List Section) → ChangesOne (Takes addition) authority old new → RisesBy (λ section. section.authority) old → RisesBy (λ section. section.authority) new
 changes_rise addition authority old new c r =
@@ -76,102 +29,205 @@ changes_rise addition authority old new c r =
     subst (RisesBy key) (sym c.after)
     (rises_changed key c.front c.from c.to c.back (sym (takes_authority addition c.from c.to c.changed)) (subst (RisesBy key) c.before r))
 
-pub changes_length : (addition : Addition) (authority : List ℕ) (old new : List Section) → ChangesOne (Takes addition) authority old new → length new ≡ length old
-changes_length addition authority old new c =
-    ap length c.after ∙ length-append c.front (c.to ∷ c.back) ∙ sym (length-append c.front (c.from ∷ c.back)) ∙ sym (ap length c.before)
+pub changes_none : (authority : List ℕ) (old new : List Section) → ChangesOne (λ from to. to ≡ from) authority old new → new ≡ old
+changes_none authority old new c = c.after ∙ ap (λ x. c.front ++ x ∷ c.back) c.changed ∙ sym c.before
 
--- one section took the addition, or none is changed
-by_result : (addition : Addition) (result : Result (Unit {0}) AllocError) (authority : List ℕ) (old new front : List Section) (from to : Section) (back : List Section) → old ≡ front ++ from ∷ back → new ≡ front ++ to ∷ back → from.authority ≡ authority
-    → MatchResult result (λ _. Takes addition from to) (λ _. to ≡ from)
-    → MatchResult result (λ _. ChangesOne (Takes addition) authority old new) (λ _. new ≡ old)
-by_result addition (Ok x) authority old new front from to back before after under took =
-    record { front = front; back = back; from = from; to = to; before = before; after = after; under = under; changed = took }
-by_result addition (Err e) authority old new front from to back before after under took =
-    after ∙ ap (λ s. front ++ s ∷ back) took ∙ sym before
+-- ---- places
+
+abbrev pub Places : Type 0
+Places = List (List ℕ × ℕ)
+
+abbrev pub Elsewhere : ℕ → List ℕ × ℕ → Type 0
+Elsewhere n entry = place_of entry ≡ n → ⊥
+
+abbrev pub Below : ℕ → List ℕ × ℕ → Type 0
+Below n entry = place_of entry < n
+
+all_at : (P : List ℕ × ℕ → Type 0) (front : Places) (x : List ℕ × ℕ) (back : Places) → AllByRecursion P (front ++ x ∷ back) → P x
+all_at P front x back a = (all_right P front (x ∷ back) a).0
+
+apart_front : (front : Places) (x : List ℕ × ℕ) (back : Places) → AreApart (front ++ x ∷ back) → AllByRecursion (Elsewhere (place_of x)) front
+apart_front [] x back a = tt
+apart_front (e ∷ front) x back a = (λ same. all_at (Elsewhere (place_of e)) front x back a.0 (sym same), apart_front front x back a.1)
+
+apart_back : (front : Places) (x : List ℕ × ℕ) (back : Places) → AreApart (front ++ x ∷ back) → AllByRecursion (Elsewhere (place_of x)) back
+apart_back [] x back a = a.0
+apart_back (e ∷ front) x back a = apart_back front x back a.1
+
+elsewhere : (n : ℕ) (entry : List ℕ × ℕ) → Below n entry → Elsewhere n entry
+elsewhere n entry below same = omega (arith, same)
+
+apart_between : (front : Places) (name : List ℕ) (n : ℕ) (back : Places) → AllByRecursion (Below n) (front ++ back) → AreApart (front ++ back) → AreApart (front ++ (name, n) ∷ back)
+apart_between [] name n back b a = (all_weaker (Below n) (Elsewhere n) (elsewhere n) back b, a)
+apart_between (e ∷ front) name n back b a = (
+  all_append (Elsewhere (place_of e)) front ((name, n) ∷ back) (all_left (Elsewhere (place_of e)) front back a.0)
+      (λ same. omega (arith, b.0, same), all_right (Elsewhere (place_of e)) front back a.0),
+  apart_between front name n back b.1 a.1,
+)
+
+more : (n : ℕ) (entry : List ℕ × ℕ) → Below n entry → Below (n + 1) entry
+more n entry below = omega arith
+
+-- a place after all others is put in
+pub placed_more : (n : ℕ) (old : Places) (name : List ℕ) (new : Places) → Inserts name_of old (name, n) new → ArePlaced n old → ArePlaced (n + 1) new
+placed_more n old name new i p =
+    let within = subst (AllByRecursion (Below n)) i.before p.within in
+    record {
+      within = subst (AllByRecursion (Below (n + 1))) (sym i.after)
+          (all_append (Below (n + 1)) i.front ((name, n) ∷ i.back) (all_weaker (Below n) (Below (n + 1)) (more n) i.front (all_left (Below n) i.front i.back within))
+          (omega arith, all_weaker (Below n) (Below (n + 1)) (more n) i.back (all_right (Below n) i.front i.back within)));
+      apart = subst AreApart (sym i.after) (apart_between i.front name n i.back within (subst AreApart i.before p.apart));
+    }
+
+pub stands_within : (n : ℕ) (places : Places) (entry : List ℕ × ℕ) → ArePlaced n places → Stands name_of places entry → place_of entry < n
+stands_within n places entry p s = all_at (Below n) s.front entry s.back (subst (AllByRecursion (Below n)) s.parts p.within)
+
+pub recent_stands : (places : Places) (recent : Option (List ℕ × ℕ)) (entry : List ℕ × ℕ) → recent ≡ Some entry → IsRecent places recent → Stands name_of places entry
+recent_stands places recent entry is r = subst (IsRecent places) is r
+
+pub recent_set : (places : Places) (recent : Option (List ℕ × ℕ)) (entry : List ℕ × ℕ) → IfSome recent (λ r. r ≡ entry) → Stands name_of places entry → IsRecent places recent
+recent_set places None entry is s = tt
+recent_set places (Some r) entry is s = subst (Stands name_of places) (sym is) s
+
+pub stands_put : (n : ℕ) (old : Places) (name : List ℕ) (new : Places) → Inserts name_of old (name, n) new → Stands name_of new (name, n)
+stands_put n old name new i = record { front = i.front; back = i.back; parts = i.after; below = i.below; above = i.above }
 
 -- ---- shelves
 
 module _ {S : Type 0} (spans : S → List Span) where
-  -- what the invariant of the shelves asks, by their sections
-  pub sections_kept : (old new : List (Shelf S)) (count : ℕ) → RisesBy (λ section. section.authority) (sections_of spans new) → length (sections_of spans new) ≡ length (sections_of spans old) → count ≡ length old → RisesBy (λ shelf. shelf.authority.items) new × (count ≡ length new)
-  sections_kept old new count r same is = (
-    rises_unmap (λ section. section.authority) (section_of spans) new r,
-    is ∙ sym (length-map old (section_of spans)) ∙ sym same ∙ length-map new (section_of spans),
-  )
+  some_named : (shelves : List (Shelf S)) (a : List ℕ) (places : Places) → SomeSection (λ section. section.authority ≡ a) (sections_of spans shelves places) → Contains (names_of places) a
+  some_named shelves a [] h = absurd h
+  some_named shelves a (e ∷ es) h =
+      elim h [
+        | inl here ↦ subst (λ b. Contains (e.0 ∷ names_of es) b) here (contains_here e.0 (names_of es))
+        | inr later ↦ contains_later e.0 a (names_of es) (some_named shelves a es later)
+      ]
 
-  pub kept_if_same : (old new : List (Shelf S)) (count : ℕ) → sections_of spans new ≡ sections_of spans old → RisesBy (λ shelf. shelf.authority.items) old × (count ≡ length old) → RisesBy (λ shelf. shelf.authority.items) new × (count ≡ length new)
-  kept_if_same old new count same kept =
+  named_some : (shelves : List (Shelf S)) (a : List ℕ) (places : Places) → Contains (names_of places) a → SomeSection (λ section. section.authority ≡ a) (sections_of spans shelves places)
+  named_some shelves a [] h = contains_none a h
+  named_some shelves a (e ∷ es) h =
+      elim (contains_cases e.0 a (names_of es) h) [ inl here ↦ inl here | inr later ↦ inr (named_some shelves a es later) ]
+
+  pub none_named : (shelves : List (Shelf S)) (a : List ℕ) (places : Places) → (Contains (names_of places) a → ⊥) → SomeSection (λ section. section.authority ≡ a) (sections_of spans shelves places) → ⊥
+  none_named shelves a places absent h = absent (some_named shelves a places h)
+
+  -- sections of which no shelf has changed
+  pub same_sections : (old new : List (Shelf S)) (places : Places) → AllByRecursion (λ entry. slice_get new (place_of entry) ≡ slice_get old (place_of entry)) places → sections_of spans new places ≡ sections_of spans old places
+  same_sections old new [] a = refl
+  same_sections old new (e ∷ es) a =
+      ap (λ o. section_from spans e.0 o ∷ sections_of spans new es) a.0 ∙ ap (λ l. section_at spans old e ∷ l) (same_sections old new es a.1)
+
+  -- the section of an authority
+  pub parts : (shelves : List (Shelf S)) (places : Places) (authority : List ℕ) (n : ℕ) (shelf : Shelf S) → (s : Stands name_of places (authority, n)) → slice_get shelves n ≡ Some shelf
+      → sections_of spans shelves places ≡ sections_of spans shelves s.front ++ section_of spans (authority, shelf) ∷ sections_of spans shelves s.back
+  parts shelves places authority n shelf s is =
+      ap (sections_of spans shelves) s.parts ∙ map-append (section_at spans shelves) s.front ((authority, n) ∷ s.back)
+      ∙ ap (λ o. sections_of spans shelves s.front ++ section_from spans authority o ∷ sections_of spans shelves s.back) is
+
+  pub section_stands : (shelves : List (Shelf S)) (places : Places) (authority : List ℕ) (n : ℕ) (shelf : Shelf S) → Stands name_of places (authority, n) → slice_get shelves n ≡ Some shelf
+      → Stands (λ section. section.authority) (sections_of spans shelves places) (section_of spans (authority, shelf))
+  section_stands shelves places authority n shelf s is =
       let key : Section → List ℕ = λ section. section.authority in
-      sections_kept old new count (subst (RisesBy key) (sym same) (rises_map key (section_of spans) old kept.0)) (ap length same) kept.1
-
-  pub kept_if_changed : (addition : Addition) (authority : List ℕ) (old new : List (Shelf S)) (count : ℕ) → ChangesOne (Takes addition) authority (sections_of spans old) (sections_of spans new) → RisesBy (λ shelf. shelf.authority.items) old × (count ≡ length old) → RisesBy (λ shelf. shelf.authority.items) new × (count ≡ length new)
-  kept_if_changed addition authority old new count change kept =
-      let key : Section → List ℕ = λ section. section.authority in
-      sections_kept old new count (changes_rise addition authority (sections_of spans old) (sections_of spans new) change (rises_map key (section_of spans) old kept.0))
-      (changes_length addition authority (sections_of spans old) (sections_of spans new) change) kept.1
-
-  parts : (front : List (Shelf S)) (shelf : Shelf S) (back : List (Shelf S)) → sections_of spans (front ++ shelf ∷ back) ≡ sections_of spans front ++ section_of spans shelf ∷ sections_of spans back
-  parts front shelf back = map-append (section_of spans) front (shelf ∷ back)
-
-  -- the shelf at a spot of the pages takes the addition
-  pub adds_joined : (pages : List (Page (Shelf S))) (n at : ℕ) (page : Page (Shelf S)) (addition : Addition) (result : Result (Unit {0}) AllocError) (authority : List ℕ) → n < length pages → at < length (first_items (drop n pages)) → AddsAt spans addition result at (first_items (drop n pages)) page.items.items
-      → StandsAt (λ shelf. shelf.authority.items) pages authority n at
-      → AddsUnder spans addition result authority (joined pages) (joined (set pages n page))
-  adds_joined pages n at page addition result authority h within adds stands =
-      let key : Shelf S → List ℕ = λ shelf. shelf.authority.items in
-      let items = first_items (drop n pages) in
-      let later = joined (drop (n + 1) pages) in
-      let to = adds.to in
-      let from = get_or items at to in
-      let front = front_of pages n at in
-      let back = drop (at + 1) items ++ later in
-      let before : joined pages ≡ front ++ from ∷ back = cut_at key pages n at ∙ ap (λ l. front ++ l) (first_back key pages n at from within (get_or_default items at to from within)) in
-      let put : page.items.items ≡ take at items ++ to ∷ drop (at + 1) items = adds.after ∙ set_split items at to within ∙ ap (λ m. take at items ++ to ∷ drop m items) (sym (add-one at)) in
-      let after : joined (set pages n page) ≡ front ++ to ∷ back =
-      joined-set key pages n page h ∙ ap (λ l. joined (take n pages) ++ (l ++ later)) put
-      ∙ ap (λ l. joined (take n pages) ++ l) (append_assoc (take at items) (to ∷ drop (at + 1) items) later)
-      ∙ sym (append_assoc (joined (take n pages)) (take at items) (to ∷ back)) in
-      let old : sections_of spans (joined pages) ≡ sections_of spans front ++ section_of spans from ∷ sections_of spans back = ap (sections_of spans) before ∙ parts front from back in
-      let new : sections_of spans (joined (set pages n page)) ≡ sections_of spans front ++ section_of spans to ∷ sections_of spans back = ap (sections_of spans) after ∙ parts front to back in
-      by_result addition result authority (sections_of spans (joined pages)) (sections_of spans (joined (set pages n page)))
-      (sections_of spans front) (section_of spans from) (section_of spans to) (sections_of spans back) old new (stands.same to) adds.changed
-
-  three : (front middle back : List (Shelf S)) → sections_of spans (front ++ (middle ++ back)) ≡ sections_of spans front ++ (sections_of spans middle ++ sections_of spans back)
-  three front middle back =
-      map-append (section_of spans) front (middle ++ back) ∙ ap (λ l. sections_of spans front ++ l) (map-append (section_of spans) middle back)
-
-  in_parts : (chapters : List (Page (Page (Shelf S)))) (n : ℕ) → sections_of spans (values chapters) ≡ sections_of spans (values (take n chapters)) ++ (sections_of spans (joined (pages_at chapters n)) ++ sections_of spans (values (drop (n + 1) chapters)))
-  in_parts chapters n =
-      ap (sections_of spans) (chapter_parts (λ shelf. shelf.authority.items) chapters n) ∙ three (values (take n chapters)) (joined (pages_at chapters n)) (values (drop (n + 1) chapters))
-
-  in_parts_set : (chapters : List (Page (Page (Shelf S)))) (n : ℕ) (chapter : Page (Page (Shelf S))) → n < length chapters → sections_of spans (values (set chapters n chapter)) ≡ sections_of spans (values (take n chapters)) ++ (sections_of spans (joined chapter.items.items) ++ sections_of spans (values (drop (n + 1) chapters)))
-  in_parts_set chapters n chapter h =
-      ap (sections_of spans) (values-set (λ shelf. shelf.authority.items) chapters n chapter h) ∙ three (values (take n chapters)) (joined chapter.items.items) (values (drop (n + 1) chapters))
-
-  -- the shelf at a bookmark takes the addition, where it does in its chapter
-  pub adds_in_all : (chapters : List (Page (Page (Shelf S)))) (n : ℕ) (chapter : Page (Page (Shelf S))) (addition : Addition) (result : Result (Unit {0}) AllocError) (authority : List ℕ) → n < length chapters
-      → AddsUnder spans addition result authority (joined (pages_at chapters n)) (joined chapter.items.items)
-      → AddsUnder spans addition result authority (values chapters) (values (set chapters n chapter))
-  adds_in_all chapters n chapter addition (Ok x) authority h change =
-      let front = sections_of spans (values (take n chapters)) in
-      let back = sections_of spans (values (drop (n + 1) chapters)) in
       record {
-        front = front ++ change.front;
-        back = change.back ++ back;
-        from = change.from;
-        to = change.to;
-        before = in_parts chapters n ∙ ap (λ l. front ++ (l ++ back)) change.before ∙ around front change.front change.from change.back back;
-        after = in_parts_set chapters n chapter h ∙ ap (λ l. front ++ (l ++ back)) change.after ∙ around front change.front change.to change.back back;
-        under = change.under;
-        changed = change.changed;
+        front = sections_of spans shelves s.front;
+        back = sections_of spans shelves s.back;
+        parts = parts shelves places authority n shelf s is;
+        below = below_map key (section_at spans shelves) authority s.front s.below;
+        above = above_map key (section_at spans shelves) authority s.back s.above;
       }
-  adds_in_all chapters n chapter addition (Err e) authority h same =
-      in_parts_set chapters n chapter h ∙ ap (λ l. sections_of spans (values (take n chapters)) ++ (l ++ sections_of spans (values (drop (n + 1) chapters)))) same ∙ sym (in_parts chapters n)
 
-pub on_err_of : {T E P : Type 0} (r : Result T E) → P → OnErr r P
-on_err_of (Ok x) p = tt
-on_err_of (Err e) p = p
+  -- another shelf of an authority is another section
+  pub alters_one : (Change : Section → Section → Type 0) (authority : List ℕ) (n : ℕ) (places : Places) (old new : List (Shelf S)) → AreApart places → Stands name_of places (authority, n)
+      → Alters spans Change n old new → ChangesOne Change authority (sections_of spans old places) (sections_of spans new places)
+  alters_one Change authority n places old new apart s a =
+      let split = subst AreApart s.parts apart in
+      let same : (es : Places) → AllByRecursion (Elsewhere n) es → sections_of spans new es ≡ sections_of spans old es = λ es away.
+      same_sections old new es (all_weaker (Elsewhere n) (λ entry. slice_get new (place_of entry) ≡ slice_get old (place_of entry)) (λ entry. a.others (place_of entry)) es away) in
+      let to = section_of spans (authority, a.to) in
+      record {
+        front = sections_of spans old s.front;
+        back = sections_of spans old s.back;
+        from = section_of spans (authority, a.from);
+        to = to;
+        before = parts old places authority n a.from s a.was;
+        after = parts new places authority n a.to s a.is
+            ∙ ap (λ l. l ++ to ∷ sections_of spans new s.back) (same s.front (apart_front s.front (authority, n) s.back split))
+            ∙ ap (λ l. sections_of spans old s.front ++ to ∷ l) (same s.back (apart_back s.front (authority, n) s.back split));
+        under = refl;
+        changed = a.changed authority;
+      }
 
-pub none_unless : {X : Type 0} (o : Option X) → ((x : X) → o ≡ Some x → ⊥) → IsNone o
-none_unless None h = refl
-none_unless (Some x) h = absurd (h x refl)
+  -- ---- another shelf at a place
+
+  set_is : (xs : List (Shelf S)) (i : ℕ) (x : Shelf S) → i < length xs → slice_get (slice_set xs i x) i ≡ Some x
+  set_is [] i x h = absurd (omega arith)
+  set_is (y ∷ xs) zero x h = refl
+  set_is (y ∷ xs) (suc i) x h = set_is xs i x (omega arith)
+
+  set_count : (xs : List (Shelf S)) (i : ℕ) (x : Shelf S) → length (slice_set xs i x) ≡ length xs
+  set_count [] i x = refl
+  set_count (y ∷ xs) zero x = refl
+  set_count (y ∷ xs) (suc i) x = omega (arith, set_count xs i x)
+
+  set_others : (xs : List (Shelf S)) (i : ℕ) (x : Shelf S) (j : ℕ) → (j ≡ i → ⊥) → slice_get (slice_set xs i x) j ≡ slice_get xs j
+  set_others [] i x j h = refl
+  set_others (y ∷ xs) zero x zero h = absurd (h refl)
+  set_others (y ∷ xs) zero x (suc j) h = refl
+  set_others (y ∷ xs) (suc i) x zero h = refl
+  set_others (y ∷ xs) (suc i) x (suc j) h = set_others xs i x j (λ same. h (ap suc same))
+
+  alters : (Change : Section → Section → Type 0) (place : ℕ) (old : List (Shelf S)) (from to : Shelf S) → place < length old → slice_get old place ≡ Some from
+      → ((authority : List ℕ) → Change (section_of spans (authority, from)) (section_of spans (authority, to))) → Alters spans Change place old (slice_set old place to)
+  alters Change place old from to within was changed =
+      record { from = from; to = to; was = was; is = set_is old place to within; count = set_count old place to; others = set_others old place to; changed = changed }
+
+  pub alters_at : (addition : Addition) (place : ℕ) (result : Result (Unit {0}) AllocError) (old : List (Shelf S)) (from to : Shelf S) → place < length old → slice_get old place ≡ Some from
+      → ((authority : List ℕ) → MatchResult result (λ _. Takes addition (section_of spans (authority, from)) (section_of spans (authority, to))) (λ _. section_of spans (authority, to) ≡ section_of spans (authority, from)))
+      → AddsAt spans addition place result old (slice_set old place to)
+  alters_at addition place (Ok done) old from to within was changed = alters (Takes addition) place old from to within was changed
+  alters_at addition place (Err fault) old from to within was changed = alters (λ from to. to ≡ from) place old from to within was changed
+
+  pub adds_ok : (addition : Addition) (authority : List ℕ) (place : ℕ) (places : Places) (result : Result (Unit {0}) AllocError) (old new : List (Shelf S)) → AreApart places → Stands name_of places (authority, place)
+      → AddsAt spans addition place result old new → OnOk result (AddsTo addition authority (sections_of spans old places) (sections_of spans new places))
+  adds_ok addition authority place places (Ok done) old new apart s a = inl (alters_one (Takes addition) authority place places old new apart s a)
+  adds_ok addition authority place places (Err fault) old new apart s a = tt
+
+  pub adds_err : (addition : Addition) (authority : List ℕ) (place : ℕ) (places : Places) (result : Result (Unit {0}) AllocError) (old new : List (Shelf S)) → AreApart places → Stands name_of places (authority, place)
+      → AddsAt spans addition place result old new → OnErr result (sections_of spans new places ≡ sections_of spans old places)
+  adds_err addition authority place places (Ok done) old new apart s a = tt
+  adds_err addition authority place places (Err fault) old new apart s a =
+      changes_none authority (sections_of spans old places) (sections_of spans new places) (alters_one (λ from to. to ≡ from) authority place places old new apart s a)
+
+  -- ---- the first shelf of an authority
+
+  slice_left : (xs : List (Shelf S)) (x : Shelf S) (i : ℕ) → i < length xs → slice_get (xs ++ x ∷ []) i ≡ slice_get xs i
+  slice_left [] x i h = absurd (omega arith)
+  slice_left (y ∷ xs) x zero h = refl
+  slice_left (y ∷ xs) x (suc i) h = slice_left xs x i (omega arith)
+
+  slice_last : (xs : List (Shelf S)) (x : Shelf S) → slice_get (xs ++ x ∷ []) (length xs) ≡ Some x
+  slice_last [] x = refl
+  slice_last (y ∷ xs) x = slice_last xs x
+
+  pub same_more : (shelves : List (Shelf S)) (shelf : Shelf S) (places : Places) → AllByRecursion (Below (length shelves)) places → sections_of spans (shelves ++ shelf ∷ []) places ≡ sections_of spans shelves places
+  same_more shelves shelf places within =
+      same_sections shelves (shelves ++ shelf ∷ []) places
+      (all_weaker (Below (length shelves)) (λ entry. slice_get (shelves ++ shelf ∷ []) (place_of entry) ≡ slice_get shelves (place_of entry)) (λ entry. slice_left shelves shelf (place_of entry)) places within)
+
+  pub new_inserted : (shelves : List (Shelf S)) (old : Places) (a : List ℕ) (n : ℕ) (new : Places) → (SomeSection (λ section. section.authority ≡ a) (sections_of spans shelves old) → ⊥) → Enters old a n new → Inserts name_of old (a, n) new
+  new_inserted shelves old a n new absent e = elim e [ inl there ↦ absurd (absent (named_some shelves a old there.0)) | inr put ↦ put ]
+
+  pub starts : (addition : Addition) (authority : List ℕ) (shelves : List (Shelf S)) (shelf : Shelf S) (old new : Places) → AllByRecursion (Below (length shelves)) old → Inserts name_of old (authority, length shelves) new
+      → Takes addition (empty_section authority) (section_of spans (authority, shelf)) → AddsTo addition authority (sections_of spans shelves old) (sections_of spans (shelves ++ shelf ∷ []) new)
+  starts addition authority shelves shelf old new within i takes =
+      let key : Section → List ℕ = λ section. section.authority in
+      let longer = shelves ++ shelf ∷ [] in
+      let section = section_of spans (authority, shelf) in
+      let is : section_at spans longer (authority, length shelves) ≡ section = ap (section_from spans authority) (slice_last shelves shelf) in
+      let put = inserts_map key (section_at spans longer) old (authority, length shelves) new i in
+      inr (record {
+        section = section;
+        takes = takes;
+        put = subst (λ l. Inserts key l section (sections_of spans longer new)) (same_more shelves shelf old within)
+            (subst (λ x. Inserts key (sections_of spans longer old) x (sections_of spans longer new)) is put);
+      })

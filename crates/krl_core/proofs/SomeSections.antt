@@ -4,64 +4,47 @@ use Rattle.std.specs.Prelude.{◌↔◌, sum_by}
 use Rattle.std.proofs.lemmas.List.Sums.{sum_by-cons, sum_by-append}
 use Rattle.krl_core.specs.declared.addition.Addition.{Addition}
 use Rattle.krl_core.specs.Changes.{Takes, AddsTo, empty_section}
+use Rattle.std.specs.List.{Contains}
+use Rattle.serial_set.specs.Span.{Covers}
 use Rattle.krl_core.specs.Contents.{Section, SomeSection}
+use Rattle.krl_core.specs.Naming.{IdOf, Name, SerialOf}
+use Rattle.std.proofs.Math.Logic.Iff as Iff
+use Rattle.krl_core.proofs.BothWays.{iff_across, iff_front, iff_none, iff_or, iff_swap}
 
 -- ---- some section
 
-pub some_to : (P : Section → Type 0) (front : List Section) (section : Section) (back : List Section) → SomeSection P (front ++ section ∷ back) → P section ⊎ SomeSection P (front ++ back)
-some_to P [] section back h = h
-some_to P (x ∷ front) section back h =
-    elim h [
-      | inl here ↦ inr (inl here)
-      | inr later ↦ elim (some_to P front section back later) [ inl at ↦ inl at | inr other ↦ inr (inr other) ]
-    ]
+-- a serial number or a key ID is held in the section, under just its authority
+abbrev pub HeldIn : Name → Section → Type 0
+HeldIn (SerialOf a s) section = (section.authority ≡ a) × Covers section.spans s
+HeldIn (IdOf a text) section = (section.authority ≡ a) × Contains section.ids text
+HeldIn _ section = ⊥
 
-pub some_at : (P : Section → Type 0) (front : List Section) (section : Section) (back : List Section) → P section → SomeSection P (front ++ section ∷ back)
-some_at P [] section back h = inl h
-some_at P (x ∷ front) section back h = inr (some_at P front section back h)
+pub no_section : (sections : List Section) → SomeSection (λ section. ⊥) sections → ⊥
+no_section [] h = h
+no_section (x ∷ sections) h = elim h [ inl here ↦ here | inr later ↦ no_section sections later ]
 
-some_other : (P : Section → Type 0) (front : List Section) (section : Section) (back : List Section) → SomeSection P (front ++ back) → SomeSection P (front ++ section ∷ back)
-some_other P [] section back h = inr h
-some_other P (x ∷ front) section back h = elim h [ inl here ↦ inl here | inr later ↦ inr (some_other P front section back later) ]
+pub some_middle : (P : Section → Type 0) (front : List Section) (section : Section) (back : List Section) → SomeSection P (front ++ section ∷ back) ↔ (P section ⊎ SomeSection P (front ++ back))
+some_middle P [] section back = Iff.rfl
+some_middle P (x ∷ front) section back = Iff.trans (iff_or Iff.rfl (some_middle P front section back)) iff_front
 
 -- what an addition makes of a section decides what it makes of all
 pub record Step (addition : Addition) (authority : List ℕ) (P : Section → Type 0) (Q : Type 0) : Type 0 where
-  pub to : (from to : Section) → from.authority ≡ authority → Takes addition from to → P to → P from ⊎ Q
-  pub from : (from to : Section) → from.authority ≡ authority → Takes addition from to → P from ⊎ Q → P to
+  pub one : (from to : Section) → from.authority ≡ authority → Takes addition from to → P to ↔ (P from ⊎ Q)
   pub none : P (empty_section authority) → ⊥
 
+some_changed : (P : Section → Type 0) (Q : Type 0) (front back new : List Section) (from to : Section) → new ≡ front ++ to ∷ back → P to ↔ (P from ⊎ Q) → SomeSection P new ↔ ((P from ⊎ SomeSection P (front ++ back)) ⊎ Q)
+some_changed P Q front back new from to is one =
+    let now = subst (λ (l : List Section). SomeSection P l ↔ (P to ⊎ SomeSection P (front ++ back))) (sym is) (some_middle P front to back) in
+    Iff.trans now (Iff.trans (iff_or one (iff_none (λ no. no))) (Iff.trans iff_across (iff_or Iff.rfl (Iff.symm (iff_none (λ no. no))))))
+
 pub some_adds : (addition : Addition) (authority : List ℕ) (old new : List Section) (P : Section → Type 0) (Q : Type 0) → Step addition authority P Q → AddsTo addition authority old new → SomeSection P new ↔ (SomeSection P old ⊎ Q)
-some_adds addition authority old new P Q step adds =
-    elim adds [
-      | inl c ↦ (
-        λ h. elim (some_to P c.front c.to c.back (subst (SomeSection P) c.after h)) [
-          | inl at ↦ elim (step.to c.from c.to c.under c.changed at) [
-            | inl was ↦ inl (subst (SomeSection P) (sym c.before) (some_at P c.front c.from c.back was))
-            | inr q ↦ inr q
-          ]
-          | inr other ↦ inl (subst (SomeSection P) (sym c.before) (some_other P c.front c.from c.back other))
-        ],
-        λ h. subst (SomeSection P) (sym c.after) (elim h [
-          | inl was ↦ elim (some_to P c.front c.from c.back (subst (SomeSection P) c.before was)) [
-            | inl at ↦ some_at P c.front c.to c.back (step.from c.from c.to c.under c.changed (inl at))
-            | inr other ↦ some_other P c.front c.to c.back other
-          ]
-          | inr q ↦ some_at P c.front c.to c.back (step.from c.from c.to c.under c.changed (inr q))
-        ]),
-      )
-      | inr n ↦
-          let section = n.section in
-          let i = n.put in (
-            λ h. elim (some_to P i.front section i.back (subst (SomeSection P) i.after h)) [
-              | inl at ↦ elim (step.to (empty_section authority) section refl n.takes at) [ inl was ↦ absurd (step.none was) | inr q ↦ inr q ]
-              | inr other ↦ inl (subst (SomeSection P) (sym i.before) other)
-            ],
-            λ h. subst (SomeSection P) (sym i.after) (elim h [
-              | inl was ↦ some_other P i.front section i.back (subst (SomeSection P) i.before was)
-              | inr q ↦ some_at P i.front section i.back (step.from (empty_section authority) section refl n.takes (inr q))
-            ]),
-          )
-    ]
+some_adds addition authority old new P Q step (inl c) =
+    let was = subst (λ (l : List Section). (P c.from ⊎ SomeSection P (c.front ++ c.back)) ↔ SomeSection P l) (sym c.before) (Iff.symm (some_middle P c.front c.from c.back)) in
+    Iff.trans (some_changed P Q c.front c.back new c.from c.to c.after (step.one c.from c.to c.under c.changed)) (iff_or was Iff.rfl)
+some_adds addition authority old new P Q step (inr n) =
+    let was = subst (λ (l : List Section). SomeSection P (n.put.front ++ n.put.back) ↔ SomeSection P l) (sym n.put.before) Iff.rfl in
+    Iff.trans (some_changed P Q n.put.front n.put.back new (empty_section authority) n.section n.put.after (step.one (empty_section authority) n.section refl n.takes))
+    (iff_or (Iff.trans iff_swap (Iff.trans (Iff.symm (iff_none step.none)) was)) Iff.rfl)
 
 -- ---- how much
 

@@ -1,10 +1,11 @@
 -- The text of a list that is written is spelled.
-use Rattle.std.proofs.Common.{◌≡◌, ℕ, zero, suc, ◌+◌, ◌-◌, ◌*◌, ◌/◌, ◌^◌, ◌<◌, ◌≤◌, inl, inr, List, [], ◌∷◌, ◌++◌, length, take, drop, refl, sym, ap, subst, ◌∙◌, arith, append_assoc, length-append}
+use Rattle.std.proofs.Common.{◌≡◌, ℕ, zero, suc, ◌+◌, ◌-◌, ◌*◌, ◌/◌, ◌^◌, ◌<◌, ◌≤◌, ◌⊎◌, ◌↔◌, inl, inr, List, [], ◌∷◌, ◌++◌, length, take, drop, refl, sym, ap, subst, ◌∙◌, arith, append_assoc, length-append}
 use Rattle.std.specs.List.{AllByRecursion}
 use Rattle.std.proofs.lemmas.List.{append-nil, take-append-drop}
 use Rattle.serial_set.specs.declared.span.Span.{Span}
 use Rattle.serial_set.specs.Span.{AreSerials, IsRuns, Covers as Names, RunsFrom}
-use Rattle.serial_set.specs.Rising.{names_left, names_right}
+use Rattle.std.proofs.Math.Logic.Iff as Iff
+use Rattle.krl_core.proofs.BothWays.{covers_append}
 use Rattle.ssh_wire.specs.Wire.{number, string}
 use Rattle.ssh_wire.specs.Fields.{length-number, length-string}
 use Rattle.krl_plan.specs.declared.group.Sort.{Sort}
@@ -14,7 +15,7 @@ use Rattle.krl_core.specs.Krl.{IsPositive, SpellsBitmap, SpellsEach, SpellsSubse
 use Rattle.krl_plan.specs.Plan.{Covers, IsGroup, IsPlan, end_of, reach}
 use Rattle.krl_plan.specs.Written.{bitmap_of, bitmap_size, bits_of, content_of, first_of, group_text, plan_text, serials_from, serials_of}
 use Rattle.krl_core.specs.KrlText.{group_subsection, plan_subsections}
-use Rattle.krl_core.proofs.BitmapNames.{bits-names, number-bitmap, top_bit_clear}
+use Rattle.krl_core.proofs.BitmapNames.{bits_name, number-bitmap, top_bit_clear}
 use Rattle.krl_core.specs.Elements.{all_append}
 use Rattle.krl_plan.specs.Chosen.{IsRuns-drop, RunsFrom-take}
 use Rattle.krl_plan.specs.GroupTexts.{length-bitmap_of}
@@ -25,17 +26,15 @@ use Rattle.krl_plan.specs.ListTexts.{length-listed, small_few}
 AreSerials-tail : (run : Span) (runs : List Span) → AreSerials (run ∷ runs) → AreSerials runs
 AreSerials-tail run runs h s n = h s (inr n)
 
-pub names-take : (n : ℕ) (runs : List Span) (s : ℕ) → Names (take n runs) s → Names runs s
-names-take n runs s h = subst (λ (l : List Span). Names l s) (take-append-drop n runs) (names_left (take n runs) (drop n runs) s h)
-
-pub names-drop : (n : ℕ) (runs : List Span) (s : ℕ) → Names (drop n runs) s → Names runs s
-names-drop n runs s h = subst (λ (l : List Span). Names l s) (take-append-drop n runs) (names_right (take n runs) (drop n runs) s h)
+pub names_parts : (n : ℕ) (runs : List Span) (s : ℕ) → (Names (take n runs) s ⊎ Names (drop n runs) s) ↔ Names runs s
+names_parts n runs s =
+    subst (λ (l : List Span). (Names (take n runs) s ⊎ Names (drop n runs) s) ↔ Names l s) (take-append-drop n runs) (Iff.symm (covers_append (take n runs) (drop n runs) s))
 
 pub AreSerials-take : (n : ℕ) (runs : List Span) → AreSerials runs → AreSerials (take n runs)
-AreSerials-take n runs h s named = h s (names-take n runs s named)
+AreSerials-take n runs h s named = h s ((names_parts n runs s).0 (inl named))
 
 pub AreSerials-drop : (n : ℕ) (runs : List Span) → AreSerials runs → AreSerials (drop n runs)
-AreSerials-drop n runs h s named = h s (names-drop n runs s named)
+AreSerials-drop n runs h s named = h s ((names_parts n runs s).0 (inr named))
 
 -- a run's end is a serial
 end_fits : (a : ℕ) (run : Span) (runs : List Span) → RunsFrom a (run ∷ runs) → AreSerials (run ∷ runs) → run.hi < 2 ^ 64
@@ -91,7 +90,7 @@ bitmap_spelled runs r h =
       positive = subst (λ (n : ℕ). IsPositive (bitmap_of runs (first_of runs) n)) (sym size) (positive runs (first_of runs) top (top_bit_clear runs top r (omega arith)));
       value_is = sym (number-bitmap runs (first_of runs) (bitmap_size runs));
       offset_fits = omega arith;
-      within = λ bit e. (h (first_of runs + bit) (bits-names runs (first_of runs) (8 * bitmap_size runs) bit e).1).1;
+      within = λ bit e. (h (first_of runs + bit) ((bits_name runs (first_of runs) (8 * bitmap_size runs) bit).0 e).1).1;
     }
 
 -- the bytes of a group are few

@@ -7,7 +7,7 @@ use Rattle.std.proofs.lemmas.List.{append-nil, length-append, take_all}
 use Rattle.std.proofs.lemmas.List.Folds.{concat-append}
 use Rattle.std.proofs.Math.Seq.{take-append_seam}
 use Rattle.ssh_wire.specs.Wire.{IsBytes}
-use Rattle.ssh_wire.specs.Pull.{Pulled, Looks, Takes, Refuses, after_ahead, left_of}
+use Rattle.ssh_wire.specs.Pull.{Pulled, Takes, Refuses, after_ahead, left_of}
 use Rattle.ssh_wire.specs.declared.pull_fault.PullFault.{PullFault}
 use Rattle.ssh_wire.specs.declared.pull_fault.PullFault.TheVariants as pulls
 use Rattle.ssh_wire.specs.Cut.{take-behind}
@@ -245,26 +245,6 @@ bounded_more old mid new keeping field b looks takes grows =
 pub keeps_refl : (a : Option (List ℕ)) → Keeps a a
 keeps_refl None = tt
 keeps_refl (Some xs) = refl
-
-pub looks_at : (place : Place) (old new : Pulled) (is_end : Bool) → (due place).may_end ≡ true → Looks old is_end new → LooksFor place old is_end new
-looks_at place old new true may h = record {
-  bytes = h.bytes;
-  taken = h.taken;
-  limit_is = h.limit;
-  works = h.working;
-  faultless = h.is_faultless;
-  at_end = λ _. (may, h.answer);
-  goes_on = λ off. absurd (cc);
-}
-looks_at place old new false may h = record {
-  bytes = h.bytes;
-  taken = h.taken;
-  limit_is = h.limit;
-  works = h.working;
-  faultless = h.is_faultless;
-  at_end = λ on. absurd (cc);
-  goes_on = λ _ _. h.answer;
-}
 
 -- the reader failed where the end was looked for
 pub end_refused : (old : Position) (new : Pulled) (fault : KrlFault) → IsBounded old.pull old.keeping → fault ≡ faults.Read

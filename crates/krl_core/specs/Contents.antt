@@ -3,8 +3,8 @@ use Rattle.std.specs.Prelude.{◌≡◌, ℕ, ◌+◌, ◌<◌, ◌≤◌, ◌�
 use Rattle.std.specs.Prelude.{Contains}
 use Rattle.serial_set.specs.declared.span.Span.{Span}
 use Rattle.serial_set.specs.Span.{Covers, IsRuns, AreSerials}
-use Rattle.krl_core.specs.Entry.{Entry, IdEntry, KeyEntry, Sha1Entry, Sha256Entry}
-use Rattle.krl_core.specs.Naming.{SomeNamesAt}
+use Rattle.krl_core.specs.Entry.{Entry}
+use Rattle.krl_core.specs.Naming.{IdOf, KeyOf, Name, SerialOf, Sha1Of, Sha256Of, SomeNames}
 use Rattle.krl_core.specs.Rising.{Rises, RisesBy}
 
 -- what is held under one authority, by its bytes, or under all where there are none
@@ -74,14 +74,18 @@ pub record IsOrderly (r : Contents) : Type 0 where
 
 -- ---- what it means
 
+-- it is held
+abbrev pub HoldsName : Contents → Name → Type 0
+HoldsName r (SerialOf a s) = HoldsSerial r.sections a s
+HoldsName r (IdOf a text) = HoldsId r.sections a text
+HoldsName r (KeyOf blob) = Contains r.keys blob
+HoldsName r (Sha1Of hash) = Contains r.sha1s hash
+HoldsName r (Sha256Of hash) = Contains r.sha256s hash
+
 -- just what the entries name is held, in order
 pub record Means (r : Contents) (entries : List Entry) : Type 0 where
   pub orderly : IsOrderly r
-  pub serials : (a : List ℕ) (s : ℕ) → HoldsSerial r.sections a s ↔ SomeNamesAt entries a s
-  pub ids : (a text : List ℕ) → HoldsId r.sections a text ↔ Contains entries (IdEntry a text)
-  pub keys : (blob : List ℕ) → Contains r.keys blob ↔ Contains entries (KeyEntry blob)
-  pub sha1s : (hash : List ℕ) → Contains r.sha1s hash ↔ Contains entries (Sha1Entry hash)
-  pub sha256s : (hash : List ℕ) → Contains r.sha256s hash ↔ Contains entries (Sha256Entry hash)
+  pub names : (name : Name) → HoldsName r name ↔ SomeNames entries name
 
 -- ---- how much it is
 

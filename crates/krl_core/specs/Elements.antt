@@ -7,7 +7,7 @@ use Rattle.serial_set.specs.declared.span.Span.{Span}
 use Rattle.serial_set.specs.Span.{Covers, IsRuns}
 use Rattle.krl_core.specs.Contents.{Section, SomeSection}
 use Rattle.krl_core.specs.Entry.{Entry}
-use Rattle.krl_core.specs.Naming.{SomeNamesAt}
+use Rattle.krl_core.specs.Naming.{Name, SomeNames}
 
 pub contains_here : {X : Type 0} (x : X) (xs : List X) → Contains (x ∷ xs) x
 contains_here x xs = (0, omega arith, refl)
@@ -38,26 +38,24 @@ pub some_serial : (spans : List Span) → 0 < length spans → IsRuns spans → 
 some_serial [] some runs = absurd (omega arith)
 some_serial (span ∷ spans) some runs = (span.lo, inl (omega arith, runs.1))
 
--- ---- serials that some entries name
+-- ---- what some entries name
 
-pub some_left : (xs ys : List Entry) (a : List ℕ) (s : ℕ) → SomeNamesAt xs a s
-    → SomeNamesAt (xs ++ ys) a s
-some_left [] ys a s h = absurd h
-some_left (x ∷ xs) ys a s h =
-    elim h [ inl here ↦ inl here | inr later ↦ inr (some_left xs ys a s later) ]
+pub some_left : (xs ys : List Entry) (name : Name) → SomeNames xs name → SomeNames (xs ++ ys) name
+some_left [] ys name h = absurd h
+some_left (x ∷ xs) ys name h =
+    elim h [ inl here ↦ inl here | inr later ↦ inr (some_left xs ys name later) ]
 
-pub some_right : (xs ys : List Entry) (a : List ℕ) (s : ℕ) → SomeNamesAt ys a s
-    → SomeNamesAt (xs ++ ys) a s
-some_right [] ys a s h = h
-some_right (x ∷ xs) ys a s h = inr (some_right xs ys a s h)
+pub some_right : (xs ys : List Entry) (name : Name) → SomeNames ys name → SomeNames (xs ++ ys) name
+some_right [] ys name h = h
+some_right (x ∷ xs) ys name h = inr (some_right xs ys name h)
 
-pub some_cases : (xs ys : List Entry) (a : List ℕ) (s : ℕ) → SomeNamesAt (xs ++ ys) a s
-    → SomeNamesAt xs a s ⊎ SomeNamesAt ys a s
-some_cases [] ys a s h = inr h
-some_cases (x ∷ xs) ys a s h =
+pub some_cases : (xs ys : List Entry) (name : Name) → SomeNames (xs ++ ys) name
+    → SomeNames xs name ⊎ SomeNames ys name
+some_cases [] ys name h = inr h
+some_cases (x ∷ xs) ys name h =
     elim h [
       | inl here ↦ inl (inl here)
-      | inr later ↦ elim (some_cases xs ys a s later) [
+      | inr later ↦ elim (some_cases xs ys name later) [
         | inl left ↦ inl (inr left)
         | inr right ↦ inr right
       ]

@@ -1,7 +1,6 @@
 pub mod Asked
 pub mod Authority
 pub mod Changes
-pub mod Chapters
 pub mod Contents
 pub mod Entry
 pub mod KrlFault
@@ -9,14 +8,15 @@ pub mod Krl
 pub mod Place
 pub mod Part
 pub mod Front
+pub mod Ids
 pub mod Inserting
 pub mod Naming
 pub mod Elements
-pub mod Pages
 pub mod Revoked
 pub mod Rising
 pub mod Shelf
-pub mod Text
+pub mod TextMap
+pub mod Texts
 pub mod Keeping
 pub mod Reading
 pub mod Entries

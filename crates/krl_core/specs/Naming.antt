@@ -6,46 +6,45 @@ use Rattle.serial_set.specs.BitRuns.{BitNames}
 use Rattle.krl_core.specs.Entry.{Entry, SerialsEntry, RangeEntry, BitmapEntry, IdEntry, KeyEntry}
 use Rattle.krl_core.specs.Entry.{Sha1Entry, Sha256Entry}
 
--- The entry stands under just this authority, which is empty for all authorities, and names the
--- serial number s. The number 0 names no certificate.
-abbrev pub NamesAt : Entry → List ℕ → ℕ → Type 0
-NamesAt (SerialsEntry authority numbers) a s = (authority ≡ a) × ((0 < s) × Contains numbers s)
-NamesAt (RangeEntry authority min max) a s = (authority ≡ a) × ((0 < s) × ((min ≤ s) × (s ≤ max)))
-NamesAt (BitmapEntry authority offset number) a s = (authority ≡ a) × BitNames offset number s
-NamesAt (IdEntry authority text) a s = ⊥
-NamesAt (KeyEntry blob) a s = ⊥
-NamesAt (Sha1Entry hash) a s = ⊥
-NamesAt (Sha256Entry hash) a s = ⊥
+-- What an entry may name: a serial number or a key ID under just one authority, which is empty for
+-- all authorities, or a key, by its blob or by a hash of it.
+pub data Name : Type 0 where
+  SerialOf : (authority : List ℕ) (serial : ℕ) → Name
+  IdOf : (authority text : List ℕ) → Name
+  KeyOf : (blob : List ℕ) → Name
+  Sha1Of : (hash : List ℕ) → Name
+  Sha256Of : (hash : List ℕ) → Name
 
--- the entry names the serial number under an authority: it stands there, or under all authorities
-abbrev pub NamesSerial : Entry → List ℕ → ℕ → Type 0
-NamesSerial entry a s = NamesAt entry a s ⊎ NamesAt entry [] s
+-- The entry names just this. The serial number 0 names no certificate.
+abbrev pub EntryNames : Entry → Name → Type 0
+EntryNames (SerialsEntry b numbers) (SerialOf a s) = (b ≡ a) × ((0 < s) × Contains numbers s)
+EntryNames (RangeEntry b min max) (SerialOf a s) = (b ≡ a) × ((0 < s) × ((min ≤ s) × (s ≤ max)))
+EntryNames (BitmapEntry b offset number) (SerialOf a s) = (b ≡ a) × BitNames offset number s
+EntryNames (IdEntry b id) (IdOf a text) = (b ≡ a) × (id ≡ text)
+EntryNames (KeyEntry key) (KeyOf blob) = key ≡ blob
+EntryNames (Sha1Entry of_key) (Sha1Of hash) = of_key ≡ hash
+EntryNames (Sha256Entry of_key) (Sha256Of hash) = of_key ≡ hash
+EntryNames _ _ = ⊥
 
--- some entry that stands under just this authority names the serial number
-abbrev pub SomeNamesAt : List Entry → List ℕ → ℕ → Type 0
-SomeNamesAt [] a s = ⊥
-SomeNamesAt (entry ∷ entries) a s = NamesAt entry a s ⊎ SomeNamesAt entries a s
-
--- some entry names the serial number under the authority
-abbrev pub SomeNamesSerial : List Entry → List ℕ → ℕ → Type 0
-SomeNamesSerial [] a s = ⊥
-SomeNamesSerial (entry ∷ entries) a s = NamesSerial entry a s ⊎ SomeNamesSerial entries a s
-
--- some entry is the key ID, under the authority or under all
-abbrev pub SomeNamesId : List Entry → (authority text : List ℕ) → Type 0
-SomeNamesId entries a text = Contains entries (IdEntry a text) ⊎ Contains entries (IdEntry [] text)
-
--- some entry is the key, by its blob or by a hash of it
-abbrev pub KeyNamed : List Entry → (blob : List ℕ) → Type 0
-KeyNamed entries blob =
-    Contains entries (KeyEntry blob)
-    ⊎ (Contains entries (Sha1Entry (sha1 blob)) ⊎ Contains entries (Sha256Entry (sha256 blob)))
+-- some entry names just this
+abbrev pub SomeNames : List Entry → Name → Type 0
+SomeNames [] name = ⊥
+SomeNames (entry ∷ entries) name = EntryNames entry name ⊎ SomeNames entries name
 
 -- two lists of entries name the same
-pub record NamesSame (entries others : List Entry) : Type 0 where
-  pub serials : (a : List ℕ) (s : ℕ) → SomeNamesAt entries a s ↔ SomeNamesAt others a s
-  pub ids : (a text : List ℕ) → Contains entries (IdEntry a text) ↔ Contains others (IdEntry a text)
-  pub keys : (blob : List ℕ) → Contains entries (KeyEntry blob) ↔ Contains others (KeyEntry blob)
-  pub sha1s : (hash : List ℕ) → Contains entries (Sha1Entry hash) ↔ Contains others (Sha1Entry hash)
-  pub sha256s : (hash : List ℕ)
-      → Contains entries (Sha256Entry hash) ↔ Contains others (Sha256Entry hash)
+abbrev pub NamesSame : (entries others : List Entry) → Type 0
+NamesSame entries others = (name : Name) → SomeNames entries name ↔ SomeNames others name
+
+-- some entry names the serial number, under the authority or under all
+abbrev pub SomeNamesSerial : List Entry → (authority : List ℕ) (serial : ℕ) → Type 0
+SomeNamesSerial entries a s = SomeNames entries (SerialOf a s) ⊎ SomeNames entries (SerialOf [] s)
+
+-- some entry names the key ID, under the authority or under all
+abbrev pub SomeNamesId : List Entry → (authority text : List ℕ) → Type 0
+SomeNamesId entries a text = SomeNames entries (IdOf a text) ⊎ SomeNames entries (IdOf [] text)
+
+-- some entry names the key, by its blob or by a hash of it
+abbrev pub KeyNamed : List Entry → (blob : List ℕ) → Type 0
+KeyNamed entries blob =
+    SomeNames entries (KeyOf blob)
+    ⊎ (SomeNames entries (Sha1Of (sha1 blob)) ⊎ SomeNames entries (Sha256Of (sha256 blob)))

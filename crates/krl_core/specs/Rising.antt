@@ -1,9 +1,9 @@
 -- Lists that rise by some bytes of their elements.
-use Rattle.std.specs.Prelude.{◌≡◌, ℕ, List, [], ◌∷◌, false, ⊤}
+use Rattle.std.specs.Prelude.{◌≡◌, ℕ, List, [], ◌∷◌, ⊤}
 use Rattle.std.specs.List.{AllByRecursion}
 use Rattle.std.specs.declared.cmp.Ordering.{Ordering}
 use Rattle.std.specs.declared.cmp.Ordering.TheVariants.{Less}
-use Rattle.std.specs.Ordering.{nat_cmp, is_lt}
+use Rattle.std.specs.Ordering.{nat_cmp}
 use Rattle.std.specs.Cmp.Lexicographic.{slice_cmp}
 
 -- the order of two byte strings: by the first byte that differs, and a beginning before the whole
@@ -18,10 +18,6 @@ module _ {X : Type 0} (key : X → List ℕ) where
   -- the bytes of each element come after these
   abbrev pub AllAbove : List ℕ → List X → Type 0
   AllAbove bytes xs = AllByRecursion (λ x. bytes_cmp bytes (key x) ≡ Less) xs
-
-  -- the bytes of no element come before these
-  abbrev pub NoneBelow : List ℕ → List X → Type 0
-  NoneBelow bytes xs = AllByRecursion (λ x. is_lt (bytes_cmp (key x) bytes) ≡ false) xs
 
   -- the bytes of each element come before those of each later one
   abbrev pub RisesBy : List X → Type 0

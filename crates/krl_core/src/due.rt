@@ -20,6 +20,7 @@ use crate::place::Place;
 
 impl Place {
     /// How many bytes the field has that is due.
+    #[inline(always)]
     pub fn size(self) -> u32
         ensures { result ≡ (due self).size }
     {
@@ -64,6 +65,7 @@ impl Place {
     }
 
     /// Whether what the field stands in has as many bytes left.
+    #[inline(always)]
     pub fn has_room(self) -> bool
         ensures { IsTrue result ↔ HasRoom (due self) }
     {
@@ -89,6 +91,7 @@ impl Place {
     }
 
     /// Whether the list may end here.
+    #[inline(always)]
     pub fn may_end(self) -> bool
         ensures { result ≡ (due self).may_end }
     {
@@ -99,6 +102,7 @@ impl Place {
     }
 
     /// Judges the whole field that was due: the place after it, or why it is refused.
+    #[inline(always)]
     pub fn after(self, field: &[u8]) -> Result<Place, KrlFault>
         requires whole { length field.now ≡ (due self).size }
         requires room { HasRoom (due self) }

@@ -2,13 +2,10 @@
 ghost use Rattle.std.specs.Prelude.{◌≡◌, ◌<◌, length, Some, slice_get, sum_by};
 ghost use Rattle.krl_core.specs.Contents.{IsOrderly, held};
 
-use crate::keyed::Keyed;
 use crate::listed::{Authorities, Listed};
 use crate::revocations::Revocations;
-use crate::rows::Rows;
-use crate::shelf::Shelf;
-use crate::text::Text;
-use crate::walk::{Texts, Walk};
+use crate::shelves::Shelves;
+use crate::texts::Texts;
 use serial_set::Spans;
 
 impl<S: Spans> Revocations<S> {
@@ -26,14 +23,14 @@ impl<S: Spans> Revocations<S> {
         requires { index < length self.now.sections }
         ensures { slice_get self.now.sections index ≡ Some result }
     {
-        Listed::new(self.shelves.at(index))
+        self.shelves.at(index)
     }
 
     /// A walk over the authorities, all authorities first and then by their bytes.
     pub fn walk_authorities(&self) -> Authorities<'_, S>
         ensures { result ≡ self.now.sections }
     {
-        Authorities::over(&self.shelves)
+        self.shelves.walk()
     }
 
     /// How many spans of serials are held, over all authorities. It goes over the authorities.
@@ -55,14 +52,14 @@ impl<S: Spans> Revocations<S> {
         requires { index < length self.now.keys }
         ensures { slice_get self.now.keys index ≡ Some result.now }
     {
-        self.keys.at(index).key()
+        self.keys.at(index).0
     }
 
     /// A walk over the blobs of the keys, in the order of their bytes.
-    pub fn walk_keys(&self) -> Texts<'_, Text>
+    pub fn walk_keys(&self) -> Texts<'_>
         ensures { result ≡ self.now.keys }
     {
-        Texts::over(&self.keys)
+        Texts::names(&self.keys)
     }
 
     /// How many SHA-1 hashes there are.
@@ -77,14 +74,14 @@ impl<S: Spans> Revocations<S> {
         requires { index < length self.now.sha1s }
         ensures { slice_get self.now.sha1s index ≡ Some result.now }
     {
-        self.sha1s.at(index).key()
+        text_at(Texts::sha1s(&self.sha1s), index)
     }
 
     /// A walk over the SHA-1 hashes, in the order of their bytes.
-    pub fn walk_sha1s(&self) -> Texts<'_, [u8; 20]>
+    pub fn walk_sha1s(&self) -> Texts<'_>
         ensures { result ≡ self.now.sha1s }
     {
-        Texts::over(&self.sha1s)
+        Texts::sha1s(&self.sha1s)
     }
 
     /// How many SHA-256 hashes there are.
@@ -99,28 +96,43 @@ impl<S: Spans> Revocations<S> {
         requires { index < length self.now.sha256s }
         ensures { slice_get self.now.sha256s index ≡ Some result.now }
     {
-        self.sha256s.at(index).key()
+        text_at(Texts::sha256s(&self.sha256s), index)
     }
 
     /// A walk over the SHA-256 hashes, in the order of their bytes.
-    pub fn walk_sha256s(&self) -> Texts<'_, [u8; 32]>
+    pub fn walk_sha256s(&self) -> Texts<'_>
         ensures { result ≡ self.now.sha256s }
     {
-        Texts::over(&self.sha256s)
+        Texts::sha256s(&self.sha256s)
     }
 }
 
-fn held_in<S: Spans>(shelves: &Rows<Shelf<S>>) -> u128
-    ensures { result ≡ sum_by (λ shelf. length (S.spans shelf.spans)) shelves.now }
+// The byte string at an index of those that a walk has left.
+fn text_at<'a>(mut texts: Texts<'a>, index: usize) -> &'a [u8]
+    requires { index < length texts }
+    ensures { slice_get texts.entry index ≡ Some result.now }
 {
-    let mut walk = Walk::over(shelves);
+    let mut left = index;
+    while let Some(text) = texts.next() {
+        if left == 0 {
+            return text;
+        }
+        left -= 1;
+    }
+    unreachable!()
+}
+
+fn held_in<S: Spans>(shelves: &Shelves<S>) -> u128
+    ensures { result ≡ sum_by (λ section. length section.spans) shelves.now }
+{
+    let mut walk = shelves.walk();
     let mut left = shelves.len();
     let mut total: u128 = 0;
     while left > 0 {
-        let Some(shelf) = walk.next() else {
+        let Some(listed) = walk.next() else {
             unreachable!();
         };
-        total += shelf.spans.len() as u128;
+        total += listed.spans().len() as u128;
         left -= 1;
     }
     total

@@ -151,6 +151,7 @@ pub(crate) fn subsection_of_type(left: u32, type_byte: u8) -> Result<Place, KrlF
 }
 
 // Judges a byte of a bitmap, of whose `size` bytes `left` are due with it.
+#[inline(always)]
 pub(crate) fn bits_judged(
     offset: u64,
     size: u32,
@@ -171,6 +172,7 @@ pub(crate) fn bits_judged(
 
 /// Whether a bit of the byte that is set stands for a number past 2^64-1. The byte is the highest
 /// of the `left` last bytes of a bitmap.
+#[inline(always)]
 pub(crate) fn passes_end(offset: u64, left: u32, byte: u8) -> bool
     ensures { result ≡ passes_end_of (base_of offset left) byte }
 {

@@ -96,6 +96,7 @@ impl<S: Spans> Keeper<S> {
     }
 
     /// Keeps what a field names, where it is due and passes its judgement.
+    #[inline(always)]
     pub fn keep(&mut self, place: Place, field: &[u8], next: Place) -> Result<(), AllocError>
         requires passes { Passes place field.now next }
         requires in_step { InStep place self.old.bitmap }

@@ -3,7 +3,9 @@
 ghost use Rattle.std.specs.Prelude.{◌≡◌, Some};
 ghost use Rattle.krl_core.specs.KrlFault.{fault_number, fault_text};
 ghost use Rattle.krl_core.specs.declared.krl_fault.KrlFault.TheVariants.{NoMemory};
+ghost use Rattle.krl_core.specs.Reading.{told_as};
 
+use ssh_wire::PullFault;
 use std::alloc::{AllocError, AllocFailed};
 use std::error::Error;
 use std::fmt;
@@ -108,5 +110,18 @@ impl<T: Drop> From<AllocFailed<T>> for KrlFault {
 
     fn from(_refused: AllocFailed<T>) -> KrlFault {
         KrlFault::NoMemory
+    }
+}
+
+impl From<PullFault> for KrlFault {
+    ghost from_gives = { λ why fault. fault ≡ told_as why };
+
+    fn from(why: PullFault) -> KrlFault {
+        match why {
+            PullFault::EndsEarly => KrlFault::EndsEarly,
+            PullFault::TooLong => KrlFault::TooLong,
+            PullFault::Read => KrlFault::Read,
+            PullFault::NoMemory => KrlFault::NoMemory,
+        }
     }
 }

@@ -2,17 +2,17 @@
 ghost use Rattle.std.specs.Prelude.{◌≡◌, ◌∷◌, ◌<◌, [], length, MatchOption, Some, slice_get};
 ghost use Rattle.krl_core.specs.Authority.{authority_bytes, IsAuthority};
 
-use crate::keyed::Keyed;
-use crate::rows::Rows;
 use crate::shelf::Shelf;
-use crate::text::Text;
-use crate::walk::{Texts, Walk};
+use crate::text_map::TextMap;
+use crate::text_walk::TextWalk;
+use crate::texts::Texts;
 use serial_set::Spans;
 use std::marker::Model;
 
 /// The serials and key IDs that are revoked under one authority, or under all.
 #[derive(Drop)]
 pub struct Listed<'a, S: Spans> {
+    authority: &'a [u8],
     shelf: &'a Shelf<S>,
 }
 
@@ -22,16 +22,16 @@ impl<'a, S: Spans> Model for Listed<'a, S> {
 
     ghost Value = { Section };
 
-    ghost view = { λ listed. section_of S.spans listed.shelf.now };
+    ghost view = { λ listed. section_of S.spans (listed.authority.now, listed.shelf.now) };
 }
 
 impl<'a, S: Spans> Listed<'a, S> {
     ghost use Rattle.krl_core.specs.Shelf.{section_of};
 
-    pub(crate) fn new(shelf: &'a Shelf<S>) -> Listed<'a, S>
-        ensures { result ≡ section_of S.spans shelf.now }
+    pub(crate) fn new(authority: &'a [u8], shelf: &'a Shelf<S>) -> Listed<'a, S>
+        ensures { result ≡ section_of S.spans (authority.now, shelf.now) }
     {
-        Listed { shelf }
+        Listed { authority, shelf }
     }
 
     /// The bytes of the authority, or none for all authorities.
@@ -39,11 +39,10 @@ impl<'a, S: Spans> Listed<'a, S> {
         ensures bytes { authority_bytes result ≡ self.now.authority }
         ensures some { IsAuthority result }
     {
-        let bytes = self.shelf.authority.as_slice();
-        if bytes.len() == 0 {
+        if self.authority.len() == 0 {
             return None;
         }
-        Some(bytes)
+        Some(self.authority)
     }
 
     /// The serials, as a set.
@@ -66,14 +65,14 @@ impl<'a, S: Spans> Listed<'a, S> {
         requires { index < length self.now.ids }
         ensures { slice_get self.now.ids index ≡ Some result.now }
     {
-        self.shelf.ids.at(index).key()
+        self.shelf.ids.at(index)
     }
 
     /// A walk over the key IDs, in the order of their bytes.
-    pub fn walk_ids(&self) -> Texts<'a, Text>
+    pub fn walk_ids(&self) -> Texts<'a>
         ensures { result ≡ self.now.ids }
     {
-        Texts::over(&self.shelf.ids)
+        self.shelf.ids.walk()
     }
 }
 
@@ -81,27 +80,36 @@ impl<'a, S: Spans> Listed<'a, S> {
 /// see it as the list of their sections.
 #[derive(Drop)]
 pub struct Authorities<'a, S: Spans> {
-    walk: Walk<'a, Shelf<S>>,
+    places: TextWalk<'a, usize>,
+    shelves: &'a Vec<Shelf<S>>,
 }
 
 impl<'a, S: Spans> Model for Authorities<'a, S> {
-    ghost use Rattle.std.specs.Prelude.{List};
+    ghost use Rattle.std.specs.Prelude.{◌<◌, List, length};
+    ghost use Rattle.std.specs.List.{AllByRecursion};
     ghost use Rattle.krl_core.specs.Contents.{Section};
-    ghost use Rattle.krl_core.specs.Shelf.{sections_of};
+    ghost use Rattle.krl_core.specs.Shelf.{place_of, sections_of};
 
     ghost Value = { List Section };
 
-    ghost view = { λ authorities. sections_of S.spans authorities.walk };
+    ghost view = { λ a. sections_of S.spans a.shelves.now.items a.places };
+
+    ghost invariant = { λ a. AllByRecursion
+        (λ entry. place_of entry < length a.shelves.now.items) a.places };
 }
 
 impl<'a, S: Spans> Authorities<'a, S> {
-    ghost use Rattle.krl_core.specs.Shelf.{sections_of};
+    ghost use Rattle.std.specs.Prelude.{◌<◌, length};
+    ghost use Rattle.std.specs.List.{AllByRecursion};
+    ghost use Rattle.krl_core.specs.Shelf.{place_of, sections_of};
 
-    pub(crate) fn over(shelves: &'a Rows<Shelf<S>>) -> Authorities<'a, S>
-        ensures { result ≡ sections_of S.spans shelves.now }
+    pub(crate) fn over(places: &'a TextMap<usize>, shelves: &'a Vec<Shelf<S>>) -> Authorities<'a, S>
+        requires { AllByRecursion (λ entry. place_of entry < length shelves.now.items) places.now }
+        ensures { result ≡ sections_of S.spans shelves.now.items places.now }
     {
         Authorities {
-            walk: Walk::over(shelves),
+            places: TextWalk::over(places),
+            shelves,
         }
     }
 
@@ -110,9 +118,9 @@ impl<'a, S: Spans> Authorities<'a, S> {
         ensures { MatchOption result ((self.old ≡ []) × (self.new ≡ []))
             (λ listed. self.old ≡ listed ∷ self.new) }
     {
-        match self.walk.next() {
+        match self.places.next() {
             None => None,
-            Some(shelf) => Some(Listed::new(shelf)),
+            Some((authority, place)) => Some(Listed::new(authority, &self.shelves[*place])),
         }
     }
 }

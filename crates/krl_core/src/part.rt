@@ -26,6 +26,7 @@ pub(crate) enum Part {
 
 impl Place {
     /// The part that the field stands in that is due.
+    #[inline(always)]
     pub(crate) fn part(self) -> Part
         ensures { result ≡ part_of self }
     {

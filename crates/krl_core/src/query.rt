@@ -6,15 +6,15 @@ ghost use Rattle.krl_core.specs.Asked.{HoldsKey, HoldsUnder, HoldsCert};
 ghost use Rattle.krl_core.specs.Contents.{Means};
 ghost use Rattle.krl_core.specs.Entry.{Entry};
 ghost use Rattle.krl_core.specs.Revoked.{Revoked};
-ghost use Rattle.krl_core.specs.Shelf.{sections_of};
 ghost use Rattle.krl_core.specs.Tested.{revokes};
 
 use crate::revocations::Revocations;
-use crate::rows::Rows;
-use crate::shelf::Shelf;
+use crate::shelves::Shelves;
 use serial_set::Spans;
-use ssh_cert::{CertNames, Subject};
-use ssh_key::{sha1_of, sha256_of};
+use sha1::Sha1;
+use sha2::{Digest, Sha256};
+use ssh_subject::{CertNames, Subject};
+use std::collections::BTreeSet;
 
 impl<S: Spans> Revocations<S> {
     /// Whether a plain key or a certificate is revoked (ssh-keygen(1), KEY REVOCATION LISTS). Takes
@@ -59,29 +59,29 @@ impl<S: Spans> Revocations<S> {
 }
 
 // Whether the SHA-1 of the bytes is among the hashes. It is not computed where there are none.
-fn has_sha1(hashes: &Rows<[u8; 20]>, bytes: &[u8]) -> bool
-    ensures { IsTrue result ↔ Contains hashes.now (sha1 bytes.now) }
+fn has_sha1(hashes: &BTreeSet<[u8; 20]>, bytes: &[u8]) -> bool
+    ensures { IsTrue result ↔ Contains hashes.now.keys (sha1 bytes.now) }
 {
-    if hashes.len() == 0 {
+    if hashes.is_empty() {
         return false;
     }
-    hashes.has(&sha1_of(bytes))
+    hashes.contains(&Sha1::digest(bytes))
 }
 
 // Whether the SHA-256 of the bytes is among the hashes. It is not computed where there are none.
-fn has_sha256(hashes: &Rows<[u8; 32]>, bytes: &[u8]) -> bool
-    ensures { IsTrue result ↔ Contains hashes.now (sha256 bytes.now) }
+fn has_sha256(hashes: &BTreeSet<[u8; 32]>, bytes: &[u8]) -> bool
+    ensures { IsTrue result ↔ Contains hashes.now.keys (sha256 bytes.now) }
 {
-    if hashes.len() == 0 {
+    if hashes.is_empty() {
         return false;
     }
-    hashes.has(&sha256_of(bytes))
+    hashes.contains(&Sha256::digest(bytes))
 }
 
 // Whether a key ID or a serial number is held under just this authority.
-fn has_under<S: Spans>(shelves: &Rows<Shelf<S>>, authority: &[u8], id: &[u8], serial: u64) -> bool
+fn has_under<S: Spans>(shelves: &Shelves<S>, authority: &[u8], id: &[u8], serial: u64) -> bool
     ensures { IsTrue result
-        ↔ HoldsUnder (sections_of S.spans shelves.now) authority.now id.now serial }
+        ↔ HoldsUnder shelves.now authority.now id.now serial }
 {
     let Some(shelf) = shelves.find(authority) else {
         return false;

@@ -12,7 +12,7 @@ ghost use Rattle.krl_core.specs.Keeping.{GrowsWithin, InStep, KeepsField, held_w
 ghost use Rattle.krl_core.specs.Place.{due};
 ghost use Rattle.krl_core.specs.Reading.{Ends, Follows, HasRead, IsBounded, IsReached, IsList};
 ghost use Rattle.krl_core.specs.Reading.{IsWhole, LooksFor, Missed, ReadsOneMore, Refused};
-ghost use Rattle.krl_core.specs.Reading.{ReportsFailure, is_fixed, told_as, working};
+ghost use Rattle.krl_core.specs.Reading.{ReportsFailure, is_fixed, working};
 
 use crate::header::Header;
 use crate::keeper::Keeper;
@@ -20,7 +20,7 @@ use crate::krl_fault::KrlFault;
 use crate::place::Place;
 use crate::revocations::Revocations;
 use serial_set::Spans;
-use ssh_wire::{Pull, PullFault, Source};
+use ssh_wire::{Pull, Source};
 use std::alloc::Global;
 use std::marker::Model;
 
@@ -164,19 +164,8 @@ impl<S: Spans, R: Source + Drop> Reading<S, R> {
     }
 }
 
-// What a fault of the reader is reported as.
-fn told(fault: PullFault) -> KrlFault
-    ensures { result ≡ told_as fault }
-{
-    match fault {
-        PullFault::EndsEarly => KrlFault::EndsEarly,
-        PullFault::TooLong => KrlFault::TooLong,
-        PullFault::Read => KrlFault::Read,
-        PullFault::NoMemory => KrlFault::NoMemory,
-    }
-}
-
 // Whether the list ends here.
+#[inline(always)]
 fn ends<R: Source + Drop>(pull: &mut Pull<R>, place: Place) -> Result<bool, KrlFault>
     requires faultless { pull.old.fault ≡ None }
     requires works { pull.old.failed ≡ false }
@@ -187,13 +176,11 @@ fn ends<R: Source + Drop>(pull: &mut Pull<R>, place: Place) -> Result<bool, KrlF
     if !place.may_end() {
         return Ok(false);
     }
-    match pull.at_end() {
-        Ok(ended) => Ok(ended),
-        Err(fault) => Err(told(fault)),
-    }
+    Ok(pull.at_end()?)
 }
 
 // Takes the field that is due. A small one takes no memory.
+#[inline(always)]
 fn take<'a, R: Source + Drop>(
     pull: &mut Pull<R>,
     place: Place,
@@ -213,41 +200,30 @@ fn take<'a, R: Source + Drop>(
     let size = place.size() as usize;
     if size <= SMALL {
         let field = &mut small[..size];
-        return match pull.fill(field) {
-            Ok(()) => Ok(field),
-            Err(missed) => Err(told(missed)),
-        };
+        pull.fill(field)?;
+        return Ok(field);
     }
-    match pull.bytes_into(large, size) {
-        Ok(()) => Ok(large.as_slice()),
-        Err(missed) => Err(told(missed)),
-    }
+    pull.bytes_into(large, size)?;
+    Ok(large.as_slice())
 }
 
-// Judges the field that was taken, and keeps what it names.
-fn pass<S: Spans>(place: &mut Place, keeper: &mut Keeper<S>, field: &[u8]) -> Result<(), KrlFault>
-    requires room { HasRoom (due place.old) }
-    requires size { length field.now ≡ (due place.old).size }
-    requires in_step { InStep place.old keeper.old.bitmap }
-    ensures passes { OnOk result (Passes place.old field.now place.new) }
-    ensures keeps { OnOk result
-        (KeepsField place.old field.now place.new keeper.old keeper.new) }
+// Judges the field that was taken, keeps what it names, and answers the place after it.
+#[inline(always)]
+fn pass<S: Spans>(place: Place, keeper: &mut Keeper<S>, field: &[u8]) -> Result<Place, KrlFault>
+    requires room { HasRoom (due place) }
+    requires size { length field.now ≡ (due place).size }
+    requires in_step { InStep place keeper.old.bitmap }
+    ensures passes { IfOk result (λ next. Passes place field.now next) }
+    ensures keeps { IfOk result (λ next.
+        KeepsField place field.now next keeper.old keeper.new) }
     ensures bytes { IsBytes field.now }
     ensures grows { GrowsWithin (length field.now) keeper.old keeper.new }
-    ensures err { IfErr result (λ fault. ((fault ≡ NoMemory) × (is_fixed place.old ≡ false))
-        ⊎ ((due place.old).judged field.now ≡ Err fault)) }
+    ensures err { IfErr result (λ fault. ((fault ≡ NoMemory) × (is_fixed place ≡ false))
+        ⊎ ((due place).judged field.now ≡ Err fault)) }
 {
-    let next = match place.after(field) {
-        Ok(next) => next,
-        Err(fault) => return Err(fault),
-    };
-    match keeper.keep(*place, field, next) {
-        Ok(()) => {
-            *place = next;
-            Ok(())
-        }
-        Err(_) => Err(KrlFault::NoMemory),
-    }
+    let next = place.after(field)?;
+    keeper.keep(place, field, next)?;
+    Ok(next)
 }
 
 // Reads a field, or finds that the list is at its end.
@@ -270,18 +246,57 @@ fn advance<S: Spans, R: Source + Drop>(
     ensures failure { ReportsFailure result pull.new.failed }
     ensures bounds { IsBounded pull.new keeper.new }
 {
-    match ends(pull, *place) {
-        Ok(true) => return Ok(false),
-        Ok(false) => {}
-        Err(fault) => return Err(fault),
+    // Of these a list can have millions, so each has code of its own, made for its place.
+    match *place {
+        Place::Serial { left, behind } => {
+            advance_at(pull, place, Place::Serial { left, behind }, keeper, large)
+        }
+        Place::BitmapByte {
+            offset,
+            size,
+            left,
+            behind,
+        } => {
+            let at = Place::BitmapByte {
+                offset,
+                size,
+                left,
+                behind,
+            };
+            advance_at(pull, place, at, keeper, large)
+        }
+        at => advance_at(pull, place, at, keeper, large),
+    }
+}
+
+// The same at a place that the caller knows.
+#[inline(always)]
+fn advance_at<S: Spans, R: Source + Drop>(
+    pull: &mut Pull<R>,
+    place: &mut Place,
+    at: Place,
+    keeper: &mut Keeper<S>,
+    large: &mut Vec<u8>,
+) -> Result<bool, KrlFault>
+    requires at { at ≡ place.old }
+    requires reached { IsReached (working pull.old place.old keeper.old) }
+    ensures more { IfOk result (λ more. IsTrue more → ReadsOneMore
+        (working pull.old place.old keeper.old) (working pull.new place.new keeper.new)) }
+    ensures follows { IfOk result (λ more. IsTrue more → Follows
+        (working pull.old place.old keeper.old) (working pull.new place.new keeper.new)) }
+    ensures ends { IfOk result (λ more. more ≡ false → Ends
+        (working pull.old place.old keeper.old) (working pull.new place.new keeper.new)) }
+    ensures fault { IfErr result (λ fault. Refused fault
+        (working pull.old place.old keeper.old) pull.new) }
+    ensures sound { OnOk result (IsReached (working pull.new place.new keeper.new)) }
+    ensures failure { ReportsFailure result pull.new.failed }
+    ensures bounds { IsBounded pull.new keeper.new }
+{
+    if ends(pull, at)? {
+        return Ok(false);
     }
     let mut small = [0; SMALL];
-    let field = match take(pull, *place, &mut small, large) {
-        Ok(field) => field,
-        Err(fault) => return Err(fault),
-    };
-    match pass(place, keeper, field) {
-        Ok(()) => Ok(true),
-        Err(fault) => Err(fault),
-    }
+    let field = take(pull, at, &mut small, large)?;
+    *place = pass(at, keeper, field)?;
+    Ok(true)
 }

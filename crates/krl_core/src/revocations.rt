@@ -6,14 +6,11 @@ ghost use Rattle.krl_core.specs.Contents.{IsNamed, Means, nothing, held, stored}
 ghost use Rattle.krl_core.specs.Entry.{RangeEntry, IdEntry, KeyEntry, Sha1Entry, Sha256Entry};
 
 use crate::addition::Addition;
-use crate::bookmark::Bookmark;
-use crate::rows::Rows;
-use crate::shelf::Shelf;
-use crate::shelves::add_under;
-use crate::text::Text;
-use crate::texts::{add_hash, add_text};
+use crate::shelves::Shelves;
+use crate::text_map::TextMap;
 use serial_set::Spans;
 use std::alloc::{AllocError, Global};
+use std::collections::BTreeSet;
 use std::marker::Model;
 
 /// What is revoked: serial numbers and key IDs under an authority or under all, and keys by their
@@ -22,27 +19,22 @@ use std::marker::Model;
 #[derive(Drop)]
 pub struct Revocations<S: Spans> {
     alloc: Global,
-    pub(crate) shelves: Rows<Shelf<S>>,
-    // where the last addition under an authority was made
-    recent: Bookmark,
-    pub(crate) keys: Rows<Text>,
-    pub(crate) sha1s: Rows<[u8; 20]>,
-    pub(crate) sha256s: Rows<[u8; 32]>,
+    pub(crate) shelves: Shelves<S>,
+    pub(crate) keys: TextMap<()>,
+    pub(crate) sha1s: BTreeSet<[u8; 20]>,
+    pub(crate) sha256s: BTreeSet<[u8; 32]>,
 }
 
 impl<S: Spans> Model for Revocations<S> {
-    ghost use Rattle.std.specs.Prelude.{map};
     ghost use Rattle.krl_core.specs.Contents.{Contents, contents_of, IsOrderly};
-    ghost use Rattle.krl_core.specs.Shelf.{sections_of};
-    ghost use Rattle.krl_core.specs.Text.{bytes_of};
+    ghost use Rattle.krl_core.specs.TextMap.{names_of};
 
     ghost Value = { Contents };
 
-    ghost view = { λ r.
-        contents_of (sections_of S.spans r.shelves) (map bytes_of r.keys) r.sha1s r.sha256s };
+    ghost view = { λ r. contents_of r.shelves (names_of r.keys) r.sha1s.keys r.sha256s.keys };
 
     ghost invariant = { λ r. IsOrderly
-        (contents_of (sections_of S.spans r.shelves) (map bytes_of r.keys) r.sha1s r.sha256s) };
+        (contents_of r.shelves (names_of r.keys) r.sha1s.keys r.sha256s.keys) };
 }
 
 impl<S: Spans> Revocations<S> {
@@ -53,11 +45,10 @@ impl<S: Spans> Revocations<S> {
     {
         Revocations {
             alloc,
-            shelves: Rows::new(alloc),
-            recent: Bookmark::FIRST,
-            keys: Rows::new(alloc),
-            sha1s: Rows::new(alloc),
-            sha256s: Rows::new(alloc),
+            shelves: Shelves::new(alloc),
+            keys: TextMap::new(alloc),
+            sha1s: BTreeSet::new(alloc),
+            sha256s: BTreeSet::new(alloc),
         }
     }
 
@@ -84,13 +75,7 @@ impl<S: Spans> Revocations<S> {
     {
         let bytes = bytes_or_none(authority);
         let addition = Addition::Serials { lo, hi };
-        add_under(
-            self.alloc,
-            &mut self.shelves,
-            &mut self.recent,
-            bytes,
-            addition,
-        )?;
+        self.shelves.add(bytes, addition)?;
         Ok(())
     }
 
@@ -110,13 +95,7 @@ impl<S: Spans> Revocations<S> {
     {
         let bytes = bytes_or_none(authority);
         let addition = Addition::Id(id);
-        add_under(
-            self.alloc,
-            &mut self.shelves,
-            &mut self.recent,
-            bytes,
-            addition,
-        )?;
+        self.shelves.add(bytes, addition)?;
         Ok(())
     }
 
@@ -128,7 +107,7 @@ impl<S: Spans> Revocations<S> {
         ensures stored { stored self.new ≤ stored self.old + length blob.now }
         ensures sections { self.new.sections ≡ self.old.sections }
     {
-        add_text(self.alloc, &mut self.keys, blob)?;
+        self.keys.put(self.alloc, blob, ())?;
         Ok(())
     }
 
@@ -141,7 +120,7 @@ impl<S: Spans> Revocations<S> {
         ensures stored { stored self.new ≤ stored self.old + 20 }
         ensures sections { self.new.sections ≡ self.old.sections }
     {
-        add_hash(self.alloc, &mut self.sha1s, hash)?;
+        self.sha1s.insert(*hash)?;
         Ok(())
     }
 
@@ -154,7 +133,7 @@ impl<S: Spans> Revocations<S> {
         ensures stored { stored self.new ≤ stored self.old + 32 }
         ensures sections { self.new.sections ≡ self.old.sections }
     {
-        add_hash(self.alloc, &mut self.sha256s, hash)?;
+        self.sha256s.insert(*hash)?;
         Ok(())
     }
 }

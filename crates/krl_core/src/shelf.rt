@@ -1,50 +1,31 @@
 // What is held under one authority.
-ghost use Rattle.std.specs.Prelude.{◌≡◌, MatchResult, IfOk};
+ghost use Rattle.std.specs.Prelude.{◌≡◌, ℕ, List, MatchResult, IfOk};
 ghost use Rattle.krl_core.specs.Changes.{Takes, IsOrdered, empty_section};
 
 use crate::addition::Addition;
-use crate::keyed::Keyed;
-use crate::rows::Rows;
-use crate::text::Text;
-use crate::texts::add_text;
+use crate::ids::Ids;
 use serial_set::Spans;
 use std::alloc::{AllocError, Global};
 
-/// The serials and key IDs under the authority with these bytes, or under all where there are none.
+/// The serials and key IDs under an authority, or under all.
 #[derive(Drop)]
 pub struct Shelf<S: Spans> {
-    pub authority: Vec<u8>,
-    pub spans: S,
-    pub ids: Rows<Text>,
-}
-
-impl<S: Spans> Keyed for Shelf<S> {
-    const PAGE: usize = 64;
-
-    ghost key = { λ shelf. shelf.authority.items };
-
-    fn key(&self) -> &[u8] {
-        self.authority.as_slice()
-    }
+    pub(crate) spans: S,
+    pub(crate) ids: Ids,
 }
 
 impl<S: Spans> Shelf<S> {
     ghost use Rattle.krl_core.specs.Shelf.{section_of};
 
     /// A shelf that holds what is added and no more.
-    pub(crate) fn with(
-        alloc: Global,
-        authority: &[u8],
-        addition: Addition<'_>,
-    ) -> Result<Shelf<S>, AllocError>
+    pub(crate) fn with(alloc: Global, addition: Addition<'_>) -> Result<Shelf<S>, AllocError>
         requires { IsOrdered addition }
-        ensures { IfOk result (λ shelf.
-            Takes addition.entry (empty_section authority.now) (section_of S.spans shelf)) }
+        ensures { (authority : List ℕ) → IfOk result (λ shelf. Takes addition.entry
+            (empty_section authority) (section_of S.spans (authority, shelf))) }
     {
         let mut shelf = Shelf {
-            authority: Vec::from_slice(alloc, authority)?,
             spans: S::empty(alloc)?,
-            ids: Rows::new(alloc),
+            ids: Ids::new(alloc),
         };
         shelf.add(alloc, addition)?;
         Ok(shelf)
@@ -52,13 +33,18 @@ impl<S: Spans> Shelf<S> {
 
     pub(crate) fn add(&mut self, alloc: Global, addition: Addition<'_>) -> Result<(), AllocError>
         requires { IsOrdered addition }
-        ensures { MatchResult result
-            (λ _. Takes addition.entry (section_of S.spans self.old) (section_of S.spans self.new))
-            (λ _. section_of S.spans self.new ≡ section_of S.spans self.old) }
+        ensures { (authority : List ℕ) → MatchResult result
+            (λ _. Takes addition.entry (section_of S.spans (authority, self.old))
+            (section_of S.spans (authority, self.new)))
+            (λ _. section_of S.spans (authority, self.new)
+            ≡ section_of S.spans (authority, self.old)) }
     {
         match addition {
             Addition::Serials { lo, hi } => self.spans.add(lo, hi),
-            Addition::Id(text) => add_text(alloc, &mut self.ids, text),
+            Addition::Id(text) => {
+                self.ids.put(alloc, text)?;
+                Ok(())
+            }
         }
     }
 }

@@ -1,34 +1,94 @@
-// Sets of byte strings.
-ghost use Rattle.std.specs.Prelude.{◌≡◌, map, OnOk, OnErr};
-ghost use Rattle.krl_core.specs.Changes.{Puts};
-ghost use Rattle.krl_core.specs.Text.{bytes_of};
+// A walk over byte strings, in order.
+ghost use Rattle.std.specs.Prelude.{◌≡◌, ◌∷◌, [], MatchOption};
+ghost use Rattle.krl_core.specs.Ids.{texts_of};
+ghost use Rattle.krl_core.specs.TextMap.{names_of};
 
-use crate::rows::Rows;
-use crate::text::Text;
-use std::alloc::{AllocError, Global};
+use crate::text_map::TextMap;
+use crate::text_walk::TextWalk;
+use std::collections::BTreeSet;
+use std::collections::btree_set::Iter;
+use std::marker::Model;
 
-// Adds a byte string, if it is not there.
-pub(crate) fn add_text(
-    alloc: Global,
-    texts: &mut Rows<Text>,
-    bytes: &[u8],
-) -> Result<(), AllocError>
-    ensures ok { OnOk result (Puts (map bytes_of texts.old) bytes.now (map bytes_of texts.new)) }
-    ensures err { OnErr result (texts.new ≡ texts.old) }
-{
-    texts.add_new(alloc, Text::new(alloc, bytes)?)?;
-    Ok(())
+// Where the byte strings come from.
+#[derive(Drop)]
+pub(crate) enum Left<'a> {
+    Few(&'a [Vec<u8>]),
+    Names(TextWalk<'a, ()>),
+    Sha1s(Iter<'a, [u8; 20]>),
+    Sha256s(Iter<'a, [u8; 32]>),
 }
 
-// Adds a hash, if it is not there.
-pub(crate) fn add_hash<const N: usize>(
-    alloc: Global,
-    hashes: &mut Rows<[u8; N]>,
-    hash: &[u8; N],
-) -> Result<(), AllocError>
-    ensures ok { OnOk result (Puts hashes.old hash.now hashes.new) }
-    ensures err { OnErr result (hashes.new ≡ hashes.old) }
-{
-    hashes.add_new(alloc, *hash)?;
-    Ok(())
+/// The byte strings that a walk has left, in order. Contracts see it as their list.
+#[derive(Drop)]
+pub struct Texts<'a> {
+    left: Left<'a>,
+}
+
+impl<'a> Model for Texts<'a> {
+    ghost use Rattle.std.specs.Prelude.{ℕ, List};
+    ghost use Rattle.krl_core.specs.Texts.{texts_left};
+
+    ghost Value = { List (List ℕ) };
+
+    ghost view = { λ texts. texts_left texts.left };
+}
+
+impl<'a> Texts<'a> {
+    pub(crate) fn few(texts: &'a [Vec<u8>]) -> Texts<'a>
+        ensures { result ≡ texts_of texts.now }
+    {
+        Texts {
+            left: Left::Few(texts),
+        }
+    }
+
+    pub(crate) fn names(map: &'a TextMap<()>) -> Texts<'a>
+        ensures { result ≡ names_of map.now }
+    {
+        Texts {
+            left: Left::Names(TextWalk::over(map)),
+        }
+    }
+
+    pub(crate) fn sha1s(hashes: &'a BTreeSet<[u8; 20]>) -> Texts<'a>
+        ensures { result ≡ hashes.now.keys }
+    {
+        Texts {
+            left: Left::Sha1s(hashes.iter()),
+        }
+    }
+
+    pub(crate) fn sha256s(hashes: &'a BTreeSet<[u8; 32]>) -> Texts<'a>
+        ensures { result ≡ hashes.now.keys }
+    {
+        Texts {
+            left: Left::Sha256s(hashes.iter()),
+        }
+    }
+
+    /// The first of the byte strings that are left, if there is one.
+    pub fn next(&mut self) -> Option<&'a [u8]>
+        ensures { MatchOption result ((self.old ≡ []) × (self.new ≡ []))
+            (λ text. self.old ≡ text.now ∷ self.new) }
+    {
+        match &mut self.left {
+            Left::Few(texts) => {
+                let (first, rest) = texts.split_first()?;
+                *texts = rest;
+                Some(first.as_slice())
+            }
+            Left::Names(walk) => {
+                let (name, _) = walk.next()?;
+                Some(name)
+            }
+            Left::Sha1s(walk) => {
+                let hash = walk.next()?;
+                Some(hash.as_slice())
+            }
+            Left::Sha256s(walk) => {
+                let hash = walk.next()?;
+                Some(hash.as_slice())
+            }
+        }
+    }
 }

@@ -8,6 +8,7 @@ mod holding;
 mod hostile;
 mod lists;
 mod many;
+mod page;
 mod plain_model;
 mod plain_reader;
 mod random_lists;

@@ -14,15 +14,15 @@ use Rattle.ssh_key.specs.KeyFile.{has_key}
 use Rattle.ssh_key.specs.LineReading.{line_at}
 use Rattle.ssh_key.specs.Lines.{is_newline}
 use Rattle.ssh_key.specs.declared.private_fault.PrivateFault.{PrivateFault}
-use Rattle.ssh_cert.specs.Subject.{Subject}
+use Rattle.ssh_subject.specs.Subject.{Subject}
 use Rattle.ssh_cert.specs.SubjectReading.{subject_of}
 use Rattle.krl_spec.specs.Entry.{subject_in}
 use Rattle.krl_spec.specs.LineBytes.{lines_bytes}
 use Rattle.krl_spec.specs.Naming.{IsKeyCause, IsKeyFault, IsSubjectLine}
-use Rattle.krl_spec.specs.declared.spec_cause.KeyCause.{KeyCause}
-use Rattle.krl_spec.specs.declared.spec_cause.KeyCause.TheVariants as keys
-use Rattle.krl_spec.specs.declared.spec_cause.SpecCause.{SpecCause}
-use Rattle.krl_spec.specs.declared.spec_cause.SpecCause.TheVariants as causes
+use Rattle.spec_fault.specs.declared.spec_cause.KeyCause.{KeyCause}
+use Rattle.spec_fault.specs.declared.spec_cause.KeyCause.TheVariants as keys
+use Rattle.spec_fault.specs.declared.spec_cause.SpecCause.{SpecCause}
+use Rattle.spec_fault.specs.declared.spec_cause.SpecCause.TheVariants as causes
 use Rattle.krl_runs.specs.Stop.{Stop}
 use Rattle.krl_runs.specs.declared.input.file_fault.FileFault.TheVariants as files
 use Rattle.krl_make.specs.FirstKey.{HaveNoKey, IsFirstKey, IsFirstKeyFault, IsFirstKeyLine, in_container, in_line, key_stop, of_container, of_line, without_key}

@@ -3,7 +3,7 @@ use Rattle.std.proofs.Common.{◌≡◌, ℕ, ◌+◌, ◌<◌, ◌≤◌, Bool,
 use Rattle.std.proofs.lemmas.List.{append-nil, take_more, take-append-drop}
 use Rattle.std.proofs.Math.Logic.Iff as Iff
 use Rattle.ssh_key.specs.Container.{IsContainer}
-use Rattle.ssh_cert.specs.Subject.{Subject}
+use Rattle.ssh_subject.specs.Subject.{Subject}
 use Rattle.ssh_cert.specs.SubjectReading.{IsSubject}
 use Rattle.krl_core.specs.Laws.{HeldRevokes, WrittenNames}
 use Rattle.krl_core.specs.Contents.{Contents, Means}
@@ -21,10 +21,11 @@ use Rattle.krl_make.specs.declared.authority.Authority.{Authority}
 use Rattle.krl_core.specs.declared.krl_fault.KrlFault.TheVariants as faults
 use Rattle.krl_runs.specs.Run.{File}
 use Rattle.krl_core.specs.Changes.{MeansMore}
-use Rattle.krl_spec.specs.Keys.{key_room, plain_is_key}
+use Rattle.krl_spec.specs.Keys.{key_room}
+use Rattle.ssh_cert.specs.SubjectReading.{plain_is_key}
 use Rattle.krl_spec.specs.SpecFile.{ReadsSpec, StopsAt, lines_of}
-use Rattle.krl_spec.specs.declared.spec_cause.SpecCause.{SpecCause}
-use Rattle.krl_spec.specs.declared.spec_cause.SpecCause.TheVariants as specs
+use Rattle.spec_fault.specs.declared.spec_cause.SpecCause.{SpecCause}
+use Rattle.spec_fault.specs.declared.spec_cause.SpecCause.TheVariants as specs
 use Rattle.krl_runs.specs.Stop.{Stop, Ender, ByInput, ByMemory, ByOutput, ender_of, stop_of}
 
 -- ---- the old list

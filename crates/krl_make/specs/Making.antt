@@ -22,7 +22,7 @@ use Rattle.ssh_key.specs.KeyFile.{has_key}
 use Rattle.ssh_key.specs.LineReading.{line_at}
 use Rattle.ssh_key.specs.declared.line_fault.LineFault.{LineFault}
 use Rattle.ssh_key.specs.declared.private_fault.PrivateFault.{PrivateFault}
-use Rattle.ssh_cert.specs.Subject.{Subject}
+use Rattle.ssh_subject.specs.Subject.{Subject}
 use Rattle.ssh_cert.specs.SubjectReading.{subject_of}
 use Rattle.ssh_cert.specs.declared.subject_fault.SubjectFault.{SubjectFault}
 use Rattle.krl_make.specs.declared.authority.Authority.{Authority}
@@ -34,9 +34,9 @@ use Rattle.krl_runs.specs.declared.input.file_fault.FileFault.{FileFault}
 use Rattle.krl_runs.specs.declared.input.file_fault.FileFault.TheVariants as files
 use Rattle.krl_runs.specs.declared.output.cause.Cause.TheVariants as causes
 use Rattle.krl_core.specs.Changes.{MeansMore}
-use Rattle.krl_spec.specs.declared.spec_cause.SpecCause.{SpecCause}
-use Rattle.krl_spec.specs.declared.spec_cause.SpecCause.TheVariants as specs
-use Rattle.krl_spec.specs.declared.spec_fault.SpecFault.{SpecFault}
+use Rattle.spec_fault.specs.declared.spec_cause.SpecCause.{SpecCause}
+use Rattle.spec_fault.specs.declared.spec_cause.SpecCause.TheVariants as specs
+use Rattle.spec_fault.specs.declared.spec_fault.SpecFault.{SpecFault}
 use Rattle.krl_runs.specs.Query.{krl_cause}
 use Rattle.krl_runs.specs.Run.{File, stop_at}
 use Rattle.krl_spec.specs.SpecFile.{lines_of}

@@ -1,6 +1,7 @@
 pub mod Sorts
 pub mod Plan
 pub mod Search
+pub mod Marks
 pub mod Window
 pub mod Lists
 pub mod Bitmaps

@@ -8,7 +8,7 @@ ghost use Rattle.krl_plan.specs.Written.{plan_text};
 use crate::group::Group;
 use crate::group_text::put_group;
 use crate::planner::{copy_runs, least_plan};
-use serial_set::Spans;
+use serial_set::{Spans, next_after};
 use std::alloc::{AllocError, Global};
 
 // Appends the subsections of a plan of a set's runs, one after the other.
@@ -22,14 +22,11 @@ pub(crate) fn put_plan<S: Spans>(
     ensures { OnOk result (out.new.items ≡ out.old.items ++ plan_text (S.spans set.now) plan.now) }
 {
     let mut window = Vec::new(alloc);
-    // No place is past the last run.
-    let _runs = set.len();
-    let mut at = 0;
+    let mut next = Some(0);
     for group in plan {
-        let end = at + group.count as usize;
-        copy_runs(set, at, end, &mut window)?;
+        copy_runs(set, next, group.count as usize, &mut window)?;
         put_group(out, group.sort, &window)?;
-        at = end;
+        next = next_after(&window);
     }
     Ok(())
 }

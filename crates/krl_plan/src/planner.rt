@@ -1,6 +1,8 @@
 // The least plan of a set of serials.
 
-ghost use Rattle.std.specs.Prelude.{◌≡◌, ◌-◌, ◌*◌, ◌≤◌, length, take, drop, IfOk, OnOk};
+ghost use Rattle.std.specs.Prelude.{◌≡◌, ◌*◌, ◌≤◌, length, take, IfOk, OnOk};
+ghost use Rattle.serial_set.specs.Walk.{left};
+ghost use Rattle.krl_plan.specs.Marks.{AreMarks};
 ghost use Rattle.krl_plan.specs.Plan.{IsLeastPlan, cost};
 
 use crate::group::Group;
@@ -9,7 +11,7 @@ use serial_set::{Span, Spans};
 use std::alloc::{AllocError, Global};
 
 // How many runs are copied from a set at a time.
-const PIECE: usize = 1024;
+const WINDOW: usize = 1024;
 
 /// The plan of a set's runs that costs least. Of plans that cost the same it is the one whose group
 /// comes first where they differ: a list of serials, a range, a bitmap, and of one sort the longer.
@@ -18,36 +20,58 @@ pub fn least_plan<S: Spans>(alloc: Global, set: &S) -> Result<Vec<Group>, AllocE
     ensures small { IfOk result
         (λ plan. cost (S.spans set.now) plan.items ≤ 21 * length (S.spans set.now)) }
 {
-    let mut from = set.len();
-    let mut table = Table::new(alloc, from);
+    // The runs are planned from the last to the first, and a set gives them from the first on.
+    let mut table = Table::new(alloc, set.len());
+    let mut marks = marks_of(alloc, set)?;
     let mut window = Vec::new(alloc);
-    while from > 0 {
-        let end = from;
-        from -= end.min(PIECE);
-        copy_runs(set, from, end, &mut window)?;
-        table.add_all(&window, from)?;
+    while let Some(number) = marks.pop() {
+        copy_runs(set, Some(number), WINDOW, &mut window)?;
+        table.add_all(&window, marks.len() * WINDOW)?;
     }
     table.plan(alloc)
 }
 
-// Puts the runs of a set from one place up to another into a vector.
+// The number from which each window of the runs is left, the first window's first.
+fn marks_of<S: Spans>(alloc: Global, set: &S) -> Result<Vec<u64>, AllocError>
+    ensures { IfOk result (λ marks. AreMarks (S.spans set.now) marks.items) }
+{
+    let mut marks = Vec::new(alloc);
+    let mut next = Some(0);
+    // How many runs come before the next mark.
+    let mut skip = 0;
+    while let Some(number) = next {
+        let piece = set.piece_from(number);
+        let runs = piece.as_slice();
+        if skip < runs.len() {
+            marks.push(runs[skip].lo)?;
+            skip += WINDOW;
+        }
+        skip -= runs.len();
+        next = piece.next();
+    }
+    Ok(marks)
+}
+
+// Puts the runs that a walk comes to next into a vector, this many of them or all that are left.
 pub(crate) fn copy_runs<S: Spans>(
     set: &S,
-    from: usize,
-    end: usize,
+    from: Option<u64>,
+    count: usize,
     window: &mut Vec<Span>,
 ) -> Result<(), AllocError>
-    requires from { from ≤ end }
-    requires within { end ≤ length (S.spans set.now) }
-    ensures { OnOk result (window.new.items ≡ take (end - from) (drop from (S.spans set.now))) }
+    ensures { OnOk result (window.new.items ≡ take count (left from (S.spans set.now))) }
 {
     window.clear();
-    let mut at = from;
-    while at < end {
-        let piece = set.piece(at);
-        let some = piece.len().min(end - at);
-        window.extend_from_slice(&piece[..some])?;
-        at += some;
+    let mut next = from;
+    while let Some(number) = next {
+        let piece = set.piece_from(number);
+        window.extend_from_slice(piece.as_slice())?;
+        next = if window.len() < count {
+            piece.next()
+        } else {
+            None
+        };
     }
+    window.truncate(count);
     Ok(())
 }

@@ -1,108 +1,61 @@
--- Answering for the lines of a text, and for files, one after the other.
-use Rattle.std.proofs.Common.{◌≡◌, ℕ, ◌+◌, ◌<◌, ◌||◌, Bool, true, false, List, [], ◌∷◌, ◌++◌, length, take, drop, get_or, Option, None, Some, Result, Ok, Err, refl, sym, ap, subst, ◌∙◌, append_assoc}
-use Rattle.std.specs.Option.{option_to_list}
+-- Answering for the keys of a file, and for files, one after the other.
+use Rattle.std.proofs.Common.{◌≡◌, ℕ, ◌+◌, ◌<◌, ◌||◌, Bool, true, false, List, [], ◌∷◌, ◌++◌, length, map, take, drop, get_or, Option, None, Some, Result, Ok, Err, refl, sym, ap, subst, ◌∙◌, append_assoc}
 use Rattle.std.proofs.lemmas.List.{append-nil, take_more, take-append-drop}
 use Rattle.std.proofs.Math.Bool.{or-false, or-true}
 use Rattle.std.proofs.lemmas.List.Concat.{flat_map-append}
-use Rattle.krl_runs.specs.declared.output.cause.Cause.TheVariants.{File, NoMemory, Private}
-use Rattle.ssh_cert.specs.Subject.{Subject}
+use Rattle.krl_runs.specs.declared.output.cause.Cause.TheVariants.{File, NoMemory}
+use Rattle.ssh_cert.specs.AnyKey.{IsReadAs, asked_of, plain_of}
+use Rattle.ssh_subject.specs.Subject.{Subject}
 use Rattle.ssh_cert.specs.SubjectReading.{subject_of}
+use Rattle.ssh_cert.specs.declared.any_key.AnyKey.{AnyKey}
 use Rattle.ssh_cert.specs.declared.subject_fault.SubjectFault.{SubjectFault}
-use Rattle.ssh_cert.specs.declared.subject_fault.SubjectFault.TheVariants.{Key as KeyFaults}
-use Rattle.ssh_key.specs.KeyFile.{has_key}
 use Rattle.ssh_key.specs.Key.{Key}
 use Rattle.ssh_key.specs.KeyReading.{key_at}
-use Rattle.ssh_key.specs.ContainerReading.{Opened}
-use Rattle.ssh_key.specs.LineReading.{Content, line_at}
 use Rattle.ssh_key.specs.declared.fault.KeyFault.{KeyFault}
-use Rattle.ssh_key.specs.declared.line_fault.LineFault.{LineFault}
-use Rattle.ssh_key.specs.declared.private_fault.PrivateFault.{PrivateFault}
 use Rattle.krl_runs.specs.Carries.{Carries}
 use Rattle.krl_runs.specs.declared.output.answer.Answer.{Answer}
 use Rattle.krl_runs.specs.Printer.{Printed}
-use Rattle.krl_runs.specs.Run.{File as FileOf, Item, Answered, Answering, GivesAnswer, GivesItem, Passed, Stopped, IsWithheld, name_of, content_item, container_item, key_item, stop_in, subject_item, file_items, files_items, held_by, item_of, line_items, or_silence, said, silence_of, tells}
-use Rattle.krl_runs.specs.Stop.{Stop, ByMemory, ender_of, stop_of}
-use Rattle.krl_runs.proofs.Carrying.{carries_more, carries_none, carries_passed, carries_then, carries_withheld, no_item}
+use Rattle.krl_runs.specs.Run.{File as FileOf, Found, GivesKey, IsRefused, IsWithheld, Item, Answered, Answering, Passed, Stopped, file_items, file_of, files_items, found_item, key_item, keys_of, name_of, said, silence_of, stop_in, subject_item, tells}
+use Rattle.krl_runs.specs.Stop.{Stop, Ender, ByInput, ByMemory, ByOutput, ender_of, stop_of}
+use Rattle.krl_runs.proofs.Carrying.{carries_more, carries_none, carries_passed, carries_then, carries_withheld}
 
--- ---- a line
+-- ---- a key
 
 said-name : (name : List ℕ) (answer : Option Answer) → name_of (said name answer) ≡ name
 said-name name None = refl
 said-name name (Some answer) = refl
 
-key_item-name : (answer : Answering) (name : List ℕ) (number : Option ℕ) (content : Content) (asked : Subject) (key : Result Key KeyFault) → name_of (key_item answer name number content asked key) ≡ name
-key_item-name answer name number content asked (Ok key) = said-name name (answer.say name number content asked key)
-key_item-name answer name number content asked (Err fault) = refl
+key_item-name : (answer : Answering) (key : Found) (asked : Subject) (plain : Result Key KeyFault) → name_of (key_item answer key asked plain) ≡ key.name
+key_item-name answer key asked (Ok plain) = said-name key.name (answer.say key.name key.number key.line asked plain)
+key_item-name answer key asked (Err fault) = refl
 
-subject_item-name : (answer : Answering) (name : List ℕ) (number : Option ℕ) (content : Content) (read : Result Subject SubjectFault) → name_of (subject_item answer name number content read) ≡ name
-subject_item-name answer name number content (Ok asked) = key_item-name answer name number content asked (key_at asked.plain)
-subject_item-name answer name number content (Err fault) = refl
+subject_item-name : (answer : Answering) (key : Found) (read : Result Subject SubjectFault) → name_of (subject_item answer key read) ≡ key.name
+subject_item-name answer key (Ok asked) = key_item-name answer key asked (key_at asked.plain)
+subject_item-name answer key (Err fault) = refl
 
-content_item-name : (answer : Answering) (name : List ℕ) (number : ℕ) (read : Result Content LineFault) → name_of (content_item answer name number read) ≡ name
-content_item-name answer name number (Ok content) = subject_item-name answer name (Some number) content (subject_of content.blob)
-content_item-name answer name number (Err fault) = refl
+-- what is said of a key is about its file
+found_item-name : (answer : Answering) (next : Result Found Stop) → name_of (found_item answer next) ≡ file_of next
+found_item-name answer (Ok key) = subject_item-name answer key (subject_of key.line.blob)
+found_item-name answer (Err stop) = refl
 
--- memory ran out before a line was answered
-pub starved : (answer : Answering) (name : List ℕ) (number : ℕ) (line : List ℕ) → has_key line ≡ true → IsWithheld ByMemory (item_of answer name number line) name (stop_of name NoMemory)
-unfolding item_of
-starved answer name number line has = rw has (refl, (content_item answer name number (line_at line), refl, content_item-name answer name number (line_at line)))
-
--- or before a blob was answered
-pub blob_starved : (answer : Answering) (name : List ℕ) (number : Option ℕ) (content : Content) (read : Result Subject SubjectFault) → IsWithheld ByMemory (Some (subject_item answer name number content read)) name (stop_of name NoMemory)
-blob_starved answer name number content read = (refl, (subject_item answer name number content read, refl, subject_item-name answer name number content read))
+-- memory ran out before a key was answered
+pub starved : (answer : Answering) (key : Found) → IsWithheld ByMemory (found_item answer (Ok key)) (stop_of key.name NoMemory)
+starved answer key = ap (λ (name : List ℕ). stop_of name NoMemory) (sym (found_item-name answer (Ok key)))
 
 -- a blob was answered
-pub blob_answered : (answer : Answering) (name : List ℕ) (number : Option ℕ) (content : Content) (asked : Subject) (key : Key) → subject_of content.blob ≡ Ok asked → key_at asked.plain ≡ Ok key
-    → subject_item answer name number content (subject_of content.blob) ≡ said name (answer.say name number content asked key)
-blob_answered answer name number content asked key is_asked is_key = ap (subject_item answer name number content) is_asked ∙ ap (key_item answer name number content asked) is_key
+pub blob_answered : (answer : Answering) (key : Found) (asked : Subject) (plain : Key) → subject_of key.line.blob ≡ Ok asked → key_at asked.plain ≡ Ok plain
+    → found_item answer (Ok key) ≡ said key.name (answer.say key.name key.number key.line asked plain)
+blob_answered answer key asked plain is_asked is_plain = ap (subject_item answer key) is_asked ∙ ap (key_item answer key asked) is_plain
+
+pub key_answered : (answer : Answering) (key : Found) (any : AnyKey) (reply : Option Answer) → IsReadAs key.line.blob any → reply ≡ answer.say key.name key.number key.line (asked_of any) (plain_of any)
+    → found_item answer (Ok key) ≡ said key.name reply
+key_answered answer key any reply is told = blob_answered answer key (asked_of any) (plain_of any) is.asked is.plain ∙ ap (said key.name) (sym told)
 
 -- a blob has a first fault
-pub blob_refused : (answer : Answering) (name : List ℕ) (number : Option ℕ) (content : Content) (fault : SubjectFault) → subject_of content.blob ≡ Err fault
-    → subject_item answer name number content (subject_of content.blob) ≡ Stopped (stop_in name number fault)
-blob_refused answer name number content fault is_fault = ap (subject_item answer name number content) is_fault
+pub blob_refused : (answer : Answering) (key : Found) (fault : SubjectFault) → subject_of key.line.blob ≡ Err fault → found_item answer (Ok key) ≡ Stopped (stop_in key fault)
+blob_refused answer key fault is_fault = ap (subject_item answer key) is_fault
 
-pub key_refused : (answer : Answering) (name : List ℕ) (number : Option ℕ) (content : Content) (asked : Subject) (fault : KeyFault) → subject_of content.blob ≡ Ok asked → key_at asked.plain ≡ Err fault
-    → subject_item answer name number content (subject_of content.blob) ≡ Stopped (stop_in name number (KeyFaults fault))
-key_refused answer name number content asked fault is_asked is_fault = ap (subject_item answer name number content) is_asked ∙ ap (key_item answer name number content asked) is_fault
-
--- the item of a line is that of what it holds
-pub line_item : (answer : Answering) (name : List ℕ) (number : ℕ) (line : List ℕ) (content : Content) → has_key line ≡ true → line_at line ≡ Ok content
-    → item_of answer name number line ≡ Some (subject_item answer name (Some number) content (subject_of content.blob))
-unfolding item_of
-line_item answer name number line content has is_line = rw has (ap Some (ap (content_item answer name number) is_line))
-
--- what was found out of a blob is that of its line
-pub item_given : (item : Option Item) (read : Item) (name : List ℕ) (result : Result (Option Answer) Stop) → item ≡ Some read → GivesAnswer read name result → GivesItem item name result
-item_given item read name (Ok None) is given = ap (λ (i : Option Item). tells (option_to_list i)) is ∙ ap (λ (i : Item). tells (i ∷ [])) given
-item_given item read name (Ok (Some answer)) is given = is ∙ ap Some given
-item_given item read name (Err stop) is given = rw is given
-
--- ---- a container
-
-container_item-name : (answer : Answering) (name : List ℕ) (read : Result Opened PrivateFault) → name_of (container_item answer name read) ≡ name
-container_item-name answer name (Ok opened) = subject_item-name answer name None (held_by opened) (subject_of opened.blob)
-container_item-name answer name (Err fault) = refl
-
--- memory ran out before a container was answered
-pub container_starved : (answer : Answering) (name : List ℕ) (read : Result Opened PrivateFault) → IsWithheld ByMemory (Some (container_item answer name read)) name (stop_of name NoMemory)
-container_starved answer name read = (refl, (container_item answer name read, refl, container_item-name answer name read))
-
--- a container has a first fault
-pub container_refused : (answer : Answering) (name : List ℕ) (fault : PrivateFault) (read : Result Opened PrivateFault) → read ≡ Err fault → Some (container_item answer name read) ≡ Some (Stopped (stop_of name (Private fault)))
-container_refused answer name fault read is = ap (λ (r : Result Opened PrivateFault). Some (container_item answer name r)) is
-
--- nothing is said of a container
-pub container_passed : (item : Item) (name : List ℕ) (now : Printed) → item ≡ Passed name → now.failed ≡ false → Carries (item ∷ []) (Ok false) now now
-container_passed item name now is working =
-    rw is (carries_then (Passed name ∷ []) [] tt (Ok false) now now now (carries_passed name now working) (carries_none false now working))
-
--- it is answered
-pub container_answered : (item : Item) (name : List ℕ) (answer : Answer) (old new : Printed) → item ≡ Answered name answer
-    → Carries (Answered name answer ∷ []) (Ok (tt {0})) old new → Carries (item ∷ []) (Ok true) old new
-container_answered item name answer old new is carries =
-    rw is (record { says = carries.says; failed = carries.failed; writer = carries.writer })
-
--- ---- the lines of a text
+-- ---- the keys of a file
 
 tells-append : (items more : List Item) → tells items || tells more ≡ tells (items ++ more)
 tells-append [] more = refl
@@ -110,122 +63,112 @@ tells-append (Answered name answer ∷ items) more = refl
 tells-append (Passed name ∷ items) more = tells-append items more
 tells-append (Stopped stop ∷ items) more = refl
 
--- All the items are those that were said so far and then those of the lines that are left, of which the
--- first has this number.
-pub record IsReached (answer : Answering) (name : List ℕ) (items : List Item) (number : ℕ) (lines : List (List ℕ)) (found : Bool) (old now : Printed) : Type 0 where
+-- All the items are those that were said so far and those of the keys that are left.
+pub record IsReached (answer : Answering) (items : List Item) (left : List (Result Found Stop)) (told : Bool) (old now : Printed) : Type 0 where
   pub done : List Item
-  pub parts : items ≡ done ++ line_items answer name number lines
+  pub parts : items ≡ done ++ map (found_item answer) left
   pub carried : Carries done (Ok (tt {0})) old now
-  pub any : found ≡ tells done
+  pub any : told ≡ tells done
 
-pub none_reached : (answer : Answering) (name : List ℕ) (lines : List (List ℕ)) (now : Printed) → now.failed ≡ false → IsReached answer name (line_items answer name 1 lines) 1 lines false now now
-none_reached answer name lines now working = record { done = []; parts = refl; carried = carries_none tt now working; any = refl }
+-- the items of a file are those of its keys, and its end
+abbrev pub key_items : Answering → FileOf → List Item
+key_items answer file = map (found_item answer) (keys_of file)
 
--- the item of the next line stands after what was said
-parts_next : (answer : Answering) (name : List ℕ) (items : List Item) (number : ℕ) (line : List ℕ) (lines : List (List ℕ)) (found : Bool) (old now : Printed)
-    → (reached : IsReached answer name items number (line ∷ lines) found old now)
-    → items ≡ (reached.done ++ option_to_list (item_of answer name number line)) ++ line_items answer name (number + 1) lines
-parts_next answer name items number line lines found old now reached =
-    reached.parts ∙ sym (append_assoc reached.done (option_to_list (item_of answer name number line)) (line_items answer name (number + 1) lines))
+pub none_reached : (answer : Answering) (file : FileOf) (now : Printed) → IsReached answer (key_items answer file) (keys_of file) false now now
+none_reached answer file now = record { done = []; parts = refl; carried = carries_none tt now; any = refl }
 
-one_reached : (answer : Answering) (name : List ℕ) (items : List Item) (number : ℕ) (line : List ℕ) (lines : List (List ℕ)) (found : Bool) (old now new : Printed)
-    → IsReached answer name items number (line ∷ lines) found old now
-    → Carries (option_to_list (item_of answer name number line)) (Ok (tt {0})) now new
-    → IsReached answer name items (number + 1) lines (found || tells (option_to_list (item_of answer name number line))) old new
-one_reached answer name items number line lines found old now new reached carries = record {
-  done = reached.done ++ option_to_list (item_of answer name number line);
-  parts = parts_next answer name items number line lines found old now reached;
-  carried = carries_then reached.done (option_to_list (item_of answer name number line)) tt (Ok tt) old now new reached.carried carries;
-  any = ap (λ (b : Bool). b || tells (option_to_list (item_of answer name number line))) reached.any ∙ tells-append reached.done (option_to_list (item_of answer name number line));
+one_reached : (answer : Answering) (items : List Item) (next : Result Found Stop) (left : List (Result Found Stop)) (item : Item) (told : Bool) (old now new : Printed)
+    → IsReached answer items (next ∷ left) told old now → found_item answer next ≡ item → Carries (item ∷ []) (Ok (tt {0})) now new
+    → IsReached answer items left (told || tells (item ∷ [])) old new
+one_reached answer items next left item told old now new reached is carries = record {
+  done = reached.done ++ item ∷ [];
+  parts = reached.parts ∙ ap (λ (i : Item). reached.done ++ i ∷ map (found_item answer) left) is ∙ sym (append_assoc reached.done (item ∷ []) (map (found_item answer) left));
+  carried = carries_then reached.done (item ∷ []) tt (Ok tt) old now new reached.carried carries;
+  any = ap (λ (b : Bool). b || tells (item ∷ [])) reached.any ∙ tells-append reached.done (item ∷ []);
 }
 
--- a line of which nothing is said
-silent_carries : (item : Option Item) (now : Printed) → tells (option_to_list item) ≡ false → now.failed ≡ false → Carries (option_to_list item) (Ok (tt {0})) now now
-silent_carries None now silent working = carries_none tt now working
-silent_carries (Some (Passed name)) now silent working = carries_passed name now working
-silent_carries (Some (Answered name answer)) now silent working = absurd cc
-silent_carries (Some (Stopped stop)) now silent working = absurd cc
+-- nothing is said of the next key
+pub key_passed : (answer : Answering) (items : List Item) (key : Found) (left : List (Result Found Stop)) (told : Bool) (old now : Printed)
+    → IsReached answer items (Ok key ∷ left) told old now → found_item answer (Ok key) ≡ Passed key.name → IsReached answer items left told old now
+key_passed answer items key left told old now reached is =
+    let next = one_reached answer items (Ok key) left (Passed key.name) told old now now reached is (carries_passed key.name now) in
+    subst (λ (b : Bool). IsReached answer items left b old now) (or-false told) next
 
--- nothing is said of the next line
-pub line_passed : (answer : Answering) (name : List ℕ) (items : List Item) (number : ℕ) (line : List ℕ) (lines : List (List ℕ)) (found : Bool) (old now : Printed)
-    → IsReached answer name items number (line ∷ lines) found old now → tells (option_to_list (item_of answer name number line)) ≡ false
-    → IsReached answer name items (number + 1) lines found old now
-line_passed answer name items number line lines found old now reached none =
-    let carries = silent_carries (item_of answer name number line) now none reached.carried.failed in
-    let next = one_reached answer name items number line lines found old now now reached carries in
-    let same : found || tells (option_to_list (item_of answer name number line)) ≡ found = ap (λ (b : Bool). found || b) none ∙ or-false found in
-    subst (λ (b : Bool). IsReached answer name items (number + 1) lines b old now) same next
+-- the next key is answered
+pub key_said : (answer : Answering) (items : List Item) (key : Found) (left : List (Result Found Stop)) (reply : Answer) (told : Bool) (old now new : Printed)
+    → IsReached answer items (Ok key ∷ left) told old now → found_item answer (Ok key) ≡ Answered key.name reply → Carries (Answered key.name reply ∷ []) (Ok (tt {0})) now new
+    → IsReached answer items left true old new
+key_said answer items key left reply told old now new reached is carries =
+    let next = one_reached answer items (Ok key) left (Answered key.name reply) told old now new reached is carries in
+    subst (λ (b : Bool). IsReached answer items left b old new) (or-true told) next
 
--- the next line is answered
-pub line_answered : (answer : Answering) (name : List ℕ) (items : List Item) (number : ℕ) (line : List ℕ) (lines : List (List ℕ)) (found : Bool) (other : List ℕ) (reply : Answer) (old now new : Printed)
-    → IsReached answer name items number (line ∷ lines) found old now → item_of answer name number line ≡ Some (Answered other reply) → Carries (Answered other reply ∷ []) (Ok (tt {0})) now new
-    → IsReached answer name items (number + 1) lines true old new
-line_answered answer name items number line lines found other reply old now new reached is_item carries =
-    let carried : Carries (option_to_list (item_of answer name number line)) (Ok (tt {0})) now new = rw is_item carries in
-    let next = one_reached answer name items number line lines found old now new reached carried in
-    let same : found || tells (option_to_list (item_of answer name number line)) ≡ true = ap (λ (i : Option Item). found || tells (option_to_list i)) is_item ∙ or-true found in
-    subst (λ (b : Bool). IsReached answer name items (number + 1) lines b old new) same next
-
--- the next line stopped the run
-pub line_stops : {A B : Type 0} (answer : Answering) (name : List ℕ) (items : List Item) (number : ℕ) (line : List ℕ) (lines : List (List ℕ)) (found : Bool) (item : Item) (stop : Stop) (old now new : Printed)
-    → IsReached answer name items number (line ∷ lines) found old now → item_of answer name number line ≡ Some item → Carries {A = A} (item ∷ []) (Err stop) now new
+-- the next key stopped the run
+pub key_stops : {A B : Type 0} (answer : Answering) (items : List Item) (next : Result Found Stop) (left : List (Result Found Stop)) (item : Item) (told : Bool) (stop : Stop) (old now new : Printed)
+    → IsReached answer items (next ∷ left) told old now → found_item answer next ≡ item → Carries {A = A} (item ∷ []) (Err stop) now new
     → Carries {A = B} items (Err stop) old new
-line_stops {A} {B} answer name items number line lines found item stop old now new reached is_item carries =
-    let later = line_items answer name (number + 1) lines in
-    let parts : items ≡ (reached.done ++ item ∷ []) ++ later = parts_next answer name items number line lines found old now reached ∙ ap (λ (i : Option Item). (reached.done ++ option_to_list i) ++ later) is_item in
+key_stops {A} {B} answer items next left item told stop old now new reached is carries =
+    let later = map (found_item answer) left in
+    let parts : items ≡ (reached.done ++ item ∷ []) ++ later = reached.parts ∙ ap (λ (i : Item). reached.done ++ i ∷ later) is ∙ sym (append_assoc reached.done (item ∷ []) later) in
     let front = carries_then {B = A} reached.done (item ∷ []) tt (Err stop) old now new reached.carried carries in
     subst (λ (xs : List Item). Carries {A = B} xs (Err stop) old new) (sym parts) (carries_more {A = A} {B = B} (reached.done ++ item ∷ []) later stop old new front)
 
--- the item of the next line was not given
-pub line_withheld : {B : Type 0} (answer : Answering) (name : List ℕ) (items : List Item) (number : ℕ) (line : List ℕ) (lines : List (List ℕ)) (found : Bool) (stop : Stop) (old now : Printed)
-    → IsReached answer name items number (line ∷ lines) found old now → IsWithheld (ender_of stop.cause) (item_of answer name number line) name stop
-    → Carries {A = B} items (Err stop) old now
-line_withheld {B} answer name items number line lines found stop old now reached withheld =
-    of_item (item_of answer name number line) refl withheld
-  where
-    of_item : (item : Option Item) → item_of answer name number line ≡ item → IsWithheld (ender_of stop.cause) item name stop → Carries {A = B} items (Err stop) old now
-    of_item None same held = absurd (no_item (ender_of stop.cause) name stop held)
-    of_item (Some item) same held =
-        line_stops {A = B} answer name items number line lines found item stop old now now reached same (carries_withheld (Some item) name stop now reached.carried.failed held)
+-- its item was not given
+pub key_withheld : {B : Type 0} (answer : Answering) (items : List Item) (next : Result Found Stop) (left : List (Result Found Stop)) (told : Bool) (stop : Stop) (old now : Printed)
+    → IsReached answer items (next ∷ left) told old now → IsWithheld (ender_of stop.cause) (found_item answer next) stop → Carries {A = B} items (Err stop) old now
+key_withheld {B} answer items next left told stop old now reached withheld =
+    key_stops {A = B} {B = B} answer items next left (found_item answer next) told stop old now now reached refl (carries_withheld (found_item answer next) stop now withheld)
 
--- all lines are read
-pub lines_end : (answer : Answering) (name : List ℕ) (items : List Item) (number : ℕ) (found : Bool) (old now : Printed) → IsReached answer name items number [] found old now
-    → Carries items (Ok found) old now
-lines_end answer name items number found old now reached =
-    subst (λ (xs : List Item). Carries xs (Ok found) old now) (sym reached.parts) (carries_then reached.done [] tt (Ok found) old now now reached.carried (carries_none found now reached.carried.failed))
+-- a key that was not given has no item
+refused_item : (answer : Answering) (ender : Ender) (next : Result Found Stop) (stop : Stop) → IsRefused ender next stop → IsWithheld ender (found_item answer next) stop
+refused_item answer ByInput next stop is = ap (found_item answer) is
+refused_item answer ByMemory next stop is = is ∙ ap (λ (name : List ℕ). stop_of name NoMemory) (sym (found_item-name answer next))
+refused_item answer (ByOutput count) next stop is = absurd is
 
--- and it is known whether anything is said of them
-pub lines_told : (answer : Answering) (name : List ℕ) (items : List Item) (number : ℕ) (found : Bool) (old now : Printed) → IsReached answer name items number [] found old now
-    → found ≡ tells items
-lines_told answer name items number found old now reached = reached.any ∙ ap tells (sym (reached.parts ∙ append-nil reached.done))
+pub key_refused : {B : Type 0} (answer : Answering) (items : List Item) (next : Result Found Stop) (left : List (Result Found Stop)) (told : Bool) (stop : Stop) (old now : Printed)
+    → IsReached answer items (next ∷ left) told old now → GivesKey next (Err stop) → Carries {A = B} items (Err stop) old now
+key_refused {B} answer items next left told stop old now reached is =
+    key_withheld {B = B} answer items next left told stop old now reached (refused_item answer (ender_of stop.cause) next stop is)
 
--- ---- the text of a file
+-- ---- a file
 
 -- a fault ended the run
-pub text_stops : {A B : Type 0} (answer : Answering) (name : List ℕ) (items : List Item) (stop : Stop) (old new : Printed) → Carries {A = A} items (Err stop) old new
-    → Carries {A = B} (or_silence answer name items) (Err stop) old new
-text_stops {A} {B} answer name items stop old new carries = carries_more {A = A} {B = B} items (silence_of answer name (tells items)) stop old new carries
+pub file_stopped : {A : Type 0} (answer : Answering) (file : FileOf) (stop : Stop) (old new : Printed) → Carries {A = A} (key_items answer file) (Err stop) old new
+    → Carries {A = A} (file_items answer file) (Err stop) old new
+unfolding file_items
+file_stopped {A} answer file stop old new carries =
+    carries_more {A = A} {B = A} (key_items answer file) (silence_of answer file.name (tells (key_items answer file))) stop old new carries
 
--- something is said of the text
-pub text_ends : (answer : Answering) (name : List ℕ) (items : List Item) (found : Bool) (old new : Printed) → Carries items (Ok found) old new → found ≡ tells items → found ≡ true
-    → Carries (or_silence answer name items) (Ok (tt {0})) old new
-text_ends answer name items found old new carries told is =
-    let silence : Carries (silence_of answer name (tells items)) (Ok (tt {0})) new new = rw (sym told ∙ is) (carries_none tt new carries.failed) in
-    carries_then items (silence_of answer name (tells items)) found (Ok tt) old new new carries silence
+-- all keys are answered
+all_said : (answer : Answering) (items : List Item) (told : Bool) (old now : Printed) → IsReached answer items [] told old now → Carries items (Ok (tt {0})) old now × (told ≡ tells items)
+all_said answer items told old now reached =
+    let same : items ≡ reached.done = reached.parts ∙ append-nil reached.done in
+    (subst (λ (xs : List Item). Carries xs (Ok (tt {0})) old now) (sym same) reached.carried, reached.any ∙ ap tells (sym same))
 
--- nothing is said of it
-pub text_is_silent : {A : Type 0} (answer : Answering) (name : List ℕ) (items : List Item) (found : Bool) (old new : Printed) → Carries items (Ok found) old new → found ≡ tells items → found ≡ false
-    → Carries {A = A} (or_silence answer name items) (Err (stop_of name (File answer.silence))) old new
-text_is_silent {A} answer name items found old new carries told is =
-    let stop = stop_of name (File answer.silence) in
-    let silence : Carries {A = A} (silence_of answer name (tells items)) (Err stop) new new = rw (sym told ∙ is) (carries_withheld (Some (Stopped stop)) name stop new carries.failed refl) in
-    carries_then items (silence_of answer name (tells items)) found (Err stop) old new new carries silence
+-- and something is said of the file
+pub file_ends : (answer : Answering) (file : FileOf) (old now : Printed) → IsReached answer (key_items answer file) [] true old now → Carries (file_items answer file) (Ok (tt {0})) old now
+unfolding file_items
+file_ends answer file old now reached =
+    let items = key_items answer file in
+    let whole = all_said answer items true old now reached in
+    let silence : Carries (silence_of answer file.name (tells items)) (Ok (tt {0})) now now = rw (sym whole.1) (carries_none tt now) in
+    carries_then items (silence_of answer file.name (tells items)) tt (Ok tt) old now now whole.0 silence
+
+-- or nothing
+pub file_is_silent : {A : Type 0} (answer : Answering) (file : FileOf) (old now : Printed) → IsReached answer (key_items answer file) [] false old now
+    → Carries {A = A} (file_items answer file) (Err (stop_of file.name (File answer.silence))) old now
+unfolding file_items
+file_is_silent {A} answer file old now reached =
+    let items = key_items answer file in
+    let stop = stop_of file.name (File answer.silence) in
+    let whole = all_said answer items false old now reached in
+    let silence : Carries {A = A} (silence_of answer file.name (tells items)) (Err stop) now now = rw (sym whole.1) (carries_withheld (Stopped stop) stop now refl) in
+    carries_then items (silence_of answer file.name (tells items)) tt (Err stop) old now now whole.0 silence
 
 -- ---- files
 
-pub none_answered : (answer : Answering) (now : Printed) → now.failed ≡ false → Carries (files_items answer []) (Ok (tt {0})) now now
+pub none_answered : (answer : Answering) (now : Printed) → Carries (files_items answer []) (Ok (tt {0})) now now
 unfolding files_items
-none_answered answer now working = carries_none tt now working
+none_answered answer now = carries_none tt now
 
 files_items-take : (answer : Answering) (files : List FileOf) (i : ℕ) (file : FileOf) → i < length files → file ≡ get_or files i file → files_items answer (take (i + 1) files) ≡ files_items answer (take i files) ++ file_items answer file
 unfolding files_items

@@ -1,5 +1,5 @@
 -- A run by what is held of a list, or by why the list is refused.
-use Rattle.std.proofs.Common.{◌≡◌, ℕ, true, false, List, [], ◌∷◌, ◌++◌, Bool, Some, None, Result, Ok, Err, refl, sym, ap, ◌∙◌, append_assoc}
+use Rattle.std.proofs.Common.{◌≡◌, ℕ, true, false, List, [], ◌∷◌, ◌++◌, Bool, None, Result, Ok, Err, refl, sym, ap, ◌∙◌, append_assoc}
 use Rattle.std.specs.List.{concat}
 use Rattle.krl_core.specs.Laws.{HeldRevokes}
 use Rattle.krl_core.specs.Contents.{Contents}
@@ -27,31 +27,28 @@ held text header contents law list none = record {
 }
 
 -- The contents are said where they are asked for, and the files are asked about by what is held.
-pub read_run : {A : Type 0} (name : List ℕ) (dump : Bool) (files : List File) (known : Known) (result : Result A Stop) (old mid new : Printed) → old.failed ≡ false
+pub read_run : {A : Type 0} (name : List ℕ) (dump : Bool) (files : List File) (known : Known) (result : Result A Stop) (old mid new : Printed)
     → Carries (contents_items name dump known) (Ok (tt {0})) old mid → Carries (files_items (ask known.contents) files) result mid new
     → Carries (query_run_of name (Ok known) dump files) result old new
 unfolding query_run_of
-read_run name dump files known result old mid new working first second =
-    carries_then (Passed name ∷ []) (contents_items name dump known ++ files_items (ask known.contents) files) tt result old old new (carries_passed name old working)
+read_run name dump files known result old mid new first second =
+    carries_then (Passed name ∷ []) (contents_items name dump known ++ files_items (ask known.contents) files) tt result old old new (carries_passed name old)
     (carries_then (contents_items name dump known) (files_items (ask known.contents) files) tt result old mid new first second)
 
 -- The run ended within the contents.
-pub dump_stops : {A B : Type 0} (name : List ℕ) (dump : Bool) (files : List File) (known : Known) (stop : Stop) (old new : Printed) → old.failed ≡ false
+pub dump_stops : {A B : Type 0} (name : List ℕ) (dump : Bool) (files : List File) (known : Known) (stop : Stop) (old new : Printed)
     → Carries {A = A} (contents_items name dump known) (Err stop) old new → Carries {A = B} (query_run_of name (Ok known) dump files) (Err stop) old new
 unfolding query_run_of
-dump_stops {A} {B} name dump files known stop old new working first =
-    carries_then (Passed name ∷ []) (contents_items name dump known ++ files_items (ask known.contents) files) tt (Err stop) old old new (carries_passed name old working)
+dump_stops {A} {B} name dump files known stop old new first =
+    carries_then (Passed name ∷ []) (contents_items name dump known ++ files_items (ask known.contents) files) tt (Err stop) old old new (carries_passed name old)
     (carries_more {A = A} {B = B} (contents_items name dump known) (files_items (ask known.contents) files) stop old new first)
 
 -- The run ended before anything was said: the list had a fault, or memory ran out.
-pub refused_run : (name : List ℕ) (dump : Bool) (files : List File) (fault : KrlFault) (now : Printed) → now.failed ≡ false
+pub refused_run : (name : List ℕ) (dump : Bool) (files : List File) (fault : KrlFault) (now : Printed)
     → Carries {A = Unit {0}} (query_run_of name (Err fault) dump files) (Err (stop_of name (krl_cause fault))) now now
 unfolding query_run_of
-refused_run name dump files faults.NoMemory now working =
-    let item = Stopped (stop_of name (krl_cause faults.NoMemory)) in
-    carries_withheld (Some item) name (stop_of name (krl_cause faults.NoMemory)) now working (refl, (item, refl, refl))
-refused_run name dump files fault now working =
-    carries_withheld (Some (Stopped (stop_of name (krl_cause fault)))) name (stop_of name (krl_cause fault)) now working refl
+refused_run name dump files faults.NoMemory now = carries_withheld (Stopped (stop_of name (krl_cause faults.NoMemory))) (stop_of name (krl_cause faults.NoMemory)) now refl
+refused_run name dump files fault now = carries_withheld (Stopped (stop_of name (krl_cause fault))) (stop_of name (krl_cause fault)) now refl
 
 -- Lines that are said of a list make one text, before what follows.
 lines_first : (name : List ℕ) (lines : List (List ℕ)) (items : List Item)

@@ -1,16 +1,13 @@
 -- Parts of a run, one after the other.
-use Rattle.std.proofs.Common.{◌≡◌, ℕ, ◌<◌, false, List, [], ◌∷◌, ◌++◌, length, Option, None, Some, Result, Ok, Err, refl, sym, ap, subst, ◌∙◌, append_assoc, lit<}
-use Rattle.std.specs.Option.{option_to_list}
+use Rattle.std.proofs.Common.{◌≡◌, ℕ, ◌<◌, false, true, List, [], ◌∷◌, ◌++◌, length, Option, Result, Ok, Err, refl, sym, ap, subst, ◌∙◌, append_assoc, lit<}
 use Rattle.std.specs.Result.{result_err}
 use Rattle.std.proofs.KnownBytes.{Appends-nil}
 use Rattle.std.proofs.lemmas.List.{append-nil}
-use Rattle.std.proofs.lemmas.Option.{same_Some}
 use Rattle.krl_runs.specs.declared.output.answer.Answer.{Answer}
-use Rattle.krl_runs.specs.declared.output.cause.Cause.TheVariants.{NoMemory}
 use Rattle.krl_runs.specs.Carries.{Carries, IsEnded, Reaches}
 use Rattle.krl_runs.specs.Printer.{Printed, HasSaid, Sends, and_answer, chunk, nothing_printed}
-use Rattle.krl_runs.specs.Run.{Item, Answered, Passed, Stopped, IsWithheld, name_of}
-use Rattle.krl_runs.specs.Stop.{Stop, Ender, ByOutput, ByMemory, ByInput, ender_of, is_by_output, stop_of}
+use Rattle.krl_runs.specs.Run.{Item, Answered, Passed, Stopped, IsWithheld}
+use Rattle.krl_runs.specs.Stop.{Stop, Ender, ByOutput, ByMemory, ByInput, ender_of}
 use Rattle.krl_runs.proofs.Saying.{added, passed, sent_all, sent_part}
 
 -- nothing was said yet
@@ -21,12 +18,8 @@ begun taken writer =
       short = lit< tt;
     }
 
-pub carries_none : {A : Type 0} (value : A) (now : Printed) → now.failed ≡ false → Carries [] (Ok value) now now
-carries_none value now working = record {
-  says = λ before said has. subst (λ (items : List Item). HasSaid before items now) (sym (append-nil said)) has;
-  failed = working;
-  writer = refl;
-}
+pub carries_none : {A : Type 0} (value : A) (now : Printed) → Carries [] (Ok value) now now
+carries_none value now = record { says = λ before said has. subst (λ (items : List Item). HasSaid before items now) (sym (append-nil said)) has; writer = refl }
 
 -- one part after another
 pub carries_then : {A B : Type 0} (xs ys : List Item) (value : A) (result : Result B Stop) (old mid new : Printed)
@@ -34,7 +27,6 @@ pub carries_then : {A B : Type 0} (xs ys : List Item) (value : A) (result : Resu
 carries_then xs ys value result old mid new first second = record {
   says = λ before said has.
       subst (λ (items : List Item). Reaches before items (result_err result) new) (append_assoc said xs ys) (second.says before (said ++ xs) (first.says before said has));
-  failed = second.failed;
   writer = second.writer ∙ first.writer;
 }
 
@@ -53,52 +45,32 @@ pub carries_more : {A B : Type 0} (xs ys : List Item) (stop : Stop) (old new : P
 carries_more xs ys stop old new first = record {
   says = λ before said has.
       subst (λ (items : List Item). IsEnded (ender_of stop.cause) before items stop new) (append_assoc said xs ys) (ended_more (ender_of stop.cause) before (said ++ xs) ys stop new (first.says before said has));
-  failed = first.failed;
   writer = first.writer;
 }
 
 -- the item at hand ends the run
-ends_here : (ender : Ender) (item : Item) (name : List ℕ) (stop : Stop) (now : Printed) → IsWithheld ender (Some item) name stop
-    → ((before : Option (List ℕ)) (said : List Item) → HasSaid before said now → IsEnded ender before (said ++ item ∷ []) stop now) × (is_by_output ender ≡ false)
-ends_here (ByOutput count) item name stop now withheld = absurd withheld
-ends_here ByMemory item name stop now withheld =
-    let found : item ≡ withheld.1.0 = same_Some item withheld.1.0 withheld.1.1 in
-    let named : name ≡ name_of item = sym withheld.1.2 ∙ ap name_of (sym found) in
-    let is = withheld.0 ∙ ap (λ (n : List ℕ). stop_of n NoMemory) named in
-    (λ before said has. record { said = said; starves = record { next = item; later = []; parts = refl; named = is }; has_said = has }, refl)
-ends_here ByInput item name stop now withheld =
-    let found : item ≡ Stopped stop = same_Some item (Stopped stop) withheld in
-    (λ before said has. record { said = said; later = []; parts = ap (λ (i : Item). said ++ i ∷ []) found; has_said = has }, refl)
-
-pub no_item : (ender : Ender) (name : List ℕ) (stop : Stop) → IsWithheld ender None name stop → ⊥
-no_item (ByOutput count) name stop withheld = withheld
-no_item ByMemory name stop withheld = let none = withheld.1.1 in absurd cc
-no_item ByInput name stop withheld = absurd cc
+ends_here : (ender : Ender) (item : Item) (stop : Stop) (now : Printed) (before : Option (List ℕ)) (said : List Item) → IsWithheld ender item stop → HasSaid before said now → IsEnded ender before (said ++ item ∷ []) stop now
+ends_here (ByOutput count) item stop now before said withheld has = absurd withheld
+ends_here ByMemory item stop now before said withheld has = record { said = said; starves = record { next = item; later = []; parts = refl; named = withheld }; has_said = has }
+ends_here ByInput item stop now before said withheld has = record { said = said; later = []; parts = ap (λ (i : Item). said ++ i ∷ []) withheld; has_said = has }
 
 -- an item that was not given
-pub carries_withheld : {A : Type 0} (item : Option Item) (name : List ℕ) (stop : Stop) (now : Printed) → now.failed ≡ false
-    → IsWithheld (ender_of stop.cause) item name stop → Carries {A = A} (option_to_list item) (Err stop) now now
-carries_withheld None name stop now working withheld = absurd (no_item (ender_of stop.cause) name stop withheld)
-carries_withheld (Some item) name stop now working withheld =
-    let ends = ends_here (ender_of stop.cause) item name stop now withheld in
-    record { says = ends.0; failed = working ∙ sym ends.1; writer = refl }
+pub carries_withheld : {A : Type 0} (item : Item) (stop : Stop) (now : Printed) → IsWithheld (ender_of stop.cause) item stop → Carries {A = A} (item ∷ []) (Err stop) now now
+carries_withheld item stop now withheld = record { says = λ before said has. ends_here (ender_of stop.cause) item stop now before said withheld has; writer = refl }
 
 -- something of which nothing is said
-pub carries_passed : (name : List ℕ) (now : Printed) → now.failed ≡ false → Carries (Passed name ∷ []) (Ok (tt {0})) now now
-carries_passed name now working = record { says = λ before said has. record { added = passed before said name now has.added; short = has.short }; failed = working; writer = refl }
+pub carries_passed : (name : List ℕ) (now : Printed) → Carries (Passed name ∷ []) (Ok (tt {0})) now now
+carries_passed name now = record { says = λ before said has. record { added = passed before said name now has.added; short = has.short }; writer = refl }
 
--- an answer for which no memory was left
-pub carries_refused : {A : Type 0} (name : List ℕ) (answer : Answer) (now : Printed) → now.failed ≡ false
-    → Carries {A = A} (Answered name answer ∷ []) (Err (stop_of name NoMemory)) now now
-carries_refused name answer now working =
-    carries_withheld (Some (Answered name answer)) name (stop_of name NoMemory) now working (refl, (Answered name answer, refl, refl))
+-- a printer that has failed says nothing
+pub carries_lost : {A : Type 0} (items : List Item) (result : Result A Stop) (now : Printed) → now.failed ≡ true → Carries items result now now
+carries_lost items result now failed = record { says = λ before said has. let working = has.added.working in absurd cc; writer = refl }
 
 -- an answer that waits
-pub carries_added : {A : Type 0} (value : A) (name : List ℕ) (answer : Answer) (old : Printed) → old.failed ≡ false → length (and_answer old answer).waiting < chunk
+pub carries_added : {A : Type 0} (value : A) (name : List ℕ) (answer : Answer) (old : Printed) → length (and_answer old answer).waiting < chunk
     → Carries (Answered name answer ∷ []) (Ok value) old (and_answer old answer)
-carries_added value name answer old working short = record {
+carries_added value name answer old short = record {
   says = λ before said has. record { added = added before said name answer old has.added; short = short };
-  failed = working;
   writer = refl;
 }
 
@@ -107,7 +79,6 @@ pub carries_sent : {A : Type 0} (result : Result A Stop) (name : List ℕ) (answ
     → Carries (Answered name answer ∷ []) result old new
 carries_sent (Ok value) name answer old new sends writer = record {
   says = λ before said has. sent_all before (said ++ Answered name answer ∷ []) (and_answer old answer) new (added before said name answer old has.added) sends;
-  failed = sends.working;
   writer = writer;
 }
 carries_sent (Err stop) name answer old new sends writer =
@@ -125,6 +96,5 @@ carries_sent (Err stop) name answer old new sends writer =
               broken = sends.broken;
             };
           };
-      failed = sends.broken;
       writer = writer;
     })

@@ -1,5 +1,5 @@
 -- The end of a run, by how far it came and what was sent.
-use Rattle.std.proofs.Common.{◌≡◌, ℕ, ◌+◌, Bool, true, false, List, [], ◌∷◌, ◌++◌, Option, Some, None, Result, Ok, Err, refl, sym, ap, subst, ◌∙◌}
+use Rattle.std.proofs.Common.{◌≡◌, ℕ, Bool, true, false, List, [], ◌∷◌, ◌++◌, Option, Some, None, Result, Ok, Err, refl, sym, ap, subst, ◌∙◌}
 use Rattle.std.specs.Prelude.{is_some}
 use Rattle.std.specs.Option.{option_or}
 use Rattle.std.specs.Result.{result_err}
@@ -7,7 +7,7 @@ use Rattle.std.specs.Io.KnownBytes.{Appends}
 use Rattle.std.proofs.lemmas.List.{append-nil}
 use Rattle.krl_runs.specs.Carries.{Carries, IsEnded, Reaches}
 use Rattle.krl_runs.specs.Done.{Ends, EndsBy}
-use Rattle.krl_runs.specs.Printer.{Printed, HasSaid, IsPartSent, IsSent, Sends, nothing_printed, told_count}
+use Rattle.krl_runs.specs.Printer.{Printed, HasSaid, IsPartSent, IsSent, Sends, nothing_printed}
 use Rattle.krl_runs.specs.Run.{Item, Outcome, Stopped, outcome_of, status_of}
 use Rattle.krl_runs.specs.Stop.{Stop, Ender, ByOutput, ByMemory, ByInput, ender_of, is_by_output, is_lost}
 use Rattle.krl_runs.proofs.Carrying.{begun}
@@ -45,7 +45,7 @@ front_of before run (Some stop) now kept p = front_by (ender_of stop.cause) befo
 ends_cut : (run : List Item) (before : Option (List ℕ)) (fault : Stop) (old new : Printed) → IsFront before run old → IsPartSent fault old new → Ends run before new.taken new.failed 255 (Some fault)
 ends_cut run before fault old new front part =
     let cut = sent_part before front.said fault old new front.has_said.added part in
-    rw part.named (record { named = refl; cut = cut_of_front run front.said front.later before new.taken (told_count (old.sent + part.count)) front.parts front.has_said.added.unstopped cut; broken = part.broken }, refl)
+    rw part.named (record { named = refl; cut = cut_of_front run front.said front.later before new.taken new.sent front.parts front.has_said.added.unstopped cut; broken = part.broken }, refl)
 
 -- the rest was sent
 whole_by : (ender : Ender) (run : List Item) (before : Option (List ℕ)) (stop : Stop) (old new : Printed) → is_by_output ender ≡ false → IsEnded ender before run stop old → IsSent old new → EndsBy ender run before new.taken new.failed stop
@@ -67,12 +67,16 @@ ends_whole run before None old new kept has sent =
     (record { told = has.added.unstopped; taken = taken_all before run old new has.added sent; working = sent.working }, ap (status_of false) revoked)
 ends_whole run before (Some stop) old new kept p sent = (whole_by (ender_of stop.cause) run before stop old new kept p sent, refl)
 
+-- the output works unless it ended the run
+works : (before : Option (List ℕ)) (run : List Item) (stop : Option Stop) (now : Printed) → is_lost stop ≡ false → Reaches before run stop now → now.failed ≡ false
+works before run stop now kept reaches = (front_of before run stop now kept reaches).has_said.added.working
+
 -- the rest of what was said was sent, or the output failed
 pub ends_sent : {A : Type 0} (result : Result A Stop) (run : List Item) (before : Option (List ℕ)) (stop : Option Stop) (old new : Printed) (revoked : Bool)
-    → is_lost stop ≡ false → Reaches before run stop old → Sends result old new → revoked ≡ new.revoked
+    → is_lost stop ≡ false → Reaches before run stop old → (old.failed ≡ false → Sends result old new) → revoked ≡ new.revoked
     → let fault = option_or (result_err result) stop in Ends run before new.taken new.failed (status_of (is_some fault) revoked) fault
-ends_sent (Ok value) run before stop old new revoked kept reaches sends same = rw same (ends_whole run before stop old new kept reaches sends)
-ends_sent (Err fault) run before stop old new revoked kept reaches sends same = ends_cut run before fault old new (front_of before run stop old kept reaches) sends
+ends_sent (Ok value) run before stop old new revoked kept reaches sends same = rw same (ends_whole run before stop old new kept reaches (sends (works before run stop old kept reaches)))
+ends_sent (Err fault) run before stop old new revoked kept reaches sends same = ends_cut run before fault old new (front_of before run stop old kept reaches) (sends (works before run stop old kept reaches))
 
 -- A run ended as its printer says: what is known of the printer's writer at last is known of the writer.
 pub ends_known : {A : Type 0} (run : List Item) (result : Result A Stop) (before taken taken' : Option (List ℕ)) (writer : ℕ) (failed failed' : Bool) (mid : Printed) (stop : Option Stop) (status : ℕ) (fault : Option Stop)

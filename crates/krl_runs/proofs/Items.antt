@@ -1,5 +1,7 @@
 -- What is said of a line, by what reading the line and its blob gives.
-use Rattle.std.proofs.Common.{◌≡◌, ℕ, Bool, true, false, List, Option, None, Some, Result, Ok, Err, refl, ap, subst}
+use Rattle.std.proofs.Common.{◌≡◌, ℕ, true, false, List, Option, None, Some, Result, Ok, Err, refl, sym, ap, subst, ◌∙◌, inl, inr}
+use Rattle.std.specs.Result.{result_ok}
+use Rattle.std.proofs.lemmas.Bool.{cases_Bool}
 use Rattle.std.proofs.lemmas.Option.{same_Some}
 use Rattle.ssh_wire.specs.Steps.{ok_is}
 use Rattle.ssh_key.specs.Key.{IsKey, Key}
@@ -13,23 +15,32 @@ use Rattle.ssh_cert.specs.Certificate.{Certificate}
 use Rattle.ssh_cert.specs.declared.fault.CertFault.{CertFault}
 use Rattle.ssh_key.specs.declared.hash.Hash.{Hash}
 use Rattle.krl_runs.specs.Listing.{certificate_answer, listed_certificate}
-use Rattle.ssh_cert.specs.Subject.{Subject}
+use Rattle.ssh_subject.specs.Subject.{Subject}
 use Rattle.ssh_cert.specs.SubjectReading.{IsSubject, subject_of}
 use Rattle.ssh_cert.specs.declared.subject_fault.SubjectFault.{SubjectFault}
-use Rattle.krl_spec.specs.Keys.{plain_is_key}
+use Rattle.ssh_cert.specs.SubjectReading.{plain_is_key}
 use Rattle.krl_runs.specs.declared.output.answer.Answer.{Answer}
 use Rattle.krl_runs.specs.declared.output.cause.Cause.TheVariants.{Line}
 use Rattle.krl_runs.specs.Items.{SpellsKey}
-use Rattle.krl_runs.specs.Run.{Answered, Answering, Stopped, content_item, key_item, subject_item, item_of, said, stop_at}
+use Rattle.krl_runs.specs.Run.{Answered, Answering, Stopped, found, found_item, item_of, key_in, key_item, line_found, said, stop_at, subject_item}
 
 pub no_item_of : (answer : Answering) (name : List ℕ) (number : ℕ) (text : List ℕ) → has_key text ≡ false → item_of answer name number text ≡ None
-unfolding item_of
+unfolding item_of key_in
 no_item_of answer name number text has = rw has refl
+
+-- the item of a line, by what reading the line gives
+line_read : (answer : Answering) (name : List ℕ) (number : ℕ) (text : List ℕ) (read : Result Content LineFault) → has_key text ≡ true → line_at text ≡ read
+    → item_of answer name number text ≡ Some (found_item answer (line_found name number read))
+unfolding item_of key_in
+line_read answer name number text read has is = rw has (ap (λ (r : Result Content LineFault). Some (found_item answer (line_found name number r))) is)
 
 pub faulty_line : (answer : Answering) (name : List ℕ) (number : ℕ) (text : List ℕ) (fault : LineFault) → has_key text ≡ true → line_at text ≡ Err fault
     → item_of answer name number text ≡ Some (Stopped (stop_at name number (Line fault)))
-unfolding item_of
-faulty_line answer name number text fault has is_fault = rw has (ap Some (ap (content_item answer name number) is_fault))
+faulty_line answer name number text fault has is_fault = line_read answer name number text (Err fault) has is_fault
+
+pub line_item : (answer : Answering) (name : List ℕ) (number : ℕ) (text : List ℕ) (line : Content) → has_key text ≡ true → line_at text ≡ Ok line
+    → item_of answer name number text ≡ Some (found_item answer (Ok (found name (Some number) line)))
+line_item answer name number text line has is_line = line_read answer name number text (Ok line) has is_line
 
 -- an answer has been read off a key line
 pub record FromLine (answer : Answering) (name : List ℕ) (number : ℕ) (text : List ℕ) (reply : Answer) : Type 0 where
@@ -45,29 +56,27 @@ same_reply : (name other : List ℕ) (a : Option Answer) (b : Answer) → said n
 same_reply name other None b e = absurd cc
 same_reply name other (Some a) b e = cc
 
-from_line : (answer : Answering) (name : List ℕ) (number : ℕ) (text other : List ℕ) (reply : Answer) → content_item answer name number (line_at text) ≡ Answered other reply → FromLine answer name number text reply
+from_line : (answer : Answering) (name : List ℕ) (number : ℕ) (text other : List ℕ) (reply : Answer) → found_item answer (line_found name number (line_at text)) ≡ Answered other reply → FromLine answer name number text reply
 from_line answer name number text other reply item = of_line (line_at text) refl item
   where
-    of_key : (line : Content) (asked : Subject) (read : Result Key KeyFault) → line_at text ≡ Ok line → subject_of line.blob ≡ Ok asked → key_at asked.plain ≡ read → key_item answer name (Some number) line asked read ≡ Answered other reply → FromLine answer name number text reply
+    of_key : (line : Content) (asked : Subject) (read : Result Key KeyFault) → line_at text ≡ Ok line → subject_of line.blob ≡ Ok asked → key_at asked.plain ≡ read → key_item answer (found name (Some number) line) asked read ≡ Answered other reply → FromLine answer name number text reply
     of_key line asked (Ok key) is_line is_asked is_key e =
         record { line = line; asked = asked; key = key; is_line = is_line; is_asked = is_asked; is_key = is_key; is_reply = same_reply name other (answer.say name (Some number) line asked key) reply e }
     of_key line asked (Err fault) is_line is_asked is_key e = absurd cc
 
-    of_blob : (line : Content) (read : Result Subject SubjectFault) → line_at text ≡ Ok line → subject_of line.blob ≡ read → subject_item answer name (Some number) line read ≡ Answered other reply → FromLine answer name number text reply
+    of_blob : (line : Content) (read : Result Subject SubjectFault) → line_at text ≡ Ok line → subject_of line.blob ≡ read → subject_item answer (found name (Some number) line) read ≡ Answered other reply → FromLine answer name number text reply
     of_blob line (Ok asked) is_line is_asked e = of_key line asked (key_at asked.plain) is_line is_asked refl e
     of_blob line (Err fault) is_line is_asked e = absurd cc
 
-    of_line : (read : Result Content LineFault) → line_at text ≡ read → content_item answer name number read ≡ Answered other reply → FromLine answer name number text reply
+    of_line : (read : Result Content LineFault) → line_at text ≡ read → found_item answer (line_found name number read) ≡ Answered other reply → FromLine answer name number text reply
     of_line (Ok line) is_line e = of_blob line (subject_of line.blob) is_line refl e
     of_line (Err fault) is_line e = absurd cc
 
 pub answered_line : (answer : Answering) (name : List ℕ) (number : ℕ) (text other : List ℕ) (reply : Answer) → item_of answer name number text ≡ Some (Answered other reply) → FromLine answer name number text reply
-unfolding item_of
-answered_line answer name number text other reply item = by_test (has_key text) refl
-  where
-    by_test : (has : Bool) → has_key text ≡ has → FromLine answer name number text reply
-    by_test true has = let e = rw has at item in from_line answer name number text other reply (same_Some _ _ e)
-    by_test false has = let e = rw has at item in absurd cc
+answered_line answer name number text other reply item = elim (cases_Bool (has_key text)) [
+  | inl has ↦ from_line answer name number text other reply (same_Some _ _ (sym (line_read answer name number text (line_at text) has refl) ∙ item))
+  | inr none ↦ let e = sym (no_item_of answer name number text none) ∙ item in absurd cc
+]
 
 -- and so the line spells it
 pub spelled_line : (answer : Answering) (name : List ℕ) (number : ℕ) (text : List ℕ) (reply : Answer) → (from : FromLine answer name number text reply) → IsKeyLine text from.line.word from.line.blob from.line.comment → IsSubject from.line.blob from.asked
@@ -78,7 +87,7 @@ spelled_line answer name number text reply from is_line is_asked reads =
     (from.line, from.asked, from.key, record { is_line = is_line; is_asked = is_asked; is_key = subst (λ (key : Key). IsKey from.asked.plain key) same plain.1 }, from.is_reply)
 
 -- what is answered in a run over certificates lists one
-pub certificate_answered : (hash : Hash) (moment : ℕ) (name : List ℕ) (number : ℕ) (reply : Answer) (read : Result Certificate CertFault) → Some reply ≡ certificate_answer hash moment name (Some number) read
+pub certificate_answered : (hash : Hash) (moment : ℕ) (name : List ℕ) (number : ℕ) (reply : Answer) (read : Result Certificate CertFault) → Some reply ≡ certificate_answer hash moment name (Some number) (result_ok read)
     → (certificate : Certificate) × (read ≡ Ok certificate) × (reply ≡ listed_certificate hash moment name number certificate)
 certificate_answered hash moment name number reply (Ok certificate) e = (certificate, refl, same_Some reply (listed_certificate hash moment name number certificate) e)
 certificate_answered hash moment name number reply (Err fault) e = absurd cc

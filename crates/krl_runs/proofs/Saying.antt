@@ -99,12 +99,12 @@ taken_all before items old new has sent =
 
 -- a part was sent
 pub sent_part : (before : Option (List ℕ)) (items : List Item) (stop : Stop) (old new : Printed) → HasAdded before items old → (part : IsPartSent stop old new)
-    → IsCut (outcome_of items).text before new.taken (told_count (old.sent + part.count))
+    → IsCut (outcome_of items).text before new.taken new.sent
 sent_part before items stop old new has part =
     let short = part.short in
     rw has.parts (record {
       gone = length has.gone + part.count;
-      counted = ap (λ (n : ℕ). told_count (n + part.count)) has.counted ∙ told_count-more (length has.gone) part.count;
+      counted = part.counted ∙ ap (λ (n : ℕ). told_count (n + part.count)) has.counted ∙ told_count-more (length has.gone) part.count;
       taken = subst (λ (t : List ℕ). Appends before new.taken t) (sym (take-append-add has.gone old.waiting part.count)) (Appends-trans before old.taken new.taken has.gone (take part.count old.waiting) has.taken part.taken);
       short = omega (arith, length-append has.gone old.waiting);
     })

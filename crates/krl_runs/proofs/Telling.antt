@@ -1,12 +1,13 @@
 -- How far the lines of a list's contents are said.
-use Rattle.std.proofs.Common.{◌≡◌, ℕ, ◌+◌, ◌<◌, ◌≤◌, ◌==◌, Bool, true, false, List, [], ◌∷◌, ◌++◌, length, map, take, drop, get_or, Result, Ok, Err, refl, sym, ap, subst, ◌∙◌, append_assoc, add-one, arith, length-take, length-drop}
-use Rattle.std.specs.Prelude.{OnOk}
+use Rattle.std.proofs.Common.{◌≡◌, ℕ, ◌+◌, ◌<◌, ◌≤◌, ◌==◌, Bool, true, false, List, [], ◌∷◌, ◌++◌, length, map, take, drop, get_or, Result, Ok, Err, refl, sym, ap, subst, ◌∙◌, append_assoc, add-one, arith}
+use Rattle.std.specs.Prelude.{Option, Some}
 use Rattle.std.specs.List.{flat_map}
-use Rattle.std.specs.declared.alloc.AllocError.{AllocError}
-use Rattle.std.proofs.lemmas.List.{append-nil, map-append, take-append-drop, drop-drop}
+use Rattle.std.proofs.lemmas.List.{append-nil, map-append, take-append-drop}
 use Rattle.std.proofs.Math.Seq.{drop-cons}
 use Rattle.std.proofs.lemmas.Bool.Decides.{nat_tests}
 use Rattle.serial_set.specs.declared.span.Span.{Span}
+use Rattle.serial_set.specs.Span.{IsRuns, AreSerials}
+use Rattle.serial_set.specs.Walk.{IsPiece, left, next_of, since, walk_on}
 use Rattle.krl_runs.specs.Carries.{Carries}
 use Rattle.krl_core.specs.Contents.{Contents, Section}
 use Rattle.krl_core.specs.declared.header.Header.{Header}
@@ -26,8 +27,8 @@ pub record IsSaid (name : List ℕ) (all left : List (List ℕ)) (old now : Prin
   pub parts : all ≡ done ++ left
   pub carried : Carries (all_said name done) said old now
 
-pub none_said : (name : List ℕ) (all : List (List ℕ)) (now : Printed) → now.failed ≡ false → IsSaid name all all now now
-none_said name all now working = record { done = []; parts = refl; carried = carries_none tt now working }
+pub none_said : (name : List ℕ) (all : List (List ℕ)) (now : Printed) → IsSaid name all all now now
+none_said name all now = record { done = []; parts = refl; carried = carries_none tt now }
 
 both_said : (name : List ℕ) (xs ys : List (List ℕ)) → all_said name (xs ++ ys) ≡ all_said name xs ++ all_said name ys
 both_said name xs ys = map-append (said_of name) xs ys
@@ -71,23 +72,15 @@ abbrev pub held_lines : List Section → Contents → List (List ℕ)
 held_lines sections r =
     flat_map section_lines sections ++ (map (fact_line Key) r.keys ++ (map (fact_line Sha1) r.sha1s ++ map (fact_line Hash) r.sha256s))
 
-pub held_first : (name : List ℕ) (r : Contents) (now : Printed) → now.failed ≡ false → IsSaid name (contents_lines r) (held_lines r.sections r) now now
+pub held_first : (name : List ℕ) (r : Contents) (now : Printed) → IsSaid name (contents_lines r) (held_lines r.sections r) now now
 unfolding contents_lines
-held_first name r now working = none_said name (contents_lines r) now working
+held_first name r now = none_said name (contents_lines r) now
 
 -- the lines of a header are those of its version, its date and its comment
-pub header_started : (name : List ℕ) (header : Header) (now : Printed) → now.failed ≡ false
+pub header_started : (name : List ℕ) (header : Header) (now : Printed)
     → IsSaid name (header_lines header) (version_line header.version ∷ date_line header.date ∷ comment_lines header.comment) now now
 unfolding header_lines
-header_started name header now working = none_said name (header_lines header) now working
-
--- a line that was made stands in the bytes that are lent
-pub line_is : (made : Result (Unit {0}) AllocError) (lent items text : List ℕ) → lent ≡ items → OnOk made (items ≡ text) → OnOk made (lent ≡ text)
-line_is made lent items text same is = rw same is
-
-pub line_is_itself : (made : Result (Unit {0}) AllocError) (lent : List ℕ) → OnOk made (lent ≡ lent)
-line_is_itself (Ok value) lent = refl
-line_is_itself (Err fault) lent = tt
+header_started name header now = none_said name (header_lines header) now
 
 -- a comment without bytes has no line, and any other has its own
 pub no_comment : (comment : List ℕ) → (length comment == 0) ≡ true → comment_lines comment ≡ []
@@ -105,35 +98,32 @@ spans_next spans i d lt =
     let parts : drop i spans ≡ get_or spans i d ∷ drop (i + 1) spans = rw add-one (drop-cons spans i d lt) in
     ap (λ (xs : List Span). map serials_line xs) parts
 
--- or those of a piece and the others
-pub piece_next : (spans piece : List Span) (at : ℕ) → piece ≡ take (length piece) (drop at spans)
-    → map serials_line (drop at spans) ≡ map serials_line piece ++ map serials_line (drop (at + length piece) spans)
-piece_next spans piece at front =
-    let n = length piece in
-    let parts : drop at spans ≡ piece ++ drop (at + n) spans =
-    sym (take-append-drop n (drop at spans)) ∙ ap (λ (xs : List Span). xs ++ drop n (drop at spans)) (sym front) ∙ ap (λ (xs : List Span). piece ++ xs) (drop-drop n at spans) in
-    ap (λ (xs : List Span). map serials_line xs) parts ∙ map-append serials_line piece (drop (at + n) spans)
-
-pub piece_within : (spans piece : List Span) (at : ℕ) → at ≤ length spans → piece ≡ take (length piece) (drop at spans) → at + length piece ≤ length spans
-piece_within spans piece at within front =
-    omega (arith, ap (λ (xs : List Span). length xs) front, length-take (length piece) (drop at spans), length-drop at spans)
+-- or those of a piece and the others, at which a walk goes on
+pub piece_next : (spans piece : List Span) (n : ℕ) (before next : Option ℕ) → IsRuns spans → AreSerials spans → before ≡ Some n → IsPiece spans n piece → next ≡ next_of piece
+    → map serials_line (left before spans) ≡ map serials_line piece ++ map serials_line (left next spans)
+piece_next spans piece n before next r fits b p e =
+    let k = length piece in
+    let rest : left next spans ≡ drop k (since n spans) = ap (λ (o : Option ℕ). left o spans) e ∙ walk_on spans piece n r fits p in
+    let parts : left before spans ≡ piece ++ left next spans =
+    ap (λ (o : Option ℕ). left o spans) b ∙ sym (take-append-drop k (since n spans)) ∙ ap (λ (xs : List Span). xs ++ drop k (since n spans)) (sym p.front) ∙ ap (λ (xs : List Span). piece ++ xs) (sym rest) in
+    ap (λ (xs : List Span). map serials_line xs) parts ∙ map-append serials_line piece (left next spans)
 
 -- the lines of an authority and those of the others
 pub held_next : (section : Section) (rest : List Section) (r : Contents) → held_lines (section ∷ rest) r ≡ section_lines section ++ held_lines rest r
 held_next section rest r =
     append_assoc (section_lines section) (flat_map section_lines rest) (map (fact_line Key) r.keys ++ (map (fact_line Sha1) r.sha1s ++ map (fact_line Hash) r.sha256s))
 
-pub section_started : (name : List ℕ) (section : Section) (now : Printed) → now.failed ≡ false
+pub section_started : (name : List ℕ) (section : Section) (now : Printed)
     → IsSaid name (section_lines section) (authority_line section.authority ∷ (map serials_line section.spans ++ map (fact_line Id) section.ids)) now now
 unfolding section_lines
-section_started name section now working = none_said name (section_lines section) now working
+section_started name section now = none_said name (section_lines section) now
 
 -- ---- the contents, where they are asked for
 
-pub not_asked : (name : List ℕ) (dump : Bool) (known : Known) (now : Printed) → dump ≡ false → now.failed ≡ false → Carries (contents_items name dump known) said now now
+pub not_asked : (name : List ℕ) (dump : Bool) (known : Known) (now : Printed) → dump ≡ false → Carries (contents_items name dump known) said now now
 unfolding contents_items
-not_asked name false known now asked working = carries_none tt now working
-not_asked name true known now asked working = absurd cc
+not_asked name false known now asked = carries_none tt now
+not_asked name true known now asked = absurd cc
 
 pub contents_said : {B : Type 0} (name : List ℕ) (dump : Bool) (known : Known) (result : Result B Stop) (old mid new : Printed) → dump ≡ true
     → Carries (all_said name (header_lines known.header)) said old mid → Carries (all_said name (contents_lines known.contents)) result mid new

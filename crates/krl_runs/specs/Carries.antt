@@ -4,7 +4,7 @@ use Rattle.std.specs.Result.{result_err}
 use Rattle.krl_runs.specs.Done.{IsCutOff, StarvesAfter}
 use Rattle.krl_runs.specs.Printer.{Printed, HasSaid}
 use Rattle.krl_runs.specs.Run.{Item, Stopped, outcome_of}
-use Rattle.krl_runs.specs.Stop.{Stop, Ender, ByOutput, ByMemory, ByInput, ender_of, is_lost}
+use Rattle.krl_runs.specs.Stop.{Stop, Ender, ByOutput, ByMemory, ByInput, ender_of}
 
 -- The next item ends the run: all before it was said.
 pub record IsStopped (before : Option (List ℕ)) (items : List Item) (stop : Stop)
@@ -45,5 +45,4 @@ pub record Carries {A : Type 0} (items : List Item) (result : Result A Stop)
     (old new : Printed) : Type 0 where
   pub says : (before : Option (List ℕ)) (said : List Item) → HasSaid before said old
       → Reaches before (said ++ items) (result_err result) new
-  pub failed : new.failed ≡ is_lost (result_err result)
   pub writer : new.writer ≡ old.writer

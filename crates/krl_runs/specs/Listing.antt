@@ -1,11 +1,11 @@
 -- Listing the keys or the certificates of a file (ssh-keygen(1), options -l and -L).
-use Rattle.std.specs.Prelude.{ℕ, false, List, [], ◌∷◌, ◌++◌, Option, Some, None, Result, Ok, Err}
+use Rattle.std.specs.Prelude.{ℕ, false, List, [], ◌∷◌, ◌++◌, Option, Some, None}
 use Rattle.std.specs.Prelude.{codes, decimal}
+use Rattle.std.specs.Result.{result_ok}
 use Rattle.ssh_cert.specs.CertReading.{certificate_at}
 use Rattle.ssh_cert.specs.Certificate.{Certificate}
 use Rattle.ssh_cert.specs.Listing.{listing_of}
-use Rattle.ssh_cert.specs.Subject.{Names, Subject}
-use Rattle.ssh_cert.specs.declared.fault.CertFault.{CertFault}
+use Rattle.ssh_subject.specs.Subject.{Names, Subject}
 use Rattle.ssh_key.specs.declared.hash.Hash.{Hash}
 use Rattle.ssh_key.specs.Fingerprints.{fingerprint_text}
 use Rattle.ssh_key.specs.Key.{Key}
@@ -67,18 +67,16 @@ listed_certificate hash moment name number certificate =
 
 -- the answer for the certificate of a line; what holds no certificate is passed over, and so is a
 -- container
-abbrev pub certificate_answer : Hash → ℕ → List ℕ → Option ℕ → Result Certificate CertFault
-    → Option Answer
-certificate_answer hash moment name None read = None
-certificate_answer hash moment name (Some number) (Err fault) = None
-certificate_answer hash moment name (Some number) (Ok certificate) =
+abbrev pub certificate_answer : Hash → ℕ → List ℕ → Option ℕ → Option Certificate → Option Answer
+certificate_answer hash moment name (Some number) (Some certificate) =
     Some (listed_certificate hash moment name number certificate)
+certificate_answer hash moment name number other = None
 
 -- each certificate is listed at a moment
 abbrev pub certify : Hash → ℕ → Answering
 certify hash moment = record {
   say = λ name number line asked key.
-      certificate_answer hash moment name number (certificate_at line.blob);
+      certificate_answer hash moment name number (result_ok (certificate_at line.blob));
   silence = files.NoCertificate;
 }
 

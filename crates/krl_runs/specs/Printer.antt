@@ -1,7 +1,8 @@
 -- What a printer has at hand, and what it has printed in all.
 use Rattle.std.specs.Prelude.{◌≡◌, ℕ, ◌+◌, ◌-◌, ◌^◌, ◌<◌, ◌||◌, Bool, true, false, List, [], ◌++◌}
-use Rattle.std.specs.Prelude.{Option, None, Result, Ok, Err, length, min, take}
+use Rattle.std.specs.Prelude.{Option, Some, None, Result, Ok, Err, length, min, take}
 use Rattle.std.specs.Io.KnownBytes.{Appends}
+use Rattle.std.specs.Result.{result_err}
 use Rattle.krl_runs.specs.declared.output.answer.Answer.{Answer}
 use Rattle.krl_runs.specs.Run.{Item, outcome_of}
 use Rattle.krl_runs.specs.Stop.{Stop, output_stop}
@@ -51,13 +52,19 @@ pub record IsSent (old new : Printed) : Type 0 where
 pub record IsPartSent (stop : Stop) (old new : Printed) : Type 0 where
   pub count : ℕ
   pub short : count < length old.waiting
-  pub named : stop ≡ output_stop (told_count (old.sent + count))
+  pub counted : new.sent ≡ told_count (old.sent + count)
+  pub named : stop ≡ output_stop new.sent
   pub taken : Appends old.taken new.taken (take count old.waiting)
   pub broken : new.failed ≡ true
 
 abbrev pub Sends : {A : Type 0} → Result A Stop → Printed → Printed → Type 0
 Sends (Ok value) old new = IsSent old new
 Sends (Err stop) old new = IsPartSent stop old new
+
+-- What has failed answers its fault again, and nothing changes.
+abbrev pub FailsAgain : {A : Type 0} → Result A Stop → Printed → Printed → Type 0
+FailsAgain result old new = old.failed ≡ true
+    → (result_err result ≡ Some (output_stop old.sent)) × (new ≡ old)
 
 -- A printer was given just these items, over a writer that had taken some bytes before: the writer
 -- has taken the front of their text, and the rest waits.

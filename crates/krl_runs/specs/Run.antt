@@ -1,6 +1,6 @@
 -- A run over key files: what it says of each key, and where it stops.
 use Rattle.std.specs.Prelude.{◌≡◌, ℕ, ◌+◌, ◌||◌, Bool, true, false, if◌then◌else◌, List, [], ◌∷◌}
-use Rattle.std.specs.Prelude.{◌++◌, Option, Some, None, Result, Ok, Err}
+use Rattle.std.specs.Prelude.{◌++◌, Option, Some, None, Result, Ok, Err, map, option_map}
 use Rattle.std.specs.List.{flat_map, slice_split}
 use Rattle.std.specs.Option.{option_to_list}
 use Rattle.ssh_key.specs.Key.{Key}
@@ -12,7 +12,7 @@ use Rattle.ssh_key.specs.LineReading.{Content, content, line_at}
 use Rattle.ssh_key.specs.declared.fault.KeyFault.{KeyFault}
 use Rattle.ssh_key.specs.declared.line_fault.LineFault.{LineFault}
 use Rattle.ssh_key.specs.declared.private_fault.PrivateFault.{PrivateFault}
-use Rattle.ssh_cert.specs.Subject.{Subject}
+use Rattle.ssh_subject.specs.Subject.{Subject}
 use Rattle.ssh_cert.specs.SubjectReading.{subject_of}
 use Rattle.ssh_cert.specs.declared.subject_fault.SubjectFault.{SubjectFault}
 use Rattle.ssh_cert.specs.declared.subject_fault.SubjectFault.TheVariants as subjects
@@ -59,41 +59,106 @@ said name (Some answer) = Answered name answer
 abbrev pub stop_at : List ℕ → ℕ → Cause → Stop
 stop_at name number cause = record { name = name; line = Some number; cause = cause }
 
--- a fault of a blob, in a line by its number or in a container, which has no lines
-abbrev pub stop_in : List ℕ → Option ℕ → SubjectFault → Stop
-stop_in name number fault =
-    record { name = name; line = number; cause = causes.Subject fault }
+-- ---- the keys of a file
+
+-- A key that a file has: the file's name, the number of the line (a container has none), and what
+-- the line or the container holds.
+pub record Found : Type 0 where
+  pub name : List ℕ
+  pub number : Option ℕ
+  pub line : Content
+
+abbrev pub found : List ℕ → Option ℕ → Content → Found
+found name number line = record { name = name; number = number; line = line }
+
+-- what a container holds, as a line would: there is no type word
+abbrev pub held_by : Opened → Content
+held_by opened = content [] opened.blob opened.comment
+
+-- the key of a line that has one, or why the file stops there
+abbrev pub line_found : List ℕ → ℕ → Result Content LineFault → Result Found Stop
+line_found name number (Err fault) = Err (stop_at name number (causes.Line fault))
+line_found name number (Ok line) = Ok (found name (Some number) line)
+
+abbrev pub container_found : List ℕ → Result Opened PrivateFault → Result Found Stop
+container_found name (Err fault) = Err (stop_of name (causes.Private fault))
+container_found name (Ok opened) = Ok (found name None (held_by opened))
+
+-- the key of a line by its number, where the line has one
+unfoldable pub key_in : List ℕ → ℕ → List ℕ → Option (Result Found Stop)
+key_in name number line =
+    if has_key line then Some (line_found name number (line_at line)) else None
+
+-- the keys of lines, of which the first has this number
+abbrev pub keys_from : List ℕ → ℕ → List (List ℕ) → List (Result Found Stop)
+keys_from name number [] = []
+keys_from name number (line ∷ lines) =
+    option_to_list (key_in name number line) ++ keys_from name (number + 1) lines
+
+-- the keys of a file's text
+abbrev pub text_keys : List ℕ → List ℕ → List (Result Found Stop)
+text_keys name text =
+    if begins_container text then container_found name (private_at text) ∷ []
+    else keys_from name 1 (slice_split is_newline text)
+
+abbrev pub content_keys : List ℕ → Result (List ℕ) FileFault → List (Result Found Stop)
+content_keys name (Err fault) = Err (stop_of name (causes.File fault)) ∷ []
+content_keys name (Ok text) = text_keys name text
+
+-- The keys of a file in order. What stands after a fault does not count.
+unfoldable pub keys_of : File → List (Result Found Stop)
+keys_of file = content_keys file.name file.content
+
+-- the name of the file
+abbrev pub file_of : Result Found Stop → List ℕ
+file_of (Ok found) = found.name
+file_of (Err stop) = stop.name
+
+-- The next key was not given: a fault stops the file there, or memory ran out.
+abbrev pub IsRefused : Ender → Result Found Stop → Stop → Type 0
+IsRefused ByInput next stop = next ≡ Err stop
+IsRefused ByMemory next stop = stop ≡ stop_of (file_of next) causes.NoMemory
+IsRefused (ByOutput count) next stop = ⊥
+
+abbrev pub GivesKey : Result Found Stop → Result Found Stop → Type 0
+GivesKey next (Ok key) = next ≡ Ok key
+GivesKey next (Err stop) = IsRefused (ender_of stop.cause) next stop
+
+-- Of the keys that were left the next one was given or refused, or none was left.
+abbrev pub GivesNext : List (Result Found Stop) → Option (Result Found Stop)
+    → List (Result Found Stop) → Type 0
+GivesNext left None later = (left ≡ []) × (later ≡ [])
+GivesNext left (Some given) later =
+    (next : Result Found Stop) × ((left ≡ next ∷ later) × GivesKey next given)
+
+-- ---- what a run says of them
+
+-- a fault of a key's blob
+abbrev pub stop_in : Found → SubjectFault → Stop
+stop_in key fault =
+    record { name = key.name; line = key.number; cause = causes.Subject fault }
 
 -- The plain key of what is asked is always read.
-abbrev pub key_item : Answering → List ℕ → Option ℕ → Content → Subject → Result Key KeyFault
-    → Item
-key_item answer name number line asked (Err fault) =
-    Stopped (stop_in name number (subjects.Key fault))
-key_item answer name number line asked (Ok key) =
-    said name (answer.say name number line asked key)
+abbrev pub key_item : Answering → Found → Subject → Result Key KeyFault → Item
+key_item answer key asked (Err fault) = Stopped (stop_in key (subjects.Key fault))
+key_item answer key asked (Ok plain) =
+    said key.name (answer.say key.name key.number key.line asked plain)
 
-abbrev pub subject_item : Answering → List ℕ → Option ℕ → Content → Result Subject SubjectFault
-    → Item
-subject_item answer name number line (Err fault) = Stopped (stop_in name number fault)
-subject_item answer name number line (Ok asked) =
-    key_item answer name number line asked (key_at asked.plain)
+abbrev pub subject_item : Answering → Found → Result Subject SubjectFault → Item
+subject_item answer key (Err fault) = Stopped (stop_in key fault)
+subject_item answer key (Ok asked) = key_item answer key asked (key_at asked.plain)
 
-abbrev pub content_item : Answering → List ℕ → ℕ → Result Content LineFault → Item
-content_item answer name number (Err fault) =
-    Stopped (stop_at name number (causes.Line fault))
-content_item answer name number (Ok line) =
-    subject_item answer name (Some number) line (subject_of line.blob)
+abbrev pub found_item : Answering → Result Found Stop → Item
+found_item answer (Err stop) = Stopped stop
+found_item answer (Ok key) = subject_item answer key (subject_of key.line.blob)
 
 -- what a run says of a line by its number: nothing where the line has no key
 unfoldable pub item_of : Answering → List ℕ → ℕ → List ℕ → Option Item
-item_of answer name number line =
-    if has_key line then Some (content_item answer name number (line_at line)) else None
+item_of answer name number line = option_map (found_item answer) (key_in name number line)
 
--- what it says of lines, of which the first has this number
-abbrev pub line_items : Answering → List ℕ → ℕ → List (List ℕ) → List Item
-line_items answer name number [] = []
-line_items answer name number (line ∷ lines) =
-    option_to_list (item_of answer name number line) ++ line_items answer name (number + 1) lines
+-- what it says of a container
+abbrev pub container_item : Answering → List ℕ → Result Opened PrivateFault → Item
+container_item answer name read = found_item answer (container_found name read)
 
 -- something is said, or a fault ends the run
 abbrev pub tells : List Item → Bool
@@ -110,28 +175,9 @@ silence_of answer name false = Stopped (stop_of name (causes.File answer.silence
 abbrev pub or_silence : Answering → List ℕ → List Item → List Item
 or_silence answer name items = items ++ silence_of answer name (tells items)
 
--- what a container holds, as a line would: there is no type word
-abbrev pub held_by : Opened → Content
-held_by opened = content [] opened.blob opened.comment
-
--- what a run says of a container
-abbrev pub container_item : Answering → List ℕ → Result Opened PrivateFault → Item
-container_item answer name (Err fault) = Stopped (stop_of name (causes.Private fault))
-container_item answer name (Ok opened) =
-    subject_item answer name None (held_by opened) (subject_of opened.blob)
-
--- what it says of a file's text
-abbrev pub text_items : Answering → List ℕ → List ℕ → List Item
-text_items answer name text =
-    if begins_container text then container_item answer name (private_at text) ∷ []
-    else line_items answer name 1 (slice_split is_newline text)
-
-abbrev pub content_items : Answering → List ℕ → Result (List ℕ) FileFault → List Item
-content_items answer name (Err fault) = Stopped (stop_of name (causes.File fault)) ∷ []
-content_items answer name (Ok text) = or_silence answer name (text_items answer name text)
-
+-- each key of a file is answered
 unfoldable pub file_items : Answering → File → List Item
-file_items answer file = content_items answer file.name file.content
+file_items answer file = or_silence answer file.name (map (found_item answer) (keys_of file))
 
 unfoldable pub files_items : Answering → List File → List Item
 files_items answer files = flat_map (file_items answer) files
@@ -165,20 +211,13 @@ status_of true revoked = 255
 status_of false true = 1
 status_of false false = 0
 
--- The item of a line was not given: it stops the run, or memory ran out.
-abbrev pub IsWithheld : Ender → Option Item → List ℕ → Stop → Type 0
-IsWithheld ByInput item name stop = item ≡ Some (Stopped stop)
-IsWithheld ByMemory item name stop =
-    (stop ≡ stop_of name causes.NoMemory)
-    × ((next : Item) × (item ≡ Some next) × (name_of next ≡ name))
-IsWithheld (ByOutput count) item name stop = ⊥
+-- The item of a key was not given: it stops the run, or memory ran out.
+abbrev pub IsWithheld : Ender → Item → Stop → Type 0
+IsWithheld ByInput item stop = item ≡ Stopped stop
+IsWithheld ByMemory item stop = stop ≡ stop_of (name_of item) causes.NoMemory
+IsWithheld (ByOutput count) item stop = ⊥
 
--- What was found out of a line of a file of this name is its item, unless memory ran out.
-abbrev pub GivesItem : Option Item → List ℕ → Result (Option Answer) Stop → Type 0
-GivesItem item name (Ok None) = tells (option_to_list item) ≡ false
-GivesItem item name (Ok (Some answer)) = item ≡ Some (Answered name answer)
-GivesItem item name (Err stop) = IsWithheld (ender_of stop.cause) item name stop
-
+-- What was found out of a key of a file of this name is its item, unless memory ran out.
 abbrev pub GivesAnswer : Item → List ℕ → Result (Option Answer) Stop → Type 0
 GivesAnswer item name (Ok answer) = item ≡ said name answer
-GivesAnswer item name (Err stop) = IsWithheld (ender_of stop.cause) (Some item) name stop
+GivesAnswer item name (Err stop) = IsWithheld (ender_of stop.cause) item stop

@@ -12,7 +12,7 @@ use Rattle.krl_runs.specs.declared.output.cause.Cause.TheVariants.{Subject, Spec
 use Rattle.krl_runs.specs.declared.output.cause.Cause.TheVariants.{VersionFull, TextTooLong, Output}
 use Rattle.ssh_cert.specs.Escape.{escaped}
 use Rattle.krl_runs.specs.FileFault.{file_fault_number, file_fault_text}
-use Rattle.krl_spec.specs.SpecCause.{spec_cause_number, spec_cause_text}
+use Rattle.spec_fault.specs.SpecCause.{spec_cause_number, spec_cause_text}
 
 -- the name of what was being worked on, the number of its line where there is one, and why
 pub record Stop : Type 0 where

@@ -3,7 +3,7 @@
 ghost use Rattle.std.specs.Prelude.{◌≡◌, ◌⊎◌, ℕ, [], true, false, List, Result, Ok, Err, Some, None, Option};
 ghost use Rattle.ssh_wire.specs.Wire.{IsBytes};
 ghost use Rattle.ssh_cert.specs.Certificate.{Certificate, IsCertificate};
-ghost use Rattle.ssh_cert.specs.Subject.{Subject};
+ghost use Rattle.ssh_subject.specs.Subject.{Subject};
 ghost use Rattle.ssh_key.specs.Container.{IsContainer, IsPrivateFault};
 ghost use Rattle.ssh_key.specs.ContainerReading.{private_at};
 ghost use Rattle.ssh_key.specs.Key.{IsKey, Key};

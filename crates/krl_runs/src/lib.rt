@@ -10,6 +10,7 @@ mod runs;
 
 pub use input::file_fault::FileFault;
 pub use input::named::{Named, load};
+pub use keys::file_keys::{FileKey, FileKeys, keys_of};
 pub use output::cause::Cause;
 pub use output::done::{Done, FAILED};
 pub use output::run_fault::{RunFault, fault_line};

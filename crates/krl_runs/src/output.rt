@@ -4,4 +4,5 @@ pub(crate) mod answer;
 pub mod cause;
 pub mod done;
 pub mod printer;
+pub mod run;
 pub mod run_fault;

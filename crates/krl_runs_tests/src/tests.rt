@@ -13,5 +13,6 @@ mod faults;
 mod key_files;
 mod listing;
 mod making;
+mod page;
 mod runs;
 mod spec_files;

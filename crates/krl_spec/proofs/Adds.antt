@@ -1,7 +1,7 @@
 -- What was read is added.
 use Rattle.std.proofs.Common.{◌≡◌, ℕ, ◌+◌, ◌≤◌, ◌==◌, false, List, [], ◌∷◌, length, Some, Result, Ok, refl, arith}
 use Rattle.std.proofs.lemmas.Bool.Decides.{nat_tests}
-use Rattle.ssh_cert.specs.Subject.{Names, Subject}
+use Rattle.ssh_subject.specs.Subject.{Names, Subject}
 use Rattle.ssh_cert.specs.SubjectReading.{IsSubject, plain_key, certified}
 use Rattle.krl_core.specs.Contents.{Contents, held}
 use Rattle.krl_core.specs.Entry.{Entry, IdEntry, RangeEntry}
@@ -9,7 +9,7 @@ use Rattle.krl_core.specs.Changes.{MeansMore}
 use Rattle.krl_spec.specs.Adding.{Adds}
 use Rattle.krl_spec.specs.Entry.{HasAuthority, certificate_entry, id_order}
 use Rattle.krl_spec.specs.Keys.{key_room}
-use Rattle.krl_spec.specs.declared.spec_cause.SpecCause.{SpecCause}
+use Rattle.spec_fault.specs.declared.spec_cause.SpecCause.{SpecCause}
 
 pub one_added : (Stores : Contents → Contents → Type 0) (read : Result Entry SpecCause) (entry : Entry) (old new : Contents) → read ≡ Ok entry
     → MeansMore old new (entry ∷ []) → held new ≤ held old + 1 → Stores old new → Adds Stores read (Ok (tt {0})) old new

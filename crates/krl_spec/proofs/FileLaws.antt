@@ -10,8 +10,8 @@ use Rattle.krl_spec.specs.FileNaming.{AreNamed, EndsBy, LinesName}
 use Rattle.krl_spec.specs.Naming.{IsLineFault, LineNames}
 use Rattle.krl_spec.specs.SpecFile.{Named, before_later, lines_from}
 use Rattle.krl_spec.specs.Spelled.{Counts}
-use Rattle.krl_spec.specs.declared.spec_cause.SpecCause.{SpecCause}
-use Rattle.krl_spec.specs.declared.spec_fault.SpecFault.{SpecFault}
+use Rattle.spec_fault.specs.declared.spec_cause.SpecCause.{SpecCause}
+use Rattle.spec_fault.specs.declared.spec_fault.SpecFault.{SpecFault}
 
 -- the laws of lines
 pub record LineLaws (authority : Option (List ℕ)) : Type 0 where

@@ -2,7 +2,7 @@
 use Rattle.std.proofs.Common.{◌≡◌, ℕ, ◌+◌, ◌-◌, ◌*◌, ◌==◌, ◌≤◌, false, List, [], ◌∷◌, length, Option, Some, None, Result, Ok, Err, inl, inr, ap, arith}
 use Rattle.ssh_wire.specs.Reading.{in_fault}
 use Rattle.ssh_key.specs.LineReading.{Content, line_at}
-use Rattle.ssh_cert.specs.Subject.{Subject}
+use Rattle.ssh_subject.specs.Subject.{Subject}
 use Rattle.ssh_cert.specs.SubjectReading.{subject_of}
 use Rattle.krl_core.specs.Contents.{Contents, IsNamed, stored}
 use Rattle.krl_core.specs.Entry.{Entry}
@@ -11,7 +11,7 @@ use Rattle.krl_spec.specs.Entry.{bare_entry, counted_entry, line_entry, line_cau
 use Rattle.krl_spec.specs.Line.{Order, bare_line, order_in}
 use Rattle.krl_spec.specs.Stored.{Grows, GrowsUnder, IsWithinBlob, asked_size, bytes_under}
 use Rattle.krl_spec.proofs.Sizes.{length-bare_line, order_room}
-use Rattle.krl_spec.specs.declared.spec_cause.SpecCause.{SpecCause}
+use Rattle.spec_fault.specs.declared.spec_cause.SpecCause.{SpecCause}
 
 -- A key ID under the authority at hand is added, whose bytes are counted where it was not named.
 pub id_grows : (under : Option (List ℕ)) (a : List ℕ) (size : ℕ) (old new : Contents) → under ≡ Some a → (IsNamed old a → stored new ≤ stored old + size)

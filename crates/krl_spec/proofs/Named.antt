@@ -1,12 +1,13 @@
 -- An authority that is named stays named.
 use Rattle.std.proofs.Common.{◌≡◌, ℕ, ◌+◌, ◌≤◌, ◌⊎◌, List, [], ◌∷◌, length, inl, inr, arith}
 use Rattle.std.specs.List.{All}
-use Rattle.std.proofs.lemmas.List.Elements.{All-head, All-tail, Contains-append_left}
+use Rattle.std.proofs.lemmas.List.Elements.{All-head, All-tail}
 use Rattle.krl_plan.specs.Ranges.{ranges, ranges_plan}
 use Rattle.krl_core.specs.Laws.{SectionsMean}
 use Rattle.krl_core.specs.Elements.{some_left, some_serial, some_text, some_weaker}
 use Rattle.krl_core.specs.Contents.{Contents, HoldsId, HoldsSerial, IsListed, IsNamed, IsOrderly, Means, Section, SomeSection, stored}
-use Rattle.krl_core.specs.Entry.{Entry, IdEntry}
+use Rattle.krl_core.specs.Entry.{Entry}
+use Rattle.krl_core.specs.Naming.{IdOf, SerialOf}
 use Rattle.krl_core.specs.KrlText.{EachPlan}
 use Rattle.krl_plan.specs.Plan.{IsPlan}
 use Rattle.krl_plan.specs.declared.group.Group.{Group}
@@ -56,8 +57,8 @@ stays_named : (old new : Contents) (entry : Entry) (entries : List Entry) (a : L
 stays_named old new entry entries a means adds named =
     let after = adds entries means in
     elim (held_of old.sections a means.orderly.listed named) [
-      | inl serial ↦ serial_named new.sections a serial.0 ((after.serials a serial.0).1 (some_left entries (entry ∷ []) a serial.0 ((means.serials a serial.0).0 serial.1)))
-      | inr id ↦ id_named new.sections a id.0 ((after.ids a id.0).1 (Contains-append_left entries (entry ∷ []) (IdEntry a id.0) ((means.ids a id.0).0 id.1)))
+      | inl serial ↦ serial_named new.sections a serial.0 ((after.names (SerialOf a serial.0)).1 (some_left entries (entry ∷ []) (SerialOf a serial.0) ((means.names (SerialOf a serial.0)).0 serial.1)))
+      | inr id ↦ id_named new.sections a id.0 ((after.names (IdOf a id.0)).1 (some_left entries (entry ∷ []) (IdOf a id.0) ((means.names (IdOf a id.0)).0 id.1)))
     ]
 
 -- An entry under an authority of its own is added, whose bytes are counted.

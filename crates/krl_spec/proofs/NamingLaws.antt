@@ -10,7 +10,7 @@ use Rattle.ssh_wire.specs.Steps.{bind_ok, in_fault_err, in_fault_ok}
 use Rattle.ssh_wire.specs.Wire.{IsBytes}
 use Rattle.ssh_key.specs.FingerprintReading.{IsFingerprint, IsFingerprintFault, fingerprint_at}
 use Rattle.ssh_key.specs.declared.fingerprint_fault.FingerprintFault.{FingerprintFault}
-use Rattle.ssh_cert.specs.Subject.{Subject}
+use Rattle.ssh_subject.specs.Subject.{Subject}
 use Rattle.krl_core.specs.Entry.{Entry, RangeEntry, KeyEntry, Sha1Entry, Sha256Entry}
 use Rattle.krl_spec.specs.Number.{serials_of_text}
 use Rattle.krl_spec.specs.Line.{Order, bare_line, order_in}
@@ -20,8 +20,8 @@ use Rattle.krl_spec.specs.Spelled.{Counts, IsOrder}
 use Rattle.krl_spec.specs.declared.number.Bounds.{Bounds}
 use Rattle.krl_spec.specs.declared.directive.Directive.{Directive}
 use Rattle.krl_spec.specs.declared.directive.Directive.TheVariants.{Serial, Id, Key, Sha1, Sha256, Hash}
-use Rattle.krl_spec.specs.declared.spec_cause.SpecCause.{SpecCause}
-use Rattle.krl_spec.specs.declared.spec_cause.SpecCause.TheVariants as causes
+use Rattle.spec_fault.specs.declared.spec_cause.SpecCause.{SpecCause}
+use Rattle.spec_fault.specs.declared.spec_cause.SpecCause.TheVariants as causes
 use Rattle.krl_spec.proofs.CountedLaws.{counted_again, counted_found}
 use Rattle.krl_spec.proofs.OrderLaws.{no_order, none_or_order, order_again, order_found, order_missing}
 use Rattle.krl_spec.proofs.SerialLaws.{serials_again, serials_fault_met, serials_found, serials_refused}

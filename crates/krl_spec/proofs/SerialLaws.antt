@@ -13,8 +13,8 @@ use Rattle.krl_spec.specs.Blanks.{before_blanks}
 use Rattle.krl_spec.specs.Number.{both, bounds_of_text, is_hyphen, number_of_text, serials_of_text, serials_or_number, serials_within}
 use Rattle.krl_spec.specs.Spelled.{AreBounds, AreSerials, IsNumber, IsSerialsFault, hexadecimal, octal, decimal, one_number, two_numbers}
 use Rattle.krl_spec.specs.declared.number.Bounds.{Bounds}
-use Rattle.krl_spec.specs.declared.spec_cause.SpecCause.{SpecCause}
-use Rattle.krl_spec.specs.declared.spec_cause.SpecCause.TheVariants as causes
+use Rattle.spec_fault.specs.declared.spec_cause.SpecCause.{SpecCause}
+use Rattle.spec_fault.specs.declared.spec_cause.SpecCause.TheVariants as causes
 use Rattle.krl_spec.proofs.Cuts.{cut_again, cut_found, end_cut, end_gone, front_cut, front_gone, front_passes, no_cut, none_ends, none_stops}
 use Rattle.krl_spec.proofs.NumberLaws.{number_again, number_found}
 

@@ -18,7 +18,7 @@ use Rattle.ssh_key.specs.TypeName.{certificate_names, plain_names, type_names}
 use Rattle.ssh_key.specs.declared.kind.Kind.{Kind}
 use Rattle.ssh_key.specs.declared.kind.Kind.TheVariants.{Rsa, Dsa, Ecdsa256, Ecdsa384, Ecdsa521, Ed25519, EcdsaSk, Ed25519Sk}
 use Rattle.ssh_cert.specs.Certificate.{Certificate, IsCertificate, certificate_parts}
-use Rattle.ssh_cert.specs.Subject.{Subject}
+use Rattle.ssh_subject.specs.Subject.{Subject}
 use Rattle.ssh_cert.specs.SubjectReading.{IsSubject, plain_key, certified, of_certificate}
 use Rattle.krl_spec.specs.Blanks.{after_endings}
 use Rattle.krl_spec.specs.Line.{Order, bare_line, directive_named, is_colon, is_hash, order, order_in}

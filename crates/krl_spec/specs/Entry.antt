@@ -7,7 +7,7 @@ use Rattle.ssh_wire.specs.Reading.{◌>>=◌, in_fault}
 use Rattle.ssh_key.specs.FingerprintReading.{fingerprint_at}
 use Rattle.ssh_key.specs.LineReading.{line_at}
 use Rattle.ssh_key.specs.declared.line_fault.LineFault.{LineFault}
-use Rattle.ssh_cert.specs.Subject.{Names, Subject}
+use Rattle.ssh_subject.specs.Subject.{Names, Subject}
 use Rattle.ssh_cert.specs.SubjectReading.{subject_of}
 use Rattle.ssh_cert.specs.declared.subject_fault.SubjectFault.{SubjectFault}
 use Rattle.krl_core.specs.Entry.{Entry, RangeEntry, IdEntry, KeyEntry, Sha1Entry, Sha256Entry}
@@ -16,9 +16,9 @@ use Rattle.krl_spec.specs.Line.{Order, bare_line, order_in}
 use Rattle.krl_spec.specs.declared.directive.Directive.{Directive}
 use Rattle.krl_spec.specs.declared.directive.Directive.TheVariants.{Serial, Id, Key, Sha1, Sha256}
 use Rattle.krl_spec.specs.declared.directive.Directive.TheVariants.{Hash}
-use Rattle.krl_spec.specs.declared.spec_cause.KeyCause.TheVariants as keys
-use Rattle.krl_spec.specs.declared.spec_cause.SpecCause.{SpecCause}
-use Rattle.krl_spec.specs.declared.spec_cause.SpecCause.TheVariants as causes
+use Rattle.spec_fault.specs.declared.spec_cause.KeyCause.TheVariants as keys
+use Rattle.spec_fault.specs.declared.spec_cause.SpecCause.{SpecCause}
+use Rattle.spec_fault.specs.declared.spec_cause.SpecCause.TheVariants as causes
 use Rattle.krl_spec.specs.declared.under.Under.{Under}
 use Rattle.krl_spec.specs.declared.under.Under.TheVariants.{NotGiven, All, Of}
 

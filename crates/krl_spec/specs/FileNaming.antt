@@ -5,8 +5,8 @@ use Rattle.krl_core.specs.Entry.{Entry}
 use Rattle.krl_spec.specs.Naming.{IsLineFault, LineNames}
 use Rattle.krl_spec.specs.SpecFile.{Named}
 use Rattle.krl_spec.specs.Spelled.{Counts}
-use Rattle.krl_spec.specs.declared.spec_cause.SpecCause.{SpecCause}
-use Rattle.krl_spec.specs.declared.spec_fault.SpecFault.{SpecFault}
+use Rattle.spec_fault.specs.declared.spec_cause.SpecCause.{SpecCause}
+use Rattle.spec_fault.specs.declared.spec_fault.SpecFault.{SpecFault}
 
 -- Each line names an entry, or nothing of it counts. The entries are in the order of the lines.
 abbrev pub LinesName : Option (List ℕ) → List (List ℕ) → List Entry → Type 0

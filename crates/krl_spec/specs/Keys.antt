@@ -8,7 +8,7 @@ use Rattle.ssh_key.specs.Kind.{Field, Positive, Curve, Point, Sized, Text, field
 use Rattle.ssh_key.specs.declared.kind.Kind.{Kind}
 use Rattle.ssh_key.specs.declared.kind.Kind.TheVariants.{Rsa, Dsa, Ecdsa256, Ecdsa384}
 use Rattle.ssh_key.specs.declared.kind.Kind.TheVariants.{Ecdsa521, Ed25519, EcdsaSk, Ed25519Sk}
-use Rattle.ssh_cert.specs.Subject.{Subject}
+use Rattle.ssh_subject.specs.Subject.{Subject}
 use Rattle.ssh_cert.specs.SubjectReading.{IsSubject, plain_key, certified}
 
 field_room : (field : Field) (value : List ℕ) → 4 ≤ length (field_text field value)
@@ -49,10 +49,3 @@ key_room blob key is =
       length-append (string (type_name key.kind)) key.fields,
       length-string (type_name key.kind),
     )
-
--- what is asked has a plain key
-pub plain_is_key : (blob : List ℕ) (asked : Subject) → IsSubject blob asked
-    → (key : Key) × IsKey asked.plain key
-plain_is_key blob asked (plain_key key is_key same) = (key, rw same is_key)
-plain_is_key blob asked (certified certificate is_certificate same) =
-    (certificate.key, rw same is_certificate.key)

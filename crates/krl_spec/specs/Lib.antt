@@ -3,7 +3,6 @@ pub mod Keys
 pub mod Number
 pub mod Stored
 pub mod Adding
-pub mod SpecCause
 pub mod Entry
 pub mod SpecFile
 pub mod Line

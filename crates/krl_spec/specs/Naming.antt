@@ -7,7 +7,7 @@ use Rattle.ssh_key.specs.FingerprintReading.{IsFingerprint, IsFingerprintFault}
 use Rattle.ssh_key.specs.KeyLine.{IsKeyLine}
 use Rattle.ssh_key.specs.LineFaults.{IsFirstLineFault}
 use Rattle.ssh_key.specs.declared.fingerprint_fault.FingerprintFault.{FingerprintFault}
-use Rattle.ssh_cert.specs.Subject.{Subject}
+use Rattle.ssh_subject.specs.Subject.{Subject}
 use Rattle.ssh_cert.specs.SubjectReading.{IsSubject, IsSubjectFault}
 use Rattle.ssh_cert.specs.declared.subject_fault.SubjectFault.{SubjectFault}
 use Rattle.krl_core.specs.Entry.{Entry, RangeEntry, IdEntry, KeyEntry, Sha1Entry, Sha256Entry}
@@ -16,10 +16,10 @@ use Rattle.krl_spec.specs.Spelled.{AreSerials, Counts, HasOrder, IsOrder, IsSeri
 use Rattle.krl_spec.specs.declared.directive.Directive.{Directive}
 use Rattle.krl_spec.specs.declared.directive.Directive.TheVariants.{Serial, Id, Key, Sha1, Sha256}
 use Rattle.krl_spec.specs.declared.directive.Directive.TheVariants.{Hash}
-use Rattle.krl_spec.specs.declared.spec_cause.KeyCause.{KeyCause}
-use Rattle.krl_spec.specs.declared.spec_cause.KeyCause.TheVariants as keys
-use Rattle.krl_spec.specs.declared.spec_cause.SpecCause.{SpecCause}
-use Rattle.krl_spec.specs.declared.spec_cause.SpecCause.TheVariants as causes
+use Rattle.spec_fault.specs.declared.spec_cause.KeyCause.{KeyCause}
+use Rattle.spec_fault.specs.declared.spec_cause.KeyCause.TheVariants as keys
+use Rattle.spec_fault.specs.declared.spec_cause.SpecCause.{SpecCause}
+use Rattle.spec_fault.specs.declared.spec_cause.SpecCause.TheVariants as causes
 
 -- ---- keys
 

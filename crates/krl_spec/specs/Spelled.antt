@@ -7,8 +7,8 @@ use Rattle.std.specs.Str.Parse.{IsNumeral, digits_value}
 use Rattle.ssh_key.specs.Blanks.{BeginsWithNoBlank, is_blank, is_ending}
 use Rattle.krl_spec.specs.Line.{is_hash, name_of}
 use Rattle.krl_spec.specs.declared.directive.Directive.{Directive}
-use Rattle.krl_spec.specs.declared.spec_cause.SpecCause.{SpecCause}
-use Rattle.krl_spec.specs.declared.spec_cause.SpecCause.TheVariants as causes
+use Rattle.spec_fault.specs.declared.spec_cause.SpecCause.{SpecCause}
+use Rattle.spec_fault.specs.declared.spec_cause.SpecCause.TheVariants as causes
 
 -- ---- numbers
 

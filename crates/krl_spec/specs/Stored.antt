@@ -1,6 +1,6 @@
 -- How much more is stored by reading what a specification file names.
 use Rattle.std.specs.Prelude.{ℕ, ◌+◌, ◌≤◌, List, [], length, Option, Some, None, unwrap_or}
-use Rattle.ssh_cert.specs.Subject.{Names, Subject}
+use Rattle.ssh_subject.specs.Subject.{Names, Subject}
 use Rattle.krl_core.specs.Contents.{Contents, IsStoredWithin}
 
 -- The bytes of the authority at hand: all authorities have none, nor has one that is not given.

@@ -1,23 +1,23 @@
 // Adding what a line of a specification file names.
 
 ghost use Rattle.std.specs.Prelude.{◌≡◌, ◌+◌, ◌<◌, length, MatchResult, None, Some, Ok};
-ghost use Rattle.ssh_cert.specs.Subject.{Subject};
+ghost use Rattle.ssh_subject.specs.Subject.{Subject};
 ghost use Rattle.krl_core.specs.Authority.{IsAuthority, authority_bytes};
 ghost use Rattle.krl_spec.specs.Adding.{Adds, AddsLine};
 ghost use Rattle.krl_spec.specs.Entry.{HasAuthority, IsUnder, authority_under, bare_entry, certificate_entry, hash_order, id_order, key_order, line_entry, names_entry, order_entry, serial_order, sha1_order, sha256_order, text_entry};
 ghost use Rattle.krl_spec.specs.Line.{order_in};
 ghost use Rattle.krl_spec.specs.Stored.{Grows, GrowsBy, asked_size};
-ghost use Rattle.krl_spec.specs.declared.spec_cause.SpecCause.TheVariants.{NoAuthority};
+ghost use Rattle.spec_fault.specs.declared.spec_cause.SpecCause.TheVariants.{NoAuthority};
 
 use crate::blanks::bare_line;
 use crate::directive::{Directive, order_in};
 use crate::keys::{ask, key_line, plain_key, read_hash};
 use crate::number::read_serials;
-use crate::spec_cause::SpecCause;
 use crate::under::Under;
 use krl_core::Revocations;
 use krl_core::laws::sections_mean_what_is_held;
 use serial_set::Spans;
+use spec_fault::SpecCause;
 use ssh_cert::{CertNames, Subject};
 use ssh_key::{sha1_of, sha256_of};
 use std::alloc::Global;

@@ -5,7 +5,7 @@ ghost use Rattle.std.specs.Prelude.{◌≡◌, ◌↔◌, ℕ, [], List, Err, No
 ghost use Rattle.std.specs.List.{slice_split};
 ghost use Rattle.ssh_wire.specs.Wire.{IsBytes};
 ghost use Rattle.ssh_key.specs.Lines.{is_newline};
-ghost use Rattle.ssh_cert.specs.Subject.{Subject};
+ghost use Rattle.ssh_subject.specs.Subject.{Subject};
 ghost use Rattle.krl_core.specs.Entry.{Entry};
 ghost use Rattle.krl_spec.specs.Entry.{line_entry, subject_in};
 ghost use Rattle.krl_spec.specs.FileNaming.{AreNamed};
@@ -16,7 +16,7 @@ ghost use Rattle.krl_spec.specs.SpecFile.{Named, lines_of};
 ghost use Rattle.krl_spec.specs.Spelled.{AreSerials, Counts, HasOrder, IsNumber, IsOrder, IsSerialsFault};
 ghost use Rattle.krl_spec.specs.declared.directive.Directive.{Directive};
 ghost use Rattle.krl_spec.specs.declared.number.Bounds.{Bounds};
-ghost use Rattle.krl_spec.specs.declared.spec_cause.SpecCause.{SpecCause};
+ghost use Rattle.spec_fault.specs.declared.spec_cause.SpecCause.{SpecCause};
 
 use ssh_cert::laws::{asked_where_spelled, not_asked_by_first_fault};
 use ssh_key::laws::{

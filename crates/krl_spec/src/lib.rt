@@ -8,11 +8,8 @@ mod keys;
 pub mod laws;
 mod lines;
 mod number;
-mod spec_cause;
-mod spec_fault;
 mod under;
 
 pub use lines::read_spec;
-pub use spec_cause::{KeyCause, SpecCause};
-pub use spec_fault::SpecFault;
+pub use spec_fault::{KeyCause, SpecCause, SpecFault};
 pub use under::Under;

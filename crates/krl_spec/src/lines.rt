@@ -7,10 +7,10 @@ ghost use Rattle.krl_spec.specs.SpecFile.{ReadsSpec, lines_of};
 ghost use Rattle.krl_spec.specs.Stored.{bytes_under};
 
 use crate::adding::add_line;
-use crate::spec_fault::SpecFault;
 use crate::under::Under;
 use krl_core::Revocations;
 use serial_set::Spans;
+use spec_fault::SpecFault;
 use ssh_key::split_line;
 use std::alloc::Global;
 

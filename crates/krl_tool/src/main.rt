@@ -18,10 +18,10 @@ use krl_runs::{
     Cause, Done, FAILED, FileFault, ListMode, RunFault, fault_line, list_run, query_run,
 };
 use krl_words::{CommandFault, command_of};
-use ssh_wire::{FromRead, Source, ToWrite, send};
+use ssh_wire::{FromBuffer, Source, ToWrite, send};
 use std::env;
 use std::fs::File;
-use std::io::{self, BufReader, ErrorKind};
+use std::io::{self, ErrorKind};
 use std::process::ExitCode;
 use std::time::{SystemTime, UNIX_EPOCH};
 
@@ -100,7 +100,7 @@ fn ask_list(rt: &HostRuntime, job: &Job) -> u8 {
     let (done, _) = query_run(
         rt.alloc(),
         job.file,
-        FromRead::new(krl),
+        FromBuffer::new(krl),
         job.dump,
         files.as_slice(),
         &mut out,
@@ -111,10 +111,10 @@ fn ask_list(rt: &HostRuntime, job: &Job) -> u8 {
 /// `-k`: makes a list, of the old one where `-u` is given.
 fn make_list(rt: &HostRuntime, job: &Job) -> u8 {
     if !job.update {
-        return write_over(rt, job, None::<FromRead<BufReader<File>>>);
+        return write_over(rt, job, None::<FromBuffer<File>>);
     }
     match open_list(rt, job.file) {
-        Ok(list) => write_over(rt, job, Some(FromRead::new(list))),
+        Ok(list) => write_over(rt, job, Some(FromBuffer::new(list))),
         Err(cause) => end(rt, &failed(job.file, cause)),
     }
 }

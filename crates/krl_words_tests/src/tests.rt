@@ -1,4 +1,5 @@
 // Which words give which command.
 
+mod page;
 mod repeated;
 mod words;

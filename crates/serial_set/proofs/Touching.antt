@@ -2,11 +2,11 @@
 use Rattle.std.proofs.Common.{◌≡◌, ℕ, ◌+◌, ◌-◌, ◌<◌, ◌≤◌, List, [], ◌∷◌, ◌++◌, ◌⊎◌, length, get_or, take, drop, refl, sym, ap, subst, inl, inr, arith, min, max, ◌∙◌, sub-one, add-zero, length-take, length-drop}
 use Rattle.std.specs.List.{All}
 use Rattle.std.proofs.lemmas.Bool.{cases_lt}
-use Rattle.std.proofs.lemmas.List.Elements.{All-nil, All-head, All-tail, All-take, All-drop, All-append}
+use Rattle.std.proofs.lemmas.List.Elements.{All-nil, All-head, All-tail, All-take, All-drop}
 use Rattle.std.proofs.lemmas.List.{drop-drop, take-append-drop, get_or-take, get_or-drop, get_or_default}
 use Rattle.std.proofs.lemmas.Slice.{between_is}
 use Rattle.serial_set.specs.declared.span.Span.{Span}
-use Rattle.serial_set.specs.Span.{SpanCovers, Covers, RunsFrom, IsRuns, TouchesNone, AddsSpan}
+use Rattle.serial_set.specs.Span.{SpanCovers, Covers, RunsFrom, IsRuns, AddsSpan}
 use Rattle.serial_set.specs.Rising.{names_append, names_left, names_right, RunsFrom-weaker, runs_front, runs_middle, runs_apart, runs_join}
 
 -- where the last span of `m ∷ ms` ends
@@ -172,13 +172,3 @@ added_apart xs ys lo hi first end h runs ordered below above new =
     let done = joined_runs_of lo hi (take first xs) [] (drop first xs) whole ordered (λ k d q. let at = below k d q in omega arith) (All-nil (λ t. lo ≤ t.hi + 1)) (All-nil (λ t. t.lo ≤ hi + 1)) past in
     subst (λ l. AddsSpan xs lo hi l) (sym new)
     (subst (λ l. AddsSpan l lo hi (take first xs ++ record { lo = lo; hi = hi } ∷ drop first xs)) parts done)
-
--- what lies between the two places is nothing, so no span touches the interval
-pub apart_touches_none : (xs : List Span) (lo hi first end : ℕ) → end ≤ first → All (λ t. t.hi < lo - 1) (take first xs) → All (λ t. hi + 1 < t.lo) (drop end xs) → TouchesNone xs lo hi
-apart_touches_none xs lo hi first end h below above =
-    let place : end + (first - end) ≡ first = omega arith in
-    let behind : drop (first - end) (drop end xs) ≡ drop first xs = drop-drop (first - end) end xs ∙ ap (λ n. drop n xs) place in
-    let past : All (λ t. hi + 1 < t.lo) (drop first xs) = subst (All (λ t. hi + 1 < t.lo)) behind (All-drop (λ t. hi + 1 < t.lo) (first - end) (drop end xs) above) in
-    subst (λ l. TouchesNone l lo hi) (take-append-drop first xs)
-    (All-append (λ t. (t.hi + 1 < lo) ⊎ (hi + 1 < t.lo)) (take first xs) (drop first xs)
-    (λ k d q. inl (let at = below k d q in omega arith)) (λ k d q. inr (past k d q)))

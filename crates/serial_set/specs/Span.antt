@@ -1,5 +1,5 @@
 -- Intervals of serials, and the one rising list of them that stands for a set.
-use Rattle.std.specs.Prelude.{ℕ, ◌+◌, ◌^◌, ◌≤◌, ◌<◌, ◌⊎◌, ◌↔◌, List, [], ◌∷◌, All, ⊤}
+use Rattle.std.specs.Prelude.{ℕ, ◌+◌, ◌^◌, ◌≤◌, ◌<◌, ◌⊎◌, ◌↔◌, List, [], ◌∷◌, ⊤}
 use Rattle.std.specs.Coded.{Unit-prop, le_prop}
 use Rattle.serial_set.specs.declared.span.Span.{Span}
 
@@ -29,10 +29,6 @@ IsRunsOf spans Member = IsRuns spans × ((s : ℕ) → Covers spans s ↔ Member
 -- the list of runs of the numbers of another list, and of those from lo to hi
 abbrev pub AddsSpan : List Span → ℕ → ℕ → List Span → Type 0
 AddsSpan old lo hi new = IsRunsOf new (λ s. Covers old s ⊎ ((lo ≤ s) × (s ≤ hi)))
-
--- no span of the list has a number in it that is from lo to hi, or beside one of these
-abbrev pub TouchesNone : List Span → ℕ → ℕ → Type 0
-TouchesNone spans lo hi = All (λ span. (span.hi + 1 < lo) ⊎ (hi + 1 < span.lo)) spans
 
 -- the numbers are serials: a serial is from 1 to 2^64-1
 abbrev pub AreSerials : List Span → Type 0

@@ -1,8 +1,12 @@
 //! What follows from the definitions alone. The functions do nothing.
-ghost use Rattle.std.specs.Prelude.{◌≡◌, ◌+◌, ◌*◌, ◌<◌, ◌≤◌, ◌↔◌, ◌++◌, ◌∷◌, [], ℕ, List, length, All};
+ghost use Rattle.std.specs.Prelude.{◌≡◌, ◌+◌, ◌*◌, ◌<◌, ◌≤◌, ◌↔◌, ◌⊎◌, ◌++◌, ◌∷◌, [], ℕ, List, length, All};
 ghost use Rattle.serial_set.specs.declared.span.Span.{Span};
 ghost use Rattle.serial_set.specs.Span.{Covers, IsRuns, IsRunsOf, AreSerials};
 ghost use Rattle.serial_set.specs.BitRuns.{FedBitmap, start, lowest, BitNames, big_endian, Feeds, FeedsAll, runs_after};
+ghost use Rattle.serial_set.specs.declared.entry.Entry.{Entry};
+ghost use Rattle.serial_set.specs.Entry.{EntriesFrom, hi_of, runs_of};
+ghost use Rattle.serial_set.specs.Entries.{Keeps, Replaces};
+ghost use Rattle.serial_set.specs.Joined.{Rises, joined};
 ghost use Rattle.serial_set.specs.Laws.{AfterFeeding};
 
 /// A set has one list of runs.
@@ -15,6 +19,21 @@ pub fn runs_are_unique()
 pub fn runs_are_fewest()
     ensures { (runs others : List Span) → IsRuns runs → ((s : ℕ) → Covers runs s ↔ Covers others s)
         → length runs ≤ length others }
+{}
+
+/// Spans that rise and may touch have the same members as the runs that they are when joined.
+pub fn joined_are_runs()
+    ensures { (spans : List Span) → Rises 0 spans
+        → IsRunsOf (joined spans) (λ s. Covers spans s) }
+{}
+
+/// Where entries give way to others that have their members and some more, the runs are those of
+/// the members before and of those more.
+pub fn replaced_adds()
+    ensures { (old : List Entry) (lo hi : ℕ) (news new : List Entry) (more : List Span)
+        (r : Replaces old lo hi news new) → Keeps r.middle news (λ s. Covers more s) → lo ≤ hi
+        → EntriesFrom 0 old → EntriesFrom lo news → All (λ e. hi_of e < hi + 1) news
+        → IsRunsOf (runs_of new) (λ s. Covers (runs_of old) s ⊎ Covers more s) }
 {}
 
 /// At each moment the pending run and all that were finished are the runs of the bits that are fed.

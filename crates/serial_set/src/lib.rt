@@ -4,31 +4,37 @@
 //! a key revocation list (PROTOCOL.krl) a byte at a time.
 #![tactic(auto)]
 
-mod adding;
+mod additions;
 mod bit_fault;
 mod bit_runs;
 mod byte_runs;
+mod entry;
+mod few;
 mod finished;
 mod gap;
 pub mod laws;
+mod news;
 mod page;
-mod part;
-mod parts;
+mod pages;
+mod piece;
 mod place;
-mod put_parts;
-mod shelf;
+mod search;
 mod span;
-mod span_pages;
 mod span_vec;
+mod span_words;
 mod spans;
+mod walk;
+mod word_bits;
 
 pub use bit_fault::BitFault;
 pub use bit_runs::BitRuns;
 pub use finished::Finished;
+pub use piece::Piece;
 pub use span::Span;
-pub use span_pages::SpanPages;
 pub use span_vec::SpanVec;
+pub use span_words::SpanWords;
 pub use spans::Spans;
+pub use walk::next_after;
 
 /// The representation of a set of serials that is in use.
-pub type Held = SpanPages;
+pub type Held = SpanWords;

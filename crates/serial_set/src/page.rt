@@ -1,235 +1,223 @@
-ghost use Rattle.std.specs.Prelude.{◌≡◌, ◌+◌, ◌-◌, ◌<◌, ◌≤◌, ◌⊎◌, ◌∷◌, ◌++◌, length, take, drop, nat_le, false, IsTrue, All, IfOk, IfSome, OnOk, OnErr};
-ghost use Rattle.std.specs.Vec.{vec_len, vec_capacity};
-ghost use Rattle.serial_set.specs.Span.{IsRuns, TouchesNone};
-ghost use Rattle.serial_set.specs.Pages.{above, replaced, CutsNone, MissesAll, end_of, IsCountBefore, IsFirstFrom, spans_some};
+//! A page of entries.
+ghost use Rattle.std.specs.Prelude.{◌≡◌, ◌+◌, ◌-◌, ◌<◌, ◌≤◌, ◌⊎◌, ◌∷◌, ◌++◌, [], length, take, drop, false, All, IsTrue, IfOk, OnOk, OnErr};
+ghost use Rattle.std.specs.Vec.{vec_len};
+ghost use Rattle.serial_set.specs.Entry.{lo_of, hi_of, EntriesFrom};
+ghost use Rattle.serial_set.specs.Entries.{Replaces};
+ghost use Rattle.serial_set.specs.Places.{end_of, CutTo, WordWidened};
 
-use crate::gap::put_behind;
-use crate::part::Part;
-use crate::place::{count_beginning_by, count_ending_before, cut_place};
-use crate::span::Span;
-use crate::span_vec::join;
+use crate::entry::Entry;
+use crate::gap::put_after;
+use crate::place::cut_place;
+use crate::search::{count_beginning_upto, count_ending_below};
 use std::alloc::{AllocError, Global};
 
-/// How many spans a page has at most.
+/// About how many entries a page has at most.
 pub const PAGE_LEN: usize = 256;
 
-/// From one to 256 spans in a row after a gap, and where the last of them ends.
+/// Entries in a row after a gap, at least one, and where the last of them ends.
 #[derive(Drop)]
 pub struct Page {
-    items: Vec<Span>,
+    items: Vec<Entry>,
     gap: usize,
     end: u64,
     ghost filled: { gap < length items.items },
-    ghost within: { vec_len items ≤ 256 },
     ghost ending: { end ≡ end_of (drop gap items.items) },
 }
 
 impl Page {
-    fn as_slice(&self) -> &[Span]
-        ensures { result.now ≡ drop self.now.gap self.now.items.items }
+    ghost use Rattle.serial_set.specs.Pages.{entries_in};
+
+    /// A page with just these entries.
+    pub fn of(alloc: Global, entries: &[Entry]) -> Result<Page, AllocError>
+        requires { 0 < length entries.now }
+        ensures { IfOk result (λ page. entries_in page ≡ entries.now) }
+    {
+        let items = Vec::from_slice(alloc, entries)?;
+        let end = last_end(&items, 0);
+        Ok(Page { items, gap: 0, end })
+    }
+
+    /// Its entries.
+    pub fn as_slice(&self) -> &[Entry]
+        ensures { result.now ≡ entries_in self.now }
     {
         &self.items[self.gap..]
     }
 
-    // How many spans end before a number. The last span tells it, or the first one after a gap,
-    // where spans come in order.
-    fn count_before(&self, number: u64) -> usize
-        requires { IsRuns (drop self.now.gap self.now.items.items) }
-        ensures { IsCountBefore (drop self.now.gap self.now.items.items) number result }
+    /// How many entries it has.
+    pub fn len(&self) -> usize
+        ensures { result ≡ length (entries_in self.now) }
     {
-        let spans = self.as_slice();
-        if self.end < number {
-            return spans.len();
-        }
-        if self.gap > 0 && number <= spans[0].hi {
-            return 0;
-        }
-        count_ending_before(spans, number)
-    }
-
-    // Moves the spans to the front.
-    fn close_gap(&mut self)
-        ensures gap { self.new.gap ≡ 0 }
-        ensures same { self.new.items.items ≡ drop self.old.gap self.old.items.items }
-        ensures end { self.new.end ≡ self.old.end }
-    {
-        self.items.drain(..self.gap);
-        self.gap = 0;
-    }
-}
-
-impl Part for Page {
-    ghost spans = { λ page. drop page.gap page.items.items };
-
-    ghost is_full = { λ page. nat_le 256 (vec_len page.items - page.gap) };
-
-    ghost has_room = { λ page _. vec_len page.items - page.gap < 256 };
-
-    ghost filled = { λ page. spans_some page.items.items page.gap page.filled };
-
-    fn of(alloc: Global, span: Span) -> Result<Page, AllocError> {
-        let mut items = Vec::with_capacity(alloc, 1)?;
-        items.push(span)?;
-        Ok(Page {
-            items,
-            gap: 0,
-            end: span.hi,
-        })
-    }
-
-    fn len(&self) -> usize {
         self.items.len() - self.gap
     }
 
-    fn end(&self) -> u64 {
+    /// Where its last entry ends.
+    pub fn end(&self) -> u64
+        ensures { result ≡ end_of (entries_in self.now) }
+    {
         self.end
     }
 
-    fn first_from(&self, number: u64) -> Option<Span> {
-        first_in(self.as_slice(), number)
+    /// Puts entries that rise in place of all that reach into the numbers from `lo` to `hi`, and
+    /// says where.
+    pub fn put(&mut self, few: &[Entry], lo: u64, hi: u64) -> Result<usize, AllocError>
+        requires order { EntriesFrom 0 (entries_in self.old) }
+        requires some { 0 < length few.now }
+        ensures put { OnOk result
+            (Replaces (entries_in self.old) lo hi few.now (entries_in self.new)) }
+        ensures refused { OnErr result (entries_in self.new ≡ entries_in self.old) }
+    {
+        let entries = self.as_slice();
+        let from = count_ending_below(entries, lo);
+        let to = from + count_beginning_upto(&entries[from..], hi);
+        self.splice(from, to, few)?;
+        Ok(self.gap + from)
     }
 
-    fn piece(&self, at: usize) -> &[Span] {
-        &self.items[self.gap + at..]
+    // Puts entries in place of those from one place to another.
+    fn splice(&mut self, from: usize, to: usize, few: &[Entry]) -> Result<(), AllocError>
+        requires order { from ≤ to }
+        requires within { to ≤ length (entries_in self.old) }
+        requires some { 0 < length few.now }
+        ensures put { OnOk result (entries_in self.new
+            ≡ take from (entries_in self.old) ++ (few.now ++ drop to (entries_in self.old))) }
+        ensures refused { OnErr result (entries_in self.new ≡ entries_in self.old) }
+    {
+        if few.len() > 1 {
+            return self.put_more(from, to, few);
+        }
+        if from < to {
+            self.put_over(from, to, few[0]);
+            return Ok(());
+        }
+        self.put_between(from, few[0])
     }
 
-    fn put(&mut self, new: Span) -> Result<(), AllocError> {
-        self.close_gap();
-        put_in(&mut self.items, new)?;
-        self.end = self.end.max(new.hi);
+    // Puts one entry between others.
+    fn put_between(&mut self, at: usize, new: Entry) -> Result<(), AllocError>
+        requires { at ≤ length (entries_in self.old) }
+        ensures put { OnOk result (entries_in self.new
+            ≡ take at (entries_in self.old) ++ new ∷ drop at (entries_in self.old)) }
+        ensures refused { OnErr result (entries_in self.new ≡ entries_in self.old) }
+    {
+        self.gap = put_after(&mut self.items, self.gap, at, new)?;
+        self.end = last_end(&self.items, self.gap);
         Ok(())
     }
 
-    fn put_apart(&mut self, new: Span) -> bool {
-        let count = self.count_before(new.lo - 1);
-        let Some(at) = apart_place(self.as_slice(), count, new) else {
+    // Puts one entry in place of some.
+    fn put_over(&mut self, from: usize, to: usize, new: Entry)
+        requires some { from < to }
+        requires within { to ≤ length (entries_in self.old) }
+        ensures { entries_in self.new
+            ≡ take from (entries_in self.old) ++ new ∷ drop to (entries_in self.old) }
+    {
+        join_entries(&mut self.items, self.gap + from, self.gap + to, new);
+        self.end = last_end(&self.items, self.gap);
+    }
+
+    // The same of any entries, in a vector of their own.
+    fn put_more(&mut self, from: usize, to: usize, few: &[Entry]) -> Result<(), AllocError>
+        requires order { from ≤ to }
+        requires within { to ≤ length (entries_in self.old) }
+        requires some { 0 < length few.now }
+        ensures put { OnOk result (entries_in self.new
+            ≡ take from (entries_in self.old) ++ few.now ++ drop to (entries_in self.old)) }
+        ensures refused { OnErr result (entries_in self.new ≡ entries_in self.old) }
+    {
+        let entries = self.as_slice();
+        let len = from + few.len() + (entries.len() - to);
+        let mut items = Vec::with_capacity(*self.items.allocator(), len + len / 4)?;
+        items.extend_from_slice(&entries[..from])?;
+        items.extend_from_slice(few)?;
+        items.extend_from_slice(&entries[to..])?;
+        let end = last_end(&items, 0);
+        *self = Page { items, gap: 0, end };
+        Ok(())
+    }
+
+    /// Sets bits in what stands at a place of the vector, if that is the word of their window. Else
+    /// nothing changes.
+    pub fn set_bits(&mut self, place: usize, window: u64, bits: u64) -> bool
+        ensures set { IsTrue result
+            → WordWidened (entries_in self.old) window bits (entries_in self.new) }
+        ensures same { result ≡ false → entries_in self.new ≡ entries_in self.old }
+    {
+        if place < self.gap || place >= self.items.len() {
             return false;
-        };
-        let Ok(gap) = put_behind(&mut self.items, self.gap, at, new) else {
+        }
+        let entry = self.items[place];
+        if entry.is_run() || entry.window() != window {
             return false;
-        };
-        self.gap = gap;
-        self.end = self.end.max(new.hi);
+        }
+        self.items[place] = entry.with(bits);
         true
     }
 
-    fn cut_front(&mut self, number: u64) -> usize {
-        self.close_gap();
-        cut_front_of(&mut self.items, number)
-    }
-
-    fn is_full(&self) -> bool {
-        self.len() >= PAGE_LEN
-    }
-
-    fn split(&mut self, lo: u64) -> Result<Page, AllocError> {
-        self.close_gap();
-        let at = cut_place(count_ending_before(&self.items, lo), self.items.len());
-        let back = Page {
-            items: copy_from(&self.items, at)?,
-            gap: 0,
-            end: self.end,
-        };
-        self.items.truncate(at);
-        self.end = self.items[at - 1].hi;
+    /// Gives the back as a page of its own. Near an end it is cut where an entry at `lo` would
+    /// stand, so that what is filled in order stays full, and else in its middle.
+    pub fn split(&mut self, lo: u64) -> Result<Page, AllocError>
+        requires order { EntriesFrom 0 (entries_in self.old) }
+        requires some { 1 < length (entries_in self.old) }
+        ensures whole { IfOk result (λ back.
+            entries_in self.old ≡ entries_in self.new ++ entries_in back) }
+        ensures refused { OnErr result (entries_in self.new ≡ entries_in self.old) }
+    {
+        let entries = self.as_slice();
+        let at = cut_place(count_ending_below(entries, lo), entries.len());
+        let back = Page::of(*self.items.allocator(), &entries[at..])?;
+        self.keep_front(at);
         Ok(back)
     }
 
-    // Its shelf has split it by then, if it was full.
-    fn make_room(&mut self, _lo: u64) -> Result<(), AllocError> {
-        if self.is_full() {
-            return Err(AllocError);
-        }
-        Ok(())
+    // Keeps the first entries.
+    fn keep_front(&mut self, count: usize)
+        requires some { 0 < count }
+        requires within { count ≤ length (entries_in self.old) }
+        ensures { entries_in self.new ≡ take count (entries_in self.old) }
+    {
+        self.items.truncate(self.gap + count);
+        self.items.shrink_to_fit();
+        self.end = last_end(&self.items, self.gap);
+    }
+
+    /// Cuts off the entries up to a number that cuts none of them, and is not past the last.
+    pub fn cut_to(&mut self, number: u64)
+        requires order { EntriesFrom 0 (entries_in self.old) }
+        requires whole { All (λ e. (hi_of e ≤ number) ⊎ (number < lo_of e))
+            (entries_in self.old) }
+        requires past { number < end_of (entries_in self.old) }
+        ensures { CutTo (entries_in self.old) number (entries_in self.new) }
+    {
+        let count = count_beginning_upto(self.as_slice(), number);
+        self.cut_front(count);
+    }
+
+    // Removes the first entries.
+    fn cut_front(&mut self, count: usize)
+        requires { count < length (entries_in self.old) }
+        ensures { entries_in self.new ≡ drop count (entries_in self.old) }
+    {
+        self.gap += count;
     }
 }
 
-// A full page takes no more. The list grows before anything is changed.
-fn put_in(items: &mut Vec<Span>, new: Span) -> Result<(), AllocError>
-    requires runs { IsRuns items.old.items }
-    requires within { vec_len items.old ≤ 256 }
-    requires span { (0 < new.lo) × (new.lo ≤ new.hi) }
-    requires cuts_none { CutsNone new items.old.items }
-    ensures put { OnOk result (items.new.items ≡ replaced items.old.items new) }
-    ensures within { vec_len items.new ≤ 256 }
-    ensures one_more { vec_len items.new ≤ vec_len items.old + 1 }
-    ensures refused { OnErr result (items.new.items ≡ items.old.items) }
-    ensures misses { OnErr result (MissesAll new items.old.items) }
-    ensures full { OnErr result
-        ((256 ≤ vec_len items.old) ⊎ (vec_capacity items.old ≤ vec_len items.old)) }
+// Where the last of the entries after a gap ends.
+fn last_end(items: &[Entry], gap: usize) -> u64
+    requires { gap < length items.now }
+    ensures { result ≡ end_of (drop gap items.now) }
 {
-    let first = count_ending_before(items, new.lo);
-    let end = count_beginning_by(items, new.hi - 1);
-    if first < end {
-        join(items, first, end, new);
-        return Ok(());
-    }
-    if items.len() >= PAGE_LEN {
-        return Err(AllocError);
-    }
-    items.insert(first, new)?;
-    Ok(())
+    items[items.len() - 1].hi()
 }
 
-// The spans from a place on, with room for as many as a page has.
-fn copy_from(items: &Vec<Span>, at: usize) -> Result<Vec<Span>, AllocError>
-    requires { at ≤ vec_len items.now }
-    ensures { IfOk result (λ back. back.items ≡ drop at items.now.items) }
+// Puts one entry in place of those from `first` up to `end`, and moves those after them once.
+fn join_entries(items: &mut Vec<Entry>, first: usize, end: usize, new: Entry)
+    requires some { first < end }
+    requires within { end ≤ vec_len items.old }
+    ensures { items.new.items ≡ take first items.old.items ++ new ∷ drop end items.old.items }
 {
-    let mut back = Vec::with_capacity(*items.allocator(), PAGE_LEN)?;
-    back.extend_from_slice(&items[at..])?;
-    Ok(back)
-}
-
-// The first span that ends at a number or past it.
-fn first_in(spans: &[Span], number: u64) -> Option<Span>
-    requires runs { IsRuns spans.now }
-    requires positive { 0 < number }
-    ensures { IsFirstFrom spans.now number result }
-{
-    let at = count_ending_before(spans, number);
-    if at < spans.len() {
-        Some(spans[at])
-    } else {
-        None
-    }
-}
-
-// Where a span stands that touches none, after those that end before what it touches.
-fn apart_place(spans: &[Span], at: usize, new: Span) -> Option<usize>
-    requires runs { IsRuns spans.now }
-    requires count { IsCountBefore spans.now (new.lo - 1) at }
-    requires span { (1 < new.lo) × (new.lo ≤ new.hi) }
-    ensures within { IfSome result (λ at. at ≤ length spans.now) }
-    ensures apart { IfSome result (λ _. TouchesNone spans.now new.lo new.hi) }
-    ensures place { IfSome result (λ at.
-        replaced spans.now new ≡ take at spans.now ++ new ∷ drop at spans.now) }
-{
-    if is_past(spans, at, new.hi) {
-        Some(at)
-    } else {
-        None
-    }
-}
-
-// Whether the spans from a place on begin past the number after `number`.
-fn is_past(items: &[Span], at: usize, number: u64) -> bool
-    requires runs { IsRuns items.now }
-    requires within { at ≤ length items.now }
-    ensures { IsTrue result → All (λ span. number + 1 < span.lo) (drop at items.now) }
-{
-    at >= items.len() || number < items[at].lo.saturating_sub(1)
-}
-
-fn cut_front_of(items: &mut Vec<Span>, number: u64) -> usize
-    requires runs { IsRuns items.old.items }
-    requires positive { 0 < number }
-    ensures cut { items.new.items ≡ above number items.old.items }
-    ensures count { vec_len items.new + result ≡ vec_len items.old }
-{
-    let count = count_beginning_by(items, number - 1);
-    let left = items.len() - count;
-    items.copy_within(count.., 0);
+    let left = items.len() - (end - first - 1);
+    items[first] = new;
+    items.copy_within(end.., first + 1);
     items.truncate(left);
-    count
 }

@@ -1,7 +1,8 @@
 ghost use Rattle.std.specs.Prelude.{◌≡◌, ◌+◌, ◌<◌, ◌≤◌, ◌⊎◌, ◌∷◌, ◌++◌, length, take, drop, OnOk, OnErr};
 ghost use Rattle.std.specs.Vec.{vec_len, vec_capacity};
-ghost use Rattle.serial_set.specs.Span.{AddsSpan, AreSerials, IsRuns, RunsFrom-prop, TouchesNone};
+ghost use Rattle.serial_set.specs.Span.{AddsSpan, AreSerials, IsRuns, RunsFrom-prop};
 
+use crate::piece::Piece;
 use crate::place::{count_beginning_by, count_ending_before};
 use crate::span::Span;
 use crate::spans::Spans;
@@ -34,7 +35,6 @@ impl Spans for SpanVec {
         ensures runs { OnOk result (AddsSpan self.old.items.items lo hi self.new.items.items) }
         ensures one_more { vec_len self.new.items ≤ vec_len self.old.items + 1 }
         ensures refused { OnErr result (self.new.items.items ≡ self.old.items.items) }
-        ensures needs_room { OnErr result (TouchesNone self.old.items.items lo hi) }
         ensures full { OnErr result (vec_capacity self.old.items ≤ vec_len self.old.items) }
     {
         add_to(&mut self.items, lo, hi)
@@ -53,8 +53,9 @@ impl Spans for SpanVec {
         self.items[at]
     }
 
-    fn piece(&self, at: usize) -> &[Span] {
-        &self.items[at..]
+    fn piece_from(&self, number: u64) -> Piece {
+        let at = count_ending_before(&self.items, number);
+        Piece::from(&self.items[at..], number)
     }
 }
 
@@ -67,7 +68,6 @@ fn add_to(items: &mut Vec<Span>, lo: u64, hi: u64) -> Result<(), AllocError>
     ensures runs { OnOk result (AddsSpan items.old.items lo hi items.new.items) }
     ensures one_more { length items.new.items ≤ length items.old.items + 1 }
     ensures refused { OnErr result (items.new.items ≡ items.old.items) }
-    ensures needs_room { OnErr result (TouchesNone items.old.items lo hi) }
     ensures full { OnErr result (vec_capacity items.old ≤ vec_len items.old) }
 {
     // A span that ends at `lo - 1` touches.

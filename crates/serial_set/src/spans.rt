@@ -1,7 +1,9 @@
-ghost use Rattle.std.specs.Prelude.{◌≡◌, ◌+◌, ◌<◌, ◌≤◌, ◌⊎◌, ◌↔◌, ℕ, List, [], length, take, drop, Some, slice_get, IsTrue, IfOk, OnOk, OnErr};
+ghost use Rattle.std.specs.Prelude.{◌≡◌, ◌+◌, ◌<◌, ◌≤◌, ◌⊎◌, ◌↔◌, ℕ, List, [], length, Some, slice_get, IsTrue, IfOk, OnOk, OnErr};
 ghost use Rattle.serial_set.specs.declared.span.Span.{Span};
-ghost use Rattle.serial_set.specs.Span.{AddsSpan, AreSerials, Covers, IsRuns, TouchesNone};
+ghost use Rattle.serial_set.specs.Span.{AddsSpan, AreSerials, Covers, IsRuns};
+ghost use Rattle.serial_set.specs.Walk.{IsPiece, piece_of};
 
+use crate::piece::Piece;
 use crate::span::Span;
 use std::alloc::{AllocError, Global};
 
@@ -15,15 +17,13 @@ pub trait Spans: Drop {
         ensures { IfOk result (λ made. spans made ≡ []) };
 
     /// Adds the serials from `lo` to `hi`. The list gets at most one span longer. Where memory runs
-    /// out the set stays as it was. Joining spans needs no memory, so only an addition that touches
-    /// no span can be refused.
+    /// out the set stays as it was.
     fn add(&mut self, lo: u64, hi: u64) -> Result<(), AllocError>
         requires from_one { 0 < lo }
         requires ordered { lo ≤ hi }
         ensures runs { OnOk result (AddsSpan (spans self.old) lo hi (spans self.new)) }
         ensures one_more { length (spans self.new) ≤ length (spans self.old) + 1 }
-        ensures refused { OnErr result (spans self.new ≡ spans self.old) }
-        ensures needs_room { OnErr result (TouchesNone (spans self.old) lo hi) };
+        ensures refused { OnErr result (spans self.new ≡ spans self.old) };
 
     /// Whether the serial is a member.
     fn has(&self, serial: u64) -> bool
@@ -38,12 +38,12 @@ pub trait Spans: Drop {
         requires { at < length (spans self.now) }
         ensures { slice_get (spans self.now) at ≡ Some result };
 
-    /// The spans from a place on, as many as lie together. A loop that goes on after each piece
-    /// visits the whole list in linear time, whatever the representation.
-    fn piece(&self, at: usize) -> &[Span]
-        requires { at < length (spans self.now) }
-        ensures some { 0 < length result.now }
-        ensures front { result.now ≡ take (length result.now) (drop at (spans self.now)) };
+    /// The first runs of the members from a number on: at least one where there are any, and at
+    /// most as many as a `Piece` has room for. A run that begins before the number is given from
+    /// the number on. A loop that begins at 0 and goes on at each piece's `next` visits all runs,
+    /// in linear time, whatever the representation.
+    fn piece_from(&self, number: u64) -> Piece
+        ensures { IsPiece (spans self.now) number (piece_of result) };
 
     // What holds of each set, also in code that knows no more than this trait.
     ghost law: { (set : Self) → IsRuns (spans set) × AreSerials (spans set) };

@@ -1,4 +1,6 @@
 mod adding;
 mod bitmaps;
+mod page;
 mod pages;
 mod walk;
+mod windows;

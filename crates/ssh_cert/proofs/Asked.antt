@@ -1,6 +1,7 @@
 -- What is asked of a blob: what is read is asked, what is asked is read, and the first fault is met.
 use Rattle.std.proofs.Common.{◌≡◌, ℕ, ◌^◌, ◌<◌, Bool, true, false, cond, List, ◌++◌, length, Option, Some, None, Result, Ok, Err, is_some, refl, sym, ap, subst, ◌∙◌, arith, inl, inr}
 use Rattle.std.specs.Prelude.{IfErr, IfOk}
+use Rattle.std.specs.Result.{result_ok}
 use Rattle.std.proofs.lemmas.Bool.{both_ways, cases_Bool}
 use Rattle.ssh_wire.specs.declared.fault.WireFault.{WireFault}
 use Rattle.ssh_wire.specs.Wire.{BeginsWith, IsBytes, string}
@@ -8,7 +9,7 @@ use Rattle.ssh_wire.specs.Reading.{string_at}
 use Rattle.ssh_wire.specs.Fields.{string_again, string_takes}
 use Rattle.ssh_key.specs.declared.fault.KeyFault.{KeyFault}
 use Rattle.ssh_key.specs.declared.kind.Kind.{Kind}
-use Rattle.ssh_key.specs.Key.{Key}
+use Rattle.ssh_key.specs.Key.{Key, blob_of}
 use Rattle.ssh_key.specs.KeyReading.{key_at}
 use Rattle.ssh_key.specs.Kind.{certificate_name, kind_certified, type_name}
 use Rattle.ssh_key.proofs.FirstFaults.{first_fault_read as key_fault_read, key_refused}
@@ -18,9 +19,11 @@ use Rattle.ssh_key.proofs.Refusals.{string_read}
 use Rattle.ssh_cert.specs.declared.fault.CertFault.{CertFault}
 use Rattle.ssh_cert.specs.declared.subject_fault.SubjectFault.{SubjectFault}
 use Rattle.ssh_cert.specs.declared.subject_fault.SubjectFault.TheVariants as faults
-use Rattle.ssh_cert.specs.CertReading.{certificate_at}
+use Rattle.ssh_cert.specs.AnyKey.{IsReadAs}
+use Rattle.ssh_cert.specs.declared.any_key.AnyKey.TheVariants as anys
+use Rattle.ssh_cert.specs.CertReading.{certificate_at, kind_at}
 use Rattle.ssh_cert.specs.Certificate.{Certificate}
-use Rattle.ssh_cert.specs.Subject.{Subject}
+use Rattle.ssh_subject.specs.Subject.{Subject}
 use Rattle.ssh_cert.specs.SubjectReading.{AnswersSubject, HasCertificateName, IsSubject, IsSubjectFault, IsToldFault, certificate_subject, certified, is_certificate, is_certified, key_subject, no_certificate, no_key, of_certificate, of_key, plain_key, subject_of}
 use Rattle.ssh_cert.proofs.Certs.{certificate_again, certificate_found, certificate_refused, first_fault_read, length-certificate_name}
 use Rattle.ssh_cert.proofs.FieldLemmas.{begins}
@@ -150,11 +153,44 @@ pub certified_is : (blob bytes name rest : List ℕ) (o : Option Kind) (b : Bool
 unfolding is_certificate
 certified_is blob bytes name rest o b same read is answer = rw (← same, read, is) answer
 
--- what `asked` answers
-pub certificate_asked : (blob : List ℕ) (r : Result Subject SubjectFault) → is_certificate blob ≡ true → AnswersSubject r (certificate_subject (certificate_at blob)) → AnswersSubject r (subject_of blob)
-unfolding subject_of
-certificate_asked blob r name given = rw name given
+-- ---- what a blob is read as
 
-pub key_asked : (blob : List ℕ) (r : Result Subject SubjectFault) → is_certificate blob ≡ false → AnswersSubject r (key_subject blob (key_at blob)) → AnswersSubject r (subject_of blob)
+-- what does not begin with the name of a certificate is none
+not_certified : (blob : List ℕ) → is_certificate blob ≡ false → result_ok (certificate_at blob) ≡ None
+unfolding is_certificate certificate_at kind_at
+not_certified blob other = by_read (string_at blob) refl other
+  where
+    by_kind : (name rest : List ℕ) (o : Option Kind) → string_at blob ≡ Ok (name, rest) → kind_certified name ≡ o → is_some o ≡ false → result_ok (certificate_at blob) ≡ None
+    by_kind name rest None read kind none = rw (read, kind) refl
+    by_kind name rest (Some found) read kind none = absurd cc
+
+    by_read : (read : Result (List ℕ × List ℕ) WireFault) → string_at blob ≡ read → is_certified read ≡ false → result_ok (certificate_at blob) ≡ None
+    by_read (Err fault) read none = rw read refl
+    by_read (Ok (name, rest)) read none = by_kind name rest (kind_certified name) read refl none
+
+pub read_certified : (blob : List ℕ) (c : Certificate) → IsBytes blob → is_certificate blob ≡ true → certificate_at blob ≡ Ok c → IsReadAs blob (anys.Certified c)
 unfolding subject_of
-key_asked blob r name given = rw name given
+read_certified blob c fits name read =
+    let is = certificate_found blob c fits read in
+    record { spelled = is; asked = rw (name, read) refl; plain = key_again (blob_of c.key) c.key is.key; certificate = ap result_ok read }
+
+pub read_plain : (blob : List ℕ) (key : Key) → IsBytes blob → is_certificate blob ≡ false → key_at blob ≡ Ok key → IsReadAs blob (anys.Plain key)
+unfolding subject_of
+read_plain blob key fits name read =
+    let is = key_found blob key fits read in
+    record { spelled = is; asked = rw (name, read) (ap (λ (b : List ℕ). Ok (of_key b)) is.spelled); plain = sym (ap key_at is.spelled) ∙ read; certificate = not_certified blob name }
+
+pub no_certificate_read : (blob : List ℕ) (why : CertFault) → is_certificate blob ≡ true → certificate_at blob ≡ Err why → subject_of blob ≡ Err (faults.Cert why)
+unfolding subject_of
+no_certificate_read blob why name read = rw (name, read) refl
+
+pub no_key_read : (blob : List ℕ) (why : KeyFault) → is_certificate blob ≡ false → key_at blob ≡ Err why → subject_of blob ≡ Err (faults.Key why)
+unfolding subject_of
+no_key_read blob why name read = rw (name, read) refl
+
+-- nothing is asked of a blob with a fault
+pub nothing_asked : (blob : List ℕ) (fault : SubjectFault) → IsSubjectFault blob fault → subject_of blob ≡ Err fault → AnswersSubject (Err fault) (subject_of blob)
+nothing_asked blob faults.NoMemory (no_key why none first is) read = absurd cc
+nothing_asked blob faults.NoMemory (no_certificate why name first is) read = absurd cc
+nothing_asked blob (faults.Key why) first read = read
+nothing_asked blob (faults.Cert why) first read = read

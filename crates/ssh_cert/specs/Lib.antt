@@ -1,4 +1,3 @@
-pub mod Subject
 pub mod Strings
 pub mod Options
 pub mod CertFault
@@ -9,6 +8,7 @@ pub mod CertReading
 pub mod FirstFault
 pub mod Parts
 pub mod SubjectReading
+pub mod AnyKey
 pub mod Laws
 pub mod Time
 pub mod Escape

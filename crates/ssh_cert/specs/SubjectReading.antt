@@ -15,7 +15,7 @@ use Rattle.ssh_cert.specs.declared.subject_fault.SubjectFault.TheVariants as fau
 use Rattle.ssh_cert.specs.CertReading.{certificate_at}
 use Rattle.ssh_cert.specs.Certificate.{Certificate, IsCertificate}
 use Rattle.ssh_cert.specs.FirstFault.{IsFirstFault}
-use Rattle.ssh_cert.specs.Subject.{Names, Subject}
+use Rattle.ssh_subject.specs.Subject.{Names, Subject}
 
 abbrev pub names_of : Certificate → Names
 names_of certificate = record {
@@ -94,3 +94,10 @@ TellsFault fault read = read ≡ Err fault
 
 abbrev pub AnswersSubject : Result Subject SubjectFault → Result Subject SubjectFault → Type 0
 AnswersSubject result read = Answers TellsFault (λ subject. subject) result read
+
+-- what is asked has a plain key
+pub plain_is_key : (blob : List ℕ) (asked : Subject) → IsSubject blob asked
+    → (key : Key) × IsKey asked.plain key
+plain_is_key blob asked (plain_key key is_key same) = (key, rw same is_key)
+plain_is_key blob asked (certified certificate is_certificate same) =
+    (certificate.key, rw same is_certificate.key)

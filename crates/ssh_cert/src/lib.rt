@@ -1,6 +1,7 @@
 //! Certificates (PROTOCOL.certkeys), and what a revocation list is asked about a key.
 #![tactic(auto)]
 
+mod any_key;
 mod cert;
 mod escape;
 mod fault;
@@ -12,9 +13,9 @@ mod role;
 mod strings;
 mod subject_fault;
 mod subject_of;
-mod subjects;
 mod time;
 
+pub use any_key::{AnyKey, read_any};
 pub use cert::Cert;
 pub use escape::push_escaped;
 pub use fault::CertFault;
@@ -22,8 +23,8 @@ pub use listing::list_cert;
 pub use options::{CertOption, Options};
 pub use reading::read_cert;
 pub use role::Role;
+pub use ssh_subject::{CertNames, Subject};
 pub use strings::Strings;
 pub use subject_fault::SubjectFault;
 pub use subject_of::subject;
-pub use subjects::{CertNames, Subject};
 pub use time::{time_text, valid_at};

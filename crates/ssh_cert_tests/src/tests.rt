@@ -6,5 +6,6 @@ mod fault;
 mod kinds;
 mod listing;
 mod options;
+mod page;
 mod parts;
 mod reading;

@@ -8,6 +8,7 @@ mod key_file;
 mod kind;
 mod large;
 mod lines;
+mod page;
 mod parsing;
 mod parts;
 mod public_fields;

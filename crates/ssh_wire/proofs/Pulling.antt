@@ -1,5 +1,5 @@
 -- Pieces that a reader gave, one after the other.
-use Rattle.std.proofs.Common.{◌≡◌, ℕ, ◌+◌, ◌-◌, ◌<◌, ◌≤◌, Bool, true, false, Result, Ok, Err, rules, List, [], ◌∷◌, ◌++◌, length, take, drop, Option, None, Some, refl, sym, ap, ◌∙◌, subst, le_refl, drop_at, length-take-le, length-append, append-nil, slice_set, arith}
+use Rattle.std.proofs.Common.{◌≡◌, ℕ, ◌+◌, ◌-◌, ◌<◌, ◌≤◌, Bool, true, false, Result, Ok, Err, rules, List, [], ◌∷◌, ◌++◌, length, take, drop, Option, None, Some, refl, sym, ap, ◌∙◌, subst, le_refl, drop_at, length-take-le, length-append, length-drop, append-nil, slice_set, arith}
 use Rattle.std.proofs.lemmas.Slice.{take-put_mid_below}
 use Rattle.std.proofs.lemmas.List.{drop_all}
 use Rattle.std.specs.Io.KnownBytes.{Consumes, Keeps, prepend_known}
@@ -162,26 +162,24 @@ RefusesRest-misses old new fault misses taken_is limit_is fault_is = record {
 
 -- ---- the byte ahead, in front of a slice
 
--- a slice after its first byte was written to
-put_mid-first : (s part : List ℕ) → 0 < length s → length part ≡ length s - 1 → put_mid 1 (length s - 1) s part ≡ take 1 s ++ part
-put_mid-first [] part some fits = absurd (omega arith)
-put_mid-first (x ∷ xs) part some fits =
-    let all : length xs ≤ length (x ∷ xs) - 1 = omega arith in
-    let none : drop (length (x ∷ xs) - 1) xs ≡ [] = search (rules, drop_all) in
-    ap (λ (l : List ℕ). x ∷ (part ++ l)) none ∙ ap (λ (l : List ℕ). x ∷ l) (append-nil part)
+-- a slice that was written to from a place on
+put_mid-last : (count : ℕ) (s part : List ℕ) → put_mid count (length s - count) s part ≡ take count s ++ part
+put_mid-last count s part =
+    let all : length (drop count s) ≤ length s - count = omega (arith, length-drop count s) in
+    let none : post_of count (length s - count) s ≡ [] = search (rules, drop_all) in
+    ap (λ (l : List ℕ). take count s ++ (part ++ l)) none ∙ ap (λ (l : List ℕ). take count s ++ l) (append-nil part)
 
 pub take-set_first : (into : List ℕ) (byte : ℕ) → 0 < length into → take 1 (slice_set into 0 byte) ≡ byte ∷ []
 take-set_first [] byte some = absurd (omega arith)
 take-set_first (x ∷ xs) byte some = refl
 
-FallsShort-ahead : (fault : PullFault) (byte : ℕ) (source after : Option (List ℕ)) (failed : Bool) (part size : ℕ) → FallsShort fault source after failed part → part + 1 ≤ size → FallsShort fault (prepend_known (byte ∷ []) source) after failed size
-FallsShort-ahead fault byte source after failed part size stops fits =
-    FallsShort-after fault (prepend_known (byte ∷ []) source) source after failed (byte ∷ []) part size (Consumes-ahead byte source) stops (omega arith)
+-- a slice was filled up to a count, and then the rest of it
+pub Fills-on : {A : Type 0} (result : Result A PullFault) (before mid after : Option (List ℕ)) (failed : Bool) (s part : List ℕ) (count : ℕ) → length part ≡ length s - count → count ≤ length s → Consumes before mid (take count s) → Fills result mid after failed part → Fills result before after failed (put_mid count (length s - count) s part)
+Fills-on (Ok filled) before mid after failed s part count fits within came fills =
+    (subst (Consumes before after) (sym (put_mid-last count s part)) (Consumes-trans before mid after (take count s) part came fills.0), fills.1)
+Fills-on (Err fault) before mid after failed s part count fits within came fills =
+    FallsShort-after fault before mid after failed (take count s) (length part) _ came fills (omega (arith, ap length (put_mid-last count s part), length-append (take count s) part))
 
 pub Fills-ahead : {A : Type 0} (result : Result A PullFault) (byte : ℕ) (source after : Option (List ℕ)) (failed : Bool) (s part : List ℕ) → 0 < length s → take 1 s ≡ byte ∷ [] → length part ≡ length s - 1 → Fills result source after failed part → Fills result (prepend_known (byte ∷ []) source) after failed (put_mid 1 (length s - 1) s part)
-Fills-ahead (Ok filled) byte source after failed s part some first fits fills =
-    let whole : put_mid 1 (length s - 1) s part ≡ (byte ∷ []) ++ part = put_mid-first s part some fits ∙ ap (λ (l : List ℕ). l ++ part) first in
-    (subst (Consumes (prepend_known (byte ∷ []) source) after) (sym whole) (Consumes-trans _ source after (byte ∷ []) part (Consumes-ahead byte source) fills.0), fills.1)
-Fills-ahead (Err fault) byte source after failed s part some first fits fills =
-    let whole : put_mid 1 (length s - 1) s part ≡ (byte ∷ []) ++ part = put_mid-first s part some fits ∙ ap (λ (l : List ℕ). l ++ part) first in
-    FallsShort-ahead fault byte source after failed (length part) _ fills (omega (arith, ap length whole))
+Fills-ahead result byte source after failed s part some first fits fills =
+    Fills-on result (prepend_known (byte ∷ []) source) source after failed s part 1 fits (omega arith) (subst (Consumes (prepend_known (byte ∷ []) source) source) (sym first) (Consumes-ahead byte source)) fills

@@ -15,6 +15,7 @@ const CHUNK: usize = 256;
 
 /// Fills a slice with the byte that was looked at and what the reader gives. It is `EndsEarly`
 /// where the reader ends before that, and `Read` where it fails.
+#[inline(always)]
 pub(crate) fn fill<R: Source>(
     reader: &mut R,
     ahead: &mut Option<u8>,
@@ -36,8 +37,27 @@ pub(crate) fn fill<R: Source>(
     }
 }
 
-/// Fills a slice with what the reader gives.
+/// Fills a slice with what the reader gives, which mostly is all of it at once.
+#[inline(always)]
 fn fill_from<R: Source>(reader: &mut R, into: &mut [u8]) -> Result<(), PullFault>
+    requires { R.has_failed reader.old ≡ false }
+    ensures { Fills result (R.left reader.old) (R.left reader.new) (R.has_failed reader.new)
+        into.new }
+{
+    if into.is_empty() {
+        return Ok(());
+    }
+    match reader.read(into) {
+        Ok(count) if count == into.len() => Ok(()),
+        Ok(0) => Err(PullFault::EndsEarly),
+        Ok(count) => fill_pieces(reader, &mut into[count..]),
+        Err(_) => Err(PullFault::Read),
+    }
+}
+
+/// Fills a slice in as many reads as it takes.
+#[inline(never)]
+fn fill_pieces<R: Source>(reader: &mut R, into: &mut [u8]) -> Result<(), PullFault>
     requires { R.has_failed reader.old ≡ false }
     ensures { Fills result (R.left reader.old) (R.left reader.new) (R.has_failed reader.new)
         into.new }
@@ -77,6 +97,7 @@ pub(crate) fn look<R: Source>(reader: &mut R, ahead: &mut Option<u8>) -> Result<
 
 /// Why no more bytes than the limit leaves can be taken: the reader goes on past them, or it ends
 /// or fails before.
+#[inline(never)]
 pub(crate) fn refusal<R: Source>(
     reader: &mut R,
     ahead: &mut Option<u8>,
@@ -107,6 +128,7 @@ pub(crate) fn refusal<R: Source>(
 }
 
 /// Fills an empty vector with this many bytes. It grows only as they come.
+#[inline(never)]
 pub(crate) fn fill_vec<R: Source>(
     reader: &mut R,
     ahead: &mut Option<u8>,

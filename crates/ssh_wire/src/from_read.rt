@@ -11,9 +11,9 @@ use std::io::Read;
 /// error are a failure, and after a failure the reader inside is not asked again.
 #[derive(Drop)]
 pub struct FromRead<R: Read + Drop> {
-    inner: R,
+    pub(crate) inner: R,
     interruptions: Interruptions,
-    failed: bool,
+    pub(crate) failed: bool,
 }
 
 impl<R: Read + Drop> FromRead<R> {
@@ -35,6 +35,7 @@ impl<R: Read + Drop> Source for FromRead<R> {
 
     ghost has_failed = { λ reader. reader.failed };
 
+    #[inline(never)]
     fn read(&mut self, into: &mut [u8]) -> Result<usize, Failed> {
         while !self.failed {
             match self.inner.read(into) {

@@ -87,6 +87,7 @@ impl<R: Source + Drop> Pull<R> {
     }
 
     /// Takes bytes to fill a slice. What a refusal leaves in the slice is not said.
+    #[inline(always)]
     pub fn fill(&mut self, into: &mut [u8]) -> Result<(), PullFault>
         ensures ok { OnOk result (Takes self.old into.new self.new) }
         ensures err { self.old.fault ≡ None → IfErr result (λ fault.
@@ -207,6 +208,7 @@ impl<R: Source + Drop> Pull<R> {
     }
 
     /// Answers an earlier fault, or the one of a field that is larger than what the limit leaves.
+    #[inline(always)]
     fn refuse_past_limit(&mut self, size: u64) -> Result<(), PullFault>
         ensures ok { OnOk result (self.new ≡ self.old) }
         ensures room { OnOk result (self.old.taken + size ≤ self.old.limit) }

@@ -1,7 +1,9 @@
 // What no contract says: the standard's own examples, calls with memory enough, devices that fail.
 
+mod buffer;
 mod cursor;
 mod once;
+mod page;
 mod pull;
 mod put;
 mod reader;

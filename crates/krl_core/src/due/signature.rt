@@ -12,6 +12,7 @@ use crate::krl_fault::KrlFault;
 use crate::place::Place;
 
 /// Judges the whole field that was due at one of these places.
+#[inline(always)]
 pub(crate) fn after(place: Place, field: &[u8]) -> Result<Place, KrlFault>
     requires part { part_of place ≡ Signature }
     requires whole { length field.now ≡ (due place).size }

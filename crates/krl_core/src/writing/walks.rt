@@ -2,15 +2,13 @@
 
 ghost use Rattle.std.specs.Prelude.{[]};
 
-use crate::keyed::Keyed;
 use crate::listed;
-use crate::text::Text;
-use crate::walk::Texts;
+use crate::texts::Texts;
 use crate::writing::authorities::{Authorities, Authority};
 use crate::writing::strings::Strings;
 use serial_set::Spans;
 
-impl<'a, T: Keyed> Strings<'a> for Texts<'a, T> {
+impl<'a> Strings<'a> for Texts<'a> {
     ghost left = { λ texts. texts };
 
     fn next_string(&mut self) -> Option<&'a [u8]> {
@@ -18,10 +16,10 @@ impl<'a, T: Keyed> Strings<'a> for Texts<'a, T> {
     }
 }
 
-impl<'a, S: Spans> Authorities<'a, S, Texts<'a, Text>> for listed::Authorities<'a, S> {
+impl<'a, S: Spans> Authorities<'a, S, Texts<'a>> for listed::Authorities<'a, S> {
     ghost left = { λ authorities. authorities };
 
-    fn next_authority(&mut self) -> Option<Authority<'a, S, Texts<'a, Text>>> {
+    fn next_authority(&mut self) -> Option<Authority<'a, S, Texts<'a>>> {
         match self.next() {
             None => None,
             Some(first) => Some(Authority {

@@ -1,9 +1,8 @@
 // A set of serials of the tests' own, which refuses at a length and counts its additions.
 
-ghost use Rattle.std.specs.Prelude.{◌≡◌, ◌<◌, ◌≤◌, IsTrue};
-ghost use Rattle.serial_set.specs.Span.{TouchesNone};
+ghost use Rattle.std.specs.Prelude.{◌<◌, ◌≤◌};
 
-use serial_set::{Span, SpanVec, Spans};
+use serial_set::{Piece, Span, SpanVec, Spans};
 use std::alloc::{AllocError, Global};
 
 /// Refuses an addition that stands alone where it has `AT` spans.
@@ -18,7 +17,6 @@ pub struct Full<S: Spans, const AT: usize> {
 fn touches_none<S: Spans>(set: &S, lo: u64, hi: u64) -> bool
     requires from_one { 0 < lo }
     requires ordered { lo ≤ hi }
-    ensures { IsTrue result → TouchesNone (S.spans set.now) lo hi }
 {
     for at in 0..set.len() {
         let span = set.get(at);
@@ -61,8 +59,8 @@ impl<S: Spans, const AT: usize> Spans for Full<S, AT> {
         self.inner.get(at)
     }
 
-    fn piece(&self, at: usize) -> &[Span] {
-        self.inner.piece(at)
+    fn piece_from(&self, number: u64) -> Piece {
+        self.inner.piece_from(number)
     }
 }
 

@@ -1,9 +1,11 @@
 // What is held after additions, also where one is refused, in its order.
 
+ghost use Rattle.std.specs.Prelude.{◌≤◌};
+
 use crate::tests::full::Full;
-use crate::tests::plain_model::{Said, add, held_of, hold, id_under};
+use crate::tests::plain_model::{Said, add, held_of, hold, id_under, serials_under};
 use crate::tests::subjects::{A, ALL, B};
-use krl_core::{Authorities, Listed, Revocations, Text, Texts};
+use krl_core::{Authorities, Listed, Revocations, Texts};
 use serial_set::{Held, SpanVec, Spans};
 use std::alloc::Global;
 use std::process::Abort;
@@ -232,19 +234,38 @@ fn spans_and_authorities_over_each_set(rt: HostRuntime) {
     spans_and_authorities::<Full<SpanVec, 2>>(&rt, rt.alloc());
 }
 
-// Adds this many keys and hashes, in an order that is not theirs.
+// Bytes by a number, which in rising order come in no order.
+fn shuffled(number: u64) -> [u8; 80] {
+    let mut bytes = [0; 80];
+    bytes[..8].copy_from_slice(&number.wrapping_mul(0x9e37_79b9_7f4a_7c15).to_be_bytes());
+    bytes
+}
+
+// Short and long in turn.
+fn some_length(number: u64) -> usize
+    ensures { result ≤ 80 }
+{
+    match number & 3 {
+        0 => 8,
+        1 => 54,
+        2 => 55,
+        _ => 80,
+    }
+}
+
+// Adds this many keys and hashes, in an order that is not theirs, keys short and long in turn.
 fn add_many(rt: &impl Abort, r: &mut Revocations<Held>, count: u64) {
     for number in 0..count {
-        let bytes = number.wrapping_mul(0x9e37_79b9_7f4a_7c15).to_be_bytes();
+        let bytes = shuffled(number);
         let mut hash = [0; 20];
-        hash[..8].copy_from_slice(&bytes);
+        hash.copy_from_slice(&bytes[..20]);
         hold(rt, r, Said::Sha1(&hash));
-        hold(rt, r, Said::Key(&bytes));
+        hold(rt, r, Said::Key(&bytes[..some_length(number)]));
     }
 }
 
 // The next key of a walk.
-fn next_key<'a>(walk: &mut Texts<'a, Text>) -> Option<&'a [u8]> {
+fn next_key<'a>(walk: &mut Texts<'a>) -> Option<&'a [u8]> {
     walk.next()
 }
 
@@ -319,4 +340,64 @@ fn ids_of_each_length_are_kept(rt: HostRuntime) {
     let mut r: Revocations<Held> = Revocations::new(rt.alloc());
     add_each_length(&rt, &mut r);
     are_kept(&rt, &r);
+}
+
+// This many key IDs of an authority are held, in order, whatever the order in which they came.
+fn ids_are_held(rt: &impl Abort, alloc: Global, count: u8) {
+    let mut r: Revocations<Held> = Revocations::new(alloc);
+    for _ in 0..2 {
+        for number in 0..u16::from(count) {
+            let id = number * 7 % u16::from(count);
+            hold(rt, &mut r, id_under(A, &[id as u8]));
+        }
+    }
+    let listed = r.walk_authorities().next().expect(rt, "one is listed");
+    assert!(rt; listed.ids() == usize::from(count));
+    let mut walk = listed.walk_ids();
+    for number in 0..count {
+        assert!(rt; walk.next() == Some([number].as_slice()));
+        assert!(rt; listed.id_at(usize::from(number)) == [number].as_slice());
+    }
+    assert!(rt; walk.next().is_none());
+}
+
+// A few key IDs stand in a vector, and more in a map.
+#[test]
+fn few_ids_and_more_stand_in_order(rt: HostRuntime) {
+    for count in [1, 2, 3, 10, 31, 32, 33, 34, 100] {
+        ids_are_held(&rt, rt.alloc(), count);
+    }
+}
+
+// Adds this many authorities, short and long in turn, each with two serials and a key ID.
+fn add_authorities(rt: &impl Abort, r: &mut Revocations<Held>, count: u64) {
+    for serial in [5, 9] {
+        for number in 0..count {
+            let bytes = shuffled(number);
+            let name = &bytes[..some_length(number)];
+            hold(rt, r, serials_under(name, serial, serial));
+            hold(rt, r, id_under(name, name));
+        }
+    }
+}
+
+// Each authority is greater than the one before it, and has what was added.
+fn authorities_rise(rt: &impl Abort, r: &Revocations<Held>, count: usize) {
+    let mut last = b"".as_slice();
+    let mut walk = r.walk_authorities();
+    for _ in 0..count {
+        let listed = walk.next().expect(rt, "an authority is left");
+        let name = listed.authority().unwrap_or(b"");
+        assert!(rt; last < name);
+        assert!(rt; (listed.ids(), listed.spans().len()) == (1, 2));
+        last = name;
+    }
+    assert!(rt; walk.next().is_none());
+}
+
+#[test]
+fn authorities_of_many_lengths_stand_in_order(rt: HostRuntime) {
+    let mut r: Revocations<Held> = Revocations::new(rt.alloc());
+    add_authorities(&rt, &mut r, 1_000);
+    authorities_rise(&rt, &r, 1_000);
 }

@@ -1,12 +1,12 @@
 // How a run answers for a key.
 
 ghost use Rattle.std.specs.Prelude.{◌≡◌, IfOk};
-ghost use Rattle.ssh_key.specs.LineReading.{content_of};
+ghost use Rattle.ssh_cert.specs.AnyKey.{IsReadAs, asked_of, plain_of};
 
 use crate::input::file_fault::FileFault;
+use crate::keys::file_keys::FileKey;
 use crate::output::answer::Answer;
-use ssh_cert::Subject;
-use ssh_key::{Line, PublicKey};
+use ssh_cert::AnyKey;
 use std::alloc::{AllocError, Global};
 
 /// How a run answers for each key of its files.
@@ -15,18 +15,16 @@ pub trait Answers {
 
     ghost answer_to: { Self → Answering };
 
-    /// What the run says of a key, or nothing. The key of a container has no line's number.
+    /// What the run says of a key, by what its blob was read as, or nothing.
     fn answer(
         &self,
         alloc: Global,
-        name: &str,
-        number: Option<u64>,
-        line: &Line,
-        asked: &Subject,
-        key: &PublicKey,
+        key: &FileKey,
+        any: &AnyKey,
     ) -> Result<Option<Answer>, AllocError>
-        ensures { IfOk result (λ answer. answer ≡ (answer_to self.now).say name.now number
-            (content_of line.now) asked.now key.now) };
+        requires { IsReadAs key.now.line.blob any.now }
+        ensures { IfOk result (λ answer. answer ≡ (answer_to self.now).say key.now.name
+            key.now.number key.now.line (asked_of any.now) (plain_of any.now)) };
 
     /// The fault of a file of which nothing is said.
     fn silence(&self) -> FileFault

@@ -5,7 +5,7 @@ ghost use Rattle.krl_runs.specs.Stop.{cause_number, cause_text};
 
 use crate::input::file_fault::FileFault;
 use krl_core::KrlFault;
-use krl_spec::SpecCause;
+use spec_fault::SpecCause;
 use ssh_cert::SubjectFault;
 use ssh_key::{LineFault, PrivateFault};
 use std::fmt;

@@ -1,13 +1,12 @@
 // What prints: lines are gathered to chunks, and what the writer took is counted.
 
-ghost use Rattle.std.specs.Prelude.{◌≡◌, ◌<◌, ◌↔◌, ℕ, IsTrue, List, [], ◌∷◌, Option, false, length, OnErr, OnOk};
+ghost use Rattle.std.specs.Prelude.{◌≡◌, ◌<◌, ◌↔◌, ℕ, IsTrue, List, [], ◌∷◌, MatchResult, Option, false, true, length, OnErr, OnOk};
 ghost use Rattle.krl_runs.specs.Carries.{Carries, Reaches};
 ghost use Rattle.krl_runs.specs.Done.{Ends};
-ghost use Rattle.krl_runs.specs.Printer.{Sends, and_answer, chunk, nothing_printed};
+ghost use Rattle.krl_runs.specs.Printer.{FailsAgain, Sends, and_answer, chunk, nothing_printed};
 ghost use Rattle.krl_runs.specs.Run.{Answered, Item, status_of};
-ghost use Rattle.krl_runs.specs.Stop.{is_lost};
+ghost use Rattle.krl_runs.specs.Stop.{is_lost, output_stop};
 
-use crate::output::answer::Answer;
 use crate::output::cause::Cause;
 use crate::output::done::{Done, FAILED};
 use crate::output::run_fault::RunFault;
@@ -18,7 +17,8 @@ use std::marker::Model;
 /// How many bytes of lines are sent together, but for the last ones.
 const CHUNK: usize = 65_536;
 
-/// What prints, over a writer. Whole lines wait on a page until they fill a chunk.
+/// What prints, over a writer. Whole lines wait on a page until they fill a chunk. Once the writer
+/// has failed, each call answers that fault again.
 #[derive(Drop)]
 pub struct Printer<'w, W: Sink> {
     // A run takes the printer apart at its end, so that what it left of its writer is known.
@@ -58,25 +58,19 @@ impl<'w, W: Sink> Printer<'w, W> {
         }
     }
 
-    /// Prints what a run says of the file or the list of this name.
-    pub fn print<'a>(&mut self, name: &'a str, answer: &Answer) -> Result<(), RunFault<'a>>
-        requires { self.old.failed ≡ false }
-        ensures { Carries (Answered name.now answer.now ∷ []) result self.old self.new }
-    {
-        self.say(name, answer.text.as_slice(), answer.revoked)
-    }
-
-    /// Prints whole lines, and keeps account of whether they say of a key that it is revoked.
+    /// Prints whole lines about the file or the list of this name, and keeps account of whether
+    /// they say of a key that it is revoked. An output that has failed answers that fault again.
     pub fn say<'a>(
         &mut self,
         name: &'a str,
         lines: &[u8],
         revoked: bool,
     ) -> Result<(), RunFault<'a>>
-        requires { self.old.failed ≡ false }
-        ensures { Carries (Answered name.now (record { text = lines.now; revoked = revoked }) ∷ [])
-            result self.old self.new }
+        ensures carries { Carries (Answered name.now
+            (record { text = lines.now; revoked = revoked }) ∷ []) result self.old self.new }
+        ensures again { FailsAgain result self.old self.new }
     {
+        self.check()?;
         let Ok(()) = self.add(lines, revoked) else {
             return Err(RunFault::whole(name, Cause::NoMemory));
         };
@@ -84,6 +78,24 @@ impl<'w, W: Sink> Printer<'w, W> {
             return Ok(());
         }
         self.send()
+    }
+
+    /// Whether the output still works.
+    fn check<'a>(&self) -> Result<(), RunFault<'a>>
+        ensures { MatchResult result (λ done. self.now.failed ≡ false)
+            (λ stop. (self.now.failed ≡ true) × (stop ≡ output_stop self.now.sent)) }
+    {
+        if self.out.failed() {
+            return Err(self.lost());
+        }
+        Ok(())
+    }
+
+    /// The fault of an output that has failed.
+    fn lost<'a>(&self) -> RunFault<'a>
+        ensures { result ≡ output_stop self.now.sent }
+    {
+        RunFault::whole("output", Cause::Output { count: self.sent })
     }
 
     /// Whether less than a chunk waits.
@@ -106,13 +118,14 @@ impl<'w, W: Sink> Printer<'w, W> {
 
     /// Sends all that waits.
     fn send<'a>(&mut self) -> Result<(), RunFault<'a>>
-        requires { self.old.failed ≡ false }
-        ensures sends { Sends result self.old self.new }
+        ensures sends { self.old.failed ≡ false → Sends result self.old self.new }
         ensures writer { self.new.writer ≡ self.old.writer }
+        ensures again { FailsAgain result self.old self.new }
     {
+        self.check()?;
         if let Err(part) = send(self.out, self.page.as_slice()) {
-            let count = self.sent.saturating_add(part.count as u64);
-            return Err(RunFault::whole("output", Cause::Output { count }));
+            self.sent = self.sent.saturating_add(part.count as u64);
+            return Err(self.lost());
         }
         self.sent = self.sent.saturating_add(self.page.len() as u64);
         self.page.clear();
@@ -122,7 +135,6 @@ impl<'w, W: Sink> Printer<'w, W> {
     /// Ends a run: sends what waits, unless the output has failed. The status is 255 where the run
     /// stopped, else 1 where it said of a key that it is revoked, else 0.
     pub fn finish<'a>(&mut self, stop: Option<RunFault<'a>>) -> Done<'a>
-        requires { self.old.failed ≡ is_lost stop }
         ensures ends { (before : Option (List ℕ)) (run : List Item)
             → Reaches before run stop.entry self.old
             → Ends run before self.new.taken self.new.failed result.status result.fault }

@@ -1,23 +1,23 @@
 // Listing the keys or the certificates of a file (ssh-keygen(1), options -l and -L).
 
-ghost use Rattle.std.specs.Prelude.{◌≡◌, ◌++◌, IfOk, OnOk, false};
+ghost use Rattle.std.specs.Prelude.{◌≡◌, ◌++◌, IfOk, OnOk, Some, false};
+ghost use Rattle.ssh_cert.specs.AnyKey.{asked_of, certificate_in, plain_of};
 ghost use Rattle.ssh_key.specs.Kind.{short_name_of};
 ghost use Rattle.krl_runs.specs.Done.{Ends};
-ghost use Rattle.krl_runs.specs.Listing.{certificate_mark, certificate_text, certify, comment_or_none, describe, kind_part, list_line, list_run_of, listing, place_part};
-ghost use Rattle.krl_runs.specs.Carries.{Carries};
-ghost use Rattle.krl_runs.specs.Run.{file_items};
+ghost use Rattle.krl_runs.specs.Listing.{certificate_answer, certificate_mark, certificate_text, comment_or_none, description, kind_part, list_line, list_run_of, listing, place_part};
 
 use crate::input::file_fault::FileFault;
 use crate::input::named::Named;
 use crate::keys::answers::Answers;
+use crate::keys::file_keys::FileKey;
 use crate::keys::walk::print_file;
 use crate::output::answer::Answer;
 use crate::output::done::Done;
 use crate::output::printer::Printer;
-use crate::output::run_fault::RunFault;
+use crate::output::run::Run;
 use crate::runs::contents::lines::push_number;
-use ssh_cert::{Cert, Subject, list_cert, push_escaped, read_cert};
-use ssh_key::{Hash, Line, PublicKey, fingerprint};
+use ssh_cert::{AnyKey, Cert, list_cert, push_escaped};
+use ssh_key::{Hash, PublicKey, fingerprint, plain_blob};
 use ssh_wire::{Bytes, Sink};
 use std::alloc::{AllocError, Global};
 
@@ -30,92 +30,97 @@ pub enum ListMode {
     Certs,
 }
 
-/// Describes each key, with its fingerprint by a hash.
-#[derive(Drop)]
-struct Description {
+/// Lists keys or certificates, with fingerprints by a hash. The moment is in seconds from 1970 on.
+#[derive(Clone, Copy)]
+struct Listing {
+    mode: ListMode,
     hash: Hash,
+    moment: u64,
 }
 
-impl Answers for Description {
-    ghost answer_to = { λ description. describe description.hash };
+impl Answers for Listing {
+    ghost answer_to = { λ l. listing l.mode l.hash l.moment };
 
     fn answer(
         &self,
         alloc: Global,
-        _name: &str,
-        _number: Option<u64>,
-        line: &Line,
-        asked: &Subject,
-        key: &PublicKey,
+        key: &FileKey,
+        any: &AnyKey,
     ) -> Result<Option<Answer>, AllocError> {
-        let print = fingerprint(alloc, self.hash, asked.plain.as_slice())?;
-        let mark = certificate_mark(asked);
-        let text = list_line(alloc, key, mark, print.as_slice(), line.comment)?;
+        match self.mode {
+            ListMode::Keys => self.describe(alloc, key, any),
+            ListMode::Certs => self.certify(alloc, key, any),
+        }
+    }
+
+    fn silence(&self) -> FileFault {
+        match self.mode {
+            ListMode::Keys => FileFault::NoKeys,
+            ListMode::Certs => FileFault::NoCertificate,
+        }
+    }
+}
+
+impl Listing {
+    /// Describes a key, or the plain key of a certificate.
+    fn describe(
+        &self,
+        alloc: Global,
+        key: &FileKey,
+        any: &AnyKey,
+    ) -> Result<Option<Answer>, AllocError>
+        ensures { IfOk result (λ answer. answer ≡ Some (description self.now.hash key.now.line
+            (asked_of any.now) (plain_of any.now))) }
+    {
+        let blob = plain_blob(alloc, any.plain())?;
+        let print = fingerprint(alloc, self.hash, &blob)?;
+        let text = list_line(alloc, any, print.as_slice(), key.comment())?;
         Ok(Some(Answer {
             text,
             revoked: false,
         }))
     }
 
-    fn silence(&self) -> FileFault {
-        FileFault::NoKeys
+    /// Lists the certificate of a line.
+    fn certify(
+        &self,
+        alloc: Global,
+        key: &FileKey,
+        any: &AnyKey,
+    ) -> Result<Option<Answer>, AllocError>
+        ensures { IfOk result (λ answer. answer ≡ certificate_answer self.now.hash
+            self.now.moment key.now.name key.now.number (certificate_in any.now)) }
+    {
+        let Some(number) = key.number else {
+            return Ok(None);
+        };
+        let AnyKey::Certified(cert) = any else {
+            return Ok(None);
+        };
+        let text = self.certificate_text(alloc, key.name, number, cert)?;
+        Ok(Some(Answer {
+            text,
+            revoked: false,
+        }))
     }
-}
 
-/// Lists each certificate, with fingerprints by a hash, at a moment.
-#[derive(Drop)]
-struct Certificates {
-    hash: Hash,
-    moment: u64,
-}
-
-impl Answers for Certificates {
-    ghost answer_to = { λ certificates. certify certificates.hash certificates.moment };
-
-    fn answer(
+    /// The file and the line of a certificate, and its listing.
+    fn certificate_text(
         &self,
         alloc: Global,
         name: &str,
-        number: Option<u64>,
-        line: &Line,
-        _asked: &Subject,
-        _key: &PublicKey,
-    ) -> Result<Option<Answer>, AllocError> {
-        let Some(number) = number else {
-            return Ok(None);
-        };
-        let Ok(cert) = read_cert(line.blob.as_slice()) else {
-            return Ok(None);
-        };
-        let text = certificate_text(alloc, self.hash, self.moment, name, number, &cert)?;
-        Ok(Some(Answer {
-            text,
-            revoked: false,
-        }))
+        number: u64,
+        cert: &Cert,
+    ) -> Result<Bytes, AllocError>
+        ensures { IfOk result (λ text. text
+            ≡ certificate_text self.now.hash self.now.moment name.now number cert.now) }
+    {
+        let listing = list_cert(alloc, cert, self.hash, self.moment)?;
+        let mut text = Vec::new(alloc);
+        push_place(&mut text, name, number)?;
+        text.extend_from_slice(listing.as_slice())?;
+        Ok(Bytes::from_vec(text))
     }
-
-    fn silence(&self) -> FileFault {
-        FileFault::NoCertificate
-    }
-}
-
-/// The file and the line of a certificate, and its listing.
-fn certificate_text(
-    alloc: Global,
-    hash: Hash,
-    moment: u64,
-    name: &str,
-    number: u64,
-    cert: &Cert,
-) -> Result<Bytes, AllocError>
-    ensures { IfOk result (λ text.
-        text ≡ certificate_text hash moment name.now number cert.now) }
-{
-    let listing = list_cert(alloc, cert, hash, moment)?;
-    let mut text = Vec::new(alloc);
-    push_place(&mut text, name, number)?;
-    text.extend_from_slice(listing.as_slice())?;
-    Ok(Bytes::from_vec(text))
 }
 
 /// Appends the name of a file and the number of a line, each with a colon, and a line feed.
@@ -129,34 +134,29 @@ fn push_place(text: &mut Vec<u8>, name: &str, number: u64) -> Result<(), AllocEr
 }
 
 /// What stands after the kind: a mark of certificates.
-fn certificate_mark(asked: &Subject) -> &'static [u8]
-    ensures { result.now ≡ certificate_mark asked.now.cert }
+fn certificate_mark(any: &AnyKey) -> &'static [u8]
+    ensures { result.now ≡ certificate_mark (asked_of any.now).cert }
 {
-    match asked.cert {
-        Some(_) => b"-CERT",
-        None => b"",
+    match any {
+        AnyKey::Certified(_) => b"-CERT",
+        AnyKey::Plain(_) => b"",
     }
 }
 
 /// The line of a key, with its line feed: its size in bits, fingerprint, comment and kind.
-fn list_line(
-    alloc: Global,
-    key: &PublicKey,
-    mark: &[u8],
-    print: &[u8],
-    comment: &[u8],
-) -> Result<Bytes, AllocError>
+fn list_line(alloc: Global, any: &AnyKey, print: &[u8], comment: &[u8]) -> Result<Bytes, AllocError>
     ensures { IfOk result (λ text.
-        text ≡ list_line key.now.bits print.now comment.now
-        (short_name_of key.now.kind ++ mark.now)) }
+        text ≡ list_line (plain_of any.now).bits print.now comment.now
+        (short_name_of (plain_of any.now).kind ++ certificate_mark (asked_of any.now).cert)) }
 {
+    let key = any.plain();
     let mut text = Vec::new(alloc);
     push_number(u64::from(key.bits()), &mut text)?;
     text.push(b' ')?;
     text.extend_from_slice(print)?;
     text.push(b' ')?;
     push_comment(&mut text, comment)?;
-    push_kind(&mut text, key, mark)?;
+    push_kind(&mut text, key, certificate_mark(any))?;
     Ok(Bytes::from_vec(text))
 }
 
@@ -196,28 +196,21 @@ pub fn list_run<'a, W: Sink>(
         (W.has_failed out.new) result.status result.fault }
 {
     let mut page = Vec::new(alloc);
-    let mut printer = Printer::new(&mut page, out);
-    let stop = list_file(alloc, mode, hash, file, moment, &mut printer).err();
+    let printer = Printer::new(&mut page, out);
+    let line = Vec::new(alloc);
+    let mut run = Run {
+        alloc,
+        printer,
+        line,
+    };
+    let listing = Listing { mode, hash, moment };
+    let stop = print_file(&mut run, &listing, file).err();
+    let Run {
+        mut printer,
+        line: _line,
+        ..
+    } = run;
     let done = printer.finish(stop);
     let Printer { out: _out, .. } = printer;
     done
-}
-
-/// Prints what is listed of a file.
-fn list_file<'a, W: Sink>(
-    alloc: Global,
-    mode: ListMode,
-    hash: Hash,
-    file: &'a Named<'a>,
-    moment: u64,
-    printer: &mut Printer<W>,
-) -> Result<(), RunFault<'a>>
-    requires { printer.old.failed ≡ false }
-    ensures { Carries (file_items (listing mode hash moment) file.now) result
-        printer.old printer.new }
-{
-    match mode {
-        ListMode::Keys => print_file(alloc, &Description { hash }, file, printer),
-        ListMode::Certs => print_file(alloc, &Certificates { hash, moment }, file, printer),
-    }
 }

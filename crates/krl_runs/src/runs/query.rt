@@ -3,27 +3,35 @@
 ghost use Rattle.std.specs.Prelude.{◌≡◌, ◌++◌, IfOk, Ok, Result, OnOk, false};
 ghost use Rattle.krl_core.specs.declared.krl_fault.KrlFault.{KrlFault as FaultOf};
 ghost use Rattle.krl_runs.specs.Carries.{Carries};
-ghost use Rattle.krl_runs.specs.Contents.{Known, known_of};
+ghost use Rattle.krl_runs.specs.Contents.{Known as KnownOf, known_of};
 ghost use Rattle.krl_runs.specs.Done.{Ends};
 ghost use Rattle.krl_runs.specs.Query.{IsListRead, ask, comment_part, krl_cause, query_line, query_run_of, verdict};
 
 use crate::input::file_fault::FileFault;
 use crate::input::named::Named;
 use crate::keys::answers::Answers;
+use crate::keys::file_keys::FileKey;
 use crate::keys::walk::print_files;
 use crate::output::answer::Answer;
 use crate::output::cause::Cause;
 use crate::output::done::Done;
 use crate::output::printer::Printer;
+use crate::output::run::Run;
 use crate::output::run_fault::RunFault;
 use crate::runs::contents::print_contents;
 use krl_core::laws::revokes_what_is_meant;
 use krl_core::{Header, KrlFault, Revocations, read_krl};
 use serial_set::Held;
-use ssh_cert::{Subject, push_escaped};
-use ssh_key::{Line, PublicKey};
+use ssh_cert::{AnyKey, push_escaped};
 use ssh_wire::{Bytes, Sink, Source};
 use std::alloc::{AllocError, Global};
+
+/// What was read of a list.
+#[derive(Drop)]
+struct Known {
+    header: Header,
+    list: Revocations<Held>,
+}
 
 /// Says of each key whether a list revokes it.
 #[derive(Drop)]
@@ -37,14 +45,11 @@ impl<'q> Answers for Query<'q> {
     fn answer(
         &self,
         alloc: Global,
-        name: &str,
-        _number: Option<u64>,
-        line: &Line,
-        asked: &Subject,
-        _key: &PublicKey,
+        key: &FileKey,
+        any: &AnyKey,
     ) -> Result<Option<Answer>, AllocError> {
-        let revoked = self.list.query(asked);
-        let text = query_line(alloc, name, line.comment, revoked)?;
+        let revoked = self.list.query(&any.subject(alloc)?);
+        let text = query_line(alloc, key.name, key.comment(), revoked)?;
         Ok(Some(Answer { text, revoked }))
     }
 
@@ -94,14 +99,25 @@ pub fn query_run<'a, R: Source + Drop, W: Sink>(
 ) -> (Done<'a>, R)
     requires fresh { R.has_failed krl ≡ false }
     requires working { W.has_failed out.old ≡ false }
-    ensures { (reading : Result Known FaultOf)
+    ensures { (reading : Result KnownOf FaultOf)
         × IsListRead (R.left krl) reading (R.has_failed result.1) (R.left result.1)
         × Ends (query_run_of krl_name.now reading dump files.now) (W.taken out.old)
         (W.taken out.new) (W.has_failed out.new) result.0.status result.0.fault }
 {
     let mut page = Vec::new(alloc);
-    let mut printer = Printer::new(&mut page, out);
-    let (asked, reader) = ask_list(alloc, krl_name, krl, dump, files, &mut printer);
+    let printer = Printer::new(&mut page, out);
+    let line = Vec::new(alloc);
+    let mut run = Run {
+        alloc,
+        printer,
+        line,
+    };
+    let (asked, reader) = ask_list(&mut run, krl_name, krl, dump, files);
+    let Run {
+        mut printer,
+        line: _line,
+        ..
+    } = run;
     let done = printer.finish(asked.err());
     let Printer { out: _out, .. } = printer;
     (done, reader)
@@ -109,25 +125,23 @@ pub fn query_run<'a, R: Source + Drop, W: Sink>(
 
 /// Reads a list and asks it about each key of each file.
 fn ask_list<'a, R: Source + Drop, W: Sink>(
-    alloc: Global,
+    run: &mut Run<W>,
     krl_name: &'a str,
     krl: R,
     dump: bool,
     files: &'a [Named<'a>],
-    printer: &mut Printer<W>,
 ) -> (Result<(), RunFault<'a>>, R)
-    requires fresh { R.has_failed krl ≡ false }
-    requires working { printer.old.failed ≡ false }
-    ensures { (reading : Result Known FaultOf)
+    requires { R.has_failed krl ≡ false }
+    ensures { (reading : Result KnownOf FaultOf)
         × IsListRead (R.left krl) reading (R.has_failed result.1) (R.left result.1)
         × Carries (query_run_of krl_name.now reading dump files.now) result.0
-        printer.old printer.new }
+        run.old.printer run.new.printer }
 {
     revokes_what_is_meant();
-    let (read, reader) = read_krl::<Held, R>(alloc, krl);
+    let (read, reader) = read_krl::<Held, R>(run.alloc, krl);
     match read {
         Ok((header, list)) => {
-            let asked = ask_held(alloc, krl_name, &header, &list, dump, files, printer);
+            let asked = ask_held(run, krl_name, &Known { header, list }, dump, files);
             (asked, reader)
         }
         Err(fault) => (Err(RunFault::whole(krl_name, cause_of(fault))), reader),
@@ -136,20 +150,18 @@ fn ask_list<'a, R: Source + Drop, W: Sink>(
 
 /// Prints the contents of a list where `dump` is true, and asks it about each key of each file.
 fn ask_held<'a, W: Sink>(
-    alloc: Global,
+    run: &mut Run<W>,
     krl_name: &'a str,
-    header: &Header,
-    list: &Revocations<Held>,
+    known: &Known,
     dump: bool,
     files: &'a [Named<'a>],
-    printer: &mut Printer<W>,
 ) -> Result<(), RunFault<'a>>
-    requires { printer.old.failed ≡ false }
-    ensures { Carries (query_run_of krl_name.now (Ok (known_of header.now list.now)) dump files.now)
-        result printer.old printer.new }
+    ensures { Carries (query_run_of krl_name.now (Ok (known_of known.now.header known.now.list))
+        dump files.now) result run.old.printer run.new.printer }
 {
-    print_contents(alloc, krl_name, dump, header, list, printer)?;
-    print_files(alloc, &Query { list }, files, printer)
+    let Known { header, list } = known;
+    print_contents(run, krl_name, dump, header, list)?;
+    print_files(run, &Query { list }, files)
 }
 
 /// Why a run stops at a fault of a list: where memory runs out, it is for the run itself.

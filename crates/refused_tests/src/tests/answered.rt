@@ -2,8 +2,8 @@
 
 use std::process::Abort;
 
-/// Says that memory ran out: `tests/hostile` looks for this line, which no test may print where
-/// nothing is refused.
+/// Says that memory ran out: `tests/inject_faults` looks for this line, which no test may print
+/// where nothing is refused.
 pub fn ran_out(rt: &(impl AllocGlobal + Abort + Print)) {
     println!(rt; "memory ran out").expect(rt, "standard output takes it");
 }

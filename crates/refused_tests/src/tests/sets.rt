@@ -1,7 +1,7 @@
 // Sets of spans, which a refused addition leaves as they were.
 
 use crate::tests::answered::ran_out;
-use serial_set::{SpanPages, SpanVec, Spans};
+use serial_set::{SpanVec, SpanWords, Spans};
 use std::alloc::AllocError;
 use std::process::Abort;
 use std::test::Fail;
@@ -44,9 +44,9 @@ fn number(order: Order, step: u64) -> u64 {
 
 // The set has just the numbers before a step, each in a span of its own.
 fn is_before<S: Spans>(rt: &(impl AllocGlobal + Abort + Print), set: &S, order: Order, step: u64) {
-    assert!(rt; set.len() as u64 == step && !set.has(number(order, step)));
-    for earlier in 0..step {
-        assert!(rt; set.has(number(order, earlier)));
+    assert!(rt; set.len() as u64 == step);
+    for other in 0..COUNT {
+        assert!(rt; set.has(number(order, other)) == (other < step));
     }
 }
 
@@ -67,23 +67,27 @@ fn add<S: Spans>(
     Ok(())
 }
 
-// Adds them all, and then one interval that joins them, which needs no memory.
+// Adds them all, and then one interval that joins them, again where it is refused.
 fn fill<S: Spans>(rt: &(impl AllocGlobal + Abort + Print), order: Order) -> Result<(), Fail> {
     let mut set: S = empty(rt)?;
     for step in 0..COUNT {
         add(rt, &mut set, order, step)?;
     }
     assert!(rt; set.len() as u64 == COUNT);
-    set.add(2, 2 * COUNT - 2)?;
+    if set.add(2, 2 * COUNT - 2).is_err() {
+        ran_out(rt);
+        is_before(rt, &set, order, COUNT);
+        set.add(2, 2 * COUNT - 2)?;
+    }
     assert!(rt; set.len() == 1 && set.has(1) && set.has(2 * COUNT - 1) && !set.has(2 * COUNT));
     Ok(())
 }
 
 #[test]
 fn pages(rt: HostRuntime) -> Result<(), Fail> {
-    fill::<SpanPages>(&rt, Order::Rising)?;
-    fill::<SpanPages>(&rt, Order::Falling)?;
-    fill::<SpanPages>(&rt, Order::BothEnds)
+    fill::<SpanWords>(&rt, Order::Rising)?;
+    fill::<SpanWords>(&rt, Order::Falling)?;
+    fill::<SpanWords>(&rt, Order::BothEnds)
 }
 
 #[test]
@@ -114,7 +118,7 @@ fn join<S: Spans>(rt: &(impl AllocGlobal + Abort + Print)) -> Result<(), Fail> {
 
 #[test]
 fn joined_pages(rt: HostRuntime) -> Result<(), Fail> {
-    join::<SpanPages>(&rt)
+    join::<SpanWords>(&rt)
 }
 
 #[test]

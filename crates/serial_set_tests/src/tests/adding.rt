@@ -1,7 +1,7 @@
 ghost use Rattle.std.specs.Prelude.{◌≡◌, ◌<◌, ◌≤◌};
 
 use crate::tests::walk::{add, empty, lists};
-use serial_set::{Held, Span, SpanPages, SpanVec, Spans};
+use serial_set::{Held, Span, SpanVec, SpanWords, Spans};
 use std::alloc::Global;
 use std::process::Abort;
 
@@ -41,7 +41,7 @@ fn adds<S: Spans>(rt: &impl Abort, alloc: Global, number: usize, row: &Row) {
 fn adds_intervals(rt: HostRuntime) {
     for (i, row) in ROWS.iter().enumerate() {
         adds::<SpanVec>(&rt, rt.alloc(), i, row);
-        adds::<SpanPages>(&rt, rt.alloc(), i, row);
+        adds::<SpanWords>(&rt, rt.alloc(), i, row);
     }
 }
 

@@ -2,7 +2,7 @@
 ghost use Rattle.std.specs.Prelude.{◌≡◌, ◌+◌, ◌*◌, ◌^◌, ◌<◌, ◌≤◌};
 
 use crate::tests::walk::{add, empty, list_of, lists};
-use serial_set::{Span, SpanPages, SpanVec, Spans};
+use serial_set::{Span, SpanVec, SpanWords, Spans};
 use std::alloc::Global;
 use std::process::Abort;
 
@@ -78,7 +78,7 @@ const ORDERS: [Order; 3] = [Order::Rising, Order::Falling, Order::Alternating];
 #[test]
 fn joins_over_pages(rt: HostRuntime) {
     for order in &ORDERS {
-        has_rows::<SpanPages>(&rt, rt.alloc(), *order);
+        has_rows::<SpanWords>(&rt, rt.alloc(), *order);
         has_rows::<SpanVec>(&rt, rt.alloc(), *order);
     }
 }
@@ -115,7 +115,7 @@ const JOINED: [Span; 3] = [
 ];
 
 fn fills(rt: &impl Abort, alloc: Global, order: Order) {
-    let mut set: SpanPages = odd_numbers(rt, alloc, order, 600_000);
+    let mut set: SpanWords = odd_numbers(rt, alloc, order, 600_000);
     for (at, span) in &PLACES {
         assert!(rt; has_span(&set, 600_000, *at, *span), "in case {}", *at);
     }
@@ -133,7 +133,7 @@ fn fills_shelves(rt: HostRuntime) {
 }
 
 // The next of a row of numbers that look random (xorshift).
-fn next(seed: u64) -> u64 {
+pub fn next(seed: u64) -> u64 {
     let mut next = seed;
     next ^= next << 13;
     next ^= next >> 7;
@@ -152,7 +152,7 @@ fn interval(seed: u64) -> (u64, u64) {
 }
 
 // Adds a hundred intervals to both, and gives the seed of the next.
-fn add_to_both(rt: &impl Abort, pages: &mut SpanPages, vector: &mut SpanVec, seed: u64) -> u64 {
+fn add_to_both(rt: &impl Abort, pages: &mut SpanWords, vector: &mut SpanVec, seed: u64) -> u64 {
     let mut seed = seed;
     for _one in 0..100 {
         seed = next(seed);
@@ -164,14 +164,14 @@ fn add_to_both(rt: &impl Abort, pages: &mut SpanPages, vector: &mut SpanVec, see
 }
 
 // Both have the same spans.
-fn are_alike(rt: &impl Abort, alloc: Global, number: usize, pages: &SpanPages, vector: &SpanVec) {
+fn are_alike(rt: &impl Abort, alloc: Global, number: usize, pages: &SpanWords, vector: &SpanVec) {
     let due = list_of(alloc, vector).expect(rt, "there is memory");
     lists(rt, alloc, number, pages, &due);
 }
 
 #[test]
 fn keeps_the_same_list(rt: HostRuntime) {
-    let mut pages: SpanPages = empty(&rt, rt.alloc());
+    let mut pages: SpanWords = empty(&rt, rt.alloc());
     let mut vector: SpanVec = empty(&rt, rt.alloc());
     let mut seed = 88_172_645_463_325_252;
     for hundred in 0..2_000 {

@@ -1,7 +1,7 @@
 // Code over any representation, proved from what `Spans` promises alone.
 ghost use Rattle.std.specs.Prelude.{◌≡◌, ◌<◌, ◌≤◌, length, IsTrue, IfOk};
 
-use serial_set::{Span, SpanPages, SpanVec, Spans};
+use serial_set::{Span, SpanVec, SpanWords, Spans};
 use std::alloc::{AllocError, Global};
 use std::process::Abort;
 
@@ -10,12 +10,11 @@ pub fn list_of<S: Spans>(alloc: Global, set: &S) -> Result<Vec<Span>, AllocError
     ensures { IfOk result (λ list. list.items ≡ S.spans set.now) }
 {
     let mut list = Vec::new(alloc);
-    let len = set.len();
-    let mut at = 0;
-    while at < len {
-        let piece = set.piece(at);
-        list.extend_from_slice(piece)?;
-        at += piece.len();
+    let mut next = Some(0);
+    while let Some(number) = next {
+        let piece = set.piece_from(number);
+        list.extend_from_slice(piece.as_slice())?;
+        next = piece.next();
     }
     Ok(list)
 }
@@ -83,5 +82,5 @@ fn walks<S: Spans>(rt: &impl Abort, alloc: Global) {
 #[test]
 fn walks_each_representation(rt: HostRuntime) {
     walks::<SpanVec>(&rt, rt.alloc());
-    walks::<SpanPages>(&rt, rt.alloc());
+    walks::<SpanWords>(&rt, rt.alloc());
 }

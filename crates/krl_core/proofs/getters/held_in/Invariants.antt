@@ -6,7 +6,7 @@ abbrev pub invariant-loop-left : goal.invariant-loop-left
 invariant-loop-left g l = record {
   rest : l.left ≡ length l.walk;
   few : length l.shelves < 2 ^ 64;
-  sum : l.total + sum_by (λ shelf. length (g.S.Spans.spans shelf.spans)) l.walk ≡ sum_by (λ shelf. length (g.S.Spans.spans shelf.spans)) l.shelves;
+  sum : l.total + sum_by (λ section. length section.spans) l.walk ≡ sum_by (λ section. length section.spans) l.shelves;
   bound : l.total + l.left * 2 ^ 64 ≤ length l.shelves * 2 ^ 64;
 }
 

@@ -1,12 +1,11 @@
-use Rattle.std.proofs.Common.{◌≡◌, ◌-◌, ◌≤◌, take, drop}
+use Rattle.serial_set.specs.Walk.{left, steps}
+use Rattle.krl_plan.proofs.Windows.{Copied}
 use Rattle.krl_plan.proofs.planner.copy_runs.Given as goal
 
-abbrev pub invariant-loop-at : goal.invariant-loop-at
-invariant-loop-at g l = record {
-  from : l.from ≤ l.at;
-  within : l.at ≤ l.end;
-  copied : l.window.items ≡ take (l.at - l.from) (drop l.from (g.S.Spans.spans l.set));
-}
+abbrev pub invariant-loop-next : goal.invariant-loop-next
+invariant-loop-next g l =
+    let spans = g.S.Spans.spans l.set in
+    Copied spans (left l.fn.from spans) l.window.items l.count l.next
 
-abbrev pub decreases-loop-at : goal.decreases-loop-at
-decreases-loop-at g l = l.end - l.at
+abbrev pub decreases-loop-next : goal.decreases-loop-next
+decreases-loop-next g l = steps l.next (g.S.Spans.spans l.set)

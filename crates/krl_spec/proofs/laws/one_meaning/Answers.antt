@@ -3,7 +3,7 @@ use Rattle.std.proofs.Common.{◌≡◌, Option, Some, None, Result, Ok, Err, re
 use Rattle.krl_core.specs.Entry.{Entry}
 use Rattle.krl_spec.specs.Entry.{line_entry}
 use Rattle.krl_spec.specs.Naming.{HasMeaning, names, no_meaning, refused}
-use Rattle.krl_spec.specs.declared.spec_cause.SpecCause.{SpecCause}
+use Rattle.spec_fault.specs.declared.spec_cause.SpecCause.{SpecCause}
 use Rattle.krl_spec.proofs.laws.one_meaning.Goals as goal
 
 abbrev Read : Type 0

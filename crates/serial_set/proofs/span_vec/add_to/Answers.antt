@@ -1,7 +1,6 @@
 use Rattle.std.proofs.Common.{arith, subst, sym, ◌+◌, ◌-◌, ◌<◌, ◌≤◌, take, drop}
 use Rattle.std.specs.List.{All}
-use Rattle.serial_set.proofs.Touching.{added_joined, added_apart, apart_touches_none}
-use Rattle.serial_set.proofs.Refused.{on_err}
+use Rattle.serial_set.proofs.Touching.{added_joined, added_apart}
 use Rattle.serial_set.proofs.span_vec.add_to.Goals as goal
 
 pub returns-then-first-end-clause-runs : goal.returns-then-first-end-clause-runs
@@ -28,11 +27,3 @@ returns-clause-runs c =
     (subst (λ l. All (λ t. t.hi < lo - 1) (take first.result l)) c.deref.ensures.value first.ensures.before)
     (subst (λ l. All (λ t. hi + 1 < t.lo) (drop end.result l)) c.deref-2.ensures.value end.ensures.rest)
     c.in_ok-insert.ensures.items
-
-pub returns-in_err-insert-clause-needs_room : goal.returns-in_err-insert-clause-needs_room
-returns-in_err-insert-clause-needs_room c =
-    let first = c.count_ending_before-first in
-    let end = c.count_beginning_by-end in
-    on_err _ _ (apart_touches_none c.args.items.now.items c.args.lo c.args.hi first.result end.result c.if-first-end.false
-    (subst (λ l. All (λ t. t.hi < c.args.lo - 1) (take first.result l)) c.deref.ensures.value first.ensures.before)
-    (subst (λ l. All (λ t. c.args.hi + 1 < t.lo) (drop end.result l)) c.deref-2.ensures.value end.ensures.rest))

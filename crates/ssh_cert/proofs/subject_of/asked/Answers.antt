@@ -1,9 +1,9 @@
-use Rattle.std.proofs.Common.{sym}
-use Rattle.ssh_cert.proofs.Asked.{certificate_asked, key_asked}
+-- What is read is asked, or the first fault is met.
+use Rattle.std.proofs.lemmas.Result.{err_from_is_err_and}
+use Rattle.ssh_cert.proofs.Asked.{nothing_asked}
 use Rattle.ssh_cert.proofs.subject_of.asked.Goals as goal
 
-pub returns-then-is_certificate : goal.returns-then-is_certificate
-returns-then-is_certificate c = certificate_asked c.args.blob.now c.of_certificate.result (sym c.if-is_certificate.ensures) c.of_certificate.ensures
-
-pub returns-else-is_certificate : goal.returns-else-is_certificate
-returns-else-is_certificate c = key_asked c.args.blob.now c.of_key.result (sym c.if-is_certificate.ensures) c.of_key.ensures
+pub returns-in_err-any : goal.returns-in_err-any
+returns-in_err-any c =
+    let p = err_from_is_err_and c.from_residual.result c.from_residual.ensures.1 in
+    rw (p.1, p.2) (nothing_asked c.args.blob.now _ c.in_err-any.ensures.fault c.in_err-any.ensures.exact)

@@ -1,16 +1,8 @@
--- A read filled the next part of the slice.
-use Rattle.std.proofs.Common.{rules, take}
-use Rattle.ssh_wire.specs.declared.pull_fault.PullFault.TheVariants.{Read}
-use Rattle.ssh_wire.proofs.Pulling.{Consumes-filled, FallsShort-front}
+-- The first read gave a front of the slice.
+use Rattle.std.proofs.Common.{rules}
+use Rattle.ssh_wire.proofs.Pulling.{Fills-on}
 use Rattle.ssh_wire.proofs.filling.fill_from.Goals as goal
 
-pub loop-count-preserved : goal.loop-count-preserved
-loop-count-preserved g c = record {
-  size = search rules;
-  within = search rules;
-  taken = Consumes-filled _ _ _ _ _ _ _ c.loop-count.invariant.within c.in-Ok.ensures.part c.loop-count.invariant.taken c.in-Ok.ensures.bytes.0;
-  working = c.in-Ok.ensures.failed;
-}
-
-pub returns-in-Err : goal.returns-in-Err
-returns-in-Err g c = FallsShort-front Read (g.R.Source.left c.args.reader.now) (g.R.Source.left c.loop-count.reader) _ _ (take c.loop-count.count c.loop-count.into) _ c.loop-count.invariant.taken (search rules) (search rules) (search rules)
+pub returns-in-Ok-2 : goal.returns-in-Ok-2
+returns-in-Ok-2 g c =
+    Fills-on c.fill_pieces.result (g.R.Source.left c.args.reader.now) (g.R.Source.left c.read.new.self) _ _ c.read.new.into c.fill_pieces.new.into c.in-Ok.count (search rules) c.in-Ok.ensures.part c.in-Ok.ensures.bytes.0 c.fill_pieces.ensures

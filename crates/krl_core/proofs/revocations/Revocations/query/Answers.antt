@@ -1,33 +1,9 @@
 use Rattle.std.proofs.Common.{◌≡◌, false, true, subst}
 use Rattle.std.specs.Prelude.{◌↔◌, IsTrue}
 use Rattle.krl_core.specs.Asked.{HoldsKey}
-use Rattle.krl_core.specs.Revoked.{Revoked}
 use Rattle.krl_core.specs.Tested.{revokes}
-use Rattle.krl_core.proofs.Asking.{answered_key, answered_plain, answered_cert}
-use Rattle.krl_core.proofs.Tested.{tested_key, tested_cert, tested_none, tested_some}
+use Rattle.krl_core.proofs.Tested.{answer_meant, tested_key, tested_cert, tested_none, tested_some}
 use Rattle.krl_core.proofs.revocations.Revocations.query.Goals as goal
-
-pub returns-then-has_key-clause-revoked : goal.returns-then-has_key-clause-revoked
-returns-then-has_key-clause-revoked g c entries m =
-    let r = c.args.self.now in
-    let s = c.subject.inside in
-    let asked = subst (λ b. IsTrue c.has_key.result ↔ HoldsKey r b) c.as_slice.ensures c.has_key.ensures in
-    subst (λ x. IsTrue true ↔ Revoked entries x) c.subject.view_is (answered_key r entries m s.plain s.cert c.has_key.result asked c.if-has_key.true)
-
-pub returns-in-None-clause-revoked : goal.returns-in-None-clause-revoked
-returns-in-None-clause-revoked g c entries m =
-    let r = c.args.self.now in
-    let s = c.subject.inside in
-    let asked = subst (λ b. IsTrue c.has_key.result ↔ HoldsKey r b) c.as_slice.ensures c.has_key.ensures in
-    subst (λ x. IsTrue false ↔ Revoked entries x) c.subject.view_is (answered_plain r entries m s.plain s.cert c.has_key.result asked c.if-has_key.false c.in-None.is)
-
-pub returns-in-Some-clause-revoked : goal.returns-in-Some-clause-revoked
-returns-in-Some-clause-revoked g c entries m =
-    let r = c.args.self.now in
-    let s = c.subject.inside in
-    let asked = subst (λ b. IsTrue c.has_key.result ↔ HoldsKey r b) c.as_slice.ensures c.has_key.ensures in
-    subst (λ x. IsTrue c.has_cert.result ↔ Revoked entries x) c.subject.view_is
-    (answered_cert r entries m s.plain s.cert c.in-Some.cert c.has_key.result c.has_cert.result asked c.if-has_key.false c.in-Some.is c.has_cert.ensures)
 
 pub returns-then-has_key-clause-tested : goal.returns-then-has_key-clause-tested
 returns-then-has_key-clause-tested g c =
@@ -52,3 +28,12 @@ returns-in-Some-clause-tested g c =
     let some = tested_some r s.cert c.in-Some.cert c.has_cert.result c.in-Some.is c.has_cert.ensures in
     subst (λ x. c.has_cert.result ≡ revokes r x) c.subject.view_is
     (tested_cert r s.plain s.cert c.has_key.result c.has_cert.result asked c.if-has_key.false some)
+
+pub returns-then-has_key-clause-revoked : goal.returns-then-has_key-clause-revoked
+returns-then-has_key-clause-revoked g c entries m = answer_meant _ entries m _ _ (returns-then-has_key-clause-tested g c)
+
+pub returns-in-None-clause-revoked : goal.returns-in-None-clause-revoked
+returns-in-None-clause-revoked g c entries m = answer_meant _ entries m _ _ (returns-in-None-clause-tested g c)
+
+pub returns-in-Some-clause-revoked : goal.returns-in-Some-clause-revoked
+returns-in-Some-clause-revoked g c entries m = answer_meant _ entries m _ _ (returns-in-Some-clause-tested g c)

@@ -4,7 +4,7 @@ use Rattle.krl_runs.proofs.Answering.{none_answered, file_carried, file_stops}
 use Rattle.krl_runs.proofs.keys.walk.print_files.Goals as goal
 
 pub loop-file-init : goal.loop-file-init
-loop-file-init g c = none_answered _ _ c.requires
+loop-file-init g c = none_answered _ _
 
 pub returns-in_err-print_file : goal.returns-in_err-print_file
 returns-in_err-print_file g c =

@@ -2,15 +2,15 @@
 use Rattle.std.proofs.Common.{◌∙◌, sym}
 use Rattle.krl_runs.specs.Contents.{comment_line}
 use Rattle.krl_runs.proofs.Carrying.{carries_none}
-use Rattle.krl_runs.proofs.Telling.{line_is, no_comment, some_comment}
+use Rattle.krl_runs.proofs.Telling.{no_comment, some_comment}
 use Rattle.krl_runs.proofs.runs.contents.print_comment.Goals as goal
 
 pub returns-then-is_empty : goal.returns-then-is_empty
 returns-then-is_empty g c =
-    rw (no_comment c.args.comment.now (sym c.is_empty.ensures ∙ c.if-is_empty.true)) (carries_none tt _ c.requires)
+    rw (no_comment c.args.comment.now (sym c.is_empty.ensures ∙ c.if-is_empty.true)) (carries_none tt _)
 
 pub returns : goal.returns
 returns g c =
     let comment = comment_line c.args.comment.now in
-    let said = c.print_line.ensures comment (line_is _ _ _ comment c.deref.ensures.value c.write_comment-made.ensures) in
+    let said = c.say_line.ensures comment c.write_comment-made.ensures in
     rw (some_comment c.args.comment.now (sym c.is_empty.ensures ∙ c.if-is_empty.false)) said

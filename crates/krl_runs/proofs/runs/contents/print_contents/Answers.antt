@@ -4,7 +4,7 @@ use Rattle.krl_runs.proofs.Telling.{contents_said, contents_stop, not_asked}
 use Rattle.krl_runs.proofs.runs.contents.print_contents.Goals as goal
 
 pub returns-then-not-dump : goal.returns-then-not-dump
-returns-then-not-dump g c = not_asked _ _ _ _ c.if-not-dump.true c.requires
+returns-then-not-dump g c = not_asked _ _ _ _ c.if-not-dump.true
 
 pub returns-in_err-print_header : goal.returns-in_err-print_header
 returns-in_err-print_header g c =

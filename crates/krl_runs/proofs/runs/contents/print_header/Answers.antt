@@ -2,33 +2,30 @@
 use Rattle.std.proofs.Common.{◌∷◌, []}
 use Rattle.std.proofs.lemmas.Result.{err_from_is_err_and}
 use Rattle.krl_runs.specs.Contents.{comment_lines, date_line, version_line}
-use Rattle.krl_runs.proofs.Telling.{header_started, last_said, line_is, line_is_itself, more_said, saying_stops}
+use Rattle.krl_runs.proofs.Telling.{header_started, last_said, more_said, saying_stops}
 use Rattle.krl_runs.proofs.runs.contents.print_header.Goals as goal
 
-pub returns-in_err-print_line : goal.returns-in_err-print_line
-returns-in_err-print_line g c =
+pub returns-in_err-say_line : goal.returns-in_err-say_line
+returns-in_err-say_line g c =
     let p = err_from_is_err_and c.from_residual.result c.from_residual.ensures.1 in
     let version = version_line c.args.header.now.version in
-    let one = c.in_err-print_line.ensures version (line_is _ _ _ version c.deref.ensures.value c.write_version-made.ensures) in
-    rw (p.1, p.2) (saying_stops _ _ (version ∷ []) _ _ _ _ _ (header_started _ c.args.header.now _ c.requires) one)
+    let one = c.in_err-say_line.ensures version c.write_version-made.ensures in
+    rw (p.1, p.2) (saying_stops _ _ (version ∷ []) _ _ _ _ _ (header_started _ c.args.header.now _) one)
 
-pub returns-in_err-print_line-2 : goal.returns-in_err-print_line-2
-returns-in_err-print_line-2 g c =
-    let p = err_from_is_err_and c.from_residual-in_err-print_line-2.result c.from_residual-in_err-print_line-2.ensures.1 in
+pub returns-in_err-say_line-2 : goal.returns-in_err-say_line-2
+returns-in_err-say_line-2 g c =
+    let p = err_from_is_err_and c.from_residual-in_err-say_line-2.result c.from_residual-in_err-say_line-2.ensures.1 in
     let version = version_line c.args.header.now.version in
-    let one = c.in_ok-print_line.ensures version (line_is _ _ _ version c.deref.ensures.value c.write_version-made.ensures) in
-    let two = c.in_err-print_line-2.ensures (date_line c.args.header.now.date) (line_is _ _ _ (date_line c.args.header.now.date) c.deref-2.ensures.value c.write_date-made.ensures) in
-    let is = more_said _ _ (version ∷ []) _ _ _ _ (header_started _ c.args.header.now _ c.requires) one in
+    let one = c.in_ok-say_line.ensures version c.write_version-made.ensures in
+    let two = c.in_err-say_line-2.ensures (date_line c.args.header.now.date) c.write_date-made.ensures in
+    let is = more_said _ _ (version ∷ []) _ _ _ _ (header_started _ c.args.header.now _) one in
     rw (p.1, p.2) (saying_stops _ _ (date_line c.args.header.now.date ∷ []) _ _ _ _ _ is two)
-
-pub print_comment-requires : goal.print_comment-requires
-print_comment-requires g c = (c.in_ok-print_line-2.ensures c.deref-2.result.now (line_is_itself _ _)).failed
 
 pub returns : goal.returns
 returns g c =
     let version = version_line c.args.header.now.version in
-    let one = c.in_ok-print_line.ensures version (line_is _ _ _ version c.deref.ensures.value c.write_version-made.ensures) in
-    let two = c.in_ok-print_line-2.ensures (date_line c.args.header.now.date) (line_is _ _ _ (date_line c.args.header.now.date) c.deref-2.ensures.value c.write_date-made.ensures) in
-    let is = more_said _ _ (version ∷ []) _ _ _ _ (header_started _ c.args.header.now _ c.requires) one in
+    let one = c.in_ok-say_line.ensures version c.write_version-made.ensures in
+    let two = c.in_ok-say_line-2.ensures (date_line c.args.header.now.date) c.write_date-made.ensures in
+    let is = more_said _ _ (version ∷ []) _ _ _ _ (header_started _ c.args.header.now _) one in
     let rest = more_said _ _ (date_line c.args.header.now.date ∷ []) _ _ _ _ is two in
     last_said _ _ (comment_lines c.args.header.now.comment) _ _ _ _ rest (rw c.as_slice.ensures at c.print_comment.ensures)

@@ -7,7 +7,7 @@ use Rattle.krl_runs.proofs.Telling.{held_first, held_next, last_said, more_said,
 use Rattle.krl_runs.proofs.runs.contents.print_held.Goals as goal
 
 pub loop-listed-init : goal.loop-listed-init
-loop-listed-init g c = rw c.walk_authorities-authorities.ensures (held_first _ c.args.list.now _ c.requires)
+loop-listed-init g c = rw c.walk_authorities-authorities.ensures (held_first _ c.args.list.now _)
 
 pub loop-listed-preserved : goal.loop-listed-preserved
 loop-listed-preserved g c =

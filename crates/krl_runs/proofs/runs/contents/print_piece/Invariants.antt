@@ -5,4 +5,4 @@ use Rattle.krl_runs.proofs.Telling.{IsSaid}
 use Rattle.krl_runs.proofs.runs.contents.print_piece.Given as goal
 
 abbrev pub invariant-loop-span : goal.invariant-loop-span
-invariant-loop-span g l = IsSaid l.name (map serials_line l.piece) (map serials_line (drop l.span-index l.piece)) l.initial.printer l.printer
+invariant-loop-span g l = IsSaid l.name (map serials_line l.piece) (map serials_line (drop l.span-index l.piece)) l.initial.run.printer l.run.printer

@@ -5,7 +5,7 @@ use Rattle.krl_runs.proofs.Telling.{IsSaid}
 use Rattle.krl_runs.proofs.runs.contents.print_texts.Given as goal
 
 abbrev pub invariant-loop-bytes : goal.invariant-loop-bytes
-invariant-loop-bytes g l = IsSaid l.name (map (fact_line l.fact) l.initial.texts) (map (fact_line l.fact) l.texts) l.initial.printer l.printer
+invariant-loop-bytes g l = IsSaid l.name (map (fact_line l.fact) l.initial.texts) (map (fact_line l.fact) l.texts) l.initial.run.printer l.run.printer
 
 abbrev pub decreases-loop-bytes : goal.decreases-loop-bytes
 decreases-loop-bytes g l = length l.texts

@@ -6,9 +6,9 @@ use Rattle.krl_runs.proofs.runs.query.ask_held.Goals as goal
 
 pub returns : goal.returns
 returns g c =
-    read_run c.args.krl_name.now c.args.dump c.args.files.now (known_of c.args.header.now c.args.list.now) _ _ _ _ c.requires c.in_ok-print_contents.ensures c.print_files.ensures
+    read_run c.args.krl_name.now c.args.dump c.args.files.now (known_of c.args.known.now.header c.args.known.now.list) _ _ _ _ c.in_ok-print_contents.ensures c.print_files.ensures
 
 pub returns-in_err-print_contents : goal.returns-in_err-print_contents
 returns-in_err-print_contents g c =
     let p = err_from_is_err_and c.from_residual.result c.from_residual.ensures.1 in
-    rw (p.1, p.2) (dump_stops c.args.krl_name.now c.args.dump c.args.files.now (known_of c.args.header.now c.args.list.now) _ _ _ c.requires c.in_err-print_contents.ensures)
+    rw (p.1, p.2) (dump_stops c.args.krl_name.now c.args.dump c.args.files.now (known_of c.args.known.now.header c.args.known.now.list) _ _ _ c.in_err-print_contents.ensures)

@@ -20,5 +20,5 @@ returns-in-Err g c =
     let read = rw c.in-Err.is at c.read_krl-read.ensures in (
       Err c.in-Err.fault,
       record { failure = read.failure; read = read.fault },
-      rw (c.whole.ensures, c.cause_of.ensures) (refused_run c.args.krl_name.now c.args.dump c.args.files.now c.in-Err.fault _ c.requires.working),
+      rw (c.whole.ensures, c.cause_of.ensures) (refused_run c.args.krl_name.now c.args.dump c.args.files.now c.in-Err.fault _),
     )

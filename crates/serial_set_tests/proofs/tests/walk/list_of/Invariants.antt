@@ -1,8 +1,9 @@
-use Rattle.std.proofs.Common.{◌≡◌, ◌-◌, ◌≤◌, length, take}
+use Rattle.std.proofs.Common.{◌≡◌, ◌++◌}
+use Rattle.serial_set.specs.Walk.{left, steps}
 use Rattle.serial_set_tests.proofs.tests.walk.list_of.Given as goal
 
-abbrev pub invariant-loop-at : goal.invariant-loop-at
-invariant-loop-at g l = (l.list.items ≡ take l.at (g.S.Spans.spans l.set)) × (l.at ≤ length (g.S.Spans.spans l.set))
+abbrev pub invariant-loop-next : goal.invariant-loop-next
+invariant-loop-next g l = l.list.items ++ left l.next (g.S.Spans.spans l.set) ≡ g.S.Spans.spans l.set
 
-abbrev pub decreases-loop-at : goal.decreases-loop-at
-decreases-loop-at g l = length (g.S.Spans.spans l.set) - l.at
+abbrev pub decreases-loop-next : goal.decreases-loop-next
+decreases-loop-next g l = steps l.next (g.S.Spans.spans l.set)

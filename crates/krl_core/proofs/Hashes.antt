@@ -1,0 +1,88 @@
+-- Hashes in a set of the standard library.
+use Rattle.std.proofs.Common.{◌≡◌, ℕ, List, [], ◌∷◌, ◌++◌, Bool, true, false, refl, sym, ap, subst, ◌∙◌, inl, inr}
+use Rattle.std.specs.Prelude.{◌⊎◌, ◌||◌, IsTrue, ◌↔◌}
+use Rattle.std.specs.List.{Contains, list_any}
+use Rattle.std.specs.List.Sorted.{IsStrictlySortedBy}
+use Rattle.std.specs.declared.cmp.Ordering.{Ordering}
+use Rattle.std.specs.declared.cmp.Ordering.TheVariants.{Less, Equal, Greater}
+use Rattle.std.specs.Ordering.{match_ordering, is_eq}
+use Rattle.std.specs.BTreeMap.{is_at}
+use Rattle.std.specs.BTreeSet.{insert_key}
+use Rattle.std.proofs.lemmas.Bool.{false≢true}
+use Rattle.std.proofs.lemmas.Map.Lookups.{exact_bytes}
+use Rattle.krl_core.specs.Changes.{Puts}
+use Rattle.krl_core.specs.Rising.{bytes_cmp, Rises}
+use Rattle.krl_core.specs.Elements.{contains_here, contains_later, contains_cases, contains_none}
+use Rattle.krl_core.proofs.Ordered.{back_above, front_below, tied}
+
+rises_sorted : (ks : List (List ℕ)) → IsStrictlySortedBy bytes_cmp ks → Rises ks
+unfolding IsStrictlySortedBy
+rises_sorted [] h = tt
+rises_sorted (k ∷ ks) h = (h.0, rises_sorted ks h.1)
+
+-- ---- a hash more
+
+record Splits (k : List ℕ) (old new : List (List ℕ)) : Type 0 where
+  front : List (List ℕ)
+  back : List (List ℕ)
+  before : old ≡ front ++ back
+  after : new ≡ front ++ k ∷ back
+
+abbrev Entered : (k : List ℕ) (old new : List (List ℕ)) → Type 0
+Entered k old new = ((new ≡ old) × Contains old k) ⊎ Splits k old new
+
+entered : (k : List ℕ) (ks : List (List ℕ)) → Entered k ks (insert_key bytes_cmp ks k)
+entered k [] = inr (record { front = []; back = []; before = refl; after = refl })
+entered k (x ∷ ks) = by (bytes_cmp k x) refl (entered k ks)
+  where
+    by : (o : Ordering) → bytes_cmp k x ≡ o → Entered k ks (insert_key bytes_cmp ks k)
+        → Entered k (x ∷ ks) (match_ordering o (k ∷ x ∷ ks) (x ∷ ks) (x ∷ insert_key bytes_cmp ks k))
+    by Less e h = inr (record { front = []; back = x ∷ ks; before = refl; after = refl })
+    by Equal e h = inl (refl, subst (Contains (x ∷ ks)) (sym (exact_bytes k x e)) (contains_here x ks))
+    by Greater e h =
+        elim h [
+          | inl there ↦ inl (ap (λ l. x ∷ l) there.0, contains_later x k ks there.1)
+          | inr s ↦ inr (record { front = x ∷ s.front; back = s.back; before = ap (λ l. x ∷ l) s.before; after = ap (λ l. x ∷ l) s.after })
+        ]
+
+pub hash_puts : (k : List ℕ) (old new : List (List ℕ)) → new ≡ insert_key bytes_cmp old k → IsStrictlySortedBy bytes_cmp new → Puts old k new
+hash_puts k old new is sorted =
+    elim (subst (Entered k old) (sym is) (entered k old)) [
+      | inl there ↦ inl there
+      | inr s ↦ (let rises = subst Rises s.after (rises_sorted new sorted) in
+          inr (record {
+            front = s.front;
+            back = s.back;
+            before = s.before;
+            after = s.after;
+            below = front_below (λ bytes. bytes) s.front k s.back rises;
+            above = back_above (λ bytes. bytes) s.front k s.back rises;
+          }))
+    ]
+
+-- ---- whether there is one
+
+any_contains : (k : List ℕ) (ks : List (List ℕ)) → list_any (is_at (bytes_cmp k)) ks ≡ true → Contains ks k
+any_contains k [] h = absurd (false≢true h)
+any_contains k (x ∷ ks) h = by (bytes_cmp k x) refl h (any_contains k ks)
+  where
+    by : (o : Ordering) → bytes_cmp k x ≡ o → (is_eq o || list_any (is_at (bytes_cmp k)) ks) ≡ true
+        → (list_any (is_at (bytes_cmp k)) ks ≡ true → Contains ks k) → Contains (x ∷ ks) k
+    by Less e h later = contains_later x k ks (later h)
+    by Equal e h later = subst (Contains (x ∷ ks)) (sym (exact_bytes k x e)) (contains_here x ks)
+    by Greater e h later = contains_later x k ks (later h)
+
+contains_any : (k : List ℕ) (ks : List (List ℕ)) → Contains ks k → list_any (is_at (bytes_cmp k)) ks ≡ true
+contains_any k [] m = absurd (contains_none k m)
+contains_any k (x ∷ ks) m =
+    elim (contains_cases x k ks m) [
+      | inl here ↦ ap (λ o. is_eq o || list_any (is_at (bytes_cmp k)) ks) (tied k x here)
+      | inr later ↦ by (is_at (bytes_cmp k) x) (contains_any k ks later)
+    ]
+  where
+    by : (b : Bool) → list_any (is_at (bytes_cmp k)) ks ≡ true → (b || list_any (is_at (bytes_cmp k)) ks) ≡ true
+    by true h = refl
+    by false h = h
+
+pub hash_listed : (k : List ℕ) (ks : List (List ℕ)) (b : Bool) → b ≡ list_any (is_at (bytes_cmp k)) ks → IsTrue b ↔ Contains ks k
+hash_listed k ks b is = (λ h. any_contains k ks (sym is ∙ h), λ m. is ∙ contains_any k ks m)

@@ -1,0 +1,28 @@
+-- A few key IDs in order, or a map of more.
+use Rattle.std.specs.Prelude.{ℕ, ◌≤◌, List, length, map, take, drop, ⊤}
+use Rattle.std.specs.Global.{Vec}
+use Rattle.krl_core.specs.declared.ids.Kept.{Kept}
+use Rattle.krl_core.specs.declared.ids.Kept.TheVariants.{Few, Many}
+use Rattle.krl_core.specs.Rising.{AllBelow, AllAbove, RisesBy}
+use Rattle.krl_core.specs.TextMap.{names_of}
+
+abbrev pub bytes_of : Vec ℕ → List ℕ
+bytes_of text = text.items
+
+abbrev pub texts_of : List (Vec ℕ) → List (List ℕ)
+texts_of texts = map bytes_of texts
+
+abbrev pub ids_of : Kept → List (List ℕ)
+ids_of (Few few) = texts_of few.items
+ids_of (Many map) = names_of map.value
+
+-- those that lie in one vector stand in order
+abbrev pub FewRise : Kept → Type 0
+FewRise (Few few) = RisesBy bytes_of few.items
+FewRise (Many map) = ⊤
+
+-- the byte string goes there among others in order
+pub record GoesTo (at : ℕ) (bytes : List ℕ) (texts : List (Vec ℕ)) : Type 0 where
+  pub within : at ≤ length texts
+  pub below : AllBelow bytes_of bytes (take at texts)
+  pub above : AllAbove bytes_of bytes (drop at texts)

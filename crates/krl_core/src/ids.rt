@@ -1,0 +1,156 @@
+// Key IDs.
+ghost use Rattle.std.specs.Prelude.{◌≡◌, ◌<◌, ◌≤◌, ◌↔◌, [], Contains, IfOk, IsTrue, MatchOption};
+ghost use Rattle.std.specs.Prelude.{OnErr, OnOk, Some, length, slice_get};
+ghost use Rattle.krl_core.specs.Changes.{Puts};
+ghost use Rattle.krl_core.specs.Ids.{GoesTo, bytes_of, texts_of};
+ghost use Rattle.krl_core.specs.Rising.{RisesBy};
+ghost use Rattle.krl_core.specs.TextMap.{names_of};
+
+use crate::short::compare;
+use crate::text_map::TextMap;
+use crate::texts::Texts;
+use std::alloc::{AllocError, Global};
+use std::cmp::Ordering;
+use std::marker::Model;
+
+// The most key IDs that lie in one vector. A map takes more memory for as many.
+const FEW: usize = 32;
+
+/// A few key IDs in order, or a map of more.
+#[derive(Drop)]
+pub(crate) enum Kept {
+    Few(Vec<Vec<u8>>),
+    Many(Box<TextMap<()>>),
+}
+
+/// A set of key IDs. Most authorities have few of them or none. Contracts see the list of the key
+/// IDs, in order.
+#[derive(Drop)]
+pub struct Ids {
+    kept: Kept,
+}
+
+impl Model for Ids {
+    ghost use Rattle.std.specs.Prelude.{ℕ, List};
+    ghost use Rattle.krl_core.specs.Ids.{FewRise, ids_of};
+
+    ghost Value = { List (List ℕ) };
+
+    ghost view = { λ ids. ids_of ids.kept };
+
+    ghost invariant = { λ ids. FewRise ids.kept };
+}
+
+impl Ids {
+    /// No key IDs. Takes no memory.
+    pub(crate) fn new(alloc: Global) -> Ids
+        ensures { result ≡ [] }
+    {
+        Ids {
+            kept: Kept::Few(Vec::new(alloc)),
+        }
+    }
+
+    pub(crate) fn len(&self) -> usize
+        ensures { result ≡ length self.now }
+    {
+        match &self.kept {
+            Kept::Few(few) => few.len(),
+            Kept::Many(map) => map.len(),
+        }
+    }
+
+    pub(crate) fn has(&self, id: &[u8]) -> bool
+        ensures { IsTrue result ↔ Contains self.now id.now }
+    {
+        match &self.kept {
+            Kept::Few(few) => matches!(place_in(few.as_slice(), id), None),
+            Kept::Many(map) => map.has(id),
+        }
+    }
+
+    /// The key ID at an index. It goes over those before it.
+    pub(crate) fn at(&self, index: usize) -> &[u8]
+        requires { index < length self.now }
+        ensures { slice_get self.now index ≡ Some result.now }
+    {
+        match &self.kept {
+            Kept::Few(few) => few[index].as_slice(),
+            Kept::Many(map) => map.at(index).0,
+        }
+    }
+
+    pub(crate) fn walk(&self) -> Texts<'_>
+        ensures { result ≡ self.now }
+    {
+        match &self.kept {
+            Kept::Few(few) => Texts::few(few.as_slice()),
+            Kept::Many(map) => Texts::names(map),
+        }
+    }
+
+    /// Adds a key ID, if it is not there.
+    pub(crate) fn put(&mut self, alloc: Global, id: &[u8]) -> Result<(), AllocError>
+        ensures ok { OnOk result (Puts self.old id.now self.new) }
+        ensures err { OnErr result (self.new ≡ self.old) }
+    {
+        match &mut self.kept {
+            Kept::Many(map) => {
+                map.put(alloc, id, ())?;
+                Ok(())
+            }
+            Kept::Few(few) => {
+                if few.len() < FEW {
+                    return put_few(alloc, few, id);
+                }
+                self.kept = Kept::Many(spread(alloc, few.as_slice(), id)?);
+                Ok(())
+            }
+        }
+    }
+}
+
+// Where a byte string goes among a few in order, if it is not there.
+fn place_in(few: &[Vec<u8>], id: &[u8]) -> Option<usize>
+    requires { RisesBy bytes_of few.now }
+    ensures { MatchOption result (Contains (texts_of few.now) id.now)
+        (λ at. GoesTo at id.now few.now) }
+{
+    let mut at = 0;
+    while at < few.len() {
+        match compare(few[at].as_slice(), id) {
+            Ordering::Less => at += 1,
+            Ordering::Equal => return None,
+            Ordering::Greater => return Some(at),
+        }
+    }
+    Some(at)
+}
+
+fn put_few(alloc: Global, few: &mut Vec<Vec<u8>>, id: &[u8]) -> Result<(), AllocError>
+    requires { RisesBy bytes_of few.old.items }
+    ensures rise { RisesBy bytes_of few.new.items }
+    ensures ok { OnOk result (Puts (texts_of few.old.items) id.now (texts_of few.new.items)) }
+    ensures err { OnErr result (few.new.items ≡ few.old.items) }
+{
+    let Some(at) = place_in(few.as_slice(), id) else {
+        return Ok(());
+    };
+    few.insert(at, Vec::from_slice(alloc, id)?)?;
+    Ok(())
+}
+
+// A map of a few byte strings in order, and of one more.
+fn spread(alloc: Global, few: &[Vec<u8>], id: &[u8]) -> Result<Box<TextMap<()>>, AllocError>
+    requires { RisesBy bytes_of few.now }
+    ensures { IfOk result (λ map. Puts (texts_of few.now) id.now (names_of map.value)) }
+{
+    let mut map = TextMap::new(alloc);
+    let mut at = 0;
+    while at < few.len() {
+        map.put(alloc, few[at].as_slice(), ())?;
+        at += 1;
+    }
+    map.put(alloc, id, ())?;
+    Ok(Box::new(alloc, map)?)
+}

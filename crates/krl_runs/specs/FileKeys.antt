@@ -1,0 +1,45 @@
+-- What is left of the keys of a file while it is read.
+use Rattle.std.specs.Prelude.{◌≡◌, ℕ, ◌+◌, ◌^◌, ◌<◌, List, [], ◌∷◌, length, Option, Some, None}
+use Rattle.std.specs.Prelude.{Result, Err}
+use Rattle.std.specs.Borrow.{Bor}
+use Rattle.ssh_key.specs.ContainerReading.{private_at}
+use Rattle.ssh_key.specs.LineReading.{Content, content_of, line_at}
+use Rattle.ssh_key.specs.Lines.{lines_left}
+use Rattle.krl_runs.specs.declared.keys.file_keys.KeyText.{KeyText}
+use Rattle.krl_runs.specs.declared.keys.file_keys.KeyText.TheVariants.{Line, Container}
+use Rattle.krl_runs.specs.declared.keys.file_keys.Left.{Left}
+use Rattle.krl_runs.specs.declared.keys.file_keys.Left.TheVariants as lefts
+use Rattle.krl_runs.specs.declared.keys.file_keys.Lines.{Lines}
+use Rattle.krl_runs.specs.declared.output.cause.Cause.TheVariants.{File}
+use Rattle.krl_runs.specs.Run.{Found, container_found, held_by, keys_from, line_found}
+use Rattle.krl_runs.specs.Stop.{Stop, stop_of}
+
+-- what the line or the container of a key holds
+abbrev pub content_in : KeyText → Content
+content_in (Line line) = content_of line
+content_in (Container private) = held_by (record { blob = private.blob; comment = private.comment })
+
+abbrev pub lines_keys : List ℕ → Lines → List (Result Found Stop)
+lines_keys name lines = keys_from name (lines.passed + 1) (lines_left lines.rest)
+
+abbrev pub keys_left : List ℕ → Left → List (Result Found Stop)
+keys_left name (lefts.Fault fault) = Err (stop_of name (File fault)) ∷ []
+keys_left name (lefts.Container text) = container_found name (private_at text.now) ∷ []
+keys_left name (lefts.Lines lines) = lines_keys name lines
+
+-- how many lines may be left, at most
+abbrev pub line_room : Option (Bor (List ℕ)) → ℕ
+line_room None = 0
+line_room (Some text) = length text.now + 1
+
+-- The lines that are left can be counted.
+abbrev pub HasRoom : Left → Type 0
+HasRoom (lefts.Lines lines) = lines.passed + line_room lines.rest < 2 ^ 64
+HasRoom other = Unit {0}
+
+-- This is the next line that has a key, or none has one.
+abbrev pub IsNextLine : Lines → Lines → Option (Bor (List ℕ)) → Type 0
+IsNextLine old new None =
+    (name : List ℕ) → (lines_keys name old ≡ []) × (lines_keys name new ≡ [])
+IsNextLine old new (Some line) = (name : List ℕ)
+    → lines_keys name old ≡ line_found name new.passed (line_at line.now) ∷ lines_keys name new

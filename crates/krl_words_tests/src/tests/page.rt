@@ -1,0 +1,51 @@
+// The callers of the pages of `krl_words` and of `krl_job`.
+
+ghost use Rattle.std.specs.Prelude.{◌≡◌, option_map};
+ghost use Rattle.krl_job.specs.Given.{given_by};
+ghost use Rattle.krl_job.specs.Job.{job_of};
+
+use krl_job::{Given, Mode, job_of};
+use krl_words::{CommandFault, command_of};
+use std::alloc::Global;
+
+/// The mode of the job that words ask for, the program's name before them.
+fn mode_of<'a>(alloc: Global, words: &'a [&'a str]) -> Result<Mode, CommandFault> {
+    let job = command_of(alloc, words)?;
+    Ok(job.mode)
+}
+
+/// The mode of the job that options ask for, if they ask for one.
+fn mode_given(given: Given) -> Option<Mode>
+    ensures { result ≡ option_map (λ asked. asked.mode) (job_of (given_by given.entry)) }
+{
+    let job = job_of(given)?;
+    Some(job.mode)
+}
+
+#[test]
+fn words_have_a_mode(rt: HostRuntime) {
+    let words = ["ssh-keygen", "-Q", "-l", "-f", "list"];
+    let mode = mode_of(rt.alloc(), &words).expect(&rt, "the words ask for a job");
+    assert!(rt; mode == Mode::Query);
+    let none = mode_of(rt.alloc(), &["ssh-keygen", "-Q", "-f"])
+        .err()
+        .expect(&rt, "the file is missing");
+    assert!(rt; none.number() == 2);
+}
+
+#[test]
+fn options_have_a_mode(rt: HostRuntime) {
+    let given = Given {
+        list: true,
+        certificates: false,
+        make: false,
+        query: false,
+        update: false,
+        file: Some("keys"),
+        hash: None,
+        authority: None,
+        version: None,
+        files: Vec::new(rt.alloc()),
+    };
+    assert!(rt; mode_given(given) == Some(Mode::Keys));
+}

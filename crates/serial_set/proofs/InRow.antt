@@ -1,0 +1,310 @@
+-- Pages in a row.
+use Rattle.std.proofs.Common.{◌≡◌, ℕ, ◌+◌, ◌-◌, ◌<◌, ◌≤◌, ◌⊎◌, List, [], ◌∷◌, ◌++◌, length, get_or, take, drop, refl, sym, ap, subst, inl, inr, arith, zero, suc, min, set, ◌∙◌, length-append, length-drop}
+use Rattle.std.specs.List.{All}
+use Rattle.std.specs.List.Sorted.{IsNonDecreasingBy}
+use Rattle.std.proofs.lemmas.Bool.{cases_lt}
+use Rattle.std.proofs.lemmas.List.{append-nil, append_assoc, take-append-drop, drop_all, take_all, take-take, take_more_set, length-take-le, get_or-take, get_or-drop, get_or_default}
+use Rattle.std.proofs.lemmas.List.Concat.{flat_map-append}
+use Rattle.std.proofs.lemmas.List.Elements.{All-nil, All-head, All-tail, All-append}
+use Rattle.serial_set.specs.declared.entry.Entry.{Entry}
+use Rattle.serial_set.specs.declared.page.Page.{Page}
+use Rattle.serial_set.specs.Entry.{lo_of, hi_of, EntriesFrom}
+use Rattle.serial_set.specs.Entries.{stretch, entries_front, entries_back, Replaces}
+use Rattle.serial_set.specs.Pages.{entries_in, entries_of}
+use Rattle.serial_set.specs.Places.{end_of, IsListFrom, CutTo, WordWidened}
+use Rattle.serial_set.proofs.Flat.{all_left, all_right, flat_cut, flat_drop, flat_at, flat_set, first_of}
+use Rattle.serial_set.proofs.InEntries.{entries_each, end_most, end_upto, end_back, entries_past}
+
+pub page_some : (p : Page) → 0 < length (entries_in p)
+page_some p = omega (arith, length-drop p.gap p.items.items, p.filled)
+
+-- ---- order
+
+pub order_left : (a : ℕ) (ps : List Page) (at : ℕ) → EntriesFrom a (entries_of ps) → EntriesFrom a (entries_of (take at ps))
+order_left a ps at r = entries_front a (entries_of (take at ps)) (entries_of (drop at ps)) (subst (EntriesFrom a) (flat_cut entries_in ps at) r)
+
+pub order_right : (a : ℕ) (ps : List Page) (at : ℕ) → EntriesFrom a (entries_of ps) → EntriesFrom a (entries_of (drop at ps))
+order_right a ps at r = entries_back a (entries_of (take at ps)) (entries_of (drop at ps)) (subst (EntriesFrom a) (flat_cut entries_in ps at) r)
+
+pub order_page : (ps : List Page) (at : ℕ) (d : Page) → at < length ps → EntriesFrom 0 (entries_of ps) → EntriesFrom 0 (entries_in (get_or ps at d))
+order_page ps at d h r =
+    entries_front 0 (entries_in (get_or ps at d)) (entries_of (drop (at + 1) ps)) (subst (EntriesFrom 0) (flat_drop entries_in ps at d h) (order_right 0 ps at r))
+
+-- what stands after a page begins past its end
+pub past_page : (ps : List Page) (at : ℕ) (d : Page) → at < length ps → EntriesFrom 0 (entries_of ps)
+    → All (λ e. end_of (entries_in (get_or ps at d)) + 1 ≤ lo_of e) (entries_of (drop (at + 1) ps))
+past_page ps at d h r =
+    let page = get_or ps at d in
+    let here = subst (EntriesFrom 0) (flat_drop entries_in ps at d h) (order_right 0 ps at r) in
+    entries_each (end_of (entries_in page) + 1) (entries_of (drop (at + 1) ps))
+    (entries_past 0 (entries_in page) (entries_of (drop (at + 1) ps)) (page_some page) here)
+
+-- ---- ends
+
+-- where each entry ends at a number or past it, a page does
+end_least : (n : ℕ) (es : List Entry) → 0 < length es → All (λ e. n ≤ hi_of e) es → n ≤ end_of es
+end_least n [] some h = absurd (omega arith)
+end_least n (e ∷ []) some h = All-head (λ t. n ≤ hi_of t) e [] h
+end_least n (e ∷ (f ∷ es)) some h = end_least n (f ∷ es) (omega arith) (All-tail (λ t. n ≤ hi_of t) e (f ∷ es) h)
+
+pub end_below : (n : ℕ) (es : List Entry) → 0 < length es → All (λ e. hi_of e < n) es → end_of es < n
+end_below n [] some h = absurd (omega arith)
+end_below n (e ∷ []) some h = All-head (λ t. hi_of t < n) e [] h
+end_below n (e ∷ (f ∷ es)) some h = end_below n (f ∷ es) (omega arith) (All-tail (λ t. hi_of t < n) e (f ∷ es) h)
+
+least_page : (n : ℕ) (ps : List Page) (j : ℕ) (d : Page) → All (λ e. n ≤ hi_of e) (entries_of ps) → j < length ps → n ≤ end_of (entries_in (get_or ps j d))
+least_page n [] j d h q = absurd (omega arith)
+least_page n (p ∷ ps) zero d h q = end_least n (entries_in p) (page_some p) (all_left (λ e. n ≤ hi_of e) (entries_in p) (entries_of ps) h)
+least_page n (p ∷ ps) (suc j) d h q = least_page n ps j d (all_right (λ e. n ≤ hi_of e) (entries_in p) (entries_of ps) h) (omega arith)
+
+pub pages_rise : (a : ℕ) (ps : List Page) → EntriesFrom a (entries_of ps) → IsNonDecreasingBy (λ p. end_of (entries_in p)) ps
+pages_rise a [] r i j d h k = absurd (omega arith)
+pages_rise a (p ∷ ps) r zero zero d h k = omega arith
+pages_rise a (p ∷ ps) r zero (suc j) d h k =
+    let past = entries_past a (entries_in p) (entries_of ps) (page_some p) r in
+    let each = entries_each (end_of (entries_in p) + 1) (entries_of ps) past in
+    least_page (end_of (entries_in p)) ps j d (λ k e q. let at = each k e q in let whole = stretch (get_or (entries_of ps) k e) in omega arith) (omega arith)
+pages_rise a (p ∷ ps) r (suc i) zero d h k = absurd (omega arith)
+pages_rise a (p ∷ ps) r (suc i) (suc j) d h k =
+    pages_rise (end_of (entries_in p) + 1) ps (entries_past a (entries_in p) (entries_of ps) (page_some p) r) i j d (omega arith) (omega arith)
+
+-- the entries of pages that all end below a number
+pub pages_below : (n a : ℕ) (ps : List Page) → EntriesFrom a (entries_of ps) → All (λ p. end_of (entries_in p) < n) ps → All (λ e. hi_of e < n) (entries_of ps)
+pages_below n a [] r h = All-nil (λ e. hi_of e < n)
+pages_below n a (p ∷ ps) r h =
+    let here : end_of (entries_in p) < n = All-head (λ q. end_of (entries_in q) < n) p ps h in
+    let most = end_most a (entries_in p) (entries_front a (entries_in p) (entries_of ps) r) in
+    All-append (λ e. hi_of e < n) (entries_in p) (entries_of ps) (λ k d q. let at = most k d q in omega arith)
+    (pages_below n (end_of (entries_in p) + 1) ps (entries_past a (entries_in p) (entries_of ps) (page_some p) r) (All-tail (λ q. end_of (entries_in q) < n) p ps h))
+
+pub pages_upto : (n a : ℕ) (ps : List Page) → EntriesFrom a (entries_of ps) → All (λ p. end_of (entries_in p) ≤ n) ps → All (λ e. hi_of e ≤ n) (entries_of ps)
+pages_upto n a [] r h = All-nil (λ e. hi_of e ≤ n)
+pages_upto n a (p ∷ ps) r h =
+    let here : end_of (entries_in p) ≤ n = All-head (λ q. end_of (entries_in q) ≤ n) p ps h in
+    let most = end_most a (entries_in p) (entries_front a (entries_in p) (entries_of ps) r) in
+    All-append (λ e. hi_of e ≤ n) (entries_in p) (entries_of ps) (λ k d q. let at = most k d q in omega arith)
+    (pages_upto n (end_of (entries_in p) + 1) ps (entries_past a (entries_in p) (entries_of ps) (page_some p) r) (All-tail (λ q. end_of (entries_in q) ≤ n) p ps h))
+
+-- the entries of fewer pages are among those of more
+pub fewer_pages : (P : Entry → Type 0) (ps : List Page) (m n : ℕ) → m ≤ n → All P (entries_of (take n ps)) → All P (entries_of (take m ps))
+fewer_pages P ps m n h all =
+    let same : take m (take n ps) ≡ take m ps = take-take m n ps h in
+    subst (λ l. All P (entries_of l)) same
+    (all_left P (entries_of (take m (take n ps))) (entries_of (drop m (take n ps))) (subst (All P) (flat_cut entries_in (take n ps) m) all))
+
+-- what stands after the page for a number ends at the number or past it
+pub rest_after : (ps : List Page) (n at lo : ℕ) → EntriesFrom 0 (entries_of ps) → n ≤ length ps → All (λ p. lo ≤ end_of (entries_in p)) (drop n ps) → at ≡ min n (length ps - 1)
+    → All (λ e. lo ≤ hi_of e) (entries_of (drop (at + 1) ps))
+rest_after [] n at lo r within ends is =
+    subst (λ l. All (λ e. lo ≤ hi_of e) (entries_of l)) (sym (drop_all (at + 1) [] (omega arith))) (All-nil (λ e. lo ≤ hi_of e))
+rest_after (p ∷ ps) n at lo r within ends is =
+    elim (cases_lt n (length (p ∷ ps))) [
+      | inl before ↦ (let same : at ≡ n = omega arith in
+          let first : lo ≤ end_of (entries_in (get_or (p ∷ ps) n p)) = first_of (λ q. lo ≤ end_of (entries_in q)) (p ∷ ps) n p before ends in
+          let later = past_page (p ∷ ps) n p before r in
+          subst (λ m. All (λ e. lo ≤ hi_of e) (entries_of (drop (m + 1) (p ∷ ps)))) (sym same)
+          (λ k d q. let t = later k d q in let whole = stretch (get_or (entries_of (drop (n + 1) (p ∷ ps))) k d) in omega arith))
+      | inr all ↦ (let none : drop (at + 1) (p ∷ ps) ≡ [] = drop_all (at + 1) (p ∷ ps) (omega arith) in
+          subst (λ l. All (λ e. lo ≤ hi_of e) (entries_of l)) (sym none) (All-nil (λ e. lo ≤ hi_of e)))
+    ]
+
+-- ---- where a number stands
+
+pub list_at : (ps : List Page) (at place number : ℕ) (d : Page) → at < length ps → All (λ e. hi_of e < number) (entries_of (take at ps)) → number ≤ end_of (entries_in (get_or ps at d))
+    → All (λ e. hi_of e < number) (take place (entries_in (get_or ps at d))) → All (λ e. number ≤ hi_of e) (drop place (entries_in (get_or ps at d)))
+    → IsListFrom (entries_of ps) number (drop place (entries_in (get_or ps at d)))
+list_at ps at place number d h before end below reach =
+    let page = entries_in (get_or ps at d) in
+    let front = entries_of (take at ps) in
+    let back = entries_of (drop (at + 1) ps) in
+    record {
+      front = front ++ take place page;
+      back = back;
+      parts = flat_at entries_in ps at d h
+          ∙ ap (λ l. front ++ (l ++ back)) (sym (take-append-drop place page))
+          ∙ ap (λ l. front ++ l) (append_assoc (take place page) (drop place page) back)
+          ∙ sym (append_assoc front (take place page) (drop place page ++ back));
+      below = All-append (λ e. hi_of e < number) front (take place page) before below;
+      reach = reach;
+      some = λ none.
+          let all : take place page ≡ page = take_all place page (let n = ap length none in omega (arith, length-drop place page)) in
+          let less = end_below number page (page_some (get_or ps at d)) (subst (All (λ e. hi_of e < number)) all below) in
+          absurd (omega arith);
+    }
+
+pub list_none : (ps : List Page) (at number : ℕ) → length ps ≤ at → All (λ e. hi_of e < number) (entries_of (take at ps)) → IsListFrom (entries_of ps) number []
+list_none ps at number h before =
+    let all : All (λ e. hi_of e < number) (entries_of ps) = subst (λ l. All (λ e. hi_of e < number) (entries_of l)) (take_all at ps h) before in
+    record {
+      front = entries_of ps;
+      back = [];
+      parts = sym (append-nil (entries_of ps));
+      below = all;
+      reach = All-nil (λ e. number ≤ hi_of e);
+      some = λ none. refl;
+    }
+
+-- ---- what is cut off
+
+pub cut_all : (ps : List Page) (gone number : ℕ) → length ps ≤ gone → All (λ e. hi_of e ≤ number) (entries_of (take gone ps)) → CutTo (entries_of ps) number []
+cut_all ps gone number h by =
+    let all : All (λ e. hi_of e ≤ number) (entries_of ps) = subst (λ l. All (λ e. hi_of e ≤ number) (entries_of l)) (take_all gone ps h) by in
+    record {
+      gone = entries_of ps;
+      were = sym (append-nil (entries_of ps));
+      inside = λ k d q. let at = all k d q in let whole = stretch (get_or (entries_of ps) k d) in omega arith;
+      above = All-nil (λ e. number < lo_of e);
+    }
+
+pub cut_some : (ps : List Page) (gone number : ℕ) (d : Page) (left : List Entry) → EntriesFrom 0 (entries_of ps) → gone < length ps → All (λ e. hi_of e ≤ number) (entries_of (take gone ps)) → number < end_of (entries_in (get_or ps gone d))
+    → CutTo (entries_in (get_or ps gone d)) number left → CutTo (entries_of ps) number (left ++ entries_of (drop (gone + 1) ps))
+cut_some ps gone number d left r h by past k =
+    let front = entries_of (take gone ps) in
+    let back = entries_of (drop (gone + 1) ps) in
+    let later = past_page ps gone d h r in
+    record {
+      gone = front ++ k.gone;
+      were = flat_at entries_in ps gone d h
+          ∙ ap (λ l. front ++ (l ++ back)) k.were
+          ∙ ap (λ l. front ++ l) (append_assoc k.gone left back)
+          ∙ sym (append_assoc front k.gone (left ++ back));
+      inside = All-append (λ e. lo_of e ≤ number) front k.gone
+          (λ i e q. let at = by i e q in let whole = stretch (get_or front i e) in omega arith) k.inside;
+      above = All-append (λ e. number < lo_of e) left back k.above (λ i e q. let at = later i e q in omega arith);
+    }
+
+pub all_page : (P : Entry → Type 0) (ps : List Page) (at : ℕ) (d : Page) → at < length ps → All P (entries_of ps) → All P (entries_in (get_or ps at d))
+all_page P ps at d h all =
+    let page = entries_in (get_or ps at d) in
+    let back = entries_of (drop (at + 1) ps) in
+    all_left P page back (all_right P (entries_of (take at ps)) (page ++ back) (subst (All P) (flat_at entries_in ps at d h) all))
+
+-- ---- one change
+
+-- a change of one page and a cut of those after it, as one change of all
+joined_by : (front a m c gone kept : List Entry) → (gone ≡ []) ⊎ (c ≡ [])
+    → front ++ ((a ++ (m ++ c)) ++ (gone ++ kept)) ≡ (front ++ a) ++ ((m ++ gone) ++ (c ++ kept))
+joined_by front a m c gone kept either =
+    let swap : c ++ (gone ++ kept) ≡ gone ++ (c ++ kept) = elim either [
+      | inl none ↦ ap (λ l. c ++ (l ++ kept)) none ∙ ap (λ l. l ++ (c ++ kept)) (sym none)
+      | inr none ↦ ap (λ l. l ++ (gone ++ kept)) none ∙ ap (λ l. gone ++ (l ++ kept)) (sym none)
+    ] in
+    ap (λ l. front ++ l) (append_assoc a (m ++ c) (gone ++ kept) ∙ ap (λ l. a ++ l) (append_assoc m c (gone ++ kept) ∙ ap (λ l. m ++ l) swap ∙ sym (append_assoc m gone (c ++ kept))))
+    ∙ sym (append_assoc front a ((m ++ gone) ++ (c ++ kept)))
+
+-- of entries past a number and entries cut off after them there are not both
+either_none : (back gone kept : List Entry) (hi a : ℕ) → EntriesFrom a (back ++ (gone ++ kept)) → All (λ e. hi < lo_of e) back → All (λ e. lo_of e ≤ hi) gone → (gone ≡ []) ⊎ (back ≡ [])
+either_none [] gone kept hi a r above inside = inr refl
+either_none (b ∷ bs) [] kept hi a r above inside = inl refl
+either_none (b ∷ bs) (g ∷ gs) kept hi a r above inside =
+    let first : hi < lo_of b = All-head (λ e. hi < lo_of e) b bs above in
+    let cut : lo_of g ≤ hi = All-head (λ e. lo_of e ≤ hi) g gs inside in
+    let whole = stretch b in
+    let later = all_right (λ e. hi_of b + 1 ≤ lo_of e) bs ((g ∷ gs) ++ kept) (entries_each (hi_of b + 1) (bs ++ ((g ∷ gs) ++ kept)) r.1) in
+    let next : hi_of b + 1 ≤ lo_of g = All-head (λ e. hi_of b + 1 ≤ lo_of e) g (gs ++ kept) later in
+    absurd (omega arith)
+
+pub put_pages : (front page rest few new left : List Entry) (lo hi : ℕ) → EntriesFrom 0 (front ++ (page ++ rest)) → All (λ e. hi_of e < lo) front → All (λ e. lo ≤ hi_of e) rest
+    → Replaces page lo hi few new → CutTo rest hi left → Replaces (front ++ (page ++ rest)) lo hi few (front ++ (new ++ left))
+put_pages front page rest few new left lo hi order before after r k =
+    let both = entries_back 0 front (page ++ rest) order in
+    let parts : page ++ rest ≡ r.front ++ (r.middle ++ (r.back ++ (k.gone ++ left))) =
+    ap (λ l. l ++ rest) r.were ∙ append_assoc r.front (r.middle ++ r.back) rest ∙ ap (λ l. r.front ++ l) (append_assoc r.middle r.back rest) ∙ ap (λ l. r.front ++ (r.middle ++ (r.back ++ l))) k.were in
+    let tail = entries_back 0 r.middle (r.back ++ (k.gone ++ left)) (entries_back 0 r.front (r.middle ++ (r.back ++ (k.gone ++ left))) (subst (EntriesFrom 0) parts both)) in
+    let either = either_none r.back k.gone left hi 0 tail r.above k.inside in
+    let reach = all_left (λ e. lo ≤ hi_of e) k.gone left (subst (All (λ e. lo ≤ hi_of e)) k.were after) in
+    record {
+      front = front ++ r.front;
+      middle = r.middle ++ k.gone;
+      back = r.back ++ left;
+      were = ap (λ l. front ++ (l ++ rest)) r.were ∙ ap (λ l. front ++ ((r.front ++ (r.middle ++ r.back)) ++ l)) k.were
+          ∙ joined_by front r.front r.middle r.back k.gone left either;
+      are = ap (λ l. front ++ (l ++ left)) r.are
+          ∙ ap (λ l. front ++ l) (append_assoc r.front (few ++ r.back) left ∙ ap (λ l. r.front ++ l) (append_assoc few r.back left))
+          ∙ sym (append_assoc front r.front (few ++ (r.back ++ left)));
+      below = All-append (λ e. hi_of e < lo) front r.front before r.below;
+      inside = All-append (λ e. (lo ≤ hi_of e) × (lo_of e ≤ hi)) r.middle k.gone r.inside (λ i d q. (reach i d q, k.inside i d q));
+      above = All-append (λ e. hi < lo_of e) r.back left r.above k.above;
+    }
+
+past_by : (a m c page rest few new : List Entry) (hi : ℕ) → EntriesFrom 0 (page ++ rest) → 0 < length few → All (λ e. hi_of e ≤ hi) few → page ≡ a ++ (m ++ c) → new ≡ a ++ (few ++ c) → All (λ e. hi < lo_of e) c → hi < end_of new → All (λ e. hi < lo_of e) rest
+past_by a m [] page rest few new hi order some ends were are above past =
+    let same : end_of new ≡ end_of few = ap end_of are ∙ end_back a (few ++ []) (omega (arith, length-append few [])) ∙ ap end_of (append-nil few) in
+    let upto = end_upto hi few ends in
+    absurd (omega arith)
+past_by a m (c ∷ cs) page rest few new hi order some ends were are above past =
+    let first : hi < lo_of c = All-head (λ e. hi < lo_of e) c cs above in
+    let whole = stretch c in
+    let parts : page ++ rest ≡ a ++ (m ++ (c ∷ (cs ++ rest))) = ap (λ l. l ++ rest) were ∙ append_assoc a (m ++ (c ∷ cs)) rest ∙ ap (λ l. a ++ l) (append_assoc m (c ∷ cs) rest) in
+    let tail = entries_back 0 m (c ∷ (cs ++ rest)) (entries_back 0 a (m ++ (c ∷ (cs ++ rest))) (subst (EntriesFrom 0) parts order)) in
+    let later = all_right (λ e. hi_of c + 1 ≤ lo_of e) cs rest (entries_each (hi_of c + 1) (cs ++ rest) tail.1) in
+    λ k d q. let at = later k d q in omega arith
+
+-- a changed page that ends past a number had entries past it, and all that stands after is
+pub past_put : (page rest few new : List Entry) (lo hi : ℕ) → EntriesFrom 0 (page ++ rest) → 0 < length few → All (λ e. hi_of e ≤ hi) few → Replaces page lo hi few new → hi < end_of new → All (λ e. hi < lo_of e) rest
+past_put page rest few new lo hi order some ends r past = past_by r.front r.middle r.back page rest few new hi order some ends r.were r.are r.above past
+
+pub put_whole : (xs zs : List Page) (at : ℕ) (new d : Page) (few : List Entry) (lo hi : ℕ) → at < length xs → EntriesFrom 0 (entries_of xs) → All (λ e. hi_of e < lo) (entries_of (take at xs)) → All (λ e. lo ≤ hi_of e) (entries_of (drop (at + 1) xs))
+    → Replaces (entries_in (get_or xs at d)) lo hi few (entries_in new) → take (at + 1) zs ≡ take (at + 1) (set xs at new) → CutTo (entries_of (drop (at + 1) xs)) hi (entries_of (drop (at + 1) zs)) → Replaces (entries_of xs) lo hi few (entries_of zs)
+put_whole xs zs at new d few lo hi h order before after r kept k =
+    let front = entries_of (take at xs) in
+    let page = entries_in (get_or xs at d) in
+    let rest = entries_of (drop (at + 1) xs) in
+    let left = entries_of (drop (at + 1) zs) in
+    let was = flat_at entries_in xs at d h in
+    let here : entries_of (take (at + 1) zs) ≡ front ++ entries_in new =
+    ap entries_of (kept ∙ take_more_set xs at new h) ∙ flat_map-append entries_in (take at xs) (new ∷ []) ∙ ap (λ l. front ++ l) (append-nil (entries_in new)) in
+    let is : entries_of zs ≡ front ++ (entries_in new ++ left) =
+    flat_cut entries_in zs (at + 1) ∙ ap (λ l. l ++ left) here ∙ append_assoc front (entries_in new) left in
+    let all = put_pages front page rest few (entries_in new) left lo hi (subst (EntriesFrom 0) was order) before after r k in
+    subst (λ l. Replaces (entries_of xs) lo hi few l) (sym is) (subst (λ l. Replaces l lo hi few (front ++ (entries_in new ++ left))) (sym was) all)
+
+-- a word of one page that gets more bits
+pub widened_pages : (xs : List Page) (at window bits : ℕ) (x y : Page) → at < length xs → x ≡ get_or xs at x → WordWidened (entries_in x) window bits (entries_in y) → WordWidened (entries_of xs) window bits (entries_of (set xs at y))
+widened_pages xs at window bits x y h read k =
+    let front = entries_of (take at xs) in
+    let back = entries_of (drop (at + 1) xs) in
+    record {
+      front = front ++ k.front;
+      back = k.back ++ back;
+      was = k.was;
+      is = k.is;
+      were = flat_at entries_in xs at x h
+          ∙ ap (λ p. front ++ (entries_in p ++ back)) (sym read)
+          ∙ ap (λ l. front ++ (l ++ back)) k.were
+          ∙ ap (λ l. front ++ l) (append_assoc k.front (k.was ∷ k.back) back)
+          ∙ sym (append_assoc front k.front (k.was ∷ (k.back ++ back)));
+      are = flat_set entries_in xs at y h
+          ∙ ap (λ l. front ++ (l ++ back)) k.are
+          ∙ ap (λ l. front ++ l) (append_assoc k.front (k.is ∷ k.back) back)
+          ∙ sym (append_assoc front k.front (k.is ∷ (k.back ++ back)));
+      lo = k.lo;
+      hi = k.hi;
+      more = k.more;
+    }
+
+-- ---- a page that is looked at first
+
+pub all_before : (ps : List Page) (count number : ℕ) (d : Page) → EntriesFrom 0 (entries_of ps) → 0 < count → count ≤ length ps → end_of (entries_in (get_or ps (count - 1) d)) < number → All (λ e. hi_of e < number) (entries_of (take count ps))
+all_before ps count number d r some within last =
+    let rise = pages_rise 0 ps r in
+    pages_below number 0 (take count ps) (order_left 0 ps count r)
+    (λ k e q.
+    let inside : k < count = omega (arith, length-take-le count ps within) in
+    let most = rise k (count - 1) e (omega arith) (omega arith) in
+    let same = ap (λ p. end_of (entries_in p)) (get_or-take count ps k e inside) in
+    let read = ap (λ p. end_of (entries_in p)) (get_or_default ps (count - 1) d e (omega arith)) in
+    omega (arith, most, same, read))
+
+pub all_past : (ps : List Page) (count number : ℕ) (d : Page) → EntriesFrom 0 (entries_of ps) → count < length ps → number ≤ end_of (entries_in (get_or ps count d)) → All (λ p. number ≤ end_of (entries_in p)) (drop count ps)
+all_past ps count number d r within first =
+    let rise = pages_rise 0 ps r in
+    λ k e q.
+    let inside : count + k < length ps = omega (arith, length-drop count ps) in
+    let least = rise count (count + k) e (omega arith) inside in
+    let same = ap (λ p. end_of (entries_in p)) (get_or-drop count ps k e) in
+    let read = ap (λ p. end_of (entries_in p)) (get_or_default ps count d e within) in
+    omega (arith, least, same, read)
+
+pub none_past : (ps : List Page) (count number : ℕ) → length ps ≤ count → All (λ p. number ≤ end_of (entries_in p)) (drop count ps)
+none_past ps count number h = subst (All (λ p. number ≤ end_of (entries_in p))) (sym (drop_all count ps h)) (All-nil (λ p. number ≤ end_of (entries_in p)))

@@ -1,0 +1,353 @@
+-- Entries of a set: the one in which a number stands, and what a change makes of the set's runs.
+use Rattle.std.proofs.Common.{◌≡◌, ℕ, ◌+◌, ◌-◌, ◌*◌, ◌/◌, ◌%◌, ◌^◌, ◌<◌, ◌≤◌, ◌⊎◌, List, [], ◌∷◌, ◌++◌, length, sym, subst, inl, inr, arith}
+use Rattle.std.specs.Prelude.{Option, Some, None, IfSome, OnOk, Result, Ok, Err, bit_or, ◌↔◌}
+use Rattle.std.specs.List.{All}
+use Rattle.std.proofs.lemmas.Bool.{cases_lt}
+use Rattle.std.proofs.lemmas.List.Elements.{All-nil, All-cons, All-head, All-tail, All-append}
+use Rattle.serial_set.specs.declared.span.Span.{Span}
+use Rattle.serial_set.specs.declared.entry.Entry.{Entry}
+use Rattle.serial_set.specs.Span.{Covers, IsRunsOf, AreSerials, AddsSpan}
+use Rattle.serial_set.specs.Rising.{names_append, names_left}
+use Rattle.serial_set.specs.Least.{runs_least}
+use Rattle.serial_set.specs.Words.{BitCovers}
+use Rattle.serial_set.specs.Entry.{pieces, lo_of, hi_of, EntriesFrom, members_of, runs_of}
+use Rattle.serial_set.specs.Entries.{piece_in, stretch, entries_back, has_append, has_left, has_right, none_below, has_from, Replaces, Keeps, replaced_order, replaced_runs}
+use Rattle.serial_set.specs.News.{begin_of, end_of, Has, IsNews}
+use Rattle.serial_set.specs.Additions.{IsAt}
+use Rattle.serial_set.specs.Places.{IsEntryFrom}
+use Rattle.serial_set.proofs.Flat.{all_left, all_right}
+use Rattle.serial_set.proofs.InEntries.{entries_each}
+use Rattle.serial_set.proofs.InEntry.{in_mask}
+use Rattle.serial_set.proofs.InNews.{or_bits}
+
+-- ---- the entry at a number
+
+begins_past : (a : ℕ) (xs : List Entry) (e : Entry) (ys : List Entry) → EntriesFrom a (xs ++ e ∷ ys) → a ≤ lo_of e
+begins_past a [] e ys r = r.0
+begins_past a (x ∷ xs) e ys r = let whole = stretch x in omega (arith, begins_past (hi_of x + 1) xs e ys r.1, r.0)
+
+ends_before : (a : ℕ) (xs : List Entry) (e : Entry) (ys : List Entry) → EntriesFrom a (xs ++ e ∷ ys) → All (λ x. hi_of x < lo_of e) xs
+ends_before a [] e ys r = All-nil (λ x. hi_of x < lo_of e)
+ends_before a (x ∷ xs) e ys r =
+    All-cons (λ t. hi_of t < lo_of e) x xs (omega (arith, begins_past (hi_of x + 1) xs e ys r.1)) (ends_before (hi_of x + 1) xs e ys r.1)
+
+members_part : (entries front : List Entry) (e : Entry) (back : List Entry) (s : ℕ) → entries ≡ front ++ e ∷ back → Covers (pieces e) s → Covers (members_of entries) s
+members_part entries front e back s parts n =
+    subst (λ (l : List Entry). Covers (members_of l) s) (sym parts) (has_right front (e ∷ back) s (names_left (pieces e) (members_of back) s n))
+
+members_own : (entries front : List Entry) (e : Entry) (back : List Entry) (n s : ℕ) → EntriesFrom 0 entries → entries ≡ front ++ e ∷ back → All (λ x. hi_of x < n) front → n ≤ s → s ≤ hi_of e
+    → Covers (members_of entries) s → Covers (pieces e) s
+members_own entries front e back n s order parts below from to m =
+    let rise = subst (EntriesFrom 0) parts order in
+    let rest = entries_back 0 front (e ∷ back) rise in
+    let ends : All (λ x. hi_of x < s) front = λ k d h. (let end = below k d h in omega arith) in
+    elim (has_append front (e ∷ back) s (subst (λ (l : List Entry). Covers (members_of l) s) parts m)) [
+      | inl x ↦ absurd (none_below front s ends x)
+      | inr y ↦ elim (names_append (pieces e) (members_of back) s y) [
+        | inl here ↦ here
+        | inr later ↦ (let far = has_from (hi_of e + 1) back s rest.1 later in absurd (omega arith))
+      ]
+    ]
+
+pub at_some : (entries front : List Entry) (e : Entry) (back : List Entry) (n : ℕ) → EntriesFrom 0 entries → entries ≡ front ++ e ∷ back → lo_of e ≤ n → n ≤ hi_of e → IsAt entries n (Some e)
+at_some entries front e back n order parts from to =
+    let rise = subst (EntriesFrom 0) parts order in
+    let rest = entries_back 0 front (e ∷ back) rise in
+    let before = ends_before 0 front e back rise in
+    let each = entries_each (hi_of e + 1) back rest.1 in
+    let P : Entry → Type 0 = λ x. (hi_of x < lo_of e) ⊎ (((lo_of e ≤ lo_of x) × (hi_of x ≤ hi_of e)) ⊎ (hi_of e < lo_of x)) in
+    record {
+      stands = (front, (back, parts));
+      from = from;
+      to = to;
+      apart = subst (All P) (sym parts) (All-append P front (e ∷ back) (λ k d h. inl (before k d h))
+          (All-cons P e back (inr (inl (omega arith, omega arith))) (λ k d h. inr (inr (let far = each k d h in omega arith)))));
+      has = λ s m. members_part entries front e back s parts m;
+      owns = λ s a b m. members_own entries front e back (lo_of e) s order parts before a b m;
+    }
+
+pub at_none : (entries : List Entry) (n : ℕ) → All (λ e. hi_of e < n) entries → IsAt entries n None
+at_none entries n below = record {
+  stands = tt;
+  from = omega arith;
+  to = omega arith;
+  apart = λ k d h. inl (below k d h);
+  has = λ s m. absurd m;
+  owns = λ s a b m. none_below entries s (λ k d h. (let end = below k d h in omega arith)) m;
+}
+
+pub at_past : (entries front : List Entry) (e : Entry) (back : List Entry) (n : ℕ) → EntriesFrom 0 entries → entries ≡ front ++ e ∷ back → All (λ x. hi_of x < n) front → n < lo_of e → IsAt entries n None
+at_past entries front e back n order parts below past =
+    let rise = subst (EntriesFrom 0) parts order in
+    let rest = entries_back 0 front (e ∷ back) rise in
+    let from : EntriesFrom (n + 1) (e ∷ back) = (omega arith, rest.1) in
+    let each = entries_each (n + 1) (e ∷ back) from in
+    let P : Entry → Type 0 = λ x. (hi_of x < n) ⊎ (((n ≤ lo_of x) × (hi_of x ≤ n)) ⊎ (n < lo_of x)) in
+    record {
+      stands = tt;
+      from = omega arith;
+      to = omega arith;
+      apart = subst (All P) (sym parts) (All-append P front (e ∷ back) (λ k d h. inl (below k d h)) (λ k d h. inr (inr (let far = each k d h in omega arith))));
+      has = λ s m. absurd m;
+      owns = λ s a b m. elim (has_append front (e ∷ back) s (subst (λ (l : List Entry). Covers (members_of l) s) parts m)) [
+        | inl x ↦ none_below front s (λ k d h. (let end = below k d h in omega arith)) x
+        | inr y ↦ (let far = has_from (n + 1) (e ∷ back) s from y in absurd (omega arith))
+      ];
+    }
+
+-- ---- the entry from a number on
+
+pub from_has : (entries : List Entry) (n s : ℕ) (o : Option Entry) → IsEntryFrom entries n o → Has o s → Covers (members_of entries) s
+from_has entries n s None is m = absurd m
+from_has entries n s (Some e) is m = members_part entries is.0 e is.1.0 s is.1.1.0 m
+
+pub from_owns : (entries : List Entry) (n last s : ℕ) (o : Option Entry) → EntriesFrom 0 entries → IsEntryFrom entries n o → n ≤ s → s ≤ end_of o last → Covers (members_of entries) s → Has o s
+from_owns entries n last s None order is from to m = none_below entries s (λ k d h. (let end = is k d h in omega arith)) m
+from_owns entries n last s (Some e) order is from to m = members_own entries is.0 e is.1.0 n s order is.1.1.0 is.1.1.1 from to m
+
+pub from_reach : (entries : List Entry) (n : ℕ) (o : Option Entry) → IsEntryFrom entries n o → IfSome o (λ e. n ≤ hi_of e)
+from_reach entries n None is = tt
+from_reach entries n (Some e) is = is.1.1.2
+
+-- ---- one change
+
+members_above : (es : List Entry) (to s : ℕ) → All (λ e. to < lo_of e) es → Covers (members_of es) s → to < s
+members_above [] to s h m = absurd m
+members_above (e ∷ es) to s h m =
+    let first : to < lo_of e = All-head (λ t. to < lo_of t) e es h in
+    elim (names_append (pieces e) (members_of es) s m) [
+      | inl here ↦ (let at = piece_in e s here in omega arith)
+      | inr later ↦ members_above es to s (All-tail (λ t. to < lo_of t) e es h) later
+    ]
+
+members_upto : (es : List Entry) (to s : ℕ) → All (λ e. hi_of e ≤ to) es → Covers (members_of es) s → s ≤ to
+members_upto [] to s h m = absurd m
+members_upto (e ∷ es) to s h m =
+    let first : hi_of e ≤ to = All-head (λ t. hi_of t ≤ to) e es h in
+    elim (names_append (pieces e) (members_of es) s m) [
+      | inl here ↦ (let at = piece_in e s here in omega arith)
+      | inr later ↦ members_upto es to s (All-tail (λ t. hi_of t ≤ to) e es h) later
+    ]
+
+members_since : (es : List Entry) (from s : ℕ) → All (λ e. from ≤ lo_of e) es → Covers (members_of es) s → from ≤ s
+members_since [] from s h m = absurd m
+members_since (e ∷ es) from s h m =
+    let first : from ≤ lo_of e = All-head (λ t. from ≤ lo_of t) e es h in
+    elim (names_append (pieces e) (members_of es) s m) [
+      | inl here ↦ (let at = piece_in e s here in omega arith)
+      | inr later ↦ members_since es from s (All-tail (λ t. from ≤ lo_of t) e es h) later
+    ]
+
+-- The news are all that the set has between two numbers, which cut none of its entries, and what is
+-- added.
+pub record Fills (old : List Entry) (from to : ℕ) (news : List Entry) (Added : ℕ → Type 0) : Type 0 where
+  pub low : All (λ e. (hi_of e < from) ⊎ (from ≤ lo_of e)) old
+  pub high : All (λ e. (hi_of e ≤ to) ⊎ (to < lo_of e)) old
+  pub all : (s : ℕ) → from ≤ s → s ≤ to → Covers (members_of news) s ↔ (Covers (members_of old) s ⊎ Added s)
+  pub inside : (s : ℕ) → Added s → (from ≤ s) × (s ≤ to)
+
+fills_keeps : (old : List Entry) (from to : ℕ) (news new : List Entry) (Added : ℕ → Type 0) → (r : Replaces old from to news new) → IsNews news from to → Fills old from to news Added → Keeps r.middle news Added
+fills_keeps old from to news new Added r n f =
+    let mid : (P : Entry → Type 0) → All P old → All P r.middle = λ P h. all_left P r.middle r.back (all_right P r.front (r.middle ++ r.back) (subst (All P) r.were h)) in
+    let low : All (λ e. from ≤ lo_of e) r.middle = λ k d h. elim (mid (λ e. (hi_of e < from) ⊎ (from ≤ lo_of e)) f.low k d h) [
+      | inl x ↦ (let at = r.inside k d h in absurd (omega (arith, at.0)))
+      | inr y ↦ y
+    ] in
+    let high : All (λ e. hi_of e ≤ to) r.middle = λ k d h. elim (mid (λ e. (hi_of e ≤ to) ⊎ (to < lo_of e)) f.high k d h) [
+      | inl x ↦ x
+      | inr y ↦ (let at = r.inside k d h in absurd (omega (arith, at.1)))
+    ] in
+    let In : List Entry → ℕ → Type 0 = λ l s. Covers (members_of l) s in
+    let to_old : (s : ℕ) → In r.middle s → In old s =
+    λ s m. subst (λ (l : List Entry). In l s) (sym r.were) (has_right r.front (r.middle ++ r.back) s (has_left r.middle r.back s m)) in
+    let to_mid : (s : ℕ) → from ≤ s → s ≤ to → In old s → In r.middle s =
+    λ s a b m. elim (has_append r.front (r.middle ++ r.back) s (subst (λ (l : List Entry). In l s) r.were m)) [
+      | inl x ↦ absurd (none_below r.front s (λ k d h. (let end = r.below k d h in omega arith)) x)
+      | inr y ↦ elim (has_append r.middle r.back s y) [
+        | inl z ↦ z
+        | inr w ↦ (let far = members_above r.back to s r.above w in absurd (omega arith))
+      ]
+    ] in
+    record {
+      still = λ s m. (f.all s (members_since r.middle from s low m) (members_upto r.middle to s high m)).1 (inl (to_old s m));
+      added = λ s a. let at = f.inside s a in (f.all s at.0 at.1).1 (inr a);
+      only = λ s m.
+          let a = has_from from news s n.order m in
+          let b = members_upto news to s n.ends m in
+          elim ((f.all s a b).0 m) [ inl o ↦ inl (to_mid s a b o) | inr x ↦ inr x ];
+    }
+
+-- the runs after a change
+pub fills_runs : (old : List Entry) (from to : ℕ) (news new : List Entry) (Added : ℕ → Type 0) → EntriesFrom 0 old → IsNews news from to → Fills old from to news Added → Replaces old from to news new
+    → IsRunsOf (runs_of new) (λ s. Covers (runs_of old) s ⊎ Added s)
+fills_runs old from to news new Added order n f r =
+    let after = replaced_order old from to news new r n.between order n.order (λ k d h. (let end = n.ends k d h in omega arith)) in
+    replaced_runs old from to news new Added r (fills_keeps old from to news new Added r n f) order after
+
+-- ---- what is added fills
+
+low_of : (entries : List Entry) (n : ℕ) (o : Option Entry) → IsAt entries n o → All (λ e. (hi_of e < begin_of o n) ⊎ (begin_of o n ≤ lo_of e)) entries
+low_of entries n o at = λ k d h. elim (at.apart k d h) [
+  | inl x ↦ inl x
+  | inr rest ↦ elim rest [ inl y ↦ inr y.0 | inr z ↦ inr (let a = at.from in let b = at.to in omega arith) ]
+]
+
+high_of : (entries : List Entry) (n : ℕ) (o : Option Entry) → IsAt entries n o → All (λ e. (hi_of e ≤ end_of o n) ⊎ (end_of o n < lo_of e)) entries
+high_of entries n o at = λ k d h. elim (at.apart k d h) [
+  | inl x ↦ inl (let a = at.from in let b = at.to in omega arith)
+  | inr rest ↦ elim rest [ inl y ↦ inl y.1 | inr z ↦ inr z ]
+]
+
+pub run_fills : (old news : List Entry) (lo hi from to : ℕ) (head tail : Option Entry) → IsAt old lo head → IsAt old hi tail → lo ≤ hi → from ≡ begin_of head lo → to ≡ end_of tail hi
+    → ((s : ℕ) → Covers (members_of news) s ↔ (Has head s ⊎ (Has tail s ⊎ ((lo ≤ s) × (s ≤ hi))))) → Fills old from to news (λ s. (lo ≤ s) × (s ≤ hi))
+run_fills old news lo hi from to head tail at end order e f m =
+    let begins = at.from in
+    let reach = at.to in
+    let starts = end.from in
+    let ends = end.to in
+    record {
+      low = subst (λ n. All (λ e. (hi_of e < n) ⊎ (n ≤ lo_of e)) old) (sym e) (low_of old lo head at);
+      high = subst (λ n. All (λ e. (hi_of e ≤ n) ⊎ (n < lo_of e)) old) (sym f) (high_of old hi tail end);
+      all = λ s a b. (
+        λ n. elim ((m s).0 n) [
+          | inl h ↦ inl (at.has s h)
+          | inr rest ↦ elim rest [ inl t ↦ inl (end.has s t) | inr k ↦ inr k ]
+        ],
+        λ n. (m s).1 (elim n [
+          | inl o ↦ elim (cases_lt s lo) [
+            | inl below ↦ inl (at.owns s (omega arith) (omega arith) o)
+            | inr since ↦ elim (cases_lt hi s) [
+              | inl above ↦ inr (inl (end.owns s (omega arith) (omega arith) o))
+              | inr upto ↦ inr (inr (since, upto))
+            ]
+          ]
+          | inr k ↦ inr (inr k)
+        ]),
+      );
+      inside = λ s k. (let a = k.0 in omega arith, let b = k.1 in omega arith);
+    }
+
+pub bits_fill : (old news : List Entry) (first from to bits more : ℕ) (head tail : Option Entry) → IsAt old first head → IsAt old (first + 63) tail → from ≡ begin_of head first → to ≡ end_of tail (first + 63)
+    → ((s : ℕ) → first ≤ s → s < first + 64 → BitCovers 64 first bits s ↔ (BitCovers 64 first more s ⊎ Covers (members_of old) s))
+    → ((s : ℕ) → Covers (members_of news) s ↔ ((Has head s × (s < first)) ⊎ (BitCovers 64 first bits s ⊎ (Has tail s × (first + 63 < s))))) → Fills old from to news (λ s. BitCovers 64 first more s)
+bits_fill old news first from to bits more head tail at end e f b m =
+    let begins = at.from in
+    let reach = at.to in
+    let starts = end.from in
+    let ends = end.to in
+    record {
+      low = subst (λ n. All (λ e. (hi_of e < n) ⊎ (n ≤ lo_of e)) old) (sym e) (low_of old first head at);
+      high = subst (λ n. All (λ e. (hi_of e ≤ n) ⊎ (n < lo_of e)) old) (sym f) (high_of old (first + 63) tail end);
+      all = λ s p q. (
+        λ n. elim ((m s).0 n) [
+          | inl h ↦ inl (at.has s h.0)
+          | inr rest ↦ elim rest [
+            | inl k ↦ elim ((b s k.0 k.1).0 k) [ inl new ↦ inr new | inr old_one ↦ inl old_one ]
+            | inr t ↦ inl (end.has s t.0)
+          ]
+        ],
+        λ n. (m s).1 (elim n [
+          | inl o ↦ elim (cases_lt s first) [
+            | inl below ↦ inl (at.owns s (omega arith) (omega arith) o, below)
+            | inr since ↦ elim (cases_lt (first + 63) s) [
+              | inl above ↦ inr (inr (end.owns s (omega arith) (omega arith) o, above))
+              | inr upto ↦ inr (inl ((b s since (omega arith)).1 (inr o)))
+            ]
+          ]
+          | inr k ↦ inr (inl ((b s k.0 k.1).1 (inl k)))
+        ]),
+      );
+      inside = λ s k. (let a = k.0 in omega arith, let c = k.1 in omega arith);
+    }
+
+-- what is added already changes nothing
+pub adds_none : (old : List Entry) (Added : ℕ → Type 0) → IsRunsOf (runs_of old) (λ s. Covers (members_of old) s) → ((s : ℕ) → Added s → Covers (members_of old) s) → IsRunsOf (runs_of old) (λ s. Covers (runs_of old) s ⊎ Added s)
+adds_none old Added is a = (is.0, λ s. (λ n. inl n, λ n. elim n [ inl x ↦ x | inr y ↦ (is.1 s).1 (a s y) ]))
+
+pub one_more : (old new : List Span) (lo hi : ℕ) → AddsSpan old lo hi new → length new ≤ length old + 1
+one_more old new lo hi adds =
+    let x : Span = record { lo = lo; hi = hi } in
+    let most = runs_least new (x ∷ old) adds.0 (λ s. (
+      λ n. elim ((adds.1 s).0 n) [ inl o ↦ inr o | inr k ↦ inl k ],
+      λ n. (adds.1 s).1 (elim n [ inl k ↦ inr k | inr o ↦ inl o ]),
+    )) in
+    omega (arith, most)
+
+-- ---- what the calls ask
+
+at_member : (P : Entry → Type 0) (entries front : List Entry) (e : Entry) (back : List Entry) → entries ≡ front ++ e ∷ back → All P entries → P e
+at_member P entries front e back parts h = All-head P e back (all_right P front (e ∷ back) (subst (All P) parts h))
+
+pub head_ends : (lo hi : ℕ) (head : Option Entry) → lo / 64 < hi / 64 → lo ≤ end_of head lo → begin_of head lo ≤ lo → IfSome head (λ e. (hi_of e < hi) ⊎ (hi_of e ≡ 64 * (lo_of e / 64) + 63)) → end_of head lo < hi
+head_ends lo hi None w a b h = omega arith
+head_ends lo hi (Some e) w a b h = elim h [ inl x ↦ x | inr y ↦ omega arith ]
+
+pub tail_starts : (entries : List Entry) (lo hi : ℕ) (head tail : Option Entry) → IsAt entries lo head → IsAt entries hi tail → end_of head lo < hi → IfSome tail (λ e. (lo < lo_of e) × (lo_of e ≤ hi) × (hi ≤ hi_of e))
+tail_starts entries lo hi head None at end h = tt
+tail_starts entries lo hi head (Some t) at end h =
+    let from = at.from in
+    let to = at.to in
+    let starts = end.from in
+    let ends = end.to in
+    let P : Entry → Type 0 = λ e. (hi_of e < begin_of head lo) ⊎ (((begin_of head lo ≤ lo_of e) × (hi_of e ≤ end_of head lo)) ⊎ (end_of head lo < lo_of e)) in
+    elim (at_member P entries end.stands.0 t end.stands.1.0 end.stands.1.1 at.apart) [
+      | inl x ↦ absurd (omega arith)
+      | inr rest ↦ elim rest [
+        | inl y ↦ absurd (omega (arith, y.1))
+        | inr z ↦ (omega arith, starts, ends)
+      ]
+    ]
+
+pub tail_reaches : (entries : List Entry) (hi : ℕ) (tail : Option Entry) → IsAt entries hi tail → IfSome tail (λ e. (lo_of e ≤ hi) × (hi ≤ hi_of e))
+tail_reaches entries hi None at = tt
+tail_reaches entries hi (Some t) at = (at.from, at.to)
+
+pub run_serials : (old : List Entry) (few : List Entry) (lo hi : ℕ) (head tail : Option Entry) → AreSerials (members_of old) → IsAt old lo head → IsAt old hi tail → 0 < lo → hi < 2 ^ 64
+    → ((s : ℕ) → Covers (members_of few) s ↔ (Has head s ⊎ (Has tail s ⊎ ((lo ≤ s) × (s ≤ hi))))) → AreSerials (members_of few)
+run_serials old few lo hi head tail serials at end some fits m = λ s n. elim ((m s).0 n) [
+  | inl h ↦ serials s (at.has s h)
+  | inr rest ↦ elim rest [ inl t ↦ serials s (end.has s t) | inr k ↦ (let a = k.0 in omega arith, let b = k.1 in omega arith) ]
+]
+
+pub bits_serials : (old : List Entry) (few : List Entry) (first bits more : ℕ) (head tail : Option Entry) → AreSerials (members_of old) → IsAt old first head → IsAt old (first + 63) tail → first + 63 < 2 ^ 64
+    → ((s : ℕ) → BitCovers 64 first more s → 0 < s)
+    → ((s : ℕ) → first ≤ s → s < first + 64 → BitCovers 64 first bits s ↔ (BitCovers 64 first more s ⊎ Covers (members_of old) s))
+    → ((s : ℕ) → Covers (members_of few) s ↔ ((Has head s × (s < first)) ⊎ (BitCovers 64 first bits s ⊎ (Has tail s × (first + 63 < s))))) → AreSerials (members_of few)
+bits_serials old few first bits more head tail serials at end fits some b m = λ s n. elim ((m s).0 n) [
+  | inl h ↦ serials s (at.has s h.0)
+  | inr rest ↦ elim rest [
+    | inl k ↦ elim ((b s k.0 k.1).0 k) [ inl new ↦ (some s new, omega (arith, new.1)) | inr o ↦ serials s o ]
+    | inr t ↦ serials s (end.has s t.0)
+  ]
+]
+
+-- bits that a window had, and more
+pub bits_both : (old : List Entry) (first was more s : ℕ) → BitCovers 64 first was s ↔ Covers (members_of old) s → BitCovers 64 first (bit_or more was) s ↔ (BitCovers 64 first more s ⊎ Covers (members_of old) s)
+bits_both old first was more s h =
+    let both = or_bits first more was s in (
+      λ n. elim (both.0 n) [ inl x ↦ inl x | inr y ↦ inr (h.0 y) ],
+      λ n. both.1 (elim n [ inl x ↦ inl x | inr y ↦ inr (h.1 y) ]),
+    )
+
+pub on_ok : {T E : Type 0} (r : Result T E) (P Q : Type 0) → (P → Q) → OnOk r P → OnOk r Q
+on_ok (Ok x) P Q f h = f h
+on_ok (Err e) P Q f h = h
+
+-- a mask has the numbers from one to another of its window
+pub mask_has : (lo hi mask s : ℕ) → lo / 64 ≡ hi / 64 → lo ≤ hi → mask ≡ 2 ^ (hi % 64 + 1) - 2 ^ (lo % 64) → BitCovers 64 (64 * (lo / 64)) mask s ↔ ((lo ≤ s) × (s ≤ hi))
+mask_has lo hi mask s w h e =
+    let base = 64 * (lo / 64) in
+    let is : base ≤ s → BitCovers 64 base mask s ↔ ((base + lo % 64 ≤ s) × (s ≤ base + hi % 64)) =
+    λ k. subst (λ (n : ℕ). BitCovers 64 base n s ↔ ((base + lo % 64 ≤ s) × (s ≤ base + hi % 64))) (sym e) (in_mask base (lo % 64) (hi % 64) s (omega arith) (omega arith) k) in (
+      λ n. let at = (is n.0).0 n in (omega (arith, at.0), omega (arith, at.1)),
+      λ k. let a = k.0 in let b = k.1 in (is (omega arith)).1 (omega arith, omega arith),
+    )
+
+pub adds_mask : (old new : List Span) (lo hi mask : ℕ) → lo / 64 ≡ hi / 64 → lo ≤ hi → mask ≡ 2 ^ (hi % 64 + 1) - 2 ^ (lo % 64) → IsRunsOf new (λ s. Covers old s ⊎ BitCovers 64 (64 * (lo / 64)) mask s) → AddsSpan old lo hi new
+adds_mask old new lo hi mask w h e is = (
+  is.0,
+  λ s. (
+    λ n. elim ((is.1 s).0 n) [ inl o ↦ inl o | inr k ↦ inr ((mask_has lo hi mask s w h e).0 k) ],
+    λ n. (is.1 s).1 (elim n [ inl o ↦ inl o | inr k ↦ inr ((mask_has lo hi mask s w h e).1 k) ]),
+  ),
+)

@@ -1,0 +1,143 @@
+-- A set's entries: asked for a number, and after one change.
+use Rattle.std.proofs.Common.{◌≡◌, ℕ, ◌+◌, ◌*◌, ◌^◌, ◌<◌, ◌≤◌, ◌⊎◌, ◌↔◌, List, [], ◌∷◌, ◌++◌, Some, None, Result, Ok, Err, OnOk, OnErr, length, get_or, sym, subst, inl, inr, arith, ◌∙◌, ap, refl}
+use Rattle.std.specs.List.{All}
+use Rattle.std.proofs.lemmas.List.{append-nil}
+use Rattle.std.proofs.lemmas.List.Elements.{All-nil, All-head, All-weaker}
+use Rattle.serial_set.specs.declared.entry.Entry.{Entry}
+use Rattle.std.specs.Prelude.{Bool, true, false, IsTrue}
+use Rattle.serial_set.specs.Span.{Covers, AreSerials, IsRunsOf}
+use Rattle.serial_set.specs.Words.{BitCovers}
+use Rattle.serial_set.specs.Rising.{names_append, names_left, names_right}
+use Rattle.serial_set.specs.Entry.{pieces, lo_of, hi_of, EntriesFrom, members_of, runs_of}
+use Rattle.serial_set.specs.Entries.{has_append, has_left, has_right, has_from, none_below, entries_back, Replaces, replaced_order, runs_of_entries}
+use Rattle.serial_set.specs.Places.{IsEntryFrom, IsListFrom, WordWidened}
+
+pub some_from : (es part : List Entry) (n : ℕ) (x : Entry) → IsListFrom es n part → 0 < length part → x ≡ get_or part 0 x → IsEntryFrom es n (Some x)
+some_from es [] n x k h read = absurd (omega arith)
+some_from es (y ∷ ys) n x k h read =
+    let reach : n ≤ hi_of y = All-head (λ e. n ≤ hi_of e) y ys k.reach in
+    subst (λ z. IsEntryFrom es n (Some z)) (sym read) (k.front, (ys ++ k.back, (k.parts, k.below, reach)))
+
+pub none_from : (es part : List Entry) (n : ℕ) → IsListFrom es n part → length part ≤ 0 → IsEntryFrom es n None
+none_from es [] n k h =
+    let all : es ≡ k.front = k.parts ∙ ap (λ l. k.front ++ l) (k.some refl) ∙ append-nil k.front in
+    subst (All (λ e. hi_of e < n)) (sym all) k.below
+none_from es (y ∷ ys) n k h = absurd (omega arith)
+
+-- whether the number is a member is asked of the entry that reaches it
+pub asked : (es : List Entry) (e : Entry) (s : ℕ) → EntriesFrom 0 es → IsEntryFrom es s (Some e) → Covers (pieces e) s ↔ Covers (members_of es) s
+asked es e s order k =
+    let front = k.0 in
+    let back = k.1.0 in
+    let parts = k.1.1.0 in
+    let In : List Entry → Type 0 = λ l. Covers (members_of l) s in
+    let tail = entries_back 0 front (e ∷ back) (subst (EntriesFrom 0) parts order) in (
+      λ n. subst In (sym parts) (has_right front (e ∷ back) s (names_left (pieces e) (members_of back) s n)),
+      λ n. elim (has_append front (e ∷ back) s (subst In parts n)) [
+        | inl before ↦ absurd (none_below front s k.1.1.1 before)
+        | inr rest ↦ elim (names_append (pieces e) (members_of back) s rest) [
+          | inl here ↦ here
+          | inr later ↦ (let past = has_from (hi_of e + 1) back s tail.1 later in let reach : s ≤ hi_of e = k.1.1.2 in absurd (omega arith))
+        ]
+      ],
+    )
+
+-- a change adds no member that is not one of the new entries'
+pub replaced_only : (old news new : List Entry) (lo hi s : ℕ) → Replaces old lo hi news new → Covers (members_of new) s → Covers (members_of old) s ⊎ Covers (members_of news) s
+replaced_only old news new lo hi s r n =
+    let In : List Entry → Type 0 = λ l. Covers (members_of l) s in
+    let back : In (r.front ++ (r.middle ++ r.back)) → In old = λ m. subst In (sym r.were) m in
+    elim (has_append r.front (news ++ r.back) s (subst In r.are n)) [
+      | inl front ↦ inl (back (has_left r.front (r.middle ++ r.back) s front))
+      | inr rest ↦ elim (has_append news r.back s rest) [
+        | inl here ↦ inr here
+        | inr behind ↦ inl (back (has_right r.front (r.middle ++ r.back) s (has_right r.middle r.back s behind)))
+      ]
+    ]
+
+pub replaced_serials : (old news new : List Entry) (lo hi : ℕ) → Replaces old lo hi news new → AreSerials (members_of old) → AreSerials (members_of news) → AreSerials (members_of new)
+replaced_serials old news new lo hi r was added s n =
+    elim (replaced_only old news new lo hi s r n) [ inl m ↦ was s m | inr m ↦ added s m ]
+
+pub replaced_rise : (old news new : List Entry) (lo hi : ℕ) → Replaces old lo hi news new → lo ≤ hi → EntriesFrom 0 old → EntriesFrom lo news → All (λ e. hi_of e ≤ hi) news → EntriesFrom 0 new
+replaced_rise old news new lo hi r h order rise ends =
+    replaced_order old lo hi news new r h order rise (All-weaker (λ e. hi_of e ≤ hi) (λ e. hi_of e < hi + 1) (λ e k. omega arith) news ends)
+
+-- the first entries of a set
+pub replaced_none : (few : List Entry) (lo hi : ℕ) → Replaces [] lo hi few (few ++ [])
+replaced_none few lo hi = record {
+  front = [];
+  middle = [];
+  back = [];
+  were = refl;
+  are = refl;
+  below = All-nil (λ e. hi_of e < lo);
+  inside = All-nil (λ e. (lo ≤ hi_of e) × (lo_of e ≤ hi));
+  above = All-nil (λ e. hi < lo_of e);
+}
+
+-- what a clause says of each answer
+pub ok_or_err : {A E : Type 0} (r : Result A E) (P Q : Type 0) → OnOk r P → OnErr r Q → P ⊎ Q
+ok_or_err (Ok x) P Q p q = inl p
+ok_or_err (Err e) P Q p q = inr q
+
+pub true_or_false : (b : Bool) (P Q : Type 0) → (IsTrue b → P) → (b ≡ false → Q) → P ⊎ Q
+true_or_false true P Q p q = inl (p refl)
+true_or_false false P Q p q = inr (q refl)
+
+-- ---- a word that gets more bits
+
+swapped_order : (a : ℕ) (front back : List Entry) (was is : Entry) → lo_of is ≡ lo_of was → hi_of is ≡ hi_of was → EntriesFrom a (front ++ was ∷ back) → EntriesFrom a (front ++ is ∷ back)
+swapped_order a [] back was is lo hi r = (omega (arith, lo, r.0), subst (λ n. EntriesFrom (n + 1) back) (sym hi) r.1)
+swapped_order a (x ∷ front) back was is lo hi r = (r.0, swapped_order (hi_of x + 1) front back was is lo hi r.1)
+
+pub widened_order : (old new : List Entry) (window bits : ℕ) → WordWidened old window bits new → EntriesFrom 0 old → EntriesFrom 0 new
+widened_order old new window bits k order =
+    subst (EntriesFrom 0) (sym k.are)
+    (swapped_order 0 k.front k.back k.was k.is (k.lo.1 ∙ sym k.lo.0) (k.hi.1 ∙ sym k.hi.0) (subst (EntriesFrom 0) k.were order))
+
+pub widened_to : (old new : List Entry) (window bits s : ℕ) → WordWidened old window bits new → Covers (members_of new) s → Covers (members_of old) s ⊎ BitCovers 64 (64 * window) bits s
+widened_to old new window bits s k n =
+    let In : List Entry → Type 0 = λ l. Covers (members_of l) s in
+    let back : In (k.front ++ k.was ∷ k.back) → In old = λ m. subst In (sym k.were) m in
+    elim (has_append k.front (k.is ∷ k.back) s (subst In k.are n)) [
+      | inl front ↦ inl (back (has_left k.front (k.was ∷ k.back) s front))
+      | inr rest ↦ elim (names_append (pieces k.is) (members_of k.back) s rest) [
+        | inl here ↦ elim ((k.more s).0 here) [
+          | inl was ↦ inl (back (has_right k.front (k.was ∷ k.back) s (names_left (pieces k.was) (members_of k.back) s was)))
+          | inr added ↦ inr added
+        ]
+        | inr later ↦ inl (back (has_right k.front (k.was ∷ k.back) s (names_right (pieces k.was) (members_of k.back) s later)))
+      ]
+    ]
+
+pub widened_from : (old new : List Entry) (window bits s : ℕ) → WordWidened old window bits new → Covers (members_of old) s ⊎ BitCovers 64 (64 * window) bits s → Covers (members_of new) s
+widened_from old new window bits s k n =
+    let In : List Entry → Type 0 = λ l. Covers (members_of l) s in
+    let to : In (k.front ++ k.is ∷ k.back) → In new = λ m. subst In (sym k.are) m in
+    let here : Covers (pieces k.is) s → In new = λ m. to (has_right k.front (k.is ∷ k.back) s (names_left (pieces k.is) (members_of k.back) s m)) in
+    elim n [
+      | inl was ↦ elim (has_append k.front (k.was ∷ k.back) s (subst In k.were was)) [
+        | inl front ↦ to (has_left k.front (k.is ∷ k.back) s front)
+        | inr rest ↦ elim (names_append (pieces k.was) (members_of k.back) s rest) [
+          | inl word ↦ here ((k.more s).1 (inl word))
+          | inr later ↦ to (has_right k.front (k.is ∷ k.back) s (names_right (pieces k.is) (members_of k.back) s later))
+        ]
+      ]
+      | inr added ↦ here ((k.more s).1 (inr added))
+    ]
+
+pub widened_serials : (old new : List Entry) (window bits : ℕ) → WordWidened old window bits new → window < 2 ^ 58 → ((s : ℕ) → BitCovers 64 (64 * window) bits s → 0 < s) → AreSerials (members_of old) → AreSerials (members_of new)
+widened_serials old new window bits k h positive was s n =
+    elim (widened_to old new window bits s k n) [ inl m ↦ was s m | inr added ↦ (positive s added, omega (arith, added.1)) ]
+
+pub widened_runs : (old new : List Entry) (window bits : ℕ) → WordWidened old window bits new → EntriesFrom 0 old → IsRunsOf (runs_of new) (λ s. Covers (runs_of old) s ⊎ BitCovers 64 (64 * window) bits s)
+widened_runs old new window bits k order =
+    let was = runs_of_entries old order in
+    let is = runs_of_entries new (widened_order old new window bits k order) in (
+      is.0,
+      λ s. (
+        λ n. elim (widened_to old new window bits s k ((is.1 s).0 n)) [ inl m ↦ inl ((was.1 s).1 m) | inr added ↦ inr added ],
+        λ n. (is.1 s).1 (widened_from old new window bits s k (elim n [ inl m ↦ inl ((was.1 s).0 m) | inr added ↦ inr added ])),
+      ),
+    )

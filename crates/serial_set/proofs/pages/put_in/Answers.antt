@@ -1,0 +1,75 @@
+use Rattle.std.proofs.Common.{◌<◌, ◌≤◌, ◌⊎◌, ◌+◌, length, get_or, take, drop, subst, sym, arith}
+use Rattle.std.specs.List.{All}
+use Rattle.std.proofs.lemmas.List.{drop-set-lt, get_or-set_same}
+use Rattle.serial_set.specs.declared.entry.Entry.{Entry}
+use Rattle.serial_set.specs.Entry.{lo_of, hi_of, EntriesFrom}
+use Rattle.serial_set.specs.Entries.{Replaces}
+use Rattle.serial_set.specs.Pages.{entries_in, entries_of}
+use Rattle.serial_set.specs.Places.{end_of, CutTo}
+use Rattle.serial_set.proofs.Flat.{flat_cut, flat_drop, flat_same, all_right}
+use Rattle.serial_set.proofs.InRow.{order_page, order_right, past_put, put_whole}
+use Rattle.serial_set.proofs.Refused.{on_err}
+use Rattle.serial_set.proofs.pages.put_in.Goals as goal
+
+pub put-requires-clause-order : goal.put-requires-clause-order
+put-requires-clause-order c =
+    let xs = c.args.pages.now.items in
+    let at = c.page_for-at.result in
+    let page = c.index_mut.result.now in
+    subst (λ p. EntriesFrom 0 (entries_in p)) (sym c.index_mut.ensures.value) (order_page xs at page (omega arith) c.requires.order)
+
+pub returns-in_err-place-clause-refused : goal.returns-in_err-place-clause-refused
+returns-in_err-place-clause-refused c =
+    on_err _ _ (flat_same entries_in c.args.pages.now.items c.page_for-at.result c.index_mut.result.now c.put.new.self (omega arith) c.index_mut.ensures.value c.in_err-place.ensures.refused)
+
+pub cut_after-requires-clause-order : goal.cut_after-requires-clause-order
+cut_after-requires-clause-order c =
+    let xs = c.args.pages.now.items in
+    let at = c.page_for-at.result in
+    let later : at < at + 1 = omega arith in
+    subst (λ l. EntriesFrom 0 (entries_of l)) (sym (drop-set-lt (at + 1) xs at c.put.new.self later)) (order_right 0 xs (at + 1) c.requires.order)
+
+pub cut_after-requires-clause-whole : goal.cut_after-requires-clause-whole
+cut_after-requires-clause-whole c =
+    let xs = c.args.pages.now.items in
+    let at = c.page_for-at.result in
+    let later : at < at + 1 = omega arith in
+    let P : Entry → Type 0 = λ e. (hi_of e ≤ c.args.hi) ⊎ (c.args.hi < lo_of e) in
+    subst (λ l. All P (entries_of l)) (sym (drop-set-lt (at + 1) xs at c.put.new.self later))
+    (all_right P (entries_of (take (at + 1) xs)) (entries_of (drop (at + 1) xs)) (subst (All P) (flat_cut entries_in xs (at + 1)) c.requires.whole))
+
+pub cut_after-requires-clause-past : goal.cut_after-requires-clause-past
+cut_after-requires-clause-past c =
+    let xs = c.args.pages.now.items in
+    let at = c.page_for-at.result in
+    let page = c.index_mut.result.now in
+    let new = c.put.new.self in
+    let hi = c.args.hi in
+    let few = c.args.few.now in
+    let within : at < length xs = omega arith in
+    let later : at < at + 1 = omega arith in
+    let rest = entries_of (drop (at + 1) xs) in
+    let order = subst (EntriesFrom 0) (flat_drop entries_in xs at page within) (order_right 0 xs at c.requires.order) in
+    let r = subst (λ p. Replaces (entries_in p) c.args.lo hi few (entries_in new)) c.index_mut.ensures.value c.in_ok-place.ensures.put in
+    λ d past.
+    let end = subst (λ p. hi < end_of (entries_in p)) (get_or-set_same xs at new d within) past in
+    subst (λ l. All (λ e. hi < lo_of e) (entries_of l)) (sym (drop-set-lt (at + 1) xs at new later))
+    (past_put (entries_in (get_or xs at page)) rest few (entries_in new) c.args.lo hi order c.requires.few.0 c.requires.few.1 r end)
+
+pub returns-clause-put : goal.returns-clause-put
+returns-clause-put c =
+    let xs = c.args.pages.now.items in
+    let at = c.page_for-at in
+    let page = c.index_mut.result.now in
+    let new = c.put.new.self in
+    let lo = c.args.lo in
+    let hi = c.args.hi in
+    let few = c.args.few.now in
+    let zs = c.cut_after.new.pages.items in
+    let within : at.result < length xs = omega arith in
+    let later : at.result < at.result + 1 = omega arith in
+    let r = subst (λ p. Replaces (entries_in p) lo hi few (entries_in new)) c.index_mut.ensures.value c.in_ok-place.ensures.put in
+    let below = subst (λ l. All (λ e. hi_of e < lo) (entries_of (take at.result l))) c.deref.ensures.value at.ensures.below in
+    let after = subst (λ l. All (λ e. lo ≤ hi_of e) (entries_of (drop (at.result + 1) l))) c.deref.ensures.value at.ensures.after in
+    let k = subst (λ l. CutTo (entries_of l) hi (entries_of (drop (at.result + 1) zs))) (drop-set-lt (at.result + 1) xs at.result new later) c.cut_after.ensures.cut in
+    put_whole xs zs at.result new page few lo hi within c.requires.order below after r c.cut_after.ensures.kept k

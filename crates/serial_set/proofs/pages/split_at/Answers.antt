@@ -1,0 +1,31 @@
+use Rattle.std.proofs.Common.{◌≡◌, ◌<◌, ◌∙◌, length, sym, ap, subst, true, arith}
+use Rattle.std.specs.Result.{is_ok}
+use Rattle.serial_set.specs.Entry.{EntriesFrom}
+use Rattle.serial_set.specs.Pages.{entries_in, entries_of}
+use Rattle.serial_set.proofs.Flat.{flat_same, flat_split}
+use Rattle.serial_set.proofs.InRow.{order_page}
+use Rattle.serial_set.proofs.pages.split_at.Goals as goal
+
+pub split-requires-clause-order : goal.split-requires-clause-order
+split-requires-clause-order c =
+    let ys = c.reserve.new.self.items in
+    let same = c.reserve.ensures.items in
+    let order : EntriesFrom 0 (entries_of ys) = subst (λ l. EntriesFrom 0 (entries_of l)) (sym same) c.requires.order in
+    let within : c.args.at < length ys = omega (arith, ap length same) in
+    subst (λ p. EntriesFrom 0 (entries_in p)) (sym c.index_mut.ensures.value) (order_page ys c.args.at c.index_mut.result.now within order)
+
+pub returns-in_err-back-clause-same : goal.returns-in_err-back-clause-same
+returns-in_err-back-clause-same c =
+    let same = c.reserve.ensures.items in
+    flat_same entries_in c.reserve.new.self.items c.args.at c.index_mut.result.now c.split.new.self (omega (arith, ap length same)) c.index_mut.ensures.value c.in_err-back.ensures.refused
+    ∙ ap entries_of same
+
+pub returns-clause-same : goal.returns-clause-same
+returns-clause-same c =
+    let same = c.reserve.ensures.items in
+    let room = c.in_ok-reserve.ensures.ok in
+    let ok : is_ok c.insert.result ≡ true = c.insert.ensures.succeeds (omega (arith, room)) in
+    let made = rw ok at c.insert.ensures.items in
+    ap entries_of made
+    ∙ flat_split entries_in c.reserve.new.self.items c.args.at c.index_mut.result.now c.split.new.self c.in_ok-back.back (omega (arith, ap length same)) c.index_mut.ensures.value c.in_ok-back.ensures.whole
+    ∙ ap entries_of same

@@ -1,0 +1,24 @@
+-- The entry of a set in whose stretch a number stands.
+use Rattle.std.specs.Prelude.{◌≡◌, ℕ, ◌≤◌, ◌<◌, ◌⊎◌, List, ◌∷◌, ◌++◌, Option, Some, None, All, ⊤}
+use Rattle.serial_set.specs.declared.entry.Entry.{Entry}
+use Rattle.serial_set.specs.Span.{Covers}
+use Rattle.serial_set.specs.Entry.{lo_of, hi_of, members_of}
+use Rattle.serial_set.specs.News.{begin_of, end_of, Has}
+
+-- the entry is one of the set's
+abbrev pub Stands : List Entry → Option Entry → Type 0
+Stands entries None = ⊤
+Stands entries (Some e) = (front : List Entry) × ((back : List Entry) × (entries ≡ front ++ e ∷ back))
+
+-- The entry, if there is one, has the number in its stretch, and each other lies before it or past
+-- it. What the entries have in its stretch it has.
+pub record IsAt (entries : List Entry) (number : ℕ) (o : Option Entry) : Type 0 where
+  pub stands : Stands entries o
+  pub from : begin_of o number ≤ number
+  pub to : number ≤ end_of o number
+  pub apart : All (λ e. (hi_of e < begin_of o number)
+      ⊎ (((begin_of o number ≤ lo_of e) × (hi_of e ≤ end_of o number))
+      ⊎ (end_of o number < lo_of e))) entries
+  pub has : (s : ℕ) → Has o s → Covers (members_of entries) s
+  pub owns : (s : ℕ) → begin_of o number ≤ s → s ≤ end_of o number
+      → Covers (members_of entries) s → Has o s

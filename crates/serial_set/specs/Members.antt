@@ -1,0 +1,30 @@
+-- The first of the members from a number on, and members that follow each other.
+use Rattle.std.specs.Prelude.{◌≡◌, ℕ, ◌+◌, ◌≤◌, ◌<◌, List, [], ◌∷◌, Option, Some, None}
+use Rattle.std.specs.Int.{bit_at}
+use Rattle.serial_set.specs.declared.span.Span.{Span}
+use Rattle.serial_set.specs.Span.{Covers}
+use Rattle.serial_set.specs.Walk.{since}
+
+-- the first of the lowest 64 bits that is set, from a place on
+abbrev pub IsFirstBit : ℕ → ℕ → Option ℕ → Type 0
+IsFirstBit bits place None = (i : ℕ) → place ≤ i → i < 64 → bit_at bits i ≡ 0
+IsFirstBit bits place (Some at) =
+    (place ≤ at) × (at < 64) × (bit_at bits at ≡ 1)
+    × ((i : ℕ) → place ≤ i → i < at → bit_at bits i ≡ 0)
+
+-- the first member from a number on
+abbrev pub IsFirst : List Span → ℕ → Option ℕ → Type 0
+IsFirst spans number None = (s : ℕ) → number ≤ s → Covers spans s → ⊥
+IsFirst spans number (Some first) =
+    (number ≤ first) × Covers spans first
+    × ((s : ℕ) → number ≤ s → s < first → Covers spans s → ⊥)
+
+-- all from one number to another are members
+pub record GoesOn (spans : List Span) (from to : ℕ) : Type 0 where
+  pub order : from ≤ to
+  pub all : (s : ℕ) → from ≤ s → s ≤ to → Covers spans s
+
+-- the first of the runs from a number on, after which those from past its end follow
+abbrev pub IsRunFrom : List Span → ℕ → Option Span → Type 0
+IsRunFrom spans number None = since number spans ≡ []
+IsRunFrom spans number (Some span) = since number spans ≡ span ∷ since (span.hi + 1) spans

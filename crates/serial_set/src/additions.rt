@@ -1,0 +1,145 @@
+//! Additions to a set of entries.
+ghost use Rattle.std.specs.Prelude.{◌≡◌, ◌+◌, ◌*◌, ◌/◌, ◌^◌, ◌<◌, ◌≤◌, ◌⊎◌, ◌↔◌, ℕ, false, IsTrue, IfSome, OnOk, OnErr};
+ghost use Rattle.serial_set.specs.Additions.{IsAt};
+ghost use Rattle.serial_set.specs.Entry.{lo_of, hi_of, members_of, runs_of};
+ghost use Rattle.serial_set.specs.News.{begin_of, end_of, Has};
+ghost use Rattle.serial_set.specs.Span.{AddsSpan, Covers, IsRunsOf};
+ghost use Rattle.serial_set.specs.SpanWords.{entries_held};
+ghost use Rattle.serial_set.specs.Words.{BitCovers};
+
+use crate::entry::{Entry, mask};
+use crate::news::{news_of_bits, news_of_run};
+use crate::span_words::SpanWords;
+use std::alloc::AllocError;
+
+// The bits of an entry in a window, and the place in the window after it.
+#[derive(Clone, Copy)]
+struct Part {
+    bits: u64,
+    at: u64,
+}
+
+impl SpanWords {
+    /// Adds the numbers from `lo` to `hi`.
+    pub(crate) fn add_numbers(&mut self, lo: u64, hi: u64) -> Result<(), AllocError>
+        requires from_one { 0 < lo }
+        requires ordered { lo ≤ hi }
+        ensures runs { OnOk result (AddsSpan (runs_of (entries_held self.old)) lo hi
+            (runs_of (entries_held self.new))) }
+        ensures refused { OnErr result (entries_held self.new ≡ entries_held self.old) }
+    {
+        if lo / 64 == hi / 64 {
+            return self.add_bits(lo / 64, mask(lo % 64, hi % 64));
+        }
+        self.add_run(lo, hi)
+    }
+
+    // Adds the numbers of a window whose bits are set.
+    fn add_bits(&mut self, window: u64, bits: u64) -> Result<(), AllocError>
+        requires window { window < 2 ^ 58 }
+        requires serials { (s : ℕ) → BitCovers 64 (64 * window) bits s → 0 < s }
+        ensures runs { OnOk result (IsRunsOf (runs_of (entries_held self.new))
+            (λ s. Covers (runs_of (entries_held self.old)) s
+            ⊎ BitCovers 64 (64 * window) bits s)) }
+        ensures refused { OnErr result (entries_held self.new ≡ entries_held self.old) }
+    {
+        if self.set_bits(window, bits) {
+            return Ok(());
+        }
+        self.put_bits(window, bits)
+    }
+
+    // The same, where the word of the window is not the entry that was put last.
+    fn put_bits(&mut self, window: u64, bits: u64) -> Result<(), AllocError>
+        requires window { window < 2 ^ 58 }
+        requires serials { (s : ℕ) → BitCovers 64 (64 * window) bits s → 0 < s }
+        ensures runs { OnOk result (IsRunsOf (runs_of (entries_held self.new))
+            (λ s. Covers (runs_of (entries_held self.old)) s
+            ⊎ BitCovers 64 (64 * window) bits s)) }
+        ensures refused { OnErr result (entries_held self.new ≡ entries_held self.old) }
+    {
+        let first = 64 * window;
+        let head = self.entry_at(first);
+        if holds(head, first + 63) {
+            return Ok(());
+        }
+        let bits = bits | self.bits_in(window);
+        let news = news_of_bits(window, bits, head, self.entry_at(first + 63));
+        self.put(&news.few, news.lo, news.hi)
+    }
+
+    // Adds the numbers from `lo` to `hi`, which lie in several windows.
+    fn add_run(&mut self, lo: u64, hi: u64) -> Result<(), AllocError>
+        requires from_one { 0 < lo }
+        requires windows { lo / 64 < hi / 64 }
+        ensures runs { OnOk result (AddsSpan (runs_of (entries_held self.old)) lo hi
+            (runs_of (entries_held self.new))) }
+        ensures refused { OnErr result (entries_held self.new ≡ entries_held self.old) }
+    {
+        let head = self.entry_at(lo);
+        if holds(head, hi) {
+            return Ok(());
+        }
+        let news = news_of_run(lo, hi, head, self.entry_at(hi));
+        self.put(&news.few, news.lo, news.hi)
+    }
+
+    // The entry that has a number in its stretch.
+    fn entry_at(&self, number: u64) -> Option<Entry>
+        ensures { IsAt (entries_held self.now) number result }
+    {
+        match self.entry_from(number) {
+            Some(entry) if entry.lo() <= number => Some(entry),
+            _ => None,
+        }
+    }
+
+    // The members in a window, as its bits.
+    fn bits_in(&self, window: u64) -> u64
+        requires { window < 2 ^ 58 }
+        ensures { (s : ℕ) → 64 * window ≤ s → s < 64 * window + 64
+            → BitCovers 64 (64 * window) result s
+            ↔ Covers (members_of (entries_held self.now)) s }
+    {
+        let mut bits = 0;
+        let mut at = 0;
+        while at < 64 {
+            let part = part_in(self.entry_from(64 * window + at), window, at);
+            bits |= part.bits;
+            at = part.at;
+        }
+        bits
+    }
+}
+
+// Whether an entry is a run that ends at a number or past it.
+fn holds(head: Option<Entry>, hi: u64) -> bool
+    ensures all { (from s : ℕ) → IsTrue result → begin_of head from ≤ s → s ≤ hi → Has head s }
+    ensures none { result ≡ false
+        → IfSome head (λ e. (hi_of e < hi) ⊎ (hi_of e ≡ 64 * (lo_of e / 64) + 63)) }
+{
+    match head {
+        Some(entry) => entry.is_run() && hi <= entry.hi(),
+        None => false,
+    }
+}
+
+// What an entry has in a window, from a place of the window on.
+fn part_in(entry: Option<Entry>, window: u64, at: u64) -> Part
+    requires window { window < 2 ^ 58 }
+    requires at { at < 64 }
+    requires reach { IfSome entry (λ e. 64 * window + at ≤ hi_of e) }
+    ensures bits { (s : ℕ) → 64 * window ≤ s → s < 64 * window + 64
+        → BitCovers 64 (64 * window) result.bits s ↔ Has entry s }
+    ensures at { (at < result.at) × (result.at ≤ 64) }
+    ensures end { (s : ℕ) → s < 64 * window + result.at
+        → s ≤ end_of entry (64 * window + 63) }
+{
+    match entry {
+        Some(entry) => Part {
+            bits: entry.bits_in(window),
+            at: (entry.hi() - 64 * window).min(63) + 1,
+        },
+        None => Part { bits: 0, at: 64 },
+    }
+}

@@ -1,0 +1,194 @@
+//! What a page holds: a run, or the members in one window of 64 serials.
+ghost use Rattle.std.specs.Prelude.{◌≡◌, ◌+◌, ◌-◌, ◌*◌, ◌^◌, ◌<◌, ◌≤◌, ◌∷◌, [], ℕ, ◌↔◌, ◌⊎◌, IsTrue};
+ghost use Rattle.std.specs.Int.{bit_at};
+ghost use Rattle.serial_set.specs.Words.{BitCovers};
+
+use crate::word_bits::{first_bit, last_bit};
+
+/// A run where `a` is at most `b`, and else a word: the window `b / 2`, whose bits are those of
+/// `a`, but for the highest, which is the lowest of `b`. So an entry takes 16 bytes and no tag.
+#[derive(Clone, Copy)]
+pub struct Entry {
+    a: u64,
+    b: u64,
+    ghost word: { b < a → (b < 2 ^ 59) × (2 ^ 63 ≤ a) },
+}
+
+impl Entry {
+    ghost use Rattle.serial_set.specs.Entry.{is_run, window_of, bits_of, pieces, lo_of, hi_of};
+    ghost use Rattle.serial_set.specs.Members.{GoesOn, IsFirst};
+    ghost use Rattle.serial_set.specs.Words.{singles};
+    ghost use Rattle.serial_set.specs.Span.{Covers};
+
+    /// The serials from `lo` to `hi`.
+    pub fn run(lo: u64, hi: u64) -> Entry
+        requires { lo ≤ hi }
+        ensures pieces { pieces result ≡ record { lo = lo; hi = hi } ∷ [] }
+        ensures lo { lo_of result ≡ lo }
+        ensures hi { hi_of result ≡ hi }
+    {
+        Entry { a: lo, b: hi }
+    }
+
+    /// The serials of a window whose bits are set.
+    pub fn word(window: u64, bits: u64) -> Entry
+        requires { window < 2 ^ 58 }
+        ensures pieces { pieces result ≡ singles 64 (64 * window) bits }
+        ensures lo { lo_of result ≡ 64 * window }
+        ensures hi { hi_of result ≡ 64 * window + 63 }
+    {
+        if bits < 1 << 63 {
+            Entry {
+                a: bits + (1 << 63),
+                b: 2 * window,
+            }
+        } else {
+            Entry {
+                a: bits,
+                b: 2 * window + 1,
+            }
+        }
+    }
+
+    /// Whether it is a run.
+    pub fn is_run(self) -> bool
+        ensures { result ≡ is_run self }
+    {
+        self.a <= self.b
+    }
+
+    /// The window of a word.
+    pub fn window(self) -> u64
+        ensures { result ≡ window_of self }
+    {
+        self.b / 2
+    }
+
+    /// The bits of a word.
+    pub fn bits(self) -> u64
+        requires { self.b < self.a }
+        ensures { result ≡ bits_of self }
+    {
+        if self.b % 2 == 1 {
+            self.a
+        } else {
+            self.a - (1 << 63)
+        }
+    }
+
+    /// Where its stretch of numbers begins.
+    pub fn lo(self) -> u64
+        ensures { result ≡ lo_of self }
+    {
+        if self.is_run() {
+            self.a
+        } else {
+            64 * self.window()
+        }
+    }
+
+    /// Where its stretch of numbers ends.
+    pub fn hi(self) -> u64
+        ensures { result ≡ hi_of self }
+    {
+        if self.is_run() {
+            self.b
+        } else {
+            64 * self.window() + 63
+        }
+    }
+
+    /// Whether a serial is a member.
+    pub fn has(self, serial: u64) -> bool
+        ensures { IsTrue result ↔ Covers (pieces self) serial }
+    {
+        if self.is_run() {
+            return self.a <= serial && serial <= self.b;
+        }
+        serial / 64 == self.window() && has_bit(self.bits(), serial % 64)
+    }
+
+    /// A word with more bits of its window.
+    pub fn with(self, bits: u64) -> Entry
+        requires { self.b < self.a }
+        ensures more { (s : ℕ) → Covers (pieces result) s ↔ (Covers (pieces self) s
+            ⊎ BitCovers 64 (64 * window_of self) bits s) }
+        ensures lo { lo_of result ≡ lo_of self }
+        ensures hi { hi_of result ≡ hi_of self }
+    {
+        Entry::word(self.window(), self.bits() | bits)
+    }
+
+    /// The first member from a number on.
+    pub fn first_from(self, number: u64) -> Option<u64>
+        requires { number ≤ hi_of self }
+        ensures { IsFirst (pieces self) number result }
+    {
+        if self.is_run() {
+            return Some(number.max(self.a));
+        }
+        let first = self.lo();
+        match first_bit(self.bits(), number.saturating_sub(first)) {
+            Some(at) => Some(first + at),
+            None => None,
+        }
+    }
+
+    /// The last of the members that follow a member without a gap.
+    pub fn last_from(self, member: u64) -> u64
+        requires { Covers (pieces self) member }
+        ensures { GoesOn (pieces self) member result }
+    {
+        if self.is_run() {
+            return self.b;
+        }
+        let first = self.lo();
+        first + last_bit(self.bits(), member - first)
+    }
+
+    /// The members in a window, as its bits.
+    pub fn bits_in(self, window: u64) -> u64
+        requires { window < 2 ^ 58 }
+        ensures { (s : ℕ) → 64 * window ≤ s → s < 64 * window + 64
+            → (BitCovers 64 (64 * window) result s ↔ Covers (pieces self) s) }
+    {
+        if self.is_run() {
+            return run_in(window, self.a, self.b);
+        }
+        if self.window() == window {
+            self.bits()
+        } else {
+            0
+        }
+    }
+}
+
+fn has_bit(bits: u64, place: u64) -> bool
+    requires { place < 64 }
+    ensures { IsTrue result ↔ (bit_at bits place ≡ 1) }
+{
+    bits >> place & 1 == 1
+}
+
+// The bits from one place to another.
+pub fn mask(lo: u64, hi: u64) -> u64
+    requires ordered { lo ≤ hi }
+    requires within { hi < 64 }
+    ensures { result ≡ 2 ^ (hi + 1) - 2 ^ lo }
+{
+    (u64::MAX >> (63 - hi)) - ((1 << lo) - 1)
+}
+
+// The part of a run that is in a window, as the window's bits.
+fn run_in(window: u64, lo: u64, hi: u64) -> u64
+    requires window { window < 2 ^ 58 }
+    requires ordered { lo ≤ hi }
+    ensures { (s : ℕ) → 64 * window ≤ s → s < 64 * window + 64
+        → (BitCovers 64 (64 * window) result s ↔ ((lo ≤ s) × (s ≤ hi))) }
+{
+    let first = 64 * window;
+    if hi < first || first + 63 < lo {
+        return 0;
+    }
+    mask(lo.saturating_sub(first), (hi - first).min(63))
+}

@@ -1,0 +1,16 @@
+//! How a walk over runs goes on.
+ghost use Rattle.std.specs.Prelude.{◌≡◌};
+ghost use Rattle.serial_set.specs.Walk.{next_of};
+
+use crate::span::Span;
+
+/// The number at which a walk goes on after some runs, or none where it has come to its end: where
+/// there is no run, or where the last one ends at the last number.
+pub fn next_after(runs: &[Span]) -> Option<u64>
+    ensures { result ≡ next_of runs.now }
+{
+    if runs.is_empty() {
+        return None;
+    }
+    runs[runs.len() - 1].hi.checked_add(1)
+}

@@ -1,0 +1,31 @@
+// The caller of the crate's page.
+
+ghost use Rattle.std.specs.Prelude.{◌↔◌, ◌<◌, ◌≤◌, IfOk, IsTrue};
+
+use serial_set::{Held, Spans};
+use std::alloc::{AllocError, Global};
+
+/// Whether a serial is one of those from `lo` to `hi`, asked of a set of them.
+fn is_within(alloc: Global, lo: u64, hi: u64, serial: u64) -> Result<bool, AllocError>
+    requires from_one { 0 < lo }
+    requires ordered { lo ≤ hi }
+    ensures { IfOk result (λ within. IsTrue within ↔ ((lo ≤ serial) × (serial ≤ hi))) }
+{
+    let mut set = Held::empty(alloc)?;
+    set.add(lo, hi)?;
+    Ok(set.has(serial))
+}
+
+#[test]
+fn a_set_is_asked(rt: HostRuntime) {
+    for (serial, want) in [
+        (6, false),
+        (7, true),
+        (9, true),
+        (10, false),
+        (u64::MAX, false),
+    ] {
+        let within = is_within(rt.alloc(), 7, 9, serial).expect(&rt, "there is memory");
+        assert!(rt; within == want, "in case {serial}");
+    }
+}

@@ -1,0 +1,98 @@
+// Why a line of a specification file is refused.
+
+ghost use Rattle.std.specs.Prelude.{◌≡◌, Some};
+ghost use Rattle.spec_fault.specs.SpecCause.{key_cause_text, spec_cause_number, spec_cause_text};
+ghost use Rattle.spec_fault.specs.declared.spec_cause.SpecCause.TheVariants.{NoMemory};
+
+use ssh_cert::SubjectFault;
+use ssh_key::{FingerprintFault, LineFault};
+use std::alloc::AllocError;
+use std::error::Error;
+use std::fmt;
+
+/// Why a key line names no key.
+#[derive(Clone, Copy, Debug, PartialEq, Eq)]
+pub enum KeyCause {
+    /// It is no key line.
+    Line(LineFault),
+    /// Its blob is neither a plain key nor a certificate.
+    Subject(SubjectFault),
+}
+
+impl fmt::Display for KeyCause {
+    ghost output = { λ cause. Some (key_cause_text cause) };
+
+    fn fmt<W: fmt::Write>(&self, f: &mut fmt::Formatter<W>) -> fmt::Result {
+        match self {
+            KeyCause::Line(fault) => write!(f, "{fault}"),
+            KeyCause::Subject(fault) => write!(f, "{fault}"),
+        }
+    }
+}
+
+/// Why a line of a specification file is refused. It prints as `spec`, its number and its name;
+/// after `Key` and `Fingerprint` comes the fault of the key or of the fingerprint.
+#[derive(Clone, Copy, Debug, PartialEq, Eq)]
+pub enum SpecCause {
+    /// A serial is no number below 2^64.
+    Number,
+    /// A serial is 0, which names no certificate.
+    Zero,
+    /// The last serial of a range is below the first.
+    Reversed,
+    /// A serial or a key ID where no authority is given.
+    NoAuthority,
+    /// A key ID without bytes.
+    EmptyId,
+    /// A key line that names no key.
+    Key(KeyCause),
+    /// A fingerprint that names no digest.
+    Fingerprint(FingerprintFault),
+    /// No memory was left.
+    NoMemory,
+}
+
+impl SpecCause {
+    /// The fault's number, 1 to 8 in the order of the variants.
+    pub fn number(self) -> u8
+        ensures { result ≡ spec_cause_number self }
+    {
+        match self {
+            SpecCause::Number => 1,
+            SpecCause::Zero => 2,
+            SpecCause::Reversed => 3,
+            SpecCause::NoAuthority => 4,
+            SpecCause::EmptyId => 5,
+            SpecCause::Key(_) => 6,
+            SpecCause::Fingerprint(_) => 7,
+            SpecCause::NoMemory => 8,
+        }
+    }
+}
+
+impl fmt::Display for SpecCause {
+    ghost output = { λ cause. Some (spec_cause_text cause) };
+
+    fn fmt<W: fmt::Write>(&self, f: &mut fmt::Formatter<W>) -> fmt::Result {
+        match self {
+            SpecCause::Number => f.write_str("spec 1 Number"),
+            SpecCause::Zero => f.write_str("spec 2 Zero"),
+            SpecCause::Reversed => f.write_str("spec 3 Reversed"),
+            SpecCause::NoAuthority => f.write_str("spec 4 NoAuthority"),
+            SpecCause::EmptyId => f.write_str("spec 5 EmptyId"),
+            SpecCause::Key(cause) => write!(f, "spec 6 Key, {cause}"),
+            SpecCause::Fingerprint(fault) => write!(f, "spec 7 Fingerprint, {fault}"),
+            SpecCause::NoMemory => f.write_str("spec 8 NoMemory"),
+        }
+    }
+}
+
+impl Error for SpecCause {}
+
+impl From<AllocError> for SpecCause {
+    ghost from_gives = { λ _ cause. cause ≡ NoMemory };
+
+    fn from(_error: AllocError) -> SpecCause {
+        SpecCause::NoMemory
+    }
+}

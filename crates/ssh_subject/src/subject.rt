@@ -1,0 +1,44 @@
+// What a revocation list is asked about a key.
+
+use ssh_wire::Bytes;
+use std::marker::Model;
+
+/// What a revocation list can name of a certificate, beside its plain key.
+#[derive(Debug, Drop)]
+pub struct CertNames<'a> {
+    /// The serial number. Zero names no certificate.
+    pub serial: u64,
+    /// The key ID. It need not be text.
+    pub key_id: &'a [u8],
+    /// The blob of the authority's key.
+    pub authority: &'a [u8],
+}
+
+impl<'a> Model for CertNames<'a> {
+    ghost use Rattle.ssh_subject.specs.Subject.{Names};
+
+    ghost Value = { Names };
+
+    ghost view = { λ names. record {
+      serial = names.serial;
+      key_id = names.key_id.now;
+      authority = names.authority.now;
+    } };
+}
+
+/// What a revocation list is asked about: a plain key, or a certificate and its plain key.
+#[derive(Debug, Drop)]
+pub struct Subject<'a> {
+    /// The blob of the plain key.
+    pub plain: Bytes,
+    /// The names of the certificate, where it is one.
+    pub cert: Option<CertNames<'a>>,
+}
+
+impl<'a> Model for Subject<'a> {
+    ghost use Rattle.ssh_subject.specs.Subject.{Subject};
+
+    ghost Value = { Subject };
+
+    ghost view = { λ subject. record { plain = subject.plain; cert = subject.cert } };
+}

@@ -1,0 +1,49 @@
+// A buffered reader of the standard library as a source.
+
+ghost use Rattle.std.specs.Prelude.{◌≡◌, false};
+ghost use Rattle.std.specs.Io.Buffered.{reader_remaining};
+
+use crate::device::{Failed, Source};
+use crate::from_read::FromRead;
+use std::io::{BufRead, BufReader, Read};
+
+/// A buffered reader of the standard library, as `FromRead` makes a source of any reader. Bytes
+/// that the buffer holds are taken without a call of the reader.
+#[derive(Drop)]
+pub struct FromBuffer<R: Read + Drop> {
+    reader: FromRead<BufReader<R>>,
+}
+
+impl<R: Read + Drop> FromBuffer<R> {
+    /// A reader that has not failed, over the one inside.
+    pub fn new(inner: BufReader<R>) -> Self
+        ensures bytes { ⟦<FromBuffer<R> as Source>⟧.left result ≡ reader_remaining R.remaining inner }
+        ensures fresh { ⟦<FromBuffer<R> as Source>⟧.has_failed result ≡ false }
+    {
+        FromBuffer {
+            reader: FromRead::new(inner),
+        }
+    }
+}
+
+impl<R: Read + Drop> Source for FromBuffer<R> {
+    ghost left = { λ source. reader_remaining R.remaining source.reader.inner };
+
+    ghost has_failed = { λ source. source.reader.failed };
+
+    #[inline(always)]
+    fn read(&mut self, into: &mut [u8]) -> Result<usize, Failed> {
+        let held = self.reader.inner.buffer();
+        let count = into.len();
+        if self.reader.failed || count == 0 || held.len() < count {
+            return self.reader.read(into);
+        }
+        into.copy_from_slice(&held[..count]);
+        self.reader.inner.consume(count);
+        Ok(count)
+    }
+
+    fn failed(&self) -> bool {
+        self.reader.failed
+    }
+}
