@@ -3,7 +3,7 @@ use Rattle.std.proofs.Common.{◌≡◌, ℕ, ◌+◌, ◌-◌, ◌<◌, ◌≤�
 use Rattle.std.specs.List.{All}
 use Rattle.std.specs.List.Sorted.{IsNonDecreasingBy}
 use Rattle.std.proofs.lemmas.Bool.{cases_lt, cases_eq}
-use Rattle.std.proofs.lemmas.List.{take-append-drop, take_all, length-set, get_or-set_same, get_or-set_other}
+use Rattle.std.proofs.lemmas.List.{take-append-drop, take_all, drop_more, length-set, get_or-set_same, get_or-set_other}
 use Rattle.std.proofs.lemmas.List.Elements.{All-nil, All-cons, All-head, All-tail}
 use Rattle.serial_set.specs.declared.entry.Entry.{Entry}
 use Rattle.serial_set.specs.Entry.{lo_of, hi_of, EntriesFrom}
@@ -103,6 +103,15 @@ order_take a es n r =
 pub order_drop : (a : ℕ) (es : List Entry) (n : ℕ) → EntriesFrom a es → EntriesFrom a (drop n es)
 order_drop a es n r =
     entries_back a (take n es) (drop n es) (subst (EntriesFrom a) (sym (take-append-drop n es)) r)
+
+-- entries from one that begins past a number on all do
+pub past_place : (es : List Entry) (at number : ℕ) (d : Entry) → EntriesFrom 0 es → at < length es → number < lo_of (get_or es at d) → All (λ e. number < lo_of e) (drop at es)
+past_place es at number d r h past =
+    let first = drop_more es at d h in
+    let rest = subst (EntriesFrom 0) first (order_drop 0 es at r) in
+    let from : EntriesFrom (number + 1) (get_or es at d ∷ drop (at + 1) es) = (omega arith, rest.1) in
+    subst (All (λ e. number < lo_of e)) (sym first)
+    (λ k e q. let each = entries_each (number + 1) (get_or es at d ∷ drop (at + 1) es) from k e q in omega arith)
 
 -- an end past a number is that of an entry past it
 pub count_less : (number count : ℕ) (es : List Entry) → All (λ e. (hi_of e ≤ number) ⊎ (number < lo_of e)) es → All (λ e. lo_of e ≤ number) (take count es) → number < end_of es → count < length es

@@ -1,5 +1,6 @@
 -- Pages in a row.
 use Rattle.std.proofs.Common.{◌≡◌, ℕ, ◌+◌, ◌-◌, ◌<◌, ◌≤◌, ◌⊎◌, List, [], ◌∷◌, ◌++◌, length, get_or, take, drop, refl, sym, ap, subst, inl, inr, arith, zero, suc, min, set, ◌∙◌, length-append, length-drop}
+use Rattle.std.specs.Prelude.{Bool, true, false, IsTrue}
 use Rattle.std.specs.List.{All}
 use Rattle.std.specs.List.Sorted.{IsNonDecreasingBy}
 use Rattle.std.proofs.lemmas.Bool.{cases_lt}
@@ -11,8 +12,8 @@ use Rattle.serial_set.specs.declared.page.Page.{Page}
 use Rattle.serial_set.specs.Entry.{lo_of, hi_of, EntriesFrom}
 use Rattle.serial_set.specs.Entries.{stretch, entries_front, entries_back, Replaces}
 use Rattle.serial_set.specs.Pages.{entries_in, entries_of}
-use Rattle.serial_set.specs.Places.{end_of, IsListFrom, CutTo, WordWidened}
-use Rattle.serial_set.proofs.Flat.{all_left, all_right, flat_cut, flat_drop, flat_at, flat_set, first_of}
+use Rattle.serial_set.specs.Places.{end_of, IsListFrom, CutTo, PutBetween, PutIf, WordWidened}
+use Rattle.serial_set.proofs.Flat.{all_left, all_right, flat_cut, flat_drop, flat_at, flat_same, flat_set, first_of}
 use Rattle.serial_set.proofs.InEntries.{entries_each, end_most, end_upto, end_back, entries_past}
 
 pub page_some : (p : Page) → 0 < length (entries_in p)
@@ -282,6 +283,38 @@ widened_pages xs at window bits x y h read k =
       hi = k.hi;
       more = k.more;
     }
+
+-- an entry put between those of a page, of which the last ends past it, or which is the last page
+between_pages : (xs : List Page) (at : ℕ) (e : Entry) (x y : Page) → at < length xs → x ≡ get_or xs at x → EntriesFrom 0 (entries_of xs) → All (λ t. hi_of t < lo_of e) (entries_of (take at xs))
+    → (length xs ≤ at + 1) ⊎ (hi_of e < end_of (entries_in x)) → PutBetween (entries_in x) e (entries_in y) → PutBetween (entries_of xs) e (entries_of (set xs at y))
+between_pages xs at e x y h read order before last k =
+    let front = entries_of (take at xs) in
+    let back = entries_of (drop (at + 1) xs) in
+    let past : All (λ t. hi_of e < lo_of t) back = elim last [
+      | inl none ↦ subst (λ l. All (λ t. hi_of e < lo_of t) (entries_of l)) (sym (drop_all (at + 1) xs none)) (All-nil (λ t. hi_of e < lo_of t))
+      | inr ends ↦ (let later = past_page xs at x h order in let same = ap (λ p. end_of (entries_in p)) read in λ i d q. let from = later i d q in omega arith)
+    ] in
+    record {
+      front = front ++ k.front;
+      back = k.back ++ back;
+      were = flat_at entries_in xs at x h
+          ∙ ap (λ p. front ++ (entries_in p ++ back)) (sym read)
+          ∙ ap (λ l. front ++ (l ++ back)) k.were
+          ∙ ap (λ l. front ++ l) (append_assoc k.front k.back back)
+          ∙ sym (append_assoc front k.front (k.back ++ back));
+      are = flat_set entries_in xs at y h
+          ∙ ap (λ l. front ++ (l ++ back)) k.are
+          ∙ ap (λ l. front ++ l) (append_assoc k.front (e ∷ k.back) back)
+          ∙ sym (append_assoc front k.front (e ∷ (k.back ++ back)));
+      below = All-append (λ t. hi_of t < lo_of e) front k.front before k.below;
+      above = All-append (λ t. hi_of e < lo_of t) k.back back k.above past;
+    }
+
+pub put_pages_if : (b last : Bool) (xs : List Page) (at : ℕ) (e : Entry) (x y : Page) → at < length xs → x ≡ get_or xs at x → EntriesFrom 0 (entries_of xs) → All (λ t. hi_of t < lo_of e) (entries_of (take at xs))
+    → (IsTrue last → length xs ≤ at + 1) → (IsTrue b → IsTrue last ⊎ (hi_of e < end_of (entries_in x))) → PutIf b (entries_in x) e (entries_in y) → PutIf b (entries_of xs) e (entries_of (set xs at y))
+put_pages_if true last xs at e x y h read order before none ends k =
+    between_pages xs at e x y h read order before (elim (ends refl) [ inl l ↦ inl (none l) | inr past ↦ inr past ]) k
+put_pages_if false last xs at e x y h read order before none ends k = flat_same entries_in xs at x y h read k
 
 -- ---- a page that is looked at first
 

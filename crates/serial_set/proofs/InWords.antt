@@ -2,15 +2,15 @@
 use Rattle.std.proofs.Common.{◌≡◌, ℕ, ◌+◌, ◌*◌, ◌^◌, ◌<◌, ◌≤◌, ◌⊎◌, ◌↔◌, List, [], ◌∷◌, ◌++◌, Some, None, Result, Ok, Err, OnOk, OnErr, length, get_or, sym, subst, inl, inr, arith, ◌∙◌, ap, refl}
 use Rattle.std.specs.List.{All}
 use Rattle.std.proofs.lemmas.List.{append-nil}
-use Rattle.std.proofs.lemmas.List.Elements.{All-nil, All-head, All-weaker}
+use Rattle.std.proofs.lemmas.List.Elements.{All-nil, All-cons, All-head, All-weaker}
 use Rattle.serial_set.specs.declared.entry.Entry.{Entry}
-use Rattle.std.specs.Prelude.{Bool, true, false, IsTrue}
+use Rattle.std.specs.Prelude.{Bool, true, false, IsTrue, IfOk}
 use Rattle.serial_set.specs.Span.{Covers, AreSerials, IsRunsOf}
 use Rattle.serial_set.specs.Words.{BitCovers}
 use Rattle.serial_set.specs.Rising.{names_append, names_left, names_right}
 use Rattle.serial_set.specs.Entry.{pieces, lo_of, hi_of, EntriesFrom, members_of, runs_of}
-use Rattle.serial_set.specs.Entries.{has_append, has_left, has_right, has_from, none_below, entries_back, Replaces, replaced_order, runs_of_entries}
-use Rattle.serial_set.specs.Places.{IsEntryFrom, IsListFrom, WordWidened}
+use Rattle.serial_set.specs.Entries.{stretch, has_append, has_left, has_right, has_from, none_below, entries_back, Replaces, replaced_order, replaced_runs, runs_of_entries}
+use Rattle.serial_set.specs.Places.{IsEntryFrom, IsListFrom, PutBetween, PutIf, WordWidened}
 
 pub some_from : (es part : List Entry) (n : ℕ) (x : Entry) → IsListFrom es n part → 0 < length part → x ≡ get_or part 0 x → IsEntryFrom es n (Some x)
 some_from es [] n x k h read = absurd (omega arith)
@@ -62,6 +62,47 @@ replaced_serials old news new lo hi r was added s n =
 pub replaced_rise : (old news new : List Entry) (lo hi : ℕ) → Replaces old lo hi news new → lo ≤ hi → EntriesFrom 0 old → EntriesFrom lo news → All (λ e. hi_of e ≤ hi) news → EntriesFrom 0 new
 replaced_rise old news new lo hi r h order rise ends =
     replaced_order old lo hi news new r h order rise (All-weaker (λ e. hi_of e ≤ hi) (λ e. hi_of e < hi + 1) (λ e k. omega arith) news ends)
+
+-- ---- an entry put between others
+
+put_replaces : (old new : List Entry) (e : Entry) → PutBetween old e new → Replaces old (lo_of e) (hi_of e) (e ∷ []) new
+put_replaces old new e k = record {
+  front = k.front;
+  middle = [];
+  back = k.back;
+  were = k.were;
+  are = k.are;
+  below = k.below;
+  inside = All-nil (λ t. (lo_of e ≤ hi_of t) × (lo_of t ≤ hi_of e));
+  above = k.above;
+}
+
+pub put_order : (old new : List Entry) (e : Entry) → PutBetween old e new → EntriesFrom 0 old → EntriesFrom 0 new
+put_order old new e k order =
+    replaced_rise old (e ∷ []) new (lo_of e) (hi_of e) (put_replaces old new e k) (stretch e) order (omega arith, tt)
+    (All-cons (λ t. hi_of t ≤ hi_of e) e [] (omega arith) (All-nil (λ t. hi_of t ≤ hi_of e)))
+
+-- whatever the answer, an entry was put or nothing changed
+pub put_or_same : {E : Type 0} (r : Result Bool E) (old new : List Entry) (e : Entry) → IfOk r (λ b. PutIf b old e new) → OnErr r (new ≡ old) → PutBetween old e new ⊎ (new ≡ old)
+put_or_same (Ok true) old new e put same = inl put
+put_or_same (Ok false) old new e put same = inr put
+put_or_same (Err x) old new e put same = inr same
+
+one_has : (e : Entry) (s : ℕ) → Covers (members_of (e ∷ [])) s ↔ Covers (pieces e) s
+one_has e s = (λ n. elim (names_append (pieces e) [] s n) [ inl x ↦ x | inr none ↦ absurd none ], λ n. names_left (pieces e) [] s n)
+
+pub put_serials : (old new : List Entry) (e : Entry) → PutBetween old e new → AreSerials (members_of old) → AreSerials (pieces e) → AreSerials (members_of new)
+put_serials old new e k was added =
+    replaced_serials old (e ∷ []) new (lo_of e) (hi_of e) (put_replaces old new e k) was (λ s n. added s ((one_has e s).0 n))
+
+pub put_runs : (old new : List Entry) (e : Entry) (Added : ℕ → Type 0) → PutBetween old e new → EntriesFrom 0 old → ((s : ℕ) → Covers (pieces e) s ↔ Added s) → IsRunsOf (runs_of new) (λ s. Covers (runs_of old) s ⊎ Added s)
+unfolding put_replaces
+put_runs old new e Added k order has =
+    replaced_runs old (lo_of e) (hi_of e) (e ∷ []) new Added (put_replaces old new e k) (record {
+      still = λ s n. absurd n;
+      added = λ s a. (one_has e s).1 ((has s).1 a);
+      only = λ s n. inr ((has s).0 ((one_has e s).0 n));
+    }) order (put_order old new e k order)
 
 -- the first entries of a set
 pub replaced_none : (few : List Entry) (lo hi : ℕ) → Replaces [] lo hi few (few ++ [])

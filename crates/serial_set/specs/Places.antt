@@ -1,5 +1,5 @@
 -- Places in a list of entries: where a number stands, where the list ends, what is cut off.
-use Rattle.std.specs.Prelude.{◌≡◌, ℕ, ◌+◌, ◌*◌, ◌≤◌, ◌<◌, ◌⊎◌, ◌↔◌, List, [], ◌∷◌, ◌++◌, Option, Some, None, All}
+use Rattle.std.specs.Prelude.{◌≡◌, ℕ, Bool, true, false, ◌+◌, ◌*◌, ◌≤◌, ◌<◌, ◌⊎◌, ◌↔◌, List, [], ◌∷◌, ◌++◌, Option, Some, None, All}
 use Rattle.serial_set.specs.declared.entry.Entry.{Entry}
 use Rattle.std.specs.Coded.{Unit-prop, le_prop}
 use Rattle.serial_set.specs.Entry.{pieces, lo_of, hi_of, EntriesFrom}
@@ -55,3 +55,17 @@ pub record WordWidened (old : List Entry) (window bits : ℕ) (new : List Entry)
   pub hi : (hi_of was ≡ 64 * window + 63) × (hi_of is ≡ 64 * window + 63)
   pub more : (s : ℕ) → Covers (pieces is) s
       ↔ (Covers (pieces was) s ⊎ BitCovers 64 (64 * window) bits s)
+
+-- an entry is put between others, of which none reaches into its stretch
+pub record PutBetween (old : List Entry) (e : Entry) (new : List Entry) : Type 0 where
+  pub front : List Entry
+  pub back : List Entry
+  pub were : old ≡ front ++ back
+  pub are : new ≡ front ++ e ∷ back
+  pub below : All (λ x. hi_of x < lo_of e) front
+  pub above : All (λ x. hi_of e < lo_of x) back
+
+-- the same where the answer is yes, and else nothing changes
+abbrev pub PutIf : Bool → List Entry → Entry → List Entry → Type 0
+PutIf true old e new = PutBetween old e new
+PutIf false old e new = new ≡ old

@@ -58,6 +58,24 @@ impl SpanWords {
             ⊎ BitCovers 64 (64 * window) bits s)) }
         ensures refused { OnErr result (entries_held self.new ≡ entries_held self.old) }
     {
+        if self.put_new(Entry::word(window, bits))? {
+            return Ok(());
+        }
+        if self.set_bits(window, bits) {
+            return Ok(());
+        }
+        self.join_bits(window, bits)
+    }
+
+    // The same, where other entries may reach into the window.
+    fn join_bits(&mut self, window: u64, bits: u64) -> Result<(), AllocError>
+        requires window { window < 2 ^ 58 }
+        requires serials { (s : ℕ) → BitCovers 64 (64 * window) bits s → 0 < s }
+        ensures runs { OnOk result (IsRunsOf (runs_of (entries_held self.new))
+            (λ s. Covers (runs_of (entries_held self.old)) s
+            ⊎ BitCovers 64 (64 * window) bits s)) }
+        ensures refused { OnErr result (entries_held self.new ≡ entries_held self.old) }
+    {
         let first = 64 * window;
         let head = self.entry_at(first);
         if holds(head, first + 63) {
@@ -70,6 +88,20 @@ impl SpanWords {
 
     // Adds the numbers from `lo` to `hi`, which lie in several windows.
     fn add_run(&mut self, lo: u64, hi: u64) -> Result<(), AllocError>
+        requires from_one { 0 < lo }
+        requires windows { lo / 64 < hi / 64 }
+        ensures runs { OnOk result (AddsSpan (runs_of (entries_held self.old)) lo hi
+            (runs_of (entries_held self.new))) }
+        ensures refused { OnErr result (entries_held self.new ≡ entries_held self.old) }
+    {
+        if self.put_new(Entry::run(lo, hi))? {
+            return Ok(());
+        }
+        self.join_run(lo, hi)
+    }
+
+    // The same, where other entries may reach into these numbers.
+    fn join_run(&mut self, lo: u64, hi: u64) -> Result<(), AllocError>
         requires from_one { 0 < lo }
         requires windows { lo / 64 < hi / 64 }
         ensures runs { OnOk result (AddsSpan (runs_of (entries_held self.old)) lo hi

@@ -1,6 +1,7 @@
 //! Entries in a vector after a gap, so that one can be put before them and none is moved.
-ghost use Rattle.std.specs.Prelude.{◌≡◌, ◌+◌, ◌<◌, ◌≤◌, ◌∷◌, ◌++◌, length, take, drop, IfOk, OnErr};
-ghost use Rattle.std.specs.Vec.{vec_len};
+ghost use Rattle.std.specs.Prelude.{◌≡◌, ◌+◌, ◌<◌, ◌≤◌, List, [], ◌∷◌, ◌++◌, length, take, drop, is_ok, if◌then◌else◌, IfOk, IsOk, OnErr};
+ghost use Rattle.std.specs.List.{insert};
+ghost use Rattle.std.specs.Vec.{vec_len, vec_capacity};
 
 use crate::entry::Entry;
 use crate::page::PAGE_LEN;
@@ -24,8 +25,29 @@ pub fn put_after(
         return put_before(items, gap, new);
     }
     grow(items)?;
-    items.insert(gap + at, new)?;
+    insert_at(items, gap + at, new)?;
     Ok(gap)
+}
+
+/// What `insert` does, in one move of all that stands after it: LLVM makes no such move of `insert`
+/// at a place that it does not know.
+pub fn insert_at<T: Drop>(items: &mut Vec<T>, at: usize, new: T) -> Result<(), AllocError>
+    requires { at ≤ length items.old.items }
+    ensures items { items.new.items
+        ≡ (if is_ok result then insert items.old.items at new else items.old.items) }
+    ensures succeeds { vec_len items.old < vec_capacity items.old → IsOk result }
+{
+    items.push(new)?;
+    move_last(items, at);
+    Ok(())
+}
+
+// Moves the last of a row to a place, and those from there on by one.
+fn move_last<T>(row: &mut [T], at: usize)
+    requires { at < length row.old }
+    ensures { (xs : List T) → (x : T) → row.old ≡ xs ++ x ∷ [] → row.new ≡ insert xs at x }
+{
+    row[at..].rotate_right(1);
 }
 
 // Puts an entry before all, at the end of the gap.

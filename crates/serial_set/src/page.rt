@@ -3,7 +3,7 @@ ghost use Rattle.std.specs.Prelude.{◌≡◌, ◌+◌, ◌-◌, ◌<◌, ◌≤
 ghost use Rattle.std.specs.Vec.{vec_len};
 ghost use Rattle.serial_set.specs.Entry.{lo_of, hi_of, EntriesFrom};
 ghost use Rattle.serial_set.specs.Entries.{Replaces};
-ghost use Rattle.serial_set.specs.Places.{end_of, CutTo, WordWidened};
+ghost use Rattle.serial_set.specs.Places.{end_of, CutTo, PutIf, WordWidened};
 
 use crate::entry::Entry;
 use crate::gap::put_after;
@@ -13,6 +13,13 @@ use std::alloc::{AllocError, Global};
 
 /// About how many entries a page has at most.
 pub const PAGE_LEN: usize = 256;
+
+/// The place in a page's vector where an entry belongs, and whether it was put there.
+#[derive(Clone, Copy)]
+pub struct Tried {
+    pub place: usize,
+    pub is_put: bool,
+}
 
 /// Entries in a row after a gap, at least one, and where the last of them ends.
 #[derive(Drop)]
@@ -58,6 +65,61 @@ impl Page {
         self.end
     }
 
+    /// Puts an entry between others, where none of them reaches into its stretch and there is room.
+    /// Past the last entry it does so only if `is_last`: no page follows. Else nothing changes.
+    pub fn put_new(&mut self, new: Entry, is_last: bool) -> Result<Tried, AllocError>
+        requires { EntriesFrom 0 (entries_in self.old) }
+        ensures put { IfOk result
+            (λ tried. PutIf tried.is_put (entries_in self.old) new (entries_in self.new)) }
+        ensures end { IfOk result (λ tried. IsTrue tried.is_put
+            → IsTrue is_last ⊎ (hi_of new < end_of (entries_in self.old))) }
+        ensures refused { OnErr result (entries_in self.new ≡ entries_in self.old) }
+    {
+        let at = self.count_below(new.lo());
+        if !self.is_free(at, new.hi(), is_last) {
+            return Ok(Tried {
+                place: self.gap + at,
+                is_put: false,
+            });
+        }
+        self.put_between(at, new)?;
+        Ok(Tried {
+            place: self.gap + at,
+            is_put: true,
+        })
+    }
+
+    /// How many entries end before a number.
+    pub fn count_below(&self, number: u64) -> usize
+        requires { EntriesFrom 0 (entries_in self.now) }
+        ensures within { result ≤ length (entries_in self.now) }
+        ensures below { All (λ e. hi_of e < number) (take result (entries_in self.now)) }
+        ensures reach { All (λ e. number ≤ hi_of e) (drop result (entries_in self.now)) }
+    {
+        if self.end < number {
+            return self.len();
+        }
+        count_ending_below(self.as_slice(), number)
+    }
+
+    // Whether one more entry, which ends at `hi`, has room at a place and ends before the next.
+    fn is_free(&self, at: usize, hi: u64, is_last: bool) -> bool
+        requires order { EntriesFrom 0 (entries_in self.now) }
+        requires within { at ≤ length (entries_in self.now) }
+        ensures above { IsTrue result → All (λ e. hi < lo_of e) (drop at (entries_in self.now)) }
+        ensures end { IsTrue result
+            → IsTrue is_last ⊎ (hi < end_of (entries_in self.now)) }
+    {
+        let entries = self.as_slice();
+        if entries.len() >= PAGE_LEN - 2 {
+            return false;
+        }
+        if at >= entries.len() {
+            return is_last;
+        }
+        hi < entries[at].lo()
+    }
+
     /// Puts entries that rise in place of all that reach into the numbers from `lo` to `hi`, and
     /// says where.
     pub fn put(&mut self, few: &[Entry], lo: u64, hi: u64) -> Result<usize, AllocError>
@@ -67,9 +129,8 @@ impl Page {
             (Replaces (entries_in self.old) lo hi few.now (entries_in self.new)) }
         ensures refused { OnErr result (entries_in self.new ≡ entries_in self.old) }
     {
-        let entries = self.as_slice();
-        let from = count_ending_below(entries, lo);
-        let to = from + count_beginning_upto(&entries[from..], hi);
+        let from = self.count_below(lo);
+        let to = from + count_beginning_upto(&self.as_slice()[from..], hi);
         self.splice(from, to, few)?;
         Ok(self.gap + from)
     }

@@ -1,13 +1,14 @@
 //! Pages of entries in a row, one after the other.
-ghost use Rattle.std.specs.Prelude.{◌≡◌, ◌+◌, ◌<◌, ◌≤◌, ◌⊎◌, ◌++◌, [], ℕ, length, take, drop, nat_lt, nat_le, slice_index_or, false, All, IsTrue, OnOk, OnErr};
+ghost use Rattle.std.specs.Prelude.{◌≡◌, ◌+◌, ◌<◌, ◌≤◌, ◌⊎◌, ◌++◌, [], ℕ, length, take, drop, nat_lt, nat_le, slice_index_or, false, All, IsTrue, IfOk, OnOk, OnErr};
 ghost use Rattle.std.specs.Vec.{vec_len};
 ghost use Rattle.serial_set.specs.declared.page.Page.{Page};
 ghost use Rattle.serial_set.specs.Entry.{lo_of, hi_of, EntriesFrom};
 ghost use Rattle.serial_set.specs.Entries.{Replaces};
 ghost use Rattle.serial_set.specs.Pages.{entries_in, entries_of};
-ghost use Rattle.serial_set.specs.Places.{end_of, CutTo, IsListFrom, WordWidened};
+ghost use Rattle.serial_set.specs.Places.{end_of, CutTo, IsListFrom, PutIf, WordWidened};
 
 use crate::entry::Entry;
+use crate::gap::insert_at;
 use crate::page::{PAGE_LEN, Page};
 use crate::search::count_ending_below;
 use std::alloc::AllocError;
@@ -130,6 +131,30 @@ fn page_for(pages: &[Page], lo: u64, near: usize) -> usize
     ensures after { All (λ e. lo ≤ hi_of e) (entries_of (drop (result + 1) pages.now)) }
 {
     pages_ending_below(pages, lo, near).min(pages.len() - 1)
+}
+
+/// Puts an entry between others, where none of them reaches into its stretch and their page has
+/// room. Else nothing changes. `at`, a page to look at first, gets the page and the place in its
+/// vector where the entry belongs.
+pub fn put_new(
+    pages: &mut Vec<Page>,
+    at: &mut (usize, usize),
+    new: Entry,
+) -> Result<bool, AllocError>
+    requires { EntriesFrom 0 (entries_of pages.old.items) }
+    ensures put { IfOk result (λ is_put.
+        PutIf is_put (entries_of pages.old.items) new (entries_of pages.new.items)) }
+    ensures refused { OnErr result
+        (entries_of pages.new.items ≡ entries_of pages.old.items) }
+{
+    if pages.is_empty() {
+        return Ok(false);
+    }
+    let page = page_for(pages, new.lo(), at.0);
+    let is_last = page + 1 == pages.len();
+    let tried = pages[page].put_new(new, is_last)?;
+    *at = (page, tried.place);
+    Ok(tried.is_put)
 }
 
 /// Puts entries that rise in place of all that reach into the numbers from `lo` to `hi`. It says
@@ -260,7 +285,7 @@ fn split_at(pages: &mut Vec<Page>, at: usize, lo: u64) -> Result<(), AllocError>
 {
     pages.reserve(1)?;
     let back = pages[at].split(lo)?;
-    let _ = pages.insert(at + 1, back);
+    let _ = insert_at(pages, at + 1, back);
     Ok(())
 }
 

@@ -1,10 +1,10 @@
 ghost use Rattle.std.specs.Prelude.{◌≡◌, ◌+◌, ◌*◌, ◌^◌, ◌<◌, ◌≤◌, ◌⊎◌, ◌↔◌, ◌++◌, ℕ, [], length, slice_get, false, All, IsTrue, IsSome, IfSome, IfOk, IfErr, OnOk, OnErr};
-ghost use Rattle.serial_set.specs.Entry.{lo_of, hi_of, EntriesFrom, members_of, runs_of};
+ghost use Rattle.serial_set.specs.Entry.{lo_of, hi_of, EntriesFrom, members_of, pieces, runs_of};
 ghost use Rattle.serial_set.specs.Entries.{Replaces, runs_of_entries, serials_of_runs};
 ghost use Rattle.serial_set.specs.Pages.{entries_of};
 ghost use Rattle.serial_set.specs.Few.{few_of};
 ghost use Rattle.serial_set.specs.Members.{GoesOn, IsFirst, IsRunFrom};
-ghost use Rattle.serial_set.specs.Places.{IsEntryFrom, IsListFrom, order_prop};
+ghost use Rattle.serial_set.specs.Places.{IsEntryFrom, IsListFrom, PutIf, order_prop};
 ghost use Rattle.serial_set.specs.Span.{AreSerials, Covers, IsRunsOf};
 ghost use Rattle.serial_set.specs.Walk.{IsPiece, left, piece_of};
 ghost use Rattle.serial_set.specs.Words.{BitCovers};
@@ -12,7 +12,7 @@ ghost use Rattle.serial_set.specs.Words.{BitCovers};
 use crate::entry::Entry;
 use crate::few::Few;
 use crate::page::Page;
-use crate::pages::{list_in, page_near, put_entries, set_bits_at};
+use crate::pages::{list_in, page_near, put_entries, put_new, set_bits_at};
 use crate::piece::Piece;
 use crate::span::Span;
 use crate::spans::Spans;
@@ -24,7 +24,8 @@ use std::alloc::{AllocError, Global};
 #[derive(Drop)]
 pub struct SpanWords {
     pages: Vec<Page>,
-    // The page and the place in its vector where an entry was put last, if none was moved since.
+    // The page and the place in its vector where an entry was put or looked for last, if none was
+    // moved since.
     last: (usize, usize),
     ghost order: { EntriesFrom 0 (entries_of pages.items) } by { order_prop 0 _ },
     ghost serials: { AreSerials (members_of (entries_of pages.items)) },
@@ -226,6 +227,17 @@ impl SpanWords {
         unreachable!()
     }
 
+    /// Puts an entry between others, where none of them reaches into its stretch and their page has
+    /// room. Else nothing changes.
+    pub(crate) fn put_new(&mut self, new: Entry) -> Result<bool, AllocError>
+        requires { AreSerials (pieces new) }
+        ensures put { IfOk result
+            (λ is_put. PutIf is_put (entries_held self.old) new (entries_held self.new)) }
+        ensures refused { OnErr result (entries_held self.new ≡ entries_held self.old) }
+    {
+        put_new(&mut self.pages, &mut self.last, new)
+    }
+
     /// Puts at most three entries in place of all that reach into the numbers from `lo` to `hi`.
     /// Where memory runs out nothing changes.
     pub(crate) fn put(&mut self, few: &Few, lo: u64, hi: u64) -> Result<(), AllocError>
@@ -242,8 +254,8 @@ impl SpanWords {
         Ok(())
     }
 
-    /// Sets bits of a window where an entry was put last, if that is the word of the window. Else
-    /// nothing changes.
+    /// Sets bits of a window where an entry was put or looked for last, if that is the word of the
+    /// window. Else nothing changes.
     pub(crate) fn set_bits(&mut self, window: u64, bits: u64) -> bool
         requires window { window < 2 ^ 58 }
         requires serials { (s : ℕ) → BitCovers 64 (64 * window) bits s → 0 < s }

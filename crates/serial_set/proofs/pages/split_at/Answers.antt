@@ -24,8 +24,8 @@ pub returns-clause-same : goal.returns-clause-same
 returns-clause-same c =
     let same = c.reserve.ensures.items in
     let room = c.in_ok-reserve.ensures.ok in
-    let ok : is_ok c.insert.result ≡ true = c.insert.ensures.succeeds (omega (arith, room)) in
-    let made = rw ok at c.insert.ensures.items in
+    let ok : is_ok c.insert_at.result ≡ true = c.insert_at.ensures.succeeds (omega (arith, room)) in
+    let made = rw ok at c.insert_at.ensures.items in
     ap entries_of made
     ∙ flat_split entries_in c.reserve.new.self.items c.args.at c.index_mut.result.now c.split.new.self c.in_ok-back.back (omega (arith, ap length same)) c.index_mut.ensures.value c.in_ok-back.ensures.whole
     ∙ ap entries_of same
