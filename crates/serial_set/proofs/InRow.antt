@@ -1,18 +1,20 @@
 -- Pages in a row.
 use Rattle.std.proofs.Common.{◌≡◌, ℕ, ◌+◌, ◌-◌, ◌<◌, ◌≤◌, ◌⊎◌, List, [], ◌∷◌, ◌++◌, length, get_or, take, drop, refl, sym, ap, subst, inl, inr, arith, zero, suc, min, set, ◌∙◌, length-append, length-drop}
-use Rattle.std.specs.Prelude.{Bool, true, false, IsTrue}
+use Rattle.std.specs.Prelude.{Bool, true, false, IsTrue, Option, Some, None}
 use Rattle.std.specs.List.{All}
 use Rattle.std.specs.List.Sorted.{IsNonDecreasingBy}
 use Rattle.std.proofs.lemmas.Bool.{cases_lt}
-use Rattle.std.proofs.lemmas.List.{append-nil, append_assoc, take-append-drop, drop_all, take_all, take-take, take_more_set, length-take-le, get_or-take, get_or-drop, get_or_default}
+use Rattle.std.proofs.lemmas.List.{append-nil, append_assoc, take-append-drop, drop_all, take_all, take-take, take_more_set}
 use Rattle.std.proofs.lemmas.List.Concat.{flat_map-append}
 use Rattle.std.proofs.lemmas.List.Elements.{All-nil, All-head, All-tail, All-append}
 use Rattle.serial_set.specs.declared.entry.Entry.{Entry}
 use Rattle.serial_set.specs.declared.page.Page.{Page}
+use Rattle.serial_set.specs.Additions.{Stands}
 use Rattle.serial_set.specs.Entry.{lo_of, hi_of, EntriesFrom}
 use Rattle.serial_set.specs.Entries.{stretch, entries_front, entries_back, Replaces}
 use Rattle.serial_set.specs.Pages.{entries_in, entries_of}
 use Rattle.serial_set.specs.Places.{end_of, IsListFrom, CutTo, PutBetween, PutIf, WordWidened}
+use Rattle.serial_set.proofs.Placed.{rises_before, rises_past}
 use Rattle.serial_set.proofs.Flat.{all_left, all_right, flat_cut, flat_drop, flat_at, flat_same, flat_set, first_of}
 use Rattle.serial_set.proofs.InEntries.{entries_each, end_most, end_upto, end_back, entries_past}
 
@@ -284,6 +286,23 @@ widened_pages xs at window bits x y h read k =
       more = k.more;
     }
 
+-- an entry of a page is one of all
+pub stands_in : (xs : List Page) (at : ℕ) (x : Page) (o : Option Entry) → at < length xs → x ≡ get_or xs at x → Stands (entries_in x) o → Stands (entries_of xs) o
+stands_in xs at x None h read k = tt
+stands_in xs at x (Some e) h read k =
+    let front = entries_of (take at xs) in
+    let back = entries_of (drop (at + 1) xs) in (
+      front ++ k.0,
+      (
+        k.1.0 ++ back,
+        flat_at entries_in xs at x h
+            ∙ ap (λ p. front ++ (entries_in p ++ back)) (sym read)
+            ∙ ap (λ l. front ++ (l ++ back)) k.1.1
+            ∙ ap (λ l. front ++ l) (append_assoc k.0 (e ∷ k.1.0) back)
+            ∙ sym (append_assoc front k.0 (e ∷ (k.1.0 ++ back))),
+      ),
+    )
+
 -- an entry put between those of a page, of which the last ends past it, or which is the last page
 between_pages : (xs : List Page) (at : ℕ) (e : Entry) (x y : Page) → at < length xs → x ≡ get_or xs at x → EntriesFrom 0 (entries_of xs) → All (λ t. hi_of t < lo_of e) (entries_of (take at xs))
     → (length xs ≤ at + 1) ⊎ (hi_of e < end_of (entries_in x)) → PutBetween (entries_in x) e (entries_in y) → PutBetween (entries_of xs) e (entries_of (set xs at y))
@@ -320,24 +339,10 @@ put_pages_if false last xs at e x y h read order before none ends k = flat_same 
 
 pub all_before : (ps : List Page) (count number : ℕ) (d : Page) → EntriesFrom 0 (entries_of ps) → 0 < count → count ≤ length ps → end_of (entries_in (get_or ps (count - 1) d)) < number → All (λ e. hi_of e < number) (entries_of (take count ps))
 all_before ps count number d r some within last =
-    let rise = pages_rise 0 ps r in
-    pages_below number 0 (take count ps) (order_left 0 ps count r)
-    (λ k e q.
-    let inside : k < count = omega (arith, length-take-le count ps within) in
-    let most = rise k (count - 1) e (omega arith) (omega arith) in
-    let same = ap (λ p. end_of (entries_in p)) (get_or-take count ps k e inside) in
-    let read = ap (λ p. end_of (entries_in p)) (get_or_default ps (count - 1) d e (omega arith)) in
-    omega (arith, most, same, read))
+    pages_below number 0 (take count ps) (order_left 0 ps count r) (rises_before (λ p. end_of (entries_in p)) ps count number d (pages_rise 0 ps r) some within last)
 
 pub all_past : (ps : List Page) (count number : ℕ) (d : Page) → EntriesFrom 0 (entries_of ps) → count < length ps → number ≤ end_of (entries_in (get_or ps count d)) → All (λ p. number ≤ end_of (entries_in p)) (drop count ps)
-all_past ps count number d r within first =
-    let rise = pages_rise 0 ps r in
-    λ k e q.
-    let inside : count + k < length ps = omega (arith, length-drop count ps) in
-    let least = rise count (count + k) e (omega arith) inside in
-    let same = ap (λ p. end_of (entries_in p)) (get_or-drop count ps k e) in
-    let read = ap (λ p. end_of (entries_in p)) (get_or_default ps count d e within) in
-    omega (arith, least, same, read)
+all_past ps count number d r within first = rises_past (λ p. end_of (entries_in p)) ps count number d (pages_rise 0 ps r) within first
 
 pub none_past : (ps : List Page) (count number : ℕ) → length ps ≤ count → All (λ p. number ≤ end_of (entries_in p)) (drop count ps)
 none_past ps count number h = subst (All (λ p. number ≤ end_of (entries_in p))) (sym (drop_all count ps h)) (All-nil (λ p. number ≤ end_of (entries_in p)))

@@ -8,7 +8,8 @@ use Rattle.serial_set.specs.News.{begin_of, end_of, Has}
 -- the entry is one of the set's
 abbrev pub Stands : List Entry → Option Entry → Type 0
 Stands entries None = ⊤
-Stands entries (Some e) = (front : List Entry) × ((back : List Entry) × (entries ≡ front ++ e ∷ back))
+Stands entries (Some e) =
+    (front : List Entry) × ((back : List Entry) × (entries ≡ front ++ e ∷ back))
 
 -- The entry, if there is one, has the number in its stretch, and each other lies before it or past
 -- it. What the entries have in its stretch it has.

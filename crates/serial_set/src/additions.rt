@@ -120,6 +120,16 @@ impl SpanWords {
     fn entry_at(&self, number: u64) -> Option<Entry>
         ensures { IsAt (entries_held self.now) number result }
     {
+        match self.entry_last() {
+            Some(entry) if entry.lo() <= number && number <= entry.hi() => Some(entry),
+            _ => self.entry_on(number),
+        }
+    }
+
+    // The same, where it is not the entry that was put or looked for last.
+    fn entry_on(&self, number: u64) -> Option<Entry>
+        ensures { IsAt (entries_held self.now) number result }
+    {
         match self.entry_from(number) {
             Some(entry) if entry.lo() <= number => Some(entry),
             _ => None,

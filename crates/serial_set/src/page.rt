@@ -1,6 +1,7 @@
 //! A page of entries.
 ghost use Rattle.std.specs.Prelude.{◌≡◌, ◌+◌, ◌-◌, ◌<◌, ◌≤◌, ◌⊎◌, ◌∷◌, ◌++◌, [], length, take, drop, false, All, IsTrue, IfOk, OnOk, OnErr};
 ghost use Rattle.std.specs.Vec.{vec_len};
+ghost use Rattle.serial_set.specs.Additions.{Stands};
 ghost use Rattle.serial_set.specs.Entry.{lo_of, hi_of, EntriesFrom};
 ghost use Rattle.serial_set.specs.Entries.{Replaces};
 ghost use Rattle.serial_set.specs.Places.{end_of, CutTo, PutIf, WordWidened};
@@ -8,7 +9,7 @@ ghost use Rattle.serial_set.specs.Places.{end_of, CutTo, PutIf, WordWidened};
 use crate::entry::Entry;
 use crate::gap::put_after;
 use crate::place::cut_place;
-use crate::search::{count_beginning_upto, count_ending_below};
+use crate::search::{are_ending_below, count_beginning_upto, count_ending_below};
 use std::alloc::{AllocError, Global};
 
 /// About how many entries a page has at most.
@@ -67,7 +68,8 @@ impl Page {
 
     /// Puts an entry between others, where none of them reaches into its stretch and there is room.
     /// Past the last entry it does so only if `is_last`: no page follows. Else nothing changes.
-    pub fn put_new(&mut self, new: Entry, is_last: bool) -> Result<Tried, AllocError>
+    /// It looks at the place `near` of the vector first.
+    pub fn put_new(&mut self, new: Entry, is_last: bool, near: usize) -> Result<Tried, AllocError>
         requires { EntriesFrom 0 (entries_in self.old) }
         ensures put { IfOk result
             (λ tried. PutIf tried.is_put (entries_in self.old) new (entries_in self.new)) }
@@ -75,7 +77,7 @@ impl Page {
             → IsTrue is_last ⊎ (hi_of new < end_of (entries_in self.old))) }
         ensures refused { OnErr result (entries_in self.new ≡ entries_in self.old) }
     {
-        let at = self.count_below(new.lo());
+        let at = self.count_near(new.lo(), near);
         if !self.is_free(at, new.hi(), is_last) {
             return Ok(Tried {
                 place: self.gap + at,
@@ -89,8 +91,9 @@ impl Page {
         })
     }
 
-    /// How many entries end before a number.
-    pub fn count_below(&self, number: u64) -> usize
+    // How many entries end before a number. It looks at the end first, and then at the place `near`
+    // of the vector and after it.
+    fn count_near(&self, number: u64, near: usize) -> usize
         requires { EntriesFrom 0 (entries_in self.now) }
         ensures within { result ≤ length (entries_in self.now) }
         ensures below { All (λ e. hi_of e < number) (take result (entries_in self.now)) }
@@ -99,7 +102,16 @@ impl Page {
         if self.end < number {
             return self.len();
         }
-        count_ending_below(self.as_slice(), number)
+        let entries = self.as_slice();
+        let at = near.saturating_sub(self.gap);
+        if are_ending_below(entries, number, at) {
+            return at;
+        }
+        let next = at.saturating_add(1);
+        if are_ending_below(entries, number, next) {
+            return next;
+        }
+        count_ending_below(entries, number)
     }
 
     // Whether one more entry, which ends at `hi`, has room at a place and ends before the next.
@@ -121,15 +133,15 @@ impl Page {
     }
 
     /// Puts entries that rise in place of all that reach into the numbers from `lo` to `hi`, and
-    /// says where.
-    pub fn put(&mut self, few: &[Entry], lo: u64, hi: u64) -> Result<usize, AllocError>
+    /// says where. It looks at the place `near` of the vector first.
+    pub fn put(&mut self, few: &[Entry], lo: u64, hi: u64, near: usize) -> Result<usize, AllocError>
         requires order { EntriesFrom 0 (entries_in self.old) }
         requires some { 0 < length few.now }
         ensures put { OnOk result
             (Replaces (entries_in self.old) lo hi few.now (entries_in self.new)) }
         ensures refused { OnErr result (entries_in self.new ≡ entries_in self.old) }
     {
-        let from = self.count_below(lo);
+        let from = self.count_near(lo, near);
         let to = from + count_beginning_upto(&self.as_slice()[from..], hi);
         self.splice(from, to, few)?;
         Ok(self.gap + from)
@@ -195,6 +207,16 @@ impl Page {
         let end = last_end(&items, 0);
         *self = Page { items, gap: 0, end };
         Ok(())
+    }
+
+    /// What stands at a place of the vector.
+    pub fn entry(&self, place: usize) -> Option<Entry>
+        ensures { Stands (entries_in self.now) result }
+    {
+        if place < self.gap || place >= self.items.len() {
+            return None;
+        }
+        Some(self.items[place])
     }
 
     /// Sets bits in what stands at a place of the vector, if that is the word of their window. Else

@@ -2,6 +2,7 @@
 ghost use Rattle.std.specs.Prelude.{◌≡◌, ◌+◌, ◌<◌, ◌≤◌, ◌⊎◌, ◌++◌, [], ℕ, length, take, drop, nat_lt, nat_le, slice_index_or, false, All, IsTrue, IfOk, OnOk, OnErr};
 ghost use Rattle.std.specs.Vec.{vec_len};
 ghost use Rattle.serial_set.specs.declared.page.Page.{Page};
+ghost use Rattle.serial_set.specs.Additions.{Stands};
 ghost use Rattle.serial_set.specs.Entry.{lo_of, hi_of, EntriesFrom};
 ghost use Rattle.serial_set.specs.Entries.{Replaces};
 ghost use Rattle.serial_set.specs.Pages.{entries_in, entries_of};
@@ -62,7 +63,7 @@ fn are_below(pages: &[Page], number: u64, count: usize) -> bool
     count == 0 || pages[count - 1].end() < number
 }
 
-// Whether the page at a place, if there is one, ends at a number or past it, as then all after it do.
+// Whether the page at a place, if there is one, ends at a number or past it. Then all after it do.
 fn reaches(pages: &[Page], number: u64, at: usize) -> bool
     requires { EntriesFrom 0 (entries_of pages.now) }
     ensures { IsTrue result
@@ -134,8 +135,8 @@ fn page_for(pages: &[Page], lo: u64, near: usize) -> usize
 }
 
 /// Puts an entry between others, where none of them reaches into its stretch and their page has
-/// room. Else nothing changes. `at`, a page to look at first, gets the page and the place in its
-/// vector where the entry belongs.
+/// room. Else nothing changes. `at`, a page and a place in its vector to look at first, becomes where
+/// the entry belongs.
 pub fn put_new(
     pages: &mut Vec<Page>,
     at: &mut (usize, usize),
@@ -152,7 +153,8 @@ pub fn put_new(
     }
     let page = page_for(pages, new.lo(), at.0);
     let is_last = page + 1 == pages.len();
-    let tried = pages[page].put_new(new, is_last)?;
+    let near = if page == at.0 { at.1 } else { usize::MAX };
+    let tried = pages[page].put_new(new, is_last, near)?;
     *at = (page, tried.place);
     Ok(tried.is_put)
 }
@@ -164,7 +166,7 @@ pub fn put_entries(
     few: &[Entry],
     lo: u64,
     hi: u64,
-    near: usize,
+    near: (usize, usize),
 ) -> Result<(usize, usize), AllocError>
     requires order { EntriesFrom 0 (entries_of pages.old.items) }
     requires whole { All (λ e. (hi_of e ≤ hi) ⊎ (hi < lo_of e)) (entries_of pages.old.items) }
@@ -178,7 +180,7 @@ pub fn put_entries(
         put_first(pages, few)?;
         return Ok((0, 0));
     }
-    make_room(pages, lo, near)?;
+    make_room(pages, lo, near.0)?;
     put_in(pages, few, lo, hi, near)
 }
 
@@ -200,7 +202,7 @@ fn put_in(
     few: &[Entry],
     lo: u64,
     hi: u64,
-    near: usize,
+    near: (usize, usize),
 ) -> Result<(usize, usize), AllocError>
     requires some { 0 < length pages.old.items }
     requires order { EntriesFrom 0 (entries_of pages.old.items) }
@@ -211,8 +213,8 @@ fn put_in(
     ensures refused { OnErr result
         (entries_of pages.new.items ≡ entries_of pages.old.items) }
 {
-    let at = page_for(pages, lo, near);
-    let place = pages[at].put(few, lo, hi)?;
+    let at = page_for(pages, lo, near.0);
+    let place = pages[at].put(few, lo, hi, near.1)?;
     cut_after(pages, at, hi);
     Ok((at, place))
 }
@@ -287,6 +289,17 @@ fn split_at(pages: &mut Vec<Page>, at: usize, lo: u64) -> Result<(), AllocError>
     let back = pages[at].split(lo)?;
     let _ = insert_at(pages, at + 1, back);
     Ok(())
+}
+
+/// What stands at a page and a place in its vector.
+pub fn entry_in(pages: &[Page], at: (usize, usize)) -> Option<Entry>
+    ensures { Stands (entries_of pages.now) result }
+{
+    let (page, place) = at;
+    if page >= pages.len() {
+        return None;
+    }
+    pages[page].entry(place)
 }
 
 /// Sets bits in what stands at a place, a page and a place in its vector, if that is the word of

@@ -1,4 +1,5 @@
 ghost use Rattle.std.specs.Prelude.{◌≡◌, ◌+◌, ◌*◌, ◌^◌, ◌<◌, ◌≤◌, ◌⊎◌, ◌↔◌, ◌++◌, ℕ, [], length, slice_get, false, All, IsTrue, IsSome, IfSome, IfOk, IfErr, OnOk, OnErr};
+ghost use Rattle.serial_set.specs.Additions.{Stands};
 ghost use Rattle.serial_set.specs.Entry.{lo_of, hi_of, EntriesFrom, members_of, pieces, runs_of};
 ghost use Rattle.serial_set.specs.Entries.{Replaces, runs_of_entries, serials_of_runs};
 ghost use Rattle.serial_set.specs.Pages.{entries_of};
@@ -12,7 +13,7 @@ ghost use Rattle.serial_set.specs.Words.{BitCovers};
 use crate::entry::Entry;
 use crate::few::Few;
 use crate::page::Page;
-use crate::pages::{list_in, page_near, put_entries, put_new, set_bits_at};
+use crate::pages::{entry_in, list_in, page_near, put_entries, put_new, set_bits_at};
 use crate::piece::Piece;
 use crate::span::Span;
 use crate::spans::Spans;
@@ -58,7 +59,14 @@ impl SpanWords {
         self.entry_near(number, self.last.0)
     }
 
-    // The same, where the page `near` is looked at first.
+    /// The entry that was put or looked for last, if one stands there.
+    pub(crate) fn entry_last(&self) -> Option<Entry>
+        ensures { Stands (entries_held self.now) result }
+    {
+        entry_in(&self.pages, self.last)
+    }
+
+    // The same as `entry_from`, where the page `near` is looked at first.
     fn entry_near(&self, number: u64, near: usize) -> Option<Entry>
         ensures { IsEntryFrom (entries_held self.now) number result }
     {
@@ -235,6 +243,12 @@ impl SpanWords {
             (λ is_put. PutIf is_put (entries_held self.old) new (entries_held self.new)) }
         ensures refused { OnErr result (entries_held self.new ≡ entries_held self.old) }
     {
+        // Where numbers come in order, it is mostly this one that reaches into it, if any does.
+        if let Some(entry) = self.entry_last() {
+            if entry.lo() <= new.lo() && new.lo() <= entry.hi() {
+                return Ok(false);
+            }
+        }
         put_new(&mut self.pages, &mut self.last, new)
     }
 
@@ -250,7 +264,7 @@ impl SpanWords {
             (Replaces (entries_held self.old) lo hi (few_of few.now) (entries_held self.new)) }
         ensures refused { OnErr result (entries_held self.new ≡ entries_held self.old) }
     {
-        self.last = put_entries(&mut self.pages, few.as_slice(), lo, hi, self.last.0)?;
+        self.last = put_entries(&mut self.pages, few.as_slice(), lo, hi, self.last)?;
         Ok(())
     }
 
