@@ -82,7 +82,7 @@ impl SpanWords {
             return Ok(());
         }
         let bits = bits | self.bits_in(window);
-        let news = news_of_bits(window, bits, head, self.entry_at(first + 63));
+        let news = news_of_bits(window, bits, head, self.entry_on(first + 63));
         self.put(&news.few, news.lo, news.hi)
     }
 
@@ -112,7 +112,7 @@ impl SpanWords {
         if holds(head, hi) {
             return Ok(());
         }
-        let news = news_of_run(lo, hi, head, self.entry_at(hi));
+        let news = news_of_run(lo, hi, head, self.entry_on(hi));
         self.put(&news.few, news.lo, news.hi)
     }
 

@@ -18,7 +18,7 @@ pub news_of_bits-news-requires-clause-head : goal.news_of_bits-news-requires-cla
 news_of_bits-news-requires-clause-head c = tail_reaches (entries_held c.args.self.now) (64 * c.args.window) c.entry_at-head.result c.entry_at-head.ensures
 
 pub news_of_bits-news-requires-clause-tail : goal.news_of_bits-news-requires-clause-tail
-news_of_bits-news-requires-clause-tail c = tail_reaches (entries_held c.args.self.now) (64 * c.args.window + 63) c.entry_at.result c.entry_at.ensures
+news_of_bits-news-requires-clause-tail c = tail_reaches (entries_held c.args.self.now) (64 * c.args.window + 63) c.entry_on.result c.entry_on.ensures
 
 pub put-requires-clause-serials : goal.put-requires-clause-serials
 put-requires-clause-serials c =
@@ -27,7 +27,7 @@ put-requires-clause-serials c =
     let news = c.news_of_bits-news in
     let more = c.args.bits in
     let small = c.requires.window in
-    bits_serials old (few_of news.result.few) first (bit_or more c.bits_in.result) more c.entry_at-head.result c.entry_at.result c.args.self.now.serials c.entry_at-head.ensures c.entry_at.ensures (omega arith) c.requires.serials
+    bits_serials old (few_of news.result.few) first (bit_or more c.bits_in.result) more c.entry_at-head.result c.entry_on.result c.args.self.now.serials c.entry_at-head.ensures c.entry_on.ensures (omega arith) c.requires.serials
     (λ s a b. bits_both old first c.bits_in.result more s (c.bits_in.ensures s a b)) news.ensures.members
 
 pub put-requires-clause-whole : goal.put-requires-clause-whole
@@ -36,7 +36,7 @@ put-requires-clause-whole c =
     let first = 64 * c.args.window in
     let news = c.news_of_bits-news in
     let more = c.args.bits in
-    Fills.high (bits_fill old (few_of news.result.few) first news.result.lo news.result.hi (bit_or more c.bits_in.result) more c.entry_at-head.result c.entry_at.result c.entry_at-head.ensures c.entry_at.ensures news.ensures.lo news.ensures.hi
+    Fills.high (bits_fill old (few_of news.result.few) first news.result.lo news.result.hi (bit_or more c.bits_in.result) more c.entry_at-head.result c.entry_on.result c.entry_at-head.ensures c.entry_on.ensures news.ensures.lo news.ensures.hi
     (λ s a b. bits_both old first c.bits_in.result more s (c.bits_in.ensures s a b)) news.ensures.members)
 
 pub returns-clause-runs : goal.returns-clause-runs
@@ -45,6 +45,6 @@ returns-clause-runs c =
     let first = 64 * c.args.window in
     let news = c.news_of_bits-news in
     let more = c.args.bits in
-    let fills = bits_fill old (few_of news.result.few) first news.result.lo news.result.hi (bit_or more c.bits_in.result) more c.entry_at-head.result c.entry_at.result c.entry_at-head.ensures c.entry_at.ensures news.ensures.lo news.ensures.hi
+    let fills = bits_fill old (few_of news.result.few) first news.result.lo news.result.hi (bit_or more c.bits_in.result) more c.entry_at-head.result c.entry_on.result c.entry_at-head.ensures c.entry_on.ensures news.ensures.lo news.ensures.hi
     (λ s a b. bits_both old first c.bits_in.result more s (c.bits_in.ensures s a b)) news.ensures.members in
     on_ok c.put.result _ _ (λ r. fills_runs old news.result.lo news.result.hi (few_of news.result.few) (entries_held c.put.new.self) (λ s. BitCovers 64 first more s) c.args.self.now.order news.ensures.lies fills r) c.put.ensures.put
