@@ -1,5 +1,5 @@
 -- Members that are found one after the other, and the runs that they are.
-use Rattle.std.proofs.Common.{◌≡◌, ℕ, ◌+◌, ◌^◌, ◌<◌, ◌≤◌, ◌⊎◌, List, [], ◌∷◌, ◌++◌, Option, Some, None, IfSome, IsSome, max, length, take, get_or, refl, sym, subst, ap, inl, inr, arith, ◌∙◌, length-append}
+use Rattle.std.proofs.Common.{◌≡◌, ℕ, ◌+◌, ◌^◌, ◌<◌, ◌≤◌, ◌⊎◌, List, [], ◌∷◌, ◌++◌, Option, Some, None, IfSome, IsSome, max, length, take, get_or, refl, sym, subst, ap, inl, inr, arith, ◌∙◌}
 use Rattle.std.specs.Prelude.{true, false}
 use Rattle.std.specs.List.{All}
 use Rattle.std.proofs.lemmas.Bool.{cases_lt, cases_eq}
@@ -7,12 +7,11 @@ use Rattle.serial_set.specs.declared.span.Span.{Span}
 use Rattle.serial_set.specs.declared.entry.Entry.{Entry}
 use Rattle.std.specs.Option.{SomeIff}
 use Rattle.std.proofs.lemmas.List.{append_assoc, append-nil, take_at}
-use Rattle.serial_set.specs.Span.{AddsSpan, AreSerials, Covers, IsRuns, RunsFrom}
+use Rattle.serial_set.specs.Span.{AreSerials, Covers, IsRuns, RunsFrom}
 use Rattle.serial_set.specs.Rising.{RunsFrom-weaker, names_at, runs_raise}
-use Rattle.serial_set.specs.Least.{runs_least, runs_unique}
+use Rattle.serial_set.specs.Least.{runs_unique}
 use Rattle.serial_set.specs.Entry.{pieces, hi_of, EntriesFrom, members_of, runs_of}
 use Rattle.serial_set.specs.Entries.{none_below, runs_of_entries}
-use Rattle.serial_set.specs.Rising.{names_append, names_left, names_right}
 use Rattle.serial_set.specs.Places.{IsEntryFrom}
 use Rattle.serial_set.specs.Members.{IsFirst, GoesOn, IsRunFrom}
 use Rattle.serial_set.specs.Walk.{IsPiece, left, since, since_runs, since_to, since_from}
@@ -181,15 +180,3 @@ runs_few a (x ∷ (y ∷ ys)) r fits h =
 pub from_one : (spans : List Span) → IsRuns spans → AreSerials spans → RunsFrom 1 spans
 from_one [] r fits = tt
 from_one (x ∷ xs) r fits = let at = fits x.lo (inl (omega arith, r.1)) in (omega arith, r.1, r.2)
-
--- ---- an addition makes the list at most one run longer
-
-pub adds_one : (old new : List Span) (lo hi : ℕ) → AddsSpan old lo hi new → length new ≤ length old + 1
-adds_one old new lo hi adds =
-    let more : List Span = record { lo = lo; hi = hi } ∷ [] in
-    let least = runs_least new (old ++ more) adds.0
-    (λ s. (
-      λ n. elim ((adds.1 s).0 n) [ inl was ↦ names_left old more s was | inr here ↦ names_right old more s (inl here) ],
-      λ n. (adds.1 s).1 (elim (names_append old more s n) [ inl was ↦ inl was | inr here ↦ inr (elim here [ inl at ↦ at | inr none ↦ absurd none ]) ]),
-    )) in
-    omega (arith, least, length-append old more)

@@ -5,6 +5,7 @@ pub mod InBits
 pub mod InByte
 pub mod InEntries
 pub mod InEntry
+pub mod InNear
 pub mod InNews
 pub mod InPage
 pub mod InRow

@@ -10,6 +10,7 @@ pub mod Joined
 pub mod Laws
 pub mod Least
 pub mod Members
+pub mod Near
 pub mod News
 pub mod Pages
 pub mod Places

@@ -1,14 +1,18 @@
 //! Additions to a set of entries.
-ghost use Rattle.std.specs.Prelude.{◌≡◌, ◌+◌, ◌*◌, ◌/◌, ◌^◌, ◌<◌, ◌≤◌, ◌⊎◌, ◌↔◌, ℕ, false, IsTrue, IfSome, OnOk, OnErr};
+ghost use Rattle.std.specs.Prelude.{◌≡◌, ◌+◌, ◌*◌, ◌/◌, ◌^◌, ◌<◌, ◌≤◌, ◌⊎◌, ◌↔◌, ℕ, false, All, IsTrue, IfSome, OnOk, OnErr};
 ghost use Rattle.serial_set.specs.Additions.{IsAt};
+ghost use Rattle.serial_set.specs.BitRuns.{IsInterval};
 ghost use Rattle.serial_set.specs.Entry.{lo_of, hi_of, members_of, runs_of};
+ghost use Rattle.serial_set.specs.Near.{AddsSpans, AreNear};
 ghost use Rattle.serial_set.specs.News.{begin_of, end_of, Has};
 ghost use Rattle.serial_set.specs.Span.{AddsSpan, Covers, IsRunsOf};
 ghost use Rattle.serial_set.specs.SpanWords.{entries_held};
 ghost use Rattle.serial_set.specs.Words.{BitCovers};
 
 use crate::entry::{Entry, mask};
+use crate::near::bits_of;
 use crate::news::{news_of_bits, news_of_run};
+use crate::span::Span;
 use crate::span_words::SpanWords;
 use std::alloc::AllocError;
 
@@ -32,6 +36,24 @@ impl SpanWords {
             return self.add_bits(lo / 64, mask(lo % 64, hi % 64));
         }
         self.add_run(lo, hi)
+    }
+
+    /// Adds the numbers of spans that lie near each other.
+    pub(crate) fn add_spans(&mut self, near: &[Span]) -> Result<(), AllocError>
+        requires intervals { All IsInterval near.now }
+        requires near { AreNear near.now }
+        ensures runs { OnOk result (AddsSpans (runs_of (entries_held self.old)) near.now
+            (runs_of (entries_held self.new))) }
+        ensures refused { OnErr result (entries_held self.new ≡ entries_held self.old) }
+    {
+        match near {
+            [] => Ok(()),
+            [span] => self.add_numbers(span.lo, span.hi),
+            [first, ..] => {
+                let window = first.lo / 64;
+                self.add_bits(window, bits_of(near, window))
+            }
+        }
     }
 
     // Adds the numbers of a window whose bits are set.

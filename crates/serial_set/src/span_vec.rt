@@ -1,5 +1,7 @@
-ghost use Rattle.std.specs.Prelude.{◌≡◌, ◌+◌, ◌<◌, ◌≤◌, ◌⊎◌, ◌∷◌, ◌++◌, length, take, drop, OnOk, OnErr};
+ghost use Rattle.std.specs.Prelude.{◌≡◌, ◌+◌, ◌<◌, ◌≤◌, ◌⊎◌, ◌∷◌, ◌++◌, length, take, drop, All, OnOk, OnErr};
 ghost use Rattle.std.specs.Vec.{vec_len, vec_capacity};
+ghost use Rattle.serial_set.specs.BitRuns.{IsInterval};
+ghost use Rattle.serial_set.specs.Near.{AddsSpans};
 ghost use Rattle.serial_set.specs.Span.{AddsSpan, AreSerials, IsRuns, RunsFrom-prop};
 
 use crate::piece::Piece;
@@ -40,6 +42,13 @@ impl Spans for SpanVec {
         add_to(&mut self.items, lo, hi)
     }
 
+    // There is room for all before the first is added.
+    fn add_near(&mut self, near: &[Span]) -> Result<(), AllocError> {
+        self.items.reserve(near.len())?;
+        add_all(&mut self.items, near);
+        Ok(())
+    }
+
     fn has(&self, serial: u64) -> bool {
         let at = count_ending_before(&self.items, serial);
         at < self.items.len() && self.items[at].lo <= serial
@@ -59,6 +68,19 @@ impl Spans for SpanVec {
     }
 }
 
+fn add_all(items: &mut Vec<Span>, spans: &[Span])
+    requires runs { IsRuns items.old.items }
+    requires serials { AreSerials items.old.items }
+    requires intervals { All IsInterval spans.now }
+    requires room { vec_len items.old + length spans.now ≤ vec_capacity items.old }
+    ensures runs { AddsSpans items.old.items spans.now items.new.items }
+    ensures serials { AreSerials items.new.items }
+{
+    for span in spans {
+        let _ = add_to(items, span.lo, span.hi);
+    }
+}
+
 // The spans from `first` up to `end` are those that the new one touches. Where it touches none, the
 // list grows, and nothing is changed before it has.
 fn add_to(items: &mut Vec<Span>, lo: u64, hi: u64) -> Result<(), AllocError>
@@ -69,6 +91,7 @@ fn add_to(items: &mut Vec<Span>, lo: u64, hi: u64) -> Result<(), AllocError>
     ensures one_more { length items.new.items ≤ length items.old.items + 1 }
     ensures refused { OnErr result (items.new.items ≡ items.old.items) }
     ensures full { OnErr result (vec_capacity items.old ≤ vec_len items.old) }
+    ensures capacity { vec_capacity items.old ≤ vec_capacity items.new }
 {
     // A span that ends at `lo - 1` touches.
     let first = count_ending_before(items, lo - 1);
@@ -87,7 +110,8 @@ fn add_to(items: &mut Vec<Span>, lo: u64, hi: u64) -> Result<(), AllocError>
 pub fn join(items: &mut Vec<Span>, first: usize, end: usize, span: Span)
     requires some { first < end }
     requires within { end ≤ vec_len items.old }
-    ensures { items.new.items ≡ take first items.old.items ++ span ∷ drop end items.old.items }
+    ensures items { items.new.items ≡ take first items.old.items ++ span ∷ drop end items.old.items }
+    ensures capacity { vec_capacity items.new ≡ vec_capacity items.old }
 {
     let left = items.len() - (end - first - 1);
     items[first] = span;

@@ -300,6 +300,10 @@ impl Spans for SpanWords {
         self.add_numbers(lo, hi)
     }
 
+    fn add_near(&mut self, near: &[Span]) -> Result<(), AllocError> {
+        self.add_spans(near)
+    }
+
     fn has(&self, serial: u64) -> bool {
         self.has_number(serial)
     }

@@ -1,4 +1,6 @@
-ghost use Rattle.std.specs.Prelude.{◌≡◌, ◌+◌, ◌<◌, ◌≤◌, ◌⊎◌, ◌↔◌, ℕ, List, [], length, Some, slice_get, IsTrue, IfOk, OnOk, OnErr};
+ghost use Rattle.std.specs.Prelude.{◌≡◌, ◌+◌, ◌<◌, ◌≤◌, ◌⊎◌, ◌↔◌, ℕ, List, [], length, Some, slice_get, IsTrue, All, IfOk, OnOk, OnErr};
+ghost use Rattle.serial_set.specs.BitRuns.{IsInterval};
+ghost use Rattle.serial_set.specs.Near.{AddsSpans, AreNear};
 ghost use Rattle.serial_set.specs.declared.span.Span.{Span};
 ghost use Rattle.serial_set.specs.Span.{AddsSpan, AreSerials, Covers, IsRuns};
 ghost use Rattle.serial_set.specs.Walk.{IsPiece, piece_of};
@@ -23,6 +25,18 @@ pub trait Spans: Drop {
         requires ordered { lo ≤ hi }
         ensures runs { OnOk result (AddsSpan (spans self.old) lo hi (spans self.new)) }
         ensures one_more { length (spans self.new) ≤ length (spans self.old) + 1 }
+        ensures refused { OnErr result (spans self.new ≡ spans self.old) };
+
+    /// Adds spans that lie near each other, in one change: one, or several in one window of 64
+    /// numbers. `count_near` says how many of a row do. None change nothing and take no memory. The
+    /// list gets longer by at most as many as there are. Where memory runs out the set stays as it
+    /// was.
+    fn add_near(&mut self, near: &[Span]) -> Result<(), AllocError>
+        requires intervals { All IsInterval near.now }
+        requires near { AreNear near.now }
+        ensures runs { OnOk result (AddsSpans (spans self.old) near.now (spans self.new)) }
+        ensures as_many_more { length (spans self.new)
+            ≤ length (spans self.old) + length near.now }
         ensures refused { OnErr result (spans self.new ≡ spans self.old) };
 
     /// Whether the serial is a member.

@@ -1,0 +1,44 @@
+//! Spans that lie near each other.
+ghost use Rattle.std.specs.Prelude.{◌≡◌, ◌+◌, ◌*◌, ◌/◌, ◌%◌, ◌<◌, ◌≤◌, ◌↔◌, ℕ, length, take, IsTrue, All};
+ghost use Rattle.serial_set.specs.BitRuns.{IsInterval};
+ghost use Rattle.serial_set.specs.Near.{AreNear, LiesIn};
+ghost use Rattle.serial_set.specs.Span.{Covers};
+ghost use Rattle.serial_set.specs.Words.{BitCovers};
+
+use crate::entry::mask;
+use crate::span::Span;
+
+/// How many of some spans, from the first on, `Spans::add_near` takes: as many as lie in one window
+/// of 64 numbers, and at least one.
+pub fn count_near(spans: &[Span]) -> usize
+    requires { 0 < length spans.now }
+    ensures some { 0 < result }
+    ensures within { result ≤ length spans.now }
+    ensures near { AreNear (take result spans.now) }
+{
+    let window = spans[0].lo / 64;
+    let mut count = 0;
+    while count < spans.len() && lies_in(spans[count], window) {
+        count += 1;
+    }
+    count.max(1)
+}
+
+fn lies_in(span: Span, window: u64) -> bool
+    ensures { IsTrue result ↔ LiesIn window span }
+{
+    span.lo / 64 == window && span.hi / 64 == window
+}
+
+/// The numbers of spans in a window, as its bits.
+pub fn bits_of(spans: &[Span], window: u64) -> u64
+    requires intervals { All IsInterval spans.now }
+    requires near { All (LiesIn window) spans.now }
+    ensures { (s : ℕ) → BitCovers 64 (64 * window) result s ↔ Covers spans.now s }
+{
+    let mut bits = 0;
+    for span in spans {
+        bits |= mask(span.lo % 64, span.hi % 64);
+    }
+    bits
+}
