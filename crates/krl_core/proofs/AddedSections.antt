@@ -1,9 +1,10 @@
 -- Additions keep the order of what is held, and mean one entry more.
-use Rattle.std.proofs.Common.{◌≡◌, ℕ, ◌+◌, ◌<◌, ◌≤◌, ◌^◌, ◌⊎◌, List, [], ◌∷◌, ◌++◌, ◌↔◌, length, refl, sym, ap, subst, inl, inr, arith}
+use Rattle.std.proofs.Common.{◌≡◌, ℕ, ◌+◌, ◌<◌, ◌≤◌, ◌⊎◌, List, [], ◌∷◌, ◌++◌, ◌↔◌, Bor, length, refl, sym, ap, subst, inl, inr, arith}
 use Rattle.std.specs.List.{Contains, All}
 use Rattle.std.proofs.lemmas.List.Elements.{All-cons, All-head, All-tail}
 use Rattle.std.proofs.lemmas.List.Sums.{sum_by-cons, sum_by-append}
 use Rattle.serial_set.specs.declared.span.Span.{Span}
+use Rattle.serial_set.specs.BitRuns.{IsInterval}
 use Rattle.serial_set.specs.Span.{Covers, IsRuns, AreSerials}
 use Rattle.krl_core.specs.declared.addition.Addition.{Addition}
 use Rattle.krl_core.specs.declared.addition.Addition.TheVariants.{Serials}
@@ -59,14 +60,20 @@ has_text : (texts : List (List ℕ)) (t : List ℕ) → Contains texts t → 0 <
 has_text [] t h = absurd (contains_none t h)
 has_text (x ∷ xs) t h = omega arith
 
-takes_serials_listed : (lo hi : ℕ) (from to : Section) → 0 < lo → lo ≤ hi → hi < 2 ^ 64 → InOrder from → TakesSerials lo hi from to → IsListed to
-takes_serials_listed lo hi from to least order fits o t =
+-- a span that is not empty has a number
+some_covered : (spans : List Span) → 0 < length spans → All IsInterval spans → (s : ℕ) × Covers spans s
+some_covered [] some intervals = absurd (omega arith)
+some_covered (x ∷ xs) some intervals = (x.lo, inl (omega arith, (All-head IsInterval x xs intervals).1))
+
+takes_serials_listed : (more : List Span) (from to : Section) → 0 < length more → All IsInterval more → InOrder from → TakesSerials more from to → IsListed to
+takes_serials_listed more from to some intervals o t =
     let ids : to.ids ≡ from.ids = ap (λ (s : Section). s.ids) t.same in
+    let one = some_covered more some intervals in
     record {
       runs = t.runs.0;
-      serials = λ s n. elim ((t.runs.1 s).0 n) [ inl was ↦ o.serials s was | inr new ↦ (omega (arith, new.0), omega (arith, new.1)) ];
+      serials = t.serials;
       ids_rise = subst Rises (sym ids) o.ids_rise;
-      some = inl (has_span to.spans lo ((t.runs.1 lo).1 (inr (omega arith, order))));
+      some = inl (has_span to.spans one.0 ((t.runs.1 one.0).1 (inr one.1)));
     }
 
 pub takes_id_listed : (text : List ℕ) (from to : Section) → InOrder from → TakesId text from to → IsListed to
@@ -101,9 +108,9 @@ adds_listed addition authority old new lists adds a =
           subst (All IsListed) (sym n.put.after) ((all_middle IsListed n.put.front n.section n.put.back).1 (lists (empty_section authority) n.section (empty_in_order authority) n.takes, subst (All IsListed) n.put.before a))
     ]
 
-pub serials_listed : (lo hi : ℕ) (authority : List ℕ) (old new : List Section) → 0 < lo → lo ≤ hi → hi < 2 ^ 64 → AddsTo (Serials lo hi) authority old new → All IsListed old → All IsListed new
-serials_listed lo hi authority old new least order fits adds a =
-    adds_listed (Serials lo hi) authority old new (λ from to o t. takes_serials_listed lo hi from to least order fits o t) adds a
+pub serials_listed : (near : Bor (List Span)) (authority : List ℕ) (old new : List Section) → 0 < length near.now → All IsInterval near.now → AddsTo (Serials near) authority old new → All IsListed old → All IsListed new
+serials_listed near authority old new some intervals adds a =
+    adds_listed (Serials near) authority old new (λ from to o t. takes_serials_listed near.now from to some intervals o t) adds a
 
 pub adds_rise : (addition : Addition) (authority : List ℕ) (old new : List Section) → AddsTo addition authority old new → RisesBy (λ section. section.authority) old → RisesBy (λ section. section.authority) new
 adds_rise addition authority old new adds r =

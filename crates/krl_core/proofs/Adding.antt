@@ -1,18 +1,20 @@
 -- What an addition does to all that is held.
-use Rattle.std.proofs.Common.{ℕ, ◌<◌, ◌≤◌, ◌^◌, ◌⊎◌, List, [], ◌∷◌, ◌++◌, Bor}
+use Rattle.std.proofs.Common.{ℕ, ◌<◌, ◌⊎◌, length, List, [], ◌∷◌, ◌++◌, Bor}
 use Rattle.std.specs.Prelude.{◌↔◌}
 use Rattle.std.specs.List.{All}
+use Rattle.serial_set.specs.declared.span.Span.{Span}
+use Rattle.serial_set.specs.BitRuns.{IsInterval}
 use Rattle.krl_core.specs.declared.addition.Addition.TheVariants.{Serials, Id}
 use Rattle.krl_core.specs.Rising.{RisesBy}
-use Rattle.krl_core.specs.Changes.{AddsTo}
+use Rattle.krl_core.specs.Changes.{AddsTo, run_entries}
 use Rattle.krl_core.specs.Contents.{HoldsName, Section, SomeSection, contents_of, IsListed, IsOrderly, Means}
-use Rattle.krl_core.specs.Entry.{Entry, RangeEntry, IdEntry}
-use Rattle.krl_core.specs.Naming.{EntryNames, IdOf, Name, SerialOf}
+use Rattle.krl_core.specs.Entry.{Entry, IdEntry}
+use Rattle.krl_core.specs.Naming.{EntryNames, IdOf, Name, SerialOf, SomeNames}
 use Rattle.krl_core.proofs.AddedSections.{adds_rise, adds_listed, serials_listed, takes_id_listed}
 use Rattle.krl_core.proofs.SomeSections.{HeldIn, some_adds}
-use Rattle.krl_core.proofs.Entries.{serials_step, id_step}
+use Rattle.krl_core.proofs.Entries.{serials_step, id_step, runs_name_none}
 use Rattle.krl_core.proofs.BothWays.{iff_none}
-use Rattle.krl_core.proofs.SameMeaning.{means_more}
+use Rattle.krl_core.proofs.SameMeaning.{means_all, means_more}
 
 -- ---- order
 
@@ -28,9 +30,9 @@ orderly_with old new keys sha1s sha256s rise listed o =
       sha256_size = o.sha256_size;
     }
 
-pub serials_orderly : (lo hi : ℕ) (b : List ℕ) (old new : List Section) (keys sha1s sha256s : List (List ℕ)) → 0 < lo → lo ≤ hi → hi < 2 ^ 64 → AddsTo (Serials lo hi) b old new → IsOrderly (contents_of old keys sha1s sha256s) → IsOrderly (contents_of new keys sha1s sha256s)
-serials_orderly lo hi b old new keys sha1s sha256s least order fits adds o =
-    orderly_with old new keys sha1s sha256s (adds_rise (Serials lo hi) b old new adds o.authorities_rise) (serials_listed lo hi b old new least order fits adds o.listed) o
+pub serials_orderly : (near : Bor (List Span)) (b : List ℕ) (old new : List Section) (keys sha1s sha256s : List (List ℕ)) → 0 < length near.now → All IsInterval near.now → AddsTo (Serials near) b old new → IsOrderly (contents_of old keys sha1s sha256s) → IsOrderly (contents_of new keys sha1s sha256s)
+serials_orderly near b old new keys sha1s sha256s some intervals adds o =
+    orderly_with old new keys sha1s sha256s (adds_rise (Serials near) b old new adds o.authorities_rise) (serials_listed near b old new some intervals adds o.listed) o
 
 pub id_orderly : (id : Bor (List ℕ)) (b : List ℕ) (old new : List Section) (keys sha1s sha256s : List (List ℕ)) → AddsTo (Id id) b old new → IsOrderly (contents_of old keys sha1s sha256s) → IsOrderly (contents_of new keys sha1s sha256s)
 id_orderly id b old new keys sha1s sha256s adds o =
@@ -39,18 +41,18 @@ id_orderly id b old new keys sha1s sha256s adds o =
 
 -- ---- meaning
 
-pub serials_mean : (lo hi : ℕ) (b : List ℕ) (old new : List Section) (keys sha1s sha256s : List (List ℕ)) (entries : List Entry) → 0 < lo → lo ≤ hi → hi < 2 ^ 64 → AddsTo (Serials lo hi) b old new
-    → Means (contents_of old keys sha1s sha256s) entries → Means (contents_of new keys sha1s sha256s) (entries ++ RangeEntry b lo hi ∷ [])
-serials_mean lo hi b old new keys sha1s sha256s entries least order fits adds m =
-    means_more _ _ entries (RangeEntry b lo hi) (serials_orderly lo hi b old new keys sha1s sha256s least order fits adds m.orderly) gains m
+pub serials_mean : (near : Bor (List Span)) (b : List ℕ) (old new : List Section) (keys sha1s sha256s : List (List ℕ)) (entries : List Entry) → 0 < length near.now → All IsInterval near.now → AddsTo (Serials near) b old new
+    → Means (contents_of old keys sha1s sha256s) entries → Means (contents_of new keys sha1s sha256s) (entries ++ run_entries b near.now)
+serials_mean near b old new keys sha1s sha256s entries some intervals adds m =
+    means_all _ _ entries (run_entries b near.now) (serials_orderly near b old new keys sha1s sha256s some intervals adds m.orderly) gains m
   where
-    under : (name : Name) → SomeSection (HeldIn name) new ↔ (SomeSection (HeldIn name) old ⊎ EntryNames (RangeEntry b lo hi) name)
-    under name = some_adds (Serials lo hi) b old new (HeldIn name) (EntryNames (RangeEntry b lo hi) name) (serials_step lo hi b least name) adds
+    under : (name : Name) → SomeSection (HeldIn name) new ↔ (SomeSection (HeldIn name) old ⊎ SomeNames (run_entries b near.now) name)
+    under name = some_adds (Serials near) b old new (HeldIn name) (SomeNames (run_entries b near.now) name) (serials_step near b name) adds
 
-    gains : (name : Name) → HoldsName (contents_of new keys sha1s sha256s) name ↔ (HoldsName (contents_of old keys sha1s sha256s) name ⊎ EntryNames (RangeEntry b lo hi) name)
+    gains : (name : Name) → HoldsName (contents_of new keys sha1s sha256s) name ↔ (HoldsName (contents_of old keys sha1s sha256s) name ⊎ SomeNames (run_entries b near.now) name)
     gains (SerialOf a s) = under (SerialOf a s)
     gains (IdOf a text) = under (IdOf a text)
-    gains name = iff_none (λ no. no)
+    gains name = iff_none (runs_name_none b near.now name (λ lo hi no. no))
 
 pub id_mean : (id : Bor (List ℕ)) (b : List ℕ) (old new : List Section) (keys sha1s sha256s : List (List ℕ)) (entries : List Entry) → AddsTo (Id id) b old new
     → Means (contents_of old keys sha1s sha256s) entries → Means (contents_of new keys sha1s sha256s) (entries ++ IdEntry b id.now ∷ [])

@@ -2,6 +2,7 @@
 use Rattle.std.proofs.Common.{◌≡◌, ℕ, ◌+◌, ◌≤◌, List, [], ◌∷◌, ◌++◌, Bor, length, map, refl, sym, ap, subst, ◌∙◌, inl, inr, arith}
 use Rattle.std.specs.Prelude.{sum_by}
 use Rattle.std.specs.List.{Contains}
+use Rattle.serial_set.specs.declared.span.Span.{Span}
 use Rattle.krl_core.specs.declared.addition.Addition.{Addition}
 use Rattle.krl_core.specs.declared.addition.Addition.TheVariants.{Serials, Id}
 use Rattle.krl_core.specs.Changes.{Takes, AddsTo, empty_section}
@@ -20,8 +21,8 @@ sum_stays addition b old new f step none adds =
       | inr n ↦ omega (arith, ap (sum_by f) n.put.before, ap (sum_by f) n.put.after, sum_middle f n.put.front n.section n.put.back, step (empty_section b) n.section n.takes)
     ]
 
-serials_size : (lo hi : ℕ) (from to : Section) → Takes (Serials lo hi) from to → section_size to ≤ section_size from + 0
-serials_size lo hi from to t =
+serials_size : (near : Bor (List Span)) (from to : Section) → Takes (Serials near) from to → section_size to ≤ section_size from + 0
+serials_size near from to t =
     let same : section_size to ≡ section_size from = ap section_size t.same in omega arith
 
 id_size : (id : Bor (List ℕ)) (from to : Section) → Takes (Id id) from to → section_size to ≤ section_size from + length id.now
@@ -31,9 +32,9 @@ id_size id from to t =
 
 -- ---- held
 
-pub serials_held : (lo hi : ℕ) (b : List ℕ) (old new : List Section) (keys sha1s sha256s : List (List ℕ)) → AddsTo (Serials lo hi) b old new → held (contents_of new keys sha1s sha256s) ≤ held (contents_of old keys sha1s sha256s) + 1
-serials_held lo hi b old new keys sha1s sha256s adds =
-    omega (arith, sum_adds (Serials lo hi) b old new (λ section. length section.spans) 1 (λ from to t. t.one_more) adds)
+pub serials_held : (near : Bor (List Span)) (b : List ℕ) (old new : List Section) (keys sha1s sha256s : List (List ℕ)) → AddsTo (Serials near) b old new → held (contents_of new keys sha1s sha256s) ≤ held (contents_of old keys sha1s sha256s) + length near.now
+serials_held near b old new keys sha1s sha256s adds =
+    omega (arith, sum_adds (Serials near) b old new (λ section. length section.spans) (length near.now) (λ from to t. t.as_many_more) adds)
 
 pub id_held : (id : Bor (List ℕ)) (b : List ℕ) (old new : List Section) (keys sha1s sha256s : List (List ℕ)) → AddsTo (Id id) b old new → held (contents_of new keys sha1s sha256s) ≡ held (contents_of old keys sha1s sha256s)
 id_held id b old new keys sha1s sha256s adds =
@@ -41,9 +42,9 @@ id_held id b old new keys sha1s sha256s adds =
 
 -- ---- stored
 
-pub serials_stored : (lo hi : ℕ) (b : List ℕ) (old new : List Section) (keys sha1s sha256s : List (List ℕ)) → AddsTo (Serials lo hi) b old new → stored (contents_of new keys sha1s sha256s) ≤ stored (contents_of old keys sha1s sha256s) + length b
-serials_stored lo hi b old new keys sha1s sha256s adds =
-    let more = sum_adds (Serials lo hi) b old new section_size 0 (serials_size lo hi) adds in
+pub serials_stored : (near : Bor (List Span)) (b : List ℕ) (old new : List Section) (keys sha1s sha256s : List (List ℕ)) → AddsTo (Serials near) b old new → stored (contents_of new keys sha1s sha256s) ≤ stored (contents_of old keys sha1s sha256s) + length b
+serials_stored near b old new keys sha1s sha256s adds =
+    let more = sum_adds (Serials near) b old new section_size 0 (serials_size near) adds in
     let fresh : section_size (empty_section b) ≡ length b = omega arith in
     omega arith
 
@@ -74,9 +75,9 @@ sum_named addition b old new f more step named adds =
           (subst (λ a. Contains (map key (n.put.front ++ n.put.back)) a) (sym at) (subst (λ l. Contains (map key l) b) n.put.before (some_contains b old named))))
     ]
 
-pub serials_known : (lo hi : ℕ) (b : List ℕ) (old new : List Section) (keys sha1s sha256s : List (List ℕ)) → AddsTo (Serials lo hi) b old new → IsNamed (contents_of old keys sha1s sha256s) b → stored (contents_of new keys sha1s sha256s) ≤ stored (contents_of old keys sha1s sha256s)
-serials_known lo hi b old new keys sha1s sha256s adds named =
-    let more = sum_named (Serials lo hi) b old new section_size 0 (serials_size lo hi) named adds in
+pub serials_known : (near : Bor (List Span)) (b : List ℕ) (old new : List Section) (keys sha1s sha256s : List (List ℕ)) → AddsTo (Serials near) b old new → IsNamed (contents_of old keys sha1s sha256s) b → stored (contents_of new keys sha1s sha256s) ≤ stored (contents_of old keys sha1s sha256s)
+serials_known near b old new keys sha1s sha256s adds named =
+    let more = sum_named (Serials near) b old new section_size 0 (serials_size near) named adds in
     omega arith
 
 pub id_known : (id : Bor (List ℕ)) (b : List ℕ) (old new : List Section) (keys sha1s sha256s : List (List ℕ)) → AddsTo (Id id) b old new → IsNamed (contents_of old keys sha1s sha256s) b → stored (contents_of new keys sha1s sha256s) ≤ stored (contents_of old keys sha1s sha256s) + length id.now

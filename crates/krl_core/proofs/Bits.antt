@@ -15,7 +15,8 @@ use Rattle.krl_core.specs.declared.place.Place.{Place}
 use Rattle.krl_core.specs.Entry.{Entry, BitmapEntry, RangeEntry}
 use Rattle.krl_core.specs.Naming.{EntryNames, NamesSame, SerialOf, SomeNames}
 use Rattle.krl_core.specs.Contents.{Means, held}
-use Rattle.krl_core.specs.Keeping.{Keeping, IsKept, AddsEntries, Adds, InStep, KeepsBits, KeepsField, Closes, held_with_open, open_run, run_entries, KeepsStored}
+use Rattle.krl_core.specs.Changes.{run_entries}
+use Rattle.krl_core.specs.Keeping.{Keeping, IsKept, AddsEntries, Adds, InStep, KeepsBits, KeepsField, Closes, held_with_open, open_run, KeepsStored}
 use Rattle.ssh_wire.specs.Wire.{number_of}
 use Rattle.krl_core.specs.declared.place.Place.TheVariants.{BitmapByte}
 use Rattle.krl_core.specs.Place.{base_of, bits_judged, judge, next_bits, next_subsection, passes_end, highest_bit}

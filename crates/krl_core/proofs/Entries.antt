@@ -1,15 +1,15 @@
 -- What an addition makes of a section, by the names of what it holds.
-use Rattle.std.proofs.Common.{◌≡◌, ℕ, ◌<◌, List, Bor, sym, ap, subst, ◌∙◌, inl, inr, arith}
+use Rattle.std.proofs.Common.{◌≡◌, ℕ, ◌<◌, List, [], ◌∷◌, Bor, sym, ap, subst, ◌∙◌, inl, inr}
 use Rattle.std.specs.Prelude.{◌↔◌}
 use Rattle.std.specs.List.{Contains}
 use Rattle.serial_set.specs.declared.span.Span.{Span}
 use Rattle.serial_set.specs.Span.{Covers}
 use Rattle.krl_core.specs.declared.addition.Addition.{Addition}
 use Rattle.krl_core.specs.declared.addition.Addition.TheVariants.{Serials, Id}
-use Rattle.krl_core.specs.Changes.{Takes, empty_section}
+use Rattle.krl_core.specs.Changes.{Takes, empty_section, run_entries}
 use Rattle.krl_core.specs.Contents.{Section}
 use Rattle.krl_core.specs.Entry.{RangeEntry, IdEntry}
-use Rattle.krl_core.specs.Naming.{EntryNames, IdOf, Name, SerialOf}
+use Rattle.krl_core.specs.Naming.{EntryNames, IdOf, Name, SerialOf, SomeNames}
 use Rattle.krl_core.proofs.AddedSections.{put_held}
 use Rattle.krl_core.proofs.BothWays.{iff_none}
 use Rattle.std.proofs.Math.Logic.Iff as Iff
@@ -27,25 +27,48 @@ stays addition b a Q same none = record {
 nothing_new : (addition : Addition) (b : List ℕ) → Step addition b (λ section. ⊥) ⊥
 nothing_new addition b = record { one = λ from to under t. iff_none (λ no. no); none = λ h. h }
 
-pub serials_step : (lo hi : ℕ) (b : List ℕ) → 0 < lo → (name : Name) → Step (Serials lo hi) b (HeldIn name) (EntryNames (RangeEntry b lo hi) name)
-serials_step lo hi b least (SerialOf a s) = record {
+-- the spans name their serials alone
+pub runs_name_none : (b : List ℕ) (runs : List Span) (name : Name) → ((lo hi : ℕ) → EntryNames (RangeEntry b lo hi) name → ⊥) → SomeNames (run_entries b runs) name → ⊥
+runs_name_none b [] name none h = h
+runs_name_none b (x ∷ xs) name none h = elim h [ inl here ↦ none x.lo x.hi here | inr later ↦ runs_name_none b xs name none later ]
+
+runs_name : (b : List ℕ) (runs : List Span) (a : List ℕ) (s : ℕ) → SomeNames (run_entries b runs) (SerialOf a s) ↔ ((b ≡ a) × ((0 < s) × Covers runs s))
+runs_name b [] a s = (λ h. absurd h, λ h. h.1.1)
+runs_name b (x ∷ xs) a s =
+    let rest = runs_name b xs a s in (
+      λ h. elim h [ inl here ↦ (here.0, (here.1.0, inl here.1.1)) | inr later ↦ (let k = rest.0 later in (k.0, (k.1.0, inr k.1.1))) ],
+      λ h. elim h.1.1 [ inl here ↦ inl (h.0, (h.1.0, here)) | inr later ↦ inr (rest.1 (h.0, (h.1.0, later))) ],
+    )
+
+-- where nothing new is held, what names nothing is
+step_none : (addition : Addition) (b : List ℕ) (P : Section → Type 0) (Q : Type 0) → (Q → ⊥) → Step addition b P ⊥ → Step addition b P Q
+step_none addition b P Q none step = record {
+  one = λ from to under t. Iff.trans (step.one from to under t) (Iff.trans (Iff.symm (iff_none (λ no. no))) (iff_none none));
+  none = step.none;
+}
+
+pub serials_step : (near : Bor (List Span)) (b : List ℕ) (name : Name) → Step (Serials near) b (HeldIn name) (SomeNames (run_entries b near.now) name)
+serials_step near b (SerialOf a s) = record {
   one = λ from to under t.
-      let same : to.authority ≡ from.authority = ap (λ (x : Section). x.authority) t.same in (
+      let same : to.authority ≡ from.authority = ap (λ (x : Section). x.authority) t.same in
+      let names = runs_name b near.now a s in (
         λ h. elim ((t.runs.1 s).0 h.1) [
           | inl was ↦ inl (sym same ∙ h.0, was)
-          | inr new ↦ inr (sym under ∙ sym same ∙ h.0, (omega (arith, new.0), (new.0, new.1)))
+          | inr new ↦ inr (names.1 (sym under ∙ sym same ∙ h.0, ((t.serials s h.1).0, new)))
         ],
         λ h. elim h [
           | inl was ↦ (same ∙ was.0, (t.runs.1 s).1 (inl was.1))
-          | inr new ↦ (same ∙ under ∙ new.0, (t.runs.1 s).1 (inr (new.1.1.0, new.1.1.1)))
+          | inr new ↦ (let k = names.0 new in (same ∙ under ∙ k.0, (t.runs.1 s).1 (inr k.1.1)))
         ],
       );
   none = λ h. absurd h.1;
 }
-serials_step lo hi b least (IdOf a text) =
-    stays (Serials lo hi) b a (λ section. Contains section.ids text) (λ from to t.
-    (ap (λ (x : Section). x.authority) t.same, subst (λ (l : List (List ℕ)). Contains to.ids text ↔ Contains l text) (ap (λ (x : Section). x.ids) t.same) Iff.rfl)) (contains_none text)
-serials_step lo hi b least name = nothing_new (Serials lo hi) b
+serials_step near b (IdOf a text) =
+    step_none (Serials near) b (HeldIn (IdOf a text)) (SomeNames (run_entries b near.now) (IdOf a text)) (runs_name_none b near.now (IdOf a text) (λ lo hi no. no))
+    (stays (Serials near) b a (λ section. Contains section.ids text) (λ from to t.
+    (ap (λ (x : Section). x.authority) t.same, subst (λ (l : List (List ℕ)). Contains to.ids text ↔ Contains l text) (ap (λ (x : Section). x.ids) t.same) Iff.rfl)) (contains_none text))
+serials_step near b name =
+    step_none (Serials near) b (HeldIn name) (SomeNames (run_entries b near.now) name) (runs_name_none b near.now name (λ lo hi no. no)) (nothing_new (Serials near) b)
 
 pub id_step : (added : Bor (List ℕ)) (b : List ℕ) (name : Name) → Step (Id added) b (HeldIn name) (EntryNames (IdEntry b added.now) name)
 id_step added b (SerialOf a s) =

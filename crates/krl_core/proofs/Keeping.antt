@@ -1,12 +1,14 @@
 -- What is kept after one entry or another is added.
-use Rattle.std.proofs.Common.{◌≡◌, ℕ, ◌+◌, ◌<◌, ◌≤◌, Option, None, Some, List, [], ◌∷◌, ◌++◌, length, take, get_or, refl, sym, ap, subst, ◌∙◌, append_assoc, arith, inl, inr}
+use Rattle.std.proofs.Common.{◌≡◌, ℕ, ◌+◌, ◌≤◌, Option, None, Some, List, [], ◌∷◌, ◌++◌, length, take, drop, refl, sym, ap, subst, ◌∙◌, append_assoc, arith, inl, inr}
 use Rattle.std.specs.Option.{option_to_list}
-use Rattle.std.proofs.lemmas.List.{append-nil, take_more}
+use Rattle.std.proofs.lemmas.List.{append-nil, length-take-le}
+use Rattle.std.proofs.Math.Seq.{take-add}
 use Rattle.serial_set.specs.declared.span.Span.{Span}
 use Rattle.krl_core.specs.Contents.{Means}
 use Rattle.krl_core.specs.Entry.{Entry, RangeEntry, SerialsEntry}
 use Rattle.krl_core.specs.Naming.{NamesSame}
-use Rattle.krl_core.specs.Keeping.{Keeping, IsKept, Adds, KeepsRest, Closes, KeepsStored, GrowsWithin, StoresWithin, held_with_open, open_run, run_entries}
+use Rattle.krl_core.specs.Changes.{run_entries}
+use Rattle.krl_core.specs.Keeping.{Keeping, IsKept, Adds, KeepsRest, Closes, KeepsStored, GrowsWithin, StoresWithin, held_with_open, open_run}
 use Rattle.krl_core.proofs.Same.{same_refl, same_is, same_then, same_append, same_between, same_zero, same_none}
 
 abbrev pub open_entries : Keeping → List Entry
@@ -18,18 +20,23 @@ open_same old new rest =
     ap (λ (a : List ℕ). run_entries a (open_run new)) rest.authority_is
     ∙ ap (λ (p : Option Span). run_entries old.authority (option_to_list p)) (ap (λ b. b.pending) rest.bitmap_is)
 
--- what is held means one entry more
-pub adds_one : (old new : Keeping) (entry : Entry) → KeepsRest old new
-    → ((entries : List Entry) → Means old.contents entries → Means new.contents (entries ++ entry ∷ [])) → Adds old (entry ∷ []) new
-adds_one old new entry rest means = record {
+-- what is held means some entries more
+pub adds_all : (old new : Keeping) (more : List Entry) → KeepsRest old new
+    → ((entries : List Entry) → Means old.contents entries → Means new.contents (entries ++ more)) → Adds old more new
+adds_all old new more rest means = record {
   kept = λ entries k. record {
-    closed = k.closed ++ entry ∷ [];
+    closed = k.closed ++ more;
     means = means k.closed k.means;
-    same = subst (λ (xs : List Entry). NamesSame ((k.closed ++ entry ∷ []) ++ xs) (entries ++ entry ∷ []))
-        (sym (open_same old new rest)) (same_between k.closed (open_entries old) (entry ∷ []) entries k.same);
+    same = subst (λ (xs : List Entry). NamesSame ((k.closed ++ more) ++ xs) (entries ++ more))
+        (sym (open_same old new rest)) (same_between k.closed (open_entries old) more entries k.same);
   };
   rest = rest;
 }
+
+-- what is held means one entry more
+pub adds_one : (old new : Keeping) (entry : Entry) → KeepsRest old new
+    → ((entries : List Entry) → Means old.contents entries → Means new.contents (entries ++ entry ∷ [])) → Adds old (entry ∷ []) new
+adds_one old new entry rest means = adds_all old new (entry ∷ []) rest means
 
 -- other entries that name the same were added
 pub adds_same : (old new : Keeping) (xs ys : List Entry) → NamesSame xs ys → Adds old xs new → Adds old ys new
@@ -103,13 +110,12 @@ pub run_entries-append : (a : List ℕ) (xs ys : List Span) → run_entries a (x
 run_entries-append a [] ys = refl
 run_entries-append a (x ∷ xs) ys = ap (λ (es : List Entry). RangeEntry a x.lo x.hi ∷ es) (run_entries-append a xs ys)
 
-pub adds_run : (old mid new : Keeping) (runs : List Span) (run : Span) → Adds old (run_entries old.authority runs) mid
-    → Adds mid (RangeEntry mid.authority run.lo run.hi ∷ []) new → Adds old (run_entries old.authority (runs ++ run ∷ [])) new
-adds_run old mid new runs run h k =
-    let same : RangeEntry mid.authority run.lo run.hi ∷ [] ≡ run_entries old.authority (run ∷ []) = ap (λ (a : List ℕ). RangeEntry a run.lo run.hi ∷ []) h.rest.authority_is in
-    let next : Adds mid (run_entries old.authority (run ∷ [])) new = subst (λ (xs : List Entry). Adds mid xs new) same k in
-    subst (λ (xs : List Entry). Adds old xs new) (sym (run_entries-append old.authority runs (run ∷ [])))
-    (adds_then old mid new (run_entries old.authority runs) (run_entries old.authority (run ∷ [])) h next)
+pub adds_runs : (old mid new : Keeping) (runs more : List Span) → Adds old (run_entries old.authority runs) mid
+    → Adds mid (run_entries mid.authority more) new → Adds old (run_entries old.authority (runs ++ more)) new
+adds_runs old mid new runs more h k =
+    let next : Adds mid (run_entries old.authority more) new = subst (λ (a : List ℕ). Adds mid (run_entries a more) new) h.rest.authority_is k in
+    subst (λ (xs : List Entry). Adds old xs new) (sym (run_entries-append old.authority runs more))
+    (adds_then old mid new (run_entries old.authority runs) (run_entries old.authority more) h next)
 
 -- the open run becomes one that is held
 pub closes_run : (old mid new : Keeping) (run : Span) → old.bitmap.pending ≡ Some run → mid.contents ≡ old.contents → mid.authority ≡ old.authority
@@ -142,13 +148,12 @@ pub record AddsFirst (old : Keeping) (spans : List Span) (count : ℕ) (new : Ke
   pub held_is : held_with_open new ≤ held_with_open old + count
   pub stored_is : KeepsStored old new
 
-pub adds_first_more : (old mid new : Keeping) (spans : List Span) (count : ℕ) (d : Span) → count < length spans → AddsFirst old spans count mid
-    → Adds mid (RangeEntry mid.authority (get_or spans count d).lo (get_or spans count d).hi ∷ []) new
-    → held_with_open new ≤ held_with_open mid + 1 → KeepsStored mid new → AddsFirst old spans (count + 1) new
-adds_first_more old mid new spans count d lt h k held stored = record {
-  adds = subst (λ (xs : List Span). Adds old (run_entries old.authority xs) new) (sym (take_more spans count d lt))
-      (adds_run old mid new (take count spans) (get_or spans count d) h.adds k);
-  held_is = omega (arith, h.held_is, held);
+pub adds_first_more : (old mid new : Keeping) (spans : List Span) (count n : ℕ) → n ≤ length (drop count spans) → AddsFirst old spans count mid
+    → Adds mid (run_entries mid.authority (take n (drop count spans))) new → held_with_open new ≤ held_with_open mid + length (take n (drop count spans)) → KeepsStored mid new → AddsFirst old spans (count + n) new
+adds_first_more old mid new spans count n within h k held stored = record {
+  adds = subst (λ (xs : List Span). Adds old (run_entries old.authority xs) new) (sym (take-add count n spans))
+      (adds_runs old mid new (take count spans) (take n (drop count spans)) h.adds k);
+  held_is = omega (arith, h.held_is, held, length-take-le n (drop count spans) within);
   stored_is = stored_then old mid new h.stored_is stored;
 }
 

@@ -7,13 +7,20 @@ use Rattle.krl_core.specs.Entry.{Entry}
 use Rattle.krl_core.specs.Naming.{EntryNames, IdOf, KeyOf, Name, NamesSame, SerialOf, Sha1Of, Sha256Of, SomeNames}
 use Rattle.krl_core.specs.Elements.{contains_none}
 use Rattle.krl_core.proofs.BothWays.{iff_or}
-use Rattle.krl_core.proofs.Same.{one_more}
+use Rattle.krl_core.proofs.Same.{one_more, some_append}
 
 pub same_meaning : (r : Contents) (entries others : List Entry) → Means r entries → NamesSame entries others → Means r others
 same_meaning r entries others m same = record { orderly = m.orderly; names = λ name. Iff.trans (m.names name) (same name) }
 
 pub same_naming : (r : Contents) (entries others : List Entry) → Means r entries → Means r others → NamesSame entries others
 same_naming r entries others m n name = Iff.trans (Iff.symm (m.names name)) (n.names name)
+
+-- what is held means some entries more where just what they name is held beside it
+pub means_all : (old new : Contents) (entries more : List Entry) → IsOrderly new → ((name : Name) → HoldsName new name ↔ (HoldsName old name ⊎ SomeNames more name)) → Means old entries → Means new (entries ++ more)
+means_all old new entries more orderly gains m = record {
+  orderly = orderly;
+  names = λ name. Iff.trans (gains name) (Iff.trans (iff_or (m.names name) Iff.rfl) (Iff.symm (some_append entries more name)));
+}
 
 -- what is held means one entry more where just what that one names is held beside it
 pub means_more : (old new : Contents) (entries : List Entry) (entry : Entry) → IsOrderly new → ((name : Name) → HoldsName new name ↔ (HoldsName old name ⊎ EntryNames entry name)) → Means old entries → Means new (entries ++ entry ∷ [])

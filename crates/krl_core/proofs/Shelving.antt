@@ -20,7 +20,7 @@ use Rattle.krl_core.proofs.Ordered.{above_map, below_map, inserts_map, rises_cha
 use Rattle.krl_core.proofs.Parted.{all_left, all_right, all_weaker}
 
 pub takes_authority : (addition : Addition) (from to : Section) → Takes addition from to → to.authority ≡ from.authority
-takes_authority (Serials lo hi) from to t = ap (λ (s : Section). s.authority) t.same
+takes_authority (Serials near) from to t = ap (λ (s : Section). s.authority) t.same
 takes_authority (Id text) from to t = ap (λ (s : Section). s.authority) t.same
 
 pub changes_rise : (addition : Addition) (authority : List ℕ) (old new : List Section) → ChangesOne (Takes addition) authority old new → RisesBy (λ section. section.authority) old → RisesBy (λ section. section.authority) new

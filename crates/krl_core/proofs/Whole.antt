@@ -12,7 +12,8 @@ use Rattle.krl_core.specs.declared.place.Place.TheVariants.{SectionType}
 use Rattle.krl_core.specs.Contents.{Contents}
 use Rattle.krl_core.specs.Entry.{Entry}
 use Rattle.krl_core.specs.Front.{limit, IsFirstFault, ended}
-use Rattle.krl_core.specs.Keeping.{Keeping, InStep, run_entries, open_run}
+use Rattle.krl_core.specs.Changes.{run_entries}
+use Rattle.krl_core.specs.Keeping.{Keeping, InStep, open_run}
 use Rattle.krl_core.specs.Naming.{NamesSame}
 use Rattle.krl_core.specs.Place.{due}
 use Rattle.krl_core.specs.Reading.{Position, HasRead, Follows, IsReached, IsWhole}

@@ -8,8 +8,9 @@ use Rattle.serial_set.specs.BitRuns.{FedBitmap, HasFault}
 use Rattle.krl_core.specs.declared.header.Header.{Header}
 use Rattle.krl_core.specs.declared.place.Place.{Place}
 use Rattle.krl_core.specs.declared.place.Place.TheVariants.{BitmapByte}
+use Rattle.krl_core.specs.Changes.{run_entries}
 use Rattle.krl_core.specs.Contents.{Contents, IsStoredWithin, Means, held}
-use Rattle.krl_core.specs.Entry.{Entry, RangeEntry, BitmapEntry}
+use Rattle.krl_core.specs.Entry.{Entry, BitmapEntry}
 use Rattle.krl_core.specs.Naming.{NamesSame}
 use Rattle.krl_core.specs.Place.{names, authority_after, header_after, base_of}
 
@@ -24,10 +25,6 @@ pub record Keeping : Type 0 where
 -- the run of the bitmap at hand with which its next byte may go on
 abbrev pub open_run : Keeping → List Span
 open_run keeping = option_to_list keeping.bitmap.pending
-
-abbrev pub run_entries : List ℕ → List Span → List Entry
-run_entries authority [] = []
-run_entries authority (run ∷ runs) = RangeEntry authority run.lo run.hi ∷ run_entries authority runs
 
 -- What is held means some entries, which with the open run name the same as these.
 pub record IsKept (keeping : Keeping) (entries : List Entry) : Type 0 where

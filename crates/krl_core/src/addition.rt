@@ -1,8 +1,10 @@
 // What can be added under an authority.
 
-/// The serials from `lo` to `hi`, or a key ID.
+use serial_set::Span;
+
+/// Serials, as spans that lie near each other, or a key ID.
 #[derive(Clone, Copy)]
 pub(crate) enum Addition<'a> {
-    Serials { lo: u64, hi: u64 },
+    Serials(&'a [Span]),
     Id(&'a [u8]),
 }

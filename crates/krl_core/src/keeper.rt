@@ -4,20 +4,22 @@ ghost use Rattle.std.specs.Prelude.{◌≡◌, ◌+◌, ◌^◌, ◌<◌, ◌≤
 ghost use Rattle.std.specs.Prelude.{length, All};
 ghost use Rattle.serial_set.specs.BitRuns.{Feeds, IsInterval};
 ghost use Rattle.serial_set.specs.Finished.{finished_of};
+ghost use Rattle.serial_set.specs.Near.{AreNear};
 ghost use Rattle.krl_core.specs.Authority.{IsAuthority, authority_bytes};
 ghost use Rattle.krl_core.specs.Entry.{SerialsEntry, RangeEntry, IdEntry, KeyEntry, Sha1Entry};
 ghost use Rattle.krl_core.specs.Entry.{Sha256Entry};
 ghost use Rattle.krl_core.specs.Front.{Passes, start};
 ghost use Rattle.krl_core.specs.Keeping.{Adds, Closes, GrowsWithin, InStep, IsKept, StoresWithin};
 ghost use Rattle.krl_core.specs.Keeping.{KeepsBits, KeepsField, KeepsRest, KeepsStored, TakesByte};
-ghost use Rattle.krl_core.specs.Keeping.{held_with_open, run_entries};
+ghost use Rattle.krl_core.specs.Changes.{run_entries};
+ghost use Rattle.krl_core.specs.Keeping.{held_with_open};
 ghost use Rattle.krl_core.specs.Reading.{is_fixed};
 
 use crate::field::{byte_of, u64_of};
 use crate::header::Header;
 use crate::place::Place;
 use crate::revocations::Revocations;
-use serial_set::{BitRuns, Finished, Span, Spans};
+use serial_set::{BitRuns, Finished, Span, Spans, count_near};
 use ssh_wire::Bytes;
 use std::alloc::{AllocError, Global};
 use std::marker::Model;
@@ -188,8 +190,21 @@ impl<S: Spans> Keeper<S> {
         ensures stored { KeepsStored self.old self.new }
         ensures rest { KeepsRest self.old self.new }
     {
-        self.held
-            .add_serials(under(self.authority.as_slice()), lo, hi)
+        self.add_near(&[Span { lo, hi }])
+    }
+
+    // Adds spans that lie near each other.
+    fn add_near(&mut self, near: &[Span]) -> Result<(), AllocError>
+        requires some { 0 < length near.now }
+        requires intervals { All IsInterval near.now }
+        requires near { AreNear near.now }
+        ensures adds { OnOk result
+            (Adds self.old (run_entries self.old.authority near.now) self.new) }
+        ensures held { held_with_open self.new ≤ held_with_open self.old + length near.now }
+        ensures stored { KeepsStored self.old self.new }
+        ensures rest { KeepsRest self.old self.new }
+    {
+        self.held.add_near(under(self.authority.as_slice()), near)
     }
 
     fn add_id(&mut self, id: &[u8]) -> Result<(), AllocError>
@@ -247,6 +262,7 @@ impl<S: Spans> Keeper<S> {
         }
     }
 
+    // Most bytes finish spans in one window alone, which one change adds.
     fn add_spans(&mut self, spans: &[Span]) -> Result<(), AllocError>
         requires { All IsInterval spans.now }
         ensures adds { OnOk result
@@ -255,8 +271,11 @@ impl<S: Spans> Keeper<S> {
         ensures stored { KeepsStored self.old self.new }
         ensures rest { KeepsRest self.old self.new }
     {
-        for span in spans {
-            self.add_span(span.lo, span.hi)?;
+        let mut at = 0;
+        while at < spans.len() {
+            let end = at + count_near(&spans[at..]);
+            self.add_near(&spans[at..end])?;
+            at = end;
         }
         Ok(())
     }

@@ -1,14 +1,16 @@
 // What is revoked.
-ghost use Rattle.std.specs.Prelude.{◌≡◌, ◌+◌, ◌<◌, ◌≤◌, ◌∷◌, [], length, OnOk, OnErr};
+ghost use Rattle.std.specs.Prelude.{◌≡◌, ◌+◌, ◌<◌, ◌≤◌, ◌∷◌, [], length, All, OnOk, OnErr};
+ghost use Rattle.serial_set.specs.BitRuns.{IsInterval};
+ghost use Rattle.serial_set.specs.Near.{AreNear};
 ghost use Rattle.krl_core.specs.Authority.{authority_bytes, IsAuthority};
-ghost use Rattle.krl_core.specs.Changes.{MeansMore};
+ghost use Rattle.krl_core.specs.Changes.{MeansMore, run_entries};
 ghost use Rattle.krl_core.specs.Contents.{IsNamed, Means, nothing, held, stored};
 ghost use Rattle.krl_core.specs.Entry.{RangeEntry, IdEntry, KeyEntry, Sha1Entry, Sha256Entry};
 
 use crate::addition::Addition;
 use crate::shelves::Shelves;
 use crate::text_map::TextMap;
-use serial_set::Spans;
+use serial_set::{Span, Spans};
 use std::alloc::{AllocError, Global};
 use std::collections::BTreeSet;
 use std::marker::Model;
@@ -73,8 +75,32 @@ impl<S: Spans> Revocations<S> {
             → stored self.new ≤ stored self.old }
         ensures named { OnOk result (IsNamed self.new (authority_bytes authority.entry)) }
     {
+        self.add_near(authority, &[Span { lo, hi }])
+    }
+
+    /// Revokes the serials of some spans, which lie near each other, with one search for the
+    /// authority. Fails only where memory runs out, and changes nothing then.
+    pub(crate) fn add_near(
+        &mut self,
+        authority: Option<&[u8]>,
+        near: &[Span],
+    ) -> Result<(), AllocError>
+        requires some { 0 < length near.now }
+        requires intervals { All IsInterval near.now }
+        requires near { AreNear near.now }
+        requires authority { IsAuthority authority }
+        ensures means { OnOk result (MeansMore self.old self.new
+            (run_entries (authority_bytes authority.entry) near.now)) }
+        ensures refused { OnErr result (self.new ≡ self.old) }
+        ensures held { held self.new ≤ held self.old + length near.now }
+        ensures stored { stored self.new
+            ≤ stored self.old + length (authority_bytes authority.entry) }
+        ensures known { IsNamed self.old (authority_bytes authority.entry)
+            → stored self.new ≤ stored self.old }
+        ensures named { OnOk result (IsNamed self.new (authority_bytes authority.entry)) }
+    {
         let bytes = bytes_or_none(authority);
-        let addition = Addition::Serials { lo, hi };
+        let addition = Addition::Serials(near);
         self.shelves.add(bytes, addition)?;
         Ok(())
     }

@@ -1,6 +1,6 @@
 // What is held under one authority.
 ghost use Rattle.std.specs.Prelude.{◌≡◌, ℕ, List, MatchResult, IfOk};
-ghost use Rattle.krl_core.specs.Changes.{Takes, IsOrdered, empty_section};
+ghost use Rattle.krl_core.specs.Changes.{Takes, IsOneChange, empty_section};
 
 use crate::addition::Addition;
 use crate::ids::Ids;
@@ -19,7 +19,7 @@ impl<S: Spans> Shelf<S> {
 
     /// A shelf that holds what is added and no more.
     pub(crate) fn with(alloc: Global, addition: Addition<'_>) -> Result<Shelf<S>, AllocError>
-        requires { IsOrdered addition }
+        requires { IsOneChange addition }
         ensures { (authority : List ℕ) → IfOk result (λ shelf. Takes addition.entry
             (empty_section authority) (section_of S.spans (authority, shelf))) }
     {
@@ -32,7 +32,7 @@ impl<S: Spans> Shelf<S> {
     }
 
     pub(crate) fn add(&mut self, alloc: Global, addition: Addition<'_>) -> Result<(), AllocError>
-        requires { IsOrdered addition }
+        requires { IsOneChange addition }
         ensures { (authority : List ℕ) → MatchResult result
             (λ _. Takes addition.entry (section_of S.spans (authority, self.old))
             (section_of S.spans (authority, self.new)))
@@ -40,7 +40,7 @@ impl<S: Spans> Shelf<S> {
             ≡ section_of S.spans (authority, self.old)) }
     {
         match addition {
-            Addition::Serials { lo, hi } => self.spans.add(lo, hi),
+            Addition::Serials(near) => self.spans.add_near(near),
             Addition::Id(text) => {
                 self.ids.put(alloc, text)?;
                 Ok(())

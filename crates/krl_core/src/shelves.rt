@@ -2,7 +2,7 @@
 ghost use Rattle.std.specs.Prelude.{◌≡◌, ◌<◌, [], MatchOption, OnErr, OnOk, Some};
 ghost use Rattle.std.specs.Prelude.{length, slice_get};
 ghost use Rattle.krl_core.specs.Asked.{Stands};
-ghost use Rattle.krl_core.specs.Changes.{IsOrdered, AddsTo};
+ghost use Rattle.krl_core.specs.Changes.{IsOneChange, AddsTo};
 ghost use Rattle.krl_core.specs.Contents.{SomeSection};
 ghost use Rattle.krl_core.specs.Shelf.{AddsAt, section_of};
 
@@ -87,7 +87,7 @@ impl<S: Spans> Shelves<S> {
 
     /// Adds under an authority. A shelf that is new is made whole before it is put in.
     pub(crate) fn add(&mut self, authority: &[u8], addition: Addition<'_>) -> Result<(), AllocError>
-        requires { IsOrdered addition }
+        requires { IsOneChange addition }
         ensures ok { OnOk result (AddsTo addition.entry authority.now self.old self.new) }
         ensures err { OnErr result (self.new ≡ self.old) }
     {
@@ -105,7 +105,7 @@ impl<S: Spans> Shelves<S> {
     // Adds under an authority that has no shelf.
     fn start(&mut self, authority: &[u8], addition: Addition<'_>) -> Result<(), AllocError>
         requires absent { ¬ SomeSection (λ section. section.authority ≡ authority.now) self.old }
-        requires ordered { IsOrdered addition }
+        requires one_change { IsOneChange addition }
         ensures ok { OnOk result (AddsTo addition.entry authority.now self.old self.new) }
         ensures err { OnErr result (self.new ≡ self.old) }
     {
@@ -128,7 +128,7 @@ fn add_at<S: Spans>(
     addition: Addition<'_>,
 ) -> Result<(), AllocError>
     requires within { place < length shelves.old.items }
-    requires ordered { IsOrdered addition }
+    requires one_change { IsOneChange addition }
     ensures { AddsAt S.spans addition.entry place result shelves.old.items shelves.new.items }
 {
     shelves[place].add(alloc, addition)

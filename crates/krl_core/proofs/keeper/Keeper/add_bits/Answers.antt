@@ -1,7 +1,8 @@
 use Rattle.std.proofs.Common.{ap, arith}
 use Rattle.std.proofs.lemmas.Result.{on_ok_weaker}
 use Rattle.serial_set.specs.Finished.{finished_of}
-use Rattle.krl_core.specs.Keeping.{Adds, run_entries, held_with_open}
+use Rattle.krl_core.specs.Changes.{run_entries}
+use Rattle.krl_core.specs.Keeping.{Adds, held_with_open}
 use Rattle.std.proofs.Common.{◌≤◌, ◌+◌, length}
 use Rattle.krl_core.proofs.Bits.{bits_go_on, bits_close, fed_few}
 use Rattle.krl_core.proofs.Keeping.{grows_one, stored_then}

@@ -1,6 +1,13 @@
+use Rattle.std.proofs.Common.{◌-◌, ◌≤◌, length}
 use Rattle.krl_core.proofs.Keeping.{AddsFirst}
 use Rattle.krl_core.proofs.keeper.Keeper.add_spans.Given as goal
 
--- the spans before the index were added
-abbrev pub invariant-loop-span : goal.invariant-loop-span
-invariant-loop-span g l = AddsFirst l.fn.self l.fn.spans l.span-index l.self
+-- the spans before `at` were added
+abbrev pub invariant-loop-at : goal.invariant-loop-at
+invariant-loop-at g l = record {
+  within : l.at ≤ length l.spans;
+  adds : AddsFirst l.fn.self l.fn.spans l.at l.self;
+}
+
+abbrev pub decreases-loop-at : goal.decreases-loop-at
+decreases-loop-at g l = length l.spans - l.at

@@ -1,0 +1,11 @@
+use Rattle.std.proofs.Common.{refl}
+use Rattle.std.proofs.lemmas.Result.{on_ok_weaker}
+use Rattle.krl_core.specs.Changes.{run_entries}
+use Rattle.krl_core.proofs.Keeping.{adds_all}
+use Rattle.krl_core.proofs.keeper.Keeper.add_near.Goals as goal
+
+pub returns-clause-adds : goal.returns-clause-adds
+returns-clause-adds g c =
+    rw (← c.self.view_is) (on_ok_weaker c.add_near.result
+    (λ means. adds_all _ _ (run_entries c.self.inside.authority.items c.args.near.now) (record { authority_is = refl; header_is = refl; bitmap_is = refl })
+    (rw (c.under.ensures.bytes, c.as_slice.ensures.value) at means)) c.add_near.ensures.means)
