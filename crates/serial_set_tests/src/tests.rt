@@ -1,5 +1,6 @@
 mod adding;
 mod bitmaps;
+mod near;
 mod page;
 mod pages;
 mod walk;

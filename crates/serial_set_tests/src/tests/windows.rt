@@ -10,20 +10,20 @@ use std::process::Abort;
 
 // Whether each number from one on is a member.
 #[derive(Drop)]
-struct Plain {
+pub struct Plain {
     from: u64,
     members: [bool; 320],
 }
 
 impl Plain {
-    fn empty(from: u64) -> Plain {
+    pub fn empty(from: u64) -> Plain {
         Plain {
             from,
             members: [false; 320],
         }
     }
 
-    fn add(&mut self, lo: u64, hi: u64) {
+    pub fn add(&mut self, lo: u64, hi: u64) {
         let mut number = self.from;
         for member in self.members.iter_mut() {
             if lo <= number && number <= hi {
@@ -56,7 +56,7 @@ impl Plain {
 }
 
 // Whether the set has just the members, as their runs.
-fn agrees<S: Spans>(rt: &impl Abort, alloc: Global, set: &S, plain: &Plain) -> bool {
+pub fn agrees<S: Spans>(rt: &impl Abort, alloc: Global, set: &S, plain: &Plain) -> bool {
     let due = plain.runs(alloc).expect(rt, "there is memory");
     let list = list_of(alloc, set).expect(rt, "there is memory");
     if list.as_slice() != due.as_slice() || set.len() != due.len() {

@@ -1,0 +1,5 @@
+use Rattle.std.proofs.Common.{◌≡◌, ◌+◌}
+use Rattle.serial_set_tests.proofs.tests.near.adds_bitmap.Given as goal
+
+abbrev pub invariant-loop-place : goal.invariant-loop-place
+invariant-loop-place g l = l.bits.due + l.place ≡ 36
