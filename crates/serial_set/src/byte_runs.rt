@@ -78,6 +78,9 @@ pub fn runs_of_byte(pending: Option<Span>, offset: u64, place: u64, byte: u8) ->
         pending,
         finished: Finished::none(),
     };
+    if byte == 0 && pending.is_none() {
+        return runs;
+    }
     for bit in (0..8).rev() {
         match serial_at(offset, place, byte, bit) {
             Some(serial) => runs.extend(serial),

@@ -16,6 +16,9 @@ pub fn count_near(spans: &[Span]) -> usize
     ensures within { result ≤ length spans.now }
     ensures near { AreNear (take result spans.now) }
 {
+    if spans.len() == 1 {
+        return 1;
+    }
     let window = spans[0].lo / 64;
     let mut count = 0;
     while count < spans.len() && lies_in(spans[count], window) {
