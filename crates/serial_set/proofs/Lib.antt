@@ -14,4 +14,5 @@ pub mod InWalk
 pub mod InWords
 pub mod Placed
 pub mod Refused
+pub mod Taking
 pub mod Touching

@@ -1,6 +1,6 @@
 -- One set has one rising list, and no list of intervals with the same members is shorter.
-use Rattle.std.proofs.Common.{◌≡◌, ℕ, ◌+◌, ◌≤◌, ◌⊎◌, List, [], ◌∷◌, ◌++◌, length, refl, sym, subst}
-use Rattle.std.proofs.Common.{ap, ◌∙◌, inl, inr, arith, length-append}
+use Rattle.std.proofs.Common.{◌≡◌, ℕ, ◌+◌, ◌≤◌, ◌⊎◌, List, [], ◌∷◌, ◌++◌, length, take, refl, sym}
+use Rattle.std.proofs.Common.{subst, ap, ◌∙◌, inl, inr, arith, length-append}
 use Rattle.std.specs.Prelude.{◌↔◌}
 use Rattle.std.proofs.lemmas.Bool.{cases_lt}
 use Rattle.serial_set.specs.declared.span.Span.{Span}
@@ -58,6 +58,31 @@ unique_from a b (x ∷ xs) (y ∷ ys) r t to from =
 pub runs_unique : (xs ys : List Span) → IsRuns xs → IsRuns ys
     → ((s : ℕ) → Covers xs s ↔ Covers ys s) → xs ≡ ys
 runs_unique xs ys r t same = unique_from 0 0 xs ys r t (λ s. (same s).0) (λ s. (same s).1)
+
+-- runs that are among others, and have each number of these up to the one after their own, are the
+-- first of them
+pub runs_first : (a b : ℕ) (xs ys : List Span) → RunsFrom a xs → RunsFrom b ys
+    → ((s : ℕ) → Covers xs s → Covers ys s)
+    → ((s t : ℕ) → Covers xs t → s ≤ t + 1 → Covers ys s → Covers xs s) → xs ≡ take (length xs) ys
+runs_first a b [] ys r t to from = refl
+runs_first a b (x ∷ xs) [] r t to from = absurd (to x.lo (inl (omega arith, r.1)))
+runs_first a b (x ∷ xs) (y ∷ ys) r t to from =
+    let lower = first_no_lower a b x y xs ys r t to in
+    let begins = from y.lo x.lo (inl (omega arith, r.1)) (omega arith) (inl (omega arith, t.1)) in
+    let upper = names_from x.lo (x ∷ xs) y.lo (omega arith, r.1, r.2) begins in
+    let lo : x.lo ≡ y.lo = omega arith in
+    let shorter = first_no_longer b a y x ys xs t r (sym lo) to in
+    let hi : x.hi ≡ y.hi = elim (cases_lt x.hi y.hi) [
+      | inl longer ↦ absurd (gap a x xs r (from (x.hi + 1) x.hi (inl (r.1, omega arith))
+          (omega arith) (inl (omega arith, omega arith))))
+      | inr upto ↦ omega arith
+    ] in
+    let rest = runs_first (x.hi + 2) (y.hi + 2) xs ys r.2 t.2 (rest_to a b x y xs ys r hi to)
+    (λ s u m h n. elim (from s u (inr m) h (inr n)) [
+      | inl here ↦ absurd (omega (arith, hi, here.1, names_from (y.hi + 2) ys s t.2 n))
+      | inr later ↦ later
+    ]) in
+    ap (λ z. z ∷ xs) (same_span x y lo hi) ∙ ap (λ zs. y ∷ zs) rest
 
 -- ---- the shortest list
 

@@ -1,8 +1,10 @@
 -- The first of the members from a number on, and members that follow each other.
-use Rattle.std.specs.Prelude.{◌≡◌, ℕ, ◌+◌, ◌≤◌, ◌<◌, List, [], ◌∷◌, Option, Some, None}
+use Rattle.std.specs.Prelude.{◌≡◌, ℕ, ◌+◌, ◌≤◌, ◌<◌, ◌↔◌, List, [], ◌∷◌, Option, Some, None}
 use Rattle.std.specs.Int.{bit_at}
 use Rattle.serial_set.specs.declared.span.Span.{Span}
-use Rattle.serial_set.specs.Span.{Covers}
+use Rattle.serial_set.specs.declared.entry.Entry.{Entry}
+use Rattle.serial_set.specs.Entry.{hi_of, pieces}
+use Rattle.serial_set.specs.Span.{Covers, IsRunsOf}
 use Rattle.serial_set.specs.Walk.{since}
 
 -- the first of the lowest 64 bits that is set, from a place on
@@ -28,3 +30,15 @@ pub record GoesOn (spans : List Span) (from to : ℕ) : Type 0 where
 abbrev pub IsRunFrom : List Span → ℕ → Option Span → Type 0
 IsRunFrom spans number None = since number spans ≡ []
 IsRunFrom spans number (Some span) = since number spans ≡ span ∷ since (span.hi + 1) spans
+
+-- runs that are those of the members from one number up to another
+pub record Taken (spans : List Span) (number at : ℕ) (runs : List Span) : Type 0 where
+  pub from : number ≤ at
+  pub are : IsRunsOf runs (λ s. (number ≤ s) × (s < at) × Covers spans s)
+
+-- the members from one number to the end of an entry are its own from another on
+pub record Reads (spans : List Span) (at : ℕ) (entry : Entry) (number : ℕ) : Type 0 where
+  pub from : number ≤ hi_of entry
+  pub to : at ≤ hi_of entry
+  pub same : (s : ℕ) → s ≤ hi_of entry
+      → ((at ≤ s) × Covers spans s) ↔ ((number ≤ s) × Covers (pieces entry) s)

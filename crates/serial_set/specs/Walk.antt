@@ -274,7 +274,8 @@ since_clipped n [] h = refl
 since_clipped n (x ∷ xs) h =
     let first : n ≤ x.hi = All-head (λ t. n ≤ t.hi) x xs h in
     elim (leb_tells n x.hi) [
-      | inl goes ↦ subst (λ v. since_by v n x xs (since n xs) ≡ clipped n (x ∷ xs)) (sym goes.0) refl
+      | inl goes ↦
+          subst (λ v. since_by v n x xs (since n xs) ≡ clipped n (x ∷ xs)) (sym goes.0) refl
       | inr ends ↦ absurd (omega arith)
     ]
 
@@ -314,3 +315,24 @@ since_behind n (suc k) [] h = refl
 since_behind n (suc k) (x ∷ xs) h =
     let first : x.hi < n = All-head (λ t. t.hi < n) x (take k xs) h in
     since_past n x xs first ∙ since_behind n k xs (All-tail (λ t. t.hi < n) x (take k xs) h)
+
+-- ---- how many runs there are
+
+few_from : (a : ℕ) (spans : List Span) → RunsFrom a spans
+    → ((s : ℕ) → Covers spans s → s < 2 ^ 64) → a ≤ 2 ^ 64 → length spans + a ≤ 2 ^ 64
+few_from a [] r fits h = omega arith
+few_from a (x ∷ []) r fits h =
+    let end : x.hi < 2 ^ 64 = fits x.hi (inl (r.1, omega arith)) in omega arith
+few_from a (x ∷ (y ∷ ys)) r fits h =
+    let far : y.hi < 2 ^ 64 = fits y.hi (inr (inl (r.2.1, omega arith))) in
+    let more = few_from (x.hi + 1) (y ∷ ys) (omega arith, r.2.1, r.2.2) (λ s n. fits s (inr n))
+    (omega arith) in
+    omega arith
+
+-- runs of serials are fewer than the numbers of 64 bits
+pub runs_few : (spans : List Span) → IsRuns spans → AreSerials spans → length spans < 2 ^ 64
+runs_few [] r fits = omega arith
+runs_few (x ∷ xs) r fits =
+    let at = fits x.lo (inl (omega arith, r.1)) in
+    let few = few_from 1 (x ∷ xs) (omega arith, r.1, r.2) (λ s n. (fits s n).1) (omega arith) in
+    omega arith

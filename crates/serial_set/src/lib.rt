@@ -19,6 +19,7 @@ mod page;
 mod pages;
 mod piece;
 mod place;
+mod runs;
 mod search;
 mod span;
 mod span_vec;

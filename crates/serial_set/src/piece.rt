@@ -1,4 +1,4 @@
-ghost use Rattle.std.specs.Prelude.{◌≡◌, ◌≤◌, ◌<◌, ◌+◌, ◌++◌, [], ◌∷◌, length, take, All};
+ghost use Rattle.std.specs.Prelude.{◌≡◌, ◌≤◌, ◌<◌, ◌+◌, ◌++◌, ◌↔◌, ℕ, [], ◌∷◌, length, take, All, MatchOption, IsTrue, false};
 
 use crate::span::Span;
 use crate::walk::next_after;
@@ -12,6 +12,7 @@ pub struct Piece {
 }
 
 impl Piece {
+    ghost use Rattle.serial_set.specs.Span.{AddsSpan, Covers, IsRuns};
     ghost use Rattle.serial_set.specs.Walk.{clipped, next_of, piece_of, since};
 
     pub(crate) fn none() -> Piece
@@ -31,6 +32,56 @@ impl Piece {
     {
         self.spans[usize::from(self.count)] = span;
         self.count += 1;
+    }
+
+    /// Whether there is no room for one more.
+    pub(crate) fn is_full(&self) -> bool
+        ensures { IsTrue result ↔ (32 ≤ self.now.count) }
+    {
+        self.count >= 32
+    }
+
+    pub(crate) fn is_empty(&self) -> bool
+        ensures none { IsTrue result → self.now.count ≡ 0 }
+        ensures some { result ≡ false → 0 < length (piece_of self.now) }
+    {
+        self.count == 0
+    }
+
+    /// Takes the last run away.
+    pub(crate) fn pop(&mut self) -> Option<Span>
+        ensures runs { MatchOption result
+            ((piece_of self.old ≡ []) × (piece_of self.new ≡ []))
+            (λ last. piece_of self.old ≡ piece_of self.new ++ last ∷ []) }
+        ensures count { MatchOption result
+            (self.new.count ≡ 0)
+            (λ _. self.old.count ≡ self.new.count + 1) }
+    {
+        if self.count == 0 {
+            return None;
+        }
+        self.count -= 1;
+        Some(self.spans[usize::from(self.count)])
+    }
+
+    /// Puts a span after the runs. Where it touches the last of them, that one gets longer.
+    pub(crate) fn join(&mut self, lo: u64, hi: u64)
+        requires room { self.old.count < 32 }
+        requires ordered { lo ≤ hi }
+        requires runs { IsRuns (piece_of self.old) }
+        requires past { (s : ℕ) → Covers (piece_of self.old) s → s < lo }
+        ensures { AddsSpan (piece_of self.old) lo hi (piece_of self.new) }
+    {
+        let Some(last) = self.pop() else {
+            self.push(Span { lo, hi });
+            return;
+        };
+        if last.hi + 1 == lo {
+            self.push(Span { lo: last.lo, hi });
+            return;
+        }
+        self.push(last);
+        self.push(Span { lo, hi });
     }
 
     // The first of some runs.

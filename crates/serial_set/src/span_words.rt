@@ -1,13 +1,11 @@
-ghost use Rattle.std.specs.Prelude.{◌≡◌, ◌+◌, ◌*◌, ◌^◌, ◌<◌, ◌≤◌, ◌⊎◌, ◌↔◌, ◌++◌, ℕ, [], length, slice_get, false, All, IsTrue, IsSome, IfSome, IfOk, IfErr, OnOk, OnErr};
+ghost use Rattle.std.specs.Prelude.{◌≡◌, ◌*◌, ◌^◌, ◌<◌, ◌≤◌, ◌⊎◌, ◌↔◌, ℕ, [], length, false, All, IsTrue, IfOk, OnOk, OnErr};
 ghost use Rattle.serial_set.specs.Additions.{Stands};
 ghost use Rattle.serial_set.specs.Entry.{lo_of, hi_of, EntriesFrom, members_of, pieces, runs_of};
 ghost use Rattle.serial_set.specs.Entries.{Replaces, runs_of_entries, serials_of_runs};
 ghost use Rattle.serial_set.specs.Pages.{entries_of};
 ghost use Rattle.serial_set.specs.Few.{few_of};
-ghost use Rattle.serial_set.specs.Members.{GoesOn, IsFirst, IsRunFrom};
 ghost use Rattle.serial_set.specs.Places.{IsEntryFrom, IsListFrom, PutIf, order_prop};
 ghost use Rattle.serial_set.specs.Span.{AreSerials, Covers, IsRunsOf};
-ghost use Rattle.serial_set.specs.Walk.{IsPiece, left, piece_of};
 ghost use Rattle.serial_set.specs.Words.{BitCovers};
 
 use crate::entry::Entry;
@@ -45,11 +43,17 @@ impl SpanWords {
         }
     }
 
-    /// The entries from the first that ends at a number or past it on, as many as lie together.
-    pub(crate) fn list_from(&self, number: u64) -> &[Entry]
+    /// The entries from the first that ends at a number or past it on, as many as lie together. The
+    /// page `near` is looked at first.
+    pub(crate) fn list_near(&self, number: u64, near: usize) -> &[Entry]
         ensures { IsListFrom (entries_held self.now) number result.now }
     {
-        list_in(&self.pages, number, self.last.0)
+        list_in(&self.pages, number, near)
+    }
+
+    /// The page where a number may well stand.
+    pub(crate) fn page_near(&self, number: u64) -> usize {
+        page_near(&self.pages, number, self.last.0)
     }
 
     /// The first entry that ends at a number or past it.
@@ -66,11 +70,11 @@ impl SpanWords {
         entry_in(&self.pages, self.last)
     }
 
-    // The same as `entry_from`, where the page `near` is looked at first.
-    fn entry_near(&self, number: u64, near: usize) -> Option<Entry>
+    /// The same as `entry_from`, where the page `near` is looked at first.
+    pub(crate) fn entry_near(&self, number: u64, near: usize) -> Option<Entry>
         ensures { IsEntryFrom (entries_held self.now) number result }
     {
-        let list = list_in(&self.pages, number, near);
+        let list = self.list_near(number, near);
         if list.len() > 0 { Some(list[0]) } else { None }
     }
 
@@ -81,158 +85,14 @@ impl SpanWords {
         self.has_near(number, self.last.0)
     }
 
-    fn has_near(&self, number: u64, near: usize) -> bool
+    /// The same, where the page `near` is looked at first.
+    pub(crate) fn has_near(&self, number: u64, near: usize) -> bool
         ensures { IsTrue result ↔ Covers (members_of (entries_held self.now)) number }
     {
         match self.entry_near(number, near) {
             Some(entry) => entry.has(number),
             None => false,
         }
-    }
-
-    // Whether the number after a number is a member.
-    fn has_after(&self, number: u64, near: usize) -> bool
-        ensures { IsTrue result ↔ Covers (members_of (entries_held self.now)) (number + 1) }
-    {
-        if number == u64::MAX {
-            return false;
-        }
-        self.has_near(number + 1, near)
-    }
-
-    // The first member from a number on, as far as the first entry there says it, and else the
-    // number past that entry.
-    fn first_or_next(&self, number: u64, near: usize) -> Result<Option<u64>, u64>
-        ensures first { IfOk result
-            (λ first. IsFirst (members_of (entries_held self.now)) number first) }
-        ensures next { IfErr result (λ next. number < next) }
-        ensures none { IfErr result (λ next. (s : ℕ) → number ≤ s → s < next
-            → Covers (members_of (entries_held self.now)) s → ⊥) }
-    {
-        let Some(entry) = self.entry_near(number, near) else {
-            return Ok(None);
-        };
-        match entry.first_from(number) {
-            Some(first) => Ok(Some(first)),
-            None => match entry.hi().checked_add(1) {
-                Some(next) => Err(next),
-                None => Ok(None),
-            },
-        }
-    }
-
-    // The first member from a number on. No word lacks a member, but that is not known here.
-    fn first_near(&self, number: u64, near: usize) -> Option<u64>
-        ensures { IsFirst (members_of (entries_held self.now)) number result }
-    {
-        let mut at = number;
-        loop {
-            match self.first_or_next(at, near) {
-                Ok(first) => return first,
-                Err(next) => at = next,
-            }
-        }
-    }
-
-    // The last of the members of one entry that follow a member without a gap.
-    fn last_near(&self, member: u64, near: usize) -> u64
-        requires { Covers (members_of (entries_held self.now)) member }
-        ensures { GoesOn (members_of (entries_held self.now)) member result }
-    {
-        match self.entry_near(member, near) {
-            Some(entry) => entry.last_from(member),
-            None => unreachable!(),
-        }
-    }
-
-    // Where the run of a member ends.
-    fn end_near(&self, member: u64, near: usize) -> u64
-        requires { Covers (members_of (entries_held self.now)) member }
-        ensures on { GoesOn (members_of (entries_held self.now)) member result }
-        ensures stops { Covers (members_of (entries_held self.now)) (result + 1) → ⊥ }
-    {
-        let mut from = member;
-        loop {
-            let last = self.last_near(from, near);
-            if !self.has_after(last, near) {
-                return last;
-            }
-            from = last + 1;
-        }
-    }
-
-    // The first run of the members from a number on.
-    fn run_near(&self, number: u64, near: usize) -> Option<Span>
-        ensures { IsRunFrom (runs_of (entries_held self.now)) number result }
-    {
-        match self.first_near(number, near) {
-            Some(lo) => Some(Span {
-                lo,
-                hi: self.end_near(lo, near),
-            }),
-            None => None,
-        }
-    }
-
-    // Gives one run more to a piece, the first of those that are left, and says what is left.
-    fn push_run(&self, piece: &mut Piece, next: Option<u64>, near: usize) -> Option<u64>
-        requires { piece.old.count < 32 }
-        ensures left { piece_of piece.new ++ left result (runs_of (entries_held self.now))
-            ≡ piece_of piece.old ++ left next (runs_of (entries_held self.now)) }
-        ensures count { piece.new.count ≤ piece.old.count + 1 }
-        ensures longer { IfSome result
-            (λ _. length (piece_of piece.new) ≡ length (piece_of piece.old) + 1) }
-        ensures again { IfSome result (λ _. IsSome next) }
-    {
-        let run = self.run_near(next?, near)?;
-        piece.push(run);
-        run.hi.checked_add(1)
-    }
-
-    /// The first runs of the members from a number on, as many as a piece has room for.
-    pub(crate) fn runs_from(&self, number: u64) -> Piece
-        ensures { IsPiece (runs_of (entries_held self.now)) number (piece_of result) }
-    {
-        let near = page_near(&self.pages, number, self.last.0);
-        let mut piece = Piece::none();
-        let mut next = Some(number);
-        for _ in 0..32_u8 {
-            next = self.push_run(&mut piece, next, near);
-        }
-        piece
-    }
-
-    /// How many runs the members are.
-    pub(crate) fn count_runs(&self) -> usize
-        ensures { result ≡ length (runs_of (entries_held self.now)) }
-    {
-        let mut count = 0;
-        let mut next = Some(0);
-        while let Some(at) = next {
-            let piece = self.runs_from(at);
-            count += piece.as_slice().len();
-            next = piece.next();
-        }
-        count
-    }
-
-    /// The run at a place of the list of all runs.
-    pub(crate) fn run_at(&self, at: usize) -> Span
-        requires { at < length (runs_of (entries_held self.now)) }
-        ensures { slice_get (runs_of (entries_held self.now)) at ≡ Some result }
-    {
-        let mut rest = at;
-        let mut next = Some(0);
-        while let Some(number) = next {
-            let piece = self.runs_from(number);
-            let runs = piece.as_slice();
-            if rest < runs.len() {
-                return runs[rest];
-            }
-            rest -= runs.len();
-            next = piece.next();
-        }
-        unreachable!()
     }
 
     /// Puts an entry between others, where none of them reaches into its stretch and their page has

@@ -1,0 +1,206 @@
+//! The runs of a set, as a walk comes to them.
+ghost use Rattle.std.specs.Prelude.{◌≡◌, ◌+◌, ◌<◌, ◌≤◌, ◌↔◌, ◌⊎◌, ℕ, length, take, slice_get, IsTrue, IfErr, IfOk};
+ghost use Rattle.serial_set.specs.Entry.{hi_of, members_of, runs_of};
+ghost use Rattle.serial_set.specs.Members.{GoesOn, IsFirst, IsRunFrom, Reads, Taken};
+ghost use Rattle.serial_set.specs.Span.{Covers};
+ghost use Rattle.serial_set.specs.SpanWords.{entries_held};
+ghost use Rattle.serial_set.specs.Walk.{IsPiece, piece_of, since};
+
+use crate::entry::Entry;
+use crate::piece::Piece;
+use crate::span::Span;
+use crate::span_words::SpanWords;
+
+impl SpanWords {
+    /// The first runs of the members from a number on, as many as a piece has room for, or as lie
+    /// together.
+    pub(crate) fn runs_from(&self, number: u64) -> Piece
+        ensures { IsPiece (runs_of (entries_held self.now)) number (piece_of result) }
+    {
+        let near = self.page_near(number);
+        let mut piece = Piece::none();
+        self.take_whole(&mut piece, number, near);
+        if piece.is_empty() {
+            self.take_first(&mut piece, number, near);
+        }
+        piece
+    }
+
+    // Takes the runs that lie together, but for one that goes on past them.
+    fn take_whole(&self, piece: &mut Piece, number: u64, near: usize)
+        requires { piece.old.count ≡ 0 }
+        ensures { piece_of piece.new ≡ take (length (piece_of piece.new))
+            (since number (runs_of (entries_held self.now))) }
+    {
+        self.take_near(piece, number, near);
+        if let Some(last) = piece.pop() {
+            if !self.has_after(last.hi, near) {
+                piece.push(last);
+            }
+        }
+    }
+
+    // Takes the runs of the members from a number on up to one where the piece is full or where
+    // what lies together ends. The last of them may go on there.
+    fn take_near(&self, piece: &mut Piece, number: u64, near: usize)
+        requires { piece.old.count ≡ 0 }
+        ensures { (at : ℕ) × Taken (members_of (entries_held self.now)) number at
+            (piece_of piece.new) }
+    {
+        let entries = self.list_near(number, near);
+        for at in 0..entries.len() {
+            if !self.take_entry(piece, entries[at], number) {
+                return;
+            }
+        }
+    }
+
+    // Takes the runs of an entry's members from a number on, and says whether it took them all.
+    fn take_entry(&self, piece: &mut Piece, entry: Entry, number: u64) -> bool
+        requires { (at : ℕ) × (Taken (members_of (entries_held self.now)) number at
+            (piece_of piece.old) × Reads (members_of (entries_held self.now)) at entry number) }
+        ensures { (at : ℕ) × (Taken (members_of (entries_held self.now)) number at
+            (piece_of piece.new) × (IsTrue result → at ≡ hi_of entry + 1)) }
+    {
+        let mut from = number;
+        while !piece.is_full() {
+            let Some(lo) = entry.first_from(from) else {
+                return true;
+            };
+            let hi = entry.last_from(lo);
+            piece.join(lo, hi);
+            if hi == entry.hi() {
+                return true;
+            }
+            from = hi + 1;
+        }
+        false
+    }
+
+    // Takes the first run of the members from a number on, wherever it ends.
+    fn take_first(&self, piece: &mut Piece, number: u64, near: usize)
+        requires { piece.old.count ≡ 0 }
+        ensures { IsPiece (runs_of (entries_held self.now)) number (piece_of piece.new) }
+    {
+        if let Some(run) = self.run_near(number, near) {
+            piece.push(run);
+        }
+    }
+
+    // The first run of the members from a number on.
+    fn run_near(&self, number: u64, near: usize) -> Option<Span>
+        ensures { IsRunFrom (runs_of (entries_held self.now)) number result }
+    {
+        match self.first_near(number, near) {
+            Some(lo) => Some(Span {
+                lo,
+                hi: self.end_near(lo, near),
+            }),
+            None => None,
+        }
+    }
+
+    // The first member from a number on, as far as the first entry there says it, and else the
+    // number past that entry.
+    fn first_or_next(&self, number: u64, near: usize) -> Result<Option<u64>, u64>
+        ensures first { IfOk result
+            (λ first. IsFirst (members_of (entries_held self.now)) number first) }
+        ensures next { IfErr result (λ next. number < next) }
+        ensures none { IfErr result (λ next. (s : ℕ) → number ≤ s → s < next
+            → Covers (members_of (entries_held self.now)) s → ⊥) }
+    {
+        let Some(entry) = self.entry_near(number, near) else {
+            return Ok(None);
+        };
+        match entry.first_from(number) {
+            Some(first) => Ok(Some(first)),
+            None => match entry.hi().checked_add(1) {
+                Some(next) => Err(next),
+                None => Ok(None),
+            },
+        }
+    }
+
+    // The first member from a number on. No word lacks a member, but that is not known here.
+    fn first_near(&self, number: u64, near: usize) -> Option<u64>
+        ensures { IsFirst (members_of (entries_held self.now)) number result }
+    {
+        let mut at = number;
+        loop {
+            match self.first_or_next(at, near) {
+                Ok(first) => return first,
+                Err(next) => at = next,
+            }
+        }
+    }
+
+    // The last of the members of one entry that follow a member without a gap.
+    fn last_near(&self, member: u64, near: usize) -> u64
+        requires { Covers (members_of (entries_held self.now)) member }
+        ensures { GoesOn (members_of (entries_held self.now)) member result }
+    {
+        match self.entry_near(member, near) {
+            Some(entry) => entry.last_from(member),
+            None => unreachable!(),
+        }
+    }
+
+    // Where the run of a member ends.
+    fn end_near(&self, member: u64, near: usize) -> u64
+        requires { Covers (members_of (entries_held self.now)) member }
+        ensures on { GoesOn (members_of (entries_held self.now)) member result }
+        ensures stops { Covers (members_of (entries_held self.now)) (result + 1) → ⊥ }
+    {
+        let mut from = member;
+        loop {
+            let last = self.last_near(from, near);
+            if !self.has_after(last, near) {
+                return last;
+            }
+            from = last + 1;
+        }
+    }
+
+    // Whether the number after a number is a member.
+    fn has_after(&self, number: u64, near: usize) -> bool
+        ensures { IsTrue result ↔ Covers (members_of (entries_held self.now)) (number + 1) }
+    {
+        if number == u64::MAX {
+            return false;
+        }
+        self.has_near(number + 1, near)
+    }
+
+    /// How many runs the members are.
+    pub(crate) fn count_runs(&self) -> usize
+        ensures { result ≡ length (runs_of (entries_held self.now)) }
+    {
+        let mut count = 0;
+        let mut next = Some(0);
+        while let Some(at) = next {
+            let piece = self.runs_from(at);
+            count += piece.as_slice().len();
+            next = piece.next();
+        }
+        count
+    }
+
+    /// The run at a place of the list of all runs.
+    pub(crate) fn run_at(&self, at: usize) -> Span
+        requires { at < length (runs_of (entries_held self.now)) }
+        ensures { slice_get (runs_of (entries_held self.now)) at ≡ Some result }
+    {
+        let mut rest = at;
+        let mut next = Some(0);
+        while let Some(number) = next {
+            let piece = self.runs_from(number);
+            let runs = piece.as_slice();
+            if rest < runs.len() {
+                return runs[rest];
+            }
+            rest -= runs.len();
+            next = piece.next();
+        }
+        unreachable!()
+    }
+}
