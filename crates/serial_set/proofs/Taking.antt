@@ -1,5 +1,5 @@
 -- Runs that are taken one after the other.
-use Rattle.std.proofs.Common.{◌≡◌, ℕ, ◌+◌, ◌<◌, ◌≤◌, ◌⊎◌, List, [], ◌∷◌, ◌++◌, Some, None, length, take, max, refl, sym, subst, ap, inl, inr, arith, ◌∙◌, append_assoc}
+use Rattle.std.proofs.Common.{◌≡◌, ℕ, ◌+◌, ◌<◌, ◌≤◌, ◌⊎◌, List, [], ◌∷◌, ◌++◌, Some, None, get_or, length, take, max, refl, sym, subst, inl, inr, arith, ◌∙◌, append_assoc}
 use Rattle.std.specs.Prelude.{◌↔◌}
 use Rattle.std.specs.List.{All}
 use Rattle.std.proofs.lemmas.Bool.{cases_lt}
@@ -11,9 +11,9 @@ use Rattle.serial_set.specs.Entry.{hi_of, lo_of, members_of, pieces, runs_of, En
 use Rattle.serial_set.specs.Least.{runs_first}
 use Rattle.serial_set.specs.Members.{GoesOn, IsFirst, Reads, Taken}
 use Rattle.serial_set.specs.Places.{IsEntryFrom, IsListFrom}
-use Rattle.serial_set.specs.Rising.{names_append, names_left, names_right, runs_apart, runs_front, runs_join, runs_middle, runs_reach}
+use Rattle.serial_set.specs.Rising.{names_append, names_at, names_left, names_right, runs_apart, runs_front, runs_join, runs_middle, runs_reach}
 use Rattle.serial_set.specs.Span.{AddsSpan, Covers, IsRuns, RunsFrom}
-use Rattle.serial_set.specs.Walk.{since, since_from, since_runs, since_to}
+use Rattle.serial_set.specs.Walk.{IsPiece, since, since_from, since_runs, since_to}
 use Rattle.serial_set.proofs.InWords.{asked}
 
 -- ---- a span after others
@@ -251,3 +251,33 @@ all_but_last es n at runs front last order t is =
       | inl there ↦ there
       | inr late ↦ elim late [ inl here ↦ absurd (omega (arith, here.0)) | inr none ↦ absurd none ]
     ])
+
+-- ---- the first run alone
+
+pub first_alone : (es : List Entry) (n lo hi : ℕ) → EntriesFrom 0 es → IsFirst (members_of es) n (Some lo) → GoesOn (members_of es) lo hi → (Covers (members_of es) (hi + 1) → ⊥) → IsPiece (runs_of es) n (record { lo = lo; hi = hi } ∷ [])
+first_alone es n lo hi order f g stops = record {
+  some = λ h. omega arith;
+  front = first_of_runs es n (record { lo = lo; hi = hi } ∷ []) order (omega arith, g.order, tt)
+      (λ s m. elim m [ inl here ↦ (omega (arith, f.0, here.0), g.all s here.0 here.1) | inr none ↦ absurd none ])
+      (λ s t m h k l. elim m [
+        | inl here ↦ inl (
+          elim (cases_lt s lo) [ inl below ↦ absurd (f.2 s k below l) | inr from ↦ from ],
+          elim (cases_lt hi s) [
+            | inl past ↦ (let same : s ≡ hi + 1 = omega (arith, here.1) in absurd (stops (subst (Covers (members_of es)) same l)))
+            | inr upto ↦ upto
+          ],
+        )
+        | inr none ↦ absurd none
+      ]);
+}
+
+pub none_left : (es : List Entry) (n : ℕ) → EntriesFrom 0 es → IsFirst (members_of es) n None → IsPiece (runs_of es) n []
+none_left es n order f =
+    let xs = runs_of es in
+    let is = runs_of_entries es order in
+    let d : Span = record { lo = 0; hi = 0 } in
+    record {
+      some = λ h. let there = since_to 0 n xs (get_or (since n xs) 0 d).lo is.0 (names_at (max 0 n) (since n xs) 0 d (since_runs 0 n xs is.0) h) in
+          absurd (f (get_or (since n xs) 0 d).lo there.1 ((is.1 (get_or (since n xs) 0 d).lo).0 there.0));
+      front = refl;
+    }

@@ -1,11 +1,10 @@
 -- The first of the members from a number on, and members that follow each other.
-use Rattle.std.specs.Prelude.{◌≡◌, ℕ, ◌+◌, ◌≤◌, ◌<◌, ◌↔◌, List, [], ◌∷◌, Option, Some, None}
+use Rattle.std.specs.Prelude.{◌≡◌, ℕ, ◌≤◌, ◌<◌, ◌↔◌, List, Option, Some, None}
 use Rattle.std.specs.Int.{bit_at}
 use Rattle.serial_set.specs.declared.span.Span.{Span}
 use Rattle.serial_set.specs.declared.entry.Entry.{Entry}
 use Rattle.serial_set.specs.Entry.{hi_of, pieces}
 use Rattle.serial_set.specs.Span.{Covers, IsRunsOf}
-use Rattle.serial_set.specs.Walk.{since}
 
 -- the first of the lowest 64 bits that is set, from a place on
 abbrev pub IsFirstBit : ℕ → ℕ → Option ℕ → Type 0
@@ -25,11 +24,6 @@ IsFirst spans number (Some first) =
 pub record GoesOn (spans : List Span) (from to : ℕ) : Type 0 where
   pub order : from ≤ to
   pub all : (s : ℕ) → from ≤ s → s ≤ to → Covers spans s
-
--- the first of the runs from a number on, after which those from past its end follow
-abbrev pub IsRunFrom : List Span → ℕ → Option Span → Type 0
-IsRunFrom spans number None = since number spans ≡ []
-IsRunFrom spans number (Some span) = since number spans ≡ span ∷ since (span.hi + 1) spans
 
 -- runs that are those of the members from one number up to another
 pub record Taken (spans : List Span) (number at : ℕ) (runs : List Span) : Type 0 where

@@ -1,7 +1,7 @@
 //! The runs of a set, as a walk comes to them.
-ghost use Rattle.std.specs.Prelude.{◌≡◌, ◌+◌, ◌<◌, ◌≤◌, ◌↔◌, ◌⊎◌, ℕ, length, take, slice_get, IsTrue, IfErr, IfOk};
+ghost use Rattle.std.specs.Prelude.{◌≡◌, ◌+◌, ◌<◌, ◌≤◌, ◌↔◌, ℕ, length, take, slice_get, IsTrue, IfErr, IfOk};
 ghost use Rattle.serial_set.specs.Entry.{hi_of, members_of, runs_of};
-ghost use Rattle.serial_set.specs.Members.{GoesOn, IsFirst, IsRunFrom, Reads, Taken};
+ghost use Rattle.serial_set.specs.Members.{GoesOn, IsFirst, Reads, Taken};
 ghost use Rattle.serial_set.specs.Span.{Covers};
 ghost use Rattle.serial_set.specs.SpanWords.{entries_held};
 ghost use Rattle.serial_set.specs.Walk.{IsPiece, piece_of, since};
@@ -82,22 +82,11 @@ impl SpanWords {
         requires { piece.old.count ≡ 0 }
         ensures { IsPiece (runs_of (entries_held self.now)) number (piece_of piece.new) }
     {
-        if let Some(run) = self.run_near(number, near) {
-            piece.push(run);
-        }
-    }
-
-    // The first run of the members from a number on.
-    fn run_near(&self, number: u64, near: usize) -> Option<Span>
-        ensures { IsRunFrom (runs_of (entries_held self.now)) number result }
-    {
-        match self.first_near(number, near) {
-            Some(lo) => Some(Span {
-                lo,
-                hi: self.end_near(lo, near),
-            }),
-            None => None,
-        }
+        let Some(lo) = self.first_near(number, near) else {
+            return;
+        };
+        let hi = self.end_near(lo, near);
+        piece.push(Span { lo, hi });
     }
 
     // The first member from a number on, as far as the first entry there says it, and else the
