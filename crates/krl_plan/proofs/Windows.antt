@@ -106,7 +106,7 @@ unmarked spans r = record { at = λ i h. absurd (omega arith); rest = since_same
 rest_more : (spans piece : List Span) (n done : ℕ) → IsRuns spans → AreSerials spans → since n spans ≡ drop done spans → IsPiece spans n piece → left (next_of piece) spans ≡ drop (done + length piece) spans
 rest_more spans piece n done r fits s p = walk_on spans piece n r fits p ∙ ap (drop (length piece)) s ∙ drop-drop (length piece) done spans
 
-within_more : (spans piece : List Span) (n done : ℕ) → done ≤ length spans → since n spans ≡ drop done spans → piece ≡ take (length piece) (since n spans) → done + length piece ≤ length spans
+pub within_more : (spans piece : List Span) (n done : ℕ) → done ≤ length spans → since n spans ≡ drop done spans → piece ≡ take (length piece) (since n spans) → done + length piece ≤ length spans
 within_more spans piece n done le s p = omega (arith, ap length p, ap length s, length-take (length piece) (since n spans), length-drop done spans)
 
 mark_at : (spans piece : List Span) (n done skip : ℕ) (d : Span) → IsRuns spans → since n spans ≡ drop done spans → piece ≡ take (length piece) (since n spans) → skip < length piece
@@ -158,6 +158,9 @@ marked_all spans marks skip done m =
     let none : 0 ≡ length (drop done spans) = ap length m.rest in
     let step = m.step in
     record { at = m.at; all = omega (arith, length-drop done spans) }
+
+pub marked_count : (spans : List Span) (marks : List ℕ) (skip done : ℕ) → Marked spans marks None skip done → done ≡ length spans
+marked_count spans marks skip done m = omega (arith, ap length m.rest, length-drop done spans, m.within)
 
 -- ---- windows
 

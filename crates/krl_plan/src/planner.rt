@@ -13,6 +13,14 @@ use std::alloc::{AllocError, Global};
 // How many runs are copied from a set at a time.
 const WINDOW: usize = 1024;
 
+// The number from which each window of a set's runs is left, the first window's first, and how many
+// runs there are.
+#[derive(Drop)]
+struct Marked {
+    marks: Vec<u64>,
+    count: usize,
+}
+
 /// The plan of a set's runs that costs least. Of plans that cost the same it is the one whose group
 /// comes first where they differ: a list of serials, a range, a bitmap, and of one sort the longer.
 pub fn least_plan<S: Spans>(alloc: Global, set: &S) -> Result<Vec<Group>, AllocError>
@@ -21,8 +29,9 @@ pub fn least_plan<S: Spans>(alloc: Global, set: &S) -> Result<Vec<Group>, AllocE
         (λ plan. cost (S.spans set.now) plan.items ≤ 21 * length (S.spans set.now)) }
 {
     // The runs are planned from the last to the first, and a set gives them from the first on.
-    let mut table = Table::new(alloc, set.len());
-    let mut marks = marks_of(alloc, set)?;
+    let marked = marks_of(alloc, set)?;
+    let mut table = Table::new(alloc, marked.count);
+    let mut marks = marked.marks;
     let mut window = Vec::new(alloc);
     while let Some(number) = marks.pop() {
         copy_runs(set, Some(number), WINDOW, &mut window)?;
@@ -31,11 +40,13 @@ pub fn least_plan<S: Spans>(alloc: Global, set: &S) -> Result<Vec<Group>, AllocE
     table.plan(alloc)
 }
 
-// The number from which each window of the runs is left, the first window's first.
-fn marks_of<S: Spans>(alloc: Global, set: &S) -> Result<Vec<u64>, AllocError>
-    ensures { IfOk result (λ marks. AreMarks (S.spans set.now) marks.items) }
+// Marks the windows of a set's runs, and counts the runs.
+fn marks_of<S: Spans>(alloc: Global, set: &S) -> Result<Marked, AllocError>
+    ensures marks { IfOk result (λ marked. AreMarks (S.spans set.now) marked.marks.items) }
+    ensures count { IfOk result (λ marked. marked.count ≡ length (S.spans set.now)) }
 {
     let mut marks = Vec::new(alloc);
+    let mut count = 0;
     let mut next = Some(0);
     // How many runs come before the next mark.
     let mut skip = 0;
@@ -47,9 +58,10 @@ fn marks_of<S: Spans>(alloc: Global, set: &S) -> Result<Vec<u64>, AllocError>
             skip += WINDOW;
         }
         skip -= runs.len();
+        count += runs.len();
         next = piece.next();
     }
-    Ok(marks)
+    Ok(Marked { marks, count })
 }
 
 // Puts the runs that a walk comes to next into a vector, this many of them or all that are left.

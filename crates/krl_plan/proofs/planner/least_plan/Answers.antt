@@ -3,7 +3,7 @@ use Rattle.std.proofs.lemmas.Result.{IfOk-weaker}
 use Rattle.std.proofs.lemmas.List.{drop_all, length_push}
 use Rattle.serial_set.specs.declared.span.Span.{Span}
 use Rattle.serial_set.specs.Span.{IsRuns}
-use Rattle.serial_set.specs.Walk.{since}
+use Rattle.serial_set.specs.Walk.{runs_few, since}
 use Rattle.krl_plan.specs.declared.table.Table.{Table}
 use Rattle.krl_plan.specs.Marks.{AreMarks, MarkWindows}
 use Rattle.krl_plan.specs.Plan.{IsLeastPlan, cost}
@@ -49,8 +49,8 @@ known_more table spans window marks rest number from e m f w known =
 
 pub loop-number-init : goal.loop-number-init
 loop-number-init g c = record {
-  at = AreMarks.at c.in_ok-marks.ensures;
-  known = none_known c.new-table.result (g.S.Spans.spans c.args.set.now) c.in_ok-marks.marks.items c.len.result c.len.ensures c.in_ok-marks.ensures c.new-table.ensures;
+  at = AreMarks.at c.in_ok-marked.ensures.marks;
+  known = none_known c.new-table.result (g.S.Spans.spans c.args.set.now) c.in_ok-marked.marked.marks.items c.in_ok-marked.marked.count c.in_ok-marked.ensures.count c.in_ok-marked.ensures.marks c.new-table.ensures;
 }
 
 pub loop-number-smaller : goal.loop-number-smaller
@@ -70,8 +70,8 @@ add_all-requires-clause-within g c =
     let spans = g.S.Spans.spans c.args.set.now in
     let window : c.deref.result.now ≡ take 1024 (since c.in-Some.number spans) = rw c.deref.ensures.value c.in_ok-copy_runs.ensures in
     let within = fits spans c.deref.result.now c.loop-number.marks.items c.pop.new.self.items c.in-Some.number c.in-Some.ensures.items c.loop-number.invariant.at window in
-    let all = c.len.ensures in
-    let most = c.len.type_inv in
+    let law = g.met.S.Spans.law c.args.set.now in
+    let most = runs_few spans law.0 law.1 in
     omega arith
 
 pub add_all-requires-clause-known : goal.add_all-requires-clause-known
@@ -79,11 +79,11 @@ add_all-requires-clause-known g c =
     let spans = g.S.Spans.spans c.args.set.now in
     let marks = c.loop-number.marks.items in
     let window : c.deref.result.now ≡ take 1024 (since c.in-Some.number spans) = rw c.deref.ensures.value c.in_ok-copy_runs.ensures in
-    let from : c.len-in-Some.result * 1024 ≡ length c.pop.new.self.items * 1024 = omega arith in (
+    let from : c.len.result * 1024 ≡ length c.pop.new.self.items * 1024 = omega arith in (
       drop (1024 * length marks) spans,
       (
         rises spans c.deref.result.now marks c.pop.new.self.items c.in-Some.number (g.met.S.Spans.law c.args.set.now).0 c.in-Some.ensures.items c.loop-number.invariant.at window,
-        ready c.loop-number.table spans c.deref.result.now marks c.pop.new.self.items c.in-Some.number (c.len-in-Some.result * 1024) c.in-Some.ensures.items c.loop-number.invariant.at from window c.loop-number.invariant.known,
+        ready c.loop-number.table spans c.deref.result.now marks c.pop.new.self.items c.in-Some.number (c.len.result * 1024) c.in-Some.ensures.items c.loop-number.invariant.at from window c.loop-number.invariant.known,
       ),
     )
 
@@ -92,13 +92,13 @@ loop-number-preserved g c =
     let spans = g.S.Spans.spans c.args.set.now in
     let marks = c.loop-number.marks.items in
     let window : c.deref.result.now ≡ take 1024 (since c.in-Some.number spans) = rw c.deref.ensures.value c.in_ok-copy_runs.ensures in
-    let from : c.len-in-Some.result * 1024 ≡ length c.pop.new.self.items * 1024 = omega arith in
+    let from : c.len.result * 1024 ≡ length c.pop.new.self.items * 1024 = omega arith in
     record {
       at = (marks_pop spans marks c.pop.new.self.items c.in-Some.number c.in-Some.ensures.items c.loop-number.invariant.at).0;
-      known = known_more c.add_all.new.self spans c.deref.result.now marks c.pop.new.self.items c.in-Some.number (c.len-in-Some.result * 1024) c.in-Some.ensures.items c.loop-number.invariant.at from window
+      known = known_more c.add_all.new.self spans c.deref.result.now marks c.pop.new.self.items c.in-Some.number (c.len.result * 1024) c.in-Some.ensures.items c.loop-number.invariant.at from window
           (c.in_ok-add_all.ensures (drop (1024 * length marks) spans)
           (rises spans c.deref.result.now marks c.pop.new.self.items c.in-Some.number (g.met.S.Spans.law c.args.set.now).0 c.in-Some.ensures.items c.loop-number.invariant.at window)
-          (ready c.loop-number.table spans c.deref.result.now marks c.pop.new.self.items c.in-Some.number (c.len-in-Some.result * 1024) c.in-Some.ensures.items c.loop-number.invariant.at from window c.loop-number.invariant.known));
+          (ready c.loop-number.table spans c.deref.result.now marks c.pop.new.self.items c.in-Some.number (c.len.result * 1024) c.in-Some.ensures.items c.loop-number.invariant.at from window c.loop-number.invariant.known));
     }
 
 pub returns-clause-least : goal.returns-clause-least
