@@ -6,4 +6,5 @@ pub mod Best
 pub mod ListMarks
 pub mod MapMarks
 pub mod EightWindows
+pub mod Copies
 pub mod Filling

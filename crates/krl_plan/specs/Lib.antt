@@ -1,3 +1,4 @@
+pub mod Ahead
 pub mod Sorts
 pub mod Plan
 pub mod Search

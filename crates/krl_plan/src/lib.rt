@@ -1,6 +1,7 @@
 //! Which subsections name serial numbers in the fewest bytes, and their bytes (PROTOCOL.krl).
 #![tactic(auto)]
 
+mod ahead;
 mod bitmap;
 mod bitmaps;
 mod cell;

@@ -5,10 +5,11 @@ ghost use Rattle.krl_plan.specs.declared.group.Group.{Group};
 ghost use Rattle.krl_plan.specs.Plan.{IsLeastPlan, IsPlan};
 ghost use Rattle.krl_plan.specs.Written.{plan_text};
 
+use crate::ahead::Ahead;
 use crate::group::Group;
 use crate::group_text::put_group;
-use crate::planner::{copy_runs, least_plan};
-use serial_set::{Spans, next_after};
+use crate::planner::least_plan;
+use serial_set::Spans;
 use std::alloc::{AllocError, Global};
 
 // Appends the subsections of a plan of a set's runs, one after the other.
@@ -21,12 +22,12 @@ pub(crate) fn put_plan<S: Spans>(
     requires { IsPlan (S.spans set.now) plan.now }
     ensures { OnOk result (out.new.items ≡ out.old.items ++ plan_text (S.spans set.now) plan.now) }
 {
-    let mut window = Vec::new(alloc);
-    let mut next = Some(0);
+    let mut ahead = Ahead::new(alloc);
     for group in plan {
-        copy_runs(set, next, group.count as usize, &mut window)?;
-        put_group(out, group.sort, &window)?;
-        next = next_after(&window);
+        let count = group.count as usize;
+        ahead.fill(set, count)?;
+        put_group(out, group.sort, ahead.first(count))?;
+        ahead.pass(count);
     }
     Ok(())
 }
