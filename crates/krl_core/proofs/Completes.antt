@@ -3,19 +3,20 @@ use Rattle.std.proofs.Common.{◌≡◌, ℕ, zero, suc, ◌+◌, ◌-◌, ◌<�
 use Rattle.std.specs.List.{flat_map, AllByRecursion}
 use Rattle.std.proofs.lemmas.Bool.{ltb-false}
 use Rattle.std.proofs.lemmas.List.{length-append}
-use Rattle.ssh_wire.specs.Wire.{IsBytes, number, number_of, string}
+use Rattle.ssh_wire.specs.Wire.{IsBytes, number, number_of, string, strings}
 use Rattle.ssh_wire.specs.Fields.{length-string, length-number}
 use Rattle.krl_core.specs.declared.krl_fault.KrlFault.{KrlFault}
 use Rattle.krl_core.specs.declared.krl_fault.KrlFault.TheVariants as faults
 use Rattle.krl_core.specs.declared.header.Header.{Header}
+use Rattle.krl_core.specs.declared.place.ItemKind.{ItemKind}
 use Rattle.krl_core.specs.declared.place.Place.{Place}
-use Rattle.krl_core.specs.Entry.{Entry, SerialsEntry, IdEntry, KeyEntry, Sha1Entry, Sha256Entry}
+use Rattle.krl_core.specs.Entry.{Entry, SerialsEntry}
 use Rattle.krl_core.specs.Entries.{entries_of, section_entries, subsection_entries}
-use Rattle.krl_core.specs.Krl.{SpelledSection, Certificates, Keys, Sha1s, Sha256s, Signature, Extension, Subsection, SpellsEach, SpellsSection, SpellsSubsection, SignaturesLast, IsSignature}
+use Rattle.krl_core.specs.Krl.{SpelledSection, Certificates, Signature, Extension, Subsection, SpellsEach, SpellsSection, SpellsSubsection, SignaturesLast, IsSignature}
 use Rattle.krl_core.specs.Naming.{NamesSame}
-use Rattle.krl_core.specs.Place.{within, next_key, next_sha1, next_sha256, next_subsection, next_serial, next_id}
+use Rattle.krl_core.specs.Place.{within, item_entry, next_item, next_subsection, next_serial}
 use Rattle.krl_core.proofs.Numbers.{number_back4, number_back8, number_of-one}
-use Rattle.krl_core.proofs.Rests.{Rest, LastFor, FromSections, FromNumber, FromLength, FromContent, FromItems, FromItem, FromSubsections, FromCertificates, FromExtension, Completes, Any, HasSize, KeyItems, Sha1Items, Sha256Items, SerialItems, IdItems}
+use Rattle.krl_core.proofs.Rests.{Rest, LastFor, FromSections, FromNumber, FromLength, FromContent, FromItems, FromItem, FromSubsections, FromCertificates, FromExtension, Completes, IsItem, Items, SerialItems}
 use Rattle.krl_core.proofs.Same.{same_refl, same_is, same_then, same_append}
 use Rattle.krl_core.proofs.Judged.{held_back, same_place}
 
@@ -98,18 +99,6 @@ serial_more K a left behind field tail more fits size room k =
       then_is = k.then_is;
     }
 
-pub keys_from : (last h : Header) (a : List ℕ) (left : ℕ) (bytes : List ℕ) (more : List Entry) → Completes last h a (next_key left) bytes more → KeyItems (last ≡ h) left bytes more
-keys_from last h a zero bytes more k = items_none string Any KeyEntry (FromSections false (last ≡ h)) bytes more k
-keys_from last h a (suc left) bytes more k = k
-
-pub sha1s_from : (last h : Header) (a : List ℕ) (left : ℕ) (bytes : List ℕ) (more : List Entry) → Completes last h a (next_sha1 left) bytes more → Sha1Items (last ≡ h) left bytes more
-sha1s_from last h a zero bytes more k = items_none string (HasSize 20) Sha1Entry (FromSections false (last ≡ h)) bytes more k
-sha1s_from last h a (suc left) bytes more k = k
-
-pub sha256s_from : (last h : Header) (a : List ℕ) (left : ℕ) (bytes : List ℕ) (more : List Entry) → Completes last h a (next_sha256 left) bytes more → Sha256Items (last ≡ h) left bytes more
-sha256s_from last h a zero bytes more k = items_none string (HasSize 32) Sha256Entry (FromSections false (last ≡ h)) bytes more k
-sha256s_from last h a (suc left) bytes more k = k
-
 pub subsections_none : (K : Type 0) (a : List ℕ) (bytes : List ℕ) (more : List Entry) → FromSections false K bytes more → FromSubsections K a 0 bytes more
 subsections_none K a bytes more h =
     record { subsections = []; body = []; rest = bytes; others = more; parts = refl; size_is = refl; spelled = refl; named = same_refl more; then_is = h }
@@ -123,10 +112,11 @@ serials_from last h a zero behind bytes more k =
     items_none (number 8) (λ n. n < 2 ^ 64) (λ n. SerialsEntry a (n ∷ [])) (FromSubsections (last ≡ h) a behind) bytes more (subsections_from last h a behind bytes more k)
 serials_from last h a (suc left) behind bytes more k = k
 
-pub ids_from : (last h : Header) (a : List ℕ) (left behind : ℕ) (bytes : List ℕ) (more : List Entry) → Completes last h a (next_id left behind) bytes more → IdItems (last ≡ h) a left behind bytes more
-ids_from last h a zero behind bytes more k =
-    items_none string Any (IdEntry a) (FromSubsections (last ≡ h) a behind) bytes more (subsections_from last h a behind bytes more k)
-ids_from last h a (suc left) behind bytes more k = k
+pub items_from : (last h : Header) (kind : ItemKind) (a : List ℕ) (left behind : ℕ) (bytes : List ℕ) (more : List Entry) → Completes last h a (next_item kind left behind) bytes more
+    → Items (last ≡ h) kind a left behind bytes more
+items_from last h kind a zero behind bytes more k =
+    items_none string (IsItem kind) (item_entry kind a) (FromSubsections (last ≡ h) a behind) bytes more (subsections_from last h a behind bytes more k)
+items_from last h kind a (suc left) behind bytes more k = k
 
 -- no bytes are left for a subsection
 no_subsection : (text : List ℕ) (subsection : Subsection) → SpellsSubsection text subsection → length text ≡ 0 → ⊥
@@ -173,29 +163,18 @@ unfolding string
 whole_string size content rest after bytes e f len =
     e ∙ ap (λ (n : ℕ). number 4 n ++ after) (sym len) ∙ ap (λ (x : List ℕ). number 4 (length content) ++ x) f ∙ sym (append_assoc (number 4 (length content)) content rest)
 
-pub keys_section : (K : Type 0) (signed : Bool) (bytes : List ℕ) (more : List Entry) → signed ≡ false → FromLength (KeyItems K) bytes more → FromSections signed K (2 ∷ bytes) more
-keys_section K signed bytes more off l =
+-- a section of items, of whatever kind
+pub items_section : (K : Type 0) (signed : Bool) (kind : ItemKind) (a : List ℕ) (type_byte : ℕ) (section : SpelledSection) (bytes : List ℕ) (more : List Entry) → signed ≡ false → (l : FromLength (λ n. Items K kind a n 0) bytes more)
+    → (length (strings l.then_is.items) < 2 ^ 32 → SpellsSection (type_byte ∷ string (strings l.then_is.items)) section)
+    → section_entries section ≡ map (item_entry kind a) l.then_is.items → ((others : List SpelledSection) → SignaturesLast others → SignaturesLast (section ∷ others))
+    → FromSections signed K (type_byte ∷ bytes) more
+items_section K signed kind a type_byte section bytes more off l spelled names last =
     let h = l.then_is in
-    let content : List ℕ = flat_map string h.items in
+    let k = sections_from K a h.rest h.others h.then_is in
+    let content : List ℕ = strings h.items in
     let parts = whole_string l.size content h.rest l.rest bytes l.parts h.parts h.size_is in
-    sections_more signed K (Keys h.items) (2 ∷ string content) (2 ∷ bytes) h.rest more h.others h.then_is (tail_string 2 content h.rest bytes parts)
-    (record { content = content; spelled = refl; fits = omega (arith, l.fits, h.size_is); content_is = refl }) (same_is more (map KeyEntry h.items ++ h.others) h.named) h.then_is.last off
-
-pub sha1s_section : (K : Type 0) (signed : Bool) (bytes : List ℕ) (more : List Entry) → signed ≡ false → FromLength (Sha1Items K) bytes more → FromSections signed K (3 ∷ bytes) more
-sha1s_section K signed bytes more off l =
-    let h = l.then_is in
-    let content : List ℕ = flat_map string h.items in
-    let parts = whole_string l.size content h.rest l.rest bytes l.parts h.parts h.size_is in
-    sections_more signed K (Sha1s h.items) (3 ∷ string content) (3 ∷ bytes) h.rest more h.others h.then_is (tail_string 3 content h.rest bytes parts)
-    (record { content = content; spelled = refl; fits = omega (arith, l.fits, h.size_is); content_is = (refl, h.good) }) (same_is more (map Sha1Entry h.items ++ h.others) h.named) h.then_is.last off
-
-pub sha256s_section : (K : Type 0) (signed : Bool) (bytes : List ℕ) (more : List Entry) → signed ≡ false → FromLength (Sha256Items K) bytes more → FromSections signed K (5 ∷ bytes) more
-sha256s_section K signed bytes more off l =
-    let h = l.then_is in
-    let content : List ℕ = flat_map string h.items in
-    let parts = whole_string l.size content h.rest l.rest bytes l.parts h.parts h.size_is in
-    sections_more signed K (Sha256s h.items) (5 ∷ string content) (5 ∷ bytes) h.rest more h.others h.then_is (tail_string 5 content h.rest bytes parts)
-    (record { content = content; spelled = refl; fits = omega (arith, l.fits, h.size_is); content_is = (refl, h.good) }) (same_is more (map Sha256Entry h.items ++ h.others) h.named) h.then_is.last off
+    sections_more signed K section (type_byte ∷ string content) (type_byte ∷ bytes) h.rest more h.others k (tail_string type_byte content h.rest bytes parts) (spelled (omega (arith, l.fits, h.size_is)))
+    (same_is more (section_entries section ++ h.others) (h.named ∙ ap (λ (x : List Entry). x ++ h.others) (sym names))) (last k.sections k.last) off
 
 pub certificates_section : (K : Type 0) (signed : Bool) (bytes : List ℕ) (more : List Entry) → signed ≡ false → FromLength (FromCertificates K) bytes more → FromSections signed K (1 ∷ bytes) more
 certificates_section K signed bytes more off l =

@@ -8,13 +8,14 @@ use Rattle.std.proofs.lemmas.Nat.Bits.{bit_at-zero}
 use Rattle.ssh_wire.specs.Wire.{IsBytes, number, number_of, string}
 use Rattle.ssh_wire.specs.Fields.{length-string, length-number}
 use Rattle.krl_core.specs.declared.header.Header.{Header}
+use Rattle.krl_core.specs.declared.place.ItemKind.TheVariants as kinds
 use Rattle.krl_core.specs.Entry.{Entry, SerialsEntry, RangeEntry, BitmapEntry, IdEntry}
 use Rattle.krl_core.specs.Entries.{subsection_entries}
 use Rattle.krl_core.specs.Krl.{Subsection, Serials, Range, Bitmap, Ids, SubsectionExtension, SpellsSubsection, SubsectionContent, subsection_type}
 use Rattle.krl_core.specs.Naming.{EntryNames, NamesSame, SerialOf}
 use Rattle.krl_core.specs.Place.{next_bits, base_of, passes_end}
 use Rattle.krl_core.proofs.Numbers.{number_back4, number_back8}
-use Rattle.krl_core.proofs.Rests.{Rest, FromContent, FromSubsections, FromReserved, FromCertificates, FromPart, FromRange, FromMax, FromBits, FromBitmap, FromOffset, FromExtension, FromCritical, FromContents, Completes, SerialItems, IdItems}
+use Rattle.krl_core.proofs.Rests.{Rest, FromContent, FromSubsections, FromReserved, FromCertificates, FromPart, FromRange, FromMax, FromBits, FromBitmap, FromOffset, FromExtension, FromCritical, FromContents, Completes, Items, SerialItems}
 use Rattle.krl_core.proofs.Bitmaps.{low_more, low_none, bit_of-byte, same_no_bits, same_bits}
 use Rattle.krl_core.proofs.BothWays.{contains_one}
 use Rattle.krl_core.proofs.Same.{AreSerials, mapped_name, same_serials, same_refl, same_is, same_then, same_append}
@@ -173,7 +174,7 @@ serials_part K a left field tail more fits size room enough h =
     (same_append E h.others (SerialsEntry a h.items ∷ []) h.others (serials_same a h.items) (same_refl h.others))) h.then_is
 
 pub ids_part : (K : Type 0) (a : List ℕ) (left : ℕ) (field tail : List ℕ) (more : List Entry) → IsBytes field → length field ≡ 4 → 4 ≤ left → number_of field ≤ left - 4
-    → IdItems K a (number_of field) (left - 4 - number_of field) tail more → FromPart K a 0x23 left (field ++ tail) more
+    → Items K kinds.Id a (number_of field) (left - 4 - number_of field) tail more → FromPart K a 0x23 left (field ++ tail) more
 ids_part K a left field tail more fits size room enough h =
     part_front K a 0x23 left (Ids h.items) field tail (flat_map string h.items) h.rest more h.others fits size room enough refl h.parts h.size_is refl
     (same_is more (map (IdEntry a) h.items ++ h.others) h.named) h.then_is

@@ -6,9 +6,10 @@ use Rattle.std.proofs.lemmas.List.{take-append-drop, length-take, length-drop}
 use Rattle.ssh_wire.specs.Steps.{ok_or_not}
 use Rattle.krl_core.specs.declared.krl_fault.KrlFault.{KrlFault}
 use Rattle.krl_core.specs.declared.krl_fault.KrlFault.TheVariants as faults
+use Rattle.krl_core.specs.declared.place.ItemKind.{ItemKind}
 use Rattle.krl_core.specs.declared.place.Place.{Place}
-use Rattle.krl_core.specs.declared.place.Place.TheVariants.{Reserved, Comment, SignatureKey, Signature, Key, Authority, SectionReserved, Id, ExtensionName, ExtensionContents, SectionType, SignatureLength, CommentLength, SectionReservedLength, ExtensionCritical}
-use Rattle.krl_core.specs.Place.{due, next_key, next_id, next_subsection}
+use Rattle.krl_core.specs.declared.place.Place.TheVariants.{Reserved, Comment, SignatureKey, Signature, Item, Authority, SectionReserved, ExtensionName, ExtensionContents, SectionType, SignatureLength, CommentLength, SectionReservedLength, ExtensionCritical}
+use Rattle.krl_core.specs.Place.{due, next_item, next_subsection}
 use Rattle.krl_core.specs.Front.{Spot, start, spot_after, HasRoom, Told, ended, no_room, refused, too_long, ends_early, IsFirstFault, limit}
 use Rattle.krl_core.proofs.Fronts.{first_fault_is}
 use Rattle.krl_core.proofs.Walks.{EndsTold, walks_one, walks_from, told_here, told_then}
@@ -38,10 +39,9 @@ weight (Reserved n) = 1
 weight (Comment n) = 1
 weight (SignatureKey n) = 1
 weight (Signature n) = 1
-weight (Key n m) = 1
 weight (Authority n m) = 1
 weight (SectionReserved n m) = 1
-weight (Id n m k) = 1
+weight (Item kind n m k) = 1
 weight (ExtensionName n m k) = 1
 weight (ExtensionContents n m) = 1
 weight _ = 0
@@ -51,25 +51,20 @@ weight_below (Reserved n) = omega arith
 weight_below (Comment n) = omega arith
 weight_below (SignatureKey n) = omega arith
 weight_below (Signature n) = omega arith
-weight_below (Key n m) = omega arith
 weight_below (Authority n m) = omega arith
 weight_below (SectionReserved n m) = omega arith
-weight_below (Id n m k) = omega arith
+weight_below (Item kind n m k) = omega arith
 weight_below (ExtensionName n m k) = omega arith
 weight_below (ExtensionContents n m) = omega arith
 weight_below _ = omega arith
-
-weight-next_key : (left : ℕ) → weight (next_key left) ≡ 0
-weight-next_key zero = refl
-weight-next_key (suc left) = refl
 
 weight-next_subsection : (left : ℕ) → weight (next_subsection left) ≡ 0
 weight-next_subsection zero = refl
 weight-next_subsection (suc left) = refl
 
-weight-next_id : (left behind : ℕ) → weight (next_id left behind) ≡ 0
-weight-next_id zero behind = weight-next_subsection behind
-weight-next_id (suc left) behind = refl
+weight-next_item : (kind : ItemKind) (left behind : ℕ) → weight (next_item kind left behind) ≡ 0
+weight-next_item kind zero behind = weight-next_subsection behind
+weight-next_item kind (suc left) behind = refl
 
 same_weight : (p q : Place) → done p ≡ done q → weight p ≡ weight q
 same_weight p q e = ap weight (same_place p q e)
@@ -80,10 +75,9 @@ nearer (Reserved n) q field e = omega (arith, same_weight CommentLength q e)
 nearer (Comment n) q field e = omega (arith, same_weight (SectionType false) q e)
 nearer (SignatureKey n) q field e = omega (arith, same_weight SignatureLength q e)
 nearer (Signature n) q field e = omega (arith, same_weight (SectionType true) q e)
-nearer (Key n m) q field e = omega (arith, same_weight (next_key m) q e, weight-next_key m)
 nearer (Authority n m) q field e = omega (arith, same_weight (SectionReservedLength m) q e)
 nearer (SectionReserved n m) q field e = omega (arith, same_weight (next_subsection m) q e, weight-next_subsection m)
-nearer (Id n m k) q field e = omega (arith, same_weight (next_id m k) q e, weight-next_id m k)
+nearer (Item kind n m k) q field e = omega (arith, same_weight (next_item kind m k) q e, weight-next_item kind m k)
 nearer (ExtensionName n m k) q field e = omega (arith, same_weight (ExtensionCritical m k) q e)
 nearer (ExtensionContents n m) q field e = omega (arith, same_weight (next_subsection m) q e, weight-next_subsection m)
 nearer _ q field e = omega (arith, weight_below q)

@@ -5,23 +5,24 @@ use Rattle.std.specs.Str.{bytes_eq}
 use Rattle.std.proofs.lemmas.Bool.{eqb-true, ltb-true}
 use Rattle.std.proofs.lemmas.List.{append-nil}
 use Rattle.std.proofs.lemmas.Slice.Eq.{bytes_eq-Decides}
-use Rattle.ssh_wire.specs.Wire.{IsBytes, number, number_of}
+use Rattle.ssh_wire.specs.Wire.{IsBytes, number, number_of, strings}
 use Rattle.ssh_wire.specs.Steps.{passed_ok}
 use Rattle.ssh_wire.specs.Digits.{IsBytes-behind, IsBytes-front}
 use Rattle.krl_core.specs.declared.krl_fault.KrlFault.TheVariants as faults
 use Rattle.krl_core.specs.declared.header.Header.{Header}
+use Rattle.krl_core.specs.declared.place.ItemKind.TheVariants as kinds
 use Rattle.krl_core.specs.declared.place.Place.{Place}
 use Rattle.krl_core.specs.declared.place.Place.TheVariants as places
-use Rattle.krl_core.specs.Entry.{Entry, BitmapEntry, IdEntry, KeyEntry, Sha1Entry, Sha256Entry}
+use Rattle.krl_core.specs.Entry.{Entry, BitmapEntry}
 use Rattle.krl_core.specs.Front.{Spot, Passes, Leads, spot_after}
-use Rattle.krl_core.specs.Krl.{magic}
-use Rattle.krl_core.specs.Place.{due, judge, names, authority_after, header_after, next_key, next_sha1, next_sha256, next_subsection, next_serial, next_id, next_bits, section_of_type, subsection_of_type, base_of, passes_end}
+use Rattle.krl_core.specs.Krl.{Keys, Sha1s, Sha256s, magic}
+use Rattle.krl_core.specs.Place.{due, judge, names, authority_after, header_after, item_entry, item_size, next_item, next_subsection, next_serial, next_bits, section_of_type, subsection_of_type, base_of, passes_end}
 use Rattle.krl_core.proofs.Bits.{judged_parts}
-use Rattle.krl_core.proofs.Completes.{fits_within, chosen, one_byte, number_front, length_front, content_front, item_front, string_more, serial_more, keys_from, sha1s_from, sha256s_from, subsections_from, serials_from, ids_from, sections_from, keys_section, sha1s_section, sha256s_section, certificates_section, extension_section, signature_section}
+use Rattle.krl_core.proofs.Completes.{fits_within, chosen, one_byte, number_front, length_front, content_front, item_front, string_more, serial_more, items_from, subsections_from, serials_from, sections_from, items_section, certificates_section, extension_section, signature_section}
 use Rattle.krl_core.proofs.CompletesParts.{subsections_more, reserved_front, certificates_front, extension_front, contents_front, range_front, serials_part, ids_part, range_part, bitmap_part, extension_part, bits_from, bits_more, bitmap_front, offset_front}
 use Rattle.krl_core.proofs.Numbers.{number_back4, number_back8}
 use Rattle.krl_core.proofs.Same.{same_refl}
-use Rattle.krl_core.proofs.Rests.{FromItem, FromBits, FromSections, FromLength, FromContent, FromExtension, FromCritical, FromComment, FromHeaderReserved, FromFlags, FromDate, FromSubsections, FromReserved, FromCertificates, FromPart, Completes, Any, HasSize, KeyItems, Sha1Items, Sha256Items, IdItems}
+use Rattle.krl_core.proofs.Rests.{FromItem, FromBits, FromSections, FromLength, FromContent, FromExtension, FromCritical, FromComment, FromHeaderReserved, FromFlags, FromDate, FromSubsections, FromReserved, FromCertificates, FromPart, Completes, IsItem, Items}
 use Rattle.krl_core.proofs.Judged.{held_back, same_place}
 
 -- what is spelled from the place after a field is spelled from the same place by another name
@@ -36,12 +37,18 @@ section_front last h signed q n tail more e k =
       | inr w0 ↦ let s = held_back signed faults.AfterSignature _ q w0.1 in
           elim (chosen (eqb n 1) places.CertificatesLength _ q s.1) [
             | inl w ↦ byte 1 (eqb-true n 1 w.0) (certificates_section (last ≡ h) signed tail more s.0 (along last h [] places.CertificatesLength q tail more w.1 k))
-            | inr w1 ↦ elim (chosen (eqb n 2) places.KeysLength _ q w1.1) [
-              | inl w ↦ byte 2 (eqb-true n 2 w.0) (keys_section (last ≡ h) signed tail more s.0 (along last h [] places.KeysLength q tail more w.1 k))
-              | inr w2 ↦ elim (chosen (eqb n 3) places.Sha1sLength _ q w2.1) [
-                | inl w ↦ byte 3 (eqb-true n 3 w.0) (sha1s_section (last ≡ h) signed tail more s.0 (along last h [] places.Sha1sLength q tail more w.1 k))
-                | inr w3 ↦ elim (chosen (eqb n 5) places.Sha256sLength _ q w3.1) [
-                  | inl w ↦ byte 5 (eqb-true n 5 w.0) (sha256s_section (last ≡ h) signed tail more s.0 (along last h [] places.Sha256sLength q tail more w.1 k))
+            | inr w1 ↦ elim (chosen (eqb n 2) (places.ItemsLength kinds.Key) _ q w1.1) [
+              | inl w ↦
+                  let l = along last h [] (places.ItemsLength kinds.Key) q tail more w.1 k in
+                  byte 2 (eqb-true n 2 w.0) (items_section (last ≡ h) signed kinds.Key [] 2 (Keys l.then_is.items) tail more s.0 l (λ fits. record { content = strings l.then_is.items; spelled = refl; fits = fits; content_is = refl }) refl (λ others last. last))
+              | inr w2 ↦ elim (chosen (eqb n 3) (places.ItemsLength kinds.Sha1) _ q w2.1) [
+                | inl w ↦
+                    let l = along last h [] (places.ItemsLength kinds.Sha1) q tail more w.1 k in
+                    byte 3 (eqb-true n 3 w.0) (items_section (last ≡ h) signed kinds.Sha1 [] 3 (Sha1s l.then_is.items) tail more s.0 l (λ fits. record { content = strings l.then_is.items; spelled = refl; fits = fits; content_is = (refl, l.then_is.good) }) refl (λ others last. last))
+                | inr w3 ↦ elim (chosen (eqb n 5) (places.ItemsLength kinds.Sha256) _ q w3.1) [
+                  | inl w ↦
+                      let l = along last h [] (places.ItemsLength kinds.Sha256) q tail more w.1 k in
+                      byte 5 (eqb-true n 5 w.0) (items_section (last ≡ h) signed kinds.Sha256 [] 5 (Sha256s l.then_is.items) tail more s.0 l (λ fits. record { content = strings l.then_is.items; spelled = refl; fits = fits; content_is = (refl, l.then_is.good) }) refl (λ others last. last))
                   | inr w4 ↦ elim (chosen (eqb n 255) places.ExtensionLength _ q w4.1) [
                     | inl w ↦ byte 255 (eqb-true n 255 w.0) (extension_section (last ≡ h) signed tail more s.0 (along last h [] places.ExtensionLength q tail more w.1 k))
                     | inr w5 ↦ let no_one = w5.1 in absurd (cc)
@@ -111,39 +118,28 @@ field_front last h a (places.SignatureKey n) q field tail more fits pass k = con
 field_front last h a places.SignatureLength q field tail more fits pass k =
     length_front (λ m. FromContent m (λ s. FromSections true (last ≡ h))) field tail more fits pass.whole (along last h a (places.Signature (number_of field)) q tail more (same_place (places.Signature (number_of field)) q pass.judged) k)
 field_front last h a (places.Signature n) q field tail more fits pass k = content_front n (λ s. FromSections true (last ≡ h)) field tail more pass.whole (along last h a (places.SectionType true) q tail more (same_place (places.SectionType true) q pass.judged) k)
-field_front last h a places.KeysLength q field tail more fits pass k =
-    length_front (KeyItems (last ≡ h)) field tail more fits pass.whole (keys_from last h a (number_of field) tail more (along last h a (next_key (number_of field)) q tail more (same_place (next_key (number_of field)) q pass.judged) k))
-field_front last h a (places.KeyLength left) q field tail more fits pass k =
-    let w = fits_within left (λ size. Ok (places.Key size (left - 4 - size))) (number_of field) q pass.judged in
+field_front last h a (places.ItemsLength kind) q field tail more fits pass k =
+    let n = number_of field in
+    length_front (λ n. Items (last ≡ h) kind a n 0) field tail more fits pass.whole (items_from last h kind a n 0 tail more (along last h a (next_item kind n 0) q tail more (same_place (next_item kind n 0) q pass.judged) k))
+field_front last h a (places.IdsLength left) q field tail more fits pass k =
+    let n = number_of field in
+    let w = fits_within left (λ size. Ok (next_item kinds.Id size (left - 4 - size))) n q pass.judged in
+    ids_part (last ≡ h) a left field tail more fits pass.whole pass.room w.0
+    (items_from last h kinds.Id a n (left - 4 - n) tail more (along last h a (next_item kinds.Id n (left - 4 - n)) q tail more (same_place (next_item kinds.Id n (left - 4 - n)) q w.1) k))
+field_front last h a (places.ItemLength kind left behind) q field tail more fits pass k =
+    let n = number_of field in
+    let item : ℕ → Place = λ size. places.Item kind size (left - 4 - size) behind in
+    let w = fits_within left (λ size. judge (size == item_size kind size) faults.HashLength (item size)) n q pass.judged in
+    let v = passed_ok (eqb n (item_size kind n)) faults.HashLength (item n) q w.1 in
+    let size : n ≡ item_size kind n = eqb-true n (item_size kind n) v.0 in
     let room : 4 ≤ left = pass.room in
-    string_more Any KeyEntry left (FromSections false (last ≡ h)) field tail more (left - 4 - number_of field) fits pass.whole (omega (arith, w.0, room))
-    (along last h a (places.Key (number_of field) (left - 4 - number_of field)) q tail more (same_place (places.Key (number_of field) (left - 4 - number_of field)) q w.1) k) tt
-field_front last h a (places.Key n behind) q field tail more fits pass k =
-    item_front n KeyEntry (KeyItems (last ≡ h) behind) field tail more pass.whole (keys_from last h a behind tail more (along last h a (next_key behind) q tail more (same_place (next_key behind) q pass.judged) k))
-field_front last h a places.Sha1sLength q field tail more fits pass k =
-    length_front (Sha1Items (last ≡ h)) field tail more fits pass.whole (sha1s_from last h a (number_of field) tail more (along last h a (next_sha1 (number_of field)) q tail more (same_place (next_sha1 (number_of field)) q pass.judged) k))
-field_front last h a (places.Sha1Length left) q field tail more fits pass k =
-    let w = fits_within left (λ size. judge (size == 20) faults.HashLength (places.Sha1 (left - 4 - size))) (number_of field) q pass.judged in
-    let v = passed_ok (eqb (number_of field) 20) faults.HashLength (places.Sha1 (left - 4 - number_of field)) q w.1 in
-    let size : number_of field ≡ 20 = eqb-true (number_of field) 20 v.0 in
-    let room : 4 ≤ left = pass.room in
-    let one = along last h a (places.Sha1 (left - 4 - number_of field)) q tail more v.1 k in
-    let item = subst (λ (m : ℕ). FromItem m Sha1Entry (Sha1Items (last ≡ h) (left - 4 - number_of field)) tail more) (sym size) one in
-    string_more (HasSize 20) Sha1Entry left (FromSections false (last ≡ h)) field tail more (left - 4 - number_of field) fits pass.whole (omega (arith, w.0, room)) item (item.size_is ∙ size)
-field_front last h a (places.Sha1 behind) q field tail more fits pass k =
-    item_front 20 Sha1Entry (Sha1Items (last ≡ h) behind) field tail more pass.whole (sha1s_from last h a behind tail more (along last h a (next_sha1 behind) q tail more (same_place (next_sha1 behind) q pass.judged) k))
-field_front last h a places.Sha256sLength q field tail more fits pass k =
-    length_front (Sha256Items (last ≡ h)) field tail more fits pass.whole (sha256s_from last h a (number_of field) tail more (along last h a (next_sha256 (number_of field)) q tail more (same_place (next_sha256 (number_of field)) q pass.judged) k))
-field_front last h a (places.Sha256Length left) q field tail more fits pass k =
-    let w = fits_within left (λ size. judge (size == 32) faults.HashLength (places.Sha256 (left - 4 - size))) (number_of field) q pass.judged in
-    let v = passed_ok (eqb (number_of field) 32) faults.HashLength (places.Sha256 (left - 4 - number_of field)) q w.1 in
-    let size : number_of field ≡ 32 = eqb-true (number_of field) 32 v.0 in
-    let room : 4 ≤ left = pass.room in
-    let one = along last h a (places.Sha256 (left - 4 - number_of field)) q tail more v.1 k in
-    let item = subst (λ (m : ℕ). FromItem m Sha256Entry (Sha256Items (last ≡ h) (left - 4 - number_of field)) tail more) (sym size) one in
-    string_more (HasSize 32) Sha256Entry left (FromSections false (last ≡ h)) field tail more (left - 4 - number_of field) fits pass.whole (omega (arith, w.0, room)) item (item.size_is ∙ size)
-field_front last h a (places.Sha256 behind) q field tail more fits pass k =
-    item_front 32 Sha256Entry (Sha256Items (last ≡ h) behind) field tail more pass.whole (sha256s_from last h a behind tail more (along last h a (next_sha256 behind) q tail more (same_place (next_sha256 behind) q pass.judged) k))
+    let one = along last h a (item n) q tail more v.1 k in
+    let sized = subst (λ (m : ℕ). FromItem m (item_entry kind a) (Items (last ≡ h) kind a (left - 4 - n) behind) tail more) (sym size) one in
+    string_more (IsItem kind) (item_entry kind a) left (FromSubsections (last ≡ h) a behind) field tail more (left - 4 - n) fits pass.whole (omega (arith, w.0, room)) sized
+    (sized.size_is ∙ size ∙ ap (item_size kind) (sym sized.size_is))
+field_front last h a (places.Item kind n left behind) q field tail more fits pass k =
+    item_front (item_size kind n) (item_entry kind a) (Items (last ≡ h) kind a left behind) field tail more pass.whole
+    (items_from last h kind a left behind tail more (along last h a (next_item kind left behind) q tail more (same_place (next_item kind left behind) q pass.judged) k))
 field_front last h a places.CertificatesLength q field tail more fits pass k =
     length_front (FromCertificates (last ≡ h)) field tail more fits pass.whole (along last h a (places.AuthorityLength (number_of field)) q tail more (same_place (places.AuthorityLength (number_of field)) q pass.judged) k)
 field_front last h a (places.AuthorityLength left) q field tail more fits pass k =
@@ -209,19 +205,6 @@ field_front last h a (places.BitmapByte offset size left behind) q field tail mo
     subst (λ (x : List ℕ). FromBits (last ≡ h) a offset size left behind (x ++ tail) (BitmapEntry a (base_of offset left) n ∷ more)) (sym one)
     (bits_more (last ≡ h) a offset size left behind n tail more byte pos (λ e. ltb-true n 128 (w.0 (eq-eqb left size e))) w.1
     (bits_from last h a offset size (left - 1) behind tail more (along last h a (next_bits offset size (left - 1) behind) q tail more w.2 k)))
-field_front last h a (places.IdsLength left) q field tail more fits pass k =
-    let n = number_of field in
-    let w = fits_within left (λ size. Ok (next_id size (left - 4 - size))) n q pass.judged in
-    ids_part (last ≡ h) a left field tail more fits pass.whole pass.room w.0
-    (ids_from last h a n (left - 4 - n) tail more (along last h a (next_id n (left - 4 - n)) q tail more (same_place (next_id n (left - 4 - n)) q w.1) k))
-field_front last h a (places.IdLength left behind) q field tail more fits pass k =
-    let w = fits_within left (λ size. Ok (places.Id size (left - 4 - size) behind)) (number_of field) q pass.judged in
-    let room : 4 ≤ left = pass.room in
-    string_more Any (IdEntry a) left (FromSubsections (last ≡ h) a behind) field tail more (left - 4 - number_of field) fits pass.whole (omega (arith, w.0, room))
-    (along last h a (places.Id (number_of field) (left - 4 - number_of field) behind) q tail more (same_place (places.Id (number_of field) (left - 4 - number_of field) behind) q w.1) k) tt
-field_front last h a (places.Id n left behind) q field tail more fits pass k =
-    item_front n (IdEntry a) (IdItems (last ≡ h) a left behind) field tail more pass.whole
-    (ids_from last h a left behind tail more (along last h a (next_id left behind) q tail more (same_place (next_id left behind) q pass.judged) k))
 field_front last h a places.ExtensionLength q field tail more fits pass k =
     let n = number_of field in
     let x = along last h a (places.ExtensionNameLength n 0) q tail more (same_place (places.ExtensionNameLength n 0) q pass.judged) k in

@@ -16,6 +16,7 @@ use Rattle.krl_core.proofs.BothWays.{covers_append, iff_or}
 use Rattle.ssh_wire.specs.Wire.{IsBytes, number_of}
 use Rattle.ssh_wire.specs.Digits.{IsBytes-behind, IsBytes-front}
 use Rattle.krl_core.specs.declared.place.Place.{Place}
+use Rattle.krl_core.specs.declared.place.ItemKind.TheVariants as kinds
 use Rattle.krl_core.specs.declared.place.Place.TheVariants as places
 use Rattle.krl_core.specs.Contents.{Contents, HoldsSerial, IsListed, Means, Section, SomeSection, held}
 use Rattle.krl_core.specs.Entry.{Entry}
@@ -164,6 +165,10 @@ field_few : (place next : Place) (authority field : List ℕ) → Passes place f
 field_few (places.Serial left behind) next authority field p = omega (arith, p.whole)
 field_few (places.RangeMax min behind) next authority field p = omega (arith, p.whole)
 field_few (places.BitmapByte offset size left behind) next authority field p = omega (arith, p.whole)
+field_few (places.Item kinds.Key size left behind) next authority field p = omega arith
+field_few (places.Item kinds.Sha1 size left behind) next authority field p = omega arith
+field_few (places.Item kinds.Sha256 size left behind) next authority field p = omega arith
+field_few (places.Item kinds.Id size left behind) next authority field p = omega arith
 field_few place next authority field p = omega arith
 
 byte_number : (field : List ℕ) → length field ≡ 1 → IsBytes field → number_of field < 256
@@ -175,10 +180,10 @@ field_bytes : (place next : Place) (authority field : List ℕ) → Passes place
 field_bytes (places.Serial left behind) next authority field p fits = (tt, tt)
 field_bytes (places.RangeMax min behind) next authority field p fits = (tt, tt)
 field_bytes (places.BitmapByte offset size left behind) next authority field p fits = (byte_number field p.whole fits, tt)
-field_bytes (places.Id size left behind) next authority field p fits = (tt, tt)
-field_bytes (places.Key size behind) next authority field p fits = (tt, tt)
-field_bytes (places.Sha1 behind) next authority field p fits = (tt, tt)
-field_bytes (places.Sha256 behind) next authority field p fits = (tt, tt)
+field_bytes (places.Item kinds.Key size left behind) next authority field p fits = (tt, tt)
+field_bytes (places.Item kinds.Sha1 size left behind) next authority field p fits = (tt, tt)
+field_bytes (places.Item kinds.Sha256 size left behind) next authority field p fits = (tt, tt)
+field_bytes (places.Item kinds.Id size left behind) next authority field p fits = (tt, tt)
 field_bytes place next authority field p fits = tt
 
 fields_few : (fields : List (List ℕ)) (spot last : Spot) → Leads spot fields last → sum_by most last.entries ≤ sum_by most spot.entries + 4 * length (concat fields)

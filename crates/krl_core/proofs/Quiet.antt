@@ -5,11 +5,13 @@ use Rattle.serial_set.specs.BitRuns.{FedBitmap}
 use Rattle.ssh_wire.specs.Wire.{number_of}
 use Rattle.krl_core.specs.declared.krl_fault.KrlFault.{KrlFault}
 use Rattle.krl_core.specs.declared.krl_fault.KrlFault.TheVariants as faults
+use Rattle.krl_core.specs.declared.place.ItemKind.{ItemKind}
+use Rattle.krl_core.specs.declared.place.ItemKind.TheVariants as kinds
 use Rattle.krl_core.specs.declared.place.Place.{Place}
-use Rattle.krl_core.specs.declared.place.Place.TheVariants.{Magic, FormatVersion, KeysLength, KeyLength, Sha1sLength, Sha1Length, Sha256sLength, Sha256Length, AuthorityLength, SectionReservedLength, SectionReserved, SubsectionType, SerialsLength, RangeLength, RangeMin, BitmapLength, BitmapOffset, IdsLength, IdLength, SubsectionExtensionLength, ExtensionNameLength, ExtensionName, ExtensionCritical, ExtensionContentsLength, ExtensionContents, Version, Date, Comment, SectionType, Authority, Serial, RangeMax, BitmapSize, BitmapByte, Id, Key, Sha1, Sha256}
+use Rattle.krl_core.specs.declared.place.Place.TheVariants.{Magic, FormatVersion, ItemsLength, IdsLength, ItemLength, AuthorityLength, SectionReservedLength, SectionReserved, SubsectionType, SerialsLength, RangeLength, RangeMin, BitmapLength, BitmapOffset, SubsectionExtensionLength, ExtensionNameLength, ExtensionName, ExtensionCritical, ExtensionContentsLength, ExtensionContents, Version, Date, Comment, SectionType, Authority, Serial, RangeMax, BitmapSize, BitmapByte, Item}
 use Rattle.krl_core.specs.Entry.{Entry}
 use Rattle.krl_core.specs.Keeping.{Keeping, InStep, IsKept, KeepsField}
-use Rattle.krl_core.specs.Place.{due, judge, within, next_id, next_key, next_serial, next_sha1, next_sha256, next_subsection, subsection_of_type}
+use Rattle.krl_core.specs.Place.{due, judge, within, item_size, next_item, next_serial, next_subsection, subsection_of_type}
 
 abbrev pub IsQuiet : Place → Type 0
 IsQuiet Version = ⊥
@@ -21,31 +23,25 @@ IsQuiet (Serial n m) = ⊥
 IsQuiet (RangeMax n m) = ⊥
 IsQuiet (BitmapSize n m k) = ⊥
 IsQuiet (BitmapByte n m k l) = ⊥
-IsQuiet (Id n m k) = ⊥
-IsQuiet (Key n m) = ⊥
-IsQuiet (Sha1 n) = ⊥
-IsQuiet (Sha256 n) = ⊥
+IsQuiet (Item kind n m k) = ⊥
 IsQuiet _ = Unit {0}
 
 -- a place that is none of those whose fields are kept
 pub quiet_unless : (p : Place) → (p ≡ Version → ⊥) → (p ≡ Date → ⊥) → ((n : ℕ) → p ≡ Comment n → ⊥) → ((b : Bool) → p ≡ SectionType b → ⊥)
     → ((n m : ℕ) → p ≡ Authority n m → ⊥) → ((n m : ℕ) → p ≡ Serial n m → ⊥) → ((n m : ℕ) → p ≡ RangeMax n m → ⊥)
-    → ((n m k : ℕ) → p ≡ BitmapSize n m k → ⊥) → ((n m k l : ℕ) → p ≡ BitmapByte n m k l → ⊥) → ((n m k : ℕ) → p ≡ Id n m k → ⊥)
-    → ((n m : ℕ) → p ≡ Key n m → ⊥) → ((n : ℕ) → p ≡ Sha1 n → ⊥) → ((n : ℕ) → p ≡ Sha256 n → ⊥) → IsQuiet p
-quiet_unless Version h0 h1 h2 h3 h4 h5 h6 h7 h8 h9 h10 h11 h12 = absurd (h0 refl)
-quiet_unless Date h0 h1 h2 h3 h4 h5 h6 h7 h8 h9 h10 h11 h12 = absurd (h1 refl)
-quiet_unless (Comment n) h0 h1 h2 h3 h4 h5 h6 h7 h8 h9 h10 h11 h12 = absurd (h2 n refl)
-quiet_unless (SectionType b) h0 h1 h2 h3 h4 h5 h6 h7 h8 h9 h10 h11 h12 = absurd (h3 b refl)
-quiet_unless (Authority n m) h0 h1 h2 h3 h4 h5 h6 h7 h8 h9 h10 h11 h12 = absurd (h4 n m refl)
-quiet_unless (Serial n m) h0 h1 h2 h3 h4 h5 h6 h7 h8 h9 h10 h11 h12 = absurd (h5 n m refl)
-quiet_unless (RangeMax n m) h0 h1 h2 h3 h4 h5 h6 h7 h8 h9 h10 h11 h12 = absurd (h6 n m refl)
-quiet_unless (BitmapSize n m k) h0 h1 h2 h3 h4 h5 h6 h7 h8 h9 h10 h11 h12 = absurd (h7 n m k refl)
-quiet_unless (BitmapByte n m k l) h0 h1 h2 h3 h4 h5 h6 h7 h8 h9 h10 h11 h12 = absurd (h8 n m k l refl)
-quiet_unless (Id n m k) h0 h1 h2 h3 h4 h5 h6 h7 h8 h9 h10 h11 h12 = absurd (h9 n m k refl)
-quiet_unless (Key n m) h0 h1 h2 h3 h4 h5 h6 h7 h8 h9 h10 h11 h12 = absurd (h10 n m refl)
-quiet_unless (Sha1 n) h0 h1 h2 h3 h4 h5 h6 h7 h8 h9 h10 h11 h12 = absurd (h11 n refl)
-quiet_unless (Sha256 n) h0 h1 h2 h3 h4 h5 h6 h7 h8 h9 h10 h11 h12 = absurd (h12 n refl)
-quiet_unless _ h0 h1 h2 h3 h4 h5 h6 h7 h8 h9 h10 h11 h12 = tt
+    → ((n m k : ℕ) → p ≡ BitmapSize n m k → ⊥) → ((n m k l : ℕ) → p ≡ BitmapByte n m k l → ⊥)
+    → ((kind : ItemKind) (n m k : ℕ) → p ≡ Item kind n m k → ⊥) → IsQuiet p
+quiet_unless Version h0 h1 h2 h3 h4 h5 h6 h7 h8 h9 = absurd (h0 refl)
+quiet_unless Date h0 h1 h2 h3 h4 h5 h6 h7 h8 h9 = absurd (h1 refl)
+quiet_unless (Comment n) h0 h1 h2 h3 h4 h5 h6 h7 h8 h9 = absurd (h2 n refl)
+quiet_unless (SectionType b) h0 h1 h2 h3 h4 h5 h6 h7 h8 h9 = absurd (h3 b refl)
+quiet_unless (Authority n m) h0 h1 h2 h3 h4 h5 h6 h7 h8 h9 = absurd (h4 n m refl)
+quiet_unless (Serial n m) h0 h1 h2 h3 h4 h5 h6 h7 h8 h9 = absurd (h5 n m refl)
+quiet_unless (RangeMax n m) h0 h1 h2 h3 h4 h5 h6 h7 h8 h9 = absurd (h6 n m refl)
+quiet_unless (BitmapSize n m k) h0 h1 h2 h3 h4 h5 h6 h7 h8 h9 = absurd (h7 n m k refl)
+quiet_unless (BitmapByte n m k l) h0 h1 h2 h3 h4 h5 h6 h7 h8 h9 = absurd (h8 n m k l refl)
+quiet_unless (Item kind n m k) h0 h1 h2 h3 h4 h5 h6 h7 h8 h9 = absurd (h9 kind n m k refl)
+quiet_unless _ h0 h1 h2 h3 h4 h5 h6 h7 h8 h9 = tt
 
 -- no byte of a bitmap is due
 abbrev pub IsOut : Place → Type 0
@@ -60,25 +56,13 @@ pub out_subsection : (left : ℕ) → IsOut (next_subsection left)
 out_subsection zero = tt
 out_subsection (suc left) = tt
 
-out_key : (left : ℕ) → IsOut (next_key left)
-out_key zero = tt
-out_key (suc left) = tt
-
-out_sha1 : (left : ℕ) → IsOut (next_sha1 left)
-out_sha1 zero = tt
-out_sha1 (suc left) = tt
-
-out_sha256 : (left : ℕ) → IsOut (next_sha256 left)
-out_sha256 zero = tt
-out_sha256 (suc left) = tt
-
 pub out_serial : (left behind : ℕ) → IsOut (next_serial left behind)
 out_serial zero behind = out_subsection behind
 out_serial (suc left) behind = tt
 
-out_id : (left behind : ℕ) → IsOut (next_id left behind)
-out_id zero behind = out_subsection behind
-out_id (suc left) behind = tt
+out_item : (kind : ItemKind) (left behind : ℕ) → IsOut (next_item kind left behind)
+out_item kind zero behind = out_subsection behind
+out_item kind (suc left) behind = tt
 
 abbrev Outs : Result Place KrlFault → Type 0
 Outs (Ok p) = IsOut p
@@ -102,12 +86,9 @@ outs_type left n =
 outs : (p : Place) (field : List ℕ) → IsQuiet p → Outs ((due p).judged field)
 outs Magic field quiet = outs_judge _ faults.Magic FormatVersion tt
 outs FormatVersion field quiet = outs_judge _ faults.FormatVersion Version tt
-outs KeysLength field quiet = out_key (number_of field)
-outs (KeyLength n) field quiet = outs_within n (λ size. Ok (Key size (n - 4 - size))) (number_of field) tt
-outs Sha1sLength field quiet = out_sha1 (number_of field)
-outs (Sha1Length n) field quiet = outs_within n (λ size. judge (size == 20) faults.HashLength (Sha1 (n - 4 - size))) (number_of field) (outs_judge _ faults.HashLength _ tt)
-outs Sha256sLength field quiet = out_sha256 (number_of field)
-outs (Sha256Length n) field quiet = outs_within n (λ size. judge (size == 32) faults.HashLength (Sha256 (n - 4 - size))) (number_of field) (outs_judge _ faults.HashLength _ tt)
+outs (ItemsLength kind) field quiet = out_item kind (number_of field) 0
+outs (IdsLength n) field quiet = outs_within n (λ size. Ok (next_item kinds.Id size (n - 4 - size))) (number_of field) (out_item kinds.Id (number_of field) (n - 4 - number_of field))
+outs (ItemLength kind n m) field quiet = outs_within n (λ size. judge (size == item_size kind size) faults.HashLength (Item kind size (n - 4 - size) m)) (number_of field) (outs_judge _ faults.HashLength _ tt)
 outs (AuthorityLength n) field quiet = outs_within n (λ size. Ok (Authority size (n - 4 - size))) (number_of field) tt
 outs (SectionReservedLength n) field quiet = outs_within n (λ size. Ok (SectionReserved size (n - 4 - size))) (number_of field) tt
 outs (SectionReserved n m) field quiet = out_subsection m
@@ -115,8 +96,6 @@ outs (SubsectionType n) field quiet = outs_type (n - 1) (number_of field)
 outs (SerialsLength n) field quiet = outs_within n (λ size. judge (size % 8 == 0) faults.Length (next_serial size (n - 4 - size))) (number_of field) (outs_judge _ faults.Length (next_serial (number_of field) (n - 4 - number_of field)) (out_serial (number_of field) (n - 4 - number_of field)))
 outs (RangeLength n) field quiet = outs_within n (λ size. judge (size == 16) faults.Length (RangeMin (n - 4 - size))) (number_of field) (outs_judge _ faults.Length _ tt)
 outs (BitmapLength n) field quiet = outs_within n (λ size. Ok (BitmapOffset size (n - 4 - size))) (number_of field) tt
-outs (IdsLength n) field quiet = outs_within n (λ size. Ok (next_id size (n - 4 - size))) (number_of field) (out_id (number_of field) (n - 4 - number_of field))
-outs (IdLength n m) field quiet = outs_within n (λ size. Ok (Id size (n - 4 - size) m)) (number_of field) tt
 outs (SubsectionExtensionLength n) field quiet = outs_within n (λ size. Ok (ExtensionNameLength size (n - 4 - size))) (number_of field) tt
 outs (ExtensionNameLength n m) field quiet = outs_within n (λ size. Ok (ExtensionName size (n - 4 - size) m)) (number_of field) tt
 outs (ExtensionCritical n m) field quiet = outs_judge _ faults.CriticalExtension (ExtensionContentsLength (n - 1) m) tt
@@ -131,10 +110,7 @@ outs (Serial n m) field quiet = absurd quiet
 outs (RangeMax n m) field quiet = absurd quiet
 outs (BitmapSize n m k) field quiet = absurd quiet
 outs (BitmapByte n m k l) field quiet = absurd quiet
-outs (Id n m k) field quiet = absurd quiet
-outs (Key n m) field quiet = absurd quiet
-outs (Sha1 n) field quiet = absurd quiet
-outs (Sha256 n) field quiet = absurd quiet
+outs (Item kind n m k) field quiet = absurd quiet
 outs _ field quiet = tt
 
 is_out : (p next : Place) (field : List ℕ) → IsQuiet p → (due p).judged field ≡ Ok next → IsOut next
@@ -153,9 +129,6 @@ keeps_quiet kept (Serial n m) next field quiet judged step = absurd quiet
 keeps_quiet kept (RangeMax n m) next field quiet judged step = absurd quiet
 keeps_quiet kept (BitmapSize n m k) next field quiet judged step = absurd quiet
 keeps_quiet kept (BitmapByte n m k l) next field quiet judged step = absurd quiet
-keeps_quiet kept (Id n m k) next field quiet judged step = absurd quiet
-keeps_quiet kept (Key n m) next field quiet judged step = absurd quiet
-keeps_quiet kept (Sha1 n) next field quiet judged step = absurd quiet
-keeps_quiet kept (Sha256 n) next field quiet judged step = absurd quiet
+keeps_quiet kept (Item kind n m k) next field quiet judged step = absurd quiet
 keeps_quiet kept p next field quiet judged step =
     record { kept = kept_still kept; authority_is = refl; header_is = refl; in_step = out_step next kept.bitmap (is_out p next field quiet judged) step }

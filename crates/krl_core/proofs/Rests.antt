@@ -5,12 +5,14 @@ use Rattle.std.specs.List.{flat_map, AllByRecursion}
 use Rattle.std.specs.Int.{bit_at}
 use Rattle.ssh_wire.specs.Wire.{number, number_of, string}
 use Rattle.krl_core.specs.declared.header.Header.{Header}
+use Rattle.krl_core.specs.declared.place.ItemKind.{ItemKind}
 use Rattle.krl_core.specs.declared.place.Place.{Place}
 use Rattle.krl_core.specs.declared.place.Place.TheVariants as places
-use Rattle.krl_core.specs.Entry.{Entry, SerialsEntry, RangeEntry, BitmapEntry, IdEntry, KeyEntry, Sha1Entry, Sha256Entry}
+use Rattle.krl_core.specs.Entry.{Entry, SerialsEntry, RangeEntry, BitmapEntry}
 use Rattle.krl_core.specs.Entries.{entries_of, subsection_entries}
 use Rattle.krl_core.specs.Krl.{SpelledSection, Subsection, SpellsEach, SpellsSection, SpellsSubsection, SubsectionContent, SpellsExtension, SpellsBitmap, SignaturesLast, IsSignature, IsPositive, subsection_type, magic}
 use Rattle.krl_core.specs.Naming.{NamesSame}
+use Rattle.krl_core.specs.Place.{item_entry, item_size}
 
 -- what holds of the bytes that are left and of what their fields name
 abbrev pub Rest : Type 1
@@ -75,21 +77,6 @@ pub record FromItem (size : ℕ) (entry : List ℕ → Entry) (Then : Rest) (byt
   pub named : more ≡ entry content ∷ others
   pub then_is : Then rest others
 
-abbrev pub Any : List ℕ → Type 0
-Any item = Unit {0}
-
-abbrev pub HasSize : ℕ → List ℕ → Type 0
-HasSize size item = length item ≡ size
-
-abbrev pub KeyItems : Type 0 → ℕ → Rest
-KeyItems K left = FromItems string Any KeyEntry left (FromSections false K)
-
-abbrev pub Sha1Items : Type 0 → ℕ → Rest
-Sha1Items K left = FromItems string (HasSize 20) Sha1Entry left (FromSections false K)
-
-abbrev pub Sha256Items : Type 0 → ℕ → Rest
-Sha256Items K left = FromItems string (HasSize 32) Sha256Entry left (FromSections false K)
-
 -- subsections that fill what is left of their section
 pub record FromSubsections (K : Type 0) (a : List ℕ) (left : ℕ) (bytes : List ℕ) (more : List Entry) : Type 0 where
   pub subsections : List Subsection
@@ -148,8 +135,13 @@ abbrev pub SerialItems : Type 0 → List ℕ → ℕ → ℕ → Rest
 SerialItems K a left behind =
     FromItems (number 8) (λ n. n < 2 ^ 64) (λ n. SerialsEntry a (n ∷ [])) left (FromSubsections K a behind)
 
-abbrev pub IdItems : Type 0 → List ℕ → ℕ → ℕ → Rest
-IdItems K a left behind = FromItems string Any (IdEntry a) left (FromSubsections K a behind)
+-- strings of one kind, each of the size that items of it have
+abbrev pub IsItem : ItemKind → List ℕ → Type 0
+IsItem kind item = length item ≡ item_size kind (length item)
+
+abbrev pub Items : Type 0 → ItemKind → List ℕ → ℕ → ℕ → Rest
+Items K kind a left behind =
+    FromItems string (IsItem kind) (item_entry kind a) left (FromSubsections K a behind)
 
 pub record FromRange (K : Type 0) (a : List ℕ) (behind : ℕ) (bytes : List ℕ) (more : List Entry) : Type 0 where
   pub min : ℕ
@@ -272,15 +264,11 @@ Completes last h a (places.SignatureKey size) =
     FromContent size (λ k. FromLength (λ m. FromContent m (λ s. FromSections true (last ≡ h))))
 Completes last h a places.SignatureLength = FromLength (λ m. FromContent m (λ s. FromSections true (last ≡ h)))
 Completes last h a (places.Signature size) = FromContent size (λ s. FromSections true (last ≡ h))
-Completes last h a places.KeysLength = FromLength (KeyItems (last ≡ h))
-Completes last h a (places.KeyLength left) = KeyItems (last ≡ h) left
-Completes last h a (places.Key size behind) = FromItem size KeyEntry (KeyItems (last ≡ h) behind)
-Completes last h a places.Sha1sLength = FromLength (Sha1Items (last ≡ h))
-Completes last h a (places.Sha1Length left) = Sha1Items (last ≡ h) left
-Completes last h a (places.Sha1 behind) = FromItem 20 Sha1Entry (Sha1Items (last ≡ h) behind)
-Completes last h a places.Sha256sLength = FromLength (Sha256Items (last ≡ h))
-Completes last h a (places.Sha256Length left) = Sha256Items (last ≡ h) left
-Completes last h a (places.Sha256 behind) = FromItem 32 Sha256Entry (Sha256Items (last ≡ h) behind)
+Completes last h a (places.ItemsLength kind) = FromLength (λ n. Items (last ≡ h) kind a n 0)
+Completes last h a (places.IdsLength left) = FromPart (last ≡ h) a 0x23 left
+Completes last h a (places.ItemLength kind left behind) = Items (last ≡ h) kind a left behind
+Completes last h a (places.Item kind size left behind) =
+    FromItem (item_size kind size) (item_entry kind a) (Items (last ≡ h) kind a left behind)
 Completes last h a places.CertificatesLength = FromLength (FromCertificates (last ≡ h))
 Completes last h a (places.AuthorityLength left) = FromCertificates (last ≡ h) left
 Completes last h a (places.Authority size behind) = FromContent size (λ b. FromReserved (last ≡ h) b behind)
@@ -297,9 +285,6 @@ Completes last h a (places.BitmapOffset left behind) = FromOffset (last ≡ h) a
 Completes last h a (places.BitmapSize offset left behind) = FromBitmap (last ≡ h) a offset left behind
 Completes last h a (places.BitmapByte offset size left behind) =
     λ bytes more. 0 < left → FromBits (last ≡ h) a offset size left behind bytes more
-Completes last h a (places.IdsLength left) = FromPart (last ≡ h) a 0x23 left
-Completes last h a (places.IdLength left behind) = IdItems (last ≡ h) a left behind
-Completes last h a (places.Id size left behind) = FromItem size (IdEntry a) (IdItems (last ≡ h) a left behind)
 Completes last h a places.ExtensionLength = FromLength (λ n. FromExtension n (FromSections false (last ≡ h)))
 Completes last h a (places.SubsectionExtensionLength left) = FromPart (last ≡ h) a 0x39 left
 Completes last h a (places.ExtensionNameLength left behind) = FromExtension left (FromSubsections (last ≡ h) a behind)

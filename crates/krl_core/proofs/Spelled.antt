@@ -10,11 +10,13 @@ use Rattle.ssh_wire.specs.Fields.{IsBytes-in_string, length-string, length-numbe
 use Rattle.krl_core.specs.declared.krl_fault.KrlFault.{KrlFault}
 use Rattle.krl_core.specs.declared.krl_fault.KrlFault.TheVariants as faults
 use Rattle.krl_core.specs.declared.header.Header.{Header}
+use Rattle.krl_core.specs.declared.place.ItemKind.{ItemKind}
+use Rattle.krl_core.specs.declared.place.ItemKind.TheVariants as kinds
 use Rattle.krl_core.specs.declared.place.Place.{Place}
 use Rattle.krl_core.specs.declared.place.Place.TheVariants as places
 use Rattle.krl_core.specs.Front.{HasRoom}
 use Rattle.krl_core.specs.Krl.{Subsection, Serials, Range, Bitmap, Ids, SubsectionExtension, SpellsEach, SpellsSubsection, SpellsExtension, IsPositive, magic, header_text, numbers_text}
-use Rattle.krl_core.specs.Place.{Due, due, judge, within, next_key, next_sha1, next_sha256, next_subsection, next_serial, next_id, next_bits, base_of, bits_judged, passes_end, highest_bit}
+use Rattle.krl_core.specs.Place.{Due, due, judge, within, item_size, next_item, next_subsection, next_serial, next_bits, base_of, bits_judged, passes_end, highest_bit}
 use Rattle.std.proofs.Math.Nat.{div-eq_of_lt-le}
 use Rattle.std.proofs.lemmas.Nat.{pow-add}
 use Rattle.std.proofs.lemmas.Nat.Bits.{bit_at_above, bit_at_cat_low, bit_at_cat_high}
@@ -23,6 +25,7 @@ use Rattle.krl_core.proofs.Bits.{highest_around}
 use Rattle.krl_core.proofs.Goes.{Goes, goes_none, goes_one, goes_then, goes_from}
 use Rattle.krl_core.proofs.Lists.{header_parts}
 use Rattle.krl_core.proofs.Numbers.{number_again4, number_again8, number_of-one}
+use Rattle.krl_core.proofs.Rests.{IsItem}
 use Rattle.krl_plan.specs.ListTexts.{length-numbers}
 
 -- ---- a field, and what follows it
@@ -86,79 +89,37 @@ header_goes header flags reserved rest fits fits' =
     goes_from places.Magic (places.SectionType false) (header_text header flags reserved ++ rest) (magic ++ r6) rest (header_parts header flags reserved rest)
     (goes_then places.Magic places.FormatVersion (places.SectionType false) (magic ++ r6) r6 rest (goes_one places.Magic places.FormatVersion magic r6 tt refl refl) w5)
 
--- ---- strings that fill a section
+-- ---- the items of a list
 
-key_goes : (total left : ℕ) (item rest : List ℕ) → total ≡ 4 + length item + left → total < 2 ^ 32 → Goes (next_key total) (string item ++ rest) (next_key left) rest
-key_goes zero left item rest e fits = absurd (omega arith)
-key_goes (suc k) left item rest e fits =
+item_goes : (kind : ItemKind) (total left behind : ℕ) (item rest : List ℕ) → total ≡ 4 + length item + left → total < 2 ^ 32 → IsItem kind item
+    → Goes (next_item kind total behind) (string item ++ rest) (next_item kind left behind) rest
+item_goes kind zero left behind item rest e fits good = absurd (omega arith)
+item_goes kind (suc k) left behind item rest e fits good =
+    let at : ℕ → ℕ → Place = λ size more. places.Item kind size more behind in
     let after : suc k - 4 - length item ≡ left = omega arith in
     let room : 4 ≤ suc k = omega arith in
-    string_goes (places.KeyLength (suc k)) (places.Key (length item) left) (next_key left) item rest room refl (omega arith)
-    (λ field e'. within_is (suc k) (λ size. Ok (places.Key size (suc k - 4 - size))) (number_of field) (length item) e' (omega arith) ∙ ap (λ (m : ℕ). Ok (places.Key (length item) m)) after) tt refl refl
+    string_goes (places.ItemLength kind (suc k) behind) (at (length item) left) (next_item kind left behind) item rest room refl (omega arith)
+    (λ field e'. within_is (suc k) (λ size. judge (size == item_size kind size) faults.HashLength (at size (suc k - 4 - size))) (number_of field) (length item) e' (omega arith)
+    ∙ judge_is (eqb (length item) (item_size kind (length item))) faults.HashLength (at (length item) (suc k - 4 - length item)) (eq-eqb (length item) (item_size kind (length item)) good)
+    ∙ ap (λ (m : ℕ). Ok (at (length item) m)) after) tt good refl
 
-pub keys_go : (items : List (List ℕ)) (total left : ℕ) (rest : List ℕ) → total ≡ length (strings items) + left → total < 2 ^ 32 → Goes (next_key total) (strings items ++ rest) (next_key left) rest
-keys_go [] total left rest e fits = subst (λ (m : ℕ). Goes (next_key total) rest (next_key m) rest) (let same : total ≡ left = omega arith in same) (goes_none (next_key total) rest)
-keys_go (item ∷ items) total left rest e fits =
+pub items_go : (kind : ItemKind) (items : List (List ℕ)) (total left behind : ℕ) (rest : List ℕ) → total ≡ length (strings items) + left → total < 2 ^ 32 → AllByRecursion (IsItem kind) items
+    → Goes (next_item kind total behind) (strings items ++ rest) (next_item kind left behind) rest
+items_go kind [] total left behind rest e fits good =
+    subst (λ (m : ℕ). Goes (next_item kind total behind) rest (next_item kind m behind) rest) (let same : total ≡ left = omega arith in same) (goes_none (next_item kind total behind) rest)
+items_go kind (item ∷ items) total left behind rest e fits good =
     let mid : ℕ = length (strings items) + left in
     let whole : length (strings (item ∷ items)) ≡ 4 + length item + length (strings items) = omega (arith, length-append (string item) (strings items), length-string item) in
-    goes_from (next_key total) (next_key left) (strings (item ∷ items) ++ rest) (string item ++ (strings items ++ rest)) rest (append_assoc (string item) (strings items) rest)
-    (goes_then (next_key total) (next_key mid) (next_key left) (string item ++ (strings items ++ rest)) (strings items ++ rest) rest
-    (key_goes total mid item (strings items ++ rest) (omega arith) fits) (keys_go items mid left rest refl (omega arith)))
+    goes_from (next_item kind total behind) (next_item kind left behind) (strings (item ∷ items) ++ rest) (string item ++ (strings items ++ rest)) rest (append_assoc (string item) (strings items) rest)
+    (goes_then (next_item kind total behind) (next_item kind mid behind) (next_item kind left behind) (string item ++ (strings items ++ rest)) (strings items ++ rest) rest
+    (item_goes kind total mid behind item (strings items ++ rest) (omega arith) fits good.0) (items_go kind items mid left behind rest refl (omega arith) good.1))
 
-sha1_goes : (total left : ℕ) (item rest : List ℕ) → total ≡ 4 + length item + left → total < 2 ^ 32 → length item ≡ 20 → Goes (next_sha1 total) (string item ++ rest) (next_sha1 left) rest
-sha1_goes zero left item rest e fits size = absurd (omega arith)
-sha1_goes (suc k) left item rest e fits size =
-    let after : suc k - 4 - length item ≡ left = omega arith in
-    let room : 4 ≤ suc k = omega arith in
-    string_goes (places.Sha1Length (suc k)) (places.Sha1 left) (next_sha1 left) item rest room refl (omega arith)
-    (λ field e'. within_is (suc k) (λ size. judge (size == 20) faults.HashLength (places.Sha1 (suc k - 4 - size))) (number_of field) (length item) e' (omega arith)
-    ∙ judge_is (eqb (length item) 20) faults.HashLength (places.Sha1 (suc k - 4 - length item)) (eq-eqb (length item) 20 size) ∙ ap (λ (m : ℕ). Ok (places.Sha1 m)) after) tt size refl
+-- items that may be of any size
+pub any_size : (items : List (List ℕ)) → AllByRecursion (λ item. length item ≡ length item) items
+any_size [] = tt
+any_size (item ∷ items) = (refl, any_size items)
 
-pub sha1s_go : (items : List (List ℕ)) (total left : ℕ) (rest : List ℕ) → total ≡ length (strings items) + left → total < 2 ^ 32 → AllByRecursion (λ item. length item ≡ 20) items
-    → Goes (next_sha1 total) (strings items ++ rest) (next_sha1 left) rest
-sha1s_go [] total left rest e fits sizes = subst (λ (m : ℕ). Goes (next_sha1 total) rest (next_sha1 m) rest) (let same : total ≡ left = omega arith in same) (goes_none (next_sha1 total) rest)
-sha1s_go (item ∷ items) total left rest e fits sizes =
-    let mid : ℕ = length (strings items) + left in
-    let whole : length (strings (item ∷ items)) ≡ 4 + length item + length (strings items) = omega (arith, length-append (string item) (strings items), length-string item) in
-    goes_from (next_sha1 total) (next_sha1 left) (strings (item ∷ items) ++ rest) (string item ++ (strings items ++ rest)) rest (append_assoc (string item) (strings items) rest)
-    (goes_then (next_sha1 total) (next_sha1 mid) (next_sha1 left) (string item ++ (strings items ++ rest)) (strings items ++ rest) rest
-    (sha1_goes total mid item (strings items ++ rest) (omega arith) fits sizes.0) (sha1s_go items mid left rest refl (omega arith) sizes.1))
-
-sha256_goes : (total left : ℕ) (item rest : List ℕ) → total ≡ 4 + length item + left → total < 2 ^ 32 → length item ≡ 32 → Goes (next_sha256 total) (string item ++ rest) (next_sha256 left) rest
-sha256_goes zero left item rest e fits size = absurd (omega arith)
-sha256_goes (suc k) left item rest e fits size =
-    let after : suc k - 4 - length item ≡ left = omega arith in
-    let room : 4 ≤ suc k = omega arith in
-    string_goes (places.Sha256Length (suc k)) (places.Sha256 left) (next_sha256 left) item rest room refl (omega arith)
-    (λ field e'. within_is (suc k) (λ size. judge (size == 32) faults.HashLength (places.Sha256 (suc k - 4 - size))) (number_of field) (length item) e' (omega arith)
-    ∙ judge_is (eqb (length item) 32) faults.HashLength (places.Sha256 (suc k - 4 - length item)) (eq-eqb (length item) 32 size) ∙ ap (λ (m : ℕ). Ok (places.Sha256 m)) after) tt size refl
-
-pub sha256s_go : (items : List (List ℕ)) (total left : ℕ) (rest : List ℕ) → total ≡ length (strings items) + left → total < 2 ^ 32 → AllByRecursion (λ item. length item ≡ 32) items
-    → Goes (next_sha256 total) (strings items ++ rest) (next_sha256 left) rest
-sha256s_go [] total left rest e fits sizes = subst (λ (m : ℕ). Goes (next_sha256 total) rest (next_sha256 m) rest) (let same : total ≡ left = omega arith in same) (goes_none (next_sha256 total) rest)
-sha256s_go (item ∷ items) total left rest e fits sizes =
-    let mid : ℕ = length (strings items) + left in
-    let whole : length (strings (item ∷ items)) ≡ 4 + length item + length (strings items) = omega (arith, length-append (string item) (strings items), length-string item) in
-    goes_from (next_sha256 total) (next_sha256 left) (strings (item ∷ items) ++ rest) (string item ++ (strings items ++ rest)) rest (append_assoc (string item) (strings items) rest)
-    (goes_then (next_sha256 total) (next_sha256 mid) (next_sha256 left) (string item ++ (strings items ++ rest)) (strings items ++ rest) rest
-    (sha256_goes total mid item (strings items ++ rest) (omega arith) fits sizes.0) (sha256s_go items mid left rest refl (omega arith) sizes.1))
-
-id_goes : (total left behind : ℕ) (item rest : List ℕ) → total ≡ 4 + length item + left → total < 2 ^ 32 → Goes (next_id total behind) (string item ++ rest) (next_id left behind) rest
-id_goes zero left behind item rest e fits = absurd (omega arith)
-id_goes (suc k) left behind item rest e fits =
-    let after : suc k - 4 - length item ≡ left = omega arith in
-    let room : 4 ≤ suc k = omega arith in
-    string_goes (places.IdLength (suc k) behind) (places.Id (length item) left behind) (next_id left behind) item rest room refl (omega arith)
-    (λ field e'. within_is (suc k) (λ size. Ok (places.Id size (suc k - 4 - size) behind)) (number_of field) (length item) e' (omega arith) ∙ ap (λ (m : ℕ). Ok (places.Id (length item) m behind)) after) tt refl refl
-
-ids_go : (items : List (List ℕ)) (total left behind : ℕ) (rest : List ℕ) → total ≡ length (strings items) + left → total < 2 ^ 32 → Goes (next_id total behind) (strings items ++ rest) (next_id left behind) rest
-ids_go [] total left behind rest e fits = subst (λ (m : ℕ). Goes (next_id total behind) rest (next_id m behind) rest) (let same : total ≡ left = omega arith in same) (goes_none (next_id total behind) rest)
-ids_go (item ∷ items) total left behind rest e fits =
-    let mid : ℕ = length (strings items) + left in
-    let whole : length (strings (item ∷ items)) ≡ 4 + length item + length (strings items) = omega (arith, length-append (string item) (strings items), length-string item) in
-    goes_from (next_id total behind) (next_id left behind) (strings (item ∷ items) ++ rest) (string item ++ (strings items ++ rest)) rest (append_assoc (string item) (strings items) rest)
-    (goes_then (next_id total behind) (next_id mid behind) (next_id left behind) (string item ++ (strings items ++ rest)) (strings items ++ rest) rest
-    (id_goes total mid behind item (strings items ++ rest) (omega arith) fits) (ids_go items mid left behind rest refl (omega arith)))
+-- ---- subsections of serials
 
 serial_goes : (total left behind n : ℕ) (rest : List ℕ) → total ≡ 8 + left → Goes (next_serial total behind) (number 8 n ++ rest) (next_serial left behind) rest
 serial_goes zero left behind n rest e = absurd (omega arith)
@@ -362,12 +323,12 @@ subsection_goes left (Ids texts) text rest h le fits =
     let room : 1 ≤ left = omega (arith, size) in
     let b = left - length text in
     let all : n ≡ length (strings texts) = ap length h.content_is in
-    let walk = goes_from (next_id n b) (next_subsection b) (content ++ rest) (strings texts ++ rest) rest (ap (λ (x : List ℕ). x ++ rest) h.content_is) (ids_go texts n 0 b rest (omega (arith, all)) h.fits) in
+    let walk = goes_from (next_item kinds.Id n b) (next_subsection b) (content ++ rest) (strings texts ++ rest) rest (ap (λ (x : List ℕ). x ++ rest) h.content_is) (items_go kinds.Id texts n 0 b rest (omega (arith, all)) h.fits (any_size texts)) in
     goes_from (places.SubsectionType left) (next_subsection b) (text ++ rest) (0x23 ∷ (string content ++ rest)) rest (ap (λ (x : List ℕ). x ++ rest) h.spelled)
     (goes_then (places.SubsectionType left) (places.IdsLength (left - 1)) (next_subsection b) (0x23 ∷ (string content ++ rest)) (string content ++ rest) rest
     (goes_one (places.SubsectionType left) (places.IdsLength (left - 1)) (0x23 ∷ []) (string content ++ rest) room refl refl)
-    (part_goes (places.IdsLength (left - 1)) (next_id n b) (left - 1) (λ size. Ok (next_id size (left - 1 - 4 - size))) content rest refl
-    (omega (arith, size)) h.fits (ap (λ (k : ℕ). Ok (next_id n k)) behind) (next_subsection b) walk))
+    (part_goes (places.IdsLength (left - 1)) (next_item kinds.Id n b) (left - 1) (λ size. Ok (next_item kinds.Id size (left - 1 - 4 - size))) content rest refl
+    (omega (arith, size)) h.fits (ap (λ (k : ℕ). Ok (next_item kinds.Id n k)) behind) (next_subsection b) walk))
 subsection_goes left SubsectionExtension text rest h le fits =
     let content = h.content in
     let n = length content in

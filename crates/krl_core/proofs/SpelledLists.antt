@@ -1,5 +1,6 @@
 -- A list that is spelled has no fault, where it is within the limit.
 use Rattle.std.proofs.Common.{◌≡◌, ℕ, ◌+◌, ◌-◌, ◌<◌, ◌≤◌, ◌^◌, ◌⊎◌, Bool, true, false, ltb, List, [], ◌∷◌, ◌++◌, length, take, Some, None, Ok, refl, sym, ap, subst, ◌∙◌, append_assoc, arith, inl, inr, Option}
+use Rattle.std.specs.List.{AllByRecursion}
 use Rattle.std.proofs.lemmas.Bool.{le-ltb}
 use Rattle.std.proofs.lemmas.List.{length-append, take_all}
 use Rattle.ssh_wire.specs.Wire.{IsBytes, number_of, string, strings}
@@ -8,16 +9,18 @@ use Rattle.ssh_wire.specs.Fields.{IsBytes-in_string, length-string}
 use Rattle.krl_core.specs.declared.krl_fault.KrlFault.{KrlFault}
 use Rattle.krl_core.specs.declared.krl_fault.KrlFault.TheVariants as faults
 use Rattle.krl_core.specs.declared.header.Header.{Header}
+use Rattle.krl_core.specs.declared.place.ItemKind.{ItemKind}
+use Rattle.krl_core.specs.declared.place.ItemKind.TheVariants as kinds
 use Rattle.krl_core.specs.declared.place.Place.{Place}
 use Rattle.krl_core.specs.declared.place.Place.TheVariants as places
 use Rattle.krl_core.specs.Front.{start, limit, IsFirstFault, Told, ended}
 use Rattle.krl_core.specs.Krl.{SpelledSection, Certificates, Keys, Sha1s, Sha256s, Signature, Extension, Spells, SpellsEach, SpellsSection, header_text}
-use Rattle.krl_core.specs.Place.{due, next_key, next_sha1, next_sha256, next_subsection}
+use Rattle.krl_core.specs.Place.{due, next_item, next_subsection}
 use Rattle.krl_core.specs.Reading.{Says, starved, failed_read, first}
 use Rattle.krl_core.proofs.Fronts.{first_fault_is, one_told}
 use Rattle.krl_core.proofs.Goes.{Goes, goes_none, goes_one, goes_then, goes_from, arrives}
-use Rattle.krl_core.proofs.Rests.{LastFor}
-use Rattle.krl_core.proofs.Spelled.{string_goes, content_goes, within_is, header_goes, keys_go, sha1s_go, sha256s_go, extension_goes, subsections_go}
+use Rattle.krl_core.proofs.Rests.{LastFor, IsItem}
+use Rattle.krl_core.proofs.Spelled.{string_goes, content_goes, within_is, header_goes, items_go, any_size, extension_goes, subsections_go}
 
 abbrev signed_after : SpelledSection → Bool
 signed_after Signature = true
@@ -29,6 +32,17 @@ typed_goes : (signed : Bool) (n : ℕ) (q : Place) (content rest : List ℕ) →
 typed_goes signed n q content rest off fits judged r w =
     goes_then (places.SectionType false) q r (n ∷ (string content ++ rest)) (string content ++ rest) rest
     (goes_one (places.SectionType false) q (n ∷ []) (string content ++ rest) tt refl judged) w
+
+-- a section of items, of whatever kind
+items_section_goes : (kind : ItemKind) (n : ℕ) (items : List (List ℕ)) (text content rest : List ℕ) → text ≡ n ∷ string content → length content < 2 ^ 32 → content ≡ strings items → AllByRecursion (IsItem kind) items
+    → (due (places.SectionType false)).judged (n ∷ []) ≡ Ok (places.ItemsLength kind) → Goes (places.SectionType false) (text ++ rest) (places.SectionType false) rest
+items_section_goes kind n items text content rest spelled fits is good judged =
+    let q = next_item kind (length content) 0 in
+    goes_from (places.SectionType false) (places.SectionType false) (text ++ rest) (n ∷ (string content ++ rest)) rest (ap (λ (x : List ℕ). x ++ rest) spelled)
+    (typed_goes false n (places.ItemsLength kind) content rest refl fits judged (places.SectionType false)
+    (content_goes (places.ItemsLength kind) q (places.SectionType false) content rest tt refl fits (λ field e. ap (λ (n : ℕ). Ok (next_item kind n 0)) e)
+    (goes_from q (places.SectionType false) (content ++ rest) (strings items ++ rest) rest (ap (λ (x : List ℕ). x ++ rest) is)
+    (items_go kind items (length content) 0 0 rest (omega (arith, ap length is)) fits good))))
 
 certificates_go : (content rest authority reserved body : List ℕ) (total : ℕ) → content ≡ string authority ++ (string reserved ++ body) → total ≡ length content → total < 2 ^ 32
     → Goes (next_subsection (length body)) (body ++ rest) (places.SectionType false) rest → Goes (places.AuthorityLength total) (content ++ rest) (places.SectionType false) rest
@@ -65,29 +79,11 @@ section_goes (Certificates authority subs) false text rest h last fits =
     (content_goes places.CertificatesLength (places.AuthorityLength (length h.content)) (places.SectionType false) h.content rest tt refl h.fits (λ field e. ap (λ (n : ℕ). Ok (places.AuthorityLength n)) e)
     (certificates_go h.content rest authority c.reserved c.body (length h.content) c.spelled refl h.fits (subsections_go subs c.body rest (length c.body) c.subsections_are refl body_bytes))))
 section_goes (Keys blobs) true text rest h last fits = absurd last.0
-section_goes (Keys blobs) false text rest h last fits =
-    let all : length h.content ≡ length (strings blobs) = ap length h.content_is in
-    goes_from (places.SectionType false) (places.SectionType false) (text ++ rest) (2 ∷ (string h.content ++ rest)) rest (ap (λ (x : List ℕ). x ++ rest) h.spelled)
-    (typed_goes false 2 places.KeysLength h.content rest refl h.fits refl (places.SectionType false)
-    (content_goes places.KeysLength (next_key (length h.content)) (places.SectionType false) h.content rest tt refl h.fits (λ field e. ap (λ (n : ℕ). Ok (next_key n)) e)
-    (goes_from (next_key (length h.content)) (places.SectionType false) (h.content ++ rest) (strings blobs ++ rest) rest (ap (λ (x : List ℕ). x ++ rest) h.content_is)
-    (keys_go blobs (length h.content) 0 rest (omega (arith, all)) h.fits))))
+section_goes (Keys blobs) false text rest h last fits = items_section_goes kinds.Key 2 blobs text h.content rest h.spelled h.fits h.content_is (any_size blobs) refl
 section_goes (Sha1s hashes) true text rest h last fits = absurd last.0
-section_goes (Sha1s hashes) false text rest h last fits =
-    let all : length h.content ≡ length (strings hashes) = ap length h.content_is.0 in
-    goes_from (places.SectionType false) (places.SectionType false) (text ++ rest) (3 ∷ (string h.content ++ rest)) rest (ap (λ (x : List ℕ). x ++ rest) h.spelled)
-    (typed_goes false 3 places.Sha1sLength h.content rest refl h.fits refl (places.SectionType false)
-    (content_goes places.Sha1sLength (next_sha1 (length h.content)) (places.SectionType false) h.content rest tt refl h.fits (λ field e. ap (λ (n : ℕ). Ok (next_sha1 n)) e)
-    (goes_from (next_sha1 (length h.content)) (places.SectionType false) (h.content ++ rest) (strings hashes ++ rest) rest (ap (λ (x : List ℕ). x ++ rest) h.content_is.0)
-    (sha1s_go hashes (length h.content) 0 rest (omega (arith, all)) h.fits h.content_is.1))))
+section_goes (Sha1s hashes) false text rest h last fits = items_section_goes kinds.Sha1 3 hashes text h.content rest h.spelled h.fits h.content_is.0 h.content_is.1 refl
 section_goes (Sha256s hashes) true text rest h last fits = absurd last.0
-section_goes (Sha256s hashes) false text rest h last fits =
-    let all : length h.content ≡ length (strings hashes) = ap length h.content_is.0 in
-    goes_from (places.SectionType false) (places.SectionType false) (text ++ rest) (5 ∷ (string h.content ++ rest)) rest (ap (λ (x : List ℕ). x ++ rest) h.spelled)
-    (typed_goes false 5 places.Sha256sLength h.content rest refl h.fits refl (places.SectionType false)
-    (content_goes places.Sha256sLength (next_sha256 (length h.content)) (places.SectionType false) h.content rest tt refl h.fits (λ field e. ap (λ (n : ℕ). Ok (next_sha256 n)) e)
-    (goes_from (next_sha256 (length h.content)) (places.SectionType false) (h.content ++ rest) (strings hashes ++ rest) rest (ap (λ (x : List ℕ). x ++ rest) h.content_is.0)
-    (sha256s_go hashes (length h.content) 0 rest (omega (arith, all)) h.fits h.content_is.1))))
+section_goes (Sha256s hashes) false text rest h last fits = items_section_goes kinds.Sha256 5 hashes text h.content rest h.spelled h.fits h.content_is.0 h.content_is.1 refl
 section_goes Extension true text rest h last fits = absurd last.0
 section_goes Extension false text rest h last fits =
     goes_from (places.SectionType false) (places.SectionType false) (text ++ rest) (255 ∷ (string h.content ++ rest)) rest (ap (λ (x : List ℕ). x ++ rest) h.spelled)

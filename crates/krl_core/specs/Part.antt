@@ -1,8 +1,7 @@
 -- The part of a list that the field of each place stands in.
 use Rattle.krl_core.specs.declared.part.Part.{Part}
-use Rattle.krl_core.specs.declared.part.Part.TheVariants.{Header, Signature, Keys, Hashes}
-use Rattle.krl_core.specs.declared.part.Part.TheVariants.{Certificates, Serials, Bitmap, Ids}
-use Rattle.krl_core.specs.declared.part.Part.TheVariants.{Extension}
+use Rattle.krl_core.specs.declared.part.Part.TheVariants.{Header, Signature, Items, Certificates}
+use Rattle.krl_core.specs.declared.part.Part.TheVariants.{Serials, Bitmap, Extension}
 use Rattle.krl_core.specs.declared.place.Place.{Place}
 use Rattle.krl_core.specs.declared.place.Place.TheVariants as places
 
@@ -21,15 +20,10 @@ part_of places.SignatureKeyLength = Signature
 part_of (places.SignatureKey size) = Signature
 part_of places.SignatureLength = Signature
 part_of (places.Signature size) = Signature
-part_of places.KeysLength = Keys
-part_of (places.KeyLength left) = Keys
-part_of (places.Key size behind) = Keys
-part_of places.Sha1sLength = Hashes
-part_of (places.Sha1Length left) = Hashes
-part_of (places.Sha1 behind) = Hashes
-part_of places.Sha256sLength = Hashes
-part_of (places.Sha256Length left) = Hashes
-part_of (places.Sha256 behind) = Hashes
+part_of (places.ItemsLength kind) = Items
+part_of (places.IdsLength left) = Items
+part_of (places.ItemLength kind left behind) = Items
+part_of (places.Item kind size left behind) = Items
 part_of places.CertificatesLength = Certificates
 part_of (places.AuthorityLength left) = Certificates
 part_of (places.Authority size behind) = Certificates
@@ -45,9 +39,6 @@ part_of (places.BitmapLength left) = Bitmap
 part_of (places.BitmapOffset left behind) = Bitmap
 part_of (places.BitmapSize offset left behind) = Bitmap
 part_of (places.BitmapByte offset size left behind) = Bitmap
-part_of (places.IdsLength left) = Ids
-part_of (places.IdLength left behind) = Ids
-part_of (places.Id size left behind) = Ids
 part_of places.ExtensionLength = Extension
 part_of (places.SubsectionExtensionLength left) = Extension
 part_of (places.ExtensionNameLength left behind) = Extension

@@ -8,22 +8,22 @@ use Rattle.ssh_wire.specs.Wire.{number_of}
 use Rattle.krl_core.specs.declared.krl_fault.KrlFault.{KrlFault}
 use Rattle.krl_core.specs.declared.krl_fault.KrlFault.TheVariants as faults
 use Rattle.krl_core.specs.declared.header.Header.{Header}
+use Rattle.krl_core.specs.declared.place.ItemKind.{ItemKind}
+use Rattle.krl_core.specs.declared.place.ItemKind.TheVariants.{Key, Sha1, Sha256, Id}
 use Rattle.krl_core.specs.declared.place.Place.{Place}
 use Rattle.krl_core.specs.declared.place.Place.TheVariants.{Magic, FormatVersion, Version, Date}
 use Rattle.krl_core.specs.declared.place.Place.TheVariants.{Flags, ReservedLength, Reserved}
 use Rattle.krl_core.specs.declared.place.Place.TheVariants.{CommentLength, Comment, SectionType}
 use Rattle.krl_core.specs.declared.place.Place.TheVariants.{SignatureKeyLength, SignatureKey}
-use Rattle.krl_core.specs.declared.place.Place.TheVariants.{SignatureLength, Signature, KeysLength}
-use Rattle.krl_core.specs.declared.place.Place.TheVariants.{KeyLength, Key, Sha1sLength, Sha1Length}
-use Rattle.krl_core.specs.declared.place.Place.TheVariants.{Sha1, Sha256sLength, Sha256Length}
-use Rattle.krl_core.specs.declared.place.Place.TheVariants.{Sha256, CertificatesLength}
+use Rattle.krl_core.specs.declared.place.Place.TheVariants.{SignatureLength, Signature}
+use Rattle.krl_core.specs.declared.place.Place.TheVariants.{ItemsLength, IdsLength, ItemLength}
+use Rattle.krl_core.specs.declared.place.Place.TheVariants.{Item, CertificatesLength}
 use Rattle.krl_core.specs.declared.place.Place.TheVariants.{AuthorityLength, Authority}
 use Rattle.krl_core.specs.declared.place.Place.TheVariants.{SectionReservedLength, SectionReserved}
 use Rattle.krl_core.specs.declared.place.Place.TheVariants.{SubsectionType, SerialsLength, Serial}
 use Rattle.krl_core.specs.declared.place.Place.TheVariants.{RangeLength, RangeMin, RangeMax}
 use Rattle.krl_core.specs.declared.place.Place.TheVariants.{BitmapLength, BitmapOffset, BitmapSize}
-use Rattle.krl_core.specs.declared.place.Place.TheVariants.{BitmapByte, IdsLength, IdLength, Id}
-use Rattle.krl_core.specs.declared.place.Place.TheVariants.{ExtensionLength}
+use Rattle.krl_core.specs.declared.place.Place.TheVariants.{BitmapByte, ExtensionLength}
 use Rattle.krl_core.specs.declared.place.Place.TheVariants.{SubsectionExtensionLength}
 use Rattle.krl_core.specs.declared.place.Place.TheVariants.{ExtensionNameLength, ExtensionName}
 use Rattle.krl_core.specs.declared.place.Place.TheVariants.{ExtensionCritical}
@@ -94,25 +94,13 @@ abbrev pub next_subsection : ℕ → Place
 next_subsection zero = SectionType false
 next_subsection (suc left) = SubsectionType (suc left)
 
-abbrev pub next_key : ℕ → Place
-next_key zero = SectionType false
-next_key (suc left) = KeyLength (suc left)
-
-abbrev pub next_sha1 : ℕ → Place
-next_sha1 zero = SectionType false
-next_sha1 (suc left) = Sha1Length (suc left)
-
-abbrev pub next_sha256 : ℕ → Place
-next_sha256 zero = SectionType false
-next_sha256 (suc left) = Sha256Length (suc left)
+abbrev pub next_item : ItemKind → (left behind : ℕ) → Place
+next_item kind zero behind = next_subsection behind
+next_item kind (suc left) behind = ItemLength kind (suc left) behind
 
 abbrev pub next_serial : ℕ → ℕ → Place
 next_serial zero behind = next_subsection behind
 next_serial (suc left) behind = Serial (suc left) behind
-
-abbrev pub next_id : ℕ → ℕ → Place
-next_id zero behind = next_subsection behind
-next_id (suc left) behind = IdLength (suc left) behind
 
 -- `left` of the `size` bytes of a bitmap are due
 abbrev pub next_bits : (offset size left behind : ℕ) → Place
@@ -121,14 +109,21 @@ next_bits offset size (suc left) behind = BitmapByte offset size (suc left) behi
 
 -- ---- judgements
 
+-- how many bytes an item has whose length says `size`
+abbrev pub item_size : ItemKind → ℕ → ℕ
+item_size Key size = size
+item_size Sha1 size = 20
+item_size Sha256 size = 32
+item_size Id size = size
+
 abbrev pub section_of_type : Bool → ℕ → Result Place KrlFault
 section_of_type signed type_byte =
     if type_byte == 4 then Ok SignatureKeyLength
     else if signed then Err faults.AfterSignature
     else if type_byte == 1 then Ok CertificatesLength
-    else if type_byte == 2 then Ok KeysLength
-    else if type_byte == 3 then Ok Sha1sLength
-    else if type_byte == 5 then Ok Sha256sLength
+    else if type_byte == 2 then Ok (ItemsLength Key)
+    else if type_byte == 3 then Ok (ItemsLength Sha1)
+    else if type_byte == 5 then Ok (ItemsLength Sha256)
     else if type_byte == 255 then Ok ExtensionLength
     else Err faults.UnknownSection
 
@@ -201,17 +196,13 @@ due SignatureKeyLength = any_length SignatureKey
 due (SignatureKey size) = any_bytes size SignatureLength
 due SignatureLength = any_length Signature
 due (Signature size) = any_bytes size (SectionType true)
-due KeysLength = any_length next_key
-due (KeyLength left) = length_within left (λ size. Ok (Key size (left - 4 - size)))
-due (Key size behind) = any_bytes size (next_key behind)
-due Sha1sLength = any_length next_sha1
-due (Sha1Length left) =
-    length_within left (λ size. judge (size == 20) faults.HashLength (Sha1 (left - 4 - size)))
-due (Sha1 behind) = any_bytes 20 (next_sha1 behind)
-due Sha256sLength = any_length next_sha256
-due (Sha256Length left) =
-    length_within left (λ size. judge (size == 32) faults.HashLength (Sha256 (left - 4 - size)))
-due (Sha256 behind) = any_bytes 32 (next_sha256 behind)
+due (ItemsLength kind) = any_length (λ size. next_item kind size 0)
+due (IdsLength left) = length_within left (λ size. Ok (next_item Id size (left - 4 - size)))
+due (ItemLength kind left behind) =
+    length_within left
+    (λ size. judge (size == item_size kind size) faults.HashLength
+    (Item kind size (left - 4 - size) behind))
+due (Item kind size left behind) = any_bytes (item_size kind size) (next_item kind left behind)
 due CertificatesLength = any_length AuthorityLength
 due (AuthorityLength left) = length_within left (λ size. Ok (Authority size (left - 4 - size)))
 due (Authority size behind) = any_bytes size (SectionReservedLength behind)
@@ -253,9 +244,6 @@ due (BitmapByte offset size left behind) = record {
   may_end = false;
   judged = λ field. bits_judged offset size left behind (number_of field);
 }
-due (IdsLength left) = length_within left (λ size. Ok (next_id size (left - 4 - size)))
-due (IdLength left behind) = length_within left (λ size. Ok (Id size (left - 4 - size) behind))
-due (Id size left behind) = any_bytes size (next_id left behind)
 due ExtensionLength = any_length (λ size. ExtensionNameLength size 0)
 due (SubsectionExtensionLength left) =
     length_within left (λ size. Ok (ExtensionNameLength size (left - 4 - size)))
@@ -276,16 +264,20 @@ due (ExtensionContents size behind) = any_bytes size (next_subsection behind)
 
 -- ---- what fields name
 
+-- what an item names, under the authority in force
+abbrev pub item_entry : ItemKind → (authority item : List ℕ) → Entry
+item_entry Key authority item = KeyEntry item
+item_entry Sha1 authority item = Sha1Entry item
+item_entry Sha256 authority item = Sha256Entry item
+item_entry Id authority item = IdEntry authority item
+
 -- what a field at a place names, under the authority in force
 abbrev pub names : Place → (authority field : List ℕ) → List Entry
 names (Serial left behind) authority field = SerialsEntry authority (number_of field ∷ []) ∷ []
 names (RangeMax min behind) authority field = RangeEntry authority min (number_of field) ∷ []
 names (BitmapByte offset size left behind) authority field =
     BitmapEntry authority (base_of offset left) (number_of field) ∷ []
-names (Id size left behind) authority field = IdEntry authority field ∷ []
-names (Key size behind) authority field = KeyEntry field ∷ []
-names (Sha1 behind) authority field = Sha1Entry field ∷ []
-names (Sha256 behind) authority field = Sha256Entry field ∷ []
+names (Item kind size left behind) authority field = item_entry kind authority field ∷ []
 names _ authority field = []
 
 -- The authority in force after a field. A section begins without one.

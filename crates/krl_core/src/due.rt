@@ -7,10 +7,8 @@ ghost use Rattle.krl_core.specs.Front.{HasRoom};
 mod bitmap;
 mod certificates;
 mod extension;
-mod hashes;
 mod header;
-mod ids;
-mod keys;
+mod items;
 mod serials;
 mod signature;
 
@@ -30,24 +28,19 @@ impl Place {
             Place::BitmapOffset { .. } => 8,
             Place::SectionType { .. } | Place::SubsectionType { .. } => 1,
             Place::BitmapByte { .. } | Place::ExtensionCritical { .. } => 1,
-            Place::Sha1 { .. } => 20,
-            Place::Sha256 { .. } => 32,
+            Place::Item { kind, size, .. } => kind.size(size),
             Place::Reserved { size } | Place::Comment { size } => size,
             Place::SignatureKey { size } | Place::Signature { size } => size,
-            Place::Key { size, .. } | Place::Authority { size, .. } => size,
-            Place::SectionReserved { size, .. } | Place::Id { size, .. } => size,
+            Place::Authority { size, .. } | Place::SectionReserved { size, .. } => size,
             Place::ExtensionName { size, .. } | Place::ExtensionContents { size, .. } => size,
             Place::FormatVersion
             | Place::ReservedLength
             | Place::CommentLength
             | Place::SignatureKeyLength
             | Place::SignatureLength
-            | Place::KeysLength
-            | Place::KeyLength { .. }
-            | Place::Sha1sLength
-            | Place::Sha1Length { .. }
-            | Place::Sha256sLength
-            | Place::Sha256Length { .. }
+            | Place::ItemsLength { .. }
+            | Place::IdsLength { .. }
+            | Place::ItemLength { .. }
             | Place::CertificatesLength
             | Place::AuthorityLength { .. }
             | Place::SectionReservedLength { .. }
@@ -55,8 +48,6 @@ impl Place {
             | Place::RangeLength { .. }
             | Place::BitmapLength { .. }
             | Place::BitmapSize { .. }
-            | Place::IdsLength { .. }
-            | Place::IdLength { .. }
             | Place::ExtensionLength
             | Place::SubsectionExtensionLength { .. }
             | Place::ExtensionNameLength { .. }
@@ -70,17 +61,14 @@ impl Place {
         ensures { IsTrue result ↔ HasRoom (due self) }
     {
         match self {
-            Place::KeyLength { left }
-            | Place::Sha1Length { left }
-            | Place::Sha256Length { left }
+            Place::IdsLength { left }
+            | Place::ItemLength { left, .. }
             | Place::AuthorityLength { left }
             | Place::SectionReservedLength { left }
             | Place::SerialsLength { left }
             | Place::RangeLength { left }
             | Place::BitmapLength { left }
             | Place::BitmapSize { left, .. }
-            | Place::IdsLength { left }
-            | Place::IdLength { left, .. }
             | Place::SubsectionExtensionLength { left }
             | Place::ExtensionNameLength { left, .. }
             | Place::ExtensionContentsLength { left, .. } => left >= 4,
@@ -111,12 +99,10 @@ impl Place {
         match self.part() {
             Part::Header => header::after(self, field),
             Part::Signature => signature::after(self, field),
-            Part::Keys => keys::after(self, field),
-            Part::Hashes => hashes::after(self, field),
+            Part::Items => items::after(self, field),
             Part::Certificates => certificates::after(self, field),
             Part::Serials => serials::after(self, field),
             Part::Bitmap => bitmap::after(self, field),
-            Part::Ids => ids::after(self, field),
             Part::Extension => extension::after(self, field),
         }
     }

@@ -4,15 +4,13 @@ ghost use Rattle.std.specs.Prelude.{◌≡◌, ◌-◌, ◌<◌, ◌≤◌};
 ghost use Rattle.krl_core.specs.Place.{judge as judged_by, within as within_of, base_of};
 ghost use Rattle.krl_core.specs.Place.{bits_judged as bits_judged_of, passes_end as passes_end_of};
 ghost use Rattle.krl_core.specs.Place.{highest_bit as highest_bit_of, next_bits as bits_after};
-ghost use Rattle.krl_core.specs.Place.{next_id as id_after, next_key as key_after};
-ghost use Rattle.krl_core.specs.Place.{next_serial as serial_after, next_sha1 as sha1_after};
-ghost use Rattle.krl_core.specs.Place.{next_sha256 as sha256_after};
+ghost use Rattle.krl_core.specs.Place.{next_item as item_after, next_serial as serial_after};
 ghost use Rattle.krl_core.specs.Place.{next_subsection as subsection_after};
 ghost use Rattle.krl_core.specs.Place.{section_of_type as section_of};
 ghost use Rattle.krl_core.specs.Place.{subsection_of_type as subsection_of};
 
 use crate::krl_fault::KrlFault;
-use crate::place::Place;
+use crate::place::{ItemKind, Place};
 
 // The next place where a field is good, else its fault.
 pub(crate) fn judge(good: bool, fault: KrlFault, next: Place) -> Result<Place, KrlFault>
@@ -51,33 +49,14 @@ pub(crate) fn next_subsection(left: u32) -> Place
     }
 }
 
-pub(crate) fn next_key(left: u32) -> Place
-    ensures { result ≡ key_after left }
+// An item, or the end of a list of them.
+pub(crate) fn next_item(kind: ItemKind, left: u32, behind: u32) -> Place
+    ensures { result ≡ item_after kind left behind }
 {
     if left == 0 {
-        Place::SectionType { signed: false }
+        next_subsection(behind)
     } else {
-        Place::KeyLength { left }
-    }
-}
-
-pub(crate) fn next_sha1(left: u32) -> Place
-    ensures { result ≡ sha1_after left }
-{
-    if left == 0 {
-        Place::SectionType { signed: false }
-    } else {
-        Place::Sha1Length { left }
-    }
-}
-
-pub(crate) fn next_sha256(left: u32) -> Place
-    ensures { result ≡ sha256_after left }
-{
-    if left == 0 {
-        Place::SectionType { signed: false }
-    } else {
-        Place::Sha256Length { left }
+        Place::ItemLength { kind, left, behind }
     }
 }
 
@@ -88,16 +67,6 @@ pub(crate) fn next_serial(left: u32, behind: u32) -> Place
         next_subsection(behind)
     } else {
         Place::Serial { left, behind }
-    }
-}
-
-pub(crate) fn next_id(left: u32, behind: u32) -> Place
-    ensures { result ≡ id_after left behind }
-{
-    if left == 0 {
-        next_subsection(behind)
-    } else {
-        Place::IdLength { left, behind }
     }
 }
 
@@ -128,9 +97,15 @@ pub(crate) fn section_of_type(signed: bool, type_byte: u8) -> Result<Place, KrlF
     }
     match type_byte {
         1 => Ok(Place::CertificatesLength),
-        2 => Ok(Place::KeysLength),
-        3 => Ok(Place::Sha1sLength),
-        5 => Ok(Place::Sha256sLength),
+        2 => Ok(Place::ItemsLength {
+            kind: ItemKind::Key,
+        }),
+        3 => Ok(Place::ItemsLength {
+            kind: ItemKind::Sha1,
+        }),
+        5 => Ok(Place::ItemsLength {
+            kind: ItemKind::Sha256,
+        }),
         255 => Ok(Place::ExtensionLength),
         _ => Err(KrlFault::UnknownSection),
     }

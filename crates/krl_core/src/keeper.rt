@@ -6,18 +6,18 @@ ghost use Rattle.serial_set.specs.BitRuns.{Feeds, IsInterval};
 ghost use Rattle.serial_set.specs.Finished.{finished_of};
 ghost use Rattle.serial_set.specs.Near.{AreNear};
 ghost use Rattle.krl_core.specs.Authority.{IsAuthority, authority_bytes};
-ghost use Rattle.krl_core.specs.Entry.{SerialsEntry, RangeEntry, IdEntry, KeyEntry, Sha1Entry};
-ghost use Rattle.krl_core.specs.Entry.{Sha256Entry};
+ghost use Rattle.krl_core.specs.Entry.{SerialsEntry, RangeEntry};
 ghost use Rattle.krl_core.specs.Front.{Passes, start};
 ghost use Rattle.krl_core.specs.Keeping.{Adds, Closes, GrowsWithin, InStep, IsKept, StoresWithin};
 ghost use Rattle.krl_core.specs.Keeping.{KeepsBits, KeepsField, KeepsRest, KeepsStored, TakesByte};
 ghost use Rattle.krl_core.specs.Changes.{run_entries};
 ghost use Rattle.krl_core.specs.Keeping.{held_with_open};
+ghost use Rattle.krl_core.specs.Place.{item_entry, item_size};
 ghost use Rattle.krl_core.specs.Reading.{is_fixed};
 
 use crate::field::{byte_of, u64_of};
 use crate::header::Header;
-use crate::place::Place;
+use crate::place::{ItemKind, Place};
 use crate::revocations::Revocations;
 use serial_set::{BitRuns, Finished, Span, Spans, count_near};
 use ssh_wire::Bytes;
@@ -128,10 +128,7 @@ impl<S: Spans> Keeper<S> {
                 Ok(())
             }
             Place::BitmapByte { left, .. } => self.add_bits(byte_of(field), left == 1),
-            Place::Id { .. } => self.add_id(field),
-            Place::Key { .. } => self.add_key(field),
-            Place::Sha1 { .. } => self.add_sha1(field),
-            Place::Sha256 { .. } => self.add_sha256(field),
+            Place::Item { kind, .. } => self.add_item(kind, field),
             // the other places name nothing; of one that names something this is not proved
             _ => Ok(()),
         }
@@ -207,35 +204,18 @@ impl<S: Spans> Keeper<S> {
         self.held.add_near(under(self.authority.as_slice()), near)
     }
 
-    fn add_id(&mut self, id: &[u8]) -> Result<(), AllocError>
+    fn add_item(&mut self, kind: ItemKind, item: &[u8]) -> Result<(), AllocError>
+        requires { length item.now ≡ item_size kind (length item.now) }
         ensures adds { OnOk result
-            (Adds self.old (IdEntry self.old.authority id.now ∷ []) self.new) }
-        ensures grows { GrowsWithin (length id.now) self.old self.new }
+            (Adds self.old (item_entry kind self.old.authority item.now ∷ []) self.new) }
+        ensures grows { GrowsWithin (length item.now) self.old self.new }
     {
-        self.held.add_id(under(self.authority.as_slice()), id)
-    }
-
-    fn add_key(&mut self, blob: &[u8]) -> Result<(), AllocError>
-        ensures adds { OnOk result (Adds self.old (KeyEntry blob.now ∷ []) self.new) }
-        ensures grows { GrowsWithin (length blob.now) self.old self.new }
-    {
-        self.held.add_key(blob)
-    }
-
-    fn add_sha1(&mut self, hash: &[u8]) -> Result<(), AllocError>
-        requires { length hash.now ≡ 20 }
-        ensures adds { OnOk result (Adds self.old (Sha1Entry hash.now ∷ []) self.new) }
-        ensures grows { GrowsWithin (length hash.now) self.old self.new }
-    {
-        self.held.add_sha1(&array_of(hash))
-    }
-
-    fn add_sha256(&mut self, hash: &[u8]) -> Result<(), AllocError>
-        requires { length hash.now ≡ 32 }
-        ensures adds { OnOk result (Adds self.old (Sha256Entry hash.now ∷ []) self.new) }
-        ensures grows { GrowsWithin (length hash.now) self.old self.new }
-    {
-        self.held.add_sha256(&array_of(hash))
+        match kind {
+            ItemKind::Key => self.held.add_key(item),
+            ItemKind::Sha1 => self.held.add_sha1(&array_of(item)),
+            ItemKind::Sha256 => self.held.add_sha256(&array_of(item)),
+            ItemKind::Id => self.held.add_id(under(self.authority.as_slice()), item),
+        }
     }
 
     // Feeds a byte to the bitmap at hand, and adds the runs that it finishes. With the last byte

@@ -30,7 +30,7 @@ mod writing;
 pub use header::Header;
 pub use krl_fault::KrlFault;
 pub use listed::{Authorities, Listed};
-pub use place::Place;
+pub use place::{ItemKind, Place};
 pub use read::read_krl;
 pub use reading::{LIMIT, Reading};
 pub use revocations::Revocations;

@@ -12,14 +12,13 @@ pub(crate) enum Part {
     Header,
     /// A signature, or the type byte of any section.
     Signature,
-    Keys,
-    Hashes,
+    /// A list of keys, hashes or key IDs.
+    Items,
     /// A section of certificates, but for its subsections.
     Certificates,
     /// A subsection of serials or of a range.
     Serials,
     Bitmap,
-    Ids,
     /// An extension, as a section or a subsection.
     Extension,
 }
@@ -37,10 +36,8 @@ impl Place {
             Place::SectionType { .. } | Place::SignatureKeyLength => Part::Signature,
             Place::SignatureKey { .. } | Place::SignatureLength => Part::Signature,
             Place::Signature { .. } => Part::Signature,
-            Place::KeysLength | Place::KeyLength { .. } | Place::Key { .. } => Part::Keys,
-            Place::Sha1sLength | Place::Sha1Length { .. } | Place::Sha1 { .. } => Part::Hashes,
-            Place::Sha256sLength | Place::Sha256Length { .. } => Part::Hashes,
-            Place::Sha256 { .. } => Part::Hashes,
+            Place::ItemsLength { .. } | Place::IdsLength { .. } => Part::Items,
+            Place::ItemLength { .. } | Place::Item { .. } => Part::Items,
             Place::CertificatesLength | Place::AuthorityLength { .. } => Part::Certificates,
             Place::Authority { .. } | Place::SectionReservedLength { .. } => Part::Certificates,
             Place::SectionReserved { .. } | Place::SubsectionType { .. } => Part::Certificates,
@@ -49,7 +46,6 @@ impl Place {
             Place::RangeMax { .. } => Part::Serials,
             Place::BitmapLength { .. } | Place::BitmapOffset { .. } => Part::Bitmap,
             Place::BitmapSize { .. } | Place::BitmapByte { .. } => Part::Bitmap,
-            Place::IdsLength { .. } | Place::IdLength { .. } | Place::Id { .. } => Part::Ids,
             Place::ExtensionLength | Place::SubsectionExtensionLength { .. } => Part::Extension,
             Place::ExtensionNameLength { .. } | Place::ExtensionName { .. } => Part::Extension,
             Place::ExtensionCritical { .. } => Part::Extension,

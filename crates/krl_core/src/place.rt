@@ -1,5 +1,31 @@
 // The places in a list where a field can be due (PROTOCOL.krl).
 
+ghost use Rattle.std.specs.Prelude.{◌≡◌};
+ghost use Rattle.krl_core.specs.Place.{item_size};
+
+/// What the items of a list of strings are.
+#[derive(Clone, Copy)]
+pub enum ItemKind {
+    Key,
+    Sha1,
+    Sha256,
+    Id,
+}
+
+impl ItemKind {
+    /// How many bytes an item has whose length says `size`.
+    #[inline(always)]
+    pub fn size(self, size: u32) -> u32
+        ensures { result ≡ item_size self size }
+    {
+        match self {
+            ItemKind::Key | ItemKind::Id => size,
+            ItemKind::Sha1 => 20,
+            ItemKind::Sha256 => 32,
+        }
+    }
+}
+
 /// What comes next in a list, of which the fields are read one after the other. `left` counts the
 /// bytes that are left of what the field stands in, with the field; `behind` those of the section
 /// after that. A bitmap's byte is a field.
@@ -30,26 +56,22 @@ pub enum Place {
     Signature {
         size: u32,
     },
-    KeysLength,
-    KeyLength {
+    /// The length of a section of items. Key IDs stand in a subsection.
+    ItemsLength {
+        kind: ItemKind,
+    },
+    IdsLength {
         left: u32,
     },
-    Key {
+    ItemLength {
+        kind: ItemKind,
+        left: u32,
+        behind: u32,
+    },
+    Item {
+        kind: ItemKind,
         size: u32,
-        behind: u32,
-    },
-    Sha1sLength,
-    Sha1Length {
         left: u32,
-    },
-    Sha1 {
-        behind: u32,
-    },
-    Sha256sLength,
-    Sha256Length {
-        left: u32,
-    },
-    Sha256 {
         behind: u32,
     },
     CertificatesLength,
@@ -102,18 +124,6 @@ pub enum Place {
     /// One of the `left` bytes that are due of a bitmap's `size`, the highest first.
     BitmapByte {
         offset: u64,
-        size: u32,
-        left: u32,
-        behind: u32,
-    },
-    IdsLength {
-        left: u32,
-    },
-    IdLength {
-        left: u32,
-        behind: u32,
-    },
-    Id {
         size: u32,
         left: u32,
         behind: u32,

@@ -9,7 +9,7 @@ use Rattle.krl_core.proofs.keeper.Keeper.keep.Goals as goal
 
 pub returns-in_default-clause-kept : goal.returns-in_default-clause-kept
 returns-in_default-clause-kept g c =
-    let quiet = quiet_unless c.args.place c.in_default.not-Version c.in_default.not-Date c.in_default.not-Comment c.in_default.not-SectionType c.in_default.not-Authority c.in_default.not-Serial c.in_default.not-RangeMax c.in_default.not-BitmapSize c.in_default.not-BitmapByte c.in_default.not-Id c.in_default.not-Key c.in_default.not-Sha1 c.in_default.not-Sha256 in
+    let quiet = quiet_unless c.args.place c.in_default.not-Version c.in_default.not-Date c.in_default.not-Comment c.in_default.not-SectionType c.in_default.not-Authority c.in_default.not-Serial c.in_default.not-RangeMax c.in_default.not-BitmapSize c.in_default.not-BitmapByte c.in_default.not-Item in
     keeps_quiet c.args.self.now c.args.place c.args.next c.args.field.now quiet c.requires.passes.judged c.requires.in_step
 
 pub returns-in-Comment-clause-grows : goal.returns-in-Comment-clause-grows

@@ -1,39 +1,48 @@
-// What follows each field of a subsection of key IDs.
+// What follows each field of a list of keys, hashes or key IDs.
 
 ghost use Rattle.std.specs.Prelude.{◌≡◌, length};
-ghost use Rattle.krl_core.specs.declared.part.Part.TheVariants.{Ids};
+ghost use Rattle.krl_core.specs.declared.part.Part.TheVariants.{Items};
 ghost use Rattle.krl_core.specs.Front.{HasRoom};
 ghost use Rattle.krl_core.specs.Part.{part_of};
 ghost use Rattle.krl_core.specs.Place.{due};
 
 use crate::field::u32_of;
-use crate::judging::{next_id, rest, within};
+use crate::judging::{judge, next_item, rest, within};
 use crate::krl_fault::KrlFault;
-use crate::place::Place;
+use crate::place::{ItemKind, Place};
 
 /// Judges the whole field that was due at one of these places.
 #[inline(always)]
 pub(crate) fn after(place: Place, field: &[u8]) -> Result<Place, KrlFault>
-    requires part { part_of place ≡ Ids }
+    requires part { part_of place ≡ Items }
     requires whole { length field.now ≡ (due place).size }
     requires room { HasRoom (due place) }
     ensures { result ≡ (due place).judged field.now }
 {
     match place {
+        Place::ItemsLength { kind } => Ok(next_item(kind, u32_of(field), 0)),
         Place::IdsLength { left } => {
             let size = u32_of(field);
-            within(left, size, Ok(next_id(size, rest(left, size))))
+            let next = next_item(ItemKind::Id, size, rest(left, size));
+            within(left, size, Ok(next))
         }
-        Place::IdLength { left, behind } => {
+        Place::ItemLength { kind, left, behind } => {
             let size = u32_of(field);
-            let next = Place::Id {
+            let next = Place::Item {
+                kind,
                 size,
                 left: rest(left, size),
                 behind,
             };
-            within(left, size, Ok(next))
+            let good = size == kind.size(size);
+            within(left, size, judge(good, KrlFault::HashLength, next))
         }
-        Place::Id { left, behind, .. } => Ok(next_id(left, behind)),
+        Place::Item {
+            kind,
+            left,
+            behind,
+            ..
+        } => Ok(next_item(kind, left, behind)),
         _ => unreachable!(),
     }
 }
