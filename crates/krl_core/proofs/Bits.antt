@@ -220,11 +220,11 @@ judged_parts true false past next place e = absurd (cc)
 judged_parts false t true next place e = absurd (cc)
 judged_parts false t false next place e = (λ f. absurd (cc), refl, cc)
 
-pub good_bits : (p : FedBitmap) (offset size left behind byte : ℕ) (next : Place) → byte < 256
+pub good_bits : (p : FedBitmap) (offset size left after byte : ℕ) (next : Place) → byte < 256
     → p ≡ record { offset = offset; len = size; due = left; pending = p.pending; fault = None }
-    → bits_judged offset size left behind byte ≡ Ok next → (fault : BitFault) → HasFault p byte fault → ⊥
-good_bits p offset size left behind byte next h is judged fault bad =
-    let parts = judged_parts (eqb left size) (ltb byte 128) (passes_end (base_of offset left) byte) next (next_bits offset size (left - 1) behind) judged in
+    → bits_judged offset size left after byte ≡ Ok next → (fault : BitFault) → HasFault p byte fault → ⊥
+good_bits p offset size left after byte next h is judged fault bad =
+    let parts = judged_parts (eqb left size) (ltb byte 128) (passes_end (base_of offset left) byte) next (next_bits offset size (left - 1) after) judged in
     let none : p.fault ≡ None = ap (λ x. x.fault) is in
     let due : p.due ≡ left = ap (λ x. x.due) is in
     let len : p.len ≡ size = ap (λ x. x.len) is in
@@ -238,28 +238,28 @@ good_bits p offset size left behind byte next h is judged fault bad =
     shown Wraps b low in_range = let lt = in_range b.1.0 b.1.1.1 in omega (arith, lt, b.1.1.0)
 
 -- where the next byte of a bitmap is due, the byte before it is fed
-bits_in_step : (before after : FedBitmap) (offset size left behind : ℕ)
+bits_in_step : (before fed : FedBitmap) (offset size left after : ℕ)
     → before ≡ record { offset = offset; len = size; due = left; pending = before.pending; fault = None }
-    → (eqb left 1 ≡ true → after.pending ≡ None)
-    → (eqb left 1 ≡ false → after ≡ record before { due = before.due - 1; pending = after.pending })
-    → 0 < left → InStep (next_bits offset size (left - 1) behind) after
-bits_in_step before after offset size zero behind is closed opened pos = absurd (omega arith)
-bits_in_step before after offset size (suc zero) behind is closed opened pos = out_step (next_subsection behind) after (out_subsection behind) (closed refl)
-bits_in_step before after offset size (suc (suc left)) behind is closed opened pos =
-    let more : after ≡ record before { due = before.due - 1; pending = after.pending } = opened (ne_eqb (suc (suc left)) 1 (λ e. absurd (omega arith))) in
+    → (eqb left 1 ≡ true → fed.pending ≡ None)
+    → (eqb left 1 ≡ false → fed ≡ record before { due = before.due - 1; pending = fed.pending })
+    → 0 < left → InStep (next_bits offset size (left - 1) after) fed
+bits_in_step before fed offset size zero after is closed opened pos = absurd (omega arith)
+bits_in_step before fed offset size (suc zero) after is closed opened pos = out_step (next_subsection after) fed (out_subsection after) (closed refl)
+bits_in_step before fed offset size (suc (suc left)) after is closed opened pos =
+    let more : fed ≡ record before { due = before.due - 1; pending = fed.pending } = opened (ne_eqb (suc (suc left)) 1 (λ e. absurd (omega arith))) in
     let due : before.due - 1 ≡ suc left = omega (arith, ap (λ x. x.due) is) in
-    let all : record before { due = before.due - 1; pending = after.pending } ≡ record { offset = offset; len = size; due = suc left; pending = after.pending; fault = None } =
-    ap (λ (b : FedBitmap). record b { due = before.due - 1; pending = after.pending }) is
-    ∙ ap (λ (n : ℕ). record { offset = offset; len = size; due = n; pending = after.pending; fault = None }) due in
+    let all : record before { due = before.due - 1; pending = fed.pending } ≡ record { offset = offset; len = size; due = suc left; pending = fed.pending; fault = None } =
+    ap (λ (b : FedBitmap). record b { due = before.due - 1; pending = fed.pending }) is
+    ∙ ap (λ (n : ℕ). record { offset = offset; len = size; due = n; pending = fed.pending; fault = None }) due in
     let left_is : suc (suc left) - 1 ≡ suc left = omega arith in
-    subst (λ (n : ℕ). InStep (next_bits offset size n behind) after) (sym left_is) (omega arith, more ∙ all)
+    subst (λ (n : ℕ). InStep (next_bits offset size n after) fed) (sym left_is) (omega arith, more ∙ all)
 
-pub keeps_bits : (old new : Keeping) (offset size left behind byte : ℕ) (field : List ℕ) (next : Place)
-    → InStep (BitmapByte offset size left behind) old.bitmap → byte ≡ number_of field
-    → bits_judged offset size left behind byte ≡ Ok next
-    → KeepsBits byte (eqb left 1) old new → KeepsField (BitmapByte offset size left behind) field next old new
-keeps_bits old new offset size left behind byte field next step value judged h =
-    let parts = judged_parts (eqb left size) (ltb byte 128) (passes_end (base_of offset left) byte) next (next_bits offset size (left - 1) behind) judged in
+pub keeps_bits : (old new : Keeping) (offset size left after byte : ℕ) (field : List ℕ) (next : Place)
+    → InStep (BitmapByte offset size left after) old.bitmap → byte ≡ number_of field
+    → bits_judged offset size left after byte ≡ Ok next
+    → KeepsBits byte (eqb left 1) old new → KeepsField (BitmapByte offset size left after) field next old new
+keeps_bits old new offset size left after byte field next step value judged h =
+    let parts = judged_parts (eqb left size) (ltb byte 128) (passes_end (base_of offset left) byte) next (next_bits offset size (left - 1) after) judged in
     let due : old.bitmap.due ≡ left = ap (λ x. x.due) step.1 in
     let at : old.bitmap.offset ≡ offset = ap (λ x. x.offset) step.1 in
     let entry : BitmapEntry old.authority (base_of old.bitmap.offset old.bitmap.due) byte ∷ [] ≡ BitmapEntry old.authority (base_of offset left) (number_of field) ∷ [] =
@@ -271,5 +271,5 @@ keeps_bits old new offset size left behind byte field next step value judged h =
       authority_is = h.authority_is;
       header_is = h.header_is;
       in_step = subst (λ (p : Place). InStep p new.bitmap) parts.2
-          (bits_in_step old.bitmap new.bitmap offset size left behind step.1 h.closed h.goes_on step.0);
+          (bits_in_step old.bitmap new.bitmap offset size left after step.1 h.closed h.goes_on step.0);
     }

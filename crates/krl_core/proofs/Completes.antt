@@ -68,10 +68,10 @@ items_none spell Good entry Then bytes more h =
     record { items = []; rest = bytes; others = more; parts = refl; size_is = refl; good = tt; named = refl; then_is = h }
 
 -- a string in front of the other strings
-pub string_more : (Good : List ℕ → Type 0) (entry : List ℕ → Entry) (left : ℕ) (Then : Rest) (field tail : List ℕ) (more : List Entry) (behind : ℕ) → IsBytes field → length field ≡ 4
-    → left ≡ 4 + number_of field + behind → (h : FromItem (number_of field) entry (FromItems string Good entry behind Then) tail more) → Good h.content
+pub string_more : (Good : List ℕ → Type 0) (entry : List ℕ → Entry) (left : ℕ) (Then : Rest) (field tail : List ℕ) (more : List Entry) (after : ℕ) → IsBytes field → length field ≡ 4
+    → left ≡ 4 + number_of field + after → (h : FromItem (number_of field) entry (FromItems string Good entry after Then) tail more) → Good h.content
     → FromItems string Good entry left Then (field ++ tail) more
-string_more Good entry left Then field tail more behind fits size total h good =
+string_more Good entry left Then field tail more after fits size total h good =
     let k = h.then_is in
     let front : field ++ tail ≡ string h.content ++ h.rest = string_parts field tail h.content h.rest fits size h.size_is h.parts in
     record {
@@ -85,9 +85,9 @@ string_more Good entry left Then field tail more behind fits size total h good =
       then_is = k.then_is;
     }
 
-pub serial_more : (K : Type 0) (a : List ℕ) (left behind : ℕ) (field tail : List ℕ) (more : List Entry) → IsBytes field → length field ≡ 8 → 8 ≤ left
-    → SerialItems K a (left - 8) behind tail more → SerialItems K a left behind (field ++ tail) (SerialsEntry a (number_of field ∷ []) ∷ more)
-serial_more K a left behind field tail more fits size room k =
+pub serial_more : (K : Type 0) (a : List ℕ) (left after : ℕ) (field tail : List ℕ) (more : List Entry) → IsBytes field → length field ≡ 8 → 8 ≤ left
+    → SerialItems K a (left - 8) after tail more → SerialItems K a left after (field ++ tail) (SerialsEntry a (number_of field ∷ []) ∷ more)
+serial_more K a left after field tail more fits size room k =
     let n = number_back8 field size fits in record {
       items = number_of field ∷ k.items;
       rest = k.rest;
@@ -107,16 +107,16 @@ pub subsections_from : (last h : Header) (a : List ℕ) (left : ℕ) (bytes : Li
 subsections_from last h a zero bytes more k = subsections_none (last ≡ h) a bytes more k
 subsections_from last h a (suc left) bytes more k = k
 
-pub serials_from : (last h : Header) (a : List ℕ) (left behind : ℕ) (bytes : List ℕ) (more : List Entry) → Completes last h a (next_serial left behind) bytes more → SerialItems (last ≡ h) a left behind bytes more
-serials_from last h a zero behind bytes more k =
-    items_none (number 8) (λ n. n < 2 ^ 64) (λ n. SerialsEntry a (n ∷ [])) (FromSubsections (last ≡ h) a behind) bytes more (subsections_from last h a behind bytes more k)
-serials_from last h a (suc left) behind bytes more k = k
+pub serials_from : (last h : Header) (a : List ℕ) (left after : ℕ) (bytes : List ℕ) (more : List Entry) → Completes last h a (next_serial left after) bytes more → SerialItems (last ≡ h) a left after bytes more
+serials_from last h a zero after bytes more k =
+    items_none (number 8) (λ n. n < 2 ^ 64) (λ n. SerialsEntry a (n ∷ [])) (FromSubsections (last ≡ h) a after) bytes more (subsections_from last h a after bytes more k)
+serials_from last h a (suc left) after bytes more k = k
 
-pub items_from : (last h : Header) (kind : ItemKind) (a : List ℕ) (left behind : ℕ) (bytes : List ℕ) (more : List Entry) → Completes last h a (next_item kind left behind) bytes more
-    → Items (last ≡ h) kind a left behind bytes more
-items_from last h kind a zero behind bytes more k =
-    items_none string (IsItem kind) (item_entry kind a) (FromSubsections (last ≡ h) a behind) bytes more (subsections_from last h a behind bytes more k)
-items_from last h kind a (suc left) behind bytes more k = k
+pub items_from : (last h : Header) (kind : ItemKind) (a : List ℕ) (left after : ℕ) (bytes : List ℕ) (more : List Entry) → Completes last h a (next_item kind left after) bytes more
+    → Items (last ≡ h) kind a left after bytes more
+items_from last h kind a zero after bytes more k =
+    items_none string (IsItem kind) (item_entry kind a) (FromSubsections (last ≡ h) a after) bytes more (subsections_from last h a after bytes more k)
+items_from last h kind a (suc left) after bytes more k = k
 
 -- no bytes are left for a subsection
 no_subsection : (text : List ℕ) (subsection : Subsection) → SpellsSubsection text subsection → length text ≡ 0 → ⊥

@@ -135,9 +135,9 @@ contents_front left Then field tail more fits size room same h =
       then_is = h.then_is;
     }
 
-pub range_front : (K : Type 0) (a : List ℕ) (behind : ℕ) (field tail : List ℕ) (more : List Entry) → IsBytes field → length field ≡ 8
-    → FromMax K a (number_of field) behind tail more → FromRange K a behind (field ++ tail) more
-range_front K a behind field tail more fits size h =
+pub range_front : (K : Type 0) (a : List ℕ) (after : ℕ) (field tail : List ℕ) (more : List Entry) → IsBytes field → length field ≡ 8
+    → FromMax K a (number_of field) after tail more → FromRange K a after (field ++ tail) more
+range_front K a after field tail more fits size h =
     let n = number_back8 field size fits in record {
       min = number_of field;
       max = h.max;
@@ -202,8 +202,8 @@ no_bits : (bit : ℕ) → bit_at (number_of []) bit ≡ 1 → bit_at 0 bit ≡ 1
 unfolding number_of
 no_bits bit set = set
 
-bits_none : (K : Type 0) (a : List ℕ) (offset size behind : ℕ) (bytes : List ℕ) (more : List Entry) → FromSubsections K a behind bytes more → FromBits K a offset size 0 behind bytes more
-bits_none K a offset size behind bytes more h = record {
+bits_none : (K : Type 0) (a : List ℕ) (offset size after : ℕ) (bytes : List ℕ) (more : List Entry) → FromSubsections K a after bytes more → FromBits K a offset size 0 after bytes more
+bits_none K a offset size after bytes more h = record {
   bits = [];
   rest = bytes;
   others = more;
@@ -216,14 +216,14 @@ bits_none K a offset size behind bytes more h = record {
   then_is = h;
 }
 
-pub bits_from : (last h : Header) (a : List ℕ) (offset size left behind : ℕ) (bytes : List ℕ) (more : List Entry) → Completes last h a (next_bits offset size left behind) bytes more → FromBits (last ≡ h) a offset size left behind bytes more
-bits_from last h a offset size zero behind bytes more k = bits_none (last ≡ h) a offset size behind bytes more (subsections_from last h a behind bytes more k)
-bits_from last h a offset size (suc left) behind bytes more k = k (omega arith)
+pub bits_from : (last h : Header) (a : List ℕ) (offset size left after : ℕ) (bytes : List ℕ) (more : List Entry) → Completes last h a (next_bits offset size left after) bytes more → FromBits (last ≡ h) a offset size left after bytes more
+bits_from last h a offset size zero after bytes more k = bits_none (last ≡ h) a offset size after bytes more (subsections_from last h a after bytes more k)
+bits_from last h a offset size (suc left) after bytes more k = k (omega arith)
 
-pub bits_more : (K : Type 0) (a : List ℕ) (offset size left behind byte : ℕ) (tail : List ℕ) (more : List Entry) → byte < 256 → 0 < left → (left ≡ size → byte < 128)
-    → passes_end (base_of offset left) byte ≡ false → FromBits K a offset size (left - 1) behind tail more
-    → FromBits K a offset size left behind (byte ∷ tail) (BitmapEntry a (base_of offset left) byte ∷ more)
-bits_more K a offset size left behind byte tail more lt pos sign passes h =
+pub bits_more : (K : Type 0) (a : List ℕ) (offset size left after byte : ℕ) (tail : List ℕ) (more : List Entry) → byte < 256 → 0 < left → (left ≡ size → byte < 128)
+    → passes_end (base_of offset left) byte ≡ false → FromBits K a offset size (left - 1) after tail more
+    → FromBits K a offset size left after (byte ∷ tail) (BitmapEntry a (base_of offset left) byte ∷ more)
+bits_more K a offset size left after byte tail more lt pos sign passes h =
     let base : base_of offset left ≡ offset + 8 * length h.bits = omega (arith, h.size_is) in
     let B = BitmapEntry a offset (number_of h.bits) ∷ [] in
     let E = BitmapEntry a (base_of offset left) byte ∷ [] in
@@ -246,9 +246,9 @@ bits_more K a offset size left behind byte tail more lt pos sign passes h =
       then_is = h.then_is;
     }
 
-pub bitmap_front : (K : Type 0) (a : List ℕ) (offset left behind : ℕ) (field tail : List ℕ) (more : List Entry) → IsBytes field → length field ≡ 4 → 4 ≤ left → number_of field ≡ left - 4
-    → FromBits K a offset (left - 4) (left - 4) behind tail more → FromBitmap K a offset left behind (field ++ tail) more
-bitmap_front K a offset left behind field tail more fits size room same h =
+pub bitmap_front : (K : Type 0) (a : List ℕ) (offset left after : ℕ) (field tail : List ℕ) (more : List Entry) → IsBytes field → length field ≡ 4 → 4 ≤ left → number_of field ≡ left - 4
+    → FromBits K a offset (left - 4) (left - 4) after tail more → FromBitmap K a offset left after (field ++ tail) more
+bitmap_front K a offset left after field tail more fits size room same h =
     let len : length h.bits ≡ number_of field = omega (arith, h.size_is, same) in record {
       bits = h.bits;
       rest = h.rest;
@@ -261,9 +261,9 @@ bitmap_front K a offset left behind field tail more fits size room same h =
       then_is = h.then_is;
     }
 
-pub offset_front : (K : Type 0) (a : List ℕ) (left behind : ℕ) (field tail : List ℕ) (more : List Entry) → IsBytes field → length field ≡ 8 → 8 ≤ left
-    → FromBitmap K a (number_of field) (left - 8) behind tail more → FromOffset K a left behind (field ++ tail) more
-offset_front K a left behind field tail more fits size room h =
+pub offset_front : (K : Type 0) (a : List ℕ) (left after : ℕ) (field tail : List ℕ) (more : List Entry) → IsBytes field → length field ≡ 8 → 8 ≤ left
+    → FromBitmap K a (number_of field) (left - 8) after tail more → FromOffset K a left after (field ++ tail) more
+offset_front K a left after field tail more fits size room h =
     let n = number_back8 field size fits in record {
       content = number 8 (number_of field) ++ string h.bits;
       offset = number_of field;

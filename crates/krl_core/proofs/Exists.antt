@@ -62,9 +62,9 @@ weight-next_subsection : (left : ℕ) → weight (next_subsection left) ≡ 0
 weight-next_subsection zero = refl
 weight-next_subsection (suc left) = refl
 
-weight-next_item : (kind : ItemKind) (left behind : ℕ) → weight (next_item kind left behind) ≡ 0
-weight-next_item kind zero behind = weight-next_subsection behind
-weight-next_item kind (suc left) behind = refl
+weight-next_item : (kind : ItemKind) (left after : ℕ) → weight (next_item kind left after) ≡ 0
+weight-next_item kind zero after = weight-next_subsection after
+weight-next_item kind (suc left) after = refl
 
 same_weight : (p q : Place) → done p ≡ done q → weight p ≡ weight q
 same_weight p q e = ap weight (same_place p q e)

@@ -126,34 +126,34 @@ field_front last h a (places.IdsLength left) q field tail more fits pass k =
     let w = fits_within left (λ size. Ok (next_item kinds.Id size (left - 4 - size))) n q pass.judged in
     ids_part (last ≡ h) a left field tail more fits pass.whole pass.room w.0
     (items_from last h kinds.Id a n (left - 4 - n) tail more (along last h a (next_item kinds.Id n (left - 4 - n)) q tail more (same_place (next_item kinds.Id n (left - 4 - n)) q w.1) k))
-field_front last h a (places.ItemLength kind left behind) q field tail more fits pass k =
+field_front last h a (places.ItemLength kind left after) q field tail more fits pass k =
     let n = number_of field in
-    let item : ℕ → Place = λ size. places.Item kind size (left - 4 - size) behind in
+    let item : ℕ → Place = λ size. places.Item kind size (left - 4 - size) after in
     let w = fits_within left (λ size. judge (size == item_size kind size) faults.HashLength (item size)) n q pass.judged in
     let v = passed_ok (eqb n (item_size kind n)) faults.HashLength (item n) q w.1 in
     let size : n ≡ item_size kind n = eqb-true n (item_size kind n) v.0 in
     let room : 4 ≤ left = pass.room in
     let one = along last h a (item n) q tail more v.1 k in
-    let sized = subst (λ (m : ℕ). FromItem m (item_entry kind a) (Items (last ≡ h) kind a (left - 4 - n) behind) tail more) (sym size) one in
-    string_more (IsItem kind) (item_entry kind a) left (FromSubsections (last ≡ h) a behind) field tail more (left - 4 - n) fits pass.whole (omega (arith, w.0, room)) sized
+    let sized = subst (λ (m : ℕ). FromItem m (item_entry kind a) (Items (last ≡ h) kind a (left - 4 - n) after) tail more) (sym size) one in
+    string_more (IsItem kind) (item_entry kind a) left (FromSubsections (last ≡ h) a after) field tail more (left - 4 - n) fits pass.whole (omega (arith, w.0, room)) sized
     (sized.size_is ∙ size ∙ ap (item_size kind) (sym sized.size_is))
-field_front last h a (places.Item kind n left behind) q field tail more fits pass k =
-    item_front (item_size kind n) (item_entry kind a) (Items (last ≡ h) kind a left behind) field tail more pass.whole
-    (items_from last h kind a left behind tail more (along last h a (next_item kind left behind) q tail more (same_place (next_item kind left behind) q pass.judged) k))
+field_front last h a (places.Item kind n left after) q field tail more fits pass k =
+    item_front (item_size kind n) (item_entry kind a) (Items (last ≡ h) kind a left after) field tail more pass.whole
+    (items_from last h kind a left after tail more (along last h a (next_item kind left after) q tail more (same_place (next_item kind left after) q pass.judged) k))
 field_front last h a places.CertificatesLength q field tail more fits pass k =
     length_front (FromCertificates (last ≡ h)) field tail more fits pass.whole (along last h a (places.AuthorityLength (number_of field)) q tail more (same_place (places.AuthorityLength (number_of field)) q pass.judged) k)
 field_front last h a (places.AuthorityLength left) q field tail more fits pass k =
     let w = fits_within left (λ size. Ok (places.Authority size (left - 4 - size))) (number_of field) q pass.judged in
     certificates_front (last ≡ h) left field tail more fits pass.whole pass.room w.0
     (along last h a (places.Authority (number_of field) (left - 4 - number_of field)) q tail more (same_place (places.Authority (number_of field) (left - 4 - number_of field)) q w.1) k)
-field_front last h a (places.Authority n behind) q field tail more fits pass k =
-    content_front n (λ b. FromReserved (last ≡ h) b behind) field tail more pass.whole (along last h field (places.SectionReservedLength behind) q tail more (same_place (places.SectionReservedLength behind) q pass.judged) k)
+field_front last h a (places.Authority n after) q field tail more fits pass k =
+    content_front n (λ b. FromReserved (last ≡ h) b after) field tail more pass.whole (along last h field (places.SectionReservedLength after) q tail more (same_place (places.SectionReservedLength after) q pass.judged) k)
 field_front last h a (places.SectionReservedLength left) q field tail more fits pass k =
     let w = fits_within left (λ size. Ok (places.SectionReserved size (left - 4 - size))) (number_of field) q pass.judged in
     reserved_front (last ≡ h) a left field tail more fits pass.whole pass.room w.0
     (along last h a (places.SectionReserved (number_of field) (left - 4 - number_of field)) q tail more (same_place (places.SectionReserved (number_of field) (left - 4 - number_of field)) q w.1) k)
-field_front last h a (places.SectionReserved n behind) q field tail more fits pass k =
-    content_front n (λ r. FromSubsections (last ≡ h) a behind) field tail more pass.whole (subsections_from last h a behind tail more (along last h a (next_subsection behind) q tail more (same_place (next_subsection behind) q pass.judged) k))
+field_front last h a (places.SectionReserved n after) q field tail more fits pass k =
+    content_front n (λ r. FromSubsections (last ≡ h) a after) field tail more pass.whole (subsections_from last h a after tail more (along last h a (next_subsection after) q tail more (same_place (next_subsection after) q pass.judged) k))
 field_front last h a (places.SubsectionType left) q field tail more fits pass k =
     subst (λ (x : List ℕ). FromSubsections (last ≡ h) a left (x ++ tail) more) (sym (one_byte field pass.whole)) (subsection_front last h a left q (number_of field) tail more pass.room pass.judged k)
 field_front last h a (places.SerialsLength left) q field tail more fits pass k =
@@ -162,19 +162,19 @@ field_front last h a (places.SerialsLength left) q field tail more fits pass k =
     let v = passed_ok (n % 8 == 0) faults.Length (next_serial n (left - 4 - n)) q w.1 in
     serials_part (last ≡ h) a left field tail more fits pass.whole pass.room w.0
     (serials_from last h a n (left - 4 - n) tail more (along last h a (next_serial n (left - 4 - n)) q tail more v.1 k))
-field_front last h a (places.Serial left behind) q field tail more fits pass k =
-    serial_more (last ≡ h) a left behind field tail more fits pass.whole pass.room
-    (serials_from last h a (left - 8) behind tail more (along last h a (next_serial (left - 8) behind) q tail more (same_place (next_serial (left - 8) behind) q pass.judged) k))
+field_front last h a (places.Serial left after) q field tail more fits pass k =
+    serial_more (last ≡ h) a left after field tail more fits pass.whole pass.room
+    (serials_from last h a (left - 8) after tail more (along last h a (next_serial (left - 8) after) q tail more (same_place (next_serial (left - 8) after) q pass.judged) k))
 field_front last h a (places.RangeLength left) q field tail more fits pass k =
     let n = number_of field in
     let w = fits_within left (λ size. judge (size == 16) faults.Length (places.RangeMin (left - 4 - size))) n q pass.judged in
     let v = passed_ok (eqb n 16) faults.Length (places.RangeMin (left - 4 - n)) q w.1 in
     range_part (last ≡ h) a left field tail more fits pass.whole pass.room w.0 (eqb-true n 16 v.0) (along last h a (places.RangeMin (left - 4 - n)) q tail more v.1 k)
-field_front last h a (places.RangeMin behind) q field tail more fits pass k =
-    range_front (last ≡ h) a behind field tail more fits pass.whole
-    (along last h a (places.RangeMax (number_of field) behind) q tail more (same_place (places.RangeMax (number_of field) behind) q pass.judged) k)
-field_front last h a (places.RangeMax min behind) q field tail more fits pass k =
-    let w = passed_ok (leb min (number_of field)) faults.RangeReversed (next_subsection behind) q pass.judged in
+field_front last h a (places.RangeMin after) q field tail more fits pass k =
+    range_front (last ≡ h) a after field tail more fits pass.whole
+    (along last h a (places.RangeMax (number_of field) after) q tail more (same_place (places.RangeMax (number_of field) after) q pass.judged) k)
+field_front last h a (places.RangeMax min after) q field tail more fits pass k =
+    let w = passed_ok (leb min (number_of field)) faults.RangeReversed (next_subsection after) q pass.judged in
     let n = number_back8 field pass.whole fits in
     record {
       max = number_of field;
@@ -184,27 +184,27 @@ field_front last h a (places.RangeMax min behind) q field tail more fits pass k 
       ordered = leb-true min (number_of field) w.0;
       fits = n.1;
       named = refl;
-      then_is = subsections_from last h a behind tail more (along last h a (next_subsection behind) q tail more w.1 k);
+      then_is = subsections_from last h a after tail more (along last h a (next_subsection after) q tail more w.1 k);
     }
 field_front last h a (places.BitmapLength left) q field tail more fits pass k =
     let w = fits_within left (λ size. Ok (places.BitmapOffset size (left - 4 - size))) (number_of field) q pass.judged in
     bitmap_part (last ≡ h) a left field tail more fits pass.whole pass.room w.0
     (along last h a (places.BitmapOffset (number_of field) (left - 4 - number_of field)) q tail more (same_place (places.BitmapOffset (number_of field) (left - 4 - number_of field)) q w.1) k)
-field_front last h a (places.BitmapOffset left behind) q field tail more fits pass k =
-    offset_front (last ≡ h) a left behind field tail more fits pass.whole pass.room
-    (along last h a (places.BitmapSize (number_of field) (left - 8) behind) q tail more (same_place (places.BitmapSize (number_of field) (left - 8) behind) q pass.judged) k)
-field_front last h a (places.BitmapSize offset left behind) q field tail more fits pass k =
-    let w = passed_ok (eqb (number_of field) (left - 4)) faults.Length (next_bits offset (left - 4) (left - 4) behind) q pass.judged in
-    bitmap_front (last ≡ h) a offset left behind field tail more fits pass.whole pass.room (eqb-true (number_of field) (left - 4) w.0)
-    (bits_from last h a offset (left - 4) (left - 4) behind tail more (along last h a (next_bits offset (left - 4) (left - 4) behind) q tail more w.1 k))
-field_front last h a (places.BitmapByte offset size left behind) q field tail more fits pass k = λ pos.
+field_front last h a (places.BitmapOffset left after) q field tail more fits pass k =
+    offset_front (last ≡ h) a left after field tail more fits pass.whole pass.room
+    (along last h a (places.BitmapSize (number_of field) (left - 8) after) q tail more (same_place (places.BitmapSize (number_of field) (left - 8) after) q pass.judged) k)
+field_front last h a (places.BitmapSize offset left after) q field tail more fits pass k =
+    let w = passed_ok (eqb (number_of field) (left - 4)) faults.Length (next_bits offset (left - 4) (left - 4) after) q pass.judged in
+    bitmap_front (last ≡ h) a offset left after field tail more fits pass.whole pass.room (eqb-true (number_of field) (left - 4) w.0)
+    (bits_from last h a offset (left - 4) (left - 4) after tail more (along last h a (next_bits offset (left - 4) (left - 4) after) q tail more w.1 k))
+field_front last h a (places.BitmapByte offset size left after) q field tail more fits pass k = λ pos.
     let n = number_of field in
     let one = one_byte field pass.whole in
     let byte : n < 256 = subst (λ (m : ℕ). m < 256) (ap (λ (l : List ℕ). get_or l 0 0) one) (fits 0) in
-    let w = judged_parts (eqb left size) (ltb n 128) (passes_end (base_of offset left) n) q (next_bits offset size (left - 1) behind) pass.judged in
-    subst (λ (x : List ℕ). FromBits (last ≡ h) a offset size left behind (x ++ tail) (BitmapEntry a (base_of offset left) n ∷ more)) (sym one)
-    (bits_more (last ≡ h) a offset size left behind n tail more byte pos (λ e. ltb-true n 128 (w.0 (eq-eqb left size e))) w.1
-    (bits_from last h a offset size (left - 1) behind tail more (along last h a (next_bits offset size (left - 1) behind) q tail more w.2 k)))
+    let w = judged_parts (eqb left size) (ltb n 128) (passes_end (base_of offset left) n) q (next_bits offset size (left - 1) after) pass.judged in
+    subst (λ (x : List ℕ). FromBits (last ≡ h) a offset size left after (x ++ tail) (BitmapEntry a (base_of offset left) n ∷ more)) (sym one)
+    (bits_more (last ≡ h) a offset size left after n tail more byte pos (λ e. ltb-true n 128 (w.0 (eq-eqb left size e))) w.1
+    (bits_from last h a offset size (left - 1) after tail more (along last h a (next_bits offset size (left - 1) after) q tail more w.2 k)))
 field_front last h a places.ExtensionLength q field tail more fits pass k =
     let n = number_of field in
     let x = along last h a (places.ExtensionNameLength n 0) q tail more (same_place (places.ExtensionNameLength n 0) q pass.judged) k in
@@ -214,17 +214,17 @@ field_front last h a (places.SubsectionExtensionLength left) q field tail more f
     let w = fits_within left (λ size. Ok (places.ExtensionNameLength size (left - 4 - size))) (number_of field) q pass.judged in
     extension_part (last ≡ h) a left field tail more fits pass.whole pass.room w.0
     (along last h a (places.ExtensionNameLength (number_of field) (left - 4 - number_of field)) q tail more (same_place (places.ExtensionNameLength (number_of field) (left - 4 - number_of field)) q w.1) k)
-field_front last h a (places.ExtensionNameLength left behind) q field tail more fits pass k =
-    let w = fits_within left (λ size. Ok (places.ExtensionName size (left - 4 - size) behind)) (number_of field) q pass.judged in
-    extension_front left (FromSubsections (last ≡ h) a behind) field tail more fits pass.whole pass.room w.0
-    (along last h a (places.ExtensionName (number_of field) (left - 4 - number_of field) behind) q tail more (same_place (places.ExtensionName (number_of field) (left - 4 - number_of field) behind) q w.1) k)
-field_front last h a (places.ExtensionName n left behind) q field tail more fits pass k =
-    content_front n (λ n. FromCritical left (FromSubsections (last ≡ h) a behind)) field tail more pass.whole
-    (along last h a (places.ExtensionCritical left behind) q tail more (same_place (places.ExtensionCritical left behind) q pass.judged) k)
-field_front last h a (places.ExtensionCritical left behind) q field tail more fits pass k =
-    let w = passed_ok (eqb (number_of field) 0) faults.CriticalExtension (places.ExtensionContentsLength (left - 1) behind) q pass.judged in
+field_front last h a (places.ExtensionNameLength left after) q field tail more fits pass k =
+    let w = fits_within left (λ size. Ok (places.ExtensionName size (left - 4 - size) after)) (number_of field) q pass.judged in
+    extension_front left (FromSubsections (last ≡ h) a after) field tail more fits pass.whole pass.room w.0
+    (along last h a (places.ExtensionName (number_of field) (left - 4 - number_of field) after) q tail more (same_place (places.ExtensionName (number_of field) (left - 4 - number_of field) after) q w.1) k)
+field_front last h a (places.ExtensionName n left after) q field tail more fits pass k =
+    content_front n (λ n. FromCritical left (FromSubsections (last ≡ h) a after)) field tail more pass.whole
+    (along last h a (places.ExtensionCritical left after) q tail more (same_place (places.ExtensionCritical left after) q pass.judged) k)
+field_front last h a (places.ExtensionCritical left after) q field tail more fits pass k =
+    let w = passed_ok (eqb (number_of field) 0) faults.CriticalExtension (places.ExtensionContentsLength (left - 1) after) q pass.judged in
     let zero_byte : field ≡ 0 ∷ [] = one_byte field pass.whole ∙ ap (λ (n : ℕ). n ∷ []) (eqb-true (number_of field) 0 w.0) in
-    let x = along last h a (places.ExtensionContentsLength (left - 1) behind) q tail more w.1 k in
+    let x = along last h a (places.ExtensionContentsLength (left - 1) after) q tail more w.1 k in
     let room : 1 ≤ left = pass.room in
     record {
       contents = x.contents;
@@ -233,13 +233,13 @@ field_front last h a (places.ExtensionCritical left behind) q field tail more fi
       size_is = omega (arith, x.size_is, room);
       then_is = x.then_is;
     }
-field_front last h a (places.ExtensionContentsLength left behind) q field tail more fits pass k =
-    let w = passed_ok (eqb (number_of field) (left - 4)) faults.Length (places.ExtensionContents (left - 4) behind) q pass.judged in
-    contents_front left (FromSubsections (last ≡ h) a behind) field tail more fits pass.whole pass.room (eqb-true (number_of field) (left - 4) w.0)
-    (along last h a (places.ExtensionContents (left - 4) behind) q tail more w.1 k)
-field_front last h a (places.ExtensionContents n behind) q field tail more fits pass k =
-    content_front n (λ c. FromSubsections (last ≡ h) a behind) field tail more pass.whole
-    (subsections_from last h a behind tail more (along last h a (next_subsection behind) q tail more (same_place (next_subsection behind) q pass.judged) k))
+field_front last h a (places.ExtensionContentsLength left after) q field tail more fits pass k =
+    let w = passed_ok (eqb (number_of field) (left - 4)) faults.Length (places.ExtensionContents (left - 4) after) q pass.judged in
+    contents_front left (FromSubsections (last ≡ h) a after) field tail more fits pass.whole pass.room (eqb-true (number_of field) (left - 4) w.0)
+    (along last h a (places.ExtensionContents (left - 4) after) q tail more w.1 k)
+field_front last h a (places.ExtensionContents n after) q field tail more fits pass k =
+    content_front n (λ c. FromSubsections (last ≡ h) a after) field tail more pass.whole
+    (subsections_from last h a after tail more (along last h a (next_subsection after) q tail more (same_place (next_subsection after) q pass.judged) k))
 
 -- ---- a row of fields
 

@@ -56,13 +56,13 @@ pub out_subsection : (left : ℕ) → IsOut (next_subsection left)
 out_subsection zero = tt
 out_subsection (suc left) = tt
 
-pub out_serial : (left behind : ℕ) → IsOut (next_serial left behind)
-out_serial zero behind = out_subsection behind
-out_serial (suc left) behind = tt
+pub out_serial : (left after : ℕ) → IsOut (next_serial left after)
+out_serial zero after = out_subsection after
+out_serial (suc left) after = tt
 
-out_item : (kind : ItemKind) (left behind : ℕ) → IsOut (next_item kind left behind)
-out_item kind zero behind = out_subsection behind
-out_item kind (suc left) behind = tt
+out_item : (kind : ItemKind) (left after : ℕ) → IsOut (next_item kind left after)
+out_item kind zero after = out_subsection after
+out_item kind (suc left) after = tt
 
 abbrev Outs : Result Place KrlFault → Type 0
 Outs (Ok p) = IsOut p

@@ -132,18 +132,18 @@ pub record FromPart (K : Type 0) (a : List ℕ) (type_byte left : ℕ) (bytes : 
   pub then_is : FromSubsections K a (left - 4 - length content) rest others
 
 abbrev pub SerialItems : Type 0 → List ℕ → ℕ → ℕ → Rest
-SerialItems K a left behind =
-    FromItems (number 8) (λ n. n < 2 ^ 64) (λ n. SerialsEntry a (n ∷ [])) left (FromSubsections K a behind)
+SerialItems K a left after =
+    FromItems (number 8) (λ n. n < 2 ^ 64) (λ n. SerialsEntry a (n ∷ [])) left (FromSubsections K a after)
 
 -- strings of one kind, each of the size that items of it have
 abbrev pub IsItem : ItemKind → List ℕ → Type 0
 IsItem kind item = length item ≡ item_size kind (length item)
 
 abbrev pub Items : Type 0 → ItemKind → List ℕ → ℕ → ℕ → Rest
-Items K kind a left behind =
-    FromItems string (IsItem kind) (item_entry kind a) left (FromSubsections K a behind)
+Items K kind a left after =
+    FromItems string (IsItem kind) (item_entry kind a) left (FromSubsections K a after)
 
-pub record FromRange (K : Type 0) (a : List ℕ) (behind : ℕ) (bytes : List ℕ) (more : List Entry) : Type 0 where
+pub record FromRange (K : Type 0) (a : List ℕ) (after : ℕ) (bytes : List ℕ) (more : List Entry) : Type 0 where
   pub min : ℕ
   pub max : ℕ
   pub rest : List ℕ
@@ -152,9 +152,9 @@ pub record FromRange (K : Type 0) (a : List ℕ) (behind : ℕ) (bytes : List �
   pub ordered : min ≤ max
   pub fits : max < 2 ^ 64
   pub named : more ≡ RangeEntry a min max ∷ others
-  pub then_is : FromSubsections K a behind rest others
+  pub then_is : FromSubsections K a after rest others
 
-pub record FromMax (K : Type 0) (a : List ℕ) (min behind : ℕ) (bytes : List ℕ) (more : List Entry) : Type 0 where
+pub record FromMax (K : Type 0) (a : List ℕ) (min after : ℕ) (bytes : List ℕ) (more : List Entry) : Type 0 where
   pub max : ℕ
   pub rest : List ℕ
   pub others : List Entry
@@ -162,10 +162,10 @@ pub record FromMax (K : Type 0) (a : List ℕ) (min behind : ℕ) (bytes : List 
   pub ordered : min ≤ max
   pub fits : max < 2 ^ 64
   pub named : more ≡ RangeEntry a min max ∷ others
-  pub then_is : FromSubsections K a behind rest others
+  pub then_is : FromSubsections K a after rest others
 
 -- the last `left` of the `size` bytes of a bitmap
-pub record FromBits (K : Type 0) (a : List ℕ) (offset size left behind : ℕ) (bytes : List ℕ) (more : List Entry) : Type 0 where
+pub record FromBits (K : Type 0) (a : List ℕ) (offset size left after : ℕ) (bytes : List ℕ) (more : List Entry) : Type 0 where
   pub bits : List ℕ
   pub rest : List ℕ
   pub others : List Entry
@@ -175,10 +175,10 @@ pub record FromBits (K : Type 0) (a : List ℕ) (offset size left behind : ℕ) 
   pub positive : left ≡ size → IsPositive bits
   pub within : (bit : ℕ) → bit_at (number_of bits) bit ≡ 1 → offset + bit < 2 ^ 64
   pub named : NamesSame more (BitmapEntry a offset (number_of bits) ∷ others)
-  pub then_is : FromSubsections K a behind rest others
+  pub then_is : FromSubsections K a after rest others
 
 -- a bitmap as a string that fills what is left of its subsection
-pub record FromBitmap (K : Type 0) (a : List ℕ) (offset left behind : ℕ) (bytes : List ℕ) (more : List Entry) : Type 0 where
+pub record FromBitmap (K : Type 0) (a : List ℕ) (offset left after : ℕ) (bytes : List ℕ) (more : List Entry) : Type 0 where
   pub bits : List ℕ
   pub rest : List ℕ
   pub others : List Entry
@@ -187,10 +187,10 @@ pub record FromBitmap (K : Type 0) (a : List ℕ) (offset left behind : ℕ) (by
   pub positive : IsPositive bits
   pub within : (bit : ℕ) → bit_at (number_of bits) bit ≡ 1 → offset + bit < 2 ^ 64
   pub named : NamesSame more (BitmapEntry a offset (number_of bits) ∷ others)
-  pub then_is : FromSubsections K a behind rest others
+  pub then_is : FromSubsections K a after rest others
 
 -- an offset and a bitmap
-pub record FromOffset (K : Type 0) (a : List ℕ) (left behind : ℕ) (bytes : List ℕ) (more : List Entry) : Type 0 where
+pub record FromOffset (K : Type 0) (a : List ℕ) (left after : ℕ) (bytes : List ℕ) (more : List Entry) : Type 0 where
   pub content : List ℕ
   pub offset : ℕ
   pub value : ℕ
@@ -200,7 +200,7 @@ pub record FromOffset (K : Type 0) (a : List ℕ) (left behind : ℕ) (bytes : L
   pub size_is : length content ≡ left
   pub spelled : SpellsBitmap content offset value
   pub named : NamesSame more (BitmapEntry a offset value ∷ others)
-  pub then_is : FromSubsections K a behind rest others
+  pub then_is : FromSubsections K a after rest others
 
 -- an extension from its name on, from its critical byte on, and from its contents' length on
 pub record FromExtension (left : ℕ) (Then : Rest) (bytes : List ℕ) (more : List Entry) : Type 0 where
@@ -266,29 +266,29 @@ Completes last h a places.SignatureLength = FromLength (λ m. FromContent m (λ 
 Completes last h a (places.Signature size) = FromContent size (λ s. FromSections true (last ≡ h))
 Completes last h a (places.ItemsLength kind) = FromLength (λ n. Items (last ≡ h) kind a n 0)
 Completes last h a (places.IdsLength left) = FromPart (last ≡ h) a 0x23 left
-Completes last h a (places.ItemLength kind left behind) = Items (last ≡ h) kind a left behind
-Completes last h a (places.Item kind size left behind) =
-    FromItem (item_size kind size) (item_entry kind a) (Items (last ≡ h) kind a left behind)
+Completes last h a (places.ItemLength kind left after) = Items (last ≡ h) kind a left after
+Completes last h a (places.Item kind size left after) =
+    FromItem (item_size kind size) (item_entry kind a) (Items (last ≡ h) kind a left after)
 Completes last h a places.CertificatesLength = FromLength (FromCertificates (last ≡ h))
 Completes last h a (places.AuthorityLength left) = FromCertificates (last ≡ h) left
-Completes last h a (places.Authority size behind) = FromContent size (λ b. FromReserved (last ≡ h) b behind)
+Completes last h a (places.Authority size after) = FromContent size (λ b. FromReserved (last ≡ h) b after)
 Completes last h a (places.SectionReservedLength left) = FromReserved (last ≡ h) a left
-Completes last h a (places.SectionReserved size behind) = FromContent size (λ r. FromSubsections (last ≡ h) a behind)
+Completes last h a (places.SectionReserved size after) = FromContent size (λ r. FromSubsections (last ≡ h) a after)
 Completes last h a (places.SubsectionType left) = FromSubsections (last ≡ h) a left
 Completes last h a (places.SerialsLength left) = FromPart (last ≡ h) a 0x20 left
-Completes last h a (places.Serial left behind) = SerialItems (last ≡ h) a left behind
+Completes last h a (places.Serial left after) = SerialItems (last ≡ h) a left after
 Completes last h a (places.RangeLength left) = FromPart (last ≡ h) a 0x21 left
-Completes last h a (places.RangeMin behind) = FromRange (last ≡ h) a behind
-Completes last h a (places.RangeMax min behind) = FromMax (last ≡ h) a min behind
+Completes last h a (places.RangeMin after) = FromRange (last ≡ h) a after
+Completes last h a (places.RangeMax min after) = FromMax (last ≡ h) a min after
 Completes last h a (places.BitmapLength left) = FromPart (last ≡ h) a 0x22 left
-Completes last h a (places.BitmapOffset left behind) = FromOffset (last ≡ h) a left behind
-Completes last h a (places.BitmapSize offset left behind) = FromBitmap (last ≡ h) a offset left behind
-Completes last h a (places.BitmapByte offset size left behind) =
-    λ bytes more. 0 < left → FromBits (last ≡ h) a offset size left behind bytes more
+Completes last h a (places.BitmapOffset left after) = FromOffset (last ≡ h) a left after
+Completes last h a (places.BitmapSize offset left after) = FromBitmap (last ≡ h) a offset left after
+Completes last h a (places.BitmapByte offset size left after) =
+    λ bytes more. 0 < left → FromBits (last ≡ h) a offset size left after bytes more
 Completes last h a places.ExtensionLength = FromLength (λ n. FromExtension n (FromSections false (last ≡ h)))
 Completes last h a (places.SubsectionExtensionLength left) = FromPart (last ≡ h) a 0x39 left
-Completes last h a (places.ExtensionNameLength left behind) = FromExtension left (FromSubsections (last ≡ h) a behind)
-Completes last h a (places.ExtensionName size left behind) = FromContent size (λ n. FromCritical left (FromSubsections (last ≡ h) a behind))
-Completes last h a (places.ExtensionCritical left behind) = FromCritical left (FromSubsections (last ≡ h) a behind)
-Completes last h a (places.ExtensionContentsLength left behind) = FromContents left (FromSubsections (last ≡ h) a behind)
-Completes last h a (places.ExtensionContents size behind) = FromContent size (λ c. FromSubsections (last ≡ h) a behind)
+Completes last h a (places.ExtensionNameLength left after) = FromExtension left (FromSubsections (last ≡ h) a after)
+Completes last h a (places.ExtensionName size left after) = FromContent size (λ n. FromCritical left (FromSubsections (last ≡ h) a after))
+Completes last h a (places.ExtensionCritical left after) = FromCritical left (FromSubsections (last ≡ h) a after)
+Completes last h a (places.ExtensionContentsLength left after) = FromContents left (FromSubsections (last ≡ h) a after)
+Completes last h a (places.ExtensionContents size after) = FromContent size (λ c. FromSubsections (last ≡ h) a after)

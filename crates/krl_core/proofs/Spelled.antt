@@ -91,28 +91,28 @@ header_goes header flags reserved rest fits fits' =
 
 -- ---- the items of a list
 
-item_goes : (kind : ItemKind) (total left behind : ℕ) (item rest : List ℕ) → total ≡ 4 + length item + left → total < 2 ^ 32 → IsItem kind item
-    → Goes (next_item kind total behind) (string item ++ rest) (next_item kind left behind) rest
-item_goes kind zero left behind item rest e fits good = absurd (omega arith)
-item_goes kind (suc k) left behind item rest e fits good =
-    let at : ℕ → ℕ → Place = λ size more. places.Item kind size more behind in
-    let after : suc k - 4 - length item ≡ left = omega arith in
+item_goes : (kind : ItemKind) (total left after : ℕ) (item rest : List ℕ) → total ≡ 4 + length item + left → total < 2 ^ 32 → IsItem kind item
+    → Goes (next_item kind total after) (string item ++ rest) (next_item kind left after) rest
+item_goes kind zero left after item rest e fits good = absurd (omega arith)
+item_goes kind (suc k) left after item rest e fits good =
+    let at : ℕ → ℕ → Place = λ size more. places.Item kind size more after in
+    let left_is : suc k - 4 - length item ≡ left = omega arith in
     let room : 4 ≤ suc k = omega arith in
-    string_goes (places.ItemLength kind (suc k) behind) (at (length item) left) (next_item kind left behind) item rest room refl (omega arith)
+    string_goes (places.ItemLength kind (suc k) after) (at (length item) left) (next_item kind left after) item rest room refl (omega arith)
     (λ field e'. within_is (suc k) (λ size. judge (size == item_size kind size) faults.HashLength (at size (suc k - 4 - size))) (number_of field) (length item) e' (omega arith)
     ∙ judge_is (eqb (length item) (item_size kind (length item))) faults.HashLength (at (length item) (suc k - 4 - length item)) (eq-eqb (length item) (item_size kind (length item)) good)
-    ∙ ap (λ (m : ℕ). Ok (at (length item) m)) after) tt good refl
+    ∙ ap (λ (m : ℕ). Ok (at (length item) m)) left_is) tt good refl
 
-pub items_go : (kind : ItemKind) (items : List (List ℕ)) (total left behind : ℕ) (rest : List ℕ) → total ≡ length (strings items) + left → total < 2 ^ 32 → AllByRecursion (IsItem kind) items
-    → Goes (next_item kind total behind) (strings items ++ rest) (next_item kind left behind) rest
-items_go kind [] total left behind rest e fits good =
-    subst (λ (m : ℕ). Goes (next_item kind total behind) rest (next_item kind m behind) rest) (let same : total ≡ left = omega arith in same) (goes_none (next_item kind total behind) rest)
-items_go kind (item ∷ items) total left behind rest e fits good =
+pub items_go : (kind : ItemKind) (items : List (List ℕ)) (total left after : ℕ) (rest : List ℕ) → total ≡ length (strings items) + left → total < 2 ^ 32 → AllByRecursion (IsItem kind) items
+    → Goes (next_item kind total after) (strings items ++ rest) (next_item kind left after) rest
+items_go kind [] total left after rest e fits good =
+    subst (λ (m : ℕ). Goes (next_item kind total after) rest (next_item kind m after) rest) (let same : total ≡ left = omega arith in same) (goes_none (next_item kind total after) rest)
+items_go kind (item ∷ items) total left after rest e fits good =
     let mid : ℕ = length (strings items) + left in
     let whole : length (strings (item ∷ items)) ≡ 4 + length item + length (strings items) = omega (arith, length-append (string item) (strings items), length-string item) in
-    goes_from (next_item kind total behind) (next_item kind left behind) (strings (item ∷ items) ++ rest) (string item ++ (strings items ++ rest)) rest (append_assoc (string item) (strings items) rest)
-    (goes_then (next_item kind total behind) (next_item kind mid behind) (next_item kind left behind) (string item ++ (strings items ++ rest)) (strings items ++ rest) rest
-    (item_goes kind total mid behind item (strings items ++ rest) (omega arith) fits good.0) (items_go kind items mid left behind rest refl (omega arith) good.1))
+    goes_from (next_item kind total after) (next_item kind left after) (strings (item ∷ items) ++ rest) (string item ++ (strings items ++ rest)) rest (append_assoc (string item) (strings items) rest)
+    (goes_then (next_item kind total after) (next_item kind mid after) (next_item kind left after) (string item ++ (strings items ++ rest)) (strings items ++ rest) rest
+    (item_goes kind total mid after item (strings items ++ rest) (omega arith) fits good.0) (items_go kind items mid left after rest refl (omega arith) good.1))
 
 -- items that may be of any size
 pub any_size : (items : List (List ℕ)) → AllByRecursion (λ item. length item ≡ length item) items
@@ -121,21 +121,21 @@ any_size (item ∷ items) = (refl, any_size items)
 
 -- ---- subsections of serials
 
-serial_goes : (total left behind n : ℕ) (rest : List ℕ) → total ≡ 8 + left → Goes (next_serial total behind) (number 8 n ++ rest) (next_serial left behind) rest
-serial_goes zero left behind n rest e = absurd (omega arith)
-serial_goes (suc k) left behind n rest e =
-    let after : suc k - 8 ≡ left = omega arith in
+serial_goes : (total left after n : ℕ) (rest : List ℕ) → total ≡ 8 + left → Goes (next_serial total after) (number 8 n ++ rest) (next_serial left after) rest
+serial_goes zero left after n rest e = absurd (omega arith)
+serial_goes (suc k) left after n rest e =
+    let left_is : suc k - 8 ≡ left = omega arith in
     let room : 8 ≤ suc k = omega arith in
-    goes_one (places.Serial (suc k) behind) (next_serial left behind) (number 8 n) rest room (length-number 8 n) (ap (λ (m : ℕ). Ok (next_serial m behind)) after)
+    goes_one (places.Serial (suc k) after) (next_serial left after) (number 8 n) rest room (length-number 8 n) (ap (λ (m : ℕ). Ok (next_serial m after)) left_is)
 
-serials_go : (items : List ℕ) (total left behind : ℕ) (rest : List ℕ) → total ≡ length (numbers_text items) + left → Goes (next_serial total behind) (numbers_text items ++ rest) (next_serial left behind) rest
-serials_go [] total left behind rest e = subst (λ (m : ℕ). Goes (next_serial total behind) rest (next_serial m behind) rest) (let same : total ≡ left = omega arith in same) (goes_none (next_serial total behind) rest)
-serials_go (n ∷ items) total left behind rest e =
+serials_go : (items : List ℕ) (total left after : ℕ) (rest : List ℕ) → total ≡ length (numbers_text items) + left → Goes (next_serial total after) (numbers_text items ++ rest) (next_serial left after) rest
+serials_go [] total left after rest e = subst (λ (m : ℕ). Goes (next_serial total after) rest (next_serial m after) rest) (let same : total ≡ left = omega arith in same) (goes_none (next_serial total after) rest)
+serials_go (n ∷ items) total left after rest e =
     let mid : ℕ = length (numbers_text items) + left in
     let whole : length (numbers_text (n ∷ items)) ≡ 8 + length (numbers_text items) = omega (arith, length-append (number 8 n) (numbers_text items), length-number 8 n) in
-    goes_from (next_serial total behind) (next_serial left behind) (numbers_text (n ∷ items) ++ rest) (number 8 n ++ (numbers_text items ++ rest)) rest (append_assoc (number 8 n) (numbers_text items) rest)
-    (goes_then (next_serial total behind) (next_serial mid behind) (next_serial left behind) (number 8 n ++ (numbers_text items ++ rest)) (numbers_text items ++ rest) rest
-    (serial_goes total mid behind n (numbers_text items ++ rest) (omega arith)) (serials_go items mid left behind rest refl))
+    goes_from (next_serial total after) (next_serial left after) (numbers_text (n ∷ items) ++ rest) (number 8 n ++ (numbers_text items ++ rest)) rest (append_assoc (number 8 n) (numbers_text items) rest)
+    (goes_then (next_serial total after) (next_serial mid after) (next_serial left after) (number 8 n ++ (numbers_text items ++ rest)) (numbers_text items ++ rest) rest
+    (serial_goes total mid after n (numbers_text items ++ rest) (omega arith)) (serials_go items mid left after rest refl))
 
 eights : (n m : ℕ) → n ≡ 8 * m → n % 8 ≡ 0
 eights n m e = omega (arith, e)
@@ -164,15 +164,15 @@ not_passes base (suc b) lt within =
     elim_same true = refl
     elim_same false = refl
 
-bits_pass : (offset size left behind byte : ℕ) → (left ≡ size → byte < 128) → passes_end (base_of offset left) byte ≡ false
-    → bits_judged offset size left behind byte ≡ Ok (next_bits offset size (left - 1) behind)
-bits_pass offset size left behind byte sign passes =
-    decide (eqb left size) (ltb byte 128) (judge (not (passes_end (base_of offset left) byte)) faults.BitmapWraps (next_bits offset size (left - 1) behind))
+bits_pass : (offset size left after byte : ℕ) → (left ≡ size → byte < 128) → passes_end (base_of offset left) byte ≡ false
+    → bits_judged offset size left after byte ≡ Ok (next_bits offset size (left - 1) after)
+bits_pass offset size left after byte sign passes =
+    decide (eqb left size) (ltb byte 128) (judge (not (passes_end (base_of offset left) byte)) faults.BitmapWraps (next_bits offset size (left - 1) after))
     (λ e. lt-ltb byte 128 (sign (eqb-true left size e)))
-    (ap (λ (b : Bool). judge (not b) faults.BitmapWraps (next_bits offset size (left - 1) behind)) passes)
+    (ap (λ (b : Bool). judge (not b) faults.BitmapWraps (next_bits offset size (left - 1) after)) passes)
   where
-    decide : (e t : Bool) (w : Result Place KrlFault) → (e ≡ true → t ≡ true) → w ≡ Ok (next_bits offset size (left - 1) behind)
-        → cond e (cond t w (Err faults.BitmapNegative)) w ≡ Ok (next_bits offset size (left - 1) behind)
+    decide : (e t : Bool) (w : Result Place KrlFault) → (e ≡ true → t ≡ true) → w ≡ Ok (next_bits offset size (left - 1) after)
+        → cond e (cond t w (Err faults.BitmapNegative)) w ≡ Ok (next_bits offset size (left - 1) after)
     decide true true w h k = k
     decide true false w h k = let c = h refl in absurd (cc)
     decide false t w h k = k
@@ -181,11 +181,11 @@ low_bytes : (bits : List ℕ) → IsBytes bits → number_of bits < 2 ^ (8 * len
 low_bytes [] fits = low_none
 low_bytes (b ∷ bits) fits = low_more b bits (fits 0) (low_bytes bits (λ i. fits (suc i)))
 
-bits_go : (bits : List ℕ) (offset size behind : ℕ) (rest : List ℕ) → IsBytes bits → length bits ≤ size → (length bits ≡ size → IsPositive bits)
+bits_go : (bits : List ℕ) (offset size after : ℕ) (rest : List ℕ) → IsBytes bits → length bits ≤ size → (length bits ≡ size → IsPositive bits)
     → ((k : ℕ) → bit_at (number_of bits) k ≡ 1 → offset + k < 2 ^ 64)
-    → Goes (next_bits offset size (length bits) behind) (bits ++ rest) (next_subsection behind) rest
-bits_go [] offset size behind rest fits le sign within = goes_none (next_subsection behind) rest
-bits_go (b ∷ bits) offset size behind rest fits le sign within =
+    → Goes (next_bits offset size (length bits) after) (bits ++ rest) (next_subsection after) rest
+bits_go [] offset size after rest fits le sign within = goes_none (next_subsection after) rest
+bits_go (b ∷ bits) offset size after rest fits le sign within =
     let n = 8 * length bits in
     let byte : b < 256 = fits 0 in
     let tail_fits : IsBytes bits = λ i. fits (suc i) in
@@ -199,13 +199,13 @@ bits_go (b ∷ bits) offset size behind rest fits le sign within =
     let high = within (n + k) (whole (n + k) (bit_at_cat_high b n (number_of bits) (n + k) low le' ∙ ap (bit_at b) at ∙ set)) in
     omega (arith, high, base)) in
     let one : number_of (b ∷ []) ≡ b = number_of-one b in
-    let judged : bits_judged offset size (suc (length bits)) behind (number_of (b ∷ [])) ≡ Ok (next_bits offset size (suc (length bits) - 1) behind) =
-    ap (bits_judged offset size (suc (length bits)) behind) one ∙ bits_pass offset size (suc (length bits)) behind b (λ e. sign e) passes in
+    let judged : bits_judged offset size (suc (length bits)) after (number_of (b ∷ [])) ≡ Ok (next_bits offset size (suc (length bits) - 1) after) =
+    ap (bits_judged offset size (suc (length bits)) after) one ∙ bits_pass offset size (suc (length bits)) after b (λ e. sign e) passes in
     let less : suc (length bits) - 1 ≡ length bits = omega arith in
-    goes_then (places.BitmapByte offset size (suc (length bits)) behind) (next_bits offset size (length bits) behind) (next_subsection behind) (b ∷ (bits ++ rest)) (bits ++ rest) rest
-    (goes_one (places.BitmapByte offset size (suc (length bits)) behind) (next_bits offset size (length bits) behind) (b ∷ []) (bits ++ rest) tt refl
-    (judged ∙ ap (λ (m : ℕ). Ok (next_bits offset size m behind)) less))
-    (bits_go bits offset size behind rest tail_fits (omega arith) (λ e. absurd (omega arith))
+    goes_then (places.BitmapByte offset size (suc (length bits)) after) (next_bits offset size (length bits) after) (next_subsection after) (b ∷ (bits ++ rest)) (bits ++ rest) rest
+    (goes_one (places.BitmapByte offset size (suc (length bits)) after) (next_bits offset size (length bits) after) (b ∷ []) (bits ++ rest) tt refl
+    (judged ∙ ap (λ (m : ℕ). Ok (next_bits offset size m after)) less))
+    (bits_go bits offset size after rest tail_fits (omega arith) (λ e. absurd (omega arith))
     (λ k set. within k (elim (cases_lt k n) [
       | inl lt ↦ whole k (bit_at_cat_low b n (number_of bits) k lt ∙ set)
       | inr ge ↦ let z = bit_at_above (number_of bits) n k low ge in absurd (omega (arith, z, set))
@@ -214,29 +214,29 @@ bits_go (b ∷ bits) offset size behind rest fits le sign within =
 -- ---- subsections
 
 -- an extension that fills what has as many bytes left
-pub extension_goes : (left behind : ℕ) (content rest : List ℕ) → SpellsExtension content → left ≡ length content → left < 2 ^ 32
-    → Goes (places.ExtensionNameLength left behind) (content ++ rest) (next_subsection behind) rest
+pub extension_goes : (left after : ℕ) (content rest : List ℕ) → SpellsExtension content → left ≡ length content → left < 2 ^ 32
+    → Goes (places.ExtensionNameLength left after) (content ++ rest) (next_subsection after) rest
 unfolding number_of
-extension_goes left behind content rest h size fits =
+extension_goes left after content rest h size fits =
     let name = h.name in
     let contents = h.contents in
     let n = length contents in
     let all : length content ≡ 4 + length name + (1 + (4 + n)) =
     ap length h.spelled ∙ length-append (string name) (0 ∷ string contents) ∙ (let e : length (string name) + length (0 ∷ string contents) ≡ 4 + length name + (1 + (4 + n)) = omega (arith, length-string name, length-string contents) in e) in
-    let after : left - 4 - length name ≡ 5 + n = omega (arith, all, size) in
+    let left_is : left - 4 - length name ≡ 5 + n = omega (arith, all, size) in
     let room : 4 ≤ left = omega (arith, all, size) in
     let r1 : List ℕ = string contents ++ rest in
-    let last = string_goes (places.ExtensionContentsLength (4 + n) behind) (places.ExtensionContents n behind) (next_subsection behind) contents rest (let r : 4 ≤ 4 + n = omega arith in r) refl (omega (arith, all, size, fits))
+    let last = string_goes (places.ExtensionContentsLength (4 + n) after) (places.ExtensionContents n after) (next_subsection after) contents rest (let r : 4 ≤ 4 + n = omega arith in r) refl (omega (arith, all, size, fits))
     (λ field e. let four : 4 + n - 4 ≡ n = omega arith in
-    judge_is (eqb (number_of field) (4 + n - 4)) faults.Length (places.ExtensionContents (4 + n - 4) behind) (eq-eqb (number_of field) (4 + n - 4) (e ∙ sym four)) ∙ ap (λ (m : ℕ). Ok (places.ExtensionContents m behind)) four) tt refl refl in
-    let critical = goes_then (places.ExtensionCritical (5 + n) behind) (places.ExtensionContentsLength (4 + n) behind) (next_subsection behind) (0 ∷ r1) r1 rest
-    (goes_one (places.ExtensionCritical (5 + n) behind) (places.ExtensionContentsLength (4 + n) behind) (0 ∷ []) r1 (let r : 1 ≤ 5 + n = omega arith in r) refl
-    (ap (λ (m : ℕ). Ok (places.ExtensionContentsLength m behind)) (let e : 5 + n - 1 ≡ 4 + n = omega arith in e))) last in
+    judge_is (eqb (number_of field) (4 + n - 4)) faults.Length (places.ExtensionContents (4 + n - 4) after) (eq-eqb (number_of field) (4 + n - 4) (e ∙ sym four)) ∙ ap (λ (m : ℕ). Ok (places.ExtensionContents m after)) four) tt refl refl in
+    let critical = goes_then (places.ExtensionCritical (5 + n) after) (places.ExtensionContentsLength (4 + n) after) (next_subsection after) (0 ∷ r1) r1 rest
+    (goes_one (places.ExtensionCritical (5 + n) after) (places.ExtensionContentsLength (4 + n) after) (0 ∷ []) r1 (let r : 1 ≤ 5 + n = omega arith in r) refl
+    (ap (λ (m : ℕ). Ok (places.ExtensionContentsLength m after)) (let e : 5 + n - 1 ≡ 4 + n = omega arith in e))) last in
     let start_parts : content ++ rest ≡ string name ++ (0 ∷ r1) = ap (λ (x : List ℕ). x ++ rest) h.spelled ∙ append_assoc (string name) (0 ∷ string contents) rest in
-    goes_from (places.ExtensionNameLength left behind) (next_subsection behind) (content ++ rest) (string name ++ (0 ∷ r1)) rest start_parts
-    (goes_then (places.ExtensionNameLength left behind) (places.ExtensionCritical (5 + n) behind) (next_subsection behind) (string name ++ (0 ∷ r1)) (0 ∷ r1) rest
-    (string_goes (places.ExtensionNameLength left behind) (places.ExtensionName (length name) (5 + n) behind) (places.ExtensionCritical (5 + n) behind) name (0 ∷ r1) room refl (omega (arith, all, size, fits))
-    (λ field e. within_is left (λ m. Ok (places.ExtensionName m (left - 4 - m) behind)) (number_of field) (length name) e (omega (arith, all, size)) ∙ ap (λ (m : ℕ). Ok (places.ExtensionName (length name) m behind)) after) tt refl refl)
+    goes_from (places.ExtensionNameLength left after) (next_subsection after) (content ++ rest) (string name ++ (0 ∷ r1)) rest start_parts
+    (goes_then (places.ExtensionNameLength left after) (places.ExtensionCritical (5 + n) after) (next_subsection after) (string name ++ (0 ∷ r1)) (0 ∷ r1) rest
+    (string_goes (places.ExtensionNameLength left after) (places.ExtensionName (length name) (5 + n) after) (places.ExtensionCritical (5 + n) after) name (0 ∷ r1) room refl (omega (arith, all, size, fits))
+    (λ field e. within_is left (λ m. Ok (places.ExtensionName m (left - 4 - m) after)) (number_of field) (length name) e (omega (arith, all, size)) ∙ ap (λ (m : ℕ). Ok (places.ExtensionName (length name) m after)) left_is) tt refl refl)
     critical)
 
 -- the length of a subsection's content, and the content
@@ -253,7 +253,7 @@ subsection_goes left (Serials numbers) text rest h le fits =
     let content = h.content in
     let n = length content in
     let size : length text ≡ 5 + n = ap length h.spelled ∙ (let e : length (0x20 ∷ string content) ≡ 5 + n = omega (arith, length-string content) in e) in
-    let behind : left - 1 - 4 - n ≡ left - length text = omega (arith, size) in
+    let after : left - 1 - 4 - n ≡ left - length text = omega (arith, size) in
     let room : 1 ≤ left = omega (arith, size) in
     let all : n ≡ length (numbers_text numbers) = ap length h.content_is.0 in
     let eight : n % 8 ≡ 0 = eights n (length numbers) (all ∙ length-numbers numbers) in
@@ -262,13 +262,13 @@ subsection_goes left (Serials numbers) text rest h le fits =
     (goes_then (places.SubsectionType left) (places.SerialsLength (left - 1)) (next_subsection (left - length text)) (0x20 ∷ (string content ++ rest)) (string content ++ rest) rest
     (goes_one (places.SubsectionType left) (places.SerialsLength (left - 1)) (0x20 ∷ []) (string content ++ rest) room refl refl)
     (part_goes (places.SerialsLength (left - 1)) (next_serial n (left - length text)) (left - 1) (λ size. judge (size % 8 == 0) faults.Length (next_serial size (left - 1 - 4 - size))) content rest refl
-    (omega (arith, size)) h.fits (judge_is (eqb (n % 8) 0) faults.Length (next_serial n (left - 1 - 4 - n)) (eq-eqb (n % 8) 0 eight) ∙ ap (λ (m : ℕ). Ok (next_serial n m)) behind)
+    (omega (arith, size)) h.fits (judge_is (eqb (n % 8) 0) faults.Length (next_serial n (left - 1 - 4 - n)) (eq-eqb (n % 8) 0 eight) ∙ ap (λ (m : ℕ). Ok (next_serial n m)) after)
     (next_subsection (left - length text)) (goes_from (next_serial n (left - length text)) (next_subsection (left - length text)) (content ++ rest) (numbers_text numbers ++ rest) rest (ap (λ (x : List ℕ). x ++ rest) h.content_is.0) walk)))
 subsection_goes left (Range min max) text rest h le fits =
     let content = h.content in
     let n = length content in
     let size : length text ≡ 5 + n = ap length h.spelled ∙ (let e : length (0x21 ∷ string content) ≡ 5 + n = omega (arith, length-string content) in e) in
-    let behind : left - 1 - 4 - n ≡ left - length text = omega (arith, size) in
+    let after : left - 1 - 4 - n ≡ left - length text = omega (arith, size) in
     let room : 1 ≤ left = omega (arith, size) in
     let all : n ≡ 16 = ap length h.content_is.0 ∙ length-append (number 8 min) (number 8 max) ∙ (let e : length (number 8 min) + length (number 8 max) ≡ 16 = omega (arith, length-number 8 min, length-number 8 max) in e) in
     let b = left - length text in
@@ -284,7 +284,7 @@ subsection_goes left (Range min max) text rest h le fits =
     (goes_then (places.SubsectionType left) (places.RangeLength (left - 1)) (next_subsection b) (0x21 ∷ (string content ++ rest)) (string content ++ rest) rest
     (goes_one (places.SubsectionType left) (places.RangeLength (left - 1)) (0x21 ∷ []) (string content ++ rest) room refl refl)
     (part_goes (places.RangeLength (left - 1)) (places.RangeMin b) (left - 1) (λ size. judge (size == 16) faults.Length (places.RangeMin (left - 1 - 4 - size))) content rest refl
-    (omega (arith, size)) h.fits (judge_is (eqb n 16) faults.Length (places.RangeMin (left - 1 - 4 - n)) (eq-eqb n 16 all) ∙ ap (λ (m : ℕ). Ok (places.RangeMin m)) behind)
+    (omega (arith, size)) h.fits (judge_is (eqb n 16) faults.Length (places.RangeMin (left - 1 - 4 - n)) (eq-eqb n 16 all) ∙ ap (λ (m : ℕ). Ok (places.RangeMin m)) after)
     (next_subsection b) walk))
 subsection_goes left (Bitmap offset value) text rest h le fits =
     let content = h.content in
@@ -292,7 +292,7 @@ subsection_goes left (Bitmap offset value) text rest h le fits =
     let m = h.content_is in
     let bits = m.bytes in
     let size : length text ≡ 5 + n = ap length h.spelled ∙ (let e : length (0x22 ∷ string content) ≡ 5 + n = omega (arith, length-string content) in e) in
-    let behind : left - 1 - 4 - n ≡ left - length text = omega (arith, size) in
+    let after : left - 1 - 4 - n ≡ left - length text = omega (arith, size) in
     let room : 1 ≤ left = omega (arith, size) in
     let b = left - length text in
     let all : n ≡ 8 + (4 + length bits) = ap length m.spelled ∙ length-append (number 8 offset) (string bits) ∙ (let e : length (number 8 offset) + length (string bits) ≡ 8 + (4 + length bits) = omega (arith, length-number 8 offset, length-string bits) in e) in
@@ -314,12 +314,12 @@ subsection_goes left (Bitmap offset value) text rest h le fits =
     (goes_then (places.SubsectionType left) (places.BitmapLength (left - 1)) (next_subsection b) (0x22 ∷ (string content ++ rest)) (string content ++ rest) rest
     (goes_one (places.SubsectionType left) (places.BitmapLength (left - 1)) (0x22 ∷ []) (string content ++ rest) room refl refl)
     (part_goes (places.BitmapLength (left - 1)) (places.BitmapOffset n b) (left - 1) (λ size. Ok (places.BitmapOffset size (left - 1 - 4 - size))) content rest refl
-    (omega (arith, size)) h.fits (ap (λ (k : ℕ). Ok (places.BitmapOffset n k)) behind) (next_subsection b) walk))
+    (omega (arith, size)) h.fits (ap (λ (k : ℕ). Ok (places.BitmapOffset n k)) after) (next_subsection b) walk))
 subsection_goes left (Ids texts) text rest h le fits =
     let content = h.content in
     let n = length content in
     let size : length text ≡ 5 + n = ap length h.spelled ∙ (let e : length (0x23 ∷ string content) ≡ 5 + n = omega (arith, length-string content) in e) in
-    let behind : left - 1 - 4 - n ≡ left - length text = omega (arith, size) in
+    let after : left - 1 - 4 - n ≡ left - length text = omega (arith, size) in
     let room : 1 ≤ left = omega (arith, size) in
     let b = left - length text in
     let all : n ≡ length (strings texts) = ap length h.content_is in
@@ -328,19 +328,19 @@ subsection_goes left (Ids texts) text rest h le fits =
     (goes_then (places.SubsectionType left) (places.IdsLength (left - 1)) (next_subsection b) (0x23 ∷ (string content ++ rest)) (string content ++ rest) rest
     (goes_one (places.SubsectionType left) (places.IdsLength (left - 1)) (0x23 ∷ []) (string content ++ rest) room refl refl)
     (part_goes (places.IdsLength (left - 1)) (next_item kinds.Id n b) (left - 1) (λ size. Ok (next_item kinds.Id size (left - 1 - 4 - size))) content rest refl
-    (omega (arith, size)) h.fits (ap (λ (k : ℕ). Ok (next_item kinds.Id n k)) behind) (next_subsection b) walk))
+    (omega (arith, size)) h.fits (ap (λ (k : ℕ). Ok (next_item kinds.Id n k)) after) (next_subsection b) walk))
 subsection_goes left SubsectionExtension text rest h le fits =
     let content = h.content in
     let n = length content in
     let size : length text ≡ 5 + n = ap length h.spelled ∙ (let e : length (0x39 ∷ string content) ≡ 5 + n = omega (arith, length-string content) in e) in
-    let behind : left - 1 - 4 - n ≡ left - length text = omega (arith, size) in
+    let after : left - 1 - 4 - n ≡ left - length text = omega (arith, size) in
     let room : 1 ≤ left = omega (arith, size) in
     let b = left - length text in
     goes_from (places.SubsectionType left) (next_subsection b) (text ++ rest) (0x39 ∷ (string content ++ rest)) rest (ap (λ (x : List ℕ). x ++ rest) h.spelled)
     (goes_then (places.SubsectionType left) (places.SubsectionExtensionLength (left - 1)) (next_subsection b) (0x39 ∷ (string content ++ rest)) (string content ++ rest) rest
     (goes_one (places.SubsectionType left) (places.SubsectionExtensionLength (left - 1)) (0x39 ∷ []) (string content ++ rest) room refl refl)
     (part_goes (places.SubsectionExtensionLength (left - 1)) (places.ExtensionNameLength n b) (left - 1) (λ size. Ok (places.ExtensionNameLength size (left - 1 - 4 - size))) content rest refl
-    (omega (arith, size)) h.fits (ap (λ (k : ℕ). Ok (places.ExtensionNameLength n k)) behind) (next_subsection b) (extension_goes n b content rest h.content_is refl h.fits)))
+    (omega (arith, size)) h.fits (ap (λ (k : ℕ). Ok (places.ExtensionNameLength n k)) after) (next_subsection b) (extension_goes n b content rest h.content_is refl h.fits)))
 
 -- a subsection is not empty
 subsection_some : (sub : Subsection) (text : List ℕ) → SpellsSubsection text sub → 0 < length text

@@ -34,7 +34,7 @@ pub record IsKept (keeping : Keeping) (entries : List Entry) : Type 0 where
 
 -- at a byte of a bitmap the bytes before it are fed, and elsewhere no run is open
 abbrev pub InStep : Place → FedBitmap → Type 0
-InStep (BitmapByte offset size left behind) bitmap =
+InStep (BitmapByte offset size left after) bitmap =
     (0 < left)
     × (bitmap ≡ record {
       offset = offset;

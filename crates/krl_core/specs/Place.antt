@@ -94,18 +94,18 @@ abbrev pub next_subsection : ℕ → Place
 next_subsection zero = SectionType false
 next_subsection (suc left) = SubsectionType (suc left)
 
-abbrev pub next_item : ItemKind → (left behind : ℕ) → Place
-next_item kind zero behind = next_subsection behind
-next_item kind (suc left) behind = ItemLength kind (suc left) behind
+abbrev pub next_item : ItemKind → (left after : ℕ) → Place
+next_item kind zero after = next_subsection after
+next_item kind (suc left) after = ItemLength kind (suc left) after
 
 abbrev pub next_serial : ℕ → ℕ → Place
-next_serial zero behind = next_subsection behind
-next_serial (suc left) behind = Serial (suc left) behind
+next_serial zero after = next_subsection after
+next_serial (suc left) after = Serial (suc left) after
 
 -- `left` of the `size` bytes of a bitmap are due
-abbrev pub next_bits : (offset size left behind : ℕ) → Place
-next_bits offset size zero behind = next_subsection behind
-next_bits offset size (suc left) behind = BitmapByte offset size (suc left) behind
+abbrev pub next_bits : (offset size left after : ℕ) → Place
+next_bits offset size zero after = next_subsection after
+next_bits offset size (suc left) after = BitmapByte offset size (suc left) after
 
 -- ---- judgements
 
@@ -154,16 +154,16 @@ passes_end base byte =
 abbrev pub base_of : (offset left : ℕ) → ℕ
 base_of offset left = offset + 8 * (left - 1)
 
-abbrev pub bits_within : (offset size left behind byte : ℕ) → Result Place KrlFault
-bits_within offset size left behind byte =
+abbrev pub bits_within : (offset size left after byte : ℕ) → Result Place KrlFault
+bits_within offset size left after byte =
     judge (not (passes_end (base_of offset left) byte)) faults.BitmapWraps
-    (next_bits offset size (left - 1) behind)
+    (next_bits offset size (left - 1) after)
 
 -- of a bitmap's first byte the highest bit is its sign
-abbrev pub bits_judged : (offset size left behind byte : ℕ) → Result Place KrlFault
-bits_judged offset size left behind byte =
-    if left == size then (if nat_lt byte 128 then bits_within offset size left behind byte
-    else Err faults.BitmapNegative) else bits_within offset size left behind byte
+abbrev pub bits_judged : (offset size left after byte : ℕ) → Result Place KrlFault
+bits_judged offset size left after byte =
+    if left == size then (if nat_lt byte 128 then bits_within offset size left after byte
+    else Err faults.BitmapNegative) else bits_within offset size left after byte
 
 -- ---- the format's page as a table
 abbrev pub due : Place → Due
@@ -198,69 +198,69 @@ due SignatureLength = any_length Signature
 due (Signature size) = any_bytes size (SectionType true)
 due (ItemsLength kind) = any_length (λ size. next_item kind size 0)
 due (IdsLength left) = length_within left (λ size. Ok (next_item Id size (left - 4 - size)))
-due (ItemLength kind left behind) =
+due (ItemLength kind left after) =
     length_within left
     (λ size. judge (size == item_size kind size) faults.HashLength
-    (Item kind size (left - 4 - size) behind))
-due (Item kind size left behind) = any_bytes (item_size kind size) (next_item kind left behind)
+    (Item kind size (left - 4 - size) after))
+due (Item kind size left after) = any_bytes (item_size kind size) (next_item kind left after)
 due CertificatesLength = any_length AuthorityLength
 due (AuthorityLength left) = length_within left (λ size. Ok (Authority size (left - 4 - size)))
-due (Authority size behind) = any_bytes size (SectionReservedLength behind)
+due (Authority size after) = any_bytes size (SectionReservedLength after)
 due (SectionReservedLength left) =
     length_within left (λ size. Ok (SectionReserved size (left - 4 - size)))
-due (SectionReserved size behind) = any_bytes size (next_subsection behind)
+due (SectionReserved size after) = any_bytes size (next_subsection after)
 due (SubsectionType left) = byte_within left (subsection_of_type (left - 1))
 due (SerialsLength left) =
     length_within left
     (λ size. judge (size % 8 == 0) faults.Length (next_serial size (left - 4 - size)))
-due (Serial left behind) = number_within left (λ serial. next_serial (left - 8) behind)
+due (Serial left after) = number_within left (λ serial. next_serial (left - 8) after)
 due (RangeLength left) =
     length_within left (λ size. judge (size == 16) faults.Length (RangeMin (left - 4 - size)))
-due (RangeMin behind) = record {
+due (RangeMin after) = record {
   size = 8;
   room = None;
   may_end = false;
-  judged = λ field. Ok (RangeMax (number_of field) behind);
+  judged = λ field. Ok (RangeMax (number_of field) after);
 }
-due (RangeMax min behind) = record {
+due (RangeMax min after) = record {
   size = 8;
   room = None;
   may_end = false;
   judged = λ field.
-      judge (nat_le min (number_of field)) faults.RangeReversed (next_subsection behind);
+      judge (nat_le min (number_of field)) faults.RangeReversed (next_subsection after);
 }
 due (BitmapLength left) = length_within left (λ size. Ok (BitmapOffset size (left - 4 - size)))
-due (BitmapOffset left behind) = number_within left (λ offset. BitmapSize offset (left - 8) behind)
-due (BitmapSize offset left behind) = record {
+due (BitmapOffset left after) = number_within left (λ offset. BitmapSize offset (left - 8) after)
+due (BitmapSize offset left after) = record {
   size = 4;
   room = Some left;
   may_end = false;
   judged = λ field. judge (number_of field == left - 4) faults.Length
-      (next_bits offset (left - 4) (left - 4) behind);
+      (next_bits offset (left - 4) (left - 4) after);
 }
-due (BitmapByte offset size left behind) = record {
+due (BitmapByte offset size left after) = record {
   size = 1;
   room = None;
   may_end = false;
-  judged = λ field. bits_judged offset size left behind (number_of field);
+  judged = λ field. bits_judged offset size left after (number_of field);
 }
 due ExtensionLength = any_length (λ size. ExtensionNameLength size 0)
 due (SubsectionExtensionLength left) =
     length_within left (λ size. Ok (ExtensionNameLength size (left - 4 - size)))
-due (ExtensionNameLength left behind) =
-    length_within left (λ size. Ok (ExtensionName size (left - 4 - size) behind))
-due (ExtensionName size left behind) = any_bytes size (ExtensionCritical left behind)
-due (ExtensionCritical left behind) =
+due (ExtensionNameLength left after) =
+    length_within left (λ size. Ok (ExtensionName size (left - 4 - size) after))
+due (ExtensionName size left after) = any_bytes size (ExtensionCritical left after)
+due (ExtensionCritical left after) =
     byte_within left (λ critical. judge (critical == 0) faults.CriticalExtension
-    (ExtensionContentsLength (left - 1) behind))
-due (ExtensionContentsLength left behind) = record {
+    (ExtensionContentsLength (left - 1) after))
+due (ExtensionContentsLength left after) = record {
   size = 4;
   room = Some left;
   may_end = false;
   judged = λ field.
-      judge (number_of field == left - 4) faults.Length (ExtensionContents (left - 4) behind);
+      judge (number_of field == left - 4) faults.Length (ExtensionContents (left - 4) after);
 }
-due (ExtensionContents size behind) = any_bytes size (next_subsection behind)
+due (ExtensionContents size after) = any_bytes size (next_subsection after)
 
 -- ---- what fields name
 
@@ -273,16 +273,16 @@ item_entry Id authority item = IdEntry authority item
 
 -- what a field at a place names, under the authority in force
 abbrev pub names : Place → (authority field : List ℕ) → List Entry
-names (Serial left behind) authority field = SerialsEntry authority (number_of field ∷ []) ∷ []
-names (RangeMax min behind) authority field = RangeEntry authority min (number_of field) ∷ []
-names (BitmapByte offset size left behind) authority field =
+names (Serial left after) authority field = SerialsEntry authority (number_of field ∷ []) ∷ []
+names (RangeMax min after) authority field = RangeEntry authority min (number_of field) ∷ []
+names (BitmapByte offset size left after) authority field =
     BitmapEntry authority (base_of offset left) (number_of field) ∷ []
-names (Item kind size left behind) authority field = item_entry kind authority field ∷ []
+names (Item kind size left after) authority field = item_entry kind authority field ∷ []
 names _ authority field = []
 
 -- The authority in force after a field. A section begins without one.
 abbrev pub authority_after : Place → (authority field : List ℕ) → List ℕ
-authority_after (Authority size behind) authority field = field
+authority_after (Authority size after) authority field = field
 authority_after (SectionType signed) authority field = []
 authority_after _ authority field = authority
 

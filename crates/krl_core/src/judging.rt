@@ -50,37 +50,37 @@ pub(crate) fn next_subsection(left: u32) -> Place
 }
 
 // An item, or the end of a list of them.
-pub(crate) fn next_item(kind: ItemKind, left: u32, behind: u32) -> Place
-    ensures { result ≡ item_after kind left behind }
+pub(crate) fn next_item(kind: ItemKind, left: u32, after: u32) -> Place
+    ensures { result ≡ item_after kind left after }
 {
     if left == 0 {
-        next_subsection(behind)
+        next_subsection(after)
     } else {
-        Place::ItemLength { kind, left, behind }
+        Place::ItemLength { kind, left, after }
     }
 }
 
-pub(crate) fn next_serial(left: u32, behind: u32) -> Place
-    ensures { result ≡ serial_after left behind }
+pub(crate) fn next_serial(left: u32, after: u32) -> Place
+    ensures { result ≡ serial_after left after }
 {
     if left == 0 {
-        next_subsection(behind)
+        next_subsection(after)
     } else {
-        Place::Serial { left, behind }
+        Place::Serial { left, after }
     }
 }
 
-pub(crate) fn next_bits(offset: u64, size: u32, left: u32, behind: u32) -> Place
-    ensures { result ≡ bits_after offset size left behind }
+pub(crate) fn next_bits(offset: u64, size: u32, left: u32, after: u32) -> Place
+    ensures { result ≡ bits_after offset size left after }
 {
     if left == 0 {
-        next_subsection(behind)
+        next_subsection(after)
     } else {
         Place::BitmapByte {
             offset,
             size,
             left,
-            behind,
+            after,
         }
     }
 }
@@ -131,10 +131,10 @@ pub(crate) fn bits_judged(
     offset: u64,
     size: u32,
     left: u32,
-    behind: u32,
+    after: u32,
     byte: u8,
 ) -> Result<Place, KrlFault>
-    ensures { result ≡ bits_judged_of offset size left behind byte }
+    ensures { result ≡ bits_judged_of offset size left after byte }
 {
     if left == size && byte >= 128 {
         return Err(KrlFault::BitmapNegative);
@@ -142,7 +142,7 @@ pub(crate) fn bits_judged(
     if passes_end(offset, left, byte) {
         return Err(KrlFault::BitmapWraps);
     }
-    Ok(next_bits(offset, size, left.saturating_sub(1), behind))
+    Ok(next_bits(offset, size, left.saturating_sub(1), after))
 }
 
 /// Whether a bit of the byte that is set stands for a number past 2^64-1. The byte is the highest

@@ -27,8 +27,8 @@ impl ItemKind {
 }
 
 /// What comes next in a list, of which the fields are read one after the other. `left` counts the
-/// bytes that are left of what the field stands in, with the field; `behind` those of the section
-/// after that. A bitmap's byte is a field.
+/// bytes that are left of what the field stands in, with the field; `after` counts those of the
+/// section that come after it. A bitmap's byte is a field.
 #[derive(Clone, Copy)]
 pub enum Place {
     Magic,
@@ -66,13 +66,13 @@ pub enum Place {
     ItemLength {
         kind: ItemKind,
         left: u32,
-        behind: u32,
+        after: u32,
     },
     Item {
         kind: ItemKind,
         size: u32,
         left: u32,
-        behind: u32,
+        after: u32,
     },
     CertificatesLength,
     AuthorityLength {
@@ -80,14 +80,14 @@ pub enum Place {
     },
     Authority {
         size: u32,
-        behind: u32,
+        after: u32,
     },
     SectionReservedLength {
         left: u32,
     },
     SectionReserved {
         size: u32,
-        behind: u32,
+        after: u32,
     },
     SubsectionType {
         left: u32,
@@ -97,36 +97,36 @@ pub enum Place {
     },
     Serial {
         left: u32,
-        behind: u32,
+        after: u32,
     },
     RangeLength {
         left: u32,
     },
     RangeMin {
-        behind: u32,
+        after: u32,
     },
     RangeMax {
         min: u64,
-        behind: u32,
+        after: u32,
     },
     BitmapLength {
         left: u32,
     },
     BitmapOffset {
         left: u32,
-        behind: u32,
+        after: u32,
     },
     BitmapSize {
         offset: u64,
         left: u32,
-        behind: u32,
+        after: u32,
     },
     /// One of the `left` bytes that are due of a bitmap's `size`, the highest first.
     BitmapByte {
         offset: u64,
         size: u32,
         left: u32,
-        behind: u32,
+        after: u32,
     },
     ExtensionLength,
     SubsectionExtensionLength {
@@ -134,23 +134,23 @@ pub enum Place {
     },
     ExtensionNameLength {
         left: u32,
-        behind: u32,
+        after: u32,
     },
     ExtensionName {
         size: u32,
         left: u32,
-        behind: u32,
+        after: u32,
     },
     ExtensionCritical {
         left: u32,
-        behind: u32,
+        after: u32,
     },
     ExtensionContentsLength {
         left: u32,
-        behind: u32,
+        after: u32,
     },
     ExtensionContents {
         size: u32,
-        behind: u32,
+        after: u32,
     },
 }

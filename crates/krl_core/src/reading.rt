@@ -248,20 +248,20 @@ fn advance<S: Spans, R: Source + Drop>(
 {
     // Of these a list can have millions, so each has code of its own, made for its place.
     match *place {
-        Place::Serial { left, behind } => {
-            advance_at(pull, place, Place::Serial { left, behind }, keeper, large)
+        Place::Serial { left, after } => {
+            advance_at(pull, place, Place::Serial { left, after }, keeper, large)
         }
         Place::BitmapByte {
             offset,
             size,
             left,
-            behind,
+            after,
         } => {
             let at = Place::BitmapByte {
                 offset,
                 size,
                 left,
-                behind,
+                after,
             };
             advance_at(pull, place, at, keeper, large)
         }

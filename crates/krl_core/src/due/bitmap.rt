@@ -24,32 +24,32 @@ pub(crate) fn after(place: Place, field: &[u8]) -> Result<Place, KrlFault>
             let size = u32_of(field);
             let next = Place::BitmapOffset {
                 left: size,
-                behind: rest(left, size),
+                after: rest(left, size),
             };
             within(left, size, Ok(next))
         }
-        Place::BitmapOffset { left, behind } => {
+        Place::BitmapOffset { left, after } => {
             Ok(Place::BitmapSize {
                 offset: u64_of(field),
                 left: left - 8,
-                behind,
+                after,
             })
         }
         Place::BitmapSize {
             offset,
             left,
-            behind,
+            after,
         } => {
             let size = left - 4;
-            let next = next_bits(offset, size, size, behind);
+            let next = next_bits(offset, size, size, after);
             judge(u32_of(field) == size, KrlFault::Length, next)
         }
         Place::BitmapByte {
             offset,
             size,
             left,
-            behind,
-        } => { bits_judged(offset, size, left, behind, byte_of(field)) }
+            after,
+        } => { bits_judged(offset, size, left, after, byte_of(field)) }
         _ => unreachable!(),
     }
 }

@@ -25,16 +25,16 @@ pub(crate) fn after(place: Place, field: &[u8]) -> Result<Place, KrlFault>
         }),
         Place::AuthorityLength { left } => {
             let size = u32_of(field);
-            let behind = rest(left, size);
-            within(left, size, Ok(Place::Authority { size, behind }))
+            let after = rest(left, size);
+            within(left, size, Ok(Place::Authority { size, after }))
         }
-        Place::Authority { behind, .. } => Ok(Place::SectionReservedLength { left: behind }),
+        Place::Authority { after, .. } => Ok(Place::SectionReservedLength { left: after }),
         Place::SectionReservedLength { left } => {
             let size = u32_of(field);
-            let behind = rest(left, size);
-            within(left, size, Ok(Place::SectionReserved { size, behind }))
+            let after = rest(left, size);
+            within(left, size, Ok(Place::SectionReserved { size, after }))
         }
-        Place::SectionReserved { behind, .. } => Ok(next_subsection(behind)),
+        Place::SectionReserved { after, .. } => Ok(next_subsection(after)),
         Place::SubsectionType { left } => subsection_of_type(left - 1, byte_of(field)),
         _ => unreachable!(),
     }

@@ -22,37 +22,37 @@ pub(crate) fn after(place: Place, field: &[u8]) -> Result<Place, KrlFault>
     match place {
         Place::ExtensionLength => Ok(Place::ExtensionNameLength {
             left: u32_of(field),
-            behind: 0,
+            after: 0,
         }),
         Place::SubsectionExtensionLength { left } => {
             let size = u32_of(field);
             let next = Place::ExtensionNameLength {
                 left: size,
-                behind: rest(left, size),
+                after: rest(left, size),
             };
             within(left, size, Ok(next))
         }
-        Place::ExtensionNameLength { left, behind } => {
+        Place::ExtensionNameLength { left, after } => {
             let size = u32_of(field);
             let next = Place::ExtensionName {
                 size,
                 left: rest(left, size),
-                behind,
+                after,
             };
             within(left, size, Ok(next))
         }
-        Place::ExtensionName { left, behind, .. } => Ok(Place::ExtensionCritical { left, behind }),
-        Place::ExtensionCritical { left, behind } => {
+        Place::ExtensionName { left, after, .. } => Ok(Place::ExtensionCritical { left, after }),
+        Place::ExtensionCritical { left, after } => {
             let left = left - 1;
-            let next = Place::ExtensionContentsLength { left, behind };
+            let next = Place::ExtensionContentsLength { left, after };
             judge(byte_of(field) == 0, KrlFault::CriticalExtension, next)
         }
-        Place::ExtensionContentsLength { left, behind } => {
+        Place::ExtensionContentsLength { left, after } => {
             let size = left - 4;
-            let next = Place::ExtensionContents { size, behind };
+            let next = Place::ExtensionContents { size, after };
             judge(u32_of(field) == size, KrlFault::Length, next)
         }
-        Place::ExtensionContents { behind, .. } => Ok(next_subsection(behind)),
+        Place::ExtensionContents { after, .. } => Ok(next_subsection(after)),
         _ => unreachable!(),
     }
 }

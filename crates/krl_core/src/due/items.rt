@@ -26,13 +26,13 @@ pub(crate) fn after(place: Place, field: &[u8]) -> Result<Place, KrlFault>
             let next = next_item(ItemKind::Id, size, rest(left, size));
             within(left, size, Ok(next))
         }
-        Place::ItemLength { kind, left, behind } => {
+        Place::ItemLength { kind, left, after } => {
             let size = u32_of(field);
             let next = Place::Item {
                 kind,
                 size,
                 left: rest(left, size),
-                behind,
+                after,
             };
             let good = size == kind.size(size);
             within(left, size, judge(good, KrlFault::HashLength, next))
@@ -40,9 +40,9 @@ pub(crate) fn after(place: Place, field: &[u8]) -> Result<Place, KrlFault>
         Place::Item {
             kind,
             left,
-            behind,
+            after,
             ..
-        } => Ok(next_item(kind, left, behind)),
+        } => Ok(next_item(kind, left, after)),
         _ => unreachable!(),
     }
 }

@@ -25,19 +25,19 @@ pub(crate) fn after(place: Place, field: &[u8]) -> Result<Place, KrlFault>
             let next = next_serial(size, rest(left, size));
             within(left, size, judge(size % 8 == 0, KrlFault::Length, next))
         }
-        Place::Serial { left, behind } => Ok(next_serial(left - 8, behind)),
+        Place::Serial { left, after } => Ok(next_serial(left - 8, after)),
         Place::RangeLength { left } => {
             let size = u32_of(field);
-            let behind = rest(left, size);
-            let next = Place::RangeMin { behind };
+            let after = rest(left, size);
+            let next = Place::RangeMin { after };
             within(left, size, judge(size == 16, KrlFault::Length, next))
         }
-        Place::RangeMin { behind } => Ok(Place::RangeMax {
+        Place::RangeMin { after } => Ok(Place::RangeMax {
             min: u64_of(field),
-            behind,
+            after,
         }),
-        Place::RangeMax { min, behind } => {
-            let next = next_subsection(behind);
+        Place::RangeMax { min, after } => {
+            let next = next_subsection(after);
             judge(min <= u64_of(field), KrlFault::RangeReversed, next)
         }
         _ => unreachable!(),

@@ -32,7 +32,7 @@ add_bits-requires g c =
     let judged = rw (c.in-BitmapByte.is, ← c.byte_of.ensures) at c.requires.passes.judged in
     record {
       due = omega (arith, step.0, ap (λ p. p.due) step.1);
-      good = good_bits c.args.self.now.bitmap c.in-BitmapByte.offset c.in-BitmapByte.size c.in-BitmapByte.left c.in-BitmapByte.behind c.byte_of.result c.args.next
+      good = good_bits c.args.self.now.bitmap c.in-BitmapByte.offset c.in-BitmapByte.size c.in-BitmapByte.left c.in-BitmapByte.after c.byte_of.result c.args.next
           (omega arith) step.1 judged;
     }
 
@@ -41,5 +41,5 @@ returns-in-BitmapByte-clause-kept g c =
     let step = subst (λ (p : Place). InStep p c.args.self.now.bitmap) c.in-BitmapByte.is c.requires.in_step in
     let judged = rw (c.in-BitmapByte.is, ← c.byte_of.ensures) at c.requires.passes.judged in
     rw c.in-BitmapByte.is (on_ok_weaker c.add_bits.result
-    (keeps_bits c.args.self.now c.add_bits.new.self c.in-BitmapByte.offset c.in-BitmapByte.size c.in-BitmapByte.left c.in-BitmapByte.behind c.byte_of.result c.args.field.now c.args.next
+    (keeps_bits c.args.self.now c.add_bits.new.self c.in-BitmapByte.offset c.in-BitmapByte.size c.in-BitmapByte.left c.in-BitmapByte.after c.byte_of.result c.args.field.now c.args.next
     step c.byte_of.ensures judged) c.add_bits.ensures.kept)
