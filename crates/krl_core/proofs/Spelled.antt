@@ -1,5 +1,5 @@
 -- What is spelled is walked.
-use Rattle.std.proofs.Common.{◌≡◌, ℕ, zero, suc, ◌+◌, ◌-◌, ◌*◌, ◌%◌, ◌==◌, ◌<◌, ◌≤◌, ◌^◌, Bool, true, false, not, cond, eqb, ltb, leb, eq-eqb, List, [], ◌∷◌, ◌++◌, length, Some, Result, Ok, Err, refl, sym, ap, subst, ◌∙◌, append_assoc, arith, inl, inr}
+use Rattle.std.proofs.Common.{◌≡◌, ℕ, zero, suc, ◌+◌, ◌-◌, ◌*◌, ◌%◌, ◌==◌, ◌<◌, ◌≤◌, ◌^◌, Bool, true, false, not, cond, eqb, ltb, leb, eq-eqb, List, [], ◌∷◌, ◌++◌, length, Result, Ok, Err, refl, sym, ap, subst, ◌∙◌, append_assoc, arith, inl, inr}
 use Rattle.std.specs.List.{AllByRecursion}
 use Rattle.std.specs.Int.{bit_at}
 use Rattle.std.proofs.lemmas.Bool.{cases_lt, le-ltb, lt-ltb, le-leb, lt-leb, eqb-true}
@@ -16,7 +16,7 @@ use Rattle.krl_core.specs.declared.place.Place.{Place}
 use Rattle.krl_core.specs.declared.place.Place.TheVariants as places
 use Rattle.krl_core.specs.Front.{HasRoom}
 use Rattle.krl_core.specs.Krl.{Subsection, Serials, Range, Bitmap, Ids, SubsectionExtension, SpellsEach, SpellsSubsection, SpellsExtension, IsPositive, magic, header_text, numbers_text}
-use Rattle.krl_core.specs.Place.{Due, due, judge, within, item_size, next_item, next_subsection, next_serial, next_bits, base_of, bits_judged, passes_end, highest_bit}
+use Rattle.krl_core.specs.Place.{Due, due, judge, length_within, within, item_size, next_item, next_subsection, next_serial, next_bits, base_of, bits_judged, passes_end, highest_bit}
 use Rattle.std.proofs.Math.Nat.{div-eq_of_lt-le}
 use Rattle.std.proofs.lemmas.Nat.{pow-add}
 use Rattle.std.proofs.lemmas.Nat.Bits.{bit_at_above, bit_at_cat_low, bit_at_cat_high}
@@ -239,37 +239,38 @@ extension_goes left after content rest h size fits =
     (λ field e. within_is left (λ m. Ok (places.ExtensionName m (left - 4 - m) after)) (number_of field) (length name) e (omega (arith, all, size)) ∙ ap (λ (m : ℕ). Ok (places.ExtensionName (length name) m after)) left_is) tt refl refl)
     critical)
 
--- the length of a subsection's content, and the content
-part_goes : (p q : Place) (left : ℕ) (next : ℕ → Result Place KrlFault) (content rest : List ℕ) → due p ≡ record { size = 4; room = Some left; may_end = false; judged = λ field. within left next (number_of field) }
-    → 4 + length content ≤ left → length content < 2 ^ 32 → next (length content) ≡ Ok q → (r : Place) → Goes q (content ++ rest) r rest → Goes p (string content ++ rest) r rest
-part_goes p q left next content rest is room fits judged r w =
-    content_goes p q r content rest (subst (λ (d : Due). HasRoom d) (sym is) (let e : 4 ≤ left = omega arith in e)) (ap (λ (d : Due). d.size) is) fits
-    (λ field e. ap (λ (d : Due). d.judged field) is ∙ within_is left next (number_of field) (length content) e (omega arith) ∙ judged) w
+-- a subsection's type byte, the length of its content, and the content
+part_goes : (left type_byte : ℕ) (p q : Place) (text content rest : List ℕ) (next : (size after : ℕ) → Result Place KrlFault) → text ≡ type_byte ∷ string content → length text ≤ left → length content < 2 ^ 32
+    → (due (places.SubsectionType left)).judged (type_byte ∷ []) ≡ Ok p → due p ≡ length_within (left - 1) (λ size. next size (left - 1 - 4 - size))
+    → next (length content) (left - length text) ≡ Ok q → Goes q (content ++ rest) (next_subsection (left - length text)) rest
+    → Goes (places.SubsectionType left) (text ++ rest) (next_subsection (left - length text)) rest
+part_goes left type_byte p q text content rest next spelled le fits typed is judged walk =
+    let at = places.SubsectionType left in
+    let end = next_subsection (left - length text) in
+    let size : length text ≡ 5 + length content = ap length spelled ∙ (let e : length (type_byte ∷ string content) ≡ 5 + length content = omega (arith, length-string content) in e) in
+    let after : left - 1 - 4 - length content ≡ left - length text = omega (arith, size) in
+    let room : 4 ≤ left - 1 = omega (arith, size) in
+    goes_from at end (text ++ rest) (type_byte ∷ (string content ++ rest)) rest (ap (λ (x : List ℕ). x ++ rest) spelled)
+    (goes_then at p end (type_byte ∷ (string content ++ rest)) (string content ++ rest) rest
+    (goes_one at p (type_byte ∷ []) (string content ++ rest) (let some : 1 ≤ left = omega (arith, size) in some) refl typed)
+    (content_goes p q end content rest (subst (λ (d : Due). HasRoom d) (sym is) room) (ap (λ (d : Due). d.size) is) fits
+    (λ field e. ap (λ (d : Due). d.judged field) is ∙ within_is (left - 1) (λ size. next size (left - 1 - 4 - size)) (number_of field) (length content) e (omega (arith, size))
+    ∙ ap (next (length content)) after ∙ judged) walk))
 
 subsection_goes : (left : ℕ) (sub : Subsection) (text rest : List ℕ) → SpellsSubsection text sub → length text ≤ left → IsBytes text
     → Goes (places.SubsectionType left) (text ++ rest) (next_subsection (left - length text)) rest
 unfolding number_of
 subsection_goes left (Serials numbers) text rest h le fits =
-    let content = h.content in
-    let n = length content in
-    let size : length text ≡ 5 + n = ap length h.spelled ∙ (let e : length (0x20 ∷ string content) ≡ 5 + n = omega (arith, length-string content) in e) in
-    let after : left - 1 - 4 - n ≡ left - length text = omega (arith, size) in
-    let room : 1 ≤ left = omega (arith, size) in
+    let n = length h.content in
+    let b = left - length text in
     let all : n ≡ length (numbers_text numbers) = ap length h.content_is.0 in
     let eight : n % 8 ≡ 0 = eights n (length numbers) (all ∙ length-numbers numbers) in
-    let walk = serials_go numbers n 0 (left - length text) rest (omega (arith, all)) in
-    goes_from (places.SubsectionType left) (next_subsection (left - length text)) (text ++ rest) (0x20 ∷ (string content ++ rest)) rest (ap (λ (x : List ℕ). x ++ rest) h.spelled)
-    (goes_then (places.SubsectionType left) (places.SerialsLength (left - 1)) (next_subsection (left - length text)) (0x20 ∷ (string content ++ rest)) (string content ++ rest) rest
-    (goes_one (places.SubsectionType left) (places.SerialsLength (left - 1)) (0x20 ∷ []) (string content ++ rest) room refl refl)
-    (part_goes (places.SerialsLength (left - 1)) (next_serial n (left - length text)) (left - 1) (λ size. judge (size % 8 == 0) faults.Length (next_serial size (left - 1 - 4 - size))) content rest refl
-    (omega (arith, size)) h.fits (judge_is (eqb (n % 8) 0) faults.Length (next_serial n (left - 1 - 4 - n)) (eq-eqb (n % 8) 0 eight) ∙ ap (λ (m : ℕ). Ok (next_serial n m)) after)
-    (next_subsection (left - length text)) (goes_from (next_serial n (left - length text)) (next_subsection (left - length text)) (content ++ rest) (numbers_text numbers ++ rest) rest (ap (λ (x : List ℕ). x ++ rest) h.content_is.0) walk)))
+    part_goes left 0x20 (places.SerialsLength (left - 1)) (next_serial n b) text h.content rest (λ size after. judge (size % 8 == 0) faults.Length (next_serial size after)) h.spelled le h.fits refl refl
+    (judge_is (eqb (n % 8) 0) faults.Length (next_serial n b) (eq-eqb (n % 8) 0 eight))
+    (goes_from (next_serial n b) (next_subsection b) (h.content ++ rest) (numbers_text numbers ++ rest) rest (ap (λ (x : List ℕ). x ++ rest) h.content_is.0) (serials_go numbers n 0 b rest (omega (arith, all))))
 subsection_goes left (Range min max) text rest h le fits =
     let content = h.content in
     let n = length content in
-    let size : length text ≡ 5 + n = ap length h.spelled ∙ (let e : length (0x21 ∷ string content) ≡ 5 + n = omega (arith, length-string content) in e) in
-    let after : left - 1 - 4 - n ≡ left - length text = omega (arith, size) in
-    let room : 1 ≤ left = omega (arith, size) in
     let all : n ≡ 16 = ap length h.content_is.0 ∙ length-append (number 8 min) (number 8 max) ∙ (let e : length (number 8 min) + length (number 8 max) ≡ 16 = omega (arith, length-number 8 min, length-number 8 max) in e) in
     let b = left - length text in
     let low : number_of (number 8 min) ≡ min = number_again8 min (omega (arith, h.content_is.1, h.content_is.2)) in
@@ -280,20 +281,13 @@ subsection_goes left (Range min max) text rest h le fits =
     let parts : content ++ rest ≡ number 8 min ++ (number 8 max ++ rest) = ap (λ (x : List ℕ). x ++ rest) h.content_is.0 ∙ append_assoc (number 8 min) (number 8 max) rest in
     let walk = goes_from (places.RangeMin b) (next_subsection b) (content ++ rest) (number 8 min ++ (number 8 max ++ rest)) rest parts
     (goes_then (places.RangeMin b) (places.RangeMax min b) (next_subsection b) (number 8 min ++ (number 8 max ++ rest)) (number 8 max ++ rest) rest first second) in
-    goes_from (places.SubsectionType left) (next_subsection b) (text ++ rest) (0x21 ∷ (string content ++ rest)) rest (ap (λ (x : List ℕ). x ++ rest) h.spelled)
-    (goes_then (places.SubsectionType left) (places.RangeLength (left - 1)) (next_subsection b) (0x21 ∷ (string content ++ rest)) (string content ++ rest) rest
-    (goes_one (places.SubsectionType left) (places.RangeLength (left - 1)) (0x21 ∷ []) (string content ++ rest) room refl refl)
-    (part_goes (places.RangeLength (left - 1)) (places.RangeMin b) (left - 1) (λ size. judge (size == 16) faults.Length (places.RangeMin (left - 1 - 4 - size))) content rest refl
-    (omega (arith, size)) h.fits (judge_is (eqb n 16) faults.Length (places.RangeMin (left - 1 - 4 - n)) (eq-eqb n 16 all) ∙ ap (λ (m : ℕ). Ok (places.RangeMin m)) after)
-    (next_subsection b) walk))
+    part_goes left 0x21 (places.RangeLength (left - 1)) (places.RangeMin b) text content rest (λ size after. judge (size == 16) faults.Length (places.RangeMin after)) h.spelled le h.fits refl refl
+    (judge_is (eqb n 16) faults.Length (places.RangeMin b) (eq-eqb n 16 all)) walk
 subsection_goes left (Bitmap offset value) text rest h le fits =
     let content = h.content in
     let n = length content in
     let m = h.content_is in
     let bits = m.bytes in
-    let size : length text ≡ 5 + n = ap length h.spelled ∙ (let e : length (0x22 ∷ string content) ≡ 5 + n = omega (arith, length-string content) in e) in
-    let after : left - 1 - 4 - n ≡ left - length text = omega (arith, size) in
-    let room : 1 ≤ left = omega (arith, size) in
     let b = left - length text in
     let all : n ≡ 8 + (4 + length bits) = ap length m.spelled ∙ length-append (number 8 offset) (string bits) ∙ (let e : length (number 8 offset) + length (string bits) ≡ 8 + (4 + length bits) = omega (arith, length-number 8 offset, length-string bits) in e) in
     let content_bytes : IsBytes content = IsBytes-in_string content (IsBytes-behind (0x22 ∷ []) (string content) (subst IsBytes h.spelled fits)) in
@@ -310,37 +304,19 @@ subsection_goes left (Bitmap offset value) text rest h le fits =
     let parts : content ++ rest ≡ number 8 offset ++ (string bits ++ rest) = ap (λ (x : List ℕ). x ++ rest) m.spelled ∙ append_assoc (number 8 offset) (string bits) rest in
     let walk = goes_from (places.BitmapOffset n b) (next_subsection b) (content ++ rest) (number 8 offset ++ (string bits ++ rest)) rest parts
     (goes_then (places.BitmapOffset n b) (places.BitmapSize offset (n - 8) b) (next_subsection b) (number 8 offset ++ (string bits ++ rest)) (string bits ++ rest) rest first sized) in
-    goes_from (places.SubsectionType left) (next_subsection b) (text ++ rest) (0x22 ∷ (string content ++ rest)) rest (ap (λ (x : List ℕ). x ++ rest) h.spelled)
-    (goes_then (places.SubsectionType left) (places.BitmapLength (left - 1)) (next_subsection b) (0x22 ∷ (string content ++ rest)) (string content ++ rest) rest
-    (goes_one (places.SubsectionType left) (places.BitmapLength (left - 1)) (0x22 ∷ []) (string content ++ rest) room refl refl)
-    (part_goes (places.BitmapLength (left - 1)) (places.BitmapOffset n b) (left - 1) (λ size. Ok (places.BitmapOffset size (left - 1 - 4 - size))) content rest refl
-    (omega (arith, size)) h.fits (ap (λ (k : ℕ). Ok (places.BitmapOffset n k)) after) (next_subsection b) walk))
+    part_goes left 0x22 (places.BitmapLength (left - 1)) (places.BitmapOffset n b) text content rest (λ size after. Ok (places.BitmapOffset size after)) h.spelled le h.fits refl refl refl walk
 subsection_goes left (Ids texts) text rest h le fits =
-    let content = h.content in
-    let n = length content in
-    let size : length text ≡ 5 + n = ap length h.spelled ∙ (let e : length (0x23 ∷ string content) ≡ 5 + n = omega (arith, length-string content) in e) in
-    let after : left - 1 - 4 - n ≡ left - length text = omega (arith, size) in
-    let room : 1 ≤ left = omega (arith, size) in
+    let n = length h.content in
     let b = left - length text in
-    let all : n ≡ length (strings texts) = ap length h.content_is in
-    let walk = goes_from (next_item kinds.Id n b) (next_subsection b) (content ++ rest) (strings texts ++ rest) rest (ap (λ (x : List ℕ). x ++ rest) h.content_is) (items_go kinds.Id texts n 0 b rest (omega (arith, all)) h.fits (any_size texts)) in
-    goes_from (places.SubsectionType left) (next_subsection b) (text ++ rest) (0x23 ∷ (string content ++ rest)) rest (ap (λ (x : List ℕ). x ++ rest) h.spelled)
-    (goes_then (places.SubsectionType left) (places.IdsLength (left - 1)) (next_subsection b) (0x23 ∷ (string content ++ rest)) (string content ++ rest) rest
-    (goes_one (places.SubsectionType left) (places.IdsLength (left - 1)) (0x23 ∷ []) (string content ++ rest) room refl refl)
-    (part_goes (places.IdsLength (left - 1)) (next_item kinds.Id n b) (left - 1) (λ size. Ok (next_item kinds.Id size (left - 1 - 4 - size))) content rest refl
-    (omega (arith, size)) h.fits (ap (λ (k : ℕ). Ok (next_item kinds.Id n k)) after) (next_subsection b) walk))
+    let at = next_item kinds.Id n b in
+    part_goes left 0x23 (places.IdsLength (left - 1)) at text h.content rest (λ size after. Ok (next_item kinds.Id size after)) h.spelled le h.fits refl refl refl
+    (goes_from at (next_subsection b) (h.content ++ rest) (strings texts ++ rest) rest (ap (λ (x : List ℕ). x ++ rest) h.content_is)
+    (items_go kinds.Id texts n 0 b rest (omega (arith, ap length h.content_is)) h.fits (any_size texts)))
 subsection_goes left SubsectionExtension text rest h le fits =
-    let content = h.content in
-    let n = length content in
-    let size : length text ≡ 5 + n = ap length h.spelled ∙ (let e : length (0x39 ∷ string content) ≡ 5 + n = omega (arith, length-string content) in e) in
-    let after : left - 1 - 4 - n ≡ left - length text = omega (arith, size) in
-    let room : 1 ≤ left = omega (arith, size) in
+    let n = length h.content in
     let b = left - length text in
-    goes_from (places.SubsectionType left) (next_subsection b) (text ++ rest) (0x39 ∷ (string content ++ rest)) rest (ap (λ (x : List ℕ). x ++ rest) h.spelled)
-    (goes_then (places.SubsectionType left) (places.SubsectionExtensionLength (left - 1)) (next_subsection b) (0x39 ∷ (string content ++ rest)) (string content ++ rest) rest
-    (goes_one (places.SubsectionType left) (places.SubsectionExtensionLength (left - 1)) (0x39 ∷ []) (string content ++ rest) room refl refl)
-    (part_goes (places.SubsectionExtensionLength (left - 1)) (places.ExtensionNameLength n b) (left - 1) (λ size. Ok (places.ExtensionNameLength size (left - 1 - 4 - size))) content rest refl
-    (omega (arith, size)) h.fits (ap (λ (k : ℕ). Ok (places.ExtensionNameLength n k)) after) (next_subsection b) (extension_goes n b content rest h.content_is refl h.fits)))
+    part_goes left 0x39 (places.SubsectionExtensionLength (left - 1)) (places.ExtensionNameLength n b) text h.content rest (λ size after. Ok (places.ExtensionNameLength size after)) h.spelled le h.fits refl refl refl
+    (extension_goes n b h.content rest h.content_is refl h.fits)
 
 -- a subsection is not empty
 subsection_some : (sub : Subsection) (text : List ℕ) → SpellsSubsection text sub → 0 < length text

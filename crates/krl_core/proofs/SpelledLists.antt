@@ -69,7 +69,6 @@ certificates_go content rest authority reserved body total parts size fits w =
 section_goes : (section : SpelledSection) (signed : Bool) (text rest : List ℕ) → SpellsSection text section → LastFor signed (section ∷ []) → IsBytes text
     → Goes (places.SectionType signed) (text ++ rest) (places.SectionType (signed_after section)) rest
 unfolding number_of
-section_goes (Certificates authority subs) true text rest h last fits = absurd last.0
 section_goes (Certificates authority subs) false text rest h last fits =
     let c = h.content_is in
     let all = IsBytes-in_string h.content (IsBytes-behind (1 ∷ []) (string h.content) (subst IsBytes h.spelled fits)) in
@@ -78,13 +77,9 @@ section_goes (Certificates authority subs) false text rest h last fits =
     (typed_goes false 1 places.CertificatesLength h.content rest refl h.fits refl (places.SectionType false)
     (content_goes places.CertificatesLength (places.AuthorityLength (length h.content)) (places.SectionType false) h.content rest tt refl h.fits (λ field e. ap (λ (n : ℕ). Ok (places.AuthorityLength n)) e)
     (certificates_go h.content rest authority c.reserved c.body (length h.content) c.spelled refl h.fits (subsections_go subs c.body rest (length c.body) c.subsections_are refl body_bytes))))
-section_goes (Keys blobs) true text rest h last fits = absurd last.0
 section_goes (Keys blobs) false text rest h last fits = items_section_goes kinds.Key 2 blobs text h.content rest h.spelled h.fits h.content_is (any_size blobs) refl
-section_goes (Sha1s hashes) true text rest h last fits = absurd last.0
 section_goes (Sha1s hashes) false text rest h last fits = items_section_goes kinds.Sha1 3 hashes text h.content rest h.spelled h.fits h.content_is.0 h.content_is.1 refl
-section_goes (Sha256s hashes) true text rest h last fits = absurd last.0
 section_goes (Sha256s hashes) false text rest h last fits = items_section_goes kinds.Sha256 5 hashes text h.content rest h.spelled h.fits h.content_is.0 h.content_is.1 refl
-section_goes Extension true text rest h last fits = absurd last.0
 section_goes Extension false text rest h last fits =
     goes_from (places.SectionType false) (places.SectionType false) (text ++ rest) (255 ∷ (string h.content ++ rest)) rest (ap (λ (x : List ℕ). x ++ rest) h.spelled)
     (typed_goes false 255 places.ExtensionLength h.content rest refl h.fits refl (places.SectionType false)
@@ -99,20 +94,13 @@ section_goes Signature signed text rest h last fits =
     (goes_then places.SignatureKeyLength places.SignatureLength (places.SectionType true) (string h.key ++ r1) r1 rest
     (string_goes places.SignatureKeyLength (places.SignatureKey (length h.key)) places.SignatureLength h.key r1 tt refl h.key_fits (λ field e. ap (λ (n : ℕ). Ok (places.SignatureKey n)) e) tt refl refl)
     (string_goes places.SignatureLength (places.Signature (length h.signature)) (places.SectionType true) h.signature rest tt refl h.signature_fits (λ field e. ap (λ (n : ℕ). Ok (places.Signature n)) e) tt refl refl)))
+section_goes _ true text rest h last fits = absurd last.0
 
 last_first : (signed : Bool) (section : SpelledSection) (sections : List SpelledSection) → LastFor signed (section ∷ sections) → LastFor signed (section ∷ []) × LastFor (signed_after section) sections
 last_first true Signature sections h = ((tt, tt), h.1)
-last_first true (Certificates a s) sections h = absurd h.0
-last_first true (Keys b) sections h = absurd h.0
-last_first true (Sha1s b) sections h = absurd h.0
-last_first true (Sha256s b) sections h = absurd h.0
-last_first true Extension sections h = absurd h.0
 last_first false Signature sections h = (tt, h)
-last_first false (Certificates a s) sections h = (tt, h)
-last_first false (Keys b) sections h = (tt, h)
-last_first false (Sha1s b) sections h = (tt, h)
-last_first false (Sha256s b) sections h = (tt, h)
-last_first false Extension sections h = (tt, h)
+last_first true _ sections h = absurd h.0
+last_first false _ sections h = (tt, h)
 
 sections_go : (sections : List SpelledSection) (signed : Bool) (body : List ℕ) → SpellsEach SpellsSection body sections → LastFor signed sections → IsBytes body
     → (b : Bool) × Goes (places.SectionType signed) body (places.SectionType b) []

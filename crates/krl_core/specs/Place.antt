@@ -52,10 +52,18 @@ abbrev pub any_bytes : ℕ → Place → Due
 any_bytes size next =
     record { size = size; room = None; may_end = false; judged = λ field. Ok next }
 
+-- a number that stands in nothing, judged by its value
+abbrev pub any_number : ℕ → (ℕ → Result Place KrlFault) → Due
+any_number size judged = record {
+  size = size;
+  room = None;
+  may_end = false;
+  judged = λ field. judged (number_of field);
+}
+
 -- the length of a string that stands in no other
 abbrev pub any_length : (ℕ → Place) → Due
-any_length next =
-    record { size = 4; room = None; may_end = false; judged = λ field. Ok (next (number_of field)) }
+any_length next = any_number 4 (λ size. Ok (next size))
 
 -- a length that is passed where what it stands in has as many bytes left after it
 abbrev pub within : ℕ → (ℕ → Result Place KrlFault) → ℕ → Result Place KrlFault
@@ -67,6 +75,15 @@ length_within left next = record {
   room = Some left;
   may_end = false;
   judged = λ field. within left next (number_of field);
+}
+
+-- a length that counts all that is left after it
+abbrev pub length_of_rest : ℕ → Place → Due
+length_of_rest left next = record {
+  size = 4;
+  room = Some left;
+  may_end = false;
+  judged = λ field. judge (number_of field == left - 4) faults.Length next;
 }
 
 -- a number in what has as many bytes left
@@ -173,12 +190,7 @@ due Magic = record {
   may_end = false;
   judged = λ field. judge (bytes_eq field magic) faults.Magic FormatVersion;
 }
-due FormatVersion = record {
-  size = 4;
-  room = None;
-  may_end = false;
-  judged = λ field. judge (number_of field == 1) faults.FormatVersion Version;
-}
+due FormatVersion = any_number 4 (λ version. judge (version == 1) faults.FormatVersion Version)
 due Version = any_bytes 8 Date
 due Date = any_bytes 8 Flags
 due Flags = any_bytes 8 ReservedLength
@@ -216,34 +228,14 @@ due (SerialsLength left) =
 due (Serial left after) = number_within left (λ serial. next_serial (left - 8) after)
 due (RangeLength left) =
     length_within left (λ size. judge (size == 16) faults.Length (RangeMin (left - 4 - size)))
-due (RangeMin after) = record {
-  size = 8;
-  room = None;
-  may_end = false;
-  judged = λ field. Ok (RangeMax (number_of field) after);
-}
-due (RangeMax min after) = record {
-  size = 8;
-  room = None;
-  may_end = false;
-  judged = λ field.
-      judge (nat_le min (number_of field)) faults.RangeReversed (next_subsection after);
-}
+due (RangeMin after) = any_number 8 (λ min. Ok (RangeMax min after))
+due (RangeMax min after) =
+    any_number 8 (λ max. judge (nat_le min max) faults.RangeReversed (next_subsection after))
 due (BitmapLength left) = length_within left (λ size. Ok (BitmapOffset size (left - 4 - size)))
 due (BitmapOffset left after) = number_within left (λ offset. BitmapSize offset (left - 8) after)
-due (BitmapSize offset left after) = record {
-  size = 4;
-  room = Some left;
-  may_end = false;
-  judged = λ field. judge (number_of field == left - 4) faults.Length
-      (next_bits offset (left - 4) (left - 4) after);
-}
-due (BitmapByte offset size left after) = record {
-  size = 1;
-  room = None;
-  may_end = false;
-  judged = λ field. bits_judged offset size left after (number_of field);
-}
+due (BitmapSize offset left after) =
+    length_of_rest left (next_bits offset (left - 4) (left - 4) after)
+due (BitmapByte offset size left after) = any_number 1 (bits_judged offset size left after)
 due ExtensionLength = any_length (λ size. ExtensionNameLength size 0)
 due (SubsectionExtensionLength left) =
     length_within left (λ size. Ok (ExtensionNameLength size (left - 4 - size)))
@@ -253,13 +245,8 @@ due (ExtensionName size left after) = any_bytes size (ExtensionCritical left aft
 due (ExtensionCritical left after) =
     byte_within left (λ critical. judge (critical == 0) faults.CriticalExtension
     (ExtensionContentsLength (left - 1) after))
-due (ExtensionContentsLength left after) = record {
-  size = 4;
-  room = Some left;
-  may_end = false;
-  judged = λ field.
-      judge (number_of field == left - 4) faults.Length (ExtensionContents (left - 4) after);
-}
+due (ExtensionContentsLength left after) =
+    length_of_rest left (ExtensionContents (left - 4) after)
 due (ExtensionContents size after) = any_bytes size (next_subsection after)
 
 -- ---- what fields name
