@@ -1,21 +1,27 @@
 -- The first key of a file is read where the file spells it, and refused by its first fault.
-use Rattle.std.proofs.Common.{◌≡◌, ◌↔◌, ℕ, ◌+◌, true, false, List, [], ◌∷◌, ◌++◌, length, Ok, Err, refl, sym, ap, subst, ◌∙◌, arith, inl, inr, ◌⊎◌}
+use Rattle.std.proofs.Common.{◌≡◌, ◌↔◌, ℕ, ◌+◌, ◌^◌, ◌<◌, true, false, List, [], ◌∷◌, ◌++◌, length, Ok, Err, Result, is_some, refl, sym, ap, subst, ◌∙◌, arith, inl, inr, ◌⊎◌}
 use Rattle.std.specs.List.{All, slice_split}
 use Rattle.std.proofs.lemmas.Bool.{cases_Bool}
 use Rattle.std.proofs.lemmas.List.{get_or_at, length-append}
 use Rattle.std.proofs.lemmas.List.Elements.{All-cons, All-head, All-nil, All-tail}
-use Rattle.ssh_wire.specs.Reading.{in_fault}
-use Rattle.ssh_wire.specs.Steps.{bind_err, bind_ok, err_is, in_fault_err, in_fault_ok, ok_is, ok_or_err, ok_or_not}
+use Rattle.ssh_wire.specs.Fields.{string_again}
+use Rattle.ssh_wire.specs.Reading.{◌>>=◌}
+use Rattle.ssh_wire.specs.Steps.{err_is, ok_is, ok_or_err, ok_or_not}
 use Rattle.ssh_wire.specs.Wire.{IsBytes}
 use Rattle.ssh_key.specs.Armour.{begins_container}
 use Rattle.ssh_key.specs.Container.{IsContainer, IsPrivateFault}
 use Rattle.ssh_key.specs.ContainerReading.{private_at}
+use Rattle.ssh_key.specs.Key.{IsKey, Key, blob_of}
 use Rattle.ssh_key.specs.KeyFile.{has_key}
+use Rattle.ssh_key.specs.KeyReading.{key_at}
+use Rattle.ssh_key.specs.Kind.{kind_certified, type_name}
 use Rattle.ssh_key.specs.LineReading.{line_at}
 use Rattle.ssh_key.specs.Lines.{is_newline}
+use Rattle.ssh_key.specs.declared.kind.Kind.{Kind}
+use Rattle.ssh_key.specs.declared.kind.Kind.TheVariants.{Rsa, Dsa, Ecdsa256, Ecdsa384, Ecdsa521, Ed25519, EcdsaSk, Ed25519Sk}
 use Rattle.ssh_key.specs.declared.private_fault.PrivateFault.{PrivateFault}
 use Rattle.ssh_subject.specs.Subject.{Subject}
-use Rattle.ssh_cert.specs.SubjectReading.{subject_of}
+use Rattle.ssh_cert.specs.SubjectReading.{is_certificate, of_key, subject_of}
 use Rattle.krl_spec.specs.Entry.{subject_in}
 use Rattle.krl_spec.specs.LineBytes.{lines_bytes}
 use Rattle.krl_spec.specs.Naming.{IsKeyCause, IsKeyFault, IsSubjectLine}
@@ -23,10 +29,12 @@ use Rattle.spec_fault.specs.declared.spec_cause.KeyCause.{KeyCause}
 use Rattle.spec_fault.specs.declared.spec_cause.KeyCause.TheVariants as keys
 use Rattle.spec_fault.specs.declared.spec_cause.SpecCause.{SpecCause}
 use Rattle.spec_fault.specs.declared.spec_cause.SpecCause.TheVariants as causes
-use Rattle.krl_runs.specs.Stop.{Stop}
+use Rattle.krl_runs.specs.Run.{container_found, key_in, keys_from, line_found}
+use Rattle.krl_runs.specs.Stop.{Stop, stop_of}
 use Rattle.krl_runs.specs.declared.input.file_fault.FileFault.TheVariants as files
+use Rattle.krl_runs.specs.declared.output.cause.Cause.TheVariants as stops
 use Rattle.krl_make.specs.FirstKey.{HaveNoKey, IsFirstKey, IsFirstKeyFault, IsFirstKeyLine, in_container, in_line, key_stop, of_container, of_line, without_key}
-use Rattle.krl_make.specs.Making.{container_stop, file_stop, first_key_from, first_key_of, inside_key, line_key}
+use Rattle.krl_make.specs.Making.{file_stop, first_found, first_key_of, plain_found}
 
 -- the laws of key lines and of containers
 pub record KeyLaws : Type 0 where
@@ -39,8 +47,13 @@ pub record KeyLaws : Type 0 where
       ↔ IsContainer text blob comment
   pub not_opened : (text : List ℕ) (fault : PrivateFault) → IsBytes text
       → (private_at text ≡ Err fault) ↔ IsPrivateFault text fault
+  pub read_back : (blob : List ℕ) (key : Key) → IsKey blob key
+      → (blob_of key ≡ blob) × (key_at (blob_of key) ≡ Ok key)
 
 -- ---- the key of a line
+
+abbrev line_key : List ℕ → ℕ → List ℕ → Result (List ℕ) Stop
+line_key name number line = line_found name number (line_at line) >>= plain_found
 
 -- what is read of a line, here and of a line of a specification file
 data ReadLine (name : List ℕ) (number : ℕ) (line : List ℕ) : Type 0 where
@@ -57,13 +70,6 @@ read_line name number line = elim (ok_or_not (line_at line)) [
   ]
 ]
 
-line_key_found : KeyLaws → (name : List ℕ) (number : ℕ) (line blob : List ℕ) → IsBytes line → line_key name number line ≡ Ok blob
-    → (asked : Subject) × IsSubjectLine line asked × (blob ≡ asked.plain)
-line_key_found laws name number line blob fits e = elim (read_line name number line) [
-  | asks asked read key ↦ (asked, (laws.keys line asked fits).0 read, ok_is blob asked.plain (line_key name number line) e key)
-  | asks_nothing fault read stop ↦ absurd (ok_or_err blob (key_stop name number fault) (line_key name number line) e stop)
-]
-
 line_key_again : KeyLaws → (name : List ℕ) (number : ℕ) (line : List ℕ) (asked : Subject) → IsBytes line → IsSubjectLine line asked → line_key name number line ≡ Ok asked.plain
 line_key_again laws name number line asked fits is =
     let given = (laws.keys line asked fits).1 is in
@@ -71,16 +77,6 @@ line_key_again laws name number line asked fits is =
       | asks other read key ↦ key ∙ ap (λ (s : Subject). Ok s.plain) (ok_is other asked (subject_in line) read given)
       | asks_nothing fault read stop ↦ absurd (ok_or_err asked (causes.Key fault) (subject_in line) given read)
     ]
-
-line_key_refused : KeyLaws → (name : List ℕ) (number : ℕ) (line : List ℕ) (stop : Stop) → IsBytes line → line_key name number line ≡ Err stop
-    → (fault : KeyCause) × IsKeyFault line fault × (stop ≡ key_stop name number fault)
-line_key_refused laws name number line stop fits e = elim (read_line name number line) [
-  | asks asked read key ↦ absurd (ok_or_err asked.plain stop (line_key name number line) key e)
-  | asks_nothing fault read told ↦
-      let first = (laws.no_keys line (causes.Key fault) fits).0 read in
-      let same : first.0 ≡ fault = let h = first.2 in cc in
-      (fault, subst (IsKeyFault line) same first.1, err_is stop (key_stop name number fault) (line_key name number line) e told)
-]
 
 line_fault_met : KeyLaws → (name : List ℕ) (number : ℕ) (line : List ℕ) (fault : KeyCause) → IsBytes line → IsKeyFault line fault → line_key name number line ≡ Err (key_stop name number fault)
 line_fault_met laws name number line fault fits first =
@@ -95,25 +91,35 @@ line_fault_met laws name number line fault fits first =
 
 -- ---- the key of a container
 
-inside_found : KeyLaws → (name text blob : List ℕ) → IsBytes text → inside_key name text ≡ Ok blob → (comment : List ℕ) × IsContainer text blob comment
-inside_found laws name text blob fits e =
-    let read = bind_ok (in_fault (container_stop name) (private_at text)) (λ opened. Ok opened.blob) blob e in
-    let is = (laws.opened text read.0.blob read.0.comment fits).0 (in_fault_ok (container_stop name) (private_at text) read.0 read.1) in
-    let same : read.0.blob ≡ blob = let h = read.2 in cc in
-    (read.0.comment, subst (λ (xs : List ℕ). IsContainer text xs read.0.comment) same is)
+abbrev inside_key : List ℕ → List ℕ → Result (List ℕ) Stop
+inside_key name text = container_found name (private_at text) >>= plain_found
+
+-- the type name of a plain key is short, and none of a certificate
+plain_name : (kind : Kind) → (length (type_name kind) < 2 ^ 32) × (is_some (kind_certified (type_name kind)) ≡ false)
+unfolding kind_certified
+plain_name Rsa = (omega arith, refl)
+plain_name Dsa = (omega arith, refl)
+plain_name Ecdsa256 = (omega arith, refl)
+plain_name Ecdsa384 = (omega arith, refl)
+plain_name Ecdsa521 = (omega arith, refl)
+plain_name Ed25519 = (omega arith, refl)
+plain_name EcdsaSk = (omega arith, refl)
+plain_name Ed25519Sk = (omega arith, refl)
+
+-- the blob of a plain key is asked about itself
+plain_asked : KeyLaws → (blob : List ℕ) (key : Key) → IsKey blob key → subject_of blob ≡ Ok (of_key blob)
+unfolding subject_of is_certificate
+plain_asked laws blob key is =
+    let back = laws.read_back blob key is in
+    let reads : key_at blob ≡ Ok key = ap key_at (sym back.0) ∙ back.1 in
+    let name = plain_name key.kind in
+    let plain : is_certificate blob ≡ false = ap is_certificate (sym back.0) ∙ rw (string_again (type_name key.kind) key.fields name.0) name.1 in
+    rw (plain, reads) refl
 
 inside_again : KeyLaws → (name text blob comment : List ℕ) → IsBytes text → IsContainer text blob comment → inside_key name text ≡ Ok blob
-inside_again laws name text blob comment fits is = rw ((laws.opened text blob comment fits).1 is) refl
+inside_again laws name text blob comment fits is = rw ((laws.opened text blob comment fits).1 is, plain_asked laws blob is.key is.is_key) refl
 
-inside_refused : KeyLaws → (name text : List ℕ) (stop : Stop) → IsBytes text → inside_key name text ≡ Err stop → (fault : PrivateFault) × IsPrivateFault text fault × (stop ≡ container_stop name fault)
-inside_refused laws name text stop fits e = elim (bind_err (in_fault (container_stop name) (private_at text)) (λ opened. Ok opened.blob) stop e) [
-  | inl refused ↦
-      let why = in_fault_err (container_stop name) (private_at text) stop refused in
-      (why.0, (laws.not_opened text why.0 fits).0 why.1, why.2)
-  | inr read ↦ absurd (let h = read.2 in cc)
-]
-
-inside_fault_met : KeyLaws → (name text : List ℕ) (fault : PrivateFault) → IsBytes text → IsPrivateFault text fault → inside_key name text ≡ Err (container_stop name fault)
+inside_fault_met : KeyLaws → (name text : List ℕ) (fault : PrivateFault) → IsBytes text → IsPrivateFault text fault → inside_key name text ≡ Err (stop_of name (stops.Private fault))
 inside_fault_met laws name text fault fits is = rw ((laws.not_opened text fault fits).1 is) refl
 
 -- ---- the first line with a key
@@ -144,13 +150,19 @@ none_or_first (line ∷ lines) = elim (cases_Bool (has_key line)) [
   ]
 ]
 
+-- the first of the keys of lines
+abbrev first_key_from : List ℕ → ℕ → List (List ℕ) → Result (List ℕ) Stop
+first_key_from name number lines = first_found name (keys_from name number lines)
+
 no_key_from : (name : List ℕ) (number : ℕ) (lines : List (List ℕ)) → HaveNoKey lines → first_key_from name number lines ≡ Err (file_stop name files.NoKeys)
+unfolding key_in
 no_key_from name number [] none = refl
 no_key_from name number (line ∷ lines) none =
     rw (All-head (λ line. has_key line ≡ false) line lines none) (no_key_from name (number + 1) lines (All-tail (λ line. has_key line ≡ false) line lines none))
 
 first_from : (name : List ℕ) (number : ℕ) (before : List (List ℕ)) (line : List ℕ) (after : List (List ℕ)) → HaveNoKey before → has_key line ≡ true
     → first_key_from name number (before ++ line ∷ after) ≡ line_key name (number + length before) line
+unfolding key_in
 first_from name number [] line after none has =
     let same : number + 0 ≡ number = omega arith in
     rw (has, same) refl
@@ -182,20 +194,46 @@ by_lines : (name text : List ℕ) → begins_container text ≡ false → first_
 unfolding first_key_of
 by_lines name text none = rw none refl
 
+-- what is read of a file's text
+data ReadKey (name text : List ℕ) : Type 0 where
+  gives : (blob : List ℕ) → IsFirstKey text blob → first_key_of name text ≡ Ok blob → ReadKey name text
+  stops_at : (stop : Stop) → IsFirstKeyFault name text stop → first_key_of name text ≡ Err stop → ReadKey name text
+
+read_inside : KeyLaws → (name text : List ℕ) → IsBytes text → begins_container text ≡ true → ReadKey name text
+read_inside laws name text fits begins = elim (ok_or_not (private_at text)) [
+  | inl read ↦
+      let is = (laws.opened text read.0.blob read.0.comment fits).0 read.1 in
+      gives read.0.blob (of_container read.0.comment begins is) (by_container name text begins ∙ inside_again laws name text read.0.blob read.0.comment fits is)
+  | inr shut ↦
+      let is = (laws.not_opened text shut.0 fits).0 shut.1 in
+      stops_at (stop_of name (stops.Private shut.0)) (in_container shut.0 begins is refl) (by_container name text begins ∙ inside_fault_met laws name text shut.0 fits is)
+]
+
+read_first_line : KeyLaws → (name text : List ℕ) (number : ℕ) (line : List ℕ) → IsBytes text → begins_container text ≡ false → IsFirstKeyLine text number line → ReadKey name text
+read_first_line laws name text number line fits plain first =
+    let bytes = line_bytes text number line first fits in
+    let same = by_lines name text plain ∙ first_line name text number line first in
+    elim (read_line name number line) [
+      | asks asked read key ↦ gives asked.plain (of_line number line asked plain first ((laws.keys line asked bytes).0 read) refl) (same ∙ key)
+      | asks_nothing fault read stop ↦
+          let why = (laws.no_keys line (causes.Key fault) bytes).0 read in
+          let is : why.0 ≡ fault = let h = why.2 in cc in
+          stops_at (key_stop name number fault) (in_line number line fault plain first (subst (IsKeyFault line) is why.1) refl) (same ∙ stop)
+    ]
+
+read_key : KeyLaws → (name text : List ℕ) → IsBytes text → ReadKey name text
+read_key laws name text fits = elim (cases_Bool (begins_container text)) [
+  | inl begins ↦ read_inside laws name text fits begins
+  | inr plain ↦ elim (none_or_first (slice_split is_newline text)) [
+    | inl none ↦ stops_at (file_stop name files.NoKeys) (without_key plain none refl) (by_lines name text plain ∙ no_key_from name 1 (slice_split is_newline text) none)
+    | inr first ↦ read_first_line laws name text (1 + length first.before) first.line fits plain (numbered text first)
+  ]
+]
+
 pub first_key_found : KeyLaws → (name text blob : List ℕ) → IsBytes text → first_key_of name text ≡ Ok blob → IsFirstKey text blob
-first_key_found laws name text blob fits e = elim (cases_Bool (begins_container text)) [
-  | inl begins ↦
-      let read = inside_found laws name text blob fits (sym (by_container name text begins) ∙ e) in
-      of_container read.0 begins read.1
-  | inr plain ↦
-      let read = sym (by_lines name text plain) ∙ e in
-      elim (none_or_first (slice_split is_newline text)) [
-        | inl none ↦ absurd (let h = no_key_from name 1 (slice_split is_newline text) none in cc)
-        | inr first ↦
-            let is = numbered text first in
-            let found = line_key_found laws name (1 + length first.before) first.line blob (line_bytes text (1 + length first.before) first.line is fits) (sym (first_line name text (1 + length first.before) first.line is) ∙ read) in
-            of_line (1 + length first.before) first.line found.0 plain is found.1 found.2
-      ]
+first_key_found laws name text blob fits e = elim (read_key laws name text fits) [
+  | gives other is read ↦ subst (IsFirstKey text) (ok_is other blob (first_key_of name text) read e) is
+  | stops_at stop is read ↦ absurd (ok_or_err blob stop (first_key_of name text) e read)
 ]
 
 pub first_key_again : KeyLaws → (name text blob : List ℕ) → IsBytes text → IsFirstKey text blob → first_key_of name text ≡ Ok blob
@@ -204,19 +242,9 @@ first_key_again laws name text blob fits (of_line number line asked plain is is_
     by_lines name text plain ∙ first_line name text number line is ∙ line_key_again laws name number line asked (line_bytes text number line is fits) is_line ∙ ap (λ (xs : List ℕ). Ok xs) (sym same)
 
 pub first_key_refused : KeyLaws → (name text : List ℕ) (stop : Stop) → IsBytes text → first_key_of name text ≡ Err stop → IsFirstKeyFault name text stop
-first_key_refused laws name text stop fits e = elim (cases_Bool (begins_container text)) [
-  | inl begins ↦
-      let why = inside_refused laws name text stop fits (sym (by_container name text begins) ∙ e) in
-      in_container why.0 begins why.1 why.2
-  | inr plain ↦
-      let read = sym (by_lines name text plain) ∙ e in
-      elim (none_or_first (slice_split is_newline text)) [
-        | inl none ↦ without_key plain none (let h = no_key_from name 1 (slice_split is_newline text) none in cc)
-        | inr first ↦
-            let is = numbered text first in
-            let why = line_key_refused laws name (1 + length first.before) first.line stop (line_bytes text (1 + length first.before) first.line is fits) (sym (first_line name text (1 + length first.before) first.line is) ∙ read) in
-            in_line (1 + length first.before) first.line why.0 plain is why.1 why.2
-      ]
+first_key_refused laws name text stop fits e = elim (read_key laws name text fits) [
+  | gives blob is read ↦ absurd (ok_or_err blob stop (first_key_of name text) read e)
+  | stops_at other is read ↦ subst (IsFirstKeyFault name text) (err_is other stop (first_key_of name text) read e) is
 ]
 
 pub first_key_fault_met : KeyLaws → (name text : List ℕ) (stop : Stop) → IsBytes text → IsFirstKeyFault name text stop → first_key_of name text ≡ Err stop

@@ -1,10 +1,21 @@
 -- Making a list: what is read of the old one, of the authority's file and of the files.
-use Rattle.std.proofs.Common.{◌≡◌, ℕ, ◌+◌, ◌<◌, ◌≤◌, Bool, false, List, [], ◌∷◌, ◌++◌, length, take, drop, get_or, Option, Some, None, Result, Ok, Err, inl, inr, refl, sym, ap, ◌∙◌, arith, append_assoc}
+use Rattle.std.proofs.Common.{◌≡◌, ℕ, ◌+◌, ◌<◌, ◌≤◌, List, [], ◌∷◌, ◌++◌, length, take, drop, get_or, Option, Some, None, Result, Ok, Err, inl, inr, refl, sym, ap, subst, ◌∙◌, arith, append_assoc}
 use Rattle.std.proofs.lemmas.List.{append-nil, take_more, take-append-drop}
 use Rattle.std.proofs.Math.Logic.Iff as Iff
-use Rattle.ssh_key.specs.Container.{IsContainer}
-use Rattle.ssh_subject.specs.Subject.{Subject}
-use Rattle.ssh_cert.specs.SubjectReading.{IsSubject}
+use Rattle.std.proofs.lemmas.Bool.{cases_Bool}
+use Rattle.std.specs.List.{slice_split}
+use Rattle.ssh_wire.specs.Reading.{◌>>=◌, in_fault}
+use Rattle.ssh_key.specs.Armour.{begins_container}
+use Rattle.ssh_key.specs.ContainerReading.{Opened, private_at}
+use Rattle.ssh_key.specs.Key.{blob_of}
+use Rattle.ssh_key.specs.KeyFile.{has_key}
+use Rattle.ssh_key.specs.LineReading.{Content, line_at}
+use Rattle.ssh_key.specs.Lines.{is_newline}
+use Rattle.ssh_key.specs.declared.line_fault.LineFault.{LineFault}
+use Rattle.ssh_key.specs.declared.private_fault.PrivateFault.{PrivateFault}
+use Rattle.ssh_cert.specs.AnyKey.{Spells, plain_of}
+use Rattle.ssh_cert.specs.declared.any_key.AnyKey.{AnyKey}
+use Rattle.ssh_cert.specs.declared.any_key.AnyKey.TheVariants.{Plain, Certified}
 use Rattle.krl_core.specs.Laws.{HeldRevokes, WrittenNames}
 use Rattle.krl_core.specs.Contents.{Contents, Means}
 use Rattle.krl_core.specs.Entries.{entries_of}
@@ -15,14 +26,15 @@ use Rattle.krl_core.specs.Reading.{IsList}
 use Rattle.krl_core.specs.declared.header.Header.{Header}
 use Rattle.krl_core.specs.declared.krl_fault.KrlFault.{KrlFault}
 use Rattle.krl_make.specs.declared.base.Base.{Base}
-use Rattle.krl_make.specs.Making.{Added, HasNumbers, IsAtHand, IsAuthorityAtHand, IsFileAtHand, authority_file, lines, new_list, old_list, IsOldList, IsStop, Made, Makes, NamesSame, WritesList, WritesMade, WritesMore, after_old, base_of, cause_stop, file_entries, files_entries, header_of, made_of, make_run_of, named_blob, text_entries, then_entries, version_of}
+use Rattle.krl_make.specs.Making.{Added, HasNumbers, IsAtHand, IsAuthorityAtHand, IsFileAtHand, authority_file, lines, new_list, old_list, IsOldList, IsStop, Made, Makes, NamesSame, Returns, WritesList, WritesMade, WritesMore, after_old, base_of, cause_stop, file_entries, file_key, file_stop, files_entries, first_found, first_key_of, header_of, made_of, make_run_of, named_blob, plain_found, text_entries, then_entries, version_of}
 use Rattle.krl_runs.specs.Query.{krl_cause}
 use Rattle.krl_make.specs.declared.authority.Authority.{Authority}
 use Rattle.krl_core.specs.declared.krl_fault.KrlFault.TheVariants as faults
-use Rattle.krl_runs.specs.Run.{File}
+use Rattle.krl_runs.specs.Run.{File, Found, GivesKey, IsRefused, container_found, content_keys, file_of, key_in, keys_from, keys_of, line_found}
+use Rattle.krl_runs.specs.declared.input.file_fault.FileFault.{FileFault}
+use Rattle.krl_runs.specs.declared.input.file_fault.FileFault.TheVariants as files
 use Rattle.krl_core.specs.Changes.{MeansMore}
 use Rattle.krl_spec.specs.Keys.{key_room}
-use Rattle.ssh_cert.specs.SubjectReading.{plain_is_key}
 use Rattle.krl_spec.specs.SpecFile.{ReadsSpec, StopsAt, lines_of}
 use Rattle.spec_fault.specs.declared.spec_cause.SpecCause.{SpecCause}
 use Rattle.spec_fault.specs.declared.spec_cause.SpecCause.TheVariants as specs
@@ -42,15 +54,73 @@ old_read text header contents list none = record {
 
 -- ---- the authority
 
--- the plain key of what is asked has some bytes
-pub plain_has_bytes : (blob : List ℕ) (asked : Subject) → IsSubject blob asked → 0 < length asked.plain
-plain_has_bytes blob asked is =
-    let plain = plain_is_key blob asked is in
-    omega (arith, key_room asked.plain plain.0 plain.1)
+-- the plain key of what is read has some bytes
+pub plain_has_bytes : (blob : List ℕ) (any : AnyKey) → Spells blob any → 0 < length (blob_of (plain_of any))
+plain_has_bytes blob (Plain key) is = omega (arith, key_room blob key is, ap length is.spelled)
+plain_has_bytes blob (Certified certificate) is = omega (arith, key_room (blob_of certificate.key) certificate.key is.key)
 
--- the key of a container has some bytes
-pub inside_has_bytes : (text blob comment : List ℕ) → IsContainer text blob comment → 0 < length blob
-inside_has_bytes text blob comment is = omega (arith, key_room blob is.key is.is_key)
+content_first : (name : List ℕ) (content : Result (List ℕ) FileFault) → (in_fault (file_stop name) content >>= first_key_of name) ≡ first_found name (content_keys name content)
+unfolding first_key_of
+content_first name (Ok text) = refl
+content_first name (Err fault) = refl
+
+-- the first key of a file is the first of its keys
+file_first : (file : File) (keys : List (Result Found Stop)) → keys_of file ≡ keys → file_key file ≡ first_found file.name keys
+unfolding keys_of
+file_first file keys is = content_first file.name file.content ∙ ap (first_found file.name) is
+
+pub no_key_first : (file : File) → keys_of file ≡ [] → file_key file ≡ Err (file_stop file.name files.NoKeys)
+no_key_first file none = file_first file [] none
+
+line_named : (name : List ℕ) (number : ℕ) (line : Result Content LineFault) → file_of (line_found name number line) ≡ name
+line_named name number (Ok line) = refl
+line_named name number (Err fault) = refl
+
+container_named : (name : List ℕ) (read : Result Opened PrivateFault) → file_of (container_found name read) ≡ name
+container_named name (Ok opened) = refl
+container_named name (Err fault) = refl
+
+-- the first of keys is one of the file of this name
+abbrev FirstNamed : List ℕ → List (Result Found Stop) → Type 0
+FirstNamed name [] = Unit {0}
+FirstNamed name (next ∷ later) = file_of next ≡ name
+
+lines_named : (name : List ℕ) (number : ℕ) (texts : List (List ℕ)) → FirstNamed name (keys_from name number texts)
+unfolding key_in
+lines_named name number [] = tt
+lines_named name number (line ∷ texts) = elim (cases_Bool (has_key line)) [
+  | inl has ↦ rw has (line_named name number (line_at line))
+  | inr none ↦ rw none (lines_named name (number + 1) texts)
+]
+
+content_named : (name : List ℕ) (content : Result (List ℕ) FileFault) → FirstNamed name (content_keys name content)
+content_named name (Err fault) = refl
+content_named name (Ok text) = elim (cases_Bool (begins_container text)) [
+  | inl begins ↦ rw begins (container_named name (private_at text))
+  | inr plain ↦ rw plain (lines_named name 1 (slice_split is_newline text))
+]
+
+-- the first key of a file is about the file
+first_named : (file : File) (next : Result Found Stop) (later : List (Result Found Stop)) → keys_of file ≡ next ∷ later → file_of next ≡ file.name
+unfolding keys_of
+first_named file next later is = subst (FirstNamed file.name) is (content_named file.name file.content)
+
+-- The first key was given, and its plain key is what is made of it.
+pub first_given : {X : Type 0} (view : X → List ℕ) (file : File) (key : Found) (later : List (Result Found Stop)) (result : Result X Stop) → keys_of file ≡ Ok key ∷ later
+    → Returns view (λ at. key.name ≡ at) (plain_found key) result → Returns view (λ at. file.name ≡ at) (file_key file) result
+first_given view file key later result is returned =
+    rw (file_first file (Ok key ∷ later) is, ← first_named file (Ok key) later is) returned
+
+-- or the file stopped the run, or memory ran out
+pub first_refused : (file : File) (next : Result Found Stop) (later : List (Result Found Stop)) (stop : Stop) → keys_of file ≡ next ∷ later → GivesKey next (Err stop)
+    → IsStop (ender_of stop.cause) (λ at. file.name ≡ at) (file_key file) stop
+first_refused file next later stop is refused = rw (file_first file (next ∷ later) is, ← first_named file next later is) (key_stops (ender_of stop.cause) file.name next later stop refused)
+  where
+    key_stops : (ender : Ender) (name : List ℕ) (next : Result Found Stop) (later : List (Result Found Stop)) (stop : Stop) → IsRefused ender next stop
+        → IsStop ender (λ at. file_of next ≡ at) (first_found name (next ∷ later)) stop
+    key_stops ByInput name next later stop given = rw given refl
+    key_stops ByMemory name next later stop given = (file_of next, (refl, given))
+    key_stops (ByOutput count) name next later stop given = absurd given
 
 -- ---- the files
 

@@ -10,9 +10,10 @@ use Rattle.ssh_key.specs.declared.private_fault.PrivateFault.{PrivateFault}
 use Rattle.krl_spec.specs.Naming.{IsKeyFault, IsSubjectLine}
 use Rattle.spec_fault.specs.declared.spec_cause.KeyCause.{KeyCause}
 use Rattle.spec_fault.specs.declared.spec_cause.KeyCause.TheVariants as keys
-use Rattle.krl_runs.specs.Stop.{Stop}
+use Rattle.krl_runs.specs.Run.{stop_at}
+use Rattle.krl_runs.specs.Stop.{Stop, stop_of}
 use Rattle.krl_runs.specs.declared.input.file_fault.FileFault.TheVariants as files
-use Rattle.krl_make.specs.Making.{container_stop, file_stop, key_line_stop, subject_stop}
+use Rattle.krl_runs.specs.declared.output.cause.Cause.TheVariants as causes
 
 -- no line has a key
 abbrev pub HaveNoKey : List (List ℕ) → Type 0
@@ -37,16 +38,16 @@ pub data IsFirstKey (text blob : List ℕ) : Type 0 where
 
 -- the stop of a run by a line that gives no key
 abbrev pub key_stop : List ℕ → ℕ → KeyCause → Stop
-key_stop name number (keys.Line fault) = key_line_stop name number fault
-key_stop name number (keys.Subject fault) = subject_stop name number fault
+key_stop name number (keys.Line fault) = stop_at name number (causes.Line fault)
+key_stop name number (keys.Subject fault) = stop_at name number (causes.Subject fault)
 
 -- Why a file of this name has no first key: the fault of a container, which has no line, no line
 -- with a key, or the fault of the first line that has one.
 pub data IsFirstKeyFault (name text : List ℕ) (stop : Stop) : Type 0 where
   in_container : (fault : PrivateFault) → begins_container text ≡ true → IsPrivateFault text fault
-      → stop ≡ container_stop name fault → IsFirstKeyFault name text stop
+      → stop ≡ stop_of name (causes.Private fault) → IsFirstKeyFault name text stop
   without_key : begins_container text ≡ false → HaveNoKey (slice_split is_newline text)
-      → stop ≡ file_stop name files.NoKeys → IsFirstKeyFault name text stop
+      → stop ≡ stop_of name (causes.File files.NoKeys) → IsFirstKeyFault name text stop
   in_line : (number : ℕ) (line : List ℕ) (fault : KeyCause) → begins_container text ≡ false
       → IsFirstKeyLine text number line → IsKeyFault line fault
       → stop ≡ key_stop name number fault → IsFirstKeyFault name text stop

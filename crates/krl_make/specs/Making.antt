@@ -2,7 +2,6 @@
 use Rattle.std.specs.Prelude.{◌≡◌, ◌↔◌, ℕ, ◌+◌, ◌-◌, ◌^◌, ◌<◌, ◌≤◌, ◌==◌, ◌⊎◌, ⊤, Bool}
 use Rattle.std.specs.Prelude.{if◌then◌else◌, List, [], ◌∷◌, ◌++◌, length, Option, Some, None}
 use Rattle.std.specs.Prelude.{Result, Ok, Err}
-use Rattle.std.specs.List.{slice_split}
 use Rattle.std.specs.Option.{ok_or}
 use Rattle.ssh_wire.specs.Reading.{◌>>=◌, in_fault}
 use Rattle.krl_core.specs.Contents.{Contents, Means, nothing}
@@ -16,15 +15,8 @@ use Rattle.krl_core.specs.Revoked.{Revoked}
 use Rattle.krl_core.specs.declared.header.Header.{Header}
 use Rattle.krl_core.specs.declared.krl_fault.KrlFault.{KrlFault}
 use Rattle.krl_core.specs.declared.krl_fault.KrlFault.TheVariants as faults
-use Rattle.ssh_key.specs.Armour.{begins_container}
-use Rattle.ssh_key.specs.ContainerReading.{private_at}
-use Rattle.ssh_key.specs.KeyFile.{has_key}
-use Rattle.ssh_key.specs.LineReading.{line_at}
-use Rattle.ssh_key.specs.declared.line_fault.LineFault.{LineFault}
-use Rattle.ssh_key.specs.declared.private_fault.PrivateFault.{PrivateFault}
 use Rattle.ssh_subject.specs.Subject.{Subject}
 use Rattle.ssh_cert.specs.SubjectReading.{subject_of}
-use Rattle.ssh_cert.specs.declared.subject_fault.SubjectFault.{SubjectFault}
 use Rattle.krl_make.specs.declared.authority.Authority.{Authority}
 use Rattle.krl_make.specs.declared.authority.Authority.TheVariants.{NotGiven, All, File as FileOf}
 use Rattle.krl_make.specs.declared.authority.Signer.{Signer}
@@ -38,9 +30,8 @@ use Rattle.spec_fault.specs.declared.spec_cause.SpecCause.{SpecCause}
 use Rattle.spec_fault.specs.declared.spec_cause.SpecCause.TheVariants as specs
 use Rattle.spec_fault.specs.declared.spec_fault.SpecFault.{SpecFault}
 use Rattle.krl_runs.specs.Query.{krl_cause}
-use Rattle.krl_runs.specs.Run.{File, stop_at}
+use Rattle.krl_runs.specs.Run.{File, Found, stop_at, stop_in, text_keys}
 use Rattle.krl_spec.specs.SpecFile.{lines_of}
-use Rattle.ssh_key.specs.Lines.{is_newline}
 use Rattle.krl_runs.specs.Stop.{Stop, Ender, ByInput, ByMemory, ByOutput, ender_of, stop_of}
 
 -- ---- faults, as stops of the run
@@ -50,15 +41,6 @@ list_stop name fault = stop_of name (krl_cause fault)
 
 abbrev pub file_stop : List ℕ → FileFault → Stop
 file_stop name fault = stop_of name (causes.File fault)
-
-abbrev pub container_stop : List ℕ → PrivateFault → Stop
-container_stop name fault = stop_of name (causes.Private fault)
-
-abbrev pub key_line_stop : List ℕ → ℕ → LineFault → Stop
-key_line_stop name number fault = stop_at name number (causes.Line fault)
-
-abbrev pub subject_stop : List ℕ → ℕ → SubjectFault → Stop
-subject_stop name number fault = stop_at name number (causes.Subject fault)
 
 -- a fault of a line; memory runs out for the run itself, and at no line
 abbrev pub cause_stop : List ℕ → ℕ → SpecCause → Stop
@@ -70,35 +52,28 @@ line_stop name fault = stop_at name fault.line (causes.Spec fault.cause)
 
 -- ---- the authority
 
--- the plain key of what a line's blob asks
-abbrev pub subject_key : List ℕ → ℕ → List ℕ → Result (List ℕ) Stop
-subject_key name number blob = do
-  asked ← in_fault (subject_stop name number) (subject_of blob)
+-- the blob of the plain key of a key of a file
+abbrev pub plain_found : Found → Result (List ℕ) Stop
+plain_found key = do
+  asked ← in_fault (stop_in key) (subject_of key.line.blob)
   Ok asked.plain
 
--- the blob of the plain key of a line
-abbrev pub line_key : List ℕ → ℕ → List ℕ → Result (List ℕ) Stop
-line_key name number line = do
-  content ← in_fault (key_line_stop name number) (line_at line)
-  subject_key name number content.blob
-
--- the first key of lines, of which the first has this number
-abbrev pub first_key_from : List ℕ → ℕ → List (List ℕ) → Result (List ℕ) Stop
-first_key_from name number [] = Err (file_stop name files.NoKeys)
-first_key_from name number (line ∷ lines) =
-    if has_key line then line_key name number line else first_key_from name (number + 1) lines
-
--- the key of a container, whose faults have no line
-abbrev pub inside_key : List ℕ → List ℕ → Result (List ℕ) Stop
-inside_key name text = do
-  opened ← in_fault (container_stop name) (private_at text)
-  Ok opened.blob
+-- the first of the keys of a file of this name
+abbrev pub first_found : List ℕ → List (Result Found Stop) → Result (List ℕ) Stop
+first_found name [] = Err (file_stop name files.NoKeys)
+first_found name (next ∷ later) = do
+  key ← next
+  plain_found key
 
 -- the first key of a file's text
 unfoldable pub first_key_of : List ℕ → List ℕ → Result (List ℕ) Stop
-first_key_of name text =
-    if begins_container text then inside_key name text
-    else first_key_from name 1 (slice_split is_newline text)
+first_key_of name text = first_found name (text_keys name text)
+
+-- the first key of a file
+abbrev pub file_key : File → Result (List ℕ) Stop
+file_key file = do
+  text ← in_fault (file_stop file.name) file.content
+  first_key_of file.name text
 
 -- Where one is given, all authorities have no bytes, and a file names the authority by its first
 -- key.
@@ -106,8 +81,7 @@ abbrev pub named_blob : Authority → Result (Option (List ℕ)) Stop
 named_blob NotGiven = Ok None
 named_blob All = Ok (Some [])
 named_blob (FileOf file) = do
-  text ← in_fault (file_stop file.name) file.content
-  blob ← first_key_of file.name text
+  blob ← file_key file
   Ok (Some blob)
 
 -- the authority that is named, with the blob of its key

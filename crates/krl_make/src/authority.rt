@@ -1,17 +1,12 @@
 // The authority of serials and key IDs that name none themselves.
 
 ghost use Rattle.std.specs.Prelude.{◌≡◌, ◌<◌, Some, IfOk, length};
-ghost use Rattle.std.specs.List.{slice_split};
-ghost use Rattle.krl_make.specs.Making.{IsAuthorityAtHand, IsSigner, Returns, first_key_from, first_key_of, inside_key, line_key, named_blob, signer_authority, subject_key};
+ghost use Rattle.krl_make.specs.Making.{IsAuthorityAtHand, IsSigner, Returns, file_key, named_blob, plain_found, signer_authority};
 ghost use Rattle.krl_spec.specs.Entry.{IsUnder, authority_under};
-ghost use Rattle.ssh_key.specs.Lines.{is_newline};
 
-use krl_runs::{Cause, FileFault, Named, RunFault};
+use krl_runs::{Cause, FileFault, FileKey, Named, RunFault, keys_of};
 use krl_spec::Under;
-use ssh_cert::{Subject, SubjectFault, subject};
-use ssh_key::{
-    LineFault, PrivateFault, has_key, is_container, read_line, read_private, split_line,
-};
+use ssh_key::plain_blob;
 use ssh_wire::Bytes;
 use std::alloc::Global;
 
@@ -57,97 +52,30 @@ pub fn signer_of<'a>(alloc: Global, authority: &'a Authority<'a>) -> Result<Sign
     match authority {
         Authority::NotGiven => Ok(Signer::NotGiven),
         Authority::All => Ok(Signer::All),
-        Authority::File(file) => match &file.content {
-            Ok(text) => Ok(Signer::Of(first_key(alloc, file.name, text.as_slice())?)),
-            Err(fault) => Err(RunFault::whole(file.name, Cause::File(*fault))),
-        },
+        Authority::File(file) => Ok(Signer::Of(first_key(alloc, file)?)),
     }
 }
 
-/// The blob of the first key of a file's text.
-#[tactic(auto, unfolding(crate::specs::Making::first_key_of))]
-fn first_key<'a>(alloc: Global, name: &'a str, text: &[u8]) -> Result<Bytes, RunFault<'a>>
-    ensures read { Returns (λ blob. blob) (λ at. name.now ≡ at)
-        (first_key_of name.now text.now) result }
+/// The blob of the first key of a file.
+fn first_key<'a>(alloc: Global, file: &'a Named<'a>) -> Result<Bytes, RunFault<'a>>
+    ensures read { Returns (λ blob. blob) (λ at. file.now.name ≡ at) (file_key file.now) result }
     ensures some { IfOk result (λ blob. 0 < length blob) }
 {
-    if is_container(text) {
-        key_inside(alloc, name, text)
-    } else {
-        first_line_key(alloc, name, text)
+    let mut keys = keys_of(alloc, file);
+    match keys.next() {
+        Some(key) => key_blob(alloc, &key?),
+        None => Err(RunFault::whole(file.name, Cause::File(FileFault::NoKeys))),
     }
 }
 
-/// The blob of the key of a container. A fault of it has no line.
-fn key_inside<'a>(alloc: Global, name: &'a str, text: &[u8]) -> Result<Bytes, RunFault<'a>>
-    ensures read { Returns (λ blob. blob) (λ at. name.now ≡ at)
-        (inside_key name.now text.now) result }
+/// The blob of a key, or of the plain key of a certificate.
+fn key_blob<'a>(alloc: Global, key: &FileKey<'a>) -> Result<Bytes, RunFault<'a>>
+    ensures read { Returns (λ blob. blob) (λ at. key.now.name ≡ at) (plain_found key.now) result }
     ensures some { IfOk result (λ blob. 0 < length blob) }
 {
-    match read_private(alloc, text) {
-        Ok(private) => Ok(private.blob),
-        Err(PrivateFault::NoMemory) => Err(RunFault::whole(name, Cause::NoMemory)),
-        Err(fault) => Err(RunFault::whole(name, Cause::Private(fault))),
-    }
-}
-
-/// The blob of the first key of a text's lines.
-fn first_line_key<'a>(alloc: Global, name: &'a str, text: &[u8]) -> Result<Bytes, RunFault<'a>>
-    ensures read { Returns (λ blob. blob) (λ at. name.now ≡ at)
-        (first_key_from name.now 1 (slice_split is_newline text.now)) result }
-    ensures some { IfOk result (λ blob. 0 < length blob) }
-{
-    let mut rest = text;
-    let mut passed = 0;
-    'lines: loop {
-        let (line, after) = split_line(rest);
-        if has_key(line) {
-            return line_key(alloc, name, passed + 1, line);
-        }
-        let Some(after) = after else {
-            return Err(RunFault::whole(name, Cause::File(FileFault::NoKeys)));
-        };
-        rest = after;
-        passed += 1;
-    }
-}
-
-/// The blob of the plain key of a line.
-fn line_key<'a>(
-    alloc: Global,
-    name: &'a str,
-    number: u64,
-    text: &[u8],
-) -> Result<Bytes, RunFault<'a>>
-    ensures read { Returns (λ blob. blob) (λ at. name.now ≡ at)
-        (line_key name.now number text.now) result }
-    ensures some { IfOk result (λ blob. 0 < length blob) }
-{
-    let line = match read_line(alloc, text) {
-        Ok(line) => line,
-        Err(LineFault::NoMemory) => return Err(RunFault::whole(name, Cause::NoMemory)),
-        Err(fault) => return Err(RunFault::at_line(name, number, Cause::Line(fault))),
-    };
-    subject_key(alloc, name, number, line.blob.as_slice())
-}
-
-/// The blob of the plain key of what a line's blob asks.
-fn subject_key<'a>(
-    alloc: Global,
-    name: &'a str,
-    number: u64,
-    blob: &[u8],
-) -> Result<Bytes, RunFault<'a>>
-    ensures read { Returns (λ blob. blob) (λ at. name.now ≡ at)
-        (subject_key name.now number blob.now) result }
-    ensures some { IfOk result (λ blob. 0 < length blob) }
-{
-    match subject(alloc, blob) {
-        Ok(asked) => {
-            let Subject { plain, cert: _ } = asked;
-            Ok(plain)
-        }
-        Err(SubjectFault::NoMemory) => Err(RunFault::whole(name, Cause::NoMemory)),
-        Err(fault) => Err(RunFault::at_line(name, number, Cause::Subject(fault))),
+    let any = key.read()?;
+    match plain_blob(alloc, any.plain()) {
+        Ok(blob) => Ok(Bytes::from_vec(blob)),
+        Err(_) => Err(RunFault::whole(key.name, Cause::NoMemory)),
     }
 }

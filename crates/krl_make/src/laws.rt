@@ -8,7 +8,7 @@ ghost use Rattle.krl_runs.specs.Stop.{Stop};
 ghost use Rattle.ssh_wire.specs.Wire.{IsBytes};
 
 use krl_spec::laws::key_where_spelled;
-use ssh_key::laws::{private_read_where_spelled, private_refused_by_first_fault};
+use ssh_key::laws::{blob_read_back, private_read_where_spelled, private_refused_by_first_fault};
 
 /// A key is read of a file exactly where it is the file's first, and the file stops the run exactly
 /// by its first fault.
@@ -21,4 +21,5 @@ pub fn first_key_where_spelled()
     key_where_spelled();
     private_read_where_spelled();
     private_refused_by_first_fault();
+    blob_read_back();
 }

@@ -9,6 +9,7 @@ returns c =
       no_keys = c.key_where_spelled.ensures.refused;
       opened = c.private_read_where_spelled.ensures;
       not_opened = c.private_refused_by_first_fault.ensures;
+      read_back = c.blob_read_back.ensures;
     } in
     record {
       read = λ name text blob fits. (first_key_found laws name text blob fits, first_key_again laws name text blob fits);
