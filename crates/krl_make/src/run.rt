@@ -48,63 +48,75 @@ pub fn make_run<'a, R: Source + Drop>(
         (make_run_of old.entry.name.now reading authority.now version files.now moment) result.0 }
 {
     let Old { name, list } = old;
+    let wanted = Wanted {
+        name,
+        authority,
+        version,
+        files,
+        moment,
+    };
     let (read, reader) = read_base(alloc, name, list);
     let base = match read {
         Ok(base) => base,
         Err(stop) => return (Err(stop), reader),
     };
-    let made = make_over(alloc, name, base, authority, version, files, moment);
+    let made = wanted.make_over(alloc, base);
     (made, reader)
 }
 
-/// The bytes of a list that holds what was held before and what the lines of the files name.
-fn make_over<'a>(
-    alloc: Global,
+/// The list that is wanted, beside what the old one held.
+#[derive(Drop)]
+struct Wanted<'a> {
     name: &'a str,
-    base: Base,
     authority: &'a Authority<'a>,
     version: Option<u64>,
     files: &'a [Named<'a>],
     moment: u64,
-) -> Result<Vec<u8>, RunFault<'a>>
-    ensures { Makes (λ made. made.items) name.now (Ok base) authority.now version files.now
-        (after_old name.now authority.now version moment files.now base) result }
-{
-    let Base {
-        version: old_version,
-        comment,
-        revocations,
-    } = base;
-    let Some(version) = next_version(version, old_version) else {
-        return Err(RunFault::whole(name, Cause::VersionFull));
-    };
-    let header = Header {
-        version,
-        date: moment,
-        comment,
-    };
-    let signer = signer_of(alloc, authority)?;
-    add_and_write(alloc, name, &header, revocations, signer.under(), files)
 }
 
-/// Adds what the lines of the files name to what is held, and writes the list.
-fn add_and_write<'a>(
-    alloc: Global,
-    name: &'a str,
-    header: &Header,
-    held: Revocations<Held>,
-    under: Under,
-    files: &'a [Named<'a>],
-) -> Result<Vec<u8>, RunFault<'a>>
-    requires under { IsUnder under }
-    requires numbers { HasNumbers header.now }
-    ensures { WritesMore (λ made. made.items) name.now header.now held
-        (IsFileAtHand (authority_under under.entry) files.now)
-        (files_entries (authority_under under.entry) files.now) result }
-{
-    let mut revocations = held;
-    add_files(alloc, &mut revocations, under, files)?;
-    write_list(alloc, name, header, &revocations)
+impl<'a> Wanted<'a> {
+    /// The bytes of a list that holds what was held before and what the lines of the files name.
+    fn make_over(&self, alloc: Global, base: Base) -> Result<Vec<u8>, RunFault<'a>>
+        ensures { Makes (λ made. made.items) self.now.name.now (Ok base) self.now.authority.now
+            self.now.version self.now.files.now
+            (after_old self.now.name.now self.now.authority.now self.now.version self.now.moment
+            self.now.files.now base) result }
+    {
+        let Base {
+            version: old_version,
+            comment,
+            revocations,
+        } = base;
+        let Some(version) = next_version(self.version, old_version) else {
+            return Err(RunFault::whole(self.name, Cause::VersionFull));
+        };
+        let header = Header {
+            version,
+            date: self.moment,
+            comment,
+        };
+        let signer = signer_of(alloc, self.authority)?;
+        self.add_and_write(alloc, &header, revocations, signer.under())
+    }
+
+    /// Adds what the lines of the files name to what is held, and writes the list.
+    fn add_and_write(
+        &self,
+        alloc: Global,
+        header: &Header,
+        held: Revocations<Held>,
+        under: Under,
+    ) -> Result<Vec<u8>, RunFault<'a>>
+        requires under { IsUnder under }
+        requires numbers { HasNumbers header.now }
+        ensures { WritesMore (λ made. made.items) self.now.name.now header.now held
+            (IsFileAtHand (authority_under under.entry) self.now.files.now)
+            (files_entries (authority_under under.entry) self.now.files.now) result }
+    {
+        let mut revocations = held;
+        add_files(alloc, &mut revocations, under, self.files)?;
+        write_list(alloc, self.name, header, &revocations)
+    }
 }
 
 /// The text of a list.
