@@ -2,14 +2,15 @@
 use Rattle.std.specs.Prelude.{ℕ, ◌^◌, ◌==◌, ◌&&◌, ◌||◌, not, Bool, true, false, nat_le, nat_lt}
 use Rattle.std.specs.Prelude.{if◌then◌else◌, List, length, map, Option, None, Some, is_some}
 use Rattle.std.specs.Prelude.{option_and_then, codes}
+use Rattle.std.specs.Borrow.{Bor}
 use Rattle.std.specs.Char.{is_ascii_digit}
 use Rattle.std.specs.List.{list_all}
 use Rattle.std.specs.Str.{str_eq_ignore_ascii_case}
 use Rattle.std.specs.Str.Parse.{digits_value}
 use Rattle.ssh_key.specs.declared.hash.Hash.{Hash}
 use Rattle.ssh_key.specs.declared.hash.Hash.TheVariants.{Md5, Sha256}
-use Rattle.krl_job.specs.declared.job.AuthorityName.{AuthorityName}
-use Rattle.krl_job.specs.declared.job.AuthorityName.TheVariants as names
+use Rattle.krl_job.specs.declared.job.Authority.{Authority}
+use Rattle.krl_job.specs.declared.job.Authority.TheVariants.{NotGiven, All, File}
 use Rattle.krl_job.specs.declared.job.Job.{Job}
 use Rattle.krl_job.specs.declared.job.Mode.{Mode}
 use Rattle.krl_job.specs.declared.job.Mode.TheVariants.{Keys, Certs, Make, Query}
@@ -17,26 +18,20 @@ use Rattle.krl_job.specs.Given.{Given}
 
 -- ---- a job
 
--- under which authority a list names serials and key IDs: that of the file's key, or all
-pub data Authority : Type 0 where
-  NotGiven : Authority
-  All : Authority
-  File : List ℕ → Authority
-
 pub record Asked : Type 0 where
   pub mode : Mode
   pub file : List ℕ
   pub update : Bool
-  pub authority : Authority
+  pub authority : Authority (List ℕ)
   pub version : Option ℕ
   pub dump : Bool
   pub hash : Hash
   pub files : List (List ℕ)
 
-abbrev pub authority_of : AuthorityName → Authority
-authority_of names.NotGiven = NotGiven
-authority_of names.All = All
-authority_of (names.File name) = File name.now
+abbrev pub authority_of : Authority (Bor (List ℕ)) → Authority (List ℕ)
+authority_of NotGiven = NotGiven
+authority_of All = All
+authority_of (File name) = File name.now
 
 -- what a job asks for
 abbrev pub asked_of : Job → Asked
@@ -76,11 +71,11 @@ abbrev pub version_named : Option (List ℕ) → Option (Option ℕ)
 version_named None = Some None
 version_named (Some text) = version_called text
 
-abbrev pub authority_called : List ℕ → Authority
+abbrev pub authority_called : List ℕ → Authority (List ℕ)
 authority_called text =
     if str_eq_ignore_ascii_case text (codes "none") then All else File text
 
-abbrev pub authority_named : Option (List ℕ) → Authority
+abbrev pub authority_named : Option (List ℕ) → Authority (List ℕ)
 authority_named None = NotGiven
 authority_named (Some text) = authority_called text
 

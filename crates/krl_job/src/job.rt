@@ -25,14 +25,14 @@ pub enum Mode {
     Query,
 }
 
-/// Under which authority a list that is made names serials and key IDs.
+/// What `-s` gives: under which authority a list that is made names serials and key IDs.
 #[derive(Debug, Drop)]
-pub enum AuthorityName<'a> {
+pub enum Authority<T> {
     NotGiven,
     /// All authorities.
     All,
-    /// That of the file of this name.
-    File(&'a str),
+    /// That of the first key of a file: by the file's name, then by the file, then by the key.
+    File(T),
 }
 
 /// What the words of the command ask for.
@@ -43,7 +43,7 @@ pub struct Job<'a> {
     pub file: &'a str,
     /// Whether the list that is made adds to the one that there is.
     pub update: bool,
-    pub authority: AuthorityName<'a>,
+    pub authority: Authority<&'a str>,
     pub version: Option<u64>,
     /// Whether the contents of the list are printed.
     pub dump: bool,
@@ -156,12 +156,12 @@ fn are_digits(bytes: &[u8]) -> bool
     bytes.iter().all(|byte| byte.is_ascii_digit())
 }
 
-fn authority_named<'a>(name: Option<&'a str>) -> AuthorityName<'a>
+fn authority_named(name: Option<&str>) -> Authority<&str>
     ensures { authority_of result ≡ authority_named (option_map (λ text. text.now) name.entry) }
 {
     match name {
-        None => AuthorityName::NotGiven,
-        Some(name) if name.eq_ignore_ascii_case("none") => AuthorityName::All,
-        Some(name) => AuthorityName::File(name),
+        None => Authority::NotGiven,
+        Some(name) if name.eq_ignore_ascii_case("none") => Authority::All,
+        Some(name) => Authority::File(name),
     }
 }

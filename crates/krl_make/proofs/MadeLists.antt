@@ -28,7 +28,7 @@ use Rattle.krl_core.specs.declared.krl_fault.KrlFault.{KrlFault}
 use Rattle.krl_make.specs.declared.base.Base.{Base}
 use Rattle.krl_make.specs.Making.{Added, HasNumbers, IsAtHand, IsAuthorityAtHand, IsFileAtHand, authority_file, lines, new_list, old_list, IsOldList, IsStop, Made, Makes, NamesSame, Returns, WritesList, WritesMade, WritesMore, after_old, base_of, cause_stop, file_entries, file_key, file_stop, files_entries, first_found, first_key_of, header_of, made_of, make_run_of, named_blob, plain_found, text_entries, then_entries, version_of}
 use Rattle.krl_runs.specs.Query.{krl_cause}
-use Rattle.krl_make.specs.declared.authority.Authority.{Authority}
+use Rattle.krl_job.specs.declared.job.Authority.{Authority}
 use Rattle.krl_core.specs.declared.krl_fault.KrlFault.TheVariants as faults
 use Rattle.krl_runs.specs.Run.{File, Found, GivesKey, IsRefused, container_found, content_keys, file_of, key_in, keys_from, keys_of, line_found}
 use Rattle.krl_runs.specs.declared.input.file_fault.FileFault.{FileFault}
@@ -249,18 +249,18 @@ made_written view name made contents (Err stop) adds (inr (told, long)) =
 -- ---- the run
 
 -- what the run has at hand, by what reading gives
-abbrev AtHand : List ℕ → Base → Authority → Option ℕ → List File → Result Made Stop → List ℕ → Type 0
+abbrev AtHand : List ℕ → Base → Authority File → Option ℕ → List File → Result Made Stop → List ℕ → Type 0
 AtHand name base authority given files read = IsAtHand name (Ok base) authority given files read
 
 -- The fault of the old list stops the run.
-pub base_refused : (name : List ℕ) (authority : Authority) (version : Option ℕ) (files : List File) (moment : ℕ) (fault : KrlFault)
+pub base_refused : (name : List ℕ) (authority : Authority File) (version : Option ℕ) (files : List File) (moment : ℕ) (fault : KrlFault)
     → IsStop (ender_of (krl_cause fault)) (IsAtHand name (Err fault) authority version files (make_run_of name (Err fault) authority version files moment)) (make_run_of name (Err fault) authority version files moment) (stop_of name (krl_cause fault))
 unfolding make_run_of
 base_refused name authority version files moment faults.NoMemory = (name, (old_list refl refl, refl))
 base_refused name authority version files moment fault = refl
 
 -- The fault of the authority's file stops the run.
-pub signer_stops : (name : List ℕ) (given : Option ℕ) (authority : Authority) (moment : ℕ) (base : Base) (files : List File) (version : ℕ) (stop : Stop)
+pub signer_stops : (name : List ℕ) (given : Option ℕ) (authority : Authority File) (moment : ℕ) (base : Base) (files : List File) (version : ℕ) (stop : Stop)
     → version_of given base.version ≡ Some version
     → IsStop (ender_of stop.cause) (IsAuthorityAtHand authority) (named_blob authority) stop
     → IsStop (ender_of stop.cause) (AtHand name base authority given files (after_old name authority given moment files base)) (after_old name authority given moment files base) stop
@@ -272,7 +272,7 @@ signer_stops name given authority moment base files version stop is stops =
     stops
 
 -- The fault of a file or of a line stops the run.
-files_stop : (name : List ℕ) (given : Option ℕ) (authority : Authority) (moment : ℕ) (base : Base) (files : List File) (version : ℕ) (signer : Option (List ℕ)) (stop : Stop)
+files_stop : (name : List ℕ) (given : Option ℕ) (authority : Authority File) (moment : ℕ) (base : Base) (files : List File) (version : ℕ) (signer : Option (List ℕ)) (stop : Stop)
     → version_of given base.version ≡ Some version → named_blob authority ≡ Ok signer
     → IsStop (ender_of stop.cause) (IsFileAtHand signer files) (files_entries signer files) stop
     → IsStop (ender_of stop.cause) (AtHand name base authority given files (after_old name authority given moment files base)) (after_old name authority given moment files base) stop
@@ -284,7 +284,7 @@ files_stop name given authority moment base files version signer stop is signed 
     stops
 
 -- What is read gives the list that is made, or its text stops the run.
-made_read : {X : Type 0} (view : X → List ℕ) (name : List ℕ) (given : Option ℕ) (authority : Authority) (base : Base) (files : List File) (read : Result Made Stop) (made : Made) (result : Result X Stop)
+made_read : {X : Type 0} (view : X → List ℕ) (name : List ℕ) (given : Option ℕ) (authority : Authority File) (base : Base) (files : List File) (read : Result Made Stop) (made : Made) (result : Result X Stop)
     → read ≡ Ok made → WritesMade view name made result → Makes view name (Ok base) authority given files read result
 made_read view name given authority base files read made (Ok text) whole is = (made, (whole, is))
 made_read view name given authority base files read made (Err stop) whole (inl starved) =
@@ -293,7 +293,7 @@ made_read view name given authority base files read made (Err stop) whole (inr (
     inr (record { made = made; read_as = whole; long = long; stop_is = told })
 
 -- The list is written of what was held and of the files, or the run stops there.
-pub list_written : {X : Type 0} (view : X → List ℕ) (name : List ℕ) (given : Option ℕ) (authority : Authority) (moment : ℕ) (base : Base) (files : List File) (version : ℕ) (signer : Option (List ℕ)) (result : Result X Stop)
+pub list_written : {X : Type 0} (view : X → List ℕ) (name : List ℕ) (given : Option ℕ) (authority : Authority File) (moment : ℕ) (base : Base) (files : List File) (version : ℕ) (signer : Option (List ℕ)) (result : Result X Stop)
     → version_of given base.version ≡ Some version → named_blob authority ≡ Ok signer
     → WritesMore view name (header_of version moment base) base.revocations (IsFileAtHand signer files) (files_entries signer files) result
     → Makes view name (Ok base) authority given files (after_old name authority given moment files base) result

@@ -17,10 +17,8 @@ use Rattle.krl_core.specs.declared.krl_fault.KrlFault.{KrlFault}
 use Rattle.krl_core.specs.declared.krl_fault.KrlFault.TheVariants as faults
 use Rattle.ssh_subject.specs.Subject.{Subject}
 use Rattle.ssh_cert.specs.SubjectReading.{subject_of}
-use Rattle.krl_make.specs.declared.authority.Authority.{Authority}
-use Rattle.krl_make.specs.declared.authority.Authority.TheVariants.{NotGiven, All, File as FileOf}
-use Rattle.krl_make.specs.declared.authority.Signer.{Signer}
-use Rattle.krl_make.specs.declared.authority.Signer.TheVariants as signers
+use Rattle.krl_job.specs.declared.job.Authority.{Authority}
+use Rattle.krl_job.specs.declared.job.Authority.TheVariants.{NotGiven, All, File as FileOf}
 use Rattle.krl_make.specs.declared.base.Base.{Base}
 use Rattle.krl_runs.specs.declared.input.file_fault.FileFault.{FileFault}
 use Rattle.krl_runs.specs.declared.input.file_fault.FileFault.TheVariants as files
@@ -77,7 +75,7 @@ file_key file = do
 
 -- Where one is given, all authorities have no bytes, and a file names the authority by its first
 -- key.
-abbrev pub named_blob : Authority → Result (Option (List ℕ)) Stop
+abbrev pub named_blob : Authority File → Result (Option (List ℕ)) Stop
 named_blob NotGiven = Ok None
 named_blob All = Ok (Some [])
 named_blob (FileOf file) = do
@@ -85,16 +83,16 @@ named_blob (FileOf file) = do
   Ok (Some blob)
 
 -- the authority that is named, with the blob of its key
-abbrev pub signer_authority : Signer → Option (List ℕ)
-signer_authority signers.NotGiven = None
-signer_authority signers.All = Some []
-signer_authority (signers.Of blob) = Some blob
+abbrev pub signer_authority : Authority (List ℕ) → Option (List ℕ)
+signer_authority NotGiven = None
+signer_authority All = Some []
+signer_authority (FileOf blob) = Some blob
 
 -- a key has some bytes
-abbrev pub IsSigner : Signer → Type 0
-IsSigner signers.NotGiven = ⊤
-IsSigner signers.All = ⊤
-IsSigner (signers.Of blob) = 0 < length blob
+abbrev pub IsSigner : Authority (List ℕ) → Type 0
+IsSigner NotGiven = ⊤
+IsSigner All = ⊤
+IsSigner (FileOf blob) = 0 < length blob
 
 -- ---- the files
 
@@ -154,7 +152,8 @@ HasNumbers header = (header.version < 2 ^ 64) × (header.date < 2 ^ 64)
 
 -- What a list of this name is made of after an old one: that its version is the greatest, then the
 -- fault of the authority's file, then those of the files and lines in order stop the run.
-abbrev pub after_old : List ℕ → Authority → Option ℕ → ℕ → List File → Base → Result Made Stop
+abbrev pub after_old : List ℕ → Authority File → Option ℕ → ℕ → List File → Base
+    → Result Made Stop
 after_old name authority given moment files base = do
   version ← ok_or (version_of given base.version) (stop_of name causes.VersionFull)
   signer ← named_blob authority
@@ -162,8 +161,8 @@ after_old name authority given moment files base = do
   Ok (made_of (header_of version moment base) base.revocations entries)
 
 -- The same by what reading the old list gave, whose fault is the first.
-unfoldable pub make_run_of : List ℕ → Result Base KrlFault → Authority → Option ℕ → List File → ℕ
-    → Result Made Stop
+unfoldable pub make_run_of : List ℕ → Result Base KrlFault → Authority File → Option ℕ
+    → List File → ℕ → Result Made Stop
 make_run_of name reading authority version files moment = do
   base ← in_fault (list_stop name) reading
   after_old name authority version moment files base
@@ -171,7 +170,7 @@ make_run_of name reading authority version files moment = do
 -- ---- what the run gives
 
 -- The authority's file is at hand, where one is given.
-abbrev pub IsAuthorityAtHand : Authority → List ℕ → Type 0
+abbrev pub IsAuthorityAtHand : Authority File → List ℕ → Type 0
 IsAuthorityAtHand NotGiven at = ⊥
 IsAuthorityAtHand All at = ⊥
 IsAuthorityAtHand (FileOf file) at = file.name ≡ at
@@ -189,7 +188,7 @@ pub record IsFileAtHand (authority : Option (List ℕ)) (files : List File) (at 
 
 -- What a run that makes a list has at hand, by its name: the list while the old one is read, then
 -- the authority's file, then the files in order, and the list again while it is written.
-pub data IsAtHand (name : List ℕ) (reading : Result Base KrlFault) (authority : Authority)
+pub data IsAtHand (name : List ℕ) (reading : Result Base KrlFault) (authority : Authority File)
     (given : Option ℕ) (files : List File) (read : Result Made Stop) (at : List ℕ) : Type 0 where
   old_list : reading ≡ Err faults.NoMemory → name ≡ at
       → IsAtHand name reading authority given files read at
@@ -255,7 +254,7 @@ pub record StopsAtText (name : List ℕ) (read : Result Made Stop) (stop : Stop)
   pub stop_is : stop ≡ stop_of name causes.TextTooLong
 
 -- The run gives the list, or what stopped it.
-abbrev pub Makes : {X : Type 0} → (X → List ℕ) → List ℕ → Result Base KrlFault → Authority
+abbrev pub Makes : {X : Type 0} → (X → List ℕ) → List ℕ → Result Base KrlFault → Authority File
     → Option ℕ → List File → Result Made Stop → Result X Stop → Type 0
 Makes view name reading authority given files read (Ok text) =
     (made : Made) × ((read ≡ Ok made) × IsMade made (view text))

@@ -10,36 +10,22 @@ use ssh_key::plain_blob;
 use ssh_wire::Bytes;
 use std::alloc::Global;
 
-/// What `-s` names.
-#[derive(Debug, Drop)]
-pub enum Authority<'a> {
-    NotGiven,
-    /// All authorities.
-    All,
-    /// The authority whose key is the first one of the file.
-    File(Named<'a>),
-}
+/// What `-s` gives: the file is at hand whose first key is that of the authority.
+pub type Authority<'a> = krl_job::Authority<Named<'a>>;
 
 /// The same, with the blob of the key.
-#[derive(Drop)]
-pub enum Signer {
-    NotGiven,
-    All,
-    Of(Bytes),
-}
+pub type Signer = krl_job::Authority<Bytes>;
 
-impl Signer {
-    /// What lines stand under.
-    pub fn under(&self) -> Under<'_>
-        requires { IsSigner self.now }
-        ensures authority { authority_under result ≡ signer_authority self.now }
-        ensures some { IsUnder result }
-    {
-        match self {
-            Signer::NotGiven => Under::NotGiven,
-            Signer::All => Under::All,
-            Signer::Of(blob) => Under::Of(blob.as_slice()),
-        }
+/// What lines stand under.
+pub fn under(signer: &Signer) -> Under<'_>
+    requires { IsSigner signer.now }
+    ensures authority { authority_under result ≡ signer_authority signer.now }
+    ensures some { IsUnder result }
+{
+    match signer {
+        Signer::NotGiven => Under::NotGiven,
+        Signer::All => Under::All,
+        Signer::File(blob) => Under::Of(blob.as_slice()),
     }
 }
 
@@ -52,7 +38,7 @@ pub fn signer_of<'a>(alloc: Global, authority: &'a Authority<'a>) -> Result<Sign
     match authority {
         Authority::NotGiven => Ok(Signer::NotGiven),
         Authority::All => Ok(Signer::All),
-        Authority::File(file) => Ok(Signer::Of(first_key(alloc, file)?)),
+        Authority::File(file) => Ok(Signer::File(first_key(alloc, file)?)),
     }
 }
 

@@ -7,7 +7,7 @@ ghost use Rattle.krl_make.specs.Making.{HasNumbers, IsBaseRead, IsFileAtHand, Ma
 ghost use Rattle.krl_spec.specs.Entry.{IsUnder, authority_under};
 ghost use Rattle.krl_make.specs.declared.base.Base.{Base as BaseOf};
 
-use crate::authority::{Authority, signer_of};
+use crate::authority::{Authority, signer_of, under};
 use crate::base::{Base, next_version, read_base};
 use crate::files::add_files;
 use krl_core::laws::{revokes_what_is_meant, written_list_names_what_is_held};
@@ -96,7 +96,7 @@ impl<'a> Wanted<'a> {
             comment,
         };
         let signer = signer_of(alloc, self.authority)?;
-        self.add_and_write(alloc, &header, revocations, signer.under())
+        self.add_and_write(alloc, &header, revocations, under(&signer))
     }
 
     /// Adds what the lines of the files name to what is held, and writes the list.

@@ -1,7 +1,6 @@
 // The files that the command names.
 
-use krl_job::AuthorityName;
-use krl_make::Authority;
+use krl_job::Authority;
 use krl_runs::{Cause, FileFault, Named, RunFault, load};
 use ssh_wire::FromRead;
 use std::fs::{self, File};
@@ -56,11 +55,11 @@ pub fn open_inputs<'a>(
     Ok(files)
 }
 
-/// What `-s` names: its file is read.
-pub fn open_authority<'a>(rt: &HostRuntime, name: &AuthorityName<'a>) -> Authority<'a> {
+/// What `-s` gives: its file is read.
+pub fn open_authority<'a>(rt: &HostRuntime, name: &Authority<&'a str>) -> Authority<Named<'a>> {
     match name {
-        AuthorityName::NotGiven => Authority::NotGiven,
-        AuthorityName::All => Authority::All,
-        AuthorityName::File(name) => Authority::File(open(rt, *name)),
+        Authority::NotGiven => Authority::NotGiven,
+        Authority::All => Authority::All,
+        Authority::File(name) => Authority::File(open(rt, *name)),
     }
 }

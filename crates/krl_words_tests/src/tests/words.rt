@@ -1,6 +1,6 @@
 // The words of the command line.
 
-use krl_job::{AuthorityName, Job, Mode};
+use krl_job::{Authority, Job, Mode};
 use krl_words::{CommandFault, command_of};
 use ssh_key::Hash;
 use std::alloc::{AllocError, Global};
@@ -179,11 +179,11 @@ const MAKING: [Making<'static>; 7] = [
 ];
 
 // Whether the authority is the one of these words.
-fn is_authority(authority: &AuthorityName, words: &str) -> bool {
+fn is_authority(authority: &Authority<&str>, words: &str) -> bool {
     match authority {
-        AuthorityName::NotGiven => words.is_empty(),
-        AuthorityName::All => words == "all",
-        AuthorityName::File(name) => words.strip_prefix("of ") == Some(*name),
+        Authority::NotGiven => words.is_empty(),
+        Authority::All => words == "all",
+        Authority::File(name) => words.strip_prefix("of ") == Some(*name),
     }
 }
 
