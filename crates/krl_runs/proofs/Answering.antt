@@ -1,7 +1,6 @@
 -- Answering for the keys of a file, and for files, one after the other.
 use Rattle.std.proofs.Common.{◌≡◌, ℕ, ◌+◌, ◌<◌, ◌||◌, Bool, true, false, List, [], ◌∷◌, ◌++◌, length, map, take, drop, get_or, Option, None, Some, Result, Ok, Err, refl, sym, ap, subst, ◌∙◌, append_assoc}
 use Rattle.std.proofs.lemmas.List.{append-nil, take_more, take-append-drop}
-use Rattle.std.proofs.Math.Bool.{or-false, or-true}
 use Rattle.std.proofs.lemmas.List.Concat.{flat_map-append}
 use Rattle.krl_runs.specs.declared.output.cause.Cause.TheVariants.{File, NoMemory}
 use Rattle.ssh_cert.specs.AnyKey.{IsReadAs, asked_of, plain_of}
@@ -17,7 +16,7 @@ use Rattle.krl_runs.specs.declared.output.answer.Answer.{Answer}
 use Rattle.krl_runs.specs.Printer.{Printed}
 use Rattle.krl_runs.specs.Run.{File as FileOf, Found, GivesKey, IsRefused, IsWithheld, Item, Answered, Answering, Passed, Stopped, file_items, file_of, files_items, found_item, key_item, keys_of, name_of, said, silence_of, stop_in, subject_item, tells}
 use Rattle.krl_runs.specs.Stop.{Stop, Ender, ByInput, ByMemory, ByOutput, ender_of, stop_of}
-use Rattle.krl_runs.proofs.Carrying.{carries_more, carries_none, carries_passed, carries_then, carries_withheld}
+use Rattle.krl_runs.proofs.Carrying.{carries_as, carries_more, carries_none, carries_then, carries_withheld}
 
 -- ---- a key
 
@@ -77,46 +76,28 @@ key_items answer file = map (found_item answer) (keys_of file)
 pub none_reached : (answer : Answering) (file : FileOf) (now : Printed) → IsReached answer (key_items answer file) (keys_of file) false now now
 none_reached answer file now = record { done = []; parts = refl; carried = carries_none tt now; any = refl }
 
-one_reached : (answer : Answering) (items : List Item) (next : Result Found Stop) (left : List (Result Found Stop)) (item : Item) (told : Bool) (old now new : Printed)
-    → IsReached answer items (next ∷ left) told old now → found_item answer next ≡ item → Carries (item ∷ []) (Ok (tt {0})) now new
-    → IsReached answer items left (told || tells (item ∷ [])) old new
-one_reached answer items next left item told old now new reached is carries = record {
-  done = reached.done ++ item ∷ [];
-  parts = reached.parts ∙ ap (λ (i : Item). reached.done ++ i ∷ map (found_item answer) left) is ∙ sym (append_assoc reached.done (item ∷ []) (map (found_item answer) left));
-  carried = carries_then reached.done (item ∷ []) tt (Ok tt) old now new reached.carried carries;
-  any = ap (λ (b : Bool). b || tells (item ∷ [])) reached.any ∙ tells-append reached.done (item ∷ []);
-}
+-- the item of the next key is said
+pub key_said : {A : Type 0} (answer : Answering) (items : List Item) (next : Result Found Stop) (left : List (Result Found Stop)) (told : Bool) (value : A) (old now new : Printed)
+    → IsReached answer items (next ∷ left) told old now → Carries (found_item answer next ∷ []) (Ok value) now new
+    → IsReached answer items left (told || tells (found_item answer next ∷ [])) old new
+key_said answer items next left told value old now new reached carries =
+    let item = found_item answer next in
+    record {
+      done = reached.done ++ item ∷ [];
+      parts = reached.parts ∙ sym (append_assoc reached.done (item ∷ []) (map (found_item answer) left));
+      carried = carries_then reached.done (item ∷ []) tt (Ok tt) old now new reached.carried (carries_as (item ∷ []) (Ok value) (Ok tt) now new refl carries);
+      any = ap (λ (b : Bool). b || tells (item ∷ [])) reached.any ∙ tells-append reached.done (item ∷ []);
+    }
 
--- nothing is said of the next key
-pub key_passed : (answer : Answering) (items : List Item) (key : Found) (left : List (Result Found Stop)) (told : Bool) (old now : Printed)
-    → IsReached answer items (Ok key ∷ left) told old now → found_item answer (Ok key) ≡ Passed key.name → IsReached answer items left told old now
-key_passed answer items key left told old now reached is =
-    let next = one_reached answer items (Ok key) left (Passed key.name) told old now now reached is (carries_passed key.name now) in
-    subst (λ (b : Bool). IsReached answer items left b old now) (or-false told) next
-
--- the next key is answered
-pub key_said : (answer : Answering) (items : List Item) (key : Found) (left : List (Result Found Stop)) (reply : Answer) (told : Bool) (old now new : Printed)
-    → IsReached answer items (Ok key ∷ left) told old now → found_item answer (Ok key) ≡ Answered key.name reply → Carries (Answered key.name reply ∷ []) (Ok (tt {0})) now new
-    → IsReached answer items left true old new
-key_said answer items key left reply told old now new reached is carries =
-    let next = one_reached answer items (Ok key) left (Answered key.name reply) told old now new reached is carries in
-    subst (λ (b : Bool). IsReached answer items left b old new) (or-true told) next
-
--- the next key stopped the run
-pub key_stops : {A B : Type 0} (answer : Answering) (items : List Item) (next : Result Found Stop) (left : List (Result Found Stop)) (item : Item) (told : Bool) (stop : Stop) (old now new : Printed)
-    → IsReached answer items (next ∷ left) told old now → found_item answer next ≡ item → Carries {A = A} (item ∷ []) (Err stop) now new
+-- or ends the run
+pub key_stops : {A B : Type 0} (answer : Answering) (items : List Item) (next : Result Found Stop) (left : List (Result Found Stop)) (told : Bool) (stop : Stop) (old now new : Printed)
+    → IsReached answer items (next ∷ left) told old now → Carries {A = A} (found_item answer next ∷ []) (Err stop) now new
     → Carries {A = B} items (Err stop) old new
-key_stops {A} {B} answer items next left item told stop old now new reached is carries =
+key_stops {A} {B} answer items next left told stop old now new reached carries =
+    let item = found_item answer next in
     let later = map (found_item answer) left in
-    let parts : items ≡ (reached.done ++ item ∷ []) ++ later = reached.parts ∙ ap (λ (i : Item). reached.done ++ i ∷ later) is ∙ sym (append_assoc reached.done (item ∷ []) later) in
     let front = carries_then {B = A} reached.done (item ∷ []) tt (Err stop) old now new reached.carried carries in
-    subst (λ (xs : List Item). Carries {A = B} xs (Err stop) old new) (sym parts) (carries_more {A = A} {B = B} (reached.done ++ item ∷ []) later stop old new front)
-
--- its item was not given
-pub key_withheld : {B : Type 0} (answer : Answering) (items : List Item) (next : Result Found Stop) (left : List (Result Found Stop)) (told : Bool) (stop : Stop) (old now : Printed)
-    → IsReached answer items (next ∷ left) told old now → IsWithheld (ender_of stop.cause) (found_item answer next) stop → Carries {A = B} items (Err stop) old now
-key_withheld {B} answer items next left told stop old now reached withheld =
-    key_stops {A = B} {B = B} answer items next left (found_item answer next) told stop old now now reached refl (carries_withheld (found_item answer next) stop now withheld)
+    subst (λ (xs : List Item). Carries {A = B} xs (Err stop) old new) (append_assoc reached.done (item ∷ []) later ∙ sym reached.parts) (carries_more {A = A} {B = B} (reached.done ++ item ∷ []) later stop old new front)
 
 -- a key that was not given has no item
 refused_item : (answer : Answering) (ender : Ender) (next : Result Found Stop) (stop : Stop) → IsRefused ender next stop → IsWithheld ender (found_item answer next) stop
@@ -127,7 +108,8 @@ refused_item answer (ByOutput count) next stop is = absurd is
 pub key_refused : {B : Type 0} (answer : Answering) (items : List Item) (next : Result Found Stop) (left : List (Result Found Stop)) (told : Bool) (stop : Stop) (old now : Printed)
     → IsReached answer items (next ∷ left) told old now → GivesKey next (Err stop) → Carries {A = B} items (Err stop) old now
 key_refused {B} answer items next left told stop old now reached is =
-    key_withheld {B = B} answer items next left told stop old now reached (refused_item answer (ender_of stop.cause) next stop is)
+    key_stops {A = B} {B = B} answer items next left told stop old now now reached
+    (carries_withheld (found_item answer next) stop now (refused_item answer (ender_of stop.cause) next stop is))
 
 -- ---- a file
 

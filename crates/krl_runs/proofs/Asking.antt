@@ -32,7 +32,7 @@ pub read_run : {A : Type 0} (name : List ℕ) (dump : Bool) (files : List File) 
     → Carries (query_run_of name (Ok known) dump files) result old new
 unfolding query_run_of
 read_run name dump files known result old mid new first second =
-    carries_then (Passed name ∷ []) (contents_items name dump known ++ files_items (ask known.contents) files) tt result old old new (carries_passed name old)
+    carries_then (Passed name ∷ []) (contents_items name dump known ++ files_items (ask known.contents) files) tt result old old new (carries_passed (tt {0}) name old)
     (carries_then (contents_items name dump known) (files_items (ask known.contents) files) tt result old mid new first second)
 
 -- The run ended within the contents.
@@ -40,7 +40,7 @@ pub dump_stops : {A B : Type 0} (name : List ℕ) (dump : Bool) (files : List Fi
     → Carries {A = A} (contents_items name dump known) (Err stop) old new → Carries {A = B} (query_run_of name (Ok known) dump files) (Err stop) old new
 unfolding query_run_of
 dump_stops {A} {B} name dump files known stop old new first =
-    carries_then (Passed name ∷ []) (contents_items name dump known ++ files_items (ask known.contents) files) tt (Err stop) old old new (carries_passed name old)
+    carries_then (Passed name ∷ []) (contents_items name dump known ++ files_items (ask known.contents) files) tt (Err stop) old old new (carries_passed (tt {0}) name old)
     (carries_more {A = A} {B = B} (contents_items name dump known) (files_items (ask known.contents) files) stop old new first)
 
 -- The run ended before anything was said: the list had a fault, or memory ran out.

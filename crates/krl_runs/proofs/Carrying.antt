@@ -59,8 +59,15 @@ pub carries_withheld : {A : Type 0} (item : Item) (stop : Stop) (now : Printed) 
 carries_withheld item stop now withheld = record { says = λ before said has. ends_here (ender_of stop.cause) item stop now before said withheld has; writer = refl }
 
 -- something of which nothing is said
-pub carries_passed : (name : List ℕ) (now : Printed) → Carries (Passed name ∷ []) (Ok (tt {0})) now now
-carries_passed name now = record { says = λ before said has. record { added = passed before said name now has.added; short = has.short }; writer = refl }
+pub carries_passed : {A : Type 0} (value : A) (name : List ℕ) (now : Printed) → Carries (Passed name ∷ []) (Ok value) now now
+carries_passed value name now = record { says = λ before said has. record { added = passed before said name now has.added; short = has.short }; writer = refl }
+
+-- What a part gives beside its end does not count.
+pub carries_as : {A B : Type 0} (items : List Item) (first : Result A Stop) (second : Result B Stop) (old new : Printed) → result_err first ≡ result_err second → Carries items first old new → Carries items second old new
+carries_as items first second old new same carries = record {
+  says = λ before said has. subst (λ (stop : Option Stop). Reaches before (said ++ items) stop new) same (carries.says before said has);
+  writer = carries.writer;
+}
 
 -- a printer that has failed says nothing
 pub carries_lost : {A : Type 0} (items : List Item) (result : Result A Stop) (now : Printed) → now.failed ≡ true → Carries items result now now

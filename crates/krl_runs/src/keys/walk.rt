@@ -1,8 +1,8 @@
 // Going over the keys of files.
 
-ghost use Rattle.std.specs.Prelude.{Ok};
+ghost use Rattle.std.specs.Prelude.{◌≡◌, ◌∷◌, [], IfOk, Ok};
 ghost use Rattle.krl_runs.specs.Carries.{Carries};
-ghost use Rattle.krl_runs.specs.Run.{GivesAnswer, file_items, files_items, found_item};
+ghost use Rattle.krl_runs.specs.Run.{GivesAnswer, file_items, files_items, found_item, tells};
 
 use crate::input::named::Named;
 use crate::keys::answers::Answers;
@@ -42,16 +42,31 @@ pub fn print_file<'a, A: Answers, W: Sink>(
     let mut keys = keys_of(run.alloc, file);
     while let Some(next) = keys.next() {
         let key = next?;
-        if let Some(answer) = answer_key(run.alloc, answers, &key)? {
-            run.printer
-                .say(key.name, answer.text.as_slice(), answer.revoked)?;
-            said = true;
-        }
+        said |= print_key(run, answers, &key)?;
     }
     if !said {
         return Err(RunFault::whole(file.name, Cause::File(answers.silence())));
     }
     Ok(())
+}
+
+/// Prints the answer for a key, and tells whether something is said of it.
+fn print_key<'a, A: Answers, W: Sink>(
+    run: &mut Run<W>,
+    answers: &A,
+    key: &FileKey<'a>,
+) -> Result<bool, RunFault<'a>>
+    ensures carries { Carries (found_item (A.answer_to answers.now) (Ok key.now) ∷ []) result
+        run.old.printer run.new.printer }
+    ensures said { IfOk result (λ said.
+        said ≡ tells (found_item (A.answer_to answers.now) (Ok key.now) ∷ [])) }
+{
+    let Some(answer) = answer_key(run.alloc, answers, key)? else {
+        return Ok(false);
+    };
+    run.printer
+        .say(key.name, answer.text.as_slice(), answer.revoked)?;
+    Ok(true)
 }
 
 /// What a run says of a key.

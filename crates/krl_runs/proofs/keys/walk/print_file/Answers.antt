@@ -1,11 +1,10 @@
 -- Each key carries the run on, or stops it.
 use Rattle.std.proofs.Common.{◌∷◌, Ok, Result, ap, ◌∙◌}
 use Rattle.std.proofs.lemmas.Result.{err_from_is_err_and}
-use Rattle.krl_runs.specs.Run.{Answered, File, Found}
+use Rattle.krl_runs.specs.Run.{File, Found}
 use Rattle.krl_runs.specs.Stop.{Stop}
-use Rattle.krl_runs.proofs.Answering.{file_ends, file_is_silent, file_stopped, key_passed, key_refused, key_said, key_stops, key_withheld, none_reached}
+use Rattle.krl_runs.proofs.Answering.{file_ends, file_is_silent, file_stopped, key_refused, key_said, key_stops, none_reached}
 use Rattle.krl_runs.proofs.keys.walk.print_file.Goals as goal
-use Rattle.krl_runs.proofs.keys.walk.print_file.Goals.{in-Some-2+in_ok-say, in_default-2}
 
 pub loop-next-init : goal.loop-next-init
 loop-next-init g c = rw c.keys_of-keys.ensures (none_reached (g.A.Answers.answer_to c.args.answers.now) c.args.file.now c.args.run.now.printer)
@@ -17,49 +16,24 @@ returns-in_err-key g c =
     let reached = rw given.1.0 at c.loop-next.invariant in
     rw (p.1, p.2) (file_stopped (g.A.Answers.answer_to c.args.answers.now) c.args.file.now _ _ _ (key_refused _ _ given.0 c.next.new.self _ _ _ _ reached given.1.1))
 
-pub returns-in_err-answer : goal.returns-in_err-answer
-returns-in_err-answer g c =
-    let p = err_from_is_err_and c.from_residual-in_err-answer.result c.from_residual-in_err-answer.ensures.1 in
+pub returns-in_err-said : goal.returns-in_err-said
+returns-in_err-said g c =
+    let p = err_from_is_err_and c.from_residual-in_err-said.result c.from_residual-in_err-said.ensures.1 in
     let given = rw c.in_ok-key.was at c.in-Some.ensures.steps in
     let reached = rw (given.1.0 ∙ ap (λ (next : Result Found Stop). next ∷ c.next.new.self) given.1.1) at c.loop-next.invariant in
-    rw (p.1, p.2) (file_stopped (g.A.Answers.answer_to c.args.answers.now) c.args.file.now _ _ _ (key_withheld _ _ (Ok c.in_ok-key.key) c.next.new.self _ _ _ _ reached c.in_err-answer.ensures))
+    rw (p.1, p.2) (file_stopped (g.A.Answers.answer_to c.args.answers.now) c.args.file.now _ _ _ (key_stops _ _ (Ok c.in_ok-key.key) c.next.new.self _ _ _ _ _ reached c.in_err-said.ensures.carries))
 
-pub returns-in_err-say : goal.returns-in_err-say
-returns-in_err-say g c =
-    let p = err_from_is_err_and c.from_residual-in_err-say.result c.from_residual-in_err-say.ensures.1 in
+pub loop-next-preserved-in_ok-said : goal.loop-next-preserved-in_ok-said
+loop-next-preserved-in_ok-said g c =
     let given = rw c.in_ok-key.was at c.in-Some.ensures.steps in
     let reached = rw (given.1.0 ∙ ap (λ (next : Result Found Stop). next ∷ c.next.new.self) given.1.1) at c.loop-next.invariant in
-    let item = rw c.in-Some-2.is at c.in_ok-answer.ensures in
-    let carries = rw (c.as_slice.ensures, ap (λ (key : Found). key.name) c.key.view_is) at c.in_err-say.ensures.carries in
-    rw (p.1, p.2) (file_stopped (g.A.Answers.answer_to c.args.answers.now) c.args.file.now _ _ _ (key_stops _ _ (Ok c.in_ok-key.key) c.next.new.self (Answered c.in_ok-key.key.name c.in-Some-2.answer) _ _ _ _ _ reached item carries))
-
-pub loop-next-preserved-after-branch-3 : goal.loop-next-preserved-after-branch-3
-loop-next-preserved-after-branch-3 g c =
-    let given = rw c.in_ok-key.was at c.in-Some.ensures.steps in
-    let reached = rw (given.1.0 ∙ ap (λ (next : Result Found Stop). next ∷ c.next.new.self) given.1.1) at c.loop-next.invariant in
-    elim c.match-branch-3.branch [
-      | in-Some-2+in_ok-say w ↦
-          let item = rw w.in-Some-2.is at c.in_ok-answer.ensures in
-          let carries = rw (w.as_slice.ensures, ap (λ (key : Found). key.name) c.key.view_is) at w.in_ok-say.ensures.carries in
-          rw (w.said-is, w.run-is) (key_said _ _ c.in_ok-key.key c.next.new.self w.in-Some-2.answer _ _ _ _ reached item carries)
-      | in_default-2 w ↦
-          let item = rw w.in_default-2.is at c.in_ok-answer.ensures in
-          rw (w.said-is, w.run-is) (key_passed _ _ c.in_ok-key.key c.next.new.self _ _ _ reached item)
-    ]
+    rw c.in_ok-said.ensures.said (key_said _ _ (Ok c.in_ok-key.key) c.next.new.self _ _ _ _ _ reached c.in_ok-said.ensures.carries)
 
 pub loop-next-preserved : goal.loop-next-preserved
 loop-next-preserved g c =
     let given = rw c.in_ok-key.was at c.in-Some.ensures.steps in
     let reached = rw (given.1.0 ∙ ap (λ (next : Result Found Stop). next ∷ c.next.new.self) given.1.1) at c.loop-next.invariant in
-    elim c.match-branch-3.branch [
-      | in-Some-2+in_ok-say w ↦
-          let item = rw w.in-Some-2.is at c.in_ok-answer.ensures in
-          let carries = rw (w.as_slice.ensures, ap (λ (key : Found). key.name) c.key.view_is) at w.in_ok-say.ensures.carries in
-          rw (w.said-is, w.run-is) (key_said _ _ c.in_ok-key.key c.next.new.self w.in-Some-2.answer _ _ _ _ reached item carries)
-      | in_default-2 w ↦
-          let item = rw w.in_default-2.is at c.in_ok-answer.ensures in
-          rw (w.said-is, w.run-is) (key_passed _ _ c.in_ok-key.key c.next.new.self _ _ _ reached item)
-    ]
+    rw c.in_ok-said.ensures.said (key_said _ _ (Ok c.in_ok-key.key) c.next.new.self _ _ _ _ _ reached c.in_ok-said.ensures.carries)
 
 pub returns-then-not-said : goal.returns-then-not-said
 returns-then-not-said g c =
