@@ -135,8 +135,8 @@ fn page_for(pages: &[Page], lo: u64, near: usize) -> usize
 }
 
 /// Puts an entry between others, where none of them reaches into its stretch and their page has
-/// room. Else nothing changes. `at`, a page and a place in its vector to look at first, becomes where
-/// the entry belongs.
+/// room. Else nothing changes. `at`, a page and a place in its vector to look at first, becomes
+/// where the entry belongs.
 pub fn put_new(
     pages: &mut Vec<Page>,
     at: &mut (usize, usize),

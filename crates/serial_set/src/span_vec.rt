@@ -110,7 +110,8 @@ fn add_to(items: &mut Vec<Span>, lo: u64, hi: u64) -> Result<(), AllocError>
 pub fn join(items: &mut Vec<Span>, first: usize, end: usize, span: Span)
     requires some { first < end }
     requires within { end ≤ vec_len items.old }
-    ensures items { items.new.items ≡ take first items.old.items ++ span ∷ drop end items.old.items }
+    ensures items { items.new.items
+        ≡ take first items.old.items ++ span ∷ drop end items.old.items }
     ensures capacity { vec_capacity items.new ≡ vec_capacity items.old }
 {
     let left = items.len() - (end - first - 1);
