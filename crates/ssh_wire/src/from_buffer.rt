@@ -17,7 +17,8 @@ pub struct FromBuffer<R: Read + Drop> {
 impl<R: Read + Drop> FromBuffer<R> {
     /// A reader that has not failed, over the one inside.
     pub fn new(inner: BufReader<R>) -> Self
-        ensures bytes { ⟦<FromBuffer<R> as Source>⟧.left result ≡ reader_remaining R.remaining inner }
+        ensures bytes { ⟦<FromBuffer<R> as Source>⟧.left result
+            ≡ reader_remaining R.remaining inner }
         ensures fresh { ⟦<FromBuffer<R> as Source>⟧.has_failed result ≡ false }
     {
         FromBuffer {

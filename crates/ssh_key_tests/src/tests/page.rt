@@ -12,7 +12,8 @@ use std::alloc::Global;
 /// The SHA-256 fingerprint of the key of a line, as `ssh-keygen -l` prints it.
 fn printed_key(alloc: Global, text: &[u8]) -> Result<Vec<u8>, LineFault>
     ensures { IfOk result (λ printed. (word : List ℕ) × ((blob : List ℕ) × ((comment : List ℕ)
-        × (IsKeyLine text.now word blob comment × (printed.items ≡ fingerprint_text Sha256 blob))))) }
+        × (IsKeyLine text.now word blob comment
+        × (printed.items ≡ fingerprint_text Sha256 blob))))) }
 {
     let line = read_line(alloc, text)?;
     match fingerprint(alloc, Hash::Sha256, line.blob.as_slice()) {
