@@ -1,7 +1,5 @@
 // A set of serials of the tests' own, which refuses at a length and counts its additions.
 
-ghost use Rattle.std.specs.Prelude.{◌<◌, ◌≤◌};
-
 use serial_set::{Piece, Span, SpanVec, Spans};
 use std::alloc::{AllocError, Global};
 
@@ -14,13 +12,10 @@ pub struct Full<S: Spans, const AT: usize> {
 }
 
 // Whether the interval stands alone: no span of the set has a number of it, or one beside it.
-fn touches_none<S: Spans>(set: &S, lo: u64, hi: u64) -> bool
-    requires from_one { 0 < lo }
-    requires ordered { lo ≤ hi }
-{
+fn touches_none<S: Spans>(set: &S, lo: u64, hi: u64) -> bool {
     for at in 0..set.len() {
         let span = set.get(at);
-        if span.hi >= lo - 1 && span.lo.saturating_sub(1) <= hi {
+        if span.hi >= lo.saturating_sub(1) && span.lo.saturating_sub(1) <= hi {
             return false;
         }
     }
@@ -45,6 +40,20 @@ impl<S: Spans, const AT: usize> Spans for Full<S, AT> {
         }
         self.additions = self.additions.saturating_add(1);
         self.inner.add(lo, hi)
+    }
+
+    fn add_near(&mut self, near: &[Span]) -> Result<(), AllocError> {
+        let mut len = self.inner.len();
+        for span in near {
+            if touches_none(&self.inner, span.lo, span.hi) {
+                if len == AT {
+                    return Err(AllocError);
+                }
+                len = len.saturating_add(1);
+            }
+        }
+        self.additions = self.additions.saturating_add(near.len() as u64);
+        self.inner.add_near(near)
     }
 
     fn has(&self, serial: u64) -> bool {
