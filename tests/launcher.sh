@@ -17,6 +17,8 @@ launch 'the launcher by a link to a link' folder/deep
 PATH=$scratch/here/folder:$PATH launch 'the launcher found on the PATH' deep
 PATH=/usr/bin:/bin launch 'the launcher without the toolchain' "$launcher"
 
+# Each case says by itself how many crates are proved at once.
+unset RT_JOBS
 # A repository of empty crates, each of which takes a number of steps.
 away=$scratch/here/away
 mkdir -p away/crates/krl_tool tools
