@@ -18,14 +18,14 @@ use Rattle.krl_core.specs.Contents.{Means, held}
 use Rattle.krl_core.specs.Changes.{run_entries}
 use Rattle.krl_core.specs.Keeping.{Keeping, IsKept, AddsEntries, Adds, InStep, KeepsBits, KeepsField, Closes, held_with_open, open_run, KeepsStored}
 use Rattle.ssh_wire.specs.Wire.{number_of}
-use Rattle.krl_core.specs.declared.place.Place.TheVariants.{BitmapByte}
+use Rattle.krl_core.specs.declared.place.Place.TheVariants as places
+use Rattle.krl_core.specs.declared.place.bitmap.BitmapPlace.TheVariants as bitmaps
 use Rattle.krl_core.specs.Place.{base_of, bits_judged, judge, next_bits, next_subsection, passes_end, highest_bit}
 use Rattle.serial_set.specs.Bits.{bit_below}
 use Rattle.krl_core.proofs.Same.{AreSerials, same_serials, same_append, same_refl, same_is, same_then, same_swap, some_append, one_more, IsSerials}
 use Rattle.std.proofs.Math.Logic.Iff as Iff
 use Rattle.krl_core.proofs.BothWays.{covers_append, iff_both, iff_none, iff_or, iff_swap}
 use Rattle.krl_core.proofs.Keeping.{open_entries, stored_same, stored_then}
-use Rattle.krl_core.proofs.Quiet.{out_step, out_subsection}
 use Rattle.krl_core.specs.Elements.{all_append}
 
 -- ---- runs by the numbers in them
@@ -237,6 +237,19 @@ good_bits p offset size left after byte next h is judged fault bad =
     shown Negative b low in_range = let lt = low b.0 in omega (arith, lt, b.1)
     shown Wraps b low in_range = let lt = in_range b.1.0 b.1.1.1 in omega (arith, lt, b.1.1.0)
 
+-- no byte of a bitmap is due
+abbrev IsOut : Place → Type 0
+IsOut (places.Bitmap (bitmaps.Byte n m k l)) = ⊥
+IsOut _ = Unit {0}
+
+out_step : (p : Place) (bitmap : FedBitmap) → IsOut p → bitmap.pending ≡ None → InStep p bitmap
+out_step (places.Bitmap (bitmaps.Byte n m k l)) bitmap out none = absurd out
+out_step _ bitmap out none = none
+
+out_subsection : (left : ℕ) → IsOut (next_subsection left)
+out_subsection zero = tt
+out_subsection (suc left) = tt
+
 -- where the next byte of a bitmap is due, the byte before it is fed
 bits_in_step : (before fed : FedBitmap) (offset size left after : ℕ)
     → before ≡ record { offset = offset; len = size; due = left; pending = before.pending; fault = None }
@@ -255,9 +268,9 @@ bits_in_step before fed offset size (suc (suc left)) after is closed opened pos 
     subst (λ (n : ℕ). InStep (next_bits offset size n after) fed) (sym left_is) (omega arith, more ∙ all)
 
 pub keeps_bits : (old new : Keeping) (offset size left after byte : ℕ) (field : List ℕ) (next : Place)
-    → InStep (BitmapByte offset size left after) old.bitmap → byte ≡ number_of field
+    → InStep (places.Bitmap (bitmaps.Byte offset size left after)) old.bitmap → byte ≡ number_of field
     → bits_judged offset size left after byte ≡ Ok next
-    → KeepsBits byte (eqb left 1) old new → KeepsField (BitmapByte offset size left after) field next old new
+    → KeepsBits byte (eqb left 1) old new → KeepsField (places.Bitmap (bitmaps.Byte offset size left after)) field next old new
 keeps_bits old new offset size left after byte field next step value judged h =
     let parts = judged_parts (eqb left size) (ltb byte 128) (passes_end (base_of offset left) byte) next (next_bits offset size (left - 1) after) judged in
     let due : old.bitmap.due ≡ left = ap (λ x. x.due) step.1 in

@@ -8,7 +8,7 @@ use Rattle.ssh_wire.specs.Fields.{length-string, length-number}
 use Rattle.krl_core.specs.declared.krl_fault.KrlFault.{KrlFault}
 use Rattle.krl_core.specs.declared.krl_fault.KrlFault.TheVariants as faults
 use Rattle.krl_core.specs.declared.header.Header.{Header}
-use Rattle.krl_core.specs.declared.place.ItemKind.{ItemKind}
+use Rattle.krl_core.specs.declared.place.list.ItemKind.{ItemKind}
 use Rattle.krl_core.specs.declared.place.Place.{Place}
 use Rattle.krl_core.specs.Entry.{Entry, SerialsEntry}
 use Rattle.krl_core.specs.Entries.{entries_of, section_entries, subsection_entries}

@@ -12,7 +12,7 @@ use Rattle.krl_core.specs.declared.krl_fault.KrlFault.TheVariants as faults
 use Rattle.krl_core.specs.declared.place.Place.{Place}
 use Rattle.krl_core.specs.Front.{Spot, start, limit, Passes, Leads, IsFirstFault, Told, ended, no_room, refused, too_long, ends_early}
 use Rattle.krl_core.specs.Krl.{SpelledSection, Spells}
-use Rattle.krl_core.specs.Place.{due}
+use Rattle.krl_core.specs.Place.{can_end, due}
 use Rattle.krl_core.proofs.Exists.{each_is_told}
 use Rattle.krl_core.proofs.Fronts.{append_same, end_room, end_size, fronts_compare, leads_to_one, Leads-split}
 use Rattle.krl_core.proofs.Lists.{unfaulted_row}
@@ -34,7 +34,7 @@ cut_field p next rest more field after fault pass e (too_long room short on is) 
 cut_field p next rest more field after fault pass e (ends_early room short not_end off is) = inr is
 
 -- at the end of the list nothing is reported but its end
-cut_end : (p : Place) (rest : List ℕ) (fault : Option KrlFault) → (due p).may_end ≡ true → rest ≡ [] → Told p rest false fault → IsCutFault fault
+cut_end : (p : Place) (rest : List ℕ) (fault : Option KrlFault) → can_end p ≡ true → rest ≡ [] → Told p rest false fault → IsCutFault fault
 cut_end p rest fault may none (ended at_end off is) = inl is
 cut_end p rest fault may none (no_room full is) = absurd (full (end_room p may))
 cut_end p rest fault may none (refused field after why room parts size judged is) =
@@ -47,21 +47,21 @@ none_left : (a b : List ℕ) → a ++ b ≡ [] → a ≡ []
 none_left [] b e = refl
 none_left (x ∷ a) b e = absurd (cc)
 
-cut_row : (p q last : Spot) (fields : List (List ℕ)) (rest more : List ℕ) (fault : Option KrlFault) → Leads q fields last → (due last.place).may_end ≡ true → rest ++ more ≡ concat fields
+cut_row : (p q last : Spot) (fields : List (List ℕ)) (rest more : List ℕ) (fault : Option KrlFault) → Leads q fields last → can_end last.place ≡ true → rest ++ more ≡ concat fields
     → Told q.place rest false fault → IsCutFault fault
-cut_row p q last [] rest more fault leads may e told = cut_end q.place rest fault (subst (λ (s : Spot). (due s.place).may_end ≡ true) (sym leads) may) (none_left rest more e) told
+cut_row p q last [] rest more fault leads may e told = cut_end q.place rest fault (subst (λ (s : Spot). can_end s.place ≡ true) (sym leads) may) (none_left rest more e) told
 cut_row p q last (field ∷ fields) rest more fault (next, (pass, leads)) may e told = cut_field q.place next rest more field (concat fields) fault pass e told
 
 -- of a longer row than the whole list the fields after its end would be empty
-cut_longer : (q : Spot) (fields : List (List ℕ)) (last : Spot) (rest more : List ℕ) (fault : Option KrlFault) → Leads q fields last → (due q.place).may_end ≡ true → concat fields ++ (rest ++ more) ≡ []
+cut_longer : (q : Spot) (fields : List (List ℕ)) (last : Spot) (rest more : List ℕ) (fault : Option KrlFault) → Leads q fields last → can_end q.place ≡ true → concat fields ++ (rest ++ more) ≡ []
     → Told last.place rest false fault → IsCutFault fault
 cut_longer q [] last rest more fault leads may e told =
-    cut_end last.place rest fault (subst (λ (s : Spot). (due s.place).may_end ≡ true) leads may) (none_left rest more e) told
+    cut_end last.place rest fault (subst (λ (s : Spot). can_end s.place ≡ true) leads may) (none_left rest more e) told
 cut_longer q (field ∷ fields) last rest more fault (next, (pass, leads)) may e told =
     absurd (omega (arith, end_size q.place may, pass.whole, ap length e, length-append (field ++ concat fields) (rest ++ more), length-append field (concat fields)))
 
 cut_told : (text prefix more : List ℕ) (fields : List (List ℕ)) (last : Spot) (fault : Option KrlFault) → text ≡ prefix ++ more → length text ≤ limit → Leads start fields last
-    → (due last.place).may_end ≡ true → text ≡ concat fields → IsFirstFault prefix fault → IsCutFault fault
+    → can_end last.place ≡ true → text ≡ concat fields → IsFirstFault prefix fault → IsCutFault fault
 cut_told text prefix more fields last fault parts le leads may all h =
     let len = ap length parts ∙ length-append prefix more in
     let short : length prefix ≤ limit = omega (arith, len, le) in

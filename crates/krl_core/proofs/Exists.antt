@@ -6,10 +6,19 @@ use Rattle.std.proofs.lemmas.List.{take-append-drop, length-take, length-drop}
 use Rattle.ssh_wire.specs.Steps.{ok_or_not}
 use Rattle.krl_core.specs.declared.krl_fault.KrlFault.{KrlFault}
 use Rattle.krl_core.specs.declared.krl_fault.KrlFault.TheVariants as faults
-use Rattle.krl_core.specs.declared.place.ItemKind.{ItemKind}
+use Rattle.krl_core.specs.declared.place.list.ItemKind.{ItemKind}
 use Rattle.krl_core.specs.declared.place.Place.{Place}
-use Rattle.krl_core.specs.declared.place.Place.TheVariants.{Reserved, Comment, SignatureKey, Signature, Item, Authority, SectionReserved, ExtensionName, ExtensionContents, SectionType, SignatureLength, CommentLength, SectionReservedLength, ExtensionCritical}
-use Rattle.krl_core.specs.Place.{due, next_item, next_subsection}
+use Rattle.krl_core.specs.declared.place.Place.TheVariants as places
+use Rattle.krl_core.specs.declared.place.bitmap.BitmapPlace.{BitmapPlace}
+use Rattle.krl_core.specs.declared.place.bitmap.BitmapPlace.TheVariants as bitmaps
+use Rattle.krl_core.specs.declared.place.serials.SerialsPlace.{SerialsPlace}
+use Rattle.krl_core.specs.declared.place.serials.SerialsPlace.TheVariants as serials
+use Rattle.krl_core.specs.declared.place.header.HeaderPlace.TheVariants as headers
+use Rattle.krl_core.specs.declared.place.signature.SignaturePlace.TheVariants as signatures
+use Rattle.krl_core.specs.declared.place.list.ListPlace.TheVariants as lists
+use Rattle.krl_core.specs.declared.place.certificates.CertificatesPlace.TheVariants as certificates
+use Rattle.krl_core.specs.declared.place.extension.ExtensionPlace.TheVariants as extensions
+use Rattle.krl_core.specs.Place.{bitmap_due, can_end, due, next_item, next_subsection, serials_due}
 use Rattle.krl_core.specs.Front.{Spot, start, spot_after, HasRoom, Told, ended, no_room, refused, too_long, ends_early, IsFirstFault, limit}
 use Rattle.krl_core.proofs.Fronts.{first_fault_is}
 use Rattle.krl_core.proofs.Walks.{EndsTold, walks_one, walks_from, told_here, told_then}
@@ -22,7 +31,7 @@ room_or_not size (Some left) = elim (cases_lt left size) [ inl lt ↦ inr (λ h.
 -- what is reported where the bytes that came are less than the field
 pub end_or_early : (p : Place) (rest : List ℕ) → HasRoom (due p) → length rest < (due p).size → Told p rest false None ⊎ Told p rest false (Some faults.EndsEarly)
 end_or_early p [] room short =
-    elim (cases_Bool (due p).may_end) [
+    elim (cases_Bool (can_end p)) [
       | inl here ↦ inl (ended (here, refl) refl refl)
       | inr other ↦ inr (ends_early room short (λ at. false≢true (sym other ∙ at.0)) refl refl)
     ]
@@ -35,27 +44,27 @@ short_told p rest false room short = elim (end_or_early p rest room short) [ inl
 
 -- where a field may be empty, the next one is not
 abbrev pub weight : Place → ℕ
-weight (Reserved n) = 1
-weight (Comment n) = 1
-weight (SignatureKey n) = 1
-weight (Signature n) = 1
-weight (Authority n m) = 1
-weight (SectionReserved n m) = 1
-weight (Item kind n m k) = 1
-weight (ExtensionName n m k) = 1
-weight (ExtensionContents n m) = 1
+weight (places.Header (headers.Reserved n)) = 1
+weight (places.Header (headers.Comment n)) = 1
+weight (places.Signature (signatures.Key n)) = 1
+weight (places.Signature (signatures.Signature n)) = 1
+weight (places.Certificates (certificates.Authority n m)) = 1
+weight (places.Certificates (certificates.Reserved n m)) = 1
+weight (places.List (lists.Item kind n m k)) = 1
+weight (places.Extension (extensions.Name n m k)) = 1
+weight (places.Extension (extensions.Contents n m)) = 1
 weight _ = 0
 
 weight_below : (p : Place) → weight p < 2
-weight_below (Reserved n) = omega arith
-weight_below (Comment n) = omega arith
-weight_below (SignatureKey n) = omega arith
-weight_below (Signature n) = omega arith
-weight_below (Authority n m) = omega arith
-weight_below (SectionReserved n m) = omega arith
-weight_below (Item kind n m k) = omega arith
-weight_below (ExtensionName n m k) = omega arith
-weight_below (ExtensionContents n m) = omega arith
+weight_below (places.Header (headers.Reserved n)) = omega arith
+weight_below (places.Header (headers.Comment n)) = omega arith
+weight_below (places.Signature (signatures.Key n)) = omega arith
+weight_below (places.Signature (signatures.Signature n)) = omega arith
+weight_below (places.Certificates (certificates.Authority n m)) = omega arith
+weight_below (places.Certificates (certificates.Reserved n m)) = omega arith
+weight_below (places.List (lists.Item kind n m k)) = omega arith
+weight_below (places.Extension (extensions.Name n m k)) = omega arith
+weight_below (places.Extension (extensions.Contents n m)) = omega arith
 weight_below _ = omega arith
 
 weight-next_subsection : (left : ℕ) → weight (next_subsection left) ≡ 0
@@ -69,17 +78,32 @@ weight-next_item kind (suc left) after = refl
 same_weight : (p q : Place) → done p ≡ done q → weight p ≡ weight q
 same_weight p q e = ap weight (same_place p q e)
 
+serials_some : (at : SerialsPlace) → 0 < (serials_due at).size
+serials_some (serials.SerialsLength n) = omega arith
+serials_some (serials.Serial n m) = omega arith
+serials_some (serials.RangeLength n) = omega arith
+serials_some (serials.RangeMin n) = omega arith
+serials_some (serials.RangeMax n m) = omega arith
+
+bitmap_some : (at : BitmapPlace) → 0 < (bitmap_due at).size
+bitmap_some (bitmaps.Length n) = omega arith
+bitmap_some (bitmaps.Offset n m) = omega arith
+bitmap_some (bitmaps.Size n m k) = omega arith
+bitmap_some (bitmaps.Byte n m k l) = omega arith
+
 -- each field brings the end nearer
 pub nearer : (p q : Place) (field : List ℕ) → (due p).judged field ≡ Ok q → weight q < 2 * (due p).size + weight p
-nearer (Reserved n) q field e = omega (arith, same_weight CommentLength q e)
-nearer (Comment n) q field e = omega (arith, same_weight (SectionType false) q e)
-nearer (SignatureKey n) q field e = omega (arith, same_weight SignatureLength q e)
-nearer (Signature n) q field e = omega (arith, same_weight (SectionType true) q e)
-nearer (Authority n m) q field e = omega (arith, same_weight (SectionReservedLength m) q e)
-nearer (SectionReserved n m) q field e = omega (arith, same_weight (next_subsection m) q e, weight-next_subsection m)
-nearer (Item kind n m k) q field e = omega (arith, same_weight (next_item kind m k) q e, weight-next_item kind m k)
-nearer (ExtensionName n m k) q field e = omega (arith, same_weight (ExtensionCritical m k) q e)
-nearer (ExtensionContents n m) q field e = omega (arith, same_weight (next_subsection m) q e, weight-next_subsection m)
+nearer (places.Header (headers.Reserved n)) q field e = omega (arith, same_weight (places.Header headers.CommentLength) q e)
+nearer (places.Header (headers.Comment n)) q field e = omega (arith, same_weight (places.SectionType false) q e)
+nearer (places.Signature (signatures.Key n)) q field e = omega (arith, same_weight (places.Signature signatures.SignatureLength) q e)
+nearer (places.Signature (signatures.Signature n)) q field e = omega (arith, same_weight (places.SectionType true) q e)
+nearer (places.Certificates (certificates.Authority n m)) q field e = omega (arith, same_weight (places.Certificates (certificates.ReservedLength m)) q e)
+nearer (places.Certificates (certificates.Reserved n m)) q field e = omega (arith, same_weight (next_subsection m) q e, weight-next_subsection m)
+nearer (places.List (lists.Item kind n m k)) q field e = omega (arith, same_weight (next_item kind m k) q e, weight-next_item kind m k)
+nearer (places.Extension (extensions.Name n m k)) q field e = omega (arith, same_weight (places.Extension (extensions.Critical m k)) q e)
+nearer (places.Extension (extensions.Contents n m)) q field e = omega (arith, same_weight (next_subsection m) q e, weight-next_subsection m)
+nearer (places.Serials at) q field e = omega (arith, weight_below q, serials_some at)
+nearer (places.Bitmap at) q field e = omega (arith, weight_below q, bitmap_some at)
 nearer _ q field e = omega (arith, weight_below q)
 
 pub told_from : (n : ℕ) (p : Spot) (bytes : List ℕ) (goes_on : Bool) → 2 * length bytes + weight p.place < n → (fault : Option KrlFault) × EndsTold p bytes goes_on fault

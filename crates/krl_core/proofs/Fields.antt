@@ -10,13 +10,20 @@ use Rattle.ssh_wire.specs.Steps.{passed_ok}
 use Rattle.ssh_wire.specs.Digits.{IsBytes-behind, IsBytes-front}
 use Rattle.krl_core.specs.declared.krl_fault.KrlFault.TheVariants as faults
 use Rattle.krl_core.specs.declared.header.Header.{Header}
-use Rattle.krl_core.specs.declared.place.ItemKind.TheVariants as kinds
+use Rattle.krl_core.specs.declared.place.list.ItemKind.TheVariants as kinds
 use Rattle.krl_core.specs.declared.place.Place.{Place}
 use Rattle.krl_core.specs.declared.place.Place.TheVariants as places
+use Rattle.krl_core.specs.declared.place.header.HeaderPlace.TheVariants as headers
+use Rattle.krl_core.specs.declared.place.signature.SignaturePlace.TheVariants as signatures
+use Rattle.krl_core.specs.declared.place.list.ListPlace.TheVariants as lists
+use Rattle.krl_core.specs.declared.place.certificates.CertificatesPlace.TheVariants as certificates
+use Rattle.krl_core.specs.declared.place.serials.SerialsPlace.TheVariants as serials
+use Rattle.krl_core.specs.declared.place.bitmap.BitmapPlace.TheVariants as bitmaps
+use Rattle.krl_core.specs.declared.place.extension.ExtensionPlace.TheVariants as extensions
 use Rattle.krl_core.specs.Entry.{Entry, BitmapEntry}
 use Rattle.krl_core.specs.Front.{Spot, Passes, Leads, spot_after}
 use Rattle.krl_core.specs.Krl.{Keys, Sha1s, Sha256s, magic}
-use Rattle.krl_core.specs.Place.{due, judge, names, authority_after, header_after, item_entry, item_size, next_item, next_subsection, next_serial, next_bits, section_of_type, subsection_of_type, base_of, passes_end}
+use Rattle.krl_core.specs.Place.{can_end, judge, names, authority_after, header_after, item_entry, item_size, next_item, next_subsection, next_serial, next_bits, section_of_type, subsection_of_type, base_of, passes_end}
 use Rattle.krl_core.proofs.Bits.{judged_parts}
 use Rattle.krl_core.proofs.Completes.{fits_within, chosen, one_byte, number_front, length_front, content_front, item_front, string_more, serial_more, items_from, subsections_from, serials_from, sections_from, items_section, certificates_section, extension_section, signature_section}
 use Rattle.krl_core.proofs.CompletesParts.{subsections_more, reserved_front, certificates_front, extension_front, contents_front, range_front, serials_part, ids_part, range_part, bitmap_part, extension_part, bits_from, bits_more, bitmap_front, offset_front}
@@ -32,25 +39,25 @@ along last h a p q bytes more e k = subst (λ (x : Place). Completes last h a x 
 section_front : (last h : Header) (signed : Bool) (q : Place) (n : ℕ) (tail : List ℕ) (more : List Entry) → section_of_type signed n ≡ Ok q
     → Completes last h [] q tail more → FromSections signed (last ≡ h) (n ∷ tail) more
 section_front last h signed q n tail more e k =
-    elim (chosen (eqb n 4) places.SignatureKeyLength _ q e) [
-      | inl w ↦ byte 4 (eqb-true n 4 w.0) (signature_section (last ≡ h) signed tail more (along last h [] places.SignatureKeyLength q tail more w.1 k))
+    elim (chosen (eqb n 4) (places.Signature signatures.KeyLength) _ q e) [
+      | inl w ↦ byte 4 (eqb-true n 4 w.0) (signature_section (last ≡ h) signed tail more (along last h [] (places.Signature signatures.KeyLength) q tail more w.1 k))
       | inr w0 ↦ let s = held_back signed faults.AfterSignature _ q w0.1 in
-          elim (chosen (eqb n 1) places.CertificatesLength _ q s.1) [
-            | inl w ↦ byte 1 (eqb-true n 1 w.0) (certificates_section (last ≡ h) signed tail more s.0 (along last h [] places.CertificatesLength q tail more w.1 k))
-            | inr w1 ↦ elim (chosen (eqb n 2) (places.ItemsLength kinds.Key) _ q w1.1) [
+          elim (chosen (eqb n 1) (places.Certificates certificates.SectionLength) _ q s.1) [
+            | inl w ↦ byte 1 (eqb-true n 1 w.0) (certificates_section (last ≡ h) signed tail more s.0 (along last h [] (places.Certificates certificates.SectionLength) q tail more w.1 k))
+            | inr w1 ↦ elim (chosen (eqb n 2) (places.List (lists.SectionLength kinds.Key)) _ q w1.1) [
               | inl w ↦
-                  let l = along last h [] (places.ItemsLength kinds.Key) q tail more w.1 k in
+                  let l = along last h [] (places.List (lists.SectionLength kinds.Key)) q tail more w.1 k in
                   byte 2 (eqb-true n 2 w.0) (items_section (last ≡ h) signed kinds.Key [] 2 (Keys l.then_is.items) tail more s.0 l (λ fits. record { content = strings l.then_is.items; spelled = refl; fits = fits; content_is = refl }) refl (λ others last. last))
-              | inr w2 ↦ elim (chosen (eqb n 3) (places.ItemsLength kinds.Sha1) _ q w2.1) [
+              | inr w2 ↦ elim (chosen (eqb n 3) (places.List (lists.SectionLength kinds.Sha1)) _ q w2.1) [
                 | inl w ↦
-                    let l = along last h [] (places.ItemsLength kinds.Sha1) q tail more w.1 k in
+                    let l = along last h [] (places.List (lists.SectionLength kinds.Sha1)) q tail more w.1 k in
                     byte 3 (eqb-true n 3 w.0) (items_section (last ≡ h) signed kinds.Sha1 [] 3 (Sha1s l.then_is.items) tail more s.0 l (λ fits. record { content = strings l.then_is.items; spelled = refl; fits = fits; content_is = (refl, l.then_is.good) }) refl (λ others last. last))
-                | inr w3 ↦ elim (chosen (eqb n 5) (places.ItemsLength kinds.Sha256) _ q w3.1) [
+                | inr w3 ↦ elim (chosen (eqb n 5) (places.List (lists.SectionLength kinds.Sha256)) _ q w3.1) [
                   | inl w ↦
-                      let l = along last h [] (places.ItemsLength kinds.Sha256) q tail more w.1 k in
+                      let l = along last h [] (places.List (lists.SectionLength kinds.Sha256)) q tail more w.1 k in
                       byte 5 (eqb-true n 5 w.0) (items_section (last ≡ h) signed kinds.Sha256 [] 5 (Sha256s l.then_is.items) tail more s.0 l (λ fits. record { content = strings l.then_is.items; spelled = refl; fits = fits; content_is = (refl, l.then_is.good) }) refl (λ others last. last))
-                  | inr w4 ↦ elim (chosen (eqb n 255) places.ExtensionLength _ q w4.1) [
-                    | inl w ↦ byte 255 (eqb-true n 255 w.0) (extension_section (last ≡ h) signed tail more s.0 (along last h [] places.ExtensionLength q tail more w.1 k))
+                  | inr w4 ↦ elim (chosen (eqb n 255) (places.Extension extensions.SectionLength) _ q w4.1) [
+                    | inl w ↦ byte 255 (eqb-true n 255 w.0) (extension_section (last ≡ h) signed tail more s.0 (along last h [] (places.Extension extensions.SectionLength) q tail more w.1 k))
                     | inr w5 ↦ let no_one = w5.1 in absurd (cc)
                   ]
                 ]
@@ -65,16 +72,16 @@ section_front last h signed q n tail more e k =
 subsection_front : (last h : Header) (a : List ℕ) (left : ℕ) (q : Place) (n : ℕ) (tail : List ℕ) (more : List Entry) → 1 ≤ left → subsection_of_type (left - 1) n ≡ Ok q
     → Completes last h a q tail more → FromSubsections (last ≡ h) a left (n ∷ tail) more
 subsection_front last h a left q n tail more room e k =
-    elim (chosen (eqb n 0x20) (places.SerialsLength (left - 1)) _ q e) [
-      | inl w ↦ byte 0x20 (eqb-true n 0x20 w.0) (along last h a (places.SerialsLength (left - 1)) q tail more w.1 k)
-      | inr w1 ↦ elim (chosen (eqb n 0x21) (places.RangeLength (left - 1)) _ q w1.1) [
-        | inl w ↦ byte 0x21 (eqb-true n 0x21 w.0) (along last h a (places.RangeLength (left - 1)) q tail more w.1 k)
-        | inr w2 ↦ elim (chosen (eqb n 0x22) (places.BitmapLength (left - 1)) _ q w2.1) [
-          | inl w ↦ byte 0x22 (eqb-true n 0x22 w.0) (along last h a (places.BitmapLength (left - 1)) q tail more w.1 k)
-          | inr w3 ↦ elim (chosen (eqb n 0x23) (places.IdsLength (left - 1)) _ q w3.1) [
-            | inl w ↦ byte 0x23 (eqb-true n 0x23 w.0) (along last h a (places.IdsLength (left - 1)) q tail more w.1 k)
-            | inr w4 ↦ elim (chosen (eqb n 0x39) (places.SubsectionExtensionLength (left - 1)) _ q w4.1) [
-              | inl w ↦ byte 0x39 (eqb-true n 0x39 w.0) (along last h a (places.SubsectionExtensionLength (left - 1)) q tail more w.1 k)
+    elim (chosen (eqb n 0x20) (places.Serials (serials.SerialsLength (left - 1))) _ q e) [
+      | inl w ↦ byte 0x20 (eqb-true n 0x20 w.0) (along last h a (places.Serials (serials.SerialsLength (left - 1))) q tail more w.1 k)
+      | inr w1 ↦ elim (chosen (eqb n 0x21) (places.Serials (serials.RangeLength (left - 1))) _ q w1.1) [
+        | inl w ↦ byte 0x21 (eqb-true n 0x21 w.0) (along last h a (places.Serials (serials.RangeLength (left - 1))) q tail more w.1 k)
+        | inr w2 ↦ elim (chosen (eqb n 0x22) (places.Bitmap (bitmaps.Length (left - 1))) _ q w2.1) [
+          | inl w ↦ byte 0x22 (eqb-true n 0x22 w.0) (along last h a (places.Bitmap (bitmaps.Length (left - 1))) q tail more w.1 k)
+          | inr w3 ↦ elim (chosen (eqb n 0x23) (places.List (lists.IdsLength (left - 1))) _ q w3.1) [
+            | inl w ↦ byte 0x23 (eqb-true n 0x23 w.0) (along last h a (places.List (lists.IdsLength (left - 1))) q tail more w.1 k)
+            | inr w4 ↦ elim (chosen (eqb n 0x39) (places.Extension (extensions.SubsectionLength (left - 1))) _ q w4.1) [
+              | inl w ↦ byte 0x39 (eqb-true n 0x39 w.0) (along last h a (places.Extension (extensions.SubsectionLength (left - 1))) q tail more w.1 k)
               | inr w5 ↦ let no_one = w5.1 in absurd (cc)
             ]
           ]
@@ -87,48 +94,48 @@ subsection_front last h a left q n tail more room e k =
 
 pub field_front : (last h : Header) (a : List ℕ) (p q : Place) (field tail : List ℕ) (more : List Entry) → IsBytes field → Passes p field q
     → Completes last (header_after p h field) (authority_after p a field) q tail more → Completes last h a p (field ++ tail) (names p a field ++ more)
-field_front last h a places.Magic q field tail more fits pass k =
-    let w = passed_ok (bytes_eq field magic) faults.Magic places.FormatVersion q pass.judged in
-    record { rest = tail; parts = ap (λ (x : List ℕ). x ++ tail) ((bytes_eq-Decides field magic).0 w.0); then_is = along last h a places.FormatVersion q tail more w.1 k }
-field_front last h a places.FormatVersion q field tail more fits pass k =
-    let w = passed_ok (eqb (number_of field) 1) faults.FormatVersion places.Version q pass.judged in
+field_front last h a (places.Header headers.Magic) q field tail more fits pass k =
+    let w = passed_ok (bytes_eq field magic) faults.Magic (places.Header headers.FormatVersion) q pass.judged in
+    record { rest = tail; parts = ap (λ (x : List ℕ). x ++ tail) ((bytes_eq-Decides field magic).0 w.0); then_is = along last h a (places.Header headers.FormatVersion) q tail more w.1 k }
+field_front last h a (places.Header headers.FormatVersion) q field tail more fits pass k =
+    let w = passed_ok (eqb (number_of field) 1) faults.FormatVersion (places.Header headers.Version) q pass.judged in
     let n = number_back4 field pass.whole fits in
-    record { rest = tail; parts = ap (λ (x : List ℕ). x ++ tail) (sym n.0 ∙ ap (number 4) (eqb-true (number_of field) 1 w.0)); then_is = along last h a places.Version q tail more w.1 k }
-field_front last h a places.Version q field tail more fits pass k =
+    record { rest = tail; parts = ap (λ (x : List ℕ). x ++ tail) (sym n.0 ∙ ap (number 4) (eqb-true (number_of field) 1 w.0)); then_is = along last h a (places.Header headers.Version) q tail more w.1 k }
+field_front last h a (places.Header headers.Version) q field tail more fits pass k =
     number_front (λ v. FromDate last (record h { version = v })) field tail more fits pass.whole
-    (along last (record h { version = number_of field }) a places.Date q tail more (same_place places.Date q pass.judged) k)
-field_front last h a places.Date q field tail more fits pass k =
+    (along last (record h { version = number_of field }) a (places.Header headers.Date) q tail more (same_place (places.Header headers.Date) q pass.judged) k)
+field_front last h a (places.Header headers.Date) q field tail more fits pass k =
     number_front (λ d. FromFlags last (record h { date = d })) field tail more fits pass.whole
-    (along last (record h { date = number_of field }) a places.Flags q tail more (same_place places.Flags q pass.judged) k)
-field_front last h a places.Flags q field tail more fits pass k =
-    number_front (λ f. FromHeaderReserved last h) field tail more fits pass.whole (along last h a places.ReservedLength q tail more (same_place places.ReservedLength q pass.judged) k)
-field_front last h a places.ReservedLength q field tail more fits pass k =
-    length_front (λ n. FromContent n (λ r. FromComment last h)) field tail more fits pass.whole (along last h a (places.Reserved (number_of field)) q tail more (same_place (places.Reserved (number_of field)) q pass.judged) k)
-field_front last h a (places.Reserved n) q field tail more fits pass k = content_front n (λ r. FromComment last h) field tail more pass.whole (along last h a places.CommentLength q tail more (same_place places.CommentLength q pass.judged) k)
-field_front last h a places.CommentLength q field tail more fits pass k =
-    length_front (λ n. FromContent n (λ c. FromSections false (last ≡ record h { comment = c }))) field tail more fits pass.whole (along last h a (places.Comment (number_of field)) q tail more (same_place (places.Comment (number_of field)) q pass.judged) k)
-field_front last h a (places.Comment n) q field tail more fits pass k =
+    (along last (record h { date = number_of field }) a (places.Header headers.Flags) q tail more (same_place (places.Header headers.Flags) q pass.judged) k)
+field_front last h a (places.Header headers.Flags) q field tail more fits pass k =
+    number_front (λ f. FromHeaderReserved last h) field tail more fits pass.whole (along last h a (places.Header headers.ReservedLength) q tail more (same_place (places.Header headers.ReservedLength) q pass.judged) k)
+field_front last h a (places.Header headers.ReservedLength) q field tail more fits pass k =
+    length_front (λ n. FromContent n (λ r. FromComment last h)) field tail more fits pass.whole (along last h a (places.Header (headers.Reserved (number_of field))) q tail more (same_place (places.Header (headers.Reserved (number_of field))) q pass.judged) k)
+field_front last h a (places.Header (headers.Reserved n)) q field tail more fits pass k = content_front n (λ r. FromComment last h) field tail more pass.whole (along last h a (places.Header headers.CommentLength) q tail more (same_place (places.Header headers.CommentLength) q pass.judged) k)
+field_front last h a (places.Header headers.CommentLength) q field tail more fits pass k =
+    length_front (λ n. FromContent n (λ c. FromSections false (last ≡ record h { comment = c }))) field tail more fits pass.whole (along last h a (places.Header (headers.Comment (number_of field))) q tail more (same_place (places.Header (headers.Comment (number_of field))) q pass.judged) k)
+field_front last h a (places.Header (headers.Comment n)) q field tail more fits pass k =
     content_front n (λ c. FromSections false (last ≡ record h { comment = c })) field tail more pass.whole
     (along last (record h { comment = field }) a (places.SectionType false) q tail more (same_place (places.SectionType false) q pass.judged) k)
 field_front last h a (places.SectionType signed) q field tail more fits pass k =
     subst (λ (x : List ℕ). FromSections signed (last ≡ h) (x ++ tail) more) (sym (one_byte field pass.whole)) (section_front last h signed q (number_of field) tail more pass.judged k)
-field_front last h a places.SignatureKeyLength q field tail more fits pass k =
-    length_front (λ n. FromContent n (λ k. FromLength (λ m. FromContent m (λ s. FromSections true (last ≡ h))))) field tail more fits pass.whole (along last h a (places.SignatureKey (number_of field)) q tail more (same_place (places.SignatureKey (number_of field)) q pass.judged) k)
-field_front last h a (places.SignatureKey n) q field tail more fits pass k = content_front n (λ k. FromLength (λ m. FromContent m (λ s. FromSections true (last ≡ h)))) field tail more pass.whole (along last h a places.SignatureLength q tail more (same_place places.SignatureLength q pass.judged) k)
-field_front last h a places.SignatureLength q field tail more fits pass k =
-    length_front (λ m. FromContent m (λ s. FromSections true (last ≡ h))) field tail more fits pass.whole (along last h a (places.Signature (number_of field)) q tail more (same_place (places.Signature (number_of field)) q pass.judged) k)
-field_front last h a (places.Signature n) q field tail more fits pass k = content_front n (λ s. FromSections true (last ≡ h)) field tail more pass.whole (along last h a (places.SectionType true) q tail more (same_place (places.SectionType true) q pass.judged) k)
-field_front last h a (places.ItemsLength kind) q field tail more fits pass k =
+field_front last h a (places.Signature signatures.KeyLength) q field tail more fits pass k =
+    length_front (λ n. FromContent n (λ k. FromLength (λ m. FromContent m (λ s. FromSections true (last ≡ h))))) field tail more fits pass.whole (along last h a (places.Signature (signatures.Key (number_of field))) q tail more (same_place (places.Signature (signatures.Key (number_of field))) q pass.judged) k)
+field_front last h a (places.Signature (signatures.Key n)) q field tail more fits pass k = content_front n (λ k. FromLength (λ m. FromContent m (λ s. FromSections true (last ≡ h)))) field tail more pass.whole (along last h a (places.Signature signatures.SignatureLength) q tail more (same_place (places.Signature signatures.SignatureLength) q pass.judged) k)
+field_front last h a (places.Signature signatures.SignatureLength) q field tail more fits pass k =
+    length_front (λ m. FromContent m (λ s. FromSections true (last ≡ h))) field tail more fits pass.whole (along last h a (places.Signature (signatures.Signature (number_of field))) q tail more (same_place (places.Signature (signatures.Signature (number_of field))) q pass.judged) k)
+field_front last h a (places.Signature (signatures.Signature n)) q field tail more fits pass k = content_front n (λ s. FromSections true (last ≡ h)) field tail more pass.whole (along last h a (places.SectionType true) q tail more (same_place (places.SectionType true) q pass.judged) k)
+field_front last h a (places.List (lists.SectionLength kind)) q field tail more fits pass k =
     let n = number_of field in
     length_front (λ n. Items (last ≡ h) kind a n 0) field tail more fits pass.whole (items_from last h kind a n 0 tail more (along last h a (next_item kind n 0) q tail more (same_place (next_item kind n 0) q pass.judged) k))
-field_front last h a (places.IdsLength left) q field tail more fits pass k =
+field_front last h a (places.List (lists.IdsLength left)) q field tail more fits pass k =
     let n = number_of field in
     let w = fits_within left (λ size. Ok (next_item kinds.Id size (left - 4 - size))) n q pass.judged in
     ids_part (last ≡ h) a left field tail more fits pass.whole pass.room w.0
     (items_from last h kinds.Id a n (left - 4 - n) tail more (along last h a (next_item kinds.Id n (left - 4 - n)) q tail more (same_place (next_item kinds.Id n (left - 4 - n)) q w.1) k))
-field_front last h a (places.ItemLength kind left after) q field tail more fits pass k =
+field_front last h a (places.List (lists.ItemLength kind left after)) q field tail more fits pass k =
     let n = number_of field in
-    let item : ℕ → Place = λ size. places.Item kind size (left - 4 - size) after in
+    let item : ℕ → Place = λ size. places.List (lists.Item kind size (left - 4 - size) after) in
     let w = fits_within left (λ size. judge (size == item_size kind size) faults.HashLength (item size)) n q pass.judged in
     let v = passed_ok (eqb n (item_size kind n)) faults.HashLength (item n) q w.1 in
     let size : n ≡ item_size kind n = eqb-true n (item_size kind n) v.0 in
@@ -137,43 +144,43 @@ field_front last h a (places.ItemLength kind left after) q field tail more fits 
     let sized = subst (λ (m : ℕ). FromItem m (item_entry kind a) (Items (last ≡ h) kind a (left - 4 - n) after) tail more) (sym size) one in
     string_more (IsItem kind) (item_entry kind a) left (FromSubsections (last ≡ h) a after) field tail more (left - 4 - n) fits pass.whole (omega (arith, w.0, room)) sized
     (sized.size_is ∙ size ∙ ap (item_size kind) (sym sized.size_is))
-field_front last h a (places.Item kind n left after) q field tail more fits pass k =
+field_front last h a (places.List (lists.Item kind n left after)) q field tail more fits pass k =
     item_front (item_size kind n) (item_entry kind a) (Items (last ≡ h) kind a left after) field tail more pass.whole
     (items_from last h kind a left after tail more (along last h a (next_item kind left after) q tail more (same_place (next_item kind left after) q pass.judged) k))
-field_front last h a places.CertificatesLength q field tail more fits pass k =
-    length_front (FromCertificates (last ≡ h)) field tail more fits pass.whole (along last h a (places.AuthorityLength (number_of field)) q tail more (same_place (places.AuthorityLength (number_of field)) q pass.judged) k)
-field_front last h a (places.AuthorityLength left) q field tail more fits pass k =
-    let w = fits_within left (λ size. Ok (places.Authority size (left - 4 - size))) (number_of field) q pass.judged in
+field_front last h a (places.Certificates certificates.SectionLength) q field tail more fits pass k =
+    length_front (FromCertificates (last ≡ h)) field tail more fits pass.whole (along last h a (places.Certificates (certificates.AuthorityLength (number_of field))) q tail more (same_place (places.Certificates (certificates.AuthorityLength (number_of field))) q pass.judged) k)
+field_front last h a (places.Certificates (certificates.AuthorityLength left)) q field tail more fits pass k =
+    let w = fits_within left (λ size. Ok (places.Certificates (certificates.Authority size (left - 4 - size)))) (number_of field) q pass.judged in
     certificates_front (last ≡ h) left field tail more fits pass.whole pass.room w.0
-    (along last h a (places.Authority (number_of field) (left - 4 - number_of field)) q tail more (same_place (places.Authority (number_of field) (left - 4 - number_of field)) q w.1) k)
-field_front last h a (places.Authority n after) q field tail more fits pass k =
-    content_front n (λ b. FromReserved (last ≡ h) b after) field tail more pass.whole (along last h field (places.SectionReservedLength after) q tail more (same_place (places.SectionReservedLength after) q pass.judged) k)
-field_front last h a (places.SectionReservedLength left) q field tail more fits pass k =
-    let w = fits_within left (λ size. Ok (places.SectionReserved size (left - 4 - size))) (number_of field) q pass.judged in
+    (along last h a (places.Certificates (certificates.Authority (number_of field) (left - 4 - number_of field))) q tail more (same_place (places.Certificates (certificates.Authority (number_of field) (left - 4 - number_of field))) q w.1) k)
+field_front last h a (places.Certificates (certificates.Authority n after)) q field tail more fits pass k =
+    content_front n (λ b. FromReserved (last ≡ h) b after) field tail more pass.whole (along last h field (places.Certificates (certificates.ReservedLength after)) q tail more (same_place (places.Certificates (certificates.ReservedLength after)) q pass.judged) k)
+field_front last h a (places.Certificates (certificates.ReservedLength left)) q field tail more fits pass k =
+    let w = fits_within left (λ size. Ok (places.Certificates (certificates.Reserved size (left - 4 - size)))) (number_of field) q pass.judged in
     reserved_front (last ≡ h) a left field tail more fits pass.whole pass.room w.0
-    (along last h a (places.SectionReserved (number_of field) (left - 4 - number_of field)) q tail more (same_place (places.SectionReserved (number_of field) (left - 4 - number_of field)) q w.1) k)
-field_front last h a (places.SectionReserved n after) q field tail more fits pass k =
+    (along last h a (places.Certificates (certificates.Reserved (number_of field) (left - 4 - number_of field))) q tail more (same_place (places.Certificates (certificates.Reserved (number_of field) (left - 4 - number_of field))) q w.1) k)
+field_front last h a (places.Certificates (certificates.Reserved n after)) q field tail more fits pass k =
     content_front n (λ r. FromSubsections (last ≡ h) a after) field tail more pass.whole (subsections_from last h a after tail more (along last h a (next_subsection after) q tail more (same_place (next_subsection after) q pass.judged) k))
-field_front last h a (places.SubsectionType left) q field tail more fits pass k =
+field_front last h a (places.Certificates (certificates.SubsectionType left)) q field tail more fits pass k =
     subst (λ (x : List ℕ). FromSubsections (last ≡ h) a left (x ++ tail) more) (sym (one_byte field pass.whole)) (subsection_front last h a left q (number_of field) tail more pass.room pass.judged k)
-field_front last h a (places.SerialsLength left) q field tail more fits pass k =
+field_front last h a (places.Serials (serials.SerialsLength left)) q field tail more fits pass k =
     let n = number_of field in
     let w = fits_within left (λ size. judge (size % 8 == 0) faults.Length (next_serial size (left - 4 - size))) n q pass.judged in
     let v = passed_ok (n % 8 == 0) faults.Length (next_serial n (left - 4 - n)) q w.1 in
     serials_part (last ≡ h) a left field tail more fits pass.whole pass.room w.0
     (serials_from last h a n (left - 4 - n) tail more (along last h a (next_serial n (left - 4 - n)) q tail more v.1 k))
-field_front last h a (places.Serial left after) q field tail more fits pass k =
+field_front last h a (places.Serials (serials.Serial left after)) q field tail more fits pass k =
     serial_more (last ≡ h) a left after field tail more fits pass.whole pass.room
     (serials_from last h a (left - 8) after tail more (along last h a (next_serial (left - 8) after) q tail more (same_place (next_serial (left - 8) after) q pass.judged) k))
-field_front last h a (places.RangeLength left) q field tail more fits pass k =
+field_front last h a (places.Serials (serials.RangeLength left)) q field tail more fits pass k =
     let n = number_of field in
-    let w = fits_within left (λ size. judge (size == 16) faults.Length (places.RangeMin (left - 4 - size))) n q pass.judged in
-    let v = passed_ok (eqb n 16) faults.Length (places.RangeMin (left - 4 - n)) q w.1 in
-    range_part (last ≡ h) a left field tail more fits pass.whole pass.room w.0 (eqb-true n 16 v.0) (along last h a (places.RangeMin (left - 4 - n)) q tail more v.1 k)
-field_front last h a (places.RangeMin after) q field tail more fits pass k =
+    let w = fits_within left (λ size. judge (size == 16) faults.Length (places.Serials (serials.RangeMin (left - 4 - size)))) n q pass.judged in
+    let v = passed_ok (eqb n 16) faults.Length (places.Serials (serials.RangeMin (left - 4 - n))) q w.1 in
+    range_part (last ≡ h) a left field tail more fits pass.whole pass.room w.0 (eqb-true n 16 v.0) (along last h a (places.Serials (serials.RangeMin (left - 4 - n))) q tail more v.1 k)
+field_front last h a (places.Serials (serials.RangeMin after)) q field tail more fits pass k =
     range_front (last ≡ h) a after field tail more fits pass.whole
-    (along last h a (places.RangeMax (number_of field) after) q tail more (same_place (places.RangeMax (number_of field) after) q pass.judged) k)
-field_front last h a (places.RangeMax min after) q field tail more fits pass k =
+    (along last h a (places.Serials (serials.RangeMax (number_of field) after)) q tail more (same_place (places.Serials (serials.RangeMax (number_of field) after)) q pass.judged) k)
+field_front last h a (places.Serials (serials.RangeMax min after)) q field tail more fits pass k =
     let w = passed_ok (leb min (number_of field)) faults.RangeReversed (next_subsection after) q pass.judged in
     let n = number_back8 field pass.whole fits in
     record {
@@ -186,18 +193,18 @@ field_front last h a (places.RangeMax min after) q field tail more fits pass k =
       named = refl;
       then_is = subsections_from last h a after tail more (along last h a (next_subsection after) q tail more w.1 k);
     }
-field_front last h a (places.BitmapLength left) q field tail more fits pass k =
-    let w = fits_within left (λ size. Ok (places.BitmapOffset size (left - 4 - size))) (number_of field) q pass.judged in
+field_front last h a (places.Bitmap (bitmaps.Length left)) q field tail more fits pass k =
+    let w = fits_within left (λ size. Ok (places.Bitmap (bitmaps.Offset size (left - 4 - size)))) (number_of field) q pass.judged in
     bitmap_part (last ≡ h) a left field tail more fits pass.whole pass.room w.0
-    (along last h a (places.BitmapOffset (number_of field) (left - 4 - number_of field)) q tail more (same_place (places.BitmapOffset (number_of field) (left - 4 - number_of field)) q w.1) k)
-field_front last h a (places.BitmapOffset left after) q field tail more fits pass k =
+    (along last h a (places.Bitmap (bitmaps.Offset (number_of field) (left - 4 - number_of field))) q tail more (same_place (places.Bitmap (bitmaps.Offset (number_of field) (left - 4 - number_of field))) q w.1) k)
+field_front last h a (places.Bitmap (bitmaps.Offset left after)) q field tail more fits pass k =
     offset_front (last ≡ h) a left after field tail more fits pass.whole pass.room
-    (along last h a (places.BitmapSize (number_of field) (left - 8) after) q tail more (same_place (places.BitmapSize (number_of field) (left - 8) after) q pass.judged) k)
-field_front last h a (places.BitmapSize offset left after) q field tail more fits pass k =
+    (along last h a (places.Bitmap (bitmaps.Size (number_of field) (left - 8) after)) q tail more (same_place (places.Bitmap (bitmaps.Size (number_of field) (left - 8) after)) q pass.judged) k)
+field_front last h a (places.Bitmap (bitmaps.Size offset left after)) q field tail more fits pass k =
     let w = passed_ok (eqb (number_of field) (left - 4)) faults.Length (next_bits offset (left - 4) (left - 4) after) q pass.judged in
     bitmap_front (last ≡ h) a offset left after field tail more fits pass.whole pass.room (eqb-true (number_of field) (left - 4) w.0)
     (bits_from last h a offset (left - 4) (left - 4) after tail more (along last h a (next_bits offset (left - 4) (left - 4) after) q tail more w.1 k))
-field_front last h a (places.BitmapByte offset size left after) q field tail more fits pass k = λ pos.
+field_front last h a (places.Bitmap (bitmaps.Byte offset size left after)) q field tail more fits pass k = λ pos.
     let n = number_of field in
     let one = one_byte field pass.whole in
     let byte : n < 256 = subst (λ (m : ℕ). m < 256) (ap (λ (l : List ℕ). get_or l 0 0) one) (fits 0) in
@@ -205,26 +212,26 @@ field_front last h a (places.BitmapByte offset size left after) q field tail mor
     subst (λ (x : List ℕ). FromBits (last ≡ h) a offset size left after (x ++ tail) (BitmapEntry a (base_of offset left) n ∷ more)) (sym one)
     (bits_more (last ≡ h) a offset size left after n tail more byte pos (λ e. ltb-true n 128 (w.0 (eq-eqb left size e))) w.1
     (bits_from last h a offset size (left - 1) after tail more (along last h a (next_bits offset size (left - 1) after) q tail more w.2 k)))
-field_front last h a places.ExtensionLength q field tail more fits pass k =
+field_front last h a (places.Extension extensions.SectionLength) q field tail more fits pass k =
     let n = number_of field in
-    let x = along last h a (places.ExtensionNameLength n 0) q tail more (same_place (places.ExtensionNameLength n 0) q pass.judged) k in
+    let x = along last h a (places.Extension (extensions.NameLength n 0)) q tail more (same_place (places.Extension (extensions.NameLength n 0)) q pass.judged) k in
     length_front (λ m. FromExtension m (FromSections false (last ≡ h))) field tail more fits pass.whole
     (record { content = x.content; rest = x.rest; parts = x.parts; size_is = x.size_is; spelled = x.spelled; then_is = sections_from (last ≡ h) a x.rest more x.then_is })
-field_front last h a (places.SubsectionExtensionLength left) q field tail more fits pass k =
-    let w = fits_within left (λ size. Ok (places.ExtensionNameLength size (left - 4 - size))) (number_of field) q pass.judged in
+field_front last h a (places.Extension (extensions.SubsectionLength left)) q field tail more fits pass k =
+    let w = fits_within left (λ size. Ok (places.Extension (extensions.NameLength size (left - 4 - size)))) (number_of field) q pass.judged in
     extension_part (last ≡ h) a left field tail more fits pass.whole pass.room w.0
-    (along last h a (places.ExtensionNameLength (number_of field) (left - 4 - number_of field)) q tail more (same_place (places.ExtensionNameLength (number_of field) (left - 4 - number_of field)) q w.1) k)
-field_front last h a (places.ExtensionNameLength left after) q field tail more fits pass k =
-    let w = fits_within left (λ size. Ok (places.ExtensionName size (left - 4 - size) after)) (number_of field) q pass.judged in
+    (along last h a (places.Extension (extensions.NameLength (number_of field) (left - 4 - number_of field))) q tail more (same_place (places.Extension (extensions.NameLength (number_of field) (left - 4 - number_of field))) q w.1) k)
+field_front last h a (places.Extension (extensions.NameLength left after)) q field tail more fits pass k =
+    let w = fits_within left (λ size. Ok (places.Extension (extensions.Name size (left - 4 - size) after))) (number_of field) q pass.judged in
     extension_front left (FromSubsections (last ≡ h) a after) field tail more fits pass.whole pass.room w.0
-    (along last h a (places.ExtensionName (number_of field) (left - 4 - number_of field) after) q tail more (same_place (places.ExtensionName (number_of field) (left - 4 - number_of field) after) q w.1) k)
-field_front last h a (places.ExtensionName n left after) q field tail more fits pass k =
+    (along last h a (places.Extension (extensions.Name (number_of field) (left - 4 - number_of field) after)) q tail more (same_place (places.Extension (extensions.Name (number_of field) (left - 4 - number_of field) after)) q w.1) k)
+field_front last h a (places.Extension (extensions.Name n left after)) q field tail more fits pass k =
     content_front n (λ n. FromCritical left (FromSubsections (last ≡ h) a after)) field tail more pass.whole
-    (along last h a (places.ExtensionCritical left after) q tail more (same_place (places.ExtensionCritical left after) q pass.judged) k)
-field_front last h a (places.ExtensionCritical left after) q field tail more fits pass k =
-    let w = passed_ok (eqb (number_of field) 0) faults.CriticalExtension (places.ExtensionContentsLength (left - 1) after) q pass.judged in
+    (along last h a (places.Extension (extensions.Critical left after)) q tail more (same_place (places.Extension (extensions.Critical left after)) q pass.judged) k)
+field_front last h a (places.Extension (extensions.Critical left after)) q field tail more fits pass k =
+    let w = passed_ok (eqb (number_of field) 0) faults.CriticalExtension (places.Extension (extensions.ContentsLength (left - 1) after)) q pass.judged in
     let zero_byte : field ≡ 0 ∷ [] = one_byte field pass.whole ∙ ap (λ (n : ℕ). n ∷ []) (eqb-true (number_of field) 0 w.0) in
-    let x = along last h a (places.ExtensionContentsLength (left - 1) after) q tail more w.1 k in
+    let x = along last h a (places.Extension (extensions.ContentsLength (left - 1) after)) q tail more w.1 k in
     let room : 1 ≤ left = pass.room in
     record {
       contents = x.contents;
@@ -233,27 +240,27 @@ field_front last h a (places.ExtensionCritical left after) q field tail more fit
       size_is = omega (arith, x.size_is, room);
       then_is = x.then_is;
     }
-field_front last h a (places.ExtensionContentsLength left after) q field tail more fits pass k =
-    let w = passed_ok (eqb (number_of field) (left - 4)) faults.Length (places.ExtensionContents (left - 4) after) q pass.judged in
+field_front last h a (places.Extension (extensions.ContentsLength left after)) q field tail more fits pass k =
+    let w = passed_ok (eqb (number_of field) (left - 4)) faults.Length (places.Extension (extensions.Contents (left - 4) after)) q pass.judged in
     contents_front left (FromSubsections (last ≡ h) a after) field tail more fits pass.whole pass.room (eqb-true (number_of field) (left - 4) w.0)
-    (along last h a (places.ExtensionContents (left - 4) after) q tail more w.1 k)
-field_front last h a (places.ExtensionContents n after) q field tail more fits pass k =
+    (along last h a (places.Extension (extensions.Contents (left - 4) after)) q tail more w.1 k)
+field_front last h a (places.Extension (extensions.Contents n after)) q field tail more fits pass k =
     content_front n (λ c. FromSubsections (last ≡ h) a after) field tail more pass.whole
     (subsections_from last h a after tail more (along last h a (next_subsection after) q tail more (same_place (next_subsection after) q pass.judged) k))
 
 -- ---- a row of fields
 
-ends_here : (last h : Header) (a : List ℕ) (p : Place) → last ≡ h → (due p).may_end ≡ true → Completes last h a p [] []
+ends_here : (last h : Header) (a : List ℕ) (p : Place) → last ≡ h → can_end p ≡ true → Completes last h a p [] []
 ends_here last h a (places.SectionType true) e may = record { sections = []; spelled = refl; last = tt; named = same_refl []; known = e }
 ends_here last h a (places.SectionType false) e may = record { sections = []; spelled = refl; last = tt; named = same_refl []; known = e }
 ends_here last h a _ e may = absurd (cc)
 
-pub completes : (s : Spot) (fields : List (List ℕ)) (last : Spot) → Leads s fields last → (due last.place).may_end ≡ true → IsBytes (concat fields)
+pub completes : (s : Spot) (fields : List (List ℕ)) (last : Spot) → Leads s fields last → can_end last.place ≡ true → IsBytes (concat fields)
     → (more : List Entry) × (last.entries ≡ s.entries ++ more) × Completes last.header s.header s.authority s.place (concat fields) more
 completes s [] last leads may fits = (
   [],
   ap (λ (x : Spot). x.entries) (sym leads) ∙ sym (append-nil s.entries),
-  ends_here last.header s.header s.authority s.place (ap (λ (x : Spot). x.header) (sym leads)) (subst (λ (x : Spot). (due x.place).may_end ≡ true) (sym leads) may),
+  ends_here last.header s.header s.authority s.place (ap (λ (x : Spot). x.header) (sym leads)) (subst (λ (x : Spot). can_end x.place ≡ true) (sym leads) may),
 )
 completes s (field ∷ fields) last (next, (pass, leads)) may fits =
     let w = completes (spot_after s field next) fields last leads may (IsBytes-behind field (concat fields) fits) in (

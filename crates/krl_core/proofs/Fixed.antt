@@ -4,7 +4,8 @@ use Rattle.std.specs.List.{concat}
 use Rattle.std.proofs.lemmas.List.{length-append}
 use Rattle.krl_core.specs.declared.krl_fault.KrlFault.TheVariants as faults
 use Rattle.krl_core.specs.declared.place.Place.{Place}
-use Rattle.krl_core.specs.declared.place.Place.TheVariants.{Magic, FormatVersion, Version, Date, Flags, ReservedLength}
+use Rattle.krl_core.specs.declared.place.Place.TheVariants as places
+use Rattle.krl_core.specs.declared.place.header.HeaderPlace.TheVariants as headers
 use Rattle.krl_core.specs.Front.{Leads, Passes, Spot, spot_after, start}
 use Rattle.krl_core.specs.Place.{due}
 use Rattle.krl_core.specs.Reading.{is_fixed}
@@ -35,25 +36,25 @@ needs_more place size more fixed is needs spot at (field ∷ fields) last leads 
 after_is : (place after : Place) (more : ℕ) → done place ≡ Ok after → Needs place more → Needs after more
 after_is place after more e h = subst (λ (p : Place). Needs p more) (same_place place after e) h
 
-needs_reserved : Needs ReservedLength 4
-needs_reserved = needs_more ReservedLength 4 0 refl refl (λ field after e. any_needs after)
+needs_reserved : Needs (places.Header headers.ReservedLength) 4
+needs_reserved = needs_more (places.Header headers.ReservedLength) 4 0 refl refl (λ field after e. any_needs after)
 
-needs_flags : Needs Flags 12
-needs_flags = needs_more Flags 8 4 refl refl (λ field after e. after_is ReservedLength after 4 e needs_reserved)
+needs_flags : Needs (places.Header headers.Flags) 12
+needs_flags = needs_more (places.Header headers.Flags) 8 4 refl refl (λ field after e. after_is (places.Header headers.ReservedLength) after 4 e needs_reserved)
 
-needs_date : Needs Date 20
-needs_date = needs_more Date 8 12 refl refl (λ field after e. after_is Flags after 12 e needs_flags)
+needs_date : Needs (places.Header headers.Date) 20
+needs_date = needs_more (places.Header headers.Date) 8 12 refl refl (λ field after e. after_is (places.Header headers.Flags) after 12 e needs_flags)
 
-needs_version : Needs Version 28
-needs_version = needs_more Version 8 20 refl refl (λ field after e. after_is Date after 20 e needs_date)
+needs_version : Needs (places.Header headers.Version) 28
+needs_version = needs_more (places.Header headers.Version) 8 20 refl refl (λ field after e. after_is (places.Header headers.Date) after 20 e needs_date)
 
-needs_format : Needs FormatVersion 32
-needs_format = needs_more FormatVersion 4 28 refl refl
-    (λ field after e. subst (λ (p : Place). Needs p 28) (passed_ok _ faults.FormatVersion Version after e).1 needs_version)
+needs_format : Needs (places.Header headers.FormatVersion) 32
+needs_format = needs_more (places.Header headers.FormatVersion) 4 28 refl refl
+    (λ field after e. subst (λ (p : Place). Needs p 28) (passed_ok _ faults.FormatVersion (places.Header headers.Version) after e).1 needs_version)
 
-needs_magic : Needs Magic 40
-needs_magic = needs_more Magic 8 32 refl refl
-    (λ field after e. subst (λ (p : Place). Needs p 32) (passed_ok _ faults.Magic FormatVersion after e).1 needs_format)
+needs_magic : Needs (places.Header headers.Magic) 40
+needs_magic = needs_more (places.Header headers.Magic) 8 32 refl refl
+    (λ field after e. subst (λ (p : Place). Needs p 32) (passed_ok _ faults.Magic (places.Header headers.FormatVersion) after e).1 needs_format)
 
 -- past the first fields 40 bytes were read
 pub late_enough : (fields : List (List ℕ)) (last : Spot) → Leads start fields last → is_fixed last.place ≡ false → 40 ≤ length (concat fields)
@@ -61,10 +62,10 @@ late_enough fields last leads late = needs_magic start refl fields last leads la
 
 -- a large field is none of the first
 pub late_where_large : (p : Place) → 32 < (due p).size → is_fixed p ≡ false
-late_where_large Magic large = absurd (omega arith)
-late_where_large FormatVersion large = absurd (omega arith)
-late_where_large Version large = absurd (omega arith)
-late_where_large Date large = absurd (omega arith)
-late_where_large Flags large = absurd (omega arith)
-late_where_large ReservedLength large = absurd (omega arith)
+late_where_large (places.Header headers.Magic) large = absurd (omega arith)
+late_where_large (places.Header headers.FormatVersion) large = absurd (omega arith)
+late_where_large (places.Header headers.Version) large = absurd (omega arith)
+late_where_large (places.Header headers.Date) large = absurd (omega arith)
+late_where_large (places.Header headers.Flags) large = absurd (omega arith)
+late_where_large (places.Header headers.ReservedLength) large = absurd (omega arith)
 late_where_large _ large = refl

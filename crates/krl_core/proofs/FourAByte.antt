@@ -16,8 +16,11 @@ use Rattle.krl_core.proofs.BothWays.{covers_append, iff_or}
 use Rattle.ssh_wire.specs.Wire.{IsBytes, number_of}
 use Rattle.ssh_wire.specs.Digits.{IsBytes-behind, IsBytes-front}
 use Rattle.krl_core.specs.declared.place.Place.{Place}
-use Rattle.krl_core.specs.declared.place.ItemKind.TheVariants as kinds
+use Rattle.krl_core.specs.declared.place.list.ItemKind.TheVariants as kinds
 use Rattle.krl_core.specs.declared.place.Place.TheVariants as places
+use Rattle.krl_core.specs.declared.place.list.ListPlace.TheVariants as lists
+use Rattle.krl_core.specs.declared.place.serials.SerialsPlace.TheVariants as serials
+use Rattle.krl_core.specs.declared.place.bitmap.BitmapPlace.TheVariants as bitmaps
 use Rattle.krl_core.specs.Contents.{Contents, HoldsSerial, IsListed, Means, Section, SomeSection, held}
 use Rattle.krl_core.specs.Entry.{Entry}
 use Rattle.krl_core.specs.Front.{Leads, Passes, Spot, spot_after, start}
@@ -162,13 +165,13 @@ held_few (x ∷ xs) entries small rise listed h =
 -- ---- fields
 
 field_few : (place next : Place) (authority field : List ℕ) → Passes place field next → sum_by most (names place authority field) ≤ 4 * length field
-field_few (places.Serial left after) next authority field p = omega (arith, p.whole)
-field_few (places.RangeMax min after) next authority field p = omega (arith, p.whole)
-field_few (places.BitmapByte offset size left after) next authority field p = omega (arith, p.whole)
-field_few (places.Item kinds.Key size left after) next authority field p = omega arith
-field_few (places.Item kinds.Sha1 size left after) next authority field p = omega arith
-field_few (places.Item kinds.Sha256 size left after) next authority field p = omega arith
-field_few (places.Item kinds.Id size left after) next authority field p = omega arith
+field_few (places.Serials (serials.Serial left after)) next authority field p = omega (arith, p.whole)
+field_few (places.Serials (serials.RangeMax min after)) next authority field p = omega (arith, p.whole)
+field_few (places.Bitmap (bitmaps.Byte offset size left after)) next authority field p = omega (arith, p.whole)
+field_few (places.List (lists.Item kinds.Key size left after)) next authority field p = omega arith
+field_few (places.List (lists.Item kinds.Sha1 size left after)) next authority field p = omega arith
+field_few (places.List (lists.Item kinds.Sha256 size left after)) next authority field p = omega arith
+field_few (places.List (lists.Item kinds.Id size left after)) next authority field p = omega arith
 field_few place next authority field p = omega arith
 
 byte_number : (field : List ℕ) → length field ≡ 1 → IsBytes field → number_of field < 256
@@ -177,13 +180,13 @@ byte_number (byte ∷ []) size fits = omega (arith, number_of-one byte, fits 0)
 byte_number (byte ∷ (other ∷ rest)) size fits = absurd (omega arith)
 
 field_bytes : (place next : Place) (authority field : List ℕ) → Passes place field next → IsBytes field → AllByRecursion IsByteOnly (names place authority field)
-field_bytes (places.Serial left after) next authority field p fits = (tt, tt)
-field_bytes (places.RangeMax min after) next authority field p fits = (tt, tt)
-field_bytes (places.BitmapByte offset size left after) next authority field p fits = (byte_number field p.whole fits, tt)
-field_bytes (places.Item kinds.Key size left after) next authority field p fits = (tt, tt)
-field_bytes (places.Item kinds.Sha1 size left after) next authority field p fits = (tt, tt)
-field_bytes (places.Item kinds.Sha256 size left after) next authority field p fits = (tt, tt)
-field_bytes (places.Item kinds.Id size left after) next authority field p fits = (tt, tt)
+field_bytes (places.Serials (serials.Serial left after)) next authority field p fits = (tt, tt)
+field_bytes (places.Serials (serials.RangeMax min after)) next authority field p fits = (tt, tt)
+field_bytes (places.Bitmap (bitmaps.Byte offset size left after)) next authority field p fits = (byte_number field p.whole fits, tt)
+field_bytes (places.List (lists.Item kinds.Key size left after)) next authority field p fits = (tt, tt)
+field_bytes (places.List (lists.Item kinds.Sha1 size left after)) next authority field p fits = (tt, tt)
+field_bytes (places.List (lists.Item kinds.Sha256 size left after)) next authority field p fits = (tt, tt)
+field_bytes (places.List (lists.Item kinds.Id size left after)) next authority field p fits = (tt, tt)
 field_bytes place next authority field p fits = tt
 
 fields_few : (fields : List (List ℕ)) (spot last : Spot) → Leads spot fields last → sum_by most last.entries ≤ sum_by most spot.entries + 4 * length (concat fields)

@@ -8,7 +8,7 @@ use Rattle.krl_core.specs.declared.krl_fault.KrlFault.{KrlFault}
 use Rattle.krl_core.specs.declared.krl_fault.KrlFault.TheVariants as faults
 use Rattle.krl_core.specs.declared.place.Place.{Place}
 use Rattle.krl_core.specs.declared.place.Place.TheVariants.{SectionType}
-use Rattle.krl_core.specs.Place.{due}
+use Rattle.krl_core.specs.Place.{can_end, due}
 use Rattle.krl_core.specs.Front.{Spot, start, spot_after, HasRoom, Leads, IsEnd, Told, ended, no_room, refused, too_long, ends_early, IsFront, IsLongestFront, IsFirstFault, limit}
 use Rattle.krl_core.proofs.Walks.{EndsTold}
 use Rattle.krl_core.proofs.Judged.{same_place}
@@ -60,11 +60,11 @@ Leads-split p r (x ∷ fields) more h =
     (w.0, (h.0, (h.1.0, w.1)), w.2)
 
 -- where the list may end, a byte is due that stands in nothing
-pub end_size : (p : Place) → (due p).may_end ≡ true → (due p).size ≡ 1
+pub end_size : (p : Place) → can_end p ≡ true → (due p).size ≡ 1
 end_size (SectionType signed) e = refl
 end_size _ e = absurd (cc)
 
-pub end_room : (p : Place) → (due p).may_end ≡ true → HasRoom (due p)
+pub end_room : (p : Place) → can_end p ≡ true → HasRoom (due p)
 end_room (SectionType signed) e = tt
 end_room _ e = absurd (cc)
 

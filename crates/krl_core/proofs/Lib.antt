@@ -12,7 +12,6 @@ pub mod Meant
 pub mod BothWays
 pub mod Same
 pub mod Keeping
-pub mod Quiet
 pub mod Bits
 pub mod Stepping
 pub mod Ending

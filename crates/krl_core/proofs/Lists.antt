@@ -13,7 +13,7 @@ use Rattle.krl_core.specs.declared.place.Place.{Place}
 use Rattle.krl_core.specs.Front.{Spot, start, Leads, limit, IsEnd, IsFirstFault, Told, ended, no_room, refused, too_long, ends_early}
 use Rattle.krl_core.specs.Krl.{SpelledSection, Spells, header_text, magic}
 use Rattle.krl_core.specs.Naming.{NamesSame}
-use Rattle.krl_core.specs.Place.{due}
+use Rattle.krl_core.specs.Place.{can_end}
 use Rattle.krl_core.specs.Reading.{IsWhole, IsList}
 use Rattle.krl_core.proofs.Fields.{completes}
 use Rattle.krl_core.proofs.Rests.{FromText, FromFormat}
@@ -68,7 +68,7 @@ spelled_from text last h more h0 =
     }
 
 -- what a row of fields names that leads to the end of a list
-pub row_spelled : (fields : List (List ℕ)) (last : Spot) → Leads start fields last → (due last.place).may_end ≡ true → IsBytes (concat fields)
+pub row_spelled : (fields : List (List ℕ)) (last : Spot) → Leads start fields last → can_end last.place ≡ true → IsBytes (concat fields)
     → SpelledBy (concat fields) last.header last.entries
 row_spelled fields last leads may fits =
     let w = completes start fields last leads may fits in
@@ -101,7 +101,7 @@ is_end p rest goes_on fault e (ends_early room short not_end off is) = absurd (c
 
 -- the fields of a text without a fault
 pub unfaulted_row : (text : List ℕ) → IsFirstFault text None
-    → (fields : List (List ℕ)) × (last : Spot) × (Leads start fields last × ((due last.place).may_end ≡ true) × (text ≡ concat fields) × (length text ≤ limit))
+    → (fields : List (List ℕ)) × (last : Spot) × (Leads start fields last × (can_end last.place ≡ true) × (text ≡ concat fields) × (length text ≤ limit))
 unfaulted_row text h =
     let w = is_end h.spot.place h.rest (ltb limit (length text)) None refl h.told in
     let le : length text ≤ limit = ltb-false limit (length text) w.1 in

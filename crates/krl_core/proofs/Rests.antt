@@ -5,9 +5,16 @@ use Rattle.std.specs.List.{flat_map, AllByRecursion}
 use Rattle.std.specs.Int.{bit_at}
 use Rattle.ssh_wire.specs.Wire.{number, number_of, string}
 use Rattle.krl_core.specs.declared.header.Header.{Header}
-use Rattle.krl_core.specs.declared.place.ItemKind.{ItemKind}
+use Rattle.krl_core.specs.declared.place.list.ItemKind.{ItemKind}
 use Rattle.krl_core.specs.declared.place.Place.{Place}
 use Rattle.krl_core.specs.declared.place.Place.TheVariants as places
+use Rattle.krl_core.specs.declared.place.header.HeaderPlace.TheVariants as headers
+use Rattle.krl_core.specs.declared.place.signature.SignaturePlace.TheVariants as signatures
+use Rattle.krl_core.specs.declared.place.list.ListPlace.TheVariants as lists
+use Rattle.krl_core.specs.declared.place.certificates.CertificatesPlace.TheVariants as certificates
+use Rattle.krl_core.specs.declared.place.serials.SerialsPlace.TheVariants as serials
+use Rattle.krl_core.specs.declared.place.bitmap.BitmapPlace.TheVariants as bitmaps
+use Rattle.krl_core.specs.declared.place.extension.ExtensionPlace.TheVariants as extensions
 use Rattle.krl_core.specs.Entry.{Entry, SerialsEntry, RangeEntry, BitmapEntry}
 use Rattle.krl_core.specs.Entries.{entries_of, subsection_entries}
 use Rattle.krl_core.specs.Krl.{SpelledSection, Subsection, SpellsEach, SpellsSection, SpellsSubsection, SubsectionContent, SpellsExtension, SpellsBitmap, SignaturesLast, IsSignature, IsPositive, subsection_type, magic}
@@ -248,47 +255,47 @@ FromFormat last h = FromText (number 4 1) (FromVersion last h)
 -- ---- all places, under an authority, where h is known of the header
 
 abbrev pub Completes : Header → Header → List ℕ → Place → Rest
-Completes last h a places.Magic = FromText magic (FromFormat last h)
-Completes last h a places.FormatVersion = FromFormat last h
-Completes last h a places.Version = FromVersion last h
-Completes last h a places.Date = FromDate last h
-Completes last h a places.Flags = FromFlags last h
-Completes last h a places.ReservedLength = FromHeaderReserved last h
-Completes last h a (places.Reserved size) = FromContent size (λ r. FromComment last h)
-Completes last h a places.CommentLength = FromComment last h
-Completes last h a (places.Comment size) = FromContent size (λ c. FromSections false (last ≡ record h { comment = c }))
+Completes last h a (places.Header headers.Magic) = FromText magic (FromFormat last h)
+Completes last h a (places.Header headers.FormatVersion) = FromFormat last h
+Completes last h a (places.Header headers.Version) = FromVersion last h
+Completes last h a (places.Header headers.Date) = FromDate last h
+Completes last h a (places.Header headers.Flags) = FromFlags last h
+Completes last h a (places.Header headers.ReservedLength) = FromHeaderReserved last h
+Completes last h a (places.Header (headers.Reserved size)) = FromContent size (λ r. FromComment last h)
+Completes last h a (places.Header headers.CommentLength) = FromComment last h
+Completes last h a (places.Header (headers.Comment size)) = FromContent size (λ c. FromSections false (last ≡ record h { comment = c }))
 Completes last h a (places.SectionType signed) = FromSections signed (last ≡ h)
-Completes last h a places.SignatureKeyLength =
+Completes last h a (places.Signature signatures.KeyLength) =
     FromLength (λ n. FromContent n (λ k. FromLength (λ m. FromContent m (λ s. FromSections true (last ≡ h)))))
-Completes last h a (places.SignatureKey size) =
+Completes last h a (places.Signature (signatures.Key size)) =
     FromContent size (λ k. FromLength (λ m. FromContent m (λ s. FromSections true (last ≡ h))))
-Completes last h a places.SignatureLength = FromLength (λ m. FromContent m (λ s. FromSections true (last ≡ h)))
-Completes last h a (places.Signature size) = FromContent size (λ s. FromSections true (last ≡ h))
-Completes last h a (places.ItemsLength kind) = FromLength (λ n. Items (last ≡ h) kind a n 0)
-Completes last h a (places.IdsLength left) = FromPart (last ≡ h) a 0x23 left
-Completes last h a (places.ItemLength kind left after) = Items (last ≡ h) kind a left after
-Completes last h a (places.Item kind size left after) =
+Completes last h a (places.Signature signatures.SignatureLength) = FromLength (λ m. FromContent m (λ s. FromSections true (last ≡ h)))
+Completes last h a (places.Signature (signatures.Signature size)) = FromContent size (λ s. FromSections true (last ≡ h))
+Completes last h a (places.List (lists.SectionLength kind)) = FromLength (λ n. Items (last ≡ h) kind a n 0)
+Completes last h a (places.List (lists.IdsLength left)) = FromPart (last ≡ h) a 0x23 left
+Completes last h a (places.List (lists.ItemLength kind left after)) = Items (last ≡ h) kind a left after
+Completes last h a (places.List (lists.Item kind size left after)) =
     FromItem (item_size kind size) (item_entry kind a) (Items (last ≡ h) kind a left after)
-Completes last h a places.CertificatesLength = FromLength (FromCertificates (last ≡ h))
-Completes last h a (places.AuthorityLength left) = FromCertificates (last ≡ h) left
-Completes last h a (places.Authority size after) = FromContent size (λ b. FromReserved (last ≡ h) b after)
-Completes last h a (places.SectionReservedLength left) = FromReserved (last ≡ h) a left
-Completes last h a (places.SectionReserved size after) = FromContent size (λ r. FromSubsections (last ≡ h) a after)
-Completes last h a (places.SubsectionType left) = FromSubsections (last ≡ h) a left
-Completes last h a (places.SerialsLength left) = FromPart (last ≡ h) a 0x20 left
-Completes last h a (places.Serial left after) = SerialItems (last ≡ h) a left after
-Completes last h a (places.RangeLength left) = FromPart (last ≡ h) a 0x21 left
-Completes last h a (places.RangeMin after) = FromRange (last ≡ h) a after
-Completes last h a (places.RangeMax min after) = FromMax (last ≡ h) a min after
-Completes last h a (places.BitmapLength left) = FromPart (last ≡ h) a 0x22 left
-Completes last h a (places.BitmapOffset left after) = FromOffset (last ≡ h) a left after
-Completes last h a (places.BitmapSize offset left after) = FromBitmap (last ≡ h) a offset left after
-Completes last h a (places.BitmapByte offset size left after) =
+Completes last h a (places.Certificates certificates.SectionLength) = FromLength (FromCertificates (last ≡ h))
+Completes last h a (places.Certificates (certificates.AuthorityLength left)) = FromCertificates (last ≡ h) left
+Completes last h a (places.Certificates (certificates.Authority size after)) = FromContent size (λ b. FromReserved (last ≡ h) b after)
+Completes last h a (places.Certificates (certificates.ReservedLength left)) = FromReserved (last ≡ h) a left
+Completes last h a (places.Certificates (certificates.Reserved size after)) = FromContent size (λ r. FromSubsections (last ≡ h) a after)
+Completes last h a (places.Certificates (certificates.SubsectionType left)) = FromSubsections (last ≡ h) a left
+Completes last h a (places.Serials (serials.SerialsLength left)) = FromPart (last ≡ h) a 0x20 left
+Completes last h a (places.Serials (serials.Serial left after)) = SerialItems (last ≡ h) a left after
+Completes last h a (places.Serials (serials.RangeLength left)) = FromPart (last ≡ h) a 0x21 left
+Completes last h a (places.Serials (serials.RangeMin after)) = FromRange (last ≡ h) a after
+Completes last h a (places.Serials (serials.RangeMax min after)) = FromMax (last ≡ h) a min after
+Completes last h a (places.Bitmap (bitmaps.Length left)) = FromPart (last ≡ h) a 0x22 left
+Completes last h a (places.Bitmap (bitmaps.Offset left after)) = FromOffset (last ≡ h) a left after
+Completes last h a (places.Bitmap (bitmaps.Size offset left after)) = FromBitmap (last ≡ h) a offset left after
+Completes last h a (places.Bitmap (bitmaps.Byte offset size left after)) =
     λ bytes more. 0 < left → FromBits (last ≡ h) a offset size left after bytes more
-Completes last h a places.ExtensionLength = FromLength (λ n. FromExtension n (FromSections false (last ≡ h)))
-Completes last h a (places.SubsectionExtensionLength left) = FromPart (last ≡ h) a 0x39 left
-Completes last h a (places.ExtensionNameLength left after) = FromExtension left (FromSubsections (last ≡ h) a after)
-Completes last h a (places.ExtensionName size left after) = FromContent size (λ n. FromCritical left (FromSubsections (last ≡ h) a after))
-Completes last h a (places.ExtensionCritical left after) = FromCritical left (FromSubsections (last ≡ h) a after)
-Completes last h a (places.ExtensionContentsLength left after) = FromContents left (FromSubsections (last ≡ h) a after)
-Completes last h a (places.ExtensionContents size after) = FromContent size (λ c. FromSubsections (last ≡ h) a after)
+Completes last h a (places.Extension extensions.SectionLength) = FromLength (λ n. FromExtension n (FromSections false (last ≡ h)))
+Completes last h a (places.Extension (extensions.SubsectionLength left)) = FromPart (last ≡ h) a 0x39 left
+Completes last h a (places.Extension (extensions.NameLength left after)) = FromExtension left (FromSubsections (last ≡ h) a after)
+Completes last h a (places.Extension (extensions.Name size left after)) = FromContent size (λ n. FromCritical left (FromSubsections (last ≡ h) a after))
+Completes last h a (places.Extension (extensions.Critical left after)) = FromCritical left (FromSubsections (last ≡ h) a after)
+Completes last h a (places.Extension (extensions.ContentsLength left after)) = FromContents left (FromSubsections (last ≡ h) a after)
+Completes last h a (places.Extension (extensions.Contents size after)) = FromContent size (λ c. FromSubsections (last ≡ h) a after)

@@ -10,10 +10,16 @@ use Rattle.ssh_wire.specs.Fields.{IsBytes-in_string, length-string, length-numbe
 use Rattle.krl_core.specs.declared.krl_fault.KrlFault.{KrlFault}
 use Rattle.krl_core.specs.declared.krl_fault.KrlFault.TheVariants as faults
 use Rattle.krl_core.specs.declared.header.Header.{Header}
-use Rattle.krl_core.specs.declared.place.ItemKind.{ItemKind}
-use Rattle.krl_core.specs.declared.place.ItemKind.TheVariants as kinds
+use Rattle.krl_core.specs.declared.place.list.ItemKind.{ItemKind}
+use Rattle.krl_core.specs.declared.place.list.ItemKind.TheVariants as kinds
 use Rattle.krl_core.specs.declared.place.Place.{Place}
 use Rattle.krl_core.specs.declared.place.Place.TheVariants as places
+use Rattle.krl_core.specs.declared.place.header.HeaderPlace.TheVariants as headers
+use Rattle.krl_core.specs.declared.place.list.ListPlace.TheVariants as lists
+use Rattle.krl_core.specs.declared.place.certificates.CertificatesPlace.TheVariants as certificates
+use Rattle.krl_core.specs.declared.place.serials.SerialsPlace.TheVariants as serials
+use Rattle.krl_core.specs.declared.place.bitmap.BitmapPlace.TheVariants as bitmaps
+use Rattle.krl_core.specs.declared.place.extension.ExtensionPlace.TheVariants as extensions
 use Rattle.krl_core.specs.Front.{HasRoom}
 use Rattle.krl_core.specs.Krl.{Subsection, Serials, Range, Bitmap, Ids, SubsectionExtension, SpellsEach, SpellsSubsection, SpellsExtension, IsPositive, magic, header_text, numbers_text}
 use Rattle.krl_core.specs.Place.{Due, due, judge, length_within, within, item_size, next_item, next_subsection, next_serial, next_bits, base_of, bits_judged, passes_end, highest_bit}
@@ -68,7 +74,7 @@ judge_is b why p e = ap (λ (x : Bool). judge x why p) e
 -- ---- the header
 
 pub header_goes : (header : Header) (flags : ℕ) (reserved rest : List ℕ) → length reserved < 2 ^ 32 → length header.comment < 2 ^ 32
-    → Goes places.Magic (header_text header flags reserved ++ rest) (places.SectionType false) rest
+    → Goes (places.Header headers.Magic) (header_text header flags reserved ++ rest) (places.SectionType false) rest
 unfolding number number_of
 header_goes header flags reserved rest fits fits' =
     let r1 : List ℕ = string header.comment ++ rest in
@@ -77,17 +83,17 @@ header_goes header flags reserved rest fits fits' =
     let r4 : List ℕ = number 8 header.date ++ r3 in
     let r5 : List ℕ = number 8 header.version ++ r4 in
     let r6 : List ℕ = number 4 1 ++ r5 in
-    let w0 = string_goes places.CommentLength (places.Comment (length header.comment)) (places.SectionType false) header.comment rest tt refl fits'
-    (λ field e. ap (λ (n : ℕ). Ok (places.Comment n)) e) tt refl refl in
-    let w1 = goes_then places.ReservedLength places.CommentLength (places.SectionType false) r2 r1 rest
-    (string_goes places.ReservedLength (places.Reserved (length reserved)) places.CommentLength reserved r1 tt refl fits
-    (λ field e. ap (λ (n : ℕ). Ok (places.Reserved n)) e) tt refl refl) w0 in
-    let w2 = goes_then places.Flags places.ReservedLength (places.SectionType false) r3 r2 rest (goes_one places.Flags places.ReservedLength (number 8 flags) r2 tt (length-number 8 flags) refl) w1 in
-    let w3 = goes_then places.Date places.Flags (places.SectionType false) r4 r3 rest (goes_one places.Date places.Flags (number 8 header.date) r3 tt (length-number 8 header.date) refl) w2 in
-    let w4 = goes_then places.Version places.Date (places.SectionType false) r5 r4 rest (goes_one places.Version places.Date (number 8 header.version) r4 tt (length-number 8 header.version) refl) w3 in
-    let w5 = goes_then places.FormatVersion places.Version (places.SectionType false) r6 r5 rest (goes_one places.FormatVersion places.Version (number 4 1) r5 tt refl refl) w4 in
-    goes_from places.Magic (places.SectionType false) (header_text header flags reserved ++ rest) (magic ++ r6) rest (header_parts header flags reserved rest)
-    (goes_then places.Magic places.FormatVersion (places.SectionType false) (magic ++ r6) r6 rest (goes_one places.Magic places.FormatVersion magic r6 tt refl refl) w5)
+    let w0 = string_goes (places.Header headers.CommentLength) (places.Header (headers.Comment (length header.comment))) (places.SectionType false) header.comment rest tt refl fits'
+    (λ field e. ap (λ (n : ℕ). Ok (places.Header (headers.Comment n))) e) tt refl refl in
+    let w1 = goes_then (places.Header headers.ReservedLength) (places.Header headers.CommentLength) (places.SectionType false) r2 r1 rest
+    (string_goes (places.Header headers.ReservedLength) (places.Header (headers.Reserved (length reserved))) (places.Header headers.CommentLength) reserved r1 tt refl fits
+    (λ field e. ap (λ (n : ℕ). Ok (places.Header (headers.Reserved n))) e) tt refl refl) w0 in
+    let w2 = goes_then (places.Header headers.Flags) (places.Header headers.ReservedLength) (places.SectionType false) r3 r2 rest (goes_one (places.Header headers.Flags) (places.Header headers.ReservedLength) (number 8 flags) r2 tt (length-number 8 flags) refl) w1 in
+    let w3 = goes_then (places.Header headers.Date) (places.Header headers.Flags) (places.SectionType false) r4 r3 rest (goes_one (places.Header headers.Date) (places.Header headers.Flags) (number 8 header.date) r3 tt (length-number 8 header.date) refl) w2 in
+    let w4 = goes_then (places.Header headers.Version) (places.Header headers.Date) (places.SectionType false) r5 r4 rest (goes_one (places.Header headers.Version) (places.Header headers.Date) (number 8 header.version) r4 tt (length-number 8 header.version) refl) w3 in
+    let w5 = goes_then (places.Header headers.FormatVersion) (places.Header headers.Version) (places.SectionType false) r6 r5 rest (goes_one (places.Header headers.FormatVersion) (places.Header headers.Version) (number 4 1) r5 tt refl refl) w4 in
+    goes_from (places.Header headers.Magic) (places.SectionType false) (header_text header flags reserved ++ rest) (magic ++ r6) rest (header_parts header flags reserved rest)
+    (goes_then (places.Header headers.Magic) (places.Header headers.FormatVersion) (places.SectionType false) (magic ++ r6) r6 rest (goes_one (places.Header headers.Magic) (places.Header headers.FormatVersion) magic r6 tt refl refl) w5)
 
 -- ---- the items of a list
 
@@ -95,10 +101,10 @@ item_goes : (kind : ItemKind) (total left after : ℕ) (item rest : List ℕ) �
     → Goes (next_item kind total after) (string item ++ rest) (next_item kind left after) rest
 item_goes kind zero left after item rest e fits good = absurd (omega arith)
 item_goes kind (suc k) left after item rest e fits good =
-    let at : ℕ → ℕ → Place = λ size more. places.Item kind size more after in
+    let at : ℕ → ℕ → Place = λ size more. places.List (lists.Item kind size more after) in
     let left_is : suc k - 4 - length item ≡ left = omega arith in
     let room : 4 ≤ suc k = omega arith in
-    string_goes (places.ItemLength kind (suc k) after) (at (length item) left) (next_item kind left after) item rest room refl (omega arith)
+    string_goes (places.List (lists.ItemLength kind (suc k) after)) (at (length item) left) (next_item kind left after) item rest room refl (omega arith)
     (λ field e'. within_is (suc k) (λ size. judge (size == item_size kind size) faults.HashLength (at size (suc k - 4 - size))) (number_of field) (length item) e' (omega arith)
     ∙ judge_is (eqb (length item) (item_size kind (length item))) faults.HashLength (at (length item) (suc k - 4 - length item)) (eq-eqb (length item) (item_size kind (length item)) good)
     ∙ ap (λ (m : ℕ). Ok (at (length item) m)) left_is) tt good refl
@@ -126,7 +132,7 @@ serial_goes zero left after n rest e = absurd (omega arith)
 serial_goes (suc k) left after n rest e =
     let left_is : suc k - 8 ≡ left = omega arith in
     let room : 8 ≤ suc k = omega arith in
-    goes_one (places.Serial (suc k) after) (next_serial left after) (number 8 n) rest room (length-number 8 n) (ap (λ (m : ℕ). Ok (next_serial m after)) left_is)
+    goes_one (places.Serials (serials.Serial (suc k) after)) (next_serial left after) (number 8 n) rest room (length-number 8 n) (ap (λ (m : ℕ). Ok (next_serial m after)) left_is)
 
 serials_go : (items : List ℕ) (total left after : ℕ) (rest : List ℕ) → total ≡ length (numbers_text items) + left → Goes (next_serial total after) (numbers_text items ++ rest) (next_serial left after) rest
 serials_go [] total left after rest e = subst (λ (m : ℕ). Goes (next_serial total after) rest (next_serial m after) rest) (let same : total ≡ left = omega arith in same) (goes_none (next_serial total after) rest)
@@ -202,8 +208,8 @@ bits_go (b ∷ bits) offset size after rest fits le sign within =
     let judged : bits_judged offset size (suc (length bits)) after (number_of (b ∷ [])) ≡ Ok (next_bits offset size (suc (length bits) - 1) after) =
     ap (bits_judged offset size (suc (length bits)) after) one ∙ bits_pass offset size (suc (length bits)) after b (λ e. sign e) passes in
     let less : suc (length bits) - 1 ≡ length bits = omega arith in
-    goes_then (places.BitmapByte offset size (suc (length bits)) after) (next_bits offset size (length bits) after) (next_subsection after) (b ∷ (bits ++ rest)) (bits ++ rest) rest
-    (goes_one (places.BitmapByte offset size (suc (length bits)) after) (next_bits offset size (length bits) after) (b ∷ []) (bits ++ rest) tt refl
+    goes_then (places.Bitmap (bitmaps.Byte offset size (suc (length bits)) after)) (next_bits offset size (length bits) after) (next_subsection after) (b ∷ (bits ++ rest)) (bits ++ rest) rest
+    (goes_one (places.Bitmap (bitmaps.Byte offset size (suc (length bits)) after)) (next_bits offset size (length bits) after) (b ∷ []) (bits ++ rest) tt refl
     (judged ∙ ap (λ (m : ℕ). Ok (next_bits offset size m after)) less))
     (bits_go bits offset size after rest tail_fits (omega arith) (λ e. absurd (omega arith))
     (λ k set. within k (elim (cases_lt k n) [
@@ -215,7 +221,7 @@ bits_go (b ∷ bits) offset size after rest fits le sign within =
 
 -- an extension that fills what has as many bytes left
 pub extension_goes : (left after : ℕ) (content rest : List ℕ) → SpellsExtension content → left ≡ length content → left < 2 ^ 32
-    → Goes (places.ExtensionNameLength left after) (content ++ rest) (next_subsection after) rest
+    → Goes (places.Extension (extensions.NameLength left after)) (content ++ rest) (next_subsection after) rest
 unfolding number_of
 extension_goes left after content rest h size fits =
     let name = h.name in
@@ -226,26 +232,26 @@ extension_goes left after content rest h size fits =
     let left_is : left - 4 - length name ≡ 5 + n = omega (arith, all, size) in
     let room : 4 ≤ left = omega (arith, all, size) in
     let r1 : List ℕ = string contents ++ rest in
-    let last = string_goes (places.ExtensionContentsLength (4 + n) after) (places.ExtensionContents n after) (next_subsection after) contents rest (let r : 4 ≤ 4 + n = omega arith in r) refl (omega (arith, all, size, fits))
+    let last = string_goes (places.Extension (extensions.ContentsLength (4 + n) after)) (places.Extension (extensions.Contents n after)) (next_subsection after) contents rest (let r : 4 ≤ 4 + n = omega arith in r) refl (omega (arith, all, size, fits))
     (λ field e. let four : 4 + n - 4 ≡ n = omega arith in
-    judge_is (eqb (number_of field) (4 + n - 4)) faults.Length (places.ExtensionContents (4 + n - 4) after) (eq-eqb (number_of field) (4 + n - 4) (e ∙ sym four)) ∙ ap (λ (m : ℕ). Ok (places.ExtensionContents m after)) four) tt refl refl in
-    let critical = goes_then (places.ExtensionCritical (5 + n) after) (places.ExtensionContentsLength (4 + n) after) (next_subsection after) (0 ∷ r1) r1 rest
-    (goes_one (places.ExtensionCritical (5 + n) after) (places.ExtensionContentsLength (4 + n) after) (0 ∷ []) r1 (let r : 1 ≤ 5 + n = omega arith in r) refl
-    (ap (λ (m : ℕ). Ok (places.ExtensionContentsLength m after)) (let e : 5 + n - 1 ≡ 4 + n = omega arith in e))) last in
+    judge_is (eqb (number_of field) (4 + n - 4)) faults.Length (places.Extension (extensions.Contents (4 + n - 4) after)) (eq-eqb (number_of field) (4 + n - 4) (e ∙ sym four)) ∙ ap (λ (m : ℕ). Ok (places.Extension (extensions.Contents m after))) four) tt refl refl in
+    let critical = goes_then (places.Extension (extensions.Critical (5 + n) after)) (places.Extension (extensions.ContentsLength (4 + n) after)) (next_subsection after) (0 ∷ r1) r1 rest
+    (goes_one (places.Extension (extensions.Critical (5 + n) after)) (places.Extension (extensions.ContentsLength (4 + n) after)) (0 ∷ []) r1 (let r : 1 ≤ 5 + n = omega arith in r) refl
+    (ap (λ (m : ℕ). Ok (places.Extension (extensions.ContentsLength m after))) (let e : 5 + n - 1 ≡ 4 + n = omega arith in e))) last in
     let start_parts : content ++ rest ≡ string name ++ (0 ∷ r1) = ap (λ (x : List ℕ). x ++ rest) h.spelled ∙ append_assoc (string name) (0 ∷ string contents) rest in
-    goes_from (places.ExtensionNameLength left after) (next_subsection after) (content ++ rest) (string name ++ (0 ∷ r1)) rest start_parts
-    (goes_then (places.ExtensionNameLength left after) (places.ExtensionCritical (5 + n) after) (next_subsection after) (string name ++ (0 ∷ r1)) (0 ∷ r1) rest
-    (string_goes (places.ExtensionNameLength left after) (places.ExtensionName (length name) (5 + n) after) (places.ExtensionCritical (5 + n) after) name (0 ∷ r1) room refl (omega (arith, all, size, fits))
-    (λ field e. within_is left (λ m. Ok (places.ExtensionName m (left - 4 - m) after)) (number_of field) (length name) e (omega (arith, all, size)) ∙ ap (λ (m : ℕ). Ok (places.ExtensionName (length name) m after)) left_is) tt refl refl)
+    goes_from (places.Extension (extensions.NameLength left after)) (next_subsection after) (content ++ rest) (string name ++ (0 ∷ r1)) rest start_parts
+    (goes_then (places.Extension (extensions.NameLength left after)) (places.Extension (extensions.Critical (5 + n) after)) (next_subsection after) (string name ++ (0 ∷ r1)) (0 ∷ r1) rest
+    (string_goes (places.Extension (extensions.NameLength left after)) (places.Extension (extensions.Name (length name) (5 + n) after)) (places.Extension (extensions.Critical (5 + n) after)) name (0 ∷ r1) room refl (omega (arith, all, size, fits))
+    (λ field e. within_is left (λ m. Ok (places.Extension (extensions.Name m (left - 4 - m) after))) (number_of field) (length name) e (omega (arith, all, size)) ∙ ap (λ (m : ℕ). Ok (places.Extension (extensions.Name (length name) m after))) left_is) tt refl refl)
     critical)
 
 -- a subsection's type byte, the length of its content, and the content
 part_goes : (left type_byte : ℕ) (p q : Place) (text content rest : List ℕ) (next : (size after : ℕ) → Result Place KrlFault) → text ≡ type_byte ∷ string content → length text ≤ left → length content < 2 ^ 32
-    → (due (places.SubsectionType left)).judged (type_byte ∷ []) ≡ Ok p → due p ≡ length_within (left - 1) (λ size. next size (left - 1 - 4 - size))
+    → (due (places.Certificates (certificates.SubsectionType left))).judged (type_byte ∷ []) ≡ Ok p → due p ≡ length_within (left - 1) (λ size. next size (left - 1 - 4 - size))
     → next (length content) (left - length text) ≡ Ok q → Goes q (content ++ rest) (next_subsection (left - length text)) rest
-    → Goes (places.SubsectionType left) (text ++ rest) (next_subsection (left - length text)) rest
+    → Goes (places.Certificates (certificates.SubsectionType left)) (text ++ rest) (next_subsection (left - length text)) rest
 part_goes left type_byte p q text content rest next spelled le fits typed is judged walk =
-    let at = places.SubsectionType left in
+    let at = places.Certificates (certificates.SubsectionType left) in
     let end = next_subsection (left - length text) in
     let size : length text ≡ 5 + length content = ap length spelled ∙ (let e : length (type_byte ∷ string content) ≡ 5 + length content = omega (arith, length-string content) in e) in
     let after : left - 1 - 4 - length content ≡ left - length text = omega (arith, size) in
@@ -258,14 +264,14 @@ part_goes left type_byte p q text content rest next spelled le fits typed is jud
     ∙ ap (next (length content)) after ∙ judged) walk))
 
 subsection_goes : (left : ℕ) (sub : Subsection) (text rest : List ℕ) → SpellsSubsection text sub → length text ≤ left → IsBytes text
-    → Goes (places.SubsectionType left) (text ++ rest) (next_subsection (left - length text)) rest
+    → Goes (places.Certificates (certificates.SubsectionType left)) (text ++ rest) (next_subsection (left - length text)) rest
 unfolding number_of
 subsection_goes left (Serials numbers) text rest h le fits =
     let n = length h.content in
     let b = left - length text in
     let all : n ≡ length (numbers_text numbers) = ap length h.content_is.0 in
     let eight : n % 8 ≡ 0 = eights n (length numbers) (all ∙ length-numbers numbers) in
-    part_goes left 0x20 (places.SerialsLength (left - 1)) (next_serial n b) text h.content rest (λ size after. judge (size % 8 == 0) faults.Length (next_serial size after)) h.spelled le h.fits refl refl
+    part_goes left 0x20 (places.Serials (serials.SerialsLength (left - 1))) (next_serial n b) text h.content rest (λ size after. judge (size % 8 == 0) faults.Length (next_serial size after)) h.spelled le h.fits refl refl
     (judge_is (eqb (n % 8) 0) faults.Length (next_serial n b) (eq-eqb (n % 8) 0 eight))
     (goes_from (next_serial n b) (next_subsection b) (h.content ++ rest) (numbers_text numbers ++ rest) rest (ap (λ (x : List ℕ). x ++ rest) h.content_is.0) (serials_go numbers n 0 b rest (omega (arith, all))))
 subsection_goes left (Range min max) text rest h le fits =
@@ -275,14 +281,14 @@ subsection_goes left (Range min max) text rest h le fits =
     let b = left - length text in
     let low : number_of (number 8 min) ≡ min = number_again8 min (omega (arith, h.content_is.1, h.content_is.2)) in
     let high : number_of (number 8 max) ≡ max = number_again8 max h.content_is.2 in
-    let second = goes_one (places.RangeMax min b) (next_subsection b) (number 8 max) rest tt (length-number 8 max)
+    let second = goes_one (places.Serials (serials.RangeMax min b)) (next_subsection b) (number 8 max) rest tt (length-number 8 max)
     (judge_is (leb min (number_of (number 8 max))) faults.RangeReversed (next_subsection b) (le-leb min (number_of (number 8 max)) (omega (arith, high, h.content_is.1)))) in
-    let first = goes_one (places.RangeMin b) (places.RangeMax min b) (number 8 min) (number 8 max ++ rest) tt (length-number 8 min) (ap (λ (m : ℕ). Ok (places.RangeMax m b)) low) in
+    let first = goes_one (places.Serials (serials.RangeMin b)) (places.Serials (serials.RangeMax min b)) (number 8 min) (number 8 max ++ rest) tt (length-number 8 min) (ap (λ (m : ℕ). Ok (places.Serials (serials.RangeMax m b))) low) in
     let parts : content ++ rest ≡ number 8 min ++ (number 8 max ++ rest) = ap (λ (x : List ℕ). x ++ rest) h.content_is.0 ∙ append_assoc (number 8 min) (number 8 max) rest in
-    let walk = goes_from (places.RangeMin b) (next_subsection b) (content ++ rest) (number 8 min ++ (number 8 max ++ rest)) rest parts
-    (goes_then (places.RangeMin b) (places.RangeMax min b) (next_subsection b) (number 8 min ++ (number 8 max ++ rest)) (number 8 max ++ rest) rest first second) in
-    part_goes left 0x21 (places.RangeLength (left - 1)) (places.RangeMin b) text content rest (λ size after. judge (size == 16) faults.Length (places.RangeMin after)) h.spelled le h.fits refl refl
-    (judge_is (eqb n 16) faults.Length (places.RangeMin b) (eq-eqb n 16 all)) walk
+    let walk = goes_from (places.Serials (serials.RangeMin b)) (next_subsection b) (content ++ rest) (number 8 min ++ (number 8 max ++ rest)) rest parts
+    (goes_then (places.Serials (serials.RangeMin b)) (places.Serials (serials.RangeMax min b)) (next_subsection b) (number 8 min ++ (number 8 max ++ rest)) (number 8 max ++ rest) rest first second) in
+    part_goes left 0x21 (places.Serials (serials.RangeLength (left - 1))) (places.Serials (serials.RangeMin b)) text content rest (λ size after. judge (size == 16) faults.Length (places.Serials (serials.RangeMin after))) h.spelled le h.fits refl refl
+    (judge_is (eqb n 16) faults.Length (places.Serials (serials.RangeMin b)) (eq-eqb n 16 all)) walk
 subsection_goes left (Bitmap offset value) text rest h le fits =
     let content = h.content in
     let n = length content in
@@ -296,26 +302,26 @@ subsection_goes left (Bitmap offset value) text rest h le fits =
     let fewer : n - 8 - 4 ≡ length bits = omega (arith, all) in
     let within' : (k : ℕ) → bit_at (number_of bits) k ≡ 1 → offset + k < 2 ^ 64 = λ k set. m.within k (subst (λ (v : ℕ). bit_at v k ≡ 1) (sym m.value_is) set) in
     let walk_bits = bits_go bits offset (length bits) b rest bits_bytes (omega arith) (λ e. m.positive) within' in
-    let sized = content_goes (places.BitmapSize offset (n - 8) b) (next_bits offset (length bits) (length bits) b) (next_subsection b) bits rest (let r : 4 ≤ n - 8 = omega (arith, all) in r) refl (omega (arith, all, h.fits))
+    let sized = content_goes (places.Bitmap (bitmaps.Size offset (n - 8) b)) (next_bits offset (length bits) (length bits) b) (next_subsection b) bits rest (let r : 4 ≤ n - 8 = omega (arith, all) in r) refl (omega (arith, all, h.fits))
     (λ field e. judge_is (eqb (number_of field) (n - 8 - 4)) faults.Length (next_bits offset (n - 8 - 4) (n - 8 - 4) b) (eq-eqb (number_of field) (n - 8 - 4) (e ∙ sym fewer))
     ∙ ap (λ (k : ℕ). Ok (next_bits offset k k b)) fewer) walk_bits in
-    let first = goes_one (places.BitmapOffset n b) (places.BitmapSize offset (n - 8) b) (number 8 offset) (string bits ++ rest) (let r : 8 ≤ n = omega (arith, all) in r) (length-number 8 offset)
-    (ap (λ (k : ℕ). Ok (places.BitmapSize k (n - 8) b)) (number_again8 offset m.offset_fits)) in
+    let first = goes_one (places.Bitmap (bitmaps.Offset n b)) (places.Bitmap (bitmaps.Size offset (n - 8) b)) (number 8 offset) (string bits ++ rest) (let r : 8 ≤ n = omega (arith, all) in r) (length-number 8 offset)
+    (ap (λ (k : ℕ). Ok (places.Bitmap (bitmaps.Size k (n - 8) b))) (number_again8 offset m.offset_fits)) in
     let parts : content ++ rest ≡ number 8 offset ++ (string bits ++ rest) = ap (λ (x : List ℕ). x ++ rest) m.spelled ∙ append_assoc (number 8 offset) (string bits) rest in
-    let walk = goes_from (places.BitmapOffset n b) (next_subsection b) (content ++ rest) (number 8 offset ++ (string bits ++ rest)) rest parts
-    (goes_then (places.BitmapOffset n b) (places.BitmapSize offset (n - 8) b) (next_subsection b) (number 8 offset ++ (string bits ++ rest)) (string bits ++ rest) rest first sized) in
-    part_goes left 0x22 (places.BitmapLength (left - 1)) (places.BitmapOffset n b) text content rest (λ size after. Ok (places.BitmapOffset size after)) h.spelled le h.fits refl refl refl walk
+    let walk = goes_from (places.Bitmap (bitmaps.Offset n b)) (next_subsection b) (content ++ rest) (number 8 offset ++ (string bits ++ rest)) rest parts
+    (goes_then (places.Bitmap (bitmaps.Offset n b)) (places.Bitmap (bitmaps.Size offset (n - 8) b)) (next_subsection b) (number 8 offset ++ (string bits ++ rest)) (string bits ++ rest) rest first sized) in
+    part_goes left 0x22 (places.Bitmap (bitmaps.Length (left - 1))) (places.Bitmap (bitmaps.Offset n b)) text content rest (λ size after. Ok (places.Bitmap (bitmaps.Offset size after))) h.spelled le h.fits refl refl refl walk
 subsection_goes left (Ids texts) text rest h le fits =
     let n = length h.content in
     let b = left - length text in
     let at = next_item kinds.Id n b in
-    part_goes left 0x23 (places.IdsLength (left - 1)) at text h.content rest (λ size after. Ok (next_item kinds.Id size after)) h.spelled le h.fits refl refl refl
+    part_goes left 0x23 (places.List (lists.IdsLength (left - 1))) at text h.content rest (λ size after. Ok (next_item kinds.Id size after)) h.spelled le h.fits refl refl refl
     (goes_from at (next_subsection b) (h.content ++ rest) (strings texts ++ rest) rest (ap (λ (x : List ℕ). x ++ rest) h.content_is)
     (items_go kinds.Id texts n 0 b rest (omega (arith, ap length h.content_is)) h.fits (any_size texts)))
 subsection_goes left SubsectionExtension text rest h le fits =
     let n = length h.content in
     let b = left - length text in
-    part_goes left 0x39 (places.SubsectionExtensionLength (left - 1)) (places.ExtensionNameLength n b) text h.content rest (λ size after. Ok (places.ExtensionNameLength size after)) h.spelled le h.fits refl refl refl
+    part_goes left 0x39 (places.Extension (extensions.SubsectionLength (left - 1))) (places.Extension (extensions.NameLength n b)) text h.content rest (λ size after. Ok (places.Extension (extensions.NameLength size after))) h.spelled le h.fits refl refl refl
     (extension_goes n b h.content rest h.content_is refl h.fits)
 
 -- a subsection is not empty
@@ -334,7 +340,7 @@ subsections_go (sub ∷ subs) body rest (suc k) (first, (later, (parts, spelled,
     let len = length-append first later in
     let all = subst IsBytes parts fits in
     let left : suc k - length first ≡ length later = omega (arith, e, ap length parts, len) in
-    goes_from (places.SubsectionType (suc k)) (places.SectionType false) (body ++ rest) (first ++ (later ++ rest)) rest (ap (λ (x : List ℕ). x ++ rest) parts ∙ append_assoc first later rest)
-    (goes_then (places.SubsectionType (suc k)) (next_subsection (suc k - length first)) (places.SectionType false) (first ++ (later ++ rest)) (later ++ rest) rest
+    goes_from (places.Certificates (certificates.SubsectionType (suc k))) (places.SectionType false) (body ++ rest) (first ++ (later ++ rest)) rest (ap (λ (x : List ℕ). x ++ rest) parts ∙ append_assoc first later rest)
+    (goes_then (places.Certificates (certificates.SubsectionType (suc k))) (next_subsection (suc k - length first)) (places.SectionType false) (first ++ (later ++ rest)) (later ++ rest) rest
     (subsection_goes (suc k) sub first (later ++ rest) spelled (omega (arith, e, ap length parts, len)) (IsBytes-front first later all))
     (subsections_go subs later rest (suc k - length first) others left (IsBytes-behind first later all)))

@@ -9,10 +9,15 @@ use Rattle.ssh_wire.specs.Fields.{IsBytes-in_string, length-string}
 use Rattle.krl_core.specs.declared.krl_fault.KrlFault.{KrlFault}
 use Rattle.krl_core.specs.declared.krl_fault.KrlFault.TheVariants as faults
 use Rattle.krl_core.specs.declared.header.Header.{Header}
-use Rattle.krl_core.specs.declared.place.ItemKind.{ItemKind}
-use Rattle.krl_core.specs.declared.place.ItemKind.TheVariants as kinds
+use Rattle.krl_core.specs.declared.place.list.ItemKind.{ItemKind}
+use Rattle.krl_core.specs.declared.place.list.ItemKind.TheVariants as kinds
 use Rattle.krl_core.specs.declared.place.Place.{Place}
 use Rattle.krl_core.specs.declared.place.Place.TheVariants as places
+use Rattle.krl_core.specs.declared.place.header.HeaderPlace.TheVariants as headers
+use Rattle.krl_core.specs.declared.place.signature.SignaturePlace.TheVariants as signatures
+use Rattle.krl_core.specs.declared.place.list.ListPlace.TheVariants as lists
+use Rattle.krl_core.specs.declared.place.certificates.CertificatesPlace.TheVariants as certificates
+use Rattle.krl_core.specs.declared.place.extension.ExtensionPlace.TheVariants as extensions
 use Rattle.krl_core.specs.Front.{start, limit, IsFirstFault, Told, ended}
 use Rattle.krl_core.specs.Krl.{SpelledSection, Certificates, Keys, Sha1s, Sha256s, Signature, Extension, Spells, SpellsEach, SpellsSection, header_text}
 use Rattle.krl_core.specs.Place.{due, next_item, next_subsection}
@@ -35,17 +40,17 @@ typed_goes signed n q content rest off fits judged r w =
 
 -- a section of items, of whatever kind
 items_section_goes : (kind : ItemKind) (n : ℕ) (items : List (List ℕ)) (text content rest : List ℕ) → text ≡ n ∷ string content → length content < 2 ^ 32 → content ≡ strings items → AllByRecursion (IsItem kind) items
-    → (due (places.SectionType false)).judged (n ∷ []) ≡ Ok (places.ItemsLength kind) → Goes (places.SectionType false) (text ++ rest) (places.SectionType false) rest
+    → (due (places.SectionType false)).judged (n ∷ []) ≡ Ok (places.List (lists.SectionLength kind)) → Goes (places.SectionType false) (text ++ rest) (places.SectionType false) rest
 items_section_goes kind n items text content rest spelled fits is good judged =
     let q = next_item kind (length content) 0 in
     goes_from (places.SectionType false) (places.SectionType false) (text ++ rest) (n ∷ (string content ++ rest)) rest (ap (λ (x : List ℕ). x ++ rest) spelled)
-    (typed_goes false n (places.ItemsLength kind) content rest refl fits judged (places.SectionType false)
-    (content_goes (places.ItemsLength kind) q (places.SectionType false) content rest tt refl fits (λ field e. ap (λ (n : ℕ). Ok (next_item kind n 0)) e)
+    (typed_goes false n (places.List (lists.SectionLength kind)) content rest refl fits judged (places.SectionType false)
+    (content_goes (places.List (lists.SectionLength kind)) q (places.SectionType false) content rest tt refl fits (λ field e. ap (λ (n : ℕ). Ok (next_item kind n 0)) e)
     (goes_from q (places.SectionType false) (content ++ rest) (strings items ++ rest) rest (ap (λ (x : List ℕ). x ++ rest) is)
     (items_go kind items (length content) 0 0 rest (omega (arith, ap length is)) fits good))))
 
 certificates_go : (content rest authority reserved body : List ℕ) (total : ℕ) → content ≡ string authority ++ (string reserved ++ body) → total ≡ length content → total < 2 ^ 32
-    → Goes (next_subsection (length body)) (body ++ rest) (places.SectionType false) rest → Goes (places.AuthorityLength total) (content ++ rest) (places.SectionType false) rest
+    → Goes (next_subsection (length body)) (body ++ rest) (places.SectionType false) rest → Goes (places.Certificates (certificates.AuthorityLength total)) (content ++ rest) (places.SectionType false) rest
 certificates_go content rest authority reserved body total parts size fits w =
     let len = ap length parts ∙ length-append (string authority) (string reserved ++ body) in
     let len' = length-append (string reserved) body in
@@ -55,16 +60,16 @@ certificates_go content rest authority reserved body total parts size fits w =
     let first_left : total - 4 - length authority ≡ l1 = omega (arith, len, len', a, r, size) in
     let second_left : l1 - 4 - length reserved ≡ length body = omega arith in
     let r1 : List ℕ = string reserved ++ (body ++ rest) in
-    let second = goes_then (places.SectionReservedLength l1) (next_subsection (length body)) (places.SectionType false) r1 (body ++ rest) rest
-    (string_goes (places.SectionReservedLength l1) (places.SectionReserved (length reserved) (length body)) (next_subsection (length body)) reserved (body ++ rest) (let e : 4 ≤ l1 = omega arith in e) refl
+    let second = goes_then (places.Certificates (certificates.ReservedLength l1)) (next_subsection (length body)) (places.SectionType false) r1 (body ++ rest) rest
+    (string_goes (places.Certificates (certificates.ReservedLength l1)) (places.Certificates (certificates.Reserved (length reserved) (length body))) (next_subsection (length body)) reserved (body ++ rest) (let e : 4 ≤ l1 = omega arith in e) refl
     (omega (arith, len, len', a, r, size))
-    (λ field e. within_is l1 (λ m. Ok (places.SectionReserved m (l1 - 4 - m))) (number_of field) (length reserved) e (omega arith) ∙ ap (λ (m : ℕ). Ok (places.SectionReserved (length reserved) m)) second_left) tt refl refl) w in
-    goes_from (places.AuthorityLength total) (places.SectionType false) (content ++ rest) (string authority ++ r1) rest
+    (λ field e. within_is l1 (λ m. Ok (places.Certificates (certificates.Reserved m (l1 - 4 - m)))) (number_of field) (length reserved) e (omega arith) ∙ ap (λ (m : ℕ). Ok (places.Certificates (certificates.Reserved (length reserved) m))) second_left) tt refl refl) w in
+    goes_from (places.Certificates (certificates.AuthorityLength total)) (places.SectionType false) (content ++ rest) (string authority ++ r1) rest
     (ap (λ (x : List ℕ). x ++ rest) parts ∙ append_assoc (string authority) (string reserved ++ body) rest ∙ ap (λ (x : List ℕ). string authority ++ x) (append_assoc (string reserved) body rest))
-    (goes_then (places.AuthorityLength total) (places.SectionReservedLength l1) (places.SectionType false) (string authority ++ r1) r1 rest
-    (string_goes (places.AuthorityLength total) (places.Authority (length authority) l1) (places.SectionReservedLength l1) authority r1 (let e : 4 ≤ total = omega (arith, len, a, size) in e) refl
+    (goes_then (places.Certificates (certificates.AuthorityLength total)) (places.Certificates (certificates.ReservedLength l1)) (places.SectionType false) (string authority ++ r1) r1 rest
+    (string_goes (places.Certificates (certificates.AuthorityLength total)) (places.Certificates (certificates.Authority (length authority) l1)) (places.Certificates (certificates.ReservedLength l1)) authority r1 (let e : 4 ≤ total = omega (arith, len, a, size) in e) refl
     (omega (arith, len, len', a, r, size))
-    (λ field e. within_is total (λ m. Ok (places.Authority m (total - 4 - m))) (number_of field) (length authority) e (omega (arith, len, len', a, r, size)) ∙ ap (λ (m : ℕ). Ok (places.Authority (length authority) m)) first_left) tt refl refl) second)
+    (λ field e. within_is total (λ m. Ok (places.Certificates (certificates.Authority m (total - 4 - m)))) (number_of field) (length authority) e (omega (arith, len, len', a, r, size)) ∙ ap (λ (m : ℕ). Ok (places.Certificates (certificates.Authority (length authority) m))) first_left) tt refl refl) second)
 
 section_goes : (section : SpelledSection) (signed : Bool) (text rest : List ℕ) → SpellsSection text section → LastFor signed (section ∷ []) → IsBytes text
     → Goes (places.SectionType signed) (text ++ rest) (places.SectionType (signed_after section)) rest
@@ -74,26 +79,26 @@ section_goes (Certificates authority subs) false text rest h last fits =
     let all = IsBytes-in_string h.content (IsBytes-behind (1 ∷ []) (string h.content) (subst IsBytes h.spelled fits)) in
     let body_bytes = IsBytes-behind (string c.reserved) c.body (IsBytes-behind (string authority) (string c.reserved ++ c.body) (subst IsBytes c.spelled all)) in
     goes_from (places.SectionType false) (places.SectionType false) (text ++ rest) (1 ∷ (string h.content ++ rest)) rest (ap (λ (x : List ℕ). x ++ rest) h.spelled)
-    (typed_goes false 1 places.CertificatesLength h.content rest refl h.fits refl (places.SectionType false)
-    (content_goes places.CertificatesLength (places.AuthorityLength (length h.content)) (places.SectionType false) h.content rest tt refl h.fits (λ field e. ap (λ (n : ℕ). Ok (places.AuthorityLength n)) e)
+    (typed_goes false 1 (places.Certificates certificates.SectionLength) h.content rest refl h.fits refl (places.SectionType false)
+    (content_goes (places.Certificates certificates.SectionLength) (places.Certificates (certificates.AuthorityLength (length h.content))) (places.SectionType false) h.content rest tt refl h.fits (λ field e. ap (λ (n : ℕ). Ok (places.Certificates (certificates.AuthorityLength n))) e)
     (certificates_go h.content rest authority c.reserved c.body (length h.content) c.spelled refl h.fits (subsections_go subs c.body rest (length c.body) c.subsections_are refl body_bytes))))
 section_goes (Keys blobs) false text rest h last fits = items_section_goes kinds.Key 2 blobs text h.content rest h.spelled h.fits h.content_is (any_size blobs) refl
 section_goes (Sha1s hashes) false text rest h last fits = items_section_goes kinds.Sha1 3 hashes text h.content rest h.spelled h.fits h.content_is.0 h.content_is.1 refl
 section_goes (Sha256s hashes) false text rest h last fits = items_section_goes kinds.Sha256 5 hashes text h.content rest h.spelled h.fits h.content_is.0 h.content_is.1 refl
 section_goes Extension false text rest h last fits =
     goes_from (places.SectionType false) (places.SectionType false) (text ++ rest) (255 ∷ (string h.content ++ rest)) rest (ap (λ (x : List ℕ). x ++ rest) h.spelled)
-    (typed_goes false 255 places.ExtensionLength h.content rest refl h.fits refl (places.SectionType false)
-    (content_goes places.ExtensionLength (places.ExtensionNameLength (length h.content) 0) (places.SectionType false) h.content rest tt refl h.fits (λ field e. ap (λ (n : ℕ). Ok (places.ExtensionNameLength n 0)) e)
+    (typed_goes false 255 (places.Extension extensions.SectionLength) h.content rest refl h.fits refl (places.SectionType false)
+    (content_goes (places.Extension extensions.SectionLength) (places.Extension (extensions.NameLength (length h.content) 0)) (places.SectionType false) h.content rest tt refl h.fits (λ field e. ap (λ (n : ℕ). Ok (places.Extension (extensions.NameLength n 0))) e)
     (extension_goes (length h.content) 0 h.content rest h.content_is refl h.fits)))
 section_goes Signature signed text rest h last fits =
     let r1 : List ℕ = string h.signature ++ rest in
     goes_from (places.SectionType signed) (places.SectionType true) (text ++ rest) (4 ∷ (string h.key ++ r1)) rest
     (ap (λ (x : List ℕ). x ++ rest) h.spelled ∙ ap (λ (x : List ℕ). 4 ∷ x) (append_assoc (string h.key) (string h.signature) rest))
-    (goes_then (places.SectionType signed) places.SignatureKeyLength (places.SectionType true) (4 ∷ (string h.key ++ r1)) (string h.key ++ r1) rest
-    (goes_one (places.SectionType signed) places.SignatureKeyLength (4 ∷ []) (string h.key ++ r1) tt refl refl)
-    (goes_then places.SignatureKeyLength places.SignatureLength (places.SectionType true) (string h.key ++ r1) r1 rest
-    (string_goes places.SignatureKeyLength (places.SignatureKey (length h.key)) places.SignatureLength h.key r1 tt refl h.key_fits (λ field e. ap (λ (n : ℕ). Ok (places.SignatureKey n)) e) tt refl refl)
-    (string_goes places.SignatureLength (places.Signature (length h.signature)) (places.SectionType true) h.signature rest tt refl h.signature_fits (λ field e. ap (λ (n : ℕ). Ok (places.Signature n)) e) tt refl refl)))
+    (goes_then (places.SectionType signed) (places.Signature signatures.KeyLength) (places.SectionType true) (4 ∷ (string h.key ++ r1)) (string h.key ++ r1) rest
+    (goes_one (places.SectionType signed) (places.Signature signatures.KeyLength) (4 ∷ []) (string h.key ++ r1) tt refl refl)
+    (goes_then (places.Signature signatures.KeyLength) (places.Signature signatures.SignatureLength) (places.SectionType true) (string h.key ++ r1) r1 rest
+    (string_goes (places.Signature signatures.KeyLength) (places.Signature (signatures.Key (length h.key))) (places.Signature signatures.SignatureLength) h.key r1 tt refl h.key_fits (λ field e. ap (λ (n : ℕ). Ok (places.Signature (signatures.Key n))) e) tt refl refl)
+    (string_goes (places.Signature signatures.SignatureLength) (places.Signature (signatures.Signature (length h.signature))) (places.SectionType true) h.signature rest tt refl h.signature_fits (λ field e. ap (λ (n : ℕ). Ok (places.Signature (signatures.Signature n))) e) tt refl refl)))
 section_goes _ true text rest h last fits = absurd last.0
 
 last_first : (signed : Bool) (section : SpelledSection) (sections : List SpelledSection) → LastFor signed (section ∷ sections) → LastFor signed (section ∷ []) × LastFor (signed_after section) sections
@@ -120,12 +125,12 @@ pub spelled_unfaulted : (text : List ℕ) (header : Header) (sections : List Spe
 spelled_unfaulted text header sections fits h le =
     let body_bytes = IsBytes-behind (header_text header h.flags h.reserved) h.body (subst IsBytes h.spelled fits) in
     let rest = sections_go sections false h.body h.sections_are h.signatures_last body_bytes in
-    let walk = goes_from places.Magic (places.SectionType rest.0) text (header_text header h.flags h.reserved ++ h.body) [] h.spelled
-    (goes_then places.Magic (places.SectionType false) (places.SectionType rest.0) (header_text header h.flags h.reserved ++ h.body) h.body []
+    let walk = goes_from (places.Header headers.Magic) (places.SectionType rest.0) text (header_text header h.flags h.reserved ++ h.body) [] h.spelled
+    (goes_then (places.Header headers.Magic) (places.SectionType false) (places.SectionType rest.0) (header_text header h.flags h.reserved ++ h.body) h.body []
     (header_goes header h.flags h.reserved h.body h.reserved_fits h.comment_fits) rest.1) in
     let whole : take limit text ≡ text = take_all limit text le in
     let off : ltb limit (length text) ≡ false = le-ltb limit (length text) le in
-    let a = arrives start places.Magic (places.SectionType rest.0) (take limit text) [] refl (goes_from places.Magic (places.SectionType rest.0) (take limit text) text [] whole walk) in
+    let a = arrives start (places.Header headers.Magic) (places.SectionType rest.0) (take limit text) [] refl (goes_from (places.Header headers.Magic) (places.SectionType rest.0) (take limit text) text [] whole walk) in
     first_fault_is text None (record {
       last = a.last;
       rest = [];

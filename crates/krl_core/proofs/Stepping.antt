@@ -17,7 +17,7 @@ use Rattle.krl_core.specs.declared.krl_fault.KrlFault.TheVariants as faults
 use Rattle.krl_core.specs.declared.place.Place.{Place}
 use Rattle.krl_core.specs.Front.{Spot, start, spot_after, Leads, Passes, HasRoom, Told, no_room, refused, too_long, ends_early, IsFirstFault, limit}
 use Rattle.krl_core.specs.Keeping.{GrowsWithin, IsKept, Keeping, KeepsField, StoresWithin}
-use Rattle.krl_core.specs.Place.{due, names, authority_after, header_after}
+use Rattle.krl_core.specs.Place.{can_end, due, names, authority_after, header_after}
 use Rattle.krl_core.specs.Reading.{Position, working, HasRead, IsBounded, LooksFor, Missed, no_room as room_missed, cut, Says, starved, failed_read, first, Refused, is_fixed, told_as}
 use Rattle.krl_core.proofs.Fixed.{late_enough}
 use Rattle.krl_core.proofs.Fronts.{first_fault_is, end_size, end_room}
@@ -248,7 +248,7 @@ keeps_refl (Some xs) = refl
 
 -- the reader failed where the end was looked for
 pub end_refused : (old : Position) (new : Pulled) (fault : KrlFault) → IsBounded old.pull old.keeping → fault ≡ faults.Read
-    → (due old.place).may_end ≡ true → Refuses old.pull 1 pulls.Read new → Refused fault old new
+    → can_end old.place ≡ true → Refuses old.pull 1 pulls.Read new → Refused fault old new
 end_refused old new fault bounded is may r text fields h =
     let one : (due old.place).size ≡ 1 = end_size old.place may in
     let refuses : Refuses old.pull (due old.place).size pulls.Read new = subst (λ (n : ℕ). Refuses old.pull n pulls.Read new) (sym one) r in

@@ -15,7 +15,7 @@ use Rattle.krl_core.specs.Front.{limit, IsFirstFault, ended}
 use Rattle.krl_core.specs.Changes.{run_entries}
 use Rattle.krl_core.specs.Keeping.{Keeping, InStep, open_run}
 use Rattle.krl_core.specs.Naming.{NamesSame}
-use Rattle.krl_core.specs.Place.{due}
+use Rattle.krl_core.specs.Place.{can_end}
 use Rattle.krl_core.specs.Reading.{Position, HasRead, Follows, IsReached, IsWhole}
 use Rattle.krl_core.proofs.Exists.{weight, nearer}
 use Rattle.krl_core.proofs.Fronts.{first_fault_is}
@@ -35,12 +35,12 @@ step_nearer old new h =
     omega (arith, near, h.taken, h.within, h.passes.whole)
 
 -- where the list may end no run is open
-pub none_open : (p : Place) (keeping : Keeping) → (due p).may_end ≡ true → InStep p keeping.bitmap → keeping.bitmap.pending ≡ None
+pub none_open : (p : Place) (keeping : Keeping) → can_end p ≡ true → InStep p keeping.bitmap → keeping.bitmap.pending ≡ None
 none_open (SectionType signed) keeping may step = step
 none_open _ keeping may step = absurd (cc)
 
 pub whole_list : (text : List ℕ) (fields : List (List ℕ)) (p : Position) → IsReached p → HasRead text fields p → text ≡ concat fields
-    → (due p.place).may_end ≡ true → IsWhole text p.keeping.header p.keeping.contents
+    → can_end p.place ≡ true → IsWhole text p.keeping.header p.keeping.contents
 whole_list text fields p sound h all may =
     let keeping = p.keeping in
     let kept = h.kept in
@@ -56,7 +56,7 @@ whole_list text fields p sound h all may =
       text_is = all;
       within = omega (arith, size, sound.bounded.within);
       are_bytes = subst IsBytes (sym all) h.are_bytes;
-      may_end = subst (λ (q : Place). (due q).may_end ≡ true) h.place_is may;
+      may_end = subst (λ (q : Place). can_end q ≡ true) h.place_is may;
       header_is = h.header_is;
       means = same_meaning keeping.contents kept.closed h.spot.entries kept.means same;
       held_is = omega (arith, sound.bounded.held_is, size);

@@ -6,9 +6,10 @@ use Rattle.krl_core.specs.declared.krl_fault.KrlFault.{KrlFault}
 use Rattle.krl_core.specs.declared.krl_fault.KrlFault.TheVariants as faults
 use Rattle.krl_core.specs.declared.header.Header.{Header}
 use Rattle.krl_core.specs.declared.place.Place.{Place}
-use Rattle.krl_core.specs.declared.place.Place.TheVariants.{Magic}
+use Rattle.krl_core.specs.declared.place.Place.TheVariants as places
+use Rattle.krl_core.specs.declared.place.header.HeaderPlace.TheVariants as headers
 use Rattle.krl_core.specs.Entry.{Entry}
-use Rattle.krl_core.specs.Place.{Due, due, names, authority_after, header_after}
+use Rattle.krl_core.specs.Place.{can_end, Due, due, names, authority_after, header_after}
 
 -- at most this many bytes of a list are read
 abbrev pub limit : ℕ
@@ -29,7 +30,7 @@ pub record Spot : Type 0 where
 -- before the first field
 abbrev pub start : Spot
 start = record {
-  place = Magic;
+  place = (places.Header headers.Magic);
   header = record { version = 0; date = 0; comment = [] };
   authority = [];
   entries = [];
@@ -71,7 +72,7 @@ pub record IsLongestFront (text : List ℕ) (fields : List (List ℕ)) (spot : S
 
 -- the end of the text is due, and nothing is left
 abbrev pub IsEnd : Place → List ℕ → Type 0
-IsEnd place rest = ((due place).may_end ≡ true) × (rest ≡ [])
+IsEnd place rest = (can_end place ≡ true) × (rest ≡ [])
 
 -- What is reported at the end of a longest front: at this place, with this rest up to the limit,
 -- past which the text may go on. `None` is reported where the list ends as it should.

@@ -7,7 +7,8 @@ use Rattle.serial_set.specs.declared.bit_fault.BitFault.{BitFault}
 use Rattle.serial_set.specs.BitRuns.{FedBitmap, HasFault}
 use Rattle.krl_core.specs.declared.header.Header.{Header}
 use Rattle.krl_core.specs.declared.place.Place.{Place}
-use Rattle.krl_core.specs.declared.place.Place.TheVariants.{BitmapByte}
+use Rattle.krl_core.specs.declared.place.Place.TheVariants as places
+use Rattle.krl_core.specs.declared.place.bitmap.BitmapPlace.TheVariants as bitmaps
 use Rattle.krl_core.specs.Changes.{run_entries}
 use Rattle.krl_core.specs.Contents.{Contents, IsStoredWithin, Means, held}
 use Rattle.krl_core.specs.Entry.{Entry, BitmapEntry}
@@ -34,7 +35,7 @@ pub record IsKept (keeping : Keeping) (entries : List Entry) : Type 0 where
 
 -- at a byte of a bitmap the bytes before it are fed, and elsewhere no run is open
 abbrev pub InStep : Place → FedBitmap → Type 0
-InStep (BitmapByte offset size left after) bitmap =
+InStep (places.Bitmap (bitmaps.Byte offset size left after)) bitmap =
     (0 < left)
     × (bitmap ≡ record {
       offset = offset;

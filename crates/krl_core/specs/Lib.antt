@@ -6,7 +6,6 @@ pub mod Entry
 pub mod KrlFault
 pub mod Krl
 pub mod Place
-pub mod Part
 pub mod Front
 pub mod Ids
 pub mod Inserting

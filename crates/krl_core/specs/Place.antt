@@ -8,38 +8,34 @@ use Rattle.ssh_wire.specs.Wire.{number_of}
 use Rattle.krl_core.specs.declared.krl_fault.KrlFault.{KrlFault}
 use Rattle.krl_core.specs.declared.krl_fault.KrlFault.TheVariants as faults
 use Rattle.krl_core.specs.declared.header.Header.{Header}
-use Rattle.krl_core.specs.declared.place.ItemKind.{ItemKind}
-use Rattle.krl_core.specs.declared.place.ItemKind.TheVariants.{Key, Sha1, Sha256, Id}
 use Rattle.krl_core.specs.declared.place.Place.{Place}
-use Rattle.krl_core.specs.declared.place.Place.TheVariants.{Magic, FormatVersion, Version, Date}
-use Rattle.krl_core.specs.declared.place.Place.TheVariants.{Flags, ReservedLength, Reserved}
-use Rattle.krl_core.specs.declared.place.Place.TheVariants.{CommentLength, Comment, SectionType}
-use Rattle.krl_core.specs.declared.place.Place.TheVariants.{SignatureKeyLength, SignatureKey}
-use Rattle.krl_core.specs.declared.place.Place.TheVariants.{SignatureLength, Signature}
-use Rattle.krl_core.specs.declared.place.Place.TheVariants.{ItemsLength, IdsLength, ItemLength}
-use Rattle.krl_core.specs.declared.place.Place.TheVariants.{Item, CertificatesLength}
-use Rattle.krl_core.specs.declared.place.Place.TheVariants.{AuthorityLength, Authority}
-use Rattle.krl_core.specs.declared.place.Place.TheVariants.{SectionReservedLength, SectionReserved}
-use Rattle.krl_core.specs.declared.place.Place.TheVariants.{SubsectionType, SerialsLength, Serial}
-use Rattle.krl_core.specs.declared.place.Place.TheVariants.{RangeLength, RangeMin, RangeMax}
-use Rattle.krl_core.specs.declared.place.Place.TheVariants.{BitmapLength, BitmapOffset, BitmapSize}
-use Rattle.krl_core.specs.declared.place.Place.TheVariants.{BitmapByte, ExtensionLength}
-use Rattle.krl_core.specs.declared.place.Place.TheVariants.{SubsectionExtensionLength}
-use Rattle.krl_core.specs.declared.place.Place.TheVariants.{ExtensionNameLength, ExtensionName}
-use Rattle.krl_core.specs.declared.place.Place.TheVariants.{ExtensionCritical}
-use Rattle.krl_core.specs.declared.place.Place.TheVariants.{ExtensionContentsLength}
-use Rattle.krl_core.specs.declared.place.Place.TheVariants.{ExtensionContents}
+use Rattle.krl_core.specs.declared.place.Place.TheVariants as places
+use Rattle.krl_core.specs.declared.place.bitmap.BitmapPlace.{BitmapPlace}
+use Rattle.krl_core.specs.declared.place.bitmap.BitmapPlace.TheVariants as bitmaps
+use Rattle.krl_core.specs.declared.place.certificates.CertificatesPlace.{CertificatesPlace}
+use Rattle.krl_core.specs.declared.place.certificates.CertificatesPlace.TheVariants as certificates
+use Rattle.krl_core.specs.declared.place.extension.ExtensionPlace.{ExtensionPlace}
+use Rattle.krl_core.specs.declared.place.extension.ExtensionPlace.TheVariants as extensions
+use Rattle.krl_core.specs.declared.place.header.HeaderPlace.{HeaderPlace}
+use Rattle.krl_core.specs.declared.place.header.HeaderPlace.TheVariants as headers
+use Rattle.krl_core.specs.declared.place.list.ItemKind.{ItemKind}
+use Rattle.krl_core.specs.declared.place.list.ItemKind.TheVariants as kinds
+use Rattle.krl_core.specs.declared.place.list.ListPlace.{ListPlace}
+use Rattle.krl_core.specs.declared.place.list.ListPlace.TheVariants as lists
+use Rattle.krl_core.specs.declared.place.serials.SerialsPlace.{SerialsPlace}
+use Rattle.krl_core.specs.declared.place.serials.SerialsPlace.TheVariants as serials
+use Rattle.krl_core.specs.declared.place.signature.SignaturePlace.{SignaturePlace}
+use Rattle.krl_core.specs.declared.place.signature.SignaturePlace.TheVariants as signatures
 use Rattle.krl_core.specs.Entry.{Entry, SerialsEntry, RangeEntry, BitmapEntry, IdEntry, KeyEntry}
 use Rattle.krl_core.specs.Entry.{Sha1Entry, Sha256Entry}
 use Rattle.krl_core.specs.Krl.{magic}
 
 -- A field that is due: how many bytes it has; how many bytes what it stands in has left for it,
--- where it stands in something and no length before it has said how many; whether the list may end
--- in its place; and what the whole field is judged to be: the place after it, or why it is refused.
+-- where it stands in something and no length before it has said how many; and what the whole field
+-- is judged to be: the place after it, or why it is refused.
 pub record Due : Type 0 where
   pub size : ℕ
   pub room : Option ℕ
-  pub may_end : Bool
   pub judged : List ℕ → Result Place KrlFault
 
 abbrev pub judge : Bool → KrlFault → Place → Result Place KrlFault
@@ -50,14 +46,13 @@ judge good fault next = if good then Ok next else Err fault
 -- a field that may be any bytes, as many as there is room for
 abbrev pub any_bytes : ℕ → Place → Due
 any_bytes size next =
-    record { size = size; room = None; may_end = false; judged = λ field. Ok next }
+    record { size = size; room = None; judged = λ field. Ok next }
 
--- a number that stands in nothing, judged by its value
+-- a number that needs no room, judged by its value
 abbrev pub any_number : ℕ → (ℕ → Result Place KrlFault) → Due
 any_number size judged = record {
   size = size;
   room = None;
-  may_end = false;
   judged = λ field. judged (number_of field);
 }
 
@@ -73,7 +68,6 @@ abbrev pub length_within : ℕ → (ℕ → Result Place KrlFault) → Due
 length_within left next = record {
   size = 4;
   room = Some left;
-  may_end = false;
   judged = λ field. within left next (number_of field);
 }
 
@@ -82,7 +76,6 @@ abbrev pub length_of_rest : ℕ → Place → Due
 length_of_rest left next = record {
   size = 4;
   room = Some left;
-  may_end = false;
   judged = λ field. judge (number_of field == left - 4) faults.Length next;
 }
 
@@ -91,7 +84,6 @@ abbrev pub number_within : ℕ → (ℕ → Place) → Due
 number_within left next = record {
   size = 8;
   room = Some left;
-  may_end = false;
   judged = λ field. Ok (next (number_of field));
 }
 
@@ -100,7 +92,6 @@ abbrev pub byte_within : ℕ → (ℕ → Result Place KrlFault) → Due
 byte_within left judged = record {
   size = 1;
   room = Some left;
-  may_end = false;
   judged = λ field. judged (number_of field);
 }
 
@@ -108,50 +99,50 @@ byte_within left judged = record {
 
 -- another subsection, or the end of the section
 abbrev pub next_subsection : ℕ → Place
-next_subsection zero = SectionType false
-next_subsection (suc left) = SubsectionType (suc left)
+next_subsection zero = places.SectionType false
+next_subsection (suc left) = places.Certificates (certificates.SubsectionType (suc left))
 
 abbrev pub next_item : ItemKind → (left after : ℕ) → Place
 next_item kind zero after = next_subsection after
-next_item kind (suc left) after = ItemLength kind (suc left) after
+next_item kind (suc left) after = places.List (lists.ItemLength kind (suc left) after)
 
-abbrev pub next_serial : ℕ → ℕ → Place
+abbrev pub next_serial : (left after : ℕ) → Place
 next_serial zero after = next_subsection after
-next_serial (suc left) after = Serial (suc left) after
+next_serial (suc left) after = places.Serials (serials.Serial (suc left) after)
 
 -- `left` of the `size` bytes of a bitmap are due
 abbrev pub next_bits : (offset size left after : ℕ) → Place
 next_bits offset size zero after = next_subsection after
-next_bits offset size (suc left) after = BitmapByte offset size (suc left) after
+next_bits offset size (suc left) after = places.Bitmap (bitmaps.Byte offset size (suc left) after)
 
 -- ---- judgements
 
 -- how many bytes an item has whose length says `size`
 abbrev pub item_size : ItemKind → ℕ → ℕ
-item_size Key size = size
-item_size Sha1 size = 20
-item_size Sha256 size = 32
-item_size Id size = size
+item_size kinds.Key size = size
+item_size kinds.Sha1 size = 20
+item_size kinds.Sha256 size = 32
+item_size kinds.Id size = size
 
 abbrev pub section_of_type : Bool → ℕ → Result Place KrlFault
 section_of_type signed type_byte =
-    if type_byte == 4 then Ok SignatureKeyLength
+    if type_byte == 4 then Ok (places.Signature signatures.KeyLength)
     else if signed then Err faults.AfterSignature
-    else if type_byte == 1 then Ok CertificatesLength
-    else if type_byte == 2 then Ok (ItemsLength Key)
-    else if type_byte == 3 then Ok (ItemsLength Sha1)
-    else if type_byte == 5 then Ok (ItemsLength Sha256)
-    else if type_byte == 255 then Ok ExtensionLength
+    else if type_byte == 1 then Ok (places.Certificates certificates.SectionLength)
+    else if type_byte == 2 then Ok (places.List (lists.SectionLength kinds.Key))
+    else if type_byte == 3 then Ok (places.List (lists.SectionLength kinds.Sha1))
+    else if type_byte == 5 then Ok (places.List (lists.SectionLength kinds.Sha256))
+    else if type_byte == 255 then Ok (places.Extension extensions.SectionLength)
     else Err faults.UnknownSection
 
 -- a subsection of a section that has `left` bytes after the type byte
 abbrev pub subsection_of_type : ℕ → ℕ → Result Place KrlFault
 subsection_of_type left type_byte =
-    if type_byte == 0x20 then Ok (SerialsLength left)
-    else if type_byte == 0x21 then Ok (RangeLength left)
-    else if type_byte == 0x22 then Ok (BitmapLength left)
-    else if type_byte == 0x23 then Ok (IdsLength left)
-    else if type_byte == 0x39 then Ok (SubsectionExtensionLength left)
+    if type_byte == 0x20 then Ok (places.Serials (serials.SerialsLength left))
+    else if type_byte == 0x21 then Ok (places.Serials (serials.RangeLength left))
+    else if type_byte == 0x22 then Ok (places.Bitmap (bitmaps.Length left))
+    else if type_byte == 0x23 then Ok (places.List (lists.IdsLength left))
+    else if type_byte == 0x39 then Ok (places.Extension (extensions.SubsectionLength left))
     else Err faults.UnknownCertSection
 
 -- the place of the highest bit of a byte that is set
@@ -182,100 +173,154 @@ bits_judged offset size left after byte =
     if left == size then (if nat_lt byte 128 then bits_within offset size left after byte
     else Err faults.BitmapNegative) else bits_within offset size left after byte
 
--- ---- the format's page as a table
-abbrev pub due : Place → Due
-due Magic = record {
+-- ---- the format's page as a table, part by part
+
+abbrev pub header_due : HeaderPlace → Due
+header_due headers.Magic = record {
   size = 8;
   room = None;
-  may_end = false;
-  judged = λ field. judge (bytes_eq field magic) faults.Magic FormatVersion;
+  judged = λ field.
+      judge (bytes_eq field magic) faults.Magic (places.Header headers.FormatVersion);
 }
-due FormatVersion = any_number 4 (λ version. judge (version == 1) faults.FormatVersion Version)
-due Version = any_bytes 8 Date
-due Date = any_bytes 8 Flags
-due Flags = any_bytes 8 ReservedLength
-due ReservedLength = any_length Reserved
-due (Reserved size) = any_bytes size CommentLength
-due CommentLength = any_length Comment
-due (Comment size) = any_bytes size (SectionType false)
-due (SectionType signed) = record {
-  size = 1;
-  room = None;
-  may_end = true;
-  judged = λ field. section_of_type signed (number_of field);
-}
-due SignatureKeyLength = any_length SignatureKey
-due (SignatureKey size) = any_bytes size SignatureLength
-due SignatureLength = any_length Signature
-due (Signature size) = any_bytes size (SectionType true)
-due (ItemsLength kind) = any_length (λ size. next_item kind size 0)
-due (IdsLength left) = length_within left (λ size. Ok (next_item Id size (left - 4 - size)))
-due (ItemLength kind left after) =
+header_due headers.FormatVersion =
+    any_number 4
+    (λ version. judge (version == 1) faults.FormatVersion (places.Header headers.Version))
+header_due headers.Version = any_bytes 8 (places.Header headers.Date)
+header_due headers.Date = any_bytes 8 (places.Header headers.Flags)
+header_due headers.Flags = any_bytes 8 (places.Header headers.ReservedLength)
+header_due headers.ReservedLength = any_length (λ size. places.Header (headers.Reserved size))
+header_due (headers.Reserved size) = any_bytes size (places.Header headers.CommentLength)
+header_due headers.CommentLength = any_length (λ size. places.Header (headers.Comment size))
+header_due (headers.Comment size) = any_bytes size (places.SectionType false)
+
+abbrev pub signature_due : SignaturePlace → Due
+signature_due signatures.KeyLength = any_length (λ size. places.Signature (signatures.Key size))
+signature_due (signatures.Key size) =
+    any_bytes size (places.Signature signatures.SignatureLength)
+signature_due signatures.SignatureLength =
+    any_length (λ size. places.Signature (signatures.Signature size))
+signature_due (signatures.Signature size) = any_bytes size (places.SectionType true)
+
+abbrev pub list_due : ListPlace → Due
+list_due (lists.SectionLength kind) = any_length (λ size. next_item kind size 0)
+list_due (lists.IdsLength left) =
+    length_within left (λ size. Ok (next_item kinds.Id size (left - 4 - size)))
+list_due (lists.ItemLength kind left after) =
     length_within left
     (λ size. judge (size == item_size kind size) faults.HashLength
-    (Item kind size (left - 4 - size) after))
-due (Item kind size left after) = any_bytes (item_size kind size) (next_item kind left after)
-due CertificatesLength = any_length AuthorityLength
-due (AuthorityLength left) = length_within left (λ size. Ok (Authority size (left - 4 - size)))
-due (Authority size after) = any_bytes size (SectionReservedLength after)
-due (SectionReservedLength left) =
-    length_within left (λ size. Ok (SectionReserved size (left - 4 - size)))
-due (SectionReserved size after) = any_bytes size (next_subsection after)
-due (SubsectionType left) = byte_within left (subsection_of_type (left - 1))
-due (SerialsLength left) =
+    (places.List (lists.Item kind size (left - 4 - size) after)))
+list_due (lists.Item kind size left after) =
+    any_bytes (item_size kind size) (next_item kind left after)
+
+abbrev pub certificates_due : CertificatesPlace → Due
+certificates_due certificates.SectionLength =
+    any_length (λ size. places.Certificates (certificates.AuthorityLength size))
+certificates_due (certificates.AuthorityLength left) =
+    length_within left
+    (λ size. Ok (places.Certificates (certificates.Authority size (left - 4 - size))))
+certificates_due (certificates.Authority size after) =
+    any_bytes size (places.Certificates (certificates.ReservedLength after))
+certificates_due (certificates.ReservedLength left) =
+    length_within left
+    (λ size. Ok (places.Certificates (certificates.Reserved size (left - 4 - size))))
+certificates_due (certificates.Reserved size after) = any_bytes size (next_subsection after)
+certificates_due (certificates.SubsectionType left) =
+    byte_within left (subsection_of_type (left - 1))
+
+abbrev pub serials_due : SerialsPlace → Due
+serials_due (serials.SerialsLength left) =
     length_within left
     (λ size. judge (size % 8 == 0) faults.Length (next_serial size (left - 4 - size)))
-due (Serial left after) = number_within left (λ serial. next_serial (left - 8) after)
-due (RangeLength left) =
-    length_within left (λ size. judge (size == 16) faults.Length (RangeMin (left - 4 - size)))
-due (RangeMin after) = any_number 8 (λ min. Ok (RangeMax min after))
-due (RangeMax min after) =
+serials_due (serials.Serial left after) =
+    number_within left (λ serial. next_serial (left - 8) after)
+serials_due (serials.RangeLength left) =
+    length_within left
+    (λ size. judge (size == 16) faults.Length (places.Serials (serials.RangeMin (left - 4 - size))))
+serials_due (serials.RangeMin after) =
+    any_number 8 (λ min. Ok (places.Serials (serials.RangeMax min after)))
+serials_due (serials.RangeMax min after) =
     any_number 8 (λ max. judge (nat_le min max) faults.RangeReversed (next_subsection after))
-due (BitmapLength left) = length_within left (λ size. Ok (BitmapOffset size (left - 4 - size)))
-due (BitmapOffset left after) = number_within left (λ offset. BitmapSize offset (left - 8) after)
-due (BitmapSize offset left after) =
+
+abbrev pub bitmap_due : BitmapPlace → Due
+bitmap_due (bitmaps.Length left) =
+    length_within left (λ size. Ok (places.Bitmap (bitmaps.Offset size (left - 4 - size))))
+bitmap_due (bitmaps.Offset left after) =
+    number_within left (λ offset. places.Bitmap (bitmaps.Size offset (left - 8) after))
+bitmap_due (bitmaps.Size offset left after) =
     length_of_rest left (next_bits offset (left - 4) (left - 4) after)
-due (BitmapByte offset size left after) = any_number 1 (bits_judged offset size left after)
-due ExtensionLength = any_length (λ size. ExtensionNameLength size 0)
-due (SubsectionExtensionLength left) =
-    length_within left (λ size. Ok (ExtensionNameLength size (left - 4 - size)))
-due (ExtensionNameLength left after) =
-    length_within left (λ size. Ok (ExtensionName size (left - 4 - size) after))
-due (ExtensionName size left after) = any_bytes size (ExtensionCritical left after)
-due (ExtensionCritical left after) =
-    byte_within left (λ critical. judge (critical == 0) faults.CriticalExtension
-    (ExtensionContentsLength (left - 1) after))
-due (ExtensionContentsLength left after) =
-    length_of_rest left (ExtensionContents (left - 4) after)
-due (ExtensionContents size after) = any_bytes size (next_subsection after)
+bitmap_due (bitmaps.Byte offset size left after) =
+    any_number 1 (bits_judged offset size left after)
+
+abbrev pub extension_due : ExtensionPlace → Due
+extension_due extensions.SectionLength =
+    any_length (λ size. places.Extension (extensions.NameLength size 0))
+extension_due (extensions.SubsectionLength left) =
+    length_within left
+    (λ size. Ok (places.Extension (extensions.NameLength size (left - 4 - size))))
+extension_due (extensions.NameLength left after) =
+    length_within left
+    (λ size. Ok (places.Extension (extensions.Name size (left - 4 - size) after)))
+extension_due (extensions.Name size left after) =
+    any_bytes size (places.Extension (extensions.Critical left after))
+extension_due (extensions.Critical left after) =
+    byte_within left
+    (λ critical. judge (critical == 0) faults.CriticalExtension
+    (places.Extension (extensions.ContentsLength (left - 1) after)))
+extension_due (extensions.ContentsLength left after) =
+    length_of_rest left (places.Extension (extensions.Contents (left - 4) after))
+extension_due (extensions.Contents size after) = any_bytes size (next_subsection after)
+
+abbrev pub due : Place → Due
+due (places.Header at) = header_due at
+due (places.SectionType signed) = record {
+  size = 1;
+  room = None;
+  judged = λ field. section_of_type signed (number_of field);
+}
+due (places.Signature at) = signature_due at
+due (places.List at) = list_due at
+due (places.Certificates at) = certificates_due at
+due (places.Serials at) = serials_due at
+due (places.Bitmap at) = bitmap_due at
+due (places.Extension at) = extension_due at
+
+-- whether the list may end where this is due
+abbrev pub can_end : Place → Bool
+can_end (places.SectionType signed) = true
+can_end _ = false
 
 -- ---- what fields name
 
 -- what an item names, under the authority in force
 abbrev pub item_entry : ItemKind → (authority item : List ℕ) → Entry
-item_entry Key authority item = KeyEntry item
-item_entry Sha1 authority item = Sha1Entry item
-item_entry Sha256 authority item = Sha256Entry item
-item_entry Id authority item = IdEntry authority item
+item_entry kinds.Key authority item = KeyEntry item
+item_entry kinds.Sha1 authority item = Sha1Entry item
+item_entry kinds.Sha256 authority item = Sha256Entry item
+item_entry kinds.Id authority item = IdEntry authority item
 
 -- what a field at a place names, under the authority in force
 abbrev pub names : Place → (authority field : List ℕ) → List Entry
-names (Serial left after) authority field = SerialsEntry authority (number_of field ∷ []) ∷ []
-names (RangeMax min after) authority field = RangeEntry authority min (number_of field) ∷ []
-names (BitmapByte offset size left after) authority field =
+names (places.List (lists.Item kind size left after)) authority field =
+    item_entry kind authority field ∷ []
+names (places.Serials (serials.Serial left after)) authority field =
+    SerialsEntry authority (number_of field ∷ []) ∷ []
+names (places.Serials (serials.RangeMax min after)) authority field =
+    RangeEntry authority min (number_of field) ∷ []
+names (places.Bitmap (bitmaps.Byte offset size left after)) authority field =
     BitmapEntry authority (base_of offset left) (number_of field) ∷ []
-names (Item kind size left after) authority field = item_entry kind authority field ∷ []
 names _ authority field = []
 
 -- The authority in force after a field. A section begins without one.
 abbrev pub authority_after : Place → (authority field : List ℕ) → List ℕ
-authority_after (Authority size after) authority field = field
-authority_after (SectionType signed) authority field = []
+authority_after (places.Certificates (certificates.Authority size after)) authority field = field
+authority_after (places.SectionType signed) authority field = []
 authority_after _ authority field = authority
 
 -- what is known of the header after a field
 abbrev pub header_after : Place → Header → List ℕ → Header
-header_after Version header field = record header { version = number_of field }
-header_after Date header field = record header { date = number_of field }
-header_after (Comment size) header field = record header { comment = field }
+header_after (places.Header headers.Version) header field =
+    record header { version = number_of field }
+header_after (places.Header headers.Date) header field =
+    record header { date = number_of field }
+header_after (places.Header (headers.Comment size)) header field = record header { comment = field }
 header_after _ header field = header

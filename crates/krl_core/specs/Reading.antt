@@ -11,15 +11,15 @@ use Rattle.krl_core.specs.declared.krl_fault.KrlFault.{KrlFault}
 use Rattle.krl_core.specs.declared.krl_fault.KrlFault.TheVariants.{EndsEarly, Length, TooLong, Read}
 use Rattle.krl_core.specs.declared.krl_fault.KrlFault.TheVariants.{NoMemory}
 use Rattle.krl_core.specs.declared.place.Place.{Place}
-use Rattle.krl_core.specs.declared.place.Place.TheVariants.{Magic, FormatVersion, Version, Date}
-use Rattle.krl_core.specs.declared.place.Place.TheVariants.{Flags, ReservedLength}
+use Rattle.krl_core.specs.declared.place.Place.TheVariants as places
+use Rattle.krl_core.specs.declared.place.header.HeaderPlace.TheVariants as headers
 use Rattle.krl_core.specs.declared.header.Header.{Header}
 use Rattle.krl_core.specs.Contents.{Contents, Means, held, stored}
 use Rattle.krl_core.specs.Entries.{entries_of}
 use Rattle.krl_core.specs.Krl.{SpelledSection, Spells}
 use Rattle.krl_core.specs.Front.{Spot, start, Leads, Passes, HasRoom, IsFirstFault, limit}
 use Rattle.krl_core.specs.Keeping.{InStep, IsKept, Keeping, StoresWithin, held_with_open}
-use Rattle.krl_core.specs.Place.{due}
+use Rattle.krl_core.specs.Place.{can_end, due}
 
 -- the reader, the place where the next field is due, what is kept, whether the list's end was
 -- found, and the fault that was met
@@ -67,7 +67,7 @@ pub record Follows (old new : Position) : Type 0 where
 
 -- The list is at its end: the end is due, and no byte is left.
 pub record Ends (old new : Position) : Type 0 where
-  pub may_end : (due new.place).may_end ≡ true
+  pub may_end : can_end new.place ≡ true
   pub at_end : IsAtEnd (left_of new.pull)
   pub still : (text : List ℕ) (fields : List (List ℕ)) → HasRead text fields old
       → HasRead text fields new × (text ≡ concat fields)
@@ -89,12 +89,12 @@ ReportsFailure (Err fault) failed = fault ≡ Read ↔ failed ≡ true
 
 -- the first fields of a list, of 40 bytes together, of which none says how long another is
 abbrev pub is_fixed : Place → Bool
-is_fixed Magic = true
-is_fixed FormatVersion = true
-is_fixed Version = true
-is_fixed Date = true
-is_fixed Flags = true
-is_fixed ReservedLength = true
+is_fixed (places.Header headers.Magic) = true
+is_fixed (places.Header headers.FormatVersion) = true
+is_fixed (places.Header headers.Version) = true
+is_fixed (places.Header headers.Date) = true
+is_fixed (places.Header headers.Flags) = true
+is_fixed (places.Header headers.ReservedLength) = true
 is_fixed _ = false
 
 -- What a fault says of a text, by whether the reader failed and the bytes that it has left. Memory
@@ -127,8 +127,8 @@ pub record LooksFor (place : Place) (old : Pulled) (ended : Bool) (new : Pulled)
   pub limit_is : new.limit ≡ old.limit
   pub works : new.failed ≡ false
   pub faultless : new.fault ≡ None
-  pub at_end : ended ≡ true → ((due place).may_end ≡ true) × IsAtEnd (left_of new)
-  pub goes_on : ended ≡ false → (due place).may_end ≡ true → IsSome new.ahead
+  pub at_end : ended ≡ true → (can_end place ≡ true) × IsAtEnd (left_of new)
+  pub goes_on : ended ≡ false → can_end place ≡ true → IsSome new.ahead
 
 -- why a field that was due was not taken
 pub data Missed (place : Place) (old : Pulled) (fault : KrlFault) (new : Pulled) : Type 0 where
@@ -147,7 +147,7 @@ pub record IsBounded (pull : Pulled) (keeping : Keeping) : Type 0 where
 
 -- The end of the list was found: it is due, no byte is left, and no fault was met.
 pub record IsEnded (position : Position) : Type 0 where
-  pub may_end : (due position.place).may_end ≡ true
+  pub may_end : can_end position.place ≡ true
   pub at_end : IsAtEnd (left_of position.pull)
   pub faultless : position.fault ≡ None
 
@@ -168,7 +168,7 @@ pub record IsWhole (text : List ℕ) (header : Header) (contents : Contents) : T
   pub text_is : text ≡ concat fields
   pub within : length text ≤ limit
   pub are_bytes : IsBytes text
-  pub may_end : (due spot.place).may_end ≡ true
+  pub may_end : can_end spot.place ≡ true
   pub header_is : header ≡ spot.header
   pub means : Means contents spot.entries
   pub held_is : held contents ≤ 4 * length text

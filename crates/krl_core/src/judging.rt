@@ -8,9 +8,14 @@ ghost use Rattle.krl_core.specs.Place.{next_item as item_after, next_serial as s
 ghost use Rattle.krl_core.specs.Place.{next_subsection as subsection_after};
 ghost use Rattle.krl_core.specs.Place.{section_of_type as section_of};
 ghost use Rattle.krl_core.specs.Place.{subsection_of_type as subsection_of};
+ghost use Rattle.krl_core.specs.declared.place.Place.TheVariants as places;
+ghost use Rattle.krl_core.specs.declared.place.list.ListPlace.TheVariants as lists;
 
 use crate::krl_fault::KrlFault;
-use crate::place::{ItemKind, Place};
+use crate::place::{
+    BitmapPlace, CertificatesPlace, ExtensionPlace, ItemKind, ListPlace, Place, SerialsPlace,
+    SignaturePlace,
+};
 
 // The next place where a field is good, else its fault.
 pub(crate) fn judge(good: bool, fault: KrlFault, next: Place) -> Result<Place, KrlFault>
@@ -45,7 +50,7 @@ pub(crate) fn next_subsection(left: u32) -> Place
     if left == 0 {
         Place::SectionType { signed: false }
     } else {
-        Place::SubsectionType { left }
+        Place::Certificates(CertificatesPlace::SubsectionType { left })
     }
 }
 
@@ -56,7 +61,7 @@ pub(crate) fn next_item(kind: ItemKind, left: u32, after: u32) -> Place
     if left == 0 {
         next_subsection(after)
     } else {
-        Place::ItemLength { kind, left, after }
+        Place::List(ListPlace::ItemLength { kind, left, after })
     }
 }
 
@@ -66,7 +71,7 @@ pub(crate) fn next_serial(left: u32, after: u32) -> Place
     if left == 0 {
         next_subsection(after)
     } else {
-        Place::Serial { left, after }
+        Place::Serials(SerialsPlace::Serial { left, after })
     }
 }
 
@@ -76,12 +81,12 @@ pub(crate) fn next_bits(offset: u64, size: u32, left: u32, after: u32) -> Place
     if left == 0 {
         next_subsection(after)
     } else {
-        Place::BitmapByte {
+        Place::Bitmap(BitmapPlace::Byte {
             offset,
             size,
             left,
             after,
-        }
+        })
     }
 }
 
@@ -90,25 +95,25 @@ pub(crate) fn section_of_type(signed: bool, type_byte: u8) -> Result<Place, KrlF
     ensures { result ≡ section_of signed type_byte }
 {
     if type_byte == 4 {
-        return Ok(Place::SignatureKeyLength);
+        return Ok(Place::Signature(SignaturePlace::KeyLength));
     }
     if signed {
         return Err(KrlFault::AfterSignature);
     }
     match type_byte {
-        1 => Ok(Place::CertificatesLength),
-        2 => Ok(Place::ItemsLength {
-            kind: ItemKind::Key,
-        }),
-        3 => Ok(Place::ItemsLength {
-            kind: ItemKind::Sha1,
-        }),
-        5 => Ok(Place::ItemsLength {
-            kind: ItemKind::Sha256,
-        }),
-        255 => Ok(Place::ExtensionLength),
+        1 => Ok(Place::Certificates(CertificatesPlace::SectionLength)),
+        2 => Ok(list_of(ItemKind::Key)),
+        3 => Ok(list_of(ItemKind::Sha1)),
+        5 => Ok(list_of(ItemKind::Sha256)),
+        255 => Ok(Place::Extension(ExtensionPlace::SectionLength)),
         _ => Err(KrlFault::UnknownSection),
     }
+}
+
+fn list_of(kind: ItemKind) -> Place
+    ensures { result ≡ places.List (lists.SectionLength kind) }
+{
+    Place::List(ListPlace::SectionLength { kind })
 }
 
 // The content of a subsection by its type byte.
@@ -116,11 +121,11 @@ pub(crate) fn subsection_of_type(left: u32, type_byte: u8) -> Result<Place, KrlF
     ensures { result ≡ subsection_of left type_byte }
 {
     match type_byte {
-        0x20 => Ok(Place::SerialsLength { left }),
-        0x21 => Ok(Place::RangeLength { left }),
-        0x22 => Ok(Place::BitmapLength { left }),
-        0x23 => Ok(Place::IdsLength { left }),
-        0x39 => Ok(Place::SubsectionExtensionLength { left }),
+        0x20 => Ok(Place::Serials(SerialsPlace::SerialsLength { left })),
+        0x21 => Ok(Place::Serials(SerialsPlace::RangeLength { left })),
+        0x22 => Ok(Place::Bitmap(BitmapPlace::Length { left })),
+        0x23 => Ok(Place::List(ListPlace::IdsLength { left })),
+        0x39 => Ok(Place::Extension(ExtensionPlace::SubsectionLength { left })),
         _ => Err(KrlFault::UnknownCertSection),
     }
 }

@@ -17,7 +17,9 @@ ghost use Rattle.krl_core.specs.Reading.{is_fixed};
 
 use crate::field::{byte_of, u64_of};
 use crate::header::Header;
-use crate::place::{ItemKind, Place};
+use crate::place::{
+    BitmapPlace, CertificatesPlace, HeaderPlace, ItemKind, ListPlace, Place, SerialsPlace,
+};
 use crate::revocations::Revocations;
 use serial_set::{BitRuns, Finished, Span, Spans, count_near};
 use ssh_wire::Bytes;
@@ -107,28 +109,34 @@ impl<S: Spans> Keeper<S> {
         ensures grows { GrowsWithin (length field.now) self.old self.new }
     {
         match place {
-            Place::Version => {
+            Place::Header(HeaderPlace::Version) => {
                 self.version = u64_of(field);
                 Ok(())
             }
-            Place::Date => {
+            Place::Header(HeaderPlace::Date) => {
                 self.date = u64_of(field);
                 Ok(())
             }
-            Place::Comment { .. } => self.set_comment(field),
+            Place::Header(HeaderPlace::Comment { .. }) => self.set_comment(field),
             Place::SectionType { .. } => {
                 self.authority.clear();
                 Ok(())
             }
-            Place::Authority { .. } => self.set_authority(field),
-            Place::Serial { .. } => self.add_serial(u64_of(field)),
-            Place::RangeMax { min, .. } => self.add_range(min, u64_of(field)),
-            Place::BitmapSize { offset, left, .. } => {
+            Place::Certificates(CertificatesPlace::Authority { .. }) => self.set_authority(field),
+            Place::Serials(SerialsPlace::Serial { .. }) => self.add_serial(u64_of(field)),
+            Place::Serials(SerialsPlace::RangeMax { min, .. }) => self.add_range(
+                min,
+                u64_of(field),
+            ),
+            Place::Bitmap(BitmapPlace::Size { offset, left, .. }) => {
                 self.bitmap = BitRuns::new(offset, left - 4);
                 Ok(())
             }
-            Place::BitmapByte { left, .. } => self.add_bits(byte_of(field), left == 1),
-            Place::Item { kind, .. } => self.add_item(kind, field),
+            Place::Bitmap(BitmapPlace::Byte { left, .. }) => self.add_bits(
+                byte_of(field),
+                left == 1,
+            ),
+            Place::List(ListPlace::Item { kind, .. }) => self.add_item(kind, field),
             // the other places name nothing; of one that names something this is not proved
             _ => Ok(()),
         }

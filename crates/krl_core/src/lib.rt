@@ -2,7 +2,6 @@
 #![tactic(auto)]
 
 mod addition;
-mod due;
 mod field;
 mod getters;
 mod header;
@@ -12,7 +11,6 @@ mod keeper;
 mod krl_fault;
 pub mod laws;
 mod listed;
-mod part;
 mod place;
 mod query;
 mod read;
@@ -30,7 +28,7 @@ mod writing;
 pub use header::Header;
 pub use krl_fault::KrlFault;
 pub use listed::{Authorities, Listed};
-pub use place::{ItemKind, Place};
+pub use place::Place;
 pub use read::read_krl;
 pub use reading::{LIMIT, Reading};
 pub use revocations::Revocations;

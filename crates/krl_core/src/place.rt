@@ -1,156 +1,109 @@
 // The places in a list where a field can be due (PROTOCOL.krl).
 
-ghost use Rattle.std.specs.Prelude.{◌≡◌};
-ghost use Rattle.krl_core.specs.Place.{item_size};
+ghost use Rattle.std.specs.Prelude.{◌≡◌, ◌↔◌, IsTrue, length};
+ghost use Rattle.krl_core.specs.Place.{can_end, due};
+ghost use Rattle.krl_core.specs.Front.{HasRoom};
 
-/// What the items of a list of strings are.
-#[derive(Clone, Copy)]
-pub enum ItemKind {
-    Key,
-    Sha1,
-    Sha256,
-    Id,
-}
+mod bitmap;
+mod certificates;
+mod extension;
+mod header;
+mod list;
+mod serials;
+mod signature;
 
-impl ItemKind {
-    /// How many bytes an item has whose length says `size`.
-    #[inline(always)]
-    pub fn size(self, size: u32) -> u32
-        ensures { result ≡ item_size self size }
-    {
-        match self {
-            ItemKind::Key | ItemKind::Id => size,
-            ItemKind::Sha1 => 20,
-            ItemKind::Sha256 => 32,
-        }
-    }
-}
+use crate::field::byte_of;
+use crate::judging::section_of_type;
+use crate::krl_fault::KrlFault;
+pub use bitmap::BitmapPlace;
+pub use certificates::CertificatesPlace;
+pub use extension::ExtensionPlace;
+pub use header::HeaderPlace;
+pub use list::{ItemKind, ListPlace};
+pub use serials::SerialsPlace;
+pub use signature::SignaturePlace;
 
 /// What comes next in a list, of which the fields are read one after the other. `left` counts the
-/// bytes that are left of what the field stands in, with the field; `after` counts those of the
-/// section that come after it. A bitmap's byte is a field.
+/// bytes that are left of what the field stands in, with the field; `after` those of the section
+/// after that. A bitmap's byte is a field.
 #[derive(Clone, Copy)]
 pub enum Place {
-    Magic,
-    FormatVersion,
-    Version,
-    Date,
-    Flags,
-    ReservedLength,
-    Reserved {
-        size: u32,
-    },
-    CommentLength,
-    Comment {
-        size: u32,
-    },
+    Header(HeaderPlace),
     /// A section, or the end. `signed` says that a signature stands before it.
-    SectionType {
-        signed: bool,
-    },
-    SignatureKeyLength,
-    SignatureKey {
-        size: u32,
-    },
-    SignatureLength,
-    Signature {
-        size: u32,
-    },
-    /// The length of a section of items. Key IDs stand in a subsection.
-    ItemsLength {
-        kind: ItemKind,
-    },
-    IdsLength {
-        left: u32,
-    },
-    ItemLength {
-        kind: ItemKind,
-        left: u32,
-        after: u32,
-    },
-    Item {
-        kind: ItemKind,
-        size: u32,
-        left: u32,
-        after: u32,
-    },
-    CertificatesLength,
-    AuthorityLength {
-        left: u32,
-    },
-    Authority {
-        size: u32,
-        after: u32,
-    },
-    SectionReservedLength {
-        left: u32,
-    },
-    SectionReserved {
-        size: u32,
-        after: u32,
-    },
-    SubsectionType {
-        left: u32,
-    },
-    SerialsLength {
-        left: u32,
-    },
-    Serial {
-        left: u32,
-        after: u32,
-    },
-    RangeLength {
-        left: u32,
-    },
-    RangeMin {
-        after: u32,
-    },
-    RangeMax {
-        min: u64,
-        after: u32,
-    },
-    BitmapLength {
-        left: u32,
-    },
-    BitmapOffset {
-        left: u32,
-        after: u32,
-    },
-    BitmapSize {
-        offset: u64,
-        left: u32,
-        after: u32,
-    },
-    /// One of the `left` bytes that are due of a bitmap's `size`, the highest first.
-    BitmapByte {
-        offset: u64,
-        size: u32,
-        left: u32,
-        after: u32,
-    },
-    ExtensionLength,
-    SubsectionExtensionLength {
-        left: u32,
-    },
-    ExtensionNameLength {
-        left: u32,
-        after: u32,
-    },
-    ExtensionName {
-        size: u32,
-        left: u32,
-        after: u32,
-    },
-    ExtensionCritical {
-        left: u32,
-        after: u32,
-    },
-    ExtensionContentsLength {
-        left: u32,
-        after: u32,
-    },
-    ExtensionContents {
-        size: u32,
-        after: u32,
-    },
+    SectionType { signed: bool },
+    Signature(SignaturePlace),
+    List(ListPlace),
+    Certificates(CertificatesPlace),
+    Serials(SerialsPlace),
+    Bitmap(BitmapPlace),
+    Extension(ExtensionPlace),
+}
+
+impl Place {
+    /// How many bytes the field has that is due, and how many what it stands in has left for it.
+    #[inline(always)]
+    fn size_and_room(self) -> (u32, Option<u32>)
+        ensures size { result.0 ≡ (due self).size }
+        ensures room { result.1 ≡ (due self).room }
+    {
+        match self {
+            Place::Header(at) => at.size_and_room(),
+            Place::SectionType { .. } => (1, None),
+            Place::Signature(at) => at.size_and_room(),
+            Place::List(at) => at.size_and_room(),
+            Place::Certificates(at) => at.size_and_room(),
+            Place::Serials(at) => at.size_and_room(),
+            Place::Bitmap(at) => at.size_and_room(),
+            Place::Extension(at) => at.size_and_room(),
+        }
+    }
+
+    /// How many bytes the field has that is due.
+    #[inline(always)]
+    pub fn size(self) -> u32
+        ensures { result ≡ (due self).size }
+    {
+        self.size_and_room().0
+    }
+
+    /// Whether what the field stands in has as many bytes left.
+    #[inline(always)]
+    pub fn has_room(self) -> bool
+        ensures { IsTrue result ↔ HasRoom (due self) }
+    {
+        match self.size_and_room() {
+            (size, Some(left)) => left >= size,
+            (_, None) => true,
+        }
+    }
+
+    /// Whether the list may end here.
+    #[inline(always)]
+    pub fn may_end(self) -> bool
+        ensures { result ≡ can_end self }
+    {
+        match self {
+            Place::SectionType { .. } => true,
+            _ => false,
+        }
+    }
+
+    /// Judges the whole field that was due: the place after it, or why it is refused.
+    #[inline(always)]
+    pub fn after(self, field: &[u8]) -> Result<Place, KrlFault>
+        requires whole { length field.now ≡ (due self).size }
+        requires room { HasRoom (due self) }
+        ensures { result ≡ (due self).judged field.now }
+    {
+        match self {
+            Place::Header(at) => at.after(field),
+            Place::SectionType { signed } => section_of_type(signed, byte_of(field)),
+            Place::Signature(at) => Ok(at.after(field)),
+            Place::List(at) => at.after(field),
+            Place::Certificates(at) => at.after(field),
+            Place::Serials(at) => at.after(field),
+            Place::Bitmap(at) => at.after(field),
+            Place::Extension(at) => at.after(field),
+        }
+    }
 }

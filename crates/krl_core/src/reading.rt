@@ -9,7 +9,7 @@ ghost use Rattle.ssh_wire.specs.declared.pull_fault.PullFault.TheVariants as pul
 ghost use Rattle.krl_core.specs.declared.krl_fault.KrlFault.TheVariants.{NoMemory, Read};
 ghost use Rattle.krl_core.specs.Front.{HasRoom, Passes, limit};
 ghost use Rattle.krl_core.specs.Keeping.{GrowsWithin, InStep, KeepsField, held_with_open};
-ghost use Rattle.krl_core.specs.Place.{due};
+ghost use Rattle.krl_core.specs.Place.{can_end, due};
 ghost use Rattle.krl_core.specs.Reading.{Ends, Follows, HasRead, IsBounded, IsReached, IsList};
 ghost use Rattle.krl_core.specs.Reading.{IsWhole, LooksFor, Missed, ReadsOneMore, Refused};
 ghost use Rattle.krl_core.specs.Reading.{ReportsFailure, is_fixed, working};
@@ -17,7 +17,7 @@ ghost use Rattle.krl_core.specs.Reading.{ReportsFailure, is_fixed, working};
 use crate::header::Header;
 use crate::keeper::Keeper;
 use crate::krl_fault::KrlFault;
-use crate::place::Place;
+use crate::place::{BitmapPlace, HeaderPlace, Place, SerialsPlace};
 use crate::revocations::Revocations;
 use serial_set::Spans;
 use ssh_wire::{Pull, Source};
@@ -75,7 +75,7 @@ impl<S: Spans, R: Source + Drop> Reading<S, R> {
     {
         Reading {
             pull: Pull::new(reader, LIMIT),
-            place: Place::Magic,
+            place: Place::Header(HeaderPlace::Magic),
             keeper: Keeper::new(alloc),
             large: Vec::new(alloc),
             ended: false,
@@ -136,10 +136,10 @@ impl<S: Spans, R: Source + Drop> Reading<S, R> {
     /// What was read, after a step that answered false, and the reader.
     pub fn done(self) -> (Header, Revocations<S>, R)
         ensures whole { (text : List ℕ) → (fields : List (List ℕ)) → HasRead text fields self
-            → text ≡ concat fields → (due self.place).may_end ≡ true
+            → text ≡ concat fields → can_end self.place ≡ true
             → IsWhole text result.0 result.1 }
         ensures list { (text : List ℕ) → (fields : List (List ℕ)) → HasRead text fields self
-            → text ≡ concat fields → (due self.place).may_end ≡ true
+            → text ≡ concat fields → can_end self.place ≡ true
             → IsList text result.0 result.1 }
         ensures failed { R.has_failed result.2 ≡ self.pull.failed }
     {
@@ -170,7 +170,7 @@ fn ends<R: Source + Drop>(pull: &mut Pull<R>, place: Place) -> Result<bool, KrlF
     requires faultless { pull.old.fault ≡ None }
     requires works { pull.old.failed ≡ false }
     ensures ok { IfOk result (λ ended. LooksFor place pull.old ended pull.new) }
-    ensures err { IfErr result (λ fault. (fault ≡ Read) × ((due place).may_end ≡ true)
+    ensures err { IfErr result (λ fault. (fault ≡ Read) × (can_end place ≡ true)
         × Refuses pull.old 1 pulls.Read pull.new) }
 {
     if !place.may_end() {
@@ -248,21 +248,24 @@ fn advance<S: Spans, R: Source + Drop>(
 {
     // Of these a list can have millions, so each has code of its own, made for its place.
     match *place {
-        Place::Serial { left, after } => {
-            advance_at(pull, place, Place::Serial { left, after }, keeper, large)
+        Place::Serials(SerialsPlace::Serial { left, after }) => {
+            let at = Place::Serials(SerialsPlace::Serial { left, after });
+            advance_at(pull, place, at, keeper, large)
         }
-        Place::BitmapByte {
-            offset,
-            size,
-            left,
-            after,
-        } => {
-            let at = Place::BitmapByte {
+        Place::Bitmap(
+            BitmapPlace::Byte {
                 offset,
                 size,
                 left,
                 after,
-            };
+            },
+        ) => {
+            let at = Place::Bitmap(BitmapPlace::Byte {
+                offset,
+                size,
+                left,
+                after,
+            });
             advance_at(pull, place, at, keeper, large)
         }
         at => advance_at(pull, place, at, keeper, large),

@@ -1,4 +1,5 @@
 use Rattle.std.proofs.Common.{refl}
+use Rattle.std.proofs.lemmas.Bool.{false≢true}
 use Rattle.std.proofs.lemmas.Result.{err_from_is_err_and}
 use Rattle.krl_core.specs.Reading.{working}
 use Rattle.krl_core.proofs.Fixed.{late_where_large}
@@ -50,7 +51,7 @@ returns-clause-sound g c =
       in_step = λ _. c.in_ok-place.ensures.keeps.in_step;
       pull_faultless = λ _. c.in_ok-field.ensures.ok.is_faultless;
       works = λ _. c.in_ok-field.ensures.ok.working;
-      ends = λ off. absurd (cc);
+      ends = λ off. absurd (false≢true off);
       bounded = bounded_more (working c.args.pull.now c.args.at c.args.keeper.now) c.ends.new.pull c.take.new.pull c.pass.new.keeper c.in_ok-field.field.now c.requires.reached.bounded
           looks c.in_ok-field.ensures.ok c.pass.ensures.grows;
     }

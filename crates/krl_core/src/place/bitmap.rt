@@ -1,0 +1,88 @@
+// The places of a subsection of a bitmap, and what follows each of its fields.
+
+ghost use Rattle.std.specs.Prelude.{◌≡◌, length};
+ghost use Rattle.krl_core.specs.Front.{HasRoom};
+ghost use Rattle.krl_core.specs.Place.{bitmap_due};
+
+use crate::field::{byte_of, u32_of, u64_of};
+use crate::judging::{bits_judged, judge, next_bits, rest, within};
+use crate::krl_fault::KrlFault;
+use crate::place::Place;
+
+/// A subsection of a bitmap.
+#[derive(Clone, Copy)]
+pub enum BitmapPlace {
+    Length {
+        left: u32,
+    },
+    Offset {
+        left: u32,
+        after: u32,
+    },
+    Size {
+        offset: u64,
+        left: u32,
+        after: u32,
+    },
+    /// One of the `left` bytes that are due of a bitmap's `size`, the highest first.
+    Byte {
+        offset: u64,
+        size: u32,
+        left: u32,
+        after: u32,
+    },
+}
+
+impl BitmapPlace {
+    // How many bytes the field has that is due, and how many are left for it.
+    #[inline(always)]
+    pub(super) fn size_and_room(self) -> (u32, Option<u32>)
+        ensures size { result.0 ≡ (bitmap_due self).size }
+        ensures room { result.1 ≡ (bitmap_due self).room }
+    {
+        match self {
+            BitmapPlace::Length { left } | BitmapPlace::Size { left, .. } => (4, Some(left)),
+            BitmapPlace::Offset { left, .. } => (8, Some(left)),
+            BitmapPlace::Byte { .. } => (1, None),
+        }
+    }
+
+    // Judges the whole field that was due.
+    #[inline(always)]
+    pub(super) fn after(self, field: &[u8]) -> Result<Place, KrlFault>
+        requires whole { length field.now ≡ (bitmap_due self).size }
+        requires room { HasRoom (bitmap_due self) }
+        ensures { result ≡ (bitmap_due self).judged field.now }
+    {
+        match self {
+            BitmapPlace::Length { left } => {
+                let size = u32_of(field);
+                let next = Place::Bitmap(BitmapPlace::Offset {
+                    left: size,
+                    after: rest(left, size),
+                });
+                within(left, size, Ok(next))
+            }
+            BitmapPlace::Offset { left, after } => Ok(Place::Bitmap(BitmapPlace::Size {
+                offset: u64_of(field),
+                left: left - 8,
+                after,
+            })),
+            BitmapPlace::Size {
+                offset,
+                left,
+                after,
+            } => {
+                let size = left - 4;
+                let next = next_bits(offset, size, size, after);
+                judge(u32_of(field) == size, KrlFault::Length, next)
+            }
+            BitmapPlace::Byte {
+                offset,
+                size,
+                left,
+                after,
+            } => bits_judged(offset, size, left, after, byte_of(field)),
+        }
+    }
+}

@@ -1,0 +1,74 @@
+// The places of a section of certificates, but for its subsections, and what follows each field.
+
+ghost use Rattle.std.specs.Prelude.{◌≡◌, length};
+ghost use Rattle.krl_core.specs.Front.{HasRoom};
+ghost use Rattle.krl_core.specs.Place.{certificates_due};
+
+use crate::field::{byte_of, u32_of};
+use crate::judging::{next_subsection, rest, subsection_of_type, within};
+use crate::krl_fault::KrlFault;
+use crate::place::Place;
+
+/// A section of certificates, but for its subsections.
+#[derive(Clone, Copy)]
+pub enum CertificatesPlace {
+    SectionLength,
+    AuthorityLength { left: u32 },
+    Authority { size: u32, after: u32 },
+    ReservedLength { left: u32 },
+    Reserved { size: u32, after: u32 },
+    SubsectionType { left: u32 },
+}
+
+impl CertificatesPlace {
+    // How many bytes the field has that is due, and how many are left for it.
+    #[inline(always)]
+    pub(super) fn size_and_room(self) -> (u32, Option<u32>)
+        ensures size { result.0 ≡ (certificates_due self).size }
+        ensures room { result.1 ≡ (certificates_due self).room }
+    {
+        match self {
+            CertificatesPlace::SectionLength => (4, None),
+            CertificatesPlace::AuthorityLength { left } => (4, Some(left)),
+            CertificatesPlace::Authority { size, .. } => (size, None),
+            CertificatesPlace::ReservedLength { left } => (4, Some(left)),
+            CertificatesPlace::Reserved { size, .. } => (size, None),
+            CertificatesPlace::SubsectionType { left } => (1, Some(left)),
+        }
+    }
+
+    // Judges the whole field that was due.
+    #[inline(always)]
+    pub(super) fn after(self, field: &[u8]) -> Result<Place, KrlFault>
+        requires whole { length field.now ≡ (certificates_due self).size }
+        requires room { HasRoom (certificates_due self) }
+        ensures { result ≡ (certificates_due self).judged field.now }
+    {
+        match self {
+            CertificatesPlace::SectionLength => {
+                let left = u32_of(field);
+                Ok(Place::Certificates(CertificatesPlace::AuthorityLength { left }))
+            }
+            CertificatesPlace::AuthorityLength { left } => {
+                let size = u32_of(field);
+                let after = rest(left, size);
+                let next = Place::Certificates(CertificatesPlace::Authority { size, after });
+                within(left, size, Ok(next))
+            }
+            CertificatesPlace::Authority { after, .. } => {
+                let next = CertificatesPlace::ReservedLength { left: after };
+                Ok(Place::Certificates(next))
+            }
+            CertificatesPlace::ReservedLength { left } => {
+                let size = u32_of(field);
+                let after = rest(left, size);
+                let next = Place::Certificates(CertificatesPlace::Reserved { size, after });
+                within(left, size, Ok(next))
+            }
+            CertificatesPlace::Reserved { after, .. } => Ok(next_subsection(after)),
+            CertificatesPlace::SubsectionType { left } => {
+                subsection_of_type(left - 1, byte_of(field))
+            }
+        }
+    }
+}

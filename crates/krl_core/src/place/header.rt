@@ -1,0 +1,70 @@
+// The places of the header, and what follows each of its fields.
+
+ghost use Rattle.std.specs.Prelude.{◌≡◌, length};
+ghost use Rattle.krl_core.specs.Place.{header_due};
+
+use crate::field::u32_of;
+use crate::header::MAGIC;
+use crate::judging::judge;
+use crate::krl_fault::KrlFault;
+use crate::place::Place;
+
+/// All before the first section.
+#[derive(Clone, Copy)]
+pub enum HeaderPlace {
+    Magic,
+    FormatVersion,
+    Version,
+    Date,
+    Flags,
+    ReservedLength,
+    Reserved { size: u32 },
+    CommentLength,
+    Comment { size: u32 },
+}
+
+impl HeaderPlace {
+    // How many bytes the field has that is due, and how many are left for it.
+    #[inline(always)]
+    pub(super) fn size_and_room(self) -> (u32, Option<u32>)
+        ensures size { result.0 ≡ (header_due self).size }
+        ensures room { result.1 ≡ (header_due self).room }
+    {
+        match self {
+            HeaderPlace::Reserved { size } | HeaderPlace::Comment { size } => (size, None),
+            HeaderPlace::FormatVersion => (4, None),
+            HeaderPlace::ReservedLength | HeaderPlace::CommentLength => (4, None),
+            _ => (8, None),
+        }
+    }
+
+    // Judges the whole field that was due.
+    #[inline(always)]
+    pub(super) fn after(self, field: &[u8]) -> Result<Place, KrlFault>
+        requires { length field.now ≡ (header_due self).size }
+        ensures { result ≡ (header_due self).judged field.now }
+    {
+        let next = match self {
+            HeaderPlace::Magic => {
+                let next = Place::Header(HeaderPlace::FormatVersion);
+                return judge(field == MAGIC, KrlFault::Magic, next);
+            }
+            HeaderPlace::FormatVersion => {
+                let next = Place::Header(HeaderPlace::Version);
+                return judge(u32_of(field) == 1, KrlFault::FormatVersion, next);
+            }
+            HeaderPlace::Version => HeaderPlace::Date,
+            HeaderPlace::Date => HeaderPlace::Flags,
+            HeaderPlace::Flags => HeaderPlace::ReservedLength,
+            HeaderPlace::ReservedLength => HeaderPlace::Reserved {
+                size: u32_of(field),
+            },
+            HeaderPlace::Reserved { .. } => HeaderPlace::CommentLength,
+            HeaderPlace::CommentLength => HeaderPlace::Comment {
+                size: u32_of(field),
+            },
+            HeaderPlace::Comment { .. } => return Ok(Place::SectionType { signed: false }),
+        };
+        Ok(Place::Header(next))
+    }
+}

@@ -1,0 +1,48 @@
+// The places of a signature, and what follows each of its fields.
+
+ghost use Rattle.std.specs.Prelude.{◌≡◌, length, Ok};
+ghost use Rattle.krl_core.specs.Place.{signature_due};
+
+use crate::field::u32_of;
+use crate::place::Place;
+
+/// A signature, after its type byte.
+#[derive(Clone, Copy)]
+pub enum SignaturePlace {
+    KeyLength,
+    Key { size: u32 },
+    SignatureLength,
+    Signature { size: u32 },
+}
+
+impl SignaturePlace {
+    // How many bytes the field has that is due, and how many are left for it.
+    #[inline(always)]
+    pub(super) fn size_and_room(self) -> (u32, Option<u32>)
+        ensures size { result.0 ≡ (signature_due self).size }
+        ensures room { result.1 ≡ (signature_due self).room }
+    {
+        match self {
+            SignaturePlace::KeyLength | SignaturePlace::SignatureLength => (4, None),
+            SignaturePlace::Key { size } | SignaturePlace::Signature { size } => (size, None),
+        }
+    }
+
+    // Judges the whole field that was due.
+    #[inline(always)]
+    pub(super) fn after(self, field: &[u8]) -> Place
+        requires { length field.now ≡ (signature_due self).size }
+        ensures { (signature_due self).judged field.now ≡ Ok result }
+    {
+        match self {
+            SignaturePlace::KeyLength => Place::Signature(SignaturePlace::Key {
+                size: u32_of(field),
+            }),
+            SignaturePlace::Key { .. } => Place::Signature(SignaturePlace::SignatureLength),
+            SignaturePlace::SignatureLength => Place::Signature(SignaturePlace::Signature {
+                size: u32_of(field),
+            }),
+            SignaturePlace::Signature { .. } => Place::SectionType { signed: true },
+        }
+    }
+}
