@@ -1,6 +1,5 @@
 -- Members that are found one after the other, and the runs that they are.
-use Rattle.std.proofs.Common.{ℕ, ◌+◌, ◌≤◌, List, [], ◌∷◌, ◌++◌, Some, None, length, inl, inr, arith}
-use Rattle.serial_set.specs.declared.span.Span.{Span}
+use Rattle.std.proofs.Common.{ℕ, ◌≤◌, List, Some, None, arith}
 use Rattle.serial_set.specs.declared.entry.Entry.{Entry}
 use Rattle.serial_set.specs.Span.{AreSerials, Covers}
 use Rattle.serial_set.specs.Entry.{pieces, hi_of, EntriesFrom, members_of, runs_of}

@@ -25,6 +25,7 @@ mod span;
 mod span_vec;
 mod span_words;
 mod spans;
+mod spot;
 mod walk;
 mod word_bits;
 

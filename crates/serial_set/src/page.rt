@@ -77,7 +77,7 @@ impl Page {
             → IsTrue is_last ⊎ (hi_of new < end_of (entries_in self.old))) }
         ensures refused { OnErr result (entries_in self.new ≡ entries_in self.old) }
     {
-        let at = self.count_near(new.lo(), near);
+        let at = self.count_below(new.lo(), near);
         if !self.is_free(at, new.hi(), is_last) {
             return Ok(Tried {
                 place: self.gap + at,
@@ -93,7 +93,7 @@ impl Page {
 
     // How many entries end before a number. It looks at the end first, and then at the place `near`
     // of the vector and after it.
-    fn count_near(&self, number: u64, near: usize) -> usize
+    fn count_below(&self, number: u64, near: usize) -> usize
         requires { EntriesFrom 0 (entries_in self.now) }
         ensures within { result ≤ length (entries_in self.now) }
         ensures below { All (λ e. hi_of e < number) (take result (entries_in self.now)) }
@@ -141,7 +141,7 @@ impl Page {
             (Replaces (entries_in self.old) lo hi few.now (entries_in self.new)) }
         ensures refused { OnErr result (entries_in self.new ≡ entries_in self.old) }
     {
-        let from = self.count_near(lo, near);
+        let from = self.count_below(lo, near);
         let to = from + count_beginning_upto(&self.as_slice()[from..], hi);
         self.splice(from, to, few)?;
         Ok(self.gap + from)

@@ -12,6 +12,7 @@ use crate::entry::Entry;
 use crate::gap::insert_at;
 use crate::page::{PAGE_LEN, Page};
 use crate::search::count_ending_below;
+use crate::spot::Spot;
 use std::alloc::AllocError;
 
 /// The page where a number may well stand, to look at first.
@@ -135,13 +136,8 @@ fn page_for(pages: &[Page], lo: u64, near: usize) -> usize
 }
 
 /// Puts an entry between others, where none of them reaches into its stretch and their page has
-/// room. Else nothing changes. `at`, a page and a place in its vector to look at first, becomes
-/// where the entry belongs.
-pub fn put_new(
-    pages: &mut Vec<Page>,
-    at: &mut (usize, usize),
-    new: Entry,
-) -> Result<bool, AllocError>
+/// room. Else nothing changes. `at`, where to look first, becomes where the entry belongs.
+pub fn put_new(pages: &mut Vec<Page>, at: &mut Spot, new: Entry) -> Result<bool, AllocError>
     requires { EntriesFrom 0 (entries_of pages.old.items) }
     ensures put { IfOk result (λ is_put.
         PutIf is_put (entries_of pages.old.items) new (entries_of pages.new.items)) }
@@ -151,23 +147,27 @@ pub fn put_new(
     if pages.is_empty() {
         return Ok(false);
     }
-    let page = page_for(pages, new.lo(), at.0);
+    let page = page_for(pages, new.lo(), at.page());
     let is_last = page + 1 == pages.len();
-    let near = if page == at.0 { at.1 } else { usize::MAX };
+    let near = if page == at.page() {
+        at.place()
+    } else {
+        usize::MAX
+    };
     let tried = pages[page].put_new(new, is_last, near)?;
-    *at = (page, tried.place);
+    *at = Spot::of(page, tried.place);
     Ok(tried.is_put)
 }
 
-/// Puts entries that rise in place of all that reach into the numbers from `lo` to `hi`. It says
-/// where: the page and the place in its vector. Where memory runs out nothing changes.
+/// Puts entries that rise in place of all that reach into the numbers from `lo` to `hi`, and says
+/// where. Where memory runs out nothing changes.
 pub fn put_entries(
     pages: &mut Vec<Page>,
     few: &[Entry],
     lo: u64,
     hi: u64,
-    near: (usize, usize),
-) -> Result<(usize, usize), AllocError>
+    near: Spot,
+) -> Result<Spot, AllocError>
     requires order { EntriesFrom 0 (entries_of pages.old.items) }
     requires whole { All (λ e. (hi_of e ≤ hi) ⊎ (hi < lo_of e)) (entries_of pages.old.items) }
     requires few { (0 < length few.now) × All (λ e. hi_of e ≤ hi) few.now }
@@ -178,9 +178,9 @@ pub fn put_entries(
 {
     if pages.is_empty() {
         put_first(pages, few)?;
-        return Ok((0, 0));
+        return Ok(Spot::of(0, 0));
     }
-    make_room(pages, lo, near.0)?;
+    make_room(pages, lo, near.page())?;
     put_in(pages, few, lo, hi, near)
 }
 
@@ -202,8 +202,8 @@ fn put_in(
     few: &[Entry],
     lo: u64,
     hi: u64,
-    near: (usize, usize),
-) -> Result<(usize, usize), AllocError>
+    near: Spot,
+) -> Result<Spot, AllocError>
     requires some { 0 < length pages.old.items }
     requires order { EntriesFrom 0 (entries_of pages.old.items) }
     requires whole { All (λ e. (hi_of e ≤ hi) ⊎ (hi < lo_of e)) (entries_of pages.old.items) }
@@ -213,10 +213,10 @@ fn put_in(
     ensures refused { OnErr result
         (entries_of pages.new.items ≡ entries_of pages.old.items) }
 {
-    let at = page_for(pages, lo, near.0);
-    let place = pages[at].put(few, lo, hi, near.1)?;
+    let at = page_for(pages, lo, near.page());
+    let place = pages[at].put(few, lo, hi, near.place())?;
     cut_after(pages, at, hi);
-    Ok((at, place))
+    Ok(Spot::of(at, place))
 }
 
 // Cuts off the entries up to a number after a page, if that does not reach past it.
@@ -291,28 +291,27 @@ fn split_at(pages: &mut Vec<Page>, at: usize, lo: u64) -> Result<(), AllocError>
     Ok(())
 }
 
-/// What stands at a page and a place in its vector.
-pub fn entry_in(pages: &[Page], at: (usize, usize)) -> Option<Entry>
+/// What stands at a spot.
+pub fn entry_in(pages: &[Page], at: Spot) -> Option<Entry>
     ensures { Stands (entries_of pages.now) result }
 {
-    let (page, place) = at;
+    let page = at.page();
     if page >= pages.len() {
         return None;
     }
-    pages[page].entry(place)
+    pages[page].entry(at.place())
 }
 
-/// Sets bits in what stands at a place, a page and a place in its vector, if that is the word of
-/// their window. Else nothing changes.
-pub fn set_bits_at(pages: &mut Vec<Page>, at: (usize, usize), window: u64, bits: u64) -> bool
+/// Sets bits in what stands at a spot, if that is the word of their window. Else nothing changes.
+pub fn set_bits_at(pages: &mut Vec<Page>, at: Spot, window: u64, bits: u64) -> bool
     ensures set { IsTrue result
         → WordWidened (entries_of pages.old.items) window bits (entries_of pages.new.items) }
     ensures same { result ≡ false
         → entries_of pages.new.items ≡ entries_of pages.old.items }
 {
-    let (page, place) = at;
+    let page = at.page();
     if page >= pages.len() {
         return false;
     }
-    pages[page].set_bits(place, window, bits)
+    pages[page].set_bits(at.place(), window, bits)
 }

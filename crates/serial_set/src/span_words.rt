@@ -15,6 +15,7 @@ use crate::pages::{entry_in, list_in, page_near, put_entries, put_new, set_bits_
 use crate::piece::Piece;
 use crate::span::Span;
 use crate::spans::Spans;
+use crate::spot::Spot;
 use std::alloc::{AllocError, Global};
 
 /// The members as runs and as words of 64 serials, in pages of about 256 of these. An addition
@@ -23,9 +24,8 @@ use std::alloc::{AllocError, Global};
 #[derive(Drop)]
 pub struct SpanWords {
     pages: Vec<Page>,
-    // The page and the place in its vector where an entry was put or looked for last, if none was
-    // moved since.
-    last: (usize, usize),
+    // Where an entry was put or looked for last, if none was moved since.
+    last: Spot,
     ghost order: { EntriesFrom 0 (entries_of pages.items) } by { order_prop 0 _ },
     ghost serials: { AreSerials (members_of (entries_of pages.items)) },
 }
@@ -39,7 +39,7 @@ impl SpanWords {
     {
         SpanWords {
             pages: Vec::new(alloc),
-            last: (0, 0),
+            last: Spot::of(0, 0),
         }
     }
 
@@ -53,14 +53,14 @@ impl SpanWords {
 
     /// The page where a number may well stand.
     pub(crate) fn page_near(&self, number: u64) -> usize {
-        page_near(&self.pages, number, self.last.0)
+        page_near(&self.pages, number, self.last.page())
     }
 
     /// The first entry that ends at a number or past it.
     pub(crate) fn entry_from(&self, number: u64) -> Option<Entry>
         ensures { IsEntryFrom (entries_held self.now) number result }
     {
-        self.entry_near(number, self.last.0)
+        self.entry_near(number, self.last.page())
     }
 
     /// The entry that was put or looked for last, if one stands there.
@@ -82,7 +82,7 @@ impl SpanWords {
     pub(crate) fn has_number(&self, number: u64) -> bool
         ensures { IsTrue result ↔ Covers (members_of (entries_held self.now)) number }
     {
-        self.has_near(number, self.last.0)
+        self.has_near(number, self.last.page())
     }
 
     /// The same, where the page `near` is looked at first.

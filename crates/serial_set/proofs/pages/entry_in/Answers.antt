@@ -5,4 +5,4 @@ use Rattle.serial_set.proofs.pages.entry_in.Goals as goal
 pub returns : goal.returns
 returns c =
     let page = c.index-pages-page in
-    stands_in c.args.pages.now c.args.at.0 page.result c.entry.result (omega arith) page.is c.entry.ensures
+    stands_in c.args.pages.now c.page-page.result page.result c.entry.result (omega arith) page.is c.entry.ensures

@@ -10,7 +10,7 @@ use Rattle.serial_set.proofs.page.Page.put.Goals as goal
 pub count_beginning_upto-requires : goal.count_beginning_upto-requires
 count_beginning_upto-requires c =
     let l = c.as_slice.result.now in
-    let from = c.count_near-from.result in
+    let from = c.count_below-from.result in
     subst (EntriesFrom 0) (sym (take_rest l from)) (order_drop 0 l from (subst (EntriesFrom 0) (sym c.as_slice.ensures) c.requires.order))
 
 pub returns-clause-put : goal.returns-clause-put
@@ -18,7 +18,7 @@ returns-clause-put c =
     let l = c.as_slice.result.now in
     let es = entries_in c.args.self.now in
     let read : l ≡ es = c.as_slice.ensures in
-    let from = c.count_near-from in
+    let from = c.count_below-from in
     let n = c.count_beginning_upto in
     let lo = c.args.lo in
     let hi = c.args.hi in

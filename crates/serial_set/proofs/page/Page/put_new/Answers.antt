@@ -8,7 +8,7 @@ use Rattle.serial_set.proofs.page.Page.put_new.Goals as goal
 pub returns-clause-put : goal.returns-clause-put
 returns-clause-put c =
     let es = entries_in c.args.self.now in
-    let at = c.count_near-at in
+    let at = c.count_below-at in
     record {
       front = take at.result es;
       back = drop at.result es;

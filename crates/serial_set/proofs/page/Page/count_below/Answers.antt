@@ -4,7 +4,7 @@ use Rattle.std.proofs.lemmas.List.{take_all}
 use Rattle.serial_set.specs.Entry.{hi_of}
 use Rattle.serial_set.specs.Pages.{entries_in}
 use Rattle.serial_set.proofs.InEntries.{end_most}
-use Rattle.serial_set.proofs.page.Page.count_near.Goals as goal
+use Rattle.serial_set.proofs.page.Page.count_below.Goals as goal
 
 pub returns-then-self-number-clause-below : goal.returns-then-self-number-clause-below
 returns-then-self-number-clause-below c =
