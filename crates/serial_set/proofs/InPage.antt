@@ -1,15 +1,12 @@
 -- A page: entries after a gap, and what one change puts in place of others.
-use Rattle.std.proofs.Common.{◌≡◌, ℕ, ◌+◌, ◌*◌, ◌<◌, ◌≤◌, ◌⊎◌, List, ◌∷◌, ◌++◌, length, get_or, set, suc, take, drop, sym, ap, subst, arith, ◌∙◌}
-use Rattle.std.specs.Prelude.{◌↔◌}
+use Rattle.std.proofs.Common.{◌≡◌, ℕ, ◌+◌, ◌<◌, ◌≤◌, List, ◌∷◌, ◌++◌, length, get_or, set, suc, take, drop, sym, ap, subst, arith, ◌∙◌}
 use Rattle.std.specs.List.{All}
 use Rattle.std.proofs.lemmas.List.{take-append-drop, drop-take, drop-drop, drop-append-le, length-take-le, drop_more, set_split}
 use Rattle.std.proofs.lemmas.List.Elements.{All-take}
 use Rattle.serial_set.specs.declared.entry.Entry.{Entry}
-use Rattle.serial_set.specs.Entry.{pieces, lo_of, hi_of}
-use Rattle.serial_set.specs.Span.{Covers}
-use Rattle.serial_set.specs.Words.{BitCovers}
+use Rattle.serial_set.specs.Entry.{lo_of, hi_of}
 use Rattle.serial_set.specs.Entries.{Replaces}
-use Rattle.serial_set.specs.Places.{CutTo, WordWidened}
+use Rattle.serial_set.specs.Places.{CutTo, Widened, WordWidened}
 
 -- others in place of those from one place after a gap to another
 pub put_gap : {X : Type 0} (xs ys : List X) (gap from to : ℕ) → gap + from ≤ length xs
@@ -49,11 +46,9 @@ cut_page es new number count inside above is = record {
 }
 
 -- one word after a gap in place of what it was
-pub widened_at : (xs : List Entry) (gap place window bits : ℕ) (was is : Entry) → gap ≤ place → place < length xs → was ≡ get_or xs place was
-    → (lo_of was ≡ 64 * window) × (lo_of is ≡ 64 * window) → (hi_of was ≡ 64 * window + 63) × (hi_of is ≡ 64 * window + 63)
-    → ((s : ℕ) → Covers (pieces is) s ↔ (Covers (pieces was) s ⊎ BitCovers 64 (64 * window) bits s))
+pub widened_at : (xs : List Entry) (gap place window bits : ℕ) (was is : Entry) → gap ≤ place → place < length xs → was ≡ get_or xs place was → Widened was window bits is
     → WordWidened (drop gap xs) window bits (drop gap (set xs place is))
-widened_at xs gap place window bits was is h within read lo hi more =
+widened_at xs gap place window bits was is h within read word =
     let front = take place xs in
     let back = drop (place + 1) xs in
     let long : length front ≡ place = length-take-le place xs (omega arith) in
@@ -68,7 +63,5 @@ widened_at xs gap place window bits was is h within read lo hi more =
       is = is;
       were = ap (drop gap) parts ∙ drop-append-le gap front (was ∷ back) (omega arith);
       are = ap (drop gap) made ∙ drop-append-le gap front (is ∷ back) (omega arith);
-      lo = lo;
-      hi = hi;
-      more = more;
+      word = word;
     }

@@ -281,9 +281,7 @@ widened_pages xs at window bits x y h read k =
           ∙ ap (λ l. front ++ (l ++ back)) k.are
           ∙ ap (λ l. front ++ l) (append_assoc k.front (k.is ∷ k.back) back)
           ∙ sym (append_assoc front k.front (k.is ∷ (k.back ++ back)));
-      lo = k.lo;
-      hi = k.hi;
-      more = k.more;
+      word = k.word;
     }
 
 -- an entry of a page is one of all

@@ -135,7 +135,7 @@ swapped_order a (x ∷ front) back was is lo hi r = (r.0, swapped_order (hi_of x
 pub widened_order : (old new : List Entry) (window bits : ℕ) → WordWidened old window bits new → EntriesFrom 0 old → EntriesFrom 0 new
 widened_order old new window bits k order =
     subst (EntriesFrom 0) (sym k.are)
-    (swapped_order 0 k.front k.back k.was k.is (k.lo.1 ∙ sym k.lo.0) (k.hi.1 ∙ sym k.hi.0) (subst (EntriesFrom 0) k.were order))
+    (swapped_order 0 k.front k.back k.was k.is (k.word.lo.1 ∙ sym k.word.lo.0) (k.word.hi.1 ∙ sym k.word.hi.0) (subst (EntriesFrom 0) k.were order))
 
 pub widened_to : (old new : List Entry) (window bits s : ℕ) → WordWidened old window bits new → Covers (members_of new) s → Covers (members_of old) s ⊎ BitCovers 64 (64 * window) bits s
 widened_to old new window bits s k n =
@@ -144,7 +144,7 @@ widened_to old new window bits s k n =
     elim (has_append k.front (k.is ∷ k.back) s (subst In k.are n)) [
       | inl front ↦ inl (back (has_left k.front (k.was ∷ k.back) s front))
       | inr rest ↦ elim (names_append (pieces k.is) (members_of k.back) s rest) [
-        | inl here ↦ elim ((k.more s).0 here) [
+        | inl here ↦ elim ((k.word.more s).0 here) [
           | inl was ↦ inl (back (has_right k.front (k.was ∷ k.back) s (names_left (pieces k.was) (members_of k.back) s was)))
           | inr added ↦ inr added
         ]
@@ -161,11 +161,11 @@ widened_from old new window bits s k n =
       | inl was ↦ elim (has_append k.front (k.was ∷ k.back) s (subst In k.were was)) [
         | inl front ↦ to (has_left k.front (k.is ∷ k.back) s front)
         | inr rest ↦ elim (names_append (pieces k.was) (members_of k.back) s rest) [
-          | inl word ↦ here ((k.more s).1 (inl word))
+          | inl word ↦ here ((k.word.more s).1 (inl word))
           | inr later ↦ to (has_right k.front (k.is ∷ k.back) s (names_right (pieces k.is) (members_of k.back) s later))
         ]
       ]
-      | inr added ↦ here ((k.more s).1 (inr added))
+      | inr added ↦ here ((k.word.more s).1 (inr added))
     ]
 
 pub widened_serials : (old new : List Entry) (window bits : ℕ) → WordWidened old window bits new → window < 2 ^ 58 → ((s : ℕ) → BitCovers 64 (64 * window) bits s → 0 < s) → AreSerials (members_of old) → AreSerials (members_of new)

@@ -7,6 +7,7 @@ pub mod Entry
 pub mod Few
 pub mod Finished
 pub mod Joined
+pub mod Kept
 pub mod Laws
 pub mod Least
 pub mod Members

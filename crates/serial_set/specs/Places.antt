@@ -44,6 +44,13 @@ order_prop least (e ∷ entries) =
     let rest : IsProp (EntriesFrom (hi_of e + 1) entries) = order_prop (hi_of e + 1) entries in
     hlevel (le_prop, rest)
 
+-- the word of a window gets more bits
+pub record Widened (was : Entry) (window bits : ℕ) (is : Entry) : Type 0 where
+  pub lo : (lo_of was ≡ 64 * window) × (lo_of is ≡ 64 * window)
+  pub hi : (hi_of was ≡ 64 * window + 63) × (hi_of is ≡ 64 * window + 63)
+  pub more : (s : ℕ) → Covers (pieces is) s
+      ↔ (Covers (pieces was) s ⊎ BitCovers 64 (64 * window) bits s)
+
 -- the word of a window gets more bits, and nothing else changes
 pub record WordWidened (old : List Entry) (window bits : ℕ) (new : List Entry) : Type 0 where
   pub front : List Entry
@@ -52,10 +59,7 @@ pub record WordWidened (old : List Entry) (window bits : ℕ) (new : List Entry)
   pub is : Entry
   pub were : old ≡ front ++ was ∷ back
   pub are : new ≡ front ++ is ∷ back
-  pub lo : (lo_of was ≡ 64 * window) × (lo_of is ≡ 64 * window)
-  pub hi : (hi_of was ≡ 64 * window + 63) × (hi_of is ≡ 64 * window + 63)
-  pub more : (s : ℕ) → Covers (pieces is) s
-      ↔ (Covers (pieces was) s ⊎ BitCovers 64 (64 * window) bits s)
+  pub word : Widened was window bits is
 
 -- an entry is put between others, of which none reaches into its stretch
 pub record PutBetween (old : List Entry) (e : Entry) (new : List Entry) : Type 0 where

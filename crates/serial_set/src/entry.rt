@@ -1,5 +1,5 @@
 //! What a page holds: a run, or the members in one window of 64 serials.
-ghost use Rattle.std.specs.Prelude.{◌≡◌, ◌+◌, ◌-◌, ◌*◌, ◌^◌, ◌<◌, ◌≤◌, ◌∷◌, [], ℕ, ◌↔◌, ◌⊎◌, IsTrue};
+ghost use Rattle.std.specs.Prelude.{◌≡◌, ◌+◌, ◌-◌, ◌*◌, ◌^◌, ◌<◌, ◌≤◌, ◌∷◌, [], ℕ, ◌↔◌, ◌⊎◌, IfSome, IsTrue};
 ghost use Rattle.std.specs.Int.{bit_at};
 ghost use Rattle.serial_set.specs.Words.{BitCovers};
 
@@ -17,6 +17,7 @@ pub struct Entry {
 impl Entry {
     ghost use Rattle.serial_set.specs.Entry.{is_run, window_of, bits_of, pieces, lo_of, hi_of};
     ghost use Rattle.serial_set.specs.Members.{GoesOn, IsFirst};
+    ghost use Rattle.serial_set.specs.Places.{Widened};
     ghost use Rattle.serial_set.specs.Words.{singles};
     ghost use Rattle.serial_set.specs.Span.{Covers};
 
@@ -108,8 +109,18 @@ impl Entry {
         serial / 64 == self.window() && has_bit(self.bits(), serial % 64)
     }
 
-    /// A word with more bits of its window.
-    pub fn with(self, bits: u64) -> Entry
+    /// The word with more bits, if it is that of their window.
+    pub fn widened(self, window: u64, bits: u64) -> Option<Entry>
+        ensures { IfSome result (λ is. Widened self window bits is) }
+    {
+        if self.is_run() || self.window() != window {
+            return None;
+        }
+        Some(self.with(bits))
+    }
+
+    // A word with more bits of its window.
+    fn with(self, bits: u64) -> Entry
         requires { self.b < self.a }
         ensures more { (s : ℕ) → Covers (pieces result) s ↔ (Covers (pieces self) s
             ⊎ BitCovers 64 (64 * window_of self) bits s) }

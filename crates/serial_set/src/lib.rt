@@ -12,6 +12,7 @@ mod entry;
 mod few;
 mod finished;
 mod gap;
+mod kept;
 pub mod laws;
 mod near;
 mod news;

@@ -229,11 +229,10 @@ impl Page {
         if place < self.gap || place >= self.items.len() {
             return false;
         }
-        let entry = self.items[place];
-        if entry.is_run() || entry.window() != window {
+        let Some(wider) = self.items[place].widened(window, bits) else {
             return false;
-        }
-        self.items[place] = entry.with(bits);
+        };
+        self.items[place] = wider;
         true
     }
 

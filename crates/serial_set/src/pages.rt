@@ -184,8 +184,8 @@ pub fn put_entries(
     put_in(pages, few, lo, hi, near)
 }
 
-// Makes the first page.
-fn put_first(pages: &mut Vec<Page>, few: &[Entry]) -> Result<(), AllocError>
+/// Makes the first page.
+pub fn put_first(pages: &mut Vec<Page>, few: &[Entry]) -> Result<(), AllocError>
     requires none { pages.old.items ≡ [] }
     requires some { 0 < length few.now }
     ensures put { OnOk result (entries_of pages.new.items ≡ few.now ++ []) }

@@ -2,32 +2,29 @@ ghost use Rattle.std.specs.Prelude.{◌≡◌, ◌*◌, ◌^◌, ◌<◌, ◌≤
 ghost use Rattle.serial_set.specs.Additions.{Stands};
 ghost use Rattle.serial_set.specs.Entry.{lo_of, hi_of, EntriesFrom, members_of, pieces, runs_of};
 ghost use Rattle.serial_set.specs.Entries.{Replaces, runs_of_entries, serials_of_runs};
-ghost use Rattle.serial_set.specs.Pages.{entries_of};
 ghost use Rattle.serial_set.specs.Few.{few_of};
+ghost use Rattle.serial_set.specs.Kept.{entries_kept};
 ghost use Rattle.serial_set.specs.Places.{IsEntryFrom, IsListFrom, PutIf, order_prop};
 ghost use Rattle.serial_set.specs.Span.{AreSerials, Covers, IsRunsOf};
 ghost use Rattle.serial_set.specs.Words.{BitCovers};
 
 use crate::entry::Entry;
 use crate::few::Few;
-use crate::page::Page;
-use crate::pages::{entry_in, list_in, page_near, put_entries, put_new, set_bits_at};
+use crate::kept::Kept;
 use crate::piece::Piece;
 use crate::span::Span;
 use crate::spans::Spans;
-use crate::spot::Spot;
 use std::alloc::{AllocError, Global};
 
-/// The members as runs and as words of 64 serials, in pages of about 256 of these. An addition
-/// moves the entries of one page, whatever the order of the additions, and a page that is filled in
-/// order stays full.
+/// The members as runs and as words of 64 serials: one in the set itself, or more in pages of about
+/// 256 of these. An addition moves the entries of one page, whatever the order of the additions,
+/// and a page that is filled in order stays full.
 #[derive(Drop)]
 pub struct SpanWords {
-    pages: Vec<Page>,
-    // Where an entry was put or looked for last, if none was moved since.
-    last: Spot,
-    ghost order: { EntriesFrom 0 (entries_of pages.items) } by { order_prop 0 _ },
-    ghost serials: { AreSerials (members_of (entries_of pages.items)) },
+    alloc: Global,
+    kept: Kept,
+    ghost order: { EntriesFrom 0 (entries_kept kept) } by { order_prop 0 _ },
+    ghost serials: { AreSerials (members_of (entries_kept kept)) },
 }
 
 impl SpanWords {
@@ -38,8 +35,8 @@ impl SpanWords {
         ensures { entries_held result ≡ [] }
     {
         SpanWords {
-            pages: Vec::new(alloc),
-            last: Spot::of(0, 0),
+            alloc,
+            kept: Kept::Only(None),
         }
     }
 
@@ -48,26 +45,26 @@ impl SpanWords {
     pub(crate) fn list_near(&self, number: u64, near: usize) -> &[Entry]
         ensures { IsListFrom (entries_held self.now) number result.now }
     {
-        list_in(&self.pages, number, near)
+        self.kept.list_near(number, near)
     }
 
     /// The page where a number may well stand.
     pub(crate) fn page_near(&self, number: u64) -> usize {
-        page_near(&self.pages, number, self.last.page())
+        self.kept.page_near(number)
     }
 
     /// The first entry that ends at a number or past it.
     pub(crate) fn entry_from(&self, number: u64) -> Option<Entry>
         ensures { IsEntryFrom (entries_held self.now) number result }
     {
-        self.entry_near(number, self.last.page())
+        self.entry_near(number, self.kept.page_last())
     }
 
     /// The entry that was put or looked for last, if one stands there.
     pub(crate) fn entry_last(&self) -> Option<Entry>
         ensures { Stands (entries_held self.now) result }
     {
-        entry_in(&self.pages, self.last)
+        self.kept.entry_last()
     }
 
     /// The same as `entry_from`, where the page `near` is looked at first.
@@ -82,7 +79,7 @@ impl SpanWords {
     pub(crate) fn has_number(&self, number: u64) -> bool
         ensures { IsTrue result ↔ Covers (members_of (entries_held self.now)) number }
     {
-        self.has_near(number, self.last.page())
+        self.has_near(number, self.kept.page_last())
     }
 
     /// The same, where the page `near` is looked at first.
@@ -109,7 +106,7 @@ impl SpanWords {
                 return Ok(false);
             }
         }
-        put_new(&mut self.pages, &mut self.last, new)
+        self.kept.put_new(new)
     }
 
     /// Puts at most three entries in place of all that reach into the numbers from `lo` to `hi`.
@@ -124,8 +121,7 @@ impl SpanWords {
             (Replaces (entries_held self.old) lo hi (few_of few.now) (entries_held self.new)) }
         ensures refused { OnErr result (entries_held self.new ≡ entries_held self.old) }
     {
-        self.last = put_entries(&mut self.pages, few.as_slice(), lo, hi, self.last)?;
-        Ok(())
+        self.kept.put(self.alloc, few.as_slice(), lo, hi)
     }
 
     /// Sets bits of a window where an entry was put or looked for last, if that is the word of the
@@ -138,7 +134,7 @@ impl SpanWords {
             ⊎ BitCovers 64 (64 * window) bits s) }
         ensures same { result ≡ false → entries_held self.new ≡ entries_held self.old }
     {
-        set_bits_at(&mut self.pages, self.last, window, bits)
+        self.kept.set_bits(window, bits)
     }
 }
 

@@ -2,7 +2,7 @@ use Rattle.std.proofs.Common.{subst, sym, inl, inr}
 use Rattle.serial_set.specs.Span.{AreSerials}
 use Rattle.serial_set.specs.Entry.{EntriesFrom, members_of}
 use Rattle.serial_set.specs.Entries.{Replaces}
-use Rattle.serial_set.specs.Pages.{entries_of}
+use Rattle.serial_set.specs.Kept.{entries_kept}
 use Rattle.serial_set.specs.Few.{few_of}
 use Rattle.serial_set.proofs.InWords.{ok_or_err, replaced_rise, replaced_serials}
 use Rattle.serial_set.proofs.span_words.SpanWords.put.Goals as goal
@@ -10,12 +10,12 @@ use Rattle.serial_set.proofs.span_words.SpanWords.put.Goals as goal
 pub invariant_of-self : goal.invariant_of-self
 invariant_of-self c =
     let set = c.args.self.now in
-    let old = entries_of set.pages.items in
-    let new = entries_of c.put_entries.new.pages.items in
+    let old = entries_kept set.kept in
+    let new = entries_kept c.put.new.self in
     let few = few_of c.args.few.now in
     let lo = c.args.lo in
     let hi = c.args.hi in
-    elim (ok_or_err c.put_entries.result _ _ c.put_entries.ensures.put c.put_entries.ensures.refused) [
+    elim (ok_or_err c.put.result _ _ c.put.ensures.put c.put.ensures.refused) [
       | inl put ↦
           let r = subst (λ l. Replaces old lo hi l new) c.as_slice.ensures put in
           record {
@@ -27,17 +27,3 @@ invariant_of-self c =
         serials = subst (λ l. AreSerials (members_of l)) (sym same) set.serials;
       }
     ]
-
-pub invariant_of-self-2 : goal.invariant_of-self-2
-invariant_of-self-2 c =
-    let set = c.args.self.now in
-    let old = entries_of set.pages.items in
-    let new = entries_of c.put_entries.new.pages.items in
-    let few = few_of c.args.few.now in
-    let lo = c.args.lo in
-    let hi = c.args.hi in
-    let r = subst (λ l. Replaces old lo hi l new) c.as_slice.ensures c.in_ok-self.ensures.put in
-    record {
-      order = replaced_rise old few new lo hi r c.requires.order.0 set.order c.requires.order.1 c.requires.ends;
-      serials = replaced_serials old few new lo hi r set.serials c.requires.serials;
-    }

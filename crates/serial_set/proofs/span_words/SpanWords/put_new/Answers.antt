@@ -1,15 +1,15 @@
 use Rattle.std.proofs.Common.{subst, sym, inl, inr}
 use Rattle.serial_set.specs.Span.{AreSerials}
 use Rattle.serial_set.specs.Entry.{EntriesFrom, members_of}
-use Rattle.serial_set.specs.Pages.{entries_of}
+use Rattle.serial_set.specs.Kept.{entries_kept}
 use Rattle.serial_set.proofs.InWords.{put_or_same, put_order, put_serials}
 use Rattle.serial_set.proofs.span_words.SpanWords.put_new.Goals as goal
 
 pub invariant_of-self : goal.invariant_of-self
 invariant_of-self c =
     let set = c.args.self.now in
-    let old = entries_of set.pages.items in
-    let new = entries_of c.put_new.new.pages.items in
+    let old = entries_kept set.kept in
+    let new = entries_kept c.put_new.new.self in
     elim (put_or_same c.put_new.result old new c.args.new c.put_new.ensures.put c.put_new.ensures.refused) [
       | inl k ↦ record {
         order = put_order old new c.args.new k set.order;
