@@ -27,6 +27,9 @@ pub struct SpanWords {
     ghost serials: { AreSerials (members_of (entries_kept kept)) },
 }
 
+// A list may have millions of sets.
+const _: () = prove!(size_of::<SpanWords>() <= 40);
+
 impl SpanWords {
     ghost use Rattle.serial_set.specs.SpanWords.{entries_held};
 

@@ -1,7 +1,10 @@
 // Sets of spans, which a refused addition leaves as they were.
+ghost use Rattle.std.specs.Prelude.{◌≡◌, ◌*◌, ◌^◌, ◌<◌, ◌≤◌, All};
+ghost use Rattle.serial_set.specs.BitRuns.{IsInterval};
+ghost use Rattle.serial_set.specs.Near.{AreNear};
 
 use crate::tests::answered::ran_out;
-use serial_set::{SpanVec, SpanWords, Spans};
+use serial_set::{Span, SpanVec, SpanWords, Spans};
 use std::alloc::AllocError;
 use std::process::Abort;
 use std::test::Fail;
@@ -124,4 +127,88 @@ fn joined_pages(rt: HostRuntime) -> Result<(), Fail> {
 #[test]
 fn a_joined_vector(rt: HostRuntime) -> Result<(), Fail> {
     join::<SpanVec>(&rt)
+}
+
+/// What is added to a set of no entry, and what makes a second one.
+const SECOND: [((u64, u64), (u64, u64)); 4] = [
+    ((9, 9), (1000, 1000)),
+    ((1000, 2000), (5, 5)),
+    ((1000, 2000), (3000, 4000)),
+    // a word and a run in place of the run
+    ((60, 200), (58, 58)),
+];
+
+// A set's only entry takes no memory. A second one does, and is added again where it is refused.
+#[test]
+fn a_second_entry(rt: HostRuntime) -> Result<(), Fail> {
+    for ((lo, hi), (from, to)) in SECOND {
+        assert!(&rt; 0 < lo && lo <= hi && 0 < from && from <= to);
+        let mut set: SpanWords = empty(&rt)?;
+        set.add(lo, hi)?;
+        if set.add(from, to).is_err() {
+            ran_out(&rt);
+            assert!(&rt; set.len() == 1 && set.has(lo) && set.has(hi) && !set.has(from));
+            set.add(from, to)?;
+        }
+        assert!(&rt; set.len() == 2 && set.has(lo) && set.has(hi) && set.has(from) && set.has(to));
+    }
+    Ok(())
+}
+
+// Two spans that lie near each other.
+fn near_in(window: u64) -> [Span; 2]
+    requires { window < 2 ^ 57 }
+    ensures intervals { All IsInterval result }
+    ensures near { AreNear result }
+{
+    let first = 64 * window + 1;
+    [
+        Span {
+            lo: first,
+            hi: first + 1,
+        },
+        Span {
+            lo: first + 9,
+            hi: first + 60,
+        },
+    ]
+}
+
+// Adds the spans of a window, again where it is refused.
+fn add_near<S: Spans>(
+    rt: &(impl AllocGlobal + Abort + Print),
+    set: &mut S,
+    window: u64,
+) -> Result<(), Fail>
+    requires { window < 2 ^ 57 }
+{
+    let near = near_in(window);
+    if set.add_near(&near).is_err() {
+        ran_out(rt);
+        assert!(rt; set.len() as u64 == 2 * window);
+        assert!(rt; !set.has(near[0].lo) && !set.has(near[1].hi));
+        set.add_near(&near)?;
+    }
+    assert!(rt; set.has(near[0].lo) && set.has(near[1].hi));
+    Ok(())
+}
+
+// Adds those of many windows, of which a page has a part.
+fn fill_near<S: Spans>(rt: &(impl AllocGlobal + Abort + Print)) -> Result<(), Fail> {
+    let mut set: S = empty(rt)?;
+    for window in 0..COUNT {
+        add_near(rt, &mut set, window)?;
+    }
+    assert!(rt; set.len() as u64 == 2 * COUNT);
+    Ok(())
+}
+
+#[test]
+fn pages_of_near_spans(rt: HostRuntime) -> Result<(), Fail> {
+    fill_near::<SpanWords>(&rt)
+}
+
+#[test]
+fn a_vector_of_near_spans(rt: HostRuntime) -> Result<(), Fail> {
+    fill_near::<SpanVec>(&rt)
 }

@@ -8,7 +8,7 @@ use std::process::Abort;
 // Intervals that are added one after the other, each with the length after it, and the last list.
 type Row = (&'static [(u64, u64, usize)], &'static [Span]);
 
-const ROWS: [Row; 3] = [
+const ROWS: [Row; 7] = [
     (
         &[(5, 5, 1), (7, 7, 2), (6, 6, 1), (8, u64::MAX, 1)],
         &[Span {
@@ -23,6 +23,33 @@ const ROWS: [Row; 3] = [
             lo: 1,
             hi: u64::MAX,
         }],
+    ),
+    // an only entry, and others after and before it
+    (
+        &[(5, 5, 1), (1000, 2000, 2), (70, 80, 3)],
+        &[
+            Span { lo: 5, hi: 5 },
+            Span { lo: 70, hi: 80 },
+            Span { lo: 1000, hi: 2000 },
+        ],
+    ),
+    (
+        &[(1000, 2000, 1), (5, 5, 2), (3000, 3000, 3)],
+        &[
+            Span { lo: 5, hi: 5 },
+            Span { lo: 1000, hi: 2000 },
+            Span { lo: 3000, hi: 3000 },
+        ],
+    ),
+    // an only entry that gives way to two
+    (
+        &[(60, 200, 1), (58, 58, 2)],
+        &[Span { lo: 58, hi: 58 }, Span { lo: 60, hi: 200 }],
+    ),
+    // an only entry that gives way to one
+    (
+        &[(100, 200, 1), (50, 150, 1), (190, 300, 1), (1, 400, 1)],
+        &[Span { lo: 1, hi: 400 }],
     ),
 ];
 
