@@ -147,7 +147,14 @@ pub fn put_new(pages: &mut Vec<Page>, at: &mut Spot, new: Entry) -> Result<bool,
     if pages.is_empty() {
         return Ok(false);
     }
-    let page = page_for(pages, new.lo(), at.page());
+    let lo = new.lo();
+    // Where numbers come in order, it is mostly this one that reaches into it, if any does.
+    if let Some(entry) = entry_in(pages, *at) {
+        if entry.lo() <= lo && lo <= entry.hi() {
+            return Ok(false);
+        }
+    }
+    let page = page_for(pages, lo, at.page());
     let is_last = page + 1 == pages.len();
     let near = if page == at.page() {
         at.place()

@@ -103,12 +103,6 @@ impl SpanWords {
             (λ is_put. PutIf is_put (entries_held self.old) new (entries_held self.new)) }
         ensures refused { OnErr result (entries_held self.new ≡ entries_held self.old) }
     {
-        // Where numbers come in order, it is mostly this one that reaches into it, if any does.
-        if let Some(entry) = self.entry_last() {
-            if entry.lo() <= new.lo() && new.lo() <= entry.hi() {
-                return Ok(false);
-            }
-        }
         self.kept.put_new(new)
     }
 

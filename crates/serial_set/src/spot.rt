@@ -1,8 +1,9 @@
 //! Where an entry may well stand in pages.
 ghost use Rattle.std.specs.Prelude.{◌≡◌};
 
-/// A page and a place in its vector, to look at first: what stands there is looked at each time, so
-/// a number that is too great for it only costs a search. Half a word each keeps a set small.
+/// A page and a place in its vector, to look at first. Of a number of 64 bits the lower half is kept,
+/// so that a set stays small: what stands there is looked at each time, and a wrong place only costs
+/// a search.
 #[derive(Clone, Copy)]
 pub struct Spot {
     page: u32,
@@ -12,8 +13,8 @@ pub struct Spot {
 impl Spot {
     pub fn of(page: usize, place: usize) -> Spot {
         Spot {
-            page: u32::try_from(page).unwrap_or(u32::MAX),
-            place: u32::try_from(place).unwrap_or(u32::MAX),
+            page: (page % (1 << 32)) as u32,
+            place: (place % (1 << 32)) as u32,
         }
     }
 

@@ -21,7 +21,7 @@ pub returns-clause-put : goal.returns-clause-put
 returns-clause-put c =
     let at = c.page_for-page in
     let new = c.args.new in
-    let below = subst (λ n. All (λ t. hi_of t < n) (entries_of (take at.result c.deref.result.now))) c.lo.ensures at.ensures.below in
+    let below = subst (λ n. All (λ t. hi_of t < n) (entries_of (take at.result c.deref-2.result.now))) c.lo-lo.ensures at.ensures.below in
     put_pages_if c.in_ok-tried.tried.is_put _ c.args.pages.now.items at.result new c.index_mut.result.now c.put_new.new.self (omega arith) c.index_mut.ensures.value c.requires
-    (subst (λ l. All (λ t. hi_of t < lo_of new) (entries_of (take at.result l))) c.deref.ensures.value below)
+    (subst (λ l. All (λ t. hi_of t < lo_of new) (entries_of (take at.result l))) c.deref-2.ensures.value below)
     (λ l. omega (arith, eqb-true _ _ l)) c.in_ok-tried.ensures.end c.in_ok-tried.ensures.put
