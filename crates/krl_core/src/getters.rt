@@ -108,12 +108,12 @@ impl<S: Spans> Revocations<S> {
 }
 
 // The byte string at an index of those that a walk has left.
-fn text_at<'a>(mut texts: Texts<'a>, index: usize) -> &'a [u8]
+fn text_at<'a>(texts: Texts<'a>, index: usize) -> &'a [u8]
     requires { index < length texts }
     ensures { slice_get texts.entry index ≡ Some result.now }
 {
     let mut left = index;
-    while let Some(text) = texts.next() {
+    for text in texts {
         if left == 0 {
             return text;
         }

@@ -1,5 +1,5 @@
 // What is held under one authority, lent.
-ghost use Rattle.std.specs.Prelude.{◌≡◌, ◌∷◌, ◌<◌, [], length, MatchOption, Some, slice_get};
+ghost use Rattle.std.specs.Prelude.{◌≡◌, ◌<◌, length, Some, slice_get};
 ghost use Rattle.krl_core.specs.Authority.{authority_bytes, IsAuthority};
 
 use crate::shelf::Shelf;
@@ -45,6 +45,13 @@ impl<'a, S: Spans> Listed<'a, S> {
         Some(self.authority)
     }
 
+    // The same, without any for all authorities.
+    pub(crate) fn bytes(&self) -> &'a [u8]
+        ensures { result.now ≡ self.now.authority }
+    {
+        self.authority
+    }
+
     /// The serials, as a set.
     pub fn spans(&self) -> &'a S
         ensures { S.spans result.now ≡ self.now.spans }
@@ -76,8 +83,8 @@ impl<'a, S: Spans> Listed<'a, S> {
     }
 }
 
-/// The authorities that a walk has left, all authorities first and then by their bytes. Contracts
-/// see it as the list of their sections.
+/// What is held under each authority, all authorities first and then by their bytes: an iterator.
+/// Contracts see it as the list of the sections that are left.
 #[derive(Drop)]
 pub struct Authorities<'a, S: Spans> {
     places: TextWalk<'a, usize>,
@@ -112,12 +119,18 @@ impl<'a, S: Spans> Authorities<'a, S> {
             shelves,
         }
     }
+}
 
-    /// The first of the authorities that are left, if there is one.
-    pub fn next(&mut self) -> Option<Listed<'a, S>>
-        ensures { MatchOption result ((self.old ≡ []) × (self.new ≡ []))
-            (λ listed. self.old ≡ listed ∷ self.new) }
-    {
+impl<'a, S: Spans> Iterator for Authorities<'a, S> {
+    ghost use Rattle.std.specs.Iterator.{YieldsFirst, item_count};
+
+    type Item = Listed<'a, S>;
+
+    ghost next_gives = { YieldsFirst (λ authorities. authorities) };
+
+    ghost remaining = { item_count (λ authorities. authorities) };
+
+    fn next(&mut self) -> Option<Listed<'a, S>> {
         match self.places.next() {
             None => None,
             Some((authority, place)) => Some(Listed::new(authority, &self.shelves[*place])),

@@ -1,5 +1,5 @@
 // A walk over byte strings, in order.
-ghost use Rattle.std.specs.Prelude.{◌≡◌, ◌∷◌, [], MatchOption};
+ghost use Rattle.std.specs.Prelude.{◌≡◌};
 ghost use Rattle.krl_core.specs.Ids.{texts_of};
 ghost use Rattle.krl_core.specs.TextMap.{names_of};
 
@@ -18,7 +18,7 @@ pub(crate) enum Left<'a> {
     Sha256s(Iter<'a, [u8; 32]>),
 }
 
-/// The byte strings that a walk has left, in order. Contracts see it as their list.
+/// Byte strings, in order: an iterator. Contracts see it as the list of those that are left.
 #[derive(Drop)]
 pub struct Texts<'a> {
     left: Left<'a>,
@@ -65,12 +65,18 @@ impl<'a> Texts<'a> {
             left: Left::Sha256s(hashes.iter()),
         }
     }
+}
 
-    /// The first of the byte strings that are left, if there is one.
-    pub fn next(&mut self) -> Option<&'a [u8]>
-        ensures { MatchOption result ((self.old ≡ []) × (self.new ≡ []))
-            (λ text. self.old ≡ text.now ∷ self.new) }
-    {
+impl<'a> Iterator for Texts<'a> {
+    ghost use Rattle.std.specs.Iterator.{YieldsFirstRef, item_count};
+
+    type Item = &'a [u8];
+
+    ghost next_gives = { YieldsFirstRef (λ texts. texts) };
+
+    ghost remaining = { item_count (λ texts. texts) };
+
+    fn next(&mut self) -> Option<&'a [u8]> {
         match &mut self.left {
             Left::Few(texts) => {
                 let (first, rest) = texts.split_first()?;

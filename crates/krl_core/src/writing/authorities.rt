@@ -1,50 +1,56 @@
 // The sections of all authorities.
 
-ghost use Rattle.std.specs.Prelude.{◌≡◌, ◌≤◌, ◌∷◌, [], List, length, MatchOption};
+ghost use Rattle.std.specs.Prelude.{◌≤◌, length};
 ghost use Rattle.krl_core.specs.Front.{limit};
-ghost use Rattle.krl_core.specs.Contents.{Section};
-ghost use Rattle.krl_core.specs.Within.{AddsAuthorities};
+ghost use Rattle.krl_core.specs.Within.{AddsAuthorities, AddsAuthority};
 
-use crate::writing::authority::add_authority;
-use crate::writing::strings::Strings;
+use crate::listed::Authorities;
+use crate::texts::Texts;
+use crate::writing::strings::{LIMIT, add_listed, add_string};
 use crate::writing::text_fault::TextFault;
+use krl_plan::{end_string, put_least_plan};
 use serial_set::Spans;
+use ssh_wire::{put_byte, put_string, put_u32};
 use std::alloc::Global;
 
-/// What is held under an authority, by its bytes.
-#[derive(Drop)]
-pub(crate) struct Authority<'a, S: 'a, W: Drop> {
-    pub(crate) bytes: &'a [u8],
-    pub(crate) spans: &'a S,
-    pub(crate) ids: W,
-}
-
-/// A walk over authorities and what is held under them.
-pub(crate) trait Authorities<'a, S: Spans + 'a, W: Strings<'a>>: Drop {
-    // what is left
-    ghost left: { Self → List Section };
-
-    /// The next authority.
-    fn next_authority(&mut self) -> Option<Authority<'a, S, W>>
-        ensures { MatchOption result ((left self.old ≡ []) × (left self.new ≡ []))
-            (λ first. left self.old ≡ record {
-              authority = first.bytes.now;
-              spans = S.spans first.spans.now;
-              ids = W.left first.ids;
-            } ∷ left self.new) };
-}
-
 // Appends the sections of authorities, one after the other.
-pub(crate) fn add_authorities<'a, S: Spans + 'a, W: Strings<'a>, A: Authorities<'a, S, W>>(
+pub(crate) fn add_authorities<S: Spans>(
     out: &mut Vec<u8>,
     alloc: Global,
-    mut authorities: A,
+    authorities: Authorities<'_, S>,
 ) -> Result<(), TextFault>
     requires { length out.old.items ≤ limit }
-    ensures { AddsAuthorities result out.old.items out.new.items (A.left authorities) }
+    ensures { AddsAuthorities result out.old.items out.new.items authorities.entry }
 {
-    while let Some(first) = authorities.next_authority() {
-        add_authority(out, alloc, first.bytes, first.spans, first.ids)?;
+    for one in authorities {
+        add_authority(out, alloc, one.bytes(), one.spans(), one.walk_ids())?;
     }
+    Ok(())
+}
+
+// Appends the section of an authority, by its bytes: its serials by their least plan, and its key
+// IDs.
+fn add_authority<S: Spans>(
+    out: &mut Vec<u8>,
+    alloc: Global,
+    authority: &[u8],
+    spans: &S,
+    ids: Texts<'_>,
+) -> Result<(), TextFault>
+    requires { length out.old.items ≤ limit }
+    ensures { AddsAuthority result out.old.items out.new.items
+        (record { authority = authority.now; spans = S.spans spans.now; ids = ids.entry }) }
+{
+    put_byte(out, 1)?;
+    let at = out.len();
+    put_u32(out, 0)?;
+    add_string(out, authority)?;
+    put_string(out, b"")?;
+    put_least_plan(out, alloc, spans)?;
+    if out.len() > LIMIT {
+        return Err(TextFault::TooLong);
+    }
+    add_listed(out, 0x23, ids)?;
+    end_string(out, at);
     Ok(())
 }

@@ -1,14 +1,16 @@
 // The text of what is held, and its way out.
 
-ghost use Rattle.std.specs.Prelude.{◌≡◌, false};
-ghost use Rattle.krl_core.specs.Within.{IsWritten, Writes, write_fault_number};
+ghost use Rattle.std.specs.Prelude.{◌≡◌, [], false};
+ghost use Rattle.krl_core.specs.Krl.{header_text};
+ghost use Rattle.krl_core.specs.Within.{AddsWithin, IsWritten, Writes, write_fault_number};
 
-use crate::header::Header;
+use crate::header::{Header, MAGIC};
 use crate::revocations::Revocations;
+use crate::writing::authorities::add_authorities;
+use crate::writing::strings::{add_listed, add_string};
 use crate::writing::text_fault::TextFault;
-use crate::writing::whole::{Parts, list_text};
 use serial_set::Spans;
-use ssh_wire::{Sink, send};
+use ssh_wire::{Sink, put_string, put_u32, put_u64, send};
 use std::alloc::Global;
 
 /// The text of a revocation list: its header, then what is held, all authorities first and each
@@ -21,13 +23,27 @@ pub fn krl_text<S: Spans>(
 ) -> Result<Vec<u8>, TextFault>
     ensures { IsWritten (λ made. made.items) result header.now revocations.now }
 {
-    let parts = Parts {
-        authorities: revocations.walk_authorities(),
-        keys: revocations.walk_keys(),
-        sha1s: revocations.walk_sha1s(),
-        sha256s: revocations.walk_sha256s(),
-    };
-    list_text(alloc, header, parts)
+    let mut out = Vec::new(alloc);
+    add_header(&mut out, header)?;
+    add_authorities(&mut out, alloc, revocations.walk_authorities())?;
+    add_listed(&mut out, 2, revocations.walk_keys())?;
+    add_listed(&mut out, 3, revocations.walk_sha1s())?;
+    add_listed(&mut out, 5, revocations.walk_sha256s())?;
+    Ok(out)
+}
+
+// Appends the header of a list. Its flags are 0 and its reserved string is empty.
+fn add_header(out: &mut Vec<u8>, header: &Header) -> Result<(), TextFault>
+    ensures { AddsWithin result out.old.items out.new.items (header_text header.now 0 []) }
+{
+    out.extend_from_slice(MAGIC)?;
+    put_u32(out, 1)?;
+    put_u64(out, header.version)?;
+    put_u64(out, header.date)?;
+    put_u64(out, 0)?;
+    put_string(out, b"")?;
+    add_string(out, header.comment.as_slice())?;
+    Ok(())
 }
 
 /// Why a list was not written.

@@ -1,28 +1,18 @@
 // Strings one after the other, as long as the whole stays within the limit.
 
-ghost use Rattle.std.specs.Prelude.{◌≡◌, ◌≤◌, ◌∷◌, [], ℕ, List, length, MatchOption};
+ghost use Rattle.std.specs.Prelude.{◌≤◌, length};
 ghost use Rattle.ssh_wire.specs.Wire.{string, strings};
 ghost use Rattle.krl_core.specs.Front.{limit};
 ghost use Rattle.krl_core.specs.KrlText.{listed_text};
 ghost use Rattle.krl_core.specs.Within.{AddsWithin};
 
+use crate::texts::Texts;
 use crate::writing::text_fault::TextFault;
 use krl_plan::end_string;
 use ssh_wire::{put_byte, put_string, put_u32};
 
 /// The most bytes that a list has.
 pub const LIMIT: usize = crate::reading::LIMIT as usize;
-
-/// A walk over byte strings.
-pub(crate) trait Strings<'a>: Drop {
-    // the strings that are left
-    ghost left: { Self → List (List ℕ) };
-
-    /// The next string.
-    fn next_string(&mut self) -> Option<&'a [u8]>
-        ensures { MatchOption result ((left self.old ≡ []) × (left self.new ≡ []))
-            (λ text. left self.old ≡ text.now ∷ left self.new) };
-}
 
 // Appends a string.
 pub(crate) fn add_string(out: &mut Vec<u8>, text: &[u8]) -> Result<(), TextFault>
@@ -39,29 +29,26 @@ pub(crate) fn add_string(out: &mut Vec<u8>, text: &[u8]) -> Result<(), TextFault
 }
 
 // Appends strings, one after the other.
-pub(crate) fn add_strings<'a, W: Strings<'a>>(
-    out: &mut Vec<u8>,
-    mut texts: W,
-) -> Result<(), TextFault>
+fn add_strings(out: &mut Vec<u8>, texts: Texts<'_>) -> Result<(), TextFault>
     requires { length out.old.items ≤ limit }
-    ensures { AddsWithin result out.old.items out.new.items (strings (W.left texts)) }
+    ensures { AddsWithin result out.old.items out.new.items (strings texts.entry) }
 {
-    while let Some(text) = texts.next_string() {
+    for text in texts {
         add_string(out, text)?;
     }
     Ok(())
 }
 
 // Appends a type byte and a string of strings, where there are any.
-pub(crate) fn add_listed<'a, W: Strings<'a>>(
+pub(crate) fn add_listed(
     out: &mut Vec<u8>,
     type_byte: u8,
-    mut texts: W,
+    mut texts: Texts<'_>,
 ) -> Result<(), TextFault>
     requires { length out.old.items ≤ limit }
-    ensures { AddsWithin result out.old.items out.new.items (listed_text type_byte (W.left texts)) }
+    ensures { AddsWithin result out.old.items out.new.items (listed_text type_byte texts.entry) }
 {
-    let Some(first) = texts.next_string() else {
+    let Some(first) = texts.next() else {
         return Ok(());
     };
     put_byte(out, type_byte)?;

@@ -77,8 +77,7 @@ fn print_held<'a, S: Spans, W: Sink>(
     ensures { Carries (all_said name.now (contents_lines list.now)) result
         run.old.printer run.new.printer }
 {
-    let mut authorities = list.walk_authorities();
-    while let Some(listed) = authorities.next() {
+    for listed in list.walk_authorities() {
         print_section(run, name, &listed)?;
     }
     print_texts(run, name, Fact::Key, list.walk_keys())?;
@@ -144,8 +143,7 @@ fn print_texts<'a, W: Sink>(
     ensures { Carries (all_said name.now (map (fact_line fact) texts.entry)) result
         run.old.printer run.new.printer }
 {
-    let mut texts = texts;
-    while let Some(bytes) = texts.next() {
+    for bytes in texts {
         let made = fact.write(run.alloc, bytes, &mut run.line);
         run.say_line(name, made)?;
     }

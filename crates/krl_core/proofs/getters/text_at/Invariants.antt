@@ -4,9 +4,6 @@ use Rattle.krl_core.proofs.getters.text_at.Given as goal
 
 abbrev pub invariant-loop-text : goal.invariant-loop-text
 invariant-loop-text l = record {
-  inside : l.left < length l.texts;
-  same : slice_get l.texts l.left ≡ slice_get l.initial.texts l.index;
+  inside : l.left < length l.text-iterator;
+  same : slice_get l.text-iterator l.left ≡ slice_get l.fn.texts l.index;
 }
-
-abbrev pub decreases-loop-text : goal.decreases-loop-text
-decreases-loop-text l = length l.texts

@@ -4,7 +4,7 @@ use Rattle.ssh_wire.specs.Wire.{string}
 use Rattle.krl_core.specs.Krl.{header_text}
 use Rattle.krl_core.proofs.Limits.{too_long}
 use Rattle.krl_core.proofs.WholeTexts.{header_front, header_put}
-use Rattle.krl_core.proofs.writing.whole.add_header.Goals as goal
+use Rattle.krl_core.proofs.writing.krl_text.add_header.Goals as goal
 
 pub returns-in_err-add_string : goal.returns-in_err-add_string
 returns-in_err-add_string c =
