@@ -171,10 +171,9 @@ module _ {V : Type 0} where
   names_middle : (front : Entries V) (k : List ℕ) (v : V) (back : Entries V) → names_of (front ++ (k, v) ∷ back) ≡ names_of front ++ k ∷ names_of back
   names_middle front k v back = map-append name_of front ((k, v) ∷ back)
 
-  pub swaps_enters : (k : List ℕ) (was v : V) (old new : Entries V) → Swaps k was v old new → Enters old k v new
-  swaps_enters k was v old new s =
-      let before = ap names_of s.before ∙ names_middle s.front k was s.back in
-      inl (
+  pub names_stay : (k : List ℕ) (was v : V) (old new : Entries V) → Swaps k was v old new → Contains (names_of old) k × (names_of new ≡ names_of old)
+  names_stay k was v old new s =
+      let before = ap names_of s.before ∙ names_middle s.front k was s.back in (
         subst (λ l. Contains l k) (sym before) (contains_middle (names_of s.front) k (names_of s.back)),
         ap names_of s.after ∙ names_middle s.front k v s.back ∙ sym before,
       )
@@ -227,7 +226,7 @@ module _ {V : Type 0} where
   pub short_enters : (k : List ℕ) (v : V) (xs xs' ys : Entries V) → AreParted xs ys → length k ≤ 54 → xs' ≡ insert_entry bytes_cmp xs k v → RisesBy name_of xs' → Enters (merged xs ys) k v (merged xs' ys)
   short_enters k v xs xs' ys p short is r =
       elim (subst (Entered k v xs) (sym is) (entered k v xs)) [
-        | inl s ↦ swaps_enters k s.0 v (merged xs ys) (merged xs' ys) (first_swaps k s.0 v xs xs' ys p.shorts_rise s.1)
+        | inl s ↦ inl (s.0, first_swaps k s.0 v xs xs' ys p.shorts_rise s.1)
         | inr s ↦ splits_enters k v (merged xs ys) (merged xs' ys) (both_rise xs' ys (short_kept k v xs xs' ys p short is r)) (first_splits k v xs xs' ys r s)
       ]
 
@@ -244,11 +243,11 @@ module _ {V : Type 0} where
   long_enters k v xs ys ys' p long is r =
       let kept = long_kept k v xs ys ys' p long is r in
       elim (subst (Entered k v ys) (sym is) (entered k v ys)) [
-        | inl s ↦ swaps_enters k s.0 v (merged xs ys) (merged xs ys') (second_swaps k s.0 v xs ys ys' p.short p.longs_rise p.long s.1)
+        | inl s ↦ inl (s.0, second_swaps k s.0 v xs ys ys' p.short p.longs_rise p.long s.1)
         | inr s ↦ splits_enters k v (merged xs ys) (merged xs ys') (both_rise xs ys' kept) (second_splits k v xs ys ys' p.short r kept.long s)
       ]
 
   -- the names have one more, where an entry is put in
   pub enters_puts : (k : List ℕ) (v : V) (old new : Entries V) → Enters old k v new → Puts (names_of old) k (names_of new)
   enters_puts k v old new e =
-      elim e [ inl there ↦ inl (there.1, there.0) | inr i ↦ inr (inserts_map (λ bytes. bytes) name_of old (k, v) new i) ]
+      elim e [ inl s ↦ let kept = names_stay k s.0 v old new s.1 in inl (kept.1, kept.0) | inr i ↦ inr (inserts_map (λ bytes. bytes) name_of old (k, v) new i) ]

@@ -17,7 +17,7 @@ use Rattle.krl_core.specs.Inserting.{Inserts}
 use Rattle.krl_core.specs.Shelf.{AddsAt, Alters, AreApart, ArePlaced, IsRecent, place_of, section_at, section_from, section_of, sections_of}
 use Rattle.krl_core.specs.TextMap.{Enters, name_of, names_of}
 use Rattle.krl_core.proofs.Ordered.{above_map, below_map, inserts_map, rises_changed}
-use Rattle.krl_core.proofs.Parted.{all_left, all_right, all_weaker}
+use Rattle.krl_core.proofs.Parted.{all_left, all_right, all_weaker, names_stay}
 
 pub takes_authority : (addition : Addition) (from to : Section) → Takes addition from to → to.authority ≡ from.authority
 takes_authority (Serials near) from to t = ap (λ (s : Section). s.authority) t.same
@@ -215,7 +215,7 @@ module _ {S : Type 0} (spans : S → List Span) where
       (all_weaker (Below (length shelves)) (λ entry. slice_get (shelves ++ shelf ∷ []) (place_of entry) ≡ slice_get shelves (place_of entry)) (λ entry. slice_left shelves shelf (place_of entry)) places within)
 
   pub new_inserted : (shelves : List (Shelf S)) (old : Places) (a : List ℕ) (n : ℕ) (new : Places) → (SomeSection (λ section. section.authority ≡ a) (sections_of spans shelves old) → ⊥) → Enters old a n new → Inserts name_of old (a, n) new
-  new_inserted shelves old a n new absent e = elim e [ inl there ↦ absurd (absent (named_some shelves a old there.0)) | inr put ↦ put ]
+  new_inserted shelves old a n new absent e = elim e [ inl s ↦ absurd (absent (named_some shelves a old (names_stay a s.0 n old new s.1).0)) | inr put ↦ put ]
 
   pub starts : (addition : Addition) (authority : List ℕ) (shelves : List (Shelf S)) (shelf : Shelf S) (old new : Places) → AllByRecursion (Below (length shelves)) old → Inserts name_of old (authority, length shelves) new
       → Takes addition (empty_section authority) (section_of spans (authority, shelf)) → AddsTo addition authority (sections_of spans shelves old) (sections_of spans (shelves ++ shelf ∷ []) new)

@@ -1,6 +1,6 @@
 -- Values that stand by byte strings, each byte string once.
 use Rattle.std.specs.Prelude.{◌≡◌, ℕ, ◌<◌, ◌≤◌, ◌⊎◌, List, [], ◌∷◌, ◌++◌, length, map}
-use Rattle.std.specs.Prelude.{Contains, Option, Some, None}
+use Rattle.std.specs.Prelude.{Option, Some, None}
 use Rattle.std.specs.Borrow.{Bor}
 use Rattle.std.specs.List.{AllByRecursion}
 use Rattle.krl_core.specs.Inserting.{Inserts}
@@ -46,12 +46,11 @@ module _ {V : Type 0} where
     pub before : old ≡ front ++ (name, was) ∷ back
     pub after : new ≡ front ++ (name, value) ∷ back
 
-  -- the entry is put in, or one has its byte string and takes the value
+  -- the entry is put in, or the one that has its byte string takes the value
   abbrev pub Enters : (old : List (List ℕ × V)) (name : List ℕ) (value : V)
       (new : List (List ℕ × V)) → Type 0
   Enters old name value new =
-      (Contains (names_of old) name × (names_of new ≡ names_of old))
-      ⊎ Inserts name_of old (name, value) new
+      ((was : V) × Swaps name was value old new) ⊎ Inserts name_of old (name, value) new
 
 -- the entry that a walk gives next, if there is one
 abbrev pub first_of : {K V : Type 0} → Option (Bor K × Bor V) → List (K × V)
