@@ -29,10 +29,10 @@ use Rattle.spec_fault.specs.declared.spec_cause.KeyCause.{KeyCause}
 use Rattle.spec_fault.specs.declared.spec_cause.KeyCause.TheVariants as keys
 use Rattle.spec_fault.specs.declared.spec_cause.SpecCause.{SpecCause}
 use Rattle.spec_fault.specs.declared.spec_cause.SpecCause.TheVariants as causes
-use Rattle.krl_runs.specs.Run.{container_found, key_in, keys_from, line_found}
-use Rattle.krl_runs.specs.Stop.{Stop, stop_of}
-use Rattle.krl_runs.specs.declared.input.file_fault.FileFault.TheVariants as files
-use Rattle.krl_runs.specs.declared.output.cause.Cause.TheVariants as stops
+use Rattle.key_files.specs.Keys.{container_found, key_in, keys_from, line_found}
+use Rattle.key_files.specs.Stop.{Stop, stop_of}
+use Rattle.key_files.specs.declared.file_fault.FileFault.TheVariants as files
+use Rattle.key_files.specs.declared.cause.Cause.TheVariants as stops
 use Rattle.krl_make.specs.FirstKey.{HaveNoKey, IsFirstKey, IsFirstKeyFault, IsFirstKeyLine, in_container, in_line, key_stop, of_container, of_line, without_key}
 use Rattle.krl_make.specs.Making.{file_stop, first_found, first_key_of, plain_found}
 

@@ -10,10 +10,10 @@ use Rattle.ssh_key.specs.declared.private_fault.PrivateFault.{PrivateFault}
 use Rattle.krl_spec.specs.Naming.{IsKeyFault, IsSubjectLine}
 use Rattle.spec_fault.specs.declared.spec_cause.KeyCause.{KeyCause}
 use Rattle.spec_fault.specs.declared.spec_cause.KeyCause.TheVariants as keys
-use Rattle.krl_runs.specs.Run.{stop_at}
-use Rattle.krl_runs.specs.Stop.{Stop, stop_of}
-use Rattle.krl_runs.specs.declared.input.file_fault.FileFault.TheVariants as files
-use Rattle.krl_runs.specs.declared.output.cause.Cause.TheVariants as causes
+use Rattle.key_files.specs.Keys.{stop_at}
+use Rattle.key_files.specs.Stop.{Stop, stop_of}
+use Rattle.key_files.specs.declared.file_fault.FileFault.TheVariants as files
+use Rattle.key_files.specs.declared.cause.Cause.TheVariants as causes
 
 -- no line has a key
 abbrev pub HaveNoKey : List (List ℕ) → Type 0

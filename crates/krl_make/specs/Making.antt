@@ -20,17 +20,17 @@ use Rattle.ssh_cert.specs.SubjectReading.{subject_of}
 use Rattle.krl_job.specs.declared.job.Authority.{Authority}
 use Rattle.krl_job.specs.declared.job.Authority.TheVariants.{NotGiven, All, File as FileOf}
 use Rattle.krl_make.specs.declared.base.Base.{Base}
-use Rattle.krl_runs.specs.declared.input.file_fault.FileFault.{FileFault}
-use Rattle.krl_runs.specs.declared.input.file_fault.FileFault.TheVariants as files
-use Rattle.krl_runs.specs.declared.output.cause.Cause.TheVariants as causes
+use Rattle.key_files.specs.declared.file_fault.FileFault.{FileFault}
+use Rattle.key_files.specs.declared.file_fault.FileFault.TheVariants as files
+use Rattle.key_files.specs.declared.cause.Cause.TheVariants as causes
 use Rattle.krl_core.specs.Changes.{MeansMore}
 use Rattle.spec_fault.specs.declared.spec_cause.SpecCause.{SpecCause}
 use Rattle.spec_fault.specs.declared.spec_cause.SpecCause.TheVariants as specs
 use Rattle.spec_fault.specs.declared.spec_fault.SpecFault.{SpecFault}
-use Rattle.krl_runs.specs.Query.{krl_cause}
-use Rattle.krl_runs.specs.Run.{File, Found, stop_at, stop_in, text_keys}
+use Rattle.key_files.specs.Stop.{krl_cause}
+use Rattle.key_files.specs.Keys.{File, Found, stop_at, stop_in, text_keys}
 use Rattle.krl_spec.specs.SpecFile.{lines_of}
-use Rattle.krl_runs.specs.Stop.{Stop, Ender, ByInput, ByMemory, ByOutput, ender_of, stop_of}
+use Rattle.key_files.specs.Stop.{Stop, Ender, ByInput, ByMemory, ByOutput, ender_of, stop_of}
 
 -- ---- faults, as stops of the run
 

@@ -4,7 +4,7 @@ ghost use Rattle.std.specs.Prelude.{◌≡◌, ◌<◌, Some, IfOk, length};
 ghost use Rattle.krl_make.specs.Making.{IsAuthorityAtHand, IsSigner, Returns, file_key, named_blob, plain_found, signer_authority};
 ghost use Rattle.krl_spec.specs.Entry.{IsUnder, authority_under};
 
-use krl_runs::{Cause, FileFault, FileKey, Named, RunFault, keys_of};
+use key_files::{Cause, FileFault, FileKey, Named, RunFault, keys_of};
 use krl_spec::Under;
 use ssh_key::plain_blob;
 use ssh_wire::Bytes;

@@ -5,12 +5,12 @@ ghost use Rattle.std.specs.Option.{ForSome};
 ghost use Rattle.krl_core.specs.declared.krl_fault.KrlFault.{KrlFault as FaultOf};
 ghost use Rattle.krl_core.specs.Contents.{Means, nothing};
 ghost use Rattle.krl_make.specs.Making.{IsBaseRead, base_of, new_base, version_of};
-ghost use Rattle.krl_runs.specs.Query.{krl_cause};
-ghost use Rattle.krl_runs.specs.Stop.{stop_of};
+ghost use Rattle.key_files.specs.Stop.{krl_cause};
+ghost use Rattle.key_files.specs.Stop.{stop_of};
 ghost use Rattle.krl_make.specs.declared.base.Base.{Base as BaseOf};
 
 use krl_core::{Header, Revocations, read_krl};
-use krl_runs::{RunFault, cause_of};
+use key_files::{RunFault, cause_of};
 use serial_set::Held;
 use ssh_wire::{Bytes, Source};
 use std::alloc::Global;

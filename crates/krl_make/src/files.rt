@@ -5,7 +5,7 @@ ghost use Rattle.krl_make.specs.Making.{AddsFiles, IsFileAtHand, cause_stop, fil
 ghost use Rattle.krl_spec.specs.Entry.{IsUnder, authority_under};
 
 use krl_core::Revocations;
-use krl_runs::{Cause, Named, RunFault};
+use key_files::{Cause, Named, RunFault};
 use krl_spec::{SpecCause, SpecFault, Under, read_spec};
 use serial_set::Spans;
 use std::alloc::Global;

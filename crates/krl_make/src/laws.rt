@@ -4,7 +4,7 @@
 ghost use Rattle.std.specs.Prelude.{◌≡◌, ◌↔◌, ℕ, List, Err, Ok};
 ghost use Rattle.krl_make.specs.FirstKey.{IsFirstKey, IsFirstKeyFault};
 ghost use Rattle.krl_make.specs.Making.{first_key_of};
-ghost use Rattle.krl_runs.specs.Stop.{Stop};
+ghost use Rattle.key_files.specs.Stop.{Stop};
 ghost use Rattle.ssh_wire.specs.Wire.{IsBytes};
 
 use krl_spec::laws::key_where_spelled;

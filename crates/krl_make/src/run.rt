@@ -12,7 +12,7 @@ use crate::base::{Base, next_version, read_base};
 use crate::files::add_files;
 use krl_core::laws::{revokes_what_is_meant, written_list_names_what_is_held};
 use krl_core::{Header, Revocations, TextFault, krl_text};
-use krl_runs::{Cause, Named, RunFault};
+use key_files::{Cause, Named, RunFault};
 use krl_spec::Under;
 use serial_set::Held;
 use ssh_wire::Source;

@@ -2,7 +2,7 @@
 use Rattle.std.proofs.Common.{◌≡◌, ℕ, ◌+◌, ◌<◌, ◌||◌, Bool, true, false, List, [], ◌∷◌, ◌++◌, length, map, take, drop, get_or, Option, None, Some, Result, Ok, Err, refl, sym, ap, subst, ◌∙◌, append_assoc}
 use Rattle.std.proofs.lemmas.List.{append-nil, take_more, take-append-drop}
 use Rattle.std.proofs.lemmas.List.Concat.{flat_map-append}
-use Rattle.krl_runs.specs.declared.output.cause.Cause.TheVariants.{File, NoMemory}
+use Rattle.key_files.specs.declared.cause.Cause.TheVariants.{File, NoMemory}
 use Rattle.ssh_cert.specs.AnyKey.{IsReadAs, asked_of, plain_of}
 use Rattle.ssh_subject.specs.Subject.{Subject}
 use Rattle.ssh_cert.specs.SubjectReading.{subject_of}
@@ -14,8 +14,9 @@ use Rattle.ssh_key.specs.declared.fault.KeyFault.{KeyFault}
 use Rattle.krl_runs.specs.Carries.{Carries}
 use Rattle.krl_runs.specs.declared.output.answer.Answer.{Answer}
 use Rattle.krl_runs.specs.Printer.{Printed}
-use Rattle.krl_runs.specs.Run.{File as FileOf, Found, GivesKey, IsRefused, IsWithheld, Item, Answered, Answering, Passed, Stopped, file_items, file_of, files_items, found_item, key_item, keys_of, name_of, said, silence_of, stop_in, subject_item, tells}
-use Rattle.krl_runs.specs.Stop.{Stop, Ender, ByInput, ByMemory, ByOutput, ender_of, stop_of}
+use Rattle.key_files.specs.Keys.{File as FileOf, Found, GivesKey, IsRefused, file_of, keys_of, stop_in}
+use Rattle.krl_runs.specs.Run.{IsWithheld, Item, Answered, Answering, Passed, Stopped, file_items, files_items, found_item, key_item, name_of, said, silence_of, subject_item, tells}
+use Rattle.key_files.specs.Stop.{Stop, Ender, ByInput, ByMemory, ByOutput, ender_of, stop_of}
 use Rattle.krl_runs.proofs.Carrying.{carries_as, carries_more, carries_none, carries_then, carries_withheld}
 
 -- ---- a key

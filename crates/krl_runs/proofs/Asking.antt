@@ -12,9 +12,11 @@ use Rattle.krl_core.specs.declared.krl_fault.KrlFault.TheVariants as faults
 use Rattle.krl_runs.specs.Carries.{Carries}
 use Rattle.krl_runs.specs.Printer.{Printed}
 use Rattle.krl_runs.specs.Contents.{Known, all_said, contents_items, dump_text, known_lines, known_of}
-use Rattle.krl_runs.specs.Query.{IsHeld, ask, krl_cause, query_run_of}
-use Rattle.krl_runs.specs.Run.{File, Item, Outcome, Passed, Stopped, before, files_items, outcome_of}
-use Rattle.krl_runs.specs.Stop.{Stop, stop_of}
+use Rattle.key_files.specs.Stop.{krl_cause}
+use Rattle.krl_runs.specs.Query.{IsHeld, ask, query_run_of}
+use Rattle.key_files.specs.Keys.{File}
+use Rattle.krl_runs.specs.Run.{Item, Outcome, Passed, Stopped, before, files_items, outcome_of}
+use Rattle.key_files.specs.Stop.{Stop, stop_of}
 use Rattle.krl_runs.proofs.Carrying.{carries_more, carries_passed, carries_then, carries_withheld}
 
 -- A list that was read is held.

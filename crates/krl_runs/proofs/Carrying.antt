@@ -7,7 +7,7 @@ use Rattle.krl_runs.specs.declared.output.answer.Answer.{Answer}
 use Rattle.krl_runs.specs.Carries.{Carries, IsEnded, Reaches}
 use Rattle.krl_runs.specs.Printer.{Printed, HasSaid, Sends, and_answer, chunk, nothing_printed}
 use Rattle.krl_runs.specs.Run.{Item, Answered, Passed, Stopped, IsWithheld}
-use Rattle.krl_runs.specs.Stop.{Stop, Ender, ByOutput, ByMemory, ByInput, ender_of}
+use Rattle.key_files.specs.Stop.{Stop, Ender, ByOutput, ByMemory, ByInput, ender_of}
 use Rattle.krl_runs.proofs.Saying.{added, passed, sent_all, sent_part}
 
 -- nothing was said yet

@@ -9,7 +9,7 @@ use Rattle.krl_runs.specs.Carries.{Carries, IsEnded, Reaches}
 use Rattle.krl_runs.specs.Done.{Ends, EndsBy}
 use Rattle.krl_runs.specs.Printer.{Printed, HasSaid, IsPartSent, IsSent, Sends, nothing_printed}
 use Rattle.krl_runs.specs.Run.{Item, Outcome, Stopped, outcome_of, status_of}
-use Rattle.krl_runs.specs.Stop.{Stop, Ender, ByOutput, ByMemory, ByInput, ender_of, is_by_output, is_lost}
+use Rattle.key_files.specs.Stop.{Stop, Ender, ByOutput, ByMemory, ByInput, ender_of, is_by_output, is_lost}
 use Rattle.krl_runs.proofs.Carrying.{begun}
 use Rattle.krl_runs.proofs.Saying.{cut_of_front, outcome_of-append, sent_part, taken_all}
 

@@ -20,9 +20,10 @@ use Rattle.ssh_cert.specs.SubjectReading.{IsSubject, subject_of}
 use Rattle.ssh_cert.specs.declared.subject_fault.SubjectFault.{SubjectFault}
 use Rattle.ssh_cert.specs.SubjectReading.{plain_is_key}
 use Rattle.krl_runs.specs.declared.output.answer.Answer.{Answer}
-use Rattle.krl_runs.specs.declared.output.cause.Cause.TheVariants.{Line}
+use Rattle.key_files.specs.declared.cause.Cause.TheVariants.{Line}
 use Rattle.krl_runs.specs.Items.{SpellsKey}
-use Rattle.krl_runs.specs.Run.{Answered, Answering, Stopped, found, found_item, item_of, key_in, key_item, line_found, said, stop_at, subject_item}
+use Rattle.key_files.specs.Keys.{found, key_in, line_found, stop_at}
+use Rattle.krl_runs.specs.Run.{Answered, Answering, Stopped, found_item, item_of, key_item, said, subject_item}
 
 pub no_item_of : (answer : Answering) (name : List ℕ) (number : ℕ) (text : List ℕ) → has_key text ≡ false → item_of answer name number text ≡ None
 unfolding item_of key_in

@@ -1,4 +1,3 @@
-pub mod Loading
 pub mod Saying
 pub mod Carrying
 pub mod Ending

@@ -8,7 +8,7 @@ use Rattle.std.specs.Io.KnownBytes.{Appends}
 use Rattle.krl_runs.specs.declared.output.answer.Answer.{Answer}
 use Rattle.krl_runs.specs.Printer.{Printed, HasAdded, HasSaid, IsCut, IsSent, IsPartSent, and_answer, told_count}
 use Rattle.krl_runs.specs.Run.{Item, Outcome, Answered, Passed, Stopped, before, outcome_of}
-use Rattle.krl_runs.specs.Stop.{Stop}
+use Rattle.key_files.specs.Stop.{Stop}
 
 -- two parts, of which the first did not stop
 abbrev pub followed_by : Outcome → Outcome → Outcome

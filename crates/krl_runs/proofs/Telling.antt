@@ -15,7 +15,7 @@ use Rattle.krl_runs.specs.Contents.{Known, all_said, authority_line, comment_lin
 use Rattle.krl_runs.specs.declared.runs.contents.fact.Fact.TheVariants.{Id, Key, Sha1, Hash}
 use Rattle.krl_runs.specs.Printer.{Printed}
 use Rattle.krl_runs.specs.Run.{Item}
-use Rattle.krl_runs.specs.Stop.{Stop}
+use Rattle.key_files.specs.Stop.{Stop}
 use Rattle.krl_runs.proofs.Carrying.{carries_more, carries_none, carries_then}
 
 abbrev said : Result (Unit {0}) Stop

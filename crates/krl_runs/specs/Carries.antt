@@ -4,7 +4,7 @@ use Rattle.std.specs.Result.{result_err}
 use Rattle.krl_runs.specs.Done.{IsCutOff, StarvesAfter}
 use Rattle.krl_runs.specs.Printer.{Printed, HasSaid}
 use Rattle.krl_runs.specs.Run.{Item, Stopped, outcome_of}
-use Rattle.krl_runs.specs.Stop.{Stop, Ender, ByOutput, ByMemory, ByInput, ender_of}
+use Rattle.key_files.specs.Stop.{Stop, Ender, ByOutput, ByMemory, ByInput, ender_of}
 
 -- The next item ends the run: all before it was said.
 pub record IsStopped (before : Option (List ℕ)) (items : List Item) (stop : Stop)

@@ -1,11 +1,11 @@
 -- How a run ends: what a writer has taken of its text, its status and its fault.
 use Rattle.std.specs.Prelude.{◌≡◌, ℕ, Bool, true, false, List, ◌∷◌, ◌++◌, Option, Some, None}
 use Rattle.std.specs.Io.KnownBytes.{Appends}
-use Rattle.krl_runs.specs.declared.output.cause.Cause.TheVariants.{NoMemory}
+use Rattle.key_files.specs.declared.cause.Cause.TheVariants.{NoMemory}
 use Rattle.krl_runs.specs.Printer.{IsCut}
 use Rattle.krl_runs.specs.Run.{Item, name_of, outcome_of, status_of}
-use Rattle.krl_runs.specs.Stop.{Stop, Ender, ByOutput, ByMemory, ByInput, ender_of, output_stop}
-use Rattle.krl_runs.specs.Stop.{stop_of}
+use Rattle.key_files.specs.Stop.{Stop, Ender, ByOutput, ByMemory, ByInput, ender_of, output_stop}
+use Rattle.key_files.specs.Stop.{stop_of}
 
 -- All of the run's text was taken, and the run's own end is reported.
 pub record IsWhole (run : List Item) (before after : Option (List ℕ)) (failed : Bool)

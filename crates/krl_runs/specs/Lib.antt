@@ -1,8 +1,4 @@
-pub mod FileFault
-pub mod Named
-pub mod Stop
 pub mod Run
-pub mod FileKeys
 pub mod Items
 pub mod Printer
 pub mod Carries

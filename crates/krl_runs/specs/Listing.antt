@@ -12,11 +12,12 @@ use Rattle.ssh_key.specs.Key.{Key}
 use Rattle.ssh_key.specs.Kind.{short_name_of}
 use Rattle.ssh_key.specs.LineReading.{Content}
 use Rattle.ssh_cert.specs.Escape.{escaped}
-use Rattle.krl_runs.specs.declared.input.file_fault.FileFault.TheVariants as files
+use Rattle.key_files.specs.declared.file_fault.FileFault.TheVariants as files
 use Rattle.krl_runs.specs.declared.output.answer.Answer.{Answer}
 use Rattle.krl_runs.specs.declared.runs.listing.ListMode.{ListMode}
 use Rattle.krl_runs.specs.declared.runs.listing.ListMode.TheVariants.{Keys, Certs}
-use Rattle.krl_runs.specs.Run.{Answering, File, Item, file_items}
+use Rattle.key_files.specs.Keys.{File}
+use Rattle.krl_runs.specs.Run.{Answering, Item, file_items}
 
 abbrev pub comment_or_none : List ℕ → List ℕ
 comment_or_none [] = codes "no comment"

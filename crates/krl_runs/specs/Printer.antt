@@ -5,7 +5,7 @@ use Rattle.std.specs.Io.KnownBytes.{Appends}
 use Rattle.std.specs.Result.{result_err}
 use Rattle.krl_runs.specs.declared.output.answer.Answer.{Answer}
 use Rattle.krl_runs.specs.Run.{Item, outcome_of}
-use Rattle.krl_runs.specs.Stop.{Stop, output_stop}
+use Rattle.key_files.specs.Stop.{Stop, output_stop}
 
 -- The end of the text, which waits to be sent; the count of the bytes that were sent; whether some
 -- line says REVOKED; and of the writer what it has taken, whether it has failed, and which it is.

@@ -8,17 +8,15 @@ use Rattle.krl_core.specs.Reading.{IsList, IsReadAs, IsReadingOf}
 use Rattle.krl_core.specs.Revoked.{Revoked}
 use Rattle.krl_core.specs.Tested.{revokes}
 use Rattle.krl_core.specs.declared.krl_fault.KrlFault.{KrlFault}
-use Rattle.krl_core.specs.declared.krl_fault.KrlFault.TheVariants.{NoMemory}
 use Rattle.ssh_subject.specs.Subject.{Subject}
 use Rattle.ssh_key.specs.LineReading.{Content}
 use Rattle.krl_runs.specs.declared.output.answer.Answer.{Answer}
-use Rattle.krl_runs.specs.declared.input.file_fault.FileFault.TheVariants as files
-use Rattle.krl_runs.specs.declared.output.cause.Cause.{Cause}
-use Rattle.krl_runs.specs.declared.output.cause.Cause.TheVariants as causes
+use Rattle.key_files.specs.declared.file_fault.FileFault.TheVariants as files
 use Rattle.ssh_cert.specs.Escape.{escaped}
 use Rattle.krl_runs.specs.Contents.{Known, contents_items}
-use Rattle.krl_runs.specs.Run.{Answering, File, Item, Passed, Stopped, files_items}
-use Rattle.krl_runs.specs.Stop.{stop_of}
+use Rattle.key_files.specs.Keys.{File}
+use Rattle.krl_runs.specs.Run.{Answering, Item, Passed, Stopped, files_items}
+use Rattle.key_files.specs.Stop.{stop_of}
 
 -- a comment after a file's name, where there is one
 abbrev pub comment_part : List ℕ → List ℕ
@@ -61,11 +59,6 @@ IsRead = IsReadAs IsHeld
 -- This is what reading a list gave, by its reader before and after it.
 abbrev pub IsListRead : Option (List ℕ) → Result Known KrlFault → Bool → Option (List ℕ) → Type 0
 IsListRead = IsReadingOf IsHeld
-
--- Where memory runs out, it is for the run itself.
-abbrev pub krl_cause : KrlFault → Cause
-krl_cause NoMemory = causes.NoMemory
-krl_cause fault = causes.Krl fault
 
 -- The list's first fault ends the run at once. Else its contents are printed where they are asked
 -- for, and then each key of each file gives one line, up to the first fault.

@@ -19,13 +19,14 @@ ghost use Rattle.ssh_cert.specs.declared.subject_fault.SubjectFault.{SubjectFaul
 ghost use Rattle.krl_core.specs.declared.krl_fault.KrlFault.{KrlFault};
 ghost use Rattle.krl_core.specs.declared.krl_fault.KrlFault.TheVariants.{NoMemory};
 ghost use Rattle.krl_runs.specs.declared.output.answer.Answer.{Answer};
-ghost use Rattle.krl_runs.specs.declared.output.cause.Cause.TheVariants.{Line, Private, Subject as Subjects};
+ghost use Rattle.key_files.specs.declared.cause.Cause.TheVariants.{Line, Private, Subject as Subjects};
 ghost use Rattle.krl_runs.specs.Contents.{Known, dump_text};
 ghost use Rattle.krl_runs.specs.Items.{SpellsKey};
 ghost use Rattle.krl_runs.specs.Listing.{certify, listed_certificate};
 ghost use Rattle.krl_runs.specs.Query.{IsRead, ask, query_run_of};
-ghost use Rattle.krl_runs.specs.Run.{Answered, Answering, File, Stopped, before, container_item, files_items, item_of, outcome_of, said, stop_at};
-ghost use Rattle.krl_runs.specs.Stop.{stop_of};
+ghost use Rattle.key_files.specs.Keys.{File, stop_at};
+ghost use Rattle.krl_runs.specs.Run.{Answered, Answering, Stopped, before, container_item, files_items, item_of, outcome_of, said};
+ghost use Rattle.key_files.specs.Stop.{stop_of};
 
 use krl_core::laws::{entries_decide_what_is_held, one_first_fault, one_spelling};
 use ssh_cert::laws::{asked_where_spelled, not_asked_by_first_fault, read_where_spelled};

@@ -1,8 +1,6 @@
 // What a run prints, and how it ends.
 
 pub(crate) mod answer;
-pub mod cause;
 pub mod done;
 pub mod printer;
 pub mod run;
-pub mod run_fault;

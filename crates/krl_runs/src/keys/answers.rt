@@ -3,9 +3,8 @@
 ghost use Rattle.std.specs.Prelude.{◌≡◌, IfOk};
 ghost use Rattle.ssh_cert.specs.AnyKey.{IsReadAs, asked_of, plain_of};
 
-use crate::input::file_fault::FileFault;
-use crate::keys::file_keys::FileKey;
 use crate::output::answer::Answer;
+use key_files::{FileFault, FileKey};
 use ssh_cert::AnyKey;
 use std::alloc::{AllocError, Global};
 

@@ -4,13 +4,10 @@ ghost use Rattle.std.specs.Prelude.{◌≡◌, ◌∷◌, [], IfOk, Ok};
 ghost use Rattle.krl_runs.specs.Carries.{Carries};
 ghost use Rattle.krl_runs.specs.Run.{GivesAnswer, file_items, files_items, found_item, tells};
 
-use crate::input::named::Named;
 use crate::keys::answers::Answers;
-use crate::keys::file_keys::{FileKey, keys_of};
 use crate::output::answer::Answer;
-use crate::output::cause::Cause;
 use crate::output::run::Run;
-use crate::output::run_fault::RunFault;
+use key_files::{Cause, FileKey, Named, RunFault, keys_of};
 use ssh_wire::Sink;
 use std::alloc::Global;
 

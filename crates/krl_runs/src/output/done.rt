@@ -1,6 +1,6 @@
 // The end of a run.
 
-use crate::output::run_fault::RunFault;
+use key_files::RunFault;
 
 /// The status of a fault.
 pub const FAILED: u8 = 255;

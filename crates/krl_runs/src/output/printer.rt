@@ -5,11 +5,10 @@ ghost use Rattle.krl_runs.specs.Carries.{Carries, Reaches};
 ghost use Rattle.krl_runs.specs.Done.{Ends};
 ghost use Rattle.krl_runs.specs.Printer.{FailsAgain, Sends, and_answer, chunk, nothing_printed};
 ghost use Rattle.krl_runs.specs.Run.{Answered, Item, status_of};
-ghost use Rattle.krl_runs.specs.Stop.{is_lost, output_stop};
+ghost use Rattle.key_files.specs.Stop.{is_lost, output_stop};
 
-use crate::output::cause::Cause;
 use crate::output::done::{Done, FAILED};
-use crate::output::run_fault::RunFault;
+use key_files::{Cause, RunFault};
 use ssh_wire::{Sink, send};
 use std::alloc::AllocError;
 use std::marker::Model;

@@ -4,9 +4,8 @@ ghost use Rattle.std.specs.Prelude.{◌≡◌, ◌∷◌, [], ℕ, List, OnOk};
 ghost use Rattle.krl_runs.specs.Carries.{Carries};
 ghost use Rattle.krl_runs.specs.Contents.{said_of};
 
-use crate::output::cause::Cause;
 use crate::output::printer::Printer;
-use crate::output::run_fault::RunFault;
+use key_files::{Cause, RunFault};
 use ssh_wire::Sink;
 use std::alloc::{AllocError, Global};
 

@@ -8,11 +8,11 @@ pub(crate) mod fact;
 pub(crate) mod lines;
 
 use crate::output::run::Run;
-use crate::output::run_fault::RunFault;
 use crate::runs::contents::fact::Fact;
 use crate::runs::contents::lines::{
     write_authority, write_comment, write_date, write_serials, write_version,
 };
+use key_files::RunFault;
 use krl_core::{Header, Listed, Revocations, Texts};
 use serial_set::{Span, Spans};
 use ssh_wire::Sink;

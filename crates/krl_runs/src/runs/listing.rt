@@ -6,16 +6,14 @@ ghost use Rattle.ssh_key.specs.Kind.{short_name_of};
 ghost use Rattle.krl_runs.specs.Done.{Ends};
 ghost use Rattle.krl_runs.specs.Listing.{certificate_answer, certificate_mark, certificate_text, comment_or_none, description, kind_part, list_line, list_run_of, listing, place_part};
 
-use crate::input::file_fault::FileFault;
-use crate::input::named::Named;
 use crate::keys::answers::Answers;
-use crate::keys::file_keys::FileKey;
 use crate::keys::walk::print_file;
 use crate::output::answer::Answer;
 use crate::output::done::Done;
 use crate::output::printer::Printer;
 use crate::output::run::Run;
 use crate::runs::contents::lines::push_number;
+use key_files::{FileFault, FileKey, Named};
 use ssh_cert::{AnyKey, Cert, list_cert, push_escaped};
 use ssh_key::{Hash, PublicKey, fingerprint, plain_blob};
 use ssh_wire::{Bytes, Sink};

@@ -5,20 +5,17 @@ ghost use Rattle.krl_core.specs.declared.krl_fault.KrlFault.{KrlFault as FaultOf
 ghost use Rattle.krl_runs.specs.Carries.{Carries};
 ghost use Rattle.krl_runs.specs.Contents.{Known as KnownOf, known_of};
 ghost use Rattle.krl_runs.specs.Done.{Ends};
-ghost use Rattle.krl_runs.specs.Query.{IsListRead, ask, comment_part, krl_cause, query_line, query_run_of, verdict};
+ghost use Rattle.key_files.specs.Stop.{krl_cause};
+ghost use Rattle.krl_runs.specs.Query.{IsListRead, ask, comment_part, query_line, query_run_of, verdict};
 
-use crate::input::file_fault::FileFault;
-use crate::input::named::Named;
 use crate::keys::answers::Answers;
-use crate::keys::file_keys::FileKey;
 use crate::keys::walk::print_files;
 use crate::output::answer::Answer;
-use crate::output::cause::Cause;
 use crate::output::done::Done;
 use crate::output::printer::Printer;
 use crate::output::run::Run;
-use crate::output::run_fault::RunFault;
 use crate::runs::contents::print_contents;
+use key_files::{Cause, FileFault, FileKey, Named, RunFault, cause_of};
 use krl_core::laws::revokes_what_is_meant;
 use krl_core::{Header, KrlFault, Revocations, read_krl};
 use serial_set::Held;
@@ -162,15 +159,4 @@ fn ask_held<'a, W: Sink>(
     let Known { header, list } = known;
     print_contents(run, krl_name, dump, header, list)?;
     print_files(run, &Query { list }, files)
-}
-
-/// Why a run stops at a fault of a list: where memory runs out, it is for the run itself.
-pub fn cause_of(fault: KrlFault) -> Cause
-    ensures { result ≡ krl_cause fault }
-{
-    if fault == KrlFault::NoMemory {
-        Cause::NoMemory
-    } else {
-        Cause::Krl(fault)
-    }
 }

@@ -1,10 +1,11 @@
-// The callers of the pages of `spec_fault`, `krl_spec`, `krl_make` and `krl_runs`.
+// The callers of the pages of `spec_fault`, `krl_spec`, `key_files`, `krl_make` and `krl_runs`.
 
 use crate::tests::bytes::GITHUB;
 use crate::tests::runs::{GITHUB_LINE, holding};
+use key_files::{Named, RunFault, keys_of};
 use krl_core::Revocations;
 use krl_make::{Authority, Old, make_run};
-use krl_runs::{Done, Named, RunFault, query_run};
+use krl_runs::{Done, query_run};
 use krl_spec::{SpecFault, Under, read_spec};
 use serial_set::Held;
 use ssh_cert::subject;
@@ -21,6 +22,17 @@ fn revoked_by(alloc: Global, lines: &[u8]) -> Result<Revocations<Held>, SpecFaul
     let mut held = Revocations::new(alloc);
     read_spec(alloc, &mut held, Under::All, lines)?;
     Ok(held)
+}
+
+/// The number of the first line of a file that has a key. A container has no lines.
+fn first_of<'a>(alloc: Global, file: &'a Named<'a>) -> Result<Option<u64>, RunFault<'a>> {
+    match keys_of(alloc, file).next() {
+        Some(key) => {
+            let key = key?;
+            Ok(key.number)
+        }
+        None => Ok(None),
+    }
 }
 
 /// A new list that revokes what the lines of files name, under an authority.
@@ -62,6 +74,19 @@ fn lines_revoke(rt: HostRuntime) {
         .expect(&rt, "the line is refused");
     let (line, number) = place_of(fault);
     assert!(rt; line == 1 && number == 3);
+}
+
+#[test]
+fn the_first_key_has_its_line(rt: HostRuntime) {
+    let mut text = Vec::from_slice(rt.alloc(), b"\n# no key\n").expect(&rt, "there is memory");
+    text.extend_from_slice(GITHUB_LINE).expect(&rt, "there is memory");
+    let file = holding("keys", text);
+    let number = first_of(rt.alloc(), &file).ok().expect(&rt, "it is a key");
+    assert!(rt; number == Some(3));
+    let text = Vec::from_slice(rt.alloc(), b"\nssh-ed25519\n").expect(&rt, "there is memory");
+    let file = holding("keys", text);
+    let fault = first_of(rt.alloc(), &file).err().expect(&rt, "it has no blob");
+    assert!(rt; fault.line == Some(2));
 }
 
 #[test]

@@ -1,7 +1,7 @@
 -- The first key is given or not, or there is none.
 use Rattle.std.proofs.Common.{ap, sym, ◌∙◌}
 use Rattle.std.proofs.lemmas.Result.{err_from_is_err_and}
-use Rattle.krl_runs.specs.Run.{File}
+use Rattle.key_files.specs.Keys.{File}
 use Rattle.krl_make.proofs.MadeLists.{first_given, first_refused, no_key_first}
 use Rattle.krl_make.proofs.authority.first_key.Goals as goal
 

@@ -2,7 +2,8 @@
 use Rattle.std.proofs.Common.{None, [], sym, ap, ◌∙◌}
 use Rattle.ssh_key.specs.KeyReading.{key_at}
 use Rattle.ssh_key.specs.LineReading.{content}
-use Rattle.krl_runs.specs.Run.{container_item, found}
+use Rattle.key_files.specs.Keys.{found}
+use Rattle.krl_runs.specs.Run.{container_item}
 use Rattle.krl_runs.proofs.Answering.{blob_answered}
 use Rattle.krl_runs.proofs.laws.containers_by_what_is_spelled.Goals as goal
 

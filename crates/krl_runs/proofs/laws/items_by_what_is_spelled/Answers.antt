@@ -2,7 +2,7 @@
 use Rattle.std.proofs.Common.{Some, sym, ap, ◌∙◌}
 use Rattle.ssh_key.specs.KeyReading.{key_at}
 use Rattle.ssh_key.specs.LineReading.{content}
-use Rattle.krl_runs.specs.Run.{found}
+use Rattle.key_files.specs.Keys.{found}
 use Rattle.krl_runs.proofs.Answering.{blob_answered, blob_refused}
 use Rattle.krl_runs.proofs.Items.{answered_line, faulty_line, line_item, no_item_of, spelled_line}
 use Rattle.krl_runs.proofs.laws.items_by_what_is_spelled.Goals as goal

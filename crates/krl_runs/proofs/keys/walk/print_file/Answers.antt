@@ -1,8 +1,8 @@
 -- Each key carries the run on, or stops it.
 use Rattle.std.proofs.Common.{◌∷◌, Ok, Result, ap, ◌∙◌}
 use Rattle.std.proofs.lemmas.Result.{err_from_is_err_and}
-use Rattle.krl_runs.specs.Run.{File, Found}
-use Rattle.krl_runs.specs.Stop.{Stop}
+use Rattle.key_files.specs.Keys.{File, Found}
+use Rattle.key_files.specs.Stop.{Stop}
 use Rattle.krl_runs.proofs.Answering.{file_ends, file_is_silent, file_stopped, key_refused, key_said, key_stops, none_reached}
 use Rattle.krl_runs.proofs.keys.walk.print_file.Goals as goal
 

@@ -1,7 +1,8 @@
 -- Nothing is said of the key, or its answer.
 use Rattle.std.proofs.Common.{Bool, true, false, [], ◌∷◌, Ok, ap, refl, subst, sym}
 use Rattle.krl_runs.specs.Carries.{Carries}
-use Rattle.krl_runs.specs.Run.{Answered, Found, Item}
+use Rattle.key_files.specs.Keys.{Found}
+use Rattle.krl_runs.specs.Run.{Answered, Item}
 use Rattle.krl_runs.proofs.Carrying.{carries_as, carries_passed}
 use Rattle.krl_runs.proofs.keys.walk.print_key.Goals as goal
 

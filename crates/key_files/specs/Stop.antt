@@ -4,14 +4,16 @@ use Rattle.std.specs.Prelude.{decimal}
 use Rattle.ssh_key.specs.LineFault.{fault_number as line_fault_number}
 use Rattle.ssh_key.specs.LineFault.{fault_text as line_fault_text}
 use Rattle.ssh_key.specs.PrivateFault.{private_fault_number, private_fault_text}
+use Rattle.krl_core.specs.declared.krl_fault.KrlFault.{KrlFault}
+use Rattle.krl_core.specs.declared.krl_fault.KrlFault.TheVariants as faults
 use Rattle.krl_core.specs.KrlFault.{fault_number as krl_fault_number, fault_text as krl_fault_text}
 use Rattle.ssh_cert.specs.SubjectFault.{subject_fault_number, subject_fault_text}
-use Rattle.krl_runs.specs.declared.output.cause.Cause.{Cause}
-use Rattle.krl_runs.specs.declared.output.cause.Cause.TheVariants.{File, Krl, Line, Private}
-use Rattle.krl_runs.specs.declared.output.cause.Cause.TheVariants.{Subject, Spec, NoMemory}
-use Rattle.krl_runs.specs.declared.output.cause.Cause.TheVariants.{VersionFull, TextTooLong, Output}
+use Rattle.key_files.specs.declared.cause.Cause.{Cause}
+use Rattle.key_files.specs.declared.cause.Cause.TheVariants.{File, Krl, Line, Private}
+use Rattle.key_files.specs.declared.cause.Cause.TheVariants.{Subject, Spec, NoMemory}
+use Rattle.key_files.specs.declared.cause.Cause.TheVariants.{VersionFull, TextTooLong, Output}
 use Rattle.ssh_cert.specs.Escape.{escaped}
-use Rattle.krl_runs.specs.FileFault.{file_fault_number, file_fault_text}
+use Rattle.key_files.specs.FileFault.{file_fault_number, file_fault_text}
 use Rattle.spec_fault.specs.SpecCause.{spec_cause_number, spec_cause_text}
 
 -- the name of what was being worked on, the number of its line where there is one, and why
@@ -63,6 +65,11 @@ stop_of name cause = record { name = name; line = None; cause = cause }
 -- The output failed after this many bytes. It has no line.
 abbrev pub output_stop : ℕ → Stop
 output_stop count = stop_of (codes "output") (Output count)
+
+-- Where memory runs out, it is for the run itself.
+abbrev pub krl_cause : KrlFault → Cause
+krl_cause faults.NoMemory = NoMemory
+krl_cause fault = Krl fault
 
 -- what ended a run before its end
 pub data Ender : Type 0 where

@@ -5,7 +5,7 @@ use Rattle.std.proofs.KnownBytes.{Consumes-trans}
 use Rattle.ssh_wire.specs.declared.pull_fault.PullFault.{PullFault}
 use Rattle.ssh_wire.specs.declared.pull_fault.PullFault.TheVariants.{EndsEarly, TooLong, Read, NoMemory}
 use Rattle.ssh_wire.specs.Pull.{Consumes-ahead, Pulled, TakesRest, RefusesRest, after_ahead, untaken}
-use Rattle.krl_runs.specs.Named.{file_limit, IsLoaded, file_fault}
+use Rattle.key_files.specs.Named.{file_limit, IsLoaded, file_fault}
 
 -- no byte stands ahead
 none_ahead : (before source : Option (List ℕ)) (ahead : Option ℕ) (came : List ℕ) → ahead ≡ None → Consumes before (after_ahead ahead source) came → Consumes before source came

@@ -1,9 +1,9 @@
 // Why a run stops.
 
 ghost use Rattle.std.specs.Prelude.{◌≡◌, Some};
-ghost use Rattle.krl_runs.specs.Stop.{cause_number, cause_text};
+ghost use Rattle.key_files.specs.Stop.{cause_number, cause_text, krl_cause};
 
-use crate::input::file_fault::FileFault;
+use crate::file_fault::FileFault;
 use krl_core::KrlFault;
 use spec_fault::SpecCause;
 use ssh_cert::SubjectFault;
@@ -65,5 +65,16 @@ impl fmt::Display for Cause {
             Cause::TextTooLong => write!(f, "run 3 TextTooLong"),
             Cause::Output { count } => write!(f, "output 1 Write after {count} bytes"),
         }
+    }
+}
+
+/// Why a run stops at a fault of a list: where memory runs out, it is for the run itself.
+pub fn cause_of(fault: KrlFault) -> Cause
+    ensures { result ≡ krl_cause fault }
+{
+    if fault == KrlFault::NoMemory {
+        Cause::NoMemory
+    } else {
+        Cause::Krl(fault)
     }
 }

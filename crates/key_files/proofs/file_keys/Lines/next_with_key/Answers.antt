@@ -6,9 +6,9 @@ use Rattle.std.specs.Prelude.{IfSome}
 use Rattle.ssh_key.specs.KeyFile.{has_key}
 use Rattle.ssh_key.specs.LineReading.{line_at}
 use Rattle.ssh_key.specs.Lines.{is_newline, lines_left}
-use Rattle.krl_runs.specs.FileKeys.{line_room}
-use Rattle.krl_runs.specs.Run.{key_in, keys_from, line_found}
-use Rattle.krl_runs.proofs.keys.file_keys.Lines.next_with_key.Goals as goal
+use Rattle.key_files.specs.FileKeys.{line_room}
+use Rattle.key_files.specs.Keys.{key_in, keys_from, line_found}
+use Rattle.key_files.proofs.file_keys.Lines.next_with_key.Goals as goal
 
 keyed : (name : List ℕ) (passed : ℕ) (text line : List ℕ) (lines : List (List ℕ)) → slice_split is_newline text ≡ line ∷ lines → has_key line ≡ true
     → keys_from name (passed + 1) (slice_split is_newline text) ≡ line_found name (passed + 1) (line_at line) ∷ keys_from name (passed + 1 + 1) lines

@@ -1,9 +1,9 @@
 -- The numbers and the printed names of the faults of a file.
 use Rattle.std.specs.Prelude.{ℕ, List, codes}
-use Rattle.krl_runs.specs.declared.input.file_fault.FileFault.{FileFault}
-use Rattle.krl_runs.specs.declared.input.file_fault.FileFault.TheVariants.{Open, Read, TooLong}
-use Rattle.krl_runs.specs.declared.input.file_fault.FileFault.TheVariants.{NoMemory, NoKeys}
-use Rattle.krl_runs.specs.declared.input.file_fault.FileFault.TheVariants.{NoCertificate}
+use Rattle.key_files.specs.declared.file_fault.FileFault.{FileFault}
+use Rattle.key_files.specs.declared.file_fault.FileFault.TheVariants.{Open, Read, TooLong}
+use Rattle.key_files.specs.declared.file_fault.FileFault.TheVariants.{NoMemory, NoKeys}
+use Rattle.key_files.specs.declared.file_fault.FileFault.TheVariants.{NoCertificate}
 
 abbrev pub file_fault_number : FileFault → ℕ
 file_fault_number Open = 1

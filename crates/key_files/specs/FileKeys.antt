@@ -5,14 +5,14 @@ use Rattle.std.specs.Borrow.{Bor}
 use Rattle.ssh_key.specs.ContainerReading.{private_at}
 use Rattle.ssh_key.specs.LineReading.{Content, content_of, line_at}
 use Rattle.ssh_key.specs.Lines.{lines_left}
-use Rattle.krl_runs.specs.declared.keys.file_keys.KeyText.{KeyText}
-use Rattle.krl_runs.specs.declared.keys.file_keys.KeyText.TheVariants.{Line, Container}
-use Rattle.krl_runs.specs.declared.keys.file_keys.Left.{Left}
-use Rattle.krl_runs.specs.declared.keys.file_keys.Left.TheVariants as lefts
-use Rattle.krl_runs.specs.declared.keys.file_keys.Lines.{Lines}
-use Rattle.krl_runs.specs.declared.output.cause.Cause.TheVariants.{File}
-use Rattle.krl_runs.specs.Run.{Found, container_found, held_by, keys_from, line_found}
-use Rattle.krl_runs.specs.Stop.{Stop, stop_of}
+use Rattle.key_files.specs.declared.file_keys.KeyText.{KeyText}
+use Rattle.key_files.specs.declared.file_keys.KeyText.TheVariants.{Line, Container}
+use Rattle.key_files.specs.declared.file_keys.Left.{Left}
+use Rattle.key_files.specs.declared.file_keys.Left.TheVariants as lefts
+use Rattle.key_files.specs.declared.file_keys.Lines.{Lines}
+use Rattle.key_files.specs.declared.cause.Cause.TheVariants.{File}
+use Rattle.key_files.specs.Keys.{Found, container_found, held_by, keys_from, line_found}
+use Rattle.key_files.specs.Stop.{Stop, stop_of}
 
 -- what the line or the container of a key holds
 abbrev pub content_in : KeyText → Content

@@ -1,9 +1,9 @@
 -- All that was left came, or not.
 use Rattle.std.proofs.Common.{ap, subst}
 use Rattle.ssh_wire.specs.Pull.{Pulled, TakesRest, RefusesRest}
-use Rattle.krl_runs.proofs.Loading.{loads_all, loads_none}
-use Rattle.krl_runs.proofs.input.named.load.Goals.{in-Ok, in-Err}
-use Rattle.krl_runs.proofs.input.named.load.Goals as goal
+use Rattle.key_files.proofs.Loading.{loads_all, loads_none}
+use Rattle.key_files.proofs.named.load.Goals.{in-Ok, in-Err}
+use Rattle.key_files.proofs.named.load.Goals as goal
 
 pub returns-clause-content : goal.returns-clause-content
 returns-clause-content g c =

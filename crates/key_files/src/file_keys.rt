@@ -6,13 +6,13 @@ ghost use Rattle.ssh_cert.specs.SubjectReading.{subject_of};
 ghost use Rattle.ssh_cert.specs.declared.subject_fault.SubjectFault.{SubjectFault as FaultOf};
 ghost use Rattle.ssh_key.specs.ContainerReading.{private_at};
 ghost use Rattle.ssh_key.specs.LineReading.{line_at};
-ghost use Rattle.krl_runs.specs.FileKeys.{HasRoom, IsNextLine, keys_left, line_room};
-ghost use Rattle.krl_runs.specs.Run.{GivesKey, GivesNext, container_found, keys_of, line_found, stop_in, text_keys};
+ghost use Rattle.key_files.specs.FileKeys.{HasRoom, IsNextLine, keys_left, line_room};
+ghost use Rattle.key_files.specs.Keys.{GivesKey, GivesNext, container_found, keys_of, line_found, stop_in, text_keys};
 
-use crate::input::file_fault::FileFault;
-use crate::input::named::Named;
-use crate::output::cause::Cause;
-use crate::output::run_fault::RunFault;
+use crate::file_fault::FileFault;
+use crate::named::Named;
+use crate::cause::Cause;
+use crate::run_fault::RunFault;
 use ssh_cert::{AnyKey, read_any};
 use ssh_key::{
     Line, LineFault, Private, PrivateFault, has_key, is_container, read_line, read_private,
@@ -39,8 +39,8 @@ pub struct FileKey<'a> {
 }
 
 impl<'a> Model for FileKey<'a> {
-    ghost use Rattle.krl_runs.specs.FileKeys.{content_in};
-    ghost use Rattle.krl_runs.specs.Run.{Found};
+    ghost use Rattle.key_files.specs.FileKeys.{content_in};
+    ghost use Rattle.key_files.specs.Keys.{Found};
 
     ghost Value = { Found };
 
@@ -140,9 +140,9 @@ pub struct FileKeys<'a> {
 
 impl<'a> Model for FileKeys<'a> {
     ghost use Rattle.std.specs.Prelude.{List, Result};
-    ghost use Rattle.krl_runs.specs.FileKeys.{HasRoom, keys_left};
-    ghost use Rattle.krl_runs.specs.Run.{Found};
-    ghost use Rattle.krl_runs.specs.Stop.{Stop};
+    ghost use Rattle.key_files.specs.FileKeys.{HasRoom, keys_left};
+    ghost use Rattle.key_files.specs.Keys.{Found};
+    ghost use Rattle.key_files.specs.Stop.{Stop};
 
     ghost Value = { List (Result Found Stop) };
 
@@ -180,7 +180,7 @@ impl<'a> Iterator for FileKeys<'a> {
 }
 
 /// The keys of a file.
-#[tactic(auto, unfolding(crate::specs::Run::keys_of))]
+#[tactic(auto, unfolding(crate::specs::Keys::keys_of))]
 pub fn keys_of<'a>(alloc: Global, file: &'a Named<'a>) -> FileKeys<'a>
     ensures { result ≡ keys_of file.entry.now }
 {

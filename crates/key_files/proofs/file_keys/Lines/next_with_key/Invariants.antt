@@ -1,7 +1,7 @@
 -- No line that was passed has a key.
 use Rattle.std.proofs.Common.{◌≡◌, ℕ, ◌+◌, ◌^◌, ◌<◌, List}
-use Rattle.krl_runs.specs.FileKeys.{line_room, lines_keys}
-use Rattle.krl_runs.proofs.keys.file_keys.Lines.next_with_key.Given as goal
+use Rattle.key_files.specs.FileKeys.{line_room, lines_keys}
+use Rattle.key_files.proofs.file_keys.Lines.next_with_key.Given as goal
 
 abbrev pub invariant-loop-self : goal.invariant-loop-self
 invariant-loop-self l = record {

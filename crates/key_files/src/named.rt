@@ -1,9 +1,9 @@
 // Files by name, with what they hold.
 
 ghost use Rattle.std.specs.Prelude.{◌≡◌, false};
-ghost use Rattle.krl_runs.specs.Named.{IsLoaded, file_fault};
+ghost use Rattle.key_files.specs.Named.{IsLoaded, file_fault};
 
-use crate::input::file_fault::FileFault;
+use crate::file_fault::FileFault;
 use ssh_wire::{Bytes, Pull, PullFault, Source};
 use std::alloc::Global;
 use std::marker::Model;
@@ -19,7 +19,7 @@ pub struct Named<'a> {
 }
 
 impl<'a> Model for Named<'a> {
-    ghost use Rattle.krl_runs.specs.Run.{File};
+    ghost use Rattle.key_files.specs.Keys.{File};
 
     ghost Value = { File };
 

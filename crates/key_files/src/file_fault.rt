@@ -1,7 +1,7 @@
 // Why a file is refused as a whole.
 
 ghost use Rattle.std.specs.Prelude.{◌≡◌, Some};
-ghost use Rattle.krl_runs.specs.FileFault.{file_fault_number, file_fault_text};
+ghost use Rattle.key_files.specs.FileFault.{file_fault_number, file_fault_text};
 
 use std::error::Error;
 use std::fmt;

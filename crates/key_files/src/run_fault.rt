@@ -1,10 +1,10 @@
 // Where and why a run stopped, and the line that tells it.
 
 ghost use Rattle.std.specs.Prelude.{◌≡◌, ◌++◌, IfOk, OnOk};
-ghost use Rattle.krl_runs.specs.Run.{stop_at};
-ghost use Rattle.krl_runs.specs.Stop.{fault_line, line_part, stop_of};
+ghost use Rattle.key_files.specs.Keys.{stop_at};
+ghost use Rattle.key_files.specs.Stop.{fault_line, line_part, stop_of};
 
-use crate::output::cause::Cause;
+use crate::cause::Cause;
 use ssh_cert::push_escaped;
 use std::alloc::{AllocError, Global};
 use std::marker::Model;
@@ -20,7 +20,7 @@ pub struct RunFault<'a> {
 }
 
 impl<'a> Model for RunFault<'a> {
-    ghost use Rattle.krl_runs.specs.Stop.{Stop};
+    ghost use Rattle.key_files.specs.Stop.{Stop};
 
     ghost Value = { Stop };
 

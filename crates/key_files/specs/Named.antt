@@ -4,10 +4,10 @@ use Rattle.std.specs.Prelude.{Err}
 use Rattle.std.specs.Io.KnownBytes.{Consumes, IsAtEnd}
 use Rattle.ssh_wire.specs.declared.pull_fault.PullFault.{PullFault}
 use Rattle.ssh_wire.specs.declared.pull_fault.PullFault.TheVariants as pulls
-use Rattle.krl_runs.specs.declared.input.file_fault.FileFault.{FileFault}
-use Rattle.krl_runs.specs.declared.input.file_fault.FileFault.TheVariants.{Open, Read, TooLong}
-use Rattle.krl_runs.specs.declared.input.file_fault.FileFault.TheVariants.{NoMemory, NoKeys}
-use Rattle.krl_runs.specs.declared.input.file_fault.FileFault.TheVariants.{NoCertificate}
+use Rattle.key_files.specs.declared.file_fault.FileFault.{FileFault}
+use Rattle.key_files.specs.declared.file_fault.FileFault.TheVariants.{Open, Read, TooLong}
+use Rattle.key_files.specs.declared.file_fault.FileFault.TheVariants.{NoMemory, NoKeys}
+use Rattle.key_files.specs.declared.file_fault.FileFault.TheVariants.{NoCertificate}
 
 -- how many bytes a file may have
 abbrev pub file_limit : ℕ

@@ -1,0 +1,5 @@
+pub mod FileFault
+pub mod Named
+pub mod Stop
+pub mod Keys
+pub mod FileKeys

@@ -1,0 +1,14 @@
+//! The keys of files that are handed in, and why a run over them stops (ssh-keygen(1)).
+#![tactic(auto)]
+
+mod cause;
+mod file_fault;
+mod file_keys;
+mod named;
+mod run_fault;
+
+pub use cause::{Cause, cause_of};
+pub use file_fault::FileFault;
+pub use file_keys::{FileKey, FileKeys, keys_of};
+pub use named::{Named, load};
+pub use run_fault::{RunFault, fault_line};

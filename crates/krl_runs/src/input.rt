@@ -1,4 +1,0 @@
-// The files that a run reads.
-
-pub mod file_fault;
-pub mod named;
