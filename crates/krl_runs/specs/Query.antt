@@ -16,7 +16,7 @@ use Rattle.ssh_cert.specs.Escape.{escaped}
 use Rattle.krl_runs.specs.Contents.{Known, contents_items}
 use Rattle.key_files.specs.Keys.{File}
 use Rattle.krl_runs.specs.Run.{Answering, Item, Passed, Stopped, files_items}
-use Rattle.key_files.specs.Stop.{stop_of}
+use Rattle.key_files.specs.Stop.{krl_cause, stop_of}
 
 -- a comment after a file's name, where there is one
 abbrev pub comment_part : List ℕ → List ℕ

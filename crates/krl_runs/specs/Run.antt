@@ -1,5 +1,5 @@
 -- A run over key files: what it says of each key, and where it stops.
-use Rattle.std.specs.Prelude.{◌≡◌, ℕ, ◌+◌, ◌||◌, Bool, true, false, List, [], ◌∷◌}
+use Rattle.std.specs.Prelude.{◌≡◌, ℕ, ◌||◌, Bool, true, false, List, [], ◌∷◌}
 use Rattle.std.specs.Prelude.{◌++◌, Option, Some, None, Result, Ok, Err, map, option_map}
 use Rattle.std.specs.List.{flat_map}
 use Rattle.ssh_key.specs.Key.{Key}

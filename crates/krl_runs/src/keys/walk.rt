@@ -36,8 +36,7 @@ pub fn print_file<'a, A: Answers, W: Sink>(
         run.old.printer run.new.printer }
 {
     let mut said = false;
-    let mut keys = keys_of(run.alloc, file);
-    while let Some(next) = keys.next() {
+    for next in keys_of(run.alloc, file) {
         let key = next?;
         said |= print_key(run, answers, &key)?;
     }

@@ -7,7 +7,7 @@ use Rattle.krl_runs.proofs.Answering.{file_ends, file_is_silent, file_stopped, k
 use Rattle.krl_runs.proofs.keys.walk.print_file.Goals as goal
 
 pub loop-next-init : goal.loop-next-init
-loop-next-init g c = rw c.keys_of-keys.ensures (none_reached (g.A.Answers.answer_to c.args.answers.now) c.args.file.now c.args.run.now.printer)
+loop-next-init g c = rw (c.into_iter-next-iterator.ensures.into_iter_gives, c.keys_of-next-items.ensures) (none_reached (g.A.Answers.answer_to c.args.answers.now) c.args.file.now c.args.run.now.printer)
 
 pub returns-in_err-key : goal.returns-in_err-key
 returns-in_err-key g c =
@@ -37,10 +37,10 @@ loop-next-preserved g c =
 
 pub returns-then-not-said : goal.returns-then-not-said
 returns-then-not-said g c =
-    let reached = rw (c.in_default.ensures.steps.0, c.if-not-said.true) at c.loop-next.invariant in
+    let reached = rw (c.in-None.ensures.steps.0, c.if-not-said.true) at c.loop-next.invariant in
     rw (c.whole.ensures, c.silence.ensures, ap (λ (file : File). file.name) c.file.view_is) (file_is_silent (g.A.Answers.answer_to c.args.answers.now) c.args.file.now _ _ reached)
 
 pub returns : goal.returns
 returns g c =
-    let reached = rw (c.in_default.ensures.steps.0, c.if-not-said.false) at c.loop-next.invariant in
+    let reached = rw (c.in-None.ensures.steps.0, c.if-not-said.false) at c.loop-next.invariant in
     file_ends (g.A.Answers.answer_to c.args.answers.now) c.args.file.now _ _ reached
