@@ -23,4 +23,3 @@ pub mod KrlText
 pub mod Within
 pub mod Tested
 pub mod Size
-pub mod Laws

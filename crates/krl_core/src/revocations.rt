@@ -1,5 +1,5 @@
 // What is revoked.
-ghost use Rattle.std.specs.Prelude.{◌≡◌, ◌+◌, ◌<◌, ◌≤◌, ◌∷◌, [], length, All, OnOk, OnErr};
+ghost use Rattle.std.specs.Prelude.{◌≡◌, ◌+◌, ◌<◌, ◌≤◌, ◌∷◌, [], ℕ, List, length, All, OnOk, OnErr};
 ghost use Rattle.serial_set.specs.BitRuns.{IsInterval};
 ghost use Rattle.serial_set.specs.Near.{AreNear};
 ghost use Rattle.krl_core.specs.Authority.{authority_bytes, IsAuthority};
@@ -74,6 +74,7 @@ impl<S: Spans> Revocations<S> {
         ensures known { IsNamed self.old (authority_bytes authority.entry)
             → stored self.new ≤ stored self.old }
         ensures named { OnOk result (IsNamed self.new (authority_bytes authority.entry)) }
+        ensures stays { (other : List ℕ) → IsNamed self.old other → IsNamed self.new other }
     {
         self.add_near(authority, &[Span { lo, hi }])
     }
@@ -98,6 +99,7 @@ impl<S: Spans> Revocations<S> {
         ensures known { IsNamed self.old (authority_bytes authority.entry)
             → stored self.new ≤ stored self.old }
         ensures named { OnOk result (IsNamed self.new (authority_bytes authority.entry)) }
+        ensures stays { (other : List ℕ) → IsNamed self.old other → IsNamed self.new other }
     {
         let bytes = bytes_or_none(authority);
         let addition = Addition::Serials(near);
@@ -118,6 +120,7 @@ impl<S: Spans> Revocations<S> {
         ensures known { IsNamed self.old (authority_bytes authority.entry)
             → stored self.new ≤ stored self.old + length id.now }
         ensures named { OnOk result (IsNamed self.new (authority_bytes authority.entry)) }
+        ensures stays { (other : List ℕ) → IsNamed self.old other → IsNamed self.new other }
     {
         let bytes = bytes_or_none(authority);
         let addition = Addition::Id(id);

@@ -16,7 +16,8 @@ use Rattle.ssh_key.specs.declared.private_fault.PrivateFault.{PrivateFault}
 use Rattle.ssh_cert.specs.AnyKey.{Spells, plain_of}
 use Rattle.ssh_cert.specs.declared.any_key.AnyKey.{AnyKey}
 use Rattle.ssh_cert.specs.declared.any_key.AnyKey.TheVariants.{Plain, Certified}
-use Rattle.krl_core.specs.Laws.{HeldRevokes, WrittenNames}
+use Rattle.krl_core.proofs.ReadBack.{written_spelled}
+use Rattle.krl_core.proofs.Tested.{revokes_meant}
 use Rattle.krl_core.specs.Contents.{Contents, Means}
 use Rattle.krl_core.specs.Entries.{entries_of}
 use Rattle.krl_core.specs.Entry.{Entry}
@@ -222,14 +223,13 @@ file_stops authority files i file stop old mid lt item (front, (read, adds)) is 
 -- ---- the list that is written
 
 pub names_same : (header : Header) (contents : Contents) (text : List ℕ) → IsKrlText header contents text
-    → length text ≤ limit → HasNumbers header → WrittenNames → HeldRevokes
-    → (entries : List Entry) → Means contents entries → NamesSame header text entries
-names_same header contents text written within numbers spelled law entries means =
-    let w = spelled header contents text written within numbers.0 numbers.1 means.orderly in
+    → length text ≤ limit → HasNumbers header → (entries : List Entry) → Means contents entries → NamesSame header text entries
+names_same header contents text written within numbers entries means =
+    let w = written_spelled header contents text written within numbers.0 numbers.1 means.orderly in
     record {
-      sections = w.0;
-      spelled = w.1.0;
-      same = λ asked. Iff.trans (Iff.symm (law contents (entries_of w.0) asked w.1.1)) (law contents entries asked means);
+      sections = w.sections;
+      spelled = w.spelled;
+      same = λ asked. Iff.trans (Iff.symm (revokes_meant contents (entries_of w.sections) w.means asked)) (revokes_meant contents entries means asked);
     }
 
 pub made_written : {X : Type 0} (view : X → List ℕ) (name : List ℕ) (made : Made) (contents : Contents) (result : Result X Stop)

@@ -10,7 +10,6 @@ ghost use Rattle.krl_make.specs.declared.base.Base.{Base as BaseOf};
 use crate::authority::{Authority, signer_of, under};
 use crate::base::{Base, next_version, read_base};
 use crate::files::add_files;
-use krl_core::laws::{revokes_what_is_meant, written_list_names_what_is_held};
 use krl_core::{Header, Revocations, TextFault, krl_text};
 use key_files::{Cause, Named, RunFault};
 use krl_spec::Under;
@@ -129,8 +128,6 @@ fn write_list<'a>(
     requires { HasNumbers header.now }
     ensures { WritesList (λ made. made.items) name.now header.now revocations.now result }
 {
-    revokes_what_is_meant();
-    written_list_names_what_is_held();
     match krl_text(alloc, header, revocations) {
         Ok(text) => Ok(text),
         Err(TextFault::NoMemory) => Err(RunFault::whole(name, Cause::NoMemory)),

@@ -1,7 +1,7 @@
 -- A run by what is held of a list, or by why the list is refused.
 use Rattle.std.proofs.Common.{◌≡◌, ℕ, true, false, List, [], ◌∷◌, ◌++◌, Bool, None, Result, Ok, Err, refl, sym, ap, ◌∙◌, append_assoc}
 use Rattle.std.specs.List.{concat}
-use Rattle.krl_core.specs.Laws.{HeldRevokes}
+use Rattle.krl_core.proofs.Tested.{revokes_meant}
 use Rattle.krl_core.specs.Contents.{Contents}
 use Rattle.krl_core.specs.Entries.{entries_of}
 use Rattle.krl_core.specs.Front.{IsFirstFault}
@@ -21,11 +21,11 @@ use Rattle.krl_runs.proofs.Carrying.{carries_more, carries_passed, carries_then,
 
 -- A list that was read is held.
 pub held : (text : List ℕ) (header : Header) (contents : Contents)
-    → HeldRevokes → IsList text header contents → IsFirstFault text None → IsHeld text (known_of header contents)
-held text header contents law list none = record {
+    → IsList text header contents → IsFirstFault text None → IsHeld text (known_of header contents)
+held text header contents list none = record {
   list = list;
   no_fault = none;
-  answers = λ asked. law contents (entries_of list.sections) asked list.means;
+  answers = λ asked. revokes_meant contents (entries_of list.sections) list.means asked;
 }
 
 -- The contents are said where they are asked for, and the files are asked about by what is held.

@@ -8,8 +8,6 @@ use Rattle.ssh_key.specs.Kind.{Field, Positive, Curve, Point, Sized, Text, field
 use Rattle.ssh_key.specs.declared.kind.Kind.{Kind}
 use Rattle.ssh_key.specs.declared.kind.Kind.TheVariants.{Rsa, Dsa, Ecdsa256, Ecdsa384}
 use Rattle.ssh_key.specs.declared.kind.Kind.TheVariants.{Ecdsa521, Ed25519, EcdsaSk, Ed25519Sk}
-use Rattle.ssh_subject.specs.Subject.{Subject}
-use Rattle.ssh_cert.specs.SubjectReading.{IsSubject, plain_key, certified}
 
 field_room : (field : Field) (value : List ℕ) → 4 ≤ length (field_text field value)
 unfolding mpint

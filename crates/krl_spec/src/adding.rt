@@ -15,7 +15,6 @@ use crate::keys::{ask, key_line, plain_key, read_hash};
 use crate::number::read_serials;
 use crate::under::Under;
 use krl_core::Revocations;
-use krl_core::laws::sections_mean_what_is_held;
 use serial_set::Spans;
 use spec_fault::SpecCause;
 use ssh_cert::{CertNames, Subject};
@@ -138,9 +137,6 @@ fn add_certificate<S: Spans>(
     ensures { Adds (Grows (length names.now.authority + length names.now.key_id))
         (Ok (certificate_entry names.now)) result revocations.old revocations.new }
 {
-    // An authority that is named stays so: what is held is in order, and means some entries.
-    let _count = revocations.authorities();
-    sections_mean_what_is_held();
     let authority = Some(names.authority);
     if names.serial == 0 {
         revocations.add_id(authority, names.key_id)?;

@@ -4,14 +4,14 @@ ghost use Rattle.std.specs.Prelude.{◌≡◌, ◌≤◌, ◌<◌, ◌^◌, ◌�
 ghost use Rattle.ssh_wire.specs.Wire.{IsBytes};
 ghost use Rattle.krl_core.specs.Front.{IsFirstFault, limit};
 ghost use Rattle.krl_plan.specs.declared.group.Group.{Group};
-ghost use Rattle.krl_core.specs.Contents.{Contents, IsOrderly};
+ghost use Rattle.krl_core.specs.Contents.{Contents, IsOrderly, Means};
 ghost use Rattle.krl_core.specs.declared.header.Header.{Header};
-ghost use Rattle.krl_core.specs.Krl.{Spells};
+ghost use Rattle.krl_core.specs.Krl.{SpelledSection, Spells};
 ghost use Rattle.krl_core.specs.KrlText.{EachPlan, IsKrlText, sections_of, text_of};
 ghost use Rattle.krl_plan.specs.Plan.{IsPlan};
 ghost use Rattle.krl_core.specs.declared.krl_fault.KrlFault.{KrlFault};
 ghost use Rattle.krl_core.specs.declared.krl_fault.KrlFault.TheVariants.{NoMemory, Read};
-ghost use Rattle.krl_core.specs.Laws.{SectionsMean, WrittenNames};
+ghost use Rattle.krl_core.specs.Entries.{entries_of};
 ghost use Rattle.krl_core.specs.Reading.{IsList, Says};
 ghost use Rattle.krl_core.specs.Size.{text_size};
 
@@ -26,13 +26,17 @@ pub fn text_is_spelled()
 /// What the sections of a written list name is what is held, whatever plans its serials are written
 /// by.
 pub fn sections_mean_what_is_held()
-    ensures { SectionsMean }
+    ensures { (plans : List (List Group)) (r : Contents) → IsOrderly r
+        → EachPlan IsPlan plans r.sections → Means r (entries_of (sections_of plans r)) }
 {}
 
 /// The list that is written of what is held is spelled, where it is within the limit, and what its
 /// sections name is what is held.
 pub fn written_list_names_what_is_held()
-    ensures { WrittenNames }
+    ensures { (header : Header) (r : Contents) (text : List ℕ) → IsKrlText header r text
+        → length text ≤ limit → header.version < 2 ^ 64 → header.date < 2 ^ 64 → IsOrderly r
+        → (sections : List SpelledSection) × (Spells text header sections
+        × Means r (entries_of sections)) }
 {}
 
 /// Whatever is read of a list that was written is its header and just what was held.

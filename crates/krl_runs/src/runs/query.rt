@@ -16,7 +16,6 @@ use crate::output::printer::Printer;
 use crate::output::run::Run;
 use crate::runs::contents::print_contents;
 use key_files::{Cause, FileFault, FileKey, Named, RunFault, cause_of};
-use krl_core::laws::revokes_what_is_meant;
 use krl_core::{Header, KrlFault, Revocations, read_krl};
 use serial_set::Held;
 use ssh_cert::{AnyKey, push_escaped};
@@ -134,7 +133,6 @@ fn ask_list<'a, R: Source + Drop, W: Sink>(
         × Carries (query_run_of krl_name.now reading dump files.now) result.0
         run.old.printer run.new.printer }
 {
-    revokes_what_is_meant();
     let (read, reader) = read_krl::<Held, R>(run.alloc, krl);
     match read {
         Ok((header, list)) => {

@@ -5,4 +5,4 @@ use Rattle.krl_make.proofs.run.write_list.Goals as goal
 pub returns-in-Ok : goal.returns-in-Ok
 returns-in-Ok c =
     let is = c.in-Ok.ensures in
-    (is.0, is.1, names_same c.args.header.now c.args.revocations.now _ is.0 is.1 c.requires c.written_list_names_what_is_held.ensures c.revokes_what_is_meant.ensures)
+    (is.0, is.1, names_same c.args.header.now c.args.revocations.now _ is.0 is.1 c.requires)

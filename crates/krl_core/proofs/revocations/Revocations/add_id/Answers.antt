@@ -5,7 +5,7 @@ use Rattle.krl_core.specs.Changes.{AddsTo}
 use Rattle.krl_core.specs.Contents.{contents_of, IsNamed, Means, held, stored}
 use Rattle.krl_core.specs.TextMap.{names_of}
 use Rattle.krl_core.proofs.Adding.{id_orderly, id_mean}
-use Rattle.krl_core.proofs.Amounts.{id_held, id_stored, id_known, adds_named}
+use Rattle.krl_core.proofs.Amounts.{id_held, id_stored, id_known, adds_named, adds_stays}
 use Rattle.krl_core.proofs.revocations.Revocations.add_id.Goals as goal
 use Rattle.krl_core.proofs.revocations.Revocations.add_id.Given.{Over}
 
@@ -50,3 +50,7 @@ returns-clause-known g c named =
 pub returns-clause-named : goal.returns-clause-named
 returns-clause-named g c =
     adds_named (Id c.args.id) (authority_bytes c.args.authority) c.self.inside.shelves c.add.new.self (adds g c)
+
+pub returns-clause-stays : goal.returns-clause-stays
+returns-clause-stays g c other named =
+    adds_stays (Id c.args.id) (authority_bytes c.args.authority) other c.self.inside.shelves c.add.new.self (adds g c) (subst (λ x. IsNamed x other) (sym c.self.view_is) named)

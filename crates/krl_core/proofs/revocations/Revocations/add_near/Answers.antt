@@ -5,7 +5,7 @@ use Rattle.krl_core.specs.Changes.{AddsTo}
 use Rattle.krl_core.specs.Contents.{contents_of, IsNamed, Means, held, stored}
 use Rattle.krl_core.specs.TextMap.{names_of}
 use Rattle.krl_core.proofs.Adding.{serials_orderly, serials_mean}
-use Rattle.krl_core.proofs.Amounts.{serials_held, serials_stored, serials_known, adds_named}
+use Rattle.krl_core.proofs.Amounts.{serials_held, serials_stored, serials_known, adds_named, adds_stays}
 use Rattle.krl_core.proofs.revocations.Revocations.add_near.Goals as goal
 use Rattle.krl_core.proofs.revocations.Revocations.add_near.Given.{Over}
 
@@ -50,3 +50,7 @@ returns-clause-known g c named =
 pub returns-clause-named : goal.returns-clause-named
 returns-clause-named g c =
     adds_named (Serials c.args.near) (authority_bytes c.args.authority) c.self.inside.shelves c.add.new.self (adds g c)
+
+pub returns-clause-stays : goal.returns-clause-stays
+returns-clause-stays g c other named =
+    adds_stays (Serials c.args.near) (authority_bytes c.args.authority) other c.self.inside.shelves c.add.new.self (adds g c) (subst (λ x. IsNamed x other) (sym c.self.view_is) named)

@@ -10,7 +10,7 @@ returns-in-Ok g c =
       Ok (known_of c.in-Ok.header c.in-Ok.list),
       record {
         failure = read.failure;
-        read = λ text e. held text _ c.in-Ok.list c.revokes_what_is_meant.ensures (read.found text e) (read.no_fault text e);
+        read = λ text e. held text _ c.in-Ok.list (read.found text e) (read.no_fault text e);
       },
       c.ask_held-asked.ensures,
     )
