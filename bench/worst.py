@@ -91,7 +91,7 @@ def empty_sections(size):
 
 
 def lying_section(size):
-    """A section that tells more bytes than the list has, of keys that fill it."""
+    """A section that claims more bytes than the list has, of keys that fill it."""
     return HEADER + b"\2\xff\xff\xff\xff" + string(b"\0" * 60) * (size // 64)
 
 

@@ -15,7 +15,7 @@ facts() {
     -e 's/^( {16}[^ ]+) UNKNOWN OPTION.*$/\1 unknown/'
 }
 
-# ours: our listing without the line that tells whether the certificate is valid now, and without the
+# ours: our listing without the line that says whether the certificate is valid now, and without the
 # data of options that OpenSSH does not know.
 ours() {
   sed -E -e '/^        Valid now: (yes|no)$/d' -e 's/^( {16}[^ ]+) hex:[0-9a-f]*$/\1 unknown/'

@@ -4,4 +4,4 @@
 need cc gcc || judge 'a C compiler is there' '  install gcc'
 need valgrind valgrind || judge 'valgrind is there' '  install valgrind'
 PROGRAM=$binary "$tests/costs" >"$scratch/output" 2>&1
-tell "$scratch/output"
+report "$scratch/output"

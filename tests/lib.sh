@@ -19,15 +19,15 @@ expect() {
 # expect_text NAME STATUS STREAM WORD..: as expect, where the text is the command line library's
 # own: it stands on the named stream (output or error), and nothing on the other.
 expect_text() {
-  local name=$1 status=$2 stream=$3 said silent
+  local name=$1 status=$2 stream=$3 said other
   shift 3
   run "$@"
-  said=$got_error silent=$got_output
-  [ "$stream" = error ] || { said=$got_output silent=$got_error; }
+  said=$got_error other=$got_output
+  [ "$stream" = error ] || { said=$got_output other=$got_error; }
   judge "$name" "$(
     differs 'exit status' "$status" "$got_status"
     [ -n "$said" ] || printf '  nothing on standard %s\n' "$stream"
-    differs 'the other stream' '' "$silent"
+    differs 'the other stream' '' "$other"
   )"
 }
 
@@ -81,8 +81,8 @@ same_of() {
   same "$name"
 }
 
-# tell FILE: prints what other tests said in the file, and adds up what its last line counts.
-tell() {
+# report FILE: prints what other tests said in the file, and adds up what its last line counts.
+report() {
   local last
   last=$(tail -n 1 "$1")
   if [[ $last =~ ^([0-9]+)\ passed,\ ([0-9]+)\ failed$ ]]; then

@@ -6,7 +6,7 @@ highest=18446744073709551615
 line ssh-ed25519 "$G" >g.pub
 line ssh-ed25519 "$A" >a
 
-# made DIGITS: the last run was silent and made the list with these digits.
+# made DIGITS: the last run printed nothing and made the list with these digits.
 made() {
   judge "$name" "$(
     differs 'exit status' 0 "$got_status"
@@ -33,7 +33,7 @@ cp made.krl five.krl
 judge 'its time is the present one' "$(
   moment=$((16#$(od -An -v -tx1 -j20 -N8 five.krl | tr -d ' \n')))
   now=$(date +%s)
-  [ $moment -le "$now" ] && [ $moment -gt $((now - 600)) ] || echo "  at $now the list tells $moment"
+  [ $moment -le "$now" ] && [ $moment -gt $((now - 600)) ] || echo "  at $now the list says $moment"
 )"
 holds 'all serial numbers' "serial: 1-$highest\n" 21000000100000000000000001ffffffffffffffff
 holds 'each second number' 'serial: 1\nserial: 3\nserial: 5\nserial: 7\n' \

@@ -1,4 +1,4 @@
-# The manual page: well formed, with the forms of use that --help tells, and examples that were run.
+# The manual page: well formed, with the forms of use that --help prints, and examples that were run.
 
 . "$tests/needs.sh"
 . "$tests/transcript.sh"

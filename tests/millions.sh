@@ -1,4 +1,4 @@
 # Lists that hold more than a million of a kind: tests/millions.
 
 PROGRAM=$binary "$tests/millions" >"$scratch/output" 2>&1
-tell "$scratch/output"
+report "$scratch/output"

@@ -3,4 +3,4 @@
 . "$tests/needs.sh"
 need cc gcc || judge 'a C compiler is there' '  install gcc'
 PROGRAM=$binary "$tests/replacing" >"$scratch/output" 2>&1
-tell "$scratch/output"
+report "$scratch/output"

@@ -27,7 +27,7 @@ done
 cat "$room/ca-a.pub" "$room/ca-b.pub" >"$room/authorities"
 cat "$room/one.pub" "$room/two.pub" >"$room/allowed"
 
-# listen PORT: starts sshd, and tells whether it listens. It ends by itself after five minutes.
+# listen PORT: starts sshd, and reports whether it listens. It ends by itself after five minutes.
 listen() {
   cat >"$room/config" <<END
 Port $1

@@ -34,7 +34,7 @@ def stopped(run, ample, got):
 
 
 def without_memory(run, ample, got):
-    """Memory was refused once: of a run with a fault to tell, maybe that for the line of it."""
+    """Memory was refused once: of a run with a fault to report, maybe that for the line of it."""
     if got.says() == ample.says():
         return None
     if not NO_MEMORY.fullmatch(got.error) and (got.error or ample.status != FAULT):
@@ -43,7 +43,7 @@ def without_memory(run, ample, got):
 
 
 def without_any_memory(run, ample, got):
-    """Memory was refused from some call on, so there may be none for the line that tells of it."""
+    """Memory was refused from some call on, so there may be none for the line that reports it."""
     if got.says() == ample.says():
         return None
     if got.error and not NO_MEMORY.fullmatch(got.error):
@@ -101,7 +101,7 @@ def unended(run, ample, got):
 
 
 def unsynced(run, ample, got):
-    """The sync of the list comes first, then that of its folder, which no fault tells of."""
+    """The sync of the list comes first, then that of its folder, which no fault reports."""
     return (unended if got.counts["RENAME"].called == 0 else same)(run, ample, got)
 
 

@@ -1,4 +1,4 @@
-"""Starts the program over the library that makes its calls fail, and tells how it ended."""
+"""Starts the program over the library that makes its calls fail, and reports how it ended."""
 
 import os
 import signal
@@ -62,7 +62,7 @@ class Program:
 
     def run(self, words, given=os.devnull, old=None, **failing):
         """Runs it with the words, and standard input from the file given. Where the words make a
-        list, old is what stands there already."""
+        list, old is what is there already."""
         for name, content in [("report", bytes(24 * len(SORTS))), (LIST, old)]:
             if content is None:
                 if os.path.exists(name):

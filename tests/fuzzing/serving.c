@@ -7,7 +7,7 @@
    A request on standard input is its length in four bytes of this machine, and texts that zero bytes end:
    the seconds of a processor that the run may take, the KiB of memory, the files of its standard output
    and standard error, and the words. Its answer on standard output is the status as a shell has it, in
-   four bytes; a first answer tells that it waits. */
+   four bytes; a first answer says that it waits. */
 #define _GNU_SOURCE
 #include <dlfcn.h>
 #include <fcntl.h>

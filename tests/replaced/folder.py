@@ -1,4 +1,4 @@
-"""A folder in which the program makes its list, and what stands there afterwards."""
+"""A folder in which the program makes its list, and what is there afterwards."""
 
 import os
 import resource

@@ -30,22 +30,22 @@ passes_limit before source (Some byte) came failed bytes some full working = rec
 
 -- not all that was left came
 pub loads_none : (before : Option (List ℕ)) (fault : PullFault) (new : Pulled) → RefusesRest (untaken before file_limit) fault new → IsLoaded before new.source new.failed (Err (file_fault fault))
-loads_none before EndsEarly new refuses = absurd refuses.misses.tells
+loads_none before EndsEarly new refuses = absurd refuses.misses.reports
 loads_none before TooLong new refuses =
     let misses = refuses.misses in
-    let full : length misses.came ≡ file_limit = omega (arith, misses.tells.0, refuses.taken, refuses.limit) in
-    passes_limit before new.source new.ahead misses.came new.failed misses.bytes misses.tells.1 full misses.tells.2
+    let full : length misses.came ≡ file_limit = omega (arith, misses.reports.0, refuses.taken, refuses.limit) in
+    passes_limit before new.source new.ahead misses.came new.failed misses.bytes misses.reports.1 full misses.reports.2
 loads_none before Read new refuses =
     let misses = refuses.misses in
     record {
       taken = misses.came;
-      consumed = none_ahead before new.source new.ahead misses.came misses.tells.0 misses.bytes;
-      made = (omega (arith, misses.within), misses.tells.1);
+      consumed = none_ahead before new.source new.ahead misses.came misses.reports.0 misses.bytes;
+      made = (omega (arith, misses.within), misses.reports.1);
     }
 loads_none before NoMemory new refuses =
     let misses = refuses.misses in
     record {
       taken = misses.came;
-      consumed = none_ahead before new.source new.ahead misses.came misses.tells.1 misses.bytes;
-      made = (misses.tells.0, omega (arith, misses.within), misses.tells.2);
+      consumed = none_ahead before new.source new.ahead misses.came misses.reports.1 misses.bytes;
+      made = (misses.reports.0, omega (arith, misses.within), misses.reports.2);
     }

@@ -69,7 +69,7 @@ abbrev pub content_keys : List ℕ → Result (List ℕ) FileFault → List (Res
 content_keys name (Err fault) = Err (stop_of name (causes.File fault)) ∷ []
 content_keys name (Ok text) = text_keys name text
 
--- The keys of a file in order. What stands after a fault does not count.
+-- The keys of a file in order. What is after a fault does not count.
 unfoldable pub keys_of : File → List (Result Found Stop)
 keys_of file = content_keys file.name file.content
 

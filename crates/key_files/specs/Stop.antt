@@ -1,4 +1,4 @@
--- Why a run stopped, and the line that tells it.
+-- Why a run stopped, and the line that reports it.
 use Rattle.std.specs.Prelude.{ℕ, Bool, true, false, List, [], ◌++◌, Option, Some, None, codes}
 use Rattle.std.specs.Prelude.{decimal}
 use Rattle.ssh_key.specs.LineFault.{fault_number as line_fault_number}

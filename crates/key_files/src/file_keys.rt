@@ -9,9 +9,9 @@ ghost use Rattle.ssh_key.specs.LineReading.{line_at};
 ghost use Rattle.key_files.specs.FileKeys.{HasRoom, IsNextLine, keys_left, line_room};
 ghost use Rattle.key_files.specs.Keys.{GivesKey, GivesNext, container_found, keys_of, line_found, stop_in, text_keys};
 
+use crate::cause::Cause;
 use crate::file_fault::FileFault;
 use crate::named::Named;
-use crate::cause::Cause;
 use crate::run_fault::RunFault;
 use ssh_cert::{AnyKey, read_any};
 use ssh_key::{
@@ -62,7 +62,7 @@ impl<'a> FileKey<'a> {
         }
     }
 
-    /// What stands after the key, or is said of it in its container. It may be empty.
+    /// What is after the key, or is said of it in its container. It may be empty.
     pub fn comment(&self) -> &[u8]
         ensures { result.now ≡ self.now.line.comment }
     {

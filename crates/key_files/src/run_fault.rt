@@ -1,4 +1,4 @@
-// Where and why a run stopped, and the line that tells it.
+// Where and why a run stopped, and the line that reports it.
 
 ghost use Rattle.std.specs.Prelude.{◌≡◌, ◌++◌, IfOk, OnOk};
 ghost use Rattle.key_files.specs.Keys.{stop_at};

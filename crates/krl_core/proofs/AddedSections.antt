@@ -86,7 +86,7 @@ takes_id_listed text from to o t =
       some = inr (has_text to.ids text ((put_held from.ids text to.ids t.put text).1 (inr refl)));
     }
 
--- what holds of each holds of what stands in the middle, and of all others
+-- what holds of each holds of what is in the middle, and of all others
 pub all_middle : {X : Type 0} (P : X → Type 0) (front : List X) (x : X) (back : List X) → All P (front ++ x ∷ back) ↔ (P x × All P (front ++ back))
 all_middle P [] x back = (λ h. (All-head P x back h, All-tail P x back h), λ h. All-cons P x back h.0 h.1)
 all_middle P (y ∷ front) x back =

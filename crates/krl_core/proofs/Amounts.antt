@@ -99,8 +99,8 @@ adds_stays addition b a old new adds named =
     let P : Section → Type 0 = λ section. section.authority ≡ a in
     elim adds [
       | inl c ↦ subst (SomeSection P) (sym c.after) ((some_middle P c.front c.to c.back).1 (elim ((some_middle P c.front c.from c.back).0 (subst (SomeSection P) c.before named)) [
-          | inl here ↦ inl (takes_authority addition c.from c.to c.changed ∙ here)
-          | inr other ↦ inr other
-        ]))
+        | inl here ↦ inl (takes_authority addition c.from c.to c.changed ∙ here)
+        | inr other ↦ inr other
+      ]))
       | inr n ↦ subst (SomeSection P) (sym n.put.after) ((some_middle P n.put.front n.section n.put.back).1 (inr (subst (SomeSection P) n.put.before named)))
     ]

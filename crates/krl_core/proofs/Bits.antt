@@ -102,13 +102,13 @@ bits_kept old mid new byte finished fed contents authority h entries k =
     }
 
 lowest_is : (before : FedBitmap) (byte : ℕ) (after : FedBitmap) (finished : List Span) → Feeds before byte after finished
-    → lowest after ≡ base_of before.offset before.due
+    → lowest after ≡ base_of before.offset before.bytes_left
 lowest_is before byte after finished fed =
     let offset : after.offset ≡ before.offset = ap (λ p. p.offset) fed.same_bitmap in
     omega (arith, offset, fed.one_less)
 
 entry_is : (old mid : Keeping) (byte : ℕ) (finished : List Span) → Feeds old.bitmap byte mid.bitmap finished
-    → BitmapEntry old.authority (lowest mid.bitmap) byte ∷ [] ≡ BitmapEntry old.authority (base_of old.bitmap.offset old.bitmap.due) byte ∷ []
+    → BitmapEntry old.authority (lowest mid.bitmap) byte ∷ [] ≡ BitmapEntry old.authority (base_of old.bitmap.offset old.bitmap.bytes_left) byte ∷ []
 entry_is old mid byte finished fed = ap (λ (n : ℕ). BitmapEntry old.authority n byte ∷ []) (lowest_is old.bitmap byte mid.bitmap finished fed)
 
 pub bits_go_on : (old mid new : Keeping) (byte : ℕ) (last : Bool) (finished : List Span) → last ≡ false → Feeds old.bitmap byte mid.bitmap finished
@@ -121,18 +121,18 @@ bits_go_on old mid new byte last finished off fed contents authority header h = 
   header_is = h.rest.header_is ∙ header;
   closed = λ on. absurd (cc (on, off));
   goes_on = λ _.
-      let due : mid.bitmap.due ≡ old.bitmap.due - 1 = omega (arith, fed.one_less) in
+      let bytes_left : mid.bitmap.bytes_left ≡ old.bitmap.bytes_left - 1 = omega (arith, fed.one_less) in
       let pending : mid.bitmap.pending ≡ new.bitmap.pending = sym (ap (λ p. p.pending) h.rest.bitmap_is) in
       h.rest.bitmap_is ∙ fed.same_bitmap
-      ∙ ap (λ (n : ℕ). record old.bitmap { due = n; pending = mid.bitmap.pending }) due
-      ∙ ap (λ (p : Option Span). record old.bitmap { due = old.bitmap.due - 1; pending = p }) pending;
+      ∙ ap (λ (n : ℕ). record old.bitmap { bytes_left = n; pending = mid.bitmap.pending }) bytes_left
+      ∙ ap (λ (p : Option Span). record old.bitmap { bytes_left = old.bitmap.bytes_left - 1; pending = p }) pending;
 }
 
 pub bits_close : (old mid new last_one : Keeping) (byte : ℕ) (last : Bool) (finished : List Span) → last ≡ true → Feeds old.bitmap byte mid.bitmap finished
     → mid.contents ≡ old.contents → mid.authority ≡ old.authority → mid.header ≡ old.header
     → Adds mid (run_entries mid.authority finished) new → Closes new last_one → KeepsBits byte last old last_one
 bits_close old mid new last_one byte last finished on fed contents authority header h c =
-    let E : List Entry = BitmapEntry old.authority (base_of old.bitmap.offset old.bitmap.due) byte ∷ [] in
+    let E : List Entry = BitmapEntry old.authority (base_of old.bitmap.offset old.bitmap.bytes_left) byte ∷ [] in
     record {
       kept = λ entries k.
           let one : IsKept new (entries ++ E) = subst (λ (e : List Entry). AddsEntries old e new) (entry_is old mid byte finished fed)
@@ -221,23 +221,23 @@ judged_parts false t true next place e = absurd (cc)
 judged_parts false t false next place e = (λ f. absurd (cc), refl, cc)
 
 pub good_bits : (p : FedBitmap) (offset size left after byte : ℕ) (next : Place) → byte < 256
-    → p ≡ record { offset = offset; len = size; due = left; pending = p.pending; fault = None }
+    → p ≡ record { offset = offset; len = size; bytes_left = left; pending = p.pending; fault = None }
     → bits_judged offset size left after byte ≡ Ok next → (fault : BitFault) → HasFault p byte fault → ⊥
 good_bits p offset size left after byte next h is judged fault bad =
     let parts = judged_parts (eqb left size) (ltb byte 128) (passes_end (base_of offset left) byte) next (next_bits offset size (left - 1) after) judged in
     let none : p.fault ≡ None = ap (λ x. x.fault) is in
-    let due : p.due ≡ left = ap (λ x. x.due) is in
+    let bytes_left : p.bytes_left ≡ left = ap (λ x. x.bytes_left) is in
     let len : p.len ≡ size = ap (λ x. x.len) is in
     let at : p.offset ≡ offset = ap (λ x. x.offset) is in
-    shown fault (rw none at bad) (λ n. ltb-true byte 128 (parts.0 (eq-eqb left size (sym due ∙ n ∙ len))))
-    (λ s b. not_past (base_of offset left) byte h parts.1 s (subst (λ (base : ℕ). BitNames base byte s) (let e : p.offset + 8 * (p.due - 1) ≡ base_of offset left = omega (arith, at, due) in e) b))
+    shown fault (rw none at bad) (λ n. ltb-true byte 128 (parts.0 (eq-eqb left size (sym bytes_left ∙ n ∙ len))))
+    (λ s b. not_past (base_of offset left) byte h parts.1 s (subst (λ (base : ℕ). BitNames base byte s) (let e : p.offset + 8 * (p.bytes_left - 1) ≡ base_of offset left = omega (arith, at, bytes_left) in e) b))
   where
-    shown : (fault : BitFault) → ShowsFault p byte fault → (p.due ≡ p.len → byte < 128)
-        → ((s : ℕ) → BitNames (p.offset + 8 * (p.due - 1)) byte s → s < 2 ^ 64) → ⊥
+    shown : (fault : BitFault) → ShowsFault p byte fault → (p.bytes_left ≡ p.len → byte < 128)
+        → ((s : ℕ) → BitNames (p.offset + 8 * (p.bytes_left - 1)) byte s → s < 2 ^ 64) → ⊥
     shown Negative b low in_range = let lt = low b.0 in omega (arith, lt, b.1)
     shown Wraps b low in_range = let lt = in_range b.1.0 b.1.1.1 in omega (arith, lt, b.1.1.0)
 
--- no byte of a bitmap is due
+-- no byte of a bitmap is left
 abbrev IsOut : Place → Type 0
 IsOut (places.Bitmap (bitmaps.Byte n m k l)) = ⊥
 IsOut _ = Unit {0}
@@ -250,20 +250,20 @@ out_subsection : (left : ℕ) → IsOut (next_subsection left)
 out_subsection zero = tt
 out_subsection (suc left) = tt
 
--- where the next byte of a bitmap is due, the byte before it is fed
+-- where a byte of a bitmap is left, the byte before it is fed
 bits_in_step : (before fed : FedBitmap) (offset size left after : ℕ)
-    → before ≡ record { offset = offset; len = size; due = left; pending = before.pending; fault = None }
+    → before ≡ record { offset = offset; len = size; bytes_left = left; pending = before.pending; fault = None }
     → (eqb left 1 ≡ true → fed.pending ≡ None)
-    → (eqb left 1 ≡ false → fed ≡ record before { due = before.due - 1; pending = fed.pending })
+    → (eqb left 1 ≡ false → fed ≡ record before { bytes_left = before.bytes_left - 1; pending = fed.pending })
     → 0 < left → InStep (next_bits offset size (left - 1) after) fed
 bits_in_step before fed offset size zero after is closed opened pos = absurd (omega arith)
 bits_in_step before fed offset size (suc zero) after is closed opened pos = out_step (next_subsection after) fed (out_subsection after) (closed refl)
 bits_in_step before fed offset size (suc (suc left)) after is closed opened pos =
-    let more : fed ≡ record before { due = before.due - 1; pending = fed.pending } = opened (ne_eqb (suc (suc left)) 1 (λ e. absurd (omega arith))) in
-    let due : before.due - 1 ≡ suc left = omega (arith, ap (λ x. x.due) is) in
-    let all : record before { due = before.due - 1; pending = fed.pending } ≡ record { offset = offset; len = size; due = suc left; pending = fed.pending; fault = None } =
-    ap (λ (b : FedBitmap). record b { due = before.due - 1; pending = fed.pending }) is
-    ∙ ap (λ (n : ℕ). record { offset = offset; len = size; due = n; pending = fed.pending; fault = None }) due in
+    let more : fed ≡ record before { bytes_left = before.bytes_left - 1; pending = fed.pending } = opened (ne_eqb (suc (suc left)) 1 (λ e. absurd (omega arith))) in
+    let bytes_left : before.bytes_left - 1 ≡ suc left = omega (arith, ap (λ x. x.bytes_left) is) in
+    let all : record before { bytes_left = before.bytes_left - 1; pending = fed.pending } ≡ record { offset = offset; len = size; bytes_left = suc left; pending = fed.pending; fault = None } =
+    ap (λ (b : FedBitmap). record b { bytes_left = before.bytes_left - 1; pending = fed.pending }) is
+    ∙ ap (λ (n : ℕ). record { offset = offset; len = size; bytes_left = n; pending = fed.pending; fault = None }) bytes_left in
     let left_is : suc (suc left) - 1 ≡ suc left = omega arith in
     subst (λ (n : ℕ). InStep (next_bits offset size n after) fed) (sym left_is) (omega arith, more ∙ all)
 
@@ -273,11 +273,11 @@ pub keeps_bits : (old new : Keeping) (offset size left after byte : ℕ) (field 
     → KeepsBits byte (eqb left 1) old new → KeepsField (places.Bitmap (bitmaps.Byte offset size left after)) field next old new
 keeps_bits old new offset size left after byte field next step value judged h =
     let parts = judged_parts (eqb left size) (ltb byte 128) (passes_end (base_of offset left) byte) next (next_bits offset size (left - 1) after) judged in
-    let due : old.bitmap.due ≡ left = ap (λ x. x.due) step.1 in
+    let bytes_left : old.bitmap.bytes_left ≡ left = ap (λ x. x.bytes_left) step.1 in
     let at : old.bitmap.offset ≡ offset = ap (λ x. x.offset) step.1 in
-    let entry : BitmapEntry old.authority (base_of old.bitmap.offset old.bitmap.due) byte ∷ [] ≡ BitmapEntry old.authority (base_of offset left) (number_of field) ∷ [] =
-    ap (λ (n : ℕ). BitmapEntry old.authority (base_of n old.bitmap.due) byte ∷ []) at
-    ∙ ap (λ (n : ℕ). BitmapEntry old.authority (base_of offset n) byte ∷ []) due
+    let entry : BitmapEntry old.authority (base_of old.bitmap.offset old.bitmap.bytes_left) byte ∷ [] ≡ BitmapEntry old.authority (base_of offset left) (number_of field) ∷ [] =
+    ap (λ (n : ℕ). BitmapEntry old.authority (base_of n old.bitmap.bytes_left) byte ∷ []) at
+    ∙ ap (λ (n : ℕ). BitmapEntry old.authority (base_of offset n) byte ∷ []) bytes_left
     ∙ ap (λ (n : ℕ). BitmapEntry old.authority (base_of offset left) n ∷ []) value in
     record {
       kept = subst (λ (e : List Entry). AddsEntries old e new) entry h.kept;

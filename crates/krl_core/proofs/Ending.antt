@@ -15,7 +15,7 @@ at_its_end pull place keeping = record { pull = pull; place = place; keeping = k
 has_read_ended : (pull : Pulled) (place : Place) (keeping : Keeping) (text : List ℕ) (fields : List (List ℕ)) → HasRead text fields (working pull place keeping)
     → HasRead text fields (at_its_end pull place keeping)
 has_read_ended pull place keeping text fields h = record {
-  spot = h.spot;
+  state = h.state;
   leads = h.leads;
   place_is = h.place_is;
   authority_is = h.authority_is;

@@ -18,10 +18,10 @@ use Rattle.krl_core.specs.declared.place.signature.SignaturePlace.TheVariants as
 use Rattle.krl_core.specs.declared.place.list.ListPlace.TheVariants as lists
 use Rattle.krl_core.specs.declared.place.certificates.CertificatesPlace.TheVariants as certificates
 use Rattle.krl_core.specs.declared.place.extension.ExtensionPlace.TheVariants as extensions
-use Rattle.krl_core.specs.Place.{bitmap_due, can_end, due, next_item, next_subsection, serials_due}
-use Rattle.krl_core.specs.Front.{Spot, start, spot_after, HasRoom, Told, ended, no_room, refused, too_long, ends_early, IsFirstFault, limit}
+use Rattle.krl_core.specs.Place.{bitmap_expected, can_end, expected, next_item, next_subsection, serials_expected}
+use Rattle.krl_core.specs.Front.{State, start, state_after, HasRoom, Reported, ended, no_room, refused, too_long, ends_early, IsFirstFault, limit}
 use Rattle.krl_core.proofs.Fronts.{first_fault_is}
-use Rattle.krl_core.proofs.Walks.{EndsTold, walks_one, walks_from, told_here, told_then}
+use Rattle.krl_core.proofs.Walks.{EndsReported, walks_one, walks_from, reported_here, reported_then}
 use Rattle.krl_core.proofs.Judged.{done, same_place}
 
 room_or_not : (size : ℕ) (room : Option ℕ) → IfSome room (λ left. size ≤ left) ⊎ (IfSome room (λ left. size ≤ left) → ⊥)
@@ -29,7 +29,7 @@ room_or_not size None = inl tt
 room_or_not size (Some left) = elim (cases_lt left size) [ inl lt ↦ inr (λ h. absurd (omega arith)) | inr le ↦ inl le ]
 
 -- what is reported where the bytes that came are less than the field
-pub end_or_early : (p : Place) (rest : List ℕ) → HasRoom (due p) → length rest < (due p).size → Told p rest false None ⊎ Told p rest false (Some faults.EndsEarly)
+pub end_or_early : (p : Place) (rest : List ℕ) → HasRoom (expected p) → length rest < (expected p).size → Reported p rest false None ⊎ Reported p rest false (Some faults.EndsEarly)
 end_or_early p [] room short =
     elim (cases_Bool (can_end p)) [
       | inl here ↦ inl (ended (here, refl) refl refl)
@@ -38,9 +38,9 @@ end_or_early p [] room short =
 end_or_early p (x ∷ rest) room short = inr (ends_early room short (λ at. let none = at.1 in absurd cc) refl refl)
 
 -- a field that is not whole is reported
-short_told : (p : Place) (rest : List ℕ) (goes_on : Bool) → HasRoom (due p) → length rest < (due p).size → (fault : Option KrlFault) × Told p rest goes_on fault
-short_told p rest true room short = (Some faults.TooLong, too_long room short refl refl)
-short_told p rest false room short = elim (end_or_early p rest room short) [ inl end ↦ (None, end) | inr early ↦ (Some faults.EndsEarly, early) ]
+short_reported : (p : Place) (rest : List ℕ) (goes_on : Bool) → HasRoom (expected p) → length rest < (expected p).size → (fault : Option KrlFault) × Reported p rest goes_on fault
+short_reported p rest true room short = (Some faults.TooLong, too_long room short refl refl)
+short_reported p rest false room short = elim (end_or_early p rest room short) [ inl end ↦ (None, end) | inr early ↦ (Some faults.EndsEarly, early) ]
 
 -- where a field may be empty, the next one is not
 abbrev pub weight : Place → ℕ
@@ -78,21 +78,21 @@ weight-next_item kind (suc left) after = refl
 same_weight : (p q : Place) → done p ≡ done q → weight p ≡ weight q
 same_weight p q e = ap weight (same_place p q e)
 
-serials_some : (at : SerialsPlace) → 0 < (serials_due at).size
+serials_some : (at : SerialsPlace) → 0 < (serials_expected at).size
 serials_some (serials.SerialsLength n) = omega arith
 serials_some (serials.Serial n m) = omega arith
 serials_some (serials.RangeLength n) = omega arith
 serials_some (serials.RangeMin n) = omega arith
 serials_some (serials.RangeMax n m) = omega arith
 
-bitmap_some : (at : BitmapPlace) → 0 < (bitmap_due at).size
+bitmap_some : (at : BitmapPlace) → 0 < (bitmap_expected at).size
 bitmap_some (bitmaps.Length n) = omega arith
 bitmap_some (bitmaps.Offset n m) = omega arith
 bitmap_some (bitmaps.Size n m k) = omega arith
 bitmap_some (bitmaps.Byte n m k l) = omega arith
 
 -- each field brings the end nearer
-pub nearer : (p q : Place) (field : List ℕ) → (due p).judged field ≡ Ok q → weight q < 2 * (due p).size + weight p
+pub nearer : (p q : Place) (field : List ℕ) → (expected p).judged field ≡ Ok q → weight q < 2 * (expected p).size + weight p
 nearer (places.Header (headers.Reserved n)) q field e = omega (arith, same_weight (places.Header headers.CommentLength) q e)
 nearer (places.Header (headers.Comment n)) q field e = omega (arith, same_weight (places.SectionType false) q e)
 nearer (places.Signature (signatures.Key n)) q field e = omega (arith, same_weight (places.Signature signatures.SignatureLength) q e)
@@ -106,35 +106,35 @@ nearer (places.Serials at) q field e = omega (arith, weight_below q, serials_som
 nearer (places.Bitmap at) q field e = omega (arith, weight_below q, bitmap_some at)
 nearer _ q field e = omega (arith, weight_below q)
 
-pub told_from : (n : ℕ) (p : Spot) (bytes : List ℕ) (goes_on : Bool) → 2 * length bytes + weight p.place < n → (fault : Option KrlFault) × EndsTold p bytes goes_on fault
-told_from zero p bytes goes_on lt = absurd (omega arith)
-told_from (suc n) p bytes goes_on lt =
-    elim (room_or_not (due p.place).size (due p.place).room) [
-      | inr full ↦ (Some faults.Length, told_here p bytes goes_on (Some faults.Length) (no_room full refl))
+pub reported_from : (n : ℕ) (p : State) (bytes : List ℕ) (goes_on : Bool) → 2 * length bytes + weight p.place < n → (fault : Option KrlFault) × EndsReported p bytes goes_on fault
+reported_from zero p bytes goes_on lt = absurd (omega arith)
+reported_from (suc n) p bytes goes_on lt =
+    elim (room_or_not (expected p.place).size (expected p.place).room) [
+      | inr full ↦ (Some faults.Length, reported_here p bytes goes_on (Some faults.Length) (no_room full refl))
       | inl room ↦
-          elim (cases_lt (length bytes) (due p.place).size) [
-            | inl short ↦ let t = short_told p.place bytes goes_on room short in (t.0, told_here p bytes goes_on t.0 t.1)
+          elim (cases_lt (length bytes) (expected p.place).size) [
+            | inl short ↦ let t = short_reported p.place bytes goes_on room short in (t.0, reported_here p bytes goes_on t.0 t.1)
             | inr enough ↦
-                let field : List ℕ = take (due p.place).size bytes in
-                let rest : List ℕ = drop (due p.place).size bytes in
-                let parts : bytes ≡ field ++ rest = sym (take-append-drop (due p.place).size bytes) in
-                let size : length field ≡ (due p.place).size = omega (arith, length-take (due p.place).size bytes) in
-                let left : length rest + (due p.place).size ≡ length bytes = omega (arith, length-drop (due p.place).size bytes) in
-                elim (ok_or_not ((due p.place).judged field)) [
+                let field : List ℕ = take (expected p.place).size bytes in
+                let rest : List ℕ = drop (expected p.place).size bytes in
+                let parts : bytes ≡ field ++ rest = sym (take-append-drop (expected p.place).size bytes) in
+                let size : length field ≡ (expected p.place).size = omega (arith, length-take (expected p.place).size bytes) in
+                let left : length rest + (expected p.place).size ≡ length bytes = omega (arith, length-drop (expected p.place).size bytes) in
+                elim (ok_or_not ((expected p.place).judged field)) [
                   | inl w ↦
                       let near = nearer p.place w.0 field w.1 in
-                      let t = told_from n (spot_after p field w.0) rest goes_on (omega (arith, near, left, lt)) in (
+                      let t = reported_from n (state_after p field w.0) rest goes_on (omega (arith, near, left, lt)) in (
                         t.0,
-                        told_then p (spot_after p field w.0) bytes rest goes_on t.0
-                            (walks_from p (spot_after p field w.0) bytes (field ++ rest) rest parts
+                        reported_then p (state_after p field w.0) bytes rest goes_on t.0
+                            (walks_from p (state_after p field w.0) bytes (field ++ rest) rest parts
                             (walks_one p w.0 field rest (record { room = room; whole = size; judged = w.1 }))) t.1,
                       )
-                  | inr w ↦ (Some w.0, told_here p bytes goes_on (Some w.0) (refused field rest w.0 room parts size w.1 refl))
+                  | inr w ↦ (Some w.0, reported_here p bytes goes_on (Some w.0) (refused field rest w.0 room parts size w.1 refl))
                 ]
           ]
     ]
 
-pub each_is_told : (text : List ℕ) → (fault : Option KrlFault) × IsFirstFault text fault
-each_is_told text =
-    let t = told_from (suc (2 * length (take limit text) + weight start.place)) start (take limit text) (ltb limit (length text)) (omega arith) in
+pub each_is_judged : (text : List ℕ) → (fault : Option KrlFault) × IsFirstFault text fault
+each_is_judged text =
+    let t = reported_from (suc (2 * length (take limit text) + weight start.place)) start (take limit text) (ltb limit (length text)) (omega arith) in
     (t.0, first_fault_is text t.0 t.1)

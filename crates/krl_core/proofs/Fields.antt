@@ -1,4 +1,4 @@
--- The field that is due, in front of what is spelled after it.
+-- The expected field, in front of what is spelled after it.
 use Rattle.std.proofs.Common.{◌≡◌, ℕ, ◌-◌, ◌%◌, ◌==◌, ◌<◌, ◌≤◌, Bool, true, false, eqb, ltb, leb, leb-true, eq-eqb, List, [], ◌∷◌, ◌++◌, get_or, Ok, refl, sym, ap, subst, ◌∙◌, append_assoc, arith, inl, inr}
 use Rattle.std.specs.List.{concat}
 use Rattle.std.specs.Str.{bytes_eq}
@@ -7,7 +7,7 @@ use Rattle.std.proofs.lemmas.List.{append-nil}
 use Rattle.std.proofs.lemmas.Slice.Eq.{bytes_eq-Decides}
 use Rattle.ssh_wire.specs.Wire.{IsBytes, number, number_of, strings}
 use Rattle.ssh_wire.specs.Steps.{passed_ok}
-use Rattle.ssh_wire.specs.Digits.{IsBytes-behind, IsBytes-front}
+use Rattle.ssh_wire.specs.Digits.{IsBytes-back, IsBytes-front}
 use Rattle.krl_core.specs.declared.krl_fault.KrlFault.TheVariants as faults
 use Rattle.krl_core.specs.declared.header.Header.{Header}
 use Rattle.krl_core.specs.declared.place.list.ItemKind.TheVariants as kinds
@@ -21,7 +21,7 @@ use Rattle.krl_core.specs.declared.place.serials.SerialsPlace.TheVariants as ser
 use Rattle.krl_core.specs.declared.place.bitmap.BitmapPlace.TheVariants as bitmaps
 use Rattle.krl_core.specs.declared.place.extension.ExtensionPlace.TheVariants as extensions
 use Rattle.krl_core.specs.Entry.{Entry, BitmapEntry}
-use Rattle.krl_core.specs.Front.{Spot, Passes, Leads, spot_after}
+use Rattle.krl_core.specs.Front.{State, Passes, Leads, state_after}
 use Rattle.krl_core.specs.Krl.{Keys, Sha1s, Sha256s, magic}
 use Rattle.krl_core.specs.Place.{can_end, judge, names, authority_after, header_after, item_entry, item_size, next_item, next_subsection, next_serial, next_bits, section_of_type, subsection_of_type, base_of, passes_end}
 use Rattle.krl_core.proofs.Bits.{judged_parts}
@@ -255,15 +255,15 @@ ends_here last h a (places.SectionType true) e may = record { sections = []; spe
 ends_here last h a (places.SectionType false) e may = record { sections = []; spelled = refl; last = tt; named = same_refl []; known = e }
 ends_here last h a _ e may = absurd (cc)
 
-pub completes : (s : Spot) (fields : List (List ℕ)) (last : Spot) → Leads s fields last → can_end last.place ≡ true → IsBytes (concat fields)
+pub completes : (s : State) (fields : List (List ℕ)) (last : State) → Leads s fields last → can_end last.place ≡ true → IsBytes (concat fields)
     → (more : List Entry) × (last.entries ≡ s.entries ++ more) × Completes last.header s.header s.authority s.place (concat fields) more
 completes s [] last leads may fits = (
   [],
-  ap (λ (x : Spot). x.entries) (sym leads) ∙ sym (append-nil s.entries),
-  ends_here last.header s.header s.authority s.place (ap (λ (x : Spot). x.header) (sym leads)) (subst (λ (x : Spot). can_end x.place ≡ true) (sym leads) may),
+  ap (λ (x : State). x.entries) (sym leads) ∙ sym (append-nil s.entries),
+  ends_here last.header s.header s.authority s.place (ap (λ (x : State). x.header) (sym leads)) (subst (λ (x : State). can_end x.place ≡ true) (sym leads) may),
 )
 completes s (field ∷ fields) last (next, (pass, leads)) may fits =
-    let w = completes (spot_after s field next) fields last leads may (IsBytes-behind field (concat fields) fits) in (
+    let w = completes (state_after s field next) fields last leads may (IsBytes-back field (concat fields) fits) in (
       names s.place s.authority field ++ w.0,
       w.1 ∙ append_assoc s.entries (names s.place s.authority field) w.0,
       field_front last.header s.header s.authority s.place next field (concat fields) w.0 (IsBytes-front field (concat fields) fits) pass w.2,

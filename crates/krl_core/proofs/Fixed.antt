@@ -6,31 +6,31 @@ use Rattle.krl_core.specs.declared.krl_fault.KrlFault.TheVariants as faults
 use Rattle.krl_core.specs.declared.place.Place.{Place}
 use Rattle.krl_core.specs.declared.place.Place.TheVariants as places
 use Rattle.krl_core.specs.declared.place.header.HeaderPlace.TheVariants as headers
-use Rattle.krl_core.specs.Front.{Leads, Passes, Spot, spot_after, start}
-use Rattle.krl_core.specs.Place.{due}
+use Rattle.krl_core.specs.Front.{Leads, Passes, State, state_after, start}
+use Rattle.krl_core.specs.Place.{expected}
 use Rattle.krl_core.specs.Reading.{is_fixed}
 use Rattle.krl_core.proofs.Judged.{done, same_place}
 use Rattle.ssh_wire.specs.Steps.{passed_ok}
 
 -- from a place on, the fields that lead past the first ones have at least this many bytes
 abbrev pub Needs : Place → ℕ → Type 0
-Needs place size = (spot : Spot) → spot.place ≡ place → (fields : List (List ℕ)) (last : Spot) → Leads spot fields last
+Needs place size = (state : State) → state.place ≡ place → (fields : List (List ℕ)) (last : State) → Leads state fields last
     → is_fixed last.place ≡ false → size ≤ length (concat fields)
 
 any_needs : (place : Place) → Needs place 0
-any_needs place spot at fields last leads late = omega arith
+any_needs place state at fields last leads late = omega arith
 
 -- one field more in front
-needs_more : (place : Place) (size more : ℕ) → is_fixed place ≡ true → (due place).size ≡ size
-    → ((field : List ℕ) (after : Place) → (due place).judged field ≡ Ok after → Needs after more) → Needs place (size + more)
-needs_more place size more fixed is needs spot at [] last leads late =
-    let same : spot.place ≡ last.place = ap (λ (s : Spot). s.place) leads in
+needs_more : (place : Place) (size more : ℕ) → is_fixed place ≡ true → (expected place).size ≡ size
+    → ((field : List ℕ) (after : Place) → (expected place).judged field ≡ Ok after → Needs after more) → Needs place (size + more)
+needs_more place size more fixed is needs state at [] last leads late =
+    let same : state.place ≡ last.place = ap (λ (s : State). s.place) leads in
     let none : is_fixed place ≡ false = subst (λ (p : Place). is_fixed p ≡ false) (sym same ∙ at) late in
     absurd (cc (fixed, none))
-needs_more place size more fixed is needs spot at (field ∷ fields) last leads late =
+needs_more place size more fixed is needs state at (field ∷ fields) last leads late =
     let after = leads.0 in
     let passes : Passes place field after = subst (λ (p : Place). Passes p field after) at leads.1.0 in
-    let rest = needs field after passes.judged (spot_after spot field after) refl fields last leads.1.1 late in
+    let rest = needs field after passes.judged (state_after state field after) refl fields last leads.1.1 late in
     omega (arith, rest, passes.whole, is, length-append field (concat fields))
 
 after_is : (place after : Place) (more : ℕ) → done place ≡ Ok after → Needs place more → Needs after more
@@ -57,11 +57,11 @@ needs_magic = needs_more (places.Header headers.Magic) 8 32 refl refl
     (λ field after e. subst (λ (p : Place). Needs p 32) (passed_ok _ faults.Magic (places.Header headers.FormatVersion) after e).1 needs_format)
 
 -- past the first fields 40 bytes were read
-pub late_enough : (fields : List (List ℕ)) (last : Spot) → Leads start fields last → is_fixed last.place ≡ false → 40 ≤ length (concat fields)
+pub late_enough : (fields : List (List ℕ)) (last : State) → Leads start fields last → is_fixed last.place ≡ false → 40 ≤ length (concat fields)
 late_enough fields last leads late = needs_magic start refl fields last leads late
 
 -- a large field is none of the first
-pub late_where_large : (p : Place) → 32 < (due p).size → is_fixed p ≡ false
+pub late_where_large : (p : Place) → 32 < (expected p).size → is_fixed p ≡ false
 late_where_large (places.Header headers.Magic) large = absurd (omega arith)
 late_where_large (places.Header headers.FormatVersion) large = absurd (omega arith)
 late_where_large (places.Header headers.Version) large = absurd (omega arith)

@@ -14,7 +14,7 @@ use Rattle.serial_set.specs.Least.{runs_least}
 use Rattle.std.proofs.Math.Logic.Iff as Iff
 use Rattle.krl_core.proofs.BothWays.{covers_append, iff_or}
 use Rattle.ssh_wire.specs.Wire.{IsBytes, number_of}
-use Rattle.ssh_wire.specs.Digits.{IsBytes-behind, IsBytes-front}
+use Rattle.ssh_wire.specs.Digits.{IsBytes-back, IsBytes-front}
 use Rattle.krl_core.specs.declared.place.Place.{Place}
 use Rattle.krl_core.specs.declared.place.list.ItemKind.TheVariants as kinds
 use Rattle.krl_core.specs.declared.place.Place.TheVariants as places
@@ -23,7 +23,7 @@ use Rattle.krl_core.specs.declared.place.serials.SerialsPlace.TheVariants as ser
 use Rattle.krl_core.specs.declared.place.bitmap.BitmapPlace.TheVariants as bitmaps
 use Rattle.krl_core.specs.Contents.{Contents, HoldsSerial, IsListed, Means, Section, SomeSection, held}
 use Rattle.krl_core.specs.Entry.{Entry}
-use Rattle.krl_core.specs.Front.{Leads, Passes, Spot, spot_after, start}
+use Rattle.krl_core.specs.Front.{Leads, Passes, State, state_after, start}
 use Rattle.krl_core.specs.Naming.{EntryNames, SerialOf, SomeNames}
 use Rattle.krl_core.specs.Place.{names}
 use Rattle.krl_core.specs.Rising.{AllAbove, RisesBy, bytes_cmp}
@@ -138,8 +138,8 @@ abbrev AreHeld : List Section → List Entry → Type 0
 AreHeld sections entries =
     (a : List ℕ) (s : ℕ) → SomeSection (λ section. section.authority ≡ a) sections → HoldsSerial sections a s ↔ SomeNames entries (SerialOf a s)
 
-held_behind : (x : Section) (xs : List Section) (entries : List Entry) → AllAbove section_authority x.authority xs → AreHeld (x ∷ xs) entries → AreHeld xs entries
-held_behind x xs entries above h a s some = (
+held_after : (x : Section) (xs : List Section) (entries : List Entry) → AllAbove section_authority x.authority xs → AreHeld (x ∷ xs) entries → AreHeld xs entries
+held_after x xs entries above h a s some = (
   λ k. (h a s (inr some)).0 (inr k),
   λ n. elim ((h a s (inr some)).1 n) [
     | inl here ↦ absurd (not_before_itself x.authority (subst (λ (t : List ℕ). bytes_cmp x.authority t ≡ Less) (sym here.0) (above_named x.authority a xs above some)))
@@ -159,7 +159,7 @@ held_few (x ∷ xs) entries small rise listed h =
       λ c. (all_under_names x.authority entries s small).1 ((h x.authority s (inl refl)).0 (inl (refl, c))),
       λ n. (held_first (λ section. Covers section.spans s) x.authority x xs refl rise.0).0 ((h x.authority s (inl refl)).1 ((all_under_names x.authority entries s small).0 n)),
     )) in
-    let rest = held_few xs entries small rise.1 (All-tail IsListed x xs listed) (held_behind x xs entries rise.0 h) in
+    let rest = held_few xs entries small rise.1 (All-tail IsListed x xs listed) (held_after x xs entries rise.0 h) in
     omega (arith, sum_by-cons spans_held x xs, sum_by-cons (count_all entries) x xs)
 
 -- ---- fields
@@ -189,23 +189,23 @@ field_bytes (places.List (lists.Item kinds.Sha256 size left after)) next authori
 field_bytes (places.List (lists.Item kinds.Id size left after)) next authority field p fits = (tt, tt)
 field_bytes place next authority field p fits = tt
 
-fields_few : (fields : List (List ℕ)) (spot last : Spot) → Leads spot fields last → sum_by most last.entries ≤ sum_by most spot.entries + 4 * length (concat fields)
-fields_few [] spot last leads = omega (arith, ap (λ (s : Spot). sum_by most s.entries) leads)
-fields_few (field ∷ fields) spot last leads =
-    let named : List Entry = names spot.place spot.authority field in
-    let rest = fields_few fields (spot_after spot field leads.0) last leads.1.1 in
-    omega (arith, rest, sum_by-append most spot.entries named, field_few spot.place leads.0 spot.authority field leads.1.0, length-append field (concat fields))
+fields_few : (fields : List (List ℕ)) (state last : State) → Leads state fields last → sum_by most last.entries ≤ sum_by most state.entries + 4 * length (concat fields)
+fields_few [] state last leads = omega (arith, ap (λ (s : State). sum_by most s.entries) leads)
+fields_few (field ∷ fields) state last leads =
+    let named : List Entry = names state.place state.authority field in
+    let rest = fields_few fields (state_after state field leads.0) last leads.1.1 in
+    omega (arith, rest, sum_by-append most state.entries named, field_few state.place leads.0 state.authority field leads.1.0, length-append field (concat fields))
 
-fields_bytes : (fields : List (List ℕ)) (spot last : Spot) → Leads spot fields last → IsBytes (concat fields) → AllByRecursion IsByteOnly spot.entries → AllByRecursion IsByteOnly last.entries
-fields_bytes [] spot last leads fits all = subst (λ (s : Spot). AllByRecursion IsByteOnly s.entries) leads all
-fields_bytes (field ∷ fields) spot last leads fits all =
-    let named : List Entry = names spot.place spot.authority field in
-    let here = field_bytes spot.place leads.0 spot.authority field leads.1.0 (IsBytes-front field (concat fields) fits) in
-    fields_bytes fields (spot_after spot field leads.0) last leads.1.1 (IsBytes-behind field (concat fields) fits) (all_append IsByteOnly spot.entries named all here)
+fields_bytes : (fields : List (List ℕ)) (state last : State) → Leads state fields last → IsBytes (concat fields) → AllByRecursion IsByteOnly state.entries → AllByRecursion IsByteOnly last.entries
+fields_bytes [] state last leads fits all = subst (λ (s : State). AllByRecursion IsByteOnly s.entries) leads all
+fields_bytes (field ∷ fields) state last leads fits all =
+    let named : List Entry = names state.place state.authority field in
+    let here = field_bytes state.place leads.0 state.authority field leads.1.0 (IsBytes-front field (concat fields) fits) in
+    fields_bytes fields (state_after state field leads.0) last leads.1.1 (IsBytes-back field (concat fields) fits) (all_append IsByteOnly state.entries named all here)
 
-pub four_a_byte : (fields : List (List ℕ)) (spot : Spot) (r : Contents) → Leads start fields spot → IsBytes (concat fields) → Means r spot.entries → held r ≤ 4 * length (concat fields)
-four_a_byte fields spot r leads fits means =
-    let small = fields_bytes fields start spot leads fits tt in
-    let few = held_few r.sections spot.entries small means.orderly.authorities_rise means.orderly.listed (λ a s some. means.names (SerialOf a s)) in
-    let counted = count_most spot.entries r.sections means.orderly.authorities_rise in
-    omega (arith, few, counted, fields_few fields start spot leads)
+pub four_a_byte : (fields : List (List ℕ)) (state : State) (r : Contents) → Leads start fields state → IsBytes (concat fields) → Means r state.entries → held r ≤ 4 * length (concat fields)
+four_a_byte fields state r leads fits means =
+    let small = fields_bytes fields start state leads fits tt in
+    let few = held_few r.sections state.entries small means.orderly.authorities_rise means.orderly.listed (λ a s some. means.names (SerialOf a s)) in
+    let counted = count_most state.entries r.sections means.orderly.authorities_rise in
+    omega (arith, few, counted, fields_few fields start state leads)

@@ -8,9 +8,9 @@ use Rattle.krl_core.specs.declared.krl_fault.KrlFault.{KrlFault}
 use Rattle.krl_core.specs.declared.krl_fault.KrlFault.TheVariants as faults
 use Rattle.krl_core.specs.declared.place.Place.{Place}
 use Rattle.krl_core.specs.declared.place.Place.TheVariants.{SectionType}
-use Rattle.krl_core.specs.Place.{can_end, due}
-use Rattle.krl_core.specs.Front.{Spot, start, spot_after, HasRoom, Leads, IsEnd, Told, ended, no_room, refused, too_long, ends_early, IsFront, IsLongestFront, IsFirstFault, limit}
-use Rattle.krl_core.proofs.Walks.{EndsTold}
+use Rattle.krl_core.specs.Place.{can_end, expected}
+use Rattle.krl_core.specs.Front.{State, start, state_after, HasRoom, Leads, IsEnd, Reported, ended, no_room, refused, too_long, ends_early, IsFront, IsLongestFront, IsFirstFault, limit}
+use Rattle.krl_core.proofs.Walks.{EndsReported}
 use Rattle.krl_core.proofs.Judged.{same_place}
 use Rattle.ssh_wire.specs.Steps.{never_err}
 
@@ -22,14 +22,14 @@ append_same a b x y len e =
     (sym n ∙ ap (take (length b)) e ∙ take-append_seam b y, sym m ∙ ap (drop (length b)) e ∙ drop-append_seam b y)
 
 -- the place after a field is one
-next_is : (p m n : Place) (x y : List ℕ) → x ≡ y → (due p).judged x ≡ Ok m → (due p).judged y ≡ Ok n → m ≡ n
-next_is p m n x y e h k = same_place m n (sym h ∙ ap (due p).judged e ∙ k)
+next_is : (p m n : Place) (x y : List ℕ) → x ≡ y → (expected p).judged x ≡ Ok m → (expected p).judged y ≡ Ok n → m ≡ n
+next_is p m n x y e h k = same_place m n (sym h ∙ ap (expected p).judged e ∙ k)
 
-same_after : (spot : Spot) (x y : List ℕ) (m n : Place) → x ≡ y → m ≡ n → spot_after spot y n ≡ spot_after spot x m
-same_after spot x y m n e e' =
-    ap (λ (z : List ℕ). spot_after spot z n) (sym e) ∙ ap (λ (z : Place). spot_after spot x z) (sym e')
+same_after : (state : State) (x y : List ℕ) (m n : Place) → x ≡ y → m ≡ n → state_after state y n ≡ state_after state x m
+same_after state x y m n e e' =
+    ap (λ (z : List ℕ). state_after state z n) (sym e) ∙ ap (λ (z : Place). state_after state x z) (sym e')
 
-pub fronts_compare : (p q q' : Spot) (one other : List (List ℕ)) (r s : List ℕ) → Leads p one q → Leads p other q'
+pub fronts_compare : (p q q' : State) (one other : List (List ℕ)) (r s : List ℕ) → Leads p one q → Leads p other q'
     → concat one ++ r ≡ concat other ++ s
     → ((more : List (List ℕ)) × (other ≡ one ++ more)) ⊎ ((more : List (List ℕ)) × (one ≡ other ++ more))
 fronts_compare p q q' [] other r s h k e = inl (other, refl)
@@ -39,86 +39,86 @@ fronts_compare p q q' (x ∷ one) (y ∷ other) r s h k e =
     (sym (append_assoc x (concat one) r) ∙ e ∙ append_assoc y (concat other) s) in
     let next = next_is p.place h.0 k.0 x y both.0 h.1.0.judged k.1.0.judged in
     let same = same_after p x y h.0 k.0 both.0 next in
-    elim (fronts_compare (spot_after p x h.0) q q' one other r s h.1.1
-    (subst (λ (n : Spot). Leads n other q') same k.1.1) both.1) [
+    elim (fronts_compare (state_after p x h.0) q q' one other r s h.1.1
+    (subst (λ (n : State). Leads n other q') same k.1.1) both.1) [
       | inl w ↦ inl (w.0, cc (w.1, both.0))
       | inr w ↦ inr (w.0, cc (w.1, both.0))
     ]
 
-pub leads_to_one : (p q q' : Spot) (fields : List (List ℕ)) → Leads p fields q → Leads p fields q' → q ≡ q'
+pub leads_to_one : (p q q' : State) (fields : List (List ℕ)) → Leads p fields q → Leads p fields q' → q ≡ q'
 leads_to_one p q q' [] h k = sym h ∙ k
 leads_to_one p q q' (x ∷ fields) h k =
     let next = next_is p.place h.0 k.0 x x refl h.1.0.judged k.1.0.judged in
     let same = same_after p x x h.0 k.0 refl next in
-    leads_to_one (spot_after p x h.0) q q' fields h.1.1 (subst (λ (n : Spot). Leads n fields q') same k.1.1)
+    leads_to_one (state_after p x h.0) q q' fields h.1.1 (subst (λ (n : State). Leads n fields q') same k.1.1)
 
-pub Leads-split : (p r : Spot) (fields more : List (List ℕ)) → Leads p (fields ++ more) r
-    → (q : Spot) × Leads p fields q × Leads q more r
+pub Leads-split : (p r : State) (fields more : List (List ℕ)) → Leads p (fields ++ more) r
+    → (q : State) × Leads p fields q × Leads q more r
 Leads-split p r [] more h = (p, refl, h)
 Leads-split p r (x ∷ fields) more h =
-    let w = Leads-split (spot_after p x h.0) r fields more h.1.1 in
+    let w = Leads-split (state_after p x h.0) r fields more h.1.1 in
     (w.0, (h.0, (h.1.0, w.1)), w.2)
 
--- where the list may end, a byte is due that stands in nothing
-pub end_size : (p : Place) → can_end p ≡ true → (due p).size ≡ 1
+-- where the list may end, a byte is expected that is part of nothing
+pub end_size : (p : Place) → can_end p ≡ true → (expected p).size ≡ 1
 end_size (SectionType signed) e = refl
 end_size _ e = absurd (cc)
 
-pub end_room : (p : Place) → can_end p ≡ true → HasRoom (due p)
+pub end_room : (p : Place) → can_end p ≡ true → HasRoom (expected p)
 end_room (SectionType signed) e = tt
 end_room _ e = absurd (cc)
 
 -- where something is reported, no next field passes
-pub blocked : (p next : Place) (rest field after : List ℕ) (goes_on : Bool) (fault : Option KrlFault) → Told p rest goes_on fault
-    → HasRoom (due p) → length field ≡ (due p).size → (due p).judged field ≡ Ok next → rest ≡ field ++ after → ⊥
+pub blocked : (p next : Place) (rest field after : List ℕ) (goes_on : Bool) (fault : Option KrlFault) → Reported p rest goes_on fault
+    → HasRoom (expected p) → length field ≡ (expected p).size → (expected p).judged field ≡ Ok next → rest ≡ field ++ after → ⊥
 blocked p next rest field after goes_on fault (ended at off is) room size judged e =
-    let one : (due p).size ≡ 1 = end_size p at.0 in
+    let one : (expected p).size ≡ 1 = end_size p at.0 in
     let len : length rest ≡ 0 = ap length at.1 in
     absurd (omega (arith, one, len, size, ap length e, length-append field after))
 blocked p next rest field after goes_on fault (no_room none is) room size judged e = none room
 blocked p next rest field after goes_on fault (refused field' after' why room' e' size' judged' is) room size judged e =
     let same = append_same field field' after after' (size ∙ sym size') (sym e ∙ e') in
-    never_err next why (sym judged ∙ ap (due p).judged same.0 ∙ judged')
+    never_err next why (sym judged ∙ ap (expected p).judged same.0 ∙ judged')
 blocked p next rest field after goes_on fault (too_long room' short on is) room size judged e =
     absurd (omega (arith, short, size, ap length e, length-append field after))
 blocked p next rest field after goes_on fault (ends_early room' short not_end off is) room size judged e =
     absurd (omega (arith, short, size, ap length e, length-append field after))
 
-pub is_longest : (text : List ℕ) (fields : List (List ℕ)) (p : Spot) (rest : List ℕ) (goes_on : Bool) (fault : Option KrlFault)
-    → IsFront text fields p rest → Told p.place rest goes_on fault → IsLongestFront text fields p rest
-is_longest text fields p rest goes_on fault front told = record {
+pub is_longest : (text : List ℕ) (fields : List (List ℕ)) (p : State) (rest : List ℕ) (goes_on : Bool) (fault : Option KrlFault)
+    → IsFront text fields p rest → Reported p.place rest goes_on fault → IsLongestFront text fields p rest
+is_longest text fields p rest goes_on fault front reported = record {
   front = front;
   longest = λ field next after longer.
       let w = Leads-split start next fields (field ∷ []) longer.leads in
       let place : w.0 ≡ p = leads_to_one start w.0 p fields w.1 front.leads in
-      let step : Leads p (field ∷ []) next = subst (λ (x : Spot). Leads x (field ∷ []) next) place w.2 in
+      let step : Leads p (field ∷ []) next = subst (λ (x : State). Leads x (field ∷ []) next) place w.2 in
       let whole : concat fields ++ rest ≡ concat fields ++ (field ++ after) =
       sym front.parts ∙ longer.parts
       ∙ ap (λ (x : List ℕ). x ++ after) (concat-append fields (field ∷ []) ∙ ap (λ (x : List ℕ). concat fields ++ x) (append-nil field))
       ∙ append_assoc (concat fields) field after in
       let e = (append_same (concat fields) (concat fields) rest (field ++ after) refl whole).1 in
-      blocked p.place step.0 rest field after goes_on fault told step.1.0.room step.1.0.whole step.1.0.judged e;
+      blocked p.place step.0 rest field after goes_on fault reported step.1.0.room step.1.0.whole step.1.0.judged e;
 }
 
 -- what stops a walk from the first byte is the first fault
-pub first_fault_is : (text : List ℕ) (fault : Option KrlFault) → EndsTold start (take limit text) (ltb limit (length text)) fault → IsFirstFault text fault
+pub first_fault_is : (text : List ℕ) (fault : Option KrlFault) → EndsReported start (take limit text) (ltb limit (length text)) fault → IsFirstFault text fault
 first_fault_is text fault h =
     let front : IsFront text h.walks.fields h.last h.rest = record { leads = h.walks.leads; parts = h.walks.parts } in
-    record { fields = h.walks.fields; spot = h.last; rest = h.rest; front = is_longest text h.walks.fields h.last h.rest (ltb limit (length text)) fault front h.told; told = h.told }
+    record { fields = h.walks.fields; state = h.last; rest = h.rest; front = is_longest text h.walks.fields h.last h.rest (ltb limit (length text)) fault front h.reported; reported = h.reported }
 
 -- ---- what is reported is one
 
-ended_only : (p : Place) (rest : List ℕ) (goes_on : Bool) (fault : Option KrlFault) → IsEnd p rest → goes_on ≡ false → Told p rest goes_on fault → None ≡ fault
+ended_only : (p : Place) (rest : List ℕ) (goes_on : Bool) (fault : Option KrlFault) → IsEnd p rest → goes_on ≡ false → Reported p rest goes_on fault → None ≡ fault
 ended_only p rest goes_on fault at off (ended at' off' is) = sym is
 ended_only p rest goes_on fault at off (no_room full is) = absurd (full (end_room p at.0))
 ended_only p rest goes_on fault at off (refused field after why room e size judged is) =
-    let one : (due p).size ≡ 1 = end_size p at.0 in
+    let one : (expected p).size ≡ 1 = end_size p at.0 in
     let len : length rest ≡ 0 = ap length at.1 in
     absurd (omega (arith, one, len, size, ap length e, length-append field after))
 ended_only p rest goes_on fault at off (too_long room short on is) = absurd (cc (on, off))
 ended_only p rest goes_on fault at off (ends_early room short not_end off' is) = absurd (not_end at)
 
-full_only : (p : Place) (rest : List ℕ) (goes_on : Bool) (fault : Option KrlFault) → (HasRoom (due p) → ⊥) → Told p rest goes_on fault → Some faults.Length ≡ fault
+full_only : (p : Place) (rest : List ℕ) (goes_on : Bool) (fault : Option KrlFault) → (HasRoom (expected p) → ⊥) → Reported p rest goes_on fault → Some faults.Length ≡ fault
 full_only p rest goes_on fault full (ended at off is) = absurd (full (end_room p at.0))
 full_only p rest goes_on fault full (no_room full' is) = sym is
 full_only p rest goes_on fault full (refused field after why room e size judged is) = absurd (full room)
@@ -128,22 +128,22 @@ full_only p rest goes_on fault full (ends_early room short not_end off is) = abs
 refused_same : (why why' : KrlFault) (r : Result Place KrlFault) → r ≡ Err why → r ≡ Err why' → Some why ≡ Some why'
 refused_same why why' r h k = cc
 
-refused_only : (p : Place) (rest : List ℕ) (goes_on : Bool) (fault : Option KrlFault) (field after : List ℕ) (why : KrlFault) → HasRoom (due p) → rest ≡ field ++ after → length field ≡ (due p).size
-    → (due p).judged field ≡ Err why → Told p rest goes_on fault → Some why ≡ fault
+refused_only : (p : Place) (rest : List ℕ) (goes_on : Bool) (fault : Option KrlFault) (field after : List ℕ) (why : KrlFault) → HasRoom (expected p) → rest ≡ field ++ after → length field ≡ (expected p).size
+    → (expected p).judged field ≡ Err why → Reported p rest goes_on fault → Some why ≡ fault
 refused_only p rest goes_on fault field after why room e size judged (ended at off is) =
-    let one : (due p).size ≡ 1 = end_size p at.0 in
+    let one : (expected p).size ≡ 1 = end_size p at.0 in
     let len : length rest ≡ 0 = ap length at.1 in
     absurd (omega (arith, one, len, size, ap length e, length-append field after))
 refused_only p rest goes_on fault field after why room e size judged (no_room full is) = absurd (full room)
 refused_only p rest goes_on fault field after why room e size judged (refused field' after' why' room' e' size' judged' is) =
     let same = append_same field field' after after' (size ∙ sym size') (sym e ∙ e') in
-    refused_same why why' ((due p).judged field') (ap (due p).judged (sym same.0) ∙ judged) judged' ∙ sym is
+    refused_same why why' ((expected p).judged field') (ap (expected p).judged (sym same.0) ∙ judged) judged' ∙ sym is
 refused_only p rest goes_on fault field after why room e size judged (too_long room' short on is) =
     absurd (omega (arith, short, size, ap length e, length-append field after))
 refused_only p rest goes_on fault field after why room e size judged (ends_early room' short not_end off is) =
     absurd (omega (arith, short, size, ap length e, length-append field after))
 
-too_long_only : (p : Place) (rest : List ℕ) (goes_on : Bool) (fault : Option KrlFault) → HasRoom (due p) → length rest < (due p).size → goes_on ≡ true → Told p rest goes_on fault → Some faults.TooLong ≡ fault
+too_long_only : (p : Place) (rest : List ℕ) (goes_on : Bool) (fault : Option KrlFault) → HasRoom (expected p) → length rest < (expected p).size → goes_on ≡ true → Reported p rest goes_on fault → Some faults.TooLong ≡ fault
 too_long_only p rest goes_on fault room short on (ended at off is) = absurd (cc (on, off))
 too_long_only p rest goes_on fault room short on (no_room full is) = absurd (full room)
 too_long_only p rest goes_on fault room short on (refused field after why room' e size judged is) =
@@ -151,7 +151,7 @@ too_long_only p rest goes_on fault room short on (refused field after why room' 
 too_long_only p rest goes_on fault room short on (too_long room' short' on' is) = sym is
 too_long_only p rest goes_on fault room short on (ends_early room' short' not_end off is) = absurd (cc (on, off))
 
-early_only : (p : Place) (rest : List ℕ) (goes_on : Bool) (fault : Option KrlFault) → HasRoom (due p) → length rest < (due p).size → (IsEnd p rest → ⊥) → goes_on ≡ false → Told p rest goes_on fault → Some faults.EndsEarly ≡ fault
+early_only : (p : Place) (rest : List ℕ) (goes_on : Bool) (fault : Option KrlFault) → HasRoom (expected p) → length rest < (expected p).size → (IsEnd p rest → ⊥) → goes_on ≡ false → Reported p rest goes_on fault → Some faults.EndsEarly ≡ fault
 early_only p rest goes_on fault room short not_end off (ended at off' is) = absurd (not_end at)
 early_only p rest goes_on fault room short not_end off (no_room full is) = absurd (full room)
 early_only p rest goes_on fault room short not_end off (refused field after why room' e size judged is) =
@@ -159,42 +159,42 @@ early_only p rest goes_on fault room short not_end off (refused field after why 
 early_only p rest goes_on fault room short not_end off (too_long room' short' on is) = absurd (cc (on, off))
 early_only p rest goes_on fault room short not_end off (ends_early room' short' not_end' off' is) = sym is
 
-pub told_same : (p : Place) (rest : List ℕ) (goes_on : Bool) (fault fault' : Option KrlFault) → Told p rest goes_on fault → Told p rest goes_on fault' → fault ≡ fault'
-told_same p rest goes_on fault fault' (ended at off is) t = is ∙ ended_only p rest goes_on fault' at off t
-told_same p rest goes_on fault fault' (no_room full is) t = is ∙ full_only p rest goes_on fault' full t
-told_same p rest goes_on fault fault' (refused field after why room e size judged is) t = is ∙ refused_only p rest goes_on fault' field after why room e size judged t
-told_same p rest goes_on fault fault' (too_long room short on is) t = is ∙ too_long_only p rest goes_on fault' room short on t
-told_same p rest goes_on fault fault' (ends_early room short not_end off is) t = is ∙ early_only p rest goes_on fault' room short not_end off t
+pub reported_same : (p : Place) (rest : List ℕ) (goes_on : Bool) (fault fault' : Option KrlFault) → Reported p rest goes_on fault → Reported p rest goes_on fault' → fault ≡ fault'
+reported_same p rest goes_on fault fault' (ended at off is) t = is ∙ ended_only p rest goes_on fault' at off t
+reported_same p rest goes_on fault fault' (no_room full is) t = is ∙ full_only p rest goes_on fault' full t
+reported_same p rest goes_on fault fault' (refused field after why room e size judged is) t = is ∙ refused_only p rest goes_on fault' field after why room e size judged t
+reported_same p rest goes_on fault fault' (too_long room short on is) t = is ∙ too_long_only p rest goes_on fault' room short on t
+reported_same p rest goes_on fault fault' (ends_early room short not_end off is) t = is ∙ early_only p rest goes_on fault' room short not_end off t
 
 -- two ends of one text, of which the second may come after more fields
-ends_same : (p q : Spot) (more : List (List ℕ)) (r s : List ℕ) (goes_on : Bool) (a b : Option KrlFault) → Leads p more q
-    → r ≡ concat more ++ s → Told p.place r goes_on a → Told q.place s goes_on b → a ≡ b
+ends_same : (p q : State) (more : List (List ℕ)) (r s : List ℕ) (goes_on : Bool) (a b : Option KrlFault) → Leads p more q
+    → r ≡ concat more ++ s → Reported p.place r goes_on a → Reported q.place s goes_on b → a ≡ b
 ends_same p q [] r s goes_on a b h e ta tb =
-    told_same p.place r goes_on a b ta (subst (λ (x : List ℕ). Told p.place x goes_on b) (sym e)
-    (subst (λ (x : Spot). Told x.place s goes_on b) (sym h) tb))
+    reported_same p.place r goes_on a b ta (subst (λ (x : List ℕ). Reported p.place x goes_on b) (sym e)
+    (subst (λ (x : State). Reported x.place s goes_on b) (sym h) tb))
 ends_same p q (x ∷ more) r s goes_on a b h e ta tb =
     absurd (blocked p.place h.0 r x (concat more ++ s) goes_on a ta h.1.0.room h.1.0.whole h.1.0.judged
     (e ∙ append_assoc x (concat more) s))
 
 -- what comes after a row, where a longer row is known
-behind : (p q q' : Spot) (one other more : List (List ℕ)) (r s : List ℕ) (goes_on : Bool) (a b : Option KrlFault)
+following : (p q q' : State) (one other more : List (List ℕ)) (r s : List ℕ) (goes_on : Bool) (a b : Option KrlFault)
     → Leads p one q → Leads p other q' → concat one ++ r ≡ concat other ++ s
-    → other ≡ one ++ more → Told q.place r goes_on a → Told q'.place s goes_on b → a ≡ b
-behind p q q' one other more r s goes_on a b h k e longer ta tb =
+    → other ≡ one ++ more → Reported q.place r goes_on a → Reported q'.place s goes_on b → a ≡ b
+following p q q' one other more r s goes_on a b h k e longer ta tb =
     let w = Leads-split p q' one more (subst (λ (x : List (List ℕ)). Leads p x q') longer k) in
-    let step : Leads q more q' = subst (λ (x : Spot). Leads x more q') (leads_to_one p w.0 q one w.1 h) w.2 in
+    let step : Leads q more q' = subst (λ (x : State). Leads x more q') (leads_to_one p w.0 q one w.1 h) w.2 in
     let whole : concat one ++ r ≡ concat one ++ (concat more ++ s) =
     e ∙ ap (λ (x : List (List ℕ)). concat x ++ s) longer ∙ ap (λ (x : List ℕ). x ++ s) (concat-append one more)
     ∙ append_assoc (concat one) (concat more) s in
     ends_same q q' more r s goes_on a b step (append_same (concat one) (concat one) r (concat more ++ s) refl whole).1 ta tb
 
-pub one_told : (text : List ℕ) (a b : Option KrlFault) → IsFirstFault text a → IsFirstFault text b → a ≡ b
-one_told text a b h k =
+pub one_reported : (text : List ℕ) (a b : Option KrlFault) → IsFirstFault text a → IsFirstFault text b → a ≡ b
+one_reported text a b h k =
     let e : concat h.fields ++ h.rest ≡ concat k.fields ++ k.rest = sym h.front.front.parts ∙ k.front.front.parts in
     let goes_on : Bool = ltb limit (length text) in
-    elim (fronts_compare start h.spot k.spot h.fields k.fields h.rest k.rest h.front.front.leads k.front.front.leads e) [
-      | inl w ↦ behind start h.spot k.spot h.fields k.fields w.0 h.rest k.rest goes_on a b
-          h.front.front.leads k.front.front.leads e w.1 h.told k.told
-      | inr w ↦ sym (behind start k.spot h.spot k.fields h.fields w.0 k.rest h.rest goes_on b a
-          k.front.front.leads h.front.front.leads (sym e) w.1 k.told h.told)
+    elim (fronts_compare start h.state k.state h.fields k.fields h.rest k.rest h.front.front.leads k.front.front.leads e) [
+      | inl w ↦ following start h.state k.state h.fields k.fields w.0 h.rest k.rest goes_on a b
+          h.front.front.leads k.front.front.leads e w.1 h.reported k.reported
+      | inr w ↦ sym (following start k.state h.state k.fields h.fields w.0 k.rest h.rest goes_on b a
+          k.front.front.leads h.front.front.leads (sym e) w.1 k.reported h.reported)
     ]

@@ -4,8 +4,8 @@ use Rattle.std.specs.List.{concat}
 use Rattle.std.proofs.lemmas.List.{append-nil}
 use Rattle.std.proofs.lemmas.List.Folds.{concat-append}
 use Rattle.krl_core.specs.declared.place.Place.{Place}
-use Rattle.krl_core.specs.Front.{Spot, Passes, HasRoom, spot_after, Leads}
-use Rattle.krl_core.specs.Place.{due}
+use Rattle.krl_core.specs.Front.{State, Passes, HasRoom, state_after, Leads}
+use Rattle.krl_core.specs.Place.{expected}
 use Rattle.krl_core.proofs.Walks.{Walks}
 
 -- from the place some fields lead to the last place, and leave the rest of the bytes
@@ -21,7 +21,7 @@ pub record Goes (place : Place) (bytes : List ℕ) (last : Place) (rest : List �
 pub goes_none : (p : Place) (bytes : List ℕ) → Goes p bytes p bytes
 goes_none p bytes = record { fields = []; along = refl; parts = refl }
 
-pub goes_one : (p q : Place) (field rest : List ℕ) → HasRoom (due p) → length field ≡ (due p).size → (due p).judged field ≡ Ok q → Goes p (field ++ rest) q rest
+pub goes_one : (p q : Place) (field rest : List ℕ) → HasRoom (expected p) → length field ≡ (expected p).size → (expected p).judged field ≡ Ok q → Goes p (field ++ rest) q rest
 goes_one p q field rest room size judged = record {
   fields = field ∷ [];
   along = (q, (record { room = room; whole = size; judged = judged }, refl));
@@ -43,19 +43,19 @@ goes_then p q r a b c h k = record {
 pub goes_from : (p q : Place) (a b rest : List ℕ) → a ≡ b → Goes p b q rest → Goes p a q rest
 goes_from p q a b rest e w = subst (λ (x : List ℕ). Goes p x q rest) (sym e) w
 
--- the same from a spot
-pub record Arrives (spot : Spot) (bytes : List ℕ) (place : Place) (rest : List ℕ) : Type 0 where
-  pub last : Spot
+-- the same from a state
+pub record Arrives (state : State) (bytes : List ℕ) (place : Place) (rest : List ℕ) : Type 0 where
+  pub last : State
   pub place_is : last.place ≡ place
-  pub walks : Walks spot bytes last rest
+  pub walks : Walks state bytes last rest
 
-leads_along : (s : Spot) (p : Place) (fields : List (List ℕ)) (q : Place) → s.place ≡ p → Along p fields q → (last : Spot) × (last.place ≡ q) × Leads s fields last
+leads_along : (s : State) (p : Place) (fields : List (List ℕ)) (q : Place) → s.place ≡ p → Along p fields q → (last : State) × (last.place ≡ q) × Leads s fields last
 leads_along s p [] q e h = (s, e ∙ h, refl)
 leads_along s p (field ∷ fields) q e (next, (pass, h)) =
-    let w = leads_along (spot_after s field next) next fields q refl h in
+    let w = leads_along (state_after s field next) next fields q refl h in
     (w.0, w.1, (next, (subst (λ (x : Place). Passes x field next) (sym e) pass, w.2)))
 
-pub arrives : (s : Spot) (p q : Place) (bytes rest : List ℕ) → s.place ≡ p → Goes p bytes q rest → Arrives s bytes q rest
+pub arrives : (s : State) (p q : Place) (bytes rest : List ℕ) → s.place ≡ p → Goes p bytes q rest → Arrives s bytes q rest
 arrives s p q bytes rest e h =
     let w = leads_along s p h.fields q e h.along in
     record { last = w.0; place_is = w.1; walks = record { fields = h.fields; leads = w.2; parts = h.parts } }

@@ -48,7 +48,7 @@ strings_front out old first rest all whole is e =
 
 -- ---- a type byte and a string whose length comes last
 
--- what stands after two parts of the string are put
+-- what is after two parts of the string are put
 pub put_two : (kind : ℕ) (old begun kept first out x y : List ℕ) → begun ≡ old ++ kind ∷ [] → kept ≡ begun ++ number 4 0 → first ≡ kept ++ x → out ≡ first ++ y
     → out ≡ ((old ++ kind ∷ []) ++ number 4 0) ++ (x ++ y)
 put_two kind old begun kept first out x y b k f o =
@@ -90,7 +90,7 @@ listed_rest kind old begun kept one first rest b k o =
 
 -- ---- an authority
 
--- what stands after each part of the section
+-- what is after each part of the section
 pub put_four : (old begun kept a e p out : List ℕ) (authority plan ids : List ℕ) → begun ≡ old ++ 1 ∷ [] → kept ≡ begun ++ number 4 0
     → a ≡ kept ++ string authority → e ≡ a ++ string [] → p ≡ e ++ plan → out ≡ p ++ ids
     → out ≡ ((old ++ 1 ∷ []) ++ number 4 0) ++ (string authority ++ (string [] ++ (plan ++ ids)))

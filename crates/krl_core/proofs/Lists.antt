@@ -10,7 +10,7 @@ use Rattle.std.proofs.lemmas.Bool.{ltb-false}
 use Rattle.std.proofs.lemmas.List.{append-nil, take_all}
 use Rattle.krl_core.specs.declared.krl_fault.KrlFault.{KrlFault}
 use Rattle.krl_core.specs.declared.place.Place.{Place}
-use Rattle.krl_core.specs.Front.{Spot, start, Leads, limit, IsEnd, IsFirstFault, Told, ended, no_room, refused, too_long, ends_early}
+use Rattle.krl_core.specs.Front.{State, start, Leads, limit, IsEnd, IsFirstFault, Reported, ended, no_room, refused, too_long, ends_early}
 use Rattle.krl_core.specs.Krl.{SpelledSection, Spells, header_text, magic}
 use Rattle.krl_core.specs.Naming.{NamesSame}
 use Rattle.krl_core.specs.Place.{can_end}
@@ -68,7 +68,7 @@ spelled_from text last h more h0 =
     }
 
 -- what a row of fields names that leads to the end of a list
-pub row_spelled : (fields : List (List ℕ)) (last : Spot) → Leads start fields last → can_end last.place ≡ true → IsBytes (concat fields)
+pub row_spelled : (fields : List (List ℕ)) (last : State) → Leads start fields last → can_end last.place ≡ true → IsBytes (concat fields)
     → SpelledBy (concat fields) last.header last.entries
 row_spelled fields last leads may fits =
     let w = completes start fields last leads may fits in
@@ -81,18 +81,18 @@ row_spelled fields last leads may fits =
 
 pub list_of_whole : (text : List ℕ) (header : Header) (contents : Contents) → IsWhole text header contents → IsList text header contents
 list_of_whole text header contents h =
-    let k = row_spelled h.fields h.spot h.leads h.may_end (subst IsBytes h.text_is h.are_bytes) in
-    let at_text : Spells text h.spot.header k.sections = subst (λ (x : List ℕ). Spells x h.spot.header k.sections) (sym h.text_is) k.spelled in
+    let k = row_spelled h.fields h.state h.leads h.may_end (subst IsBytes h.text_is h.are_bytes) in
+    let at_text : Spells text h.state.header k.sections = subst (λ (x : List ℕ). Spells x h.state.header k.sections) (sym h.text_is) k.spelled in
     record {
       sections = k.sections;
       spelled = subst (λ (x : Header). Spells text x k.sections) (sym h.header_is) at_text;
       within = h.within;
-      means = same_meaning contents h.spot.entries (entries_of k.sections) h.means k.named;
+      means = same_meaning contents h.state.entries (entries_of k.sections) h.means k.named;
       held_is = h.held_is;
       stored_is = h.stored_is;
     }
 
-is_end : (p : Place) (rest : List ℕ) (goes_on : Bool) (fault : Option KrlFault) → fault ≡ None → Told p rest goes_on fault → IsEnd p rest × (goes_on ≡ false)
+is_end : (p : Place) (rest : List ℕ) (goes_on : Bool) (fault : Option KrlFault) → fault ≡ None → Reported p rest goes_on fault → IsEnd p rest × (goes_on ≡ false)
 is_end p rest goes_on fault e (ended at_end off is) = (at_end, off)
 is_end p rest goes_on fault e (no_room full is) = absurd (cc (e, is))
 is_end p rest goes_on fault e (refused field after why room parts size judged is) = absurd (cc (e, is))
@@ -101,12 +101,12 @@ is_end p rest goes_on fault e (ends_early room short not_end off is) = absurd (c
 
 -- the fields of a text without a fault
 pub unfaulted_row : (text : List ℕ) → IsFirstFault text None
-    → (fields : List (List ℕ)) × (last : Spot) × (Leads start fields last × (can_end last.place ≡ true) × (text ≡ concat fields) × (length text ≤ limit))
+    → (fields : List (List ℕ)) × (last : State) × (Leads start fields last × (can_end last.place ≡ true) × (text ≡ concat fields) × (length text ≤ limit))
 unfaulted_row text h =
-    let w = is_end h.spot.place h.rest (ltb limit (length text)) None refl h.told in
+    let w = is_end h.state.place h.rest (ltb limit (length text)) None refl h.reported in
     let le : length text ≤ limit = ltb-false limit (length text) w.1 in
     let whole : text ≡ concat h.fields = sym (take_all limit text le) ∙ h.front.front.parts ∙ ap (λ (x : List ℕ). concat h.fields ++ x) w.0.1 ∙ append-nil (concat h.fields) in
-    (h.fields, h.spot, (h.front.front.leads, w.0.0, whole, le))
+    (h.fields, h.state, (h.front.front.leads, w.0.0, whole, le))
 
 -- a text without a fault leads to the end of a list
 pub unfaulted_spelled : (text : List ℕ) → IsBytes text → IsFirstFault text None

@@ -69,7 +69,7 @@ module _ {X : Type 0} (key : X → List ℕ) where
   above_changed bytes [] from to back same a = (subst (λ k. bytes_cmp bytes k ≡ Less) same a.0, a.1)
   above_changed bytes (x ∷ front) from to back same a = (a.0, above_changed bytes front from to back same a.1)
 
-  -- a value with the same bytes in the spot of another
+  -- a value with the same bytes in place of another
   pub rises_changed : (front : List X) (from to : X) (back : List X) → key from ≡ key to → RisesBy key (front ++ from ∷ back) → RisesBy key (front ++ to ∷ back)
   rises_changed [] from to back same r = (subst (λ k. AllAbove key k back) same r.0, r.1)
   rises_changed (x ∷ front) from to back same r = (above_changed (key x) front from to back same r.0, rises_changed front from to back same r.1)

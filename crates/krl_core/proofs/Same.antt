@@ -13,7 +13,7 @@ pub some_append : (xs ys : List Entry) (name : Name) → SomeNames (xs ++ ys) na
 some_append xs ys name =
     (some_cases xs ys name, λ h. elim h [ inl k ↦ some_left xs ys name k | inr k ↦ some_right xs ys name k ])
 
--- entries in front or behind that do not name it
+-- entries before or after that do not name it
 pub some_first : (xs ys : List Entry) (name : Name) → (SomeNames ys name → ⊥) → SomeNames xs name ↔ SomeNames (xs ++ ys) name
 some_first xs ys name none = Iff.trans (iff_none none) (Iff.symm (some_append xs ys name))
 

@@ -5,7 +5,7 @@ use Rattle.std.specs.Int.{bit_at}
 use Rattle.std.proofs.lemmas.Bool.{cases_lt, le-ltb, lt-ltb, le-leb, lt-leb, eqb-true}
 use Rattle.std.proofs.lemmas.List.{length-append}
 use Rattle.ssh_wire.specs.Wire.{IsBytes, number, number_of, string, strings}
-use Rattle.ssh_wire.specs.Digits.{IsBytes-behind, IsBytes-front}
+use Rattle.ssh_wire.specs.Digits.{IsBytes-back, IsBytes-front}
 use Rattle.ssh_wire.specs.Fields.{IsBytes-in_string, length-string, length-number}
 use Rattle.krl_core.specs.declared.krl_fault.KrlFault.{KrlFault}
 use Rattle.krl_core.specs.declared.krl_fault.KrlFault.TheVariants as faults
@@ -22,7 +22,7 @@ use Rattle.krl_core.specs.declared.place.bitmap.BitmapPlace.TheVariants as bitma
 use Rattle.krl_core.specs.declared.place.extension.ExtensionPlace.TheVariants as extensions
 use Rattle.krl_core.specs.Front.{HasRoom}
 use Rattle.krl_core.specs.Krl.{Subsection, Serials, Range, Bitmap, Ids, SubsectionExtension, SpellsEach, SpellsSubsection, SpellsExtension, IsPositive, magic, header_text, numbers_text}
-use Rattle.krl_core.specs.Place.{Due, due, judge, length_within, within, item_size, next_item, next_subsection, next_serial, next_bits, base_of, bits_judged, passes_end, highest_bit}
+use Rattle.krl_core.specs.Place.{Expected, expected, judge, length_within, within, item_size, next_item, next_subsection, next_serial, next_bits, base_of, bits_judged, passes_end, highest_bit}
 use Rattle.std.proofs.Math.Nat.{div-eq_of_lt-le}
 use Rattle.std.proofs.lemmas.Nat.{pow-add}
 use Rattle.std.proofs.lemmas.Nat.Bits.{bit_at_above, bit_at_cat_low, bit_at_cat_high}
@@ -37,15 +37,15 @@ use Rattle.krl_plan.specs.ListTexts.{length-numbers}
 -- ---- a field, and what follows it
 
 -- a length where the length is judged so
-length_goes : (p : Place) (q : ℕ → Place) (n : ℕ) (rest : List ℕ) → HasRoom (due p) → (due p).size ≡ 4 → n < 2 ^ 32
-    → ((m : ℕ) (field : List ℕ) → number_of field ≡ m → m ≡ n → (due p).judged field ≡ Ok (q m)) → Goes p (number 4 n ++ rest) (q n) rest
+length_goes : (p : Place) (q : ℕ → Place) (n : ℕ) (rest : List ℕ) → HasRoom (expected p) → (expected p).size ≡ 4 → n < 2 ^ 32
+    → ((m : ℕ) (field : List ℕ) → number_of field ≡ m → m ≡ n → (expected p).judged field ≡ Ok (q m)) → Goes p (number 4 n ++ rest) (q n) rest
 length_goes p q n rest room size fits judged =
     goes_one p (q n) (number 4 n) rest room (length-number 4 n ∙ sym size) (judged n (number 4 n) (number_again4 n fits) refl)
 
 -- a string: its length, and its content
-pub string_goes : (p : Place) (q : Place) (r : Place) (content rest : List ℕ) → HasRoom (due p) → (due p).size ≡ 4 → length content < 2 ^ 32
-    → ((field : List ℕ) → number_of field ≡ length content → (due p).judged field ≡ Ok q)
-    → HasRoom (due q) → length content ≡ (due q).size → (due q).judged content ≡ Ok r → Goes p (string content ++ rest) r rest
+pub string_goes : (p : Place) (q : Place) (r : Place) (content rest : List ℕ) → HasRoom (expected p) → (expected p).size ≡ 4 → length content < 2 ^ 32
+    → ((field : List ℕ) → number_of field ≡ length content → (expected p).judged field ≡ Ok q)
+    → HasRoom (expected q) → length content ≡ (expected q).size → (expected q).judged content ≡ Ok r → Goes p (string content ++ rest) r rest
 unfolding string
 string_goes p q r content rest room size fits judged room' size' judged' =
     goes_from p r (string content ++ rest) (number 4 (length content) ++ (content ++ rest)) rest (append_assoc (number 4 (length content)) content rest)
@@ -54,8 +54,8 @@ string_goes p q r content rest room size fits judged room' size' judged' =
     (goes_one q r content rest room' size' judged'))
 
 -- a length of content that is read in parts
-pub content_goes : (p q r : Place) (content rest : List ℕ) → HasRoom (due p) → (due p).size ≡ 4 → length content < 2 ^ 32
-    → ((field : List ℕ) → number_of field ≡ length content → (due p).judged field ≡ Ok q) → Goes q (content ++ rest) r rest → Goes p (string content ++ rest) r rest
+pub content_goes : (p q r : Place) (content rest : List ℕ) → HasRoom (expected p) → (expected p).size ≡ 4 → length content < 2 ^ 32
+    → ((field : List ℕ) → number_of field ≡ length content → (expected p).judged field ≡ Ok q) → Goes q (content ++ rest) r rest → Goes p (string content ++ rest) r rest
 unfolding string
 content_goes p q r content rest room size fits judged w =
     goes_from p r (string content ++ rest) (number 4 (length content) ++ (content ++ rest)) rest (append_assoc (number 4 (length content)) content rest)
@@ -247,7 +247,7 @@ extension_goes left after content rest h size fits =
 
 -- a subsection's type byte, the length of its content, and the content
 part_goes : (left type_byte : ℕ) (p q : Place) (text content rest : List ℕ) (next : (size after : ℕ) → Result Place KrlFault) → text ≡ type_byte ∷ string content → length text ≤ left → length content < 2 ^ 32
-    → (due (places.Certificates (certificates.SubsectionType left))).judged (type_byte ∷ []) ≡ Ok p → due p ≡ length_within (left - 1) (λ size. next size (left - 1 - 4 - size))
+    → (expected (places.Certificates (certificates.SubsectionType left))).judged (type_byte ∷ []) ≡ Ok p → expected p ≡ length_within (left - 1) (λ size. next size (left - 1 - 4 - size))
     → next (length content) (left - length text) ≡ Ok q → Goes q (content ++ rest) (next_subsection (left - length text)) rest
     → Goes (places.Certificates (certificates.SubsectionType left)) (text ++ rest) (next_subsection (left - length text)) rest
 part_goes left type_byte p q text content rest next spelled le fits typed is judged walk =
@@ -259,8 +259,8 @@ part_goes left type_byte p q text content rest next spelled le fits typed is jud
     goes_from at end (text ++ rest) (type_byte ∷ (string content ++ rest)) rest (ap (λ (x : List ℕ). x ++ rest) spelled)
     (goes_then at p end (type_byte ∷ (string content ++ rest)) (string content ++ rest) rest
     (goes_one at p (type_byte ∷ []) (string content ++ rest) (let some : 1 ≤ left = omega (arith, size) in some) refl typed)
-    (content_goes p q end content rest (subst (λ (d : Due). HasRoom d) (sym is) room) (ap (λ (d : Due). d.size) is) fits
-    (λ field e. ap (λ (d : Due). d.judged field) is ∙ within_is (left - 1) (λ size. next size (left - 1 - 4 - size)) (number_of field) (length content) e (omega (arith, size))
+    (content_goes p q end content rest (subst (λ (d : Expected). HasRoom d) (sym is) room) (ap (λ (d : Expected). d.size) is) fits
+    (λ field e. ap (λ (d : Expected). d.judged field) is ∙ within_is (left - 1) (λ size. next size (left - 1 - 4 - size)) (number_of field) (length content) e (omega (arith, size))
     ∙ ap (next (length content)) after ∙ judged) walk))
 
 subsection_goes : (left : ℕ) (sub : Subsection) (text rest : List ℕ) → SpellsSubsection text sub → length text ≤ left → IsBytes text
@@ -296,8 +296,8 @@ subsection_goes left (Bitmap offset value) text rest h le fits =
     let bits = m.bytes in
     let b = left - length text in
     let all : n ≡ 8 + (4 + length bits) = ap length m.spelled ∙ length-append (number 8 offset) (string bits) ∙ (let e : length (number 8 offset) + length (string bits) ≡ 8 + (4 + length bits) = omega (arith, length-number 8 offset, length-string bits) in e) in
-    let content_bytes : IsBytes content = IsBytes-in_string content (IsBytes-behind (0x22 ∷ []) (string content) (subst IsBytes h.spelled fits)) in
-    let bits_bytes : IsBytes bits = IsBytes-in_string bits (IsBytes-behind (number 8 offset) (string bits) (subst IsBytes m.spelled content_bytes)) in
+    let content_bytes : IsBytes content = IsBytes-in_string content (IsBytes-back (0x22 ∷ []) (string content) (subst IsBytes h.spelled fits)) in
+    let bits_bytes : IsBytes bits = IsBytes-in_string bits (IsBytes-back (number 8 offset) (string bits) (subst IsBytes m.spelled content_bytes)) in
     let less : n - 8 ≡ 4 + length bits = omega (arith, all) in
     let fewer : n - 8 - 4 ≡ length bits = omega (arith, all) in
     let within' : (k : ℕ) → bit_at (number_of bits) k ≡ 1 → offset + k < 2 ^ 64 = λ k set. m.within k (subst (λ (v : ℕ). bit_at v k ≡ 1) (sym m.value_is) set) in
@@ -343,4 +343,4 @@ subsections_go (sub ∷ subs) body rest (suc k) (first, (later, (parts, spelled,
     goes_from (places.Certificates (certificates.SubsectionType (suc k))) (places.SectionType false) (body ++ rest) (first ++ (later ++ rest)) rest (ap (λ (x : List ℕ). x ++ rest) parts ∙ append_assoc first later rest)
     (goes_then (places.Certificates (certificates.SubsectionType (suc k))) (next_subsection (suc k - length first)) (places.SectionType false) (first ++ (later ++ rest)) (later ++ rest) rest
     (subsection_goes (suc k) sub first (later ++ rest) spelled (omega (arith, e, ap length parts, len)) (IsBytes-front first later all))
-    (subsections_go subs later rest (suc k - length first) others left (IsBytes-behind first later all)))
+    (subsections_go subs later rest (suc k - length first) others left (IsBytes-back first later all)))

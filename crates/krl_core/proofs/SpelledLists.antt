@@ -4,7 +4,7 @@ use Rattle.std.specs.List.{AllByRecursion}
 use Rattle.std.proofs.lemmas.Bool.{le-ltb}
 use Rattle.std.proofs.lemmas.List.{length-append, take_all}
 use Rattle.ssh_wire.specs.Wire.{IsBytes, number_of, string, strings}
-use Rattle.ssh_wire.specs.Digits.{IsBytes-behind, IsBytes-front}
+use Rattle.ssh_wire.specs.Digits.{IsBytes-back, IsBytes-front}
 use Rattle.ssh_wire.specs.Fields.{IsBytes-in_string, length-string}
 use Rattle.krl_core.specs.declared.krl_fault.KrlFault.{KrlFault}
 use Rattle.krl_core.specs.declared.krl_fault.KrlFault.TheVariants as faults
@@ -18,11 +18,11 @@ use Rattle.krl_core.specs.declared.place.signature.SignaturePlace.TheVariants as
 use Rattle.krl_core.specs.declared.place.list.ListPlace.TheVariants as lists
 use Rattle.krl_core.specs.declared.place.certificates.CertificatesPlace.TheVariants as certificates
 use Rattle.krl_core.specs.declared.place.extension.ExtensionPlace.TheVariants as extensions
-use Rattle.krl_core.specs.Front.{start, limit, IsFirstFault, Told, ended}
+use Rattle.krl_core.specs.Front.{start, limit, IsFirstFault, Reported, ended}
 use Rattle.krl_core.specs.Krl.{SpelledSection, Certificates, Keys, Sha1s, Sha256s, Signature, Extension, Spells, SpellsEach, SpellsSection, header_text}
-use Rattle.krl_core.specs.Place.{due, next_item, next_subsection}
+use Rattle.krl_core.specs.Place.{expected, next_item, next_subsection}
 use Rattle.krl_core.specs.Reading.{Says, starved, failed_read, first}
-use Rattle.krl_core.proofs.Fronts.{first_fault_is, one_told}
+use Rattle.krl_core.proofs.Fronts.{first_fault_is, one_reported}
 use Rattle.krl_core.proofs.Goes.{Goes, goes_none, goes_one, goes_then, goes_from, arrives}
 use Rattle.krl_core.proofs.Rests.{LastFor, IsItem}
 use Rattle.krl_core.proofs.Spelled.{string_goes, content_goes, within_is, header_goes, items_go, any_size, extension_goes, subsections_go}
@@ -33,14 +33,14 @@ signed_after _ = false
 
 -- a section of another type than a signature, from its type byte on
 typed_goes : (signed : Bool) (n : ℕ) (q : Place) (content rest : List ℕ) → signed ≡ false → length content < 2 ^ 32
-    → (due (places.SectionType false)).judged (n ∷ []) ≡ Ok q → ((r : Place) → Goes q (string content ++ rest) r rest → Goes (places.SectionType false) (n ∷ (string content ++ rest)) r rest)
+    → (expected (places.SectionType false)).judged (n ∷ []) ≡ Ok q → ((r : Place) → Goes q (string content ++ rest) r rest → Goes (places.SectionType false) (n ∷ (string content ++ rest)) r rest)
 typed_goes signed n q content rest off fits judged r w =
     goes_then (places.SectionType false) q r (n ∷ (string content ++ rest)) (string content ++ rest) rest
     (goes_one (places.SectionType false) q (n ∷ []) (string content ++ rest) tt refl judged) w
 
 -- a section of items, of whatever kind
 items_section_goes : (kind : ItemKind) (n : ℕ) (items : List (List ℕ)) (text content rest : List ℕ) → text ≡ n ∷ string content → length content < 2 ^ 32 → content ≡ strings items → AllByRecursion (IsItem kind) items
-    → (due (places.SectionType false)).judged (n ∷ []) ≡ Ok (places.List (lists.SectionLength kind)) → Goes (places.SectionType false) (text ++ rest) (places.SectionType false) rest
+    → (expected (places.SectionType false)).judged (n ∷ []) ≡ Ok (places.List (lists.SectionLength kind)) → Goes (places.SectionType false) (text ++ rest) (places.SectionType false) rest
 items_section_goes kind n items text content rest spelled fits is good judged =
     let q = next_item kind (length content) 0 in
     goes_from (places.SectionType false) (places.SectionType false) (text ++ rest) (n ∷ (string content ++ rest)) rest (ap (λ (x : List ℕ). x ++ rest) spelled)
@@ -76,8 +76,8 @@ section_goes : (section : SpelledSection) (signed : Bool) (text rest : List ℕ)
 unfolding number_of
 section_goes (Certificates authority subs) false text rest h last fits =
     let c = h.content_is in
-    let all = IsBytes-in_string h.content (IsBytes-behind (1 ∷ []) (string h.content) (subst IsBytes h.spelled fits)) in
-    let body_bytes = IsBytes-behind (string c.reserved) c.body (IsBytes-behind (string authority) (string c.reserved ++ c.body) (subst IsBytes c.spelled all)) in
+    let all = IsBytes-in_string h.content (IsBytes-back (1 ∷ []) (string h.content) (subst IsBytes h.spelled fits)) in
+    let body_bytes = IsBytes-back (string c.reserved) c.body (IsBytes-back (string authority) (string c.reserved ++ c.body) (subst IsBytes c.spelled all)) in
     goes_from (places.SectionType false) (places.SectionType false) (text ++ rest) (1 ∷ (string h.content ++ rest)) rest (ap (λ (x : List ℕ). x ++ rest) h.spelled)
     (typed_goes false 1 (places.Certificates certificates.SectionLength) h.content rest refl h.fits refl (places.SectionType false)
     (content_goes (places.Certificates certificates.SectionLength) (places.Certificates (certificates.AuthorityLength (length h.content))) (places.SectionType false) h.content rest tt refl h.fits (λ field e. ap (λ (n : ℕ). Ok (places.Certificates (certificates.AuthorityLength n))) e)
@@ -114,7 +114,7 @@ sections_go (section ∷ sections) signed body (first_one, (later, (parts, spell
     let all = subst IsBytes parts fits in
     let both = last_first signed section sections last in
     let one = section_goes section signed first_one later spelled both.0 (IsBytes-front first_one later all) in
-    let more = sections_go sections (signed_after section) later others both.1 (IsBytes-behind first_one later all) in (
+    let more = sections_go sections (signed_after section) later others both.1 (IsBytes-back first_one later all) in (
       more.0,
       goes_from (places.SectionType signed) (places.SectionType more.0) body (first_one ++ later) [] parts
           (goes_then (places.SectionType signed) (places.SectionType (signed_after section)) (places.SectionType more.0) (first_one ++ later) later [] one more.1),
@@ -123,7 +123,7 @@ sections_go (section ∷ sections) signed body (first_one, (later, (parts, spell
 -- what is spelled within the limit has no fault
 pub spelled_unfaulted : (text : List ℕ) (header : Header) (sections : List SpelledSection) → IsBytes text → Spells text header sections → length text ≤ limit → IsFirstFault text None
 spelled_unfaulted text header sections fits h le =
-    let body_bytes = IsBytes-behind (header_text header h.flags h.reserved) h.body (subst IsBytes h.spelled fits) in
+    let body_bytes = IsBytes-back (header_text header h.flags h.reserved) h.body (subst IsBytes h.spelled fits) in
     let rest = sections_go sections false h.body h.sections_are h.signatures_last body_bytes in
     let walk = goes_from (places.Header headers.Magic) (places.SectionType rest.0) text (header_text header h.flags h.reserved ++ h.body) [] h.spelled
     (goes_then (places.Header headers.Magic) (places.SectionType false) (places.SectionType rest.0) (header_text header h.flags h.reserved ++ h.body) h.body []
@@ -135,7 +135,7 @@ spelled_unfaulted text header sections fits h le =
       last = a.last;
       rest = [];
       walks = a.walks;
-      told = subst (λ (p : Place). Told p [] (ltb limit (length text)) None) (sym a.place_is) (ended (refl, refl) off refl);
+      reported = subst (λ (p : Place). Reported p [] (ltb limit (length text)) None) (sym a.place_is) (ended (refl, refl) off refl);
     })
 
 not_some : (fault : KrlFault) → Some fault ≡ None → ⊥
@@ -146,8 +146,8 @@ pub only_broken_off : (fault : KrlFault) (failed : Bool) (left : Option (List �
     → (fault ≡ faults.NoMemory) ⊎ ((fault ≡ faults.Read) × (failed ≡ true))
 only_broken_off fault failed left text header sections (starved is some works) fits h le = inl is
 only_broken_off fault failed left text header sections (failed_read is given) fits h le = inr (is, given.failed_is)
-only_broken_off fault failed left text header sections (first told works) fits h le =
-    absurd (not_some fault (one_told text (Some fault) None told (spelled_unfaulted text header sections fits h le)))
+only_broken_off fault failed left text header sections (first reported works) fits h le =
+    absurd (not_some fault (one_reported text (Some fault) None reported (spelled_unfaulted text header sections fits h le)))
 
 pub only_starved : (fault : KrlFault) (failed : Bool) (left : Option (List ℕ)) (text : List ℕ) (header : Header) (sections : List SpelledSection) → Says fault text failed left → IsBytes text → Spells text header sections → length text ≤ limit
     → (fault ≡ faults.NoMemory) ⊎ (fault ≡ faults.Read)

@@ -10,15 +10,15 @@ use Rattle.ssh_wire.specs.Wire.{IsBytes}
 use Rattle.ssh_wire.specs.Pull.{Pulled, Takes, Refuses, after_ahead, left_of}
 use Rattle.ssh_wire.specs.declared.pull_fault.PullFault.{PullFault}
 use Rattle.ssh_wire.specs.declared.pull_fault.PullFault.TheVariants as pulls
-use Rattle.ssh_wire.specs.Cut.{take-behind}
+use Rattle.ssh_wire.specs.Cut.{take-after}
 use Rattle.ssh_wire.specs.Digits.{IsBytes-append}
 use Rattle.krl_core.specs.declared.krl_fault.KrlFault.{KrlFault}
 use Rattle.krl_core.specs.declared.krl_fault.KrlFault.TheVariants as faults
 use Rattle.krl_core.specs.declared.place.Place.{Place}
-use Rattle.krl_core.specs.Front.{Spot, start, spot_after, Leads, Passes, HasRoom, Told, no_room, refused, too_long, ends_early, IsFirstFault, limit}
+use Rattle.krl_core.specs.Front.{State, start, state_after, Leads, Passes, HasRoom, Reported, no_room, refused, too_long, ends_early, IsFirstFault, limit}
 use Rattle.krl_core.specs.Keeping.{GrowsWithin, IsKept, Keeping, KeepsField, StoresWithin}
-use Rattle.krl_core.specs.Place.{can_end, due, names, authority_after, header_after}
-use Rattle.krl_core.specs.Reading.{Position, working, HasRead, IsBounded, LooksFor, Missed, no_room as room_missed, cut, Says, starved, failed_read, first, Refused, is_fixed, told_as}
+use Rattle.krl_core.specs.Place.{can_end, expected, names, authority_after, header_after}
+use Rattle.krl_core.specs.Reading.{Position, working, HasRead, IsBounded, LooksFor, Missed, no_room as room_missed, cut, Says, starved, failed_read, first, Refused, is_fixed, reported_as}
 use Rattle.krl_core.proofs.Fixed.{late_enough}
 use Rattle.krl_core.proofs.Fronts.{first_fault_is, end_size, end_room}
 use Rattle.krl_core.proofs.Walks.{Leads-push}
@@ -58,31 +58,31 @@ none_ahead p none = ap (λ (ahead : Option ℕ). after_ahead ahead p.source) non
 -- ---- the front that was read
 
 -- what is reported at the place that was reached is the first fault
-pub told_there : (text : List ℕ) (fields : List (List ℕ)) (p : Position) (h : HasRead text fields p) (fault : Option KrlFault)
+pub reported_there : (text : List ℕ) (fields : List (List ℕ)) (p : Position) (h : HasRead text fields p) (fault : Option KrlFault)
     → length (concat fields) ≤ limit
-    → Told p.place (take (limit - length (concat fields)) h.rest) (ltb limit (length text)) fault → IsFirstFault text fault
-told_there text fields p h fault le told =
+    → Reported p.place (take (limit - length (concat fields)) h.rest) (ltb limit (length text)) fault → IsFirstFault text fault
+reported_there text fields p h fault le reported =
     let parts : take limit text ≡ concat fields ++ take (limit - length (concat fields)) h.rest =
-    ap (take limit) h.parts ∙ take-behind (concat fields) h.rest limit le in
+    ap (take limit) h.parts ∙ take-after (concat fields) h.rest limit le in
     first_fault_is text fault (record {
-      last = h.spot;
+      last = h.state;
       rest = take (limit - length (concat fields)) h.rest;
       walks = record { fields = fields; leads = h.leads; parts = parts };
-      told = subst (λ (place : Place). Told place (take (limit - length (concat fields)) h.rest) (ltb limit (length text)) fault) h.place_is told;
+      reported = subst (λ (place : Place). Reported place (take (limit - length (concat fields)) h.rest) (ltb limit (length text)) fault) h.place_is reported;
     })
 
 -- the same of other bytes that begin with the fields
-told_given : (fields : List (List ℕ)) (spot : Spot) (came : List ℕ) (fault : Option KrlFault) → Leads start fields spot
-    → length (concat fields) + length came ≤ limit → Told spot.place came false fault → IsFirstFault (concat fields ++ came) fault
-told_given fields spot came fault leads le told =
+reported_given : (fields : List (List ℕ)) (state : State) (came : List ℕ) (fault : Option KrlFault) → Leads start fields state
+    → length (concat fields) + length came ≤ limit → Reported state.place came false fault → IsFirstFault (concat fields ++ came) fault
+reported_given fields state came fault leads le reported =
     let len = length-append (concat fields) came in
     let whole : take limit (concat fields ++ came) ≡ concat fields ++ came = take_all limit (concat fields ++ came) (omega (arith, len)) in
     let off : ltb limit (length (concat fields ++ came)) ≡ false = le-ltb limit (length (concat fields ++ came)) (omega (arith, len)) in
     first_fault_is (concat fields ++ came) fault (record {
-      last = spot;
+      last = state;
       rest = came;
       walks = record { fields = fields; leads = leads; parts = whole };
-      told = subst (λ (b : Bool). Told spot.place came b fault) (sym off) told;
+      reported = subst (λ (b : Bool). Reported state.place came b fault) (sym off) reported;
     })
 
 -- ---- faults
@@ -93,62 +93,62 @@ says_as a b text failed left e h = subst (λ (f : KrlFault). Says f text failed 
 -- the reader failed in a field, or where the end was looked for
 pub says_read : (old : Position) (mid new : Pulled) (text : List ℕ) (fields : List (List ℕ)) → IsBounded old.pull old.keeping
     → HasRead text fields old → Keeps (left_of old.pull) (left_of mid) → mid.taken ≡ old.pull.taken → mid.limit ≡ old.pull.limit
-    → HasRoom (due old.place) → Refuses mid (due old.place).size pulls.Read new → Says faults.Read text new.failed new.source
+    → HasRoom (expected old.place) → Refuses mid (expected old.place).size pulls.Read new → Says faults.Read text new.failed new.source
 says_read old mid new text fields bounded h keeps taken limit_is room r =
     let left = keeps_some (left_of old.pull) (left_of mid) h.rest h.left_is keeps in
     let m = r.misses in
     let after = consumes_some (left_of mid) (left_of new) h.rest m.came left m.bytes in
     let le : length (concat fields) + length m.came ≤ limit = omega (arith, m.within, taken, limit_is, bounded.limit_is, h.taken_is) in
-    let room' : HasRoom (due h.spot.place) = subst (λ (p : Place). HasRoom (due p)) h.place_is room in
-    let short : length m.came < (due h.spot.place).size = subst (λ (p : Place). length m.came < (due p).size) h.place_is m.part in
+    let room' : HasRoom (expected h.state.place) = subst (λ (p : Place). HasRoom (expected p)) h.place_is room in
+    let short : length m.came < (expected h.state.place).size = subst (λ (p : Place). length m.came < (expected p).size) h.place_is m.part in
     failed_read refl (record {
       given = concat fields ++ m.came;
       later = after.0;
       parts = h.parts ∙ ap (λ (l : List ℕ). concat fields ++ l) after.2 ∙ sym (append_assoc (concat fields) m.came after.0);
-      left_is = sym (none_ahead new m.tells.0) ∙ after.1;
-      failed_is = m.tells.1;
-      told = elim (end_or_early h.spot.place m.came room' short) [
-        | inl t ↦ inl (told_given fields h.spot m.came None h.leads le t)
-        | inr t ↦ inr (told_given fields h.spot m.came (Some faults.EndsEarly) h.leads le t)
+      left_is = sym (none_ahead new m.reports.0) ∙ after.1;
+      failed_is = m.reports.1;
+      reported = elim (end_or_early h.state.place m.came room' short) [
+        | inl t ↦ inl (reported_given fields h.state m.came None h.leads le t)
+        | inr t ↦ inr (reported_given fields h.state m.came (Some faults.EndsEarly) h.leads le t)
       ];
     })
 
 says_early : (old : Position) (mid new : Pulled) (text : List ℕ) (fields : List (List ℕ)) → IsBounded old.pull old.keeping
     → HasRead text fields old → LooksFor old.place old.pull false mid
-    → HasRoom (due old.place) → Refuses mid (due old.place).size pulls.EndsEarly new → Says faults.EndsEarly text new.failed new.source
+    → HasRoom (expected old.place) → Refuses mid (expected old.place).size pulls.EndsEarly new → Says faults.EndsEarly text new.failed new.source
 says_early old mid new text fields bounded h looks room r =
     let left = keeps_some (left_of old.pull) (left_of mid) h.rest h.left_is looks.bytes in
     let m = r.misses in
     let after = consumes_some (left_of mid) (left_of new) h.rest m.came left m.bytes in
-    let none : after.0 ≡ [] = at_end_none (left_of new) after.0 after.1 m.tells.0 in
+    let none : after.0 ≡ [] = at_end_none (left_of new) after.0 after.1 m.reports.0 in
     let all : h.rest ≡ m.came = after.2 ∙ ap (λ (l : List ℕ). m.came ++ l) none ∙ append-nil m.came in
     let len : length h.rest ≡ length m.came = ap length all in
     let total : length text ≡ length (concat fields) + length h.rest = ap length h.parts ∙ length-append (concat fields) h.rest in
     let le : length (concat fields) + length h.rest ≤ limit = omega (arith, len, m.within, looks.taken, looks.limit_is, bounded.limit_is, h.taken_is) in
     let off : ltb limit (length text) ≡ false = le-ltb limit (length text) (omega (arith, total)) in
     let whole : take (limit - length (concat fields)) h.rest ≡ h.rest = take_all (limit - length (concat fields)) h.rest (omega arith) in
-    let told : Told old.place h.rest false (Some faults.EndsEarly) =
+    let reported : Reported old.place h.rest false (Some faults.EndsEarly) =
     ends_early room (omega (arith, m.part, len)) (λ at_end. ahead_some mid h.rest left (looks.goes_on refl at_end.0) at_end.1) refl refl in
-    first (told_there text fields old h (Some faults.EndsEarly) (omega arith)
-    (rw (whole, off) told)) m.tells.1
+    first (reported_there text fields old h (Some faults.EndsEarly) (omega arith)
+    (rw (whole, off) reported)) m.reports.1
 
 says_long : (old : Position) (mid new : Pulled) (text : List ℕ) (fields : List (List ℕ)) → IsBounded old.pull old.keeping
     → HasRead text fields old → LooksFor old.place old.pull false mid
-    → HasRoom (due old.place) → Refuses mid (due old.place).size pulls.TooLong new → Says faults.TooLong text new.failed new.source
+    → HasRoom (expected old.place) → Refuses mid (expected old.place).size pulls.TooLong new → Says faults.TooLong text new.failed new.source
 says_long old mid new text fields bounded h looks room r =
     let left = keeps_some (left_of old.pull) (left_of mid) h.rest h.left_is looks.bytes in
     let m = r.misses in
     let after = consumes_some (left_of mid) (left_of new) h.rest m.came left m.bytes in
-    let some : 0 < length after.0 = not_empty after.0 (ahead_some new after.0 after.1 m.tells.1) in
+    let some : 0 < length after.0 = not_empty after.0 (ahead_some new after.0 after.1 m.reports.1) in
     let len : length h.rest ≡ length m.came + length after.0 = ap length after.2 ∙ length-append m.came after.0 in
     let total : length text ≡ length (concat fields) + length h.rest = ap length h.parts ∙ length-append (concat fields) h.rest in
-    let full : length (concat fields) + length m.came ≡ limit = omega (arith, m.tells.0, r.taken, r.limit, looks.taken, looks.limit_is, bounded.limit_is, h.taken_is) in
+    let full : length (concat fields) + length m.came ≡ limit = omega (arith, m.reports.0, r.taken, r.limit, looks.taken, looks.limit_is, bounded.limit_is, h.taken_is) in
     let on : ltb limit (length text) ≡ true = lt-ltb limit (length text) (omega (arith, total, len, full, some)) in
     let left_size : limit - length (concat fields) ≡ length m.came = omega arith in
     let front : take (limit - length (concat fields)) h.rest ≡ m.came =
     ap (λ (n : ℕ). take n h.rest) left_size ∙ ap (take (length m.came)) after.2 ∙ take-append_seam m.came after.0 in
-    let told : Told old.place m.came true (Some faults.TooLong) = too_long room m.part refl refl in
-    first (told_there text fields old h (Some faults.TooLong) (omega arith) (rw (front, on) told)) m.tells.2
+    let reported : Reported old.place m.came true (Some faults.TooLong) = too_long room m.part refl refl in
+    first (reported_there text fields old h (Some faults.TooLong) (omega arith) (rw (front, on) reported)) m.reports.2
   where
     not_empty : (l : List ℕ) → (l ≡ [] → ⊥) → 0 < length l
     not_empty [] h = absurd (h refl)
@@ -158,17 +158,17 @@ says_long old mid new text fields bounded h looks room r =
 says_starved : (old : Position) (new : Pulled) (text : List ℕ) (fields : List (List ℕ)) (fault : KrlFault) → HasRead text fields old
     → is_fixed old.place ≡ false → fault ≡ faults.NoMemory → new.failed ≡ false → Says fault text new.failed new.source
 says_starved old new text fields fault h late is works =
-    let some = late_enough fields h.spot h.leads (subst (λ (p : Place). is_fixed p ≡ false) h.place_is late) in
+    let some = late_enough fields h.state h.leads (subst (λ (p : Place). is_fixed p ≡ false) h.place_is late) in
     starved is (omega (arith, some, ap length h.parts, length-append (concat fields) h.rest)) works
 
 says_cut : (old : Position) (mid new : Pulled) (text : List ℕ) (fields : List (List ℕ)) (why : PullFault) → IsBounded old.pull old.keeping
     → HasRead text fields old → LooksFor old.place old.pull false mid
-    → HasRoom (due old.place) → Refuses mid (due old.place).size why new → (told_as why ≡ faults.NoMemory → is_fixed old.place ≡ false) → Says (told_as why) text new.failed new.source
+    → HasRoom (expected old.place) → Refuses mid (expected old.place).size why new → (reported_as why ≡ faults.NoMemory → is_fixed old.place ≡ false) → Says (reported_as why) text new.failed new.source
 says_cut old mid new text fields pulls.EndsEarly bounded h looks room r late = says_early old mid new text fields bounded h looks room r
 says_cut old mid new text fields pulls.TooLong bounded h looks room r late = says_long old mid new text fields bounded h looks room r
 says_cut old mid new text fields pulls.Read bounded h looks room r late =
     says_read old mid new text fields bounded h looks.bytes looks.taken looks.limit_is room r
-says_cut old mid new text fields pulls.NoMemory bounded h looks room r late = says_starved old new text fields faults.NoMemory h (late refl) refl r.misses.tells
+says_cut old mid new text fields pulls.NoMemory bounded h looks room r late = says_starved old new text fields faults.NoMemory h (late refl) refl r.misses.reports
 
 -- a field that was not taken
 pub missed_says : (old : Position) (mid new : Pulled) (fault : KrlFault) → IsBounded old.pull old.keeping
@@ -176,22 +176,22 @@ pub missed_says : (old : Position) (mid new : Pulled) (fault : KrlFault) → IsB
 missed_says old mid new fault bounded looks (room_missed full is same) late text fields h =
     let le : length (concat fields) ≤ limit = omega (arith, bounded.within, h.taken_is) in
     says_as faults.Length fault text new.failed new.source is
-    (first (told_there text fields old h (Some faults.Length) le (no_room full refl)) (ap (λ p. p.failed) same ∙ looks.works))
+    (first (reported_there text fields old h (Some faults.Length) le (no_room full refl)) (ap (λ p. p.failed) same ∙ looks.works))
 missed_says old mid new fault bounded looks (cut why room r is) late text fields h =
-    says_as (told_as why) fault text new.failed new.source is (says_cut old mid new text fields why bounded h looks room r (λ e. late (is ∙ e)))
+    says_as (reported_as why) fault text new.failed new.source is (says_cut old mid new text fields why bounded h looks room r (λ e. late (is ∙ e)))
 
 -- a field that was refused
 pub refused_says : (old : Position) (mid new : Pulled) (field : List ℕ) (fault : KrlFault) → IsBounded old.pull old.keeping
-    → LooksFor old.place old.pull false mid → Takes mid field new → HasRoom (due old.place) → length field ≡ (due old.place).size
-    → ((fault ≡ faults.NoMemory) × (is_fixed old.place ≡ false)) ⊎ ((due old.place).judged field ≡ Err fault) → Refused fault old new
+    → LooksFor old.place old.pull false mid → Takes mid field new → HasRoom (expected old.place) → length field ≡ (expected old.place).size
+    → ((fault ≡ faults.NoMemory) × (is_fixed old.place ≡ false)) ⊎ ((expected old.place).judged field ≡ Err fault) → Refused fault old new
 refused_says old mid new field fault bounded looks takes room size (inl none) text fields h = says_starved old new text fields fault h none.1 none.0 takes.working
 refused_says old mid new field fault bounded looks takes room size (inr judged) text fields h =
     let left = keeps_some (left_of old.pull) (left_of mid) h.rest h.left_is looks.bytes in
     let after = consumes_some (left_of mid) (left_of new) h.rest field left takes.bytes in
     let within : length (concat fields) + length field ≤ limit = omega (arith, takes.within, looks.taken, looks.limit_is, bounded.limit_is, h.taken_is) in
     let front : take (limit - length (concat fields)) h.rest ≡ field ++ take (limit - length (concat fields) - length field) after.0 =
-    ap (take (limit - length (concat fields))) after.2 ∙ take-behind field after.0 (limit - length (concat fields)) (omega arith) in
-    first (told_there text fields old h (Some fault) (omega arith)
+    ap (take (limit - length (concat fields))) after.2 ∙ take-after field after.0 (limit - length (concat fields)) (omega arith) in
+    first (reported_there text fields old h (Some fault) (omega arith)
     (refused field (take (limit - length (concat fields) - length field) after.0) fault room front size judged refl)) takes.working
 
 -- ---- one field more
@@ -203,22 +203,22 @@ pub one_more : (old : Position) (mid new : Pulled) (place : Place) (keeping : Ke
 one_more old mid new place keeping field faultless looks takes passes bytes keeps text fields h =
     let left = keeps_some (left_of old.pull) (left_of mid) h.rest h.left_is looks.bytes in
     let after = consumes_some (left_of mid) (left_of new) h.rest field left takes.bytes in
-    let pass : Passes h.spot.place field place = subst (λ (p : Place). Passes p field place) h.place_is passes in
+    let pass : Passes h.state.place field place = subst (λ (p : Place). Passes p field place) h.place_is passes in
     let joined : concat (fields ++ field ∷ []) ≡ concat fields ++ field = concat-append fields (field ∷ []) ∙ ap (λ (l : List ℕ). concat fields ++ l) (append-nil field) in
     let place_is = h.place_is in
     let authority_is = h.authority_is in
     let header_is = h.header_is in
-    let named : names old.place old.keeping.authority field ≡ names h.spot.place h.spot.authority field = cc in
-    let authority : authority_after old.place old.keeping.authority field ≡ authority_after h.spot.place h.spot.authority field = cc in
-    let header : header_after old.place old.keeping.header field ≡ header_after h.spot.place h.spot.header field = cc in (
+    let named : names old.place old.keeping.authority field ≡ names h.state.place h.state.authority field = cc in
+    let authority : authority_after old.place old.keeping.authority field ≡ authority_after h.state.place h.state.authority field = cc in
+    let header : header_after old.place old.keeping.header field ≡ header_after h.state.place h.state.header field = cc in (
       field,
       record {
-        spot = spot_after h.spot field place;
-        leads = Leads-push start h.spot fields field place h.leads pass;
+        state = state_after h.state field place;
+        leads = Leads-push start h.state fields field place h.leads pass;
         place_is = refl;
         authority_is = keeps.authority_is ∙ authority;
         header_is = keeps.header_is ∙ header;
-        kept = subst (λ n. IsKept keeping (h.spot.entries ++ n)) named (keeps.kept h.spot.entries h.kept);
+        kept = subst (λ n. IsKept keeping (h.state.entries ++ n)) named (keeps.kept h.state.entries h.kept);
         are_bytes = subst IsBytes (sym joined) (IsBytes-append (concat fields) field h.are_bytes bytes);
         rest = after.0;
         left_is = after.1;
@@ -250,7 +250,7 @@ keeps_refl (Some xs) = refl
 pub end_refused : (old : Position) (new : Pulled) (fault : KrlFault) → IsBounded old.pull old.keeping → fault ≡ faults.Read
     → can_end old.place ≡ true → Refuses old.pull 1 pulls.Read new → Refused fault old new
 end_refused old new fault bounded is may r text fields h =
-    let one : (due old.place).size ≡ 1 = end_size old.place may in
-    let refuses : Refuses old.pull (due old.place).size pulls.Read new = subst (λ (n : ℕ). Refuses old.pull n pulls.Read new) (sym one) r in
+    let one : (expected old.place).size ≡ 1 = end_size old.place may in
+    let refuses : Refuses old.pull (expected old.place).size pulls.Read new = subst (λ (n : ℕ). Refuses old.pull n pulls.Read new) (sym one) r in
     says_as faults.Read fault text new.failed new.source is
     (says_read old old.pull new text fields bounded h (keeps_refl (left_of old.pull)) refl refl (end_room old.place may) refuses)

@@ -5,44 +5,44 @@ use Rattle.std.proofs.lemmas.List.{append-nil}
 use Rattle.std.proofs.lemmas.List.Folds.{concat-append}
 use Rattle.krl_core.specs.declared.krl_fault.KrlFault.{KrlFault}
 use Rattle.krl_core.specs.declared.place.Place.{Place}
-use Rattle.krl_core.specs.Front.{Spot, Passes, spot_after, Leads, Told}
+use Rattle.krl_core.specs.Front.{State, Passes, state_after, Leads, Reported}
 
--- a row of whole fields leads from one spot to another, and leaves the rest of the bytes
-pub record Walks (spot : Spot) (bytes : List ℕ) (last : Spot) (rest : List ℕ) : Type 0 where
+-- a row of whole fields leads from one state to another, and leaves the rest of the bytes
+pub record Walks (state : State) (bytes : List ℕ) (last : State) (rest : List ℕ) : Type 0 where
   pub fields : List (List ℕ)
-  pub leads : Leads spot fields last
+  pub leads : Leads state fields last
   pub parts : bytes ≡ concat fields ++ rest
 
 -- it leads to a place where this is reported
-pub record EndsTold (spot : Spot) (bytes : List ℕ) (goes_on : Bool) (fault : Option KrlFault) : Type 0 where
-  pub last : Spot
+pub record EndsReported (state : State) (bytes : List ℕ) (goes_on : Bool) (fault : Option KrlFault) : Type 0 where
+  pub last : State
   pub rest : List ℕ
-  pub walks : Walks spot bytes last rest
-  pub told : Told last.place rest goes_on fault
+  pub walks : Walks state bytes last rest
+  pub reported : Reported last.place rest goes_on fault
 
-pub Leads-append : (p q r : Spot) (fields more : List (List ℕ)) → Leads p fields q → Leads q more r → Leads p (fields ++ more) r
-Leads-append p q r [] more h k = subst (λ (x : Spot). Leads x more r) (sym h) k
-Leads-append p q r (field ∷ fields) more h k = (h.0, (h.1.0, Leads-append (spot_after p field h.0) q r fields more h.1.1 k))
+pub Leads-append : (p q r : State) (fields more : List (List ℕ)) → Leads p fields q → Leads q more r → Leads p (fields ++ more) r
+Leads-append p q r [] more h k = subst (λ (x : State). Leads x more r) (sym h) k
+Leads-append p q r (field ∷ fields) more h k = (h.0, (h.1.0, Leads-append (state_after p field h.0) q r fields more h.1.1 k))
 
 -- one field more
-pub Leads-push : (p q : Spot) (fields : List (List ℕ)) (field : List ℕ) (next : Place) → Leads p fields q
-    → Passes q.place field next → Leads p (fields ++ field ∷ []) (spot_after q field next)
+pub Leads-push : (p q : State) (fields : List (List ℕ)) (field : List ℕ) (next : Place) → Leads p fields q
+    → Passes q.place field next → Leads p (fields ++ field ∷ []) (state_after q field next)
 Leads-push p q fields field next h k =
-    Leads-append p q (spot_after q field next) fields (field ∷ []) h (next, (k, refl))
+    Leads-append p q (state_after q field next) fields (field ∷ []) h (next, (k, refl))
 
-pub walks_none : (p : Spot) (bytes : List ℕ) → Walks p bytes p bytes
+pub walks_none : (p : State) (bytes : List ℕ) → Walks p bytes p bytes
 walks_none p bytes = record { fields = []; leads = refl; parts = refl }
 
 -- one whole field that passes its judgement
-pub walks_one : (p : Spot) (next : Place) (field rest : List ℕ) → Passes p.place field next
-    → Walks p (field ++ rest) (spot_after p field next) rest
+pub walks_one : (p : State) (next : Place) (field rest : List ℕ) → Passes p.place field next
+    → Walks p (field ++ rest) (state_after p field next) rest
 walks_one p next field rest pass = record {
   fields = field ∷ [];
   leads = (next, (pass, refl));
   parts = ap (λ (x : List ℕ). x ++ rest) (sym (append-nil field));
 }
 
-pub walks_then : (p q r : Spot) (a b c : List ℕ) → Walks p a q b → Walks q b r c → Walks p a r c
+pub walks_then : (p q r : State) (a b c : List ℕ) → Walks p a q b → Walks q b r c → Walks p a r c
 walks_then p q r a b c h k = record {
   fields = h.fields ++ k.fields;
   leads = Leads-append p q r h.fields k.fields h.leads k.leads;
@@ -50,12 +50,12 @@ walks_then p q r a b c h k = record {
       ∙ ap (λ (x : List ℕ). x ++ c) (sym (concat-append h.fields k.fields));
 }
 
-pub walks_from : (p q : Spot) (a b rest : List ℕ) → a ≡ b → Walks p b q rest → Walks p a q rest
+pub walks_from : (p q : State) (a b rest : List ℕ) → a ≡ b → Walks p b q rest → Walks p a q rest
 walks_from p q a b rest e w = subst (λ (x : List ℕ). Walks p x q rest) (sym e) w
 
-pub told_then : (p q : Spot) (a b : List ℕ) (goes_on : Bool) (fault : Option KrlFault) → Walks p a q b → EndsTold q b goes_on fault → EndsTold p a goes_on fault
-told_then p q a b goes_on fault h k =
-    record { last = k.last; rest = k.rest; walks = walks_then p q k.last a b k.rest h k.walks; told = k.told }
+pub reported_then : (p q : State) (a b : List ℕ) (goes_on : Bool) (fault : Option KrlFault) → Walks p a q b → EndsReported q b goes_on fault → EndsReported p a goes_on fault
+reported_then p q a b goes_on fault h k =
+    record { last = k.last; rest = k.rest; walks = walks_then p q k.last a b k.rest h k.walks; reported = k.reported }
 
-pub told_here : (p : Spot) (bytes : List ℕ) (goes_on : Bool) (fault : Option KrlFault) → Told p.place bytes goes_on fault → EndsTold p bytes goes_on fault
-told_here p bytes goes_on fault told = record { last = p; rest = bytes; walks = walks_none p bytes; told = told }
+pub reported_here : (p : State) (bytes : List ℕ) (goes_on : Bool) (fault : Option KrlFault) → Reported p.place bytes goes_on fault → EndsReported p bytes goes_on fault
+reported_here p bytes goes_on fault reported = record { last = p; rest = bytes; walks = walks_none p bytes; reported = reported }

@@ -48,17 +48,17 @@ whole_list text fields p sound h all may =
     let size : p.pull.taken ≡ length text = h.taken_is ∙ sym (ap length all) in
     let open_none : kept.closed ++ run_entries keeping.authority (open_run keeping) ≡ kept.closed =
     ap (λ (o : Option Span). kept.closed ++ run_entries keeping.authority (option_to_list o)) none ∙ append-nil kept.closed in
-    let same : NamesSame kept.closed h.spot.entries = subst (λ (xs : List Entry). NamesSame xs h.spot.entries) open_none kept.same in
+    let same : NamesSame kept.closed h.state.entries = subst (λ (xs : List Entry). NamesSame xs h.state.entries) open_none kept.same in
     record {
       fields = fields;
-      spot = h.spot;
+      state = h.state;
       leads = h.leads;
       text_is = all;
       within = omega (arith, size, sound.bounded.within);
       are_bytes = subst IsBytes (sym all) h.are_bytes;
       may_end = subst (λ (q : Place). can_end q ≡ true) h.place_is may;
       header_is = h.header_is;
-      means = same_meaning keeping.contents kept.closed h.spot.entries kept.means same;
+      means = same_meaning keeping.contents kept.closed h.state.entries kept.means same;
       held_is = omega (arith, sound.bounded.held_is, size);
       stored_is = omega (arith, sound.bounded.stored_is.now, size);
     }
@@ -69,8 +69,8 @@ whole_unfaulted text header contents h =
     let all : take limit text ≡ text = take_all limit text h.within in
     let off : ltb limit (length text) ≡ false = le-ltb limit (length text) h.within in
     first_fault_is text None (record {
-      last = h.spot;
+      last = h.state;
       rest = [];
       walks = record { fields = h.fields; leads = h.leads; parts = all ∙ h.text_is ∙ sym (append-nil (concat h.fields)) };
-      told = ended (h.may_end, refl) off refl;
+      reported = ended (h.may_end, refl) off refl;
     })

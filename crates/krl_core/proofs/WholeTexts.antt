@@ -39,8 +39,8 @@ header_front header o a b c d e f ha hb hc hd he hf =
     omega (arith, length-append f (string header.comment), length-append o (header_text header 0 []))
 
 -- what is put after nothing
-pub behind_none : (out new text : List ℕ) → out ≡ [] → new ≡ out ++ text → new ≡ text
-behind_none out new text none e = e ∙ ap (λ (t : List ℕ). t ++ text) none
+pub after_none : (out new text : List ℕ) → out ≡ [] → new ≡ out ++ text → new ≡ text
+after_none out new text none e = e ∙ ap (λ (t : List ℕ). t ++ text) none
 
 -- ---- the parts
 

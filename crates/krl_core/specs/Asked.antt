@@ -23,7 +23,7 @@ HoldsCert r cert =
     ⊎ (HoldsUnder r.sections [] cert.key_id cert.serial
     ⊎ HoldsUnder r.sections cert.authority cert.key_id cert.serial)
 
--- the value stands in the list between those whose bytes come before and after its own
+-- the value is in the list between those whose bytes come before and after its own
 pub record Stands {X : Type 0} (key : X → List ℕ) (xs : List X) (x : X) : Type 0 where
   pub front : List X
   pub back : List X

@@ -54,7 +54,7 @@ IsNamed r a = SomeSection (λ section. section.authority ≡ a) r.sections
 
 -- ---- the order of what is held
 
--- the spans are the runs of their serials, the IDs stand in order, and there is a span or an ID
+-- the spans are the runs of their serials, the IDs are in order, and there is a span or an ID
 pub record IsListed (section : Section) : Type 0 where
   pub runs : IsRuns section.spans
   pub serials : AreSerials section.spans

@@ -7,7 +7,7 @@ use Rattle.krl_core.specs.Krl.{SpelledSection, Certificates, Keys, Sha1s, Sha256
 use Rattle.krl_core.specs.Krl.{Extension, Subsection, Serials, Range, Bitmap, Ids}
 use Rattle.krl_core.specs.Krl.{SubsectionExtension}
 
--- what a part of an authority's section names
+-- what a subsection of an authority's section names
 abbrev pub subsection_entries : List ℕ → Subsection → List Entry
 subsection_entries authority (Serials numbers) = SerialsEntry authority numbers ∷ []
 subsection_entries authority (Range min max) = RangeEntry authority min max ∷ []

@@ -16,7 +16,7 @@ abbrev pub ids_of : Kept → List (List ℕ)
 ids_of (Few few) = texts_of few.items
 ids_of (Many map) = names_of map.value
 
--- those that lie in one vector stand in order
+-- those that lie in one vector are in order
 abbrev pub FewRise : Kept → Type 0
 FewRise (Few few) = RisesBy bytes_of few.items
 FewRise (Many map) = ⊤

@@ -40,7 +40,7 @@ InStep (places.Bitmap (bitmaps.Byte offset size left after)) bitmap =
     × (bitmap ≡ record {
       offset = offset;
       len = size;
-      due = left;
+      bytes_left = left;
       pending = bitmap.pending;
       fault = None;
     })
@@ -78,20 +78,20 @@ pub record KeepsField (place : Place) (field : List ℕ) (next : Place) (old new
   pub header_is : new.header ≡ header_after place old.header field
   pub in_step : InStep next new.bitmap
 
--- a byte of the bitmap is due, and this one has no fault
+-- a byte of the bitmap is left, and this one has no fault
 pub record TakesByte (bitmap : FedBitmap) (byte : ℕ) : Type 0 where
-  pub due : 0 < bitmap.due
+  pub bytes_left : 0 < bitmap.bytes_left
   pub good : (fault : BitFault) → HasFault bitmap byte fault → ⊥
 
 -- What a byte of the bitmap at hand names was added. After the last one no run is open.
 pub record KeepsBits (byte : ℕ) (last : Bool) (old new : Keeping) : Type 0 where
   pub kept : AddsEntries old
-      (BitmapEntry old.authority (base_of old.bitmap.offset old.bitmap.due) byte ∷ []) new
+      (BitmapEntry old.authority (base_of old.bitmap.offset old.bitmap.bytes_left) byte ∷ []) new
   pub authority_is : new.authority ≡ old.authority
   pub header_is : new.header ≡ old.header
   pub closed : last ≡ true → new.bitmap.pending ≡ None
   pub goes_on : last ≡ false → new.bitmap
-      ≡ record old.bitmap { due = old.bitmap.due - 1; pending = new.bitmap.pending }
+      ≡ record old.bitmap { bytes_left = old.bitmap.bytes_left - 1; pending = new.bitmap.pending }
 
 -- The same is kept, and no run is open.
 pub record Closes (old new : Keeping) : Type 0 where

@@ -5,7 +5,7 @@ use Rattle.std.specs.Int.{bit_at}
 use Rattle.ssh_wire.specs.Wire.{number, number_of, string, strings}
 use Rattle.krl_core.specs.declared.header.Header.{Header}
 
--- a part of a certificate section
+-- a subsection of a certificate section
 pub data Subsection : Type 0 where
   -- each of the serials
   Serials : (numbers : List ℕ) → Subsection
@@ -79,7 +79,7 @@ pub record SpellsExtension (content : List ℕ) : Type 0 where
   pub contents : List ℕ
   pub spelled : content ≡ string name ++ 0 ∷ string contents
 
--- the content of a part of a certificate section
+-- the content of a subsection of a certificate section
 abbrev pub SubsectionContent : List ℕ → Subsection → Type 0
 SubsectionContent content (Serials numbers) =
     (content ≡ numbers_text numbers) × AllByRecursion (λ n. n < 2 ^ 64) numbers

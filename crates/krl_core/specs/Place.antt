@@ -1,4 +1,4 @@
--- The places in a list where a field can be due, and the table of what is due at each
+-- The places in a list where a field can be expected, and the table of what is expected at each
 -- (PROTOCOL.krl).
 use Rattle.std.specs.Prelude.{ℕ, zero, suc, ◌+◌, ◌-◌, ◌*◌, ◌%◌, ◌==◌, nat_lt, nat_le, if◌then◌else◌}
 use Rattle.std.specs.Prelude.{Bool, true, false, not, List, [], ◌∷◌, Option, Some, None, Result, Ok}
@@ -30,10 +30,10 @@ use Rattle.krl_core.specs.Entry.{Entry, SerialsEntry, RangeEntry, BitmapEntry, I
 use Rattle.krl_core.specs.Entry.{Sha1Entry, Sha256Entry}
 use Rattle.krl_core.specs.Krl.{magic}
 
--- A field that is due: how many bytes it has; how many bytes what it stands in has left for it,
--- where it stands in something and no length before it has said how many; and what the whole field
--- is judged to be: the place after it, or why it is refused.
-pub record Due : Type 0 where
+-- A field that is expected: how many bytes it has; how many bytes what it is part of has left for
+-- it, where it is part of something and no length before it has said how many; and what the whole
+-- field is judged to be: the place after it, or why it is refused.
+pub record Expected : Type 0 where
   pub size : ℕ
   pub room : Option ℕ
   pub judged : List ℕ → Result Place KrlFault
@@ -44,27 +44,27 @@ judge good fault next = if good then Ok next else Err fault
 -- ---- kinds of fields
 
 -- a field that may be any bytes, as many as there is room for
-abbrev pub any_bytes : ℕ → Place → Due
+abbrev pub any_bytes : ℕ → Place → Expected
 any_bytes size next =
     record { size = size; room = None; judged = λ field. Ok next }
 
 -- a number that needs no room, judged by its value
-abbrev pub any_number : ℕ → (ℕ → Result Place KrlFault) → Due
+abbrev pub any_number : ℕ → (ℕ → Result Place KrlFault) → Expected
 any_number size judged = record {
   size = size;
   room = None;
   judged = λ field. judged (number_of field);
 }
 
--- the length of a string that stands in no other
-abbrev pub any_length : (ℕ → Place) → Due
+-- the length of a string that is part of no other
+abbrev pub any_length : (ℕ → Place) → Expected
 any_length next = any_number 4 (λ size. Ok (next size))
 
--- a length that is passed where what it stands in has as many bytes left after it
+-- a length that is passed where what it is part of has as many bytes left after it
 abbrev pub within : ℕ → (ℕ → Result Place KrlFault) → ℕ → Result Place KrlFault
 within left next size = if nat_lt (left - 4) size then Err faults.Length else next size
 
-abbrev pub length_within : ℕ → (ℕ → Result Place KrlFault) → Due
+abbrev pub length_within : ℕ → (ℕ → Result Place KrlFault) → Expected
 length_within left next = record {
   size = 4;
   room = Some left;
@@ -72,7 +72,7 @@ length_within left next = record {
 }
 
 -- a length that counts all that is left after it
-abbrev pub length_of_rest : ℕ → Place → Due
+abbrev pub length_of_rest : ℕ → Place → Expected
 length_of_rest left next = record {
   size = 4;
   room = Some left;
@@ -80,7 +80,7 @@ length_of_rest left next = record {
 }
 
 -- a number in what has as many bytes left
-abbrev pub number_within : ℕ → (ℕ → Place) → Due
+abbrev pub number_within : ℕ → (ℕ → Place) → Expected
 number_within left next = record {
   size = 8;
   room = Some left;
@@ -88,14 +88,14 @@ number_within left next = record {
 }
 
 -- a byte in what has as many bytes left
-abbrev pub byte_within : ℕ → (ℕ → Result Place KrlFault) → Due
+abbrev pub byte_within : ℕ → (ℕ → Result Place KrlFault) → Expected
 byte_within left judged = record {
   size = 1;
   room = Some left;
   judged = λ field. judged (number_of field);
 }
 
--- ---- what comes next where a part may be at its end
+-- ---- what comes next where a subsection may be at its end
 
 -- another subsection, or the end of the section
 abbrev pub next_subsection : ℕ → Place
@@ -110,7 +110,7 @@ abbrev pub next_serial : (left after : ℕ) → Place
 next_serial zero after = next_subsection after
 next_serial (suc left) after = places.Serials (serials.Serial (suc left) after)
 
--- `left` of the `size` bytes of a bitmap are due
+-- `left` of the `size` bytes of a bitmap remain
 abbrev pub next_bits : (offset size left after : ℕ) → Place
 next_bits offset size zero after = next_subsection after
 next_bits offset size (suc left) after = places.Bitmap (bitmaps.Byte offset size (suc left) after)
@@ -158,7 +158,7 @@ abbrev pub passes_end : ℕ → ℕ → Bool
 passes_end base byte =
     if byte == 0 then false else nat_le 18446744073709551616 (base + highest_bit byte)
 
--- what the lowest bit stands for of the byte of a bitmap of which `left` bytes are due
+-- what the lowest bit stands for of the byte of a bitmap of which `left` bytes remain
 abbrev pub base_of : (offset left : ℕ) → ℕ
 base_of offset left = offset + 8 * (left - 1)
 
@@ -173,118 +173,119 @@ bits_judged offset size left after byte =
     if left == size then (if nat_lt byte 128 then bits_within offset size left after byte
     else Err faults.BitmapNegative) else bits_within offset size left after byte
 
--- ---- the format's page as a table, part by part
+-- ---- the format as a table, section by section
 
-abbrev pub header_due : HeaderPlace → Due
-header_due headers.Magic = record {
+abbrev pub header_expected : HeaderPlace → Expected
+header_expected headers.Magic = record {
   size = 8;
   room = None;
   judged = λ field.
       judge (bytes_eq field magic) faults.Magic (places.Header headers.FormatVersion);
 }
-header_due headers.FormatVersion =
+header_expected headers.FormatVersion =
     any_number 4
     (λ version. judge (version == 1) faults.FormatVersion (places.Header headers.Version))
-header_due headers.Version = any_bytes 8 (places.Header headers.Date)
-header_due headers.Date = any_bytes 8 (places.Header headers.Flags)
-header_due headers.Flags = any_bytes 8 (places.Header headers.ReservedLength)
-header_due headers.ReservedLength = any_length (λ size. places.Header (headers.Reserved size))
-header_due (headers.Reserved size) = any_bytes size (places.Header headers.CommentLength)
-header_due headers.CommentLength = any_length (λ size. places.Header (headers.Comment size))
-header_due (headers.Comment size) = any_bytes size (places.SectionType false)
+header_expected headers.Version = any_bytes 8 (places.Header headers.Date)
+header_expected headers.Date = any_bytes 8 (places.Header headers.Flags)
+header_expected headers.Flags = any_bytes 8 (places.Header headers.ReservedLength)
+header_expected headers.ReservedLength = any_length (λ size. places.Header (headers.Reserved size))
+header_expected (headers.Reserved size) = any_bytes size (places.Header headers.CommentLength)
+header_expected headers.CommentLength = any_length (λ size. places.Header (headers.Comment size))
+header_expected (headers.Comment size) = any_bytes size (places.SectionType false)
 
-abbrev pub signature_due : SignaturePlace → Due
-signature_due signatures.KeyLength = any_length (λ size. places.Signature (signatures.Key size))
-signature_due (signatures.Key size) =
+abbrev pub signature_expected : SignaturePlace → Expected
+signature_expected signatures.KeyLength =
+    any_length (λ size. places.Signature (signatures.Key size))
+signature_expected (signatures.Key size) =
     any_bytes size (places.Signature signatures.SignatureLength)
-signature_due signatures.SignatureLength =
+signature_expected signatures.SignatureLength =
     any_length (λ size. places.Signature (signatures.Signature size))
-signature_due (signatures.Signature size) = any_bytes size (places.SectionType true)
+signature_expected (signatures.Signature size) = any_bytes size (places.SectionType true)
 
-abbrev pub list_due : ListPlace → Due
-list_due (lists.SectionLength kind) = any_length (λ size. next_item kind size 0)
-list_due (lists.IdsLength left) =
+abbrev pub list_expected : ListPlace → Expected
+list_expected (lists.SectionLength kind) = any_length (λ size. next_item kind size 0)
+list_expected (lists.IdsLength left) =
     length_within left (λ size. Ok (next_item kinds.Id size (left - 4 - size)))
-list_due (lists.ItemLength kind left after) =
+list_expected (lists.ItemLength kind left after) =
     length_within left
     (λ size. judge (size == item_size kind size) faults.HashLength
     (places.List (lists.Item kind size (left - 4 - size) after)))
-list_due (lists.Item kind size left after) =
+list_expected (lists.Item kind size left after) =
     any_bytes (item_size kind size) (next_item kind left after)
 
-abbrev pub certificates_due : CertificatesPlace → Due
-certificates_due certificates.SectionLength =
+abbrev pub certificates_expected : CertificatesPlace → Expected
+certificates_expected certificates.SectionLength =
     any_length (λ size. places.Certificates (certificates.AuthorityLength size))
-certificates_due (certificates.AuthorityLength left) =
+certificates_expected (certificates.AuthorityLength left) =
     length_within left
     (λ size. Ok (places.Certificates (certificates.Authority size (left - 4 - size))))
-certificates_due (certificates.Authority size after) =
+certificates_expected (certificates.Authority size after) =
     any_bytes size (places.Certificates (certificates.ReservedLength after))
-certificates_due (certificates.ReservedLength left) =
+certificates_expected (certificates.ReservedLength left) =
     length_within left
     (λ size. Ok (places.Certificates (certificates.Reserved size (left - 4 - size))))
-certificates_due (certificates.Reserved size after) = any_bytes size (next_subsection after)
-certificates_due (certificates.SubsectionType left) =
+certificates_expected (certificates.Reserved size after) = any_bytes size (next_subsection after)
+certificates_expected (certificates.SubsectionType left) =
     byte_within left (subsection_of_type (left - 1))
 
-abbrev pub serials_due : SerialsPlace → Due
-serials_due (serials.SerialsLength left) =
+abbrev pub serials_expected : SerialsPlace → Expected
+serials_expected (serials.SerialsLength left) =
     length_within left
     (λ size. judge (size % 8 == 0) faults.Length (next_serial size (left - 4 - size)))
-serials_due (serials.Serial left after) =
+serials_expected (serials.Serial left after) =
     number_within left (λ serial. next_serial (left - 8) after)
-serials_due (serials.RangeLength left) =
+serials_expected (serials.RangeLength left) =
     length_within left
     (λ size. judge (size == 16) faults.Length (places.Serials (serials.RangeMin (left - 4 - size))))
-serials_due (serials.RangeMin after) =
+serials_expected (serials.RangeMin after) =
     any_number 8 (λ min. Ok (places.Serials (serials.RangeMax min after)))
-serials_due (serials.RangeMax min after) =
+serials_expected (serials.RangeMax min after) =
     any_number 8 (λ max. judge (nat_le min max) faults.RangeReversed (next_subsection after))
 
-abbrev pub bitmap_due : BitmapPlace → Due
-bitmap_due (bitmaps.Length left) =
+abbrev pub bitmap_expected : BitmapPlace → Expected
+bitmap_expected (bitmaps.Length left) =
     length_within left (λ size. Ok (places.Bitmap (bitmaps.Offset size (left - 4 - size))))
-bitmap_due (bitmaps.Offset left after) =
+bitmap_expected (bitmaps.Offset left after) =
     number_within left (λ offset. places.Bitmap (bitmaps.Size offset (left - 8) after))
-bitmap_due (bitmaps.Size offset left after) =
+bitmap_expected (bitmaps.Size offset left after) =
     length_of_rest left (next_bits offset (left - 4) (left - 4) after)
-bitmap_due (bitmaps.Byte offset size left after) =
+bitmap_expected (bitmaps.Byte offset size left after) =
     any_number 1 (bits_judged offset size left after)
 
-abbrev pub extension_due : ExtensionPlace → Due
-extension_due extensions.SectionLength =
+abbrev pub extension_expected : ExtensionPlace → Expected
+extension_expected extensions.SectionLength =
     any_length (λ size. places.Extension (extensions.NameLength size 0))
-extension_due (extensions.SubsectionLength left) =
+extension_expected (extensions.SubsectionLength left) =
     length_within left
     (λ size. Ok (places.Extension (extensions.NameLength size (left - 4 - size))))
-extension_due (extensions.NameLength left after) =
+extension_expected (extensions.NameLength left after) =
     length_within left
     (λ size. Ok (places.Extension (extensions.Name size (left - 4 - size) after)))
-extension_due (extensions.Name size left after) =
+extension_expected (extensions.Name size left after) =
     any_bytes size (places.Extension (extensions.Critical left after))
-extension_due (extensions.Critical left after) =
+extension_expected (extensions.Critical left after) =
     byte_within left
     (λ critical. judge (critical == 0) faults.CriticalExtension
     (places.Extension (extensions.ContentsLength (left - 1) after)))
-extension_due (extensions.ContentsLength left after) =
+extension_expected (extensions.ContentsLength left after) =
     length_of_rest left (places.Extension (extensions.Contents (left - 4) after))
-extension_due (extensions.Contents size after) = any_bytes size (next_subsection after)
+extension_expected (extensions.Contents size after) = any_bytes size (next_subsection after)
 
-abbrev pub due : Place → Due
-due (places.Header at) = header_due at
-due (places.SectionType signed) = record {
+abbrev pub expected : Place → Expected
+expected (places.Header at) = header_expected at
+expected (places.SectionType signed) = record {
   size = 1;
   room = None;
   judged = λ field. section_of_type signed (number_of field);
 }
-due (places.Signature at) = signature_due at
-due (places.List at) = list_due at
-due (places.Certificates at) = certificates_due at
-due (places.Serials at) = serials_due at
-due (places.Bitmap at) = bitmap_due at
-due (places.Extension at) = extension_due at
+expected (places.Signature at) = signature_expected at
+expected (places.List at) = list_expected at
+expected (places.Certificates at) = certificates_expected at
+expected (places.Serials at) = serials_expected at
+expected (places.Bitmap at) = bitmap_expected at
+expected (places.Extension at) = extension_expected at
 
--- whether the list may end where this is due
+-- whether the list may end where this is expected
 abbrev pub can_end : Place → Bool
 can_end (places.SectionType signed) = true
 can_end _ = false

@@ -17,11 +17,11 @@ use Rattle.krl_core.specs.declared.header.Header.{Header}
 use Rattle.krl_core.specs.Contents.{Contents, Means, held, stored}
 use Rattle.krl_core.specs.Entries.{entries_of}
 use Rattle.krl_core.specs.Krl.{SpelledSection, Spells}
-use Rattle.krl_core.specs.Front.{Spot, start, Leads, Passes, HasRoom, IsFirstFault, limit}
+use Rattle.krl_core.specs.Front.{State, start, Leads, Passes, HasRoom, IsFirstFault, limit}
 use Rattle.krl_core.specs.Keeping.{InStep, IsKept, Keeping, StoresWithin, held_with_open}
-use Rattle.krl_core.specs.Place.{can_end, due}
+use Rattle.krl_core.specs.Place.{can_end, expected}
 
--- the reader, the place where the next field is due, what is kept, whether the list's end was
+-- the reader, the place where the next field is expected, what is kept, whether the list's end was
 -- found, and the fault that was met
 pub record Position : Type 0 where
   pub pull : Pulled
@@ -38,12 +38,12 @@ working pull place keeping =
 -- These fields of the text were read and no others: they lead to this position, what is kept means
 -- what they name, and the reader has the rest of the text left.
 pub record HasRead (text : List ℕ) (fields : List (List ℕ)) (position : Position) : Type 0 where
-  pub spot : Spot
-  pub leads : Leads start fields spot
-  pub place_is : position.place ≡ spot.place
-  pub authority_is : position.keeping.authority ≡ spot.authority
-  pub header_is : position.keeping.header ≡ spot.header
-  pub kept : IsKept position.keeping spot.entries
+  pub state : State
+  pub leads : Leads start fields state
+  pub place_is : position.place ≡ state.place
+  pub authority_is : position.keeping.authority ≡ state.authority
+  pub header_is : position.keeping.header ≡ state.header
+  pub kept : IsKept position.keeping state.entries
   pub are_bytes : IsBytes (concat fields)
   pub rest : List ℕ
   pub left_is : left_of position.pull ≡ Some rest
@@ -65,7 +65,7 @@ pub record Follows (old new : Position) : Type 0 where
   pub taken : new.pull.taken ≡ old.pull.taken + length field
   pub within : new.pull.taken ≤ limit
 
--- The list is at its end: the end is due, and no byte is left.
+-- The list is at its end: the end is expected, and no byte is left.
 pub record Ends (old new : Position) : Type 0 where
   pub may_end : can_end new.place ≡ true
   pub at_end : IsAtEnd (left_of new.pull)
@@ -73,14 +73,14 @@ pub record Ends (old new : Position) : Type 0 where
       → HasRead text fields new × (text ≡ concat fields)
 
 -- The reader failed when it had given the first bytes of the text and had these left. The bytes
--- that it gave end where a field or the end is due.
+-- that it gave end where a field or the end is expected.
 pub record FailsAfter (text : List ℕ) (failed : Bool) (left : Option (List ℕ)) : Type 0 where
   pub given : List ℕ
   pub later : List ℕ
   pub parts : text ≡ given ++ later
   pub left_is : left ≡ Some later
   pub failed_is : failed ≡ true
-  pub told : IsFirstFault given None ⊎ IsFirstFault given (Some EndsEarly)
+  pub reported : IsFirstFault given None ⊎ IsFirstFault given (Some EndsEarly)
 
 -- Read is reported exactly where the reader failed.
 abbrev pub ReportsFailure : {A : Type 0} → Result A KrlFault → Bool → Type 0
@@ -112,11 +112,11 @@ Refused fault old new =
     → Says fault text new.failed new.source
 
 -- what a fault of a reader is reported as
-abbrev pub told_as : PullFault → KrlFault
-told_as pulls.EndsEarly = EndsEarly
-told_as pulls.TooLong = TooLong
-told_as pulls.Read = Read
-told_as pulls.NoMemory = NoMemory
+abbrev pub reported_as : PullFault → KrlFault
+reported_as pulls.EndsEarly = EndsEarly
+reported_as pulls.TooLong = TooLong
+reported_as pulls.Read = Read
+reported_as pulls.NoMemory = NoMemory
 
 -- ---- the parts of a step
 
@@ -130,13 +130,13 @@ pub record LooksFor (place : Place) (old : Pulled) (ended : Bool) (new : Pulled)
   pub at_end : ended ≡ true → (can_end place ≡ true) × IsAtEnd (left_of new)
   pub goes_on : ended ≡ false → can_end place ≡ true → IsSome new.ahead
 
--- why a field that was due was not taken
+-- why a field that was expected was not taken
 pub data Missed (place : Place) (old : Pulled) (fault : KrlFault) (new : Pulled) : Type 0 where
-  -- what it stands in has not as many bytes left
-  no_room : (HasRoom (due place) → ⊥) → fault ≡ Length → new ≡ old → Missed place old fault new
+  -- what it is part of has not as many bytes left
+  no_room : (HasRoom (expected place) → ⊥) → fault ≡ Length → new ≡ old → Missed place old fault new
   -- the reader gave less
-  cut : (why : PullFault) → HasRoom (due place) → Refuses old (due place).size why new
-      → fault ≡ told_as why → Missed place old fault new
+  cut : (why : PullFault) → HasRoom (expected place) → Refuses old (expected place).size why new
+      → fault ≡ reported_as why → Missed place old fault new
 
 -- What is held and stored is within what was taken, which is within the limit.
 pub record IsBounded (pull : Pulled) (keeping : Keeping) : Type 0 where
@@ -145,7 +145,7 @@ pub record IsBounded (pull : Pulled) (keeping : Keeping) : Type 0 where
   pub held_is : held_with_open keeping ≤ 4 * pull.taken
   pub stored_is : StoresWithin keeping pull.taken
 
--- The end of the list was found: it is due, no byte is left, and no fault was met.
+-- The end of the list was found: it is expected, no byte is left, and no fault was met.
 pub record IsEnded (position : Position) : Type 0 where
   pub may_end : can_end position.place ≡ true
   pub at_end : IsAtEnd (left_of position.pull)
@@ -163,14 +163,14 @@ pub record IsReached (position : Position) : Type 0 where
 -- held are what they say.
 pub record IsWhole (text : List ℕ) (header : Header) (contents : Contents) : Type 0 where
   pub fields : List (List ℕ)
-  pub spot : Spot
-  pub leads : Leads start fields spot
+  pub state : State
+  pub leads : Leads start fields state
   pub text_is : text ≡ concat fields
   pub within : length text ≤ limit
   pub are_bytes : IsBytes text
-  pub may_end : can_end spot.place ≡ true
-  pub header_is : header ≡ spot.header
-  pub means : Means contents spot.entries
+  pub may_end : can_end state.place ≡ true
+  pub header_is : header ≡ state.header
+  pub means : Means contents state.entries
   pub held_is : held contents ≤ 4 * length text
   pub stored_is : stored contents ≤ length text
 

@@ -1,4 +1,4 @@
--- Values that stand by byte strings, each byte string once.
+-- Values by byte strings, each byte string once.
 use Rattle.std.specs.Prelude.{◌≡◌, ℕ, ◌<◌, ◌≤◌, ◌⊎◌, List, [], ◌∷◌, ◌++◌, length, map}
 use Rattle.std.specs.Prelude.{Option, Some, None}
 use Rattle.std.specs.Borrow.{Bor}
@@ -39,7 +39,7 @@ module _ {V : Type 0} where
     pub short : AllByRecursion (λ entry. length entry.0 ≤ 54) shorts
     pub long : AllByRecursion (λ entry. 54 < length entry.0) longs
 
-  -- another value stands by the byte string
+  -- the byte string has another value
   pub record Swaps (name : List ℕ) (was value : V) (old new : List (List ℕ × V)) : Type 0 where
     pub front : List (List ℕ × V)
     pub back : List (List ℕ × V)

@@ -130,7 +130,7 @@ pub(crate) fn subsection_of_type(left: u32, type_byte: u8) -> Result<Place, KrlF
     }
 }
 
-// Judges a byte of a bitmap, of whose `size` bytes `left` are due with it.
+// Judges a byte of a bitmap, of whose `size` bytes `left` remain, this one too.
 #[inline(always)]
 pub(crate) fn bits_judged(
     offset: u64,

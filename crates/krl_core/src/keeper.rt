@@ -99,7 +99,7 @@ impl<S: Spans> Keeper<S> {
         (header, self.held)
     }
 
-    /// Keeps what a field names, where it is due and passes its judgement.
+    /// Keeps what a field names, where it is expected and passes its judgement.
     #[inline(always)]
     pub fn keep(&mut self, place: Place, field: &[u8], next: Place) -> Result<(), AllocError>
         requires passes { Passes place field.now next }

@@ -3,7 +3,7 @@
 ghost use Rattle.std.specs.Prelude.{◌≡◌, Some};
 ghost use Rattle.krl_core.specs.KrlFault.{fault_number, fault_text};
 ghost use Rattle.krl_core.specs.declared.krl_fault.KrlFault.TheVariants.{NoMemory};
-ghost use Rattle.krl_core.specs.Reading.{told_as};
+ghost use Rattle.krl_core.specs.Reading.{reported_as};
 
 use ssh_wire::PullFault;
 use std::alloc::{AllocError, AllocFailed};
@@ -17,11 +17,11 @@ pub enum KrlFault {
     Magic,
     /// The format version is not 1.
     FormatVersion,
-    /// The bytes end where more are due.
+    /// The bytes end where more are expected.
     EndsEarly,
     /// A section has a type that is not known.
     UnknownSection,
-    /// A part of a certificate section has a type that is not known.
+    /// A subsection of a certificate section has a type that is not known.
     UnknownCertSection,
     /// A length does not fit what is left of its section or subsection.
     Length,
@@ -114,7 +114,7 @@ impl<T: Drop> From<AllocFailed<T>> for KrlFault {
 }
 
 impl From<PullFault> for KrlFault {
-    ghost from_gives = { λ why fault. fault ≡ told_as why };
+    ghost from_gives = { λ why fault. fault ≡ reported_as why };
 
     fn from(why: PullFault) -> KrlFault {
         match why {

@@ -7,7 +7,7 @@ mod written;
 
 pub use asked::revokes_what_is_meant;
 pub use lists::{
-    a_cut_ends_early, each_text_is_told, four_intervals_a_byte, no_fault_where_spelled,
+    a_cut_ends_early, each_text_is_judged, four_intervals_a_byte, no_fault_where_spelled,
     one_first_fault, one_front_begins_the_other, one_number_of_a_bitmap, one_spelling,
 };
 pub use naming::{entries_decide_what_is_held, meaning_decides_naming, naming_decides_meaning};

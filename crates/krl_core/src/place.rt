@@ -1,7 +1,7 @@
-// The places in a list where a field can be due (PROTOCOL.krl).
+// The places in a list where a field can be expected (PROTOCOL.krl).
 
 ghost use Rattle.std.specs.Prelude.{◌≡◌, ◌↔◌, IsTrue, length};
-ghost use Rattle.krl_core.specs.Place.{can_end, due};
+ghost use Rattle.krl_core.specs.Place.{can_end, expected};
 ghost use Rattle.krl_core.specs.Front.{HasRoom};
 
 mod bitmap;
@@ -24,7 +24,7 @@ pub use serials::SerialsPlace;
 pub use signature::SignaturePlace;
 
 /// What comes next in a list, of which the fields are read one after the other. `left` counts the
-/// bytes that are left of what the field stands in, with the field; `after` those of the section
+/// bytes that are left of what the field is part of, with the field; `after` those of the section
 /// after that. A bitmap's byte is a field.
 #[derive(Clone, Copy)]
 pub enum Place {
@@ -40,11 +40,11 @@ pub enum Place {
 }
 
 impl Place {
-    /// How many bytes the field has that is due, and how many what it stands in has left for it.
+    /// How many bytes the expected field has, and how many are left for it.
     #[inline(always)]
     fn size_and_room(self) -> (u32, Option<u32>)
-        ensures size { result.0 ≡ (due self).size }
-        ensures room { result.1 ≡ (due self).room }
+        ensures size { result.0 ≡ (expected self).size }
+        ensures room { result.1 ≡ (expected self).room }
     {
         match self {
             Place::Header(at) => at.size_and_room(),
@@ -58,18 +58,18 @@ impl Place {
         }
     }
 
-    /// How many bytes the field has that is due.
+    /// How many bytes the expected field has.
     #[inline(always)]
     pub fn size(self) -> u32
-        ensures { result ≡ (due self).size }
+        ensures { result ≡ (expected self).size }
     {
         self.size_and_room().0
     }
 
-    /// Whether what the field stands in has as many bytes left.
+    /// Whether what the field is part of has as many bytes left.
     #[inline(always)]
     pub fn has_room(self) -> bool
-        ensures { IsTrue result ↔ HasRoom (due self) }
+        ensures { IsTrue result ↔ HasRoom (expected self) }
     {
         match self.size_and_room() {
             (size, Some(left)) => left >= size,
@@ -88,12 +88,12 @@ impl Place {
         }
     }
 
-    /// Judges the whole field that was due: the place after it, or why it is refused.
+    /// Judges the whole field that was expected: the place after it, or why it is refused.
     #[inline(always)]
     pub fn after(self, field: &[u8]) -> Result<Place, KrlFault>
-        requires whole { length field.now ≡ (due self).size }
-        requires room { HasRoom (due self) }
-        ensures { result ≡ (due self).judged field.now }
+        requires whole { length field.now ≡ (expected self).size }
+        requires room { HasRoom (expected self) }
+        ensures { result ≡ (expected self).judged field.now }
     {
         match self {
             Place::Header(at) => at.after(field),

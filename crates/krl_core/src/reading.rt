@@ -9,7 +9,7 @@ ghost use Rattle.ssh_wire.specs.declared.pull_fault.PullFault.TheVariants as pul
 ghost use Rattle.krl_core.specs.declared.krl_fault.KrlFault.TheVariants.{NoMemory, Read};
 ghost use Rattle.krl_core.specs.Front.{HasRoom, Passes, limit};
 ghost use Rattle.krl_core.specs.Keeping.{GrowsWithin, InStep, KeepsField, held_with_open};
-ghost use Rattle.krl_core.specs.Place.{can_end, due};
+ghost use Rattle.krl_core.specs.Place.{can_end, expected};
 ghost use Rattle.krl_core.specs.Reading.{Ends, Follows, HasRead, IsBounded, IsReached, IsList};
 ghost use Rattle.krl_core.specs.Reading.{IsWhole, LooksFor, Missed, ReadsOneMore, Refused};
 ghost use Rattle.krl_core.specs.Reading.{ReportsFailure, is_fixed, working};
@@ -179,7 +179,7 @@ fn ends<R: Source + Drop>(pull: &mut Pull<R>, place: Place) -> Result<bool, KrlF
     Ok(pull.at_end()?)
 }
 
-// Takes the field that is due. A small one takes no memory.
+// Takes the expected field. A small one takes no memory.
 #[inline(always)]
 fn take<'a, R: Source + Drop>(
     pull: &mut Pull<R>,
@@ -189,10 +189,10 @@ fn take<'a, R: Source + Drop>(
 ) -> Result<&'a [u8], KrlFault>
     requires { pull.old.fault ≡ None }
     ensures ok { IfOk result (λ field. Takes pull.old field.now pull.new) }
-    ensures room { OnOk result (HasRoom (due place)) }
-    ensures size { IfOk result (λ field. length field.now ≡ (due place).size) }
+    ensures room { OnOk result (HasRoom (expected place)) }
+    ensures size { IfOk result (λ field. length field.now ≡ (expected place).size) }
     ensures err { IfErr result (λ fault. Missed place pull.old fault pull.new) }
-    ensures memory { IfErr result (λ fault. fault ≡ NoMemory → 32 < (due place).size) }
+    ensures memory { IfErr result (λ fault. fault ≡ NoMemory → 32 < (expected place).size) }
 {
     if !place.has_room() {
         return Err(KrlFault::Length);
@@ -210,8 +210,8 @@ fn take<'a, R: Source + Drop>(
 // Judges the field that was taken, keeps what it names, and answers the place after it.
 #[inline(always)]
 fn pass<S: Spans>(place: Place, keeper: &mut Keeper<S>, field: &[u8]) -> Result<Place, KrlFault>
-    requires room { HasRoom (due place) }
-    requires size { length field.now ≡ (due place).size }
+    requires room { HasRoom (expected place) }
+    requires size { length field.now ≡ (expected place).size }
     requires in_step { InStep place keeper.old.bitmap }
     ensures passes { IfOk result (λ next. Passes place field.now next) }
     ensures keeps { IfOk result (λ next.
@@ -219,7 +219,7 @@ fn pass<S: Spans>(place: Place, keeper: &mut Keeper<S>, field: &[u8]) -> Result<
     ensures bytes { IsBytes field.now }
     ensures grows { GrowsWithin (length field.now) keeper.old keeper.new }
     ensures err { IfErr result (λ fault. ((fault ≡ NoMemory) × (is_fixed place ≡ false))
-        ⊎ ((due place).judged field.now ≡ Err fault)) }
+        ⊎ ((expected place).judged field.now ≡ Err fault)) }
 {
     let next = place.after(field)?;
     keeper.keep(place, field, next)?;

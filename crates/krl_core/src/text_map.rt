@@ -1,4 +1,4 @@
-// Values that stand by byte strings, in order.
+// Values by byte strings, in order.
 ghost use Rattle.std.specs.Prelude.{◌≡◌, ◌<◌, ◌↔◌, [], MatchOption, Contains, IsTrue, OnOk, OnErr};
 ghost use Rattle.std.specs.Prelude.{Some, length, slice_get};
 ghost use Rattle.krl_core.specs.Asked.{Stands};
@@ -12,7 +12,7 @@ use std::collections::BTreeMap;
 use std::marker::Model;
 
 /// Values by byte strings. Short byte strings lie in place, since a search that follows a pointer
-/// for each key that it meets takes twice the time, and the others stand in a map of their own,
+/// for each key that it meets takes twice the time, and the others are in a map of their own,
 /// where a borrowed one is found without memory. Contracts see both as one list, in order.
 #[derive(Drop)]
 pub struct TextMap<V> {
@@ -49,7 +49,7 @@ impl<V> TextMap<V> {
         self.shorts.len() + self.longs.len()
     }
 
-    /// The value that stands by a byte string.
+    /// The value of a byte string.
     pub(crate) fn find(&self, bytes: &[u8]) -> Option<&V>
         ensures { MatchOption result (¬ Contains (names_of self.now) bytes.now)
             (λ value. Stands name_of self.now (bytes.now, value.now)) }
@@ -60,7 +60,7 @@ impl<V> TextMap<V> {
         self.longs.get(bytes)
     }
 
-    /// Whether a value stands by the byte string.
+    /// Whether the byte string has a value.
     pub(crate) fn has(&self, bytes: &[u8]) -> bool
         ensures { IsTrue result ↔ Contains (names_of self.now) bytes.now }
     {
@@ -83,7 +83,7 @@ impl<V> TextMap<V> {
         unreachable!()
     }
 
-    /// Lets a value stand by a byte string, in the place of the one that there was.
+    /// Gives a byte string a value, in place of the one that it had.
     pub(crate) fn put(&mut self, alloc: Global, bytes: &[u8], value: V) -> Result<(), AllocError>
     where
         V: Drop,

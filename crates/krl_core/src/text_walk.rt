@@ -1,4 +1,4 @@
-// A walk over values that stand by byte strings, in order.
+// A walk over values by byte strings, in order.
 ghost use Rattle.std.specs.Prelude.{◌≡◌, ◌∷◌, [], MatchOption, not};
 ghost use Rattle.std.specs.Ordering.{is_gt};
 ghost use Rattle.krl_core.specs.Rising.{bytes_cmp};

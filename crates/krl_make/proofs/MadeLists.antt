@@ -136,7 +136,7 @@ pub text_stops : (authority : Option (List ℕ)) (name text : List ℕ) (number 
     → StopsAt authority text number cause old new
     → IsStop (ender_of (cause_stop name number cause).cause) (λ at. name ≡ at) (text_entries authority name text) (cause_stop name number cause)
 text_stops authority name text number specs.NoMemory old new stops = (name, (refl, refl))
-text_stops authority name text number cause old new (told, adds) = rw told refl
+text_stops authority name text number cause old new (reported, adds) = rw reported refl
 
 nothing_before : (read : Result (List Entry) Stop) → read ≡ then_entries (Ok []) read
 nothing_before (Ok entries) = refl
@@ -243,8 +243,8 @@ made_written view name made contents (Ok text) adds (written, within, names) =
       names = λ olds means. names (olds ++ made.entries) (adds olds means);
     }
 made_written view name made contents (Err stop) adds (inl starved) = inl starved
-made_written view name made contents (Err stop) adds (inr (told, long)) =
-    inr (told, record { contents = contents; adds = adds; long = long })
+made_written view name made contents (Err stop) adds (inr (reported, long)) =
+    inr (reported, record { contents = contents; adds = adds; long = long })
 
 -- ---- the run
 
@@ -289,8 +289,8 @@ made_read : {X : Type 0} (view : X → List ℕ) (name : List ℕ) (given : Opti
 made_read view name given authority base files read made (Ok text) whole is = (made, (whole, is))
 made_read view name given authority base files read made (Err stop) whole (inl starved) =
     inl (rw starved (name, (new_list made whole refl, refl)))
-made_read view name given authority base files read made (Err stop) whole (inr (told, long)) =
-    inr (record { made = made; read_as = whole; long = long; stop_is = told })
+made_read view name given authority base files read made (Err stop) whole (inr (reported, long)) =
+    inr (record { made = made; read_as = whole; long = long; stop_is = reported })
 
 -- The list is written of what was held and of the files, or the run stops there.
 pub list_written : {X : Type 0} (view : X → List ℕ) (name : List ℕ) (given : Option ℕ) (authority : Authority File) (moment : ℕ) (base : Base) (files : List File) (version : ℕ) (signer : Option (List ℕ)) (result : Result X Stop)

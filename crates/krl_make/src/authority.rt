@@ -16,7 +16,7 @@ pub type Authority<'a> = krl_job::Authority<Named<'a>>;
 /// The same, with the blob of the key.
 pub type Signer = krl_job::Authority<Bytes>;
 
-/// What lines stand under.
+/// The authority that lines are under.
 pub fn under(signer: &Signer) -> Under<'_>
     requires { IsSigner signer.now }
     ensures authority { authority_under result ≡ signer_authority signer.now }

@@ -9,8 +9,8 @@ ghost use Rattle.key_files.specs.Stop.{krl_cause};
 ghost use Rattle.key_files.specs.Stop.{stop_of};
 ghost use Rattle.krl_make.specs.declared.base.Base.{Base as BaseOf};
 
-use krl_core::{Header, Revocations, read_krl};
 use key_files::{RunFault, cause_of};
+use krl_core::{Header, Revocations, read_krl};
 use serial_set::Held;
 use ssh_wire::{Bytes, Source};
 use std::alloc::Global;

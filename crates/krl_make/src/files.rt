@@ -4,8 +4,8 @@ ghost use Rattle.std.specs.Prelude.{◌≡◌, Ok};
 ghost use Rattle.krl_make.specs.Making.{AddsFiles, IsFileAtHand, cause_stop, file_entries, files_entries, text_entries};
 ghost use Rattle.krl_spec.specs.Entry.{IsUnder, authority_under};
 
-use krl_core::Revocations;
 use key_files::{Cause, Named, RunFault};
+use krl_core::Revocations;
 use krl_spec::{SpecCause, SpecFault, Under, read_spec};
 use serial_set::Spans;
 use std::alloc::Global;

@@ -30,7 +30,7 @@ none_least = record {
   preferred = λ other c. subst (λ (o : List Group). Prefers [] o) (sym (none_first other c.is_plan)) tt;
 }
 
--- what the runs after the first so many ones cost at least
+-- what the runs after this many at the front cost at least
 abbrev pub AreCosts : List Span → List ℕ → Type 0
 AreCosts runs costs = (k : ℕ) → k ≤ length runs → IsLeastCost (drop k runs) (slice_index costs k)
 

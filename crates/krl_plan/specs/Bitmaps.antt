@@ -15,11 +15,11 @@ abbrev pub last_of : List Span → ℕ
 last_of [] = 0
 last_of (run ∷ runs) = end_of run runs
 
--- the first so many runs may be a bitmap
+-- this many runs at the front may be a bitmap
 abbrev pub IsMap : List Span → ℕ → Type 0
 IsMap runs count = IsGroup runs (record { sort = Bitmap; count = count })
 
--- the first so many runs may be a bitmap, and the serial after the last leaves this remainder
+-- this many runs at the front may be a bitmap, and the serial after the last leaves this remainder
 pub record IsMapOf (runs : List Span) (remainder count : ℕ) : Type 0 where
   pub is_map : IsMap runs count
   pub leaves : (last_of (take count runs) + 1) % 8 ≡ remainder

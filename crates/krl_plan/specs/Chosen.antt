@@ -81,7 +81,7 @@ best_below costs runs cell r rests b [] p =
     let within = b.is_candidate.is_group.within in
     absurd (omega arith)
 best_below costs runs cell r rests b (group ∷ groups) p =
-    let behind = IsLeastCost.below (rest_of costs runs group r rests p.0) groups p.1 in
+    let after = IsLeastCost.below (rest_of costs runs group r rests p.0) groups p.1 in
     elim (b.wins group p.0) [ inl lt ↦ omega arith | inr same ↦ omega arith ]
 
 -- the best cell's cost is the least of the runs
@@ -133,7 +133,7 @@ prefers costs runs cell rest r rests b chosen whole [] c =
     let none : length runs ≡ 0 = c.is_plan in
     absurd (omega arith)
 prefers costs runs cell rest r rests b chosen whole (group ∷ groups) c =
-    let behind = IsLeastCost.below (rest_of costs runs group r rests c.is_plan.0)
+    let after = IsLeastCost.below (rest_of costs runs group r rests c.is_plan.0)
     groups c.is_plan.1 in
     let most = c.least (cell.group ∷ rest) (b.is_candidate.is_group, chosen.is_cheapest.is_plan) in
     elim (b.wins group c.is_plan.0) [

@@ -73,7 +73,7 @@ string_ended before content out at e is =
     ap (λ (t : List ℕ). t ++ string (drop (at + 4) out)) front
     ∙ ap (λ (t : List ℕ). before ++ string t) back
 
--- what stands once all runs are put
+-- what is there once all runs are put
 pub all_listed : (runs : List Span) (i : ℕ) (before kept out : List ℕ) → length runs ≤ i
     → out ≡ kept ++ flat_map (number 8) (serials_of (take i runs))
     → kept ≡ before ++ number 4 0 → out ≡ (before ++ number 4 0) ++ flat_map (number 8)

@@ -8,7 +8,7 @@ use Rattle.krl_plan.specs.Plan.{IsGroup, serial_count}
 use Rattle.krl_plan.specs.Search.{rest_cost}
 use Rattle.krl_plan.specs.Window.{IsFilled}
 
--- the first so many runs may be a list
+-- this many runs at the front may be a list
 abbrev pub IsList : List Span → ℕ → Type 0
 IsList runs count = IsGroup runs (record { sort = Serials; count = count })
 

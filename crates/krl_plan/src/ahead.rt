@@ -36,7 +36,7 @@ impl Ahead {
         }
     }
 
-    // Sees that so many of the runs ahead are copied, or all that are left.
+    // Sees that this many of the runs ahead are copied, or all that are left.
     pub(crate) fn fill<S: Spans>(&mut self, set: &S, count: usize) -> Result<(), AllocError>
         ensures { (at : ℕ) → IsAhead (S.spans set.now) self.old at
             → OnOk result (IsAhead (S.spans set.now) self.new at

@@ -25,7 +25,7 @@ pub(crate) struct Lists {
 impl Lists {
     ghost use Rattle.krl_plan.specs.Lists.{IsList, IsListed};
 
-    // The lists of no run, where so many are to come. None has more than two serials.
+    // The lists of no run, where this many are to come. None has more than two serials.
     pub(crate) fn new(alloc: Global, runs: usize) -> Lists
         ensures { IsListed result runs [] [] }
     {

@@ -27,7 +27,7 @@ pub(crate) struct Table {
 impl Table {
     ghost use Rattle.krl_plan.specs.Table.{Knows};
 
-    // The table of no run, where so many are to come.
+    // The table of no run, where this many are to come.
     pub(crate) fn new(alloc: Global, runs: usize) -> Table
         ensures { Knows result runs [] }
     {

@@ -15,7 +15,7 @@ use Rattle.krl_runs.specs.Carries.{Carries}
 use Rattle.krl_runs.specs.declared.output.answer.Answer.{Answer}
 use Rattle.krl_runs.specs.Printer.{Printed}
 use Rattle.key_files.specs.Keys.{File as FileOf, Found, GivesKey, IsRefused, file_of, keys_of, stop_in}
-use Rattle.krl_runs.specs.Run.{IsWithheld, Item, Answered, Answering, Passed, Stopped, file_items, files_items, found_item, key_item, name_of, said, silence_of, subject_item, tells}
+use Rattle.krl_runs.specs.Run.{IsWithheld, Item, Answered, Answering, Passed, Stopped, file_items, files_items, found_item, key_item, name_of, said, unanswered_of, subject_item, is_answered}
 use Rattle.key_files.specs.Stop.{Stop, Ender, ByInput, ByMemory, ByOutput, ender_of, stop_of}
 use Rattle.krl_runs.proofs.Carrying.{carries_as, carries_more, carries_none, carries_then, carries_withheld}
 
@@ -49,7 +49,7 @@ blob_answered answer key asked plain is_asked is_plain = ap (subject_item answer
 
 pub key_answered : (answer : Answering) (key : Found) (any : AnyKey) (reply : Option Answer) → IsReadAs key.line.blob any → reply ≡ answer.say key.name key.number key.line (asked_of any) (plain_of any)
     → found_item answer (Ok key) ≡ said key.name reply
-key_answered answer key any reply is told = blob_answered answer key (asked_of any) (plain_of any) is.asked is.plain ∙ ap (said key.name) (sym told)
+key_answered answer key any reply is reported = blob_answered answer key (asked_of any) (plain_of any) is.asked is.plain ∙ ap (said key.name) (sym reported)
 
 -- a blob has a first fault
 pub blob_refused : (answer : Answering) (key : Found) (fault : SubjectFault) → subject_of key.line.blob ≡ Err fault → found_item answer (Ok key) ≡ Stopped (stop_in key fault)
@@ -57,18 +57,18 @@ blob_refused answer key fault is_fault = ap (subject_item answer key) is_fault
 
 -- ---- the keys of a file
 
-tells-append : (items more : List Item) → tells items || tells more ≡ tells (items ++ more)
-tells-append [] more = refl
-tells-append (Answered name answer ∷ items) more = refl
-tells-append (Passed name ∷ items) more = tells-append items more
-tells-append (Stopped stop ∷ items) more = refl
+is_answered-append : (items more : List Item) → is_answered items || is_answered more ≡ is_answered (items ++ more)
+is_answered-append [] more = refl
+is_answered-append (Answered name answer ∷ items) more = refl
+is_answered-append (Passed name ∷ items) more = is_answered-append items more
+is_answered-append (Stopped stop ∷ items) more = refl
 
 -- All the items are those that were said so far and those of the keys that are left.
-pub record IsReached (answer : Answering) (items : List Item) (left : List (Result Found Stop)) (told : Bool) (old now : Printed) : Type 0 where
+pub record IsReached (answer : Answering) (items : List Item) (left : List (Result Found Stop)) (reported : Bool) (old now : Printed) : Type 0 where
   pub done : List Item
   pub parts : items ≡ done ++ map (found_item answer) left
   pub carried : Carries done (Ok (tt {0})) old now
-  pub any : told ≡ tells done
+  pub any : reported ≡ is_answered done
 
 -- the items of a file are those of its keys, and its end
 abbrev pub key_items : Answering → FileOf → List Item
@@ -78,23 +78,23 @@ pub none_reached : (answer : Answering) (file : FileOf) (now : Printed) → IsRe
 none_reached answer file now = record { done = []; parts = refl; carried = carries_none tt now; any = refl }
 
 -- the item of the next key is said
-pub key_said : {A : Type 0} (answer : Answering) (items : List Item) (next : Result Found Stop) (left : List (Result Found Stop)) (told : Bool) (value : A) (old now new : Printed)
-    → IsReached answer items (next ∷ left) told old now → Carries (found_item answer next ∷ []) (Ok value) now new
-    → IsReached answer items left (told || tells (found_item answer next ∷ [])) old new
-key_said answer items next left told value old now new reached carries =
+pub key_said : {A : Type 0} (answer : Answering) (items : List Item) (next : Result Found Stop) (left : List (Result Found Stop)) (reported : Bool) (value : A) (old now new : Printed)
+    → IsReached answer items (next ∷ left) reported old now → Carries (found_item answer next ∷ []) (Ok value) now new
+    → IsReached answer items left (reported || is_answered (found_item answer next ∷ [])) old new
+key_said answer items next left reported value old now new reached carries =
     let item = found_item answer next in
     record {
       done = reached.done ++ item ∷ [];
       parts = reached.parts ∙ sym (append_assoc reached.done (item ∷ []) (map (found_item answer) left));
       carried = carries_then reached.done (item ∷ []) tt (Ok tt) old now new reached.carried (carries_as (item ∷ []) (Ok value) (Ok tt) now new refl carries);
-      any = ap (λ (b : Bool). b || tells (item ∷ [])) reached.any ∙ tells-append reached.done (item ∷ []);
+      any = ap (λ (b : Bool). b || is_answered (item ∷ [])) reached.any ∙ is_answered-append reached.done (item ∷ []);
     }
 
 -- or ends the run
-pub key_stops : {A B : Type 0} (answer : Answering) (items : List Item) (next : Result Found Stop) (left : List (Result Found Stop)) (told : Bool) (stop : Stop) (old now new : Printed)
-    → IsReached answer items (next ∷ left) told old now → Carries {A = A} (found_item answer next ∷ []) (Err stop) now new
+pub key_stops : {A B : Type 0} (answer : Answering) (items : List Item) (next : Result Found Stop) (left : List (Result Found Stop)) (reported : Bool) (stop : Stop) (old now new : Printed)
+    → IsReached answer items (next ∷ left) reported old now → Carries {A = A} (found_item answer next ∷ []) (Err stop) now new
     → Carries {A = B} items (Err stop) old new
-key_stops {A} {B} answer items next left told stop old now new reached carries =
+key_stops {A} {B} answer items next left reported stop old now new reached carries =
     let item = found_item answer next in
     let later = map (found_item answer) left in
     let front = carries_then {B = A} reached.done (item ∷ []) tt (Err stop) old now new reached.carried carries in
@@ -106,10 +106,10 @@ refused_item answer ByInput next stop is = ap (found_item answer) is
 refused_item answer ByMemory next stop is = is ∙ ap (λ (name : List ℕ). stop_of name NoMemory) (sym (found_item-name answer next))
 refused_item answer (ByOutput count) next stop is = absurd is
 
-pub key_refused : {B : Type 0} (answer : Answering) (items : List Item) (next : Result Found Stop) (left : List (Result Found Stop)) (told : Bool) (stop : Stop) (old now : Printed)
-    → IsReached answer items (next ∷ left) told old now → GivesKey next (Err stop) → Carries {A = B} items (Err stop) old now
-key_refused {B} answer items next left told stop old now reached is =
-    key_stops {A = B} {B = B} answer items next left told stop old now now reached
+pub key_refused : {B : Type 0} (answer : Answering) (items : List Item) (next : Result Found Stop) (left : List (Result Found Stop)) (reported : Bool) (stop : Stop) (old now : Printed)
+    → IsReached answer items (next ∷ left) reported old now → GivesKey next (Err stop) → Carries {A = B} items (Err stop) old now
+key_refused {B} answer items next left reported stop old now reached is =
+    key_stops {A = B} {B = B} answer items next left reported stop old now now reached
     (carries_withheld (found_item answer next) stop now (refused_item answer (ender_of stop.cause) next stop is))
 
 -- ---- a file
@@ -119,13 +119,13 @@ pub file_stopped : {A : Type 0} (answer : Answering) (file : FileOf) (stop : Sto
     → Carries {A = A} (file_items answer file) (Err stop) old new
 unfolding file_items
 file_stopped {A} answer file stop old new carries =
-    carries_more {A = A} {B = A} (key_items answer file) (silence_of answer file.name (tells (key_items answer file))) stop old new carries
+    carries_more {A = A} {B = A} (key_items answer file) (unanswered_of answer file.name (is_answered (key_items answer file))) stop old new carries
 
 -- all keys are answered
-all_said : (answer : Answering) (items : List Item) (told : Bool) (old now : Printed) → IsReached answer items [] told old now → Carries items (Ok (tt {0})) old now × (told ≡ tells items)
-all_said answer items told old now reached =
+all_said : (answer : Answering) (items : List Item) (reported : Bool) (old now : Printed) → IsReached answer items [] reported old now → Carries items (Ok (tt {0})) old now × (reported ≡ is_answered items)
+all_said answer items reported old now reached =
     let same : items ≡ reached.done = reached.parts ∙ append-nil reached.done in
-    (subst (λ (xs : List Item). Carries xs (Ok (tt {0})) old now) (sym same) reached.carried, reached.any ∙ ap tells (sym same))
+    (subst (λ (xs : List Item). Carries xs (Ok (tt {0})) old now) (sym same) reached.carried, reached.any ∙ ap is_answered (sym same))
 
 -- and something is said of the file
 pub file_ends : (answer : Answering) (file : FileOf) (old now : Printed) → IsReached answer (key_items answer file) [] true old now → Carries (file_items answer file) (Ok (tt {0})) old now
@@ -133,19 +133,19 @@ unfolding file_items
 file_ends answer file old now reached =
     let items = key_items answer file in
     let whole = all_said answer items true old now reached in
-    let silence : Carries (silence_of answer file.name (tells items)) (Ok (tt {0})) now now = rw (sym whole.1) (carries_none tt now) in
-    carries_then items (silence_of answer file.name (tells items)) tt (Ok tt) old now now whole.0 silence
+    let unanswered : Carries (unanswered_of answer file.name (is_answered items)) (Ok (tt {0})) now now = rw (sym whole.1) (carries_none tt now) in
+    carries_then items (unanswered_of answer file.name (is_answered items)) tt (Ok tt) old now now whole.0 unanswered
 
 -- or nothing
-pub file_is_silent : {A : Type 0} (answer : Answering) (file : FileOf) (old now : Printed) → IsReached answer (key_items answer file) [] false old now
-    → Carries {A = A} (file_items answer file) (Err (stop_of file.name (File answer.silence))) old now
+pub file_is_unanswered : {A : Type 0} (answer : Answering) (file : FileOf) (old now : Printed) → IsReached answer (key_items answer file) [] false old now
+    → Carries {A = A} (file_items answer file) (Err (stop_of file.name (File answer.unanswered))) old now
 unfolding file_items
-file_is_silent {A} answer file old now reached =
+file_is_unanswered {A} answer file old now reached =
     let items = key_items answer file in
-    let stop = stop_of file.name (File answer.silence) in
+    let stop = stop_of file.name (File answer.unanswered) in
     let whole = all_said answer items false old now reached in
-    let silence : Carries {A = A} (silence_of answer file.name (tells items)) (Err stop) now now = rw (sym whole.1) (carries_withheld (Stopped stop) stop now refl) in
-    carries_then items (silence_of answer file.name (tells items)) tt (Err stop) old now now whole.0 silence
+    let unanswered : Carries {A = A} (unanswered_of answer file.name (is_answered items)) (Err stop) now now = rw (sym whole.1) (carries_withheld (Stopped stop) stop now refl) in
+    carries_then items (unanswered_of answer file.name (is_answered items)) tt (Err stop) old now now whole.0 unanswered
 
 -- ---- files
 

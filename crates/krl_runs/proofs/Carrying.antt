@@ -30,7 +30,7 @@ carries_then xs ys value result old mid new first second = record {
   writer = second.writer ∙ first.writer;
 }
 
--- What stands after an end does not count.
+-- What is after an end does not count.
 ended_more : (ender : Ender) (before : Option (List ℕ)) (items more : List Item) (stop : Stop) (now : Printed) → IsEnded ender before items stop now → IsEnded ender before (items ++ more) stop now
 ended_more (ByOutput count) before items more stop now p =
     record { said = p.said; later = p.later ++ more; parts = ap (λ (xs : List Item). xs ++ more) p.parts ∙ append_assoc p.said p.later more; unstopped = p.unstopped; cut_off = p.cut_off }

@@ -56,7 +56,7 @@ whole_by ByInput run before stop old new kept p sent =
     let whole = ap outcome_of p.parts ∙ outcome_of-append p.said (Stopped stop ∷ p.later) p.has_said.added.unstopped in
     let text : (outcome_of run).text ≡ (outcome_of p.said).text = ap (λ (o : Outcome). o.text) whole ∙ append-nil (outcome_of p.said).text in
     record {
-      told = ap (λ (o : Outcome). o.stop) whole;
+      reported = ap (λ (o : Outcome). o.stop) whole;
       taken = subst (λ (t : List ℕ). Appends before new.taken t) (sym text) (taken_all before p.said old new p.has_said.added sent);
       working = sent.working;
     }
@@ -64,7 +64,7 @@ whole_by ByInput run before stop old new kept p sent =
 ends_whole : (run : List Item) (before : Option (List ℕ)) (stop : Option Stop) (old new : Printed) → is_lost stop ≡ false → Reaches before run stop old → IsSent old new → Ends run before new.taken new.failed (status_of (is_some stop) new.revoked) stop
 ends_whole run before None old new kept has sent =
     let revoked : new.revoked ≡ (outcome_of run).revoked = sent.revoked ∙ has.added.revoked in
-    (record { told = has.added.unstopped; taken = taken_all before run old new has.added sent; working = sent.working }, ap (status_of false) revoked)
+    (record { reported = has.added.unstopped; taken = taken_all before run old new has.added sent; working = sent.working }, ap (status_of false) revoked)
 ends_whole run before (Some stop) old new kept p sent = (whole_by (ender_of stop.cause) run before stop old new kept p sent, refl)
 
 -- the output works unless it ended the run

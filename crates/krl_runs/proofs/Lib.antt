@@ -4,4 +4,4 @@ pub mod Ending
 pub mod Answering
 pub mod Items
 pub mod Asking
-pub mod Telling
+pub mod Printing

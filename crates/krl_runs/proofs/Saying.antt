@@ -6,7 +6,7 @@ use Rattle.std.proofs.Math.Bool.{or-false, or_assoc}
 use Rattle.std.proofs.Math.Seq.{take-append-add}
 use Rattle.std.specs.Io.KnownBytes.{Appends}
 use Rattle.krl_runs.specs.declared.output.answer.Answer.{Answer}
-use Rattle.krl_runs.specs.Printer.{Printed, HasAdded, HasSaid, IsCut, IsSent, IsPartSent, and_answer, told_count}
+use Rattle.krl_runs.specs.Printer.{Printed, HasAdded, HasSaid, IsCut, IsSent, IsPartSent, and_answer, reported_count}
 use Rattle.krl_runs.specs.Run.{Item, Outcome, Answered, Passed, Stopped, before, outcome_of}
 use Rattle.key_files.specs.Stop.{Stop}
 
@@ -41,8 +41,8 @@ cut_of_front run said later before after count parts unstopped cut =
       short = omega (arith, length-append (outcome_of said).text (outcome_of later).text);
     })
 
-told_count-more : (a b : ℕ) → told_count (told_count a + b) ≡ told_count (a + b)
-told_count-more a b = omega arith
+reported_count-more : (a b : ℕ) → reported_count (reported_count a + b) ≡ reported_count (a + b)
+reported_count-more a b = omega arith
 
 -- An answer waits after what was said.
 pub added : (before : Option (List ℕ)) (said : List Item) (name : List ℕ) (answer : Answer) (old : Printed)
@@ -85,7 +85,7 @@ sent_all before items old new has sent =
         gone = has.gone ++ old.waiting;
         parts = has.parts ∙ sym (append-nil (has.gone ++ old.waiting)) ∙ ap (λ (xs : List ℕ). (has.gone ++ old.waiting) ++ xs) (sym none);
         taken = Appends-trans before old.taken new.taken has.gone old.waiting has.taken sent.taken;
-        counted = sent.counted ∙ ap (λ (n : ℕ). told_count (n + length old.waiting)) has.counted ∙ told_count-more (length has.gone) (length old.waiting) ∙ ap told_count (sym (length-append has.gone old.waiting));
+        counted = sent.counted ∙ ap (λ (n : ℕ). reported_count (n + length old.waiting)) has.counted ∙ reported_count-more (length has.gone) (length old.waiting) ∙ ap reported_count (sym (length-append has.gone old.waiting));
         revoked = sent.revoked ∙ has.revoked;
         working = sent.working;
       };
@@ -104,7 +104,7 @@ sent_part before items stop old new has part =
     let short = part.short in
     rw has.parts (record {
       gone = length has.gone + part.count;
-      counted = part.counted ∙ ap (λ (n : ℕ). told_count (n + part.count)) has.counted ∙ told_count-more (length has.gone) part.count;
+      counted = part.counted ∙ ap (λ (n : ℕ). reported_count (n + part.count)) has.counted ∙ reported_count-more (length has.gone) part.count;
       taken = subst (λ (t : List ℕ). Appends before new.taken t) (sym (take-append-add has.gone old.waiting part.count)) (Appends-trans before old.taken new.taken has.gone (take part.count old.waiting) has.taken part.taken);
       short = omega (arith, length-append has.gone old.waiting);
     })

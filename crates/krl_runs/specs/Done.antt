@@ -10,7 +10,7 @@ use Rattle.key_files.specs.Stop.{stop_of}
 -- All of the run's text was taken, and the run's own end is reported.
 pub record IsWhole (run : List Item) (before after : Option (List ℕ)) (failed : Bool)
     (stop : Option Stop) : Type 0 where
-  pub told : (outcome_of run).stop ≡ stop
+  pub reported : (outcome_of run).stop ≡ stop
   pub taken : Appends before after (outcome_of run).text
   pub working : failed ≡ false
 

@@ -33,7 +33,7 @@ list_line bits print comment kind =
     decimal bits
     ++ (codes " " ++ (print ++ (codes " " ++ (comment_or_none comment ++ kind_part kind))))
 
--- what stands after the kind of a certificate
+-- what is after the kind of a certificate
 abbrev pub certificate_mark : Option Names → List ℕ
 certificate_mark None = []
 certificate_mark (Some names) = codes "-CERT"
@@ -49,7 +49,7 @@ description hash line asked key =
 abbrev pub describe : Hash → Answering
 describe hash = record {
   say = λ name number line asked key. Some (description hash line asked key);
-  silence = files.NoKeys;
+  unanswered = files.NoKeys;
 }
 
 -- the name of a file and the number of a line
@@ -78,7 +78,7 @@ abbrev pub certify : Hash → ℕ → Answering
 certify hash moment = record {
   say = λ name number line asked key.
       certificate_answer hash moment name number (result_ok (certificate_at line.blob));
-  silence = files.NoCertificate;
+  unanswered = files.NoCertificate;
 }
 
 -- how keys, or certificates alone, are listed

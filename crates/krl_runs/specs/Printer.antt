@@ -37,13 +37,13 @@ abbrev pub chunk : ℕ
 chunk = 65536
 
 -- a count of bytes as it is reported: one past 2^64-1 as that number
-abbrev pub told_count : ℕ → ℕ
-told_count count = min count (2 ^ 64 - 1)
+abbrev pub reported_count : ℕ → ℕ
+reported_count count = min count (2 ^ 64 - 1)
 
 -- All that waited was sent.
 pub record IsSent (old new : Printed) : Type 0 where
   pub none_waits : new.waiting ≡ []
-  pub counted : new.sent ≡ told_count (old.sent + length old.waiting)
+  pub counted : new.sent ≡ reported_count (old.sent + length old.waiting)
   pub revoked : new.revoked ≡ old.revoked
   pub taken : Appends old.taken new.taken old.waiting
   pub working : new.failed ≡ false
@@ -52,7 +52,7 @@ pub record IsSent (old new : Printed) : Type 0 where
 pub record IsPartSent (stop : Stop) (old new : Printed) : Type 0 where
   pub count : ℕ
   pub short : count < length old.waiting
-  pub counted : new.sent ≡ told_count (old.sent + count)
+  pub counted : new.sent ≡ reported_count (old.sent + count)
   pub named : stop ≡ output_stop new.sent
   pub taken : Appends old.taken new.taken (take count old.waiting)
   pub broken : new.failed ≡ true
@@ -73,7 +73,7 @@ pub record HasAdded (before : Option (List ℕ)) (items : List Item) (now : Prin
   pub gone : List ℕ
   pub parts : (outcome_of items).text ≡ gone ++ now.waiting
   pub taken : Appends before now.taken gone
-  pub counted : now.sent ≡ told_count (length gone)
+  pub counted : now.sent ≡ reported_count (length gone)
   pub revoked : now.revoked ≡ (outcome_of items).revoked
   pub working : now.failed ≡ false
 
@@ -85,6 +85,6 @@ pub record HasSaid (before : Option (List ℕ)) (items : List Item) (now : Print
 -- A writer had taken some bytes before, and then the beginning of a text, but not all of it.
 pub record IsCut (text : List ℕ) (before after : Option (List ℕ)) (count : ℕ) : Type 0 where
   pub gone : ℕ
-  pub counted : count ≡ told_count gone
+  pub counted : count ≡ reported_count gone
   pub taken : Appends before after (take gone text)
   pub short : gone < length text

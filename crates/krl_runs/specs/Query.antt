@@ -41,7 +41,7 @@ answer_of contents name line asked =
 abbrev pub ask : Contents → Answering
 ask contents = record {
   say = λ name number line asked key. Some (answer_of contents name line asked);
-  silence = files.NoKeys;
+  unanswered = files.NoKeys;
 }
 
 -- The text is a list without a fault, this is known of it, and the answers are just those of what

@@ -39,7 +39,7 @@ pub record Answering : Type 0 where
   -- has none), what the line holds, what its blob asks of a list, and the plain key.
   pub say : List ℕ → Option ℕ → Content → Subject → Key → Option Answer
   -- the fault of a file of which nothing is said
-  pub silence : FileFault
+  pub unanswered : FileFault
 
 abbrev pub said : List ℕ → Option Answer → Item
 said name None = Passed name
@@ -68,23 +68,23 @@ abbrev pub container_item : Answering → List ℕ → Result Opened PrivateFaul
 container_item answer name read = found_item answer (container_found name read)
 
 -- something is said, or a fault ends the run
-abbrev pub tells : List Item → Bool
-tells [] = false
-tells (Answered name answer ∷ items) = true
-tells (Passed name ∷ items) = tells items
-tells (Stopped stop ∷ items) = true
+abbrev pub is_answered : List Item → Bool
+is_answered [] = false
+is_answered (Answered name answer ∷ items) = true
+is_answered (Passed name ∷ items) = is_answered items
+is_answered (Stopped stop ∷ items) = true
 
 -- a file of which nothing is said ends the run
-abbrev pub silence_of : Answering → List ℕ → Bool → List Item
-silence_of answer name true = []
-silence_of answer name false = Stopped (stop_of name (causes.File answer.silence)) ∷ []
+abbrev pub unanswered_of : Answering → List ℕ → Bool → List Item
+unanswered_of answer name true = []
+unanswered_of answer name false = Stopped (stop_of name (causes.File answer.unanswered)) ∷ []
 
-abbrev pub or_silence : Answering → List ℕ → List Item → List Item
-or_silence answer name items = items ++ silence_of answer name (tells items)
+abbrev pub or_unanswered : Answering → List ℕ → List Item → List Item
+or_unanswered answer name items = items ++ unanswered_of answer name (is_answered items)
 
 -- each key of a file is answered
 unfoldable pub file_items : Answering → File → List Item
-file_items answer file = or_silence answer file.name (map (found_item answer) (keys_of file))
+file_items answer file = or_unanswered answer file.name (map (found_item answer) (keys_of file))
 
 unfoldable pub files_items : Answering → List File → List Item
 files_items answer files = flat_map (file_items answer) files

@@ -43,7 +43,7 @@ remark_is (byte ∷ bytes) stops = elim (cases_Bool (byte == 35)) [
 
 -- ---- the ends
 
--- what stands behind the front is kept, and where nothing does, nothing is left
+-- what is after the front is kept, and where nothing does, nothing is left
 ends_gone : (front text back : List ℕ) → AllPass is_ending front → AllPass is_ending back → prefix_len is_ending text ≡ 0 → suffix_len is_ending text ≡ 0
     → before_ending (after_endings (front ++ (text ++ back))) ≡ text
 unfolding after_endings before_ending

@@ -34,7 +34,7 @@ rest_stops p (x ∷ xs) = elim (cases_Bool (p x)) [
 pub front_cut : (p : ℕ → Bool) (xs : List ℕ) → xs ≡ take (prefix_len p xs) xs ++ drop (prefix_len p xs) xs
 front_cut p xs = sym (take-append-drop (prefix_len p xs) xs)
 
--- what stands behind a front that passes
+-- what is after a front that passes
 pub front_gone : (p : ℕ → Bool) (xs ys : List ℕ) → AllPass p xs → prefix_len p ys ≡ 0 → drop (prefix_len p (xs ++ ys)) (xs ++ ys) ≡ ys
 front_gone p xs ys each stops = rw (front_more p xs ys each, stops) (drop_at xs ys (length xs + 0) (omega arith))
 
@@ -60,7 +60,7 @@ end_more : (p : ℕ → Bool) (xs ys : List ℕ) → AllPass p ys → suffix_len
 end_more p xs ys each =
     ap (prefix_len p) (reverse-append xs ys) ∙ front_more p (reverse ys) (reverse xs) (AllPass-reverse p ys each) ∙ ap (λ n. n + suffix_len p xs) (length-reverse ys)
 
--- what stands before the end that passes
+-- what is before the end that passes
 abbrev pub before_end : (ℕ → Bool) → List ℕ → List ℕ
 before_end p xs = take (length xs - suffix_len p xs) xs
 
@@ -105,22 +105,22 @@ none_ends p xs none = none_stops p (reverse xs) (AllPass-reverse (λ x. not (p x
 
 -- ---- a cut at the first that passes
 
-pub record IsCutAt (c : ℕ) (xs front behind : List ℕ) : Type 0 where
+pub record IsCutAt (c : ℕ) (xs front following : List ℕ) : Type 0 where
   pub before : before_first (λ x. x == c) xs ≡ front
   pub within : nat_lt (position_or_len (λ x. x == c) xs) (length xs) ≡ true
-  pub after : drop (position_or_len (λ x. x == c) xs + 1) xs ≡ behind
+  pub after : drop (position_or_len (λ x. x == c) xs + 1) xs ≡ following
 
 pub cut_again : (c : ℕ) (xs ys : List ℕ) → AllPass (λ x. not (x == c)) xs → IsCutAt c (xs ++ c ∷ ys) xs ys
 cut_again c xs ys each =
     let stops : prefix_len (λ x. not (x == c)) (c ∷ ys) ≡ 0 = rw (eq-eqb c c refl) refl in
     let place : position_or_len (λ x. x == c) (xs ++ c ∷ ys) ≡ length xs = front_more (λ x. not (x == c)) xs (c ∷ ys) each ∙ omega (arith, stops) in
     let inside : length xs < length (xs ++ c ∷ ys) = omega (arith, length-append xs (c ∷ ys)) in
-    let behind : drop (length xs + 1) (xs ++ c ∷ ys) ≡ ys =
+    let following : drop (length xs + 1) (xs ++ c ∷ ys) ≡ ys =
     ap (drop (length xs + 1)) (sym (append_assoc xs (c ∷ []) ys)) ∙ drop_at (xs ++ c ∷ []) ys (length xs + 1) (length_push xs c) in
     record {
       before = first_gone (λ x. x == c) xs (c ∷ ys) each stops;
       within = ap (λ n. nat_lt n (length (xs ++ c ∷ ys))) place ∙ lt-ltb (length xs) (length (xs ++ c ∷ ys)) inside;
-      after = ap (λ n. drop (n + 1) (xs ++ c ∷ ys)) place ∙ behind;
+      after = ap (λ n. drop (n + 1) (xs ++ c ∷ ys)) place ∙ following;
     }
 
 pub cut_found : (c : ℕ) (xs : List ℕ) → nat_lt (position_or_len (λ x. x == c) xs) (length xs) ≡ true

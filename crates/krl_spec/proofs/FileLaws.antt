@@ -64,11 +64,11 @@ lines_found authority laws number (line ∷ lines) fits =
 -- ---- what is named is read
 
 -- the entries of lines before others
-abbrev behind : List Entry → Named → Named
-behind entries named = record { entries = entries ++ named.entries; fault = named.fault }
+abbrev after : List Entry → Named → Named
+after entries named = record { entries = entries ++ named.entries; fault = named.fault }
 
 named_again : (authority : Option (List ℕ)) → LineLaws authority → (number : ℕ) (before rest : List (List ℕ)) (entries : List Entry) → All IsBytes (before ++ rest) → LinesName authority before entries
-    → lines_from authority number (before ++ rest) ≡ behind entries (lines_from authority (number + length before) rest)
+    → lines_from authority number (before ++ rest) ≡ after entries (lines_from authority (number + length before) rest)
 named_again authority laws number [] rest entries fits none =
     let place : number ≡ number + 0 = omega arith in
     rw none (ap (λ (n : ℕ). lines_from authority n rest) place)
@@ -77,15 +77,15 @@ named_again authority laws number (line ∷ before) rest entries fits (inl (pass
     let place : number + 1 + length before ≡ number + length (line ∷ before) = omega arith in
     ap (λ (r : Option (Result Entry SpecCause)). before_later number r (lines_from authority (number + 1) (before ++ rest))) ((laws.passed line).1 passed)
     ∙ later
-    ∙ ap (λ (n : ℕ). behind entries (lines_from authority n rest)) place
+    ∙ ap (λ (n : ℕ). after entries (lines_from authority n rest)) place
 named_again authority laws number (line ∷ before) rest entries fits (inr (entry, more, names, others, is)) =
     let later = named_again authority laws (number + 1) before rest more (All-tail IsBytes line (before ++ rest) fits) others in
     let place : number + 1 + length before ≡ number + length (line ∷ before) = omega arith in
     let read = (laws.read line entry (All-head IsBytes line (before ++ rest) fits)).1 names in
     ap (λ (r : Option (Result Entry SpecCause)). before_later number r (lines_from authority (number + 1) (before ++ rest))) read
     ∙ ap (λ (n : Named). before_later number (Some (Ok entry)) n) later
-    ∙ ap (λ (n : ℕ). behind (entry ∷ more) (lines_from authority n rest)) place
-    ∙ ap (λ (es : List Entry). behind es (lines_from authority (number + length (line ∷ before)) rest)) (sym is)
+    ∙ ap (λ (n : ℕ). after (entry ∷ more) (lines_from authority n rest)) place
+    ∙ ap (λ (es : List Entry). after es (lines_from authority (number + length (line ∷ before)) rest)) (sym is)
 
 ended_again : (authority : Option (List ℕ)) → LineLaws authority → (number : ℕ) (before rest : List (List ℕ)) (fault : Option SpecFault) → All IsBytes (before ++ rest) → EndsBy authority number rest fault
     → lines_from authority number rest ≡ record { entries = []; fault = fault }
@@ -100,5 +100,5 @@ lines_again authority laws number lines named fits is =
     let parts_fit : All IsBytes (is.before ++ is.rest) = subst (All IsBytes) is.parts fits in
     ap (lines_from authority number) is.parts
     ∙ named_again authority laws number is.before is.rest named.entries parts_fit is.entries
-    ∙ ap (behind named.entries) (ended_again authority laws (number + length is.before) is.before is.rest named.fault parts_fit is.ended)
+    ∙ ap (after named.entries) (ended_again authority laws (number + length is.before) is.before is.rest named.fault parts_fit is.ended)
     ∙ ap (λ (es : List Entry). record { entries = es; fault = named.fault }) (append-nil named.entries)

@@ -74,14 +74,14 @@ grown a size more old new fits grows =
 pub adds_more : {A : Type 0} (Weak Strong : Contents → Contents → Type 0) (read : Result Entry SpecCause) (result : Result A SpecCause) (old new : Contents)
     → (Weak old new → Strong old new) → Adds Weak read result old new → Adds Strong read result old new
 adds_more Weak Strong read (Ok done) old new more (entry, (is, (adds, (few, grows)))) = (entry, (is, (adds, (few, more grows))))
-adds_more Weak Strong read (Err cause) old new more told = told
+adds_more Weak Strong read (Err cause) old new more reported = reported
 
 pub line_grows : {A : Type 0} (a : List ℕ) (size : ℕ) (read : Option (Result Entry SpecCause)) (result : Result A SpecCause) (old new : Contents)
     → AddsLine (GrowsUnder a size) read result old new → GrowsUnder a size old new
 line_grows a size None (Ok done) old new same = rw same (none_grows a size old)
 line_grows a size None (Err cause) old new adds = absurd adds
 line_grows a size (Some read) (Ok done) old new (entry, (is, (adds, (few, grows)))) = grows
-line_grows a size (Some read) (Err cause) old new (told, same) = rw same (none_grows a size old)
+line_grows a size (Some read) (Err cause) old new (reported, same) = rw same (none_grows a size old)
 
 pub under_adds : {A : Type 0} (a : List ℕ) (size : ℕ) (read : Result Entry SpecCause) (result : Result A SpecCause) (old new : Contents)
     → Adds (Grows size) read result old new → Adds (GrowsUnder a size) read result old new

@@ -7,9 +7,9 @@ other_grows : (size : ℕ) (old new : Contents) → ((a : List ℕ) → IsNamed 
 other_grows size old new stays few authority n within = record {
   now = omega (arith, within.now);
   next = elim within.next [
-      | inl named ↦ inl (stays authority named)
-      | inr with_it ↦ inr (omega arith)
-    ];
+    | inl named ↦ inl (stays authority named)
+    | inr with_it ↦ inr (omega arith)
+  ];
 }
 
 pub other_id_grows : (authority id : List ℕ) (old new : Contents) → ((a : List ℕ) → IsNamed old a → IsNamed new a) → stored new ≤ stored old + length authority + length id → Grows (length authority + length id) old new

@@ -4,7 +4,7 @@ use Rattle.std.proofs.lemmas.List.{length-append}
 use Rattle.std.proofs.lemmas.Option.{same_Some}
 use Rattle.sha1.specs.Sha1.{sha1}
 use Rattle.sha2.specs.Sha256.{sha256}
-use Rattle.ssh_wire.specs.Digits.{IsBytes-behind, IsBytes-front, IsBytes-tail}
+use Rattle.ssh_wire.specs.Digits.{IsBytes-back, IsBytes-front, IsBytes-tail}
 use Rattle.ssh_wire.specs.Reading.{◌>>=◌, in_fault}
 use Rattle.ssh_wire.specs.Steps.{bind_ok, in_fault_err, in_fault_ok}
 use Rattle.ssh_wire.specs.Wire.{IsBytes}
@@ -194,12 +194,12 @@ bare_fault_met laws text cause fits is = rw ((laws.no_keys text cause fits).1 is
 
 counted_bytes : (line text : List ℕ) → Counts line text → IsBytes line → IsBytes text
 counted_bytes line text is fits =
-    IsBytes-front text (is.back ++ is.remark) (IsBytes-behind is.front (text ++ (is.back ++ is.remark)) (subst IsBytes is.spelled fits))
+    IsBytes-front text (is.back ++ is.remark) (IsBytes-back is.front (text ++ (is.back ++ is.remark)) (subst IsBytes is.spelled fits))
 
 given_bytes : (text : List ℕ) (directive : Directive) (given : List ℕ) → IsOrder text directive given → IsBytes text → IsBytes given
 given_bytes text directive given is fits =
-    let behind : IsBytes (58 ∷ (is.blanks ++ given)) = IsBytes-behind is.name (58 ∷ (is.blanks ++ given)) (subst IsBytes is.spelled fits) in
-    IsBytes-behind is.blanks given (IsBytes-tail 58 (is.blanks ++ given) behind)
+    let after : IsBytes (58 ∷ (is.blanks ++ given)) = IsBytes-back is.name (58 ∷ (is.blanks ++ given)) (subst IsBytes is.spelled fits) in
+    IsBytes-back is.blanks given (IsBytes-tail 58 (is.blanks ++ given) after)
 
 order_some : (text : List ℕ) (directive : Directive) (given : List ℕ) → IsOrder text directive given → 0 < length text
 order_some text directive given is = omega (arith, ap length is.spelled, length-append is.name (58 ∷ (is.blanks ++ given)))

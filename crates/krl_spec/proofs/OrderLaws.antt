@@ -104,16 +104,16 @@ unfolding order_in after_blanks
 order_found text found e = elim (cases_Bool (nat_lt (position_or_len is_colon text) (length text))) [
   | inl within ↦
       let name : List ℕ = before_first is_colon text in
-      let behind : List ℕ = drop (position_or_len is_colon text + 1) text in
-      let blanks : List ℕ = take (prefix_len is_blank behind) behind in
-      let read = mapped (after_blanks behind) (directive_named name) found (rw within at e) in
-      let is : IsOrder text found.directive (after_blanks behind) = record {
+      let following : List ℕ = drop (position_or_len is_colon text + 1) text in
+      let blanks : List ℕ = take (prefix_len is_blank following) following in
+      let read = mapped (after_blanks following) (directive_named name) found (rw within at e) in
+      let is : IsOrder text found.directive (after_blanks following) = record {
         name = name;
         blanks = blanks;
-        spelled = cut_found 58 text within ∙ ap (λ (xs : List ℕ). name ++ 58 ∷ xs) (front_cut is_blank behind);
+        spelled = cut_found 58 text within ∙ ap (λ (xs : List ℕ). name ++ 58 ∷ xs) (front_cut is_blank following);
         named = named_found found.directive name read.0;
-        are_blanks = front_passes is_blank behind;
-        bare = stops_bare (after_blanks behind) (rest_stops is_blank behind);
+        are_blanks = front_passes is_blank following;
+        bare = stops_bare (after_blanks following) (rest_stops is_blank following);
       } in
       subst (IsOrder text found.directive) read.1 is
   | inr none ↦ absurd (let h = rw none at e in cc)
@@ -124,10 +124,10 @@ unfolding order_in after_blanks
 order_again text directive given is =
     let clean = clean_in_case is.name (subst (AllPass no_colon) (sym is.named) (name_clean directive)) in
     let cut = rw (← is.spelled) at (cut_again 58 is.name (is.blanks ++ given) clean) in
-    let behind : after_blanks (drop (position_or_len is_colon text + 1) text) ≡ given =
+    let following : after_blanks (drop (position_or_len is_colon text + 1) text) ≡ given =
     ap after_blanks cut.after ∙ front_gone is_blank is.blanks given is.are_blanks (bare_stops given is.bare) in
     let named : directive_named (before_first is_colon text) ≡ Some directive = ap directive_named cut.before ∙ named_again directive is.name is.named in
-    rw (cut.within, named, behind) refl
+    rw (cut.within, named, following) refl
 
 pub none_or_order : (text : List ℕ) → (order_in text ≡ None) ⊎ ((found : Order) × (order_in text ≡ Some found))
 none_or_order text = by (order_in text) refl

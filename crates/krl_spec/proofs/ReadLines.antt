@@ -5,7 +5,7 @@ use Rattle.std.specs.List.{slice_split}
 use Rattle.krl_core.specs.Contents.{Contents, held}
 use Rattle.krl_core.specs.Entry.{Entry}
 use Rattle.krl_core.specs.Changes.{MeansMore}
-use Rattle.krl_spec.specs.Adding.{AddsLine, Tells}
+use Rattle.krl_spec.specs.Adding.{AddsLine, Reports}
 use Rattle.krl_spec.specs.Entry.{line_entry}
 use Rattle.krl_spec.specs.SpecFile.{Named, ReadsSpec, StarvesAt, StopsAt, before_later, lines_from, lines_of}
 use Rattle.ssh_key.specs.Lines.{is_newline}
@@ -125,11 +125,11 @@ front_is_few authority lines passed rest old new at =
     rw is (omega (arith, at.few, length-append e later.entries))
 
 -- The fault of a line is the first one.
-told : (authority : Option (List ℕ)) (text : List ℕ) (passed : ℕ) (line : List ℕ) (rest : List (List ℕ)) (old new : Contents) (cause : SpecCause)
+reported : (authority : Option (List ℕ)) (text : List ℕ) (passed : ℕ) (line : List ℕ) (rest : List (List ℕ)) (old new : Contents) (cause : SpecCause)
     → IsAt authority (slice_split is_newline text) passed (line ∷ rest) old new → line_entry authority line ≡ Some (Err cause)
     → ((lines_of authority text).fault ≡ Some (record { line = passed + 1; cause = cause })) × MeansMore old new (lines_of authority text).entries
 unfolding lines_of
-told authority text passed line rest old new cause at is =
+reported authority text passed line rest old new cause at is =
     let e = (lines_from authority 1 at.before).entries in
     let number : 1 + length at.before ≡ passed + 1 = omega (arith, at.counted) in
     let stop : Named = record { entries = []; fault = Some (record { line = passed + 1; cause = cause }) } in
@@ -152,15 +152,15 @@ starved authority lines passed line rest old new at = record {
 
 stops : (authority : Option (List ℕ)) (text : List ℕ) (passed : ℕ) (line : List ℕ) (rest : List (List ℕ)) (old new : Contents)
     (read : Result Entry SpecCause) (cause : SpecCause) → IsAt authority (slice_split is_newline text) passed (line ∷ rest) old new
-    → line_entry authority line ≡ Some read → Tells cause read → StopsAt authority text (passed + 1) cause old new
-stops authority text passed line rest old new read causes.NoMemory at is tells = starved authority _ passed line rest old new at
-stops authority text passed line rest old new read causes.Number at is tells = told authority text passed line rest old new _ at (is ∙ ap Some tells)
-stops authority text passed line rest old new read causes.Zero at is tells = told authority text passed line rest old new _ at (is ∙ ap Some tells)
-stops authority text passed line rest old new read causes.Reversed at is tells = told authority text passed line rest old new _ at (is ∙ ap Some tells)
-stops authority text passed line rest old new read causes.NoAuthority at is tells = told authority text passed line rest old new _ at (is ∙ ap Some tells)
-stops authority text passed line rest old new read causes.EmptyId at is tells = told authority text passed line rest old new _ at (is ∙ ap Some tells)
-stops authority text passed line rest old new read (causes.Key cause) at is tells = told authority text passed line rest old new _ at (is ∙ ap Some tells)
-stops authority text passed line rest old new read (causes.Fingerprint fault) at is tells = told authority text passed line rest old new _ at (is ∙ ap Some tells)
+    → line_entry authority line ≡ Some read → Reports cause read → StopsAt authority text (passed + 1) cause old new
+stops authority text passed line rest old new read causes.NoMemory at is reports = starved authority _ passed line rest old new at
+stops authority text passed line rest old new read causes.Number at is reports = reported authority text passed line rest old new _ at (is ∙ ap Some reports)
+stops authority text passed line rest old new read causes.Zero at is reports = reported authority text passed line rest old new _ at (is ∙ ap Some reports)
+stops authority text passed line rest old new read causes.Reversed at is reports = reported authority text passed line rest old new _ at (is ∙ ap Some reports)
+stops authority text passed line rest old new read causes.NoAuthority at is reports = reported authority text passed line rest old new _ at (is ∙ ap Some reports)
+stops authority text passed line rest old new read causes.EmptyId at is reports = reported authority text passed line rest old new _ at (is ∙ ap Some reports)
+stops authority text passed line rest old new read (causes.Key cause) at is reports = reported authority text passed line rest old new _ at (is ∙ ap Some reports)
+stops authority text passed line rest old new read (causes.Fingerprint fault) at is reports = reported authority text passed line rest old new _ at (is ∙ ap Some reports)
 
 stopped_by : (Stores : Contents → Contents → Type 0) (authority : Option (List ℕ)) (text : List ℕ) (passed : ℕ) (line : List ℕ) (rest : List (List ℕ)) (old mid new : Contents)
     (read : Option (Result Entry SpecCause)) (cause : SpecCause) → IsAt authority (slice_split is_newline text) passed (line ∷ rest) old mid
@@ -168,8 +168,8 @@ stopped_by : (Stores : Contents → Contents → Type 0) (authority : Option (Li
     → StopsAt authority text (passed + 1) cause old new × (held new ≤ held old + length (lines_of authority text).entries)
 unfolding lines_of
 stopped_by Stores authority text passed line rest old mid new None cause at is adds = absurd adds
-stopped_by Stores authority text passed line rest old mid new (Some read) cause at is (tells, same) =
-    rw same (stops authority text passed line rest old mid read cause at is tells, front_is_few authority _ passed (line ∷ rest) old mid at)
+stopped_by Stores authority text passed line rest old mid new (Some read) cause at is (reports, same) =
+    rw same (stops authority text passed line rest old mid read cause at is reports, front_is_few authority _ passed (line ∷ rest) old mid at)
 
 -- A line stops the reading, or memory runs out there.
 pub line_stops : (Stores : Contents → Contents → Type 0) (authority : Option (List ℕ)) (text : List ℕ) (passed : ℕ) (line : List ℕ) (rest : List (List ℕ)) (old mid new : Contents) (cause : SpecCause)

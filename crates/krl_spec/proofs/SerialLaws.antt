@@ -92,18 +92,18 @@ unfolding bounds_of_text before_blanks after_blanks
 bounds_found text found e = elim (cases_Bool (nat_lt (position_or_len is_hyphen text) (length text))) [
   | inl within ↦
       let front : List ℕ = before_first is_hyphen text in
-      let behind : List ℕ = drop (position_or_len is_hyphen text + 1) text in
+      let following : List ℕ = drop (position_or_len is_hyphen text + 1) text in
       let cut = end_cut is_blank front in
-      let parts : text ≡ front ++ 45 ∷ behind = cut_found 45 text within in
-      let whole : text ≡ (before_blanks front ++ cut.end) ++ 45 ∷ (take (prefix_len is_blank behind) behind ++ after_blanks behind) =
-      parts ∙ ap (λ (xs : List ℕ). xs ++ 45 ∷ behind) cut.parts ∙ ap (λ (xs : List ℕ). (before_blanks front ++ cut.end) ++ 45 ∷ xs) (front_cut is_blank behind) in
+      let parts : text ≡ front ++ 45 ∷ following = cut_found 45 text within in
+      let whole : text ≡ (before_blanks front ++ cut.end) ++ 45 ∷ (take (prefix_len is_blank following) following ++ after_blanks following) =
+      parts ∙ ap (λ (xs : List ℕ). xs ++ 45 ∷ following) cut.parts ∙ ap (λ (xs : List ℕ). (before_blanks front ++ cut.end) ++ 45 ∷ xs) (front_cut is_blank following) in
       let read = both_some _ _ found (rw within at e) in
-      two_numbers (before_blanks front) cut.end (take (prefix_len is_blank behind) behind) (after_blanks behind)
+      two_numbers (before_blanks front) cut.end (take (prefix_len is_blank following) following) (after_blanks following)
       (whole ∙ append_assoc (before_blanks front) cut.end _)
       cut.each
-      (front_passes is_blank behind)
+      (front_passes is_blank following)
       (number_found (before_blanks front) found.lo read.0)
-      (number_found (after_blanks behind) found.hi read.1)
+      (number_found (after_blanks following) found.hi read.1)
   | inr none ↦
       let read = both_some _ _ found (rw none at e) in
       one_number (number_found text found.lo read.0) (same_Some found.lo found.hi (sym read.0 ∙ read.1))
@@ -113,7 +113,7 @@ two_read : (text first last : List ℕ) (lo hi : ℕ) → nat_lt (position_or_le
     → before_blanks (before_first is_hyphen text) ≡ first → after_blanks (drop (position_or_len is_hyphen text + 1) text) ≡ last
     → number_of_text first ≡ Some lo → number_of_text last ≡ Some hi → bounds_of_text text ≡ Some (bounds lo hi)
 unfolding bounds_of_text
-two_read text first last lo hi within front behind a b = rw (within, front, behind, a, b) refl
+two_read text first last lo hi within front following a b = rw (within, front, following, a, b) refl
 
 pub bounds_again : (text : List ℕ) (lo hi : ℕ) → AreBounds text lo hi → bounds_of_text text ≡ Some (bounds lo hi)
 unfolding bounds_of_text before_blanks after_blanks

@@ -96,13 +96,13 @@ words_room line word blob comment words =
 
 has_words_room : (text word blob comment : List ℕ) → HasWords text word (base64 blob) comment → 4 * length blob + 24 ≤ 3 * length (trimmed text)
 has_words_room text word blob comment (inl words) = words_room (trimmed text) word blob comment words
-has_words_room text word blob comment (inr behind) =
+has_words_room text word blob comment (inr following) =
     omega (
       arith,
-      words_room behind.part word blob comment behind.are_words,
-      ap length behind.spelled,
-      length-append behind.options (behind.blanks ++ behind.part),
-      length-append behind.blanks behind.part,
+      words_room following.part word blob comment following.are_words,
+      ap length following.spelled,
+      length-append following.options (following.blanks ++ following.part),
+      length-append following.blanks following.part,
     )
 
 -- A line has room for its type word, a blank and the base64 of its key.

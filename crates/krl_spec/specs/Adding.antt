@@ -29,9 +29,9 @@ MayStarve (Ok found) = ⊤
 MayStarve (Err cause) = MayHide cause
 
 -- The cause is the one that was read, or memory ran out.
-abbrev pub Tells : {A : Type 0} → SpecCause → Result A SpecCause → Type 0
-Tells causes.NoMemory read = MayStarve read
-Tells cause read = read ≡ Err cause
+abbrev pub Reports : {A : Type 0} → SpecCause → Result A SpecCause → Type 0
+Reports causes.NoMemory read = MayStarve read
+Reports cause read = read ≡ Err cause
 
 -- What was read is added, and what is stored grows in a stated way. Else the cause is reported,
 -- and nothing changed.
@@ -40,7 +40,7 @@ abbrev pub Adds : {A : Type 0} → (Contents → Contents → Type 0) → Result
 Adds Stores read (Ok done) old new =
     (entry : Entry) × ((read ≡ Ok entry)
     × (MeansMore old new (entry ∷ []) × ((held new ≤ held old + 1) × Stores old new)))
-Adds Stores read (Err cause) old new = Tells cause read × (new ≡ old)
+Adds Stores read (Err cause) old new = Reports cause read × (new ≡ old)
 
 -- The same of a line, of which nothing need count.
 abbrev pub AddsLine : {A : Type 0} → (Contents → Contents → Type 0)

@@ -15,7 +15,7 @@ is_hash byte = byte == 35
 abbrev pub is_colon : ℕ → Bool
 is_colon byte = byte == 58
 
--- What counts of a line: neither a `#` nor what stands after it, nor the blanks and carriage
+-- What counts of a line: neither a `#` nor what is after it, nor the blanks and carriage
 -- returns at both ends.
 unfoldable pub bare_line : List ℕ → List ℕ
 bare_line line = before_ending (after_endings (before_first is_hash line))
@@ -47,7 +47,7 @@ pub record Order : Type 0 where
 abbrev pub order : List ℕ → Directive → Order
 order given directive = record { directive = directive; given = given }
 
--- The directive whose name stands before the first colon, and what stands after the colon and
+-- The directive whose name stands before the first colon, and what is after the colon and
 -- blanks.
 unfoldable pub order_in : List ℕ → Option Order
 order_in line =

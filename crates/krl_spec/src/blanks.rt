@@ -8,7 +8,7 @@ ghost use Rattle.krl_spec.specs.Line.{bare_line};
 
 use ssh_key::{before_ending, is_blank, is_ending};
 
-/// What counts of a line: neither a `#` nor what stands after it, nor the blanks and carriage
+/// What counts of a line: neither a `#` nor what is after it, nor the blanks and carriage
 /// returns at both ends.
 #[tactic(auto, unfolding(crate::specs::Line::bare_line))]
 pub fn bare_line(line: &[u8]) -> &[u8]
@@ -41,7 +41,7 @@ fn after_endings(text: &[u8]) -> &[u8]
     &[]
 }
 
-/// What stands before the blanks at the end.
+/// What is before the blanks at the end.
 #[tactic(auto, unfolding(crate::specs::Blanks::before_blanks))]
 pub fn before_blanks(text: &[u8]) -> &[u8]
     ensures { result.now ≡ before_blanks text.now }

@@ -65,7 +65,7 @@ impl Directive {
     }
 }
 
-/// The directive whose name stands before the line's first colon, and what it is given: what stands
+/// The directive whose name stands before the line's first colon, and what it is given: what is
 /// after the colon and blanks.
 #[tactic(auto, unfolding(crate::specs::Line::order_in))]
 pub fn order_in(line: &[u8]) -> Option<(Directive, &[u8])>

@@ -6,7 +6,7 @@ ghost use Rattle.ssh_key.specs.FingerprintReading.{fingerprint_at};
 ghost use Rattle.ssh_key.specs.LineReading.{content_of, line_at};
 ghost use Rattle.ssh_subject.specs.Subject.{Subject};
 ghost use Rattle.ssh_cert.specs.SubjectReading.{subject_of};
-ghost use Rattle.krl_spec.specs.Adding.{Tells};
+ghost use Rattle.krl_spec.specs.Adding.{Reports};
 ghost use Rattle.krl_spec.specs.Entry.{HasAuthority, line_cause, plain_in, subject_cause};
 ghost use Rattle.krl_spec.specs.Stored.{IsWithinBlob};
 ghost use Rattle.spec_fault.specs.declared.spec_cause.SpecCause.TheVariants.{Fingerprint};
@@ -19,7 +19,7 @@ use std::alloc::Global;
 
 /// What a key line holds.
 pub fn key_line<'a>(alloc: Global, text: &'a [u8]) -> Result<Line<'a>, SpecCause>
-    ensures read { Answers Tells content_of result (in_fault line_cause (line_at text.now)) }
+    ensures read { Answers Reports content_of result (in_fault line_cause (line_at text.now)) }
     ensures room { IfOk result (λ line. 4 * length line.blob + 24 ≤ 3 * length text.now) }
 {
     match read_line(alloc, text) {
@@ -31,7 +31,7 @@ pub fn key_line<'a>(alloc: Global, text: &'a [u8]) -> Result<Line<'a>, SpecCause
 
 /// What a key's blob asks.
 pub fn ask<'a>(alloc: Global, blob: &'a [u8]) -> Result<Subject<'a>, SpecCause>
-    ensures asked { Answers Tells (λ asked. asked) result
+    ensures asked { Answers Reports (λ asked. asked) result
         (in_fault subject_cause (subject_of blob.now)) }
     ensures authority { IfOk result (λ asked. HasAuthority asked.cert) }
     ensures room { IfOk result (λ asked. IsWithinBlob blob.now asked) }
@@ -46,7 +46,7 @@ pub fn ask<'a>(alloc: Global, blob: &'a [u8]) -> Result<Subject<'a>, SpecCause>
 /// The blob of the plain key of a key line.
 #[tactic(auto, unfolding(crate::specs::Entry::subject_in, crate::specs::Entry::plain_in))]
 pub fn plain_key(alloc: Global, text: &[u8]) -> Result<Bytes, SpecCause>
-    ensures read { Answers Tells (λ plain. plain) result (plain_in text.now) }
+    ensures read { Answers Reports (λ plain. plain) result (plain_in text.now) }
     ensures room { IfOk result (λ plain. length plain ≤ length text.now) }
     ensures least { IfOk result (λ plain. 32 ≤ length text.now) }
 {
@@ -57,7 +57,7 @@ pub fn plain_key(alloc: Global, text: &[u8]) -> Result<Bytes, SpecCause>
 
 /// The digest that a fingerprint names.
 pub fn read_hash(alloc: Global, text: &[u8]) -> Result<[u8; 32], SpecCause>
-    ensures read { Answers Tells (λ digest. digest) result
+    ensures read { Answers Reports (λ digest. digest) result
         (in_fault Fingerprint (fingerprint_at text.now)) }
     ensures room { IfOk result (λ digest. 32 ≤ length text.now) }
 {

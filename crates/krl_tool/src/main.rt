@@ -184,20 +184,20 @@ fn failed(name: &str, cause: Cause) -> Done<'_>
     stopped(RunFault::whole(name, cause))
 }
 
-/// Tells why the run stopped, if it did, and gives its status.
+/// Reports why the run stopped, if it did, and gives its status.
 fn end(rt: &HostRuntime, done: &Done) -> u8
     ensures { result ≡ done.now.status }
 {
     if let Some(fault) = &done.fault
         && let Ok(text) = fault_line(rt.alloc(), fault)
     {
-        tell(rt, text.as_slice());
+        report(rt, text.as_slice());
     }
     done.status
 }
 
 /// Prints a line on standard error. A fault of standard error cannot be reported.
-fn tell(rt: &HostRuntime, line: &[u8]) {
+fn report(rt: &HostRuntime, line: &[u8]) {
     let mut err = ToWrite::new(rt.stderr());
     if send(&mut err, line).is_ok() {
         let _ = send(&mut err, b"\n");

@@ -4,13 +4,13 @@ use std::fs::{self, File};
 use std::io;
 use std::os::fd::AsFd;
 
-/// What stands where a standard stream is closed. It gives no byte and takes none, as a closed
+/// What takes the place of a closed standard stream. It gives no byte and takes none, as a closed
 /// stream.
 pub const NOTHING: &str = "/";
 /// Linux's number of the error that a descriptor is not open, EBADF.
 const NOT_OPEN: i32 = 9;
 
-/// The files that stand in the places of closed streams, as long as this is held.
+/// The files that take the places of closed streams, as long as this is held.
 #[derive(Drop)]
 pub struct Places {
     input: Option<File>,

@@ -20,7 +20,7 @@ use Rattle.clap.proofs.WalkLemmas.{first_value-rows, raw_values-rows}
 use Rattle.krl_words.specs.declared.command.CommandFault.{CommandFault}
 use Rattle.krl_words.specs.declared.command.CommandFault.TheVariants.{Usage, Words, NoMemory}
 use Rattle.krl_job.specs.declared.job.Job.{Job}
-use Rattle.krl_words.specs.Command.{AsksFor, IsCommand, TellsError}
+use Rattle.krl_words.specs.Command.{AsksFor, IsCommand, ReportsError}
 use Rattle.krl_job.specs.Job.{job_of}
 use Rattle.krl_job.specs.Given.{Given}
 use Rattle.krl_words.specs.Options.{given_in, given_of, is_set, program}
@@ -68,11 +68,11 @@ asked_for words given (Err (Words help text)) free same asks = absurd asks
 asked_for words given (Err NoMemory) free same asks = tt
 
 -- why words are not read
-pub not_read : (words : List (List ℕ)) (e : Error) (fault : CommandFault) → HasKind (fault_of program words) e → TellsError e fault → IsCommand words (Err fault)
-not_read words e Usage kind tells = absurd tells
-not_read words e NoMemory kind tells = tt
-not_read words e (Words help text) kind tells = (kind_of e, among kind, tells.1)
+pub not_read : (words : List (List ℕ)) (e : Error) (fault : CommandFault) → HasKind (fault_of program words) e → ReportsError e fault → IsCommand words (Err fault)
+not_read words e Usage kind reports = absurd reports
+not_read words e NoMemory kind reports = tt
+not_read words e (Words help text) kind reports = (kind_of e, among kind, reports.1)
   where
     among : HasKind (fault_of program words) e → IsAmong (kind_of e) (fault_of program words)
-    among (inl starved) = absurd (tells.0 starved)
+    among (inl starved) = absurd (reports.0 starved)
     among (inr is) = is

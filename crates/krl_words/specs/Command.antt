@@ -45,11 +45,11 @@ AsksFor given (Err (Words help text)) = ⊥
 AsksFor given (Err NoMemory) = ⊤
 
 -- why words are not read
-abbrev pub TellsError : Error → CommandFault → Type 0
-TellsError error (Words help text) =
+abbrev pub ReportsError : Error → CommandFault → Type 0
+ReportsError error (Words help text) =
     (kind_of error ≢ OutOfMemory) × (help ≡ is_help (kind_of error))
-TellsError error Usage = ⊥
-TellsError error NoMemory = ⊤
+ReportsError error Usage = ⊥
+ReportsError error NoMemory = ⊤
 
 -- What comes of the words, the program's name before them: where they are read, the job that they
 -- ask for or Usage; else why they are not read.

@@ -3,7 +3,7 @@
 ghost use Rattle.std.specs.Prelude.{◌≡◌, map};
 ghost use Rattle.clap.specs.Matches.{found_of};
 ghost use Rattle.clap.specs.Walk.{rows_of};
-ghost use Rattle.krl_words.specs.Command.{AsksFor, IsCommand, TellsError, command_fault_number};
+ghost use Rattle.krl_words.specs.Command.{AsksFor, IsCommand, ReportsError, command_fault_number};
 ghost use Rattle.krl_words.specs.Options.{given_of};
 ghost use Rattle.krl_words.specs.declared.command.CommandFault.TheVariants.{NoMemory};
 
@@ -63,7 +63,7 @@ pub fn command_of<'a, S: AsStr>(alloc: Global, words: &'a [S]) -> Result<Job<'a>
 
 /// Why the words are not read, or the help that they ask for.
 fn words_fault(alloc: Global, error: &Error) -> CommandFault
-    ensures { TellsError error.now result }
+    ensures { ReportsError error.now result }
 {
     if error.kind() == ErrorKind::OutOfMemory {
         return CommandFault::NoMemory;

@@ -38,7 +38,7 @@ pub fn repeated(alloc: Global, bytes: &[u8], times: usize) -> Result<Vec<u8>, Al
     Ok(all)
 }
 
-/// A point of a curve in this many bytes: the first, which tells how it is spelled, and the others.
+/// A point of a curve in this many bytes: the first, which says how it is spelled, and the others.
 pub fn point(alloc: Global, size: usize, first: u8) -> Result<Vec<u8>, AllocError> {
     let mut bytes = vec![in alloc; 0x55; size]?;
     if let Some(front) = bytes.first_mut() {

@@ -1,10 +1,10 @@
-// Each call that allocates, with what it answers where there is memory, and what stands where it
+// Each call that allocates, with what it answers where there is memory, and what is left where it
 // was refused.
 
 mod answered;
+mod buffer;
 mod holding;
 mod keys;
-mod page;
 mod parts;
 mod puts;
 mod reading;

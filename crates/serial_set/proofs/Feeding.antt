@@ -137,9 +137,9 @@ fed_step : (before : FedBitmap) (byte : ℕ) (after : FedBitmap) (finished : Lis
     → Fed (lowest after) (number * 256 + byte) (count + 4) after.pending (reverse finished ++ z) × (after.offset ≡ before.offset)
 fed_step before byte after finished number count z h step fed =
     let same : after.offset ≡ before.offset = ap (λ (q : FedBitmap). q.offset) step.same_bitmap in
-    let due = step.one_less in
+    let bytes_left = step.one_less in
     let low : lowest before ≡ lowest after + 8 = omega arith in
-    let base : lowest after ≡ before.offset + 8 * (before.due - 1) = omega arith in
+    let base : lowest after ≡ before.offset + 8 * (before.bytes_left - 1) = omega arith in
     let fits : (s : ℕ) → BitNames (lowest after) byte s → s < 2 ^ 64 = λ s n. elim (cases_lt s (2 ^ 64)) [
       | inl below ↦ below
       | inr past ↦ absurd (no_past before before.fault byte refl step.no_fault (s, (past, subst (λ k. BitNames k byte s) base n)))
@@ -147,10 +147,10 @@ fed_step before byte after finished number count z h step fed =
     (fed_more (lowest after) number count byte before.pending after.pending finished z h (subst (λ k. Fed k number count before.pending z) low fed) step.runs step.goes_on step.ends fits step.four_more, same)
 
 fed_all : (before : FedBitmap) (bytes : List ℕ) (after : FedBitmap) (finished : List Span) (number count : ℕ) (z : List Span) → All (λ b. b < 256) bytes → FeedsAll before bytes after finished → Fed (lowest before) number count before.pending z
-    → Fed (lowest after) (number * 256 ^ length bytes + big_endian bytes) (count + 4 * length bytes) after.pending (reverse finished ++ z) × (after.due + length bytes ≡ before.due) × (after.offset ≡ before.offset)
+    → Fed (lowest after) (number * 256 ^ length bytes + big_endian bytes) (count + 4 * length bytes) after.pending (reverse finished ++ z) × (after.bytes_left + length bytes ≡ before.bytes_left) × (after.offset ≡ before.offset)
 fed_all before [] after finished number count z small path fed =
     let same : after.pending ≡ before.pending = ap (λ (q : FedBitmap). q.pending) path.0 in
-    let due : after.due ≡ before.due = ap (λ (q : FedBitmap). q.due) path.0 in
+    let bytes_left : after.bytes_left ≡ before.bytes_left = ap (λ (q : FedBitmap). q.bytes_left) path.0 in
     let offset : after.offset ≡ before.offset = ap (λ (q : FedBitmap). q.offset) path.0 in
     let none : z ≡ reverse finished ++ z = ap (λ (l : List Span). reverse l ++ z) (sym path.1) in
     (fed_same (lowest before) (lowest after) number _ count _ after.pending z _ (omega arith) (omega arith) (omega arith) none (subst (λ p. Fed (lowest before) number count p z) (sym same) fed), omega arith, offset)
@@ -178,7 +178,7 @@ nothing_fed n = record {
 }
 
 fed_from_start : (offset len : ℕ) (bytes : List ℕ) (after : FedBitmap) (finished : List Span) → All (λ b. b < 256) bytes → FeedsAll (start offset len) bytes after finished
-    → Fed (lowest after) (big_endian bytes) (4 * length bytes) after.pending (reverse finished) × (after.due + length bytes ≡ len) × (after.offset ≡ offset)
+    → Fed (lowest after) (big_endian bytes) (4 * length bytes) after.pending (reverse finished) × (after.bytes_left + length bytes ≡ len) × (after.offset ≡ offset)
 fed_from_start offset len bytes after finished small path =
     let whole = fed_all (start offset len) bytes after finished 0 0 [] small path (nothing_fed (offset + 8 * len)) in
     (fed_same (lowest after) (lowest after) _ _ _ _ after.pending _ _ refl (omega arith) (omega arith) (append-nil (reverse finished)) whole.0, whole.1, whole.2)
@@ -196,7 +196,7 @@ fed_serials offset len bytes after finished small path s n =
 pub fed_few : (offset len : ℕ) (bytes : List ℕ) (after : FedBitmap) (finished : List Span) → All (λ b. b < 256) bytes → FeedsAll (start offset len) bytes after finished → length (runs_after after finished) ≤ 4 * length bytes
 fed_few offset len bytes after finished small path = (fed_from_start offset len bytes after finished small path).0.few
 
-pub fed_place : (offset len : ℕ) (bytes : List ℕ) (after : FedBitmap) (finished : List Span) → All (λ b. b < 256) bytes → FeedsAll (start offset len) bytes after finished → (after.due + length bytes ≡ len) × (after.offset ≡ offset)
+pub fed_place : (offset len : ℕ) (bytes : List ℕ) (after : FedBitmap) (finished : List Span) → All (λ b. b < 256) bytes → FeedsAll (start offset len) bytes after finished → (after.bytes_left + length bytes ≡ len) × (after.offset ≡ offset)
 fed_place offset len bytes after finished small path =
     let whole = fed_from_start offset len bytes after finished small path in (whole.1, whole.2)
 

@@ -136,13 +136,13 @@ pub step_positive : (n : ℕ) (old : Option Span) (s : ℕ) → IsInStep n old �
 step_positive n None s h e = absurd e
 step_positive n (Some run) s h e = let whole : 0 < run.lo = h.1.0 in elim e [ inl here ↦ omega arith | inr later ↦ absurd later ]
 
-behind_pending : (p : Option Span) (rest : List Span) → IsRuns (option_to_list p ++ rest) → IsRuns rest
-behind_pending None rest r = r
-behind_pending (Some run) rest r = RunsFrom-weaker (run.hi + 2) 0 rest (omega arith) r.2
+after_pending : (p : Option Span) (rest : List Span) → IsRuns (option_to_list p ++ rest) → IsRuns rest
+after_pending None rest r = r
+after_pending (Some run) rest r = RunsFrom-weaker (run.hi + 2) 0 rest (omega arith) r.2
 
-named_behind : (p : Option Span) (rest : List Span) (s : ℕ) → Covers rest s → Covers (option_to_list p ++ rest) s
-named_behind None rest s n = n
-named_behind (Some run) rest s n = inr n
+named_after : (p : Option Span) (rest : List Span) (s : ℕ) → Covers rest s → Covers (option_to_list p ++ rest) s
+named_after None rest s n = n
+named_after (Some run) rest s n = inr n
 
 pub finished_runs : (p : Option Span) (f : List Span) → IsRuns (option_to_list p ++ reverse f) → ((s : ℕ) → Covers (option_to_list p ++ reverse f) s → 0 < s) → All IsInterval f
 finished_runs p f r positive k d h =
@@ -151,6 +151,6 @@ finished_runs p f r positive k d h =
     let within : place < length (reverse f) = omega arith in
     let turned : get_or (reverse f) place d ≡ get_or f k d =
     get_or-reverse f place d (omega arith) ∙ ap (λ i. get_or f i d) (omega arith) in
-    let rises = behind_pending p (reverse f) r in
-    let named = positive (get_or (reverse f) place d).lo (named_behind p (reverse f) _ (names_at 0 (reverse f) place d rises within)) in
+    let rises = after_pending p (reverse f) r in
+    let named = positive (get_or (reverse f) place d).lo (named_after p (reverse f) _ (names_at 0 (reverse f) place d rises within)) in
     subst IsInterval turned (named, (runs_at 0 (reverse f) place d rises within).1)

@@ -86,7 +86,7 @@ end_upto n (e ∷ []) h = All-head (λ t. hi_of t ≤ n) e [] h
 end_upto n (e ∷ (f ∷ es)) h =
     end_upto n (f ∷ es) (All-tail (λ t. hi_of t ≤ n) e (f ∷ es) h)
 
--- what stands after a list begins past its end
+-- what is after a list begins past its end
 pub entries_past : (a : ℕ) (xs ys : List Entry) → 0 < length xs → EntriesFrom a (xs ++ ys)
     → EntriesFrom (end_of xs + 1) ys
 entries_past a [] ys some r = absurd (omega arith)

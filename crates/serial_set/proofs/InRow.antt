@@ -33,7 +33,7 @@ pub order_page : (ps : List Page) (at : ℕ) (d : Page) → at < length ps → E
 order_page ps at d h r =
     entries_front 0 (entries_in (get_or ps at d)) (entries_of (drop (at + 1) ps)) (subst (EntriesFrom 0) (flat_drop entries_in ps at d h) (order_right 0 ps at r))
 
--- what stands after a page begins past its end
+-- what is after a page begins past its end
 pub past_page : (ps : List Page) (at : ℕ) (d : Page) → at < length ps → EntriesFrom 0 (entries_of ps)
     → All (λ e. end_of (entries_in (get_or ps at d)) + 1 ≤ lo_of e) (entries_of (drop (at + 1) ps))
 past_page ps at d h r =
@@ -95,7 +95,7 @@ fewer_pages P ps m n h all =
     subst (λ l. All P (entries_of l)) same
     (all_left P (entries_of (take m (take n ps))) (entries_of (drop m (take n ps))) (subst (All P) (flat_cut entries_in (take n ps) m) all))
 
--- what stands after the page for a number ends at the number or past it
+-- what is after the page for a number ends at the number or past it
 pub rest_after : (ps : List Page) (n at lo : ℕ) → EntriesFrom 0 (entries_of ps) → n ≤ length ps → All (λ p. lo ≤ end_of (entries_in p)) (drop n ps) → at ≡ min n (length ps - 1)
     → All (λ e. lo ≤ hi_of e) (entries_of (drop (at + 1) ps))
 rest_after [] n at lo r within ends is =
@@ -243,7 +243,7 @@ past_by a m (c ∷ cs) page rest few new hi order some ends were are above past 
     let later = all_right (λ e. hi_of c + 1 ≤ lo_of e) cs rest (entries_each (hi_of c + 1) (cs ++ rest) tail.1) in
     λ k d q. let at = later k d q in omega arith
 
--- a changed page that ends past a number had entries past it, and all that stands after is
+-- a changed page that ends past a number had entries past it, and all that is after is
 pub past_put : (page rest few new : List Entry) (lo hi : ℕ) → EntriesFrom 0 (page ++ rest) → 0 < length few → All (λ e. hi_of e ≤ hi) few → Replaces page lo hi few new → hi < end_of new → All (λ e. hi < lo_of e) rest
 past_put page rest few new lo hi order some ends r past = past_by r.front r.middle r.back page rest few new hi order some ends r.were r.are r.above past
 

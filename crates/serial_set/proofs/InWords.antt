@@ -51,7 +51,7 @@ replaced_only old news new lo hi s r n =
       | inl front ↦ inl (back (has_left r.front (r.middle ++ r.back) s front))
       | inr rest ↦ elim (has_append news r.back s rest) [
         | inl here ↦ inr here
-        | inr behind ↦ inl (back (has_right r.front (r.middle ++ r.back) s (has_right r.middle r.back s behind)))
+        | inr after ↦ inl (back (has_right r.front (r.middle ++ r.back) s (has_right r.middle r.back s after)))
       ]
     ]
 

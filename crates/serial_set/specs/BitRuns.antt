@@ -7,22 +7,23 @@ use Rattle.serial_set.specs.declared.bit_fault.BitFault.{BitFault}
 use Rattle.serial_set.specs.declared.bit_fault.BitFault.TheVariants.{Negative, Wraps}
 use Rattle.serial_set.specs.Span.{SpanCovers, Covers, IsRunsOf}
 
--- how far a bitmap of `len` bytes is fed: how many of them are due, the run that may still grow,
+-- how far a bitmap of `len` bytes is fed: how many of them are left, the run that may still grow,
 -- and the fault that was met
 pub record FedBitmap : Type 0 where
   pub offset : ℕ
   pub len : ℕ
-  pub due : ℕ
+  pub bytes_left : ℕ
   pub pending : Option Span
   pub fault : Option BitFault
 
 -- nothing is fed
 abbrev pub start : ℕ → ℕ → FedBitmap
-start offset len = record { offset = offset; len = len; due = len; pending = None; fault = None }
+start offset len =
+    record { offset = offset; len = len; bytes_left = len; pending = None; fault = None }
 
 -- the number for which the lowest bit stands that is fed so far
 abbrev pub lowest : FedBitmap → ℕ
-lowest p = p.offset + 8 * p.due
+lowest p = p.offset + 8 * p.bytes_left
 
 -- s is a serial, and its bit of `bits` is set, where the lowest bit stands for `base`
 abbrev pub BitNames : ℕ → ℕ → ℕ → Type 0
@@ -37,11 +38,11 @@ big_endian (byte ∷ bytes) = byte * 256 ^ length bytes + big_endian bytes
 
 -- the byte is the bitmap's first, and its highest bit is set
 abbrev pub IsNegative : FedBitmap → ℕ → Type 0
-IsNegative p byte = (p.due ≡ p.len) × (128 ≤ byte)
+IsNegative p byte = (p.bytes_left ≡ p.len) × (128 ≤ byte)
 
 -- a set bit of the byte stands for a number past 2^64-1
 abbrev pub PassesEnd : FedBitmap → ℕ → Type 0
-PassesEnd p byte = (s : ℕ) × ((2 ^ 64 ≤ s) × BitNames (p.offset + 8 * (p.due - 1)) byte s)
+PassesEnd p byte = (s : ℕ) × ((2 ^ 64 ≤ s) × BitNames (p.offset + 8 * (p.bytes_left - 1)) byte s)
 
 -- the fault that a byte shows, of two the first
 abbrev pub ShowsFault : FedBitmap → ℕ → BitFault → Type 0
@@ -61,8 +62,8 @@ runs_after p finished = option_to_list p.pending ++ reverse finished
 -- a byte without a fault leads from one state to another and finishes these runs
 pub record Feeds (before : FedBitmap) (byte : ℕ) (after : FedBitmap) (finished : List Span)
     : Type 0 where
-  pub one_less : after.due + 1 ≡ before.due
-  pub same_bitmap : after ≡ record before { due = after.due; pending = after.pending }
+  pub one_less : after.bytes_left + 1 ≡ before.bytes_left
+  pub same_bitmap : after ≡ record before { bytes_left = after.bytes_left; pending = after.pending }
   pub no_fault : (fault : BitFault) → ¬ HasFault before byte fault
   -- the runs of what was pending and of the byte's serials
   pub runs : IsRunsOf (runs_after after finished)

@@ -83,7 +83,7 @@ pub entries_front : (a : ℕ) (xs ys : List Entry) → EntriesFrom a (xs ++ ys) 
 entries_front a [] ys r = tt
 entries_front a (x ∷ xs) ys r = (r.0, entries_front (hi_of x + 1) xs ys r.1)
 
--- what stands after others begins past them
+-- what is after others begins past them
 pub entries_back : (a : ℕ) (xs ys : List Entry) → EntriesFrom a (xs ++ ys) → EntriesFrom a ys
 entries_back a [] ys r = r
 entries_back a (x ∷ xs) ys r =
@@ -170,8 +170,8 @@ replaced_order old lo hi news new r h order rise ends =
     let back = entries_back 0 r.middle r.back (entries_back 0 r.front (r.middle ++ r.back) whole) in
     let past = All-weaker (λ e. hi < lo_of e) (λ e. hi + 1 ≤ lo_of e) (λ e k. omega arith) r.back
     r.above in
-    let behind = entries_raise 0 (hi + 1) r.back back past in
-    let rest = entries_join lo (hi + 1) news r.back (omega arith) rise ends behind in
+    let following = entries_raise 0 (hi + 1) r.back back past in
+    let rest = entries_join lo (hi + 1) news r.back (omega arith) rise ends following in
     subst (EntriesFrom 0) (sym r.are)
     (entries_join 0 lo r.front (news ++ r.back) (omega arith)
     (entries_front 0 r.front (r.middle ++ r.back) whole) r.below rest)
@@ -190,8 +190,8 @@ replaced_to old lo hi news new Added r k s n =
               (has_left r.middle r.back s was)))
           | inr added ↦ inr added
         ]
-        | inr behind ↦ inl (back (has_right r.front (r.middle ++ r.back) s
-            (has_right r.middle r.back s behind)))
+        | inr following ↦ inl (back (has_right r.front (r.middle ++ r.back) s
+            (has_right r.middle r.back s following)))
       ]
     ]
 
@@ -208,8 +208,8 @@ replaced_from old lo hi news new Added r k s n =
         | inl front ↦ to (has_left r.front (news ++ r.back) s front)
         | inr rest ↦ elim (has_append r.middle r.back s rest) [
           | inl here ↦ new_here (k.still s here)
-          | inr behind ↦ to (has_right r.front (news ++ r.back) s
-              (has_right news r.back s behind))
+          | inr following ↦ to (has_right r.front (news ++ r.back) s
+              (has_right news r.back s following))
         ]
       ]
       | inr added ↦ new_here (k.added s added)

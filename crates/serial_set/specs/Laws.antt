@@ -3,7 +3,7 @@ use Rattle.std.specs.Prelude.{ℕ, ◌<◌, List, All}
 use Rattle.serial_set.specs.declared.span.Span.{Span}
 use Rattle.serial_set.specs.BitRuns.{FedBitmap, start, FeedsAll}
 
--- P holds after any bytes are fed from the start: of the offset, the number of bytes that were due,
+-- P holds after any bytes are fed from the start: of the offset, how many bytes were left,
 -- the bytes, the state that is reached, and the runs that are finished
 abbrev pub AfterFeeding : (ℕ → ℕ → List ℕ → FedBitmap → List Span → Type 0) → Type 0
 AfterFeeding P =

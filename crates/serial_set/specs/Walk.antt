@@ -308,13 +308,13 @@ piece_first spans rest piece n e p =
     }
 
 -- what is left is among those after spans that end before the number
-pub since_behind : (n k : ℕ) (xs : List Span) → All (λ t. t.hi < n) (take k xs)
+pub since_after : (n k : ℕ) (xs : List Span) → All (λ t. t.hi < n) (take k xs)
     → since n xs ≡ since n (drop k xs)
-since_behind n zero xs h = refl
-since_behind n (suc k) [] h = refl
-since_behind n (suc k) (x ∷ xs) h =
+since_after n zero xs h = refl
+since_after n (suc k) [] h = refl
+since_after n (suc k) (x ∷ xs) h =
     let first : x.hi < n = All-head (λ t. t.hi < n) x (take k xs) h in
-    since_past n x xs first ∙ since_behind n k xs (All-tail (λ t. t.hi < n) x (take k xs) h)
+    since_past n x xs first ∙ since_after n k xs (All-tail (λ t. t.hi < n) x (take k xs) h)
 
 -- ---- how many runs there are
 

@@ -18,7 +18,7 @@ use std::alloc::AllocError;
 
 // The bits of an entry in a window, and the place in the window after it.
 #[derive(Clone, Copy)]
-struct Part {
+struct WindowBits {
     bits: u64,
     at: u64,
 }
@@ -189,7 +189,7 @@ fn holds(head: Option<Entry>, hi: u64) -> bool
 }
 
 // What an entry has in a window, from a place of the window on.
-fn part_in(entry: Option<Entry>, window: u64, at: u64) -> Part
+fn part_in(entry: Option<Entry>, window: u64, at: u64) -> WindowBits
     requires window { window < 2 ^ 58 }
     requires at { at < 64 }
     requires reach { IfSome entry (λ e. 64 * window + at ≤ hi_of e) }
@@ -200,10 +200,10 @@ fn part_in(entry: Option<Entry>, window: u64, at: u64) -> Part
         → s ≤ end_of entry (64 * window + 63) }
 {
     match entry {
-        Some(entry) => Part {
+        Some(entry) => WindowBits {
             bits: entry.bits_in(window),
             at: (entry.hi() - 64 * window).min(63) + 1,
         },
-        None => Part { bits: 0, at: 64 },
+        None => WindowBits { bits: 0, at: 64 },
     }
 }

@@ -15,7 +15,7 @@ use std::marker::Model;
 pub struct BitRuns {
     offset: u64,
     len: u32,
-    due: u32,
+    bytes_left: u32,
     pending: Option<Span>,
     fault: Option<BitFault>,
 }
@@ -26,12 +26,12 @@ impl Model for BitRuns {
     ghost view = { λ b. record {
       offset = b.offset;
       len = b.len;
-      due = b.due;
+      bytes_left = b.bytes_left;
       pending = b.pending;
       fault = b.fault;
     } };
 
-    ghost invariant = { λ b. IsInStep (b.offset + 8 * b.due) b.pending };
+    ghost invariant = { λ b. IsInStep (b.offset + 8 * b.bytes_left) b.pending };
 }
 
 impl BitRuns {
@@ -42,7 +42,7 @@ impl BitRuns {
         BitRuns {
             offset,
             len,
-            due: len,
+            bytes_left: len,
             pending: None,
             fault: None,
         }
@@ -56,7 +56,7 @@ impl BitRuns {
     /// A first byte of 0x80 or more is `Negative`; else a set bit past 2^64-1 is `Wraps`. A byte
     /// that is refused is not read, and the same fault is the answer from then on.
     pub fn feed(&mut self, byte: u8) -> Result<Finished, BitFault>
-        requires { 0 < self.old.due }
+        requires { 0 < self.old.bytes_left }
         ensures fed { IfOk result
             (λ finished. Feeds self.old byte self.new (finished_of finished)) }
         ensures runs { IfOk result (λ finished. All IsInterval (finished_of finished)) }
@@ -66,8 +66,8 @@ impl BitRuns {
         if let Some(fault) = self.fault {
             return Err(fault);
         }
-        let place = 8 * u64::from(self.due - 1);
-        if self.due == self.len && byte >= 0x80 {
+        let place = 8 * u64::from(self.bytes_left - 1);
+        if self.bytes_left == self.len && byte >= 0x80 {
             self.fault = Some(BitFault::Negative);
             return Err(BitFault::Negative);
         }
@@ -76,7 +76,7 @@ impl BitRuns {
             return Err(BitFault::Wraps);
         }
         let runs = runs_of_byte(self.pending, self.offset, place, byte);
-        self.due -= 1;
+        self.bytes_left -= 1;
         self.pending = runs.pending;
         Ok(runs.finished)
     }

@@ -29,7 +29,7 @@ pub fn put_after(
     Ok(gap)
 }
 
-/// What `insert` does, in one move of all that stands after it: LLVM makes no such move of `insert`
+/// What `insert` does, in one move of all that is after it: LLVM makes no such move of `insert`
 /// at a place that it does not know.
 pub fn insert_at<T: Drop>(items: &mut Vec<T>, at: usize, new: T) -> Result<(), AllocError>
     requires { at ≤ length items.old.items }
@@ -75,7 +75,7 @@ fn widen(items: &mut Vec<Entry>, new: Entry) -> Result<usize, AllocError>
     let len = items.len();
     let left = len.min(PAGE_LEN.saturating_sub(len)).saturating_sub(1);
     let mut wider = Vec::with_capacity(*items.allocator(), left + 1 + len)?;
-    // What stands in the gap is never read.
+    // What is in the gap is never read.
     wider.extend_from_slice(&items[..left])?;
     wider.push(new)?;
     wider.extend_from_slice(items)?;

@@ -46,7 +46,7 @@ pub fn fed_so_far()
     ensures four_a_byte { AfterFeeding (λ offset len bytes after finished.
         length (runs_after after finished) ≤ 4 * length bytes) }
     ensures place { AfterFeeding (λ offset len bytes after finished.
-        (after.due + length bytes ≡ len) × (after.offset ≡ offset)) }
+        (after.bytes_left + length bytes ≡ len) × (after.offset ≡ offset)) }
 {}
 
 /// Feeding all bytes of a bitmap gives just the runs of `offset` + N for each set bit N of its

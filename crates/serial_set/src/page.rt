@@ -209,7 +209,7 @@ impl Page {
         Ok(())
     }
 
-    /// What stands at a place of the vector.
+    /// The entry at a place of the vector.
     pub fn entry(&self, place: usize) -> Option<Entry>
         ensures { Stands (entries_in self.now) result }
     {
@@ -219,7 +219,7 @@ impl Page {
         Some(self.items[place])
     }
 
-    /// Sets bits in what stands at a place of the vector, if that is the word of their window. Else
+    /// Sets bits in the entry at a place of the vector, if that is the word of their window. Else
     /// nothing changes.
     pub fn set_bits(&mut self, place: usize, window: u64, bits: u64) -> bool
         ensures set { IsTrue result

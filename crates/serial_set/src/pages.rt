@@ -298,7 +298,7 @@ fn split_at(pages: &mut Vec<Page>, at: usize, lo: u64) -> Result<(), AllocError>
     Ok(())
 }
 
-/// What stands at a spot.
+/// What is at a spot.
 pub fn entry_in(pages: &[Page], at: Spot) -> Option<Entry>
     ensures { Stands (entries_of pages.now) result }
 {
@@ -309,7 +309,7 @@ pub fn entry_in(pages: &[Page], at: Spot) -> Option<Entry>
     pages[page].entry(at.place())
 }
 
-/// Sets bits in what stands at a spot, if that is the word of their window. Else nothing changes.
+/// Sets bits in what is at a spot, if that is the word of their window. Else nothing changes.
 pub fn set_bits_at(pages: &mut Vec<Page>, at: Spot, window: u64, bits: u64) -> bool
     ensures set { IsTrue result
         → WordWidened (entries_of pages.old.items) window bits (entries_of pages.new.items) }

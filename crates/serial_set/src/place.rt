@@ -1,4 +1,4 @@
-//! Where a number stands in a rising list of spans, by binary search.
+//! Where a number is in a rising list of spans, by binary search.
 ghost use Rattle.std.specs.Prelude.{◌+◌, ◌<◌, ◌≤◌, length, take, drop, nat_lt, nat_le, ◌≡◌, ◌-◌};
 ghost use Rattle.std.specs.List.{All};
 ghost use Rattle.serial_set.specs.Span.{IsRuns};
@@ -34,7 +34,7 @@ pub fn count_beginning_by(spans: &[Span], number: u64) -> usize
     )
 }
 
-// Where a full row of `len` is cut for what would stand at `at`: there, if that is near an end, and
+// Where a full row of `len` is cut for what would be at `at`: there, if that is near an end, and
 // else in the middle. Neither side is empty.
 pub fn cut_place(at: usize, len: usize) -> usize
     requires { 1 < len }

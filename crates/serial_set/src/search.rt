@@ -1,4 +1,4 @@
-//! Where a number stands among entries in order, by binary search.
+//! Where a number is among entries in order, by binary search.
 ghost use Rattle.std.specs.Prelude.{◌≡◌, ◌<◌, ◌≤◌, length, take, drop, nat_lt, nat_le, IsTrue};
 ghost use Rattle.std.specs.List.{All};
 ghost use Rattle.serial_set.specs.Entry.{lo_of, hi_of, EntriesFrom};

@@ -1,9 +1,9 @@
 //! Where an entry may well stand in pages.
 ghost use Rattle.std.specs.Prelude.{◌≡◌};
 
-/// A page and a place in its vector, to look at first. Of a number of 64 bits the lower half is kept,
-/// so that a set stays small: what stands there is looked at each time, and a wrong place only costs
-/// a search.
+/// A page and a place in its vector, to look at first. Of a number of 64 bits the lower half is
+/// kept, so that a set stays small: what is there is looked at each time, and a wrong place only
+/// costs a search.
 #[derive(Clone, Copy)]
 pub struct Spot {
     page: u32,

@@ -24,7 +24,7 @@ use Rattle.ssh_cert.specs.declared.any_key.AnyKey.TheVariants as anys
 use Rattle.ssh_cert.specs.CertReading.{certificate_at, kind_at}
 use Rattle.ssh_cert.specs.Certificate.{Certificate}
 use Rattle.ssh_subject.specs.Subject.{Subject}
-use Rattle.ssh_cert.specs.SubjectReading.{AnswersSubject, HasCertificateName, IsSubject, IsSubjectFault, IsToldFault, certificate_subject, certified, is_certificate, is_certified, key_subject, no_certificate, no_key, of_certificate, of_key, plain_key, subject_of}
+use Rattle.ssh_cert.specs.SubjectReading.{AnswersSubject, HasCertificateName, IsSubject, IsSubjectFault, IsReportedFault, certificate_subject, certified, is_certificate, is_certified, key_subject, no_certificate, no_key, of_certificate, of_key, plain_key, subject_of}
 use Rattle.ssh_cert.proofs.Certs.{certificate_again, certificate_found, certificate_refused, first_fault_read, length-certificate_name}
 use Rattle.ssh_cert.proofs.FieldLemmas.{begins}
 
@@ -139,11 +139,11 @@ pub is_found : (blob : List ℕ) (r : Result Subject SubjectFault) → IsBytes b
 is_found blob (Ok s) fits given = subject_found blob s fits given
 is_found blob (Err fault) fits given = tt
 
-pub is_told : (blob : List ℕ) (r : Result Subject SubjectFault) → IsBytes blob → AnswersSubject r (subject_of blob) → IfErr r (λ fault. IsToldFault blob fault)
-is_told blob (Ok s) fits given = tt
-is_told blob (Err faults.NoMemory) fits given = record { subject = given.subject; is = subject_found blob given.subject fits given.read_as }
-is_told blob (Err (faults.Key why)) fits given = subject_refused blob (faults.Key why) fits given
-is_told blob (Err (faults.Cert why)) fits given = subject_refused blob (faults.Cert why) fits given
+pub is_reported : (blob : List ℕ) (r : Result Subject SubjectFault) → IsBytes blob → AnswersSubject r (subject_of blob) → IfErr r (λ fault. IsReportedFault blob fault)
+is_reported blob (Ok s) fits given = tt
+is_reported blob (Err faults.NoMemory) fits given = record { subject = given.subject; is = subject_found blob given.subject fits given.read_as }
+is_reported blob (Err (faults.Key why)) fits given = subject_refused blob (faults.Key why) fits given
+is_reported blob (Err (faults.Cert why)) fits given = subject_refused blob (faults.Cert why) fits given
 
 pub is_only : (blob : List ℕ) (r : Result Subject SubjectFault) (s : Subject) → AnswersSubject r (subject_of blob) → IsSubject blob s → AnswersSubject r (Ok s)
 is_only blob r s given is = subst (AnswersSubject r) (subject_again blob s is) given

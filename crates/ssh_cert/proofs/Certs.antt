@@ -6,7 +6,7 @@ use Rattle.std.proofs.lemmas.Bool.{eqb-true, ne_eqb}
 use Rattle.std.proofs.lemmas.List.{append-nil, nil_from_length}
 use Rattle.ssh_wire.specs.declared.fault.WireFault.TheVariants.{Short}
 use Rattle.ssh_wire.specs.Wire.{BeginsWith, IsBytes, string}
-use Rattle.ssh_wire.specs.Digits.{IsBytes-behind}
+use Rattle.ssh_wire.specs.Digits.{IsBytes-back}
 use Rattle.ssh_wire.specs.Reading.{◌>>=◌, Gives, in_fault, string_at}
 use Rattle.ssh_wire.specs.Fields.{HasFront, string_again, string_takes}
 use Rattle.ssh_key.specs.declared.kind.Kind.{Kind}
@@ -247,7 +247,7 @@ name_unknown blob name b other =
     rw (string_read blob name b, none) refl
 
 rest_fits : (blob front middle rest : List ℕ) → IsBytes blob → blob ≡ front ++ (middle ++ rest) → IsBytes rest
-rest_fits blob front middle rest fits e = IsBytes-behind middle rest (IsBytes-behind front (middle ++ rest) (subst IsBytes e fits))
+rest_fits blob front middle rest fits e = IsBytes-back middle rest (IsBytes-back front (middle ++ rest) (subst IsBytes e fits))
 
 all_read : (before fields : List Field) (values : ValuesOf before) (rest : List ℕ) → before ≡ fields → AreValues before values → (all : ValuesOf fields) × (fields_at fields (fields_text before values ++ rest) ≡ Ok (all, rest))
 all_read before fields values rest e allowed =

@@ -3,7 +3,7 @@ use Rattle.std.proofs.Common.{◌≡◌, ℕ, ◌+◌, ◌^◌, ◌<◌, ◌≤�
 use Rattle.std.proofs.lemmas.Bool.{cases_lt}
 use Rattle.std.proofs.lemmas.List.{append-nil, length-append}
 use Rattle.ssh_wire.specs.Wire.{IsBytes, string, strings}
-use Rattle.ssh_wire.specs.Digits.{IsBytes-behind, IsBytes-front}
+use Rattle.ssh_wire.specs.Digits.{IsBytes-back, IsBytes-front}
 use Rattle.ssh_wire.specs.Cut.{number-cut, string-cut}
 use Rattle.ssh_wire.specs.Reading.{in_fault}
 use Rattle.ssh_key.specs.declared.fault.KeyFault.{KeyFault}
@@ -27,21 +27,21 @@ use Rattle.ssh_cert.proofs.FieldReads.{field_again}
 pub record Longer (a x b y : List ℕ) : Type 0 where
   pub between : List ℕ
   pub front : b ≡ a ++ between
-  pub behind : x ≡ between ++ y
+  pub after : x ≡ between ++ y
 
 pub longer : (a x b y : List ℕ) → a ++ x ≡ b ++ y → length a ≤ length b → Longer a x b y
-longer [] x b y e le = record { between = b; front = refl; behind = e }
+longer [] x b y e le = record { between = b; front = refl; after = e }
 longer (n ∷ a) x [] y e le = absurd (omega arith)
 longer (n ∷ a) x (m ∷ b) y e le =
     let heads : n ≡ m = cc in
     let tails : a ++ x ≡ b ++ y = cc in
     let fewer : length a ≤ length b = omega arith in
     let rest = longer a x b y tails fewer in
-    record { between = rest.between; front = ap (λ (k : ℕ). k ∷ b) (sym heads) ∙ ap (λ (l : List ℕ). n ∷ l) rest.front; behind = rest.behind }
+    record { between = rest.between; front = ap (λ (k : ℕ). k ∷ b) (sym heads) ∙ ap (λ (l : List ℕ). n ∷ l) rest.front; after = rest.after }
 
 -- nothing stands after all of a text
-none_behind : (p q : List ℕ) → [] ≡ p ++ q → 0 < length q → ⊥
-none_behind p q e some = let lengths : 0 ≡ length p + length q = ap length e ∙ length-append p q in omega arith
+none_after : (p q : List ℕ) → [] ≡ p ++ q → 0 < length q → ⊥
+none_after p q e some = let lengths : 0 ≡ length p + length q = ap length e ∙ length-append p q in omega arith
 
 -- a refusal that is reported as a field cut short
 pub record Cut {A : Type 0} (read : Result A CertFault) : Type 0 where
@@ -63,7 +63,7 @@ public_cut kind key front missing fits same is e some = by_read (public_at kind 
         let parts : key.fields ≡ other.0.fields ++ (other.1 ++ missing) = e ∙ ap (λ (x : List ℕ). x ++ missing) found.1.spelled ∙ append_assoc other.0.fields other.1 missing in
         let again : public_at kind key.fields ≡ Ok (other.0, other.1 ++ missing) = public_again kind key.fields (other.1 ++ missing) other.0 found.0 (record { is_key = found.1.is_key; spelled = parts }) in
         let pair = ok_is (key, []) (other.0, other.1 ++ missing) (public_at kind key.fields) whole again in
-        absurd (none_behind other.1 missing (ap (λ (x : Key × List ℕ). x.1) pair) some)
+        absurd (none_after other.1 missing (ap (λ (x : Key × List ℕ). x.1) pair) some)
 
 wire : (field : Field) (front : List ℕ) → field_at field front ≡ Err faults.Wire → Cut (field_at field front)
 wire field front e = record { fault = faults.Wire; refused = e; cut = tt }
@@ -84,7 +84,7 @@ field_cut SignatureField signature front missing fits allowed e some = wire Sign
 -- bytes that end within a text or after it
 pub data Ends (text later front missing : List ℕ) : Type 0 where
   within : (between : List ℕ) → text ≡ front ++ between → 0 < length between → Ends text later front missing
-  behind : (between : List ℕ) → front ≡ text ++ between → later ≡ between ++ missing → Ends text later front missing
+  after : (between : List ℕ) → front ≡ text ++ between → later ≡ between ++ missing → Ends text later front missing
 
 pub ends : (text later front missing : List ℕ) → text ++ later ≡ front ++ missing → Ends text later front missing
 ends text later front missing e = elim (cases_lt (length front) (length text)) [
@@ -92,18 +92,18 @@ ends text later front missing e = elim (cases_lt (length front) (length text)) [
       let parts = longer front missing text later (sym e) (omega arith) in
       let lengths : length text ≡ length front + length parts.between = ap length parts.front ∙ length-append front parts.between in
       within parts.between parts.front (omega arith)
-  | inr le ↦ let parts = longer text later front missing e le in behind parts.between parts.front parts.behind
+  | inr le ↦ let parts = longer text later front missing e le in after parts.between parts.front parts.after
 ]
 
 fields_cut : (fields : List Field) (values : ValuesOf fields) (front missing : List ℕ) → IsBytes front → AreValues fields values → fields_text fields values ≡ front ++ missing → 0 < length missing → Cut (fields_at fields front)
 unfolding fields_at
-fields_cut [] values front missing fits allowed e some = absurd (none_behind front missing e some)
+fields_cut [] values front missing fits allowed e some = absurd (none_after front missing e some)
 fields_cut (field ∷ fields) values front missing fits allowed e some = elim (ends (field_text field values.0) (fields_text fields values.1) front missing e) [
   | within between parts left ↦
       let c = field_cut field values.0 front between fits allowed.0 parts left in
       record { fault = c.fault; refused = rw c.refused refl; cut = c.cut }
-  | behind between parts later ↦
-      let inner : IsBytes between = IsBytes-behind (field_text field values.0) between (subst IsBytes parts fits) in
+  | after between parts later ↦
+      let inner : IsBytes between = IsBytes-back (field_text field values.0) between (subst IsBytes parts fits) in
       let c = fields_cut fields values.1 between missing inner allowed.1 later some in
       record { fault = c.fault; refused = ap (fields_at (field ∷ fields)) parts ∙ rw (field_again field values.0 between allowed.0, c.refused) refl; cut = c.cut }
 ]
@@ -129,8 +129,8 @@ certificate_cut blob front c fits is cut =
     by_end : Ends (string (certificate_name c.key.kind)) text front cut.missing → Cut (certificate_at front)
     by_end (within between parts left) =
         record { fault = faults.Wire; refused = rw (kind_short c.key.kind front between parts left) refl; cut = tt }
-    by_end (behind between parts later) =
-        let inner : IsBytes between = IsBytes-behind (string (certificate_name c.key.kind)) between (subst IsBytes parts front_fits) in
+    by_end (after between parts later) =
+        let inner : IsBytes between = IsBytes-back (string (certificate_name c.key.kind)) between (subst IsBytes parts front_fits) in
         let f = fields_cut (fields_of c.key.kind) values between cut.missing inner (values_allowed blob c is) later cut.some in
         let kind_is : kind_at front ≡ Ok (c.key.kind, between) = ap kind_at parts ∙ kind_again c.key.kind between in
         record { fault = f.fault; refused = rw (kind_is, f.refused) refl; cut = f.cut }

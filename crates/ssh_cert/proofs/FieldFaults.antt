@@ -1,4 +1,4 @@
--- A fault of a field is what stands there, and what stands there is reported as the fault.
+-- A fault of a field is what is there, and what is there is reported as the fault.
 use Rattle.std.proofs.Common.{◌≡◌, ℕ, ◌^◌, ◌<◌, List, length, Option, Some, None, Ok, Err, refl, sym, ap, subst, ◌∙◌, inl, inr}
 use Rattle.std.specs.Option.{ok_or}
 use Rattle.ssh_wire.specs.Cut.{number-short}
@@ -19,8 +19,8 @@ use Rattle.ssh_cert.specs.Strings.{strings_of}
 use Rattle.ssh_cert.proofs.FieldLemmas.{begins, no_role, no_role-read, number_err, options_again, options_take, string_cut, unnamed, unnamed_read}
 use Rattle.ssh_cert.proofs.StringLists.{strings_of_again, strings_of_takes}
 
-told : (field : Field) (bytes : List ℕ) (c d : CertFault) → d ≡ c → Refuses field bytes c → Refuses field bytes d
-told field bytes c d e refused = subst (λ (fault : CertFault). Refuses field bytes fault) (sym e) refused
+reported : (field : Field) (bytes : List ℕ) (c d : CertFault) → d ≡ c → Refuses field bytes c → Refuses field bytes d
+reported field bytes c d e refused = subst (λ (fault : CertFault). Refuses field bytes fault) (sym e) refused
 
 -- ---- the content of a string that may not stand there
 
@@ -51,25 +51,25 @@ pub field_refused : (field : Field) (bytes : List ℕ) (fault : CertFault) → I
 unfolding field_at
 field_refused TextField bytes fault fits e =
     let w = in_fault_err cut_short (string_at bytes) fault e in
-    told TextField bytes faults.Wire fault w.2 (string_cut bytes w.0 w.1)
+    reported TextField bytes faults.Wire fault w.2 (string_cut bytes w.0 w.1)
 field_refused (PublicField kind) bytes fault fits e =
     let w = in_fault_err faults.Key (public_at kind bytes) fault e in
-    told (PublicField kind) bytes (faults.Key w.0) fault w.2 (public_refused kind bytes w.0 fits w.1)
+    reported (PublicField kind) bytes (faults.Key w.0) fault w.2 (public_refused kind bytes w.0 fits w.1)
 field_refused NumberField bytes fault fits e =
     let w = in_fault_err cut_short (number_at 8 bytes) fault e in
-    told NumberField bytes faults.Wire fault w.2 (number_err 8 bytes w.0 w.1).0
+    reported NumberField bytes faults.Wire fault w.2 (number_err 8 bytes w.0 w.1).0
 field_refused RoleField bytes fault fits e =
     elim (bind_err (in_fault cut_short (number_at 4 bytes)) (λ n. ok_or (role_of n.0) faults.CertType >>= λ role. Ok (role, n.1)) fault e) [
       | inl cut ↦
           let w = in_fault_err cut_short (number_at 4 bytes) fault cut in
-          told RoleField bytes faults.Wire fault w.2 (number_err 4 bytes w.0 w.1).0
+          reported RoleField bytes faults.Wire fault w.2 (number_err 4 bytes w.0 w.1).0
       | inr n ↦
           elim (bind_err (ok_or (role_of n.0.0) faults.CertType) (λ role. Ok (role, n.0.1)) fault n.2) [
             | inl other ↦
                 let w = none_err (role_of n.0.0) faults.CertType fault other in
                 let t = number_takes 4 bytes n.0.0 n.0.1 fits (in_fault_ok cut_short (number_at 4 bytes) n.0 n.1) in
                 let differs = no_role n.0.0 w.0 in
-                told RoleField bytes faults.CertType fault w.1 (record { role = n.0.0; rest = n.0.1; spelled = t.0.parts; fits = t.1; no_user = differs.0; no_host = differs.1 })
+                reported RoleField bytes faults.CertType fault w.1 (record { role = n.0.0; rest = n.0.1; spelled = t.0.parts; fits = t.1; no_user = differs.0; no_host = differs.1 })
             | inr role ↦ absurd (never_err (role.0, n.0.1) fault role.2)
           ]
     ]
@@ -77,13 +77,13 @@ field_refused PrincipalsField bytes fault fits e =
     elim (bind_err (in_fault cut_short (string_at bytes)) (λ content. ok_or (strings_of content.0) faults.Principals >>= λ list. Ok (list, content.1)) fault e) [
       | inl cut ↦
           let w = in_fault_err cut_short (string_at bytes) fault cut in
-          told PrincipalsField bytes faults.Wire fault w.2 (string_cut bytes w.0 w.1)
+          reported PrincipalsField bytes faults.Wire fault w.2 (string_cut bytes w.0 w.1)
       | inr content ↦
           elim (bind_err (ok_or (strings_of content.0.0) faults.Principals) (λ list. Ok (list, content.0.1)) fault content.2) [
             | inl other ↦
                 let w = none_err (strings_of content.0.0) faults.Principals fault other in
                 let b = read_begins bytes content.0 fits content.1 in
-                told PrincipalsField bytes faults.Principals fault w.1 (content.0.0, b.0, no_strings content.0.0 b.0.fits w.0)
+                reported PrincipalsField bytes faults.Principals fault w.1 (content.0.0, b.0, no_strings content.0.0 b.0.fits w.0)
             | inr list ↦ absurd (never_err (list.0, content.0.1) fault list.2)
           ]
     ]
@@ -91,13 +91,13 @@ field_refused OptionsField bytes fault fits e =
     elim (bind_err (in_fault cut_short (string_at bytes)) (λ content. ok_or (options_of content.0) faults.Options >>= λ list. Ok (list, content.1)) fault e) [
       | inl cut ↦
           let w = in_fault_err cut_short (string_at bytes) fault cut in
-          told OptionsField bytes faults.Wire fault w.2 (string_cut bytes w.0 w.1)
+          reported OptionsField bytes faults.Wire fault w.2 (string_cut bytes w.0 w.1)
       | inr content ↦
           elim (bind_err (ok_or (options_of content.0.0) faults.Options) (λ list. Ok (list, content.0.1)) fault content.2) [
             | inl other ↦
                 let w = none_err (options_of content.0.0) faults.Options fault other in
                 let b = read_begins bytes content.0 fits content.1 in
-                told OptionsField bytes faults.Options fault w.1 (content.0.0, b.0, no_options content.0.0 b.0.fits w.0)
+                reported OptionsField bytes faults.Options fault w.1 (content.0.0, b.0, no_options content.0.0 b.0.fits w.0)
             | inr list ↦ absurd (never_err (list.0, content.0.1) fault list.2)
           ]
     ]
@@ -105,13 +105,13 @@ field_refused AuthorityField bytes fault fits e =
     elim (bind_err (in_fault cut_short (string_at bytes)) (λ blob. in_fault faults.Authority (key_at blob.0) >>= λ key. Ok (authority_of blob.0 key, blob.1)) fault e) [
       | inl cut ↦
           let w = in_fault_err cut_short (string_at bytes) fault cut in
-          told AuthorityField bytes faults.Wire fault w.2 (string_cut bytes w.0 w.1)
+          reported AuthorityField bytes faults.Wire fault w.2 (string_cut bytes w.0 w.1)
       | inr blob ↦
           elim (bind_err (in_fault faults.Authority (key_at blob.0.0)) (λ key. Ok (authority_of blob.0.0 key, blob.0.1)) fault blob.2) [
             | inl other ↦
                 let w = in_fault_err faults.Authority (key_at blob.0.0) fault other in
                 let b = read_begins bytes blob.0 fits blob.1 in
-                told AuthorityField bytes (faults.Authority w.0) fault w.2 (blob.0.0, b.0, key_refused blob.0.0 w.0 b.1 w.1)
+                reported AuthorityField bytes (faults.Authority w.0) fault w.2 (blob.0.0, b.0, key_refused blob.0.0 w.0 b.1 w.1)
             | inr key ↦ absurd (never_err (authority_of blob.0.0 key.0, blob.0.1) fault key.2)
           ]
     ]
@@ -119,13 +119,13 @@ field_refused SignatureField bytes fault fits e =
     elim (bind_err (in_fault cut_short (string_at bytes)) (λ text. ok_or (named text.0 (string_at text.0)) faults.Signature >>= λ signature. Ok (signature, text.1)) fault e) [
       | inl cut ↦
           let w = in_fault_err cut_short (string_at bytes) fault cut in
-          told SignatureField bytes faults.Wire fault w.2 (string_cut bytes w.0 w.1)
+          reported SignatureField bytes faults.Wire fault w.2 (string_cut bytes w.0 w.1)
       | inr text ↦
           elim (bind_err (ok_or (named text.0.0 (string_at text.0.0)) faults.Signature) (λ signature. Ok (signature, text.0.1)) fault text.2) [
             | inl other ↦
                 let w = none_err (named text.0.0 (string_at text.0.0)) faults.Signature fault other in
                 let b = read_begins bytes text.0 fits text.1 in
-                told SignatureField bytes faults.Signature fault w.1 (text.0.0, b.0, λ algorithm first. unnamed text.0.0 (string_at text.0.0) (algorithm, first.rest) w.0 (string_read text.0.0 algorithm first))
+                reported SignatureField bytes faults.Signature fault w.1 (text.0.0, b.0, λ algorithm first. unnamed text.0.0 (string_at text.0.0) (algorithm, first.rest) w.0 (string_read text.0.0 algorithm first))
             | inr signature ↦ absurd (never_err (signature.0, text.0.1) fault signature.2)
           ]
     ]

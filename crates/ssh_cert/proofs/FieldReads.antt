@@ -2,7 +2,7 @@
 use Rattle.std.proofs.Common.{◌≡◌, ℕ, ◌^◌, ◌<◌, List, ◌++◌, length, Result, Ok, refl, ap, subst, ◌∙◌, arith}
 use Rattle.std.specs.Option.{ok_or}
 use Rattle.ssh_wire.specs.Wire.{IsBytes, number, string, strings}
-use Rattle.ssh_wire.specs.Digits.{IsBytes-behind}
+use Rattle.ssh_wire.specs.Digits.{IsBytes-back}
 use Rattle.ssh_wire.specs.Reading.{◌>>=◌, in_fault, number_at, string_at}
 use Rattle.ssh_wire.specs.Fields.{HasFront, IsBytes-content, number_again, number_takes, string_again, string_takes}
 use Rattle.ssh_key.specs.KeyReading.{key_at, public_at}
@@ -47,8 +47,8 @@ field_takes TextField bytes x fits e =
     record { takes = t.0; allowed = t.1 }
 field_takes (PublicField kind) bytes x fits e =
     let p = public_found kind bytes x fits (in_fault_ok faults.Key (public_at kind bytes) x e) in
-    let behind : IsBytes x.1 = IsBytes-behind x.0.fields x.1 (subst IsBytes p.1.spelled fits) in
-    record { takes = record { parts = p.1.spelled; rest_fits = behind }; allowed = (p.0, p.1.is_key) }
+    let after : IsBytes x.1 = IsBytes-back x.0.fields x.1 (subst IsBytes p.1.spelled fits) in
+    record { takes = record { parts = p.1.spelled; rest_fits = after }; allowed = (p.0, p.1.is_key) }
 field_takes NumberField bytes x fits e =
     let t = number_takes 8 bytes x.0 x.1 fits (in_fault_ok cut_short (number_at 8 bytes) x e) in
     record { takes = t.0; allowed = t.1 }

@@ -80,10 +80,10 @@ content_shorter bytes text rest (Err fault) first second = absurd cc
 content_shorter bytes text rest (Ok (size, after)) first second =
     let number = guard_ok (ltb (length bytes) 4) Short _ (size, after) first in
     let long : 4 ≤ length bytes = ltb-false _ _ number.0 in
-    let behind : drop 4 bytes ≡ after = ap (λ (p : ℕ × List ℕ). p.1) number.1 in
+    let following : drop 4 bytes ≡ after = ap (λ (p : ℕ × List ℕ). p.1) number.1 in
     let front = guard_ok (ltb (length after) size) Short _ (text, rest) second in
     let left : drop size after ≡ rest = ap (λ (p : List ℕ × List ℕ). p.1) front.1 in
-    let lengths : length after ≡ length (drop 4 bytes) = ap length (sym behind) in
+    let lengths : length after ≡ length (drop 4 bytes) = ap length (sym following) in
     let fewer : length rest ≡ length (drop size after) = ap length (sym left) in
     omega (arith, length-drop 4 bytes, length-drop size after)
 

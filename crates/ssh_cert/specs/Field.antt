@@ -1,4 +1,4 @@
--- The fields of a certificate after its type name: what stands in each, and how it is spelled.
+-- The fields of a certificate after its type name: what is in each, and how it is spelled.
 use Rattle.std.specs.Prelude.{◌≡◌, ℕ, ◌<◌, ◌^◌, List, [], ◌∷◌, ◌++◌, length}
 use Rattle.ssh_wire.specs.Wire.{BeginsWith, number, string, strings}
 use Rattle.ssh_key.specs.Key.{IsKey, Key, blob_of}
@@ -51,7 +51,7 @@ ValueOf OptionsField = List NamedData
 ValueOf AuthorityField = Authority
 ValueOf SignatureField = Signature
 
--- The value may stand in the field.
+-- The value may be in the field.
 abbrev pub IsValue : (field : Field) → ValueOf field → Type 0
 IsValue TextField text = length text < 2 ^ 32
 IsValue (PublicField kind) key = (key.kind ≡ kind) × IsKey (blob_of key) key

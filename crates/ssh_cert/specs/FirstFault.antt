@@ -1,4 +1,4 @@
--- Why a blob is no certificate: its first fault, by what stands in the blob before it.
+-- Why a blob is no certificate: its first fault, by what is in the blob before it.
 use Rattle.std.specs.Prelude.{◌≡◌, ◌≢◌, ℕ, ◌<◌, ◌^◌, List, [], ◌∷◌, ◌++◌, length, Err}
 use Rattle.ssh_wire.specs.Wire.{BeginsWith, number, string, strings}
 use Rattle.ssh_wire.specs.Reading.{string_at}
@@ -20,7 +20,7 @@ pub record HasOtherRole (bytes : List ℕ) : Type 0 where
   pub no_user : role ≢ 1
   pub no_host : role ≢ 2
 
--- What stands at the front of the bytes is no value of the field: it is cut short, or a string
+-- What is at the front of the bytes is no value of the field: it is cut short, or a string
 -- whose content may not stand there.
 abbrev pub Refuses : Field → List ℕ → CertFault → Type 0
 Refuses (PublicField kind) bytes (faults.Key fault) = IsFieldsFault kind bytes fault

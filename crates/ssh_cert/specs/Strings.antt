@@ -4,7 +4,7 @@ use Rattle.std.specs.Option.{option_map}
 use Rattle.ssh_wire.specs.Reading.{string_at}
 use Rattle.ssh_wire.specs.declared.fault.WireFault.{WireFault}
 
--- a string before the others that stand in the bytes after it
+-- a string before the others that are in the bytes after it
 abbrev pub string_before : Result (List ℕ × List ℕ) WireFault
     → (List ℕ → Option (List (List ℕ))) → Option (List (List ℕ))
 string_before (Err fault) others = None

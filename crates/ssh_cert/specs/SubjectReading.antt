@@ -57,9 +57,9 @@ pub record HasSubject (blob : List ℕ) : Type 0 where
   pub is : IsSubject blob subject
 
 -- What is reported of a blob: its fault, or that there is no memory for what is asked of it.
-abbrev pub IsToldFault : List ℕ → SubjectFault → Type 0
-IsToldFault blob faults.NoMemory = HasSubject blob
-IsToldFault blob fault = IsSubjectFault blob fault
+abbrev pub IsReportedFault : List ℕ → SubjectFault → Type 0
+IsReportedFault blob faults.NoMemory = HasSubject blob
+IsReportedFault blob fault = IsSubjectFault blob fault
 
 abbrev pub is_certified : Result (List ℕ × List ℕ) WireFault → Bool
 is_certified (Ok (name, rest)) = is_some (kind_certified name)
@@ -88,12 +88,12 @@ pub record IsAsked (read : Result Subject SubjectFault) : Type 0 where
   pub read_as : read ≡ Ok subject
 
 -- A fault is the one that reading gives, or there was no memory for what it gives.
-abbrev pub TellsFault : SubjectFault → Result Subject SubjectFault → Type 0
-TellsFault faults.NoMemory read = IsAsked read
-TellsFault fault read = read ≡ Err fault
+abbrev pub ReportsFault : SubjectFault → Result Subject SubjectFault → Type 0
+ReportsFault faults.NoMemory read = IsAsked read
+ReportsFault fault read = read ≡ Err fault
 
 abbrev pub AnswersSubject : Result Subject SubjectFault → Result Subject SubjectFault → Type 0
-AnswersSubject result read = Answers TellsFault (λ subject. subject) result read
+AnswersSubject result read = Answers ReportsFault (λ subject. subject) result read
 
 -- what is asked has a plain key
 pub plain_is_key : (blob : List ℕ) (asked : Subject) → IsSubject blob asked

@@ -25,7 +25,7 @@ impl<'a> Model for CertOption<'a> {
 }
 
 /// The critical options or the extensions of a certificate: an iterator, which lends each from the
-/// blob, in the order in which they stand there.
+/// blob, in the order in which they come.
 #[derive(Debug, Drop)]
 pub struct Options<'a> {
     parts: Strings<'a>,

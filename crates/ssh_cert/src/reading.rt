@@ -82,7 +82,7 @@ struct Numbered<'a> {
 /// more. The plain key and the signature key are plain keys as `read_key` knows them. Takes no
 /// memory: every part is lent from the blob. The signature is not checked.
 ///
-/// Of several faults the first is reported, in the order in which the fields stand, and `Trailing`
+/// Of several faults the first is reported, in the order in which the fields come, and `Trailing`
 /// last.
 pub fn read_cert<'a>(blob: &'a [u8]) -> Result<Cert<'a>, CertFault>
     // What is read is spelled so.

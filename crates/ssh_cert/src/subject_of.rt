@@ -2,7 +2,7 @@
 
 ghost use Rattle.std.specs.Prelude.{◌≡◌, IfErr, IfOk, Ok};
 ghost use Rattle.ssh_subject.specs.Subject.{Subject};
-ghost use Rattle.ssh_cert.specs.SubjectReading.{AnswersSubject, IsSubject, IsToldFault, subject_of};
+ghost use Rattle.ssh_cert.specs.SubjectReading.{AnswersSubject, IsSubject, IsReportedFault, subject_of};
 
 use crate::any_key::read_any;
 use crate::subject_fault::SubjectFault;
@@ -19,7 +19,7 @@ pub fn subject<'a>(alloc: Global, blob: &'a [u8]) -> Result<Subject<'a>, Subject
     // What is asked of a plain key or of a certificate is answered, unless memory runs out.
     ensures only { (asked : Subject) → IsSubject blob.now asked → AnswersSubject result (Ok asked) }
     // The fault is the first one, or memory ran out.
-    ensures fault { IfErr result (λ fault. IsToldFault blob.now fault) }
+    ensures fault { IfErr result (λ fault. IsReportedFault blob.now fault) }
     // The same, for those who compute with the answer.
     ensures exact { AnswersSubject result (subject_of blob.now) }
 {

@@ -5,7 +5,7 @@ use Rattle.std.proofs.lemmas.Bool.{eqb-true, ne_eqb}
 use Rattle.std.proofs.lemmas.List.{nil_from_length}
 use Rattle.ssh_wire.specs.Wire.{IsBytes, string}
 use Rattle.ssh_wire.specs.Fields.{IsBytes-content}
-use Rattle.ssh_wire.specs.Digits.{IsBytes-behind}
+use Rattle.ssh_wire.specs.Digits.{IsBytes-back}
 use Rattle.ssh_wire.specs.Reading.{◌>>=◌}
 use Rattle.ssh_key.specs.Container.{HasParts, IsListFault, IsPrivateList, outer, why_no_key}
 use Rattle.ssh_key.specs.ContainerReading.{Opened, inside_at, list_at, opened}
@@ -40,16 +40,16 @@ no_fault_key : (read : Result Key KeyFault) → why_no_key read ≡ None → (ke
 no_fault_key (Ok key) e = (key, refl)
 no_fault_key (Err fault) e = absurd cc
 
-behind : (text rest bytes : List ℕ) → bytes ≡ text ++ rest → IsBytes bytes → IsBytes rest
-behind text rest bytes e fits = IsBytes-behind text rest (subst IsBytes e fits)
+after : (text rest bytes : List ℕ) → bytes ≡ text ++ rest → IsBytes bytes → IsBytes rest
+after text rest bytes e fits = IsBytes-back text rest (subst IsBytes e fits)
 
 parts_of : (inside : List ℕ) (values : List (List ℕ)) (rest : List ℕ) → IsBytes inside → Leads outer [] inside values rest → Parts inside values rest
 parts_of inside values rest fits (c, r1, s1, p1, (k, r2, s2, p2, (o, r3, s3, p3, (n, r4, s4, p4, (b, r5, s5, p5, (l, r6, s6, p6, (same, left))))))) =
-    let f1 = behind (string c) r1 inside s1.spelled fits in
-    let f2 = behind (string k) r2 r1 s2.spelled f1 in
-    let f3 = behind (string o) r3 r2 s3.spelled f2 in
-    let f4 = behind _ r4 r3 s4.spelled f3 in
-    let f5 = behind (string b) r5 r4 s5.spelled f4 in
+    let f1 = after (string c) r1 inside s1.spelled fits in
+    let f2 = after (string k) r2 r1 s2.spelled f1 in
+    let f3 = after (string o) r3 r2 s3.spelled f2 in
+    let f4 = after _ r4 r3 s4.spelled f3 in
+    let f5 = after (string b) r5 r4 s5.spelled f4 in
     let key = no_fault_key (key_at b) p5 in
     record {
       cipher = c;
@@ -79,7 +79,7 @@ ended_err rest r d e = by_test (eqb (length rest) 0) refl e
     by_test true test given = inl (nil_from_length rest (eqb-true _ _ test), given)
     by_test false test given = inr (above_zero (length rest) test, cc)
 
--- what stands after the name of the format
+-- what is after the name of the format
 pub record Inside (inside blob comment : List ℕ) : Type 0 where
   pub list : List ℕ
   pub parts : HasParts inside blob list
@@ -132,7 +132,7 @@ inside_again inside blob comment is =
 
 -- ---- what is refused
 
--- the first fault of what stands after the name of the format
+-- the first fault of what is after the name of the format
 pub data IsInsideFault (inside : List ℕ) (fault : PrivateFault) : Type 0 where
   fails : Fails outer [] inside fault → IsInsideFault inside fault
   goes_on : (rest : List ℕ) (values : List (List ℕ)) → Leads outer [] inside values rest → 0 < length rest → fault ≡ faults.Trailing → IsInsideFault inside fault

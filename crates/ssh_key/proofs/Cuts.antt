@@ -6,7 +6,7 @@ use Rattle.ssh_wire.specs.declared.fault.WireFault.{WireFault}
 use Rattle.ssh_wire.specs.declared.fault.WireFault.TheVariants.{Short}
 use Rattle.ssh_wire.specs.Wire.{mpint, string}
 use Rattle.ssh_wire.specs.Reading.{mpint_at, string_at}
-use Rattle.ssh_wire.specs.Cut.{mpint-cut, string-cut, take-behind}
+use Rattle.ssh_wire.specs.Cut.{mpint-cut, string-cut, take-after}
 use Rattle.ssh_wire.specs.Fields.{length-mpint, length-string}
 use Rattle.ssh_wire.specs.Laws.{IsShortWhereCut}
 use Rattle.ssh_key.specs.declared.fault.KeyFault.TheVariants.{Wire}
@@ -29,19 +29,19 @@ pub string_cut : (text rest : List ℕ) (n : ℕ) → length text < 2 ^ 32 → n
 string_cut text rest n fits lt = cut_at string_at (string text) rest n (string-cut text fits) lt
 
 mpint_cut : (magnitude rest : List ℕ) (n : ℕ) → HasLength (mpint magnitude) → n < length (mpint magnitude) → mpint_at (take n (mpint magnitude ++ rest)) ≡ Err Short
-mpint_cut magnitude rest n told lt = cut_at mpint_at (mpint magnitude) rest n (mpint-cut magnitude (omega (arith, length-mpint magnitude))) lt
+mpint_cut magnitude rest n has_length lt = cut_at mpint_at (mpint magnitude) rest n (mpint-cut magnitude (omega (arith, length-mpint magnitude))) lt
 
 -- ---- fields
 
 text_cut : (value rest : List ℕ) (n : ℕ) → HasLength (string value) → n < length (string value) → string_at (take n (string value ++ rest)) ≡ Err Short
-text_cut value rest n told lt = string_cut value rest n (omega (arith, length-string value)) lt
+text_cut value rest n has_length lt = string_cut value rest n (omega (arith, length-string value)) lt
 
 field_cut : (field : Field) (value rest : List ℕ) (n : ℕ) → HasLength (field_text field value) → n < length (field_text field value) → Refuses field (take n (field_text field value ++ rest)) (Wire Short)
-field_cut Positive value rest n told lt = mpint_cut value rest n told lt
-field_cut (Curve name) value rest n told lt = text_cut value rest n told lt
-field_cut (Point size) value rest n told lt = text_cut value rest n told lt
-field_cut (Sized size) value rest n told lt = text_cut value rest n told lt
-field_cut Text value rest n told lt = text_cut value rest n told lt
+field_cut Positive value rest n has_length lt = mpint_cut value rest n has_length lt
+field_cut (Curve name) value rest n has_length lt = text_cut value rest n has_length lt
+field_cut (Point size) value rest n has_length lt = text_cut value rest n has_length lt
+field_cut (Sized size) value rest n has_length lt = text_cut value rest n has_length lt
+field_cut Text value rest n has_length lt = text_cut value rest n has_length lt
 
 fields_cut : (fields : List Field) (values : List (List ℕ)) (n : ℕ) → AreValues fields values → n < length (fields_text fields values) → RefusedIn fields (take n (fields_text fields values)) (Wire Short)
 fields_cut [] values n allowed lt = absurd (omega arith)
@@ -51,8 +51,8 @@ fields_cut (field ∷ fields) (value ∷ values) n allowed lt =
     let whole = length-append text (fields_text fields values) in
     elim (cases_lt n (length text)) [
       | inl within ↦ refused_first field fields (take n (text ++ fields_text fields values)) (Wire Short) (field_cut field value (fields_text fields values) n allowed.1 within)
-      | inr behind ↦
-          refused_later field fields (take n (text ++ fields_text fields values)) value (take (n - length text) (fields_text fields values)) (Wire Short) (take-behind text (fields_text fields values) n behind) allowed.0 allowed.1
+      | inr after ↦
+          refused_later field fields (take n (text ++ fields_text fields values)) value (take (n - length text) (fields_text fields values)) (Wire Short) (take-after text (fields_text fields values) n after) allowed.0 allowed.1
           (fields_cut fields values (n - length text) allowed.2 (omega arith))
     ]
 
@@ -74,7 +74,7 @@ key_cut blob key n is lt =
     elim (cases_lt n (length name)) [
       | inl within ↦
           not_long short (no_name Short (ap string_at cut ∙ string_cut (type_name key.kind) text n (omega (arith, length-type_name key.kind)) within) refl)
-      | inr behind ↦
-          not_long short (in_fields key.kind (take (n - length name) text) (cut ∙ take-behind name text n behind)
+      | inr after ↦
+          not_long short (in_fields key.kind (take (n - length name) text) (cut ∙ take-after name text n after)
           (refused_in_field key.kind (take (n - length name) text) (Wire Short) (fields_cut (fields_of key.kind) is.values (n - length name) is.allowed (omega arith))))
     ]

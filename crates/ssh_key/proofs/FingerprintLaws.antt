@@ -15,10 +15,10 @@ use Rattle.std.specs.Int.{to_be_bytes, w32}
 use Rattle.sha2.specs.Sha256.{digest_bytes, final_hash, initial_hash_256, sha256}
 use Rattle.sha2.proofs.Facts256.{length-sha256}
 use Rattle.ssh_wire.specs.Wire.{IsBytes}
-use Rattle.ssh_wire.specs.Digits.{IsBytes-append, IsBytes-behind, IsBytes-big, IsBytes-nil}
+use Rattle.ssh_wire.specs.Digits.{IsBytes-append, IsBytes-back, IsBytes-big, IsBytes-nil}
 use Rattle.ssh_key.specs.declared.hash.Hash.TheVariants.{Sha256}
 use Rattle.ssh_key.specs.Fingerprints.{fingerprint_text, unpadded}
-use Rattle.ssh_key.specs.FingerprintReading.{Encodes, GivesDigest, HasOtherBase64, IsFingerprint, IsFingerprintFault, IsToldFingerprintFault, fingerprint_at, sha256_prefix, sized}
+use Rattle.ssh_key.specs.FingerprintReading.{Encodes, GivesDigest, HasOtherBase64, IsFingerprint, IsFingerprintFault, IsReportedFingerprintFault, fingerprint_at, sha256_prefix, sized}
 use Rattle.ssh_key.specs.declared.fingerprint_fault.FingerprintFault.{FingerprintFault}
 use Rattle.ssh_key.specs.declared.fingerprint_fault.FingerprintFault.TheVariants.{Prefix, Base64, Length, NoMemory}
 use Rattle.ssh_key.proofs.DecodedBytes.{engine_fits}
@@ -32,15 +32,15 @@ prefix_taken text h = (starts_is Decides-eqb text sha256_prefix (starts_with nat
 prefix_met : (text rest : List ℕ) → text ≡ sha256_prefix ++ rest → starts_with nat_eq text sha256_prefix ≡ true
 prefix_met text rest e = (starts_is Decides-eqb text sha256_prefix (starts_with nat_eq text sha256_prefix) refl).1 rest e
 
-behind : (text rest : List ℕ) → text ≡ sha256_prefix ++ rest → drop 7 text ≡ rest
-behind text rest e = rw e (drop_at sha256_prefix rest 7 refl)
+after : (text rest : List ℕ) → text ≡ sha256_prefix ++ rest → drop 7 text ≡ rest
+after text rest e = rw e (drop_at sha256_prefix rest 7 refl)
 
 -- reading goes on after the prefix, or stops at it
 pub prefixed_at : (text rest : List ℕ) → text ≡ sha256_prefix ++ rest → fingerprint_at text ≡ sized (decode_of standard_no_pad rest)
 unfolding fingerprint_at
 prefixed_at text rest e =
     let met = prefix_met text rest e in
-    rw met (ap (λ (xs : List ℕ). sized (decode_of standard_no_pad xs)) (behind text rest e))
+    rw met (ap (λ (xs : List ℕ). sized (decode_of standard_no_pad xs)) (after text rest e))
 
 prefix_or_not : (text : List ℕ) → ((fingerprint_at text ≡ Err Prefix) × ((rest : List ℕ) → text ≢ sha256_prefix ++ rest)) ⊎ ((rest : List ℕ) × (text ≡ sha256_prefix ++ rest))
 unfolding fingerprint_at
@@ -80,7 +80,7 @@ sized_err (Ok bytes) fault e = by_test (eqb (length bytes) 32) refl e
 decoded_encodes : (text rest bytes : List ℕ) → IsBytes text → text ≡ sha256_prefix ++ rest → decode_of standard_no_pad rest ≡ Ok bytes → Encodes text bytes
 unfolding unpadded
 decoded_encodes text rest bytes fits e read =
-    let rest_fits : IsBytes rest = IsBytes-behind sha256_prefix rest (subst IsBytes e fits) in
+    let rest_fits : IsBytes rest = IsBytes-back sha256_prefix rest (subst IsBytes e fits) in
     record {
       spelled = e ∙ ap (λ (xs : List ℕ). sha256_prefix ++ xs) (decode_of_strict standard_no_pad rest bytes (refl, refl) rest_fits read);
       are_bytes = engine_fits standard_no_pad rest bytes rest_fits read;
@@ -131,12 +131,12 @@ prefix_stands text some = elim (prefix_or_not text) [
   | inr has ↦ has
 ]
 
-pub is_told : (text : List ℕ) (result : Result (List ℕ) FingerprintFault) → IsBytes text → GivesDigest result (fingerprint_at text) → IfErr result (IsToldFingerprintFault text)
-is_told text (Ok digest) fits given = tt
-is_told text (Err Prefix) fits given = fingerprint_refused text Prefix fits given
-is_told text (Err Base64) fits given = fingerprint_refused text Base64 fits given
-is_told text (Err Length) fits given = fingerprint_refused text Length fits given
-is_told text (Err NoMemory) fits given = prefix_stands text given
+pub is_reported : (text : List ℕ) (result : Result (List ℕ) FingerprintFault) → IsBytes text → GivesDigest result (fingerprint_at text) → IfErr result (IsReportedFingerprintFault text)
+is_reported text (Ok digest) fits given = tt
+is_reported text (Err Prefix) fits given = fingerprint_refused text Prefix fits given
+is_reported text (Err Base64) fits given = fingerprint_refused text Base64 fits given
+is_reported text (Err Length) fits given = fingerprint_refused text Length fits given
+is_reported text (Err NoMemory) fits given = prefix_stands text given
 
 -- ---- a first fault is what is met
 
@@ -151,7 +151,7 @@ fingerprint_fault_met text Base64 fits other = prefixed_at text other.rest other
     refused_base64 (Err error) e = refl
     refused_base64 (Ok bytes) e =
         let is = decoded_encodes text other.rest bytes fits other.prefixed e in
-        absurd (other.none bytes is.are_bytes (sym (behind text (unpadded bytes) is.spelled) ∙ behind text other.rest other.prefixed))
+        absurd (other.none bytes is.are_bytes (sym (after text (unpadded bytes) is.spelled) ∙ after text other.rest other.prefixed))
 fingerprint_fault_met text Length fits other =
     let test : eqb (length other.0) 32 ≡ false = ne_eqb (length other.0) 32 other.2 in
     prefixed_at text (unpadded other.0) other.1.spelled ∙ rw (encoded_again other.0 other.1.are_bytes, test) refl

@@ -5,7 +5,7 @@ use Rattle.std.specs.Option.{ok_or}
 use Rattle.std.proofs.lemmas.Bool.{eqb-true, ltb-false, le-ltb}
 use Rattle.std.proofs.lemmas.List.{append-nil, nil_from_length, length-append, take_at}
 use Rattle.ssh_wire.specs.Wire.{IsBytes, string}
-use Rattle.ssh_wire.specs.Digits.{IsBytes-append, IsBytes-behind}
+use Rattle.ssh_wire.specs.Digits.{IsBytes-append, IsBytes-back}
 use Rattle.ssh_wire.specs.Reading.{◌>>=◌, Gives, in_fault, string_at}
 use Rattle.ssh_wire.specs.Fields.{HasFront, IsBytes-string, string_again, string_takes}
 use Rattle.ssh_key.specs.declared.fault.KeyFault.{KeyFault}
@@ -196,8 +196,8 @@ only_key blob a b p q = ok_is a b (key_at blob) (key_again blob a p) (key_again 
 
 pub only_blob : (a b : List ℕ) (k l : Key) → IsBytes a → IsBytes b → (p : IsKey a k) (q : IsKey b l) → k.kind ≡ l.kind → SameValues (fields_of k.kind) p.values q.values → a ≡ b
 only_blob a b k l bytes_a bytes_b p q kinds same =
-    let fields_a : IsBytes k.fields = IsBytes-behind (string (type_name k.kind)) k.fields (subst IsBytes p.spelled bytes_a) in
-    let fields_b : IsBytes l.fields = IsBytes-behind (string (type_name l.kind)) l.fields (subst IsBytes q.spelled bytes_b) in
+    let fields_a : IsBytes k.fields = IsBytes-back (string (type_name k.kind)) k.fields (subst IsBytes p.spelled bytes_a) in
+    let fields_b : IsBytes l.fields = IsBytes-back (string (type_name l.kind)) l.fields (subst IsBytes q.spelled bytes_b) in
     let allowed : AreValues (fields_of k.kind) q.values = subst (λ (kind : Kind). AreValues (fields_of kind) q.values) (sym kinds) q.allowed in
     let spelled : l.fields ≡ fields_text (fields_of k.kind) q.values = q.fields ∙ ap (λ (kind : Kind). fields_text (fields_of kind) q.values) (sym kinds) in
     let values : p.values ≡ q.values = values_same (fields_of k.kind) p.values q.values (subst IsBytes p.fields fields_a) (subst IsBytes spelled fields_b) p.allowed allowed same in

@@ -6,8 +6,8 @@ use Rattle.ssh_key.specs.declared.line.Line.{Line}
 use Rattle.ssh_key.specs.declared.line_fault.LineFault.{LineFault}
 use Rattle.ssh_key.specs.declared.line_fault.LineFault.TheVariants.{NoKey, Base64, WordDiffers, NoMemory}
 use Rattle.ssh_key.specs.KeyLine.{HasWords, base64}
-use Rattle.ssh_key.specs.LineFaults.{EncodesOtherKey, HasBadBase64, HasSomeWords, IsFirstLineFault, IsToldFault}
-use Rattle.ssh_key.specs.LineReading.{TellsFault, checked, content_of, decoded, has_word, line_at}
+use Rattle.ssh_key.specs.LineFaults.{EncodesOtherKey, HasBadBase64, HasSomeWords, IsFirstLineFault, IsReportedFault}
+use Rattle.ssh_key.specs.LineReading.{ReportsFault, checked, content_of, decoded, has_word, line_at}
 use Rattle.ssh_key.proofs.LineBase64.{decoded_again, decoded_bytes, decoded_cases, decoded_takes}
 use Rattle.ssh_key.proofs.LineLaws.{word_again, word_takes}
 use Rattle.ssh_wire.specs.Steps.{err_is, ok_or_err}
@@ -102,9 +102,9 @@ words_stand text some = elim (none_or_words text) [
   | inr has ↦ has
 ]
 
-pub is_told : (text : List ℕ) (result : Result Line LineFault) → IsBytes text → Answers TellsFault content_of result (line_at text) → IfErr result (IsToldFault text)
-is_told text (Ok line) fits exact = tt
-is_told text (Err NoKey) fits exact = line_refused text NoKey fits exact
-is_told text (Err Base64) fits exact = line_refused text Base64 fits exact
-is_told text (Err WordDiffers) fits exact = line_refused text WordDiffers fits exact
-is_told text (Err NoMemory) fits exact = words_stand text exact
+pub is_reported : (text : List ℕ) (result : Result Line LineFault) → IsBytes text → Answers ReportsFault content_of result (line_at text) → IfErr result (IsReportedFault text)
+is_reported text (Ok line) fits exact = tt
+is_reported text (Err NoKey) fits exact = line_refused text NoKey fits exact
+is_reported text (Err Base64) fits exact = line_refused text Base64 fits exact
+is_reported text (Err WordDiffers) fits exact = line_refused text WordDiffers fits exact
+is_reported text (Err NoMemory) fits exact = words_stand text exact

@@ -5,7 +5,7 @@ use Rattle.std.proofs.lemmas.List.{append_assoc}
 use Rattle.std.proofs.lemmas.Option.{same_Some, none-some}
 use Rattle.ssh_key.specs.Blanks.{is_blank}
 use Rattle.ssh_key.specs.KeyLine.{IsNoPair, Options, Quoted, options_byte, options_end, options_pair, options_quoted, quoted_byte, quoted_end, quoted_pair}
-use Rattle.ssh_key.specs.LineReading.{after_options, quoted_behind}
+use Rattle.ssh_key.specs.LineReading.{after_options, quoted_after}
 use Rattle.ssh_key.proofs.LineWords.{FailsFirst, not_blank}
 
 -- ---- a step of the scan
@@ -14,7 +14,7 @@ pub ends : (quoted escaped : Bool) (byte : ℕ) (rest : List ℕ) → is_blank b
 unfolding after_options
 ends quoted escaped byte rest blank out = rw (blank, out) refl
 
-pub goes_on : (quoted escaped : Bool) (byte : ℕ) (rest : List ℕ) → (is_blank byte && not quoted) ≡ false → after_options quoted escaped (byte ∷ rest) ≡ after_options (quoted_behind quoted escaped byte) (byte == 92) rest
+pub goes_on : (quoted escaped : Bool) (byte : ℕ) (rest : List ℕ) → (is_blank byte && not quoted) ≡ false → after_options quoted escaped (byte ∷ rest) ≡ after_options (quoted_after quoted escaped byte) (byte == 92) rest
 unfolding after_options
 goes_on quoted escaped byte rest inside = rw inside refl
 
@@ -29,7 +29,7 @@ outside : (byte : ℕ) → is_blank byte ≡ false → (is_blank byte && not fal
 outside byte no_blank = rw no_blank refl
 
 -- a byte that is no quote changes nothing
-plain : (quoted escaped : Bool) (byte : ℕ) → byte ≢ 34 → quoted_behind quoted escaped byte ≡ quoted
+plain : (quoted escaped : Bool) (byte : ℕ) → byte ≢ 34 → quoted_after quoted escaped byte ≡ quoted
 plain quoted escaped byte other = rw (ne_eqb byte 34 other) refl
 
 -- the text does not begin with a quote

@@ -30,8 +30,8 @@ prefix_len-front p xs (y ∷ ys) each stops =
     (λ k h. ap p (get_or_append_left xs (y ∷ ys) 0 k h) ∙ each k 0 h)
     (λ h. ap p (get_or_at xs y ys 0 (length xs) refl) ∙ stops)
 
-pub stops_behind : (p : ℕ → Bool) (xs : List ℕ) → FailsFirst p (drop (prefix_len p xs) xs)
-stops_behind p xs = elim (cases_lt (prefix_len p xs) (length xs)) [
+pub stops_after : (p : ℕ → Bool) (xs : List ℕ) → FailsFirst p (drop (prefix_len p xs) xs)
+stops_after p xs = elim (cases_lt (prefix_len p xs) (length xs)) [
   | inl lt ↦ subst (FailsFirst p) (sym (drop_more xs (prefix_len p xs) 0 lt)) (prefix_len_stops p xs 0 lt)
   | inr le ↦ subst (FailsFirst p) (sym (drop_all (prefix_len p xs) xs le)) tt
 ]
@@ -55,7 +55,7 @@ blanks_front blanks rest each ends = rw (prefix_len-front is_blank blanks rest e
 
 pub word_cut : (text : List ℕ) → (text ≡ first_word text ++ after_word text) × FailsFirst not_blank (after_word text)
 unfolding first_word after_word
-word_cut text = (sym (take-append-drop (prefix_len not_blank text) text), stops_behind not_blank text)
+word_cut text = (sym (take-append-drop (prefix_len not_blank text) text), stops_after not_blank text)
 
 -- the blanks that `after_blanks` leaves out
 abbrev pub leading : List ℕ → List ℕ
@@ -63,7 +63,7 @@ leading text = take (prefix_len is_blank text) text
 
 pub blanks_cut : (text : List ℕ) → (text ≡ leading text ++ after_blanks text) × FailsFirst is_blank (after_blanks text) × AllPass is_blank (leading text)
 unfolding after_blanks
-blanks_cut text = (sym (take-append-drop (prefix_len is_blank text) text), stops_behind is_blank text, front_passes is_blank text)
+blanks_cut text = (sym (take-append-drop (prefix_len is_blank text) text), stops_after is_blank text, front_passes is_blank text)
 
 pub fails_bare : (text : List ℕ) → BeginsWithNoBlank text → FailsFirst is_blank text
 fails_bare [] h = tt
@@ -110,7 +110,7 @@ comment_cut (byte ∷ rest) stops =
     let one : prefix_len is_blank (byte ∷ rest) ≡ 1 + prefix_len is_blank rest = rw blank refl in
     let are : AreBlanks (leading (byte ∷ rest)) = record { some = omega (arith, one, length-take (prefix_len is_blank (byte ∷ rest)) (byte ∷ rest)); each = front_passes is_blank (byte ∷ rest) } in
     let comment : List ℕ = drop (prefix_len is_blank (byte ∷ rest)) (byte ∷ rest) in
-    let bare = bare_fails comment (stops_behind is_blank (byte ∷ rest)) in
+    let bare = bare_fails comment (stops_after is_blank (byte ∷ rest)) in
     subst (λ (text : List ℕ). Comment text comment) (take-append-drop (prefix_len is_blank (byte ∷ rest)) (byte ∷ rest)) (comment_after (leading (byte ∷ rest)) comment are bare)
 
 pub comment_stops : (end comment : List ℕ) → Comment end comment → FailsFirst not_blank end × (after_blanks end ≡ comment)

@@ -3,7 +3,7 @@ use Rattle.std.proofs.Common.{◌≡◌, ℕ, suc, ◌+◌, ◌*◌, ◌^◌, �
 use Rattle.std.proofs.lemmas.Nat.{pow-add, leading_top}
 use Rattle.std.proofs.Math.Nat.{pow-suc, mul-le-mul_left}
 use Rattle.ssh_wire.specs.Wire.{IsBytes, complement, mpint, number_of}
-use Rattle.ssh_wire.specs.Digits.{IsBytes-behind, IsBytes-front, IsBytes-tail, bytes_as_bits}
+use Rattle.ssh_wire.specs.Digits.{IsBytes-back, IsBytes-front, IsBytes-tail, bytes_as_bits}
 use Rattle.ssh_wire.specs.Fields.{IsBytes-in_string}
 use Rattle.ssh_wire.specs.Magnitudes.{IsBytes-complement, number_of-cons, number_of-lt, same_magnitude}
 use Rattle.ssh_key.specs.Kind.{Field, Positive, Curve, Point, Sized, Text, bit_count}
@@ -34,7 +34,7 @@ values_same (field ∷ fields) [] right h k p q same = absurd p
 values_same (field ∷ fields) (a ∷ left) [] h k p q same = absurd q
 values_same (field ∷ fields) (a ∷ left) (b ∷ right) h k p q same =
     let first : a ≡ b = value_same field a b (IsBytes-front (field_text field a) (fields_text fields left) h) (IsBytes-front (field_text field b) (fields_text fields right) k) p.0 q.0 same.0 in
-    let later : left ≡ right = values_same fields left right (IsBytes-behind (field_text field a) (fields_text fields left) h) (IsBytes-behind (field_text field b) (fields_text fields right) k) p.2 q.2 same.1 in
+    let later : left ≡ right = values_same fields left right (IsBytes-back (field_text field a) (fields_text fields left) h) (IsBytes-back (field_text field b) (fields_text fields right) k) p.2 q.2 same.1 in
     cc (first, later)
 
 -- ---- bits

@@ -8,10 +8,10 @@ use Rattle.base64.proofs.EngineFacts.{decode_of-encode_of, decode_of_strict}
 use Rattle.base64.specs.Engines.{standard}
 use Rattle.base64.specs.GeneralPurpose.{decode_of}
 use Rattle.ssh_wire.specs.Wire.{IsBytes}
-use Rattle.ssh_wire.specs.Digits.{IsBytes-behind}
+use Rattle.ssh_wire.specs.Digits.{IsBytes-back}
 use Rattle.ssh_wire.specs.Reading.{◌>>=◌, in_fault}
 use Rattle.ssh_key.specs.Armour.{IsArmour, armour_at}
-use Rattle.ssh_key.specs.Container.{Holds, IsContainer, IsPrivateFault, IsToldPrivateFault, after_parts, in_list, in_parts, magic, no_armour, no_base64, no_magic}
+use Rattle.ssh_key.specs.Container.{Holds, IsContainer, IsPrivateFault, IsReportedPrivateFault, after_parts, in_list, in_parts, magic, no_armour, no_base64, no_magic}
 use Rattle.ssh_key.specs.ContainerReading.{GivesPrivate, Opened, body_at, bytes_at, decoded_at, inside_at, opened_of, private_at, some_body}
 use Rattle.ssh_key.specs.KeyLine.{base64}
 use Rattle.ssh_key.specs.declared.container.Private.{Private}
@@ -29,14 +29,14 @@ length-magic : length magic ≡ 15
 unfolding magic
 length-magic = refl
 
-behind_magic : (bytes inside : List ℕ) → bytes ≡ magic ++ inside → drop 15 bytes ≡ inside
-behind_magic bytes inside e = ap (drop 15) e ∙ drop_at magic inside 15 length-magic
+after_magic : (bytes inside : List ℕ) → bytes ≡ magic ++ inside → drop 15 bytes ≡ inside
+after_magic bytes inside e = ap (drop 15) e ∙ drop_at magic inside 15 length-magic
 
 bytes_read : (inside : List ℕ) → bytes_at (magic ++ inside) ≡ inside_at inside
 unfolding bytes_at
 bytes_read inside =
     let met = front_met (magic ++ inside) magic inside refl in
-    rw (met, behind_magic (magic ++ inside) inside refl) refl
+    rw (met, after_magic (magic ++ inside) inside refl) refl
 
 bytes_cases : (bytes : List ℕ) → ((bytes_at bytes ≡ Err faults.Magic) × ((rest : List ℕ) → bytes ≢ magic ++ rest)) ⊎ ((inside : List ℕ) × (bytes ≡ magic ++ inside))
 unfolding bytes_at
@@ -90,7 +90,7 @@ found_in text bytes o holds e = elim (bytes_cases bytes) [
   | inl not ↦ absurd (ok_or_err o faults.Magic (bytes_at bytes) e not.0)
   | inr has ↦
       let read : inside_at has.0 ≡ Ok o = sym (bytes_read has.0) ∙ ap bytes_at (sym has.1) ∙ e in
-      let inside_fits = IsBytes-behind magic has.0 (subst IsBytes has.1 holds.are_bytes) in
+      let inside_fits = IsBytes-back magic has.0 (subst IsBytes has.1 holds.are_bytes) in
       container_of text has.0 o.blob o.comment (subst (Holds text) has.1 holds) (inside_found has.0 o inside_fits read)
 ]
 
@@ -128,7 +128,7 @@ refused_in text bytes fault holds e = elim (bytes_cases bytes) [
   | inl not ↦ no_magic bytes holds not.1 (sym (err_is faults.Magic fault (bytes_at bytes) not.0 e))
   | inr has ↦
       let read : inside_at has.0 ≡ Err fault = sym (bytes_read has.0) ∙ ap bytes_at (sym has.1) ∙ e in
-      let inside_fits = IsBytes-behind magic has.0 (subst IsBytes has.1 holds.are_bytes) in
+      let inside_fits = IsBytes-back magic has.0 (subst IsBytes has.1 holds.are_bytes) in
       inside_fault text has.0 fault (subst (Holds text) has.1 holds) (inside_refused has.0 fault inside_fits read)
 ]
 
@@ -195,17 +195,17 @@ has_armour : (text : List ℕ) (o : Option (List ℕ)) → armour_at text ≡ o 
 has_armour text None e some = absurd (some refl)
 has_armour text (Some body) e some = (body, armour_found text body e)
 
-pub is_told : (text : List ℕ) (result : Result Private PrivateFault) → IsBytes text → GivesPrivate result (private_at text) → (result ≡ Err faults.NoMemory → armour_at text ≢ None) → IfErr result (IsToldPrivateFault text)
-is_told text (Ok private) fits given armoured = tt
-is_told text (Err faults.Armour) fits given armoured = private_refused text faults.Armour fits given
-is_told text (Err faults.Base64) fits given armoured = private_refused text faults.Base64 fits given
-is_told text (Err faults.Magic) fits given armoured = private_refused text faults.Magic fits given
-is_told text (Err faults.Encrypted) fits given armoured = private_refused text faults.Encrypted fits given
-is_told text (Err faults.KeyCount) fits given armoured = private_refused text faults.KeyCount fits given
-is_told text (Err faults.Check) fits given armoured = private_refused text faults.Check fits given
-is_told text (Err (faults.Key k)) fits given armoured = private_refused text (faults.Key k) fits given
-is_told text (Err faults.PublicDiffers) fits given armoured = private_refused text faults.PublicDiffers fits given
-is_told text (Err faults.Padding) fits given armoured = private_refused text faults.Padding fits given
-is_told text (Err faults.Trailing) fits given armoured = private_refused text faults.Trailing fits given
-is_told text (Err (faults.Wire w)) fits given armoured = private_refused text (faults.Wire w) fits given
-is_told text (Err faults.NoMemory) fits given armoured = has_armour text (armour_at text) refl (armoured refl)
+pub is_reported : (text : List ℕ) (result : Result Private PrivateFault) → IsBytes text → GivesPrivate result (private_at text) → (result ≡ Err faults.NoMemory → armour_at text ≢ None) → IfErr result (IsReportedPrivateFault text)
+is_reported text (Ok private) fits given armoured = tt
+is_reported text (Err faults.Armour) fits given armoured = private_refused text faults.Armour fits given
+is_reported text (Err faults.Base64) fits given armoured = private_refused text faults.Base64 fits given
+is_reported text (Err faults.Magic) fits given armoured = private_refused text faults.Magic fits given
+is_reported text (Err faults.Encrypted) fits given armoured = private_refused text faults.Encrypted fits given
+is_reported text (Err faults.KeyCount) fits given armoured = private_refused text faults.KeyCount fits given
+is_reported text (Err faults.Check) fits given armoured = private_refused text faults.Check fits given
+is_reported text (Err (faults.Key k)) fits given armoured = private_refused text (faults.Key k) fits given
+is_reported text (Err faults.PublicDiffers) fits given armoured = private_refused text faults.PublicDiffers fits given
+is_reported text (Err faults.Padding) fits given armoured = private_refused text faults.Padding fits given
+is_reported text (Err faults.Trailing) fits given armoured = private_refused text faults.Trailing fits given
+is_reported text (Err (faults.Wire w)) fits given armoured = private_refused text (faults.Wire w) fits given
+is_reported text (Err faults.NoMemory) fits given armoured = has_armour text (armour_at text) refl (armoured refl)

@@ -13,7 +13,7 @@ use Rattle.ssh_key.specs.Kind.{Field, Positive, Curve, Point, Sized, Text}
 use Rattle.ssh_key.specs.Key.{HasLength, IsUncompressed, IsValue, AreValues, field_text, fields_text}
 use Rattle.ssh_key.specs.KeyReading.{value_at, fault_in, begins_with_4, unless, field_at, fields_at}
 use Rattle.ssh_wire.specs.Steps.{bind_ok, in_fault_ok}
-use Rattle.ssh_key.proofs.Wire.{magnitude_is_positive, mpint_told, positive_again}
+use Rattle.ssh_key.proofs.Wire.{magnitude_is_positive, mpint_has_length, positive_again}
 
 -- ---- one field
 
@@ -55,15 +55,15 @@ value_allowed (Sized size) bytes value rest fits e none = eqb-true _ _ (passed (
 value_allowed Text bytes value rest fits e none = tt
 
 -- a string whose length four bytes can tell
-string_told : (value : List ℕ) → length value < 2 ^ 32 → HasLength (string value)
-string_told value lt = omega (arith, length-string value)
+string_has_length : (value : List ℕ) → length value < 2 ^ 32 → HasLength (string value)
+string_has_length value lt = omega (arith, length-string value)
 
-pub value_told : (field : Field) (bytes value rest : List ℕ) → IsBytes bytes → value_at field bytes ≡ Ok (value, rest) → HasLength (field_text field value)
-value_told Positive bytes value rest fits e = mpint_told value (mpint_takes bytes value rest fits (in_fault_ok faults.Wire (mpint_at bytes) (value, rest) e)).2
-value_told (Curve name) bytes value rest fits e = string_told value (string_takes bytes value rest fits (in_fault_ok faults.Wire (string_at bytes) (value, rest) e)).1
-value_told (Point size) bytes value rest fits e = string_told value (string_takes bytes value rest fits (in_fault_ok faults.Wire (string_at bytes) (value, rest) e)).1
-value_told (Sized size) bytes value rest fits e = string_told value (string_takes bytes value rest fits (in_fault_ok faults.Wire (string_at bytes) (value, rest) e)).1
-value_told Text bytes value rest fits e = string_told value (string_takes bytes value rest fits (in_fault_ok faults.Wire (string_at bytes) (value, rest) e)).1
+pub value_has_length : (field : Field) (bytes value rest : List ℕ) → IsBytes bytes → value_at field bytes ≡ Ok (value, rest) → HasLength (field_text field value)
+value_has_length Positive bytes value rest fits e = mpint_has_length value (mpint_takes bytes value rest fits (in_fault_ok faults.Wire (mpint_at bytes) (value, rest) e)).2
+value_has_length (Curve name) bytes value rest fits e = string_has_length value (string_takes bytes value rest fits (in_fault_ok faults.Wire (string_at bytes) (value, rest) e)).1
+value_has_length (Point size) bytes value rest fits e = string_has_length value (string_takes bytes value rest fits (in_fault_ok faults.Wire (string_at bytes) (value, rest) e)).1
+value_has_length (Sized size) bytes value rest fits e = string_has_length value (string_takes bytes value rest fits (in_fault_ok faults.Wire (string_at bytes) (value, rest) e)).1
+value_has_length Text bytes value rest fits e = string_has_length value (string_takes bytes value rest fits (in_fault_ok faults.Wire (string_at bytes) (value, rest) e)).1
 
 pub field_takes : (field : Field) (bytes value rest : List ℕ) → IsBytes bytes → field_at field bytes ≡ Ok (value, rest) → HasFront bytes (field_text field value) rest × IsValue field value × HasLength (field_text field value)
 unfolding field_at
@@ -71,7 +71,7 @@ field_takes field bytes value rest fits e =
     let a = bind_ok (value_at field bytes) (λ read. unless (fault_in field read.0) read) (value, rest) e in
     let u = unless_ok (fault_in field a.0.0) a.0 (value, rest) a.2 in
     subst (λ (x : List ℕ × List ℕ). HasFront bytes (field_text field x.0) x.1 × IsValue field x.0 × HasLength (field_text field x.0)) u.1
-    (value_takes field bytes a.0.0 a.0.1 fits a.1, value_allowed field bytes a.0.0 a.0.1 fits a.1 u.0, value_told field bytes a.0.0 a.0.1 fits a.1)
+    (value_takes field bytes a.0.0 a.0.1 fits a.1, value_allowed field bytes a.0.0 a.0.1 fits a.1 u.0, value_has_length field bytes a.0.0 a.0.1 fits a.1)
 
 value_again : (field : Field) (value rest : List ℕ) → IsValue field value → HasLength (field_text field value) → value_at field (field_text field value ++ rest) ≡ Ok (value, rest)
 value_again Positive value rest allowed lt = rw (positive_again value rest allowed lt) refl

@@ -17,7 +17,7 @@ use Rattle.ssh_key.specs.Key.{HasLength, IsUncompressed, IsValue, AreValues, fie
 use Rattle.ssh_key.specs.KeyReading.{value_at, fault_in, begins_with_4, unless, field_at, fields_at}
 use Rattle.ssh_key.specs.FirstFault.{Refuses}
 use Rattle.ssh_wire.specs.Steps.{bind_err, in_fault_err, never_err}
-use Rattle.ssh_key.proofs.Public.{begins-uncompressed, uncompressed-begins, value_takes, value_told, field_takes, field_again}
+use Rattle.ssh_key.proofs.Public.{begins-uncompressed, uncompressed-begins, value_takes, value_has_length, field_takes, field_again}
 
 unless_err : {A : Type 0} (o : Option KeyFault) (x : A) (d : KeyFault) → unless o x ≡ Err d → o ≡ Some d
 unless_err None x d e = absurd cc
@@ -32,7 +32,7 @@ unfolding mpint complement
 mpint-zero = refl
 
 begins : (bytes value rest : List ℕ) → HasFront bytes (string value) rest → HasLength (string value) → BeginsWith bytes value
-begins bytes value rest t told = record { rest = rest; spelled = t.parts; fits = omega (arith, length-string value) }
+begins bytes value rest t has_length = record { rest = rest; spelled = t.parts; fits = omega (arith, length-string value) }
 
 -- ---- what is refused
 
@@ -51,31 +51,31 @@ not_both size value e h =
     let both : (eqb (length value) size && begins_with_4 value) ≡ true = rw (first, second) refl in
     cc
 
--- a value that may not stand in the field
+-- a value that may not be in the field
 judged_refused : (field : Field) (bytes value rest : List ℕ) (fault : KeyFault) → HasFront bytes (field_text field value) rest → HasLength (field_text field value) → fault_in field value ≡ Some fault → Refuses field bytes fault
-judged_refused Positive bytes value rest fault t told e =
+judged_refused Positive bytes value rest fault t has_length e =
     let w = cond_some (eqb (length value) 0) Number fault e in
     let empty : value ≡ [] = nil_from_length value (eqb-true _ _ w.0) in
     let zero_string : mpint value ≡ string [] = ap mpint empty ∙ mpint-zero in
     subst (λ (d : KeyFault). Refuses Positive bytes d) w.1 (record { rest = rest; spelled = t.parts ∙ ap (λ (x : List ℕ). x ++ rest) zero_string; fits = omega arith })
-judged_refused (Curve name) bytes value rest fault t told e =
+judged_refused (Curve name) bytes value rest fault t has_length e =
     let w = none_is (bytes_eq value name) faults.Curve fault e in
     let differs : value ≢ name = λ same. let h : bytes_eq value name ≡ true = (bytes_eq-Decides value name).1 same in cc in
-    subst (λ (d : KeyFault). Refuses (Curve name) bytes d) w.1 (record { value = value; begins = begins bytes value rest t told; other = differs })
-judged_refused (Point size) bytes value rest fault t told e =
+    subst (λ (d : KeyFault). Refuses (Curve name) bytes d) w.1 (record { value = value; begins = begins bytes value rest t has_length; other = differs })
+judged_refused (Point size) bytes value rest fault t has_length e =
     let w = none_is (eqb (length value) size && begins_with_4 value) faults.Point fault e in
-    subst (λ (d : KeyFault). Refuses (Point size) bytes d) w.1 (record { value = value; begins = begins bytes value rest t told; other = not_both size value w.0 })
-judged_refused (Sized size) bytes value rest fault t told e =
+    subst (λ (d : KeyFault). Refuses (Point size) bytes d) w.1 (record { value = value; begins = begins bytes value rest t has_length; other = not_both size value w.0 })
+judged_refused (Sized size) bytes value rest fault t has_length e =
     let w = none_is (eqb (length value) size) Length fault e in
-    subst (λ (d : KeyFault). Refuses (Sized size) bytes d) w.1 (record { value = value; begins = begins bytes value rest t told; other = eqb-false _ _ w.0 })
-judged_refused Text bytes value rest fault t told e = absurd cc
+    subst (λ (d : KeyFault). Refuses (Sized size) bytes d) w.1 (record { value = value; begins = begins bytes value rest t has_length; other = eqb-false _ _ w.0 })
+judged_refused Text bytes value rest fault t has_length e = absurd cc
 
 field_refused : (field : Field) (bytes : List ℕ) (fault : KeyFault) → IsBytes bytes → field_at field bytes ≡ Err fault → Refuses field bytes fault
 unfolding field_at
 field_refused field bytes fault fits e =
     elim (bind_err (value_at field bytes) (λ read. unless (fault_in field read.0) read) fault e) [
       | inl misspelt ↦ value_refused field bytes fault misspelt
-      | inr step ↦ judged_refused field bytes step.0.0 step.0.1 fault (value_takes field bytes step.0.0 step.0.1 fits step.1) (value_told field bytes step.0.0 step.0.1 fits step.1) (unless_err (fault_in field step.0.0) step.0 fault step.2)
+      | inr step ↦ judged_refused field bytes step.0.0 step.0.1 fault (value_takes field bytes step.0.0 step.0.1 fits step.1) (value_has_length field bytes step.0.0 step.0.1 fits step.1) (unless_err (fault_in field step.0.0) step.0 fault step.2)
     ]
 
 -- the fields up to the one that is refused
@@ -94,14 +94,14 @@ pub refused_first : (field : Field) (fields : List Field) (bytes : List ℕ) (fa
 refused_first field fields bytes fault refused = record { before = []; field = field; later = fields; values = []; rest = bytes; parts = refl; allowed = tt; spelled = refl; refused = refused }
 
 pub refused_later : (field : Field) (fields : List Field) (bytes value after : List ℕ) (fault : KeyFault) → bytes ≡ field_text field value ++ after → IsValue field value → HasLength (field_text field value) → RefusedIn fields after fault → RefusedIn (field ∷ fields) bytes fault
-refused_later field fields bytes value after fault parts allowed told s = record {
+refused_later field fields bytes value after fault parts allowed has_length s = record {
   before = field ∷ s.before;
   field = s.field;
   later = s.later;
   values = value ∷ s.values;
   rest = s.rest;
   parts = ap (λ (fs : List Field). field ∷ fs) s.parts;
-  allowed = (allowed, told, s.allowed);
+  allowed = (allowed, has_length, s.allowed);
   spelled = parts ∙ ap (λ (x : List ℕ). field_text field value ++ x) s.spelled ∙ sym (append_assoc (field_text field value) (fields_text s.before s.values) s.rest);
   refused = s.refused;
 }

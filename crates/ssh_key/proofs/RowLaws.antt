@@ -67,28 +67,28 @@ unfolding row_at
 row_takes [] values bytes x fits e =
     let same : (values, bytes) ≡ x = cc in
     record { leads = (ap (λ (p : List (List ℕ) × List ℕ). p.0) same, ap (λ (p : List (List ℕ) × List ℕ). p.1) same); rest_fits = subst (λ (p : List (List ℕ) × List ℕ). IsBytes p.1) same fits }
-row_takes (due ∷ steps) values bytes x fits e =
-    let a = bind_ok (in_fault Wire (part_at due.part bytes)) (λ read. unless_judged (due.judged (values ++ read.0 ∷ [])) (row_at steps (values ++ read.0 ∷ []) read.1)) x e in
-    let t = part_takes due.part bytes a.0.0 a.0.1 fits (in_fault_ok Wire (part_at due.part bytes) a.0 a.1) in
-    let j = judged_ok (due.judged (values ++ a.0.0 ∷ [])) (row_at steps (values ++ a.0.0 ∷ []) a.0.1) x a.2 in
+row_takes (expected ∷ steps) values bytes x fits e =
+    let a = bind_ok (in_fault Wire (part_at expected.part bytes)) (λ read. unless_judged (expected.judged (values ++ read.0 ∷ [])) (row_at steps (values ++ read.0 ∷ []) read.1)) x e in
+    let t = part_takes expected.part bytes a.0.0 a.0.1 fits (in_fault_ok Wire (part_at expected.part bytes) a.0 a.1) in
+    let j = judged_ok (expected.judged (values ++ a.0.0 ∷ [])) (row_at steps (values ++ a.0.0 ∷ []) a.0.1) x a.2 in
     let later = row_takes steps (values ++ a.0.0 ∷ []) a.0.1 x t.rest_fits j.1 in
     record { leads = (a.0.0, a.0.1, t.stands, j.0, later.leads); rest_fits = later.rest_fits }
 
 pub row_again : (steps : List Step) (values : List (List ℕ)) (bytes : List ℕ) (after : List (List ℕ)) (rest : List ℕ) → Leads steps values bytes after rest → row_at steps values bytes ≡ Ok (after, rest)
 unfolding row_at
 row_again [] values bytes after rest l = rw (l.0, l.1) refl
-row_again (due ∷ steps) values bytes after rest (value, left, stands, passed, l) =
-    rw (part_again due.part bytes value left stands, passed) (row_again steps (values ++ value ∷ []) left after rest l)
+row_again (expected ∷ steps) values bytes after rest (value, left, stands, passed, l) =
+    rw (part_again expected.part bytes value left stands, passed) (row_again steps (values ++ value ∷ []) left after rest l)
 
 pub row_refused : (steps : List Step) (values : List (List ℕ)) (bytes : List ℕ) (fault : PrivateFault) → IsBytes bytes → row_at steps values bytes ≡ Err fault → Fails steps values bytes fault
 unfolding row_at
 row_refused [] values bytes fault fits e = absurd cc
-row_refused (due ∷ steps) values bytes fault fits e =
-    elim (bind_err (in_fault Wire (part_at due.part bytes)) (λ read. unless_judged (due.judged (values ++ read.0 ∷ [])) (row_at steps (values ++ read.0 ∷ []) read.1)) fault e) [
-      | inl cut ↦ inl (in_fault_err Wire (part_at due.part bytes) fault cut)
+row_refused (expected ∷ steps) values bytes fault fits e =
+    elim (bind_err (in_fault Wire (part_at expected.part bytes)) (λ read. unless_judged (expected.judged (values ++ read.0 ∷ [])) (row_at steps (values ++ read.0 ∷ []) read.1)) fault e) [
+      | inl cut ↦ inl (in_fault_err Wire (part_at expected.part bytes) fault cut)
       | inr read ↦
-          let t = part_takes due.part bytes read.0.0 read.0.1 fits (in_fault_ok Wire (part_at due.part bytes) read.0 read.1) in
-          elim (judged_err (due.judged (values ++ read.0.0 ∷ [])) (row_at steps (values ++ read.0.0 ∷ []) read.0.1) fault read.2) [
+          let t = part_takes expected.part bytes read.0.0 read.0.1 fits (in_fault_ok Wire (part_at expected.part bytes) read.0 read.1) in
+          elim (judged_err (expected.judged (values ++ read.0.0 ∷ [])) (row_at steps (values ++ read.0.0 ∷ []) read.0.1) fault read.2) [
             | inl refused ↦ inr (read.0.0, read.0.1, t.stands, inl refused)
             | inr passed ↦ inr (read.0.0, read.0.1, t.stands, inr (passed.0, row_refused steps (values ++ read.0.0 ∷ []) read.0.1 fault t.rest_fits passed.1))
           ]
@@ -97,7 +97,7 @@ row_refused (due ∷ steps) values bytes fault fits e =
 pub row_fails : (steps : List Step) (values : List (List ℕ)) (bytes : List ℕ) (fault : PrivateFault) → Fails steps values bytes fault → row_at steps values bytes ≡ Err fault
 unfolding row_at
 row_fails [] values bytes fault f = absurd f
-row_fails (due ∷ steps) values bytes fault (inl (why, cut, is)) = rw (is, cut) refl
-row_fails (due ∷ steps) values bytes fault (inr (value, left, stands, inl refused)) = rw (part_again due.part bytes value left stands, refused) refl
-row_fails (due ∷ steps) values bytes fault (inr (value, left, stands, inr (passed, later))) =
-    rw (part_again due.part bytes value left stands, passed) (row_fails steps (values ++ value ∷ []) left fault later)
+row_fails (expected ∷ steps) values bytes fault (inl (why, cut, is)) = rw (is, cut) refl
+row_fails (expected ∷ steps) values bytes fault (inr (value, left, stands, inl refused)) = rw (part_again expected.part bytes value left stands, refused) refl
+row_fails (expected ∷ steps) values bytes fault (inr (value, left, stands, inr (passed, later))) =
+    rw (part_again expected.part bytes value left stands, passed) (row_fails steps (values ++ value ∷ []) left fault later)

@@ -4,13 +4,13 @@ use Rattle.std.proofs.lemmas.Bool.{both_ways, cases_Bool, cases_lt}
 use Rattle.std.proofs.lemmas.List.{length-append, nil_from_length}
 use Rattle.std.proofs.lemmas.Option.{same_Some}
 use Rattle.ssh_wire.specs.Wire.{IsBytes}
-use Rattle.ssh_wire.specs.Digits.{IsBytes-behind, IsBytes-front}
+use Rattle.ssh_wire.specs.Digits.{IsBytes-back, IsBytes-front}
 use Rattle.ssh_key.specs.declared.line_fault.LineFault.{LineFault}
 use Rattle.ssh_key.specs.declared.line_fault.LineFault.TheVariants.{NoKey}
 use Rattle.ssh_key.specs.Blanks.{after_blanks, first_word, is_blank, trimmed}
-use Rattle.ssh_key.specs.KeyLine.{AreWords, AreWordsBehindOptions, HasWords}
+use Rattle.ssh_key.specs.KeyLine.{AreWords, AreWordsAfterOptions, HasWords}
 use Rattle.ssh_key.specs.LineFaults.{HasSomeWords}
-use Rattle.ssh_key.specs.LineReading.{Content, after_options, after_word, blob_at, checked, content_at, decoded, key_part, line_at, typed, part_behind}
+use Rattle.ssh_key.specs.LineReading.{Content, after_options, after_word, blob_at, checked, content_at, decoded, key_part, line_at, typed, part_after}
 use Rattle.ssh_key.specs.TypeName.{is_type_name, type_names}
 use Rattle.ssh_key.proofs.LineNames.{Contains-from_test, name_is_word, test-from_Contains}
 use Rattle.ssh_key.proofs.LineOptions.{options_again, options_take}
@@ -18,7 +18,7 @@ use Rattle.ssh_key.proofs.LineWords.{IsBytes-trimmed, FailsFirst, blanks_cut, bl
 
 -- ---- a line from its type word on
 
--- what stands after the type word and blanks
+-- what is after the type word and blanks
 abbrev rest_of : List ℕ → List ℕ
 rest_of part = after_blanks (after_word part)
 
@@ -34,20 +34,20 @@ blob_at-none word rest none = rw none refl
 -- where something stands after the type word, there are words
 words_cut : (part : List ℕ) → is_type_name (first_word part) ≡ true → 0 < length (rest_of part) → AreWords part (first_word part) (first_word (rest_of part)) (after_blanks (after_word (rest_of part)))
 words_cut part name some =
-    let behind : List ℕ = after_word part in
-    let rest : List ℕ = after_blanks behind in
+    let after : List ℕ = after_word part in
+    let rest : List ℕ = after_blanks after in
     let end : List ℕ = after_word rest in
     let word_parts = word_cut part in
-    let blanks = blanks_cut behind in
+    let blanks = blanks_cut after in
     let text_parts = word_cut rest in
     record {
       name = Contains-from_test (first_word part) name;
-      blanks = leading behind;
-      are_blanks = gap behind word_parts.1 some;
+      blanks = leading after;
+      are_blanks = gap after word_parts.1 some;
       is_word = first_word_is rest some blanks.1;
       end = end;
       ended = comment_cut end text_parts.1;
-      spelled = word_parts.0 ∙ ap (λ (xs : List ℕ). first_word part ++ xs) (blanks.0 ∙ ap (λ (xs : List ℕ). leading behind ++ xs) text_parts.0);
+      spelled = word_parts.0 ∙ ap (λ (xs : List ℕ). first_word part ++ xs) (blanks.0 ∙ ap (λ (xs : List ℕ). leading after ++ xs) text_parts.0);
     }
 
 words_again : (part word encoded comment : List ℕ) → AreWords part word encoded comment → (first_word part ≡ word) × (is_type_name word ≡ true) × (blob_at word (rest_of part) ≡ checked word (decoded encoded) comment)
@@ -55,12 +55,12 @@ words_again part word encoded comment k =
     let is_word = name_is_word word k.name in
     let rest : List ℕ = encoded ++ k.end in
     let front = word_front word (k.blanks ++ rest) is_word.0 (blanks_stop k.blanks rest k.are_blanks) in
-    let behind : after_blanks (k.blanks ++ rest) ≡ rest = blanks_front k.blanks rest k.are_blanks.each (word_stops encoded k.end k.is_word) in
+    let after : after_blanks (k.blanks ++ rest) ≡ rest = blanks_front k.blanks rest k.are_blanks.each (word_stops encoded k.end k.is_word) in
     let ended = comment_stops k.end comment k.ended in
     let texts = word_front encoded k.end k.is_word.each ended.0 in
     let some : 0 < length encoded = k.is_word.some in
     let first : first_word part ≡ word = ap first_word k.spelled ∙ front.0 in
-    let left : rest_of part ≡ rest = ap rest_of k.spelled ∙ ap after_blanks front.1 ∙ behind in
+    let left : rest_of part ≡ rest = ap rest_of k.spelled ∙ ap after_blanks front.1 ∙ after in
     let read : checked word (decoded (first_word rest)) (after_blanks (after_word rest)) ≡ checked word (decoded encoded) comment = rw (texts.0, texts.1, ended.1) refl in
     (first, test-from_Contains word k.name, ap (blob_at word) left ∙ blob_at-some word rest (omega (arith, length-append encoded k.end)) ∙ read)
 
@@ -74,9 +74,9 @@ typed-takes line part e = elim (cases_Bool (is_type_name (first_word line))) [
 ]
 
 -- a rest after an options field leads to the part
-behind_takes : (found : Option (List ℕ)) (part : List ℕ) → part_behind found ≡ Some part → (rest : List ℕ) × (found ≡ Some rest) × (after_blanks rest ≡ part) × (is_type_name (first_word part) ≡ true)
-behind_takes None part e = absurd cc
-behind_takes (Some rest) part e = let h = typed-takes (after_blanks rest) part e in (rest, refl, h.0, h.1)
+after_takes : (found : Option (List ℕ)) (part : List ℕ) → part_after found ≡ Some part → (rest : List ℕ) × (found ≡ Some rest) × (after_blanks rest ≡ part) × (is_type_name (first_word part) ≡ true)
+after_takes None part e = absurd cc
+after_takes (Some rest) part e = let h = typed-takes (after_blanks rest) part e in (rest, refl, h.0, h.1)
 
 test-false : (word : List ℕ) → is_type_name word ≡ false → ¬ Contains type_names word
 test-false word other h = both_ways (is_type_name word) other (test-from_Contains word h)
@@ -87,7 +87,7 @@ name_some line name =
     omega (arith, is_word.2, ap length (word_cut line).0, length-append (first_word line) (after_word line))
 
 abbrev LineWords : List ℕ → List ℕ → List ℕ → List ℕ → Type 0
-LineWords line word encoded comment = AreWords line word encoded comment ⊎ AreWordsBehindOptions line word encoded comment
+LineWords line word encoded comment = AreWords line word encoded comment ⊎ AreWordsAfterOptions line word encoded comment
 
 -- a part with something after its type word gives the words of the line
 part_words : (line part : List ℕ) → key_part line ≡ Some part → 0 < length (rest_of part) → LineWords line (first_word part) (first_word (rest_of part)) (after_blanks (after_word (rest_of part)))
@@ -98,7 +98,7 @@ part_words line part found some = elim (cases_Bool (is_type_name (first_word lin
       let is_name : is_type_name (first_word part) ≡ true = ap (λ (xs : List ℕ). is_type_name (first_word xs)) (sym same) ∙ name in
       inl (subst (λ (xs : List ℕ). AreWords xs (first_word part) (first_word (rest_of part)) (after_blanks (after_word (rest_of part)))) (sym same) (words_cut part is_name some))
   | inr other ↦
-      let taken = behind_takes (after_options false false line) part (rw other at found) in
+      let taken = after_takes (after_options false false line) part (rw other at found) in
       let rest : List ℕ = taken.0 in
       let before = options_take line rest taken.1 in
       let blanks = blanks_cut rest in
@@ -131,7 +131,7 @@ part_stops part word encoded comment k =
     let is_word = name_is_word word k.name in
     subst (FailsFirst is_blank) (sym k.spelled) (word_stops word (k.blanks ++ (encoded ++ k.end)) (record { some = is_word.2; each = is_word.0 }))
 
-options_line_again : (line word encoded comment : List ℕ) → AreWordsBehindOptions line word encoded comment → content_at (key_part line) ≡ checked word (decoded encoded) comment
+options_line_again : (line word encoded comment : List ℕ) → AreWordsAfterOptions line word encoded comment → content_at (key_part line) ≡ checked word (decoded encoded) comment
 unfolding key_part typed
 options_line_again line word encoded comment o =
     let read = words_again o.part word encoded comment o.are_words in
@@ -139,11 +139,11 @@ options_line_again line word encoded comment o =
       | inl name ↦ absurd (o.other (Contains-from_test (first_word line) name))
       | inr other ↦ other
     ] in
-    let behind : after_options false false line ≡ Some (o.blanks ++ o.part) =
+    let after : after_options false false line ≡ Some (o.blanks ++ o.part) =
     ap (after_options false false) o.spelled ∙ options_again o.options (o.blanks ++ o.part) o.are_options (blanks_stop o.blanks o.part o.are_blanks) in
     let part : after_blanks (o.blanks ++ o.part) ≡ o.part = blanks_front o.blanks o.part o.are_blanks.each (part_stops o.part word encoded comment o.are_words) in
     let name : is_type_name (first_word o.part) ≡ true = ap is_type_name read.0 ∙ read.1 in
-    let found : key_part line ≡ Some o.part = rw (other, behind, part, name) refl in
+    let found : key_part line ≡ Some o.part = rw (other, after, part, name) refl in
     content_at-again (key_part line) o.part word (checked word (decoded encoded) comment) found read.0 read.2
 
 -- ---- a text
@@ -176,11 +176,11 @@ words_name text word encoded comment (inr o) = o.are_words.name
 
 IsBytes-encoded : (part word encoded comment : List ℕ) → IsBytes part → AreWords part word encoded comment → IsBytes encoded
 IsBytes-encoded part word encoded comment fits k =
-    let behind = IsBytes-behind word (k.blanks ++ (encoded ++ k.end)) (subst IsBytes k.spelled fits) in
-    IsBytes-front encoded k.end (IsBytes-behind k.blanks (encoded ++ k.end) behind)
+    let after = IsBytes-back word (k.blanks ++ (encoded ++ k.end)) (subst IsBytes k.spelled fits) in
+    IsBytes-front encoded k.end (IsBytes-back k.blanks (encoded ++ k.end) after)
 
 pub IsBytes-words : (text word encoded comment : List ℕ) → IsBytes text → HasWords text word encoded comment → IsBytes encoded
 IsBytes-words text word encoded comment fits (inl k) = IsBytes-encoded (trimmed text) word encoded comment (IsBytes-trimmed text fits) k
 IsBytes-words text word encoded comment fits (inr o) =
-    let behind = IsBytes-behind o.options (o.blanks ++ o.part) (subst IsBytes o.spelled (IsBytes-trimmed text fits)) in
-    IsBytes-encoded o.part word encoded comment (IsBytes-behind o.blanks o.part behind) o.are_words
+    let after = IsBytes-back o.options (o.blanks ++ o.part) (subst IsBytes o.spelled (IsBytes-trimmed text fits)) in
+    IsBytes-encoded o.part word encoded comment (IsBytes-back o.blanks o.part after) o.are_words

@@ -1,4 +1,4 @@
--- A test of bytes, numbers above zero, and how long what stands at the front of bytes is.
+-- A test of bytes, numbers above zero, and the length of what is at the front of bytes.
 use Rattle.std.proofs.Common.{◌≡◌, ℕ, ◌+◌, ◌^◌, ◌<◌, ◌≤◌, Bool, true, false, cond, List, [], ◌∷◌, ◌++◌, length, Ok, refl, ap, ◌∙◌, arith}
 use Rattle.std.specs.Prelude.{nat_lt}
 use Rattle.std.specs.List.{list_all}
@@ -25,8 +25,8 @@ pub magnitude_is_positive : (magnitude : List ℕ) → IsMagnitude magnitude →
 magnitude_is_positive [] h full = absurd (full refl)
 magnitude_is_positive (byte ∷ bytes) h full = h
 
-pub mpint_told : (magnitude : List ℕ) → length (complement magnitude) < 2 ^ 32 → HasLength (mpint magnitude)
-mpint_told magnitude lt = omega (arith, length-mpint magnitude)
+pub mpint_has_length : (magnitude : List ℕ) → length (complement magnitude) < 2 ^ 32 → HasLength (mpint magnitude)
+mpint_has_length magnitude lt = omega (arith, length-mpint magnitude)
 
 pub positive_again : (magnitude rest : List ℕ) → IsPositive magnitude → HasLength (mpint magnitude) → mpint_at (mpint magnitude ++ rest) ≡ Ok (magnitude, rest)
 positive_again magnitude rest positive lt =

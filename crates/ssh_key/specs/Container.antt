@@ -201,6 +201,6 @@ pub data IsPrivateFault (text : List ℕ) (fault : PrivateFault) : Type 0 where
       → IsPrivateFault text fault
 
 -- What is reported of a text: its fault, or, where it is armoured, that there is no memory.
-abbrev pub IsToldPrivateFault : List ℕ → PrivateFault → Type 0
-IsToldPrivateFault text faults.NoMemory = (body : List ℕ) × IsArmour text body
-IsToldPrivateFault text fault = IsPrivateFault text fault
+abbrev pub IsReportedPrivateFault : List ℕ → PrivateFault → Type 0
+IsReportedPrivateFault text faults.NoMemory = (body : List ℕ) × IsArmour text body
+IsReportedPrivateFault text fault = IsPrivateFault text fault

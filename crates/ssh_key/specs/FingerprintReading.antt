@@ -36,9 +36,9 @@ IsFingerprintFault text Length = (bytes : List ℕ) × Encodes text bytes × (le
 IsFingerprintFault text NoMemory = ⊥
 
 -- What is reported of a text: its fault, or, where the prefix stands, that there is no memory.
-abbrev pub IsToldFingerprintFault : List ℕ → FingerprintFault → Type 0
-IsToldFingerprintFault text NoMemory = (rest : List ℕ) × (text ≡ sha256_prefix ++ rest)
-IsToldFingerprintFault text fault = IsFingerprintFault text fault
+abbrev pub IsReportedFingerprintFault : List ℕ → FingerprintFault → Type 0
+IsReportedFingerprintFault text NoMemory = (rest : List ℕ) × (text ≡ sha256_prefix ++ rest)
+IsReportedFingerprintFault text fault = IsFingerprintFault text fault
 
 abbrev pub sized : Result (List ℕ) DecodeError → Result (List ℕ) FingerprintFault
 sized (Err error) = Err Base64

@@ -1,4 +1,4 @@
--- Why a blob is no key: its first fault, by what stands in the blob before it.
+-- Why a blob is no key: its first fault, by what is in the blob before it.
 use Rattle.std.specs.Prelude.{◌≡◌, ◌≢◌, ℕ, ◌+◌, ◌<◌, ◌≤◌, List, [], ◌∷◌, ◌++◌, length, Err}
 use Rattle.ssh_wire.specs.Wire.{BeginsWith, string}
 use Rattle.ssh_wire.specs.Reading.{mpint_at, string_at}
@@ -9,13 +9,13 @@ use Rattle.ssh_key.specs.declared.kind.Kind.{Kind}
 use Rattle.ssh_key.specs.Kind.{Field, Positive, Curve, Point, Sized, type_name, fields_of}
 use Rattle.ssh_key.specs.Key.{IsValue, AreValues, fields_text, longest_blob}
 
--- a string at the front of the bytes that may not stand in the field
+-- a string at the front of the bytes that may not be in the field
 pub record BeginsWithOther (field : Field) (bytes : List ℕ) : Type 0 where
   pub value : List ℕ
   pub begins : BeginsWith bytes value
   pub other : ¬ IsValue field value
 
--- What stands at the front of the bytes is no value of the field: it is misspelt, or a number that
+-- What is at the front of the bytes is no value of the field: it is misspelt, or a number that
 -- is zero, or a string that may not stand there.
 abbrev pub Refuses : Field → List ℕ → KeyFault → Type 0
 Refuses Positive bytes (faults.Wire fault) = mpint_at bytes ≡ Err fault

@@ -29,7 +29,7 @@ abbrev pub IsUncompressed : List ℕ → Type 0
 IsUncompressed [] = ⊥
 IsUncompressed (byte ∷ bytes) = byte ≡ 4
 
--- The value may stand in the field. A number stands there by its magnitude.
+-- The value may be in the field. A number stands there by its magnitude.
 abbrev pub IsValue : Field → List ℕ → Type 0
 IsValue Positive value = IsPositive value
 IsValue (Curve name) value = value ≡ name
@@ -42,11 +42,11 @@ abbrev pub field_text : Field → List ℕ → List ℕ
 field_text Positive value = mpint value
 field_text field value = string value
 
--- Four bytes of length can tell it: a string with its length has fewer than 2^32 bytes more.
+-- Four bytes of length can say it: a string with its length has fewer than 2^32 bytes more.
 abbrev pub HasLength : List ℕ → Type 0
 HasLength text = length text < 4 + 2 ^ 32
 
--- values that may stand in the fields, one for each
+-- values that may be in the fields, one for each
 abbrev pub AreValues : List Field → List (List ℕ) → Type 0
 AreValues [] [] = Unit {0}
 AreValues [] (value ∷ values) = ⊥

@@ -18,7 +18,7 @@ abbrev pub IsNoPair : ℕ → List ℕ → Type 0
 IsNoPair byte [] = Unit {0}
 IsNoPair byte (next ∷ rest) = (byte ≡ backslash) → next ≢ quote
 
--- what stands between two quotes: pairs of a backslash and a quote, and bytes that are no quote
+-- what is between two quotes: pairs of a backslash and a quote, and bytes that are no quote
 pub data Quoted : List ℕ → Type 0 where
   quoted_end : Quoted []
   quoted_pair : (rest : List ℕ) → Quoted rest → Quoted (backslash ∷ quote ∷ rest)
@@ -57,7 +57,7 @@ pub record AreWords (line word encoded comment : List ℕ) : Type 0 where
   pub spelled : line ≡ word ++ (blanks ++ (encoded ++ end))
 
 -- the same after an options field: the first word of the line is no type name
-pub record AreWordsBehindOptions (line word encoded comment : List ℕ) : Type 0 where
+pub record AreWordsAfterOptions (line word encoded comment : List ℕ) : Type 0 where
   pub other : ¬ Contains type_names (first_word line)
   pub options : List ℕ
   pub are_options : Options options
@@ -71,7 +71,7 @@ pub record AreWordsBehindOptions (line word encoded comment : List ℕ) : Type 0
 abbrev pub HasWords : List ℕ → List ℕ → List ℕ → List ℕ → Type 0
 HasWords text word encoded comment =
     AreWords (trimmed text) word encoded comment
-    ⊎ AreWordsBehindOptions (trimmed text) word encoded comment
+    ⊎ AreWordsAfterOptions (trimmed text) word encoded comment
 
 -- The word after the type word is the base64 of the key. The key begins with the string of the
 -- type word.

@@ -18,7 +18,7 @@ abbrev pub begins_with_4 : List ℕ → Bool
 begins_with_4 [] = Bool.false
 begins_with_4 (byte ∷ bytes) = byte == 4
 
--- why the value may not stand in the field
+-- why the value may not be in the field
 abbrev pub fault_in : Field → List ℕ → Option KeyFault
 fault_in Positive value = if length value == 0 then Some faults.Number else None
 fault_in (Curve name) value = if bytes_eq value name then None else Some faults.Curve

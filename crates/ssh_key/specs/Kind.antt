@@ -49,7 +49,7 @@ kind_named name = find (λ kind. bytes_eq (type_name kind) name) kinds
 unfoldable pub kind_certified : List ℕ → Option Kind
 kind_certified name = find (λ kind. bytes_eq (certificate_name kind) name) kinds
 
--- What stands in a public field: a number above zero; the name of the curve; an uncompressed point
+-- What is in a public field: a number above zero; the name of the curve; an uncompressed point
 -- of this many bytes; any string of this many bytes; any string.
 pub data Field : Type 0 where
   Positive : Field

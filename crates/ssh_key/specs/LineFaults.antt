@@ -1,11 +1,11 @@
--- Why a text is no key line: its first fault, by the words that stand in it.
+-- Why a text is no key line: its first fault, by the words that are in it.
 use Rattle.std.specs.Prelude.{◌≢◌, ℕ, List}
 use Rattle.ssh_wire.specs.Wire.{BeginsWith, IsBytes}
 use Rattle.ssh_key.specs.declared.line_fault.LineFault.{LineFault}
 use Rattle.ssh_key.specs.declared.line_fault.LineFault.TheVariants.{NoKey, Base64, WordDiffers, NoMemory}
 use Rattle.ssh_key.specs.KeyLine.{HasWords, base64}
 
--- a type word stands in the text, and after it a word that may encode a key
+-- a type word is in the text, and after it a word that may encode a key
 pub record HasSomeWords (text : List ℕ) : Type 0 where
   pub word : List ℕ
   pub encoded : List ℕ
@@ -35,6 +35,6 @@ IsFirstLineFault text NoMemory = ⊥
 
 -- What is reported of a text: its fault, or, where a word stands that may encode a key, that there
 -- is no memory.
-abbrev pub IsToldFault : List ℕ → LineFault → Type 0
-IsToldFault text NoMemory = HasSomeWords text
-IsToldFault text fault = IsFirstLineFault text fault
+abbrev pub IsReportedFault : List ℕ → LineFault → Type 0
+IsReportedFault text NoMemory = HasSomeWords text
+IsReportedFault text fault = IsFirstLineFault text fault

@@ -28,41 +28,41 @@ content_of line = content line.word.now line.blob line.comment.now
 
 -- A fault is the one that reading gives, unless memory ran out. Where no key stands, no memory was
 -- asked for.
-abbrev pub TellsFault : {Y : Type 0} → LineFault → Result Y LineFault → Type 0
-TellsFault NoMemory read = read ≢ Err NoKey
-TellsFault NoKey read = read ≡ Err NoKey
-TellsFault Base64 read = read ≡ Err Base64
-TellsFault WordDiffers read = read ≡ Err WordDiffers
+abbrev pub ReportsFault : {Y : Type 0} → LineFault → Result Y LineFault → Type 0
+ReportsFault NoMemory read = read ≢ Err NoKey
+ReportsFault NoKey read = read ≡ Err NoKey
+ReportsFault Base64 read = read ≡ Err Base64
+ReportsFault WordDiffers read = read ≡ Err WordDiffers
 
--- what stands after the first word
+-- what is after the first word
 unfoldable pub after_word : List ℕ → List ℕ
 after_word text = drop (prefix_len (λ byte. not (is_blank byte)) text) text
 
 -- whether the place after a byte is between quotes: a quote after a backslash changes nothing
-abbrev pub quoted_behind : Bool → Bool → ℕ → Bool
-quoted_behind quoted escaped byte = if (byte == quote) && not escaped then not quoted else quoted
+abbrev pub quoted_after : Bool → Bool → ℕ → Bool
+quoted_after quoted escaped byte = if (byte == quote) && not escaped then not quoted else quoted
 
--- What stands after an options field. The place is between quotes or not, and after a backslash
+-- What is after an options field. The place is between quotes or not, and after a backslash
 -- or not.
 unfoldable pub after_options : Bool → Bool → List ℕ → Option (List ℕ)
 after_options quoted escaped [] = if quoted then None else Some []
 after_options quoted escaped (byte ∷ rest) =
     if is_blank byte && not quoted then Some (byte ∷ rest)
-    else after_options (quoted_behind quoted escaped byte) (byte == backslash) rest
+    else after_options (quoted_after quoted escaped byte) (byte == backslash) rest
 
 -- the line, if a type name is its first word
 unfoldable pub typed : List ℕ → Option (List ℕ)
 typed line = if is_type_name (first_word line) then Some line else None
 
-abbrev pub part_behind : Option (List ℕ) → Option (List ℕ)
-part_behind None = None
-part_behind (Some rest) = typed (after_blanks rest)
+abbrev pub part_after : Option (List ℕ) → Option (List ℕ)
+part_after None = None
+part_after (Some rest) = typed (after_blanks rest)
 
 -- the line from its type word on
 unfoldable pub key_part : List ℕ → Option (List ℕ)
 key_part line =
     if is_type_name (first_word line) then Some line
-    else part_behind (after_options false false line)
+    else part_after (after_options false false line)
 
 abbrev pub no_base64 : DecodeError → LineFault
 no_base64 error = Base64

@@ -1,4 +1,4 @@
--- Rows of fields: what is due at each place, and how it is judged once it is whole.
+-- Rows of fields: what is expected at each place, and how it is judged once it is whole.
 use Rattle.std.specs.Prelude.{◌≡◌, ℕ, ◌^◌, ◌<◌, List, [], ◌∷◌, ◌++◌, length, slice_index, Option, Some, None, Result, Ok, Err, ◌⊎◌}
 use Rattle.ssh_wire.specs.Wire.{IsMagnitude, complement, mpint, number, string}
 use Rattle.ssh_wire.specs.Reading.{in_fault, mpint_at, number_at, string_at, ◌>>=◌}
@@ -34,7 +34,7 @@ part_at (Number size) bytes = alone (number_at size bytes)
 part_at Magnitude bytes = mpint_at bytes
 part_at Text bytes = string_at bytes
 
--- What is due: a part, and the judgement on the values up to it.
+-- What is expected: a part, and the judgement on the values up to it.
 pub record Step : Type 0 where
   pub part : Part
   pub judged : List (List ℕ) → Option PrivateFault
@@ -55,20 +55,20 @@ pub record Stands (part : Part) (bytes value rest : List ℕ) : Type 0 where
 -- values after it, and the bytes that are left.
 abbrev pub Leads : List Step → List (List ℕ) → List ℕ → List (List ℕ) → List ℕ → Type 0
 Leads [] values bytes after rest = (values ≡ after) × (bytes ≡ rest)
-Leads (due ∷ steps) values bytes after rest =
-    (value : List ℕ) × (left : List ℕ) × Stands due.part bytes value left
-    × (due.judged (values ++ value ∷ []) ≡ None)
+Leads (expected ∷ steps) values bytes after rest =
+    (value : List ℕ) × (left : List ℕ) × Stands expected.part bytes value left
+    × (expected.judged (values ++ value ∷ []) ≡ None)
     × Leads steps (values ++ value ∷ []) left after rest
 
 -- The first fault of a row: a part is cut short or misspelt, or does not pass, and all before it
 -- do.
 abbrev pub Fails : List Step → List (List ℕ) → List ℕ → PrivateFault → Type 0
 Fails [] values bytes fault = ⊥
-Fails (due ∷ steps) values bytes fault =
-    ((why : WireFault) × (part_at due.part bytes ≡ Err why) × (fault ≡ Wire why))
-    ⊎ ((value : List ℕ) × (left : List ℕ) × Stands due.part bytes value left
-    × ((due.judged (values ++ value ∷ []) ≡ Some fault)
-    ⊎ ((due.judged (values ++ value ∷ []) ≡ None)
+Fails (expected ∷ steps) values bytes fault =
+    ((why : WireFault) × (part_at expected.part bytes ≡ Err why) × (fault ≡ Wire why))
+    ⊎ ((value : List ℕ) × (left : List ℕ) × Stands expected.part bytes value left
+    × ((expected.judged (values ++ value ∷ []) ≡ Some fault)
+    ⊎ ((expected.judged (values ++ value ∷ []) ≡ None)
     × Fails steps (values ++ value ∷ []) left fault)))
 
 abbrev pub unless_judged : {A : Type 0} → Option PrivateFault → Result A PrivateFault
@@ -80,6 +80,7 @@ unless_judged (Some fault) later = Err fault
 unfoldable pub row_at : List Step → List (List ℕ) → List ℕ
     → Result (List (List ℕ) × List ℕ) PrivateFault
 row_at [] values bytes = Ok (values, bytes)
-row_at (due ∷ steps) values bytes = do
-  read ← in_fault Wire (part_at due.part bytes)
-  unless_judged (due.judged (values ++ read.0 ∷ [])) (row_at steps (values ++ read.0 ∷ []) read.1)
+row_at (expected ∷ steps) values bytes = do
+  read ← in_fault Wire (part_at expected.part bytes)
+  unless_judged (expected.judged (values ++ read.0 ∷ []))
+      (row_at steps (values ++ read.0 ∷ []) read.1)

@@ -3,7 +3,7 @@
 ghost use Rattle.std.specs.Prelude.{◌≡◌, ◌≢◌, ◌≤◌, ℕ, List, Err, IfErr, IfOk, None, Ok, length, replicate};
 ghost use Rattle.base64.specs.Decode.{decoded_estimate};
 ghost use Rattle.ssh_key.specs.Armour.{armour_at};
-ghost use Rattle.ssh_key.specs.Container.{IsContainer, IsToldPrivateFault};
+ghost use Rattle.ssh_key.specs.Container.{IsContainer, IsReportedPrivateFault};
 ghost use Rattle.ssh_key.specs.ContainerReading.{GivesPrivate, body_at, bytes_at, private_at};
 ghost use Rattle.ssh_key.specs.declared.private_fault.PrivateFault.TheVariants.{NoMemory};
 
@@ -40,9 +40,9 @@ pub struct Private {
 /// passed over, and what follows the end line is not read. The private part has to be of the kind
 /// of the public key, with its public fields; the private numbers themselves are not checked.
 ///
-/// Faults come in the order in which their fields stand. `Trailing`, that bytes follow the private
+/// Faults come in the order in which their fields come. `Trailing`, that bytes follow the private
 /// list, is reported before the list is read. The bytes are decoded into memory that is asked for
-/// before they are checked, so `NoMemory` may stand in place of any answer but `Armour`.
+/// before they are checked, so `NoMemory` may take the place of any answer but `Armour`.
 ///
 /// Private bytes are copied no further than the decoded container. The memory that held them is
 /// overwritten before it is given back.
@@ -53,7 +53,7 @@ pub fn read_private(alloc: Global, text: &[u8]) -> Result<Private, PrivateFault>
     ensures only { (blob comment : List ℕ) → IsContainer text.now blob comment
         → GivesPrivate result (Ok (record { blob = blob; comment = comment })) }
     // The fault is the first one of the text, unless memory runs out.
-    ensures fault { IfErr result (λ fault. IsToldPrivateFault text.now fault) }
+    ensures fault { IfErr result (λ fault. IsReportedPrivateFault text.now fault) }
     // The same, for those who compute with the answer.
     ensures exact { GivesPrivate result (private_at text.now) }
 {

@@ -85,7 +85,7 @@ impl<'a> PublicKey<'a> {
 /// memory: the key is lent from the blob.
 ///
 /// Of several faults the first is reported: `TooLong` before all else, then those of the type name
-/// and of each field, in the order in which they stand, and `Trailing` last.
+/// and of each field, in the order in which they come, and `Trailing` last.
 pub fn read_key<'a>(blob: &'a [u8]) -> Result<PublicKey<'a>, KeyFault>
     // What is read is spelled so.
     ensures found { IfOk result (λ key. IsKey blob.now key) }
@@ -125,10 +125,10 @@ fn read_kind(cursor: &mut Cursor) -> Result<Kind, KeyFault>
 }
 
 /// Reads the public fields of a key of this kind from the front of the bytes, without the string of
-/// the type name, as they stand in a certificate (OpenSSH's PROTOCOL.certkeys). What follows them
+/// the type name, as they are in a certificate (OpenSSH's PROTOCOL.certkeys). What follows them
 /// is left. A refusal takes nothing. Takes no memory.
 ///
-/// Of several faults the first is reported: those of each field, in the order in which they stand,
+/// Of several faults the first is reported: those of each field, in the order in which they come,
 /// and then `TooLong` where the blob of the type name and these fields would be longer than 65,536
 /// bytes.
 pub fn read_fields<'a>(kind: Kind, cursor: &mut Cursor<'a>) -> Result<PublicKey<'a>, KeyFault>
@@ -168,7 +168,7 @@ fn read_public<'a>(kind: Kind, cursor: &mut Cursor<'a>) -> Result<PublicKey<'a>,
     Ok(key)
 }
 
-/// What stands in a slice of bytes are bytes. Does nothing.
+/// The elements of a slice of bytes are bytes. Does nothing.
 fn are_bytes(bytes: &[u8])
     ensures { IsBytes bytes.now }
 {}

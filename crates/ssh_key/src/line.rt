@@ -6,8 +6,8 @@ ghost use Rattle.ssh_wire.specs.Reading.{Answers};
 ghost use Rattle.ssh_key.specs.Blanks.{first_word};
 ghost use Rattle.ssh_key.specs.KeyLine.{IsKeyLine};
 ghost use Rattle.ssh_key.specs.TypeName.{is_type_name};
-ghost use Rattle.ssh_key.specs.LineFaults.{IsToldFault};
-ghost use Rattle.ssh_key.specs.LineReading.{TellsFault, blob_at, content, content_of, decoded, has_word, key_part, line_at};
+ghost use Rattle.ssh_key.specs.LineFaults.{IsReportedFault};
+ghost use Rattle.ssh_key.specs.LineReading.{ReportsFault, blob_at, content, content_of, decoded, has_word, key_part, line_at};
 
 use crate::line_fault::LineFault;
 use crate::type_name::is_type_name;
@@ -30,7 +30,7 @@ pub struct Line<'a> {
     pub word: &'a [u8],
     /// The key's bytes. Only their first string, the type word, has been read.
     pub blob: Bytes,
-    /// What stands after the key, lent from the line; it may be empty.
+    /// What is after the key, lent from the line; it may be empty.
     pub comment: &'a [u8],
 }
 
@@ -42,25 +42,25 @@ pub struct Line<'a> {
 /// certificate, and it is the first string of the key's bytes; what follows it there is not read.
 ///
 /// Faults come in the order of their numbers. The key's bytes are decoded into memory that is asked
-/// for before they are checked, so `NoMemory` may stand in place of any answer but `NoKey`.
+/// for before they are checked, so `NoMemory` may take the place of any answer but `NoKey`.
 pub fn read_line<'a>(alloc: Global, text: &'a [u8]) -> Result<Line<'a>, LineFault>
     // What is read is a key line.
     ensures found { IfOk result (λ line.
         IsKeyLine text.now line.word.now line.blob line.comment.now) }
     // Each key line is read, unless memory runs out.
     ensures only { (word blob comment : List ℕ) → IsKeyLine text.now word blob comment
-        → Answers TellsFault content_of result (Ok (content word blob comment)) }
+        → Answers ReportsFault content_of result (Ok (content word blob comment)) }
     // The fault is the first one of the text, unless memory runs out.
-    ensures fault { IfErr result (λ fault. IsToldFault text.now fault) }
+    ensures fault { IfErr result (λ fault. IsReportedFault text.now fault) }
     // The same, for those who compute with the answer.
-    ensures exact { Answers TellsFault content_of result (line_at text.now) }
+    ensures exact { Answers ReportsFault content_of result (line_at text.now) }
 {
     read_content(alloc, text)
 }
 
 #[tactic(auto, unfolding(crate::specs::LineReading::line_at))]
 fn read_content<'a>(alloc: Global, text: &'a [u8]) -> Result<Line<'a>, LineFault>
-    ensures exact { Answers TellsFault content_of result (line_at text.now) }
+    ensures exact { Answers ReportsFault content_of result (line_at text.now) }
     ensures bytes { IfOk result (λ line. IsBytes line.blob) }
 {
     let part = key_part(trimmed(text)).ok_or(LineFault::NoKey)?;
@@ -94,7 +94,7 @@ fn begins_with_name(line: &[u8]) -> bool
 /// The key's bytes and the comment, from what follows the type word and blanks.
 #[tactic(auto, unfolding(crate::specs::LineReading::blob_at))]
 fn read_blob<'a>(alloc: Global, word: &'a [u8], rest: &'a [u8]) -> Result<Line<'a>, LineFault>
-    ensures exact { Answers TellsFault content_of result (blob_at word.now rest.now) }
+    ensures exact { Answers ReportsFault content_of result (blob_at word.now rest.now) }
     ensures bytes { IfOk result (λ line. IsBytes line.blob) }
 {
     if rest.is_empty() {
@@ -115,7 +115,7 @@ fn read_blob<'a>(alloc: Global, word: &'a [u8], rest: &'a [u8]) -> Result<Line<'
 /// The bytes of base64 with padding, whose unused bits are zero.
 #[tactic(auto, unfolding(crate::specs::LineReading::decoded))]
 fn decoded(alloc: Global, base64: &[u8]) -> Result<Vec<u8>, LineFault>
-    ensures exact { Answers TellsFault (λ bytes. bytes.items) result (decoded base64.now) }
+    ensures exact { Answers ReportsFault (λ bytes. bytes.items) result (decoded base64.now) }
     ensures bytes { IfOk result (λ bytes. IsBytes bytes.items) }
 {
     STANDARD.decode(alloc, base64).map_err(|error| match error {

@@ -3,7 +3,7 @@
 ghost use Rattle.std.specs.Prelude.{ℕ, List, IfErr, IfOk, Ok};
 ghost use Rattle.base64.specs.Engines.{standard_no_pad};
 ghost use Rattle.base64.specs.GeneralPurpose.{decode_of};
-ghost use Rattle.ssh_key.specs.FingerprintReading.{GivesDigest, IsFingerprint, IsToldFingerprintFault, fingerprint_at, sized};
+ghost use Rattle.ssh_key.specs.FingerprintReading.{GivesDigest, IsFingerprint, IsReportedFingerprintFault, fingerprint_at, sized};
 
 use crate::fingerprint_fault::FingerprintFault;
 use base64::DecodeAllocError;
@@ -14,7 +14,7 @@ use std::alloc::Global;
 /// and the base64 of 32 bytes without padding.
 ///
 /// Faults come in the order of their numbers. The bytes are decoded into memory that is asked for
-/// before they are checked, so `NoMemory` may stand in place of any answer but `Prefix`.
+/// before they are checked, so `NoMemory` may take the place of any answer but `Prefix`.
 pub fn parse_fingerprint(alloc: Global, text: &[u8]) -> Result<[u8; 32], FingerprintFault>
     // What is read is a fingerprint.
     ensures found { IfOk result (λ digest. IsFingerprint text.now digest) }
@@ -22,7 +22,7 @@ pub fn parse_fingerprint(alloc: Global, text: &[u8]) -> Result<[u8; 32], Fingerp
     ensures only { (digest : List ℕ) → IsFingerprint text.now digest
         → GivesDigest result (Ok digest) }
     // The fault is the first one of the text, unless memory runs out.
-    ensures fault { IfErr result (λ fault. IsToldFingerprintFault text.now fault) }
+    ensures fault { IfErr result (λ fault. IsReportedFingerprintFault text.now fault) }
     // The same, for those who compute with the answer.
     ensures exact { GivesDigest result (fingerprint_at text.now) }
 {

@@ -16,7 +16,7 @@ use std::fmt;
 pub enum PrivateFault {
     /// The first line is not that of a container, or no line ends it.
     Armour,
-    /// What stands between these lines is not base64 with padding, its unused bits zero.
+    /// What is between these lines is not base64 with padding, its unused bits zero.
     Base64,
     /// The bytes do not begin with the name of the format.
     Magic,

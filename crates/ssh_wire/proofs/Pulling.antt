@@ -6,8 +6,8 @@ use Rattle.std.specs.Io.KnownBytes.{Consumes, Keeps, prepend_known}
 use Rattle.std.proofs.KnownBytes.{Consumes-kept, Consumes-trans}
 use Rattle.ssh_wire.specs.declared.pull_fault.PullFault.{PullFault}
 use Rattle.ssh_wire.specs.declared.pull_fault.PullFault.TheVariants.{EndsEarly, TooLong, Read, NoMemory}
-use Rattle.ssh_wire.specs.Filling.{Fills, FallsShort, TellsEnd, pulled}
-use Rattle.ssh_wire.specs.Pull.{Misses, MissesRest, Consumes-ahead, Pulled, Refuses, RefusesRest, Tells, TellsRest, after_ahead, left_of}
+use Rattle.ssh_wire.specs.Filling.{Fills, FallsShort, ReportsEnd, pulled}
+use Rattle.ssh_wire.specs.Pull.{Misses, MissesRest, Consumes-ahead, Pulled, Refuses, RefusesRest, Reports, ReportsRest, after_ahead, left_of}
 use borrow.Rule.Slice.PartMut.{put_mid, post_of}
 use lib.Seq.{take-add, take-append-le}
 
@@ -36,16 +36,16 @@ FallsShort-after fault before mid after failed front part size came stops fits =
   came = front ++ stops.came;
   bytes = Consumes-trans before mid after front stops.came came stops.bytes;
   part = omega (arith, length-append front stops.came, stops.part);
-  tells = stops.tells;
+  reports = stops.reports;
 }
 
 -- a front came, and then the reader ended or failed
-pub FallsShort-front : (fault : PullFault) (before mid after : Option (List ℕ)) (failed : Bool) (front : List ℕ) (size : ℕ) → Consumes before mid front → Keeps mid after → length front < size → TellsEnd fault after failed → FallsShort fault before after failed size
-FallsShort-front fault before mid after failed front size came kept part tells = record {
+pub FallsShort-front : (fault : PullFault) (before mid after : Option (List ℕ)) (failed : Bool) (front : List ℕ) (size : ℕ) → Consumes before mid front → Keeps mid after → length front < size → ReportsEnd fault after failed → FallsShort fault before after failed size
+FallsShort-front fault before mid after failed front size came kept part reports = record {
   came = front;
   bytes = Consumes-kept before mid after front came kept;
   part = part;
-  tells = tells;
+  reports = reports;
 }
 
 -- a slice was filled since, so all of its bytes came
@@ -56,11 +56,11 @@ Comes-more before mid after start now slice part comes more size = record {
   count = omega (arith, length-append comes.came slice, comes.count, size);
 }
 
-Tells-end : (fault : PullFault) (pull : Pulled) (came : ℕ) → TellsEnd fault (left_of pull) pull.failed → pull.ahead ≡ None → Tells fault pull came
-Tells-end EndsEarly pull came tells none_ahead = tells
-Tells-end TooLong pull came tells none_ahead = absurd tells
-Tells-end Read pull came tells none_ahead = (none_ahead, tells)
-Tells-end NoMemory pull came tells none_ahead = absurd tells
+Reports-end : (fault : PullFault) (pull : Pulled) (came : ℕ) → ReportsEnd fault (left_of pull) pull.failed → pull.ahead ≡ None → Reports fault pull came
+Reports-end EndsEarly pull came reports none_ahead = reports
+Reports-end TooLong pull came reports none_ahead = absurd reports
+Reports-end Read pull came reports none_ahead = (none_ahead, reports)
+Reports-end NoMemory pull came reports none_ahead = absurd reports
 
 -- what came is less than a field that has room
 pub Misses-short : (old new : Pulled) (fault : PullFault) (room size : ℕ) → FallsShort fault (left_of old) (left_of new) new.failed room → new.ahead ≡ None → room ≤ size → old.taken + room ≤ old.limit → Misses old size fault new
@@ -69,7 +69,7 @@ Misses-short old new fault room size stops none_ahead fits within = record {
   bytes = stops.bytes;
   part = omega (arith, stops.part);
   within = omega (arith, stops.part);
-  tells = Tells-end fault new (length stops.came) stops.tells none_ahead;
+  reports = Reports-end fault new (length stops.came) stops.reports none_ahead;
 }
 
 -- bytes came, and then there was no memory for the rest of the field
@@ -79,14 +79,14 @@ Misses-memory old new size front before part fits working = record {
   bytes = before;
   part = part;
   within = omega arith;
-  tells = working;
+  reports = working;
 }
 
-Tells-kept : (fault : PullFault) (new : Pulled) (taken limit came : ℕ) → new.taken ≡ taken → new.limit ≡ limit → Tells fault (pulled new.source new.failed new.ahead taken limit) came → Tells fault new came
-Tells-kept EndsEarly new taken limit came taken_is limit_is tells = tells
-Tells-kept TooLong new taken limit came taken_is limit_is tells = (omega (arith, tells.0), tells.1, tells.2)
-Tells-kept Read new taken limit came taken_is limit_is tells = tells
-Tells-kept NoMemory new taken limit came taken_is limit_is tells = tells
+Reports-kept : (fault : PullFault) (new : Pulled) (taken limit came : ℕ) → new.taken ≡ taken → new.limit ≡ limit → Reports fault (pulled new.source new.failed new.ahead taken limit) came → Reports fault new came
+Reports-kept EndsEarly new taken limit came taken_is limit_is reports = reports
+Reports-kept TooLong new taken limit came taken_is limit_is reports = (omega (arith, reports.0), reports.1, reports.2)
+Reports-kept Read new taken limit came taken_is limit_is reports = reports
+Reports-kept NoMemory new taken limit came taken_is limit_is reports = reports
 
 -- the fault that was found is kept
 pub Refuses-misses : (old new : Pulled) (size : ℕ) (fault : PullFault) → Misses (pulled old.source false old.ahead old.taken old.limit) size fault (pulled new.source new.failed new.ahead old.taken old.limit) → new.taken ≡ old.taken → new.limit ≡ old.limit → new.fault ≡ Some fault → Refuses old size fault new
@@ -96,7 +96,7 @@ Refuses-misses old new size fault misses taken_is limit_is fault_is = record {
     bytes = misses.bytes;
     part = misses.part;
     within = misses.within;
-    tells = Tells-kept fault new old.taken old.limit (length misses.came) taken_is limit_is misses.tells;
+    reports = Reports-kept fault new old.taken old.limit (length misses.came) taken_is limit_is misses.reports;
   };
   taken = taken_is;
   limit = limit_is;
@@ -114,7 +114,7 @@ MissesRest-memory old new mid front piece count before after none_ahead some par
       came = front ++ take count piece;
       bytes = subst (λ (ahead : Option ℕ). Consumes (left_of old) (after_ahead ahead new.source) (front ++ take count piece)) (sym none_ahead) (Consumes-trans (left_of old) mid new.source front (take count piece) before after);
       within = omega (arith, size, all);
-      tells = (omega (arith, size, all), none_ahead, working);
+      reports = (omega (arith, size, all), none_ahead, working);
     }
 
 -- bytes came, and then the reader failed
@@ -123,16 +123,16 @@ MissesRest-read old new mid front before kept none_ahead within failed = record 
   came = front;
   bytes = subst (λ (ahead : Option ℕ). Consumes (left_of old) (after_ahead ahead new.source) front) (sym none_ahead) (Consumes-kept (left_of old) mid new.source front before kept);
   within = within;
-  tells = (none_ahead, failed);
+  reports = (none_ahead, failed);
 }
 
 -- bytes came, and then a look at the next one met the fault
-pub MissesRest-look : (old new : Pulled) (mid : Option (List ℕ)) (front : List ℕ) (fault : PullFault) → Consumes (left_of old) mid front → Keeps mid (left_of new) → old.taken + length front ≤ old.limit → TellsRest fault new (length front) → MissesRest old fault new
-MissesRest-look old new mid front fault before kept within tells = record {
+pub MissesRest-look : (old new : Pulled) (mid : Option (List ℕ)) (front : List ℕ) (fault : PullFault) → Consumes (left_of old) mid front → Keeps mid (left_of new) → old.taken + length front ≤ old.limit → ReportsRest fault new (length front) → MissesRest old fault new
+MissesRest-look old new mid front fault before kept within reports = record {
   came = front;
   bytes = Consumes-kept (left_of old) mid (left_of new) front before kept;
   within = within;
-  tells = tells;
+  reports = reports;
 }
 
 -- the look met that the reader failed
@@ -140,11 +140,11 @@ pub MissesRest-failed : (old new : Pulled) (mid : Option (List ℕ)) (front : Li
 MissesRest-failed old new mid front fault before kept within is_read none_ahead failed =
     subst (λ (met : PullFault). MissesRest old met new) (sym is_read) (MissesRest-look old new mid front Read before kept within (none_ahead, failed))
 
-TellsRest-kept : (fault : PullFault) (new : Pulled) (taken limit came : ℕ) → new.taken ≡ taken → new.limit ≡ limit → TellsRest fault (pulled new.source new.failed new.ahead taken limit) came → TellsRest fault new came
-TellsRest-kept EndsEarly new taken limit came taken_is limit_is tells = tells
-TellsRest-kept TooLong new taken limit came taken_is limit_is tells = (omega (arith, tells.0), tells.1, tells.2)
-TellsRest-kept Read new taken limit came taken_is limit_is tells = tells
-TellsRest-kept NoMemory new taken limit came taken_is limit_is tells = tells
+ReportsRest-kept : (fault : PullFault) (new : Pulled) (taken limit came : ℕ) → new.taken ≡ taken → new.limit ≡ limit → ReportsRest fault (pulled new.source new.failed new.ahead taken limit) came → ReportsRest fault new came
+ReportsRest-kept EndsEarly new taken limit came taken_is limit_is reports = reports
+ReportsRest-kept TooLong new taken limit came taken_is limit_is reports = (omega (arith, reports.0), reports.1, reports.2)
+ReportsRest-kept Read new taken limit came taken_is limit_is reports = reports
+ReportsRest-kept NoMemory new taken limit came taken_is limit_is reports = reports
 
 -- the fault that was found is kept
 pub RefusesRest-misses : (old new : Pulled) (fault : PullFault) → MissesRest (pulled old.source false old.ahead old.taken old.limit) fault (pulled new.source new.failed new.ahead old.taken old.limit) → new.taken ≡ old.taken → new.limit ≡ old.limit → new.fault ≡ Some fault → RefusesRest old fault new
@@ -153,7 +153,7 @@ RefusesRest-misses old new fault misses taken_is limit_is fault_is = record {
     came = misses.came;
     bytes = misses.bytes;
     within = misses.within;
-    tells = TellsRest-kept fault new old.taken old.limit (length misses.came) taken_is limit_is misses.tells;
+    reports = ReportsRest-kept fault new old.taken old.limit (length misses.came) taken_is limit_is misses.reports;
   };
   taken = taken_is;
   limit = limit_is;

@@ -31,12 +31,12 @@ number-cut k n front rest parts some =
     ))
 
 -- a cut after the front
-pub take-behind : (front behind : List ℕ) (n : ℕ) → length front ≤ n
-    → take n (front ++ behind) ≡ front ++ take (n - length front) behind
-take-behind front behind n le =
+pub take-after : (front after : List ℕ) (n : ℕ) → length front ≤ n
+    → take n (front ++ after) ≡ front ++ take (n - length front) after
+take-after front after n le =
     let size : n ≡ length front + (n - length front) = omega arith in
-    ap (λ (k : ℕ). take k (front ++ behind)) size
-    ∙ take-append-add front behind (n - length front)
+    ap (λ (k : ℕ). take k (front ++ after)) size
+    ∙ take-append-add front after (n - length front)
 
 -- what follows a front of a text in the longer front of another
 after_front : (head text front rest : List ℕ) → head ++ text ≡ front ++ rest

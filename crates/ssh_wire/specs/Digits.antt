@@ -40,17 +40,17 @@ pub IsBytes-nil : IsBytes []
 IsBytes-nil i = omega arith
 
 pub IsBytes-append : (xs ys : List ℕ) → IsBytes xs → IsBytes ys → IsBytes (xs ++ ys)
-IsBytes-append [] ys front behind = behind
-IsBytes-append (x ∷ xs) ys front behind = IsBytes-cons x (xs ++ ys) (front 0)
-    (IsBytes-append xs ys (IsBytes-tail x xs front) behind)
+IsBytes-append [] ys front following = following
+IsBytes-append (x ∷ xs) ys front following = IsBytes-cons x (xs ++ ys) (front 0)
+    (IsBytes-append xs ys (IsBytes-tail x xs front) following)
 
-pub IsBytes-front : (front behind : List ℕ) → IsBytes (front ++ behind) → IsBytes front
-IsBytes-front front behind fits = subst IsBytes (take_at front behind (length front) refl)
-    (IsBytes-take (length front) (front ++ behind) fits)
+pub IsBytes-front : (front following : List ℕ) → IsBytes (front ++ following) → IsBytes front
+IsBytes-front front following fits = subst IsBytes (take_at front following (length front) refl)
+    (IsBytes-take (length front) (front ++ following) fits)
 
-pub IsBytes-behind : (front behind : List ℕ) → IsBytes (front ++ behind) → IsBytes behind
-IsBytes-behind front behind fits = subst IsBytes (drop_at front behind (length front) refl)
-    (IsBytes-drop (length front) (front ++ behind) fits)
+pub IsBytes-back : (front following : List ℕ) → IsBytes (front ++ following) → IsBytes following
+IsBytes-back front following fits = subst IsBytes (drop_at front following (length front) refl)
+    (IsBytes-drop (length front) (front ++ following) fits)
 
 byte_at-lt : (k n : ℕ) → byte_at k n < 256
 byte_at-lt zero n = mod-lt n (omega arith)

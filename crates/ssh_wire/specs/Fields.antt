@@ -16,7 +16,7 @@ use Rattle.ssh_wire.specs.declared.fault.WireFault.TheVariants.{Short}
 use Rattle.ssh_wire.specs.Wire.{IsBytes, IsMagnitude, complement, mpint, number, number_of, string}
 use Rattle.ssh_wire.specs.Reading.{Lends, content_at, front_at, magnitude_at, magnitude_before}
 use Rattle.ssh_wire.specs.Reading.{magnitude_of, mpint_at, number_at, string_at}
-use Rattle.ssh_wire.specs.Digits.{IsBytes-append, IsBytes-behind, IsBytes-big, IsBytes-drop}
+use Rattle.ssh_wire.specs.Digits.{IsBytes-append, IsBytes-back, IsBytes-big, IsBytes-drop}
 use Rattle.ssh_wire.specs.Digits.{IsBytes-front, big_bytes-number}
 use Rattle.ssh_wire.specs.Steps.{guard_ok, ok_is}
 
@@ -98,7 +98,7 @@ IsBytes-string text fits = IsBytes-append (number 4 (length text)) text
 
 pub IsBytes-in_string : (text : List ℕ) → IsBytes (string text) → IsBytes text
 unfolding string
-IsBytes-in_string text fits = IsBytes-behind (number 4 (length text)) text fits
+IsBytes-in_string text fits = IsBytes-back (number 4 (length text)) text fits
 
 -- the bytes of a string at the front
 pub IsBytes-content : (bytes text rest : List ℕ) → IsBytes bytes → bytes ≡ string text ++ rest

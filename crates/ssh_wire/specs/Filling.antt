@@ -25,11 +25,11 @@ pulled source failed ahead taken limit =
     }
 
 -- The reader came to its end, or it failed.
-abbrev pub TellsEnd : PullFault → Option (List ℕ) → Bool → Type 0
-TellsEnd EndsEarly after failed = IsAtEnd after × (failed ≡ false)
-TellsEnd TooLong after failed = ⊥
-TellsEnd Read after failed = failed ≡ true
-TellsEnd NoMemory after failed = ⊥
+abbrev pub ReportsEnd : PullFault → Option (List ℕ) → Bool → Type 0
+ReportsEnd EndsEarly after failed = IsAtEnd after × (failed ≡ false)
+ReportsEnd TooLong after failed = ⊥
+ReportsEnd Read after failed = failed ≡ true
+ReportsEnd NoMemory after failed = ⊥
 
 -- Fewer than this many bytes came, since the reader ended or failed.
 pub record FallsShort
@@ -37,7 +37,7 @@ pub record FallsShort
   pub came : List ℕ
   pub bytes : Consumes before after came
   pub part : length came < size
-  pub tells : TellsEnd fault after failed
+  pub reports : ReportsEnd fault after failed
 
 -- A slice was filled, or the reader ended or failed before that.
 abbrev pub Fills

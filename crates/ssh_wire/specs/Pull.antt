@@ -7,7 +7,7 @@ use Rattle.ssh_wire.specs.declared.pull_fault.PullFault.{PullFault}
 use Rattle.ssh_wire.specs.declared.pull_fault.PullFault.TheVariants.{EndsEarly, TooLong, Read}
 use Rattle.ssh_wire.specs.declared.pull_fault.PullFault.TheVariants.{NoMemory}
 
--- What the reader has left, where it tells that, and whether it failed; the byte that was looked at
+-- What the reader has left, where it knows that, and whether it failed; the byte that was looked at
 -- and not taken; how many bytes were taken, and how many may be; the fault that was met.
 pub record Pulled : Type 0 where
   pub source : Option (List ℕ)
@@ -50,12 +50,12 @@ pub record Takes (old : Pulled) (field : List ℕ) (new : Pulled) : Type 0 where
 -- What a fault says, where this many bytes of a field came. EndsEarly: no byte is left. TooLong:
 -- the limit is reached, and a byte stands past it. Read: the reader failed, and no byte stands
 -- ahead.
-abbrev pub Tells : PullFault → Pulled → ℕ → Type 0
-Tells EndsEarly pull came = IsAtEnd (left_of pull) × (pull.failed ≡ false)
-Tells TooLong pull came =
+abbrev pub Reports : PullFault → Pulled → ℕ → Type 0
+Reports EndsEarly pull came = IsAtEnd (left_of pull) × (pull.failed ≡ false)
+Reports TooLong pull came =
     (pull.taken + came ≡ pull.limit) × IsSome pull.ahead × (pull.failed ≡ false)
-Tells Read pull came = (pull.ahead ≡ None) × (pull.failed ≡ true)
-Tells NoMemory pull came = pull.failed ≡ false
+Reports Read pull came = (pull.ahead ≡ None) × (pull.failed ≡ true)
+Reports NoMemory pull came = pull.failed ≡ false
 
 -- Of a field of this many bytes not all came, within the limit, and the fault says why.
 pub record Misses (old : Pulled) (size : ℕ) (fault : PullFault) (new : Pulled) : Type 0 where
@@ -63,7 +63,7 @@ pub record Misses (old : Pulled) (size : ℕ) (fault : PullFault) (new : Pulled)
   pub bytes : Consumes (left_of old) (left_of new) came
   pub part : length came < size
   pub within : old.taken + length came ≤ old.limit
-  pub tells : Tells fault new (length came)
+  pub reports : Reports fault new (length came)
 
 -- A field of this many bytes was refused. What came of it does not count as taken.
 pub record Refuses (old : Pulled) (size : ℕ) (fault : PullFault) (new : Pulled) : Type 0 where
@@ -84,19 +84,19 @@ pub record TakesRest (old : Pulled) (rest : List ℕ) (new : Pulled) : Type 0 wh
 
 -- What a fault says, where this many of the bytes to the reader's end came. Each byte that came is
 -- among them, but for one that stands past the limit. Memory is not refused before a byte came.
-abbrev pub TellsRest : PullFault → Pulled → ℕ → Type 0
-TellsRest EndsEarly pull came = ⊥
-TellsRest TooLong pull came =
+abbrev pub ReportsRest : PullFault → Pulled → ℕ → Type 0
+ReportsRest EndsEarly pull came = ⊥
+ReportsRest TooLong pull came =
     (pull.taken + came ≡ pull.limit) × IsSome pull.ahead × (pull.failed ≡ false)
-TellsRest Read pull came = (pull.ahead ≡ None) × (pull.failed ≡ true)
-TellsRest NoMemory pull came = (0 < came) × (pull.ahead ≡ None) × (pull.failed ≡ false)
+ReportsRest Read pull came = (pull.ahead ≡ None) × (pull.failed ≡ true)
+ReportsRest NoMemory pull came = (0 < came) × (pull.ahead ≡ None) × (pull.failed ≡ false)
 
 -- Of the bytes to the reader's end these came, within the limit, and the fault says why not all.
 pub record MissesRest (old : Pulled) (fault : PullFault) (new : Pulled) : Type 0 where
   pub came : List ℕ
   pub bytes : Consumes (left_of old) (left_of new) came
   pub within : old.taken + length came ≤ old.limit
-  pub tells : TellsRest fault new (length came)
+  pub reports : ReportsRest fault new (length came)
 
 -- What was left was refused. What came of it does not count as taken.
 pub record RefusesRest (old : Pulled) (fault : PullFault) (new : Pulled) : Type 0 where

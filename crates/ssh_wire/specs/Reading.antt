@@ -61,8 +61,8 @@ in_fault words (Err fault) = Err (words fault)
 -- A function answered what reading gives, seen by a view, or its fault is reported in a stated way.
 abbrev pub Answers
     : {X Y E : Type 0} → (E → Result Y E → Type 0) → (X → Y) → Result X E → Result Y E → Type 0
-Answers Tells view (Ok x) read = read ≡ Ok (view x)
-Answers Tells view (Err fault) read = Tells fault read
+Answers Reports view (Ok x) read = read ≡ Ok (view x)
+Answers Reports view (Err fault) read = Reports fault read
 
 -- A read answered what reading gives and left the bytes after it. A refusal left all of them.
 abbrev pub Reads

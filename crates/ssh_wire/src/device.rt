@@ -10,7 +10,7 @@ pub struct Failed;
 
 /// A reader that fails for good.
 pub trait Source {
-    // the bytes left, where the type tells them
+    // the bytes left, where the type knows them
     ghost left: { Self → Option (List ℕ) };
 
     // whether a read has failed
@@ -31,7 +31,7 @@ pub trait Source {
 
 /// A writer that fails for good.
 pub trait Sink {
-    // the bytes taken, where the type tells them
+    // the bytes taken, where the type knows them
     ghost taken: { Self → Option (List ℕ) };
 
     // whether a write has failed

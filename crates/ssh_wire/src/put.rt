@@ -65,14 +65,14 @@ pub fn put_mpint(out: &mut Vec<u8>, magnitude: &[u8]) -> Result<(), AllocError>
         (vec_capacity out.old < vec_len out.old + 4 + length (complement magnitude.now)) }
 {
     match magnitude {
-        [128..=255, ..] => put_behind_zero(out, magnitude),
+        [128..=255, ..] => put_after_zero(out, magnitude),
         _ => put_string(out, magnitude),
     }
 }
 
 /// Appends the `string` of a zero byte and the bytes.
 #[tactic(auto, unfolding(crate::specs::Wire::string))]
-fn put_behind_zero(out: &mut Vec<u8>, bytes: &[u8]) -> Result<(), AllocError>
+fn put_after_zero(out: &mut Vec<u8>, bytes: &[u8]) -> Result<(), AllocError>
     requires { length bytes.now + 1 < 2 ^ 32 }
     ensures appends { Appends result out.old.items out.new.items (string (0 ∷ bytes.now)) }
     ensures full { OnErr result

@@ -10,12 +10,13 @@ ghost use Rattle.std.specs.List.{concat};
 ghost use Rattle.krl_core.specs.Contents.{Contents, Means, held};
 ghost use Rattle.krl_core.specs.Krl.{SpelledSection, Spells};
 ghost use Rattle.krl_core.specs.declared.krl_fault.KrlFault.{KrlFault};
-ghost use Rattle.krl_core.specs.Front.{Spot, IsFirstFault, IsFront, limit};
+ghost use Rattle.krl_core.specs.Front.{State, IsFirstFault, IsFront, limit};
 
 /// Of two fronts of a text one is the beginning of the other.
 pub fn one_front_begins_the_other()
-    ensures { (text : List ℕ) (one other : List (List ℕ)) (spot spot' : Spot) (rest rest' : List ℕ)
-        → IsFront text one spot rest → IsFront text other spot' rest'
+    ensures { (text : List ℕ) (one other : List (List ℕ)) (state state' : State)
+        (rest rest' : List ℕ)
+        → IsFront text one state rest → IsFront text other state' rest'
         → ((more : List (List ℕ)) × (other ≡ one ++ more))
         ⊎ ((more : List (List ℕ)) × (one ≡ other ++ more)) }
 {}
@@ -27,7 +28,7 @@ pub fn one_first_fault()
 {}
 
 /// Each text has a first fault, or is reported to have none.
-pub fn each_text_is_told()
+pub fn each_text_is_judged()
     ensures { (text : List ℕ) → (fault : Option KrlFault) × IsFirstFault text fault }
 {}
 
@@ -61,8 +62,9 @@ pub fn one_spelling()
 /// front, summed over the authorities. Of a bitmap that is read in part, the bits that were read
 /// count too.
 pub fn four_intervals_a_byte()
-    ensures { (text : List ℕ) (fields : List (List ℕ)) (spot : Spot) (rest : List ℕ) (r : Contents)
-        → IsBytes text → IsFront text fields spot rest → Means r spot.entries
+    ensures { (text : List ℕ) (fields : List (List ℕ)) (state : State) (rest : List ℕ)
+        (r : Contents)
+        → IsBytes text → IsFront text fields state rest → Means r state.entries
         → held r ≤ 4 * length (concat fields) }
 {}
 

@@ -2,7 +2,7 @@
 
 ghost use Rattle.std.specs.Prelude.{◌≡◌, length};
 ghost use Rattle.krl_core.specs.Front.{HasRoom};
-ghost use Rattle.krl_core.specs.Place.{bitmap_due};
+ghost use Rattle.krl_core.specs.Place.{bitmap_expected};
 
 use crate::field::{byte_of, u32_of, u64_of};
 use crate::judging::{bits_judged, judge, next_bits, rest, within};
@@ -24,7 +24,7 @@ pub enum BitmapPlace {
         left: u32,
         after: u32,
     },
-    /// One of the `left` bytes that are due of a bitmap's `size`, the highest first.
+    /// One of the `left` bytes that remain of a bitmap's `size`, the highest first.
     Byte {
         offset: u64,
         size: u32,
@@ -34,11 +34,11 @@ pub enum BitmapPlace {
 }
 
 impl BitmapPlace {
-    // How many bytes the field has that is due, and how many are left for it.
+    // How many bytes the expected field has, and how many are left for it.
     #[inline(always)]
     pub(super) fn size_and_room(self) -> (u32, Option<u32>)
-        ensures size { result.0 ≡ (bitmap_due self).size }
-        ensures room { result.1 ≡ (bitmap_due self).room }
+        ensures size { result.0 ≡ (bitmap_expected self).size }
+        ensures room { result.1 ≡ (bitmap_expected self).room }
     {
         match self {
             BitmapPlace::Length { left } | BitmapPlace::Size { left, .. } => (4, Some(left)),
@@ -47,12 +47,12 @@ impl BitmapPlace {
         }
     }
 
-    // Judges the whole field that was due.
+    // Judges the whole field that was expected.
     #[inline(always)]
     pub(super) fn after(self, field: &[u8]) -> Result<Place, KrlFault>
-        requires whole { length field.now ≡ (bitmap_due self).size }
-        requires room { HasRoom (bitmap_due self) }
-        ensures { result ≡ (bitmap_due self).judged field.now }
+        requires whole { length field.now ≡ (bitmap_expected self).size }
+        requires room { HasRoom (bitmap_expected self) }
+        ensures { result ≡ (bitmap_expected self).judged field.now }
     {
         match self {
             BitmapPlace::Length { left } => {

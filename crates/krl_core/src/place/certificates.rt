@@ -2,7 +2,7 @@
 
 ghost use Rattle.std.specs.Prelude.{◌≡◌, length};
 ghost use Rattle.krl_core.specs.Front.{HasRoom};
-ghost use Rattle.krl_core.specs.Place.{certificates_due};
+ghost use Rattle.krl_core.specs.Place.{certificates_expected};
 
 use crate::field::{byte_of, u32_of};
 use crate::judging::{next_subsection, rest, subsection_of_type, within};
@@ -21,11 +21,11 @@ pub enum CertificatesPlace {
 }
 
 impl CertificatesPlace {
-    // How many bytes the field has that is due, and how many are left for it.
+    // How many bytes the expected field has, and how many are left for it.
     #[inline(always)]
     pub(super) fn size_and_room(self) -> (u32, Option<u32>)
-        ensures size { result.0 ≡ (certificates_due self).size }
-        ensures room { result.1 ≡ (certificates_due self).room }
+        ensures size { result.0 ≡ (certificates_expected self).size }
+        ensures room { result.1 ≡ (certificates_expected self).room }
     {
         match self {
             CertificatesPlace::SectionLength => (4, None),
@@ -37,12 +37,12 @@ impl CertificatesPlace {
         }
     }
 
-    // Judges the whole field that was due.
+    // Judges the whole field that was expected.
     #[inline(always)]
     pub(super) fn after(self, field: &[u8]) -> Result<Place, KrlFault>
-        requires whole { length field.now ≡ (certificates_due self).size }
-        requires room { HasRoom (certificates_due self) }
-        ensures { result ≡ (certificates_due self).judged field.now }
+        requires whole { length field.now ≡ (certificates_expected self).size }
+        requires room { HasRoom (certificates_expected self) }
+        ensures { result ≡ (certificates_expected self).judged field.now }
     {
         match self {
             CertificatesPlace::SectionLength => {

@@ -2,7 +2,7 @@
 
 ghost use Rattle.std.specs.Prelude.{◌≡◌, length};
 ghost use Rattle.krl_core.specs.Front.{HasRoom};
-ghost use Rattle.krl_core.specs.Place.{extension_due};
+ghost use Rattle.krl_core.specs.Place.{extension_expected};
 
 use crate::field::{byte_of, u32_of};
 use crate::judging::{judge, next_subsection, rest, within};
@@ -22,11 +22,11 @@ pub enum ExtensionPlace {
 }
 
 impl ExtensionPlace {
-    // How many bytes the field has that is due, and how many are left for it.
+    // How many bytes the expected field has, and how many are left for it.
     #[inline(always)]
     pub(super) fn size_and_room(self) -> (u32, Option<u32>)
-        ensures size { result.0 ≡ (extension_due self).size }
-        ensures room { result.1 ≡ (extension_due self).room }
+        ensures size { result.0 ≡ (extension_expected self).size }
+        ensures room { result.1 ≡ (extension_expected self).room }
     {
         match self {
             ExtensionPlace::SectionLength => (4, None),
@@ -40,12 +40,12 @@ impl ExtensionPlace {
         }
     }
 
-    // Judges the whole field that was due.
+    // Judges the whole field that was expected.
     #[inline(always)]
     pub(super) fn after(self, field: &[u8]) -> Result<Place, KrlFault>
-        requires whole { length field.now ≡ (extension_due self).size }
-        requires room { HasRoom (extension_due self) }
-        ensures { result ≡ (extension_due self).judged field.now }
+        requires whole { length field.now ≡ (extension_expected self).size }
+        requires room { HasRoom (extension_expected self) }
+        ensures { result ≡ (extension_expected self).judged field.now }
     {
         match self {
             ExtensionPlace::SectionLength => {

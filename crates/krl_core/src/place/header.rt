@@ -1,7 +1,7 @@
 // The places of the header, and what follows each of its fields.
 
 ghost use Rattle.std.specs.Prelude.{◌≡◌, length};
-ghost use Rattle.krl_core.specs.Place.{header_due};
+ghost use Rattle.krl_core.specs.Place.{header_expected};
 
 use crate::field::u32_of;
 use crate::header::MAGIC;
@@ -24,11 +24,11 @@ pub enum HeaderPlace {
 }
 
 impl HeaderPlace {
-    // How many bytes the field has that is due, and how many are left for it.
+    // How many bytes the expected field has, and how many are left for it.
     #[inline(always)]
     pub(super) fn size_and_room(self) -> (u32, Option<u32>)
-        ensures size { result.0 ≡ (header_due self).size }
-        ensures room { result.1 ≡ (header_due self).room }
+        ensures size { result.0 ≡ (header_expected self).size }
+        ensures room { result.1 ≡ (header_expected self).room }
     {
         match self {
             HeaderPlace::Reserved { size } | HeaderPlace::Comment { size } => (size, None),
@@ -38,11 +38,11 @@ impl HeaderPlace {
         }
     }
 
-    // Judges the whole field that was due.
+    // Judges the whole field that was expected.
     #[inline(always)]
     pub(super) fn after(self, field: &[u8]) -> Result<Place, KrlFault>
-        requires { length field.now ≡ (header_due self).size }
-        ensures { result ≡ (header_due self).judged field.now }
+        requires { length field.now ≡ (header_expected self).size }
+        ensures { result ≡ (header_expected self).judged field.now }
     {
         let next = match self {
             HeaderPlace::Magic => {

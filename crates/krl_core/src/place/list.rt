@@ -2,7 +2,7 @@
 
 ghost use Rattle.std.specs.Prelude.{◌≡◌, length};
 ghost use Rattle.krl_core.specs.Front.{HasRoom};
-ghost use Rattle.krl_core.specs.Place.{item_size, list_due};
+ghost use Rattle.krl_core.specs.Place.{item_size, list_expected};
 
 use crate::field::u32_of;
 use crate::judging::{judge, next_item, rest, within};
@@ -55,11 +55,11 @@ impl ItemKind {
 }
 
 impl ListPlace {
-    // How many bytes the field has that is due, and how many are left for it.
+    // How many bytes the expected field has, and how many are left for it.
     #[inline(always)]
     pub(super) fn size_and_room(self) -> (u32, Option<u32>)
-        ensures size { result.0 ≡ (list_due self).size }
-        ensures room { result.1 ≡ (list_due self).room }
+        ensures size { result.0 ≡ (list_expected self).size }
+        ensures room { result.1 ≡ (list_expected self).room }
     {
         match self {
             ListPlace::SectionLength { .. } => (4, None),
@@ -68,12 +68,12 @@ impl ListPlace {
         }
     }
 
-    // Judges the whole field that was due.
+    // Judges the whole field that was expected.
     #[inline(always)]
     pub(super) fn after(self, field: &[u8]) -> Result<Place, KrlFault>
-        requires whole { length field.now ≡ (list_due self).size }
-        requires room { HasRoom (list_due self) }
-        ensures { result ≡ (list_due self).judged field.now }
+        requires whole { length field.now ≡ (list_expected self).size }
+        requires room { HasRoom (list_expected self) }
+        ensures { result ≡ (list_expected self).judged field.now }
     {
         match self {
             ListPlace::SectionLength { kind } => Ok(next_item(kind, u32_of(field), 0)),

@@ -2,7 +2,7 @@
 
 ghost use Rattle.std.specs.Prelude.{◌≡◌, length};
 ghost use Rattle.krl_core.specs.Front.{HasRoom};
-ghost use Rattle.krl_core.specs.Place.{serials_due};
+ghost use Rattle.krl_core.specs.Place.{serials_expected};
 
 use crate::field::{u32_of, u64_of};
 use crate::judging::{judge, next_serial, next_subsection, rest, within};
@@ -20,11 +20,11 @@ pub enum SerialsPlace {
 }
 
 impl SerialsPlace {
-    // How many bytes the field has that is due, and how many are left for it.
+    // How many bytes the expected field has, and how many are left for it.
     #[inline(always)]
     pub(super) fn size_and_room(self) -> (u32, Option<u32>)
-        ensures size { result.0 ≡ (serials_due self).size }
-        ensures room { result.1 ≡ (serials_due self).room }
+        ensures size { result.0 ≡ (serials_expected self).size }
+        ensures room { result.1 ≡ (serials_expected self).room }
     {
         match self {
             SerialsPlace::SerialsLength { left } => (4, Some(left)),
@@ -34,12 +34,12 @@ impl SerialsPlace {
         }
     }
 
-    // Judges the whole field that was due.
+    // Judges the whole field that was expected.
     #[inline(always)]
     pub(super) fn after(self, field: &[u8]) -> Result<Place, KrlFault>
-        requires whole { length field.now ≡ (serials_due self).size }
-        requires room { HasRoom (serials_due self) }
-        ensures { result ≡ (serials_due self).judged field.now }
+        requires whole { length field.now ≡ (serials_expected self).size }
+        requires room { HasRoom (serials_expected self) }
+        ensures { result ≡ (serials_expected self).judged field.now }
     {
         match self {
             SerialsPlace::SerialsLength { left } => {

@@ -1,7 +1,7 @@
 // The places of a signature, and what follows each of its fields.
 
 ghost use Rattle.std.specs.Prelude.{◌≡◌, length, Ok};
-ghost use Rattle.krl_core.specs.Place.{signature_due};
+ghost use Rattle.krl_core.specs.Place.{signature_expected};
 
 use crate::field::u32_of;
 use crate::place::Place;
@@ -16,11 +16,11 @@ pub enum SignaturePlace {
 }
 
 impl SignaturePlace {
-    // How many bytes the field has that is due, and how many are left for it.
+    // How many bytes the expected field has, and how many are left for it.
     #[inline(always)]
     pub(super) fn size_and_room(self) -> (u32, Option<u32>)
-        ensures size { result.0 ≡ (signature_due self).size }
-        ensures room { result.1 ≡ (signature_due self).room }
+        ensures size { result.0 ≡ (signature_expected self).size }
+        ensures room { result.1 ≡ (signature_expected self).room }
     {
         match self {
             SignaturePlace::KeyLength | SignaturePlace::SignatureLength => (4, None),
@@ -28,11 +28,11 @@ impl SignaturePlace {
         }
     }
 
-    // Judges the whole field that was due.
+    // Judges the whole field that was expected.
     #[inline(always)]
     pub(super) fn after(self, field: &[u8]) -> Place
-        requires { length field.now ≡ (signature_due self).size }
-        ensures { (signature_due self).judged field.now ≡ Ok result }
+        requires { length field.now ≡ (signature_expected self).size }
+        ensures { (signature_expected self).judged field.now ≡ Ok result }
     {
         match self {
             SignaturePlace::KeyLength => Place::Signature(SignaturePlace::Key {

@@ -28,9 +28,9 @@ fn asked_about(about: About) -> Asked<'static> {
 // Of what was said, each of what is asked about is revoked, or is not.
 fn says<S: Spans>(rt: &impl Abort, alloc: Global, said: &[Said<'_>], rows: &[(About, bool)]) {
     let held = held_of::<S>(rt, alloc, said);
-    for (i, (about, due)) in rows.iter().enumerate() {
+    for (i, (about, expected)) in rows.iter().enumerate() {
         let found = revokes(rt, alloc, &held, asked_about(*about));
-        assert!(rt; found == *due, "in case {i}");
+        assert!(rt; found == *expected, "in case {i}");
     }
 }
 

@@ -87,12 +87,12 @@ fn is_read_as(
     alloc: Global,
     text: &[u8],
     plain: &PlainReader<'_>,
-    due: Result<(), KrlFault>,
+    expected: Result<(), KrlFault>,
 ) {
     match read_from::<Held, &[u8]>(alloc, text) {
-        Err(fault) => assert!(rt; due == Err(fault)),
+        Err(fault) => assert!(rt; expected == Err(fault)),
         Ok((header, held)) => {
-            assert!(rt; due == Ok(()));
+            assert!(rt; expected == Ok(()));
             are_alike(rt, alloc, &header, &held, plain)
         }
     }
@@ -101,8 +101,8 @@ fn is_read_as(
 /// A text is read as the plain reader reads it, or refused with the same fault.
 pub fn is_read_alike(rt: &impl Abort, alloc: Global, text: &[u8]) {
     let mut plain = PlainReader::new(alloc, text);
-    let due = plain.list();
-    is_read_as(rt, alloc, text, &plain, due)
+    let expected = plain.list();
+    is_read_as(rt, alloc, text, &plain, expected)
 }
 
 // Each text that a list begins with.

@@ -31,8 +31,8 @@ fn outcome<S: Spans>(r: &mut Revocations<S>, said: Said<'_>) -> Outcome {
 
 // What is said, row by row, has these outcomes.
 fn have_outcomes<S: Spans>(rt: &impl Abort, r: &mut Revocations<S>, rows: &[(Said<'_>, Outcome)]) {
-    for (said, due) in rows {
-        assert!(rt; outcome(r, *said) == *due);
+    for (said, expected) in rows {
+        assert!(rt; outcome(r, *said) == *expected);
     }
 }
 
@@ -361,7 +361,7 @@ fn ids_are_held(rt: &impl Abort, alloc: Global, count: u8) {
     assert!(rt; walk.next().is_none());
 }
 
-// A few key IDs stand in a vector, and more in a map.
+// A few key IDs are in a vector, and more in a map.
 #[test]
 fn few_ids_and_more_stand_in_order(rt: HostRuntime) {
     for count in [1, 2, 3, 10, 31, 32, 33, 34, 100] {

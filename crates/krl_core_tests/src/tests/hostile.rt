@@ -43,9 +43,9 @@ fn additions_from(alloc: Global, text: &[u8]) -> Result<Option<u64>, KrlFault> {
 }
 
 // That set was added to so often.
-fn is_added(rt: &impl Abort, alloc: Global, sections: &[u8], due: u64) {
+fn is_added(rt: &impl Abort, alloc: Global, sections: &[u8], expected: u64) {
     let text = list_of(rt, alloc, sections);
-    assert!(rt; additions_from(alloc, &text) == Ok(Some(due)));
+    assert!(rt; additions_from(alloc, &text) == Ok(Some(expected)));
 }
 
 // No range is expanded, and of a bitmap only its runs are added.
@@ -72,17 +72,17 @@ fn keys_from(alloc: Global, reader: Giver<'_>) -> Result<usize, KrlFault> {
 }
 
 // A list that goes on with zero bytes has this fault, or this many keys.
-fn is_told(
+fn is_reported(
     rt: &impl Abort,
     alloc: Global,
     sections: &[u8],
     zeros: usize,
-    due: Result<usize, KrlFault>,
+    expected: Result<usize, KrlFault>,
 ) {
     let first = list_of(rt, alloc, sections);
     let mut reader = Giver::whole(&first);
     reader.then = Then::Zeros(zeros);
-    assert!(rt; keys_from(alloc, reader) == due);
+    assert!(rt; keys_from(alloc, reader) == expected);
 }
 
 // A key that is said to be as long as can be.
@@ -103,7 +103,7 @@ const LONG: [Row; 4] = [
 // A reader without end meets the limit, and a list is read up to it.
 #[test]
 fn reads_up_to_the_limit(rt: HostRuntime) {
-    for (sections, zeros, due) in &LONG {
-        is_told(&rt, rt.alloc(), *sections, *zeros, *due);
+    for (sections, zeros, expected) in &LONG {
+        is_reported(&rt, rt.alloc(), *sections, *zeros, *expected);
     }
 }

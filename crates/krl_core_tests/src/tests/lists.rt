@@ -71,8 +71,8 @@ pub fn has_text(
     alloc: Global,
     header: &Header,
     held: &Revocations<Held>,
-    due: &[u8],
+    expected: &[u8],
 ) {
     let text = text_of(alloc, header, held).expect(rt, "what is held has a text");
-    assert!(rt; text.as_slice() == due);
+    assert!(rt; text.as_slice() == expected);
 }

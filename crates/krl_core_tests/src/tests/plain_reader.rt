@@ -187,8 +187,8 @@ impl<'a> PlainReader<'a> {
             if done == 0 && byte >= 128 {
                 return Err(KrlFault::BitmapNegative);
             }
-            let behind = 8 * ((size - done - 1) as u128);
-            self.bits(authority, behind.saturating_add(offset as u128), byte)?;
+            let after = 8 * ((size - done - 1) as u128);
+            self.bits(authority, after.saturating_add(offset as u128), byte)?;
         }
         Ok(())
     }

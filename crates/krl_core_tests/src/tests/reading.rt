@@ -11,15 +11,15 @@ use std::alloc::Global;
 use std::process::Abort;
 
 // The fault of a list, or how many spans it holds.
-fn told(alloc: Global, giver: Giver<'_>) -> Result<u128, KrlFault> {
+fn reported(alloc: Global, giver: Giver<'_>) -> Result<u128, KrlFault> {
     spans_from::<Held, Giver<'_>>(alloc, giver)
 }
 
 // The list of a row gives what the row has, in pieces of each size.
-fn is_told_in_pieces<S: Spans>(rt: &impl Abort, alloc: Global, text: &[u8], row: &Row) {
+fn is_reported_in_pieces<S: Spans>(rt: &impl Abort, alloc: Global, text: &[u8], row: &Row) {
     for piece in [1, 3, 7, 1000] {
         let found = spans_from::<S, Giver<'_>>(alloc, Giver::new(text, piece));
-        assert!(rt; found == row.due(), "in case {piece}");
+        assert!(rt; found == row.expected(), "in case {piece}");
     }
 }
 
@@ -27,8 +27,8 @@ fn is_told_in_pieces<S: Spans>(rt: &impl Abort, alloc: Global, text: &[u8], row:
 fn rows_in_pieces(rt: HostRuntime) {
     for row in &ROWS {
         let text = list_of(&rt, rt.alloc(), row.sections);
-        is_told_in_pieces::<Held>(&rt, rt.alloc(), &text, row);
-        is_told_in_pieces::<SpanVec>(&rt, rt.alloc(), &text, row);
+        is_reported_in_pieces::<Held>(&rt, rt.alloc(), &text, row);
+        is_reported_in_pieces::<SpanVec>(&rt, rt.alloc(), &text, row);
     }
 }
 
@@ -40,14 +40,14 @@ fn failing(bytes: &[u8]) -> Giver<'_> {
 }
 
 // A front of the list of serial 5 has its fault, and that of the reader where it fails.
-fn front_is_told(rt: &impl Abort, alloc: Global, front: &[u8]) {
+fn front_is_reported(rt: &impl Abort, alloc: Global, front: &[u8]) {
     let fault = match front.len() {
         44 | 70 => None,
         _ => Some(KrlFault::EndsEarly),
     };
-    let found = told(alloc, Giver::new(front, 1000)).err();
+    let found = reported(alloc, Giver::new(front, 1000)).err();
     assert!(rt; found == fault, "in case {}", front.len());
-    let found = told(alloc, failing(front)).err();
+    let found = reported(alloc, failing(front)).err();
     assert!(rt; found == Some(KrlFault::Read), "in case {}", front.len());
 }
 
@@ -56,13 +56,13 @@ fn each_front_of_a_list(rt: HostRuntime) {
     let text = list_of(&rt, rt.alloc(), FIVE);
     assert!(rt; text.len() == 70);
     for n in 0..71 {
-        front_is_told(&rt, rt.alloc(), &text[..n]);
+        front_is_reported(&rt, rt.alloc(), &text[..n]);
     }
 }
 
 // What the giver gives has this fault.
 fn is_refused(rt: &impl Abort, alloc: Global, giver: Giver<'_>, fault: KrlFault) {
-    assert!(rt; told(alloc, giver).err() == Some(fault));
+    assert!(rt; reported(alloc, giver).err() == Some(fault));
 }
 
 const FRONTS: [(&[u8], KrlFault); 3] = [
@@ -100,10 +100,10 @@ fn a_fault_before_the_reader_fails(rt: HostRuntime) {
 #[test]
 fn interruptions_are_passed_over(rt: HostRuntime) {
     let text = list_of(&rt, rt.alloc(), FIVE);
-    for (interruptions, due) in [(1000, Ok(1)), (1001, Err(KrlFault::Read))] {
+    for (interruptions, expected) in [(1000, Ok(1)), (1001, Err(KrlFault::Read))] {
         let mut giver = Giver::new(&text, 7);
         giver.interruptions = interruptions;
-        assert!(rt; told(rt.alloc(), giver) == due);
+        assert!(rt; reported(rt.alloc(), giver) == expected);
     }
 }
 
@@ -131,8 +131,8 @@ fn hold_at_each_moment(rt: &impl Abort, reading: &mut OfSlice<'_>) {
         if step(reading) != Ok(true) {
             break;
         }
-        let due = if taken(reading) < 75 { 0 } else { 4 };
-        assert!(rt; held(reading) == due, "in case {at}");
+        let expected = if taken(reading) < 75 { 0 } else { 4 };
+        assert!(rt; held(reading) == expected, "in case {at}");
     }
 }
 
@@ -144,7 +144,7 @@ fn stays_at_the_end(rt: &impl Abort, reading: &mut OfSlice<'_>) {
     }
 }
 
-// Reads to the end, which the reader tells once.
+// Reads to the end, which the reader reports once.
 fn ends_once(rt: &impl Abort, alloc: Global, text: &[u8]) {
     let mut giver = Giver::new(text, 7);
     giver.then = Then::EndsOnce;
@@ -174,7 +174,7 @@ const NO_ORDER: &[u8] = b"\x01\0\0\0\x35\0\0\0\0\0\0\0\0\x20\0\0\0\x28\0\0\0\0\0
 \0\0\0\0\0\0\0\x09\0\0\0\0\0\0\0\x03\0\0\0\0\0\0\0\x03\0\0\0\0\0\0\0\x02";
 
 // How many spans are held after each of the serials; before them none is.
-fn holds_at_once(rt: &impl Abort, reading: &mut OfSlice<'_>, due: &[u128]) {
+fn holds_at_once(rt: &impl Abort, reading: &mut OfSlice<'_>, expected: &[u128]) {
     for _ in 0..100 {
         if taken(reading) == 70 - 8 {
             break;
@@ -182,7 +182,7 @@ fn holds_at_once(rt: &impl Abort, reading: &mut OfSlice<'_>, due: &[u128]) {
         assert!(rt; step(reading) == Ok(true));
         assert!(rt; held(reading) == 0);
     }
-    for spans in due {
+    for spans in expected {
         assert!(rt; step(reading) == Ok(true));
         assert!(rt; held(reading) == *spans);
     }

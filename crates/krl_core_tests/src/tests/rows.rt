@@ -16,7 +16,7 @@ pub struct Row {
 
 impl Row {
     /// The fault of the list, or how many spans are held of it.
-    pub fn due(&self) -> Result<u128, KrlFault> {
+    pub fn expected(&self) -> Result<u128, KrlFault> {
         match self.fault {
             Some(fault) => Err(fault),
             None => Ok(self.held),

@@ -35,11 +35,11 @@ fn is_sent(
     alloc: Global,
     (piece, calls): (usize, usize),
     count: usize,
-    due: Result<(), WriteFault>,
+    expected: Result<(), WriteFault>,
 ) {
     let text = list_of(rt, alloc, FIVE);
     let (done, taken) = sent(rt, alloc, piece, calls);
-    assert!(rt; done == due);
+    assert!(rt; done == expected);
     assert!(rt; text.get(..count) == Some(taken.as_slice()));
 }
 
@@ -53,7 +53,7 @@ const ROWS: [(usize, usize, usize, Result<(), WriteFault>); 3] = [
 
 #[test]
 fn counts_what_went_out(rt: HostRuntime) {
-    for (piece, calls, count, due) in &ROWS {
-        is_sent(&rt, rt.alloc(), (*piece, *calls), *count, *due);
+    for (piece, calls, count, expected) in &ROWS {
+        is_sent(&rt, rt.alloc(), (*piece, *calls), *count, *expected);
     }
 }

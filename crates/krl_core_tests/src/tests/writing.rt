@@ -17,9 +17,9 @@ fn is_read_back(rt: &impl Abort, alloc: Global, text: &[u8]) {
 
 // What is held has this text: the header and these bytes.
 fn is_written(rt: &impl Abort, alloc: Global, held: &Revocations<Held>, sections: &[u8]) {
-    let due = list_of(rt, alloc, sections);
-    has_text(rt, alloc, &header(alloc), held, &due);
-    is_read_back(rt, alloc, &due);
+    let expected = list_of(rt, alloc, sections);
+    has_text(rt, alloc, &header(alloc), held, &expected);
+    is_read_back(rt, alloc, &expected);
 }
 
 // What is said has this text: the header and these bytes.
@@ -123,14 +123,14 @@ fn odd_serials(rt: &impl Abort, alloc: Global) -> Vec<(u64, u64)> {
 fn odd_serials_are_written(rt: &impl Abort, alloc: Global) {
     let runs = odd_serials(rt, alloc);
     let front = b"\x22\0\0\0\x2c\0\0\0\0\0\0\0\x01\0\0\0\x20";
-    let due = joined(alloc, &[front, &[0x55; 32]]).expect(rt, "there is memory");
-    serials(rt, alloc, &runs, &due)
+    let expected = joined(alloc, &[front, &[0x55; 32]]).expect(rt, "there is memory");
+    serials(rt, alloc, &runs, &expected)
 }
 
 #[test]
 fn writes_serials(rt: HostRuntime) {
-    for (ends, due) in &SERIALS {
-        serials(&rt, rt.alloc(), *ends, *due);
+    for (ends, expected) in &SERIALS {
+        serials(&rt, rt.alloc(), *ends, *expected);
     }
     has_length(&rt, rt.alloc(), EIGHT_AND_ONE, 89);
     odd_serials_are_written(&rt, rt.alloc());
@@ -192,8 +192,8 @@ const SAID: [(&[Said<'static>], &[u8]); 5] = [
 
 #[test]
 fn writes_entries_in_order_and_once(rt: HostRuntime) {
-    for (all, due) in &SAID {
-        are_written(&rt, rt.alloc(), *all, *due);
+    for (all, expected) in &SAID {
+        are_written(&rt, rt.alloc(), *all, *expected);
     }
 }
 

@@ -88,9 +88,9 @@ pub(super) fn plan_of(alloc: Global, runs: &[Run]) -> Result<Vec<Group>, AllocEr
 type Row = (&'static [Run], &'static [(Sort, u16)]);
 
 // The groups with these sorts and counts.
-fn groups_of(alloc: Global, due: &[(Sort, u16)]) -> Result<Vec<Group>, AllocError> {
+fn groups_of(alloc: Global, expected: &[(Sort, u16)]) -> Result<Vec<Group>, AllocError> {
     let mut groups = Vec::new(alloc);
-    for (sort, count) in due {
+    for (sort, count) in expected {
         groups.push(Group {
             sort: *sort,
             count: *count,
@@ -104,10 +104,10 @@ fn is_planned(
     rt: &impl Abort,
     alloc: Global,
     runs: &[Run],
-    due: &[(Sort, u16)],
+    expected: &[(Sort, u16)],
 ) -> Result<(), AllocError> {
     let plan = plan_of(alloc, runs)?;
-    let groups = groups_of(alloc, due)?;
+    let groups = groups_of(alloc, expected)?;
     assert!(rt; plan.as_slice() == groups.as_slice());
     Ok(())
 }
@@ -127,8 +127,8 @@ const ROWS: [Row; 10] = [
 
 #[test]
 fn plans_worked_lists(rt: HostRuntime) {
-    for (runs, due) in &ROWS {
-        is_planned(&rt, rt.alloc(), *runs, *due).expect(&rt, "there is memory");
+    for (runs, expected) in &ROWS {
+        is_planned(&rt, rt.alloc(), *runs, *expected).expect(&rt, "there is memory");
     }
 }
 
@@ -240,8 +240,8 @@ fn plans_long_lists(rt: HostRuntime) {
         (5000, Sort::Serials, 3 * 5 + 8 * 2500),
     ] {
         let runs = serials_apart(rt.alloc(), apart, 2500).expect(&rt, "there is memory");
-        let due = [(sort, 1024), (sort, 1024), (sort, 452)];
-        is_planned(&rt, rt.alloc(), &runs, &due).expect(&rt, "there is memory");
+        let expected = [(sort, 1024), (sort, 1024), (sort, 452)];
+        is_planned(&rt, rt.alloc(), &runs, &expected).expect(&rt, "there is memory");
         assert!(rt; bytes_put(rt.alloc(), &runs).expect(&rt, "there is memory") == bytes);
     }
 }

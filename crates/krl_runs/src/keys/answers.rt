@@ -26,6 +26,6 @@ pub trait Answers {
             key.now.number key.now.line (asked_of any.now) (plain_of any.now)) };
 
     /// The fault of a file of which nothing is said.
-    fn silence(&self) -> FileFault
-        ensures { result ≡ (answer_to self.now).silence };
+    fn unanswered(&self) -> FileFault
+        ensures { result ≡ (answer_to self.now).unanswered };
 }

@@ -2,7 +2,7 @@
 
 ghost use Rattle.std.specs.Prelude.{◌≡◌, ◌∷◌, [], IfOk, Ok};
 ghost use Rattle.krl_runs.specs.Carries.{Carries};
-ghost use Rattle.krl_runs.specs.Run.{GivesAnswer, file_items, files_items, found_item, tells};
+ghost use Rattle.krl_runs.specs.Run.{GivesAnswer, file_items, files_items, found_item, is_answered};
 
 use crate::keys::answers::Answers;
 use crate::output::answer::Answer;
@@ -41,12 +41,12 @@ pub fn print_file<'a, A: Answers, W: Sink>(
         said |= print_key(run, answers, &key)?;
     }
     if !said {
-        return Err(RunFault::whole(file.name, Cause::File(answers.silence())));
+        return Err(RunFault::whole(file.name, Cause::File(answers.unanswered())));
     }
     Ok(())
 }
 
-/// Prints the answer for a key, and tells whether something is said of it.
+/// Prints the answer for a key, and reports whether something is said of it.
 fn print_key<'a, A: Answers, W: Sink>(
     run: &mut Run<W>,
     answers: &A,
@@ -55,7 +55,7 @@ fn print_key<'a, A: Answers, W: Sink>(
     ensures carries { Carries (found_item (A.answer_to answers.now) (Ok key.now) ∷ []) result
         run.old.printer run.new.printer }
     ensures said { IfOk result (λ said.
-        said ≡ tells (found_item (A.answer_to answers.now) (Ok key.now) ∷ [])) }
+        said ≡ is_answered (found_item (A.answer_to answers.now) (Ok key.now) ∷ [])) }
 {
     let Some(answer) = answer_key(run.alloc, answers, key)? else {
         return Ok(false);

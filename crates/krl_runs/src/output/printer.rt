@@ -16,13 +16,13 @@ use std::marker::Model;
 /// How many bytes of lines are sent together, but for the last ones.
 const CHUNK: usize = 65_536;
 
-/// What prints, over a writer. Whole lines wait on a page until they fill a chunk. Once the writer
-/// has failed, each call answers that fault again.
+/// What prints, over a writer. Whole lines wait in a buffer until they fill a chunk. Once the
+/// writer has failed, each call answers that fault again.
 #[derive(Drop)]
 pub struct Printer<'w, W: Sink> {
     // A run takes the printer apart at its end, so that what it left of its writer is known.
     pub(crate) out: &'w mut W,
-    page: &'w mut Vec<u8>,
+    buffer: &'w mut Vec<u8>,
     sent: u64,
     revoked: bool,
 }
@@ -33,7 +33,7 @@ impl<'w, W: Sink> Model for Printer<'w, W> {
     ghost Value = { Printed };
 
     ghost view = { λ printer. record {
-      waiting = printer.page.now.items;
+      waiting = printer.buffer.now.items;
       sent = printer.sent;
       revoked = printer.revoked;
       taken = W.taken printer.out.now;
@@ -43,15 +43,15 @@ impl<'w, W: Sink> Model for Printer<'w, W> {
 }
 
 impl<'w, W: Sink> Printer<'w, W> {
-    /// A printer that has printed nothing. What stands on the page is thrown away.
-    pub fn new(page: &'w mut Vec<u8>, out: &'w mut W) -> Self
+    /// A printer that has printed nothing. What is in the buffer is thrown away.
+    pub fn new(buffer: &'w mut Vec<u8>, out: &'w mut W) -> Self
         ensures { result ≡ nothing_printed (W.taken out.old) (W.has_failed out.old)
             out.entry.ghost_name }
     {
-        page.clear();
+        buffer.clear();
         Printer {
             out,
-            page,
+            buffer,
             sent: 0,
             revoked: false,
         }
@@ -101,7 +101,7 @@ impl<'w, W: Sink> Printer<'w, W> {
     fn is_short(&self) -> bool
         ensures { IsTrue result ↔ (length self.now.waiting < chunk) }
     {
-        self.page.len() < CHUNK
+        self.buffer.len() < CHUNK
     }
 
     /// Adds lines to what waits. A refusal changes nothing.
@@ -110,7 +110,7 @@ impl<'w, W: Sink> Printer<'w, W> {
             ≡ and_answer self.old (record { text = lines.now; revoked = revoked })) }
         ensures err { OnErr result (self.new ≡ self.old) }
     {
-        self.page.extend_from_slice(lines)?;
+        self.buffer.extend_from_slice(lines)?;
         self.revoked |= revoked;
         Ok(())
     }
@@ -122,12 +122,12 @@ impl<'w, W: Sink> Printer<'w, W> {
         ensures again { FailsAgain result self.old self.new }
     {
         self.check()?;
-        if let Err(part) = send(self.out, self.page.as_slice()) {
+        if let Err(part) = send(self.out, self.buffer.as_slice()) {
             self.sent = self.sent.saturating_add(part.count as u64);
             return Err(self.lost());
         }
-        self.sent = self.sent.saturating_add(self.page.len() as u64);
-        self.page.clear();
+        self.sent = self.sent.saturating_add(self.buffer.len() as u64);
+        self.buffer.clear();
         Ok(())
     }
 

@@ -51,7 +51,7 @@ impl Answers for Listing {
         }
     }
 
-    fn silence(&self) -> FileFault {
+    fn unanswered(&self) -> FileFault {
         match self.mode {
             ListMode::Keys => FileFault::NoKeys,
             ListMode::Certs => FileFault::NoCertificate,
@@ -131,7 +131,7 @@ fn push_place(text: &mut Vec<u8>, name: &str, number: u64) -> Result<(), AllocEr
     text.extend_from_slice(b":\n")
 }
 
-/// What stands after the kind: a mark of certificates.
+/// What is after the kind: a mark of certificates.
 fn certificate_mark(any: &AnyKey) -> &'static [u8]
     ensures { result.now ≡ certificate_mark (asked_of any.now).cert }
 {
@@ -193,8 +193,8 @@ pub fn list_run<'a, W: Sink>(
     ensures { Ends (list_run_of mode hash moment file.now) (W.taken out.old) (W.taken out.new)
         (W.has_failed out.new) result.status result.fault }
 {
-    let mut page = Vec::new(alloc);
-    let printer = Printer::new(&mut page, out);
+    let mut buffer = Vec::new(alloc);
+    let printer = Printer::new(&mut buffer, out);
     let line = Vec::new(alloc);
     let mut run = Run {
         alloc,

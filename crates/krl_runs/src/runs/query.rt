@@ -49,7 +49,7 @@ impl<'q> Answers for Query<'q> {
         Ok(Some(Answer { text, revoked }))
     }
 
-    fn silence(&self) -> FileFault {
+    fn unanswered(&self) -> FileFault {
         FileFault::NoKeys
     }
 }
@@ -100,8 +100,8 @@ pub fn query_run<'a, R: Source + Drop, W: Sink>(
         × Ends (query_run_of krl_name.now reading dump files.now) (W.taken out.old)
         (W.taken out.new) (W.has_failed out.new) result.0.status result.0.fault }
 {
-    let mut page = Vec::new(alloc);
-    let printer = Printer::new(&mut page, out);
+    let mut buffer = Vec::new(alloc);
+    let printer = Printer::new(&mut buffer, out);
     let line = Vec::new(alloc);
     let mut run = Run {
         alloc,

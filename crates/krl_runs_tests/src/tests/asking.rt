@@ -73,7 +73,7 @@ const ROWS: [Row<'static>; 15] = [
 
 // A body that is always out of memory meets the contracts. It fails here.
 #[test]
-fn told_of_each_key_or_stopped_at_a_fault(rt: HostRuntime) {
+fn reports_each_key_or_stops_at_a_fault(rt: HostRuntime) {
     for (i, (parts, files, said)) in ROWS.iter().enumerate() {
         let list = joined(&rt, rt.alloc(), *parts);
         asks(&rt, rt.alloc(), i, (&list, false), *files, *said);

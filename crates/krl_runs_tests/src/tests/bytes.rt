@@ -26,7 +26,7 @@ pub const THIRD: [u8; 51] = [
     0x22, 0x22, 0x22, 0x22, 0x22, 0x22, 0x22, 0x22, 0x22, 0x22, 0x22, 0x22, 0x22, 0x22, 0x22, 0x22,
 ];
 
-/// What stands before the blob of a section with one key of 51 bytes.
+/// What is before the blob of a section with one key of 51 bytes.
 pub const ONE_KEY: [u8; 9] = [2, 0, 0, 0, 0x37, 0, 0, 0, 0x33];
 
 /// The section of the key ID `a` of all authorities.
@@ -50,7 +50,7 @@ pub const SERIAL_7_UNDER_OTHER: [&[u8]; 3] = [
     b"\0\0\0\0\x20\0\0\0\x08\0\0\0\0\0\0\0\x07",
 ];
 
-/// The bytes that were found are these; a number tells the case from the others of a test.
+/// The bytes that were found are these; a number distinguishes the case from the others of a test.
 pub fn same(rt: &impl Abort, number: usize, found: &[u8], wanted: &[u8]) {
     assert_eq!(rt; found, wanted, "in case {number}");
 }

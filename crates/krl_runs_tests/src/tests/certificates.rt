@@ -26,7 +26,7 @@ pub const FREE: Terms<'static> = Terms {
     lists: [b"", b"", b""],
 };
 
-/// What stands in a certificate before its time.
+/// What is in a certificate before its time.
 fn front(rt: &impl Abort, alloc: Global, serial: u64, principals: &[u8]) -> Vec<u8> {
     let name_and_nonce = strings(rt, alloc, &[NAME, b""]);
     let id_and_principals = strings(rt, alloc, &[b"a", principals]);
@@ -40,7 +40,7 @@ fn front(rt: &impl Abort, alloc: Global, serial: u64, principals: &[u8]) -> Vec<
     joined(rt, alloc, &parts)
 }
 
-/// What stands in a certificate after its time.
+/// What is in a certificate after its time.
 fn back(rt: &impl Abort, alloc: Global, fields: &[&[u8]]) -> Vec<u8> {
     let fields = strings(rt, alloc, fields);
     let signature = b"\0\0\0\x53\0\0\0\x0bssh-ed25519\0\0\0\x40";
@@ -98,7 +98,7 @@ fn its_plain_key_is_listed(rt: HostRuntime) {
 
 /// The list of these sections is asked about a file of a certificate by the other key and of its
 /// plain key, and this is said of the two.
-fn is_told(
+fn is_reported(
     rt: &impl Abort,
     alloc: Global,
     number: usize,
@@ -153,11 +153,11 @@ const ROWS: [Row<'static>; 7] = [
 #[test]
 fn asked_by_its_keys_and_its_names(rt: HostRuntime) {
     for (i, (sections, said)) in ROWS.iter().enumerate() {
-        is_told(&rt, rt.alloc(), i, *sections, *said);
+        is_reported(&rt, rt.alloc(), i, *sections, *said);
     }
 }
 
-/// What stands before the blob of a section with one key of 267 bytes.
+/// What is before the blob of a section with one key of 267 bytes.
 const ONE_LONG_KEY: &[u8] = &[2, 0, 0, 1, 15, 0, 0, 1, 11];
 
 // The blob of a certificate as an explicit key names nothing.
@@ -165,5 +165,5 @@ const ONE_LONG_KEY: &[u8] = &[2, 0, 0, 1, 15, 0, 0, 1, 11];
 fn not_asked_by_its_blob(rt: HostRuntime) {
     let blob = certificate(&rt, rt.alloc(), &OTHER, 7);
     let sections = [ONE_LONG_KEY, &blob];
-    is_told(&rt, rt.alloc(), 0, &sections, NEITHER);
+    is_reported(&rt, rt.alloc(), 0, &sections, NEITHER);
 }

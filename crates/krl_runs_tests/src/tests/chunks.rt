@@ -16,7 +16,7 @@ const SAID: &[u8] = b"g.pub: REVOKED\n";
 const LISTED: &[u8] =
     b"256 SHA256:+DiY3wvvV6TuJJhbpZisF/zLDA0zPMSvHdkr4UvCOqU no comment (ED25519)\n";
 
-/// How many times the key stands in the file: 5,000 lines of 15 bytes are 75,000 bytes.
+/// How many times the key is in the file: 5,000 lines of 15 bytes are 75,000 bytes.
 const TIMES: usize = 5_000;
 
 /// What goes out in the first chunk: the first whole lines that reach 65,536 bytes.

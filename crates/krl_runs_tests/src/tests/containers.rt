@@ -70,7 +70,7 @@ fn listed_by_long_comments(rt: HostRuntime) {
 }
 
 /// The list that names this key is asked about the files, and this is said.
-fn tells(rt: &impl Abort, alloc: Global, key: &[u8], files: &[File], said: Said) {
+fn reports(rt: &impl Abort, alloc: Global, key: &[u8], files: &[File], said: Said) {
     let list = list_of_one(rt, alloc, key);
     asks(rt, alloc, files.len(), (&list, false), files, said)
 }
@@ -80,8 +80,8 @@ fn asked_about(rt: HostRuntime) {
     let alloc = rt.alloc();
     let text = plain(&rt, alloc, 1, 4);
     let said: Said = (b"id (a): REVOKED\n", 1, "");
-    tells(&rt, alloc, &GITHUB, &[("id", Some(&[&text]))], said);
-    tells(
+    reports(&rt, alloc, &GITHUB, &[("id", Some(&[&text]))], said);
+    reports(
         &rt,
         alloc,
         &OTHER,
@@ -90,8 +90,8 @@ fn asked_about(rt: HostRuntime) {
     );
 }
 
-/// The file `id` of these bytes ends a run with this fault, which has no line. A number tells it
-/// from the others of a test.
+/// The file `id` of these bytes ends a run with this fault, which has no line. A number
+/// distinguishes it from the others of a test.
 fn is_refused(rt: &impl Abort, alloc: Global, number: usize, text: &[u8], fault: &str) {
     let parts = [text];
     let file = ("id", Some(parts.as_slice()));

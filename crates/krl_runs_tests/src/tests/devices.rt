@@ -65,7 +65,7 @@ fn takes(rt: &impl Abort, alloc: Global, piece: usize, calls: usize) {
 
 #[test]
 fn loaded_in_pieces(rt: HostRuntime) {
-    // the last call gives none: it tells the end
+    // the last call gives none: it reports the end
     for (piece, calls) in [(1, 81), (3, 28), (7, 13), (100, 2)] {
         takes(&rt, rt.alloc(), piece, calls);
     }

@@ -1,4 +1,4 @@
-// The lines that tell why a run stopped.
+// The lines that report why a run stopped.
 
 use crate::tests::bytes::{long_text, same};
 use krl_core::KrlFault;
@@ -10,12 +10,19 @@ use std::alloc::Global;
 use std::process::Abort;
 
 /// A fault is printed so, after the name of the program, and its cause has this number. Another
-/// number tells it from the others of a test.
-fn is_told(rt: &impl Abort, alloc: Global, place: usize, fault: &RunFault, number: u8, want: &str) {
+/// number distinguishes it from the others of a test.
+fn is_reported(
+    rt: &impl Abort,
+    alloc: Global,
+    place: usize,
+    fault: &RunFault,
+    number: u8,
+    want: &str,
+) {
     let text = fault_line(alloc, fault).expect(rt, "there is memory");
     let name = b"ssh-keygen: ".as_slice();
-    let told = text.strip_prefix(name).unwrap_or(b"no name");
-    same(rt, place, told, want.as_bytes());
+    let reported = text.strip_prefix(name).unwrap_or(b"no name");
+    same(rt, place, reported, want.as_bytes());
     same(rt, place, &[fault.cause.number()], &[number]);
 }
 
@@ -134,7 +141,7 @@ fn lines(rt: HostRuntime) {
             line: *line,
             cause: *cause,
         };
-        is_told(&rt, rt.alloc(), i, &fault, *number, *want);
+        is_reported(&rt, rt.alloc(), i, &fault, *number, *want);
     }
 }
 
@@ -152,7 +159,7 @@ fn file_faults(rt: HostRuntime) {
     for (i, (fault, number, want)) in FILE_FAULTS.iter().enumerate() {
         same(&rt, i, &[fault.number()], &[*number]);
         let fault = RunFault::whole("k", Cause::File(*fault));
-        is_told(&rt, rt.alloc(), i, &fault, *number, *want);
+        is_reported(&rt, rt.alloc(), i, &fault, *number, *want);
     }
 }
 

@@ -7,15 +7,15 @@ use std::alloc::Global;
 use std::process::Abort;
 
 /// The list that names the published key is asked about the files, and this is said.
-fn tells(rt: &impl Abort, alloc: Global, number: usize, files: &[File], said: Said) {
+fn reports(rt: &impl Abort, alloc: Global, number: usize, files: &[File], said: Said) {
     let list = list_of_one(rt, alloc, &GITHUB);
     asks(rt, alloc, number, (&list, false), files, said)
 }
 
 /// The name of a file, the parts of its text, the output and the status.
-type Told<'a> = (&'a str, &'a [&'a [u8]], &'a [u8], u8);
+type Reported<'a> = (&'a str, &'a [&'a [u8]], &'a [u8], u8);
 
-const TOLD: [Told<'static>; 8] = [
+const REPORTED: [Reported<'static>; 8] = [
     ("k", &[GITHUB_LINE], b"k: REVOKED\n", 1),
     ("k", &[OTHER_LINE, b" \t c d \t\r\r\n"], b"k (c d): ok\n", 0),
     (
@@ -58,10 +58,10 @@ const TOLD: [Told<'static>; 8] = [
 ];
 
 #[test]
-fn told_of_each_line(rt: HostRuntime) {
-    for (i, (name, parts, text, status)) in TOLD.iter().enumerate() {
+fn reports_each_line(rt: HostRuntime) {
+    for (i, (name, parts, text, status)) in REPORTED.iter().enumerate() {
         let file = (*name, Some(*parts));
-        tells(&rt, rt.alloc(), i, &[file], (*text, *status, ""));
+        reports(&rt, rt.alloc(), i, &[file], (*text, *status, ""));
     }
 }
 
@@ -75,11 +75,11 @@ fn is_ok<'a>(
     text: &[u8],
 ) {
     let file = (name, Some(parts));
-    tells(rt, alloc, number, &[file], (text, 0, ""))
+    reports(rt, alloc, number, &[file], (text, 0, ""))
 }
 
 /// What is said of a file of a long name, with a key whose comment is as long.
-fn is_told(rt: &impl Abort, alloc: Global, pairs: usize) {
+fn is_reported(rt: &impl Abort, alloc: Global, pairs: usize) {
     let long = long_text(rt, alloc, pairs);
     let line = joined(rt, alloc, &[OTHER_LINE, b" ", long.text.as_bytes()]);
     let said: [&[u8]; 4] = [&long.printed, b" (", &long.printed, b"): ok\n"];
@@ -88,9 +88,9 @@ fn is_told(rt: &impl Abort, alloc: Global, pairs: usize) {
 }
 
 #[test]
-fn told_of_long_names_and_comments(rt: HostRuntime) {
+fn reports_long_names_and_comments(rt: HostRuntime) {
     for pairs in LONG {
-        is_told(&rt, rt.alloc(), pairs);
+        is_reported(&rt, rt.alloc(), pairs);
     }
 }
 
@@ -98,7 +98,7 @@ const ONE: &[u8] = b"k: REVOKED\n";
 
 const SHORT: &str = "ssh-keygen: k: line 2: subject 1 Key, key 1 Wire, wire 1 Short";
 
-/// What stands between two good lines, the output and the fault.
+/// What is between two good lines, the output and the fault.
 const STOPPED: [(&[u8], &[u8], &str); 9] = [
     (
         b"\nssh-rsa AAAAC3NzaC1lZDI1NTE5\n",
@@ -141,7 +141,7 @@ fn stopped_at_a_line(rt: HostRuntime) {
     for (i, (between, text, fault)) in STOPPED.iter().enumerate() {
         let parts = [GITHUB_LINE, *between, OTHER_LINE];
         let file = ("k", Some(parts.as_slice()));
-        tells(&rt, rt.alloc(), i, &[file, file], (*text, 255, *fault));
+        reports(&rt, rt.alloc(), i, &[file, file], (*text, 255, *fault));
     }
 }
 
@@ -185,7 +185,7 @@ const REFUSED: [Refused<'static>; 6] = [
 fn stopped_at_a_key(rt: HostRuntime) {
     for (i, (word, fields, fault)) in REFUSED.iter().enumerate() {
         let line = key_line(&rt, rt.alloc(), *word, *fields);
-        tells(
+        reports(
             &rt,
             rt.alloc(),
             i,
@@ -207,6 +207,6 @@ fn files_without_keys(rt: HostRuntime) {
     for (i, text) in texts.iter().enumerate() {
         let parts = [*text];
         let bare = ("a\n", Some(parts.as_slice()));
-        tells(&rt, rt.alloc(), i, &[first, bare, first], said);
+        reports(&rt, rt.alloc(), i, &[first, bare, first], said);
     }
 }

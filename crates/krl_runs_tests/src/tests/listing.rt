@@ -40,8 +40,8 @@ fn line_on(rt: &impl Abort, alloc: Global, terms: &Terms) -> Vec<u8> {
 /// A file's name, its bytes, and the moment at which it is listed.
 type At<'a> = (&'a str, &'a [u8], u64);
 
-/// A file gives these parts of a text at a moment, and this fault or none. A number tells it from
-/// the others of a test.
+/// A file gives these parts of a text at a moment, and this fault or none. A number distinguishes
+/// it from the others of a test.
 fn gives(rt: &impl Abort, alloc: Global, number: usize, at: At, text: &[&[u8]], fault: &str) {
     let (name, bytes, moment) = at;
     let text = joined(rt, alloc, text);

@@ -57,7 +57,7 @@ fn made(
     Outcome::of(rt, alloc, made)
 }
 
-/// This list is made; a number tells it from the others of a test.
+/// This list is made; a number distinguishes it from the others of a test.
 fn is_made(rt: &impl Abort, number: usize, made: &Outcome, want: &[u8]) {
     same(rt, number, &made.fault, b"");
     same(rt, number, &made.list, want);

@@ -79,13 +79,16 @@ fn lines_revoke(rt: HostRuntime) {
 #[test]
 fn the_first_key_has_its_line(rt: HostRuntime) {
     let mut text = Vec::from_slice(rt.alloc(), b"\n# no key\n").expect(&rt, "there is memory");
-    text.extend_from_slice(GITHUB_LINE).expect(&rt, "there is memory");
+    text.extend_from_slice(GITHUB_LINE)
+        .expect(&rt, "there is memory");
     let file = holding("keys", text);
     let number = first_of(rt.alloc(), &file).ok().expect(&rt, "it is a key");
     assert!(rt; number == Some(3));
     let text = Vec::from_slice(rt.alloc(), b"\nssh-ed25519\n").expect(&rt, "there is memory");
     let file = holding("keys", text);
-    let fault = first_of(rt.alloc(), &file).err().expect(&rt, "it has no blob");
+    let fault = first_of(rt.alloc(), &file)
+        .err()
+        .expect(&rt, "it has no blob");
     assert!(rt; fault.line == Some(2));
 }
 

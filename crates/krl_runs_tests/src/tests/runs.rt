@@ -36,7 +36,7 @@ pub struct Ran {
     pub fault: Vec<u8>,
 }
 
-/// This is what the run said; a number tells it from the other runs of a test.
+/// This is what the run said; a number distinguishes it from the other runs of a test.
 pub fn says(rt: &impl Abort, number: usize, ran: &Ran, said: Said) {
     let (text, status, fault) = said;
     same(rt, number, &ran.text, text);
@@ -75,7 +75,7 @@ pub fn all_named<'a>(rt: &impl Abort, alloc: Global, files: &[File<'a>]) -> Vec<
 }
 
 /// What is said of a run's end.
-pub fn told(rt: &impl Abort, alloc: Global, text: Vec<u8>, done: &Done) -> Ran {
+pub fn reported(rt: &impl Abort, alloc: Global, text: Vec<u8>, done: &Done) -> Ran {
     let fault = match &done.fault {
         Some(fault) => fault_line(alloc, fault).expect(rt, "there is memory"),
         None => Vec::new(alloc),
@@ -100,7 +100,7 @@ pub fn asked<'a>(
     let mut out = ToWrite::new(&mut device);
     let (done, _) = query_run(alloc, "r.krl", FromRead::new(krl), dump, files, &mut out);
     drop(out);
-    told(rt, alloc, device.taken, &done)
+    reported(rt, alloc, device.taken, &done)
 }
 
 /// The bytes of a list, and whether what it holds is printed before it is asked about files.
@@ -140,7 +140,7 @@ pub fn listed<'a>(
     let mut out = ToWrite::new(&mut device);
     let done = list_run(alloc, mode, hash, file, moment, &mut out);
     drop(out);
-    told(rt, alloc, device.taken, &done)
+    reported(rt, alloc, device.taken, &done)
 }
 
 /// The keys of the file are listed so.

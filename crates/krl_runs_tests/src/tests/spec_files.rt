@@ -37,11 +37,11 @@ fn of_bytes<'a>(under: Under<'a>) -> Under<'a>
 /// Where and why a file is refused, and the list that is written of what it adds.
 #[derive(Drop)]
 struct Outcome {
-    told: String,
+    reported: String,
     list: Vec<u8>,
 }
 
-/// Adds what a file names, and tells where and why it is refused.
+/// Adds what a file names, and reports where and why it is refused.
 fn add(
     rt: &impl Abort,
     alloc: Global,
@@ -52,8 +52,8 @@ fn add(
     match read_spec(alloc, revocations, of_bytes(under), text) {
         Ok(()) => String::new(alloc),
         Err(fault) => {
-            let told = format!(in alloc; "{}: {}", fault.line, fault.cause);
-            told.expect(rt, "there is memory")
+            let reported = format!(in alloc; "{}: {}", fault.line, fault.cause);
+            reported.expect(rt, "there is memory")
         }
     }
 }
@@ -71,13 +71,13 @@ fn written(rt: &impl Abort, alloc: Global, revocations: &Revocations<Held>) -> V
 /// What comes of a file.
 fn found(rt: &impl Abort, alloc: Global, under: Under, text: &[u8]) -> Outcome {
     let mut revocations = Revocations::<Held>::new(alloc);
-    let told = add(rt, alloc, &mut revocations, under, text);
+    let reported = add(rt, alloc, &mut revocations, under, text);
     let list = written(rt, alloc, &revocations);
-    Outcome { told, list }
+    Outcome { reported, list }
 }
 
 /// The file is refused so, or read to its end where there is no fault; the list that is written of
-/// what it adds has these sections. A number tells the file from the others of a test.
+/// what it adds has these sections. A number distinguishes the file from the others of a test.
 fn adds(
     rt: &impl Abort,
     alloc: Global,
@@ -87,7 +87,7 @@ fn adds(
     fault: &str,
 ) {
     let found = found(rt, alloc, under, text);
-    same(rt, number, found.told.as_bytes(), fault.as_bytes());
+    same(rt, number, found.reported.as_bytes(), fault.as_bytes());
     let want = list_of(rt, alloc, sections);
     same(rt, number, &found.list, &want);
 }
@@ -171,7 +171,7 @@ fn read_to_the_end_or_stopped_at_a_line(rt: HostRuntime) {
     }
 }
 
-/// The authority under which the line of a certificate is read, what stands before it, the serial
+/// The authority under which the line of a certificate is read, what is before it, the serial
 /// of the certificate, and the sections that the line adds.
 type Certified<'a> = (Under<'a>, &'a [u8], u64, &'a [&'a [u8]]);
 

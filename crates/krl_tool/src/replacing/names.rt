@@ -7,7 +7,7 @@ use std::random::RandomSource;
 
 /// How many links are followed to a file, as Linux does.
 const LINKS: usize = 40;
-/// How many bytes of the list's name stand in the new one. So the new one is short enough for file
+/// How many bytes of the list's name are in the new one. So the new one is short enough for file
 /// systems that take only 143 bytes.
 const FRONT: usize = 100;
 
@@ -27,7 +27,7 @@ pub fn followed(rt: &HostRuntime, name: &str) -> io::Result<String> {
     Err(io::Error::from(ErrorKind::FilesystemLoop))
 }
 
-/// The path of a name as it stands in the folder of another path.
+/// The path of a name as it is in the folder of another path.
 pub fn beside(alloc: Global, path: &str, name: &str) -> io::Result<String> {
     match path.rsplit_once('/') {
         Some((folder, _)) if !name.starts_with('/') => Ok(format!(in alloc; "{folder}/{name}")?),

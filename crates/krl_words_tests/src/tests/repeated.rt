@@ -1,6 +1,6 @@
 // Options that are given more than once: of values the last one counts, others count once.
 
-use super::words::{Asked, Making, fault_by, is_asked, is_making, is_misuse, job_by, tells};
+use super::words::{Asked, Making, fault_by, is_asked, is_making, is_misuse, job_by, reports};
 use krl_job::Mode;
 use ssh_key::Hash;
 use std::test::Fail;
@@ -159,7 +159,7 @@ fn without_the_last_value(rt: HostRuntime) -> Result<(), Fail> {
     ];
     for (i, words) in rows.iter().enumerate() {
         let fault = fault_by(rt.alloc(), *words)?;
-        assert!(rt; tells(&fault, false), "in row {i}");
+        assert!(rt; reports(&fault, false), "in row {i}");
     }
     Ok(())
 }

@@ -258,7 +258,7 @@ fn misused(rt: HostRuntime) -> Result<(), Fail> {
 }
 
 // Whether the fault is of words that are not read, or that ask for help, with something to print.
-pub(super) fn tells(fault: &CommandFault, of_help: bool) -> bool {
+pub(super) fn reports(fault: &CommandFault, of_help: bool) -> bool {
     match fault {
         CommandFault::Words { help, text } => *help == of_help && !text.is_empty(),
         _ => false,
@@ -266,7 +266,7 @@ pub(super) fn tells(fault: &CommandFault, of_help: bool) -> bool {
 }
 
 // Words, and whether they ask for help.
-const TOLD: [(&[&str], bool); 7] = [
+const ANSWERED: [(&[&str], bool); 7] = [
     (&["ssh-keygen", "-h"], true),
     (&["ssh-keygen", "-Q", "-h"], true),
     (&["ssh-keygen", "-x"], false),
@@ -277,10 +277,10 @@ const TOLD: [(&[&str], bool); 7] = [
 ];
 
 #[test]
-fn told_in_words(rt: HostRuntime) -> Result<(), Fail> {
-    for (i, (words, help)) in TOLD.iter().enumerate() {
+fn answered_in_words(rt: HostRuntime) -> Result<(), Fail> {
+    for (i, (words, help)) in ANSWERED.iter().enumerate() {
         let fault = fault_by(rt.alloc(), *words)?;
-        assert!(rt; tells(&fault, *help), "in row {i}");
+        assert!(rt; reports(&fault, *help), "in row {i}");
     }
     Ok(())
 }
@@ -341,19 +341,19 @@ fn takes_names(alloc: Global, size: usize) -> Result<bool, Fail> {
 }
 
 // Whether a long word that is no option is reported.
-fn tells_word(alloc: Global, size: usize) -> Result<bool, Fail> {
+fn reports_word(alloc: Global, size: usize) -> Result<bool, Fail> {
     let name = letters(alloc, size)?;
     let word = format!(in alloc; "--{}", name.as_str())?;
     let words = ["ssh-keygen", word.as_str()];
     let fault = fault_by(alloc, &words)?;
-    Ok(tells(&fault, false))
+    Ok(reports(&fault, false))
 }
 
 #[test]
 fn long_words(rt: HostRuntime) -> Result<(), Fail> {
     for size in [1_025, 4_097, 70_001] {
         assert!(rt; takes_names(rt.alloc(), size)?, "of {size} letters");
-        assert!(rt; tells_word(rt.alloc(), size)?, "of {size} letters");
+        assert!(rt; reports_word(rt.alloc(), size)?, "of {size} letters");
     }
     Ok(())
 }

@@ -12,10 +12,10 @@ pub fn ran_out(rt: &(impl AllocGlobal + Abort + Print)) {
 /// no other.
 pub fn answered<A, E: PartialEq + Drop>(
     rt: &(impl AllocGlobal + Abort + Print),
-    told: Result<A, E>,
+    reported: Result<A, E>,
     no_memory: E,
 ) -> Option<A> {
-    match told {
+    match reported {
         Ok(answer) => Some(answer),
         Err(fault) => {
             assert!(rt; fault == no_memory, "the fault is another one");

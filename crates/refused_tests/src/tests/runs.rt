@@ -1,7 +1,7 @@
 // The runs, what they load, and the line of their fault.
 
 use crate::tests::answered::{answered, ran_out};
-use crate::tests::page::Page;
+use crate::tests::buffer::Buffer;
 use crate::tests::parts::{
     CERT_LINE, CONTAINER, GITHUB_LINE, KEY_SECTION, OTHER_LINE, SHA256_SECTION, list_of,
 };
@@ -57,7 +57,7 @@ fn file<'a>(
 fn is_whole_or_stopped(
     rt: &(impl AllocGlobal + Abort + Print),
     done: &Done,
-    said: &Page,
+    said: &Buffer,
     status: u8,
     whole: &[u8],
 ) {
@@ -73,7 +73,7 @@ fn is_whole_or_stopped(
 }
 
 // Asks a list about the keys of files.
-fn query<'a>(alloc: Global, krl: &[u8], files: &'a [Named<'a>], said: &mut Page) -> Done<'a> {
+fn query<'a>(alloc: Global, krl: &[u8], files: &'a [Named<'a>], said: &mut Buffer) -> Done<'a> {
     let (done, _) = query_run(
         alloc,
         "r.krl",
@@ -98,7 +98,7 @@ fn ask_three(rt: &(impl AllocGlobal + Abort + Print)) -> Option<()> {
         file(rt, "b", OTHER_LINE)?,
         file(rt, "id", CONTAINER)?,
     ];
-    let mut said = Page::new();
+    let mut said = Buffer::new();
     let done = query(rt.alloc(), &krl, &files, &mut said);
     is_whole_or_stopped(rt, &done, &said, 1, ANSWERS);
     Some(())
@@ -110,7 +110,7 @@ fn a_question(rt: HostRuntime) {
 }
 
 // Lists a file.
-fn list<'a>(alloc: Global, mode: ListMode, file: &'a Named<'a>, said: &mut Page) -> Done<'a> {
+fn list<'a>(alloc: Global, mode: ListMode, file: &'a Named<'a>, said: &mut Buffer) -> Done<'a> {
     list_run(alloc, mode, Hash::Sha256, file, 0, &mut ToWrite::new(said))
 }
 
@@ -126,7 +126,7 @@ fn list_two(rt: &(impl AllocGlobal + Abort + Print)) -> Option<()> {
         AllocError,
     )?;
     let file = file(rt, "a", &text)?;
-    let mut said = Page::new();
+    let mut said = Buffer::new();
     let done = list(rt.alloc(), ListMode::Keys, &file, &mut said);
     is_whole_or_stopped(rt, &done, &said, 0, LISTED);
     Some(())
@@ -140,7 +140,7 @@ fn a_listing_of_keys(rt: HostRuntime) {
 // The listing of a certificate begins so, or nothing is said.
 fn list_certificate(rt: &(impl AllocGlobal + Abort + Print)) -> Option<()> {
     let file = file(rt, "c.pub", CERT_LINE)?;
-    let mut said = Page::new();
+    let mut said = Buffer::new();
     let done = list(rt.alloc(), ListMode::Certs, &file, &mut said);
     let first = b"c.pub:1:\n        Type: ssh-ed25519-cert-v01@openssh.com user certificate\n";
     if done.fault.is_none() {

@@ -106,7 +106,7 @@ const JOINING: [(u64, u64, usize); 4] = [(5, 5, 1), (7, 7, 2), (6, 6, 1), (8, u6
 // Adds what touches and what does not, again where it is refused.
 fn join<S: Spans>(rt: &(impl AllocGlobal + Abort + Print)) -> Result<(), Fail> {
     let mut set: S = empty(rt)?;
-    for (lo, hi, due) in JOINING {
+    for (lo, hi, expected) in JOINING {
         assert!(rt; 0 < lo && lo <= hi);
         let before = set.len();
         if set.add(lo, hi).is_err() {
@@ -114,7 +114,7 @@ fn join<S: Spans>(rt: &(impl AllocGlobal + Abort + Print)) -> Result<(), Fail> {
             assert!(rt; set.len() == before && !set.has(hi));
             set.add(lo, hi)?;
         }
-        assert!(rt; set.len() == due && set.has(lo) && set.has(hi));
+        assert!(rt; set.len() == expected && set.has(lo) && set.has(hi));
     }
     Ok(())
 }

@@ -23,11 +23,11 @@ const FIVE_AND_A: &[u8] = b"\x01\0\0\0\x1f\0\0\0\0\0\0\0\0\x20\0\0\0\x08\0\0\0\0
 
 #[test]
 fn a_text(rt: HostRuntime) {
-    let due = joined(
+    let expected = joined(
         rt.alloc(),
         &[&HEADER, FIVE_AND_A, KEY_SECTION, SHA256_SECTION],
     );
-    let Some(due) = answered(&rt, due, AllocError) else {
+    let Some(expected) = answered(&rt, expected, AllocError) else {
         return;
     };
     let Some(held) = one_of_each(&rt) else {
@@ -35,7 +35,7 @@ fn a_text(rt: HostRuntime) {
     };
     let text = krl_text(rt.alloc(), &header(rt.alloc()), &held);
     if let Some(text) = answered(&rt, text, TextFault::NoMemory) {
-        assert!(rt; text.as_slice() == due.as_slice());
+        assert!(rt; text.as_slice() == expected.as_slice());
     }
 }
 

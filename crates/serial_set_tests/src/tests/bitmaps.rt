@@ -28,12 +28,12 @@ fn read(rt: &impl Abort, alloc: Global, offset: u64, bytes: &[u8]) -> Result<Hel
     Ok(set)
 }
 
-// The runs of the bitmap are those that are due, or why it is refused is.
+// The runs of the bitmap are those that are expected, or why it is refused is.
 fn reads(rt: &impl Abort, alloc: Global, number: usize, row: &Row) {
-    let (offset, bytes, due) = *row;
-    match (read(rt, alloc, offset, bytes), due) {
+    let (offset, bytes, expected) = *row;
+    match (read(rt, alloc, offset, bytes), expected) {
         (Ok(set), Ok(runs)) => lists(rt, alloc, number, &set, runs),
-        (Err(fault), Err(due)) => assert!(rt; fault == due, "in case {number}"),
+        (Err(fault), Err(expected)) => assert!(rt; fault == expected, "in case {number}"),
         _ => assert!(rt; false, "in case {number}"),
     }
 }
@@ -76,8 +76,8 @@ fn reads_bitmaps(rt: HostRuntime) {
 
 // Whether the byte finishes these runs.
 fn finishes(bits: &mut BitRuns, byte: u8, runs: &[Span]) -> bool
-    requires { 0 < bits.old.due }
-    ensures { IsTrue result → bits.old.due ≡ bits.new.due + 1 }
+    requires { 0 < bits.old.bytes_left }
+    ensures { IsTrue result → bits.old.bytes_left ≡ bits.new.bytes_left + 1 }
 {
     match bits.feed(byte) {
         Ok(finished) => { finished.as_slice() == runs && usize::from(finished.count) == runs.len() }
@@ -114,8 +114,8 @@ fn goes_on_over_bytes(rt: HostRuntime) {
 }
 
 fn refusal(bits: &mut BitRuns, byte: u8) -> Option<BitFault>
-    requires { 0 < bits.old.due }
-    ensures { OnSome result (bits.new.due ≡ bits.old.due) }
+    requires { 0 < bits.old.bytes_left }
+    ensures { OnSome result (bits.new.bytes_left ≡ bits.old.bytes_left) }
 {
     match bits.feed(byte) {
         Ok(_) => None,
@@ -124,13 +124,13 @@ fn refusal(bits: &mut BitRuns, byte: u8) -> Option<BitFault>
 }
 
 // Whether a byte and two more are refused with this fault.
-fn repeats(offset: u64, first: u8, due: BitFault) -> bool {
+fn repeats(offset: u64, first: u8, expected: BitFault) -> bool {
     let mut bits = BitRuns::new(offset, 1);
     for byte in [first, 0x00, 0x7f] {
         let Some(fault) = refusal(&mut bits, byte) else {
             return false;
         };
-        if fault != due || bits.pending().is_some() {
+        if fault != expected || bits.pending().is_some() {
             return false;
         }
     }

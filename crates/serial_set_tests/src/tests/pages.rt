@@ -124,9 +124,9 @@ fn fills(rt: &impl Abort, alloc: Global, order: Order) {
     lists(rt, alloc, 3, &set, &JOINED);
 }
 
-// More spans than one shelf has room for, with ample memory.
+// More spans than one page has room for, with ample memory.
 #[test]
-fn fills_shelves(rt: HostRuntime) {
+fn fills_pages(rt: HostRuntime) {
     for order in &ORDERS {
         fills(&rt, rt.alloc(), *order);
     }
@@ -165,8 +165,8 @@ fn add_to_both(rt: &impl Abort, pages: &mut SpanWords, vector: &mut SpanVec, see
 
 // Both have the same spans.
 fn are_alike(rt: &impl Abort, alloc: Global, number: usize, pages: &SpanWords, vector: &SpanVec) {
-    let due = list_of(alloc, vector).expect(rt, "there is memory");
-    lists(rt, alloc, number, pages, &due);
+    let expected = list_of(alloc, vector).expect(rt, "there is memory");
+    lists(rt, alloc, number, pages, &expected);
 }
 
 #[test]

@@ -19,10 +19,10 @@ pub fn list_of<S: Spans>(alloc: Global, set: &S) -> Result<Vec<Span>, AllocError
     Ok(list)
 }
 
-// The set has these spans alone; a number tells the case from the others of a test.
-pub fn lists<S: Spans>(rt: &impl Abort, alloc: Global, number: usize, set: &S, due: &[Span]) {
+// The set has these spans alone; a number distinguishes the case from the others of a test.
+pub fn lists<S: Spans>(rt: &impl Abort, alloc: Global, number: usize, set: &S, expected: &[Span]) {
     let list = list_of(alloc, set).expect(rt, "there is memory");
-    assert!(rt; list.as_slice() == due, "in case {number}");
+    assert!(rt; list.as_slice() == expected, "in case {number}");
 }
 
 // A set of no spans.

@@ -57,9 +57,9 @@ impl Plain {
 
 // Whether the set has just the members, as their runs.
 pub fn agrees<S: Spans>(rt: &impl Abort, alloc: Global, set: &S, plain: &Plain) -> bool {
-    let due = plain.runs(alloc).expect(rt, "there is memory");
+    let expected = plain.runs(alloc).expect(rt, "there is memory");
     let list = list_of(alloc, set).expect(rt, "there is memory");
-    if list.as_slice() != due.as_slice() || set.len() != due.len() {
+    if list.as_slice() != expected.as_slice() || set.len() != expected.len() {
         return false;
     }
     let mut number = plain.from;

@@ -37,7 +37,7 @@ fn a_plain_listing(rt: HostRuntime) {
     assert!(rt; text.as_slice() == PLAIN.as_bytes());
 }
 
-/// A hash, a field of the certificate and the strings that stand in it, and the last lines of the
+/// A hash, a field of the certificate and the strings that are in it, and the last lines of the
 /// listing.
 type Listed<'a> = (Hash, Part, &'a [&'a [u8]], &'a str);
 

@@ -26,7 +26,7 @@ fn are_principals(mut principals: Strings<'_>, names: &[&[u8]]) -> bool {
     principals.next().is_none() && principals.next().is_none()
 }
 
-/// A field of a certificate, the strings that stand in it, and what is read of the certificate.
+/// A field of a certificate, the strings that are in it, and what is read of the certificate.
 struct Row<'a> {
     part: Part,
     strings: &'a [&'a [u8]],

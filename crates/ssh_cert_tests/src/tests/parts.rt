@@ -87,7 +87,7 @@ pub fn certificate(alloc: Global) -> Result<Vec<u8>, AllocError> {
     changed(alloc, Part::Nonce, &[0; 4])
 }
 
-/// How a field that is a string stands in that certificate, with another length before its bytes.
+/// How that certificate spells a field that is a string, with another length before its bytes.
 pub fn relengthened(alloc: Global, part: Part, length: u32) -> Result<Vec<u8>, AllocError> {
     let mut field = Vec::from_slice(alloc, &length.to_be_bytes())?;
     for (other, own) in &FIELDS {

@@ -21,7 +21,7 @@ fn has_texts(cert: &Cert) -> bool {
         && cert.algorithm() == b"ssh-ed25519".as_slice()
 }
 
-/// Whether no names, options and extensions stand in the certificate.
+/// Whether no names, options and extensions are in the certificate.
 fn has_no_lists(cert: &Cert) -> bool {
     cert.principals().next().is_none()
         && cert.critical().next().is_none()
@@ -71,12 +71,12 @@ fn has_role(blob: &[u8], role: Role) -> bool {
 }
 
 #[test]
-fn hosts_are_told_from_users(rt: HostRuntime) {
+fn hosts_differ_from_users(rt: HostRuntime) {
     let blob = changed(rt.alloc(), Part::Role, &[0, 0, 0, 2]).expect(&rt, "there is memory");
     assert!(rt; has_role(&blob, Role::Host));
 }
 
-/// A field, what stands in its place, and the fault of the certificate.
+/// A field, what is in its place, and the fault of the certificate.
 const CHANGED: [(Part, &[u8], CertFault); 8] = [
     (Part::Role, &[0, 0, 0, 3], CertFault::CertType),
     (Part::Role, &[0, 0, 0, 0], CertFault::CertType),

@@ -37,7 +37,7 @@ pub fn after_begin(text: &[u8]) -> Option<&[u8]>
     }
 }
 
-/// How many bytes stand in the lines before the first end line, where there is one.
+/// How many bytes are in the lines before the first end line, where there is one.
 pub fn body_size(lines: &[u8]) -> Option<usize>
     ensures size { option_map length (body_of (lines_of lines.now)) ≡ result }
     ensures within { IfSome result (λ size. size ≤ length lines.now) }
@@ -58,7 +58,7 @@ pub fn body_size(lines: &[u8]) -> Option<usize>
     }
 }
 
-/// What stands in the lines before the first end line, without their endings. Memory for its size
+/// What is in the lines before the first end line, without their endings. Memory for its size
 /// is asked for once.
 pub fn joined(alloc: Global, lines: &[u8], size: usize) -> Result<Vec<u8>, AllocError>
     requires { option_map length (body_of (lines_of lines.now)) ≡ Some size }

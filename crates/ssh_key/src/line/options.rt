@@ -1,11 +1,11 @@
 // The options field of an authorized keys line.
 
 ghost use Rattle.std.specs.Prelude.{◌≡◌, false, option_map};
-ghost use Rattle.ssh_key.specs.LineReading.{after_options, quoted_behind};
+ghost use Rattle.ssh_key.specs.LineReading.{after_options, quoted_after};
 
 use crate::line::words::is_blank;
 
-/// What stands after the options field, which ends at the first blank outside double quotes. A
+/// What is after the options field, which ends at the first blank outside double quotes. A
 /// quote after a backslash is a byte like any other. None if the text ends inside quotes.
 pub fn after_options(text: &[u8]) -> Option<&[u8]>
     ensures { option_map (λ rest. rest.now) result ≡ after_options false false text.now }
@@ -16,15 +16,15 @@ pub fn after_options(text: &[u8]) -> Option<&[u8]>
         if is_blank(*byte) && !quoted {
             return Some(&text[i..]);
         }
-        quoted = quoted_behind(quoted, escaped, *byte);
+        quoted = quoted_after(quoted, escaped, *byte);
         escaped = *byte == b'\\';
     }
     if quoted { None } else { Some(&[]) }
 }
 
 /// Whether the place after a byte is between quotes, by the place before it.
-fn quoted_behind(quoted: bool, escaped: bool, byte: u8) -> bool
-    ensures { result ≡ quoted_behind quoted escaped byte }
+fn quoted_after(quoted: bool, escaped: bool, byte: u8) -> bool
+    ensures { result ≡ quoted_after quoted escaped byte }
 {
     if byte == b'"' && !escaped {
         !quoted

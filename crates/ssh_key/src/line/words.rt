@@ -26,7 +26,7 @@ pub fn trimmed(line: &[u8]) -> &[u8]
     before_ending(after_blanks(line))
 }
 
-/// The first word, up to a blank or the end, and what stands after it.
+/// The first word, up to a blank or the end, and what is after it.
 #[tactic(auto, unfolding(crate::specs::Blanks::first_word, crate::specs::LineReading::after_word))]
 pub fn split_word(text: &[u8]) -> (&[u8], &[u8])
     ensures word { result.0.now ≡ first_word text.now }
@@ -40,7 +40,7 @@ pub fn split_word(text: &[u8]) -> (&[u8], &[u8])
     (text, &[])
 }
 
-/// What stands after the blanks at the start.
+/// What is after the blanks at the start.
 #[tactic(auto, unfolding(crate::specs::Blanks::after_blanks))]
 pub fn after_blanks(text: &[u8]) -> &[u8]
     ensures { result.now ≡ after_blanks text.now }
@@ -53,7 +53,7 @@ pub fn after_blanks(text: &[u8]) -> &[u8]
     &[]
 }
 
-/// What stands before the blanks and carriage returns at the end.
+/// What is before the blanks and carriage returns at the end.
 #[tactic(auto, unfolding(crate::specs::Blanks::before_ending))]
 pub fn before_ending(text: &[u8]) -> &[u8]
     ensures { result.now ≡ before_ending text.now }

@@ -1,4 +1,4 @@
-// Fields that are put after what stands in a vector.
+// Fields that are put after what is in a vector.
 
 use ssh_wire::{put_byte, put_mpint, put_string, put_u32, put_u64};
 use std::alloc::AllocError;
@@ -21,7 +21,7 @@ fn put(out: &mut Vec<u8>, field: Field) -> Result<(), AllocError> {
     }
 }
 
-/// Fields that are put one after the other, and what stands after each.
+/// Fields that are put one after the other, and what is after each.
 const PUTS: [(Field, &[u8]); 3] = [
     (Field::Byte(9), b"\x09"),
     (Field::Number(699_921_578), b"\x09\x29\xb7\xf4\xaa"),

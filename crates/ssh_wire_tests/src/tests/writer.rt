@@ -27,7 +27,7 @@ fn sends_all_in_pieces(rt: HostRuntime) {
 }
 
 #[test]
-fn tells_how_many_bytes_went_out(rt: HostRuntime) {
+fn reports_how_many_bytes_went_out(rt: HostRuntime) {
     let mut inner = fresh(rt.alloc(), 3, 0, 3);
     assert!(rt; sends(&mut inner, LINE, Err(Sent { count: 9 })));
     assert!(rt; inner.taken.as_slice() == b"g.pub: RE".as_slice());

@@ -2,13 +2,13 @@ use Rattle.std.proofs.Common.{◌≡◌, ℕ, length, take, subst, arith}
 use Rattle.std.proofs.lemmas.List.{length-take-le}
 use Rattle.std.proofs.lemmas.Result.{err_from_is_err_and}
 use Rattle.ssh_wire.specs.Pull.{Refuses}
-use Rattle.krl_core.specs.Place.{due}
+use Rattle.krl_core.specs.Place.{expected}
 use Rattle.krl_core.specs.Reading.{cut}
 use Rattle.krl_core.proofs.reading.take.Goals as goal
 
 pub returns-in_err-fill-clause-err : goal.returns-in_err-fill-clause-err
 returns-in_err-fill-clause-err g c =
-    let size = (due c.args.place).size in
+    let size = (expected c.args.place).size in
     let whole : length (take size c.args.small.now) ≡ size = length-take-le size c.args.small.now (omega (arith, c.if-size-le-SMALL.true, c.size-size.ensures)) in
     let refuses = (rw c.size-size.ensures at (c.in_err-fill.ensures.err c.requires)).1 in
     let p = err_from_is_err_and c.from_residual.result c.from_residual.ensures.1 in

@@ -2,7 +2,7 @@
 use Rattle.std.proofs.Common.{Result, subst, arith}
 use Rattle.ssh_key.specs.ContainerReading.{GivesPrivate, Opened}
 use Rattle.ssh_key.specs.declared.private_fault.PrivateFault.{PrivateFault}
-use Rattle.ssh_key.proofs.PrivateLaws.{is_private, is_told, private_again}
+use Rattle.ssh_key.proofs.PrivateLaws.{is_private, is_reported, private_again}
 use Rattle.ssh_key.proofs.container.read_private.Goals as goal
 
 pub returns-clause-found : goal.returns-clause-found
@@ -13,4 +13,4 @@ returns-clause-only c = λ blob comment is.
     subst (λ (read : Result Opened PrivateFault). GivesPrivate c.read_content.result read) (private_again c.args.text.now blob comment is) c.read_content.ensures.exact
 
 pub returns-clause-fault : goal.returns-clause-fault
-returns-clause-fault c = is_told c.args.text.now c.read_content.result (λ i. omega (arith, c.type_inv.text i)) c.read_content.ensures.exact c.read_content.ensures.armour
+returns-clause-fault c = is_reported c.args.text.now c.read_content.result (λ i. omega (arith, c.type_inv.text i)) c.read_content.ensures.exact c.read_content.ensures.armour

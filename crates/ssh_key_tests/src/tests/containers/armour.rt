@@ -63,7 +63,7 @@ fn published(rt: HostRuntime) {
     assert!(rt; is_published(alloc, &text).expect(&rt, "there is memory"));
 }
 
-/// What stands before the base64, within it and after it.
+/// What is before the base64, within it and after it.
 const CUT: [(&str, &str, &str); 6] = [
     // Lines of any length, and empty ones; blanks and carriage returns at the end of a line.
     (BEGIN_LINE, "", "\n-----END OPENSSH PRIVATE KEY-----"),

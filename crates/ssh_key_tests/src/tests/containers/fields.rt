@@ -124,7 +124,7 @@ fn blobs_of_other_keys(rt: HostRuntime) {
 }
 
 #[test]
-fn bytes_behind(rt: HostRuntime) {
+fn bytes_after(rt: HostRuntime) {
     let alloc = rt.alloc();
     let mut bytes = published_container(alloc).expect(&rt, "there is memory");
     bytes.push(0).expect(&rt, "there is memory");
@@ -133,7 +133,7 @@ fn bytes_behind(rt: HostRuntime) {
 
 /// Bytes after the list are reported before it is read.
 #[test]
-fn bytes_behind_an_empty_list(rt: HostRuntime) {
+fn bytes_after_an_empty_list(rt: HostRuntime) {
     let alloc = rt.alloc();
     let blob = published_key(alloc).expect(&rt, "there is memory");
     let mut bytes = plain(alloc, &blob, b"").expect(&rt, "there is memory");

@@ -36,7 +36,7 @@ add_bits-requires g c =
     let step = subst (λ (p : Place). InStep p c.args.self.now.bitmap) is c.requires.in_step in
     let judged = rw (is, ← c.byte_of.ensures) at c.requires.passes.judged in
     record {
-      due = omega (arith, step.0, ap (λ p. p.due) step.1);
+      bytes_left = omega (arith, step.0, ap (λ p. p.bytes_left) step.1);
       good = good_bits c.args.self.now.bitmap b.field-0-0 b.field-0-1 b.left b.field-0-3 c.byte_of.result c.args.next (omega arith) step.1 judged;
     }
 

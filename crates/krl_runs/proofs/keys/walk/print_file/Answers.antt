@@ -3,7 +3,7 @@ use Rattle.std.proofs.Common.{◌∷◌, Ok, Result, ap, ◌∙◌}
 use Rattle.std.proofs.lemmas.Result.{err_from_is_err_and}
 use Rattle.key_files.specs.Keys.{File, Found}
 use Rattle.key_files.specs.Stop.{Stop}
-use Rattle.krl_runs.proofs.Answering.{file_ends, file_is_silent, file_stopped, key_refused, key_said, key_stops, none_reached}
+use Rattle.krl_runs.proofs.Answering.{file_ends, file_is_unanswered, file_stopped, key_refused, key_said, key_stops, none_reached}
 use Rattle.krl_runs.proofs.keys.walk.print_file.Goals as goal
 
 pub loop-next-init : goal.loop-next-init
@@ -38,7 +38,7 @@ loop-next-preserved g c =
 pub returns-then-not-said : goal.returns-then-not-said
 returns-then-not-said g c =
     let reached = rw (c.in-None.ensures.steps.0, c.if-not-said.true) at c.loop-next.invariant in
-    rw (c.whole.ensures, c.silence.ensures, ap (λ (file : File). file.name) c.file.view_is) (file_is_silent (g.A.Answers.answer_to c.args.answers.now) c.args.file.now _ _ reached)
+    rw (c.whole.ensures, c.unanswered.ensures, ap (λ (file : File). file.name) c.file.view_is) (file_is_unanswered (g.A.Answers.answer_to c.args.answers.now) c.args.file.now _ _ reached)
 
 pub returns : goal.returns
 returns g c =

@@ -2,7 +2,7 @@
 use Rattle.std.proofs.Common.{◌∙◌, sym}
 use Rattle.krl_runs.specs.Contents.{comment_line}
 use Rattle.krl_runs.proofs.Carrying.{carries_none}
-use Rattle.krl_runs.proofs.Telling.{no_comment, some_comment}
+use Rattle.krl_runs.proofs.Printing.{no_comment, some_comment}
 use Rattle.krl_runs.proofs.runs.contents.print_comment.Goals as goal
 
 pub returns-then-is_empty : goal.returns-then-is_empty

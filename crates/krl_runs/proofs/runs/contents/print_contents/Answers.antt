@@ -1,6 +1,6 @@
 -- The header and what is held are said where they are asked for.
 use Rattle.std.proofs.lemmas.Result.{err_from_is_err_and}
-use Rattle.krl_runs.proofs.Telling.{contents_said, contents_stop, not_asked}
+use Rattle.krl_runs.proofs.Printing.{contents_said, contents_stop, not_asked}
 use Rattle.krl_runs.proofs.runs.contents.print_contents.Goals as goal
 
 pub returns-then-not-dump : goal.returns-then-not-dump

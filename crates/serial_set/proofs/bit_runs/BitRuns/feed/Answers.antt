@@ -9,7 +9,7 @@ returns-clause-runs c =
     let fed = c.runs_of_byte-runs in
     finished_runs fed.result.pending (finished_of fed.result.finished) fed.ensures.runs.0
     (λ s n. elim ((fed.ensures.runs.1 s).0 n) [
-      | inl old ↦ step_positive (c.self.inside.offset + 8 * c.self.inside.due) c.self.inside.pending s c.self.invariant old
+      | inl old ↦ step_positive (c.self.inside.offset + 8 * c.self.inside.bytes_left) c.self.inside.pending s c.self.invariant old
       | inr new ↦ new.0
     ])
 

@@ -22,7 +22,7 @@ loop-i-preserved c =
     ] in
     let more = drop_more c.args.text.now c.loop-i.i 0 c.loop-i-test.true in
     let here = goes_on c.loop-i.quoted c.loop-i.escaped byte (drop (c.loop-i.i + 1) c.args.text.now) inside in
-    rw c.quoted_behind-quoted.ensures (sym here ∙ ap (after_options c.loop-i.quoted c.loop-i.escaped) (sym more) ∙ c.loop-i.invariant)
+    rw c.quoted_after-quoted.ensures (sym here ∙ ap (after_options c.loop-i.quoted c.loop-i.escaped) (sym more) ∙ c.loop-i.invariant)
 
 pub returns-then-quoted : goal.returns-then-quoted
 returns-then-quoted c =

@@ -7,14 +7,14 @@ const ROOM: usize = 4096;
 
 /// Holds the bytes that it took.
 #[derive(Drop)]
-pub struct Page {
+pub struct Buffer {
     bytes: [u8; ROOM],
     count: usize,
 }
 
-impl Page {
-    pub fn new() -> Page {
-        Page {
+impl Buffer {
+    pub fn new() -> Buffer {
+        Buffer {
             bytes: [0; ROOM],
             count: 0,
         }
@@ -26,7 +26,7 @@ impl Page {
     }
 }
 
-impl Write for Page {
+impl Write for Buffer {
     fn write(&mut self, bytes: &[u8]) -> io::Result<usize> {
         let end = self.count.saturating_add(bytes.len());
         match self.bytes.get_mut(self.count..end) {
