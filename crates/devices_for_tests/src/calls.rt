@@ -1,4 +1,4 @@
-// How a call of a device begins.
+//! How a call of a device begins.
 
 use std::io::{self, ErrorKind};
 

@@ -1,4 +1,4 @@
-// Readers that give few bytes at a call, are interrupted, or fail.
+//! Readers that give few bytes at a call, are interrupted, or fail.
 
 ghost use Rattle.std.specs.Prelude.{IfOk};
 ghost use Rattle.std.specs.Counts.{IsPrefixLen};

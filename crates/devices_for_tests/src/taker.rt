@@ -1,4 +1,4 @@
-// Writers that take few bytes at a call, are interrupted, or fail.
+//! Writers that take few bytes at a call, are interrupted, or fail.
 
 use crate::calls::begin;
 use std::alloc::Global;

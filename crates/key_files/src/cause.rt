@@ -1,4 +1,4 @@
-// Why a run stops.
+//! Why a run stops.
 
 ghost use Rattle.std.specs.Prelude.{◌≡◌, Some};
 ghost use Rattle.key_files.specs.Stop.{cause_number, cause_text, krl_cause};
@@ -13,11 +13,17 @@ use std::fmt;
 /// What stopped a run.
 #[derive(Clone, Copy, Debug, PartialEq, Eq)]
 pub enum Cause {
+    /// A file could not be used.
     File(FileFault),
+    /// A revocation list was refused.
     Krl(KrlFault),
+    /// A line gives no key.
     Line(LineFault),
+    /// A private key file was refused.
     Private(PrivateFault),
+    /// The blob of a key was refused.
     Subject(SubjectFault),
+    /// A line of a specification file was refused.
     Spec(SpecCause),
     /// No memory was left for the run itself.
     NoMemory,
@@ -30,7 +36,8 @@ pub enum Cause {
 }
 
 impl Cause {
-    /// The number of the fault in its family.
+    /// The number of the fault that it carries; else 1 to 3 in the order of the variants, and 1 for
+    /// `Output`.
     pub fn number(self) -> u8
         ensures { result ≡ cause_number self }
     {

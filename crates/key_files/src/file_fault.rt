@@ -1,4 +1,4 @@
-// Why a file is refused as a whole.
+//! Why a file is refused as a whole.
 
 ghost use Rattle.std.specs.Prelude.{◌≡◌, Some};
 ghost use Rattle.key_files.specs.FileFault.{file_fault_number, file_fault_text};
@@ -24,7 +24,7 @@ pub enum FileFault {
 }
 
 impl FileFault {
-    /// The fault's number.
+    /// The fault's number, 1 to 6 in the order of the variants.
     pub fn number(self) -> u8
         ensures { result ≡ file_fault_number self }
     {

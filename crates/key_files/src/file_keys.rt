@@ -1,4 +1,4 @@
-// The keys of a file, one after the other.
+//! The keys of a file, one after the other.
 
 ghost use Rattle.std.specs.Prelude.{◌≡◌, ◌<◌, ◌+◌, ◌^◌, ℕ, Err, IfErr, IfOk, List};
 ghost use Rattle.ssh_cert.specs.AnyKey.{IsReadAs};
@@ -24,7 +24,9 @@ use std::marker::Model;
 /// Where a key stands.
 #[derive(Drop)]
 pub enum KeyText<'a> {
+    /// The key of a line.
     Line(Line<'a>),
+    /// The key of a private key file.
     Container(Private),
 }
 
@@ -97,7 +99,7 @@ pub struct Lines<'a> {
 }
 
 impl<'a> Lines<'a> {
-    /// Passes over the lines up to the next one that has a key.
+    // Passes over the lines up to the next one that has a key.
     fn next_with_key(&mut self) -> Option<&'a [u8]>
         requires { self.old.passed + line_room self.old.rest < 2 ^ 64 }
         ensures next { IsNextLine self.old self.new result }
@@ -195,7 +197,7 @@ pub fn keys_of<'a>(alloc: Global, file: &'a Named<'a>) -> FileKeys<'a>
     }
 }
 
-/// The whole of a text is left.
+// The whole of a text is left.
 fn text_left(text: &[u8]) -> Left<'_>
     ensures keys { (name : List ℕ) → keys_left name result ≡ text_keys name text.now }
     ensures room { HasRoom result }
@@ -210,6 +212,7 @@ fn text_left(text: &[u8]) -> Left<'_>
     }
 }
 
+// The key of a private key file.
 fn key_of_container<'a>(
     alloc: Global,
     name: &'a str,
@@ -228,6 +231,7 @@ fn key_of_container<'a>(
     }
 }
 
+// The key of a line.
 fn key_of_line<'a>(
     alloc: Global,
     name: &'a str,

@@ -1,4 +1,4 @@
-// Files by name, with what they hold.
+//! Files by name, with what they hold.
 
 ghost use Rattle.std.specs.Prelude.{◌≡◌, false};
 ghost use Rattle.key_files.specs.Named.{IsLoaded, file_fault};
@@ -14,7 +14,9 @@ pub const LIMIT: u64 = 16_777_216;
 /// A file's name, and its bytes or why there are none.
 #[derive(Debug, Drop)]
 pub struct Named<'a> {
+    /// The name, as the command gives it.
     pub name: &'a str,
+    /// The bytes of the whole file, or why there are none.
     pub content: Result<Bytes, FileFault>,
 }
 
@@ -43,6 +45,7 @@ pub fn load<'a, R: Source + Drop>(alloc: Global, name: &'a str, reader: R) -> (N
     (Named { name, content }, pull.into_inner())
 }
 
+// Why a file is refused whose bytes could not be read.
 fn file_fault(fault: PullFault) -> FileFault
     ensures { result ≡ file_fault fault }
 {

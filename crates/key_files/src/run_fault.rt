@@ -1,4 +1,4 @@
-// Where and why a run stopped, and the line that reports it.
+//! Where and why a run stopped, and the line that reports it.
 
 ghost use Rattle.std.specs.Prelude.{◌≡◌, ◌++◌, IfOk, OnOk};
 ghost use Rattle.key_files.specs.Keys.{stop_at};
@@ -16,6 +16,7 @@ pub struct RunFault<'a> {
     pub name: &'a str,
     /// The line of the file, counted from 1.
     pub line: Option<u64>,
+    /// Why the run stopped there.
     pub cause: Cause,
 }
 
@@ -55,8 +56,8 @@ impl<'a> RunFault<'a> {
     }
 }
 
-/// The line for standard error, without its line feed: the program, the name with its control
-/// bytes escaped, the line of the file, and the fault.
+/// The line for standard error, without its line feed: the program, the name with its control bytes
+/// escaped, the line of the file, and the fault. Fails only where memory runs out.
 #[tactic(auto, unfolding(crate::specs::Stop::fault_line))]
 pub fn fault_line(alloc: Global, fault: &RunFault) -> Result<Vec<u8>, AllocError>
     ensures { IfOk result (λ text. text.items ≡ fault_line fault.now) }
@@ -70,6 +71,7 @@ pub fn fault_line(alloc: Global, fault: &RunFault) -> Result<Vec<u8>, AllocError
     Ok(text)
 }
 
+// Appends the number of the line, where there is one.
 fn push_line(alloc: Global, text: &mut Vec<u8>, line: Option<u64>) -> Result<(), AllocError>
     ensures { OnOk result (text.new.items ≡ text.old.items ++ line_part line) }
 {

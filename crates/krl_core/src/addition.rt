@@ -1,8 +1,8 @@
-// What can be added under an authority.
+//! What can be added under an authority.
 
 use serial_set::Span;
 
-/// Serials, as spans that lie near each other, or a key ID.
+// Serials, as spans that lie near each other, or a key ID.
 #[derive(Clone, Copy)]
 pub(crate) enum Addition<'a> {
     Serials(&'a [Span]),

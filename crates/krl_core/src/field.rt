@@ -1,4 +1,4 @@
-// The numbers that fields spell (RFC 4251 section 5).
+//! The numbers that fields spell (RFC 4251 section 5).
 
 ghost use Rattle.std.specs.Prelude.{◌≡◌, length};
 ghost use Rattle.ssh_wire.specs.Wire.{number_of};

@@ -1,4 +1,4 @@
-// What is held, in order.
+//! What is held, in order.
 ghost use Rattle.std.specs.Prelude.{◌≡◌, ◌<◌, length, Some, slice_get, sum_by};
 ghost use Rattle.krl_core.specs.Contents.{IsOrderly, held};
 
@@ -17,8 +17,8 @@ impl<S: Spans> Revocations<S> {
         self.shelves.len()
     }
 
-    /// What is held under the authority at an index: all authorities first, and then by their
-    /// bytes. A loop over all of them takes `walk_authorities`.
+    /// What is held under the authority at an index below `authorities()`: all authorities first,
+    /// and then by their bytes. A loop over all of them takes `walk_authorities`.
     pub fn authority_at(&self, index: usize) -> Listed<'_, S>
         requires { index < length self.now.sections }
         ensures { slice_get self.now.sections index ≡ Some result }
@@ -47,7 +47,8 @@ impl<S: Spans> Revocations<S> {
         self.keys.len()
     }
 
-    /// The blob of the key at an index, in the order of their bytes.
+    /// The blob of the key at an index below `keys()`, in the order of their bytes. It goes over
+    /// those before it; a loop over all takes `walk_keys`.
     pub fn key_at(&self, index: usize) -> &[u8]
         requires { index < length self.now.keys }
         ensures { slice_get self.now.keys index ≡ Some result.now }
@@ -69,7 +70,8 @@ impl<S: Spans> Revocations<S> {
         self.sha1s.len()
     }
 
-    /// The SHA-1 hash at an index, in the order of their bytes.
+    /// The SHA-1 hash, of 20 bytes, at an index below `sha1s()`, in the order of their bytes. It
+    /// goes over those before it; a loop over all takes `walk_sha1s`.
     pub fn sha1_at(&self, index: usize) -> &[u8]
         requires { index < length self.now.sha1s }
         ensures { slice_get self.now.sha1s index ≡ Some result.now }
@@ -91,7 +93,8 @@ impl<S: Spans> Revocations<S> {
         self.sha256s.len()
     }
 
-    /// The SHA-256 hash at an index, in the order of their bytes.
+    /// The SHA-256 hash, of 32 bytes, at an index below `sha256s()`, in the order of their bytes.
+    /// It goes over those before it; a loop over all takes `walk_sha256s`.
     pub fn sha256_at(&self, index: usize) -> &[u8]
         requires { index < length self.now.sha256s }
         ensures { slice_get self.now.sha256s index ≡ Some result.now }
@@ -122,6 +125,7 @@ fn text_at<'a>(texts: Texts<'a>, index: usize) -> &'a [u8]
     unreachable!()
 }
 
+// How many spans all authorities hold together.
 fn held_in<S: Spans>(shelves: &Shelves<S>) -> u128
     ensures { result ≡ sum_by (λ section. length section.spans) shelves.now }
 {

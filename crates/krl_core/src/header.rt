@@ -1,4 +1,4 @@
-// What a list says of itself.
+//! What a list says of itself.
 
 use ssh_wire::Bytes;
 
@@ -9,7 +9,10 @@ pub(crate) const MAGIC: &[u8] = b"SSHKRL\n\0";
 /// comment, which may be any bytes.
 #[derive(Drop)]
 pub struct Header {
+    /// The version of the list.
     pub version: u64,
+    /// When the list was made, in seconds since 1970.
     pub date: u64,
+    /// A comment, which may be empty and need not be text.
     pub comment: Bytes,
 }

@@ -1,4 +1,4 @@
-// Key IDs.
+//! Key IDs.
 ghost use Rattle.std.specs.Prelude.{◌≡◌, ◌<◌, ◌≤◌, ◌↔◌, [], Contains, IfOk, IsTrue, MatchOption};
 ghost use Rattle.std.specs.Prelude.{OnErr, OnOk, Some, length, slice_get};
 ghost use Rattle.krl_core.specs.Changes.{Puts};
@@ -16,7 +16,7 @@ use std::marker::Model;
 // The most key IDs that lie in one vector. A map takes more memory for as many.
 const FEW: usize = 32;
 
-/// A few key IDs in order, or a map of more.
+// A few key IDs in order, or a map of more.
 #[derive(Drop)]
 pub(crate) enum Kept {
     Few(Vec<Vec<u8>>),
@@ -42,7 +42,7 @@ impl Model for Ids {
 }
 
 impl Ids {
-    /// No key IDs. Takes no memory.
+    // No key IDs. Takes no memory.
     pub(crate) fn new(alloc: Global) -> Ids
         ensures { result ≡ [] }
     {
@@ -51,6 +51,7 @@ impl Ids {
         }
     }
 
+    // How many key IDs there are.
     pub(crate) fn len(&self) -> usize
         ensures { result ≡ length self.now }
     {
@@ -60,6 +61,7 @@ impl Ids {
         }
     }
 
+    // Whether the key ID is there.
     pub(crate) fn has(&self, id: &[u8]) -> bool
         ensures { IsTrue result ↔ Contains self.now id.now }
     {
@@ -69,7 +71,7 @@ impl Ids {
         }
     }
 
-    /// The key ID at an index. It goes over those before it.
+    // The key ID at an index. It goes over those before it.
     pub(crate) fn at(&self, index: usize) -> &[u8]
         requires { index < length self.now }
         ensures { slice_get self.now index ≡ Some result.now }
@@ -80,6 +82,7 @@ impl Ids {
         }
     }
 
+    // The key IDs, in the order of their bytes.
     pub(crate) fn walk(&self) -> Texts<'_>
         ensures { result ≡ self.now }
     {
@@ -89,7 +92,7 @@ impl Ids {
         }
     }
 
-    /// Adds a key ID, if it is not there.
+    // Adds a key ID, if it is not there.
     pub(crate) fn put(&mut self, alloc: Global, id: &[u8]) -> Result<(), AllocError>
         ensures ok { OnOk result (Puts self.old id.now self.new) }
         ensures err { OnErr result (self.new ≡ self.old) }
@@ -127,6 +130,7 @@ fn place_in(few: &[Vec<u8>], id: &[u8]) -> Option<usize>
     Some(at)
 }
 
+// Puts a key ID into the vector at its place, if it is not there.
 fn put_few(alloc: Global, few: &mut Vec<Vec<u8>>, id: &[u8]) -> Result<(), AllocError>
     requires { RisesBy bytes_of few.old.items }
     ensures rise { RisesBy bytes_of few.new.items }

@@ -1,4 +1,4 @@
-// What follows a field of a list, or why it is refused.
+//! What follows a field of a list, or why it is refused.
 
 ghost use Rattle.std.specs.Prelude.{◌≡◌, ◌-◌, ◌<◌, ◌≤◌};
 ghost use Rattle.krl_core.specs.Place.{judge as judged_by, within as within_of, base_of};
@@ -65,6 +65,7 @@ pub(crate) fn next_item(kind: ItemKind, left: u32, after: u32) -> Place
     }
 }
 
+// What comes after a serial: the next one, or the end of the subsection.
 pub(crate) fn next_serial(left: u32, after: u32) -> Place
     ensures { result ≡ serial_after left after }
 {
@@ -75,6 +76,7 @@ pub(crate) fn next_serial(left: u32, after: u32) -> Place
     }
 }
 
+// What comes after a byte of a bitmap: the next one, or the end of the subsection.
 pub(crate) fn next_bits(offset: u64, size: u32, left: u32, after: u32) -> Place
     ensures { result ≡ bits_after offset size left after }
 {
@@ -110,6 +112,7 @@ pub(crate) fn section_of_type(signed: bool, type_byte: u8) -> Result<Place, KrlF
     }
 }
 
+// A section that is one list, at its length.
 fn list_of(kind: ItemKind) -> Place
     ensures { result ≡ places.List (lists.SectionLength kind) }
 {
@@ -150,8 +153,8 @@ pub(crate) fn bits_judged(
     Ok(next_bits(offset, size, left.saturating_sub(1), after))
 }
 
-/// Whether a bit of the byte that is set stands for a number past 2^64-1. The byte is the highest
-/// of the `left` last bytes of a bitmap.
+// Whether a bit of the byte that is set stands for a number past 2^64-1. The byte is the highest
+// of the `left` last bytes of a bitmap.
 #[inline(always)]
 pub(crate) fn passes_end(offset: u64, left: u32, byte: u8) -> bool
     ensures { result ≡ passes_end_of (base_of offset left) byte }

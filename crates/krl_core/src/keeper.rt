@@ -1,4 +1,4 @@
-// Keeping what the fields of a list name.
+//! Keeping what the fields of a list name.
 
 ghost use Rattle.std.specs.Prelude.{◌≡◌, ◌+◌, ◌^◌, ◌<◌, ◌≤◌, ◌∷◌, [], ℕ, None, OnErr, OnOk, false};
 ghost use Rattle.std.specs.Prelude.{length, All};
@@ -142,6 +142,7 @@ impl<S: Spans> Keeper<S> {
         }
     }
 
+    // Takes the comment of the header.
     fn set_comment(&mut self, comment: &[u8]) -> Result<(), AllocError>
         ensures set { OnOk result (self.new ≡ record self.old {
           header = record self.old.header { comment = comment.now };
@@ -152,6 +153,7 @@ impl<S: Spans> Keeper<S> {
         self.comment.extend_from_slice(comment)
     }
 
+    // Takes the authority of the certificates that follow.
     fn set_authority(&mut self, authority: &[u8]) -> Result<(), AllocError>
         ensures set { OnOk result (self.new ≡ record self.old { authority = authority.now }) }
         ensures grows { GrowsWithin (length authority.now) self.old self.new }
@@ -186,6 +188,7 @@ impl<S: Spans> Keeper<S> {
         self.add_span(min.max(1), max)
     }
 
+    // Adds the serials from `lo` to `hi` under the authority in force.
     fn add_span(&mut self, lo: u64, hi: u64) -> Result<(), AllocError>
         requires from_one { 0 < lo }
         requires ordered { lo ≤ hi }
@@ -212,6 +215,7 @@ impl<S: Spans> Keeper<S> {
         self.held.add_near(under(self.authority.as_slice()), near)
     }
 
+    // Adds a key, a hash, or a key ID under the authority in force.
     fn add_item(&mut self, kind: ItemKind, item: &[u8]) -> Result<(), AllocError>
         requires { length item.now ≡ item_size kind (length item.now) }
         ensures adds { OnOk result
@@ -238,6 +242,7 @@ impl<S: Spans> Keeper<S> {
         if last { self.close() } else { Ok(()) }
     }
 
+    // Feeds the bitmap a byte that it does not refuse.
     fn feed(&mut self, byte: u8) -> Finished
         requires { TakesByte self.old.bitmap byte }
         ensures fed { Feeds self.old.bitmap byte self.new.bitmap (finished_of result) }
@@ -295,6 +300,7 @@ fn under(authority: &[u8]) -> Option<&[u8]>
     }
 }
 
+// The bytes of a field of this size.
 fn array_of<const N: usize>(field: &[u8]) -> [u8; N]
     requires { length field.now ≡ N }
     ensures { result ≡ field.now }

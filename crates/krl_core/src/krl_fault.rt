@@ -1,4 +1,4 @@
-// Why a revocation list is refused.
+//! Why a revocation list is refused.
 
 ghost use Rattle.std.specs.Prelude.{◌≡◌, Some};
 ghost use Rattle.krl_core.specs.KrlFault.{fault_number, fault_text};
@@ -10,7 +10,8 @@ use std::alloc::{AllocError, AllocFailed};
 use std::error::Error;
 use std::fmt;
 
-/// Why a key revocation list is refused: the first fault in reading order.
+/// Why a key revocation list is refused: the first fault in reading order. It prints as `krl`, its
+/// number and its name.
 #[derive(Clone, Copy, Debug, PartialEq, Eq)]
 pub enum KrlFault {
     /// The first eight bytes are not those of a revocation list.
@@ -41,12 +42,12 @@ pub enum KrlFault {
     Read,
     /// There was no memory.
     NoMemory,
-    /// An extension has to be known, and none is.
+    /// An extension is critical, and none is known.
     CriticalExtension,
 }
 
 impl KrlFault {
-    /// The fault's number.
+    /// The fault's number, 1 to 15 in the order of the variants.
     pub fn number(self) -> u8
         ensures { result ≡ fault_number self }
     {

@@ -1,4 +1,4 @@
-// What is held under one authority, lent.
+//! What is held under one authority, lent.
 ghost use Rattle.std.specs.Prelude.{◌≡◌, ◌<◌, length, Some, slice_get};
 ghost use Rattle.krl_core.specs.Authority.{authority_bytes, IsAuthority};
 
@@ -28,6 +28,7 @@ impl<'a, S: Spans> Model for Listed<'a, S> {
 impl<'a, S: Spans> Listed<'a, S> {
     ghost use Rattle.krl_core.specs.Shelf.{section_of};
 
+    // What is held under an authority, lent.
     pub(crate) fn new(authority: &'a [u8], shelf: &'a Shelf<S>) -> Listed<'a, S>
         ensures { result ≡ section_of S.spans (authority.now, shelf.now) }
     {
@@ -66,8 +67,8 @@ impl<'a, S: Spans> Listed<'a, S> {
         self.shelf.ids.len()
     }
 
-    /// The key ID at an index, in the order of their bytes. A loop over all of them takes
-    /// `walk_ids`.
+    /// The key ID at an index below `ids()`, in the order of their bytes. A loop over all of them
+    /// takes `walk_ids`.
     pub fn id_at(&self, index: usize) -> &'a [u8]
         requires { index < length self.now.ids }
         ensures { slice_get self.now.ids index ≡ Some result.now }
@@ -110,6 +111,7 @@ impl<'a, S: Spans> Authorities<'a, S> {
     ghost use Rattle.std.specs.List.{AllByRecursion};
     ghost use Rattle.krl_core.specs.Shelf.{place_of, sections_of};
 
+    // A walk over authorities, by where the shelf of each one is.
     pub(crate) fn over(places: &'a TextMap<usize>, shelves: &'a Vec<Shelf<S>>) -> Authorities<'a, S>
         requires { AllByRecursion (λ entry. place_of entry < length shelves.now.items) places.now }
         ensures { result ≡ sections_of S.spans shelves.now.items places.now }

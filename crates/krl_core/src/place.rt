@@ -1,4 +1,4 @@
-// The places in a list where a field can be expected (PROTOCOL.krl).
+//! The places in a list where a field can be expected (PROTOCOL.krl).
 
 ghost use Rattle.std.specs.Prelude.{◌≡◌, ◌↔◌, IsTrue, length};
 ghost use Rattle.krl_core.specs.Place.{can_end, expected};
@@ -40,7 +40,7 @@ pub enum Place {
 }
 
 impl Place {
-    /// How many bytes the expected field has, and how many are left for it.
+    // How many bytes the expected field has, and how many are left for it.
     #[inline(always)]
     fn size_and_room(self) -> (u32, Option<u32>)
         ensures size { result.0 ≡ (expected self).size }

@@ -1,4 +1,4 @@
-// The question of whether a key or a certificate is revoked.
+//! The question of whether a key or a certificate is revoked.
 ghost use Rattle.std.specs.Prelude.{◌≡◌, ◌↔◌, IsTrue, List, Contains};
 ghost use Rattle.sha1.specs.Sha1.{sha1};
 ghost use Rattle.sha2.specs.Sha256.{sha256};
@@ -33,6 +33,8 @@ impl<S: Spans> Revocations<S> {
         }
     }
 
+    // Whether a certificate is revoked by its authority, or by its key ID or serial under all
+    // authorities or its own.
     fn has_cert(&self, cert: &CertNames) -> bool
         ensures { IsTrue result ↔ HoldsCert self.now cert.now }
     {
@@ -45,6 +47,7 @@ impl<S: Spans> Revocations<S> {
         has_under(&self.shelves, cert.authority, cert.key_id, cert.serial)
     }
 
+    // Whether a plain key is revoked by its blob or a hash of it.
     fn has_key(&self, blob: &[u8]) -> bool
         ensures { IsTrue result ↔ HoldsKey self.now blob.now }
     {

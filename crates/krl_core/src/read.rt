@@ -1,4 +1,4 @@
-// Reading a whole list.
+//! Reading a whole list.
 
 ghost use Rattle.std.specs.Prelude.{◌≡◌, ◌≤◌, ◌⊎◌, length, false, ℕ, List, None, Some};
 ghost use Rattle.std.specs.Prelude.{IfOk, IfErr};
@@ -17,9 +17,10 @@ use serial_set::Spans;
 use ssh_wire::Source;
 use std::alloc::Global;
 
-/// Reads a list to its end, a field at a time, and gives the reader back. A list is refused with
-/// its first fault; where the reader fails, with the first fault of the bytes that it gave, and
-/// with `Read` where these have none but their end.
+/// Reads a list of at most 67,108,864 bytes to its end (PROTOCOL.krl), a field at a time, and gives
+/// the reader back, which has not failed before. A list is refused with its first fault; where the
+/// reader fails, with the first fault of the bytes that it gave, and with `Read` where these have
+/// none but their end. `NoMemory` comes only where memory runs out.
 pub fn read_krl<S: Spans, R: Source + Drop>(
     alloc: Global,
     reader: R,

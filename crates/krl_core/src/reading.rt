@@ -1,4 +1,4 @@
-// Reading a list in one pass, a field at a time.
+//! Reading a list in one pass, a field at a time.
 
 ghost use Rattle.std.specs.Prelude.{◌≡◌, ◌+◌, ◌*◌, ◌<◌, ◌≤◌, ◌⊎◌, ℕ, false, true, None, Some, Ok};
 ghost use Rattle.std.specs.Prelude.{Err, List, [], IfOk, IfErr, IfSome, IsTrue, OnOk, length};
@@ -66,7 +66,7 @@ impl<S: Spans, R: Source + Drop> Model for Reading<S, R> {
 }
 
 impl<S: Spans, R: Source + Drop> Reading<S, R> {
-    /// Nothing is read yet. The reader may not have failed before.
+    /// Nothing is read yet. The reader has not failed before.
     pub fn new(alloc: Global, reader: R) -> Self
         requires { R.has_failed reader ≡ false }
         ensures start { (text : List ℕ) → R.left reader ≡ Some text → HasRead text [] result }
@@ -83,8 +83,8 @@ impl<S: Spans, R: Source + Drop> Reading<S, R> {
         }
     }
 
-    /// Reads the next field of the list. It answers false at the list's end, and from then on.
-    /// After a fault it answers that fault from then on.
+    /// Reads the next field of the list, and takes no byte past it; it may look at one. It answers
+    /// false at the list's end, and from then on. After a fault it answers that fault from then on.
     pub fn step(&mut self) -> Result<bool, KrlFault>
         ensures more { IfOk result (λ more. IsTrue more → ReadsOneMore self.old self.new) }
         ensures follows { IfOk result (λ more. IsTrue more → Follows self.old self.new) }

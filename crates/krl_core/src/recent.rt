@@ -1,4 +1,4 @@
-// The authority that was added under last.
+//! The authority that was added under last.
 ghost use Rattle.std.specs.Prelude.{◌≡◌, IfSome, None, Some};
 
 use std::alloc::Global;
@@ -22,7 +22,7 @@ impl Model for Recent {
 }
 
 impl Recent {
-    /// Nothing was added yet. Takes no memory.
+    // Nothing was added yet. Takes no memory.
     pub(crate) fn new(alloc: Global) -> Recent
         ensures { result ≡ None }
     {
@@ -32,7 +32,7 @@ impl Recent {
         }
     }
 
-    /// Where the shelf of the authority stands, if it was added under last.
+    // Where the shelf of the authority stands, if it was added under last.
     pub(crate) fn place(&self, authority: &[u8]) -> Option<usize>
         ensures { IfSome result (λ place. self.now ≡ Some (authority.now, place)) }
     {
@@ -43,7 +43,7 @@ impl Recent {
         None
     }
 
-    /// Keeps where the shelf of an authority stands, or nothing where memory runs out.
+    // Keeps where the shelf of an authority stands, or nothing where memory runs out.
     pub(crate) fn set(&mut self, authority: &[u8], place: usize)
         ensures { IfSome self.new (λ recent. recent ≡ (authority.now, place)) }
     {

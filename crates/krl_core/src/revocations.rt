@@ -1,4 +1,4 @@
-// What is revoked.
+//! What is revoked.
 ghost use Rattle.std.specs.Prelude.{◌≡◌, ◌+◌, ◌<◌, ◌≤◌, ◌∷◌, [], ℕ, List, length, All, OnOk, OnErr};
 ghost use Rattle.serial_set.specs.BitRuns.{IsInterval};
 ghost use Rattle.serial_set.specs.Near.{AreNear};
@@ -54,8 +54,9 @@ impl<S: Spans> Revocations<S> {
         }
     }
 
-    /// Revokes the serials from `lo` to `hi` of an authority, or of all authorities. Fails only
-    /// where memory runs out, and changes nothing then.
+    /// Revokes the serials from `lo` to `hi` of an authority, or of all authorities where there is
+    /// none. `lo` is above 0 and at most `hi`, and an authority has a byte. Fails only where memory
+    /// runs out, and changes nothing then.
     pub fn add_serials(
         &mut self,
         authority: Option<&[u8]>,
@@ -79,8 +80,8 @@ impl<S: Spans> Revocations<S> {
         self.add_near(authority, &[Span { lo, hi }])
     }
 
-    /// Revokes the serials of some spans, which lie near each other, with one search for the
-    /// authority. Fails only where memory runs out, and changes nothing then.
+    // Revokes the serials of some spans, which lie near each other, with one search for the
+    // authority. Fails only where memory runs out, and changes nothing then.
     pub(crate) fn add_near(
         &mut self,
         authority: Option<&[u8]>,
@@ -107,8 +108,8 @@ impl<S: Spans> Revocations<S> {
         Ok(())
     }
 
-    /// Revokes the certificates with a key ID of an authority, or of all authorities. Fails only
-    /// where memory runs out, and changes nothing then.
+    /// Revokes the certificates with a key ID of an authority, or of all authorities where there is
+    /// none. An authority has a byte. Fails only where memory runs out, and changes nothing then.
     pub fn add_id(&mut self, authority: Option<&[u8]>, id: &[u8]) -> Result<(), AllocError>
         requires { IsAuthority authority }
         ensures means { OnOk result (MeansMore self.old self.new

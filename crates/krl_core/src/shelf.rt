@@ -1,4 +1,4 @@
-// What is held under one authority.
+//! What is held under one authority.
 ghost use Rattle.std.specs.Prelude.{◌≡◌, ℕ, List, MatchResult, IfOk};
 ghost use Rattle.krl_core.specs.Changes.{Takes, IsOneChange, empty_section};
 
@@ -17,7 +17,7 @@ pub struct Shelf<S: Spans> {
 impl<S: Spans> Shelf<S> {
     ghost use Rattle.krl_core.specs.Shelf.{section_of};
 
-    /// A shelf that holds what is added and no more.
+    // A shelf that holds what is added and no more.
     pub(crate) fn with(alloc: Global, addition: Addition<'_>) -> Result<Shelf<S>, AllocError>
         requires { IsOneChange addition }
         ensures { (authority : List ℕ) → IfOk result (λ shelf. Takes addition.entry
@@ -31,6 +31,7 @@ impl<S: Spans> Shelf<S> {
         Ok(shelf)
     }
 
+    // Adds to the shelf. Where memory runs out it holds what it did.
     pub(crate) fn add(&mut self, alloc: Global, addition: Addition<'_>) -> Result<(), AllocError>
         requires { IsOneChange addition }
         ensures { (authority : List ℕ) → MatchResult result

@@ -1,4 +1,4 @@
-// The shelves of all authorities.
+//! The shelves of all authorities.
 ghost use Rattle.std.specs.Prelude.{◌≡◌, ◌<◌, [], MatchOption, OnErr, OnOk, Some};
 ghost use Rattle.std.specs.Prelude.{length, slice_get};
 ghost use Rattle.krl_core.specs.Asked.{Stands};
@@ -39,7 +39,7 @@ impl<S: Spans> Model for Shelves<S> {
 }
 
 impl<S: Spans> Shelves<S> {
-    /// No authority has anything. Takes no memory.
+    // No authority has anything. Takes no memory.
     pub(crate) fn new(alloc: Global) -> Shelves<S>
         ensures { result ≡ [] }
     {
@@ -51,13 +51,14 @@ impl<S: Spans> Shelves<S> {
         }
     }
 
+    // How many authorities there are.
     pub(crate) fn len(&self) -> usize
         ensures { result ≡ length self.now }
     {
         self.places.len()
     }
 
-    /// The shelf of an authority.
+    // The shelf of an authority.
     pub(crate) fn find(&self, authority: &[u8]) -> Option<&Shelf<S>>
         ensures { MatchOption result
             (¬ SomeSection (λ section. section.authority ≡ authority.now) self.now)
@@ -70,7 +71,7 @@ impl<S: Spans> Shelves<S> {
         }
     }
 
-    /// What is held under the authority at an index. It goes over those before it.
+    // What is held under the authority at an index. It goes over those before it.
     pub(crate) fn at(&self, index: usize) -> Listed<'_, S>
         requires { index < length self.now }
         ensures { slice_get self.now index ≡ Some result }
@@ -79,13 +80,14 @@ impl<S: Spans> Shelves<S> {
         Listed::new(authority, &self.shelves[*place])
     }
 
+    // The authorities, in the order of their bytes.
     pub(crate) fn walk(&self) -> Authorities<'_, S>
         ensures { result ≡ self.now }
     {
         Authorities::over(&self.places, &self.shelves)
     }
 
-    /// Adds under an authority. A shelf that is new is made whole before it is put in.
+    // Adds under an authority. A shelf that is new is made whole before it is put in.
     pub(crate) fn add(&mut self, authority: &[u8], addition: Addition<'_>) -> Result<(), AllocError>
         requires { IsOneChange addition }
         ensures ok { OnOk result (AddsTo addition.entry authority.now self.old self.new) }
@@ -121,6 +123,7 @@ impl<S: Spans> Shelves<S> {
     }
 }
 
+// Adds to the shelf at a place.
 fn add_at<S: Spans>(
     alloc: Global,
     shelves: &mut Vec<Shelf<S>>,

@@ -1,4 +1,4 @@
-// Byte strings that lie in place.
+//! Byte strings that lie in place.
 ghost use Rattle.std.specs.Prelude.{◌≡◌, ◌≤◌, ℕ, List, Some, length, take, nat_eq, refl};
 ghost use Rattle.std.specs.Cmp.{partial_equiv_from_equiv};
 ghost use Rattle.std.specs.Cmp.Lexicographic.{nat_list_cmp_total, nat_list_eq_equiv};
@@ -8,7 +8,7 @@ ghost use Rattle.krl_core.specs.Rising.{bytes_cmp};
 use std::cmp::Ordering;
 use std::marker::Model;
 
-/// The most bytes of a string that lies in place. An Ed25519 key has 51.
+// The most bytes of a string that lies in place. An Ed25519 key has 51.
 pub(crate) const IN_PLACE: usize = 54;
 
 /// A byte string that needs no allocation. Contracts see its bytes.
@@ -27,6 +27,7 @@ impl Model for Short {
 }
 
 impl Short {
+    // At most 54 bytes, copied.
     pub(crate) fn new(bytes: &[u8]) -> Short
         requires { length bytes.now ≤ 54 }
         ensures { result ≡ bytes.now }
@@ -39,6 +40,7 @@ impl Short {
         }
     }
 
+    // The bytes.
     pub(crate) fn as_slice(&self) -> &[u8]
         ensures { result.now ≡ self.now }
     {

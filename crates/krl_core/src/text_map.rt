@@ -1,4 +1,4 @@
-// Values by byte strings, in order.
+//! Values by byte strings, in order.
 ghost use Rattle.std.specs.Prelude.{◌≡◌, ◌<◌, ◌↔◌, [], MatchOption, Contains, IsTrue, OnOk, OnErr};
 ghost use Rattle.std.specs.Prelude.{Some, length, slice_get};
 ghost use Rattle.krl_core.specs.Asked.{Stands};
@@ -32,7 +32,7 @@ impl<V> Model for TextMap<V> {
 }
 
 impl<V> TextMap<V> {
-    /// A map of nothing. Takes no memory.
+    // A map of nothing. Takes no memory.
     pub(crate) fn new(alloc: Global) -> TextMap<V>
         ensures { result ≡ [] }
     {
@@ -42,6 +42,7 @@ impl<V> TextMap<V> {
         }
     }
 
+    // How many byte strings there are.
     pub(crate) fn len(&self) -> usize
         ensures len { result ≡ length self.now }
         ensures rises { RisesBy name_of self.now }
@@ -49,7 +50,7 @@ impl<V> TextMap<V> {
         self.shorts.len() + self.longs.len()
     }
 
-    /// The value of a byte string.
+    // The value of a byte string.
     pub(crate) fn find(&self, bytes: &[u8]) -> Option<&V>
         ensures { MatchOption result (¬ Contains (names_of self.now) bytes.now)
             (λ value. Stands name_of self.now (bytes.now, value.now)) }
@@ -60,14 +61,14 @@ impl<V> TextMap<V> {
         self.longs.get(bytes)
     }
 
-    /// Whether the byte string has a value.
+    // Whether the byte string has a value.
     pub(crate) fn has(&self, bytes: &[u8]) -> bool
         ensures { IsTrue result ↔ Contains (names_of self.now) bytes.now }
     {
         matches!(self.find(bytes), Some(_))
     }
 
-    /// The entry at an index. It goes over those before it.
+    // The entry at an index. It goes over those before it.
     pub(crate) fn at(&self, index: usize) -> (&[u8], &V)
         requires { index < length self.now }
         ensures { slice_get self.now index ≡ Some (result.0.now, result.1.now) }
@@ -83,7 +84,7 @@ impl<V> TextMap<V> {
         unreachable!()
     }
 
-    /// Gives a byte string a value, in place of the one that it had.
+    // Gives a byte string a value, in place of the one that it had.
     pub(crate) fn put(&mut self, alloc: Global, bytes: &[u8], value: V) -> Result<(), AllocError>
     where
         V: Drop,

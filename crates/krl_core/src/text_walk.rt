@@ -1,4 +1,4 @@
-// A walk over values by byte strings, in order.
+//! A walk over values by byte strings, in order.
 ghost use Rattle.std.specs.Prelude.{◌≡◌, ◌∷◌, [], MatchOption, not};
 ghost use Rattle.std.specs.Ordering.{is_gt};
 ghost use Rattle.krl_core.specs.Rising.{bytes_cmp};
@@ -31,6 +31,7 @@ impl<'a, V> Model for TextWalk<'a, V> {
 }
 
 impl<'a, V> TextWalk<'a, V> {
+    // A walk over the values of a map, in the order of the byte strings.
     pub(crate) fn over(map: &'a TextMap<V>) -> TextWalk<'a, V>
         ensures { result ≡ map.now }
     {
@@ -44,7 +45,7 @@ impl<'a, V> TextWalk<'a, V> {
         }
     }
 
-    /// The first of the entries that are left, if there is one.
+    // The first of the entries that are left, if there is one.
     pub(crate) fn next(&mut self) -> Option<(&'a [u8], &'a V)>
         ensures { MatchOption result ((self.old ≡ []) × (self.new ≡ []))
             (λ entry. self.old ≡ (entry.0.now, entry.1.now) ∷ self.new) }
@@ -67,6 +68,7 @@ impl<'a, V> TextWalk<'a, V> {
     }
 }
 
+// Whether the short byte string comes before the long one.
 fn comes_first(short: &Short, long: &Vec<u8>) -> bool
     ensures { result ≡ not (is_gt (bytes_cmp short.now long.now.items)) }
 {

@@ -1,4 +1,4 @@
-// A walk over byte strings, in order.
+//! A walk over byte strings, in order.
 ghost use Rattle.std.specs.Prelude.{◌≡◌};
 ghost use Rattle.krl_core.specs.Ids.{texts_of};
 ghost use Rattle.krl_core.specs.TextMap.{names_of};
@@ -34,6 +34,7 @@ impl<'a> Model for Texts<'a> {
 }
 
 impl<'a> Texts<'a> {
+    // A walk over the byte strings of a vector.
     pub(crate) fn few(texts: &'a [Vec<u8>]) -> Texts<'a>
         ensures { result ≡ texts_of texts.now }
     {
@@ -42,6 +43,7 @@ impl<'a> Texts<'a> {
         }
     }
 
+    // A walk over the byte strings of a map.
     pub(crate) fn names(map: &'a TextMap<()>) -> Texts<'a>
         ensures { result ≡ names_of map.now }
     {
@@ -50,6 +52,7 @@ impl<'a> Texts<'a> {
         }
     }
 
+    // A walk over SHA-1 hashes.
     pub(crate) fn sha1s(hashes: &'a BTreeSet<[u8; 20]>) -> Texts<'a>
         ensures { result ≡ hashes.now.keys }
     {
@@ -58,6 +61,7 @@ impl<'a> Texts<'a> {
         }
     }
 
+    // A walk over SHA-256 hashes.
     pub(crate) fn sha256s(hashes: &'a BTreeSet<[u8; 32]>) -> Texts<'a>
         ensures { result ≡ hashes.now.keys }
     {

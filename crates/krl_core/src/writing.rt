@@ -1,4 +1,4 @@
-// The bytes of a list that is written.
+//! The bytes of a list that is written.
 
 pub(crate) mod authorities;
 pub mod krl_text;

@@ -1,4 +1,4 @@
-// What no contract says: worked lists and plans, calls with ample memory, devices that fail.
+//! What no contract says: worked lists and plans, calls with ample memory, devices that fail.
 
 mod asking;
 mod beside;

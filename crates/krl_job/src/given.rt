@@ -1,17 +1,27 @@
-// What words hold of the options.
+//! What words hold of the options.
 
 /// What words hold: which of the options without a value are given, the values of the others, and
 /// the files.
 #[derive(Drop)]
 pub struct Given<'a> {
+    /// Whether `-l` is given.
     pub list: bool,
+    /// Whether `-L` is given.
     pub certificates: bool,
+    /// Whether `-k` is given.
     pub make: bool,
+    /// Whether `-Q` is given.
     pub query: bool,
+    /// Whether `-u` is given.
     pub update: bool,
+    /// The value of `-f`.
     pub file: Option<&'a str>,
+    /// The value of `-E`.
     pub hash: Option<&'a str>,
+    /// The value of `-s`.
     pub authority: Option<&'a str>,
+    /// The value of `-z`.
     pub version: Option<&'a str>,
+    /// The files that follow the options.
     pub files: Vec<&'a str>,
 }

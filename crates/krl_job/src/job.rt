@@ -1,4 +1,4 @@
-// The job that words ask for (ssh-keygen(1), SYNOPSIS).
+//! The job that words ask for (ssh-keygen(1), SYNOPSIS).
 
 ghost use Rattle.std.specs.Prelude.{◌≡◌, option_map};
 ghost use Rattle.std.specs.Char.{is_ascii_digit};
@@ -9,7 +9,7 @@ ghost use Rattle.krl_job.specs.Job.{asked_of, authority_named, authority_of, fit
 use crate::given::Given;
 use ssh_key::Hash;
 
-/// How many digits a version has at most.
+// How many digits a version has at most.
 const MOST_DIGITS: usize = 20;
 
 /// What a run of the program does.
@@ -28,6 +28,7 @@ pub enum Mode {
 /// What `-s` gives: under which authority a list that is made names serials and key IDs.
 #[derive(Debug, Drop)]
 pub enum Authority<T> {
+    /// `-s` is not given.
     NotGiven,
     /// All authorities.
     All,
@@ -38,12 +39,15 @@ pub enum Authority<T> {
 /// What the words of the command ask for.
 #[derive(Debug, Drop)]
 pub struct Job<'a> {
+    /// What the run does.
     pub mode: Mode,
     /// The file of `-f`.
     pub file: &'a str,
     /// Whether the list that is made adds to the one that there is.
     pub update: bool,
+    /// The authority of `-s`.
     pub authority: Authority<&'a str>,
+    /// The version of `-z`.
     pub version: Option<u64>,
     /// Whether the contents of the list are printed.
     pub dump: bool,
@@ -75,7 +79,7 @@ pub fn job_of<'a>(given: Given<'a>) -> Option<Job<'a>>
     })
 }
 
-/// The mode, where the options go together.
+// The mode, where the options go together.
 fn mode_of(given: &Given) -> Option<Mode>
     ensures { result ≡ mode_of (given_by given.now) }
 {
@@ -89,7 +93,7 @@ fn mode_of(given: &Given) -> Option<Mode>
     if fits(mode, given) { Some(mode) } else { None }
 }
 
-/// Whether the other options go with the mode.
+// Whether the other options go with the mode.
 fn fits(mode: Mode, given: &Given) -> bool
     ensures { result ≡ fits mode (given_by given.now) }
 {
@@ -100,13 +104,14 @@ fn fits(mode: Mode, given: &Given) -> bool
     }
 }
 
-/// Whether some option is for making lists alone.
+// Whether some option is for making lists alone.
 fn is_for_making(given: &Given) -> bool
     ensures { result ≡ is_for_making (given_by given.now) }
 {
     given.update || given.authority.is_some() || given.version.is_some()
 }
 
+// The hash of `-E`, SHA-256 where it is not given. None where no hash has the name.
 fn hash_named(name: Option<&str>) -> Option<Hash>
     ensures { result ≡ hash_named (option_map (λ text. text.now) name.entry) }
 {
@@ -116,6 +121,7 @@ fn hash_named(name: Option<&str>) -> Option<Hash>
     }
 }
 
+// The hash of this name, in either case.
 fn hash_called(name: &str) -> Option<Hash>
     ensures { result ≡ hash_called name.now }
 {
@@ -128,7 +134,7 @@ fn hash_called(name: &str) -> Option<Hash>
     }
 }
 
-/// The version that is asked for, if one is: none at all where the text is no version.
+// The version that is asked for, if one is: none at all where the text is no version.
 fn version_named(text: Option<&str>) -> Option<Option<u64>>
     ensures { result ≡ version_named (option_map (λ text. text.now) text.entry) }
 {
@@ -138,6 +144,7 @@ fn version_named(text: Option<&str>) -> Option<Option<u64>>
     }
 }
 
+// A version of one to twenty decimal digits, below 2^64.
 fn version_called(text: &str) -> Option<Option<u64>>
     ensures { result ≡ version_called text.now }
 {
@@ -150,12 +157,14 @@ fn version_called(text: &str) -> Option<Option<u64>>
     }
 }
 
+// Whether all bytes are decimal digits.
 fn are_digits(bytes: &[u8]) -> bool
     ensures { result ≡ list_all is_ascii_digit bytes.now }
 {
     bytes.iter().all(|byte| byte.is_ascii_digit())
 }
 
+// The authority of `-s`: none is given, `none` means all, else a file.
 fn authority_named(name: Option<&str>) -> Authority<&str>
     ensures { authority_of result ≡ authority_named (option_map (λ text. text.now) name.entry) }
 {

@@ -1,4 +1,4 @@
-// The authority of serials and key IDs that name none themselves.
+//! The authority of serials and key IDs that name none themselves.
 
 ghost use Rattle.std.specs.Prelude.{◌≡◌, ◌<◌, Some, IfOk, length};
 ghost use Rattle.krl_make.specs.Making.{IsAuthorityAtHand, IsSigner, Returns, file_key, named_blob, plain_found, signer_authority};
@@ -42,7 +42,7 @@ pub fn signer_of<'a>(alloc: Global, authority: &'a Authority<'a>) -> Result<Sign
     }
 }
 
-/// The blob of the first key of a file.
+// The blob of the first key of a file.
 fn first_key<'a>(alloc: Global, file: &'a Named<'a>) -> Result<Bytes, RunFault<'a>>
     ensures read { Returns (λ blob. blob) (λ at. file.now.name ≡ at) (file_key file.now) result }
     ensures some { IfOk result (λ blob. 0 < length blob) }
@@ -54,7 +54,7 @@ fn first_key<'a>(alloc: Global, file: &'a Named<'a>) -> Result<Bytes, RunFault<'
     }
 }
 
-/// The blob of a key, or of the plain key of a certificate.
+// The blob of a key, or of the plain key of a certificate.
 fn key_blob<'a>(alloc: Global, key: &FileKey<'a>) -> Result<Bytes, RunFault<'a>>
     ensures read { Returns (λ blob. blob) (λ at. key.now.name ≡ at) (plain_found key.now) result }
     ensures some { IfOk result (λ blob. 0 < length blob) }

@@ -1,4 +1,4 @@
-// What a list is made of before the lines.
+//! What a list is made of before the lines.
 
 ghost use Rattle.std.specs.Prelude.{◌≡◌, ◌<◌, ◌^◌, [], Err, IfSome, MatchResult, Ok, Result, false};
 ghost use Rattle.std.specs.Option.{ForSome};
@@ -20,7 +20,9 @@ use std::alloc::Global;
 pub struct Base {
     /// The version of the old list.
     pub version: Option<u64>,
+    /// The comment of the old list, or none.
     pub comment: Bytes,
+    /// What the old list revokes, or nothing.
     pub revocations: Revocations<Held>,
 }
 
@@ -47,7 +49,7 @@ pub fn read_base<'a, R: Source + Drop>(
     }
 }
 
-/// What is there before a list that is new.
+// What is there before a list that is new.
 fn new_base(alloc: Global) -> Base
     ensures base { result ≡ new_base }
     ensures nothing { Means nothing [] }
@@ -59,7 +61,7 @@ fn new_base(alloc: Global) -> Base
     }
 }
 
-/// What a list holds that was read.
+// What a list holds that was read.
 fn base_of(header: Header, revocations: Revocations<Held>) -> Base
     ensures { result ≡ base_of header revocations }
 {
@@ -71,7 +73,7 @@ fn base_of(header: Header, revocations: Revocations<Held>) -> Base
 }
 
 /// The version of the list that is made: the one that is given, else one more than the old one,
-/// else 0. None where the old one is the greatest.
+/// else 0. None where the old one is 2^64-1.
 pub fn next_version(given: Option<u64>, old: Option<u64>) -> Option<u64>
     ensures value { result ≡ version_of given old }
     ensures fits { IfSome result (λ version. version < 2 ^ 64) }

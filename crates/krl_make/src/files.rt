@@ -1,4 +1,4 @@
-// What specification files add to a list.
+//! What specification files add to a list.
 
 ghost use Rattle.std.specs.Prelude.{◌≡◌, Ok};
 ghost use Rattle.krl_make.specs.Making.{AddsFiles, IsFileAtHand, cause_stop, file_entries, files_entries, text_entries};
@@ -28,7 +28,7 @@ pub fn add_files<'a, S: Spans>(
     Ok(())
 }
 
-/// Adds what the lines of a file name.
+// Adds what the lines of a file name.
 #[tactic(auto, unfolding(crate::specs::Making::file_entries))]
 fn add_file<'a, S: Spans>(
     alloc: Global,
@@ -47,7 +47,7 @@ fn add_file<'a, S: Spans>(
     }
 }
 
-/// Adds what the lines of a file's text name.
+// Adds what the lines of a file's text name.
 fn add_text<'a, S: Spans>(
     alloc: Global,
     revocations: &mut Revocations<S>,
@@ -66,7 +66,7 @@ fn add_text<'a, S: Spans>(
     }
 }
 
-/// Where memory runs out, it is for the run itself, and no line is named.
+// Where memory runs out, it is for the run itself, and no line is named.
 fn cause_stop<'a>(name: &'a str, fault: SpecFault) -> RunFault<'a>
     ensures { result ≡ cause_stop name.now fault.line fault.cause }
 {

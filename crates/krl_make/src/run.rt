@@ -1,4 +1,4 @@
-// Making a list of an old one and of specification files.
+//! Making a list of an old one and of specification files.
 
 ghost use Rattle.std.specs.Prelude.{◌≡◌, Ok, Result, false};
 ghost use Rattle.std.specs.Option.{ForSome};
@@ -20,7 +20,9 @@ use std::alloc::Global;
 /// The list that is made: its name, and where it is updated the reader of the old one.
 #[derive(Drop)]
 pub struct Old<'a, R: Source + Drop> {
+    /// The name of the list.
     pub name: &'a str,
+    /// The reader of the old list, where it is updated.
     pub list: Option<R>,
 }
 
@@ -63,7 +65,7 @@ pub fn make_run<'a, R: Source + Drop>(
     (made, reader)
 }
 
-/// The list that is wanted, beside what the old one held.
+// The list that is wanted, beside what the old one held.
 #[derive(Drop)]
 struct Wanted<'a> {
     name: &'a str,
@@ -74,7 +76,7 @@ struct Wanted<'a> {
 }
 
 impl<'a> Wanted<'a> {
-    /// The bytes of a list that holds what was held before and what the lines of the files name.
+    // The bytes of a list that holds what was held before and what the lines of the files name.
     fn make_over(&self, alloc: Global, base: Base) -> Result<Vec<u8>, RunFault<'a>>
         ensures { Makes (λ made. made.items) self.now.name.now (Ok base) self.now.authority.now
             self.now.version self.now.files.now
@@ -98,7 +100,7 @@ impl<'a> Wanted<'a> {
         self.add_and_write(alloc, &header, revocations, under(&signer))
     }
 
-    /// Adds what the lines of the files name to what is held, and writes the list.
+    // Adds what the lines of the files name to what is held, and writes the list.
     fn add_and_write(
         &self,
         alloc: Global,
@@ -118,7 +120,7 @@ impl<'a> Wanted<'a> {
     }
 }
 
-/// The text of a list.
+// The text of a list.
 fn write_list<'a>(
     alloc: Global,
     name: &'a str,

@@ -1,4 +1,4 @@
-// The runs that the next groups of a plan name.
+//! The runs that the next groups of a plan name.
 
 ghost use Rattle.std.specs.Prelude.{◌≡◌, ◌+◌, ◌-◌, ◌≤◌, ℕ, List, length, take, drop, OnOk};
 ghost use Rattle.serial_set.specs.declared.span.Span.{Span};

@@ -1,4 +1,4 @@
-// The bitmap of some runs: a bit for each serial from the first one on (PROTOCOL.krl).
+//! The bitmap of some runs: a bit for each serial from the first one on (PROTOCOL.krl).
 
 ghost use Rattle.std.specs.Prelude.{◌≡◌, ◌+◌, ◌-◌, ◌*◌, ◌^◌, ◌<◌, length, OnOk, ◌++◌};
 ghost use Rattle.serial_set.specs.Span.{IsRuns};

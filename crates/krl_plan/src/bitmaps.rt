@@ -1,4 +1,4 @@
-// The best bitmap at the front of some runs.
+//! The best bitmap at the front of some runs.
 
 ghost use Rattle.std.specs.Prelude.{ℕ, ◌+◌, ◌/◌, ◌%◌, ◌^◌, ◌<◌, ◌≤◌, List, [], ◌∷◌, length};
 ghost use Rattle.std.specs.Prelude.{◌≡◌, OnOk};
@@ -30,6 +30,7 @@ pub(crate) struct Bitmaps {
 impl Bitmaps {
     ghost use Rattle.krl_plan.specs.Bitmaps.{IsMap, IsMapOf, IsMapped};
 
+    // The bitmaps of no run.
     pub(crate) fn new(alloc: Global) -> Bitmaps
         ensures { (at : ℕ) → IsMapped result at [] [] }
     {

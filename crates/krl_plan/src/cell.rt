@@ -1,4 +1,4 @@
-// A group at the front of some runs, and the least cost of a plan that begins with it.
+//! A group at the front of some runs, and the least cost of a plan that begins with it.
 
 ghost use Rattle.std.specs.Prelude.{◌≡◌, ◌⊎◌, ◌↔◌, IsTrue};
 ghost use Rattle.krl_plan.specs.declared.group.Group.{Group};
@@ -22,6 +22,7 @@ pub(crate) fn winner(a: Cell, b: Cell) -> Cell
     if wins(a, b) { a } else { b }
 }
 
+// Whether the first group is chosen: it costs less, or as much and comes first.
 fn wins(a: Cell, b: Cell) -> bool
     ensures { IsTrue result ↔ Wins a b }
 {
@@ -32,6 +33,7 @@ fn wins(a: Cell, b: Cell) -> bool
     }
 }
 
+// Whether the first group comes first of two that cost the same: by sort, then by more runs.
 fn is_at_or_before(a: Group, b: Group) -> bool
     ensures { IsTrue result ↔ IsAtOrBefore a b }
 {

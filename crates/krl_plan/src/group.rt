@@ -1,3 +1,4 @@
+//! Groups of runs, each of which one subsection names (PROTOCOL.krl).
 ghost use Rattle.std.specs.Prelude.{◌≡◌};
 ghost use Rattle.krl_plan.specs.Sorts.{place};
 
@@ -15,7 +16,9 @@ pub enum Sort {
 /// Some runs that one subsection names: those at the front of what is left of a list.
 #[derive(Clone, Copy, Debug, PartialEq, Eq)]
 pub struct Group {
+    /// The sort of the subsection.
     pub sort: Sort,
+    /// How many runs it names, 1 to 1,024.
     pub count: u16,
 }
 

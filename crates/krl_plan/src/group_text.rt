@@ -1,4 +1,4 @@
-// The subsection that names a group of runs.
+//! The subsection that names a group of runs.
 
 ghost use Rattle.std.specs.Prelude.{◌≡◌, ◌<◌, ◌≤◌, ◌∷◌, [], ◌++◌, length, OnOk};
 ghost use Rattle.std.specs.List.{flat_map};

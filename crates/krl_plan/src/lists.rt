@@ -1,4 +1,4 @@
-// The best list of serials at the front of some runs.
+//! The best list of serials at the front of some runs.
 
 ghost use Rattle.std.specs.Prelude.{◌≡◌, ℕ, ◌+◌, ◌^◌, ◌<◌, ◌≤◌, List, [], ◌∷◌, OnOk};
 ghost use Rattle.serial_set.specs.declared.span.Span.{Span};

@@ -1,4 +1,4 @@
-// The subsections of a plan.
+//! The subsections of a plan.
 
 ghost use Rattle.std.specs.Prelude.{◌≡◌, List, ◌++◌, OnOk};
 ghost use Rattle.krl_plan.specs.declared.group.Group.{Group};
@@ -32,7 +32,8 @@ pub(crate) fn put_plan<S: Spans>(
     Ok(())
 }
 
-/// Appends the subsections of a set's least plan.
+/// Appends the subsections of a set's least plan (PROTOCOL.krl, certificate sections). Fails only
+/// where memory runs out.
 pub fn put_least_plan<S: Spans>(out: &mut Vec<u8>, alloc: Global, set: &S) -> Result<(), AllocError>
     ensures { OnOk result ((plan : List Group) × (IsLeastPlan (S.spans set.now) plan
         × (out.new.items ≡ out.old.items ++ plan_text (S.spans set.now) plan))) }

@@ -1,4 +1,4 @@
-// The least plan of a set of serials.
+//! The least plan of a set of serials.
 
 ghost use Rattle.std.specs.Prelude.{◌≡◌, ◌*◌, ◌≤◌, length, take, IfOk, OnOk};
 ghost use Rattle.serial_set.specs.Walk.{left};
@@ -23,6 +23,7 @@ struct Marked {
 
 /// The plan of a set's runs that costs least. Of plans that cost the same it is the one whose group
 /// comes first where they differ: a list of serials, a range, a bitmap, and of one sort the longer.
+/// Fails only where memory runs out.
 pub fn least_plan<S: Spans>(alloc: Global, set: &S) -> Result<Vec<Group>, AllocError>
     ensures least { IfOk result (λ plan. IsLeastPlan (S.spans set.now) plan.items) }
     ensures small { IfOk result

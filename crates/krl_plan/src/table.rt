@@ -1,4 +1,4 @@
-// The best groups and the least costs, from the last run to the first.
+//! The best groups and the least costs, from the last run to the first.
 
 ghost use Rattle.std.specs.Prelude.{ℕ, ◌+◌, ◌<◌, ◌≤◌, List, [], ◌∷◌, ◌++◌, length, IfOk, OnOk};
 ghost use Rattle.serial_set.specs.declared.span.Span.{Span};

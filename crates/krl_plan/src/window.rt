@@ -1,4 +1,4 @@
-// The least of the values within a window, which slides along a line toward zero.
+//! The least of the values within a window, which slides along a line toward zero.
 
 ghost use Rattle.std.specs.Prelude.{◌≡◌, ◌<◌, ◌≤◌, ◌-◌, ◌⊎◌, ◌↔◌, [], length, take, drop};
 ghost use Rattle.std.specs.Prelude.{IfSome, IsSome, OnOk};
@@ -29,6 +29,7 @@ pub(crate) struct Window {
 }
 
 impl Window {
+    // A window without marks.
     pub(crate) fn new(alloc: Global) -> Window
         ensures { result.marks.items ≡ [] }
     {
@@ -69,6 +70,7 @@ impl Window {
     }
 }
 
+// Puts a mark before all others, and drops those that are no longer the least.
 fn push_to(marks: &mut VecDeque<Mark>, mark: Mark) -> Result<(), AllocError>
     requires stairs { IsStairs marks.old.items }
     requires before { All (λ other. mark.place < other.place) marks.old.items }

@@ -1,4 +1,4 @@
-// Going over the keys of files.
+//! Going over the keys of files.
 
 pub(crate) mod answers;
 pub(crate) mod walk;

@@ -1,4 +1,4 @@
-// What a run prints, and how it ends.
+//! What a run prints, and how it ends.
 
 pub(crate) mod answer;
 pub mod done;

@@ -1,4 +1,4 @@
-// The runs of the program.
+//! The runs of the program.
 
 pub(crate) mod contents;
 pub mod listing;

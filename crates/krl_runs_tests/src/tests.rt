@@ -1,4 +1,4 @@
-// What no clause says: the rows of the format's worked examples.
+//! What no clause says: the rows of the format's worked examples.
 
 mod asking;
 mod bytes;

@@ -1,4 +1,4 @@
-// Adding what a line of a specification file names.
+//! Adding what a line of a specification file names.
 
 ghost use Rattle.std.specs.Prelude.{◌≡◌, ◌+◌, ◌<◌, length, MatchResult, None, Some, Ok};
 ghost use Rattle.ssh_subject.specs.Subject.{Subject};
@@ -21,7 +21,7 @@ use ssh_cert::{CertNames, Subject};
 use ssh_key::{sha1_of, sha256_of};
 use std::alloc::Global;
 
-/// The authority of serials and key IDs that name none themselves; None for all authorities.
+// The authority of serials and key IDs that name none themselves; None for all authorities.
 fn authority_at_hand<'a>(under: Under<'a>) -> Result<Option<&'a [u8]>, SpecCause>
     requires { IsUnder under }
     ensures { MatchResult result
@@ -36,7 +36,7 @@ fn authority_at_hand<'a>(under: Under<'a>) -> Result<Option<&'a [u8]>, SpecCause
     }
 }
 
-/// Adds the serials of a directive.
+// Adds the serials of a directive.
 fn add_serials<S: Spans>(
     revocations: &mut Revocations<S>,
     under: Under,
@@ -53,7 +53,7 @@ fn add_serials<S: Spans>(
     Ok(())
 }
 
-/// Adds the key ID of a directive.
+// Adds the key ID of a directive.
 fn add_id<S: Spans>(
     revocations: &mut Revocations<S>,
     under: Under,
@@ -72,7 +72,7 @@ fn add_id<S: Spans>(
     Ok(())
 }
 
-/// Adds the plain key of a key line.
+// Adds the plain key of a key line.
 fn add_key<S: Spans>(
     alloc: Global,
     revocations: &mut Revocations<S>,
@@ -86,7 +86,7 @@ fn add_key<S: Spans>(
     Ok(())
 }
 
-/// Adds the SHA-1 of the plain key of a key line.
+// Adds the SHA-1 of the plain key of a key line.
 fn add_sha1<S: Spans>(
     alloc: Global,
     revocations: &mut Revocations<S>,
@@ -100,7 +100,7 @@ fn add_sha1<S: Spans>(
     Ok(())
 }
 
-/// Adds the SHA-256 of the plain key of a key line.
+// Adds the SHA-256 of the plain key of a key line.
 fn add_sha256<S: Spans>(
     alloc: Global,
     revocations: &mut Revocations<S>,
@@ -114,7 +114,7 @@ fn add_sha256<S: Spans>(
     Ok(())
 }
 
-/// Adds the SHA-256 that a fingerprint names.
+// Adds the SHA-256 that a fingerprint names.
 fn add_hash<S: Spans>(
     alloc: Global,
     revocations: &mut Revocations<S>,
@@ -128,7 +128,7 @@ fn add_hash<S: Spans>(
     Ok(())
 }
 
-/// Adds a certificate by its serial, or by its key ID where the serial is 0.
+// Adds a certificate by its serial, or by its key ID where the serial is 0.
 fn add_certificate<S: Spans>(
     revocations: &mut Revocations<S>,
     names: &CertNames,
@@ -146,7 +146,7 @@ fn add_certificate<S: Spans>(
     Ok(())
 }
 
-/// Adds a plain key by its blob, and a certificate by what names it.
+// Adds a plain key by its blob, and a certificate by what names it.
 fn add_subject<S: Spans>(revocations: &mut Revocations<S>, asked: &Subject) -> Result<(), SpecCause>
     requires { HasAuthority asked.now.cert }
     ensures { Adds (Grows (asked_size asked.now.plain asked.now.cert))
@@ -162,7 +162,7 @@ fn add_subject<S: Spans>(revocations: &mut Revocations<S>, asked: &Subject) -> R
     }
 }
 
-/// Adds what a line without a directive names.
+// Adds what a line without a directive names.
 #[tactic(auto, unfolding(crate::specs::Entry::subject_in))]
 fn add_bare<S: Spans>(
     alloc: Global,
@@ -177,7 +177,7 @@ fn add_bare<S: Spans>(
     add_subject(revocations, &asked)
 }
 
-/// Adds what a directive names.
+// Adds what a directive names.
 fn add_order<S: Spans>(
     alloc: Global,
     revocations: &mut Revocations<S>,
@@ -200,7 +200,7 @@ fn add_order<S: Spans>(
     }
 }
 
-/// Adds what a text that counts names.
+// Adds what a text that counts names.
 fn add_text<S: Spans>(
     alloc: Global,
     revocations: &mut Revocations<S>,

@@ -1,4 +1,4 @@
-// What counts of a line.
+//! What counts of a line.
 
 ghost use Rattle.std.specs.Prelude.{◌≡◌, ◌==◌, ◌≤◌, length};
 ghost use Rattle.std.specs.List.{position_or_len};
@@ -30,6 +30,7 @@ pub fn position_of(text: &[u8], sought: u8) -> usize
     text.len()
 }
 
+// What comes after the blanks and carriage returns at the front.
 fn after_endings(text: &[u8]) -> &[u8]
     ensures { result.now ≡ after_endings text.now }
 {

@@ -1,4 +1,4 @@
-// The directives of specification files (ssh-keygen(1), KEY REVOCATION LISTS).
+//! The directives of specification files (ssh-keygen(1), KEY REVOCATION LISTS).
 
 ghost use Rattle.std.specs.Prelude.{◌≡◌, MatchOption, None, Some};
 ghost use Rattle.krl_spec.specs.Line.{directive_named, is_named, name_of, order, order_in};
@@ -58,6 +58,7 @@ impl Directive {
             .find(|directive| directive.is_named(name))
     }
 
+    // Whether the directive has this name, in either case.
     fn is_named(self, name: &[u8]) -> bool
         ensures { result ≡ is_named self name.now }
     {

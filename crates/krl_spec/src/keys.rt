@@ -1,4 +1,4 @@
-// Keys, certificates and fingerprints that lines of specification files name.
+//! Keys, certificates and fingerprints that lines of specification files name.
 
 ghost use Rattle.std.specs.Prelude.{◌+◌, ◌*◌, ◌≤◌, IfOk, length};
 ghost use Rattle.ssh_wire.specs.Reading.{Answers, in_fault};

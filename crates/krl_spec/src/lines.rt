@@ -1,4 +1,4 @@
-// Reading specification files (ssh-keygen(1), KEY REVOCATION LISTS).
+//! Reading specification files (ssh-keygen(1), KEY REVOCATION LISTS).
 
 ghost use Rattle.std.specs.Prelude.{◌+◌, ◌≤◌, length};
 ghost use Rattle.krl_core.specs.Contents.{held, stored};

@@ -1,4 +1,4 @@
-// Numbers in specification files (ssh-keygen(1), KEY REVOCATION LISTS).
+//! Numbers in specification files (ssh-keygen(1), KEY REVOCATION LISTS).
 
 ghost use Rattle.std.specs.Prelude.{◌≡◌, ◌<◌, ◌≤◌, ◌^◌, IfOk, None, Some, SomeIff};
 ghost use Rattle.std.specs.Str.Parse.{IsNumeral, digits_value};
@@ -12,7 +12,9 @@ use std::str;
 /// The first and the last number of a range.
 #[derive(Clone, Copy)]
 pub struct Bounds {
+    /// The first number.
     pub lo: u64,
+    /// The last number.
     pub hi: u64,
 }
 
@@ -52,8 +54,8 @@ pub fn read_bounds(text: &[u8]) -> Option<Bounds>
     Some(Bounds { lo, hi })
 }
 
-/// A number below 2^64: hexadecimal digits after `0x`, octal digits after another `0`, else decimal
-/// digits. `0` alone is zero.
+/// A number below 2^64: hexadecimal digits after `0x` or `0X`, octal digits after another `0`, else
+/// decimal digits. `0` alone is zero. None where the text is no such number.
 #[tactic(auto, unfolding(crate::specs::Number::number_of_text))]
 pub fn read_number(text: &[u8]) -> Option<u64>
     ensures { result ≡ number_of_text text.now }
@@ -65,7 +67,7 @@ pub fn read_number(text: &[u8]) -> Option<u64>
     }
 }
 
-/// A number below 2^64, by its digits in a base.
+// A number below 2^64, by its digits in a base.
 #[tactic(auto, using(crate::proofs::Digits::number_is_read))]
 fn number_in(base: u32, digits: &[u8]) -> Option<u64>
     requires low { 2 ≤ base }
@@ -75,7 +77,7 @@ fn number_in(base: u32, digits: &[u8]) -> Option<u64>
     parsed(base, digits)
 }
 
-/// What the standard library reads of digits in a base.
+// What the standard library reads of digits in a base.
 #[tactic(auto, using(crate::proofs::Digits::digits_are_text))]
 fn parsed(base: u32, digits: &[u8]) -> Option<u64>
     requires low { 2 ≤ base }

@@ -1,4 +1,4 @@
-// The authority of serials and key IDs.
+//! The authority of serials and key IDs.
 
 /// Under which authority serials and key IDs stand that name none themselves.
 #[derive(Clone, Copy, Debug)]

@@ -1,4 +1,4 @@
-// The files that the command names.
+//! The files that the command names.
 
 use krl_job::Authority;
 use krl_runs::{Cause, FileFault, Named, RunFault, load};
@@ -6,7 +6,7 @@ use ssh_wire::FromRead;
 use std::fs::{self, File};
 use std::io::BufReader;
 
-/// How many bytes of a list are read ahead.
+// How many bytes of a list are read ahead.
 const BUFFER: usize = 65_536;
 
 /// The list of this name, with a buffer, since it is read a field at a time.

@@ -25,9 +25,10 @@ use std::io::{self, ErrorKind};
 use std::process::ExitCode;
 use std::time::{SystemTime, UNIX_EPOCH};
 
-/// The status of a command line that asks for nothing that the program does.
+// The status of a command line that asks for nothing that the program does.
 const MISUSED: u8 = 2;
 
+// Runs the program, with the places of closed standard streams held.
 fn main(rt: HostRuntime) -> ExitCode {
     let status = match hold_places(&rt) {
         Ok(places) => {
@@ -40,6 +41,7 @@ fn main(rt: HostRuntime) -> ExitCode {
     ExitCode::from(status)
 }
 
+// Reads the words and does the job that they ask for. Answers the exit status.
 fn run(rt: &HostRuntime) -> u8 {
     let words = match env::args(rt) {
         Ok(words) => words,
@@ -54,7 +56,7 @@ fn run(rt: &HostRuntime) -> u8 {
     }
 }
 
-/// Words that are not text are a misuse; else memory ran out.
+// Words that are not text are a misuse; else memory ran out.
 fn fault_of_words(error: &io::Error) -> CommandFault {
     if error.kind() == ErrorKind::OutOfMemory {
         CommandFault::NoMemory
@@ -63,6 +65,7 @@ fn fault_of_words(error: &io::Error) -> CommandFault {
     }
 }
 
+// Does the job. Answers the exit status.
 fn run_job(rt: &HostRuntime, job: &Job) -> u8 {
     match job.mode {
         Mode::Keys => list_file(rt, job, ListMode::Keys),
@@ -72,7 +75,7 @@ fn run_job(rt: &HostRuntime, job: &Job) -> u8 {
     }
 }
 
-/// `-l` and `-L`: lists the keys of the file, or its certificates.
+// `-l` and `-L`: lists the keys of the file, or its certificates.
 fn list_file(rt: &HostRuntime, job: &Job, mode: ListMode) -> u8 {
     let file = open_or_input(rt, job.file);
     let mut out = ToWrite::new(rt.stdout());
@@ -83,8 +86,8 @@ fn list_file(rt: &HostRuntime, job: &Job, mode: ListMode) -> u8 {
     )
 }
 
-/// `-Q`: prints what the list holds, where `-l` asks for it, and asks it about the keys of the
-/// files.
+// `-Q`: prints what the list holds, where `-l` asks for it, and asks it about the keys of the
+// files.
 fn ask_list(rt: &HostRuntime, job: &Job) -> u8 {
     let krl = match open_list(rt, job.file) {
         Ok(krl) => krl,
@@ -108,7 +111,7 @@ fn ask_list(rt: &HostRuntime, job: &Job) -> u8 {
     end(rt, &done)
 }
 
-/// `-k`: makes a list, of the old one where `-u` is given.
+// `-k`: makes a list, of the old one where `-u` is given.
 fn make_list(rt: &HostRuntime, job: &Job) -> u8 {
     if !job.update {
         return write_over(rt, job, None::<FromBuffer<File>>);
@@ -119,7 +122,7 @@ fn make_list(rt: &HostRuntime, job: &Job) -> u8 {
     }
 }
 
-/// Makes the list over an old one, and writes it once all of it is made.
+// Makes the list over an old one, and writes it once all of it is made.
 fn write_over<R: Source + Drop>(rt: &HostRuntime, job: &Job, list: Option<R>) -> u8
     requires { ForSome list (λ reader. R.has_failed reader ≡ false) }
 {
@@ -146,7 +149,7 @@ fn write_over<R: Source + Drop>(rt: &HostRuntime, job: &Job, list: Option<R>) ->
     }
 }
 
-/// The seconds since 1970. A clock that cannot be read, or shows an earlier time, counts as 0.
+// The seconds since 1970. A clock that cannot be read, or shows an earlier time, counts as 0.
 fn moment(rt: &HostRuntime) -> u64 {
     match SystemTime::now(rt) {
         Ok(now) => match now.duration_since(UNIX_EPOCH) {
@@ -157,7 +160,7 @@ fn moment(rt: &HostRuntime) -> u64 {
     }
 }
 
-/// Writes the list of this name.
+// Writes the list of this name.
 fn write(rt: &HostRuntime, name: &str, text: &[u8]) -> u8 {
     match write_list(rt, name, text) {
         Ok(()) => 0,
@@ -165,7 +168,7 @@ fn write(rt: &HostRuntime, name: &str, text: &[u8]) -> u8 {
     }
 }
 
-/// A run that ended with a fault and said nothing.
+// A run that ended with a fault and said nothing.
 fn stopped(fault: RunFault<'_>) -> Done<'_>
     ensures status { result.status ≡ 255 }
     ensures fault { result.fault ≡ Some fault.entry }
@@ -176,7 +179,7 @@ fn stopped(fault: RunFault<'_>) -> Done<'_>
     }
 }
 
-/// A run that a file stopped before it began.
+// A run that a file stopped before it began.
 fn failed(name: &str, cause: Cause) -> Done<'_>
     ensures status { result.status ≡ 255 }
     ensures fault { result.fault ≡ Some (record { name = name.now; line = None; cause = cause }) }
@@ -184,7 +187,7 @@ fn failed(name: &str, cause: Cause) -> Done<'_>
     stopped(RunFault::whole(name, cause))
 }
 
-/// Reports why the run stopped, if it did, and gives its status.
+// Reports why the run stopped, if it did, and gives its status.
 fn end(rt: &HostRuntime, done: &Done) -> u8
     ensures { result ≡ done.now.status }
 {
@@ -196,7 +199,7 @@ fn end(rt: &HostRuntime, done: &Done) -> u8
     done.status
 }
 
-/// Prints a line on standard error. A fault of standard error cannot be reported.
+// Prints a line on standard error. A fault of standard error cannot be reported.
 fn report(rt: &HostRuntime, line: &[u8]) {
     let mut err = ToWrite::new(rt.stderr());
     if send(&mut err, line).is_ok() {
@@ -204,7 +207,7 @@ fn report(rt: &HostRuntime, line: &[u8]) {
     }
 }
 
-/// Prints help, or why the words are refused, and gives the status.
+// Prints help, or why the words are refused, and gives the status.
 fn refuse(rt: &HostRuntime, fault: &CommandFault) -> u8
     ensures { result ≡ command_fault_status fault.now }
 {

@@ -1,5 +1,5 @@
-// A list is replaced whole or not at all: its bytes go to a new file beside it, which then takes
-// its name.
+//! A list is replaced whole or not at all: its bytes go to a new file beside it, which then takes
+//! its name.
 
 ghost use Rattle.std.specs.Prelude.{◌≡◌, ◌↔◌, ◌⊎◌, ◌<◌, ◌≤◌, IsTrue, IfErr, length};
 
@@ -13,13 +13,13 @@ mod names;
 
 use names::{beside, followed, new_name};
 
-/// How many names are tried for the new file.
+// How many names are tried for the new file.
 const TRIES: usize = 16;
-/// The mode of a list that was not there, of which the user's mask takes bits away.
+// The mode of a list that was not there, of which the user's mask takes bits away.
 const USUAL: u32 = 0o666;
-/// The mode of the new file until it gets that of the old list.
+// The mode of the new file until it gets that of the old list.
 const CLOSED: u32 = 0o600;
-/// The bits of a mode that are permissions.
+// The bits of a mode that are permissions.
 const PERMISSIONS: u32 = 0o7777;
 
 /// Writes the list of this name. On a fault an old list stands as it was, unless its folder takes
@@ -42,7 +42,7 @@ pub fn write_list(rt: &HostRuntime, name: &str, text: &[u8]) -> Result<(), Cause
     }
 }
 
-/// Writes a regular file, or one that is not there.
+// Writes a regular file, or one that is not there.
 fn replace(rt: &HostRuntime, name: &str, old: Option<&Metadata>, text: &[u8]) -> Result<(), Cause> {
     let path = match followed(rt, name) {
         Ok(path) => path,
@@ -58,8 +58,8 @@ fn replace(rt: &HostRuntime, name: &str, old: Option<&Metadata>, text: &[u8]) ->
     }
 }
 
-/// Whether the old list stands at this path, or nothing where there is none. A list may have been
-/// opened by a name that leads to it in another way, as one of `/proc` does.
+// Whether the old list stands at this path, or nothing where there is none. A list may have been
+// opened by a name that leads to it in another way, as one of `/proc` does.
 fn is_at(rt: &HostRuntime, path: &str, old: Option<&Metadata>) -> bool {
     match (fs::symlink_metadata(rt, path), old) {
         (Ok(found), Some(old)) => found.dev() == old.dev() && found.ino() == old.ino(),
@@ -68,7 +68,7 @@ fn is_at(rt: &HostRuntime, path: &str, old: Option<&Metadata>) -> bool {
     }
 }
 
-/// Whether this says that a folder takes no new file, or none with so long a name.
+// Whether this says that a folder takes no new file, or none with so long a name.
 fn takes_no_file(reason: ErrorKind) -> bool
     ensures { IsTrue result ↔ ((reason ≡ ErrorKind.PermissionDenied)
         ⊎ ((reason ≡ ErrorKind.ReadOnlyFilesystem) ⊎ (reason ≡ ErrorKind.InvalidFilename))) }
@@ -79,7 +79,7 @@ fn takes_no_file(reason: ErrorKind) -> bool
     )
 }
 
-/// A file that was not there before, in the folder of the path, and its own path.
+// A file that was not there before, in the folder of the path, and its own path.
 fn create_beside(
     rt: &HostRuntime,
     path: &str,
@@ -100,7 +100,7 @@ fn create_beside(
     Err(io::Error::from(ErrorKind::AlreadyExists))
 }
 
-/// Writes the new file and gives it the name of the list, or takes it away.
+// Writes the new file and gives it the name of the list, or takes it away.
 fn take_its_place(
     rt: &HostRuntime,
     path: &str,
@@ -126,8 +126,8 @@ fn take_its_place(
     }
 }
 
-/// All of a new file until it takes the name of the list. A fault is the count of bytes that went
-/// out.
+// All of a new file until it takes the name of the list. A fault is the count of bytes that went
+// out.
 fn finish(file: File, old: Option<&Metadata>, text: &[u8]) -> Result<(), u64>
     ensures bound { IfErr result (λ count. count ≤ length text.now) }
 {
@@ -139,15 +139,15 @@ fn finish(file: File, old: Option<&Metadata>, text: &[u8]) -> Result<(), u64>
     send_and_sync(&file, text)
 }
 
-/// Gives the file the mode of the old list, and its owner and group where the user may do that.
+// Gives the file the mode of the old list, and its owner and group where the user may do that.
 fn keep_rights(file: &File, old: &Metadata) -> io::Result<()> {
     let _ = fchown(file, None, Some(old.gid()));
     let _ = fchown(file, Some(old.uid()), None);
     file.set_permissions(Permissions::from_mode(old.mode() & PERMISSIONS))
 }
 
-/// The new name outlasts a machine that stops, where the folder can be synced. The list has its
-/// name by now, so a folder that cannot be synced is no fault of it.
+// The new name outlasts a machine that stops, where the folder can be synced. The list has its
+// name by now, so a folder that cannot be synced is no fault of it.
 fn sync_folder(rt: &HostRuntime, path: &str) {
     if let Ok(folder) = beside(rt.alloc(), path, ".")
         && let Ok(folder) = fs::open(rt, folder.as_str())
@@ -156,7 +156,7 @@ fn sync_folder(rt: &HostRuntime, path: &str) {
     }
 }
 
-/// Writes the file itself, which has nothing of what it held from its opening on.
+// Writes the file itself, which has nothing of what it held from its opening on.
 fn write_in_place(rt: &HostRuntime, name: &str, text: &[u8]) -> Result<(), Cause> {
     match fs::create(rt, name) {
         Ok(file) => send_and_sync(&file, text).map_err(output_fault),
@@ -164,7 +164,7 @@ fn write_in_place(rt: &HostRuntime, name: &str, text: &[u8]) -> Result<(), Cause
     }
 }
 
-/// Writes the bytes, and has them synced: what happens when the file is closed then loses none.
+// Writes the bytes, and has them synced: what happens when the file is closed then loses none.
 fn send_and_sync(file: &File, text: &[u8]) -> Result<(), u64>
     ensures bound { IfErr result (λ count. count ≤ length text.now) }
 {
@@ -175,7 +175,7 @@ fn send_and_sync(file: &File, text: &[u8]) -> Result<(), u64>
     }
 }
 
-/// Writes the bytes. A fault is the count of those that went out.
+// Writes the bytes. A fault is the count of those that went out.
 fn send_all(file: &File, text: &[u8]) -> Result<(), u64>
     ensures short { IfErr result (λ count. count < length text.now) }
 {
@@ -185,11 +185,12 @@ fn send_all(file: &File, text: &[u8]) -> Result<(), u64>
     }
 }
 
+// A write that failed after `count` bytes.
 fn output_fault(count: u64) -> Cause {
     Cause::Output { count }
 }
 
-/// Why a list could not be begun. No byte of it went out.
+// Why a list could not be begun. No byte of it went out.
 fn early_fault(old: Option<&Metadata>, error: &io::Error) -> Cause {
     if error.kind() == ErrorKind::OutOfMemory {
         Cause::NoMemory

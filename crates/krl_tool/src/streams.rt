@@ -1,4 +1,4 @@
-// The places of standard streams that are closed.
+//! The places of standard streams that are closed.
 
 use std::fs::{self, File};
 use std::io;
@@ -7,7 +7,7 @@ use std::os::fd::AsFd;
 /// What takes the place of a closed standard stream. It gives no byte and takes none, as a closed
 /// stream.
 pub const NOTHING: &str = "/";
-/// Linux's number of the error that a descriptor is not open, EBADF.
+// Linux's number of the error that a descriptor is not open, EBADF.
 const NOT_OPEN: i32 = 9;
 
 /// The files that take the places of closed streams, as long as this is held.
@@ -32,7 +32,7 @@ pub fn hold_places(rt: &HostRuntime) -> io::Result<Places> {
     })
 }
 
-/// The file that takes the stream's place, if that is closed.
+// The file that takes the stream's place, if that is closed.
 fn hold_place<S: AsFd>(rt: &HostRuntime, stream: &S) -> io::Result<Option<File>> {
     match stream.as_fd().try_clone_to_owned() {
         Err(error) if error.raw_os_error() == Some(NOT_OPEN) => Ok(Some(fs::open(rt, NOTHING)?)),

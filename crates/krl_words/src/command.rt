@@ -1,4 +1,4 @@
-// The words of the command line (ssh-keygen(1), SYNOPSIS).
+//! The words of the command line (ssh-keygen(1), SYNOPSIS).
 
 ghost use Rattle.std.specs.Prelude.{◌≡◌, map};
 ghost use Rattle.clap.specs.Matches.{found_of};
@@ -25,12 +25,13 @@ pub enum CommandFault {
     /// The words are no options of the program, or ask for its help: the text to print.
     #[error("usage 2 Words")]
     Words { help: bool, text: String },
+    /// There was no memory.
     #[error("usage 3 NoMemory")]
     NoMemory,
 }
 
 impl CommandFault {
-    /// The fault's number.
+    /// The fault's number, 1 to 3 in the order of the variants.
     pub fn number(&self) -> u8
         ensures { result ≡ command_fault_number self.now }
     {
@@ -50,7 +51,9 @@ impl From<AllocError> for CommandFault {
     }
 }
 
-/// The job that the words ask for, the program's name before them.
+/// The job that the words ask for, the program's name before them (ssh-keygen(1), SYNOPSIS).
+/// `Words` where they are no options of the program or ask for help, `Usage` where the options do
+/// not go together or a value is none of theirs, `NoMemory` where memory runs out.
 pub fn command_of<'a, S: AsStr>(alloc: Global, words: &'a [S]) -> Result<Job<'a>, CommandFault>
     ensures { IsCommand (map S.text words.entry.now) result }
 {
@@ -61,7 +64,7 @@ pub fn command_of<'a, S: AsStr>(alloc: Global, words: &'a [S]) -> Result<Job<'a>
     }
 }
 
-/// Why the words are not read, or the help that they ask for.
+// Why the words are not read, or the help that they ask for.
 fn words_fault(alloc: Global, error: &Error) -> CommandFault
     ensures { ReportsError error.now result }
 {
@@ -77,7 +80,7 @@ fn words_fault(alloc: Global, error: &Error) -> CommandFault
     }
 }
 
-/// The job of words that are read.
+// The job of words that are read.
 fn job_in<'a>(alloc: Global, matches: &ArgMatches<'a>) -> Result<Job<'a>, CommandFault>
     ensures { AsksFor (given_of (rows_of (found_of matches.now))) result }
 {

@@ -1,4 +1,4 @@
-// What words hold of the options.
+//! What words hold of the options.
 
 ghost use Rattle.std.specs.Prelude.{◌≡◌, IfOk, codes, map, unwrap_or, []};
 ghost use Rattle.clap.specs.Matches.{found_of};
@@ -30,6 +30,7 @@ pub fn given_in<'a>(alloc: Global, matches: &ArgMatches<'a>) -> Result<Given<'a>
     })
 }
 
+// Whether an option without a value is given.
 fn is_set(matches: &ArgMatches, id: &str) -> bool
     ensures { result ≡ is_set id.now (rows_of (found_of matches.now)) }
 {
@@ -39,6 +40,7 @@ fn is_set(matches: &ArgMatches, id: &str) -> bool
     }
 }
 
+// The names of the files, in their order.
 fn files_in<'a>(alloc: Global, matches: &ArgMatches<'a>) -> Result<Vec<&'a str>, AllocError>
     ensures { IfOk result (λ files. map (λ name. name.now) files.items
         ≡ unwrap_or (all_of (codes "files") (rows_of (found_of matches.now))) []) }

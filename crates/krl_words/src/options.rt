@@ -1,4 +1,4 @@
-// The options that the program has (ssh-keygen(1), SYNOPSIS).
+//! The options that the program has (ssh-keygen(1), SYNOPSIS).
 
 ghost use Rattle.std.specs.Prelude.{◌≡◌, IfOk, false};
 ghost use Rattle.clap.specs.Simple.{app_of};
@@ -33,7 +33,7 @@ pub fn program<'a>(alloc: Global) -> Result<Command<'a>, AllocError>
     add_terms(alloc, with_names)
 }
 
-/// Adds what the program can be asked to do.
+// Adds what the program can be asked to do.
 fn add_modes<'a>(alloc: Global, command: Command<'a>) -> Result<Command<'a>, AllocError>
     ensures { IfOk result (λ made. app_of made ≡ with_rules (app_of command.entry) modes) }
 {
@@ -49,7 +49,7 @@ fn add_modes<'a>(alloc: Global, command: Command<'a>) -> Result<Command<'a>, All
         .arg(flag(alloc, "query", 'Q', "Ask a key revocation list about keys"))
 }
 
-/// Adds the file and the hash.
+// Adds the file and the hash.
 fn add_names<'a>(alloc: Global, command: Command<'a>) -> Result<Command<'a>, AllocError>
     ensures { IfOk result (λ made. app_of made ≡ with_rules (app_of command.entry) names) }
 {
@@ -70,7 +70,7 @@ fn add_names<'a>(alloc: Global, command: Command<'a>) -> Result<Command<'a>, All
         ))
 }
 
-/// Adds what lists are made by, and the files.
+// Adds what lists are made by, and the files.
 fn add_terms<'a>(alloc: Global, command: Command<'a>) -> Result<Command<'a>, AllocError>
     ensures { IfOk result (λ made. app_of made ≡ with_rules (app_of command.entry) terms) }
 {
@@ -87,7 +87,7 @@ fn add_terms<'a>(alloc: Global, command: Command<'a>) -> Result<Command<'a>, All
         .arg(files(alloc))
 }
 
-/// An option without a value.
+// An option without a value.
 fn flag<'a>(alloc: Global, id: &'a str, letter: char, help: &'a str) -> Arg<'a>
     ensures rule { rule_of result ≡ flag_rule id.entry.now letter }
     ensures local { result.global ≡ false }
@@ -98,7 +98,7 @@ fn flag<'a>(alloc: Global, id: &'a str, letter: char, help: &'a str) -> Arg<'a>
         .action(ArgAction::SetTrue)
 }
 
-/// An option with one value.
+// An option with one value.
 fn value<'a>(alloc: Global, id: &'a str, letter: char, name: &'a str, help: &'a str) -> Arg<'a>
     ensures rule { rule_of result ≡ value_rule id.entry.now letter }
     ensures local { result.global ≡ false }
@@ -110,7 +110,7 @@ fn value<'a>(alloc: Global, id: &'a str, letter: char, name: &'a str, help: &'a 
         .action(ArgAction::Set)
 }
 
-/// The files that follow the options.
+// The files that follow the options.
 fn files<'a>(alloc: Global) -> Arg<'a>
     ensures rule { rule_of result ≡ files_rule }
     ensures local { result.global ≡ false }

@@ -1,4 +1,4 @@
-// Which words give which command.
+//! Which words give which command.
 
 mod page;
 mod repeated;

@@ -1,4 +1,4 @@
-// Private containers from their parts.
+//! Private containers from their parts.
 
 use crate::spelled::{joined, strings};
 use std::alloc::{AllocError, Global};

@@ -1,4 +1,4 @@
-// Parts of lists (PROTOCOL.krl).
+//! Parts of lists (PROTOCOL.krl).
 
 /// The header of an empty list: version 1, date 0, no flags, no reserved string, no comment.
 pub const HEADER: [u8; 44] = [

@@ -1,4 +1,4 @@
-// Texts as they print.
+//! Texts as they print.
 
 use std::alloc::{AllocError, Global};
 use std::fmt::Display;

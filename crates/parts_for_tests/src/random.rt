@@ -1,4 +1,4 @@
-// Numbers that look random, the same in each run.
+//! Numbers that look random, the same in each run.
 
 ghost use Rattle.std.specs.Prelude.{◌<◌, ◌≤◌};
 
@@ -9,6 +9,7 @@ pub struct Random {
 }
 
 impl Random {
+    /// The numbers that begin with a seed.
     pub fn new(seed: u64) -> Random {
         Random { state: seed }
     }

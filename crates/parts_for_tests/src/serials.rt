@@ -1,4 +1,4 @@
-// Runs of serials that the tests of several crates write and plan.
+//! Runs of serials that the tests of several crates write and plan.
 
 /// The ends of runs of one serial each: eight that a bitmap takes, and one far below them.
 pub const EIGHT_AND_ONE: &[(u64, u64)] = &[

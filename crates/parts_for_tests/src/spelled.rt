@@ -1,4 +1,4 @@
-// Bytes as the formats spell them.
+//! Bytes as the formats spell them.
 
 use std::alloc::{AllocError, Global};
 

@@ -24,7 +24,7 @@ struct WindowBits {
 }
 
 impl SpanWords {
-    /// Adds the numbers from `lo` to `hi`.
+    // Adds the numbers from `lo` to `hi`.
     pub(crate) fn add_numbers(&mut self, lo: u64, hi: u64) -> Result<(), AllocError>
         requires from_one { 0 < lo }
         requires ordered { lo ≤ hi }
@@ -38,7 +38,7 @@ impl SpanWords {
         self.add_run(lo, hi)
     }
 
-    /// Adds the numbers of spans that lie near each other.
+    // Adds the numbers of spans that lie near each other.
     pub(crate) fn add_spans(&mut self, near: &[Span]) -> Result<(), AllocError>
         requires intervals { All IsInterval near.now }
         requires near { AreNear near.now }

@@ -1,3 +1,4 @@
+//! Why a bitmap is refused.
 ghost use Rattle.std.specs.Prelude.{◌≡◌};
 ghost use Rattle.serial_set.specs.BitFault.{fault_number};
 
@@ -11,7 +12,7 @@ pub enum BitFault {
 }
 
 impl BitFault {
-    /// The fault's number.
+    /// The fault's number, 1 or 2 in the order of the variants.
     pub fn number(self) -> u8
         ensures { result ≡ fault_number self }
     {

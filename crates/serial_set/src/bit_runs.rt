@@ -1,3 +1,4 @@
+//! The runs of a bitmap that is fed a byte at a time (PROTOCOL.krl).
 ghost use Rattle.std.specs.Prelude.{◌≡◌, ◌+◌, ◌*◌, ◌^◌, ◌≤◌, ◌<◌, ℕ, ◌↔◌, Some, None, MatchOption, SomeIff, IsTrue, IfOk, IfErr, IfSome, All};
 ghost use Rattle.serial_set.specs.Finished.{finished_of};
 ghost use Rattle.serial_set.specs.BitRuns.{FedBitmap, start, BitNames, HasFault, Feeds, IsInterval, IsInStep};
@@ -35,7 +36,7 @@ impl Model for BitRuns {
 }
 
 impl BitRuns {
-    /// A bitmap of `len` bytes, whose lowest bit stands for `offset`.
+    /// A bitmap of `len` bytes, whose lowest bit stands for the serial `offset`.
     pub fn new(offset: u64, len: u32) -> BitRuns
         ensures { result ≡ start offset len }
     {

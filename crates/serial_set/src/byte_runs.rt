@@ -8,7 +8,7 @@ ghost use Rattle.serial_set.specs.BitRuns.{BitNames, IsInStep};
 use crate::finished::Finished;
 use crate::span::Span;
 
-// The run that may still grow, and those that cannot.
+/// The run that may still grow, and those that cannot.
 #[derive(Drop)]
 pub struct ByteRuns {
     pub pending: Option<Span>,
@@ -62,7 +62,8 @@ fn serial_at(offset: u64, place: u64, byte: u8, bit: u8) -> Option<u64>
     if serial == 0 { None } else { Some(serial) }
 }
 
-// Goes on with the run that is pending after the byte before.
+/// Goes on with the run that is pending after the byte before, by a byte whose lowest bit stands
+/// for `offset + place`.
 pub fn runs_of_byte(pending: Option<Span>, offset: u64, place: u64, byte: u8) -> ByteRuns
     requires place { place < 2 ^ 63 }
     requires in_step { IsInStep (offset + place + 8) pending }

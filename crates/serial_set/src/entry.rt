@@ -174,6 +174,7 @@ impl Entry {
     }
 }
 
+// Whether a bit is set.
 fn has_bit(bits: u64, place: u64) -> bool
     requires { place < 64 }
     ensures { IsTrue result ↔ (bit_at bits place ≡ 1) }
@@ -181,7 +182,7 @@ fn has_bit(bits: u64, place: u64) -> bool
     bits >> place & 1 == 1
 }
 
-// The bits from one place to another.
+/// The bits from place `lo` to place `hi`, both among them and below 64.
 pub fn mask(lo: u64, hi: u64) -> u64
     requires ordered { lo ≤ hi }
     requires within { hi < 64 }

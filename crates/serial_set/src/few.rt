@@ -15,6 +15,7 @@ pub struct Few {
 impl Few {
     ghost use Rattle.serial_set.specs.Few.{few_of};
 
+    /// No entries.
     pub fn none() -> Few
         ensures entries { few_of result ≡ [] }
         ensures count { result.count ≡ 0 }
@@ -25,6 +26,7 @@ impl Few {
         }
     }
 
+    /// Puts an entry after the others.
     pub fn push(&mut self, entry: Entry)
         requires { self.old.count < 3 }
         ensures entries { few_of self.new ≡ few_of self.old ++ entry ∷ [] }
@@ -34,6 +36,7 @@ impl Few {
         self.count += 1;
     }
 
+    /// The entries.
     pub fn as_slice(&self) -> &[Entry]
         ensures { result.now ≡ few_of self.now }
     {

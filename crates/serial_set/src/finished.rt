@@ -1,3 +1,4 @@
+//! The runs that a byte of a bitmap finishes.
 ghost use Rattle.std.specs.Prelude.{◌≡◌, ◌≤◌, ◌<◌, ◌+◌, ◌++◌, [], ◌∷◌};
 
 use crate::span::Span;
@@ -5,7 +6,9 @@ use crate::span::Span;
 /// The runs that a byte of a bitmap finished: the first `count` of `spans`, highest first.
 #[derive(Clone, Copy, Debug)]
 pub struct Finished {
+    /// Of these only the first `count` count.
     pub spans: [Span; 4],
+    /// How many runs are finished, at most four.
     pub count: u8,
     pub ghost within: { count ≤ 4 },
 }
@@ -13,6 +16,7 @@ pub struct Finished {
 impl Finished {
     ghost use Rattle.serial_set.specs.Finished.{finished_of};
 
+    // No runs.
     pub(crate) fn none() -> Finished
         ensures spans { finished_of result ≡ [] }
         ensures count { result.count ≡ 0 }
@@ -23,6 +27,7 @@ impl Finished {
         }
     }
 
+    // Puts a run after the others.
     pub(crate) fn push(&mut self, span: Span)
         requires { self.old.count < 4 }
         ensures spans { finished_of self.new ≡ finished_of self.old ++ span ∷ [] }

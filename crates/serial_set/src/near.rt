@@ -27,6 +27,7 @@ pub fn count_near(spans: &[Span]) -> usize
     count.max(1)
 }
 
+// Whether a span lies in a window.
 fn lies_in(span: Span, window: u64) -> bool
     ensures { IsTrue result ↔ LiesIn window span }
 {

@@ -91,6 +91,8 @@ fn front_of(head: Option<Entry>, lo: u64, hi: u64) -> Side
     }
 }
 
+// The front of a run from `lo` on, where an entry reaches over `lo`: the word that the two share,
+// if there is one, and where the run goes on.
 fn front_at(entry: Entry, lo: u64, hi: u64) -> Side
     requires { (lo_of entry ≤ lo) × (lo ≤ hi_of entry) × (hi_of entry < hi) }
     ensures word { IfSome result.word
@@ -134,6 +136,8 @@ fn back_of(tail: Option<Entry>, lo: u64, hi: u64) -> Side
     }
 }
 
+// The back of a run up to `hi`, where an entry reaches over `hi`: the word that the two share, if
+// there is one, and where the run ends.
 fn back_at(entry: Entry, lo: u64, hi: u64) -> Side
     requires { (lo < lo_of entry) × (lo_of entry ≤ hi) × (hi ≤ hi_of entry) }
     ensures word { IfSome result.word
@@ -158,6 +162,7 @@ fn back_at(entry: Entry, lo: u64, hi: u64) -> Side
     }
 }
 
+// The run from `lo` to `hi`, if it has a number.
 fn run_between(lo: u64, hi: u64) -> Option<Entry>
     ensures some { lo ≤ hi → 0 < length (option_to_list result) }
     ensures ends { IfSome result (λ e. (lo_of e ≡ lo) × (hi_of e ≡ hi)) }

@@ -73,6 +73,7 @@ fn reaches(pages: &[Page], number: u64, at: usize) -> bool
     at >= pages.len() || number <= pages[at].end()
 }
 
+// How many pages end below a number, by binary search.
 fn search_pages(pages: &[Page], number: u64) -> usize
     requires { EntriesFrom 0 (entries_of pages.now) }
     ensures within { result ≤ length pages.now }

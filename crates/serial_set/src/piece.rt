@@ -1,3 +1,4 @@
+//! Some runs of a set that follow each other.
 ghost use Rattle.std.specs.Prelude.{◌≡◌, ◌≤◌, ◌<◌, ◌+◌, ◌++◌, ◌↔◌, ℕ, [], ◌∷◌, length, take, All, MatchOption, IsTrue, false};
 
 use crate::span::Span;
@@ -15,6 +16,7 @@ impl Piece {
     ghost use Rattle.serial_set.specs.Span.{AddsSpan, Covers, IsRuns};
     ghost use Rattle.serial_set.specs.Walk.{clipped, next_of, piece_of, since};
 
+    // No runs.
     pub(crate) fn none() -> Piece
         ensures runs { piece_of result ≡ [] }
         ensures count { result.count ≡ 0 }
@@ -25,6 +27,7 @@ impl Piece {
         }
     }
 
+    // Puts a run after the others.
     pub(crate) fn push(&mut self, span: Span)
         requires { self.old.count < 32 }
         ensures runs { piece_of self.new ≡ piece_of self.old ++ span ∷ [] }
@@ -34,13 +37,14 @@ impl Piece {
         self.count += 1;
     }
 
-    /// Whether there is no room for one more.
+    // Whether there is no room for one more.
     pub(crate) fn is_full(&self) -> bool
         ensures { IsTrue result ↔ (32 ≤ self.now.count) }
     {
         self.count >= 32
     }
 
+    // Whether there is no run.
     pub(crate) fn is_empty(&self) -> bool
         ensures none { IsTrue result → self.now.count ≡ 0 }
         ensures some { result ≡ false → 0 < length (piece_of self.now) }
@@ -48,7 +52,7 @@ impl Piece {
         self.count == 0
     }
 
-    /// Takes the last run away.
+    // Takes the last run away.
     pub(crate) fn pop(&mut self) -> Option<Span>
         ensures runs { MatchOption result
             ((piece_of self.old ≡ []) × (piece_of self.new ≡ []))
@@ -64,7 +68,7 @@ impl Piece {
         Some(self.spans[usize::from(self.count)])
     }
 
-    /// Puts a span after the runs. Where it touches the last of them, that one gets longer.
+    // Puts a span after the runs. Where it touches the last of them, that one gets longer.
     pub(crate) fn join(&mut self, lo: u64, hi: u64)
         requires room { self.old.count < 32 }
         requires ordered { lo ≤ hi }

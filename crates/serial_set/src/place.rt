@@ -5,7 +5,7 @@ ghost use Rattle.serial_set.specs.Span.{IsRuns};
 
 use crate::span::Span;
 
-// How many spans end before a number.
+/// How many spans end before a number.
 pub fn count_ending_before(spans: &[Span], number: u64) -> usize
     requires { IsRuns spans.now }
     ensures within { result ≤ length spans.now }
@@ -19,7 +19,7 @@ pub fn count_ending_before(spans: &[Span], number: u64) -> usize
     )
 }
 
-// How many spans begin at the number after `number`, or lower.
+/// How many spans begin at the number after `number`, or lower.
 pub fn count_beginning_by(spans: &[Span], number: u64) -> usize
     requires { IsRuns spans.now }
     ensures within { result ≤ length spans.now }
@@ -34,8 +34,8 @@ pub fn count_beginning_by(spans: &[Span], number: u64) -> usize
     )
 }
 
-// Where a full row of `len` is cut for what would be at `at`: there, if that is near an end, and
-// else in the middle. Neither side is empty.
+/// Where a full row of `len` is cut for what would be at `at`: there, if that is near an end, and
+/// else in the middle. Neither side is empty.
 pub fn cut_place(at: usize, len: usize) -> usize
     requires { 1 < len }
     ensures front { 0 < result }

@@ -12,8 +12,8 @@ use crate::span::Span;
 use crate::span_words::SpanWords;
 
 impl SpanWords {
-    /// The first runs of the members from a number on, as many as a piece has room for, or as lie
-    /// together.
+    // The first runs of the members from a number on, as many as a piece has room for, or as lie
+    // together.
     pub(crate) fn runs_from(&self, number: u64) -> Piece
         ensures { IsPiece (runs_of (entries_held self.now)) number (piece_of result) }
     {
@@ -160,7 +160,7 @@ impl SpanWords {
         self.has_near(number + 1, near)
     }
 
-    /// How many runs the members are.
+    // How many runs the members are.
     pub(crate) fn count_runs(&self) -> usize
         ensures { result ≡ length (runs_of (entries_held self.now)) }
     {
@@ -174,7 +174,7 @@ impl SpanWords {
         count
     }
 
-    /// The run at a place of the list of all runs.
+    // The run at a place of the list of all runs.
     pub(crate) fn run_at(&self, at: usize) -> Span
         requires { at < length (runs_of (entries_held self.now)) }
         ensures { slice_get (runs_of (entries_held self.now)) at ≡ Some result }

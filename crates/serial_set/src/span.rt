@@ -1,6 +1,10 @@
+//! An interval of serials.
+
 /// The serials from `lo` to `hi`, both among them.
 #[derive(Clone, Copy, Debug, PartialEq, Eq)]
 pub struct Span {
+    /// The first serial.
     pub lo: u64,
+    /// The last serial.
     pub hi: u64,
 }

@@ -1,3 +1,4 @@
+//! A set of serials as one sorted vector of intervals.
 ghost use Rattle.std.specs.Prelude.{◌≡◌, ◌+◌, ◌<◌, ◌≤◌, ◌⊎◌, ◌∷◌, ◌++◌, length, take, drop, All, OnOk, OnErr};
 ghost use Rattle.std.specs.Vec.{vec_len, vec_capacity};
 ghost use Rattle.serial_set.specs.BitRuns.{IsInterval};
@@ -68,6 +69,7 @@ impl Spans for SpanVec {
     }
 }
 
+// Adds spans one after the other, within the capacity.
 fn add_all(items: &mut Vec<Span>, spans: &[Span])
     requires runs { IsRuns items.old.items }
     requires serials { AreSerials items.old.items }
@@ -106,7 +108,7 @@ fn add_to(items: &mut Vec<Span>, lo: u64, hi: u64) -> Result<(), AllocError>
     Ok(())
 }
 
-// Puts one span in place of those from `first` up to `end`, and moves those after them once.
+/// Puts one span in place of those from `first` up to `end`, and moves those after them once.
 pub fn join(items: &mut Vec<Span>, first: usize, end: usize, span: Span)
     requires some { first < end }
     requires within { end ≤ vec_len items.old }

@@ -1,3 +1,4 @@
+//! A set of serials as pages of runs and words of bits.
 ghost use Rattle.std.specs.Prelude.{◌≡◌, ◌*◌, ◌^◌, ◌<◌, ◌≤◌, ◌⊎◌, ◌↔◌, ℕ, [], length, false, All, IsTrue, IfOk, OnOk, OnErr};
 ghost use Rattle.serial_set.specs.Additions.{Stands};
 ghost use Rattle.serial_set.specs.Entry.{lo_of, hi_of, EntriesFrom, members_of, pieces, runs_of};
@@ -33,7 +34,7 @@ const _: () = prove!(size_of::<SpanWords>() <= 40);
 impl SpanWords {
     ghost use Rattle.serial_set.specs.SpanWords.{entries_held};
 
-    /// A set with no member, which takes no memory.
+    // A set with no member, which takes no memory.
     pub(crate) fn none(alloc: Global) -> SpanWords
         ensures { entries_held result ≡ [] }
     {
@@ -43,34 +44,34 @@ impl SpanWords {
         }
     }
 
-    /// The entries from the first that ends at a number or past it on, as many as lie together. The
-    /// page `near` is looked at first.
+    // The entries from the first that ends at a number or past it on, as many as lie together. The
+    // page `near` is looked at first.
     pub(crate) fn list_near(&self, number: u64, near: usize) -> &[Entry]
         ensures { IsListFrom (entries_held self.now) number result.now }
     {
         self.kept.list_near(number, near)
     }
 
-    /// The page where a number may well stand.
+    // The page where a number may well stand.
     pub(crate) fn page_near(&self, number: u64) -> usize {
         self.kept.page_near(number)
     }
 
-    /// The first entry that ends at a number or past it.
+    // The first entry that ends at a number or past it.
     pub(crate) fn entry_from(&self, number: u64) -> Option<Entry>
         ensures { IsEntryFrom (entries_held self.now) number result }
     {
         self.entry_near(number, self.kept.page_last())
     }
 
-    /// The entry that was put or looked for last, if one stands there.
+    // The entry that was put or looked for last, if one stands there.
     pub(crate) fn entry_last(&self) -> Option<Entry>
         ensures { Stands (entries_held self.now) result }
     {
         self.kept.entry_last()
     }
 
-    /// The same as `entry_from`, where the page `near` is looked at first.
+    // The same as `entry_from`, where the page `near` is looked at first.
     pub(crate) fn entry_near(&self, number: u64, near: usize) -> Option<Entry>
         ensures { IsEntryFrom (entries_held self.now) number result }
     {
@@ -78,14 +79,14 @@ impl SpanWords {
         if list.len() > 0 { Some(list[0]) } else { None }
     }
 
-    /// Whether a number is a member.
+    // Whether a number is a member.
     pub(crate) fn has_number(&self, number: u64) -> bool
         ensures { IsTrue result ↔ Covers (members_of (entries_held self.now)) number }
     {
         self.has_near(number, self.kept.page_last())
     }
 
-    /// The same, where the page `near` is looked at first.
+    // The same, where the page `near` is looked at first.
     pub(crate) fn has_near(&self, number: u64, near: usize) -> bool
         ensures { IsTrue result ↔ Covers (members_of (entries_held self.now)) number }
     {
@@ -95,8 +96,8 @@ impl SpanWords {
         }
     }
 
-    /// Puts an entry between others, where none of them reaches into its stretch and their page has
-    /// room. Else nothing changes.
+    // Puts an entry between others, where none of them reaches into its stretch and their page has
+    // room. Else nothing changes.
     pub(crate) fn put_new(&mut self, new: Entry) -> Result<bool, AllocError>
         requires { AreSerials (pieces new) }
         ensures put { IfOk result
@@ -106,8 +107,8 @@ impl SpanWords {
         self.kept.put_new(new)
     }
 
-    /// Puts at most three entries in place of all that reach into the numbers from `lo` to `hi`.
-    /// Where memory runs out nothing changes.
+    // Puts at most three entries in place of all that reach into the numbers from `lo` to `hi`.
+    // Where memory runs out nothing changes.
     pub(crate) fn put(&mut self, few: &Few, lo: u64, hi: u64) -> Result<(), AllocError>
         requires some { 0 < length (few_of few.now) }
         requires order { (lo ≤ hi) × EntriesFrom lo (few_of few.now) }
@@ -121,8 +122,8 @@ impl SpanWords {
         self.kept.put(self.alloc, few.as_slice(), lo, hi)
     }
 
-    /// Sets bits of a window where an entry was put or looked for last, if that is the word of the
-    /// window. Else nothing changes.
+    // Sets bits of a window where an entry was put or looked for last, if that is the word of the
+    // window. Else nothing changes.
     pub(crate) fn set_bits(&mut self, window: u64, bits: u64) -> bool
         requires window { window < 2 ^ 58 }
         requires serials { (s : ℕ) → BitCovers 64 (64 * window) bits s → 0 < s }

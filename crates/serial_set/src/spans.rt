@@ -1,3 +1,4 @@
+//! What every set of serials promises.
 ghost use Rattle.std.specs.Prelude.{◌≡◌, ◌+◌, ◌<◌, ◌≤◌, ◌⊎◌, ◌↔◌, ℕ, List, [], length, Some, slice_get, IsTrue, All, IfOk, OnOk, OnErr};
 ghost use Rattle.serial_set.specs.BitRuns.{IsInterval};
 ghost use Rattle.serial_set.specs.Near.{AddsSpans, AreNear};
@@ -14,12 +15,12 @@ use std::alloc::{AllocError, Global};
 pub trait Spans: Drop {
     ghost spans: { Self → List Span };
 
-    /// A set with no member.
+    /// A set with no member. Fails only where memory runs out.
     fn empty(alloc: Global) -> Result<Self, AllocError>
         ensures { IfOk result (λ made. spans made ≡ []) };
 
-    /// Adds the serials from `lo` to `hi`. The list gets at most one span longer. Where memory runs
-    /// out the set stays as it was.
+    /// Adds the serials from `lo` to `hi`, where `lo` is above 0 and at most `hi`. The list gets at
+    /// most one span longer. Fails only where memory runs out, and the set stays as it was then.
     fn add(&mut self, lo: u64, hi: u64) -> Result<(), AllocError>
         requires from_one { 0 < lo }
         requires ordered { lo ≤ hi }
@@ -47,7 +48,7 @@ pub trait Spans: Drop {
     fn len(&self) -> usize
         ensures { result ≡ length (spans self.now) };
 
-    /// The span at a place of the list.
+    /// The span at a place of the list, which is below `len`.
     fn get(&self, at: usize) -> Span
         requires { at < length (spans self.now) }
         ensures { slice_get (spans self.now) at ≡ Some result };

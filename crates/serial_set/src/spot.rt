@@ -11,6 +11,8 @@ pub struct Spot {
 }
 
 impl Spot {
+    /// A page and a place in its vector. What is too great for half a word counts as the greatest
+    /// number.
     pub fn of(page: usize, place: usize) -> Spot {
         Spot {
             page: (page % (1 << 32)) as u32,
@@ -18,12 +20,14 @@ impl Spot {
         }
     }
 
+    /// The index of the page.
     pub fn page(self) -> usize
         ensures { result ≡ self.page }
     {
         self.page as usize
     }
 
+    /// The place in the vector of the page.
     pub fn place(self) -> usize
         ensures { result ≡ self.place }
     {

@@ -1,3 +1,4 @@
+//! What no contract says: worked sets and bitmaps, over each representation.
 mod adding;
 mod bitmaps;
 mod near;

@@ -1,4 +1,4 @@
-// Why a line of a specification file is refused.
+//! Why a line of a specification file is refused.
 
 ghost use Rattle.std.specs.Prelude.{◌≡◌, Some};
 ghost use Rattle.spec_fault.specs.SpecCause.{key_cause_text, spec_cause_number, spec_cause_text};

@@ -1,4 +1,4 @@
-// Where and why a specification file is refused.
+//! Where and why a specification file is refused.
 
 use crate::spec_cause::SpecCause;
 
@@ -7,5 +7,6 @@ use crate::spec_cause::SpecCause;
 pub struct SpecFault {
     /// The line's number, counted from 1.
     pub line: u64,
+    /// Why the line is refused.
     pub cause: SpecCause,
 }

@@ -1,4 +1,4 @@
-// A plain key or a certificate, by its blob.
+//! A plain key or a certificate, by its blob.
 
 ghost use Rattle.std.specs.Prelude.{◌≡◌, Err, IfErr, IfOk};
 ghost use Rattle.ssh_cert.specs.AnyKey.{IsReadAs, asked_of, plain_of};
@@ -15,7 +15,9 @@ use std::alloc::{AllocError, Global};
 /// A plain key or a certificate, lent from its blob.
 #[derive(Debug, Drop)]
 pub enum AnyKey<'a> {
+    /// A plain key.
     Plain(PublicKey<'a>),
+    /// A certificate.
     Certified(Cert<'a>),
 }
 
@@ -42,7 +44,7 @@ pub fn read_any<'a>(blob: &'a [u8]) -> Result<AnyKey<'a>, SubjectFault>
     }
 }
 
-/// Whether the first string is the type name of a certificate.
+// Whether the first string is the type name of a certificate.
 #[tactic(auto, unfolding(crate::specs::SubjectReading::is_certificate))]
 fn is_certificate(blob: &[u8]) -> bool
     ensures { result ≡ is_certificate blob.now }
@@ -76,7 +78,7 @@ impl<'a> AnyKey<'a> {
         })
     }
 
-    /// The names of the certificate, where it is one.
+    // The names of the certificate, where it is one.
     fn names(&self) -> Option<CertNames<'a>>
         ensures { result ≡ (asked_of self.now).cert }
     {

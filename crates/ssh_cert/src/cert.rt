@@ -1,4 +1,4 @@
-// Certificates, lent from their blobs.
+//! Certificates, lent from their blobs.
 
 ghost use Rattle.std.specs.Prelude.{◌≡◌};
 

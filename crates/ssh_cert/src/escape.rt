@@ -1,4 +1,4 @@
-// Texts of others as they are printed.
+//! Texts of others as they are printed.
 
 ghost use Rattle.std.specs.Prelude.{◌≡◌, ◌++◌, OnOk};
 ghost use Rattle.ssh_cert.specs.Escape.{escaped, escaped_byte};
@@ -19,6 +19,7 @@ pub fn push_escaped(out: &mut Vec<u8>, text: &[u8]) -> Result<(), AllocError>
     Ok(())
 }
 
+// Appends a byte as it is printed (ssh-keygen(1)).
 #[tactic(auto, unfolding(crate::specs::Escape::escaped_byte))]
 fn push_byte(out: &mut Vec<u8>, byte: u8) -> Result<(), AllocError>
     ensures { OnOk result (out.new.items ≡ out.old.items ++ escaped_byte byte) }

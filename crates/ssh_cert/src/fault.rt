@@ -1,4 +1,4 @@
-// Why blobs are refused.
+//! Why blobs are refused.
 
 ghost use Rattle.std.specs.Prelude.{◌≡◌, Some};
 ghost use Rattle.ssh_cert.specs.CertFault.{cert_fault_number, cert_fault_text};

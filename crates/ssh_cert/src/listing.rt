@@ -1,4 +1,4 @@
-// The listing of a certificate (ssh-keygen(1), option -L).
+//! The listing of a certificate (ssh-keygen(1), option -L).
 
 ghost use Rattle.std.specs.Prelude.{◌≡◌, ◌++◌, ◌∷◌, [], IfOk, OnOk, codes, decimal, map};
 ghost use Rattle.hex.specs.Hex.{encode_lower};
@@ -16,7 +16,7 @@ use ssh_key::{Hash, PublicKey, fingerprint, plain_blob};
 use ssh_wire::Cursor;
 use std::alloc::{AllocError, Global};
 
-/// Appends a label and its value.
+// Appends a label and its value.
 #[tactic(auto, unfolding(crate::specs::Listing::line))]
 fn push_line(out: &mut Vec<u8>, label: &[u8], value: &[u8]) -> Result<(), AllocError>
     ensures { OnOk result (out.new.items ≡ out.old.items ++ line label.now value.now) }
@@ -29,7 +29,7 @@ fn push_line(out: &mut Vec<u8>, label: &[u8], value: &[u8]) -> Result<(), AllocE
     Ok(())
 }
 
-/// Appends a label above its items.
+// Appends a label above its items.
 fn push_heading(out: &mut Vec<u8>, label: &[u8]) -> Result<(), AllocError>
     ensures { OnOk result (out.new.items
         ≡ out.old.items ++ (codes "        " ++ (label.now ++ (codes ":" ++ 10 ∷ [])))) }
@@ -39,7 +39,7 @@ fn push_heading(out: &mut Vec<u8>, label: &[u8]) -> Result<(), AllocError>
     out.extend_from_slice(b":\n")
 }
 
-/// Appends one of several items.
+// Appends one of several items.
 #[tactic(auto, unfolding(crate::specs::Listing::item))]
 fn push_item(out: &mut Vec<u8>, text: &[u8]) -> Result<(), AllocError>
     ensures { OnOk result (out.new.items ≡ out.old.items ++ item text.now) }
@@ -50,6 +50,7 @@ fn push_item(out: &mut Vec<u8>, text: &[u8]) -> Result<(), AllocError>
     Ok(())
 }
 
+// The type name, and for whom the certificate is.
 fn type_value(alloc: Global, cert: &Cert) -> Result<Vec<u8>, AllocError>
     ensures { IfOk result (λ text. text.items ≡ type_value cert.now) }
 {
@@ -61,7 +62,7 @@ fn type_value(alloc: Global, cert: &Cert) -> Result<Vec<u8>, AllocError>
     Ok(text)
 }
 
-/// A text and another after it.
+// A text and another after it.
 fn both(alloc: Global, first: &[u8], second: &[u8]) -> Result<Vec<u8>, AllocError>
     ensures { IfOk result (λ text. text.items ≡ first.now ++ second.now) }
 {
@@ -70,7 +71,7 @@ fn both(alloc: Global, first: &[u8], second: &[u8]) -> Result<Vec<u8>, AllocErro
     Ok(text)
 }
 
-/// Three texts, one after the other.
+// Three texts, one after the other.
 fn joined(alloc: Global, first: &[u8], second: &[u8], third: &[u8]) -> Result<Vec<u8>, AllocError>
     ensures { IfOk result (λ text. text.items ≡ first.now ++ (second.now ++ third.now)) }
 {
@@ -79,6 +80,7 @@ fn joined(alloc: Global, first: &[u8], second: &[u8], third: &[u8]) -> Result<Ve
     Ok(text)
 }
 
+// The short name and the fingerprint of the certified key.
 fn key_value(alloc: Global, hash: Hash, key: &PublicKey) -> Result<Vec<u8>, AllocError>
     ensures { IfOk result (λ text. text.items ≡ key_value hash key.now) }
 {
@@ -87,7 +89,7 @@ fn key_value(alloc: Global, hash: Hash, key: &PublicKey) -> Result<Vec<u8>, Allo
     joined(alloc, key.short_name().as_bytes(), b"-CERT ", &print)
 }
 
-/// Appends the name of the signature's algorithm.
+// Appends the name of the signature's algorithm.
 fn push_algorithm(out: &mut Vec<u8>, algorithm: &[u8]) -> Result<(), AllocError>
     ensures { OnOk result (out.new.items
         ≡ out.old.items ++ (codes " (using " ++ (escaped algorithm.now ++ codes ")"))) }
@@ -97,6 +99,7 @@ fn push_algorithm(out: &mut Vec<u8>, algorithm: &[u8]) -> Result<(), AllocError>
     out.extend_from_slice(b")")
 }
 
+// The short name and the fingerprint of the authority, and the algorithm of its signature.
 fn authority_value(alloc: Global, hash: Hash, cert: &Cert) -> Result<Vec<u8>, AllocError>
     ensures { IfOk result (λ text. text.items ≡ authority_value hash cert.now) }
 {
@@ -107,6 +110,7 @@ fn authority_value(alloc: Global, hash: Hash, cert: &Cert) -> Result<Vec<u8>, Al
     Ok(text)
 }
 
+// The key ID in quotes, escaped.
 fn id_value(alloc: Global, id: &[u8]) -> Result<Vec<u8>, AllocError>
     ensures { IfOk result (λ text. text.items ≡ id_value id.now) }
 {
@@ -116,6 +120,7 @@ fn id_value(alloc: Global, id: &[u8]) -> Result<Vec<u8>, AllocError>
     Ok(text)
 }
 
+// A text with its control characters escaped.
 fn escaped_text(alloc: Global, bytes: &[u8]) -> Result<Vec<u8>, AllocError>
     ensures { IfOk result (λ text. text.items ≡ escaped bytes.now) }
 {
@@ -124,6 +129,7 @@ fn escaped_text(alloc: Global, bytes: &[u8]) -> Result<Vec<u8>, AllocError>
     Ok(text)
 }
 
+// Whether the certificate is valid at a moment, as it is printed.
 fn valid_value(cert: &Cert, moment: u64) -> &'static [u8]
     ensures { result.now ≡ valid_value cert.now moment }
 {
@@ -134,8 +140,8 @@ fn valid_value(cert: &Cert, moment: u64) -> &'static [u8]
     }
 }
 
-/// The data of an option as it is printed after its name: nothing where it is empty, the text of
-/// the options that have one, and else its hexadecimal digits.
+// The data of an option as it is printed after its name: nothing where it is empty, the text of
+// the options that have one, and else its hexadecimal digits.
 #[tactic(auto, unfolding(crate::specs::Listing::data_text))]
 fn push_data(
     alloc: Global,
@@ -154,13 +160,14 @@ fn push_data(
     push_hex(alloc, out, content)
 }
 
+// Whether the data of a critical option of this name is a string.
 fn has_text(name: &[u8]) -> bool
     ensures { result ≡ has_text name.now }
 {
     name == b"force-command".as_slice() || name == b"source-address".as_slice()
 }
 
-/// The text of the data where it is just one string, else its hexadecimal digits.
+// The text of the data where it is just one string, else its hexadecimal digits.
 fn push_text_or_hex(alloc: Global, out: &mut Vec<u8>, content: &[u8]) -> Result<(), AllocError>
     ensures { OnOk result (out.new.items
         ≡ out.old.items ++ string_or_hex content.now (string_at content.now)) }
@@ -175,6 +182,7 @@ fn push_text_or_hex(alloc: Global, out: &mut Vec<u8>, content: &[u8]) -> Result<
     }
 }
 
+// Appends the data in hexadecimal digits.
 fn push_hex(alloc: Global, out: &mut Vec<u8>, content: &[u8]) -> Result<(), AllocError>
     ensures { OnOk result (out.new.items
         ≡ out.old.items ++ (codes " hex:" ++ encode_lower content.now)) }
@@ -184,6 +192,7 @@ fn push_hex(alloc: Global, out: &mut Vec<u8>, content: &[u8]) -> Result<(), Allo
     out.extend_from_slice(digits.as_bytes())
 }
 
+// The name of an option and its data.
 fn option_item(alloc: Global, option: &CertOption) -> Result<Vec<u8>, AllocError>
     ensures { IfOk result (λ text. text.items ≡ option_item option.now) }
 {
@@ -192,7 +201,7 @@ fn option_item(alloc: Global, option: &CertOption) -> Result<Vec<u8>, AllocError
     Ok(text)
 }
 
-/// Appends a principal.
+// Appends a principal.
 fn push_principal(alloc: Global, out: &mut Vec<u8>, principal: &[u8]) -> Result<(), AllocError>
     ensures { OnOk result (out.new.items ≡ out.old.items ++ item (escaped principal.now)) }
 {
@@ -200,7 +209,7 @@ fn push_principal(alloc: Global, out: &mut Vec<u8>, principal: &[u8]) -> Result<
     push_item(out, &text)
 }
 
-/// Appends an option.
+// Appends an option.
 fn push_option(alloc: Global, out: &mut Vec<u8>, option: &CertOption) -> Result<(), AllocError>
     ensures { OnOk result (out.new.items ≡ out.old.items ++ item (option_item option.now)) }
 {
@@ -208,7 +217,7 @@ fn push_option(alloc: Global, out: &mut Vec<u8>, option: &CertOption) -> Result<
     push_item(out, &text)
 }
 
-/// Appends the principals below their label.
+// Appends the principals below their label.
 #[tactic(auto, unfolding(crate::specs::Listing::lines))]
 fn push_principals<'a>(
     alloc: Global,
@@ -229,7 +238,7 @@ fn push_principals<'a>(
     Ok(())
 }
 
-/// Appends options below their label.
+// Appends options below their label.
 #[tactic(auto, unfolding(crate::specs::Listing::lines))]
 fn push_options<'a>(
     alloc: Global,
@@ -251,7 +260,7 @@ fn push_options<'a>(
     Ok(())
 }
 
-/// The time between two instants, by their texts.
+// The time between two instants, by their texts.
 fn period_text(
     alloc: Global,
     after: u64,
@@ -274,7 +283,7 @@ fn period_text(
     from_to(alloc, after_text, before_text)
 }
 
-/// The time from one instant to another.
+// The time from one instant to another.
 fn from_to(alloc: Global, after_text: &[u8], before_text: &[u8]) -> Result<Vec<u8>, AllocError>
     ensures { IfOk result (λ text. text.items
         ≡ codes "from " ++ (after_text.now ++ (codes " to " ++ before_text.now))) }
@@ -284,7 +293,7 @@ fn from_to(alloc: Global, after_text: &[u8], before_text: &[u8]) -> Result<Vec<u
     Ok(text)
 }
 
-/// The time in which the certificate is valid.
+// The time in which the certificate is valid.
 fn period(alloc: Global, cert: &Cert) -> Result<Vec<u8>, AllocError>
     ensures { IfOk result (λ text. text.items ≡ valid_period cert.now) }
 {
@@ -293,7 +302,7 @@ fn period(alloc: Global, cert: &Cert) -> Result<Vec<u8>, AllocError>
     period_text(alloc, cert.after(), cert.before(), &after, &before)
 }
 
-/// What the certificate is, and whose.
+// What the certificate is, and whose.
 #[tactic(auto, unfolding(crate::specs::Listing::identity_text))]
 fn push_identity(
     alloc: Global,
@@ -308,6 +317,7 @@ fn push_identity(
     push_authority(alloc, out, cert, hash)
 }
 
+// Appends the line of the type.
 fn push_type(alloc: Global, out: &mut Vec<u8>, cert: &Cert) -> Result<(), AllocError>
     ensures { OnOk result (out.new.items
         ≡ out.old.items ++ line (codes "Type") (type_value cert.now)) }
@@ -316,6 +326,7 @@ fn push_type(alloc: Global, out: &mut Vec<u8>, cert: &Cert) -> Result<(), AllocE
     push_line(out, b"Type", &value)
 }
 
+// Appends the line of the certified key.
 fn push_key(alloc: Global, out: &mut Vec<u8>, cert: &Cert, hash: Hash) -> Result<(), AllocError>
     ensures { OnOk result (out.new.items
         ≡ out.old.items ++ line (codes "Public key") (key_value hash cert.now.key)) }
@@ -324,6 +335,7 @@ fn push_key(alloc: Global, out: &mut Vec<u8>, cert: &Cert, hash: Hash) -> Result
     push_line(out, b"Public key", &value)
 }
 
+// Appends the line of the certificate authority.
 fn push_authority(
     alloc: Global,
     out: &mut Vec<u8>,
@@ -337,7 +349,7 @@ fn push_authority(
     push_line(out, b"Signing CA", &value)
 }
 
-/// How the certificate is named, and when it is valid.
+// How the certificate is named, and when it is valid.
 #[tactic(auto, unfolding(crate::specs::Listing::terms_text))]
 fn push_terms(
     alloc: Global,
@@ -355,6 +367,7 @@ fn push_terms(
     push_line(out, b"Valid now", valid_value(cert, moment))
 }
 
+// Appends the line of the key ID.
 fn push_id(alloc: Global, out: &mut Vec<u8>, id: &[u8]) -> Result<(), AllocError>
     ensures { OnOk result (out.new.items
         ≡ out.old.items ++ line (codes "Key ID") (id_value id.now)) }
@@ -363,6 +376,7 @@ fn push_id(alloc: Global, out: &mut Vec<u8>, id: &[u8]) -> Result<(), AllocError
     push_line(out, b"Key ID", &value)
 }
 
+// Appends the line of the serial.
 fn push_serial(alloc: Global, out: &mut Vec<u8>, serial: u64) -> Result<(), AllocError>
     ensures { OnOk result (out.new.items
         ≡ out.old.items ++ line (codes "Serial") (decimal serial)) }
@@ -371,7 +385,7 @@ fn push_serial(alloc: Global, out: &mut Vec<u8>, serial: u64) -> Result<(), Allo
     push_line(out, b"Serial", digits.as_bytes())
 }
 
-/// For whom the certificate is valid, and for what.
+// For whom the certificate is valid, and for what.
 #[tactic(auto, unfolding(crate::specs::Listing::lists_text))]
 fn push_lists(alloc: Global, out: &mut Vec<u8>, cert: &Cert) -> Result<(), AllocError>
     ensures { OnOk result (out.new.items ≡ out.old.items ++ lists_text cert.now) }
@@ -381,7 +395,7 @@ fn push_lists(alloc: Global, out: &mut Vec<u8>, cert: &Cert) -> Result<(), Alloc
     push_options(alloc, out, b"Extensions", cert.extensions())
 }
 
-/// The lines after the first one, with the time in which the certificate is valid.
+// The lines after the first one, with the time in which the certificate is valid.
 fn listing(
     alloc: Global,
     cert: &Cert,

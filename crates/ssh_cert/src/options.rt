@@ -1,4 +1,4 @@
-// The critical options and the extensions of a certificate.
+//! The critical options and the extensions of a certificate.
 
 ghost use Rattle.std.specs.Prelude.{◌≡◌};
 ghost use Rattle.ssh_cert.specs.CertReading.{options_of};
@@ -59,7 +59,7 @@ impl<'a> Iterator for Options<'a> {
 }
 
 impl<'a> Options<'a> {
-    /// The same options, from the same one on.
+    // The same options, from the same one on.
     pub(crate) fn again(&self) -> Options<'a>
         ensures { result ≡ self.now }
     {

@@ -1,4 +1,4 @@
-// Reading a certificate, field by field. A cursor that met a fault is not used again.
+//! Reading a certificate, field by field. A cursor that met a fault is not used again.
 
 ghost use Rattle.std.specs.Prelude.{◌≡◌, ℕ, IfErr, IfOk, Ok};
 ghost use Rattle.ssh_wire.specs.Reading.{Gives};
@@ -17,7 +17,7 @@ use ssh_key::{Kind, PublicKey, read_fields, read_key};
 use ssh_wire::Cursor;
 use std::marker::Model;
 
-/// The signature key, and its blob.
+// The signature key, and its blob.
 #[derive(Drop)]
 struct Authority<'a> {
     blob: &'a [u8],
@@ -32,7 +32,7 @@ impl<'a> Model for Authority<'a> {
     ghost view = { λ authority. record { blob = authority.blob.now; key = authority.key } };
 }
 
-/// The signature, and the name of its algorithm.
+// The signature, and the name of its algorithm.
 #[derive(Drop)]
 struct Signature<'a> {
     text: &'a [u8],
@@ -50,7 +50,7 @@ impl<'a> Model for Signature<'a> {
     } };
 }
 
-/// The fields from the critical options on.
+// The fields from the critical options on.
 #[derive(Drop)]
 struct Closing<'a> {
     critical: Options<'a>,
@@ -60,7 +60,7 @@ struct Closing<'a> {
     signature: Signature<'a>,
 }
 
-/// The fields from the key ID on.
+// The fields from the key ID on.
 #[derive(Drop)]
 struct Naming<'a> {
     key_id: &'a [u8],
@@ -70,7 +70,7 @@ struct Naming<'a> {
     closing: Closing<'a>,
 }
 
-/// The fields from the serial number on.
+// The fields from the serial number on.
 #[derive(Drop)]
 struct Numbered<'a> {
     serial: u64,
@@ -98,6 +98,7 @@ pub fn read_cert<'a>(blob: &'a [u8]) -> Result<Cert<'a>, CertFault>
     cert_of(blob)
 }
 
+// The certificate that the whole blob spells, or the first fault.
 #[tactic(auto, unfolding(crate::specs::CertReading::certificate_at))]
 fn cert_of<'a>(blob: &'a [u8]) -> Result<Cert<'a>, CertFault>
     ensures { result ≡ certificate_at blob.now }
@@ -111,7 +112,7 @@ fn cert_of<'a>(blob: &'a [u8]) -> Result<Cert<'a>, CertFault>
     Ok(cert)
 }
 
-/// The kind by the type name.
+// The kind by the type name.
 #[tactic(auto, unfolding(crate::specs::CertReading::kind_at))]
 fn read_kind(cursor: &mut Cursor) -> Result<Kind, CertFault>
     ensures { Gives (λ kind. kind) result cursor.new (kind_at cursor.old) }
@@ -120,7 +121,7 @@ fn read_kind(cursor: &mut Cursor) -> Result<Kind, CertFault>
     Kind::of_cert_name(name).ok_or(CertFault::UnknownType)
 }
 
-/// The fields after the type name.
+// The fields after the type name.
 #[tactic(auto, unfolding(crate::specs::CertReading::body_at, crate::specs::CertReading::fields_at))]
 fn read_body<'a>(kind: Kind, cursor: &mut Cursor<'a>) -> Result<Cert<'a>, CertFault>
     ensures { Gives (λ cert. cert) result cursor.new (body_at kind cursor.old) }
@@ -131,7 +132,7 @@ fn read_body<'a>(kind: Kind, cursor: &mut Cursor<'a>) -> Result<Cert<'a>, CertFa
     Ok(of_fields(nonce, key, numbered))
 }
 
-/// The certificate of its fields.
+// The certificate of its fields.
 fn of_fields<'a>(nonce: &'a [u8], key: PublicKey<'a>, numbered: Numbered<'a>) -> Cert<'a>
     ensures { result ≡ of_fields nonce.entry.now key.entry numbered.entry }
 {
@@ -154,6 +155,7 @@ fn of_fields<'a>(nonce: &'a [u8], key: PublicKey<'a>, numbered: Numbered<'a>) ->
     }
 }
 
+// Reads the fields from the serial on.
 #[tactic(auto, unfolding(crate::specs::CertReading::fields_at))]
 fn read_numbered<'a>(cursor: &mut Cursor<'a>) -> Result<Numbered<'a>, CertFault>
     ensures { Gives numbered_values result cursor.new (fields_at numbered_fields cursor.old) }
@@ -168,6 +170,7 @@ fn read_numbered<'a>(cursor: &mut Cursor<'a>) -> Result<Numbered<'a>, CertFault>
     })
 }
 
+// Reads the fields from the key ID on.
 #[tactic(auto, unfolding(crate::specs::CertReading::fields_at))]
 fn read_naming<'a>(cursor: &mut Cursor<'a>) -> Result<Naming<'a>, CertFault>
     ensures { Gives naming_values result cursor.new (fields_at naming_fields cursor.old) }
@@ -186,6 +189,7 @@ fn read_naming<'a>(cursor: &mut Cursor<'a>) -> Result<Naming<'a>, CertFault>
     })
 }
 
+// Reads the fields from the critical options on.
 #[tactic(auto, unfolding(crate::specs::CertReading::fields_at))]
 fn read_closing<'a>(cursor: &mut Cursor<'a>) -> Result<Closing<'a>, CertFault>
     ensures { Gives closing_values result cursor.new (fields_at closing_fields cursor.old) }
@@ -204,7 +208,7 @@ fn read_closing<'a>(cursor: &mut Cursor<'a>) -> Result<Closing<'a>, CertFault>
     })
 }
 
-/// A string.
+// A string.
 #[tactic(auto, unfolding(crate::specs::CertReading::field_at))]
 fn read_text<'a>(cursor: &mut Cursor<'a>) -> Result<&'a [u8], CertFault>
     ensures { Gives (λ text. text.now) result cursor.new (field_at TextField cursor.old) }
@@ -212,7 +216,7 @@ fn read_text<'a>(cursor: &mut Cursor<'a>) -> Result<&'a [u8], CertFault>
     Ok(cursor.string()?)
 }
 
-/// The public fields of the plain key.
+// The public fields of the plain key.
 #[tactic(auto, unfolding(crate::specs::CertReading::field_at))]
 fn read_public<'a>(kind: Kind, cursor: &mut Cursor<'a>) -> Result<PublicKey<'a>, CertFault>
     ensures { Gives (λ key. key) result cursor.new (field_at (PublicField kind) cursor.old) }
@@ -223,7 +227,7 @@ fn read_public<'a>(kind: Kind, cursor: &mut Cursor<'a>) -> Result<PublicKey<'a>,
     }
 }
 
-/// A number of eight bytes.
+// A number of eight bytes.
 #[tactic(auto, unfolding(crate::specs::CertReading::field_at))]
 fn read_number(cursor: &mut Cursor) -> Result<u64, CertFault>
     ensures { Gives (λ n. n) result cursor.new (field_at NumberField cursor.old) }
@@ -231,7 +235,7 @@ fn read_number(cursor: &mut Cursor) -> Result<u64, CertFault>
     Ok(cursor.u64()?)
 }
 
-/// What the certificate is for.
+// What the certificate is for.
 #[tactic(auto, unfolding(crate::specs::CertReading::field_at))]
 fn read_role(cursor: &mut Cursor) -> Result<Role, CertFault>
     ensures { Gives (λ role. role) result cursor.new (field_at RoleField cursor.old) }
@@ -243,7 +247,7 @@ fn read_role(cursor: &mut Cursor) -> Result<Role, CertFault>
     }
 }
 
-/// The principals.
+// The principals.
 #[tactic(auto, unfolding(crate::specs::CertReading::field_at))]
 fn read_principals<'a>(cursor: &mut Cursor<'a>) -> Result<Strings<'a>, CertFault>
     ensures { Gives (λ list. list) result cursor.new (field_at PrincipalsField cursor.old) }
@@ -252,7 +256,7 @@ fn read_principals<'a>(cursor: &mut Cursor<'a>) -> Result<Strings<'a>, CertFault
     strings_in(content).ok_or(CertFault::Principals)
 }
 
-/// The critical options or the extensions.
+// The critical options or the extensions.
 #[tactic(auto, unfolding(crate::specs::CertReading::field_at))]
 fn read_options<'a>(cursor: &mut Cursor<'a>) -> Result<Options<'a>, CertFault>
     ensures { Gives (λ list. list) result cursor.new (field_at OptionsField cursor.old) }
@@ -261,7 +265,7 @@ fn read_options<'a>(cursor: &mut Cursor<'a>) -> Result<Options<'a>, CertFault>
     options_in(content).ok_or(CertFault::Options)
 }
 
-/// The signature key.
+// The signature key.
 #[tactic(auto, unfolding(crate::specs::CertReading::field_at))]
 fn read_authority<'a>(cursor: &mut Cursor<'a>) -> Result<Authority<'a>, CertFault>
     ensures { Gives (λ authority. authority) result cursor.new
@@ -274,7 +278,7 @@ fn read_authority<'a>(cursor: &mut Cursor<'a>) -> Result<Authority<'a>, CertFaul
     }
 }
 
-/// The signature, of which the name of its algorithm is read.
+// The signature, of which the name of its algorithm is read.
 #[tactic(auto, unfolding(crate::specs::CertReading::field_at))]
 fn read_signature<'a>(cursor: &mut Cursor<'a>) -> Result<Signature<'a>, CertFault>
     ensures { Gives (λ signature. signature) result cursor.new

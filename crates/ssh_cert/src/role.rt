@@ -1,4 +1,4 @@
-// What a certificate is for.
+//! What a certificate is for.
 
 /// What a certificate is for.
 #[derive(Clone, Copy, Debug, PartialEq, Eq)]

@@ -1,4 +1,4 @@
-// Strings that fill bytes, one after the other.
+//! Strings that fill bytes, one after the other.
 
 ghost use Rattle.std.specs.Prelude.{◌≡◌, length};
 ghost use Rattle.std.specs.Option.{option_map};
@@ -40,7 +40,7 @@ impl<'a> Iterator for Strings<'a> {
 }
 
 impl<'a> Strings<'a> {
-    /// The same strings, from the same one on.
+    // The same strings, from the same one on.
     pub(crate) fn again(&self) -> Strings<'a>
         ensures { result ≡ self.now }
     {

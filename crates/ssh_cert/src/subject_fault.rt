@@ -1,4 +1,4 @@
-// Why a revocation list cannot be asked about a blob.
+//! Why a revocation list cannot be asked about a blob.
 
 ghost use Rattle.std.specs.Prelude.{◌≡◌, Some};
 ghost use Rattle.ssh_cert.specs.SubjectFault.{subject_fault_number, subject_fault_text};

@@ -1,4 +1,4 @@
-// What is asked about a blob.
+//! What is asked about a blob.
 
 ghost use Rattle.std.specs.Prelude.{◌≡◌, IfErr, IfOk, Ok};
 ghost use Rattle.ssh_subject.specs.Subject.{Subject};
@@ -26,6 +26,7 @@ pub fn subject<'a>(alloc: Global, blob: &'a [u8]) -> Result<Subject<'a>, Subject
     asked(alloc, blob)
 }
 
+// What is asked about a blob, by what it is read as.
 fn asked<'a>(alloc: Global, blob: &'a [u8]) -> Result<Subject<'a>, SubjectFault>
     ensures { AnswersSubject result (subject_of blob.now) }
 {

@@ -1,4 +1,4 @@
-// Instants as they are printed, and when a certificate is valid.
+//! Instants as they are printed, and when a certificate is valid.
 
 ghost use Rattle.std.specs.Prelude.{◌≡◌, ◌↔◌, IfOk, IsTrue};
 ghost use Rattle.ssh_cert.specs.Time.{IsValidAt, instant_text};
@@ -8,7 +8,7 @@ use jiff::Timestamp;
 use jiff::tz::Offset;
 use std::alloc::{AllocError, Global};
 
-/// The first second of the year 9999, counted from 1970.
+// The first second of the year 9999, counted from 1970.
 const YEAR_9999: u64 = 253_370_764_800;
 
 /// Whether the certificate is valid at a moment, in seconds from 1970 on: from its first second on,

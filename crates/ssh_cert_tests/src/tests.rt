@@ -1,4 +1,4 @@
-// What no contract says: certificates with known answers, and calls with memory enough.
+//! What no contract says: certificates with known answers, and calls with memory enough.
 
 mod asking;
 mod cut;

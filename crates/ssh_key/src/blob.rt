@@ -1,4 +1,4 @@
-// The blob of a public key.
+//! The blob of a public key.
 
 ghost use Rattle.std.specs.Prelude.{◌≡◌, IfOk};
 ghost use Rattle.ssh_key.specs.Key.{blob_of};

@@ -1,4 +1,4 @@
-// Reading private containers (OpenSSH's PROTOCOL.key).
+//! Reading private containers (OpenSSH's PROTOCOL.key).
 
 ghost use Rattle.std.specs.Prelude.{◌≡◌, ◌≢◌, ◌≤◌, ℕ, List, Err, IfErr, IfOk, None, Ok, length, replicate};
 ghost use Rattle.base64.specs.Decode.{decoded_estimate};
@@ -60,6 +60,7 @@ pub fn read_private(alloc: Global, text: &[u8]) -> Result<Private, PrivateFault>
     read_content(alloc, text)
 }
 
+// Reads a container, and overwrites what was joined of its lines.
 #[tactic(auto, unfolding(crate::specs::ContainerReading::private_at))]
 fn read_content(alloc: Global, text: &[u8]) -> Result<Private, PrivateFault>
     ensures exact { GivesPrivate result (private_at text.now) }
@@ -73,7 +74,7 @@ fn read_content(alloc: Global, text: &[u8]) -> Result<Private, PrivateFault>
     private
 }
 
-/// The container whose base64 this is.
+// The container whose base64 this is.
 fn read_body(alloc: Global, body: &[u8]) -> Result<Private, PrivateFault>
     ensures { GivesPrivate result (body_at body.now) }
 {
@@ -83,7 +84,7 @@ fn read_body(alloc: Global, body: &[u8]) -> Result<Private, PrivateFault>
     private
 }
 
-/// The same, decoded into these bytes.
+// The same, decoded into these bytes.
 fn read_decoded(alloc: Global, body: &[u8], bytes: &mut [u8]) -> Result<Private, PrivateFault>
     requires { decoded_estimate (length body.now) ≤ length bytes.old }
     ensures { GivesPrivate result (body_at body.now) }
@@ -94,7 +95,7 @@ fn read_decoded(alloc: Global, body: &[u8], bytes: &mut [u8]) -> Result<Private,
     }
 }
 
-/// The container that has these bytes, with what it says in public copied out of them.
+// The container that has these bytes, with what it says in public copied out of them.
 fn read_owned(alloc: Global, bytes: &[u8]) -> Result<Private, PrivateFault>
     ensures { GivesPrivate result (bytes_at bytes.now) }
 {
@@ -105,7 +106,7 @@ fn read_owned(alloc: Global, bytes: &[u8]) -> Result<Private, PrivateFault>
     })
 }
 
-/// Writes zeros over bytes.
+// Writes zeros over bytes.
 fn overwrite(bytes: &mut [u8])
     ensures { bytes.new ≡ replicate (length bytes.old) 0 }
 {

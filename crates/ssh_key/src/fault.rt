@@ -1,4 +1,4 @@
-// Why blobs are refused.
+//! Why blobs are refused.
 
 ghost use Rattle.std.specs.Prelude.{◌≡◌, Some};
 ghost use Rattle.ssh_key.specs.KeyFault.{key_fault_number, key_fault_text};

@@ -1,4 +1,4 @@
-// Reading the public fields of a key. A cursor that met a fault is not used again.
+//! Reading the public fields of a key. A cursor that met a fault is not used again.
 
 ghost use Rattle.std.specs.Prelude.{◌+◌, ◌-◌, ◌≤◌, ◌∷◌, [], IfOk, length};
 ghost use Rattle.ssh_wire.specs.Reading.{Gives};
@@ -10,7 +10,7 @@ use crate::fault::KeyFault;
 use crate::kind::Kind;
 use ssh_wire::Cursor;
 
-/// The bytes of an Ed25519 key (RFC 8709 section 4).
+// The bytes of an Ed25519 key (RFC 8709 section 4).
 const ED25519_SIZE: usize = 32;
 
 /// How large a key is.
@@ -40,7 +40,7 @@ pub fn read_size<'a>(kind: Kind, cursor: &mut Cursor<'a>) -> Result<Size<'a>, Ke
     }
 }
 
-/// Reads the public fields of an RSA key: the exponent, and the modulus, which is answered.
+// Reads the public fields of an RSA key: the exponent, and the modulus, which is answered.
 #[tactic(auto, unfolding(crate::specs::KeyReading::bits_at, crate::specs::KeyReading::fields_at))]
 fn read_modulus<'a>(cursor: &mut Cursor<'a>) -> Result<Size<'a>, KeyFault>
     ensures read { Gives bits_of_size result cursor.new (bits_at Kind.Rsa cursor.old) }
@@ -51,7 +51,7 @@ fn read_modulus<'a>(cursor: &mut Cursor<'a>) -> Result<Size<'a>, KeyFault>
     Ok(Size::Magnitude(modulus))
 }
 
-/// Reads the public fields of a DSA key: the prime, which is answered, and three numbers more.
+// Reads the public fields of a DSA key: the prime, which is answered, and three numbers more.
 #[tactic(auto, unfolding(crate::specs::KeyReading::bits_at, crate::specs::KeyReading::fields_at))]
 fn read_prime<'a>(cursor: &mut Cursor<'a>) -> Result<Size<'a>, KeyFault>
     ensures read { Gives bits_of_size result cursor.new (bits_at Kind.Dsa cursor.old) }
@@ -64,7 +64,7 @@ fn read_prime<'a>(cursor: &mut Cursor<'a>) -> Result<Size<'a>, KeyFault>
     Ok(Size::Magnitude(prime))
 }
 
-/// Reads the public fields of a key on this curve, whose points have this many bytes.
+// Reads the public fields of a key on this curve, whose points have this many bytes.
 #[tactic(auto, unfolding(crate::specs::KeyReading::fields_at))]
 fn read_ecdsa<'a>(
     cursor: &mut Cursor<'a>,
@@ -81,7 +81,7 @@ fn read_ecdsa<'a>(
     Ok(Size::Bits(bits))
 }
 
-/// Reads the public fields of an Ed25519 key.
+// Reads the public fields of an Ed25519 key.
 #[tactic(auto, unfolding(crate::specs::KeyReading::bits_at, crate::specs::KeyReading::fields_at))]
 fn read_ed25519<'a>(cursor: &mut Cursor<'a>) -> Result<Size<'a>, KeyFault>
     ensures read { Gives bits_of_size result cursor.new (bits_at Kind.Ed25519 cursor.old) }
@@ -91,7 +91,7 @@ fn read_ed25519<'a>(cursor: &mut Cursor<'a>) -> Result<Size<'a>, KeyFault>
     Ok(Size::Bits(256))
 }
 
-/// Reads the public fields of an ECDSA key of a device.
+// Reads the public fields of an ECDSA key of a device.
 #[tactic(auto, unfolding(crate::specs::KeyReading::bits_at, crate::specs::KeyReading::fields_at))]
 fn read_ecdsa_device<'a>(cursor: &mut Cursor<'a>) -> Result<Size<'a>, KeyFault>
     ensures read { Gives bits_of_size result cursor.new (bits_at Kind.EcdsaSk cursor.old) }
@@ -103,7 +103,7 @@ fn read_ecdsa_device<'a>(cursor: &mut Cursor<'a>) -> Result<Size<'a>, KeyFault>
     Ok(Size::Bits(256))
 }
 
-/// Reads the public fields of an Ed25519 key of a device.
+// Reads the public fields of an Ed25519 key of a device.
 #[tactic(auto, unfolding(crate::specs::KeyReading::bits_at, crate::specs::KeyReading::fields_at))]
 fn read_ed25519_device<'a>(cursor: &mut Cursor<'a>) -> Result<Size<'a>, KeyFault>
     ensures read { Gives bits_of_size result cursor.new (bits_at Kind.Ed25519Sk cursor.old) }
@@ -114,7 +114,7 @@ fn read_ed25519_device<'a>(cursor: &mut Cursor<'a>) -> Result<Size<'a>, KeyFault
     Ok(Size::Bits(256))
 }
 
-/// A number above zero: its magnitude.
+// A number above zero: its magnitude.
 #[tactic(auto, unfolding(crate::specs::KeyReading::field_at))]
 fn read_positive<'a>(cursor: &mut Cursor<'a>) -> Result<&'a [u8], KeyFault>
     ensures read { Gives (λ value. value.now) result cursor.new (field_at Positive cursor.old) }
@@ -128,7 +128,7 @@ fn read_positive<'a>(cursor: &mut Cursor<'a>) -> Result<&'a [u8], KeyFault>
     Ok(magnitude)
 }
 
-/// The name of a curve.
+// The name of a curve.
 #[tactic(auto, unfolding(crate::specs::KeyReading::field_at))]
 fn read_curve<'a>(cursor: &mut Cursor<'a>, name: &str) -> Result<&'a [u8], KeyFault>
     ensures { Gives (λ value. value.now) result cursor.new (field_at (Curve name.now) cursor.old) }
@@ -140,7 +140,7 @@ fn read_curve<'a>(cursor: &mut Cursor<'a>, name: &str) -> Result<&'a [u8], KeyFa
     Ok(string)
 }
 
-/// A point of a curve, uncompressed, in this many bytes.
+// A point of a curve, uncompressed, in this many bytes.
 #[tactic(auto, unfolding(crate::specs::KeyReading::field_at))]
 fn read_point<'a>(cursor: &mut Cursor<'a>, size: usize) -> Result<&'a [u8], KeyFault>
     ensures { Gives (λ value. value.now) result cursor.new (field_at (Point size) cursor.old) }
@@ -155,7 +155,7 @@ fn read_point<'a>(cursor: &mut Cursor<'a>, size: usize) -> Result<&'a [u8], KeyF
     }
 }
 
-/// A string of this many bytes.
+// A string of this many bytes.
 #[tactic(auto, unfolding(crate::specs::KeyReading::field_at))]
 fn read_sized<'a>(cursor: &mut Cursor<'a>, size: usize) -> Result<&'a [u8], KeyFault>
     ensures { Gives (λ value. value.now) result cursor.new (field_at (Sized size) cursor.old) }
@@ -167,7 +167,7 @@ fn read_sized<'a>(cursor: &mut Cursor<'a>, size: usize) -> Result<&'a [u8], KeyF
     Ok(string)
 }
 
-/// Any string.
+// Any string.
 #[tactic(auto, unfolding(crate::specs::KeyReading::field_at))]
 fn read_text<'a>(cursor: &mut Cursor<'a>) -> Result<&'a [u8], KeyFault>
     ensures { Gives (λ value. value.now) result cursor.new (field_at Text cursor.old) }

@@ -1,4 +1,4 @@
-// Why a printed fingerprint is refused.
+//! Why a printed fingerprint is refused.
 
 ghost use Rattle.std.specs.Prelude.{◌≡◌, Some};
 ghost use Rattle.ssh_key.specs.FingerprintFault.{fingerprint_fault_number, fingerprint_fault_text};

@@ -1,4 +1,4 @@
-// The printed fingerprint of a key.
+//! The printed fingerprint of a key.
 
 ghost use Rattle.std.specs.Prelude.{◌≡◌, ◌∷◌, ◌++◌, [], IfOk, codes, flat_map, string_bytes};
 ghost use Rattle.hex.specs.Hex.{encode_lower};
@@ -23,6 +23,7 @@ pub fn fingerprint(alloc: Global, hash: Hash, bytes: &[u8]) -> Result<Vec<u8>, A
     }
 }
 
+// The text of a SHA-256 fingerprint.
 fn sha256_text(alloc: Global, digest: &[u8; 32]) -> Result<Vec<u8>, AllocError>
     ensures { IfOk result (λ text. text.items ≡ codes "SHA256:" ++ unpadded digest.now) }
 {
@@ -33,6 +34,7 @@ fn sha256_text(alloc: Global, digest: &[u8; 32]) -> Result<Vec<u8>, AllocError>
     Ok(text)
 }
 
+// The base64 of bytes, without padding (RFC 4648 section 4).
 #[tactic(auto, unfolding(crate::specs::Fingerprints::unpadded))]
 fn unpadded(alloc: Global, bytes: &[u8]) -> Result<String, AllocError>
     ensures { IfOk result (λ text. string_bytes text ≡ unpadded bytes.now) }
@@ -40,12 +42,14 @@ fn unpadded(alloc: Global, bytes: &[u8]) -> Result<String, AllocError>
     STANDARD_NO_PAD.encode(alloc, bytes)
 }
 
+// The MD5 hash of bytes.
 fn md5_of(bytes: &[u8]) -> [u8; 16]
     ensures { result ≡ md5 bytes.now }
 {
     Md5::digest(bytes)
 }
 
+// The text of an MD5 fingerprint.
 fn md5_text(alloc: Global, digest: &[u8; 16]) -> Result<Vec<u8>, AllocError>
     ensures { IfOk result (λ text. text.items ≡ codes "MD5" ++ flat_map colon_pair digest.now) }
 {
@@ -57,6 +61,7 @@ fn md5_text(alloc: Global, digest: &[u8; 16]) -> Result<Vec<u8>, AllocError>
     Ok(text)
 }
 
+// A colon and the two hexadecimal digits of a byte.
 #[tactic(auto, unfolding(crate::specs::Fingerprints::colon_pair))]
 fn colon_pair(byte: u8) -> [u8; 3]
     ensures { result ≡ colon_pair byte }
@@ -65,6 +70,7 @@ fn colon_pair(byte: u8) -> [u8; 3]
     [b':', digits[0], digits[1]]
 }
 
+// The two hexadecimal digits of a byte.
 fn digits_of(byte: u8) -> [u8; 2]
     ensures { result ≡ encode_lower (byte ∷ []) }
 {

@@ -1,4 +1,4 @@
-// The hashes that name a key.
+//! The hashes that name a key.
 
 ghost use Rattle.std.specs.Prelude.{◌≡◌};
 ghost use Rattle.sha1.specs.Sha1.{sha1};

@@ -1,4 +1,4 @@
-// Public keys, read from their blobs.
+//! Public keys, read from their blobs.
 
 ghost use Rattle.std.specs.Prelude.{◌≡◌, ◌≤◌, ◌+◌, ℕ, List, IfErr, IfOk, Ok, length};
 ghost use Rattle.ssh_wire.specs.Reading.{Gives, Reads};
@@ -15,7 +15,7 @@ use crate::kind::Kind;
 use ssh_wire::Cursor;
 use std::marker::Model;
 
-/// The longest blob that is read, in bytes.
+// The longest blob that is read, in bytes.
 const LONGEST_BLOB: usize = 65_536;
 
 /// A public key, lent from its blob or from a certificate. Whoever holds one holds a key: see
@@ -99,6 +99,7 @@ pub fn read_key<'a>(blob: &'a [u8]) -> Result<PublicKey<'a>, KeyFault>
     key_of(blob)
 }
 
+// The key that the whole blob spells, or the first fault.
 #[tactic(auto, unfolding(crate::specs::KeyReading::key_at))]
 fn key_of<'a>(blob: &'a [u8]) -> Result<PublicKey<'a>, KeyFault>
     ensures { result ≡ key_at blob.now }
@@ -115,7 +116,7 @@ fn key_of<'a>(blob: &'a [u8]) -> Result<PublicKey<'a>, KeyFault>
     Ok(key)
 }
 
-/// The kind by the type name.
+// The kind by the type name.
 #[tactic(auto, unfolding(crate::specs::KeyReading::kind_at))]
 fn read_kind(cursor: &mut Cursor) -> Result<Kind, KeyFault>
     ensures { Gives (λ kind. kind) result cursor.new (kind_at cursor.old) }
@@ -146,6 +147,7 @@ pub fn read_fields<'a>(kind: Kind, cursor: &mut Cursor<'a>) -> Result<PublicKey<
     read_public(kind, cursor)
 }
 
+// Reads the public fields of a kind of key. The cursor stays where it was if they are refused.
 #[tactic(auto, unfolding(crate::specs::KeyReading::public_at))]
 fn read_public<'a>(kind: Kind, cursor: &mut Cursor<'a>) -> Result<PublicKey<'a>, KeyFault>
     ensures exact { Reads (λ key. key) result cursor.old cursor.new (public_at kind cursor.old) }
@@ -168,18 +170,19 @@ fn read_public<'a>(kind: Kind, cursor: &mut Cursor<'a>) -> Result<PublicKey<'a>,
     Ok(key)
 }
 
-/// The elements of a slice of bytes are bytes. Does nothing.
+// The elements of a slice of bytes are bytes. Does nothing.
 fn are_bytes(bytes: &[u8])
     ensures { IsBytes bytes.now }
 {}
 
-/// How many bytes the public fields of this kind have in the longest blob.
+// How many bytes the public fields of this kind have in the longest blob.
 fn longest_fields(kind: Kind) -> usize
     ensures { length (string (type_name kind)) + result ≡ longest_blob }
 {
     LONGEST_BLOB - 4 - kind.name().len()
 }
 
+// The size of a key in bits.
 fn bits(size: Size) -> u32
     requires { IsWithin size LONGEST_BLOB }
     ensures { result ≡ bits_of_size size.entry }
@@ -190,7 +193,7 @@ fn bits(size: Size) -> u32
     }
 }
 
-/// The number of bits of a number, by its magnitude.
+// The number of bits of a number, by its magnitude.
 fn bit_count(magnitude: &[u8]) -> u32
     requires { length magnitude.now ≤ LONGEST_BLOB }
     ensures { result ≡ bit_count magnitude.now }

@@ -1,4 +1,4 @@
-// The lines of a key file (sshd(8), AUTHORIZED_KEYS FILE FORMAT).
+//! The lines of a key file (sshd(8), AUTHORIZED_KEYS FILE FORMAT).
 
 ghost use Rattle.std.specs.Prelude.{◌≡◌, ◌<◌, IsTrue, length};
 ghost use Rattle.ssh_key.specs.KeyFile.{has_key};

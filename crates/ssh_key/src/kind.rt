@@ -1,4 +1,4 @@
-// The kinds of keys.
+//! The kinds of keys.
 
 ghost use Rattle.std.specs.Prelude.{◌≡◌, IfSome};
 ghost use Rattle.ssh_key.specs.Kind.{certificate_name, kind_certified, kind_named, short_name_of, type_name};
@@ -102,6 +102,7 @@ impl Kind {
     }
 }
 
+// The kind of key with this type name.
 #[tactic(auto, unfolding(crate::specs::Kind::kind_named))]
 fn find(name: &[u8]) -> Option<Kind>
     ensures { result ≡ kind_named name.now }
@@ -112,6 +113,7 @@ fn find(name: &[u8]) -> Option<Kind>
         .find(|kind| kind.name().as_bytes() == name)
 }
 
+// The kind of key with this type name of certificates.
 #[tactic(auto, unfolding(crate::specs::Kind::kind_certified))]
 fn find_certified(name: &[u8]) -> Option<Kind>
     ensures { result ≡ kind_certified name.now }

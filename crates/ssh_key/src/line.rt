@@ -1,4 +1,4 @@
-// Reading a key line (sshd(8), AUTHORIZED_KEYS FILE FORMAT).
+//! Reading a key line (sshd(8), AUTHORIZED_KEYS FILE FORMAT).
 
 ghost use Rattle.std.specs.Prelude.{◌≡◌, ℕ, List, IfErr, IfOk, Ok, option_map};
 ghost use Rattle.ssh_wire.specs.Wire.{IsBytes};
@@ -58,6 +58,7 @@ pub fn read_line<'a>(alloc: Global, text: &'a [u8]) -> Result<Line<'a>, LineFaul
     read_content(alloc, text)
 }
 
+// Reads the type word, the key and the comment of a line.
 #[tactic(auto, unfolding(crate::specs::LineReading::line_at))]
 fn read_content<'a>(alloc: Global, text: &'a [u8]) -> Result<Line<'a>, LineFault>
     ensures exact { Answers ReportsFault content_of result (line_at text.now) }
@@ -68,7 +69,7 @@ fn read_content<'a>(alloc: Global, text: &'a [u8]) -> Result<Line<'a>, LineFault
     read_blob(alloc, word, after_blanks(rest))
 }
 
-/// The line from its type word on, if it has one.
+// The line from its type word on, if it has one.
 #[tactic(auto, unfolding(crate::specs::LineReading::key_part, crate::specs::LineReading::typed))]
 fn key_part(line: &[u8]) -> Option<&[u8]>
     ensures { option_map (λ part. part.now) result ≡ key_part line.now }
@@ -84,6 +85,7 @@ fn key_part(line: &[u8]) -> Option<&[u8]>
     }
 }
 
+// Whether the first word is a type name.
 fn begins_with_name(line: &[u8]) -> bool
     ensures { result ≡ is_type_name (first_word line.now) }
 {
@@ -91,7 +93,7 @@ fn begins_with_name(line: &[u8]) -> bool
     is_type_name(word)
 }
 
-/// The key's bytes and the comment, from what follows the type word and blanks.
+// The key's bytes and the comment, from what follows the type word and blanks.
 #[tactic(auto, unfolding(crate::specs::LineReading::blob_at))]
 fn read_blob<'a>(alloc: Global, word: &'a [u8], rest: &'a [u8]) -> Result<Line<'a>, LineFault>
     ensures exact { Answers ReportsFault content_of result (blob_at word.now rest.now) }
@@ -112,7 +114,7 @@ fn read_blob<'a>(alloc: Global, word: &'a [u8], rest: &'a [u8]) -> Result<Line<'
     })
 }
 
-/// The bytes of base64 with padding, whose unused bits are zero.
+// The bytes of base64 with padding, whose unused bits are zero.
 #[tactic(auto, unfolding(crate::specs::LineReading::decoded))]
 fn decoded(alloc: Global, base64: &[u8]) -> Result<Vec<u8>, LineFault>
     ensures exact { Answers ReportsFault (λ bytes. bytes.items) result (decoded base64.now) }
@@ -124,7 +126,7 @@ fn decoded(alloc: Global, base64: &[u8]) -> Result<Vec<u8>, LineFault>
     })
 }
 
-/// Whether the word is the first string of a key's bytes.
+// Whether the word is the first string of a key's bytes.
 #[tactic(auto, unfolding(crate::specs::LineReading::has_word))]
 fn has_word(word: &[u8], blob: &[u8]) -> bool
     ensures { result ≡ has_word word.now blob.now }

@@ -1,4 +1,4 @@
-// Why a key line is refused.
+//! Why a key line is refused.
 
 ghost use Rattle.std.specs.Prelude.{◌≡◌, Some};
 ghost use Rattle.ssh_key.specs.LineFault.{fault_number, fault_text};

@@ -1,4 +1,4 @@
-// The lines of a text.
+//! The lines of a text.
 
 ghost use Rattle.std.specs.Prelude.{◌≡◌, ◌+◌, ◌≤◌, ◌∷◌, IfSome, length};
 ghost use Rattle.std.specs.List.{slice_split};

@@ -1,4 +1,4 @@
-// Reading a printed fingerprint.
+//! Reading a printed fingerprint.
 
 ghost use Rattle.std.specs.Prelude.{ℕ, List, IfErr, IfOk, Ok};
 ghost use Rattle.base64.specs.Engines.{standard_no_pad};
@@ -29,6 +29,7 @@ pub fn parse_fingerprint(alloc: Global, text: &[u8]) -> Result<[u8; 32], Fingerp
     read_digest(alloc, text)
 }
 
+// The digest of a printed fingerprint, or the first fault.
 #[tactic(auto, unfolding(crate::specs::FingerprintReading::fingerprint_at))]
 fn read_digest(alloc: Global, text: &[u8]) -> Result<[u8; 32], FingerprintFault>
     ensures { GivesDigest result (fingerprint_at text.now) }
@@ -40,6 +41,7 @@ fn read_digest(alloc: Global, text: &[u8]) -> Result<[u8; 32], FingerprintFault>
     digest(alloc, &text[7..])
 }
 
+// The digest that base64 encodes without padding.
 fn digest(alloc: Global, base64: &[u8]) -> Result<[u8; 32], FingerprintFault>
     ensures { GivesDigest result (sized (decode_of standard_no_pad base64.now)) }
 {
@@ -50,7 +52,7 @@ fn digest(alloc: Global, base64: &[u8]) -> Result<[u8; 32], FingerprintFault>
     }
 }
 
-/// The digest, where it is one by its size.
+// The digest, where it is one by its size.
 fn whole_digest(bytes: &[u8]) -> Result<[u8; 32], FingerprintFault>
     ensures { GivesDigest result (sized (Ok bytes.now)) }
 {

@@ -1,4 +1,4 @@
-// Why private containers are refused.
+//! Why private containers are refused.
 
 ghost use Rattle.std.specs.Prelude.{◌≡◌, Some};
 ghost use Rattle.ssh_key.specs.PrivateFault.{private_fault_number, private_fault_text};

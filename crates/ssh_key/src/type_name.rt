@@ -1,4 +1,4 @@
-// The names of the key types.
+//! The names of the key types.
 
 ghost use Rattle.std.specs.Prelude.{◌≡◌};
 ghost use Rattle.ssh_key.specs.TypeName.{is_type_name};

@@ -1,4 +1,4 @@
-// Examples from the formats, and the host key that GitHub publishes.
+//! Examples from the formats, and the host key that GitHub publishes.
 
 mod containers;
 mod fault;

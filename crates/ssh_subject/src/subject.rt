@@ -1,4 +1,4 @@
-// What a revocation list is asked about a key.
+//! What a revocation list is asked about a key.
 
 use ssh_wire::Bytes;
 use std::marker::Model;

@@ -1,4 +1,4 @@
-// A vector of bytes that contracts see as its list.
+//! A vector of bytes that contracts see as its list.
 
 ghost use Rattle.std.specs.Prelude.{◌≡◌};
 

@@ -1,4 +1,4 @@
-// Reading fields from the front of bytes.
+//! Reading fields from the front of bytes.
 
 ghost use Rattle.std.specs.Prelude.{◌≡◌, ◌↔◌, ◌∷◌, ◌++◌, [], IfOk, IsTrue};
 ghost use Rattle.ssh_wire.specs.Reading.{Lends, Reads, magnitude_of, mpint_at, number_at};
@@ -130,7 +130,7 @@ impl<'a> Cursor<'a> {
     }
 }
 
-/// The magnitude that two's complement spells.
+// The magnitude that two's complement spells.
 #[tactic(auto, unfolding(crate::specs::Reading::magnitude_of))]
 fn magnitude(bytes: &[u8]) -> Result<&[u8], WireFault>
     ensures { Lends result (magnitude_of bytes.now) }

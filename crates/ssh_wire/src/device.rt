@@ -1,4 +1,4 @@
-// Where bytes come from and where they go, with the failures of either.
+//! Where bytes come from and where they go, with the failures of either.
 
 ghost use Rattle.std.specs.Prelude.{◌≡◌, ℕ, ◌<◌, List, Option, Bool, true, length, IfOk, is_err};
 ghost use Rattle.std.specs.Io.KnownBytes.{ReadConsumes, WriteAppends};

@@ -1,4 +1,4 @@
-// Why bytes on the wire are refused.
+//! Why bytes on the wire are refused.
 
 ghost use Rattle.std.specs.Prelude.{◌≡◌, Some};
 ghost use Rattle.ssh_wire.specs.Fault.{fault_number, fault_text};
@@ -18,7 +18,7 @@ pub enum WireFault {
 }
 
 impl WireFault {
-    /// The fault's number.
+    /// The fault's number, 1 to 3 in the order of the variants.
     pub fn number(self) -> u8
         ensures { result ≡ fault_number self }
     {

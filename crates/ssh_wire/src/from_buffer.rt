@@ -1,4 +1,4 @@
-// A buffered reader of the standard library as a source.
+//! A buffered reader of the standard library as a source.
 
 ghost use Rattle.std.specs.Prelude.{◌≡◌, false};
 ghost use Rattle.std.specs.Io.Buffered.{reader_remaining};

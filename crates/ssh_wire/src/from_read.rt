@@ -1,4 +1,4 @@
-// A reader of the standard library as a source.
+//! A reader of the standard library as a source.
 
 ghost use Rattle.std.specs.Prelude.{◌≡◌, false};
 

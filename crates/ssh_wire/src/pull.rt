@@ -1,4 +1,4 @@
-// Taking fields from a reader, whatever pieces it gives.
+//! Taking fields from a reader, whatever pieces it gives.
 
 ghost use Rattle.std.specs.Prelude.{◌≡◌, ◌≢◌, ◌<◌, ◌∷◌, [], None, Err, length, IfOk, IfErr};
 ghost use Rattle.std.specs.Prelude.{OnOk, OnErr, ◌+◌, ◌≤◌, false, vec_capacity, vec_len};
@@ -45,7 +45,7 @@ impl<R: Source + Drop> Model for Pull<R> {
 }
 
 impl<R: Source + Drop> Pull<R> {
-    /// Takes nothing yet. The reader may not have failed before.
+    /// Takes nothing yet, and at most `limit` bytes in all. The reader has not failed before.
     pub fn new(reader: R, limit: u64) -> Self
         requires { R.has_failed reader ≡ false }
         ensures { result ≡ untaken (R.left reader) limit }
@@ -68,6 +68,7 @@ impl<R: Source + Drop> Pull<R> {
     }
 
     /// Whether no byte is left. It looks at most one byte ahead, which may be one past the limit.
+    /// `Read` where the reader fails.
     pub fn at_end(&mut self) -> Result<bool, PullFault>
         ensures ok { IfOk result (λ ended. Looks self.old ended self.new) }
         ensures err { self.old.fault ≡ None → IfErr result (λ fault.
@@ -86,7 +87,9 @@ impl<R: Source + Drop> Pull<R> {
         }
     }
 
-    /// Takes bytes to fill a slice. What a refusal leaves in the slice is not said.
+    /// Takes bytes to fill a slice. `EndsEarly` where the reader ends before that, `TooLong` where
+    /// that would pass the limit and the reader goes on past it, `Read` where it fails. A refusal
+    /// may have written to the slice.
     #[inline(always)]
     pub fn fill(&mut self, into: &mut [u8]) -> Result<(), PullFault>
         ensures ok { OnOk result (Takes self.old into.new self.new) }
@@ -107,7 +110,7 @@ impl<R: Source + Drop> Pull<R> {
         }
     }
 
-    /// Takes a byte.
+    /// Takes a byte. It is refused as `fill` is.
     pub fn byte(&mut self) -> Result<u8, PullFault>
         ensures ok { IfOk result (λ byte. Takes self.old (byte ∷ []) self.new) }
         ensures err { self.old.fault ≡ None → IfErr result (λ fault.
@@ -119,7 +122,7 @@ impl<R: Source + Drop> Pull<R> {
         Ok(into[0])
     }
 
-    /// Takes as many bytes as an array has.
+    /// Takes as many bytes as an array has. They are refused as by `fill`.
     pub fn array<const N: usize>(&mut self) -> Result<[u8; N], PullFault>
         ensures ok { IfOk result (λ field. Takes self.old field self.new) }
         ensures size { IfOk result (λ field. length field ≡ N) }
@@ -133,7 +136,8 @@ impl<R: Source + Drop> Pull<R> {
     }
 
     /// Takes this many bytes into a vector, in place of what it holds. The vector grows only as
-    /// bytes come, so a length that is not true takes no memory. A refusal leaves it empty.
+    /// bytes come, so a false length takes no memory. They are refused as by `fill`, or with
+    /// `NoMemory` where a growth is; the vector is empty then.
     pub fn bytes_into(&mut self, out: &mut Vec<u8>, size: usize) -> Result<(), PullFault>
         ensures ok { OnOk result (Takes self.old out.new.items self.new) }
         ensures size { OnOk result (vec_len out.new ≡ size) }
@@ -160,7 +164,7 @@ impl<R: Source + Drop> Pull<R> {
         }
     }
 
-    /// Takes this many bytes. Memory is taken only as bytes come.
+    /// Takes this many bytes, as `bytes_into` does, into a vector of their own.
     pub fn bytes(&mut self, alloc: Global, size: usize) -> Result<Bytes, PullFault>
         ensures ok { IfOk result (λ field. Takes self.old field self.new) }
         ensures size { IfOk result (λ field. length field ≡ size) }
@@ -175,7 +179,9 @@ impl<R: Source + Drop> Pull<R> {
         Ok(Bytes::from_vec(out))
     }
 
-    /// Takes all that is left, within the limit. Memory is taken only as bytes come.
+    /// Takes all that is left, within the limit. Memory is taken only as bytes come. `TooLong`
+    /// where the reader goes on past the limit, `Read` where it fails, `NoMemory` where a growth is
+    /// refused.
     pub fn rest(&mut self, alloc: Global) -> Result<Bytes, PullFault>
         ensures ok { IfOk result (λ rest. TakesRest self.old rest self.new) }
         ensures err { self.old.fault ≡ None → IfErr result (λ fault.
@@ -207,7 +213,7 @@ impl<R: Source + Drop> Pull<R> {
         self.reader
     }
 
-    /// Answers an earlier fault, or the one of a field that is larger than what the limit leaves.
+    // Answers an earlier fault, or the one of a field that is larger than what the limit leaves.
     #[inline(always)]
     fn refuse_past_limit(&mut self, size: u64) -> Result<(), PullFault>
         ensures ok { OnOk result (self.new ≡ self.old) }

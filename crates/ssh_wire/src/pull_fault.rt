@@ -1,4 +1,4 @@
-// Why bytes could not be pulled from a reader.
+//! Why bytes could not be pulled from a reader.
 
 ghost use Rattle.std.specs.Prelude.{◌≡◌, Some};
 ghost use Rattle.ssh_wire.specs.PullFault.{pull_fault_number, pull_fault_text};
@@ -20,7 +20,7 @@ pub enum PullFault {
 }
 
 impl PullFault {
-    /// The fault's number.
+    /// The fault's number, 1 to 4 in the order of the variants.
     pub fn number(self) -> u8
         ensures { result ≡ pull_fault_number self }
     {

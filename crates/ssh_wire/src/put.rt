@@ -1,5 +1,5 @@
-// Appending fields to a vector (RFC 4251 section 5). Each growth comes before the first byte, so a
-// refusal leaves the vector as it was. Memory is refused only where the vector lacks the room.
+//! Appending fields to a vector (RFC 4251 section 5). Each growth comes before the first byte, so a
+//! refusal leaves the vector as it was. Memory is refused only where the vector lacks the room.
 
 ghost use Rattle.std.specs.Prelude.{◌≡◌, ◌+◌, ◌∷◌, ◌++◌, ◌<◌, ◌≤◌, ◌^◌, [], length};
 ghost use Rattle.std.specs.Prelude.{OnErr, vec_capacity, vec_len};
@@ -70,7 +70,7 @@ pub fn put_mpint(out: &mut Vec<u8>, magnitude: &[u8]) -> Result<(), AllocError>
     }
 }
 
-/// Appends the `string` of a zero byte and the bytes.
+// Appends the `string` of a zero byte and the bytes.
 #[tactic(auto, unfolding(crate::specs::Wire::string))]
 fn put_after_zero(out: &mut Vec<u8>, bytes: &[u8]) -> Result<(), AllocError>
     requires { length bytes.now + 1 < 2 ^ 32 }
@@ -84,6 +84,7 @@ fn put_after_zero(out: &mut Vec<u8>, bytes: &[u8]) -> Result<(), AllocError>
     out.extend_from_slice(bytes)
 }
 
+// A number in four bytes, the highest first.
 #[tactic(auto, unfolding(crate::specs::Wire::number))]
 fn four_bytes(n: u32) -> [u8; 4]
     ensures { result ≡ number 4 n }

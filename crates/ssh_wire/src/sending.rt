@@ -1,4 +1,4 @@
-// Writing all of some bytes, in whatever pieces a writer takes them.
+//! Writing all of some bytes, in whatever pieces a writer takes them.
 
 ghost use Rattle.std.specs.Prelude.{◌≡◌, ◌<◌, false, length, take, OnOk, IfErr, is_err};
 ghost use Rattle.std.specs.Io.KnownBytes.{Appends};

@@ -1,4 +1,4 @@
-// A writer of the standard library as a sink.
+//! A writer of the standard library as a sink.
 
 ghost use Rattle.std.specs.Prelude.{◌≡◌, false};
 

@@ -1,4 +1,4 @@
-// What no contract says: the standard's own examples, calls with memory enough, devices that fail.
+//! What no contract says: the standard's own examples, calls with memory enough, devices that fail.
 
 mod buffer;
 mod cursor;
@@ -13,7 +13,7 @@ mod writer;
 use parts_for_tests::printed;
 use ssh_wire::{Bytes, PullFault, WireFault};
 
-/// A fault, its number, and how it prints.
+// A fault, its number, and how it prints.
 type Row<F> = (F, u8, &'static str);
 
 const WIRE_FAULTS: [Row<WireFault>; 3] = [

@@ -1,4 +1,4 @@
-// Laws of what is asked. Each function does nothing: its contract is the law.
+//! Laws of what is asked. Each function does nothing: its contract is the law.
 
 ghost use Rattle.std.specs.Prelude.{◌↔◌, IsTrue, List};
 ghost use Rattle.ssh_subject.specs.Subject.{Subject};

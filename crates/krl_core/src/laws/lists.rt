@@ -1,5 +1,5 @@
-// Laws of what a list spells, of its first fault and of what its fields name. Each function does
-// nothing: its contract is the law.
+//! Laws of what a list spells, of its first fault and of what its fields name. Each function does
+//! nothing: its contract is the law.
 
 ghost use Rattle.std.specs.Prelude.{◌≡◌, ◌≤◌, ◌*◌, ◌⊎◌, ◌++◌, ℕ, List, None, Some, Option, length};
 ghost use Rattle.krl_core.specs.declared.krl_fault.KrlFault.TheVariants.{EndsEarly};

@@ -1,4 +1,4 @@
-// What is held, and the entries that it means.
+//! What is held, and the entries that it means.
 
 ghost use Rattle.std.specs.Prelude.{◌≡◌, List};
 ghost use Rattle.krl_core.specs.Contents.{Contents, Means};

@@ -1,4 +1,4 @@
-// Laws of the lists that are written. Each function does nothing: its contract is the law.
+//! Laws of the lists that are written. Each function does nothing: its contract is the law.
 
 ghost use Rattle.std.specs.Prelude.{◌≡◌, ◌≤◌, ◌<◌, ◌^◌, ◌⊎◌, ℕ, Bool, true, List, Option, None, length};
 ghost use Rattle.ssh_wire.specs.Wire.{IsBytes};

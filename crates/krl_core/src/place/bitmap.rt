@@ -1,4 +1,4 @@
-// The places of a subsection of a bitmap, and what follows each of its fields.
+//! The places of a subsection of a bitmap, and what follows each of its fields.
 
 ghost use Rattle.std.specs.Prelude.{◌≡◌, length};
 ghost use Rattle.krl_core.specs.Front.{HasRoom};

@@ -1,4 +1,4 @@
-// The places of a section of certificates, but for its subsections, and what follows each field.
+//! The places of a section of certificates, but for its subsections, and what follows each field.
 
 ghost use Rattle.std.specs.Prelude.{◌≡◌, length};
 ghost use Rattle.krl_core.specs.Front.{HasRoom};

@@ -1,4 +1,4 @@
-// The places of a signature, and what follows each of its fields.
+//! The places of a signature, and what follows each of its fields.
 
 ghost use Rattle.std.specs.Prelude.{◌≡◌, length, Ok};
 ghost use Rattle.krl_core.specs.Place.{signature_expected};

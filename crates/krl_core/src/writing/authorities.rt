@@ -1,4 +1,4 @@
-// The sections of all authorities.
+//! The sections of all authorities.
 
 ghost use Rattle.std.specs.Prelude.{◌≤◌, length};
 ghost use Rattle.krl_core.specs.Front.{limit};

@@ -1,4 +1,4 @@
-// The text of what is held, and its way out.
+//! The text of what is held, and its way out.
 
 ghost use Rattle.std.specs.Prelude.{◌≡◌, [], false};
 ghost use Rattle.krl_core.specs.Krl.{header_text};
@@ -13,9 +13,12 @@ use serial_set::Spans;
 use ssh_wire::{Sink, put_string, put_u32, put_u64, send};
 use std::alloc::Global;
 
-/// The text of a revocation list: its header, then what is held, all authorities first and each
-/// authority by its bytes, then keys and hashes. Each authority's serials stand in the fewest bytes
-/// that lists, ranges and bitmaps can name them in. What would be empty is left out.
+/// The text of a revocation list (PROTOCOL.krl): its header, then what is held, all authorities
+/// first and each authority by its bytes, then keys and hashes. Each authority's serials take the
+/// fewest bytes that lists, ranges and bitmaps can name them in. What would be empty is left out.
+///
+/// `TooLong` where the text would be longer than 67,108,864 bytes, which is what `read_krl` reads,
+/// and `NoMemory` where memory runs out.
 pub fn krl_text<S: Spans>(
     alloc: Global,
     header: &Header,
@@ -58,7 +61,7 @@ pub enum WriteFault {
 }
 
 impl WriteFault {
-    /// The fault's number.
+    /// The fault's number, 1 to 3 in the order of the variants.
     pub fn number(self) -> u8
         ensures { result ≡ write_fault_number self }
     {
@@ -70,8 +73,9 @@ impl WriteFault {
     }
 }
 
-/// Writes the text of a revocation list. The whole text stands in memory before the first byte goes
-/// out.
+/// Writes the text of `krl_text` to a writer that has not failed before. The whole text is in
+/// memory before the first byte goes out: after `NoMemory` and `TooLong` none did, and after
+/// `Write` the first `count` bytes and no others.
 pub fn write_krl<S: Spans, W: Sink>(
     alloc: Global,
     header: &Header,

@@ -1,4 +1,4 @@
-// Strings one after the other, as long as the whole stays within the limit.
+//! Strings one after the other, as long as the whole stays within the limit.
 
 ghost use Rattle.std.specs.Prelude.{◌≤◌, length};
 ghost use Rattle.ssh_wire.specs.Wire.{string, strings};

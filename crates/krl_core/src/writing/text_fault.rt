@@ -1,4 +1,4 @@
-// Why a list has no text.
+//! Why a list has no text.
 
 ghost use Rattle.std.specs.Prelude.{◌≡◌};
 ghost use Rattle.krl_core.specs.Within.{text_fault_number};
@@ -16,7 +16,7 @@ pub enum TextFault {
 }
 
 impl TextFault {
-    /// The fault's number.
+    /// The fault's number, 1 or 2 in the order of the variants.
     pub fn number(self) -> u8
         ensures { result ≡ text_fault_number self }
     {

@@ -1,4 +1,4 @@
-// What each entry revokes, over each set of serials.
+//! What each entry revokes, over each set of serials.
 
 use crate::tests::full::Full;
 use crate::tests::plain_model::{Asked, Names, Said, held_of, revokes};
@@ -8,8 +8,8 @@ use ssh_key::{sha1_of, sha256_of};
 use std::alloc::Global;
 use std::process::Abort;
 
-/// What is asked about: the authority, the serial and the key ID of a certificate of G, or none for
-/// G as a plain key.
+// What is asked about: the authority, the serial and the key ID of a certificate of G, or none for
+// G as a plain key.
 type About = Option<(&'static [u8], u64, &'static [u8])>;
 
 // The question, as the model takes it.
@@ -34,7 +34,7 @@ fn says<S: Spans>(rt: &impl Abort, alloc: Global, said: &[Said<'_>], rows: &[(Ab
     }
 }
 
-/// What is said, and of each of what is asked about then whether it is revoked.
+// What is said, and of each of what is asked about then whether it is revoked.
 type Case = (Said<'static>, &'static [(About, bool)]);
 
 const CASES: [Case; 5] = [
@@ -128,12 +128,14 @@ fn hashes_name_keys<S: Spans>(rt: &impl Abort, alloc: Global) {
     names_keys::<S>(rt, alloc, Said::Sha256(&authority), Said::Sha256(&key));
 }
 
+// What each entry revokes, over one sort of set.
 fn cases<S: Spans>(rt: &impl Abort, alloc: Global) {
     for (said, rows) in &CASES {
         says::<S>(rt, alloc, &[*said], *rows);
     }
 }
 
+// All of these over one sort of set.
 fn entries_revoke<S: Spans>(rt: &impl Abort, alloc: Global) {
     cases::<S>(rt, alloc);
     names_keys::<S>(rt, alloc, Said::Key(A), Said::Key(G));

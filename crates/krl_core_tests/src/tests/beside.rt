@@ -1,4 +1,4 @@
-// What is read of lists, beside what a plain reader reads of them.
+//! What is read of lists, beside what a plain reader reads of them.
 
 ghost use Rattle.std.specs.Prelude.{◌<◌, ◌≤◌, ◌^◌, length};
 

@@ -1,4 +1,4 @@
-// Random questions about random entries, answered as a plain model answers them.
+//! Random questions about random entries, answered as a plain model answers them.
 
 ghost use Rattle.std.specs.Prelude.{◌≤◌, ◌<◌};
 
@@ -17,7 +17,7 @@ const KEYS: [&[u8]; 4] = [b"a", b"ab", b"b", b"k"];
 
 const IDS: [&[u8]; 4] = [b"", b"i", b"ij", b"j"];
 
-/// The hashes of the keys.
+// The hashes of the keys.
 #[derive(Clone, Copy)]
 struct Hashes {
     sha1s: [[u8; 20]; 4],
@@ -25,6 +25,7 @@ struct Hashes {
 }
 
 impl Hashes {
+    // The hashes of the keys.
     fn new() -> Hashes {
         Hashes {
             sha1s: KEYS.map(|key| sha1_of(key)),
@@ -45,12 +46,14 @@ fn some_serials<'a>(random: &mut Random) -> Said<'a> {
     Said::Serials { authority, lo, hi }
 }
 
+// A random key ID of a random authority.
 fn some_id<'a>(random: &mut Random) -> Said<'a> {
     let authority = random.text(&AUTHORITIES);
     let id = random.text(&IDS);
     Said::Id { authority, id }
 }
 
+// A random entry, mostly of serials or of a key ID.
 fn some_entry<'a>(random: &mut Random, hashes: &'a Hashes) -> Said<'a> {
     let at = random.below(4) as usize;
     let sort = random.below(20);
@@ -70,6 +73,7 @@ fn some_entry<'a>(random: &mut Random, hashes: &'a Hashes) -> Said<'a> {
     }
 }
 
+// A random key or certificate.
 fn some_question<'a>(random: &mut Random) -> Asked<'a> {
     let key = random.text(&KEYS);
     if random.below(6) == 0 {

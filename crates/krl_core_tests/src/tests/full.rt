@@ -1,4 +1,4 @@
-// A set of serials of the tests' own, which refuses at a length and counts its additions.
+//! A set of serials of the tests' own, which refuses at a length and counts its additions.
 
 use serial_set::{Piece, Span, SpanVec, Spans};
 use std::alloc::{AllocError, Global};

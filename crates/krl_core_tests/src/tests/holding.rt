@@ -1,4 +1,4 @@
-// What is held after additions, also where one is refused, in its order.
+//! What is held after additions, also where one is refused, in its order.
 
 ghost use Rattle.std.specs.Prelude.{◌≤◌};
 
@@ -10,7 +10,7 @@ use serial_set::{Held, SpanVec, Spans};
 use std::alloc::Global;
 use std::process::Abort;
 
-/// Whether what was said was added, and how many spans are held then, under how many authorities.
+// Whether what was said was added, and how many spans are held then, under how many authorities.
 type Outcome = (bool, u128, usize);
 
 // How many spans are held.
@@ -36,7 +36,7 @@ fn have_outcomes<S: Spans>(rt: &impl Abort, r: &mut Revocations<S>, rows: &[(Sai
     }
 }
 
-/// What is said, and its outcome.
+// What is said, and its outcome.
 type Row = (Said<'static>, Outcome);
 
 const COUNTED: [Row; 5] = [
@@ -83,6 +83,7 @@ const COUNTED: [Row; 5] = [
     ),
 ];
 
+// Spans are counted after each addition.
 fn spans_are_counted<S: Spans>(rt: &impl Abort, alloc: Global) {
     let mut r: Revocations<S> = Revocations::new(alloc);
     have_outcomes(rt, &mut r, &COUNTED);
@@ -110,6 +111,7 @@ fn comes_next<S: Spans>(
     assert!(rt; (ids(&listed), spans(&listed)) == counts);
 }
 
+// The authorities come in the order of their bytes, all authorities first.
 fn stand_in_order<S: Spans>(rt: &impl Abort, r: &Revocations<S>) {
     assert!(rt; authorities(r) == 3);
     let mut walk = r.walk_authorities();
@@ -140,6 +142,7 @@ const OF_TWO: [Said<'static>; 4] = [
     },
 ];
 
+// Both over one sort of set.
 fn spans_and_authorities<S: Spans>(rt: &impl Abort, alloc: Global) {
     spans_are_counted::<S>(rt, alloc);
     let r = held_of::<S>(rt, alloc, &OF_TWO);

@@ -1,4 +1,4 @@
-// Lists that would take much where they were not read a field at a time, into sets of their own.
+//! Lists that would take much where they were not read a field at a time, into sets of their own.
 
 use crate::tests::full::Full;
 use crate::tests::lists::{list_of, read_from, spans_from};
@@ -88,7 +88,7 @@ fn is_reported(
 // A key that is said to be as long as can be.
 const LONGEST: &[u8] = b"\x02\xff\xff\xff\xff\xff\xff\xff\xfb";
 
-/// What a list begins with, how many zero bytes it goes on with, and what comes of it.
+// What a list begins with, how many zero bytes it goes on with, and what comes of it.
 type Row = (&'static [u8], usize, Result<usize, KrlFault>);
 
 const LONG: [Row; 4] = [

@@ -1,5 +1,5 @@
-// The making, reading and writing of lists. What the contracts of these calls say ends here, since
-// a test only compares values, and its proof is the cheaper for each fact that it does not carry.
+//! The making, reading and writing of lists. What the contracts of these calls say ends here, since
+//! a test only compares values, and its proof is the cheaper for each fact that it does not carry.
 
 use krl_core::{Header, KrlFault, Revocations, TextFault, krl_text, read_krl};
 use parts_for_tests::{HEADER, joined};

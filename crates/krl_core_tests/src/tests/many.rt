@@ -1,4 +1,4 @@
-// What is held, written and read in great numbers, with memory enough.
+//! What is held, written and read in great numbers, with memory enough.
 
 use crate::tests::lists::{has_text, header, list_of, read_from, spans_from, text_of};
 use crate::tests::plain_model::{Said, hold, id_under, serials_under};
@@ -9,7 +9,7 @@ use serial_set::{Held, Spans};
 use std::alloc::{AllocError, Global};
 use std::process::Abort;
 
-/// How many of each sort: enough for a tree of five levels.
+// How many of each sort: enough for a tree of five levels.
 const COUNT: usize = 40_000;
 
 // Holds a key, its hashes, an authority with a serial and a key ID, and a key ID of all

@@ -1,4 +1,4 @@
-// A plain, slow model of what is revoked: a list of what was said, gone over for each question.
+//! A plain, slow model of what is revoked: a list of what was said, gone over for each question.
 
 ghost use Rattle.std.specs.Prelude.{◌≡◌, ◌<◌, ◌≤◌};
 ghost use Rattle.krl_core.specs.Authority.{IsAuthority};
@@ -45,6 +45,7 @@ pub struct Asked<'a> {
     pub cert: Option<Names<'a>>,
 }
 
+/// What a list can name of a certificate, beside its key.
 #[derive(Clone, Copy)]
 pub struct Names<'a> {
     pub authority: &'a [u8],
@@ -52,6 +53,7 @@ pub struct Names<'a> {
     pub id: &'a [u8],
 }
 
+// Whether what was said names a key.
 fn names_key(said: Said<'_>, key: &[u8]) -> bool {
     match said {
         Said::Key(blob) => blob == key,
@@ -61,10 +63,12 @@ fn names_key(said: Said<'_>, key: &[u8]) -> bool {
     }
 }
 
+// Whether what was said of an authority, or of all, holds for this one.
 fn is_under(said: &[u8], authority: &[u8]) -> bool {
     said.is_empty() || said == authority
 }
 
+// Whether what was said names a certificate, or its authority's key.
 fn names_cert(said: Said<'_>, names: Names<'_>) -> bool {
     match said {
         Said::Serials { authority, lo, hi } => {
@@ -78,6 +82,7 @@ fn names_cert(said: Said<'_>, names: Names<'_>) -> bool {
     }
 }
 
+// Whether what was said names what is asked about.
 fn is_named(said: Said<'_>, asked: Asked<'_>) -> bool {
     if names_key(said, asked.key) {
         return true;
@@ -109,6 +114,7 @@ fn under(authority: &[u8]) -> Option<&[u8]>
     }
 }
 
+// The bytes as an array, or zeros where they are not as many.
 fn array_of<const N: usize>(bytes: &[u8]) -> [u8; N] {
     let mut array = [0; N];
     if bytes.len() == N {

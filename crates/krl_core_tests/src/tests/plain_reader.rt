@@ -1,5 +1,5 @@
-// A plain, slow reader of lists (PROTOCOL.krl), which goes down the grammar over a whole text. It
-// shares nothing with the reader that is proved.
+//! A plain, slow reader of lists (PROTOCOL.krl), which goes down the grammar over a whole text. It
+//! shares nothing with the reader that is proved.
 
 use crate::tests::plain_model::Said;
 use krl_core::KrlFault;
@@ -24,6 +24,7 @@ pub struct PlainReader<'a> {
 }
 
 impl<'a> PlainReader<'a> {
+    /// A reader at the beginning of a text.
     pub fn new(alloc: Global, text: &'a [u8]) -> PlainReader<'a> {
         PlainReader {
             left: text,
@@ -47,6 +48,7 @@ impl<'a> PlainReader<'a> {
         self.sections()
     }
 
+    // Reads the header after the format version.
     fn header(&mut self) -> Result<(), KrlFault> {
         self.version = self.number(8, NOWHERE)?;
         self.date = self.number(8, NOWHERE)?;
@@ -56,6 +58,7 @@ impl<'a> PlainReader<'a> {
         Ok(())
     }
 
+    // Reads the sections to the end of the text.
     fn sections(&mut self) -> Result<(), KrlFault> {
         let mut signed = false;
         for _ in 0..MANY {
@@ -76,6 +79,7 @@ impl<'a> PlainReader<'a> {
         Ok(())
     }
 
+    // Reads a section after its type byte.
     fn section(&mut self, sort: u64) -> Result<(), KrlFault> {
         match sort {
             1 | 2 | 3 | 5 | 255 => {}
@@ -92,6 +96,7 @@ impl<'a> PlainReader<'a> {
         }
     }
 
+    // Reads keys up to an end.
     fn keys(&mut self, end: u64) -> Result<(), KrlFault> {
         for _ in 0..MANY {
             if self.taken >= end {
@@ -103,6 +108,7 @@ impl<'a> PlainReader<'a> {
         Ok(())
     }
 
+    // Reads hashes of a size up to an end.
     fn hashes(&mut self, size: u64, end: u64) -> Result<(), KrlFault> {
         for _ in 0..MANY {
             if self.taken >= end {
@@ -121,6 +127,7 @@ impl<'a> PlainReader<'a> {
         Ok(())
     }
 
+    // Reads a section of certificates.
     fn certificates(&mut self, end: u64) -> Result<(), KrlFault> {
         let authority = self.string(end)?;
         self.string(end)?;
@@ -134,6 +141,7 @@ impl<'a> PlainReader<'a> {
         Ok(())
     }
 
+    // Reads a subsection after its type byte.
     fn subsection(&mut self, sort: u64, authority: &'a [u8], end: u64) -> Result<(), KrlFault> {
         match sort {
             0x20 | 0x21 | 0x22 | 0x23 | 0x39 => {}
@@ -152,6 +160,7 @@ impl<'a> PlainReader<'a> {
         }
     }
 
+    // Reads serials up to an end.
     fn serials(&mut self, authority: &'a [u8], end: u64) -> Result<(), KrlFault> {
         for _ in 0..MANY {
             if self.taken >= end {
@@ -167,6 +176,7 @@ impl<'a> PlainReader<'a> {
         Ok(())
     }
 
+    // Reads the two ends of a range.
     fn range(&mut self, authority: &'a [u8]) -> Result<(), KrlFault> {
         let lo = self.number(8, NOWHERE)?;
         let hi = self.number(8, NOWHERE)?;
@@ -176,6 +186,7 @@ impl<'a> PlainReader<'a> {
         self.say(Said::Serials { authority, lo, hi })
     }
 
+    // Reads a bitmap that fills its subsection.
     fn bitmap(&mut self, authority: &'a [u8], end: u64) -> Result<(), KrlFault> {
         let offset = self.number(8, end)?;
         let size = self.number(4, end)?;
@@ -211,6 +222,7 @@ impl<'a> PlainReader<'a> {
         Ok(())
     }
 
+    // Reads key IDs up to an end.
     fn ids(&mut self, authority: &'a [u8], end: u64) -> Result<(), KrlFault> {
         for _ in 0..MANY {
             if self.taken >= end {
@@ -222,6 +234,7 @@ impl<'a> PlainReader<'a> {
         Ok(())
     }
 
+    // Reads an extension, which may not be critical.
     fn extension(&mut self, end: u64) -> Result<(), KrlFault> {
         self.string(end)?;
         if self.number(1, end)? != 0 {
@@ -235,6 +248,7 @@ impl<'a> PlainReader<'a> {
         Ok(())
     }
 
+    // Keeps what was said.
     fn say(&mut self, said: Said<'a>) -> Result<(), KrlFault> {
         match self.said.push(said) {
             Ok(()) => Ok(()),

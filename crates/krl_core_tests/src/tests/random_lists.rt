@@ -1,4 +1,4 @@
-// Lists of random sections, whole and with a byte changed.
+//! Lists of random sections, whole and with a byte changed.
 
 ghost use Rattle.std.specs.Prelude.{◌<◌, ◌≤◌, ◌^◌, length};
 
@@ -24,6 +24,7 @@ fn put(rt: &impl Abort, out: &mut Vec<u8>, content: &[u8]) {
     put_string(out, content).expect(rt, "there is memory");
 }
 
+// Appends random bytes, at most this many.
 fn put_some_bytes(rt: &impl Abort, out: &mut Vec<u8>, random: &mut Random, most: u64)
     requires { most < 1000 }
 {
@@ -39,12 +40,14 @@ fn put_some_string(rt: &impl Abort, out: &mut Vec<u8>, alloc: Global, random: &m
     put(rt, out, &content);
 }
 
+// Appends an extension that is not critical.
 fn put_extension(rt: &impl Abort, out: &mut Vec<u8>, alloc: Global, random: &mut Random) {
     put_some_string(rt, out, alloc, random);
     byte(rt, out, 0);
     put_some_string(rt, out, alloc, random)
 }
 
+// Appends the ends of a random range.
 fn put_range(rt: &impl Abort, out: &mut Vec<u8>, random: &mut Random) {
     let one = random.serial();
     let other = random.serial();
@@ -68,18 +71,21 @@ fn put_bitmap(rt: &impl Abort, out: &mut Vec<u8>, alloc: Global, random: &mut Ra
     put(rt, out, &bits);
 }
 
+// Appends up to three random serials.
 fn put_serials(rt: &impl Abort, out: &mut Vec<u8>, random: &mut Random) {
     for _ in 0..random.below(4) {
         long(rt, out, random.serial());
     }
 }
 
+// Appends up to three random strings.
 fn put_strings(rt: &impl Abort, out: &mut Vec<u8>, alloc: Global, random: &mut Random) {
     for _ in 0..random.below(4) {
         put_some_string(rt, out, alloc, random);
     }
 }
 
+// Appends a random subsection.
 fn put_subsection(rt: &impl Abort, out: &mut Vec<u8>, alloc: Global, random: &mut Random) {
     let mut content = Vec::new(alloc);
     let sort = match random.below(5) {
@@ -108,6 +114,7 @@ fn put_subsection(rt: &impl Abort, out: &mut Vec<u8>, alloc: Global, random: &mu
     put(rt, out, &content);
 }
 
+// Appends the content of a random section of certificates.
 fn put_certificates(rt: &impl Abort, out: &mut Vec<u8>, alloc: Global, random: &mut Random) {
     if random.below(2) == 0 {
         put(rt, out, b"");
@@ -120,6 +127,7 @@ fn put_certificates(rt: &impl Abort, out: &mut Vec<u8>, alloc: Global, random: &
     }
 }
 
+// Appends up to two hashes of a size.
 fn put_hashes(rt: &impl Abort, out: &mut Vec<u8>, random: &mut Random, size: usize) {
     let hash = [random.below(256) as u8; 32];
     for _ in 0..random.below(3) {
@@ -127,6 +135,7 @@ fn put_hashes(rt: &impl Abort, out: &mut Vec<u8>, random: &mut Random, size: usi
     }
 }
 
+// Appends a random section.
 fn put_section(rt: &impl Abort, out: &mut Vec<u8>, alloc: Global, random: &mut Random) {
     let mut content = Vec::new(alloc);
     let sort = match random.below(8) {
@@ -155,6 +164,7 @@ fn put_section(rt: &impl Abort, out: &mut Vec<u8>, alloc: Global, random: &mut R
     put(rt, out, &content);
 }
 
+// A random list.
 fn some_list(rt: &impl Abort, alloc: Global, random: &mut Random) -> Vec<u8> {
     let mut text = Vec::from_slice(alloc, &HEADER).expect(rt, "there is memory");
     for _ in 0..random.below(6) {

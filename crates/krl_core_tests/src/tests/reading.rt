@@ -1,4 +1,4 @@
-// Lists, read from a slice and in pieces.
+//! Lists, read from a slice and in pieces.
 
 use crate::tests::lists::{list_of, read_from, says, spans_from, with_byte};
 use crate::tests::rows::{BITMAP, ROWS, Row};
@@ -107,7 +107,7 @@ fn interruptions_are_passed_over(rt: HostRuntime) {
     }
 }
 
-/// A list that is read from a slice.
+// A list that is read from a slice.
 type OfSlice<'a> = Reading<Held, FromRead<&'a [u8]>>;
 
 // Reads one field more, or answers that the list has ended.

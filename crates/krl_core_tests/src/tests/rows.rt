@@ -1,4 +1,4 @@
-// Worked lists: the header, the parts that follow it, and the first fault or what is held.
+//! Worked lists: the header, the parts that follow it, and the first fault or what is held.
 
 use krl_core::KrlFault;
 
@@ -24,6 +24,7 @@ impl Row {
     }
 }
 
+/// The worked lists.
 pub const ROWS: [Row; 50] = [
     Row {
         sections: b"",

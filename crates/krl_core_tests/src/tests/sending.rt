@@ -1,4 +1,4 @@
-// Lists that go out to a writer, which may fail.
+//! Lists that go out to a writer, which may fail.
 
 use crate::tests::lists::{header, list_of};
 use crate::tests::writing::of_runs;

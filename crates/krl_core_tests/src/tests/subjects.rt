@@ -1,4 +1,4 @@
-// What the tests ask about.
+//! What the tests ask about.
 
 use ssh_cert::{CertNames, Subject};
 use ssh_wire::Bytes;

@@ -1,4 +1,4 @@
-// Whole lists (PROTOCOL.krl), byte for byte, each read back.
+//! Whole lists (PROTOCOL.krl), byte for byte, each read back.
 
 use crate::tests::lists::{has_text, header, list_of, read_from, text_of};
 use crate::tests::plain_model::{Said, held_of, hold, id_under, serials_under};

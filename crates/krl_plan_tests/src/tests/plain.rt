@@ -1,4 +1,4 @@
-// The cost of the least plan beside what a plain search finds, for long lists of runs.
+//! The cost of the least plan beside what a plain search finds, for long lists of runs.
 
 use super::planning::{Run, cost_of, plan_of};
 use parts_for_tests::Random;

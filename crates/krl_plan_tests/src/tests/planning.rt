@@ -1,4 +1,4 @@
-// The least plan of worked lists of runs, and its cost beside that of every plan of short lists.
+//! The least plan of worked lists of runs, and its cost beside that of every plan of short lists.
 
 use krl_plan::{Group, Sort, least_plan, put_least_plan};
 use parts_for_tests::{EIGHT_AND_ONE, Random};

@@ -1,4 +1,4 @@
-// How a run answers for a key.
+//! How a run answers for a key.
 
 ghost use Rattle.std.specs.Prelude.{◌≡◌, IfOk};
 ghost use Rattle.ssh_cert.specs.AnyKey.{IsReadAs, asked_of, plain_of};

@@ -1,4 +1,4 @@
-// Going over the keys of files.
+//! Going over the keys of files.
 
 ghost use Rattle.std.specs.Prelude.{◌≡◌, ◌∷◌, [], IfOk, Ok};
 ghost use Rattle.krl_runs.specs.Carries.{Carries};
@@ -46,7 +46,7 @@ pub fn print_file<'a, A: Answers, W: Sink>(
     Ok(())
 }
 
-/// Prints the answer for a key, and reports whether something is said of it.
+// Prints the answer for a key, and reports whether something is said of it.
 fn print_key<'a, A: Answers, W: Sink>(
     run: &mut Run<W>,
     answers: &A,
@@ -65,7 +65,7 @@ fn print_key<'a, A: Answers, W: Sink>(
     Ok(true)
 }
 
-/// What a run says of a key.
+// What a run says of a key.
 fn answer_key<'a, A: Answers>(
     alloc: Global,
     answers: &A,

@@ -1,4 +1,4 @@
-// What a run says of a key, or of a list.
+//! What a run says of a key, or of a list.
 
 use ssh_wire::Bytes;
 

@@ -1,4 +1,4 @@
-// The end of a run.
+//! The end of a run.
 
 use key_files::RunFault;
 

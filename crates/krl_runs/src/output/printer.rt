@@ -1,4 +1,4 @@
-// What prints: lines are gathered to chunks, and what the writer took is counted.
+//! What prints: lines are gathered to chunks, and what the writer took is counted.
 
 ghost use Rattle.std.specs.Prelude.{◌≡◌, ◌<◌, ◌↔◌, ℕ, IsTrue, List, [], ◌∷◌, MatchResult, Option, false, true, length, OnErr, OnOk};
 ghost use Rattle.krl_runs.specs.Carries.{Carries, Reaches};
@@ -13,7 +13,7 @@ use ssh_wire::{Sink, send};
 use std::alloc::AllocError;
 use std::marker::Model;
 
-/// How many bytes of lines are sent together, but for the last ones.
+// How many bytes of lines are sent together, but for the last ones.
 const CHUNK: usize = 65_536;
 
 /// What prints, over a writer. Whole lines wait in a buffer until they fill a chunk. Once the
@@ -79,7 +79,7 @@ impl<'w, W: Sink> Printer<'w, W> {
         self.send()
     }
 
-    /// Whether the output still works.
+    // Whether the output still works.
     fn check<'a>(&self) -> Result<(), RunFault<'a>>
         ensures { MatchResult result (λ done. self.now.failed ≡ false)
             (λ stop. (self.now.failed ≡ true) × (stop ≡ output_stop self.now.sent)) }
@@ -90,21 +90,21 @@ impl<'w, W: Sink> Printer<'w, W> {
         Ok(())
     }
 
-    /// The fault of an output that has failed.
+    // The fault of an output that has failed.
     fn lost<'a>(&self) -> RunFault<'a>
         ensures { result ≡ output_stop self.now.sent }
     {
         RunFault::whole("output", Cause::Output { count: self.sent })
     }
 
-    /// Whether less than a chunk waits.
+    // Whether less than a chunk waits.
     fn is_short(&self) -> bool
         ensures { IsTrue result ↔ (length self.now.waiting < chunk) }
     {
         self.buffer.len() < CHUNK
     }
 
-    /// Adds lines to what waits. A refusal changes nothing.
+    // Adds lines to what waits. A refusal changes nothing.
     fn add(&mut self, lines: &[u8], revoked: bool) -> Result<(), AllocError>
         ensures ok { OnOk result (self.new
             ≡ and_answer self.old (record { text = lines.now; revoked = revoked })) }
@@ -115,7 +115,7 @@ impl<'w, W: Sink> Printer<'w, W> {
         Ok(())
     }
 
-    /// Sends all that waits.
+    // Sends all that waits.
     fn send<'a>(&mut self) -> Result<(), RunFault<'a>>
         ensures sends { self.old.failed ≡ false → Sends result self.old self.new }
         ensures writer { self.new.writer ≡ self.old.writer }
@@ -153,7 +153,7 @@ impl<'w, W: Sink> Printer<'w, W> {
     }
 }
 
-/// Whether it is the output that stopped a run.
+// Whether it is the output that stopped a run.
 fn is_lost(stop: &Option<RunFault>) -> bool
     ensures { result ≡ is_lost stop.now }
 {
@@ -163,6 +163,7 @@ fn is_lost(stop: &Option<RunFault>) -> bool
     }
 }
 
+// The exit status of a run.
 fn status(stopped: bool, revoked: bool) -> u8
     ensures { result ≡ status_of stopped revoked }
 {

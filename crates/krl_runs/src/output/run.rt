@@ -1,4 +1,4 @@
-// What the parts of a run share.
+//! What the parts of a run share.
 
 ghost use Rattle.std.specs.Prelude.{◌≡◌, ◌∷◌, [], ℕ, List, OnOk};
 ghost use Rattle.krl_runs.specs.Carries.{Carries};

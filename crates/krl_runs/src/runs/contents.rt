@@ -1,4 +1,4 @@
-// Printing what a list holds (ssh-keygen(1), options -Q and -l).
+//! Printing what a list holds (ssh-keygen(1), options -Q and -l).
 
 ghost use Rattle.std.specs.Prelude.{map};
 ghost use Rattle.krl_runs.specs.Carries.{Carries};
@@ -37,6 +37,7 @@ pub fn print_contents<'a, S: Spans, W: Sink>(
     print_held(run, name, list)
 }
 
+// Prints the version, the date and the comment of a list.
 fn print_header<'a, W: Sink>(
     run: &mut Run<W>,
     name: &'a str,
@@ -52,7 +53,7 @@ fn print_header<'a, W: Sink>(
     print_comment(run, name, header.comment.as_slice())
 }
 
-/// Prints the line of a comment, where there is one.
+// Prints the line of a comment, where there is one.
 fn print_comment<'a, W: Sink>(
     run: &mut Run<W>,
     name: &'a str,
@@ -68,7 +69,7 @@ fn print_comment<'a, W: Sink>(
     run.say_line(name, made)
 }
 
-/// Prints the authorities, the keys and the hashes.
+// Prints the authorities, the keys and the hashes.
 fn print_held<'a, S: Spans, W: Sink>(
     run: &mut Run<W>,
     name: &'a str,
@@ -85,7 +86,7 @@ fn print_held<'a, S: Spans, W: Sink>(
     print_texts(run, name, Fact::Hash, list.walk_sha256s())
 }
 
-/// Prints an authority, its serials and its key IDs.
+// Prints an authority, its serials and its key IDs.
 fn print_section<'a, S: Spans, W: Sink>(
     run: &mut Run<W>,
     name: &'a str,
@@ -100,7 +101,7 @@ fn print_section<'a, S: Spans, W: Sink>(
     print_texts(run, name, Fact::Id, listed.walk_ids())
 }
 
-/// Prints spans of serials, some at a time.
+// Prints spans of serials, some at a time.
 fn print_spans<'a, S: Spans, W: Sink>(
     run: &mut Run<W>,
     name: &'a str,
@@ -118,6 +119,7 @@ fn print_spans<'a, S: Spans, W: Sink>(
     Ok(())
 }
 
+// Prints some spans, a line for each.
 fn print_piece<'a, W: Sink>(
     run: &mut Run<W>,
     name: &'a str,
@@ -133,7 +135,7 @@ fn print_piece<'a, W: Sink>(
     Ok(())
 }
 
-/// Prints key IDs, keys or hashes.
+// Prints key IDs, keys or hashes.
 fn print_texts<'a, W: Sink>(
     run: &mut Run<W>,
     name: &'a str,

@@ -1,4 +1,4 @@
-// Listing the keys or the certificates of a file (ssh-keygen(1), options -l and -L).
+//! Listing the keys or the certificates of a file (ssh-keygen(1), options -l and -L).
 
 ghost use Rattle.std.specs.Prelude.{◌≡◌, ◌++◌, IfOk, OnOk, Some, false};
 ghost use Rattle.ssh_cert.specs.AnyKey.{asked_of, certificate_in, plain_of};
@@ -28,7 +28,7 @@ pub enum ListMode {
     Certs,
 }
 
-/// Lists keys or certificates, with fingerprints by a hash. The moment is in seconds from 1970 on.
+// Lists keys or certificates, with fingerprints by a hash. The moment is in seconds from 1970 on.
 #[derive(Clone, Copy)]
 struct Listing {
     mode: ListMode,
@@ -60,7 +60,7 @@ impl Answers for Listing {
 }
 
 impl Listing {
-    /// Describes a key, or the plain key of a certificate.
+    // Describes a key, or the plain key of a certificate.
     fn describe(
         &self,
         alloc: Global,
@@ -79,7 +79,7 @@ impl Listing {
         }))
     }
 
-    /// Lists the certificate of a line.
+    // Lists the certificate of a line.
     fn certify(
         &self,
         alloc: Global,
@@ -102,7 +102,7 @@ impl Listing {
         }))
     }
 
-    /// The file and the line of a certificate, and its listing.
+    // The file and the line of a certificate, and its listing.
     fn certificate_text(
         &self,
         alloc: Global,
@@ -121,7 +121,7 @@ impl Listing {
     }
 }
 
-/// Appends the name of a file and the number of a line, each with a colon, and a line feed.
+// Appends the name of a file and the number of a line, each with a colon, and a line feed.
 fn push_place(text: &mut Vec<u8>, name: &str, number: u64) -> Result<(), AllocError>
     ensures { OnOk result (text.new.items ≡ text.old.items ++ place_part name.now number) }
 {
@@ -131,7 +131,7 @@ fn push_place(text: &mut Vec<u8>, name: &str, number: u64) -> Result<(), AllocEr
     text.extend_from_slice(b":\n")
 }
 
-/// What is after the kind: a mark of certificates.
+// What is after the kind: a mark of certificates.
 fn certificate_mark(any: &AnyKey) -> &'static [u8]
     ensures { result.now ≡ certificate_mark (asked_of any.now).cert }
 {
@@ -141,7 +141,7 @@ fn certificate_mark(any: &AnyKey) -> &'static [u8]
     }
 }
 
-/// The line of a key, with its line feed: its size in bits, fingerprint, comment and kind.
+// The line of a key, with its line feed: its size in bits, fingerprint, comment and kind.
 fn list_line(alloc: Global, any: &AnyKey, print: &[u8], comment: &[u8]) -> Result<Bytes, AllocError>
     ensures { IfOk result (λ text.
         text ≡ list_line (plain_of any.now).bits print.now comment.now
@@ -158,7 +158,7 @@ fn list_line(alloc: Global, any: &AnyKey, print: &[u8], comment: &[u8]) -> Resul
     Ok(Bytes::from_vec(text))
 }
 
-/// Appends the kind of a key and a mark, in parentheses, and a line feed.
+// Appends the kind of a key and a mark, in parentheses, and a line feed.
 fn push_kind(text: &mut Vec<u8>, key: &PublicKey, mark: &[u8]) -> Result<(), AllocError>
     ensures { OnOk result (text.new.items ≡ text.old.items
         ++ kind_part (short_name_of key.now.kind ++ mark.now)) }
@@ -169,6 +169,7 @@ fn push_kind(text: &mut Vec<u8>, key: &PublicKey, mark: &[u8]) -> Result<(), All
     text.extend_from_slice(b")\n")
 }
 
+// Appends a comment, escaped, or that there is none.
 fn push_comment(text: &mut Vec<u8>, comment: &[u8]) -> Result<(), AllocError>
     ensures { OnOk result (text.new.items ≡ text.old.items ++ comment_or_none comment.now) }
 {
@@ -179,8 +180,10 @@ fn push_comment(text: &mut Vec<u8>, comment: &[u8]) -> Result<(), AllocError>
     }
 }
 
-/// Lists each key or each certificate of a file, with fingerprints by a hash. The moment is in
-/// seconds from 1970 on: of a certificate it is said whether it is valid then.
+/// Lists each key or each certificate of a file on a writer that has not failed before, with
+/// fingerprints by a hash (ssh-keygen(1), options -l and -L). The moment is in seconds from 1970
+/// on: of a certificate it is said whether it is valid then. The status is 0, or 255 where a fault
+/// stops the run.
 pub fn list_run<'a, W: Sink>(
     alloc: Global,
     mode: ListMode,

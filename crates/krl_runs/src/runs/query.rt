@@ -1,4 +1,4 @@
-// Asking a list about the keys of files (ssh-keygen(1), KEY REVOCATION LISTS).
+//! Asking a list about the keys of files (ssh-keygen(1), KEY REVOCATION LISTS).
 
 ghost use Rattle.std.specs.Prelude.{◌≡◌, ◌++◌, IfOk, Ok, Result, OnOk, false};
 ghost use Rattle.krl_core.specs.declared.krl_fault.KrlFault.{KrlFault as FaultOf};
@@ -22,14 +22,14 @@ use ssh_cert::{AnyKey, push_escaped};
 use ssh_wire::{Bytes, Sink, Source};
 use std::alloc::{AllocError, Global};
 
-/// What was read of a list.
+// What was read of a list.
 #[derive(Drop)]
 struct Known {
     header: Header,
     list: Revocations<Held>,
 }
 
-/// Says of each key whether a list revokes it.
+// Says of each key whether a list revokes it.
 #[derive(Drop)]
 struct Query<'q> {
     list: &'q Revocations<Held>,
@@ -54,7 +54,7 @@ impl<'q> Answers for Query<'q> {
     }
 }
 
-/// The line of a key, with its line feed.
+// The line of a key, with its line feed.
 fn query_line(alloc: Global, name: &str, comment: &[u8], revoked: bool) -> Result<Bytes, AllocError>
     ensures { IfOk result (λ text. text ≡ query_line name.now comment.now revoked) }
 {
@@ -66,12 +66,14 @@ fn query_line(alloc: Global, name: &str, comment: &[u8], revoked: bool) -> Resul
     Ok(Bytes::from_vec(text))
 }
 
+// Whether a key is revoked, as it is printed.
 fn verdict(revoked: bool) -> &'static [u8]
     ensures { result.now ≡ verdict revoked }
 {
     if revoked { b": REVOKED" } else { b": ok" }
 }
 
+// Appends a comment in parentheses, escaped, where there is one.
 fn push_comment(text: &mut Vec<u8>, comment: &[u8]) -> Result<(), AllocError>
     ensures { OnOk result (text.new.items ≡ text.old.items ++ comment_part comment.now) }
 {
@@ -84,7 +86,9 @@ fn push_comment(text: &mut Vec<u8>, comment: &[u8]) -> Result<(), AllocError>
 }
 
 /// Reads a list, prints its contents where `dump` is true, asks it about each key of each file, and
-/// says of each in a line whether it is revoked. It gives the list's reader back.
+/// says of each in a line whether it is revoked (ssh-keygen(1), KEY REVOCATION LISTS). It gives the
+/// list's reader back. Reader and writer have not failed before. The status is 0 where no key is
+/// revoked, 1 where one is, and 255 where a fault stops the run.
 pub fn query_run<'a, R: Source + Drop, W: Sink>(
     alloc: Global,
     krl_name: &'a str,
@@ -119,7 +123,7 @@ pub fn query_run<'a, R: Source + Drop, W: Sink>(
     (done, reader)
 }
 
-/// Reads a list and asks it about each key of each file.
+// Reads a list and asks it about each key of each file.
 fn ask_list<'a, R: Source + Drop, W: Sink>(
     run: &mut Run<W>,
     krl_name: &'a str,
@@ -143,7 +147,7 @@ fn ask_list<'a, R: Source + Drop, W: Sink>(
     }
 }
 
-/// Prints the contents of a list where `dump` is true, and asks it about each key of each file.
+// Prints the contents of a list where `dump` is true, and asks it about each key of each file.
 fn ask_held<'a, W: Sink>(
     run: &mut Run<W>,
     krl_name: &'a str,

@@ -1,4 +1,4 @@
-// Asking lists about the keys of files.
+//! Asking lists about the keys of files.
 
 use crate::tests::bytes::{GITHUB, ONE_KEY, joined, list_of_one};
 use crate::tests::runs::{CLOSED, File, KEY, OTHER_LINE, Said, asks};
@@ -12,7 +12,7 @@ const NONE: &str = "ssh-keygen: none: file 1 Open";
 
 const EARLY: &str = "ssh-keygen: r.krl: krl 3 EndsEarly";
 
-/// The parts of a list, the files, and what is said of them.
+// The parts of a list, the files, and what is said of them.
 type Row<'a> = (&'a [&'a [u8]], &'a [File<'a>], Said<'a>);
 
 const ROWS: [Row<'static>; 15] = [
@@ -80,7 +80,7 @@ fn reports_each_key_or_stops_at_a_fault(rt: HostRuntime) {
     }
 }
 
-/// What is said of the key by this many bytes of the list that names it.
+// What is said of the key by this many bytes of the list that names it.
 fn said_by_front(size: usize) -> Said<'static> {
     match size {
         44 => (b"g.pub: ok\n", 0, ""),

@@ -1,4 +1,4 @@
-// Lists and keys for the tests, built from their parts.
+//! Lists and keys for the tests, built from their parts.
 
 use crate::tests::encoding::strings;
 use parts_for_tests::HEADER;

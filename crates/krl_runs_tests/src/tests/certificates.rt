@@ -1,4 +1,4 @@
-// Certificates in the files of the runs.
+//! Certificates in the files of the runs.
 
 use crate::tests::bytes::{GITHUB, ONE_KEY, OTHER, THIRD, joined, list_of};
 use crate::tests::encoding::{base64, strings};
@@ -9,7 +9,7 @@ use std::process::Abort;
 
 const NAME: &[u8] = b"ssh-ed25519-cert-v01@openssh.com";
 
-/// Where the public field of an Ed25519 blob begins: its length and its 32 bytes.
+// Where the public field of an Ed25519 blob begins: its length and its 32 bytes.
 const FIELD: usize = 15;
 
 /// What a certificate is limited to: the instants between which it is valid, and its principals,
@@ -26,7 +26,7 @@ pub const FREE: Terms<'static> = Terms {
     lists: [b"", b"", b""],
 };
 
-/// What is in a certificate before its time.
+// What is in a certificate before its time.
 fn front(rt: &impl Abort, alloc: Global, serial: u64, principals: &[u8]) -> Vec<u8> {
     let name_and_nonce = strings(rt, alloc, &[NAME, b""]);
     let id_and_principals = strings(rt, alloc, &[b"a", principals]);
@@ -40,7 +40,7 @@ fn front(rt: &impl Abort, alloc: Global, serial: u64, principals: &[u8]) -> Vec<
     joined(rt, alloc, &parts)
 }
 
-/// What is in a certificate after its time.
+// What is in a certificate after its time.
 fn back(rt: &impl Abort, alloc: Global, fields: &[&[u8]]) -> Vec<u8> {
     let fields = strings(rt, alloc, fields);
     let signature = b"\0\0\0\x53\0\0\0\x0bssh-ed25519\0\0\0\x40";
@@ -64,7 +64,7 @@ pub fn certificate_on(
     joined(rt, alloc, &[&front, &after, &before, &back])
 }
 
-/// The same, on no terms.
+// The same, on no terms.
 fn certificate(rt: &impl Abort, alloc: Global, authority: &[u8], serial: u64) -> Vec<u8> {
     certificate_on(rt, alloc, authority, serial, &FREE)
 }
@@ -81,7 +81,7 @@ pub fn certificate_line(rt: &impl Abort, alloc: Global, authority: &[u8], serial
     line_of(rt, alloc, &blob)
 }
 
-/// The certificate's plain key, as it is listed.
+// The certificate's plain key, as it is listed.
 const LISTED: &[u8] =
     b"256 SHA256:+DiY3wvvV6TuJJhbpZisF/zLDA0zPMSvHdkr4UvCOqU no comment (ED25519-CERT)\n";
 
@@ -96,8 +96,8 @@ fn its_plain_key_is_listed(rt: HostRuntime) {
     lists(&rt, alloc, 0, Hash::Sha256, &file, (LISTED, 0, ""));
 }
 
-/// The list of these sections is asked about a file of a certificate by the other key and of its
-/// plain key, and this is said of the two.
+// The list of these sections is asked about a file of a certificate by the other key and of its
+// plain key, and this is said of the two.
 fn is_reported(
     rt: &impl Abort,
     alloc: Global,
@@ -117,13 +117,13 @@ fn is_reported(
     )
 }
 
-/// Neither is revoked.
+// Neither is revoked.
 const NEITHER: (&[u8], u8) = (b"f: ok\nf: ok\n", 0);
 
-/// The certificate alone is revoked.
+// The certificate alone is revoked.
 const CERTIFICATE: (&[u8], u8) = (b"f: REVOKED\nf: ok\n", 1);
 
-/// The parts of a list's sections, and what is said of the certificate and of its plain key.
+// The parts of a list's sections, and what is said of the certificate and of its plain key.
 type Row<'a> = (&'a [&'a [u8]], (&'a [u8], u8));
 
 const ROWS: [Row<'static>; 7] = [
@@ -157,7 +157,7 @@ fn asked_by_its_keys_and_its_names(rt: HostRuntime) {
     }
 }
 
-/// What is before the blob of a section with one key of 267 bytes.
+// What is before the blob of a section with one key of 267 bytes.
 const ONE_LONG_KEY: &[u8] = &[2, 0, 0, 1, 15, 0, 0, 1, 11];
 
 // The blob of a certificate as an explicit key names nothing.

@@ -1,4 +1,4 @@
-// Runs that say more than is sent at once.
+//! Runs that say more than is sent at once.
 
 use crate::tests::bytes::repeated;
 use crate::tests::devices::asked_of_key;
@@ -9,32 +9,32 @@ use ssh_key::Hash;
 use std::alloc::Global;
 use std::process::Abort;
 
-/// What the query says of the key.
+// What the query says of the key.
 const SAID: &[u8] = b"g.pub: REVOKED\n";
 
-/// What is listed of the key.
+// What is listed of the key.
 const LISTED: &[u8] =
     b"256 SHA256:+DiY3wvvV6TuJJhbpZisF/zLDA0zPMSvHdkr4UvCOqU no comment (ED25519)\n";
 
-/// How many times the key is in the file: 5,000 lines of 15 bytes are 75,000 bytes.
+// How many times the key is in the file: 5,000 lines of 15 bytes are 75,000 bytes.
 const TIMES: usize = 5_000;
 
-/// What goes out in the first chunk: the first whole lines that reach 65,536 bytes.
+// What goes out in the first chunk: the first whole lines that reach 65,536 bytes.
 const CHUNK: usize = 65_550;
 
-/// The lines of a file that has the key `TIMES` times.
+// The lines of a file that has the key `TIMES` times.
 fn often(rt: &impl Abort, alloc: Global) -> Vec<u8> {
     repeated(rt, alloc, &[GITHUB_LINE, b"\n"], TIMES)
 }
 
-/// Asks about the key `TIMES` times, and then about a file that cannot be opened.
+// Asks about the key `TIMES` times, and then about a file that cannot be opened.
 fn asked_often(rt: &impl Abort, alloc: Global, writes_before_failure: usize) -> Ran {
     let lines = often(rt, alloc);
     let device = Taker::new(alloc, 1_000_000, writes_before_failure);
     asked_of_key(rt, alloc, &[("g.pub", Some(&[&lines])), CLOSED], device)
 }
 
-/// Where the output fails after this many writes, it has taken this many bytes of the lines.
+// Where the output fails after this many writes, it has taken this many bytes of the lines.
 fn sends(rt: &impl Abort, alloc: Global, writes: usize, count: usize, fault: &str) {
     let ran = asked_often(rt, alloc, writes);
     let text = repeated(rt, alloc, &[SAID], TIMES);

@@ -1,4 +1,4 @@
-// Private containers among the files of the runs.
+//! Private containers among the files of the runs.
 
 use crate::tests::bytes::{GITHUB, LONG, OTHER, joined, list_of_one, repeated};
 use crate::tests::encoding::{base64, strings};
@@ -8,8 +8,8 @@ use ssh_key::Hash;
 use std::alloc::Global;
 use std::process::Abort;
 
-/// The private list of the published key and a comment, with its second check word and its last
-/// byte.
+// The private list of the published key and a comment, with its second check word and its last
+// byte.
 fn list(rt: &impl Abort, alloc: Global, comment: &[u8], again: u32, last: u8) -> Vec<u8> {
     let private = strings(rt, alloc, &[&[0; 64]]);
     let fields = joined(rt, alloc, &[&GITHUB, &private]);
@@ -17,7 +17,7 @@ fn list(rt: &impl Abort, alloc: Global, comment: &[u8], again: u32, last: u8) ->
     list.expect(rt, "there is memory")
 }
 
-/// A file of the container with this cipher and this private list.
+// A file of the container with this cipher and this private list.
 fn container(rt: &impl Abort, alloc: Global, cipher: &str, list: &[u8]) -> Vec<u8> {
     let parts = Parts {
         cipher: cipher.as_bytes(),
@@ -50,7 +50,7 @@ fn listed_by_their_comment(rt: HostRuntime) {
     lists(&rt, rt.alloc(), 0, Hash::Sha256, &file, (line, 0, ""));
 }
 
-/// The container with this comment is listed by it.
+// The container with this comment is listed by it.
 fn is_listed(rt: &impl Abort, alloc: Global, comment: &[u8]) {
     let text = commented_with(rt, alloc, comment);
     let parts = [text.as_slice()];
@@ -69,7 +69,7 @@ fn listed_by_long_comments(rt: HostRuntime) {
     }
 }
 
-/// The list that names this key is asked about the files, and this is said.
+// The list that names this key is asked about the files, and this is said.
 fn reports(rt: &impl Abort, alloc: Global, key: &[u8], files: &[File], said: Said) {
     let list = list_of_one(rt, alloc, key);
     asks(rt, alloc, files.len(), (&list, false), files, said)
@@ -90,15 +90,15 @@ fn asked_about(rt: HostRuntime) {
     );
 }
 
-/// The file `id` of these bytes ends a run with this fault, which has no line. A number
-/// distinguishes it from the others of a test.
+// The file `id` of these bytes ends a run with this fault, which has no line. A number
+// distinguishes it from the others of a test.
 fn is_refused(rt: &impl Abort, alloc: Global, number: usize, text: &[u8], fault: &str) {
     let parts = [text];
     let file = ("id", Some(parts.as_slice()));
     lists(rt, alloc, number, Hash::Sha256, &file, (b"", 255, fault))
 }
 
-/// A cipher, the second check word and the last byte of a private list, and the fault.
+// A cipher, the second check word and the last byte of a private list, and the fault.
 const REFUSED: [(&str, u32, u8, &str); 3] = [
     ("none", 2, 4, "ssh-keygen: id: private 6 Check"),
     ("aes256-ctr", 1, 4, "ssh-keygen: id: private 4 Encrypted"),

@@ -1,4 +1,4 @@
-// Printing what lists hold.
+//! Printing what lists hold.
 
 use crate::tests::bytes::{
     GITHUB, LONG, ONE_KEY, commented, id_section, joined, key_section, list_of, long_text,
@@ -11,30 +11,30 @@ use parts_for_tests::{FIVE, HEADER};
 use std::alloc::Global;
 use std::process::Abort;
 
-/// The lines of the header of version 1 and date 0.
+// The lines of the header of version 1 and date 0.
 const HEAD: &[u8] = b"# KRL version 1\n# Generated at 1970-01-01T00:00:00Z\n";
 
-/// The serials from 0 to 3 of all authorities.
+// The serials from 0 to 3 of all authorities.
 const RANGE: &[u8] =
     b"\x01\0\0\0\x1d\0\0\0\0\0\0\0\0\x21\0\0\0\x10\0\0\0\0\0\0\0\0\0\0\0\0\0\0\0\x03";
 
-/// Serials 1, 3, 5 and 7 of the authority `x`.
+// Serials 1, 3, 5 and 7 of the authority `x`.
 const BITS: &[u8] =
     b"\x01\0\0\0\x1b\0\0\0\x01x\0\0\0\0\x22\0\0\0\x0d\0\0\0\0\0\0\0\x01\0\0\0\x01\x55";
 
-/// The key IDs `b` and escape, and none, of all authorities.
+// The key IDs `b` and escape, and none, of all authorities.
 const IDS: &[u8] = b"\x01\0\0\0\x17\0\0\0\0\0\0\0\0\x23\0\0\0\x0a\0\0\0\x02b\x1b\0\0\0\0";
 
-/// Keys of no byte, and of one, two and three.
+// Keys of no byte, and of one, two and three.
 const KEYS: &[u8] = b"\x02\0\0\0\x16\0\0\0\0\0\0\0\x01\x01\0\0\0\x02\x01\x02\0\0\0\x03\x01\x02\x03";
 
-/// A SHA-1.
+// A SHA-1.
 const SHA1: &[u8] = b"\x03\0\0\0\x18\0\0\0\x140123456789jklmnoXYZ~";
 
-/// A SHA-256.
+// A SHA-256.
 const SHA256: &[u8] = b"\x05\0\0\0\x24\0\0\0\x200123456789abcdefghijklmnopqrstu~";
 
-/// The parts of a list after its header, and the lines after those of the header.
+// The parts of a list after its header, and the lines after those of the header.
 type Row<'a> = (&'a [&'a [u8]], &'a [u8]);
 
 const ROWS: [Row<'static>; 9] = [
@@ -63,7 +63,7 @@ const ROWS: [Row<'static>; 9] = [
     ),
 ];
 
-/// The list of these sections is printed in these lines, after those of its header.
+// The list of these sections is printed in these lines, after those of its header.
 fn prints(rt: &impl Abort, alloc: Global, number: usize, sections: &[&[u8]], lines: &[u8]) {
     let list = list_of(rt, alloc, sections);
     let text = joined(rt, alloc, &[HEAD, lines]);
@@ -77,7 +77,7 @@ fn each_kind_of_line(rt: HostRuntime) {
     }
 }
 
-/// The list of this version, this date, and this comment with its length, is printed so.
+// The list of this version, this date, and this comment with its length, is printed so.
 fn prints_header(rt: &impl Abort, alloc: Global, number: usize, header: [&[u8]; 3], text: &[u8]) {
     let [version, date, comment] = header;
     let list = joined(
@@ -94,7 +94,7 @@ const MOST: &[u8] = b"\xff\xff\xff\xff\xff\xff\xff\xff";
 
 const LEAP_DAY: &[u8] = b"\0\0\0\0\x38\xbb\x0c\0";
 
-/// A version, a date, and a comment with its length, and the lines of the header.
+// A version, a date, and a comment with its length, and the lines of the header.
 const HEADERS: [([&[u8]; 3], &[u8]); 4] = [
     (
         [LEAST, LEAST, b"\0\0\0\0"],
@@ -154,14 +154,14 @@ fn a_fault_comes_before_the_contents(rt: HostRuntime) {
     asks(&rt, rt.alloc(), 0, (&list, true), &[], (b"", 255, fault));
 }
 
-/// Prints a list of one serial, where each call takes seven bytes until one fails.
+// Prints a list of one serial, where each call takes seven bytes until one fails.
 fn printed_in_part(rt: &impl Abort, alloc: Global, calls: usize) -> Ran {
     let list = list_of(rt, alloc, &[FIVE]);
     let device = Taker::new(alloc, 7, calls);
     asked(rt, alloc, Giver::whole(&list), true, &[], device)
 }
 
-/// The fault of an output that has taken this many bytes.
+// The fault of an output that has taken this many bytes.
 fn write_fault(rt: &impl Abort, alloc: Global, count: usize) -> String {
     format!(in alloc; "ssh-keygen: output: output 1 Write after {count} bytes").expect(
         rt,
@@ -180,7 +180,7 @@ fn the_output_fails_within_the_contents(rt: HostRuntime) {
     }
 }
 
-/// A list of the first odd serials, enough of them that their lines and their pages are several.
+// A list of the first odd serials, enough of them that their lines and their pages are several.
 fn odd_serials(rt: &impl Abort, alloc: Global) -> Vec<u8> {
     let start = b"\x01\0\0\x9c\x4d\0\0\0\0\0\0\0\0\x20\0\0\x9c\x40".as_slice();
     let mut list = joined(rt, alloc, &[&HEADER, start]);
@@ -198,7 +198,7 @@ fn many_lines(rt: HostRuntime) {
     asks(&rt, rt.alloc(), 0, (&list, true), &[], (&text, 0, ""));
 }
 
-/// A list with a long comment, a long key ID and a key of a long blob is printed.
+// A list with a long comment, a long key ID and a key of a long blob is printed.
 fn prints_long(rt: &impl Abort, alloc: Global, pairs: usize) {
     let long = long_text(rt, alloc, pairs);
     let bytes = long.text.as_bytes();

@@ -1,4 +1,4 @@
-// Listing the keys of files.
+//! Listing the keys of files.
 
 use crate::tests::bytes::{LONG, joined, long_text};
 use crate::tests::encoding::key_line;
@@ -7,7 +7,7 @@ use ssh_key::Hash;
 use std::alloc::Global;
 use std::process::Abort;
 
-/// A hash, the parts of a file, and what is listed.
+// A hash, the parts of a file, and what is listed.
 type Listed<'a> = (Hash, &'a [&'a [u8]], &'a [u8]);
 
 // Other programs made the fingerprints.
@@ -48,7 +48,7 @@ fn each_key(rt: HostRuntime) {
     }
 }
 
-/// A key with a long comment is listed.
+// A key with a long comment is listed.
 fn is_listed(rt: &impl Abort, alloc: Global, pairs: usize) {
     let long = long_text(rt, alloc, pairs);
     let parts = [OTHER_LINE, b" ", long.text.as_bytes()];
@@ -65,11 +65,11 @@ fn long_comments(rt: HostRuntime) {
     }
 }
 
-/// What is listed of the published key.
+// What is listed of the published key.
 const LISTING: &[u8] =
     b"256 SHA256:+DiY3wvvV6TuJJhbpZisF/zLDA0zPMSvHdkr4UvCOqU no comment (ED25519)\n";
 
-/// The parts of a file, the output and the fault.
+// The parts of a file, the output and the fault.
 type Refused<'a> = (Option<&'a [&'a [u8]]>, &'a [u8], &'a str);
 
 const REFUSED: [Refused<'static>; 4] = [

@@ -1,4 +1,4 @@
-// Files and outputs that give or take few bytes at a call, and fail.
+//! Files and outputs that give or take few bytes at a call, and fail.
 
 use crate::tests::bytes::{GITHUB, filled, list_of_one};
 use crate::tests::runs::{
@@ -26,14 +26,14 @@ pub fn asked_of_key(rt: &impl Abort, alloc: Global, files: &[File], device: Take
     )
 }
 
-/// What is loaded of the file `a` that a device gives.
+// What is loaded of the file `a` that a device gives.
 fn loaded<R: Read + Drop>(rt: &impl Abort, alloc: Global, device: R) -> Result<Bytes, FileFault> {
     let (file, _) = load(alloc, "a", FromRead::new(device));
     assert!(rt; file.name == "a");
     file.content
 }
 
-/// Whether these bytes are loaded.
+// Whether these bytes are loaded.
 fn loads<R: Read + Drop>(rt: &impl Abort, alloc: Global, device: R, bytes: &[u8]) -> bool {
     match loaded(rt, alloc, device) {
         Ok(content) => content.as_slice() == bytes,
@@ -41,7 +41,7 @@ fn loads<R: Read + Drop>(rt: &impl Abort, alloc: Global, device: R, bytes: &[u8]
     }
 }
 
-/// Whether nothing is loaded, for this fault.
+// Whether nothing is loaded, for this fault.
 fn refuses<R: Read + Drop>(rt: &impl Abort, alloc: Global, device: R, fault: FileFault) -> bool {
     match loaded(rt, alloc, device) {
         Ok(_) => false,
@@ -49,7 +49,7 @@ fn refuses<R: Read + Drop>(rt: &impl Abort, alloc: Global, device: R, fault: Fil
     }
 }
 
-/// In pieces of this many bytes the line of the key takes this many calls, all of which are made.
+// In pieces of this many bytes the line of the key takes this many calls, all of which are made.
 fn takes(rt: &impl Abort, alloc: Global, piece: usize, calls: usize) {
     for calls_before_failure in 0..90 {
         let mut device = Giver::new(GITHUB_LINE, piece);
@@ -82,11 +82,11 @@ fn loaded_up_to_the_limit(rt: HostRuntime) {
     assert!(rt; loads(&rt, alloc, b"".as_slice(), b""));
 }
 
-/// A file of the published key.
+// A file of the published key.
 const KEY: File<'static> = ("g.pub", Some(&[GITHUB_LINE]));
 
-/// Asks the list that names the key, with a zero byte at a place of it; each call gives one byte,
-/// until one fails.
+// Asks the list that names the key, with a zero byte at a place of it; each call gives one byte,
+// until one fails.
 fn asked_in_part(rt: &impl Abort, alloc: Global, place: usize, calls: usize) -> Ran {
     let mut bytes = list_of_one(rt, alloc, &GITHUB);
     if let Some(byte) = bytes.get_mut(place) {
@@ -123,7 +123,7 @@ const NINE: &str = "ssh-keygen: output: output 1 Write after 9 bytes";
 
 const TWELVE: &str = "ssh-keygen: output: output 1 Write after 12 bytes";
 
-/// How many calls come before the failure, the files, and what is said of them.
+// How many calls come before the failure, the files, and what is said of them.
 const SAID: [(usize, &[File<'static>], Said<'static>); 6] = [
     (
         0,
@@ -150,14 +150,14 @@ fn the_output_fails(rt: HostRuntime) {
     }
 }
 
-/// Lists the keys of a file; each call takes three bytes, until one fails.
+// Lists the keys of a file; each call takes three bytes, until one fails.
 fn listed_in_part(rt: &impl Abort, alloc: Global, calls: usize, file: &File) -> Ran {
     let file = named(rt, alloc, file);
     let device = Taker::new(alloc, 3, calls);
     listed(rt, alloc, ListMode::Keys, Hash::Sha256, &file, 0, device)
 }
 
-/// How many calls come before the failure, the file, and what is listed of it.
+// How many calls come before the failure, the file, and what is listed of it.
 const LISTED: [(usize, File<'static>, Said<'static>); 2] = [
     (
         2,

@@ -1,4 +1,4 @@
-// The spellings that the tests write: strings and base64 (RFC 4648 section 4).
+//! The spellings that the tests write: strings and base64 (RFC 4648 section 4).
 
 use crate::tests::bytes::{joined, put};
 use std::alloc::Global;
@@ -11,12 +11,12 @@ pub fn strings(rt: &impl Abort, alloc: Global, list: &[&[u8]]) -> Vec<u8> {
     parts_for_tests::strings(alloc, list).expect(rt, "there is memory")
 }
 
-/// The digit of a number below 64.
+// The digit of a number below 64.
 fn digit(number: u8) -> u8 {
     DIGITS.get(number as usize).copied().unwrap_or(b'=')
 }
 
-/// The digits of up to three bytes, with padding for those that are missing.
+// The digits of up to three bytes, with padding for those that are missing.
 fn digits(part: &[u8]) -> [u8; 4] {
     match part {
         [] => [b'='; 4],

@@ -1,4 +1,4 @@
-// The lines that report why a run stopped.
+//! The lines that report why a run stopped.
 
 use crate::tests::bytes::{long_text, same};
 use krl_core::KrlFault;
@@ -9,8 +9,8 @@ use ssh_wire::WireFault;
 use std::alloc::Global;
 use std::process::Abort;
 
-/// A fault is printed so, after the name of the program, and its cause has this number. Another
-/// number distinguishes it from the others of a test.
+// A fault is printed so, after the name of the program, and its cause has this number. Another
+// number distinguishes it from the others of a test.
 fn is_reported(
     rt: &impl Abort,
     alloc: Global,
@@ -28,7 +28,7 @@ fn is_reported(
 
 const SHORT: KeyFault = KeyFault::Wire(WireFault::Short);
 
-/// A name, a line, a cause, its number, and how the three are printed.
+// A name, a line, a cause, its number, and how the three are printed.
 type Row<'a> = (&'a str, Option<u64>, Cause, u8, &'a str);
 
 const ROWS: [Row<'static>; 15] = [

@@ -1,4 +1,4 @@
-// What a run says of the lines of key files.
+//! What a run says of the lines of key files.
 
 use crate::tests::bytes::{GITHUB, LONG, joined, list_of_one, long_text};
 use crate::tests::encoding::key_line;
@@ -6,13 +6,13 @@ use crate::tests::runs::{File, GITHUB_LINE, OTHER_LINE, Said, asks};
 use std::alloc::Global;
 use std::process::Abort;
 
-/// The list that names the published key is asked about the files, and this is said.
+// The list that names the published key is asked about the files, and this is said.
 fn reports(rt: &impl Abort, alloc: Global, number: usize, files: &[File], said: Said) {
     let list = list_of_one(rt, alloc, &GITHUB);
     asks(rt, alloc, number, (&list, false), files, said)
 }
 
-/// The name of a file, the parts of its text, the output and the status.
+// The name of a file, the parts of its text, the output and the status.
 type Reported<'a> = (&'a str, &'a [&'a [u8]], &'a [u8], u8);
 
 const REPORTED: [Reported<'static>; 8] = [
@@ -65,7 +65,7 @@ fn reports_each_line(rt: HostRuntime) {
     }
 }
 
-/// This text is said of the file of this name and these parts, and nothing is revoked.
+// This text is said of the file of this name and these parts, and nothing is revoked.
 fn is_ok<'a>(
     rt: &impl Abort,
     alloc: Global,
@@ -78,7 +78,7 @@ fn is_ok<'a>(
     reports(rt, alloc, number, &[file], (text, 0, ""))
 }
 
-/// What is said of a file of a long name, with a key whose comment is as long.
+// What is said of a file of a long name, with a key whose comment is as long.
 fn is_reported(rt: &impl Abort, alloc: Global, pairs: usize) {
     let long = long_text(rt, alloc, pairs);
     let line = joined(rt, alloc, &[OTHER_LINE, b" ", long.text.as_bytes()]);
@@ -98,7 +98,7 @@ const ONE: &[u8] = b"k: REVOKED\n";
 
 const SHORT: &str = "ssh-keygen: k: line 2: subject 1 Key, key 1 Wire, wire 1 Short";
 
-/// What is between two good lines, the output and the fault.
+// What is between two good lines, the output and the fault.
 const STOPPED: [(&[u8], &[u8], &str); 9] = [
     (
         b"\nssh-rsa AAAAC3NzaC1lZDI1NTE5\n",
@@ -145,7 +145,7 @@ fn stopped_at_a_line(rt: HostRuntime) {
     }
 }
 
-/// The type name of a blob, its fields, and why it is refused.
+// The type name of a blob, its fields, and why it is refused.
 type Refused<'a> = (&'a [u8], &'a [&'a [u8]], &'a str);
 
 const REFUSED: [Refused<'static>; 6] = [

@@ -1,4 +1,4 @@
-// Listing the certificates of files.
+//! Listing the certificates of files.
 
 use crate::tests::bytes::{GITHUB, LONG, joined, long_text, put};
 use crate::tests::certificates::{FREE, Terms, certificate_line, certificate_on, line_of};
@@ -11,8 +11,8 @@ use ssh_key::Hash;
 use std::alloc::Global;
 use std::process::Abort;
 
-/// The lines of the certificate of the published key by itself, with serial 7 and the ID `a`, up to
-/// its time.
+// The lines of the certificate of the published key by itself, with serial 7 and the ID `a`, up to
+// its time.
 const FIRST: &[u8] = b"        Type: ssh-ed25519-cert-v01@openssh.com user certificate\n\
      \x20       Public key: ED25519-CERT SHA256:+DiY3wvvV6TuJJhbpZisF/zLDA0zPMSvHdkr4UvCOqU\n\
      \x20       Signing CA: ED25519 SHA256:+DiY3wvvV6TuJJhbpZisF/zLDA0zPMSvHdkr4UvCOqU \
@@ -26,22 +26,22 @@ const NO_LISTS: &[u8] = b"        Principals: (none)\n\
      \x20       Critical Options: (none)\n\
      \x20       Extensions: (none)\n";
 
-/// The line of that certificate.
+// The line of that certificate.
 fn line(rt: &impl Abort, alloc: Global) -> Vec<u8> {
     certificate_line(rt, alloc, &GITHUB, 7)
 }
 
-/// The line of the same on other terms.
+// The line of the same on other terms.
 fn line_on(rt: &impl Abort, alloc: Global, terms: &Terms) -> Vec<u8> {
     let blob = certificate_on(rt, alloc, &GITHUB, 7, terms);
     line_of(rt, alloc, &blob)
 }
 
-/// A file's name, its bytes, and the moment at which it is listed.
+// A file's name, its bytes, and the moment at which it is listed.
 type At<'a> = (&'a str, &'a [u8], u64);
 
-/// A file gives these parts of a text at a moment, and this fault or none. A number distinguishes
-/// it from the others of a test.
+// A file gives these parts of a text at a moment, and this fault or none. A number distinguishes
+// it from the others of a test.
 fn gives(rt: &impl Abort, alloc: Global, number: usize, at: At, text: &[&[u8]], fault: &str) {
     let (name, bytes, moment) = at;
     let text = joined(rt, alloc, text);
@@ -61,7 +61,7 @@ fn one_certificate(rt: HostRuntime) {
     }
 }
 
-/// The certificate of this period has these lines of its time at a moment.
+// The certificate of this period has these lines of its time at a moment.
 fn is_valid(
     rt: &impl Abort,
     alloc: Global,
@@ -108,7 +108,7 @@ fn by_the_moment(rt: HostRuntime) {
     }
 }
 
-/// The blob of the certificate with a principal, an option and an extension.
+// The blob of the certificate with a principal, an option and an extension.
 fn with_each_list(rt: &impl Abort, alloc: Global) -> Vec<u8> {
     let options = strings(rt, alloc, &[b"force-command", b"\0\0\0\x02id"]);
     let extensions = strings(rt, alloc, &[b"permit-pty", b""]);
@@ -135,7 +135,7 @@ fn with_lists(rt: HostRuntime) {
     gives(&rt, alloc, 0, ("c.pub", &line, 0), &text, "");
 }
 
-/// A certificate with a long principal is listed, of a file with a name that is as long.
+// A certificate with a long principal is listed, of a file with a name that is as long.
 fn lists_long(rt: &impl Abort, alloc: Global, pairs: usize) {
     let long = long_text(rt, alloc, pairs);
     let principals = strings(rt, alloc, &[long.text.as_bytes()]);
@@ -182,7 +182,7 @@ fn plain_keys_are_passed_over(rt: HostRuntime) {
     gives(&rt, alloc, 0, ("c.pub", &file, 0), &text, "");
 }
 
-/// A file of the certificate and of more lines gives the certificate, and this fault.
+// A file of the certificate and of more lines gives the certificate, and this fault.
 fn stops(rt: &impl Abort, alloc: Global, number: usize, more: &[u8], fault: &str) {
     let mut file = line(rt, alloc);
     put(rt, &mut file, more);
@@ -190,7 +190,7 @@ fn stops(rt: &impl Abort, alloc: Global, number: usize, more: &[u8], fault: &str
     gives(rt, alloc, number, ("c.pub", &file, 0), &text, fault)
 }
 
-/// A line of no key, and that of the certificate.
+// A line of no key, and that of the certificate.
 fn no_key(rt: &impl Abort, alloc: Global) -> Vec<u8> {
     let line = line(rt, alloc);
     joined(rt, alloc, &[b"ssh-ed25519\n", &line])

@@ -1,4 +1,4 @@
-// Lists that are made and updated.
+//! Lists that are made and updated.
 
 use crate::tests::bytes::{
     GITHUB, ID_A, ID_A_UNDER_OTHER, LONG, ONE_KEY, OTHER, SHA256, commented, joined, list_of,
@@ -14,7 +14,7 @@ use ssh_wire::FromRead;
 use std::alloc::Global;
 use std::process::Abort;
 
-/// The list that is made, or else the line of the fault.
+// The list that is made, or else the line of the fault.
 #[derive(Debug, Drop)]
 struct Outcome {
     list: Vec<u8>,
@@ -22,7 +22,7 @@ struct Outcome {
 }
 
 impl Outcome {
-    /// What a run gave: the other of the two is empty.
+    // What a run gave: the other of the two is empty.
     fn of(rt: &impl Abort, alloc: Global, made: Result<Vec<u8>, RunFault>) -> Outcome {
         let none = Vec::new(alloc);
         match made {
@@ -35,7 +35,7 @@ impl Outcome {
     }
 }
 
-/// Makes the list `r.krl` of the old one, of the authority and of the files, at the moment 0.
+// Makes the list `r.krl` of the old one, of the authority and of the files, at the moment 0.
 fn made(
     rt: &impl Abort,
     alloc: Global,
@@ -57,13 +57,13 @@ fn made(
     Outcome::of(rt, alloc, made)
 }
 
-/// This list is made; a number distinguishes it from the others of a test.
+// This list is made; a number distinguishes it from the others of a test.
 fn is_made(rt: &impl Abort, number: usize, made: &Outcome, want: &[u8]) {
     same(rt, number, &made.fault, b"");
     same(rt, number, &made.list, want);
 }
 
-/// The lines make a list of version 1 under all authorities with these sections.
+// The lines make a list of version 1 under all authorities with these sections.
 fn makes(rt: &impl Abort, alloc: Global, number: usize, lines: &[u8], sections: &[&[u8]]) {
     let want = list_of(rt, alloc, sections);
     let made = made(
@@ -77,7 +77,7 @@ fn makes(rt: &impl Abort, alloc: Global, number: usize, lines: &[u8], sections: 
     is_made(rt, number, &made, &want);
 }
 
-/// Nothing is made of the old list, the authority and the lines, for this fault.
+// Nothing is made of the old list, the authority and the lines, for this fault.
 fn refuses(
     rt: &impl Abort,
     alloc: Global,
@@ -97,7 +97,7 @@ const FIVE_AND_SIX: &[u8] =
 const NINE: &[u8] =
     b"\x01\0\0\0\x1b\0\0\0\0\0\0\0\0\x22\0\0\0\x0e\0\0\0\0\0\0\0\x01\0\0\0\x02\x01\xff";
 
-/// The lines of a file, and the section of the list that is made.
+// The lines of a file, and the section of the list that is made.
 const MADE: [(&[u8], &[u8]); 9] = [
     (b"serial: 5", FIVE),
     (b"serial: 5\nserial: 5\nserial: 1-9", NINE),
@@ -174,14 +174,14 @@ fn of_nothing(rt: HostRuntime) {
     is_made(&rt, 0, &made, &want);
 }
 
-/// A list before and after an update.
+// A list before and after an update.
 struct Update<'a> {
     version: u64,
     comment: &'a [u8],
     old: &'a [&'a [u8]],
     lines: &'a [u8],
     new: &'a [&'a [u8]],
-    /// How many bytes the new list has.
+    // How many bytes the new list has.
     size: usize,
 }
 
@@ -229,7 +229,7 @@ const UPDATES: [Update<'static>; 5] = [
     },
 ];
 
-/// The old list, with these lines under all authorities, makes the new one.
+// The old list, with these lines under all authorities, makes the new one.
 fn updates(rt: &impl Abort, alloc: Global, number: usize, update: &Update) {
     let old = commented(rt, alloc, update.version, update.comment, update.old);
     let next = update.version.saturating_add(1);
@@ -267,7 +267,7 @@ fn the_given_version_is_written(rt: HostRuntime) {
     is_made(&rt, 0, &made, &want);
 }
 
-/// The authority of the first key of a file, which cannot be opened where it has no text.
+// The authority of the first key of a file, which cannot be opened where it has no text.
 fn authority<'a>(rt: &impl Abort, alloc: Global, text: Option<&[u8]>) -> Authority<'a> {
     let file = match text {
         Some(text) => holding("ca", joined(rt, alloc, &[text])),
@@ -295,7 +295,7 @@ fn old_lists_that_cannot_be_updated(rt: HostRuntime) {
     refuses(&rt, alloc, 1, Some(&full), &closed, b"x", fault);
 }
 
-/// The sections of serial 5 of the authorities of two keys, in parts.
+// The sections of serial 5 of the authorities of two keys, in parts.
 const FIVE_UNDER_OTHER: [&[u8]; 3] = [
     b"\x01\0\0\0\x48\0\0\0\x33",
     &OTHER,
@@ -310,8 +310,8 @@ const FIVE_UNDER_GITHUB: [&[u8]; 3] = [
 
 const FIVE_LINE: File<'static> = ("s", Some(&[b"serial: 5"]));
 
-/// The first key of a file of this text is the authority of a serial, which makes a list of these
-/// sections.
+// The first key of a file of this text is the authority of a serial, which makes a list of these
+// sections.
 fn is_authority(rt: &impl Abort, alloc: Global, number: usize, text: &[u8], sections: &[&[u8]]) {
     let want = list_of(rt, alloc, sections);
     let authority = authority(rt, alloc, Some(text));
@@ -319,7 +319,7 @@ fn is_authority(rt: &impl Abort, alloc: Global, number: usize, text: &[u8], sect
     is_made(rt, number, &made, &want);
 }
 
-/// The parts of a file of two keys.
+// The parts of a file of two keys.
 const TWO_KEYS: [&[u8]; 5] = [b"\n# ca\n", OTHER_LINE, b" x\n", GITHUB_LINE, b"\nx\n"];
 
 // The first line of a key, or the key of a container.
@@ -331,8 +331,8 @@ fn the_first_key_of_the_file_is_the_authority(rt: HostRuntime) {
     is_authority(&rt, rt.alloc(), 1, &container, &FIVE_UNDER_GITHUB);
 }
 
-/// A file with as many lines without a key as there are letters, and one more of all the letters.
-/// The line of the other key comes last, with the letters as its comment.
+// A file with as many lines without a key as there are letters, and one more of all the letters.
+// The line of the other key comes last, with the letters as its comment.
 fn long_lines(rt: &impl Abort, alloc: Global, letters: &[u8]) -> Vec<u8> {
     let lines = repeated(rt, alloc, &[b"# a\n"], letters.len());
     let parts: [&[u8]; 7] = [&lines, b"#", letters, b"\n", OTHER_LINE, b" ", letters];
@@ -350,7 +350,7 @@ fn the_first_key_of_a_long_file_is_the_authority(rt: HostRuntime) {
     }
 }
 
-/// The file of this text names no authority, for this fault.
+// The file of this text names no authority, for this fault.
 fn is_none(rt: &impl Abort, alloc: Global, number: usize, text: Option<&[u8]>, fault: &str) {
     let authority = authority(rt, alloc, text);
     refuses(rt, alloc, number, None, &authority, b"x", fault)
@@ -397,14 +397,14 @@ fn a_file_that_cannot_be_opened(rt: HostRuntime) {
     same(&rt, 0, &made.fault, b"ssh-keygen: none: file 1 Open");
 }
 
-/// The line of a key ID of this many bytes.
+// The line of a key ID of this many bytes.
 fn long_id(rt: &impl Abort, alloc: Global, size: usize) -> Vec<u8> {
     let line = repeated(rt, alloc, &[&[0x61; 4096]], size / 4096);
     let rest = repeated(rt, alloc, &[b"a"], size % 4096);
     joined(rt, alloc, &[b"id: ", &line, &rest])
 }
 
-/// The list of a key ID of `id` bytes has `size` bytes.
+// The list of a key ID of `id` bytes has `size` bytes.
 fn has_size(rt: &impl Abort, alloc: Global, id: usize, size: usize) {
     let line = long_id(rt, alloc, id);
     let made = made(

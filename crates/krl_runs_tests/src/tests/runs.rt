@@ -1,4 +1,4 @@
-// Runs over files that the tests make, and what they answer.
+//! Runs over files that the tests make, and what they answer.
 
 use crate::tests::bytes::{joined, same};
 use devices_for_tests::{Giver, Taker};

@@ -1,4 +1,4 @@
-// What the lines of specification files add.
+//! What the lines of specification files add.
 
 ghost use Rattle.krl_spec.specs.Entry.{IsUnder};
 
@@ -17,7 +17,7 @@ use ssh_wire::Bytes;
 use std::alloc::Global;
 use std::process::Abort;
 
-/// An authority without bytes is none.
+// An authority without bytes is none.
 fn of_bytes<'a>(under: Under<'a>) -> Under<'a>
     ensures { IsUnder result }
 {
@@ -34,14 +34,14 @@ fn of_bytes<'a>(under: Under<'a>) -> Under<'a>
     }
 }
 
-/// Where and why a file is refused, and the list that is written of what it adds.
+// Where and why a file is refused, and the list that is written of what it adds.
 #[derive(Drop)]
 struct Outcome {
     reported: String,
     list: Vec<u8>,
 }
 
-/// Adds what a file names, and reports where and why it is refused.
+// Adds what a file names, and reports where and why it is refused.
 fn add(
     rt: &impl Abort,
     alloc: Global,
@@ -58,7 +58,7 @@ fn add(
     }
 }
 
-/// The list that is written of what was added.
+// The list that is written of what was added.
 fn written(rt: &impl Abort, alloc: Global, revocations: &Revocations<Held>) -> Vec<u8> {
     let header = Header {
         version: 1,
@@ -68,7 +68,7 @@ fn written(rt: &impl Abort, alloc: Global, revocations: &Revocations<Held>) -> V
     krl_text(alloc, &header, revocations).expect(rt, "the list has a text")
 }
 
-/// What comes of a file.
+// What comes of a file.
 fn found(rt: &impl Abort, alloc: Global, under: Under, text: &[u8]) -> Outcome {
     let mut revocations = Revocations::<Held>::new(alloc);
     let reported = add(rt, alloc, &mut revocations, under, text);
@@ -76,8 +76,8 @@ fn found(rt: &impl Abort, alloc: Global, under: Under, text: &[u8]) -> Outcome {
     Outcome { reported, list }
 }
 
-/// The file is refused so, or read to its end where there is no fault; the list that is written of
-/// what it adds has these sections. A number distinguishes the file from the others of a test.
+// The file is refused so, or read to its end where there is no fault; the list that is written of
+// what it adds has these sections. A number distinguishes the file from the others of a test.
 fn adds(
     rt: &impl Abort,
     alloc: Global,
@@ -102,15 +102,15 @@ const TO_THE_GREATEST: &[u8] = b"\x01\0\0\0\x1d\0\0\0\0\0\0\0\0\x21\0\0\0\x10\
 
 const ID_A_AND_B: &[u8] = b"\x01\0\0\0\x17\0\0\0\0\0\0\0\0\x23\0\0\0\x0a\0\0\0\x01a\0\0\0\x01b";
 
-/// The section of the SHA-1 of the published key.
+// The section of the SHA-1 of the published key.
 const SHA1: &[u8] = b"\x03\0\0\0\x18\0\0\0\x14\xe9\x61\x9e\x2e\xd5\x6c\x2f\x2a\x71\x72\
     \x9d\xb8\x0b\xac\xc2\xce\x9c\xcc\xe8\xd4";
 
-/// The authority under which a file is read, the parts of its text, the sections that it adds, and
-/// where and why it is refused.
+// The authority under which a file is read, the parts of its text, the sections that it adds, and
+// where and why it is refused.
 type Row<'a> = (Under<'a>, &'a [&'a [u8]], &'a [&'a [u8]], &'a str);
 
-/// The second line is refused for what it names, and the first for its authority.
+// The second line is refused for what it names, and the first for its authority.
 const TWO_FAULTS: &[u8] = b"serial: 5\nid:  \nserial: 6";
 
 const ROWS: [Row<'static>; 19] = [
@@ -171,8 +171,8 @@ fn read_to_the_end_or_stopped_at_a_line(rt: HostRuntime) {
     }
 }
 
-/// The authority under which the line of a certificate is read, what is before it, the serial
-/// of the certificate, and the sections that the line adds.
+// The authority under which the line of a certificate is read, what is before it, the serial
+// of the certificate, and the sections that the line adds.
 type Certified<'a> = (Under<'a>, &'a [u8], u64, &'a [&'a [u8]]);
 
 const CERTIFIED: [Certified<'static>; 4] = [
@@ -185,7 +185,7 @@ const CERTIFIED: [Certified<'static>; 4] = [
     (Under::NotGiven, b"key:", 7, &[&ONE_KEY, &GITHUB]),
 ];
 
-/// The row is so of a certificate by the other key.
+// The row is so of a certificate by the other key.
 fn certified(rt: &impl Abort, alloc: Global, number: usize, row: &Certified) {
     let (under, word, serial, sections) = *row;
     let line = certificate_line(rt, alloc, &OTHER, serial);
@@ -200,7 +200,7 @@ fn a_certificate_by_its_id_its_serial_and_its_key(rt: HostRuntime) {
     }
 }
 
-/// Files that add nothing under all authorities, and where and why they are refused.
+// Files that add nothing under all authorities, and where and why they are refused.
 const REFUSED: [(&[u8], &str); 19] = [
     // numbers that are none
     (b"serial: 08", "1: spec 1 Number"),
@@ -242,7 +242,7 @@ fn refused(rt: HostRuntime) {
     }
 }
 
-/// A file of lines with comments of this many letters, and of as many lines that add nothing.
+// A file of lines with comments of this many letters, and of as many lines that add nothing.
 fn long_file(rt: &impl Abort, alloc: Global, size: usize) -> Vec<u8> {
     let letters = repeated(rt, alloc, &[b"a"], size);
     let lines = repeated(rt, alloc, &[b"# a\n"], size);
@@ -274,7 +274,7 @@ fn long_files_are_read(rt: HostRuntime) {
     }
 }
 
-/// A key of a device whose application has this many letters is added.
+// A key of a device whose application has this many letters is added.
 fn adds_long_key(rt: &impl Abort, alloc: Global, size: usize) {
     let application = repeated(rt, alloc, &[b"a"], size);
     let word = b"sk-ssh-ed25519@openssh.com".as_slice();

@@ -1,14 +1,14 @@
-// The names of the list's file and of the new file beside it.
+//! The names of the list's file and of the new file beside it.
 
 use std::alloc::Global;
 use std::fs;
 use std::io::{self, ErrorKind};
 use std::random::RandomSource;
 
-/// How many links are followed to a file, as Linux does.
+// How many links are followed to a file, as Linux does.
 const LINKS: usize = 40;
-/// How many bytes of the list's name are in the new one. So the new one is short enough for file
-/// systems that take only 143 bytes.
+// How many bytes of the list's name are in the new one. So the new one is short enough for file
+// systems that take only 143 bytes.
 const FRONT: usize = 100;
 
 /// The path of the file that the name leads to, over links. There need be none.

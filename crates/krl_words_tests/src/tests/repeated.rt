@@ -1,4 +1,4 @@
-// Options that are given more than once: of values the last one counts, others count once.
+//! Options that are given more than once: of values the last one counts, others count once.
 
 use super::words::{Asked, Making, fault_by, is_asked, is_making, is_misuse, job_by, reports};
 use krl_job::Mode;

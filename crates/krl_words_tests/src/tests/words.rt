@@ -1,4 +1,4 @@
-// The words of the command line.
+//! The words of the command line.
 
 use krl_job::{Authority, Job, Mode};
 use krl_words::{CommandFault, command_of};
@@ -99,6 +99,7 @@ const JOBS: [Asked<'static>; 11] = [
     ),
 ];
 
+// Whether the job is that of a row.
 pub(super) fn is_asked(job: &Job, row: &Asked) -> bool {
     let (_, mode, file, hash, files) = row;
     job.mode == *mode && job.file == *file && job.hash == *hash && job.files.as_slice() == *files
@@ -187,6 +188,7 @@ fn is_authority(authority: &Authority<&str>, words: &str) -> bool {
     }
 }
 
+// Whether the job makes the list of a row.
 pub(super) fn is_making(job: &Job, row: &Making) -> bool {
     let (_, update, authority, version, files) = row;
     job.mode == Mode::Make

@@ -1,4 +1,4 @@
-// What a call answered where memory may have been refused.
+//! What a call answered where memory may have been refused.
 
 use std::process::Abort;
 

@@ -1,8 +1,8 @@
-// A writer that asks for no memory.
+//! A writer that asks for no memory.
 
 use std::io::{self, ErrorKind, Write};
 
-/// How many bytes it takes.
+// How many bytes it takes.
 const ROOM: usize = 4096;
 
 /// Holds the bytes that it took.
@@ -13,6 +13,7 @@ pub struct Buffer {
 }
 
 impl Buffer {
+    /// A writer that took nothing.
     pub fn new() -> Buffer {
         Buffer {
             bytes: [0; ROOM],

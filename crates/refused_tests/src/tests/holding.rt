@@ -1,4 +1,4 @@
-// What is held, which a refused addition leaves as it was.
+//! What is held, which a refused addition leaves as it was.
 
 use crate::tests::answered::{answered, ran_out};
 use crate::tests::parts::{GITHUB_LINE, SHA256, blob_of};
@@ -56,6 +56,7 @@ pub fn size(held: &Revocations<Held>) -> u128 {
     size
 }
 
+// Adds an entry of a sort.
 fn add(held: &mut Revocations<Held>, entry: Entry, byte: u8) -> Result<(), AllocError> {
     match entry {
         Entry::Key => held.add_key(&[byte; 51]),

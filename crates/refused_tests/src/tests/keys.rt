@@ -1,4 +1,4 @@
-// Keys, certificates and fingerprints.
+//! Keys, certificates and fingerprints.
 
 use crate::tests::answered::answered;
 use crate::tests::parts::{CERT_LINE, CONTAINER, GITHUB_LINE, GITHUB_PRINT, blob_of};

@@ -1,4 +1,4 @@
-// What the calls are given: keys, a certificate and a container as their files spell them.
+//! What the calls are given: keys, a certificate and a container as their files spell them.
 
 use crate::tests::answered::answered;
 use parts_for_tests::{HEADER, joined};

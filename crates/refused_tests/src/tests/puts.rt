@@ -1,4 +1,4 @@
-// Vectors, which a refused put leaves as they were.
+//! Vectors, which a refused put leaves as they were.
 
 use crate::tests::answered::ran_out;
 use ssh_wire::{put_byte, put_mpint, put_string, put_u32, put_u64};

@@ -1,4 +1,4 @@
-// The runs, what they load, and the line of their fault.
+//! The runs, what they load, and the line of their fault.
 
 use crate::tests::answered::{answered, ran_out};
 use crate::tests::buffer::Buffer;
@@ -85,7 +85,7 @@ fn query<'a>(alloc: Global, krl: &[u8], files: &'a [Named<'a>], said: &mut Buffe
     done
 }
 
-/// What a list with the published key says of three files, with the list itself before it.
+// What a list with the published key says of three files, with the list itself before it.
 const ANSWERS: &[u8] = b"# KRL version 1\n# Generated at 1970-01-01T00:00:00Z\n\
 key: AAAAC3NzaC1lZDI1NTE5AAAAIOMqqnkVzrm0SdG6UOoqKLsabgH5C9okWi0dh2l9GKJl\n\
 a: REVOKED\nb: ok\nid (a): REVOKED\n";
@@ -114,11 +114,12 @@ fn list<'a>(alloc: Global, mode: ListMode, file: &'a Named<'a>, said: &mut Buffe
     list_run(alloc, mode, Hash::Sha256, file, 0, &mut ToWrite::new(said))
 }
 
-/// The lines of two keys.
+// The lines of two keys.
 const LISTED: &[u8] =
     b"256 SHA256:+DiY3wvvV6TuJJhbpZisF/zLDA0zPMSvHdkr4UvCOqU no comment (ED25519)\n\
 256 SHA256:+DiY3wvvV6TuJJhbpZisF/zLDA0zPMSvHdkr4UvCOqU no comment (ED25519-CERT)\n";
 
+// Lists a plain key and a certificate.
 fn list_two(rt: &(impl AllocGlobal + Abort + Print)) -> Option<()> {
     let text = answered(
         rt,

@@ -1,4 +1,4 @@
-// Sets of spans, which a refused addition leaves as they were.
+//! Sets of spans, which a refused addition leaves as they were.
 ghost use Rattle.std.specs.Prelude.{◌≡◌, ◌*◌, ◌^◌, ◌<◌, ◌≤◌, All};
 ghost use Rattle.serial_set.specs.BitRuns.{IsInterval};
 ghost use Rattle.serial_set.specs.Near.{AreNear};
@@ -9,6 +9,7 @@ use std::alloc::AllocError;
 use std::process::Abort;
 use std::test::Fail;
 
+// A set with no member, tried again where memory ran out.
 fn empty<S: Spans>(rt: &(impl AllocGlobal + Abort + Print)) -> Result<S, AllocError> {
     match S::empty(rt.alloc()) {
         Ok(set) => Ok(set),
@@ -19,12 +20,12 @@ fn empty<S: Spans>(rt: &(impl AllocGlobal + Abort + Print)) -> Result<S, AllocEr
     }
 }
 
-/// In which order 1, 3, 5, .. 2047 are added.
+// In which order 1, 3, 5, .. 2047 are added.
 #[derive(Clone, Copy)]
 enum Order {
     Rising,
     Falling,
-    /// 1, 2047, 3, 2045, ..
+    // 1, 2047, 3, 2045, ..
     BothEnds,
 }
 
@@ -100,7 +101,7 @@ fn one_vector(rt: HostRuntime) -> Result<(), Fail> {
     fill::<SpanVec>(&rt, Order::BothEnds)
 }
 
-/// What is added, and how many spans there are then.
+// What is added, and how many spans there are then.
 const JOINING: [(u64, u64, usize); 4] = [(5, 5, 1), (7, 7, 2), (6, 6, 1), (8, u64::MAX, 1)];
 
 // Adds what touches and what does not, again where it is refused.
@@ -129,7 +130,7 @@ fn a_joined_vector(rt: HostRuntime) -> Result<(), Fail> {
     join::<SpanVec>(&rt)
 }
 
-/// What is added to a set of no entry, and what makes a second one.
+// What is added to a set of no entry, and what makes a second one.
 const SECOND: [((u64, u64), (u64, u64)); 4] = [
     ((9, 9), (1000, 1000)),
     ((1000, 2000), (5, 5)),

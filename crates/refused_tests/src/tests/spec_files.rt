@@ -1,4 +1,4 @@
-// Specification files, of which a refusal leaves just the lines before it.
+//! Specification files, of which a refusal leaves just the lines before it.
 
 use crate::tests::answered::{answered, ran_out};
 use crate::tests::holding::size;
@@ -9,7 +9,7 @@ use parts_for_tests::joined;
 use serial_set::Held;
 use std::alloc::AllocError;
 
-/// Eight lines, of which each names one entry more.
+// Eight lines, of which each names one entry more.
 const LINES: [&[u8]; 14] = [
     b"serial: 0x10-020\n",
     b"id: a\n",

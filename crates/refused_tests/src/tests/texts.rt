@@ -1,4 +1,4 @@
-// Lists that are written.
+//! Lists that are written.
 
 use crate::tests::answered::answered;
 use crate::tests::holding::{Counter, held, one_of_each};
@@ -9,6 +9,7 @@ use serial_set::Held;
 use ssh_wire::{Bytes, ToWrite};
 use std::alloc::{AllocError, Global};
 
+// A header of version 1 without a comment.
 fn header(alloc: Global) -> Header {
     Header {
         version: 1,
@@ -17,7 +18,7 @@ fn header(alloc: Global) -> Header {
     }
 }
 
-/// Serial 5 and key ID `a` of all authorities.
+// Serial 5 and key ID `a` of all authorities.
 const FIVE_AND_A: &[u8] = b"\x01\0\0\0\x1f\0\0\0\0\0\0\0\0\x20\0\0\0\x08\0\0\0\0\0\0\0\x05\
 \x23\0\0\0\x05\0\0\0\x01a";
 

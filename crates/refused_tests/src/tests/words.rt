@@ -1,4 +1,4 @@
-// The words of the command.
+//! The words of the command.
 
 use crate::tests::answered::ran_out;
 use krl_job::{Job, Mode};

@@ -1,3 +1,4 @@
+//! Intervals that are added, one after the other.
 ghost use Rattle.std.specs.Prelude.{◌≡◌, ◌<◌, ◌≤◌};
 
 use crate::tests::walk::{add, empty, lists};

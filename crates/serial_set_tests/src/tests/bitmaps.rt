@@ -1,3 +1,4 @@
+//! Bitmaps, byte for byte, and why they are refused.
 ghost use Rattle.std.specs.Prelude.{◌≡◌, ◌+◌, ◌<◌, ◌≤◌, IsTrue, OnSome};
 
 use crate::tests::walk::{add, empty, lists};
@@ -113,6 +114,7 @@ fn goes_on_over_bytes(rt: HostRuntime) {
     assert!(rt; bits.end() == Some(Span { lo: 1, hi: 7999 }));
 }
 
+// Why a byte is refused, if it is.
 fn refusal(bits: &mut BitRuns, byte: u8) -> Option<BitFault>
     requires { 0 < bits.old.bytes_left }
     ensures { OnSome result (bits.new.bytes_left ≡ bits.old.bytes_left) }

@@ -1,4 +1,4 @@
-// Spans that are added in one change where they are near each other, beside a plain list.
+//! Spans that are added in one change where they are near each other, beside a plain list.
 ghost use Rattle.std.specs.Prelude.{◌≡◌, ◌+◌, ◌<◌, ◌≤◌, ◌↔◌, IsTrue, All};
 ghost use Rattle.serial_set.specs.BitRuns.{IsInterval};
 
@@ -72,6 +72,7 @@ const ROWS: [Row; 8] = [
     ),
 ];
 
+// The spans with these ends.
 fn spans_of(rt: &impl Abort, alloc: Global, ends: &[(u64, u64)]) -> Vec<Span>
     ensures { All IsInterval result.items }
 {
@@ -84,6 +85,7 @@ fn spans_of(rt: &impl Abort, alloc: Global, ends: &[(u64, u64)]) -> Vec<Span>
     spans
 }
 
+// Adds the spans of a row, in as many calls as the row says.
 fn adds<S: Spans>(rt: &impl Abort, alloc: Global, number: usize, row: &Row) {
     let (before, added, calls, after) = *row;
     let mut set: S = empty(rt, alloc);

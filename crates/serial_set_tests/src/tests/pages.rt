@@ -1,4 +1,4 @@
-// Sets that fill many pages, over both representations.
+//! Sets that fill many pages, over both representations.
 ghost use Rattle.std.specs.Prelude.{◌≡◌, ◌+◌, ◌*◌, ◌^◌, ◌<◌, ◌≤◌};
 
 use crate::tests::walk::{add, empty, list_of, lists};
@@ -57,6 +57,7 @@ const ROWS: [(u64, u64, usize, usize, Span); 3] = [
     (2, 2046, 1, 0, Span { lo: 1, hi: 2047 }),
 ];
 
+// The spans of a set of 1,024 odd numbers after each addition.
 fn has_rows<S: Spans>(rt: &impl Abort, alloc: Global, order: Order) {
     let mut set: S = odd_numbers(rt, alloc, order, 1024);
     assert!(rt;
@@ -114,6 +115,7 @@ const JOINED: [Span; 3] = [
     },
 ];
 
+// A set of 600,000 odd numbers, and one interval over most of them.
 fn fills(rt: &impl Abort, alloc: Global, order: Order) {
     let mut set: SpanWords = odd_numbers(rt, alloc, order, 600_000);
     for (at, span) in &PLACES {
@@ -132,7 +134,7 @@ fn fills_pages(rt: HostRuntime) {
     }
 }
 
-// The next of a row of numbers that look random (xorshift).
+/// The next of a row of numbers that look random (xorshift).
 pub fn next(seed: u64) -> u64 {
     let mut next = seed;
     next ^= next << 13;

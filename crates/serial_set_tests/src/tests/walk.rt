@@ -1,11 +1,11 @@
-// Code over any representation, proved from what `Spans` promises alone.
+//! Code over any representation, proved from what `Spans` promises alone.
 ghost use Rattle.std.specs.Prelude.{◌≡◌, ◌<◌, ◌≤◌, length, IsTrue, IfOk};
 
 use serial_set::{Span, SpanVec, SpanWords, Spans};
 use std::alloc::{AllocError, Global};
 use std::process::Abort;
 
-// Goes over the list in linear time: each piece is visited once.
+/// Goes over the list in linear time: each piece is visited once.
 pub fn list_of<S: Spans>(alloc: Global, set: &S) -> Result<Vec<Span>, AllocError>
     ensures { IfOk result (λ list. list.items ≡ S.spans set.now) }
 {
@@ -19,18 +19,18 @@ pub fn list_of<S: Spans>(alloc: Global, set: &S) -> Result<Vec<Span>, AllocError
     Ok(list)
 }
 
-// The set has these spans alone; a number distinguishes the case from the others of a test.
+/// The set has these spans alone; a number distinguishes the case from the others of a test.
 pub fn lists<S: Spans>(rt: &impl Abort, alloc: Global, number: usize, set: &S, expected: &[Span]) {
     let list = list_of(alloc, set).expect(rt, "there is memory");
     assert!(rt; list.as_slice() == expected, "in case {number}");
 }
 
-// A set of no spans.
+/// A set of no spans.
 pub fn empty<S: Spans>(rt: &impl Abort, alloc: Global) -> S {
     S::empty(alloc).expect(rt, "there is memory")
 }
 
-// Adds an interval, which has a serial and begins above 0.
+/// Adds an interval, which has a serial and begins above 0.
 pub fn add<S: Spans>(rt: &impl Abort, set: &mut S, lo: u64, hi: u64) {
     assert!(rt; 0 < lo && lo <= hi);
     set.add(lo, hi).expect(rt, "there is memory");
@@ -45,6 +45,7 @@ fn has_start<S: Spans>(set: &S, at: usize) -> bool
     set.has(span.lo)
 }
 
+// Whether a serial that was added is a member.
 fn has_added<S: Spans>(set: &mut S, serial: u64) -> Result<bool, AllocError>
     requires { 0 < serial }
     ensures { IfOk result (λ found. IsTrue found) }
@@ -63,6 +64,7 @@ fn is_empty<S: Spans>(set: &S) -> bool {
     set.len() == 0 && !set.has(0) && !set.has(2)
 }
 
+// A set of two serials, gone over by calls of the trait alone.
 fn walks<S: Spans>(rt: &impl Abort, alloc: Global) {
     let mut set: S = empty(rt, alloc);
     assert!(rt; is_empty(&set));

@@ -1,5 +1,5 @@
-// Sets of few numbers beside a plain list of members, over the first windows, the last ones, and
-// others.
+//! Sets of few numbers beside a plain list of members, over the first windows, the last ones, and
+//! others.
 ghost use Rattle.std.specs.Prelude.{◌≡◌, ◌<◌, ◌≤◌};
 
 use crate::tests::pages::next;
@@ -8,7 +8,7 @@ use serial_set::{Span, SpanVec, SpanWords, Spans};
 use std::alloc::{AllocError, Global};
 use std::process::Abort;
 
-// Whether each number from one on is a member.
+/// Whether each number from one on is a member.
 #[derive(Drop)]
 pub struct Plain {
     from: u64,
@@ -16,6 +16,7 @@ pub struct Plain {
 }
 
 impl Plain {
+    /// No member, of the numbers from one on.
     pub fn empty(from: u64) -> Plain {
         Plain {
             from,
@@ -23,6 +24,7 @@ impl Plain {
         }
     }
 
+    /// Adds the numbers from `lo` to `hi`.
     pub fn add(&mut self, lo: u64, hi: u64) {
         let mut number = self.from;
         for member in self.members.iter_mut() {
@@ -55,7 +57,7 @@ impl Plain {
     }
 }
 
-// Whether the set has just the members, as their runs.
+/// Whether the set has just the members, as their runs.
 pub fn agrees<S: Spans>(rt: &impl Abort, alloc: Global, set: &S, plain: &Plain) -> bool {
     let expected = plain.runs(alloc).expect(rt, "there is memory");
     let list = list_of(alloc, set).expect(rt, "there is memory");
@@ -104,6 +106,7 @@ fn add_some<S: Spans>(rt: &impl Abort, set: &mut S, plain: &mut Plain, seed: u64
 // Where the windows of a row begin: the first, the last, some in the midst.
 const STARTS: [u64; 3] = [0, u64::MAX - 319, 1 << 40];
 
+// Random additions to a set and to the plain list beside it.
 fn adds_a_row<S: Spans>(rt: &impl Abort, alloc: Global, from: u64, row: u64) {
     let mut set: S = empty(rt, alloc);
     let mut plain = Plain::empty(from);

@@ -1,4 +1,4 @@
-// What a revocation list is asked.
+//! What a revocation list is asked.
 
 use crate::tests::parts::{AUTHORITY, Part, certificate, changed, is_asked, plain};
 use parts_for_tests::{PUBLISHED, strings};
@@ -7,12 +7,12 @@ use ssh_key::KeyFault;
 use ssh_wire::WireFault;
 use std::alloc::{AllocError, Global};
 
-/// Whether these are the names of the certificate of the published key.
+// Whether these are the names of the certificate of the published key.
 fn are_published(names: &CertNames, authority: &[u8]) -> bool {
     names.serial == 7 && names.key_id == b"a".as_slice() && names.authority == authority
 }
 
-/// Whether those names are asked for the blob, or where no authority is given, no names.
+// Whether those names are asked for the blob, or where no authority is given, no names.
 fn has_names(alloc: Global, blob: &[u8], authority: Option<&[u8]>) -> bool {
     match subject(alloc, blob) {
         Ok(asked) => match (&asked.cert, authority) {
@@ -36,7 +36,7 @@ fn a_key_is_asked_by_its_blob_and_a_certificate_by_its_key_and_its_authority(rt:
     assert!(rt; has_names(alloc, &blob, Some(&authority)));
 }
 
-/// A string of this many bytes.
+// A string of this many bytes.
 fn long(alloc: Global, byte: u8, size: usize) -> Result<Vec<u8>, AllocError> {
     let bytes = vec![in alloc; byte; size]?;
     strings(alloc, &[&bytes])
@@ -59,7 +59,7 @@ fn a_long_key_is_asked(rt: HostRuntime) {
     assert!(rt; is_asked(rt.alloc(), &blob, &blob));
 }
 
-/// Whether nothing is asked for the blob, for this fault.
+// Whether nothing is asked for the blob, for this fault.
 fn refuses(alloc: Global, blob: &[u8], fault: SubjectFault) -> bool {
     match subject(alloc, blob) {
         Ok(_) => false,
@@ -69,7 +69,7 @@ fn refuses(alloc: Global, blob: &[u8], fault: SubjectFault) -> bool {
 
 const SHORT: KeyFault = KeyFault::Wire(WireFault::Short);
 
-/// How many bytes of the certificate there are, and why nothing is asked for them.
+// How many bytes of the certificate there are, and why nothing is asked for them.
 const FRONTS: [(usize, SubjectFault); 4] = [
     (0, SubjectFault::Key(SHORT)),
     (20, SubjectFault::Key(SHORT)),

@@ -1,4 +1,4 @@
-// Certificates that are cut, and certificates with one byte changed.
+//! Certificates that are cut, and certificates with one byte changed.
 
 use crate::tests::parts::{certificate, has_fault};
 use ssh_cert::{CertFault, read_cert, subject};
@@ -21,7 +21,7 @@ fn cut_to_any_length(rt: HostRuntime) {
     }
 }
 
-/// Whether the blob is a certificate where something is asked for it, and only there.
+// Whether the blob is a certificate where something is asked for it, and only there.
 fn is_read_where_asked(alloc: Global, blob: &[u8]) -> bool {
     read_cert(blob).is_ok() == subject(alloc, blob).is_ok()
 }

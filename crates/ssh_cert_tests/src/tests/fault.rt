@@ -1,11 +1,11 @@
-// Faults, by their numbers and as they print.
+//! Faults, by their numbers and as they print.
 
 use parts_for_tests::printed;
 use ssh_cert::{CertFault, SubjectFault};
 use ssh_key::KeyFault;
 use ssh_wire::WireFault;
 
-/// A fault, its number, and how it prints.
+// A fault, its number, and how it prints.
 type Row<F> = (F, u8, &'static str);
 
 const OF_CERTIFICATES: [Row<CertFault>; 10] = [

@@ -1,4 +1,4 @@
-// A certificate of each kind of key.
+//! A certificate of each kind of key.
 
 use crate::tests::parts::{Part, changed, has_fault, is_asked};
 use parts_for_tests::{point, strings};
@@ -7,7 +7,7 @@ use ssh_key::{KeyFault, Kind};
 use ssh_wire::WireFault;
 use std::alloc::{AllocError, Global};
 
-/// The certificate of a key of this kind with these public fields.
+// The certificate of a key of this kind with these public fields.
 fn certified(alloc: Global, kind: Kind, public: &[u8]) -> Result<Vec<u8>, AllocError> {
     let mut blob = strings(alloc, &[kind.cert_name().as_bytes()])?;
     let other = changed(alloc, Part::Public, public)?;
@@ -15,7 +15,7 @@ fn certified(alloc: Global, kind: Kind, public: &[u8]) -> Result<Vec<u8>, AllocE
     Ok(blob)
 }
 
-/// Whether the blob's certificate has a key of this kind and size, with these public fields.
+// Whether the blob's certificate has a key of this kind and size, with these public fields.
 fn has_key(blob: &[u8], kind: Kind, bits: u32, public: &[u8]) -> bool {
     match read_cert(blob) {
         Ok(cert) => {
@@ -28,22 +28,22 @@ fn has_key(blob: &[u8], kind: Kind, bits: u32, public: &[u8]) -> bool {
     }
 }
 
-/// The blob of a key of this kind with these public fields.
+// The blob of a key of this kind with these public fields.
 fn plain(alloc: Global, kind: Kind, public: &[u8]) -> Result<Vec<u8>, AllocError> {
     let mut blob = strings(alloc, &[kind.name().as_bytes()])?;
     blob.extend_from_slice(public)?;
     Ok(blob)
 }
 
-/// Whether the certificate of these public fields has a key of this kind and size, and is asked by
-/// its blob.
+// Whether the certificate of these public fields has a key of this kind and size, and is asked by
+// its blob.
 fn reads(alloc: Global, kind: Kind, public: &[u8], bits: u32) -> Result<bool, AllocError> {
     let blob = certified(alloc, kind, public)?;
     let plain = plain(alloc, kind, public)?;
     Ok(has_key(&blob, kind, bits, public) && is_asked(alloc, &blob, &plain))
 }
 
-/// A kind of key, its public fields, and its size.
+// A kind of key, its public fields, and its size.
 const KEYS: [(Kind, &[&[u8]], u32); 4] = [
     (Kind::Rsa, &[&[3], &[1, 0]], 9),
     (Kind::Dsa, &[&[0x17], &[5], &[2], &[9]], 5),
@@ -60,8 +60,8 @@ fn keys_of_numbers_and_of_32_bytes(rt: HostRuntime) {
     }
 }
 
-/// The public fields of a key on a curve, whose point is uncompressed and has this many bytes; the
-/// key of a device has an application too.
+// The public fields of a key on a curve, whose point is uncompressed and has this many bytes; the
+// key of a device has an application too.
 fn on_curve(
     alloc: Global,
     curve: &str,
@@ -74,7 +74,7 @@ fn on_curve(
     Ok(public)
 }
 
-/// A kind of key, its curve, the size of its point, its application, and its own size.
+// A kind of key, its curve, the size of its point, its application, and its own size.
 const ON_CURVES: [(Kind, &str, usize, &[u8], u32); 4] = [
     (Kind::Ecdsa256, "nistp256", 65, b"", 256),
     (Kind::Ecdsa384, "nistp384", 97, b"", 384),

@@ -1,4 +1,4 @@
-// The listing of a certificate, and instants as they are printed.
+//! The listing of a certificate, and instants as they are printed.
 
 use crate::tests::parts::{Part, changed, with};
 use parts_for_tests::{PUBLISHED, joined, repeated, strings};
@@ -7,7 +7,7 @@ use ssh_key::Hash;
 use std::alloc::{AllocError, Global};
 use std::process::Abort;
 
-/// The listing of the blob's certificate at the moment 0.
+// The listing of the blob's certificate at the moment 0.
 fn listing(alloc: Global, blob: &[u8], hash: Hash) -> Option<Vec<u8>> {
     match read_cert(blob) {
         Ok(cert) => list_cert(alloc, &cert, hash, 0).ok(),
@@ -15,7 +15,7 @@ fn listing(alloc: Global, blob: &[u8], hash: Hash) -> Option<Vec<u8>> {
     }
 }
 
-/// The listing of the certificate of the published key by itself.
+// The listing of the certificate of the published key by itself.
 const PLAIN: &str = "        Type: ssh-ed25519-cert-v01@openssh.com user certificate\n\
      \x20       Public key: ED25519-CERT SHA256:+DiY3wvvV6TuJJhbpZisF/zLDA0zPMSvHdkr4UvCOqU\n\
      \x20       Signing CA: ED25519 SHA256:+DiY3wvvV6TuJJhbpZisF/zLDA0zPMSvHdkr4UvCOqU \
@@ -37,8 +37,8 @@ fn a_plain_listing(rt: HostRuntime) {
     assert!(rt; text.as_slice() == PLAIN.as_bytes());
 }
 
-/// A hash, a field of the certificate and the strings that are in it, and the last lines of the
-/// listing.
+// A hash, a field of the certificate and the strings that are in it, and the last lines of the
+// listing.
 type Listed<'a> = (Hash, Part, &'a [&'a [u8]], &'a str);
 
 const LISTED: [Listed<'static>; 4] = [
@@ -76,7 +76,7 @@ const LISTED: [Listed<'static>; 4] = [
     ),
 ];
 
-/// Whether the listing of the blob's certificate ends with these lines.
+// Whether the listing of the blob's certificate ends with these lines.
 fn lists(alloc: Global, blob: &[u8], hash: Hash, lines: &[u8]) -> bool {
     match listing(alloc, blob, hash) {
         Some(text) => text.as_slice().ends_with(lines),
@@ -95,17 +95,17 @@ fn principals_options_and_extensions_are_listed(rt: HostRuntime) {
     }
 }
 
-/// How many bytes a text has that is longer than blocks of memory.
+// How many bytes a text has that is longer than blocks of memory.
 const LONG: [usize; 3] = [1_025, 4_097, 70_001];
 
-/// The lines of the certificate by the other key before its ID.
+// The lines of the certificate by the other key before its ID.
 const BEFORE_THE_ID: &[u8] = b"        Type: ssh-ed25519-cert-v01@openssh.com user certificate\n\
      \x20       Public key: ED25519-CERT SHA256:+DiY3wvvV6TuJJhbpZisF/zLDA0zPMSvHdkr4UvCOqU\n\
      \x20       Signing CA: ED25519 SHA256:SQfC+vTbLURn9cTkVxIS8fGQ3FKNAJWeB0o139+gV4M \
      (using ssh-ed25519)\n\
      \x20       Key ID: \"";
 
-/// Those after it.
+// Those after it.
 const AFTER_THE_ID: &[u8] = b"\"\n\
      \x20       Serial: 7\n\
      \x20       Valid: forever\n\
@@ -114,7 +114,7 @@ const AFTER_THE_ID: &[u8] = b"\"\n\
      \x20       Critical Options: (none)\n\
      \x20       Extensions: (none)\n";
 
-/// Whether a certificate with a key ID of this many escape bytes is listed with each of them.
+// Whether a certificate with a key ID of this many escape bytes is listed with each of them.
 fn lists_id(alloc: Global, size: usize) -> Result<bool, AllocError> {
     let id = vec![in alloc; 0x1b; size]?;
     let field = strings(alloc, &[&id])?;
@@ -132,7 +132,7 @@ fn long_key_ids_are_listed(rt: HostRuntime) {
     }
 }
 
-/// Whether a certificate with these strings in a field is listed with these lines last.
+// Whether a certificate with these strings in a field is listed with these lines last.
 fn lists_last(
     alloc: Global,
     part: Part,
@@ -145,7 +145,7 @@ fn lists_last(
 
 const NO_OPTIONS: &[u8] = b"\n        Critical Options: (none)\n        Extensions: (none)\n";
 
-/// Whether a certificate is listed with a principal of this many letters.
+// Whether a certificate is listed with a principal of this many letters.
 fn lists_principal(alloc: Global, size: usize) -> Result<bool, AllocError> {
     let long = vec![in alloc; b'a'; size]?;
     let front = b"        Principals:\n                ";
@@ -153,7 +153,7 @@ fn lists_principal(alloc: Global, size: usize) -> Result<bool, AllocError> {
     lists_last(alloc, Part::Principals, &[&long], &lines)
 }
 
-/// Whether a certificate is listed with this many principals.
+// Whether a certificate is listed with this many principals.
 fn lists_principals(alloc: Global, count: usize) -> Result<bool, AllocError> {
     let names = repeated(alloc, b"\0\0\0\x01a", count)?;
     let field = strings(alloc, &[&names])?;
@@ -163,7 +163,7 @@ fn lists_principals(alloc: Global, count: usize) -> Result<bool, AllocError> {
     Ok(lists(alloc, &blob, Hash::Md5, &lines))
 }
 
-/// Whether a certificate is listed with a command of this many letters.
+// Whether a certificate is listed with a command of this many letters.
 fn lists_command(alloc: Global, size: usize) -> Result<bool, AllocError> {
     let long = vec![in alloc; b'a'; size]?;
     let command = strings(alloc, &[&long])?;
@@ -172,7 +172,7 @@ fn lists_command(alloc: Global, size: usize) -> Result<bool, AllocError> {
     lists_last(alloc, Part::Critical, &[b"force-command", &command], &lines)
 }
 
-/// Whether a certificate is listed with an extension of this many letters, and as many of its data.
+// Whether a certificate is listed with an extension of this many letters, and as many of its data.
 fn lists_extension(alloc: Global, size: usize) -> Result<bool, AllocError> {
     let long = vec![in alloc; b'a'; size]?;
     let digits = repeated(alloc, b"61", size)?;
@@ -181,7 +181,7 @@ fn lists_extension(alloc: Global, size: usize) -> Result<bool, AllocError> {
     lists_last(alloc, Part::Extensions, &[&long, &long], &lines)
 }
 
-/// The case is right, with the memory that it takes.
+// The case is right, with the memory that it takes.
 fn is_listed(rt: &impl Abort, size: usize, right: Result<bool, AllocError>) {
     assert!(rt; right.expect(rt, "there is memory"), "in case {size}");
 }
@@ -196,7 +196,7 @@ fn long_principals_options_and_extensions_are_listed(rt: HostRuntime) {
     }
 }
 
-/// A time of the certificate, its seconds, and the last lines of the listing.
+// A time of the certificate, its seconds, and the last lines of the listing.
 const TIMES: [(Part, u64, &str); 4] = [
     (
         Part::Before,
@@ -267,7 +267,7 @@ fn instants_as_they_are_printed(rt: HostRuntime) {
     }
 }
 
-/// A time of the certificate, its seconds, and whether the certificate is valid at a moment.
+// A time of the certificate, its seconds, and whether the certificate is valid at a moment.
 const VALID: [(Part, u64, u64, bool); 6] = [
     (Part::Before, 9, 0, true),
     (Part::Before, 9, 8, true),
@@ -278,7 +278,7 @@ const VALID: [(Part, u64, u64, bool); 6] = [
     (Part::After, 0, u64::MAX, false),
 ];
 
-/// Whether the blob is a certificate that is valid at a moment where it is to be, and only there.
+// Whether the blob is a certificate that is valid at a moment where it is to be, and only there.
 fn is_valid(blob: &[u8], moment: u64, wanted: bool) -> bool {
     match read_cert(blob) {
         Ok(cert) => valid_at(&cert, moment) == wanted,

@@ -1,9 +1,9 @@
-// The principals, options and extensions of certificates.
+//! The principals, options and extensions of certificates.
 
 use crate::tests::parts::{Part, with};
 use ssh_cert::{Options, Strings, read_cert};
 
-/// Whether these names and data are the options, after which none comes.
+// Whether these names and data are the options, after which none comes.
 fn are_options(mut options: Options<'_>, pairs: &[(&[u8], &[u8])]) -> bool {
     for (name, data) in pairs {
         let Some(option) = options.next() else {
@@ -16,7 +16,7 @@ fn are_options(mut options: Options<'_>, pairs: &[(&[u8], &[u8])]) -> bool {
     options.next().is_none()
 }
 
-/// Whether these are the principals, after which none comes.
+// Whether these are the principals, after which none comes.
 fn are_principals(mut principals: Strings<'_>, names: &[&[u8]]) -> bool {
     for name in names {
         if principals.next() != Some(*name) {
@@ -26,7 +26,7 @@ fn are_principals(mut principals: Strings<'_>, names: &[&[u8]]) -> bool {
     principals.next().is_none() && principals.next().is_none()
 }
 
-/// A field of a certificate, the strings that are in it, and what is read of the certificate.
+// A field of a certificate, the strings that are in it, and what is read of the certificate.
 struct Row<'a> {
     part: Part,
     strings: &'a [&'a [u8]],
@@ -81,7 +81,7 @@ const ROWS: [Row<'static>; 4] = [
     },
 ];
 
-/// Whether the lists of the blob's certificate are those of the row.
+// Whether the lists of the blob's certificate are those of the row.
 fn has_lists(blob: &[u8], row: &Row<'_>) -> bool {
     match read_cert(blob) {
         Ok(cert) => {

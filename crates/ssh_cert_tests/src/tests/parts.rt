@@ -1,4 +1,4 @@
-// Certificates from their parts.
+//! Certificates from their parts.
 
 use parts_for_tests::strings;
 use ssh_cert::{CertFault, read_cert, subject};
@@ -26,9 +26,9 @@ pub enum Part {
     Signature,
 }
 
-/// The certificate of the published key by the authority, for a user, with the serial number 7 and
-/// the key ID `a`, valid for ever, with no principals, options or extensions: how each field stands
-/// there.
+// The certificate of the published key by the authority, for a user, with the serial number 7 and
+// the key ID `a`, valid for ever, with no principals, options or extensions: how each field stands
+// there.
 const FIELDS: [(Part, &[u8]); 14] = [
     (Part::Type, b"\0\0\0\x20ssh-ed25519-cert-v01@openssh.com"),
     (Part::Nonce, b"\0\0\0\0"),

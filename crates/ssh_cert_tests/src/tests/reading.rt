@@ -1,4 +1,4 @@
-// Certificates read, and the fault of each change of a field.
+//! Certificates read, and the fault of each change of a field.
 
 use crate::tests::parts::{AUTHORITY, Part, certificate, changed, has_fault, plain, relengthened};
 use parts_for_tests::{PUBLISHED, strings};
@@ -6,7 +6,7 @@ use ssh_cert::{Cert, CertFault, Role, read_cert};
 use ssh_key::{KeyFault, Kind};
 use ssh_wire::WireFault;
 
-/// Whether the numbers are those of the published certificate.
+// Whether the numbers are those of the published certificate.
 fn has_numbers(cert: &Cert) -> bool {
     cert.serial() == 7
         && cert.role() == Role::User
@@ -14,32 +14,32 @@ fn has_numbers(cert: &Cert) -> bool {
         && cert.before() == u64::MAX
 }
 
-/// Whether the texts are those of the published certificate.
+// Whether the texts are those of the published certificate.
 fn has_texts(cert: &Cert) -> bool {
     cert.nonce().is_empty()
         && cert.key_id() == b"a".as_slice()
         && cert.algorithm() == b"ssh-ed25519".as_slice()
 }
 
-/// Whether no names, options and extensions are in the certificate.
+// Whether no names, options and extensions are in the certificate.
 fn has_no_lists(cert: &Cert) -> bool {
     cert.principals().next().is_none()
         && cert.critical().next().is_none()
         && cert.extensions().next().is_none()
 }
 
-/// Whether the certificate is for a key of these public fields.
+// Whether the certificate is for a key of these public fields.
 fn has_key(cert: &Cert, fields: &[u8]) -> bool {
     cert.kind() == Kind::Ed25519 && cert.key().bits() == 256 && cert.key().public_fields() == fields
 }
 
-/// Whether the certificate is by this authority.
+// Whether the certificate is by this authority.
 fn has_authority(cert: &Cert, authority: &[u8]) -> bool {
     cert.authority() == authority && cert.authority_key().kind() == Kind::Ed25519
 }
 
-/// Whether the blob is the published certificate, for a key of these public fields and by this
-/// authority.
+// Whether the blob is the published certificate, for a key of these public fields and by this
+// authority.
 fn is_published(blob: &[u8], fields: &[u8], authority: &[u8]) -> bool {
     match read_cert(blob) {
         Ok(cert) => {
@@ -62,7 +62,7 @@ fn each_field_is_lent(rt: HostRuntime) {
     assert!(rt; is_published(&blob, &fields, &authority));
 }
 
-/// Whether the blob's certificate is for this role.
+// Whether the blob's certificate is for this role.
 fn has_role(blob: &[u8], role: Role) -> bool {
     match read_cert(blob) {
         Ok(cert) => cert.role() == role,
@@ -76,7 +76,7 @@ fn hosts_differ_from_users(rt: HostRuntime) {
     assert!(rt; has_role(&blob, Role::Host));
 }
 
-/// A field, what is in its place, and the fault of the certificate.
+// A field, what is in its place, and the fault of the certificate.
 const CHANGED: [(Part, &[u8], CertFault); 8] = [
     (Part::Role, &[0, 0, 0, 3], CertFault::CertType),
     (Part::Role, &[0, 0, 0, 0], CertFault::CertType),
@@ -121,7 +121,7 @@ fn bytes_after_the_signature(rt: HostRuntime) {
 
 const SHORT: KeyFault = KeyFault::Wire(WireFault::Short);
 
-/// A field that is a string, another length before its bytes, and the fault of the certificate.
+// A field that is a string, another length before its bytes, and the fault of the certificate.
 const LENGTHS: [(Part, u32, CertFault); 20] = [
     (Part::Type, 33, CertFault::UnknownType),
     (Part::Type, 31, CertFault::UnknownType),

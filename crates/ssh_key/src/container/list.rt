@@ -1,4 +1,4 @@
-// The private list of a container.
+//! The private list of a container.
 
 ghost use Rattle.std.specs.Prelude.{[], ◌∷◌};
 ghost use Rattle.ssh_wire.specs.Reading.{Gives, Lends};
@@ -31,7 +31,7 @@ pub fn read_list<'a>(key: &PublicKey, list: &'a [u8]) -> Result<&'a [u8], Privat
     Ok(comment)
 }
 
-/// The check words, which are the same, and the type name, which is that of the key.
+// The check words, which are the same, and the type name, which is that of the key.
 #[tactic(auto, unfolding(crate::specs::Rows::row_at))]
 fn read_beginning(key: &PublicKey, cursor: &mut Cursor) -> Result<u32, PrivateFault>
     ensures { Gives (λ check. (check ∷ []) ∷ (check ∷ []) ∷ type_name key.now.kind ∷ []) result

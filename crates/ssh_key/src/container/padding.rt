@@ -1,10 +1,10 @@
-// What fills a private list up.
+//! What fills a private list up.
 
 ghost use Rattle.std.specs.Prelude.{◌≡◌, nat_eq};
 ghost use Rattle.std.specs.List.{starts_with};
 ghost use Rattle.ssh_key.specs.Container.{all_padding};
 
-/// The most bytes that fill a list up.
+// The most bytes that fill a list up.
 const MOST: usize = 254;
 
 /// Whether the bytes are 1, 2, 3 and so on, up to 254 at most.

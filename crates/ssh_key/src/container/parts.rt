@@ -1,4 +1,4 @@
-// The bytes of a container, field by field. A cursor that met a fault is not used again.
+//! The bytes of a container, field by field. A cursor that met a fault is not used again.
 
 ghost use Rattle.std.specs.Prelude.{◌≡◌, [], IfOk, Ok};
 ghost use Rattle.ssh_wire.specs.Reading.{Gives};
@@ -13,10 +13,10 @@ use crate::private_fault::PrivateFault;
 use ssh_wire::Cursor;
 use std::marker::Model;
 
-/// The name of the format, and a zero byte.
+// The name of the format, and a zero byte.
 const MAGIC: &[u8] = b"openssh-key-v1\0";
 
-/// The cipher and the derivation of a container that is not encrypted.
+// The cipher and the derivation of a container that is not encrypted.
 const NONE: &[u8] = b"none";
 
 /// What a container says in public, lent from its bytes.
@@ -34,7 +34,7 @@ impl<'a> Model for Opened<'a> {
     ghost view = { λ opened. record { blob = opened.blob.now; comment = opened.comment.now } };
 }
 
-/// The public key with its blob, and the private list.
+// The public key with its blob, and the private list.
 #[derive(Drop)]
 struct Parts<'a> {
     blob: &'a [u8],
@@ -53,7 +53,7 @@ pub fn read_bytes<'a>(bytes: &'a [u8]) -> Result<Opened<'a>, PrivateFault>
     read_inside(&bytes[MAGIC.len()..])
 }
 
-/// What follows the name of the format.
+// What follows the name of the format.
 #[tactic(auto, unfolding(crate::specs::ContainerReading::inside_at))]
 fn read_inside<'a>(inside: &'a [u8]) -> Result<Opened<'a>, PrivateFault>
     ensures { result ≡ inside_at inside.now }
@@ -67,7 +67,7 @@ fn read_inside<'a>(inside: &'a [u8]) -> Result<Opened<'a>, PrivateFault>
     Ok(Opened { blob, comment })
 }
 
-/// The fields up to the private list.
+// The fields up to the private list.
 #[tactic(auto, unfolding(crate::specs::Rows::row_at))]
 fn read_parts<'a>(cursor: &mut Cursor<'a>) -> Result<Parts<'a>, PrivateFault>
     ensures read { Gives (λ parts. plain_values parts.blob.now parts.list.now) result cursor.new
@@ -90,7 +90,7 @@ fn read_parts<'a>(cursor: &mut Cursor<'a>) -> Result<Parts<'a>, PrivateFault>
     Ok(Parts { blob, key, list })
 }
 
-/// Whether a container with this cipher, derivation and options is not encrypted.
+// Whether a container with this cipher, derivation and options is not encrypted.
 fn is_plain(cipher: &[u8], derivation: &[u8], options: &[u8]) -> bool
     ensures { result ≡ is_plain cipher.now derivation.now options.now }
 {

@@ -1,5 +1,5 @@
-// The private fields of a key, with the public ones among them. A cursor that met a fault is not
-// used again.
+//! The private fields of a key, with the public ones among them. A cursor that met a fault is not
+//! used again.
 
 ghost use Rattle.std.specs.Prelude.{◌≡◌, ◌++◌, ◌≤◌, ℕ, List, length};
 ghost use Rattle.std.specs.Str.{bytes_eq};
@@ -12,7 +12,7 @@ use crate::kind::Kind;
 use crate::private_fault::PrivateFault;
 use ssh_wire::Cursor;
 
-/// The bytes of the private part of an Ed25519 key.
+// The bytes of the private part of an Ed25519 key.
 const ED25519_SECRET_SIZE: usize = 64;
 
 /// Reads the fields of a key of this kind, and whether the public ones among them are the key's.
@@ -33,7 +33,7 @@ pub fn read_secrets(key: &PublicKey, cursor: &mut Cursor) -> Result<bool, Privat
     }
 }
 
-/// The modulus, the exponent, and four private numbers. The blob has the exponent first.
+// The modulus, the exponent, and four private numbers. The blob has the exponent first.
 #[tactic(auto, unfolding(crate::specs::Rows::row_at, crate::specs::ContainerReading::same_at))]
 fn read_rsa(public: &[u8], cursor: &mut Cursor) -> Result<bool, PrivateFault>
     ensures { Gives (λ same. same) result cursor.new (same_at Kind.Rsa public.now cursor.old) }
@@ -51,7 +51,7 @@ fn read_rsa(public: &[u8], cursor: &mut Cursor) -> Result<bool, PrivateFault>
     Ok(is_joined(public, exponent, modulus))
 }
 
-/// The four public numbers, and a private one.
+// The four public numbers, and a private one.
 #[tactic(auto, unfolding(crate::specs::Rows::row_at, crate::specs::ContainerReading::same_at))]
 fn read_dsa(public: &[u8], cursor: &mut Cursor) -> Result<bool, PrivateFault>
     ensures { Gives (λ same. same) result cursor.new (same_at Kind.Dsa public.now cursor.old) }
@@ -66,7 +66,7 @@ fn read_dsa(public: &[u8], cursor: &mut Cursor) -> Result<bool, PrivateFault>
     Ok(among == public)
 }
 
-/// The curve, the point, and a private number.
+// The curve, the point, and a private number.
 #[tactic(auto, unfolding(crate::specs::Rows::row_at, crate::specs::ContainerReading::same_at))]
 fn read_ecdsa(public: &[u8], cursor: &mut Cursor) -> Result<bool, PrivateFault>
     ensures of_256 { Gives (λ same. same) result cursor.new
@@ -84,7 +84,7 @@ fn read_ecdsa(public: &[u8], cursor: &mut Cursor) -> Result<bool, PrivateFault>
     Ok(among == public)
 }
 
-/// The public bytes, and 64 private ones.
+// The public bytes, and 64 private ones.
 #[tactic(auto, unfolding(crate::specs::Rows::row_at, crate::specs::ContainerReading::same_at))]
 fn read_ed25519(public: &[u8], cursor: &mut Cursor) -> Result<bool, PrivateFault>
     ensures { Gives (λ same. same) result cursor.new (same_at Kind.Ed25519 public.now cursor.old) }
@@ -99,7 +99,7 @@ fn read_ed25519(public: &[u8], cursor: &mut Cursor) -> Result<bool, PrivateFault
     Ok(among == public)
 }
 
-/// The curve, the point, the application, and what the device needs.
+// The curve, the point, the application, and what the device needs.
 #[tactic(auto, unfolding(crate::specs::Rows::row_at, crate::specs::ContainerReading::same_at))]
 fn read_ecdsa_device(public: &[u8], cursor: &mut Cursor) -> Result<bool, PrivateFault>
     ensures { Gives (λ same. same) result cursor.new (same_at Kind.EcdsaSk public.now cursor.old) }
@@ -115,7 +115,7 @@ fn read_ecdsa_device(public: &[u8], cursor: &mut Cursor) -> Result<bool, Private
     Ok(among == public)
 }
 
-/// The public bytes, the application, and what the device needs.
+// The public bytes, the application, and what the device needs.
 #[tactic(auto, unfolding(crate::specs::Rows::row_at, crate::specs::ContainerReading::same_at))]
 fn read_ed25519_device(public: &[u8], cursor: &mut Cursor) -> Result<bool, PrivateFault>
     ensures { Gives (λ same. same) result cursor.new
@@ -131,7 +131,7 @@ fn read_ed25519_device(public: &[u8], cursor: &mut Cursor) -> Result<bool, Priva
     Ok(among == public)
 }
 
-/// What was read of the bytes, of which the rest is left.
+// What was read of the bytes, of which the rest is left.
 fn read_part<'a>(bytes: &'a [u8], rest: &[u8]) -> &'a [u8]
     requires { length rest.now ≤ length bytes.now }
     ensures { (read : List ℕ) → bytes.now ≡ read ++ rest.now → result.now ≡ read }
@@ -139,7 +139,7 @@ fn read_part<'a>(bytes: &'a [u8], rest: &[u8]) -> &'a [u8]
     &bytes[..bytes.len() - rest.len()]
 }
 
-/// Whether the bytes are these two parts.
+// Whether the bytes are these two parts.
 fn is_joined(bytes: &[u8], first: &[u8], second: &[u8]) -> bool
     ensures { result ≡ bytes_eq (first.now ++ second.now) bytes.now }
 {

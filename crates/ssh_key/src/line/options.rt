@@ -1,4 +1,4 @@
-// The options field of an authorized keys line.
+//! The options field of an authorized keys line.
 
 ghost use Rattle.std.specs.Prelude.{◌≡◌, false, option_map};
 ghost use Rattle.ssh_key.specs.LineReading.{after_options, quoted_after};
@@ -22,7 +22,7 @@ pub fn after_options(text: &[u8]) -> Option<&[u8]>
     if quoted { None } else { Some(&[]) }
 }
 
-/// Whether the place after a byte is between quotes, by the place before it.
+// Whether the place after a byte is between quotes, by the place before it.
 fn quoted_after(quoted: bool, escaped: bool, byte: u8) -> bool
     ensures { result ≡ quoted_after quoted escaped byte }
 {

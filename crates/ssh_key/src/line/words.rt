@@ -1,4 +1,4 @@
-// Words and the blanks between them.
+//! Words and the blanks between them.
 
 ghost use Rattle.std.specs.Prelude.{◌≡◌};
 ghost use Rattle.ssh_key.specs.Blanks.{after_blanks, before_ending, first_word, is_blank, is_ending, trimmed};

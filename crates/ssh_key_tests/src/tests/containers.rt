@@ -1,4 +1,4 @@
-// Containers that are read, and containers that are not.
+//! Containers that are read, and containers that are not.
 
 mod armour;
 mod cuts;

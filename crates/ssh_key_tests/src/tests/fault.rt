@@ -1,10 +1,10 @@
-// The texts of faults.
+//! The texts of faults.
 
 use parts_for_tests::printed;
 use ssh_key::{FingerprintFault, KeyFault, LineFault, PrivateFault};
 use ssh_wire::WireFault;
 
-/// A fault, its number, and how it prints.
+// A fault, its number, and how it prints.
 type Row<F> = (F, u8, &'static str);
 
 const OF_KEYS: [Row<KeyFault>; 10] = [

@@ -1,4 +1,4 @@
-// The published fingerprint, and those of no bytes.
+//! The published fingerprint, and those of no bytes.
 
 use crate::tests::parts::{has_digits, has_fingerprint, published_key};
 use ssh_key::{Hash, sha1_of, sha256_of};
@@ -20,7 +20,7 @@ fn of_no_bytes(rt: HostRuntime) {
     has_fingerprint(&rt, rt.alloc(), Hash::Sha256, &[], sha256).expect(&rt, "there is memory");
 }
 
-/// The examples of FIPS 180 for SHA-1: one block, and two.
+// The examples of FIPS 180 for SHA-1: one block, and two.
 #[test]
 fn sha1_of_the_standard(rt: HostRuntime) {
     let short = "a9993e364706816aba3e25717850c26c9cd0d89d";

@@ -1,4 +1,4 @@
-// Keys read from blobs, and the faults of blobs.
+//! Keys read from blobs, and the faults of blobs.
 
 use crate::tests::parts::{ON_CURVES, OnCurve, has_fault, has_parts, is_made, published_key};
 use parts_for_tests::{PUBLISHED, point, strings};
@@ -7,7 +7,7 @@ use ssh_wire::WireFault;
 use std::alloc::{AllocError, Global};
 use std::process::Abort;
 
-/// The blob of these strings is a key of this kind and size, and is made of that key again.
+// The blob of these strings is a key of this kind and size, and is made of that key again.
 fn reads(
     rt: &impl Abort,
     alloc: Global,
@@ -22,7 +22,7 @@ fn reads(
     is_made(rt, alloc, &key, &blob)
 }
 
-/// The blob of these strings has this fault.
+// The blob of these strings has this fault.
 fn refuses(
     rt: &impl Abort,
     alloc: Global,
@@ -34,7 +34,7 @@ fn refuses(
     Ok(())
 }
 
-/// The strings of a blob, and the kind and the size of its key.
+// The strings of a blob, and the kind and the size of its key.
 const KEYS: [(&[&[u8]], Kind, u32); 6] = [
     (&[b"ssh-rsa", &[3], &[0, 0xff]], Kind::Rsa, 8),
     (&[b"ssh-rsa", &[3], &[1, 0]], Kind::Rsa, 9),
@@ -55,7 +55,7 @@ fn keys_of_numbers_and_of_32_bytes(rt: HostRuntime) {
     }
 }
 
-/// A key on a curve is read.
+// A key on a curve is read.
 fn on_curve(rt: &impl Abort, alloc: Global, row: &OnCurve) -> Result<(), AllocError> {
     let (kind, name, curve, size, bits) = *row;
     let q = point(alloc, size, 4)?;
@@ -68,7 +68,7 @@ fn on_curve(rt: &impl Abort, alloc: Global, row: &OnCurve) -> Result<(), AllocEr
     )
 }
 
-/// A key of a device is read, which has an application after its point.
+// A key of a device is read, which has an application after its point.
 fn on_curve_of_a_device(rt: &impl Abort, alloc: Global) -> Result<(), AllocError> {
     let q = point(alloc, 65, 4)?;
     let name = b"sk-ecdsa-sha2-nistp256@openssh.com";
@@ -95,7 +95,7 @@ const NEGATIVE: KeyFault = KeyFault::Wire(WireFault::Negative);
 
 const NOT_SHORTEST: KeyFault = KeyFault::Wire(WireFault::NotShortest);
 
-/// The strings of a blob, and its fault.
+// The strings of a blob, and its fault.
 const REFUSED: [(&[&[u8]], KeyFault); 13] = [
     // numbers
     (&[b"ssh-rsa", &[3], &[0, 0x7f]], NOT_SHORTEST),
@@ -124,7 +124,7 @@ fn faults_of_numbers_and_strings(rt: HostRuntime) {
     }
 }
 
-/// The blob of a key on this curve with these bytes for its point has this fault.
+// The blob of a key on this curve with these bytes for its point has this fault.
 fn point_refused(
     rt: &impl Abort,
     alloc: Global,

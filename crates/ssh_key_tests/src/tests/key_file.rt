@@ -1,4 +1,4 @@
-// Lines of a key file with a key, and without one.
+//! Lines of a key file with a key, and without one.
 
 use ssh_key::has_key;
 

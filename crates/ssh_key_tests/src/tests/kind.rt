@@ -1,4 +1,4 @@
-// The names of kinds.
+//! The names of kinds.
 
 use ssh_key::Kind;
 
@@ -28,12 +28,12 @@ const CERTIFICATE_NAMES: [(Kind, &str); 8] = [
     (Kind::Ed25519Sk, "sk-ssh-ed25519-cert-v01@openssh.com"),
 ];
 
-/// Whether the kind has these names.
+// Whether the kind has these names.
 fn has_names(kind: Kind, name: &str, short_name: &str) -> bool {
     kind.name() == name && kind.short_name() == short_name
 }
 
-/// Whether the kind, or none, is found by this name.
+// Whether the kind, or none, is found by this name.
 fn is_found(name: &str, kind: Option<Kind>) -> bool {
     Kind::of_name(name.as_bytes()) == kind
 }
@@ -63,12 +63,12 @@ fn other_names(rt: HostRuntime) {
     }
 }
 
-/// Whether certificates of this kind of key have this name.
+// Whether certificates of this kind of key have this name.
 fn certifies(kind: Kind, name: &str) -> bool {
     kind.cert_name() == name
 }
 
-/// Whether the kind of key, or none, is found by this name of a certificate.
+// Whether the kind of key, or none, is found by this name of a certificate.
 fn is_certified(name: &str, kind: Option<Kind>) -> bool {
     Kind::of_cert_name(name.as_bytes()) == kind
 }

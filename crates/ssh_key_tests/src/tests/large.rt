@@ -1,4 +1,4 @@
-// Inputs past every page and limit, with memory enough: none is refused for its size.
+//! Inputs past every page and limit, with memory enough: none is refused for its size.
 
 use crate::tests::parts::{has_fault, has_fingerprint, is_made};
 use base64::engine::general_purpose::STANDARD;
@@ -6,7 +6,7 @@ use parts_for_tests::{PUBLISHED, strings};
 use ssh_key::{Hash, KeyFault, read_key, read_line};
 use std::alloc::{AllocError, Global};
 
-/// A key of a device whose application has this many bytes.
+// A key of a device whose application has this many bytes.
 fn device_key(alloc: Global, size: usize) -> Result<Vec<u8>, AllocError> {
     let application = vec![in alloc; b'x'; size]?;
     strings(
@@ -15,7 +15,7 @@ fn device_key(alloc: Global, size: usize) -> Result<Vec<u8>, AllocError> {
     )
 }
 
-/// The line of a device's key and a comment.
+// The line of a device's key and a comment.
 fn line_of(alloc: Global, blob: &[u8], comment: &[u8]) -> Result<Vec<u8>, AllocError> {
     let base64 = STANDARD.encode(alloc, blob)?;
     let mut text = Vec::from_slice(alloc, b" sk-ssh-ed25519@openssh.com ")?;
@@ -25,7 +25,7 @@ fn line_of(alloc: Global, blob: &[u8], comment: &[u8]) -> Result<Vec<u8>, AllocE
     Ok(text)
 }
 
-/// Whether the line gives this key and this comment.
+// Whether the line gives this key and this comment.
 fn gives(alloc: Global, text: &[u8], blob: &[u8], comment: &[u8]) -> bool {
     match read_line(alloc, text) {
         Ok(line) => line.blob.as_slice() == blob && line.comment == comment,
@@ -33,7 +33,7 @@ fn gives(alloc: Global, text: &[u8], blob: &[u8], comment: &[u8]) -> bool {
     }
 }
 
-/// Whether the line of a key and a comment of this many bytes is read.
+// Whether the line of a key and a comment of this many bytes is read.
 fn reads_line(alloc: Global, application: usize, comment: usize) -> Result<bool, AllocError> {
     let blob = device_key(alloc, application)?;
     let comment = vec![in alloc; b'c'; comment]?;
@@ -71,7 +71,7 @@ fn long_key_of_a_line(rt: HostRuntime) {
     has_fault(&rt, &blob, KeyFault::TooLong);
 }
 
-/// The examples of FIPS 180 and RFC 1321 with a million times the letter a.
+// The examples of FIPS 180 and RFC 1321 with a million times the letter a.
 #[test]
 fn fingerprint_of_a_million(rt: HostRuntime) {
     let alloc = rt.alloc();

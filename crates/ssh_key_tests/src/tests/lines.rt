@@ -1,15 +1,15 @@
-// Lines that give the key, and lines that give none.
+//! Lines that give the key, and lines that give none.
 
 use crate::tests::parts::{PUBLISHED_BASE64, PUBLISHED_TYPE, published_key};
 use ssh_key::{LineFault, read_line};
 use std::alloc::{AllocError, Global};
 
-/// The base64 of the key between two texts.
+// The base64 of the key between two texts.
 fn line(alloc: Global, before: &str, after: &str) -> Result<String, AllocError> {
     format!(in alloc; "{before}{PUBLISHED_BASE64}{after}")
 }
 
-/// Whether the line gives the published key and this comment.
+// Whether the line gives the published key and this comment.
 fn gives(alloc: Global, line: &str, key: &[u8], comment: &str) -> bool {
     match read_line(alloc, line.as_bytes()) {
         Ok(read) => {
@@ -21,7 +21,7 @@ fn gives(alloc: Global, line: &str, key: &[u8], comment: &str) -> bool {
     }
 }
 
-/// Whether the line of the key between two texts gives it and this comment.
+// Whether the line of the key between two texts gives it and this comment.
 fn reads(alloc: Global, before: &str, after: &str, comment: &str) -> Result<bool, AllocError> {
     let line = line(alloc, before, after)?;
     let key = published_key(alloc)?;
@@ -57,7 +57,7 @@ fn read(rt: HostRuntime) {
     }
 }
 
-/// Whether the line is refused with this fault.
+// Whether the line is refused with this fault.
 fn is_refused(alloc: Global, line: &str, fault: LineFault) -> bool {
     match read_line(alloc, line.as_bytes()) {
         Ok(_) => false,

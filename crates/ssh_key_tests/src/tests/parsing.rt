@@ -1,4 +1,4 @@
-// Fingerprints that are read, and texts that are none.
+//! Fingerprints that are read, and texts that are none.
 
 use crate::tests::parts::{has_digits, published_key};
 use ssh_key::{FingerprintFault, Hash, fingerprint, parse_fingerprint, sha256_of};
@@ -24,7 +24,7 @@ fn printed_and_read(rt: HostRuntime) {
     assert!(rt; digest == sha256_of(&key));
 }
 
-/// Whether the text is refused with this fault.
+// Whether the text is refused with this fault.
 fn is_refused(alloc: Global, text: &[u8], fault: FingerprintFault) -> bool {
     match parse_fingerprint(alloc, text) {
         Ok(_) => false,
@@ -56,7 +56,7 @@ fn refused(rt: HostRuntime) {
     }
 }
 
-/// The prefix and this many letters, with this text after them.
+// The prefix and this many letters, with this text after them.
 fn long_text(alloc: Global, letters: usize, end: &str) -> Result<Vec<u8>, AllocError> {
     let mut text = Vec::from_slice(alloc, b"SHA256:")?;
     for _ in 0..letters {

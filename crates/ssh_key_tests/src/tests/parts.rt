@@ -1,4 +1,4 @@
-// Blobs from their parts.
+//! Blobs from their parts.
 
 use parts_for_tests::{PUBLISHED, strings};
 use ssh_key::{Hash, KeyFault, Kind, PublicKey, fingerprint, plain_blob, read_key};
@@ -16,6 +16,8 @@ pub const PUBLISHED_BASE64: &str =
 /// size.
 pub type OnCurve<'a> = (Kind, &'a str, &'a str, usize, u32);
 
+/// The kinds on curves: the type name, the curve's name, the size of a point in bytes, and the size
+/// of the key in bits.
 pub const ON_CURVES: [OnCurve<'static>; 3] = [
     (Kind::Ecdsa256, "ecdsa-sha2-nistp256", "nistp256", 65, 256),
     (Kind::Ecdsa384, "ecdsa-sha2-nistp384", "nistp384", 97, 384),
@@ -27,12 +29,12 @@ pub fn published_key(alloc: Global) -> Result<Vec<u8>, AllocError> {
     strings(alloc, &[PUBLISHED_TYPE.as_bytes(), &PUBLISHED])
 }
 
-/// Whether the key has this kind, and its short name.
+// Whether the key has this kind, and its short name.
 fn is_of(key: &PublicKey, kind: Kind) -> bool {
     key.kind() == kind && key.short_name() == kind.short_name()
 }
 
-/// Whether the key has this size and these public fields.
+// Whether the key has this size and these public fields.
 fn has_fields(key: &PublicKey, bits: u32, fields: &[u8]) -> bool {
     key.bits() == bits && key.public_fields() == fields
 }

@@ -1,4 +1,4 @@
-// Public fields read from the front of bytes.
+//! Public fields read from the front of bytes.
 
 use crate::tests::parts::{has_parts, is_made, published_key};
 use parts_for_tests::{PUBLISHED, strings};
@@ -7,7 +7,7 @@ use ssh_wire::{Cursor, WireFault};
 use std::alloc::{AllocError, Global};
 use std::process::Abort;
 
-/// The key is the published one.
+// The key is the published one.
 fn is_published(rt: &impl Abort, alloc: Global, key: &PublicKey) -> Result<(), AllocError> {
     let fields = strings(alloc, &[&PUBLISHED])?;
     has_parts(rt, key, Kind::Ed25519, 256, &fields);
@@ -15,7 +15,7 @@ fn is_published(rt: &impl Abort, alloc: Global, key: &PublicKey) -> Result<(), A
     is_made(rt, alloc, key, &blob)
 }
 
-/// Whether this string alone is left.
+// Whether this string alone is left.
 fn ends_with(cursor: &mut Cursor<'_>, text: &[u8]) -> bool {
     cursor.string() == Ok(text) && cursor.at_end()
 }
@@ -31,7 +31,7 @@ fn fields_before_more(rt: HostRuntime) {
     assert!(rt; ends_with(&mut cursor, b"what follows"));
 }
 
-/// Whether no fields stand at the front of the bytes, for this fault, and all of them are left.
+// Whether no fields stand at the front of the bytes, for this fault, and all of them are left.
 fn refuses_bytes(kind: Kind, bytes: &[u8], fault: KeyFault) -> bool {
     let mut cursor = Cursor::new(bytes);
     match read_fields(kind, &mut cursor) {
@@ -40,7 +40,7 @@ fn refuses_bytes(kind: Kind, bytes: &[u8], fault: KeyFault) -> bool {
     }
 }
 
-/// The fields of these strings have this fault, and all of them are left.
+// The fields of these strings have this fault, and all of them are left.
 fn refuses(
     rt: &impl Abort,
     alloc: Global,
@@ -81,7 +81,7 @@ fn faults_of_long_fields(rt: HostRuntime) {
     refuses(&rt, alloc, Kind::Rsa, &[&long, &[]], KeyFault::Number).expect(&rt, "there is memory");
 }
 
-/// Whether the fields of a device's key with this application are read before more.
+// Whether the fields of a device's key with this application are read before more.
 fn reads(alloc: Global, application: &[u8]) -> Result<bool, AllocError> {
     let bytes = strings(alloc, &[&PUBLISHED, application, b"more"])?;
     let mut cursor = Cursor::new(&bytes);

@@ -1,10 +1,11 @@
-// Buffers in front of readers: fields within them, over their ends, and past a failure.
+//! Buffers in front of readers: fields within them, over their ends, and past a failure.
 
 use devices_for_tests::{Giver, Then};
 use ssh_wire::{Failed, FromBuffer, Pull, PullFault, Source};
 use std::alloc::Global;
 use std::io::{self, BufReader};
 
+// A buffer in front of a reader that gives five bytes at a call.
 fn buffered<'a>(
     alloc: Global,
     capacity: usize,
@@ -16,7 +17,7 @@ fn buffered<'a>(
     BufReader::with_capacity(alloc, capacity, giver)
 }
 
-/// Whether these fields come one after the other, and then the end.
+// Whether these fields come one after the other, and then the end.
 fn gives(alloc: Global, capacity: usize, fields: &[&[u8]]) -> io::Result<bool> {
     let list = buffered(alloc, capacity, b"abcdefghijklmnop", Then::Ends)?;
     let mut pull = Pull::new(FromBuffer::new(list), 100);

@@ -1,8 +1,8 @@
-// Fields that are read from the front of bytes, and those that are not there.
+//! Fields that are read from the front of bytes, and those that are not there.
 
 use ssh_wire::{Cursor, WireFault};
 
-/// What is asked of a cursor, and what it answers.
+// What is asked of a cursor, and what it answers.
 #[derive(Clone, Copy)]
 enum Step<'a> {
     Byte(Result<u8, WireFault>),
@@ -16,6 +16,7 @@ enum Step<'a> {
 
 use Step::{AtEnd, Byte, Long, Magnitude, Number, Rest, Text};
 
+// Whether a call answers as its step says.
 fn meets(cursor: &mut Cursor<'_>, step: Step<'_>) -> bool {
     match step {
         Byte(answer) => cursor.byte() == answer,
@@ -28,7 +29,7 @@ fn meets(cursor: &mut Cursor<'_>, step: Step<'_>) -> bool {
     }
 }
 
-/// How many of the steps over the bytes are answered so, up to the first that is not.
+// How many of the steps over the bytes are answered so, up to the first that is not.
 fn met(bytes: &[u8], steps: &[Step<'_>]) -> usize {
     let mut cursor = Cursor::new(bytes);
     for (at, step) in steps.iter().enumerate() {
@@ -75,7 +76,7 @@ fn refuses_what_is_cut_off_and_stays(rt: HostRuntime) {
     }
 }
 
-/// The bytes of a number, and what is read of them.
+// The bytes of a number, and what is read of them.
 const NUMBERS: [(&[u8], Result<&[u8], WireFault>); 9] = [
     (b"\0\0\0\0", Ok(b"")),
     (b"\0\0\0\x02\0\x80", Ok(b"\x80")),
@@ -91,7 +92,7 @@ const NUMBERS: [(&[u8], Result<&[u8], WireFault>); 9] = [
     (b"\0\0\0\x02\x01", Err(WireFault::Short)),
 ];
 
-/// Whether the number is read so, and takes all bytes or none.
+// Whether the number is read so, and takes all bytes or none.
 fn reads(bytes: &[u8], read: Result<&[u8], WireFault>) -> bool {
     let left = if read.is_ok() { &[] } else { bytes };
     met(bytes, &[Magnitude(read), Rest(left)]) == 2

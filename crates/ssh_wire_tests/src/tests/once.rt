@@ -1,17 +1,18 @@
-// Devices that refuse their first call alone: what they serve later must not hide it.
+//! Devices that refuse their first call alone: what they serve later must not hide it.
 
 ghost use Rattle.std.specs.Prelude.{◌≤◌, IfOk};
 
 use ssh_wire::{Failed, FromRead, Pull, PullFault, Sent, Sink, Source, ToWrite, send};
 use std::io::{self, ErrorKind, Read, Write};
 
-/// Refuses its first call, by an error or by taking no byte, and serves each later one whole.
+// Refuses its first call, by an error or by taking no byte, and serves each later one whole.
 #[derive(Drop)]
 struct Once {
     error: Option<ErrorKind>,
     has_refused: bool,
 }
 
+// A device that refuses its first call with an error, or takes nothing.
 fn device(error: Option<ErrorKind>) -> Once {
     Once {
         error,
@@ -20,6 +21,7 @@ fn device(error: Option<ErrorKind>) -> Once {
 }
 
 impl Once {
+    // Refuses the first call, and serves the others.
     fn serve(&mut self, size: usize) -> io::Result<usize>
         ensures { IfOk result (λ count. count ≤ size) }
     {
@@ -72,7 +74,7 @@ fn a_reader_that_fails_once_has_failed(rt: HostRuntime) {
     }
 }
 
-/// Whether each of three writes to the device fails.
+// Whether each of three writes to the device fails.
 fn refuses_writes(device: Once) -> bool {
     let mut writer = ToWrite::new(device);
     for _ in 0..3 {
@@ -83,7 +85,7 @@ fn refuses_writes(device: Once) -> bool {
     true
 }
 
-/// Whether no byte is sent to the device.
+// Whether no byte is sent to the device.
 fn refuses_to_send(device: Once) -> bool {
     let mut writer = ToWrite::new(device);
     send(&mut writer, b"abc") == Err(Sent { count: 0 }) && writer.failed()

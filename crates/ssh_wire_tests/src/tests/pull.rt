@@ -1,4 +1,4 @@
-// Fields from readers that give few bytes at a call, fail, or never end.
+//! Fields from readers that give few bytes at a call, fail, or never end.
 
 use devices_for_tests::{Giver, Then};
 use ssh_wire::{FromRead, Pull, PullFault};
@@ -21,25 +21,28 @@ pub enum Step<'a> {
 
 use Step::{Array, AtEnd, Byte, Bytes, BytesInto, Fills, Refuses, Rest, RestRefused, Taken};
 
+/// A reader that gives its bytes in pieces, with a limit.
 pub type Reader<'a> = Pull<FromRead<Giver<'a>>>;
 
+/// A reader of some bytes in pieces, and what it does after them.
 pub fn pull(bytes: &[u8], piece: usize, then: Then, limit: u64) -> Reader<'_> {
     let mut giver = Giver::new(bytes, piece);
     giver.then = then;
     Pull::new(FromRead::new(giver), limit)
 }
 
+// Whether a slice is filled.
 fn fill(reader: &mut Reader<'_>, into: &mut [u8]) -> bool {
     reader.fill(into).is_ok()
 }
 
-/// Whether a slice of their length is filled with these bytes.
+// Whether a slice of their length is filled with these bytes.
 fn fills(reader: &mut Reader<'_>, alloc: Global, field: &[u8]) -> Result<bool, AllocError> {
     let mut into = vec![in alloc; 0; field.len()]?;
     Ok(fill(reader, &mut into) && into.as_slice() == field)
 }
 
-/// Whether these bytes come in a vector.
+// Whether these bytes come in a vector.
 fn gives(reader: &mut Reader<'_>, alloc: Global, field: &[u8]) -> bool {
     match reader.bytes(alloc, field.len()) {
         Ok(bytes) => bytes.as_slice() == field,
@@ -47,14 +50,14 @@ fn gives(reader: &mut Reader<'_>, alloc: Global, field: &[u8]) -> bool {
     }
 }
 
-/// Whether a vector that held something else holds these bytes.
+// Whether a vector that held something else holds these bytes.
 fn holds(reader: &mut Reader<'_>, alloc: Global, field: &[u8]) -> Result<bool, AllocError> {
     let mut out = vec![in alloc; 9, 9, 9]?;
     Ok(reader.bytes_into(&mut out, field.len()).is_ok() && out.as_slice() == field)
 }
 
-/// Whether a field is refused for this fault, with a vector that is left empty and has taken little
-/// memory.
+// Whether a field is refused for this fault, with a vector that is left empty and has taken little
+// memory.
 fn refuses(
     reader: &mut Reader<'_>,
     alloc: Global,
@@ -71,7 +74,7 @@ pub fn gives_rest(reader: &mut Reader<'_>, alloc: Global, bytes: &[u8]) -> Resul
     Ok(reader.rest(alloc)?.as_slice() == bytes)
 }
 
-/// Whether the rest is refused for this fault.
+// Whether the rest is refused for this fault.
 fn refuses_rest(reader: &mut Reader<'_>, alloc: Global, fault: PullFault) -> bool {
     match reader.rest(alloc) {
         Ok(_) => false,
@@ -79,6 +82,7 @@ fn refuses_rest(reader: &mut Reader<'_>, alloc: Global, fault: PullFault) -> boo
     }
 }
 
+// Whether a call answers as its step says.
 fn meets(reader: &mut Reader<'_>, alloc: Global, step: Step<'_>) -> Result<bool, AllocError> {
     Ok(match step {
         Byte(answer) => reader.byte() == answer,
@@ -108,6 +112,7 @@ pub fn meets_all(
     Ok(true)
 }
 
+/// The bytes that the readers give.
 pub const TEXT: &[u8] = b"\x01\0\0\0\x02hi0123456789abcdef";
 
 /// A reader of the text.
@@ -115,7 +120,7 @@ pub fn of_text(piece: usize, then: Then, limit: u64) -> Reader<'static> {
     pull(TEXT, piece, then, limit)
 }
 
-/// A row of calls on a reader of the text, with what it does then and its limit.
+// A row of calls on a reader of the text, with what it does then and its limit.
 struct Row<'a> {
     then: Then,
     limit: u64,
@@ -271,7 +276,7 @@ pub fn text_of(alloc: Global, size: u64) -> Result<Vec<u8>, AllocError> {
     Ok(text)
 }
 
-/// Whether these bytes come whole at this many bytes a call.
+// Whether these bytes come whole at this many bytes a call.
 fn comes_whole(alloc: Global, text: &[u8], field: &[u8], piece: usize) -> Result<bool, AllocError> {
     let steps = [AtEnd(Ok(false)), Bytes(field), Taken(field.len() as u64)];
     let mut reader = pull(text, piece, Then::Ends, 70_000);

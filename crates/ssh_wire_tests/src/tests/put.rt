@@ -1,9 +1,9 @@
-// Fields that are put after what is in a vector.
+//! Fields that are put after what is in a vector.
 
 use ssh_wire::{put_byte, put_mpint, put_string, put_u32, put_u64};
 use std::alloc::AllocError;
 
-/// A field that is put.
+// A field that is put.
 #[derive(Clone, Copy)]
 enum Field {
     Byte(u8),
@@ -12,6 +12,7 @@ enum Field {
     Text(&'static [u8; 7]),
 }
 
+// Puts a field.
 fn put(out: &mut Vec<u8>, field: Field) -> Result<(), AllocError> {
     match field {
         Field::Byte(byte) => put_byte(out, byte),
@@ -21,7 +22,7 @@ fn put(out: &mut Vec<u8>, field: Field) -> Result<(), AllocError> {
     }
 }
 
-/// Fields that are put one after the other, and what is after each.
+// Fields that are put one after the other, and what is after each.
 const PUTS: [(Field, &[u8]); 3] = [
     (Field::Byte(9), b"\x09"),
     (Field::Number(699_921_578), b"\x09\x29\xb7\xf4\xaa"),
@@ -67,7 +68,7 @@ fn a_zero_byte_leads_where_the_top_bit_is_set(rt: HostRuntime) {
     }
 }
 
-/// Whether a string is put as this length and its bytes.
+// Whether a string is put as this length and its bytes.
 fn puts_string(out: &mut Vec<u8>, bytes: &[u8], length: [u8; 4]) -> Result<bool, AllocError> {
     if bytes.len() > 100_000 {
         return Ok(false);
@@ -78,7 +79,7 @@ fn puts_string(out: &mut Vec<u8>, bytes: &[u8], length: [u8; 4]) -> Result<bool,
     Ok(put.get(..4) == Some(length.as_slice()) && put.get(4..) == Some(bytes))
 }
 
-/// Puts fields of 310,000 bytes.
+// Puts fields of 310,000 bytes.
 fn put_many(out: &mut Vec<u8>) -> Result<(), AllocError> {
     for _ in 0..70_000_u32 {
         put_byte(out, 7)?;
@@ -97,7 +98,7 @@ fn long_vectors_grow(rt: HostRuntime) {
     assert!(rt; out.len() == 310_000);
 }
 
-/// Whether a number of up to 100,000 bytes is put as this many bytes, which begin with these.
+// Whether a number of up to 100,000 bytes is put as this many bytes, which begin with these.
 #[tactic(auto, using(ssh_wire::specs::Magnitudes::complement_fits))]
 fn puts_number(
     out: &mut Vec<u8>,
@@ -117,7 +118,7 @@ fn puts_number(
     Ok(put.len() == size && put.starts_with(front))
 }
 
-/// The size of a string, and its length as it is put.
+// The size of a string, and its length as it is put.
 const LENGTHS: [(usize, [u8; 4]); 4] = [
     (4095, [0, 0, 0x0f, 0xff]),
     (4096, [0, 0, 0x10, 0]),

@@ -1,11 +1,11 @@
-// Readers that are interrupted, give few bytes, or fail.
+//! Readers that are interrupted, give few bytes, or fail.
 
 use ssh_wire::{Failed, FromRead, Source};
 use std::cell::Cell;
 use std::io::{self, ErrorKind, Read};
 
-/// Gives its bytes at most two at a call, after some interruptions, and fails where it is to, once
-/// its bytes are given.
+// Gives its bytes at most two at a call, after some interruptions, and fails where it is to, once
+// its bytes are given.
 #[derive(Drop)]
 struct Device<'a> {
     bytes: &'a [u8],
@@ -30,20 +30,20 @@ impl<'a> Read for Device<'a> {
     }
 }
 
-/// What is done with a reader and a buffer of four bytes.
+// What is done with a reader and a buffer of four bytes.
 #[derive(Clone, Copy)]
 enum Step {
-    /// This many interruptions come next.
+    // This many interruptions come next.
     Interrupted(u16),
-    /// The answer to a read into the buffer from a place on. The reader has failed by an error.
+    // The answer to a read into the buffer from a place on. The reader has failed by an error.
     Reads(usize, Result<usize, Failed>),
-    /// The bytes of the buffer.
+    // The bytes of the buffer.
     Holds([u8; 4]),
 }
 
 use Step::{Holds, Interrupted, Reads};
 
-/// A row of steps with a reader of these bytes.
+// A row of steps with a reader of these bytes.
 struct Row<'a> {
     bytes: &'a [u8],
     fails: bool,
@@ -102,6 +102,7 @@ const ROWS: [Row<'static>; 4] = [
     },
 ];
 
+// Whether a read answers so, and the reader has failed just where it is an error.
 fn reads(
     reader: &mut FromRead<Device<'_>>,
     into: &mut [u8],
@@ -110,7 +111,7 @@ fn reads(
     reader.read(into) == answer && reader.failed() == answer.is_err()
 }
 
-/// How many of the row's steps go so, up to the first that does not.
+// How many of the row's steps go so, up to the first that does not.
 fn met(row: &Row<'_>) -> usize {
     let interruptions = Cell::new(0);
     let mut reader = FromRead::new(Device {

@@ -1,4 +1,4 @@
-// All that is left of readers that give few bytes at a call, fail, or never end.
+//! All that is left of readers that give few bytes at a call, fail, or never end.
 
 use crate::tests::pull::Step::{AtEnd, Byte, Rest, RestRefused, Taken};
 use crate::tests::pull::{Reader, TEXT, gives_rest, meets_all, of_text, pull, text_of};
@@ -6,8 +6,8 @@ use devices_for_tests::Then;
 use ssh_wire::PullFault;
 use std::alloc::{AllocError, Global};
 
-/// How many bytes come at a call, how far the limit is past the bytes, and whether the reader looks
-/// ahead before.
+// How many bytes come at a call, how far the limit is past the bytes, and whether the reader looks
+// ahead before.
 const WHOLE: [(usize, u64, bool); 5] = [
     (7, 0, false),
     (65_536, 0, true),
@@ -16,7 +16,7 @@ const WHOLE: [(usize, u64, bool); 5] = [
     (200_000, u64::MAX, false),
 ];
 
-/// Whether the rest of a reader of the bytes is all of them, and nothing comes after it.
+// Whether the rest of a reader of the bytes is all of them, and nothing comes after it.
 fn comes_whole(reader: &mut Reader<'_>, alloc: Global, bytes: &[u8]) -> Result<bool, AllocError> {
     let steps = [
         Rest(bytes),
@@ -28,7 +28,7 @@ fn comes_whole(reader: &mut Reader<'_>, alloc: Global, bytes: &[u8]) -> Result<b
     meets_all(reader, alloc, &steps)
 }
 
-/// Whether that is so of these bytes in each row.
+// Whether that is so of these bytes in each row.
 fn each_comes_whole(alloc: Global, bytes: &[u8]) -> Result<bool, AllocError> {
     for (piece, past, looks) in &WHOLE {
         let limit = past.saturating_add(bytes.len() as u64);
@@ -53,7 +53,7 @@ fn the_rest_comes_whole(rt: HostRuntime) {
     }
 }
 
-/// Whether five bytes come, and are the first of the text.
+// Whether five bytes come, and are the first of the text.
 fn takes_five(reader: &mut Reader<'_>) -> bool {
     reader.array() == Ok(*b"\x01\0\0\0\x02")
 }
@@ -69,8 +69,8 @@ fn the_rest_begins_after_the_last_byte_taken(rt: HostRuntime) {
     }
 }
 
-/// Whether each reader of the bytes refuses its rest with this fault again and again, with and
-/// without a look ahead.
+// Whether each reader of the bytes refuses its rest with this fault again and again, with and
+// without a look ahead.
 fn refuses(
     alloc: Global,
     bytes: &[u8],
@@ -103,7 +103,7 @@ fn refuses(
     Ok(true)
 }
 
-/// What a reader of the text does then, its limit, and the fault of its rest.
+// What a reader of the text does then, its limit, and the fault of its rest.
 const REFUSED: [(Then, u64, PullFault); 7] = [
     // a byte stands past the limit
     (Then::Ends, 0, PullFault::TooLong),
@@ -124,7 +124,7 @@ fn a_rest_that_is_refused_is_answered_again(rt: HostRuntime) {
     }
 }
 
-/// How many bytes there are, what a reader of them does then, its limit, and the fault of its rest.
+// How many bytes there are, what a reader of them does then, its limit, and the fault of its rest.
 const LONG: [(usize, Then, u64, PullFault); 4] = [
     (65_537, Then::Ends, 65_535, PullFault::TooLong),
     (65_537, Then::Ends, 65_536, PullFault::TooLong),

@@ -1,4 +1,4 @@
-// Writers that are interrupted, take few bytes, or fail.
+//! Writers that are interrupted, take few bytes, or fail.
 
 use devices_for_tests::Taker;
 use ssh_wire::{Failed, Sent, Sink, ToWrite, send};
@@ -13,7 +13,7 @@ fn fresh(alloc: Global, piece: usize, interruptions: usize, calls_before_failure
 
 const LINE: &[u8] = b"g.pub: REVOKED\n";
 
-/// Whether sending the text is answered so, and makes a failed writer of it by an error.
+// Whether sending the text is answered so, and makes a failed writer of it by an error.
 fn sends(device: &mut Taker, text: &[u8], answer: Result<(), Sent>) -> bool {
     let mut writer = ToWrite::new(device);
     send(&mut writer, text) == answer && writer.failed() == answer.is_err()

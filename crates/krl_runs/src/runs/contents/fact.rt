@@ -1,4 +1,4 @@
-// Key IDs, keys and hashes, as a list's contents are printed.
+//! Key IDs, keys and hashes, as a list's contents are printed.
 
 ghost use Rattle.std.specs.Prelude.{◌≡◌, ◌++◌, OnOk};
 ghost use Rattle.krl_runs.specs.Contents.{fact_line, fact_text, label_of};
@@ -33,6 +33,7 @@ impl Fact {
         Ok(())
     }
 
+    // What comes before the value in its line.
     fn label(self) -> &'static [u8]
         ensures { result.now ≡ label_of self }
     {
@@ -44,6 +45,7 @@ impl Fact {
         }
     }
 
+    // Appends the value as it is printed.
     #[tactic(auto, unfolding(ssh_key::specs::Fingerprints::unpadded))]
     fn push_text(self, alloc: Global, bytes: &[u8], line: &mut Vec<u8>) -> Result<(), AllocError>
         ensures { OnOk result (line.new.items ≡ line.old.items ++ fact_text self bytes.now) }

@@ -1,4 +1,4 @@
-// The lines in which a list's header and serials are printed.
+//! The lines in which a list's header and serials are printed.
 
 ghost use Rattle.std.specs.Prelude.{◌≡◌, ◌++◌, OnOk, decimal};
 ghost use Rattle.krl_core.specs.Authority.{authority_bytes, IsAuthority};
@@ -65,7 +65,7 @@ pub fn write_authority(
     Ok(())
 }
 
-/// Appends the fingerprint of an authority's bytes.
+// Appends the fingerprint of an authority's bytes.
 fn push_authority(
     alloc: Global,
     authority: Option<&[u8]>,
@@ -94,6 +94,7 @@ pub fn write_serials(span: Span, line: &mut Vec<u8>) -> Result<(), AllocError>
     Ok(())
 }
 
+// Appends a serial, or the two ends of a range.
 fn push_serials(span: Span, line: &mut Vec<u8>) -> Result<(), AllocError>
     ensures { OnOk result (line.new.items ≡ line.old.items ++ serials_text span) }
 {

@@ -1,4 +1,4 @@
-// Containers that are cut short.
+//! Containers that are cut short.
 
 use crate::tests::containers::made::{are_refused, published_container};
 use ssh_key::PrivateFault;

@@ -1,4 +1,4 @@
-// The fields of a container before its private list: changed, cut, lengthened and repeated.
+//! The fields of a container before its private list: changed, cut, lengthened and repeated.
 
 use crate::tests::containers::made::{are_refused, plain, published_container, published_list};
 use crate::tests::parts::published_key;
@@ -8,7 +8,7 @@ use ssh_wire::WireFault;
 use std::alloc::{AllocError, Global};
 use std::process::Abort;
 
-/// The container of the published key with this cipher, derivation and options is encrypted.
+// The container of the published key with this cipher, derivation and options is encrypted.
 fn encrypted(
     rt: &impl Abort,
     alloc: Global,
@@ -45,7 +45,7 @@ fn ciphers(rt: HostRuntime) {
     }
 }
 
-/// The container of the published key with another number of keys is refused.
+// The container of the published key with another number of keys is refused.
 fn counted(rt: &impl Abort, alloc: Global, count: u32) -> Result<(), AllocError> {
     let blob = published_key(alloc)?;
     let list = published_list(alloc)?;
@@ -64,7 +64,7 @@ fn counts(rt: HostRuntime) {
     }
 }
 
-/// A container with this blob is refused with the blob's fault.
+// A container with this blob is refused with the blob's fault.
 fn blob_refused(
     rt: &impl Abort,
     alloc: Global,
@@ -76,7 +76,7 @@ fn blob_refused(
     are_refused(rt, alloc, &bytes, PrivateFault::Key(fault))
 }
 
-/// A container with more bytes after its blob is refused.
+// A container with more bytes after its blob is refused.
 fn followed(rt: &impl Abort, alloc: Global, blob: &[u8], more: &[u8]) -> Result<(), AllocError> {
     let longer = joined(alloc, &[blob, more])?;
     blob_refused(rt, alloc, &longer, KeyFault::Trailing)
@@ -131,7 +131,7 @@ fn bytes_after(rt: HostRuntime) {
     are_refused(&rt, alloc, &bytes, PrivateFault::Trailing).expect(&rt, "there is memory");
 }
 
-/// Bytes after the list are reported before it is read.
+// Bytes after the list are reported before it is read.
 #[test]
 fn bytes_after_an_empty_list(rt: HostRuntime) {
     let alloc = rt.alloc();
@@ -145,14 +145,14 @@ fn bytes_after_an_empty_list(rt: HostRuntime) {
     are_refused(&rt, alloc, &bytes, PrivateFault::Trailing).expect(&rt, "there is memory");
 }
 
-/// The bytes with those from one place to another repeated.
+// The bytes with those from one place to another repeated.
 fn repeated(alloc: Global, bytes: &[u8], from: usize, to: usize) -> Result<Vec<u8>, AllocError> {
     let front = bytes.get(..to).unwrap_or(&[]);
     let back = bytes.get(from..).unwrap_or(&[]);
     joined(alloc, &[front, back])
 }
 
-/// Where a field begins and ends, and the fault of a container that has it twice.
+// Where a field begins and ends, and the fault of a container that has it twice.
 const TWICE: [(usize, usize, PrivateFault); 7] = [
     // The name of the format: what it begins with is the length of the cipher.
     (0, 15, PrivateFault::Wire(WireFault::Short)),
@@ -176,7 +176,7 @@ fn fields_twice(rt: HostRuntime) {
     }
 }
 
-/// The bytes with a length of 2^32-1 at this place.
+// The bytes with a length of 2^32-1 at this place.
 fn lengthened(alloc: Global, bytes: &[u8], at: usize) -> Result<Vec<u8>, AllocError> {
     let front = bytes.get(..at).unwrap_or(&[]);
     let rest = bytes.get(at..).unwrap_or(&[]);

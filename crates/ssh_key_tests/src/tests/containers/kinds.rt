@@ -1,4 +1,4 @@
-// Containers of keys of each kind.
+//! Containers of keys of each kind.
 
 use crate::tests::containers::made::{are_refused, armoured, is_read, plain};
 use crate::tests::parts::{ON_CURVES, OnCurve};
@@ -7,13 +7,13 @@ use ssh_key::PrivateFault;
 use std::alloc::{AllocError, Global};
 use std::process::Abort;
 
-/// The container of a blob whose private list has these fields.
+// The container of a blob whose private list has these fields.
 fn container(alloc: Global, blob: &[u8], fields: &[u8]) -> Result<Vec<u8>, AllocError> {
     let list = private_list(alloc, (9, 9), fields, b"c d", &[1, 2])?;
     plain(alloc, blob, &list)
 }
 
-/// Such a container is read.
+// Such a container is read.
 fn reads(rt: &impl Abort, alloc: Global, blob: &[u8], fields: &[u8]) -> Result<(), AllocError> {
     let bytes = container(alloc, blob, fields)?;
     let text = armoured(alloc, &bytes)?;
@@ -21,13 +21,13 @@ fn reads(rt: &impl Abort, alloc: Global, blob: &[u8], fields: &[u8]) -> Result<(
     Ok(())
 }
 
-/// Such a container is that of another key.
+// Such a container is that of another key.
 fn differs(rt: &impl Abort, alloc: Global, blob: &[u8], fields: &[u8]) -> Result<(), AllocError> {
     let bytes = container(alloc, blob, fields)?;
     are_refused(rt, alloc, &bytes, PrivateFault::PublicDiffers)
 }
 
-/// The fields of an RSA key in a private list.
+// The fields of an RSA key in a private list.
 fn rsa_fields(
     alloc: Global,
     modulus: &[u8],
@@ -75,7 +75,7 @@ fn dsa(rt: HostRuntime) {
     }
 }
 
-/// The fields of a key on a curve in a private list.
+// The fields of a key on a curve in a private list.
 fn curve_fields(
     alloc: Global,
     name: &str,
@@ -86,8 +86,8 @@ fn curve_fields(
     strings(alloc, &[name.as_bytes(), curve.as_bytes(), point, private])
 }
 
-/// The container of the blob whose list has this type name, curve and point is that of another
-/// key.
+// The container of the blob whose list has this type name, curve and point is that of another
+// key.
 fn curve_differs(
     rt: &impl Abort,
     alloc: Global,
@@ -99,7 +99,7 @@ fn curve_differs(
     differs(rt, alloc, blob, &fields)
 }
 
-/// The container of a key on this curve is read, and that of another point is not.
+// The container of a key on this curve is read, and that of another point is not.
 fn on_curve(rt: &impl Abort, alloc: Global, row: &OnCurve) -> Result<(), AllocError> {
     let (_, name, curve, size, _) = *row;
     let q = point(alloc, size, 4)?;
@@ -120,12 +120,12 @@ fn ecdsa(rt: HostRuntime) {
     }
 }
 
-/// The fields of a device: the public ones of a blob, flags, a handle and a reserved string.
+// The fields of a device: the public ones of a blob, flags, a handle and a reserved string.
 fn of_device(alloc: Global, public: &[u8]) -> Result<Vec<u8>, AllocError> {
     joined(alloc, &[public, b"\x01\0\0\0\x06handle\0\0\0\0"])
 }
 
-/// The container of a device's blob is read, and that of the fields of another blob is not.
+// The container of a device's blob is read, and that of the fields of another blob is not.
 fn on_device(
     rt: &impl Abort,
     alloc: Global,
@@ -141,7 +141,7 @@ fn on_device(
     Ok(())
 }
 
-/// The blob of an ECDSA key of a device for this application.
+// The blob of an ECDSA key of a device for this application.
 fn ecdsa_blob(alloc: Global, application: &str) -> Result<Vec<u8>, AllocError> {
     let name: &[u8] = b"sk-ecdsa-sha2-nistp256@openssh.com";
     let q = point(alloc, 65, 4)?;
@@ -156,7 +156,7 @@ fn ecdsa_of_a_device(rt: HostRuntime) {
     on_device(&rt, alloc, &blob, &[&other]).expect(&rt, "there is memory");
 }
 
-/// The blob of an Ed25519 key of a device for this application.
+// The blob of an Ed25519 key of a device for this application.
 fn ed25519_blob(alloc: Global, public: &[u8], application: &[u8]) -> Result<Vec<u8>, AllocError> {
     strings(alloc, &[b"sk-ssh-ed25519@openssh.com", public, application])
 }

@@ -1,4 +1,4 @@
-// The private list of a container: its fields changed, cut, lengthened and repeated.
+//! The private list of a container: its fields changed, cut, lengthened and repeated.
 
 use crate::tests::containers::made::{are_refused, armoured, is_read, plain, published_fields};
 use crate::tests::parts::{PUBLISHED_TYPE, published_key};
@@ -8,7 +8,7 @@ use ssh_wire::WireFault;
 use std::alloc::{AllocError, Global};
 use std::process::Abort;
 
-/// The container of the published key with this list is refused.
+// The container of the published key with this list is refused.
 fn list_refused(
     rt: &impl Abort,
     alloc: Global,
@@ -33,7 +33,7 @@ fn check_words(rt: HostRuntime) {
     }
 }
 
-/// The container of the published key with these fields in its list is refused.
+// The container of the published key with these fields in its list is refused.
 fn fields_refused(
     rt: &impl Abort,
     alloc: Global,
@@ -66,7 +66,7 @@ fn other_fields(rt: HostRuntime) {
     }
 }
 
-/// A private field of another length, which is reported before the public one.
+// A private field of another length, which is reported before the public one.
 #[test]
 fn private_fields(rt: HostRuntime) {
     let name = PUBLISHED_TYPE.as_bytes();
@@ -104,7 +104,7 @@ fn fields_twice(rt: HostRuntime) {
     }
 }
 
-/// The comment `a`.
+// The comment `a`.
 const COMMENT: &[u8] = &[0, 0, 0, 1, b'a'];
 
 #[test]
@@ -147,7 +147,7 @@ fn words_and_comments_twice(rt: HostRuntime) {
     }
 }
 
-/// The padding 1, 2, 3 and so on.
+// The padding 1, 2, 3 and so on.
 fn rising(alloc: Global, size: usize) -> Result<Vec<u8>, AllocError> {
     let mut bytes = vec![in alloc; 0; size]?;
     let mut last: u8 = 0;
@@ -158,7 +158,7 @@ fn rising(alloc: Global, size: usize) -> Result<Vec<u8>, AllocError> {
     Ok(bytes)
 }
 
-/// The container of the published key with this comment and this padding.
+// The container of the published key with this comment and this padding.
 fn container(alloc: Global, comment: &[u8], padding: &[u8]) -> Result<Vec<u8>, AllocError> {
     let blob = published_key(alloc)?;
     let fields = published_fields(alloc)?;
@@ -166,7 +166,7 @@ fn container(alloc: Global, comment: &[u8], padding: &[u8]) -> Result<Vec<u8>, A
     plain(alloc, &blob, &list)
 }
 
-/// That container is read.
+// That container is read.
 fn padded(
     rt: &impl Abort,
     alloc: Global,
@@ -209,7 +209,7 @@ fn large_comments(rt: HostRuntime) {
     }
 }
 
-/// The container of the published key with this padding is refused.
+// The container of the published key with this padding is refused.
 fn badly_padded(rt: &impl Abort, alloc: Global, padding: &[u8]) -> Result<(), AllocError> {
     let fields = published_fields(alloc)?;
     let list = private_list(alloc, (1, 1), &fields, b"a", padding)?;

@@ -1,4 +1,4 @@
-// Containers from their parts.
+//! Containers from their parts.
 
 use crate::tests::parts::{PUBLISHED_TYPE, published_key};
 use base64::engine::general_purpose::STANDARD;
