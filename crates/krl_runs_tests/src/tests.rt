@@ -10,7 +10,7 @@ mod describing;
 mod devices;
 mod encoding;
 mod faults;
-mod key_files;
+mod keys_of_files;
 mod listing;
 mod making;
 mod page;

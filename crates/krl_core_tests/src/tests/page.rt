@@ -1,4 +1,4 @@
-// The caller of the crate's page.
+//! The caller of the crate's page.
 
 use krl_core::read_krl;
 use parts_for_tests::{HEADER, PUBLISHED, joined, strings};

@@ -1,4 +1,4 @@
-// The callers of the pages of `spec_fault`, `krl_spec`, `key_files`, `krl_make` and `krl_runs`.
+//! The callers of the pages of `spec_fault`, `krl_spec`, `key_files`, `krl_make` and `krl_runs`.
 
 use crate::tests::bytes::GITHUB;
 use crate::tests::runs::{GITHUB_LINE, holding};

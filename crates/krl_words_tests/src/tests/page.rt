@@ -1,4 +1,4 @@
-// The callers of the pages of `krl_words` and of `krl_job`.
+//! The callers of the pages of `krl_words` and of `krl_job`.
 
 ghost use Rattle.std.specs.Prelude.{◌≡◌, option_map};
 ghost use Rattle.krl_job.specs.Given.{given_by};

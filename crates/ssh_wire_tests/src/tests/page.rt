@@ -1,4 +1,4 @@
-// The caller of the crate's page.
+//! The caller of the crate's page.
 
 ghost use Rattle.std.specs.Prelude.{◌≡◌, ◌++◌, ℕ, List, IfOk};
 ghost use Rattle.ssh_wire.specs.Wire.{string};
