@@ -1,9 +1,12 @@
-# The pages of the crates: each library has one, the map leads to it, and the caller that it shows is one
-# that a crate of tests proves and runs, in the same words.
+# The pages of the crates: each library has one and so has the program, and the map leads to it. The caller
+# that a library's page shows is one that a crate of tests proves and runs, in the same words. What the
+# program's page shows is what it prints.
 
-# callers PAGE: the code that it shows.
-callers() {
-  awk '/^```rust$/ { on = 1; next } /^```/ { on = 0 } on' "$1"
+. "$tests/transcript.sh"
+
+# shown LANGUAGE PAGE: what the page shows in it.
+shown() {
+  awk -v begin="\`\`\`$1" '$0 == begin { on = 1; next } /^```/ { on = 0 } on' "$2"
 }
 # stands CODE: whether the module page of a crate of tests has the code.
 stands() {
@@ -13,12 +16,15 @@ stands() {
   done
   return 1
 }
-for crate in $(sed -n 's/^\([a-z0-9_]*\):.*/\1/p' "$top/crates.txt" | grep -v -e '_tests$' -e '^krl_tool$'); do
+for crate in $(sed -n 's/^\([a-z0-9_]*\):.*/\1/p' "$top/crates.txt" | grep -v '_tests$'); do
   page=$top/crates/$crate/README.md
   judge "the page of $crate" "$(
     [ -e "$page" ] || echo '  there is none'
     grep -qF "(../crates/$crate/README.md)" "$top/docs/ARCHITECTURE.md" || echo '  the map does not lead to it'
   )"
-  shown=$(callers "$page")
-  judge "the caller on the page of $crate" "$([ -n "$shown" ] && stands "$shown" || echo '  no module page has it')"
+  [ "$crate" = krl_tool ] && continue
+  caller=$(shown rust "$page")
+  judge "the caller on the page of $crate" "$([ -n "$caller" ] && stands "$caller" || echo '  no module page has it')"
 done
+cp -r "$top/demo" demo && cd demo || exit 1
+transcript 'what the page of the program shows' < <(shown console "$top/crates/krl_tool/README.md")
