@@ -8,6 +8,7 @@
 shown() {
   awk -v begin="\`\`\`$1" '$0 == begin { on = 1; next } /^```/ { on = 0 } on' "$2"
 }
+
 # stands CODE: whether the module page of a crate of tests has the code.
 stands() {
   local module
@@ -27,4 +28,6 @@ for crate in $(sed -n 's/^\([a-z0-9_]*\):.*/\1/p' "$top/crates.txt" | grep -v '_
   judge "the caller on the page of $crate" "$([ -n "$caller" ] && stands "$caller" || echo '  no module page has it')"
 done
 cp -r "$top/demo" demo && cd demo || exit 1
-transcript 'what the page of the program shows' < <(shown console "$top/crates/krl_tool/README.md")
+use=$(shown console "$top/crates/krl_tool/README.md")
+judge 'the page of the program shows a use' "$([ -n "$use" ] || echo '  it shows none')"
+transcript 'what the page of the program shows' <<<"$use"
