@@ -4,9 +4,9 @@ use Rattle.std.specs.Prelude.{decimal}
 use Rattle.ssh_key.specs.LineFault.{fault_number as line_fault_number}
 use Rattle.ssh_key.specs.LineFault.{fault_text as line_fault_text}
 use Rattle.ssh_key.specs.PrivateFault.{private_fault_number, private_fault_text}
-use Rattle.krl_core.specs.declared.krl_fault.KrlFault.{KrlFault}
-use Rattle.krl_core.specs.declared.krl_fault.KrlFault.TheVariants as faults
-use Rattle.krl_core.specs.KrlFault.{fault_number as krl_fault_number, fault_text as krl_fault_text}
+use Rattle.krl_fault.specs.declared.krl_fault.KrlFault.{KrlFault}
+use Rattle.krl_fault.specs.declared.krl_fault.KrlFault.TheVariants as faults
+use Rattle.krl_fault.specs.KrlFault.{fault_number as krl_fault_number, fault_text as krl_fault_text}
 use Rattle.ssh_cert.specs.SubjectFault.{subject_fault_number, subject_fault_text}
 use Rattle.key_files.specs.declared.cause.Cause.{Cause}
 use Rattle.key_files.specs.declared.cause.Cause.TheVariants.{File, Krl, Line, Private}

@@ -4,7 +4,7 @@ ghost use Rattle.std.specs.Prelude.{◌≡◌, Some};
 ghost use Rattle.key_files.specs.Stop.{cause_number, cause_text, krl_cause};
 
 use crate::file_fault::FileFault;
-use krl_core::KrlFault;
+use krl_fault::KrlFault;
 use spec_fault::SpecCause;
 use ssh_cert::SubjectFault;
 use ssh_key::{LineFault, PrivateFault};

@@ -10,7 +10,7 @@ use Rattle.serial_set.specs.declared.bit_fault.BitFault.{BitFault}
 use Rattle.serial_set.specs.declared.bit_fault.BitFault.TheVariants.{Negative, Wraps}
 use Rattle.serial_set.specs.Span.{Covers}
 use Rattle.serial_set.specs.BitRuns.{FedBitmap, BitNames, Feeds, HasFault, ShowsFault, lowest}
-use Rattle.krl_core.specs.declared.krl_fault.KrlFault.TheVariants as faults
+use Rattle.krl_fault.specs.declared.krl_fault.KrlFault.TheVariants as faults
 use Rattle.krl_core.specs.declared.place.Place.{Place}
 use Rattle.krl_core.specs.Entry.{Entry, BitmapEntry, RangeEntry}
 use Rattle.krl_core.specs.Naming.{EntryNames, NamesSame, SerialOf, SomeNames}

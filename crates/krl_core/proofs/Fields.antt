@@ -8,7 +8,7 @@ use Rattle.std.proofs.lemmas.Slice.Eq.{bytes_eq-Decides}
 use Rattle.ssh_wire.specs.Wire.{IsBytes, number, number_of, strings}
 use Rattle.ssh_wire.specs.Steps.{passed_ok}
 use Rattle.ssh_wire.specs.Digits.{IsBytes-back, IsBytes-front}
-use Rattle.krl_core.specs.declared.krl_fault.KrlFault.TheVariants as faults
+use Rattle.krl_fault.specs.declared.krl_fault.KrlFault.TheVariants as faults
 use Rattle.krl_core.specs.declared.header.Header.{Header}
 use Rattle.krl_core.specs.declared.place.list.ItemKind.TheVariants as kinds
 use Rattle.krl_core.specs.declared.place.Place.{Place}

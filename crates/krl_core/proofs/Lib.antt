@@ -4,11 +4,6 @@ pub mod Fronts
 pub mod Fixed
 pub mod Walks
 pub mod Exists
-pub mod BitmapNames
-pub mod Spelling
-pub mod Sections
-pub mod Meaning
-pub mod Meant
 pub mod BothWays
 pub mod Same
 pub mod Keeping
@@ -28,8 +23,6 @@ pub mod SpelledLists
 pub mod Cuts
 pub mod AddedSections
 pub mod Adding
-pub mod Listing
-pub mod WholeTexts
 pub mod Amounts
 pub mod Entries
 pub mod Few
@@ -43,11 +36,8 @@ pub mod Parted
 pub mod SameMeaning
 pub mod Shelving
 pub mod SomeSections
-pub mod Limits
 pub mod Tested
 pub mod OneSpelling
 pub mod OneMeaning
-pub mod Sizes
-pub mod ReadBack
 pub mod Intervals
 pub mod FourAByte

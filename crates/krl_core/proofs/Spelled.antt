@@ -6,9 +6,9 @@ use Rattle.std.proofs.lemmas.Bool.{cases_lt, le-ltb, lt-ltb, le-leb, lt-leb, eqb
 use Rattle.std.proofs.lemmas.List.{length-append}
 use Rattle.ssh_wire.specs.Wire.{IsBytes, number, number_of, string, strings}
 use Rattle.ssh_wire.specs.Digits.{IsBytes-back, IsBytes-front}
-use Rattle.ssh_wire.specs.Fields.{IsBytes-in_string, length-string, length-number}
-use Rattle.krl_core.specs.declared.krl_fault.KrlFault.{KrlFault}
-use Rattle.krl_core.specs.declared.krl_fault.KrlFault.TheVariants as faults
+use Rattle.ssh_wire.specs.Fields.{IsBytes-in_string, length-string, length-number, length-numbers}
+use Rattle.krl_fault.specs.declared.krl_fault.KrlFault.{KrlFault}
+use Rattle.krl_fault.specs.declared.krl_fault.KrlFault.TheVariants as faults
 use Rattle.krl_core.specs.declared.header.Header.{Header}
 use Rattle.krl_core.specs.declared.place.list.ItemKind.{ItemKind}
 use Rattle.krl_core.specs.declared.place.list.ItemKind.TheVariants as kinds
@@ -32,7 +32,6 @@ use Rattle.krl_core.proofs.Goes.{Goes, goes_none, goes_one, goes_then, goes_from
 use Rattle.krl_core.proofs.Lists.{header_parts}
 use Rattle.krl_core.proofs.Numbers.{number_again4, number_again8, number_of-one}
 use Rattle.krl_core.proofs.Rests.{IsItem}
-use Rattle.krl_plan.specs.ListTexts.{length-numbers}
 
 -- ---- a field, and what follows it
 

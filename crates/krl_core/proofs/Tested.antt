@@ -1,14 +1,16 @@
 -- What is held revokes just what its test says.
-use Rattle.std.proofs.Common.{◌≡◌, ℕ, Bool, true, false, ◌⊎◌, List, [], ◌∷◌, sym, ap, ◌∙◌, inl, inr, subst}
-use Rattle.std.specs.Prelude.{◌↔◌, ◌||◌, Option, Some, None, IsTrue}
+use Rattle.std.proofs.Common.{◌≡◌, ◌≤◌, ℕ, Bool, true, false, leb, ◌⊎◌, List, [], ◌∷◌, sym, ap, ◌∙◌, inl, inr, subst}
+use Rattle.std.specs.Prelude.{◌↔◌, ◌&&◌, ◌||◌, Option, Some, None, IsTrue}
 use Rattle.std.specs.List.{Contains}
 use Rattle.std.specs.Str.{bytes_eq}
+use Rattle.std.proofs.lemmas.Bool.{le-leb, leb-true}
 use Rattle.std.proofs.lemmas.Slice.Eq.{bytes_eq-Decides}
 use Rattle.std.specs.Cmp.{both_ways}
 use Rattle.std.proofs.Math.Logic.Iff as Iff
 use Rattle.sha1.specs.Sha1.{sha1}
 use Rattle.sha2.specs.Sha256.{sha256}
-use Rattle.serial_set.specs.Span.{Covers}
+use Rattle.serial_set.specs.declared.span.Span.{Span}
+use Rattle.serial_set.specs.Span.{Covers, has}
 use Rattle.ssh_subject.specs.Subject.{Subject, Names}
 use Rattle.krl_core.specs.Asked.{HoldsKey, HoldsUnder, HoldsCert}
 use Rattle.krl_core.specs.Contents.{Contents, Section, Means}
@@ -16,10 +18,16 @@ use Rattle.krl_core.specs.Entry.{Entry}
 use Rattle.krl_core.specs.Naming.{IdOf, KeyNamed, KeyOf, SerialOf, Sha1Of, Sha256Of, SomeNames}
 use Rattle.krl_core.specs.Revoked.{Revoked, CertRevoked}
 use Rattle.krl_core.specs.Tested.{holds_cert, holds_key, holds_under, is_among, revokes, section_holds}
-use Rattle.krl_plan.specs.Written.{has}
 use Rattle.krl_core.proofs.BothWays.{and_tested, contains_cons, iff_across, iff_both, iff_or, iff_swap, or_tested}
-use Rattle.krl_core.proofs.BitmapNames.{has_names}
 use Rattle.krl_core.specs.Elements.{contains_none}
+
+-- ---- serials
+
+pub has_names : (runs : List Span) (s : ℕ) → IsTrue (has runs s) ↔ Covers runs s
+has_names [] s = (λ yes. absurd cc, λ no. absurd no)
+has_names (run ∷ runs) s =
+    let upto : (a b : ℕ) → IsTrue (leb a b) ↔ (a ≤ b) = λ a b. (leb-true a b, le-leb a b) in
+    or_tested (leb run.lo s && leb s run.hi) (has runs s) (and_tested (leb run.lo s) (leb s run.hi) (upto run.lo s) (upto s run.hi)) (has_names runs s)
 
 -- ---- texts
 

@@ -3,7 +3,6 @@ pub mod Authority
 pub mod Changes
 pub mod Contents
 pub mod Entry
-pub mod KrlFault
 pub mod Krl
 pub mod Place
 pub mod Front
@@ -19,7 +18,4 @@ pub mod Texts
 pub mod Keeping
 pub mod Reading
 pub mod Entries
-pub mod KrlText
-pub mod Within
 pub mod Tested
-pub mod Size

@@ -6,10 +6,10 @@ use Rattle.std.specs.Io.KnownBytes.{IsAtEnd, Keeps}
 use Rattle.ssh_wire.specs.Wire.{IsBytes}
 use Rattle.ssh_wire.specs.Pull.{Pulled, Refuses, left_of}
 use Rattle.ssh_wire.specs.declared.pull_fault.PullFault.{PullFault}
-use Rattle.ssh_wire.specs.declared.pull_fault.PullFault.TheVariants as pulls
-use Rattle.krl_core.specs.declared.krl_fault.KrlFault.{KrlFault}
-use Rattle.krl_core.specs.declared.krl_fault.KrlFault.TheVariants.{EndsEarly, Length, TooLong, Read}
-use Rattle.krl_core.specs.declared.krl_fault.KrlFault.TheVariants.{NoMemory}
+use Rattle.krl_fault.specs.KrlFault.{reported_as}
+use Rattle.krl_fault.specs.declared.krl_fault.KrlFault.{KrlFault}
+use Rattle.krl_fault.specs.declared.krl_fault.KrlFault.TheVariants.{EndsEarly, Length, Read}
+use Rattle.krl_fault.specs.declared.krl_fault.KrlFault.TheVariants.{NoMemory}
 use Rattle.krl_core.specs.declared.place.Place.{Place}
 use Rattle.krl_core.specs.declared.place.Place.TheVariants as places
 use Rattle.krl_core.specs.declared.place.header.HeaderPlace.TheVariants as headers
@@ -110,13 +110,6 @@ abbrev pub Refused : KrlFault → Position → Pulled → Type 0
 Refused fault old new =
     (text : List ℕ) (fields : List (List ℕ)) → HasRead text fields old
     → Says fault text new.failed new.source
-
--- what a fault of a reader is reported as
-abbrev pub reported_as : PullFault → KrlFault
-reported_as pulls.EndsEarly = EndsEarly
-reported_as pulls.TooLong = TooLong
-reported_as pulls.Read = Read
-reported_as pulls.NoMemory = NoMemory
 
 -- ---- the parts of a step
 

@@ -5,8 +5,8 @@ use Rattle.std.specs.Str.{bytes_eq}
 use Rattle.sha1.specs.Sha1.{sha1}
 use Rattle.sha2.specs.Sha256.{sha256}
 use Rattle.ssh_subject.specs.Subject.{Names, Subject}
+use Rattle.serial_set.specs.Span.{has}
 use Rattle.krl_core.specs.Contents.{Contents, Section}
-use Rattle.krl_plan.specs.Written.{has}
 
 abbrev pub is_among : List (List ℕ) → List ℕ → Bool
 is_among texts text = list_any (λ other. bytes_eq other text) texts

@@ -2,8 +2,8 @@
 
 use ssh_wire::Bytes;
 
-// The bytes with which each list begins.
-pub(crate) const MAGIC: &[u8] = b"SSHKRL\n\0";
+/// The bytes with which each list begins.
+pub const MAGIC: &[u8] = b"SSHKRL\n\0";
 
 /// The header of a revocation list: its version, when it was made in seconds since 1970, and a
 /// comment, which may be any bytes.

@@ -11,11 +11,11 @@ ghost use Rattle.krl_core.specs.Place.{subsection_of_type as subsection_of};
 ghost use Rattle.krl_core.specs.declared.place.Place.TheVariants as places;
 ghost use Rattle.krl_core.specs.declared.place.list.ListPlace.TheVariants as lists;
 
-use crate::krl_fault::KrlFault;
 use crate::place::{
     BitmapPlace, CertificatesPlace, ExtensionPlace, ItemKind, ListPlace, Place, SerialsPlace,
     SignaturePlace,
 };
+use krl_fault::KrlFault;
 
 // The next place where a field is good, else its fault.
 pub(crate) fn judge(good: bool, fault: KrlFault, next: Place) -> Result<Place, KrlFault>

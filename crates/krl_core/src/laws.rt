@@ -3,7 +3,6 @@
 mod asked;
 mod lists;
 mod naming;
-mod written;
 
 pub use asked::revokes_what_is_meant;
 pub use lists::{
@@ -11,7 +10,3 @@ pub use lists::{
     one_first_fault, one_front_begins_the_other, one_number_of_a_bitmap, one_spelling,
 };
 pub use naming::{entries_decide_what_is_held, meaning_decides_naming, naming_decides_meaning};
-pub use written::{
-    sections_mean_what_is_held, text_has_its_size, text_is_spelled, written_list_has_no_fault,
-    written_list_is_read_back, written_list_names_what_is_held,
-};

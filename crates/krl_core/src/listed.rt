@@ -46,8 +46,8 @@ impl<'a, S: Spans> Listed<'a, S> {
         Some(self.authority)
     }
 
-    // The same, without any for all authorities.
-    pub(crate) fn bytes(&self) -> &'a [u8]
+    /// The bytes of the authority, without any for all authorities: as a list has them.
+    pub fn bytes(&self) -> &'a [u8]
         ensures { result.now ≡ self.now.authority }
     {
         self.authority

@@ -14,11 +14,11 @@ mod signature;
 
 use crate::field::byte_of;
 use crate::judging::section_of_type;
-use crate::krl_fault::KrlFault;
 pub use bitmap::BitmapPlace;
 pub use certificates::CertificatesPlace;
 pub use extension::ExtensionPlace;
 pub use header::HeaderPlace;
+use krl_fault::KrlFault;
 pub use list::{ItemKind, ListPlace};
 pub use serials::SerialsPlace;
 pub use signature::SignaturePlace;

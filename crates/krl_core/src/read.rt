@@ -4,15 +4,15 @@ ghost use Rattle.std.specs.Prelude.{◌≡◌, ◌≤◌, ◌⊎◌, length, fal
 ghost use Rattle.std.specs.Prelude.{IfOk, IfErr};
 ghost use Rattle.ssh_wire.specs.Wire.{IsBytes};
 ghost use Rattle.krl_core.specs.declared.header.Header.{Header as HeaderOf};
-ghost use Rattle.krl_core.specs.declared.krl_fault.KrlFault.TheVariants.{NoMemory, Read};
+ghost use Rattle.krl_fault.specs.declared.krl_fault.KrlFault.TheVariants.{NoMemory, Read};
 ghost use Rattle.krl_core.specs.Front.{IsFirstFault, limit};
 ghost use Rattle.krl_core.specs.Krl.{SpelledSection, Spells};
 ghost use Rattle.krl_core.specs.Reading.{IsList, ReportsFailure, Says};
 
 use crate::header::Header;
-use crate::krl_fault::KrlFault;
 use crate::reading::Reading;
 use crate::revocations::Revocations;
+use krl_fault::KrlFault;
 use serial_set::Spans;
 use ssh_wire::Source;
 use std::alloc::Global;

@@ -16,21 +16,21 @@ use Rattle.ssh_key.specs.declared.private_fault.PrivateFault.{PrivateFault}
 use Rattle.ssh_cert.specs.AnyKey.{Spells, plain_of}
 use Rattle.ssh_cert.specs.declared.any_key.AnyKey.{AnyKey}
 use Rattle.ssh_cert.specs.declared.any_key.AnyKey.TheVariants.{Plain, Certified}
-use Rattle.krl_core.proofs.ReadBack.{written_spelled}
+use Rattle.krl_writer.proofs.ReadBack.{written_spelled}
 use Rattle.krl_core.proofs.Tested.{revokes_meant}
 use Rattle.krl_core.specs.Contents.{Contents, Means}
 use Rattle.krl_core.specs.Entries.{entries_of}
 use Rattle.krl_core.specs.Entry.{Entry}
 use Rattle.krl_core.specs.Front.{IsFirstFault, limit}
-use Rattle.krl_core.specs.KrlText.{IsKrlText}
+use Rattle.krl_writer.specs.KrlText.{IsKrlText}
 use Rattle.krl_core.specs.Reading.{IsList}
 use Rattle.krl_core.specs.declared.header.Header.{Header}
-use Rattle.krl_core.specs.declared.krl_fault.KrlFault.{KrlFault}
+use Rattle.krl_fault.specs.declared.krl_fault.KrlFault.{KrlFault}
 use Rattle.krl_make.specs.declared.base.Base.{Base}
 use Rattle.krl_make.specs.Making.{Added, HasNumbers, IsAtHand, IsAuthorityAtHand, IsFileAtHand, authority_file, lines, new_list, old_list, IsOldList, IsStop, Made, Makes, NamesSame, Returns, WritesList, WritesMade, WritesMore, after_old, base_of, cause_stop, file_entries, file_key, file_stop, files_entries, first_found, first_key_of, header_of, made_of, make_run_of, named_blob, plain_found, text_entries, then_entries, version_of}
 use Rattle.key_files.specs.Stop.{krl_cause}
 use Rattle.krl_job.specs.declared.job.Authority.{Authority}
-use Rattle.krl_core.specs.declared.krl_fault.KrlFault.TheVariants as faults
+use Rattle.krl_fault.specs.declared.krl_fault.KrlFault.TheVariants as faults
 use Rattle.key_files.specs.Keys.{File, Found, GivesKey, IsRefused, container_found, content_keys, file_of, key_in, keys_from, keys_of, line_found}
 use Rattle.key_files.specs.declared.file_fault.FileFault.{FileFault}
 use Rattle.key_files.specs.declared.file_fault.FileFault.TheVariants as files

@@ -9,12 +9,12 @@ use Rattle.krl_core.specs.Entries.{entries_of}
 use Rattle.krl_core.specs.Entry.{Entry}
 use Rattle.krl_core.specs.Front.{IsFirstFault, limit}
 use Rattle.krl_core.specs.Krl.{SpelledSection, Spells}
-use Rattle.krl_core.specs.KrlText.{IsKrlText}
+use Rattle.krl_writer.specs.KrlText.{IsKrlText}
 use Rattle.krl_core.specs.Reading.{IsList, IsReadingOf}
 use Rattle.krl_core.specs.Revoked.{Revoked}
 use Rattle.krl_core.specs.declared.header.Header.{Header}
-use Rattle.krl_core.specs.declared.krl_fault.KrlFault.{KrlFault}
-use Rattle.krl_core.specs.declared.krl_fault.KrlFault.TheVariants as faults
+use Rattle.krl_fault.specs.declared.krl_fault.KrlFault.{KrlFault}
+use Rattle.krl_fault.specs.declared.krl_fault.KrlFault.TheVariants as faults
 use Rattle.ssh_subject.specs.Subject.{Subject}
 use Rattle.ssh_cert.specs.SubjectReading.{subject_of}
 use Rattle.krl_job.specs.declared.job.Authority.{Authority}

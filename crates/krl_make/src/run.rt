@@ -2,7 +2,7 @@
 
 ghost use Rattle.std.specs.Prelude.{◌≡◌, Ok, Result, false};
 ghost use Rattle.std.specs.Option.{ForSome};
-ghost use Rattle.krl_core.specs.declared.krl_fault.KrlFault.{KrlFault as FaultOf};
+ghost use Rattle.krl_fault.specs.declared.krl_fault.KrlFault.{KrlFault as FaultOf};
 ghost use Rattle.krl_make.specs.Making.{HasNumbers, IsBaseRead, IsFileAtHand, Makes, WritesList, WritesMore, after_old, files_entries, make_run_of};
 ghost use Rattle.krl_spec.specs.Entry.{IsUnder, authority_under};
 ghost use Rattle.krl_make.specs.declared.base.Base.{Base as BaseOf};
@@ -11,8 +11,9 @@ use crate::authority::{Authority, signer_of, under};
 use crate::base::{Base, next_version, read_base};
 use crate::files::add_files;
 use key_files::{Cause, Named, RunFault};
-use krl_core::{Header, Revocations, TextFault, krl_text};
+use krl_core::{Header, Revocations};
 use krl_spec::Under;
+use krl_writer::{TextFault, krl_text};
 use serial_set::Held;
 use ssh_wire::Source;
 use std::alloc::Global;

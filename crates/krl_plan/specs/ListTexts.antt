@@ -6,19 +6,9 @@ use Rattle.std.proofs.lemmas.List.{drop_at, take_all, take_at}
 use Rattle.std.proofs.lemmas.Grind.{flat_map-append}
 use Rattle.serial_set.specs.declared.span.Span.{Span}
 use Rattle.ssh_wire.specs.Wire.{number, string}
-use Rattle.ssh_wire.specs.Fields.{length-number}
+use Rattle.ssh_wire.specs.Fields.{length-number, length-numbers}
 use Rattle.krl_plan.specs.Plan.{IsSmall, serial_count}
 use Rattle.krl_plan.specs.Written.{serials_from, serials_of}
-
-pub length-numbers : (numbers : List ℕ) → length (flat_map (number 8) numbers) ≡ 8 * length numbers
-length-numbers [] = refl
-length-numbers (n ∷ numbers) =
-    omega (
-      arith,
-      length-append (number 8 n) (flat_map (number 8) numbers),
-      length-number 8 n,
-      length-numbers numbers,
-    )
 
 length-serials_from : (first count : ℕ) → length (serials_from first count) ≡ count
 length-serials_from first zero = refl

@@ -1,9 +1,10 @@
 -- The bytes of a list that is written: its subsections by a plan for each authority.
-use Rattle.std.specs.Prelude.{ℕ, zero, suc, ◌+◌, ◌-◌, ◌*◌, ◌/◌, ◌≤◌, ◌<◌, Bool, false, ◌&&◌, ◌||◌}
-use Rattle.std.specs.Prelude.{nat_le, if◌then◌else◌, List, [], ◌∷◌, ◌++◌, length, take, drop}
+use Rattle.std.specs.Prelude.{ℕ, zero, suc, ◌+◌, ◌-◌, ◌*◌, ◌/◌, ◌≤◌, ◌<◌, if◌then◌else◌}
+use Rattle.std.specs.Prelude.{List, [], ◌∷◌, ◌++◌, length, take, drop}
 use Rattle.std.specs.Prelude.{slice_index_or}
 use Rattle.std.specs.List.{flat_map}
 use Rattle.serial_set.specs.declared.span.Span.{Span}
+use Rattle.serial_set.specs.Span.{has}
 use Rattle.ssh_wire.specs.Wire.{number, string}
 use Rattle.krl_plan.specs.declared.group.Sort.{Sort}
 use Rattle.krl_plan.specs.declared.group.Sort.TheVariants.{Serials, Range, Bitmap}
@@ -25,11 +26,6 @@ serials_of runs = flat_map (λ run. serials_from run.lo (run.hi + 1 - run.lo)) r
 abbrev pub first_of : List Span → ℕ
 first_of [] = 0
 first_of (run ∷ runs) = run.lo
-
--- whether some run has the serial
-abbrev pub has : List Span → ℕ → Bool
-has [] serial = false
-has (run ∷ runs) serial = (nat_le run.lo serial && nat_le serial run.hi) || has runs serial
 
 -- the number, of this many bits, whose bit N says whether the runs have the serial that is N above
 -- the first

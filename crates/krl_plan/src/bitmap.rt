@@ -1,8 +1,8 @@
 //! The bitmap of some runs: a bit for each serial from the first one on (PROTOCOL.krl).
 
 ghost use Rattle.std.specs.Prelude.{◌≡◌, ◌+◌, ◌-◌, ◌*◌, ◌^◌, ◌<◌, length, OnOk, ◌++◌};
-ghost use Rattle.serial_set.specs.Span.{IsRuns};
-ghost use Rattle.krl_plan.specs.Written.{Above, bitmap_of, bits_of, first_of, has};
+ghost use Rattle.serial_set.specs.Span.{IsRuns, has};
+ghost use Rattle.krl_plan.specs.Written.{Above, bitmap_of, bits_of, first_of};
 
 use serial_set::Span;
 use ssh_wire::put_byte;

@@ -7,8 +7,8 @@ use Rattle.krl_core.specs.Entries.{entries_of}
 use Rattle.krl_core.specs.Front.{IsFirstFault}
 use Rattle.krl_core.specs.Reading.{IsList}
 use Rattle.krl_core.specs.declared.header.Header.{Header}
-use Rattle.krl_core.specs.declared.krl_fault.KrlFault.{KrlFault}
-use Rattle.krl_core.specs.declared.krl_fault.KrlFault.TheVariants as faults
+use Rattle.krl_fault.specs.declared.krl_fault.KrlFault.{KrlFault}
+use Rattle.krl_fault.specs.declared.krl_fault.KrlFault.TheVariants as faults
 use Rattle.krl_runs.specs.Carries.{Carries}
 use Rattle.krl_runs.specs.Printer.{Printed}
 use Rattle.krl_runs.specs.Contents.{Known, all_said, contents_items, dump_text, known_lines, known_of}

@@ -7,7 +7,7 @@ use Rattle.krl_core.specs.Front.{IsFirstFault}
 use Rattle.krl_core.specs.Reading.{IsList, IsReadAs, IsReadingOf}
 use Rattle.krl_core.specs.Revoked.{Revoked}
 use Rattle.krl_core.specs.Tested.{revokes}
-use Rattle.krl_core.specs.declared.krl_fault.KrlFault.{KrlFault}
+use Rattle.krl_fault.specs.declared.krl_fault.KrlFault.{KrlFault}
 use Rattle.ssh_subject.specs.Subject.{Subject}
 use Rattle.ssh_key.specs.LineReading.{Content}
 use Rattle.krl_runs.specs.declared.output.answer.Answer.{Answer}

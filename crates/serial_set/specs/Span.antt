@@ -1,5 +1,6 @@
 -- Intervals of serials, and the one rising list of them that stands for a set.
 use Rattle.std.specs.Prelude.{ℕ, ◌+◌, ◌^◌, ◌≤◌, ◌<◌, ◌⊎◌, ◌↔◌, List, [], ◌∷◌, ⊤}
+use Rattle.std.specs.Prelude.{nat_le, Bool, false, ◌&&◌, ◌||◌}
 use Rattle.std.specs.Coded.{Unit-prop, le_prop}
 use Rattle.serial_set.specs.declared.span.Span.{Span}
 
@@ -11,6 +12,11 @@ SpanCovers span s = (span.lo ≤ s) × (s ≤ span.hi)
 abbrev pub Covers : List Span → ℕ → Type 0
 Covers [] s = ⊥
 Covers (span ∷ spans) s = SpanCovers span s ⊎ Covers spans s
+
+-- the same, as a test
+abbrev pub has : List Span → ℕ → Bool
+has [] s = false
+has (span ∷ spans) s = (nat_le span.lo s && nat_le s span.hi) || has spans s
 
 -- the spans begin at `least` or above, and each next one at least two above the last one's end
 abbrev pub RunsFrom : ℕ → List Span → Type 0

@@ -1,10 +1,11 @@
 -- Fields at the front of bytes: what a reader took is spelled as its value, and what is spelled so
 -- is read again.
-use Rattle.std.proofs.Common.{◌≡◌, ℕ, zero, suc, ◌+◌, ◌-◌, ◌^◌, ◌<◌, ◌≤◌, false}
+use Rattle.std.proofs.Common.{◌≡◌, ℕ, zero, suc, ◌+◌, ◌-◌, ◌*◌, ◌^◌, ◌<◌, ◌≤◌, false}
 use Rattle.std.proofs.Common.{ltb, List, [], ◌∷◌, ◌++◌, length, take, drop, Result, Ok, Err, refl}
 use Rattle.std.proofs.Common.{sym, ap, subst, ◌∙◌, append_assoc, arith, inl, inr}
 use Rattle.std.specs.Prelude.{IfOk}
 use Rattle.std.specs.Borrow.{Bor}
+use Rattle.std.specs.List.{flat_map}
 use Rattle.std.proofs.lemmas.Bool.{cases_lt, lt-ltb, ltb-false, le-ltb}
 use Rattle.std.proofs.lemmas.List.{take_at, drop_at, take-append-drop, length-append, length-drop}
 use Rattle.std.proofs.lemmas.List.{length-take, take_all}
@@ -37,6 +38,16 @@ HasFront-then a x b y c p q = record {
 pub length-number : (k n : ℕ) → length (number k n) ≡ k
 unfolding number
 length-number k n = length-bytes_high_first k n
+
+pub length-numbers : (numbers : List ℕ) → length (flat_map (number 8) numbers) ≡ 8 * length numbers
+length-numbers [] = refl
+length-numbers (n ∷ numbers) =
+    omega (
+      arith,
+      length-append (number 8 n) (flat_map (number 8) numbers),
+      length-number 8 n,
+      length-numbers numbers,
+    )
 
 -- the number of the first k bytes
 pub number_of-take : (k : ℕ) (bytes : List ℕ) → k ≤ length bytes

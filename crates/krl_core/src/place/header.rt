@@ -6,8 +6,8 @@ ghost use Rattle.krl_core.specs.Place.{header_expected};
 use crate::field::u32_of;
 use crate::header::MAGIC;
 use crate::judging::judge;
-use crate::krl_fault::KrlFault;
 use crate::place::Place;
+use krl_fault::KrlFault;
 
 /// All before the first section.
 #[derive(Clone, Copy)]

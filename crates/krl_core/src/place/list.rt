@@ -6,8 +6,8 @@ ghost use Rattle.krl_core.specs.Place.{item_size, list_expected};
 
 use crate::field::u32_of;
 use crate::judging::{judge, next_item, rest, within};
-use crate::krl_fault::KrlFault;
 use crate::place::Place;
+use krl_fault::KrlFault;
 
 /// What the items of a list of strings are.
 #[derive(Clone, Copy)]

@@ -6,8 +6,8 @@ ghost use Rattle.krl_core.specs.Place.{serials_expected};
 
 use crate::field::{u32_of, u64_of};
 use crate::judging::{judge, next_serial, next_subsection, rest, within};
-use crate::krl_fault::KrlFault;
 use crate::place::Place;
+use krl_fault::KrlFault;
 
 /// A subsection of serials, or of a range.
 #[derive(Clone, Copy)]

@@ -1,7 +1,8 @@
 //! The making, reading and writing of lists. What the contracts of these calls say ends here, since
 //! a test only compares values, and its proof is the cheaper for each fact that it does not carry.
 
-use krl_core::{Header, KrlFault, Revocations, TextFault, krl_text, read_krl};
+use krl_core::{Header, KrlFault, Revocations, read_krl};
+use krl_writer::{TextFault, krl_text};
 use parts_for_tests::{HEADER, joined};
 use serial_set::{Held, Spans};
 use ssh_wire::{Bytes, FromRead};

@@ -1,10 +1,12 @@
-//! The caller of the crate's page.
+//! The callers of the pages of `krl_core`, `krl_fault` and `krl_writer`.
 
-use krl_core::read_krl;
+use krl_core::{Header, Revocations, read_krl};
+use krl_fault::KrlFault;
+use krl_writer::{TextFault, krl_text};
 use parts_for_tests::{HEADER, PUBLISHED, joined, strings};
 use serial_set::Held;
 use ssh_cert::subject;
-use ssh_wire::FromRead;
+use ssh_wire::{Bytes, FromRead};
 use std::alloc::Global;
 
 /// Whether a list revokes the key or the certificate of a blob, where both are read.
@@ -25,4 +27,36 @@ fn a_list_is_asked(rt: HostRuntime) {
     assert!(rt; is_revoked(rt.alloc(), &list, &key) == Some(true));
     assert!(rt; is_revoked(rt.alloc(), &list, &other) == Some(false));
     assert!(rt; is_revoked(rt.alloc(), &HEADER[..40], &key) == None);
+}
+
+/// Whether a list may be good all the same: its reader failed, or memory ran out.
+fn may_be_good(fault: KrlFault) -> bool {
+    matches!(fault, KrlFault::Read | KrlFault::NoMemory)
+}
+
+#[test]
+fn a_fault_is_of_the_list_or_not(rt: HostRuntime) {
+    let (cut, _reader) = read_krl::<Held, _>(rt.alloc(), FromRead::new(&HEADER[..40]));
+    assert!(rt; !may_be_good(cut.err().expect(&rt, "a list that was cut is refused")));
+    assert!(rt; may_be_good(KrlFault::Read));
+    assert!(rt; may_be_good(KrlFault::NoMemory));
+}
+
+/// The bytes of a list that revokes one key.
+fn list_of_key(alloc: Global, blob: &[u8]) -> Result<Vec<u8>, TextFault> {
+    let mut held: Revocations<Held> = Revocations::new(alloc);
+    held.add_key(blob)?;
+    let header = Header {
+        version: 1,
+        date: 0,
+        comment: Bytes::from_vec(Vec::new(alloc)),
+    };
+    krl_text(alloc, &header, &held)
+}
+
+#[test]
+fn a_list_is_written(rt: HostRuntime) {
+    let key = strings(rt.alloc(), &[b"ssh-ed25519", &PUBLISHED]).expect(&rt, "there is memory");
+    let list = list_of_key(rt.alloc(), &key).expect(&rt, "there is memory");
+    assert!(rt; is_revoked(rt.alloc(), &list, &key) == Some(true));
 }

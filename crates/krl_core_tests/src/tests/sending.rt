@@ -3,7 +3,8 @@
 use crate::tests::lists::{header, list_of};
 use crate::tests::writing::of_runs;
 use devices_for_tests::Taker;
-use krl_core::{Revocations, WriteFault, write_krl};
+use krl_core::Revocations;
+use krl_writer::{WriteFault, write_krl};
 use parts_for_tests::FIVE;
 use serial_set::Held;
 use ssh_wire::ToWrite;

@@ -3,7 +3,8 @@
 use crate::tests::lists::{has_text, header, list_of, read_from, text_of};
 use crate::tests::plain_model::{Said, held_of, hold, id_under, serials_under};
 use crate::tests::subjects::ALL;
-use krl_core::{Revocations, TextFault};
+use krl_core::Revocations;
+use krl_writer::TextFault;
 use parts_for_tests::{EIGHT_AND_ONE, joined};
 use serial_set::Held;
 use std::alloc::Global;

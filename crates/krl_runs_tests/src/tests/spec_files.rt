@@ -9,8 +9,9 @@ use crate::tests::bytes::{
 use crate::tests::certificates::certificate_line;
 use crate::tests::encoding::{key_line, strings};
 use crate::tests::runs::GITHUB_LINE;
-use krl_core::{Header, Revocations, krl_text};
+use krl_core::{Header, Revocations};
 use krl_spec::{Under, read_spec};
+use krl_writer::krl_text;
 use parts_for_tests::FIVE;
 use serial_set::Held;
 use ssh_wire::Bytes;

@@ -3,7 +3,8 @@
 use crate::tests::answered::answered;
 use crate::tests::holding::{Counter, held, one_of_each};
 use crate::tests::parts::{KEY_SECTION, SHA256_SECTION};
-use krl_core::{Header, Revocations, TextFault, WriteFault, krl_text, write_krl};
+use krl_core::{Header, Revocations};
+use krl_writer::{TextFault, WriteFault, krl_text, write_krl};
 use parts_for_tests::{HEADER, joined};
 use serial_set::Held;
 use ssh_wire::{Bytes, ToWrite};

@@ -1,6 +1,6 @@
 use Rattle.std.proofs.Common.{◌≡◌, ◌+◌, ◌-◌, ◌≤◌, Bool, true, false, cond, ℕ, refl, ap, ◌∙◌, arith}
 use mir.Val.{bool_byte}
-use Rattle.krl_plan.specs.Written.{has}
+use Rattle.serial_set.specs.Span.{has}
 use Rattle.krl_plan.specs.BitmapBits.{Above-less, bits_more, byte_small}
 use Rattle.krl_plan.proofs.bitmap.byte_at.Goals as goal
 

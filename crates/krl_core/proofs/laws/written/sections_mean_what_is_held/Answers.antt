@@ -1,5 +1,0 @@
-use Rattle.krl_core.proofs.Meant.{sections_mean}
-use Rattle.krl_core.proofs.laws.written.sections_mean_what_is_held.Goals as goal
-
-pub returns : goal.returns
-returns c plans r orderly each = sections_mean plans r orderly each

@@ -1,5 +1,0 @@
-use Rattle.krl_core.proofs.Sizes.{length-text}
-use Rattle.krl_core.proofs.laws.written.text_has_its_size.Goals as goal
-
-pub returns : goal.returns
-returns c header plans r orderly each = length-text header plans r orderly each

@@ -1,6 +1,0 @@
-use Rattle.krl_core.proofs.ReadBack.{read_back, written_spelled}
-use Rattle.krl_core.proofs.laws.written.written_list_is_read_back.Goals as goal
-
-pub returns : goal.returns
-returns c header read r held text is short version date orderly list =
-    read_back header read r held text (written_spelled header r text is short version date orderly) list

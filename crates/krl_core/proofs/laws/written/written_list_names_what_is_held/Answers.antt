@@ -1,7 +1,0 @@
-use Rattle.krl_core.proofs.ReadBack.{written_spelled}
-use Rattle.krl_core.proofs.laws.written.written_list_names_what_is_held.Goals as goal
-
-pub returns : goal.returns
-returns c header r text is short version date orderly =
-    let w = written_spelled header r text is short version date orderly in
-    (w.sections, (w.spelled, w.means))

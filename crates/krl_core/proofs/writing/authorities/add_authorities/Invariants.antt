@@ -1,5 +1,0 @@
-use Rattle.krl_core.proofs.Listing.{Listing}
-use Rattle.krl_core.proofs.writing.authorities.add_authorities.Given as goal
-
-abbrev pub invariant-loop-one : goal.invariant-loop-one
-invariant-loop-one g l = Listing l.initial.out.items l.out.items l.fn.authorities l.one-iterator

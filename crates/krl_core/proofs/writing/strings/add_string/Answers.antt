@@ -1,6 +1,0 @@
-use Rattle.std.proofs.Common.{arith}
-use Rattle.ssh_wire.specs.Fields.{length-string}
-use Rattle.krl_core.proofs.writing.strings.add_string.Goals as goal
-
-pub returns-then-text-gt-LIMIT : goal.returns-then-text-gt-LIMIT
-returns-then-text-gt-LIMIT c = omega (arith, length-string c.args.text.now)

@@ -1,0 +1,10 @@
+pub mod BitmapNames
+pub mod Spelling
+pub mod Sections
+pub mod Meaning
+pub mod Meant
+pub mod WholeTexts
+pub mod Limits
+pub mod Listing
+pub mod Sizes
+pub mod ReadBack

@@ -1,0 +1,90 @@
+-- What the sections of a list that is written name is what is held.
+use Rattle.std.proofs.Common.{◌≡◌, ℕ, zero, suc, ◌+◌, ◌-◌, ◌*◌, ◌<◌, ◌≤◌, ◌↔◌, inl, inr, List, [], ◌∷◌, length, take, drop, subst, arith}
+use Rattle.std.specs.List.{Contains, flat_map}
+use Rattle.std.proofs.lemmas.Bool.{cases_lt}
+use Rattle.serial_set.specs.declared.span.Span.{Span}
+use Rattle.serial_set.specs.Span.{AreSerials, IsRuns, Covers as Names, RunsFrom}
+use Rattle.krl_plan.specs.declared.group.Sort.{Sort}
+use Rattle.krl_plan.specs.declared.group.Sort.TheVariants as sorts
+use Rattle.krl_plan.specs.declared.group.Group.{Group}
+use Rattle.krl_core.specs.Entries.{subsection_entries}
+use Rattle.krl_writer.specs.KrlText.{group_subsection, plan_subsections}
+use Rattle.krl_core.specs.Naming.{SerialOf, SomeNames}
+use Rattle.std.proofs.Math.Logic.Iff as Iff
+use Rattle.krl_core.proofs.BothWays.{contains_append, contains_cons, iff_both, iff_none, iff_or}
+use Rattle.krl_core.proofs.Same.{IsSerials, AreSerials as AreSerialEntries, some_append}
+use Rattle.krl_plan.specs.Plan.{Covers, IsGroup, IsPlan}
+use Rattle.krl_plan.specs.Written.{bitmap_size, first_of, serials_from, serials_of}
+use Rattle.krl_writer.proofs.BitmapNames.{bits_name, names_within}
+use Rattle.krl_plan.specs.Chosen.{IsRuns-drop, RunsFrom-take}
+use Rattle.krl_writer.proofs.Spelling.{AreSerials-drop, AreSerials-take, names_parts}
+use Rattle.krl_core.specs.Elements.{all_append, contains_none}
+
+-- ---- the serials of a list
+
+from_in : (first count s : ℕ) → Contains (serials_from first count) s ↔ ((first ≤ s) × (s < first + count))
+from_in first zero s = (λ h. absurd (contains_none s h), λ h. absurd (omega (arith, h.0, h.1)))
+from_in first (suc count) s =
+    Iff.trans (contains_cons first (serials_from (first + 1) count) s) (Iff.trans (iff_or Iff.rfl (from_in (first + 1) count s)) (
+      λ h. elim h [ inl here ↦ (omega (arith, here), omega (arith, here)) | inr later ↦ (omega (arith, later.0), omega (arith, later.1)) ],
+      λ h. elim (cases_lt first s) [ inl above ↦ inr (omega arith, omega (arith, h.1)) | inr not_above ↦ inl (let e : first ≡ s = omega (arith, h.0) in e) ],
+    ))
+
+serials_name : (a : ℕ) (runs : List Span) (s : ℕ) → RunsFrom a runs → Contains (serials_of runs) s ↔ Names runs s
+serials_name a [] s r = (λ h. absurd (contains_none s h), λ n. absurd n)
+serials_name a (run ∷ runs) s r =
+    let ordered : run.lo ≤ run.hi = r.1 in
+    let in_run : ((run.lo ≤ s) × (s < run.lo + (run.hi + 1 - run.lo))) ↔ ((run.lo ≤ s) × (s ≤ run.hi)) = (λ h. (h.0, omega (arith, h.1)), λ h. (h.0, omega (arith, h.1))) in
+    Iff.trans (contains_append (serials_from run.lo (run.hi + 1 - run.lo)) (serials_of runs) s)
+    (iff_or (Iff.trans (from_in run.lo (run.hi + 1 - run.lo) s) in_run) (serials_name (run.hi + 2) runs s r.2))
+
+-- ---- a group
+
+group_names : (sort : Sort) (runs : List Span) (b a : List ℕ) (s : ℕ) → IsRuns runs → AreSerials runs → Covers sort runs → SomeNames (subsection_entries b (group_subsection sort runs)) (SerialOf a s) ↔ ((b ≡ a) × Names runs s)
+group_names sorts.Serials runs b a s r serials c =
+    Iff.trans (Iff.symm (iff_none (λ no. no))) (Iff.and Iff.rfl (λ h. (serials_name 0 runs s r).0 h.1, λ n. ((serials s n).0, (serials_name 0 runs s r).1 n)))
+group_names sorts.Range [] b a s r serials c = absurd (omega arith)
+group_names sorts.Range (run ∷ []) b a s r serials c =
+    let ordered : run.lo ≤ run.hi = r.1 in
+    Iff.trans (Iff.symm (iff_none (λ no. no))) (Iff.and Iff.rfl (
+      λ h. inl (h.1.0, omega (arith, h.1.1)),
+      λ n. let within = names_within (run ∷ []) s r n in ((serials s n).0, (within.0, within.1)),
+    ))
+group_names sorts.Range (run ∷ next ∷ runs) b a s r serials c = absurd (omega arith)
+group_names sorts.Bitmap runs b a s r serials c =
+    let first = first_of runs in
+    Iff.trans (Iff.symm (iff_none (λ no. no))) (Iff.and Iff.rfl (
+      λ h. let at : first + (s - first) ≡ s = omega (arith, h.1) in subst (λ (n : ℕ). Names runs n) at ((bits_name runs first (8 * bitmap_size runs) (s - first)).0 h.2).1,
+      λ n.
+          let within = names_within runs s r n in
+          let at : s ≡ first + (s - first) = omega (arith, within.0) in
+          ((serials s n).0, within.0, (bits_name runs first (8 * bitmap_size runs) (s - first)).1 (omega (arith, within.0, within.1), subst (λ (k : ℕ). Names runs k) at n)),
+    ))
+
+-- ---- a plan
+
+group_serials : (sort : Sort) (runs : List Span) (b : List ℕ) → AreSerialEntries (subsection_entries b (group_subsection sort runs))
+group_serials sorts.Serials runs b = (tt, tt)
+group_serials sorts.Range runs b = (tt, tt)
+group_serials sorts.Bitmap runs b = (tt, tt)
+
+pub plan_serials : (runs : List Span) (plan : List Group) (b : List ℕ) → AreSerialEntries (flat_map (subsection_entries b) (plan_subsections runs plan))
+plan_serials runs [] b = tt
+plan_serials runs (group ∷ groups) b =
+    all_append IsSerials (subsection_entries b (group_subsection group.sort (take group.count runs))) (flat_map (subsection_entries b) (plan_subsections (drop group.count runs) groups))
+    (group_serials group.sort (take group.count runs) b) (plan_serials (drop group.count runs) groups b)
+
+no_names : (runs : List Span) (s : ℕ) → length runs ≡ 0 → Names runs s → ⊥
+no_names [] s e n = n
+no_names (run ∷ runs) s e n = absurd (omega arith)
+
+pub plan_names : (runs : List Span) (plan : List Group) (b a : List ℕ) (s : ℕ) → IsRuns runs → AreSerials runs → IsPlan runs plan → SomeNames (flat_map (subsection_entries b) (plan_subsections runs plan)) (SerialOf a s) ↔ ((b ≡ a) × Names runs s)
+plan_names runs [] b a s r serials p = (λ h. absurd h, λ h. no_names runs s p h.1)
+plan_names runs (group ∷ groups) b a s r serials p =
+    let n = group.count in
+    let front : List Span = take n runs in
+    let back : List Span = drop n runs in
+    let here = group_names group.sort front b a s (RunsFrom-take 0 n runs r) (AreSerials-take n runs serials) (IsGroup.covers (p.0)) in
+    let later = plan_names back groups b a s (IsRuns-drop 0 n runs r) (AreSerials-drop n runs serials) p.1 in
+    Iff.trans (some_append (subsection_entries b (group_subsection group.sort front)) (flat_map (subsection_entries b) (plan_subsections back groups)) (SerialOf a s))
+    (Iff.trans (iff_or here later) (Iff.trans iff_both (Iff.and Iff.rfl (names_parts n runs s))))

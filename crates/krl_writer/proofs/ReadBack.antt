@@ -1,0 +1,46 @@
+-- What is read of a list that was written.
+use Rattle.std.proofs.Common.{◌≡◌, ℕ, ◌<◌, ◌≤◌, ◌^◌, List, [], ◌∷◌, length, sym, subst}
+use Rattle.krl_core.specs.declared.header.Header.{Header}
+use Rattle.krl_plan.specs.declared.group.Group.{Group}
+use Rattle.krl_core.specs.Contents.{Contents, IsOrderly, Means, Section}
+use Rattle.krl_core.specs.Entries.{entries_of}
+use Rattle.krl_core.specs.Front.{limit}
+use Rattle.krl_core.specs.Krl.{SpelledSection, Spells}
+use Rattle.krl_writer.specs.KrlText.{EachPlan, IsKrlText, sections_of}
+use Rattle.krl_plan.specs.Plan.{IsLeastPlan, IsPlan}
+use Rattle.krl_core.specs.Reading.{IsList}
+use Rattle.krl_writer.proofs.Meant.{sections_mean}
+use Rattle.krl_core.proofs.OneMeaning.{one_meaning}
+use Rattle.krl_core.proofs.OneSpelling.{spelled_once}
+use Rattle.krl_writer.proofs.Sections.{text_spelled}
+
+-- each least plan is a plan
+pub are_plans : (plans : List (List Group)) (listed : List Section) → EachPlan IsLeastPlan plans listed → EachPlan IsPlan plans listed
+are_plans [] [] each = tt
+are_plans [] (first ∷ listed) each = absurd each
+are_plans (plan ∷ plans) [] each = absurd each
+are_plans (plan ∷ plans) (first ∷ listed) each = (each.0.is_cheapest.is_plan, are_plans plans listed each.1)
+
+-- a list that was written: the sections that it spells, which mean what is held
+pub record SpelledOf (header : Header) (r : Contents) (text : List ℕ) : Type 0 where
+  pub sections : List SpelledSection
+  pub spelled : Spells text header sections
+  pub means : Means r (entries_of sections)
+
+pub written_spelled : (header : Header) (r : Contents) (text : List ℕ) → IsKrlText header r text → length text ≤ limit → header.version < 2 ^ 64 → header.date < 2 ^ 64 → IsOrderly r → SpelledOf header r text
+written_spelled header r text is short version date orderly =
+    let each = are_plans is.plans r.sections is.least in
+    let same = is.text_is in
+    let within = subst (λ (t : List ℕ). length t ≤ limit) same short in
+    let spelled = text_spelled header is.plans r version date orderly each within in
+    record {
+      sections = sections_of is.plans r;
+      spelled = subst (λ (t : List ℕ). Spells t header (sections_of is.plans r)) (sym same) spelled;
+      means = sections_mean is.plans r orderly each;
+    }
+
+pub read_back : (header read : Header) (r held : Contents) (text : List ℕ) → SpelledOf header r text → IsList text read held → (read ≡ header) × (held ≡ r)
+read_back header read r held text w h =
+    let one = spelled_once text read header h.sections w.sections h.spelled w.spelled in
+    let means : Means held (entries_of w.sections) = subst (λ (sections : List SpelledSection). Means held (entries_of sections)) one.1 h.means in
+    (one.0, one_meaning held r (entries_of w.sections) means w.means)

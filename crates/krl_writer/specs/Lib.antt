@@ -1,0 +1,3 @@
+pub mod KrlText
+pub mod Within
+pub mod Size

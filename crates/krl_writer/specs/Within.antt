@@ -1,0 +1,74 @@
+-- Text that is added to a list that is written, within the limit.
+use Rattle.std.specs.Prelude.{◌≡◌, ℕ, ◌+◌, ◌<◌, ◌≤◌, Bool, true, false, List, ◌++◌, length, take}
+use Rattle.std.specs.Prelude.{Option, Result, Ok, Err, ⊤}
+use Rattle.std.specs.Io.KnownBytes.{Appends}
+use Rattle.krl_core.specs.Front.{limit}
+use Rattle.krl_writer.specs.declared.text.WriteFault.{WriteFault}
+use Rattle.krl_writer.specs.declared.text.WriteFault.TheVariants.{Write}
+use Rattle.krl_writer.specs.declared.text.WriteFault.TheVariants.{NoMemory as NoMemory'}
+use Rattle.krl_writer.specs.declared.text.WriteFault.TheVariants.{TooLong as TooLong'}
+use Rattle.krl_writer.specs.declared.text_fault.TextFault.{TextFault}
+use Rattle.krl_writer.specs.declared.text_fault.TextFault.TheVariants.{NoMemory, TooLong}
+use Rattle.krl_plan.specs.declared.group.Group.{Group}
+use Rattle.krl_core.specs.declared.header.Header.{Header}
+use Rattle.krl_core.specs.Contents.{Contents, Section}
+use Rattle.krl_writer.specs.KrlText.{EachPlan, IsKrlText, authorities_text, authority_text}
+use Rattle.krl_plan.specs.Plan.{IsLeastPlan}
+
+abbrev pub text_fault_number : TextFault → ℕ
+text_fault_number NoMemory = 1
+text_fault_number TooLong = 2
+
+-- The text was added and the whole is within the limit, or with the text it would not be.
+abbrev pub AddsWithin : {A : Type 0} → Result A TextFault → List ℕ → List ℕ → List ℕ → Type 0
+AddsWithin (Ok done) old new text = (new ≡ old ++ text) × (length new ≤ limit)
+AddsWithin (Err NoMemory) old new text = ⊤
+AddsWithin (Err TooLong) old new text = limit < length old + length text
+
+-- The same for the section of an authority, by the least plan of its runs.
+abbrev pub AddsAuthority : {A : Type 0} → Result A TextFault → List ℕ → List ℕ → Section → Type 0
+AddsAuthority (Ok done) old new listed =
+    (plan : List Group) × (IsLeastPlan listed.spans plan
+    × ((new ≡ old ++ authority_text plan listed) × (length new ≤ limit)))
+AddsAuthority (Err NoMemory) old new listed = ⊤
+AddsAuthority (Err TooLong) old new listed =
+    (plan : List Group) → IsLeastPlan listed.spans plan
+    → limit < length old + length (authority_text plan listed)
+
+-- The same for the sections of some authorities.
+abbrev pub AddsAuthorities : {A : Type 0}
+    → Result A TextFault → List ℕ → List ℕ → List Section → Type 0
+AddsAuthorities (Ok done) old new listed =
+    (plans : List (List Group)) × (EachPlan IsLeastPlan plans listed
+    × ((new ≡ old ++ authorities_text plans listed) × (length new ≤ limit)))
+AddsAuthorities (Err NoMemory) old new listed = ⊤
+AddsAuthorities (Err TooLong) old new listed =
+    (plans : List (List Group)) → EachPlan IsLeastPlan plans listed
+    → limit < length old + length (authorities_text plans listed)
+
+-- The bytes are those of the list that is written, and within the limit, or the list is too long.
+abbrev pub IsWritten : {A : Type 0} → (A → List ℕ) → Result A TextFault → Header → Contents → Type 0
+IsWritten bytes (Ok made) header r = IsKrlText header r (bytes made) × (length (bytes made) ≤ limit)
+IsWritten bytes (Err NoMemory) header r = ⊤
+IsWritten bytes (Err TooLong) header r =
+    (text : List ℕ) → IsKrlText header r text → limit < length text
+
+abbrev pub write_fault_number : WriteFault → ℕ
+write_fault_number (Write count) = 1
+write_fault_number NoMemory' = 2
+write_fault_number TooLong' = 3
+
+-- The list went out, or on a fault its first bytes and no others, or it has no text and nothing
+-- did.
+-- The writer has failed just where it is at fault.
+abbrev pub Writes : {A : Type 0} → Result A WriteFault → Header → Contents
+    → Option (List ℕ) → Option (List ℕ) → Bool → Type 0
+Writes (Ok done) header r old new failed =
+    (text : List ℕ) × (IsKrlText header r text × (Appends old new text × (failed ≡ false)))
+Writes (Err (Write count)) header r old new failed =
+    (text : List ℕ) × (IsKrlText header r text × (Appends old new (take count text)
+    × ((count < length text) × (failed ≡ true))))
+Writes (Err NoMemory') header r old new failed = (new ≡ old) × (failed ≡ false)
+Writes (Err TooLong') header r old new failed =
+    ((text : List ℕ) → IsKrlText header r text → limit < length text)
+    × ((new ≡ old) × (failed ≡ false))

@@ -1,0 +1,55 @@
+//! The sections of all authorities.
+
+ghost use Rattle.std.specs.Prelude.{◌≤◌, length};
+ghost use Rattle.krl_core.specs.Front.{limit};
+ghost use Rattle.krl_writer.specs.Within.{AddsAuthorities, AddsAuthority};
+
+use crate::strings::{LIMIT, add_listed, add_string};
+use crate::text_fault::TextFault;
+use krl_core::{Authorities, Texts};
+use krl_plan::{end_string, put_least_plan};
+use serial_set::Spans;
+use ssh_wire::{put_byte, put_string, put_u32};
+use std::alloc::Global;
+
+// Appends the sections of authorities, one after the other.
+pub(crate) fn add_authorities<S: Spans>(
+    out: &mut Vec<u8>,
+    alloc: Global,
+    authorities: Authorities<'_, S>,
+) -> Result<(), TextFault>
+    requires { length out.old.items ≤ limit }
+    ensures { AddsAuthorities result out.old.items out.new.items authorities.entry }
+{
+    for one in authorities {
+        add_authority(out, alloc, one.bytes(), one.spans(), one.walk_ids())?;
+    }
+    Ok(())
+}
+
+// Appends the section of an authority, by its bytes: its serials by their least plan, and its key
+// IDs.
+fn add_authority<S: Spans>(
+    out: &mut Vec<u8>,
+    alloc: Global,
+    authority: &[u8],
+    spans: &S,
+    ids: Texts<'_>,
+) -> Result<(), TextFault>
+    requires { length out.old.items ≤ limit }
+    ensures { AddsAuthority result out.old.items out.new.items
+        (record { authority = authority.now; spans = S.spans spans.now; ids = ids.entry }) }
+{
+    put_byte(out, 1)?;
+    let at = out.len();
+    put_u32(out, 0)?;
+    add_string(out, authority)?;
+    put_string(out, b"")?;
+    put_least_plan(out, alloc, spans)?;
+    if out.len() > LIMIT {
+        return Err(TextFault::TooLong);
+    }
+    add_listed(out, 0x23, ids)?;
+    end_string(out, at);
+    Ok(())
+}

@@ -1,0 +1,69 @@
+//! Laws of the lists that are written. Each function does nothing: its contract is the law.
+
+ghost use Rattle.std.specs.Prelude.{◌≡◌, ◌≤◌, ◌<◌, ◌^◌, ◌⊎◌, ℕ, Bool, true, List, Option, None, length};
+ghost use Rattle.ssh_wire.specs.Wire.{IsBytes};
+ghost use Rattle.krl_core.specs.Front.{IsFirstFault, limit};
+ghost use Rattle.krl_plan.specs.declared.group.Group.{Group};
+ghost use Rattle.krl_core.specs.Contents.{Contents, IsOrderly, Means};
+ghost use Rattle.krl_core.specs.declared.header.Header.{Header};
+ghost use Rattle.krl_core.specs.Krl.{SpelledSection, Spells};
+ghost use Rattle.krl_writer.specs.KrlText.{EachPlan, IsKrlText, sections_of, text_of};
+ghost use Rattle.krl_plan.specs.Plan.{IsPlan};
+ghost use Rattle.krl_fault.specs.declared.krl_fault.KrlFault.{KrlFault};
+ghost use Rattle.krl_fault.specs.declared.krl_fault.KrlFault.TheVariants.{NoMemory, Read};
+ghost use Rattle.krl_core.specs.Entries.{entries_of};
+ghost use Rattle.krl_core.specs.Reading.{IsList, Says};
+ghost use Rattle.krl_writer.specs.Size.{text_size};
+
+/// The text of a list within the limit is spelled, whatever plans its serials are written by.
+pub fn text_is_spelled()
+    ensures { (header : Header) (plans : List (List Group)) (r : Contents)
+        → header.version < 2 ^ 64 → header.date < 2 ^ 64 → IsOrderly r
+        → EachPlan IsPlan plans r.sections → length (text_of header plans r) ≤ limit
+        → Spells (text_of header plans r) header (sections_of plans r) }
+{}
+
+/// What the sections of a written list name is what is held, whatever plans its serials are written
+/// by.
+pub fn sections_mean_what_is_held()
+    ensures { (plans : List (List Group)) (r : Contents) → IsOrderly r
+        → EachPlan IsPlan plans r.sections → Means r (entries_of (sections_of plans r)) }
+{}
+
+/// The list that is written of what is held is spelled, where it is within the limit, and what its
+/// sections name is what is held.
+pub fn written_list_names_what_is_held()
+    ensures { (header : Header) (r : Contents) (text : List ℕ) → IsKrlText header r text
+        → length text ≤ limit → header.version < 2 ^ 64 → header.date < 2 ^ 64 → IsOrderly r
+        → (sections : List SpelledSection) × (Spells text header sections
+        × Means r (entries_of sections)) }
+{}
+
+/// Whatever is read of a list that was written is its header and just what was held.
+pub fn written_list_is_read_back()
+    ensures { (header read : Header) (r held : Contents) (text : List ℕ) → IsKrlText header r text
+        → length text ≤ limit → header.version < 2 ^ 64 → header.date < 2 ^ 64 → IsOrderly r
+        → IsList text read held → (read ≡ header) × (held ≡ r) }
+{}
+
+/// A list that was written has no fault. What is said of it where it is not read is that memory ran
+/// out, or that the reader failed.
+pub fn written_list_has_no_fault()
+    ensures unfaulted { (header : Header) (r : Contents) (text : List ℕ)
+        → IsKrlText header r text → length text ≤ limit
+        → header.version < 2 ^ 64 → header.date < 2 ^ 64 → IsOrderly r
+        → IsBytes text → IsFirstFault text None }
+    ensures refused { (header : Header) (r : Contents) (text : List ℕ)
+        → IsKrlText header r text → length text ≤ limit
+        → header.version < 2 ^ 64 → header.date < 2 ^ 64 → IsOrderly r
+        → IsBytes text → (fault : KrlFault) (failed : Bool) (left : Option (List ℕ))
+        → Says fault text failed left
+        → (fault ≡ NoMemory) ⊎ ((fault ≡ Read) × (failed ≡ true)) }
+{}
+
+/// The exact length of a list that is written: its parts and what its plans cost.
+pub fn text_has_its_size()
+    ensures { (header : Header) (plans : List (List Group)) (r : Contents) → IsOrderly r
+        → EachPlan IsPlan plans r.sections
+        → length (text_of header plans r) ≡ text_size header plans r }
+{}

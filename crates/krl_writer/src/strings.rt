@@ -1,0 +1,61 @@
+//! Strings one after the other, as long as the whole stays within the limit.
+
+ghost use Rattle.std.specs.Prelude.{◌≤◌, length};
+ghost use Rattle.ssh_wire.specs.Wire.{string, strings};
+ghost use Rattle.krl_core.specs.Front.{limit};
+ghost use Rattle.krl_writer.specs.KrlText.{listed_text};
+ghost use Rattle.krl_writer.specs.Within.{AddsWithin};
+
+use crate::text_fault::TextFault;
+use krl_core::Texts;
+use krl_plan::end_string;
+use ssh_wire::{put_byte, put_string, put_u32};
+
+// The most bytes that a list has.
+pub(crate) const LIMIT: usize = krl_core::LIMIT as usize;
+
+// Appends a string.
+pub(crate) fn add_string(out: &mut Vec<u8>, text: &[u8]) -> Result<(), TextFault>
+    ensures { AddsWithin result out.old.items out.new.items (string text.now) }
+{
+    if text.len() > LIMIT {
+        return Err(TextFault::TooLong);
+    }
+    put_string(out, text)?;
+    if out.len() > LIMIT {
+        return Err(TextFault::TooLong);
+    }
+    Ok(())
+}
+
+// Appends strings, one after the other.
+fn add_strings(out: &mut Vec<u8>, texts: Texts<'_>) -> Result<(), TextFault>
+    requires { length out.old.items ≤ limit }
+    ensures { AddsWithin result out.old.items out.new.items (strings texts.entry) }
+{
+    for text in texts {
+        add_string(out, text)?;
+    }
+    Ok(())
+}
+
+// Appends a type byte and a string of strings, where there are any.
+pub(crate) fn add_listed(
+    out: &mut Vec<u8>,
+    type_byte: u8,
+    mut texts: Texts<'_>,
+) -> Result<(), TextFault>
+    requires { length out.old.items ≤ limit }
+    ensures { AddsWithin result out.old.items out.new.items (listed_text type_byte texts.entry) }
+{
+    let Some(first) = texts.next() else {
+        return Ok(());
+    };
+    put_byte(out, type_byte)?;
+    let at = out.len();
+    put_u32(out, 0)?;
+    add_string(out, first)?;
+    add_strings(out, texts)?;
+    end_string(out, at);
+    Ok(())
+}

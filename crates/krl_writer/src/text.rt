@@ -1,0 +1,97 @@
+//! The text of what is held, and its way out.
+
+ghost use Rattle.std.specs.Prelude.{◌≡◌, [], false};
+ghost use Rattle.krl_core.specs.Krl.{header_text};
+ghost use Rattle.krl_writer.specs.Within.{AddsWithin, IsWritten, Writes, write_fault_number};
+
+use crate::authorities::add_authorities;
+use crate::strings::{add_listed, add_string};
+use crate::text_fault::TextFault;
+use krl_core::{Header, MAGIC, Revocations};
+use serial_set::Spans;
+use ssh_wire::{Sink, put_string, put_u32, put_u64, send};
+use std::alloc::Global;
+
+/// The text of a revocation list (PROTOCOL.krl): its header, then what is held, all authorities
+/// first and each authority by its bytes, then keys and hashes. Each authority's serials take the
+/// fewest bytes that lists, ranges and bitmaps can name them in. What would be empty is left out.
+///
+/// `TooLong` where the text would be longer than 67,108,864 bytes, which is what `read_krl` reads,
+/// and `NoMemory` where memory runs out.
+pub fn krl_text<S: Spans>(
+    alloc: Global,
+    header: &Header,
+    revocations: &Revocations<S>,
+) -> Result<Vec<u8>, TextFault>
+    ensures { IsWritten (λ made. made.items) result header.now revocations.now }
+{
+    let mut out = Vec::new(alloc);
+    add_header(&mut out, header)?;
+    add_authorities(&mut out, alloc, revocations.walk_authorities())?;
+    add_listed(&mut out, 2, revocations.walk_keys())?;
+    add_listed(&mut out, 3, revocations.walk_sha1s())?;
+    add_listed(&mut out, 5, revocations.walk_sha256s())?;
+    Ok(out)
+}
+
+// Appends the header of a list. Its flags are 0 and its reserved string is empty.
+fn add_header(out: &mut Vec<u8>, header: &Header) -> Result<(), TextFault>
+    ensures { AddsWithin result out.old.items out.new.items (header_text header.now 0 []) }
+{
+    out.extend_from_slice(MAGIC)?;
+    put_u32(out, 1)?;
+    put_u64(out, header.version)?;
+    put_u64(out, header.date)?;
+    put_u64(out, 0)?;
+    put_string(out, b"")?;
+    add_string(out, header.comment.as_slice())?;
+    Ok(())
+}
+
+/// Why a list was not written.
+#[derive(Clone, Copy, Debug, PartialEq, Eq)]
+pub enum WriteFault {
+    /// The writer failed once it had taken that many bytes.
+    Write { count: usize },
+    /// There was no memory. Nothing was written.
+    NoMemory,
+    /// The text is longer than 67,108,864 bytes, so it could not be read. Nothing was written.
+    TooLong,
+}
+
+impl WriteFault {
+    /// The fault's number, 1 to 3 in the order of the variants.
+    pub fn number(self) -> u8
+        ensures { result ≡ write_fault_number self }
+    {
+        match self {
+            WriteFault::Write { count: _ } => 1,
+            WriteFault::NoMemory => 2,
+            WriteFault::TooLong => 3,
+        }
+    }
+}
+
+/// Writes the text of `krl_text` to a writer that has not failed before. The whole text is in
+/// memory before the first byte goes out: after `NoMemory` and `TooLong` none did, and after
+/// `Write` the first `count` bytes and no others.
+pub fn write_krl<S: Spans, W: Sink>(
+    alloc: Global,
+    header: &Header,
+    revocations: &Revocations<S>,
+    writer: &mut W,
+) -> Result<(), WriteFault>
+    requires { W.has_failed writer.old ≡ false }
+    ensures { Writes result header.now revocations.now
+        (W.taken writer.old) (W.taken writer.new) (W.has_failed writer.new) }
+{
+    let text = match krl_text(alloc, header, revocations) {
+        Ok(text) => text,
+        Err(TextFault::NoMemory) => return Err(WriteFault::NoMemory),
+        Err(TextFault::TooLong) => return Err(WriteFault::TooLong),
+    };
+    match send(writer, &text) {
+        Ok(()) => Ok(()),
+        Err(sent) => Err(WriteFault::Write { count: sent.count }),
+    }
+}
