@@ -61,15 +61,15 @@ impl fmt::Display for Cause {
 
     fn fmt<W: fmt::Write>(&self, f: &mut fmt::Formatter<W>) -> fmt::Result {
         match self {
-            Cause::File(fault) => write!(f, "{fault}"),
-            Cause::Krl(fault) => write!(f, "{fault}"),
-            Cause::Line(fault) => write!(f, "{fault}"),
-            Cause::Private(fault) => write!(f, "{fault}"),
-            Cause::Subject(fault) => write!(f, "{fault}"),
-            Cause::Spec(cause) => write!(f, "{cause}"),
-            Cause::NoMemory => write!(f, "run 1 NoMemory"),
-            Cause::VersionFull => write!(f, "run 2 VersionFull"),
-            Cause::TextTooLong => write!(f, "run 3 TextTooLong"),
+            Cause::File(fault) => fault.fmt(f),
+            Cause::Krl(fault) => fault.fmt(f),
+            Cause::Line(fault) => fault.fmt(f),
+            Cause::Private(fault) => fault.fmt(f),
+            Cause::Subject(fault) => fault.fmt(f),
+            Cause::Spec(cause) => cause.fmt(f),
+            Cause::NoMemory => f.write_str("run 1 NoMemory"),
+            Cause::VersionFull => f.write_str("run 2 VersionFull"),
+            Cause::TextTooLong => f.write_str("run 3 TextTooLong"),
             Cause::Output { count } => write!(f, "output 1 Write after {count} bytes"),
         }
     }

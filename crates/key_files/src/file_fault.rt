@@ -51,7 +51,7 @@ impl fmt::Display for FileFault {
             FileFault::NoKeys => "file 5 NoKeys",
             FileFault::NoCertificate => "file 6 NoCertificate",
         };
-        write!(f, "{text}")
+        f.write_str(text)
     }
 }
 

@@ -91,7 +91,7 @@ impl fmt::Display for KrlFault {
             KrlFault::NoMemory => "krl 14 NoMemory",
             KrlFault::CriticalExtension => "krl 15 CriticalExtension",
         };
-        write!(f, "{text}")
+        f.write_str(text)
     }
 }
 

@@ -24,8 +24,8 @@ impl fmt::Display for KeyCause {
 
     fn fmt<W: fmt::Write>(&self, f: &mut fmt::Formatter<W>) -> fmt::Result {
         match self {
-            KeyCause::Line(fault) => write!(f, "{fault}"),
-            KeyCause::Subject(fault) => write!(f, "{fault}"),
+            KeyCause::Line(fault) => fault.fmt(f),
+            KeyCause::Subject(fault) => fault.fmt(f),
         }
     }
 }

@@ -43,7 +43,7 @@ impl fmt::Display for FingerprintFault {
             FingerprintFault::Length => "fingerprint 3 Length",
             FingerprintFault::NoMemory => "fingerprint 4 NoMemory",
         };
-        write!(f, "{text}")
+        f.write_str(text)
     }
 }
 

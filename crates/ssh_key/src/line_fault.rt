@@ -43,7 +43,7 @@ impl fmt::Display for LineFault {
             LineFault::WordDiffers => "line 3 WordDiffers",
             LineFault::NoMemory => "line 4 NoMemory",
         };
-        write!(f, "{text}")
+        f.write_str(text)
     }
 }
 

@@ -39,7 +39,7 @@ impl fmt::Display for WireFault {
             WireFault::Negative => "wire 2 Negative",
             WireFault::NotShortest => "wire 3 NotShortest",
         };
-        write!(f, "{text}")
+        f.write_str(text)
     }
 }
 

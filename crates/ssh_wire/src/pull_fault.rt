@@ -43,7 +43,7 @@ impl fmt::Display for PullFault {
             PullFault::Read => "pull 3 Read",
             PullFault::NoMemory => "pull 4 NoMemory",
         };
-        write!(f, "{text}")
+        f.write_str(text)
     }
 }
 
