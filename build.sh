@@ -9,9 +9,10 @@ last=krl_tool
 trees=$built/trees
 processors=$(nproc)
 
-# How many seconds each crate took, one after the other on four cores of a virtual machine.
+# About how many seconds each crate takes, one after the other on four cores of a virtual machine.
 declare -A seconds=([ssh_subject]=25 [spec_fault]=40 [ssh_wire]=104 [serial_set]=155 [ssh_key]=135 [ssh_cert]=108 [krl_plan]=63
-  [krl_core]=263 [krl_spec]=116 [key_files]=60 [krl_runs]=190 [krl_make]=139 [krl_job]=30 [krl_words]=87 [krl_tool]=256)
+  [krl_fault]=25 [krl_core]=230 [krl_writer]=60 [krl_spec]=116 [key_files]=60 [krl_runs]=190 [krl_make]=139 [krl_job]=30
+  [krl_words]=87 [krl_tool]=256)
 # The same of a crate that is not named there.
 usual=60
 
