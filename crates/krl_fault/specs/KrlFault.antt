@@ -1,4 +1,5 @@
--- The numbers and the printed names of the faults of a revocation list, and those that its reader reports.
+-- The numbers and the printed names of the faults of a revocation list, and what a fault of its
+-- reader is.
 use Rattle.std.specs.Prelude.{ℕ, List, codes}
 use Rattle.ssh_wire.specs.declared.pull_fault.PullFault.{PullFault}
 use Rattle.ssh_wire.specs.declared.pull_fault.PullFault.TheVariants as pulls
