@@ -1,25 +1,16 @@
 -- One way and back, of one thing or another and of the elements of lists.
-use Rattle.std.proofs.Common.{◌≡◌, ℕ, Bool, true, false, ◌⊎◌, ◌↔◌, refl, List, [], ◌∷◌, ◌++◌, subst, inl, inr}
+use Rattle.std.proofs.Common.{◌≡◌, ◌⊎◌, ◌↔◌, List, [], ◌∷◌, ◌++◌, subst, inl, inr}
 use Rattle.std.specs.List.{Contains}
-use Rattle.std.specs.Prelude.{IsTrue, ◌&&◌, ◌||◌}
+use Rattle.std.proofs.Math.Logic.{⊎_elim, ⊎_map, ⊎_swap}
 use Rattle.std.proofs.Math.Logic.Iff as Iff
 use Rattle.std.proofs.lemmas.List.Elements.{Contains-append_cases, Contains-append_left, Contains-append_right}
-use Rattle.serial_set.specs.declared.span.Span.{Span}
-use Rattle.serial_set.specs.Rising.{names_append, names_left, names_right}
-use Rattle.serial_set.specs.Span.{Covers}
 use Rattle.krl_core.specs.Elements.{contains_cases, contains_here, contains_later, contains_none}
 
 pub iff_or : {A B C D : Type 0} → (A ↔ B) → (C ↔ D) → ((A ⊎ C) ↔ (B ⊎ D))
-iff_or h k = (
-  λ x. elim x [ inl a ↦ inl (h.0 a) | inr c ↦ inr (k.0 c) ],
-  λ x. elim x [ inl b ↦ inl (h.1 b) | inr d ↦ inr (k.1 d) ],
-)
+iff_or h k = (⊎_map h.0 k.0, ⊎_map h.1 k.1)
 
 pub iff_swap : {A B : Type 0} → (A ⊎ B) ↔ (B ⊎ A)
-iff_swap = (
-  λ x. elim x [ inl a ↦ inr a | inr b ↦ inl b ],
-  λ x. elim x [ inl b ↦ inr b | inr a ↦ inl a ],
-)
+iff_swap = (⊎_swap, ⊎_swap)
 
 pub iff_none : {A B : Type 0} → (B → ⊥) → A ↔ (A ⊎ B)
 iff_none none = (λ a. inl a, λ x. elim x [ inl a ↦ a | inr b ↦ absurd (none b) ])
@@ -65,21 +56,5 @@ contains_middle (z ∷ front) x back y =
 pub contains_append : {X : Type 0} (xs ys : List X) (y : X) → Contains (xs ++ ys) y ↔ (Contains xs y ⊎ Contains ys y)
 contains_append xs ys y = (
   Contains-append_cases xs ys y,
-  λ h. elim h [ inl l ↦ Contains-append_left xs ys y l | inr r ↦ Contains-append_right xs ys y r ],
+  ⊎_elim (Contains-append_left xs ys y) (Contains-append_right xs ys y),
 )
-
-pub covers_append : (xs ys : List Span) (s : ℕ) → Covers (xs ++ ys) s ↔ (Covers xs s ⊎ Covers ys s)
-covers_append xs ys s = (names_append xs ys s, λ h. elim h [ inl l ↦ names_left xs ys s l | inr r ↦ names_right xs ys s r ])
-
--- ---- tests of one thing or another
-
-pub or_tested : {A B : Type 0} (a b : Bool) → (IsTrue a ↔ A) → (IsTrue b ↔ B) → (IsTrue (a || b) ↔ (A ⊎ B))
-or_tested true b h k = (λ yes. inl (h.0 refl), λ either. refl)
-or_tested false b h k = (
-  λ yes. inr (k.0 yes),
-  λ either. elim either [ inl x ↦ absurd (let no = h.1 x in cc) | inr y ↦ k.1 y ],
-)
-
-pub and_tested : {A B : Type 0} (a b : Bool) → (IsTrue a ↔ A) → (IsTrue b ↔ B) → (IsTrue (a && b) ↔ (A × B))
-and_tested true b h k = (λ yes. (h.0 refl, k.0 yes), λ both. k.1 both.1)
-and_tested false b h k = (λ yes. absurd cc, λ both. absurd (let no = h.1 both.0 in cc))

@@ -11,8 +11,9 @@ use Rattle.std.proofs.lemmas.List.Elements.{All-tail}
 use Rattle.serial_set.specs.declared.span.Span.{Span}
 use Rattle.serial_set.specs.Span.{Covers}
 use Rattle.serial_set.specs.Least.{runs_least}
+use Rattle.serial_set.specs.Rising.{covers_append}
 use Rattle.std.proofs.Math.Logic.Iff as Iff
-use Rattle.krl_core.proofs.BothWays.{covers_append, iff_or}
+use Rattle.krl_core.proofs.BothWays.{iff_or}
 use Rattle.ssh_wire.specs.Wire.{IsBytes, number_of}
 use Rattle.ssh_wire.specs.Digits.{IsBytes-back, IsBytes-front}
 use Rattle.krl_core.specs.declared.place.Place.{Place}

@@ -8,8 +8,9 @@ use Rattle.serial_set.specs.declared.span.Span.{Span}
 use Rattle.serial_set.specs.Span.{Covers}
 use Rattle.serial_set.specs.BitRuns.{BitNames}
 use Rattle.serial_set.specs.Bits.{bit_below}
+use Rattle.serial_set.specs.Rising.{covers_append}
 use Rattle.std.proofs.Math.Logic.Iff as Iff
-use Rattle.krl_core.proofs.BothWays.{contains_cons, covers_append, iff_both, iff_or}
+use Rattle.krl_core.proofs.BothWays.{contains_cons, iff_both, iff_or}
 use Rattle.krl_core.specs.Entry.{Entry, SerialsEntry, RangeEntry, BitmapEntry}
 use Rattle.krl_core.specs.Naming.{EntryNames, SerialOf}
 use Rattle.krl_core.specs.Elements.{contains_none}

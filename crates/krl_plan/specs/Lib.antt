@@ -14,4 +14,5 @@ pub mod BitmapBits
 pub mod ListTexts
 pub mod GroupTexts
 pub mod OnePlan
+pub mod Named
 pub mod Ranges

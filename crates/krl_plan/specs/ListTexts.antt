@@ -49,38 +49,41 @@ listed_more out runs run =
     ∙ ap (flat_map (number 8))
     (sym (flat_map-append (λ (r : Span). serials_from r.lo (r.hi + 1 - r.lo)) runs (run ∷ []))))
 
--- the length put in where four bytes were kept for it
-pub string_ended : (before content out : List ℕ) (at : ℕ) → out ≡ (before ++ number 4 0) ++ content
-    → at ≡ length before → take at out ++ string (drop (at + 4) out) ≡ before ++ string content
-string_ended before content out at e is =
-    let len : length (before ++ number 4 0) ≡ at + 4 =
-    omega (arith, length-append before (number 4 0), length-number 4 0) in
-    let front : take at out ≡ before =
-    ap (take at) (e ∙ append_assoc before (number 4 0) content)
-    ∙ take_at before (number 4 0 ++ content) at (sym is) in
-    let back : drop (at + 4) out ≡ content =
-    ap (drop (at + 4)) e ∙ drop_at (before ++ number 4 0) content (at + 4) len in
-    ap (λ (t : List ℕ). t ++ string (drop (at + 4) out)) front
-    ∙ ap (λ (t : List ℕ). before ++ string t) back
+-- all runs are put
+pub all_listed : (runs : List Span) (i : ℕ) (begun out : List ℕ) → length runs ≤ i
+    → out ≡ begun ++ flat_map (number 8) (serials_of (take i runs))
+    → out ≡ begun ++ flat_map (number 8) (serials_of runs)
+all_listed runs i begun out le e =
+    e ∙ ap (λ (xs : List Span). begun ++ flat_map (number 8) (serials_of xs)) (take_all i runs le)
 
--- what is there once all runs are put
-pub all_listed : (runs : List Span) (i : ℕ) (before kept out : List ℕ) → length runs ≤ i
-    → out ≡ kept ++ flat_map (number 8) (serials_of (take i runs))
-    → kept ≡ before ++ number 4 0 → out ≡ (before ++ number 4 0) ++ flat_map (number 8)
-    (serials_of runs)
-all_listed runs i before kept out le e is =
-    e ∙ ap (λ (xs : List Span). kept ++ flat_map (number 8) (serials_of xs)) (take_all i runs le)
-    ∙ ap (λ (t : List ℕ). t ++ flat_map (number 8) (serials_of runs)) is
+-- ---- a type byte, and a string whose length comes last
 
-pub length-all_listed : (runs : List Span) (before out : List ℕ)
-    → out ≡ (before ++ number 4 0) ++ flat_map (number 8) (serials_of runs)
-    → length out ≡ length before + 4 + 8 * serial_count runs
-length-all_listed runs before out e =
+pub length-begun : (old begun content out : List ℕ) (kind : ℕ) → begun ≡ old ++ kind ∷ number 4 0
+    → out ≡ begun ++ content → length out ≡ length old + 5 + length content
+length-begun old begun content out kind b e =
     omega (
       arith,
       ap length e,
-      length-append (before ++ number 4 0) (flat_map (number 8) (serials_of runs)),
-      length-append before (number 4 0),
+      length-append begun content,
+      ap length b,
+      length-append old (kind ∷ number 4 0),
       length-number 4 0,
-      length-listed runs,
     )
+
+pub string_ended : (old begun content out : List ℕ) (kind at : ℕ) → begun ≡ old ++ kind ∷ number 4 0
+    → out ≡ begun ++ content → at ≡ length old + 1
+    → take at out ++ string (drop (at + 4) out) ≡ old ++ kind ∷ string content
+string_ended old begun content out kind at b e is =
+    let before : List ℕ = old ++ kind ∷ [] in
+    let kept : begun ≡ before ++ number 4 0 = b ∙ sym (append_assoc old (kind ∷ []) (number 4 0)) in
+    let len = length-append old (kind ∷ []) in
+    let len2 : length begun ≡ at + 4 =
+    omega (arith, ap length kept, length-append before (number 4 0), length-number 4 0) in
+    let front : take at out ≡ before =
+    ap (take at) (e ∙ ap (λ (t : List ℕ). t ++ content) kept
+    ∙ append_assoc before (number 4 0) content)
+    ∙ take_at before (number 4 0 ++ content) at (omega arith) in
+    let back : drop (at + 4) out ≡ content =
+    ap (drop (at + 4)) e ∙ drop_at begun content (at + 4) len2 in
+    ap (λ (t : List ℕ). t ++ string (drop (at + 4) out)) front
+    ∙ ap (λ (t : List ℕ). before ++ string t) back ∙ append_assoc old (kind ∷ []) (string content)

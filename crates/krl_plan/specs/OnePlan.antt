@@ -1,5 +1,5 @@
 -- A list of runs has one least plan, and a plan's text has the bytes that it costs.
-use Rattle.std.proofs.Common.{◌≡◌, ℕ, ◌+◌, inl, inr, List, [], ◌∷◌, length, take, drop, refl, sym}
+use Rattle.std.proofs.Common.{◌≡◌, ℕ, ◌+◌, ◌^◌, ◌<◌, inl, inr, List, [], ◌∷◌, length, take, drop, refl, sym}
 use Rattle.std.proofs.Common.{ap, subst, ◌∙◌, arith, length-append}
 use Rattle.serial_set.specs.declared.span.Span.{Span}
 use Rattle.serial_set.specs.Span.{IsRuns}
@@ -8,12 +8,12 @@ use Rattle.ssh_wire.specs.Fields.{length-number, length-string}
 use Rattle.krl_plan.specs.declared.group.Sort.{Sort}
 use Rattle.krl_plan.specs.declared.group.Sort.TheVariants as sorts
 use Rattle.krl_plan.specs.declared.group.Group.{Group}
-use Rattle.krl_plan.specs.Plan.{Before, IsLeastPlan, IsPlan, Prefers, bytes_of, cost, reach}
+use Rattle.krl_plan.specs.Plan.{Before, Covers, IsLeastPlan, IsPlan, Prefers, bytes_of, cost, reach}
 use Rattle.krl_plan.specs.Written.{bitmap_of, bitmap_size, content_of, first_of, group_text}
 use Rattle.krl_plan.specs.Written.{plan_text}
 use Rattle.krl_plan.specs.Chosen.{IsRuns-drop}
 use Rattle.krl_plan.specs.GroupTexts.{length-bitmap_of}
-use Rattle.krl_plan.specs.ListTexts.{length-listed}
+use Rattle.krl_plan.specs.ListTexts.{length-listed, small_few}
 
 not_both : (a b : Group) → Before a b → Before b a → ⊥
 not_both a b p q =
@@ -80,6 +80,14 @@ length-content sorts.Bitmap runs =
       length-number 8 (first_of runs),
       length-string bits,
     )
+
+pub content_few : (sort : Sort) (runs : List Span) → Covers sort runs
+    → length (content_of sort runs) < 2 ^ 32
+content_few sorts.Serials runs c =
+    omega (arith, length-content sorts.Serials runs, small_few runs c.1, c.0)
+content_few sorts.Range runs c = omega (arith, length-content sorts.Range runs)
+content_few sorts.Bitmap runs c =
+    let near : reach runs < 2048 = c in omega (arith, length-content sorts.Bitmap runs)
 
 length-group : (sort : Sort) (runs : List Span) → length (group_text sort runs) ≡ bytes_of sort runs
 length-group sort runs = omega

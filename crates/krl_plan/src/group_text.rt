@@ -10,7 +10,7 @@ ghost use Rattle.krl_plan.specs.Written.{group_text, serials_of};
 
 use crate::bitmap::put_bits;
 use crate::group::Sort;
-use crate::string::end_string;
+use crate::string::{begin_string, end_string};
 use serial_set::Span;
 use ssh_wire::{put_byte, put_u32, put_u64};
 use std::alloc::AllocError;
@@ -35,9 +35,7 @@ fn put_listed(out: &mut Vec<u8>, runs: &[Span]) -> Result<(), AllocError>
     requires covers { Covers Serials runs.now }
     ensures { OnOk result (out.new.items ≡ out.old.items ++ group_text Serials runs.now) }
 {
-    put_byte(out, 0x20)?;
-    let at = out.len();
-    put_u32(out, 0)?;
+    let at = begin_string(out, 0x20)?;
     for run in runs {
         put_serials(out, *run)?;
     }

@@ -18,4 +18,4 @@ mod window;
 pub use group::{Group, Sort};
 pub use plan_text::put_least_plan;
 pub use planner::least_plan;
-pub use string::end_string;
+pub use string::{begin_string, end_string};

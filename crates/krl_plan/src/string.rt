@@ -1,10 +1,24 @@
 //! Strings whose length is known only once their bytes stand.
 
-ghost use Rattle.std.specs.Prelude.{◌≡◌, ◌+◌, ◌-◌, ◌^◌, ◌<◌, ◌≤◌, ◌++◌, take, drop};
+ghost use Rattle.std.specs.Prelude.{◌≡◌, ◌+◌, ◌-◌, ◌^◌, ◌<◌, ◌≤◌, ◌∷◌, ◌++◌, IfOk, length, take, drop};
 ghost use Rattle.std.specs.Vec.{vec_len};
-ghost use Rattle.ssh_wire.specs.Wire.{string};
+ghost use Rattle.ssh_wire.specs.Wire.{number, string};
 
 use byteorder::{BigEndian, ByteOrder};
+use ssh_wire::{put_byte, put_u32};
+use std::alloc::AllocError;
+
+/// Appends a type byte and, for the length of the string that follows, four bytes that are zero. Gives
+/// the place of the four, at which `end_string` puts the length.
+pub fn begin_string(out: &mut Vec<u8>, type_byte: u8) -> Result<usize, AllocError>
+    ensures { IfOk result (λ at. (at ≡ length out.old.items + 1)
+        × (out.new.items ≡ out.old.items ++ type_byte ∷ number 4 0)) }
+{
+    put_byte(out, type_byte)?;
+    let at = out.len();
+    put_u32(out, 0)?;
+    Ok(at)
+}
 
 /// Makes a string of the bytes after a place (RFC 4251 section 5): the four bytes at the place,
 /// which are there, get the length, which is below 2^32.

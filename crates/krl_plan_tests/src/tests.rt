@@ -3,3 +3,4 @@
 mod page;
 mod plain;
 mod planning;
+mod string;

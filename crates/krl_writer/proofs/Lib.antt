@@ -1,4 +1,3 @@
-pub mod BitmapNames
 pub mod Spelling
 pub mod Sections
 pub mod Meaning

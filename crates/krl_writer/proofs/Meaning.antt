@@ -1,9 +1,8 @@
 -- What the sections of a list that is written name is what is held.
-use Rattle.std.proofs.Common.{◌≡◌, ℕ, zero, suc, ◌+◌, ◌-◌, ◌*◌, ◌<◌, ◌≤◌, ◌↔◌, inl, inr, List, [], ◌∷◌, length, take, drop, subst, arith}
-use Rattle.std.specs.List.{Contains, flat_map}
-use Rattle.std.proofs.lemmas.Bool.{cases_lt}
+use Rattle.std.proofs.Common.{◌≡◌, ℕ, ◌+◌, ◌-◌, ◌*◌, ◌≤◌, ◌↔◌, inl, List, [], ◌∷◌, length, take, drop, subst, arith}
+use Rattle.std.specs.List.{flat_map}
 use Rattle.serial_set.specs.declared.span.Span.{Span}
-use Rattle.serial_set.specs.Span.{AreSerials, IsRuns, Covers as Names, RunsFrom}
+use Rattle.serial_set.specs.Span.{AreSerials, IsRuns, Covers as Names}
 use Rattle.krl_plan.specs.declared.group.Sort.{Sort}
 use Rattle.krl_plan.specs.declared.group.Sort.TheVariants as sorts
 use Rattle.krl_plan.specs.declared.group.Group.{Group}
@@ -11,32 +10,14 @@ use Rattle.krl_core.specs.Entries.{subsection_entries}
 use Rattle.krl_writer.specs.KrlText.{group_subsection, plan_subsections}
 use Rattle.krl_core.specs.Naming.{SerialOf, SomeNames}
 use Rattle.std.proofs.Math.Logic.Iff as Iff
-use Rattle.krl_core.proofs.BothWays.{contains_append, contains_cons, iff_both, iff_none, iff_or}
+use Rattle.krl_core.proofs.BothWays.{iff_both, iff_none, iff_or}
 use Rattle.krl_core.proofs.Same.{IsSerials, AreSerials as AreSerialEntries, some_append}
 use Rattle.krl_plan.specs.Plan.{Covers, IsGroup, IsPlan}
-use Rattle.krl_plan.specs.Written.{bitmap_size, first_of, serials_from, serials_of}
-use Rattle.krl_writer.proofs.BitmapNames.{bits_name, names_within}
+use Rattle.krl_plan.specs.Written.{bitmap_size, first_of}
+use Rattle.krl_plan.specs.Named.{AreSerials-drop, AreSerials-take, bits_name, names_parts, names_within}
 use Rattle.krl_plan.specs.Chosen.{IsRuns-drop, RunsFrom-take}
-use Rattle.krl_writer.proofs.Spelling.{AreSerials-drop, AreSerials-take, names_parts}
-use Rattle.krl_core.specs.Elements.{all_append, contains_none}
-
--- ---- the serials of a list
-
-from_in : (first count s : ℕ) → Contains (serials_from first count) s ↔ ((first ≤ s) × (s < first + count))
-from_in first zero s = (λ h. absurd (contains_none s h), λ h. absurd (omega (arith, h.0, h.1)))
-from_in first (suc count) s =
-    Iff.trans (contains_cons first (serials_from (first + 1) count) s) (Iff.trans (iff_or Iff.rfl (from_in (first + 1) count s)) (
-      λ h. elim h [ inl here ↦ (omega (arith, here), omega (arith, here)) | inr later ↦ (omega (arith, later.0), omega (arith, later.1)) ],
-      λ h. elim (cases_lt first s) [ inl above ↦ inr (omega arith, omega (arith, h.1)) | inr not_above ↦ inl (let e : first ≡ s = omega (arith, h.0) in e) ],
-    ))
-
-serials_name : (a : ℕ) (runs : List Span) (s : ℕ) → RunsFrom a runs → Contains (serials_of runs) s ↔ Names runs s
-serials_name a [] s r = (λ h. absurd (contains_none s h), λ n. absurd n)
-serials_name a (run ∷ runs) s r =
-    let ordered : run.lo ≤ run.hi = r.1 in
-    let in_run : ((run.lo ≤ s) × (s < run.lo + (run.hi + 1 - run.lo))) ↔ ((run.lo ≤ s) × (s ≤ run.hi)) = (λ h. (h.0, omega (arith, h.1)), λ h. (h.0, omega (arith, h.1))) in
-    Iff.trans (contains_append (serials_from run.lo (run.hi + 1 - run.lo)) (serials_of runs) s)
-    (iff_or (Iff.trans (from_in run.lo (run.hi + 1 - run.lo) s) in_run) (serials_name (run.hi + 2) runs s r.2))
+use Rattle.krl_writer.proofs.Spelling.{serials_name}
+use Rattle.krl_core.specs.Elements.{all_append}
 
 -- ---- a group
 

@@ -9,9 +9,9 @@ use Rattle.std.proofs.lemmas.List.Elements.{All-tail}
 use Rattle.krl_plan.specs.declared.group.Group.{Group}
 use Rattle.krl_core.specs.Contents.{Contents, HoldsName, IsListed, IsOrderly, Means, Section, SomeSection}
 use Rattle.krl_core.specs.Entry.{Entry, IdEntry, KeyEntry, Sha1Entry, Sha256Entry}
-use Rattle.krl_core.specs.Krl.{Keys, SpelledSection, Sha1s, Sha256s}
+use Rattle.krl_core.specs.Krl.{Ids, Keys, SpelledSection, Sha1s, Sha256s}
 use Rattle.krl_core.specs.Entries.{entries_of, section_entries, subsection_entries}
-use Rattle.krl_writer.specs.KrlText.{EachPlan, authority_sections, ids_subsections, listed_sections, plan_subsections, sections_of}
+use Rattle.krl_writer.specs.KrlText.{EachPlan, authority_sections, listed_as, plan_subsections, sections_of}
 use Rattle.krl_core.specs.Naming.{EntryNames, IdOf, KeyOf, Name, SerialOf, Sha1Of, Sha256Of, SomeNames}
 use Rattle.krl_plan.specs.Plan.{IsPlan}
 use Rattle.krl_writer.proofs.Meaning.{plan_names, plan_serials}
@@ -27,9 +27,11 @@ unmapped f name none (x ∷ xs) h = elim h [ inl here ↦ none x here | inr late
 
 -- ---- a section
 
-ids_entries : (b : List ℕ) (ids : List (List ℕ)) → flat_map (subsection_entries b) (ids_subsections ids) ≡ map (IdEntry b) ids
-ids_entries b [] = refl
-ids_entries b (id ∷ ids) = append-nil (map (IdEntry b) (id ∷ ids))
+-- the entries of texts, where there are any
+texts_are : {X : Type 0} (entries : X → List Entry) (item : List (List ℕ) → X) (entry : List ℕ → Entry) → ((texts : List (List ℕ)) → entries (item texts) ≡ map entry texts)
+    → (texts : List (List ℕ)) → flat_map entries (listed_as item texts) ≡ map entry texts
+texts_are entries item entry each [] = refl
+texts_are entries item entry each (text ∷ texts) = append-nil (entries (item (text ∷ texts))) ∙ each (text ∷ texts)
 
 -- the entries of a section: serials and then IDs
 abbrev plan_entries : List Group → Section → List Entry
@@ -38,10 +40,10 @@ plan_entries plan listed = flat_map (subsection_entries listed.authority) (plan_
 abbrev entries_under : List Group → Section → List Entry
 entries_under plan listed = plan_entries plan listed ++ map (IdEntry listed.authority) listed.ids
 
-section_is : (plan : List Group) (listed : Section) → flat_map (subsection_entries listed.authority) (plan_subsections listed.spans plan ++ ids_subsections listed.ids) ≡ entries_under plan listed
+section_is : (plan : List Group) (listed : Section) → flat_map (subsection_entries listed.authority) (plan_subsections listed.spans plan ++ listed_as Ids listed.ids) ≡ entries_under plan listed
 section_is plan listed =
-    flat_map-append (subsection_entries listed.authority) (plan_subsections listed.spans plan) (ids_subsections listed.ids)
-    ∙ ap (λ (es : List Entry). flat_map (subsection_entries listed.authority) (plan_subsections listed.spans plan) ++ es) (ids_entries listed.authority listed.ids)
+    flat_map-append (subsection_entries listed.authority) (plan_subsections listed.spans plan) (listed_as Ids listed.ids)
+    ∙ ap (λ (es : List Entry). flat_map (subsection_entries listed.authority) (plan_subsections listed.spans plan) ++ es) (texts_are (subsection_entries listed.authority) Ids (IdEntry listed.authority) (λ texts. refl) listed.ids)
 
 -- what the entries of a section name is held in it
 section_names : (plan : List Group) (listed : Section) (name : Name) → IsListed listed → IsPlan listed.spans plan → HeldIn name listed ↔ SomeNames (entries_under plan listed) name
@@ -67,16 +69,11 @@ authorities_name [] [] name all each = Iff.rfl
 authorities_name [] (first ∷ listed) name all each = absurd each
 authorities_name (plan ∷ plans) [] name all each = absurd each
 authorities_name (plan ∷ plans) (first ∷ listed) name all each =
-    let here : List Entry = flat_map (subsection_entries first.authority) (plan_subsections first.spans plan ++ ids_subsections first.ids) in
+    let here : List Entry = flat_map (subsection_entries first.authority) (plan_subsections first.spans plan ++ listed_as Ids first.ids) in
     let first_names = Iff.trans (section_names plan first name (all 0 first (omega arith)) each.0) (same_is (entries_under plan first) here (sym (section_is plan first)) name) in
     Iff.trans (iff_or first_names (authorities_name plans listed name (All-tail IsListed first listed all) each.1)) (Iff.symm (some_append here (entries_of (authority_sections plans listed)) name))
 
 -- ---- keys and hashes
-
-texts_are : (section : List (List ℕ) → SpelledSection) (entry : List ℕ → Entry) → ((texts : List (List ℕ)) → section_entries (section texts) ≡ map entry texts)
-    → (texts : List (List ℕ)) → entries_of (listed_sections section texts) ≡ map entry texts
-texts_are section entry each [] = refl
-texts_are section entry each (text ∷ texts) = append-nil (section_entries (section (text ∷ texts))) ∙ each (text ∷ texts)
 
 abbrev hashes_of : Contents → List Entry
 hashes_of r = map Sha1Entry r.sha1s ++ map Sha256Entry r.sha256s
@@ -92,15 +89,15 @@ all_of plans r = under_of plans r ++ texts_of r
 
 entries_are : (plans : List (List Group)) (r : Contents) → entries_of (sections_of plans r) ≡ all_of plans r
 entries_are plans r =
-    let hashes : List SpelledSection = listed_sections Sha1s r.sha1s ++ listed_sections Sha256s r.sha256s in
+    let hashes : List SpelledSection = listed_as Sha1s r.sha1s ++ listed_as Sha256s r.sha256s in
     let two : entries_of hashes ≡ hashes_of r =
-    flat_map-append section_entries (listed_sections Sha1s r.sha1s) (listed_sections Sha256s r.sha256s)
-    ∙ ap (λ (es : List Entry). es ++ entries_of (listed_sections Sha256s r.sha256s)) (texts_are Sha1s Sha1Entry (λ texts. refl) r.sha1s)
-    ∙ ap (λ (es : List Entry). map Sha1Entry r.sha1s ++ es) (texts_are Sha256s Sha256Entry (λ texts. refl) r.sha256s) in
-    let three : entries_of (listed_sections Keys r.keys ++ hashes) ≡ map KeyEntry r.keys ++ hashes_of r =
-    flat_map-append section_entries (listed_sections Keys r.keys) hashes
-    ∙ ap (λ (es : List Entry). es ++ entries_of hashes) (texts_are Keys KeyEntry (λ texts. refl) r.keys) ∙ ap (λ (es : List Entry). map KeyEntry r.keys ++ es) two in
-    flat_map-append section_entries (authority_sections plans r.sections) (listed_sections Keys r.keys ++ hashes)
+    flat_map-append section_entries (listed_as Sha1s r.sha1s) (listed_as Sha256s r.sha256s)
+    ∙ ap (λ (es : List Entry). es ++ entries_of (listed_as Sha256s r.sha256s)) (texts_are section_entries Sha1s Sha1Entry (λ texts. refl) r.sha1s)
+    ∙ ap (λ (es : List Entry). map Sha1Entry r.sha1s ++ es) (texts_are section_entries Sha256s Sha256Entry (λ texts. refl) r.sha256s) in
+    let three : entries_of (listed_as Keys r.keys ++ hashes) ≡ map KeyEntry r.keys ++ hashes_of r =
+    flat_map-append section_entries (listed_as Keys r.keys) hashes
+    ∙ ap (λ (es : List Entry). es ++ entries_of hashes) (texts_are section_entries Keys KeyEntry (λ texts. refl) r.keys) ∙ ap (λ (es : List Entry). map KeyEntry r.keys ++ es) two in
+    flat_map-append section_entries (authority_sections plans r.sections) (listed_as Keys r.keys ++ hashes)
     ∙ ap (λ (es : List Entry). entries_of (authority_sections plans r.sections) ++ es) three
 
 -- byte strings that are named one by one

@@ -8,24 +8,13 @@ use Rattle.krl_core.specs.Front.{limit}
 use Rattle.krl_plan.specs.declared.group.Group.{Group}
 use Rattle.krl_core.specs.declared.header.Header.{Header}
 use Rattle.krl_core.specs.Contents.{Contents, IsListed, IsOrderly, Section}
-use Rattle.krl_core.specs.Krl.{Certificates, Ids, Keys, SpelledSection, Sha1s, Sha256s, SignaturesLast, Spells, SpellsEach, SpellsSection, SpellsSubsection, header_text}
-use Rattle.krl_writer.specs.KrlText.{EachPlan, authorities_text, authority_content, authority_sections, authority_text, ids_subsections, listed_sections, listed_text, plan_subsections, sections_of, sections_text, text_of}
+use Rattle.krl_core.specs.Krl.{Certificates, Ids, Keys, SpelledSection, Sha1s, Sha256s, SignaturesLast, Spells, SpellsEach, SpellsHashes, SpellsSection, SpellsSubsection, header_text}
+use Rattle.krl_writer.specs.KrlText.{EachPlan, authorities_text, authority_content, authority_sections, authority_text, listed_as, listed_text, plan_subsections, sections_of, sections_text, text_of}
 use Rattle.krl_plan.specs.Plan.{IsPlan}
 use Rattle.krl_plan.specs.Written.{plan_text}
-use Rattle.krl_writer.proofs.Spelling.{each_append, each_one, plan_spelled}
+use Rattle.krl_writer.proofs.Spelling.{each_append, listed_spelled, plan_spelled}
 
 -- ---- an authority
-
-ids_spelled : (ids : List (List ℕ)) → length (listed_text 0x23 ids) < 2 ^ 32 → SpellsEach SpellsSubsection (listed_text 0x23 ids) (ids_subsections ids)
-ids_spelled [] lt = refl
-ids_spelled (id ∷ ids) lt =
-    let spelled : SpellsSubsection (listed_text 0x23 (id ∷ ids)) (Ids (id ∷ ids)) = record {
-      content = strings (id ∷ ids);
-      spelled = refl;
-      fits = omega (arith, length-string (strings (id ∷ ids)));
-      content_is = refl;
-    } in
-    each_one SpellsSubsection (listed_text 0x23 (id ∷ ids)) (Ids (id ∷ ids)) spelled
 
 pub length-authority : (plan : List Group) (listed : Section) →
     length (authority_content plan listed) ≡ 8 + length listed.authority + length (plan_text listed.spans plan) + length (listed_text 0x23 listed.ids)
@@ -41,7 +30,7 @@ length-authority plan listed =
     )
 
 authority_spelled : (plan : List Group) (listed : Section) → IsListed listed → IsPlan listed.spans plan → length (authority_text plan listed) < 2 ^ 32
-    → SpellsSection (authority_text plan listed) (Certificates listed.authority (plan_subsections listed.spans plan ++ ids_subsections listed.ids))
+    → SpellsSection (authority_text plan listed) (Certificates listed.authority (plan_subsections listed.spans plan ++ listed_as Ids listed.ids))
 authority_spelled plan listed is p lt =
     let content : List ℕ = authority_content plan listed in
     let len = length-string content in
@@ -54,8 +43,9 @@ authority_spelled plan listed is p lt =
         reserved = [];
         body = plan_text listed.spans plan ++ listed_text 0x23 listed.ids;
         spelled = refl;
-        subsections_are = each_append SpellsSubsection (plan_text listed.spans plan) (listed_text 0x23 listed.ids) (plan_subsections listed.spans plan) (ids_subsections listed.ids)
-            (plan_spelled listed.spans plan is.runs is.serials p) (ids_spelled listed.ids (omega arith));
+        subsections_are = each_append SpellsSubsection (plan_text listed.spans plan) (listed_text 0x23 listed.ids) (plan_subsections listed.spans plan) (listed_as Ids listed.ids)
+            (plan_spelled listed.spans plan is.runs is.serials p)
+            (listed_spelled SpellsSubsection 0x23 Ids listed.ids (λ fits. record { content = strings listed.ids; spelled = refl; fits = fits; content_is = refl }) (omega arith));
       };
     }
 
@@ -79,56 +69,24 @@ authorities_spelled (plan ∷ plans) (first ∷ listed) all each lt =
 
 -- ---- keys and hashes
 
-keys_spelled : (blobs : List (List ℕ)) → length (listed_text 2 blobs) < 2 ^ 32 → SpellsEach SpellsSection (listed_text 2 blobs) (listed_sections Keys blobs)
-keys_spelled [] lt = refl
-keys_spelled (blob ∷ blobs) lt =
-    let spelled : SpellsSection (listed_text 2 (blob ∷ blobs)) (Keys (blob ∷ blobs)) = record {
-      content = strings (blob ∷ blobs);
-      spelled = refl;
-      fits = omega (arith, length-string (strings (blob ∷ blobs)));
-      content_is = refl;
-    } in
-    each_one SpellsSection (listed_text 2 (blob ∷ blobs)) (Keys (blob ∷ blobs)) spelled
-
-sha1s_spelled : (hashes : List (List ℕ)) → All (λ hash. length hash ≡ 20) hashes → length (listed_text 3 hashes) < 2 ^ 32 → SpellsEach SpellsSection (listed_text 3 hashes) (listed_sections Sha1s hashes)
-sha1s_spelled [] all lt = refl
-sha1s_spelled (hash ∷ hashes) all lt =
-    let sizes = recursion_from_All (λ (h : List ℕ). length h ≡ 20) (hash ∷ hashes) all in
-    let spelled : SpellsSection (listed_text 3 (hash ∷ hashes)) (Sha1s (hash ∷ hashes)) = record {
-      content = strings (hash ∷ hashes);
-      spelled = refl;
-      fits = omega (arith, length-string (strings (hash ∷ hashes)));
-      content_is = (refl, sizes);
-    } in
-    each_one SpellsSection (listed_text 3 (hash ∷ hashes)) (Sha1s (hash ∷ hashes)) spelled
-
-sha256s_spelled : (hashes : List (List ℕ)) → All (λ hash. length hash ≡ 32) hashes → length (listed_text 5 hashes) < 2 ^ 32 → SpellsEach SpellsSection (listed_text 5 hashes) (listed_sections Sha256s hashes)
-sha256s_spelled [] all lt = refl
-sha256s_spelled (hash ∷ hashes) all lt =
-    let sizes = recursion_from_All (λ (h : List ℕ). length h ≡ 32) (hash ∷ hashes) all in
-    let spelled : SpellsSection (listed_text 5 (hash ∷ hashes)) (Sha256s (hash ∷ hashes)) = record {
-      content = strings (hash ∷ hashes);
-      spelled = refl;
-      fits = omega (arith, length-string (strings (hash ∷ hashes)));
-      content_is = (refl, sizes);
-    } in
-    each_one SpellsSection (listed_text 5 (hash ∷ hashes)) (Sha256s (hash ∷ hashes)) spelled
+hashes_are : (size : ℕ) (hashes : List (List ℕ)) → All (λ hash. length hash ≡ size) hashes → SpellsHashes size (strings hashes) hashes
+hashes_are size hashes all = (refl, recursion_from_All (λ (hash : List ℕ). length hash ≡ size) hashes all)
 
 -- ---- no signature
 
-sha256s_unsigned : (hashes : List (List ℕ)) → SignaturesLast (listed_sections Sha256s hashes)
+sha256s_unsigned : (hashes : List (List ℕ)) → SignaturesLast (listed_as Sha256s hashes)
 sha256s_unsigned [] = tt
 sha256s_unsigned (hash ∷ hashes) = tt
 
-sha1s_unsigned : (hashes : List (List ℕ)) (rest : List SpelledSection) → SignaturesLast rest → SignaturesLast (listed_sections Sha1s hashes ++ rest)
+sha1s_unsigned : (hashes : List (List ℕ)) (rest : List SpelledSection) → SignaturesLast rest → SignaturesLast (listed_as Sha1s hashes ++ rest)
 sha1s_unsigned [] rest h = h
 sha1s_unsigned (hash ∷ hashes) rest h = h
 
-keys_unsigned : (blobs : List (List ℕ)) (rest : List SpelledSection) → SignaturesLast rest → SignaturesLast (listed_sections Keys blobs ++ rest)
+keys_unsigned : (blobs : List (List ℕ)) (rest : List SpelledSection) → SignaturesLast rest → SignaturesLast (listed_as Keys blobs ++ rest)
 keys_unsigned [] rest h = h
 keys_unsigned (blob ∷ blobs) rest h = h
 
-rest_unsigned : (r : Contents) → SignaturesLast (listed_sections Keys r.keys ++ (listed_sections Sha1s r.sha1s ++ listed_sections Sha256s r.sha256s))
+rest_unsigned : (r : Contents) → SignaturesLast (listed_as Keys r.keys ++ (listed_as Sha1s r.sha1s ++ listed_as Sha256s r.sha256s))
 rest_unsigned r = keys_unsigned r.keys _ (sha1s_unsigned r.sha1s _ (sha256s_unsigned r.sha256s))
 
 unsigned : (plans : List (List Group)) (listed : List Section) (rest : List SpelledSection) → SignaturesLast rest → SignaturesLast (authority_sections plans listed ++ rest)
@@ -181,11 +139,12 @@ text_spelled header plans r version date orderly each short =
       reserved_fits = omega arith;
       comment_fits = omega arith;
       sections_are =
-          each_append SpellsSection (authorities_text plans r.sections) (listed_text 2 r.keys ++ hashes) (authority_sections plans r.sections) (listed_sections Keys r.keys ++ (listed_sections Sha1s r.sha1s ++ listed_sections Sha256s r.sha256s))
+          each_append SpellsSection (authorities_text plans r.sections) (listed_text 2 r.keys ++ hashes) (authority_sections plans r.sections) (listed_as Keys r.keys ++ (listed_as Sha1s r.sha1s ++ listed_as Sha256s r.sha256s))
           (authorities_spelled plans r.sections orderly.listed each (omega arith))
-          (each_append SpellsSection (listed_text 2 r.keys) hashes (listed_sections Keys r.keys) (listed_sections Sha1s r.sha1s ++ listed_sections Sha256s r.sha256s)
-          (keys_spelled r.keys (omega arith))
-          (each_append SpellsSection (listed_text 3 r.sha1s) (listed_text 5 r.sha256s) (listed_sections Sha1s r.sha1s) (listed_sections Sha256s r.sha256s)
-          (sha1s_spelled r.sha1s orderly.sha1_size (omega arith)) (sha256s_spelled r.sha256s orderly.sha256_size (omega arith))));
+          (each_append SpellsSection (listed_text 2 r.keys) hashes (listed_as Keys r.keys) (listed_as Sha1s r.sha1s ++ listed_as Sha256s r.sha256s)
+          (listed_spelled SpellsSection 2 Keys r.keys (λ fits. record { content = strings r.keys; spelled = refl; fits = fits; content_is = refl }) (omega arith))
+          (each_append SpellsSection (listed_text 3 r.sha1s) (listed_text 5 r.sha256s) (listed_as Sha1s r.sha1s) (listed_as Sha256s r.sha256s)
+          (listed_spelled SpellsSection 3 Sha1s r.sha1s (λ fits. record { content = strings r.sha1s; spelled = refl; fits = fits; content_is = hashes_are 20 r.sha1s orderly.sha1_size }) (omega arith))
+          (listed_spelled SpellsSection 5 Sha256s r.sha256s (λ fits. record { content = strings r.sha256s; spelled = refl; fits = fits; content_is = hashes_are 32 r.sha256s orderly.sha256_size }) (omega arith))));
       signatures_last = unsigned plans r.sections _ (rest_unsigned r);
     }

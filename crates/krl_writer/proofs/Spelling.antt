@@ -1,80 +1,51 @@
 -- The text of a list that is written is spelled.
-use Rattle.std.proofs.Common.{◌≡◌, ℕ, zero, suc, ◌+◌, ◌-◌, ◌*◌, ◌/◌, ◌^◌, ◌<◌, ◌≤◌, ◌⊎◌, ◌↔◌, inl, inr, List, [], ◌∷◌, ◌++◌, length, take, drop, refl, sym, ap, subst, ◌∙◌, arith, append_assoc, length-append}
-use Rattle.std.specs.List.{AllByRecursion}
-use Rattle.std.proofs.lemmas.List.{append-nil, take-append-drop}
+use Rattle.std.proofs.Common.{◌≡◌, ℕ, zero, suc, ◌+◌, ◌-◌, ◌*◌, ◌/◌, ◌^◌, ◌<◌, ◌≤◌, ◌↔◌, inl, inr, List, [], ◌∷◌, ◌++◌, length, take, drop, refl, sym, ap, subst, ◌∙◌, arith, append_assoc}
+use Rattle.std.specs.List.{AllByRecursion, Contains}
+use Rattle.std.proofs.lemmas.Bool.{cases_lt}
+use Rattle.std.proofs.lemmas.List.{append-nil}
+use Rattle.std.proofs.lemmas.List.Elements.{All-contains_itself, All-weaker, recursion_from_All}
+use Rattle.std.proofs.Math.Logic.Iff as Iff
 use Rattle.serial_set.specs.declared.span.Span.{Span}
 use Rattle.serial_set.specs.Span.{AreSerials, IsRuns, Covers as Names, RunsFrom}
-use Rattle.std.proofs.Math.Logic.Iff as Iff
-use Rattle.krl_core.proofs.BothWays.{covers_append}
-use Rattle.ssh_wire.specs.Wire.{number, string}
-use Rattle.ssh_wire.specs.Fields.{length-number, length-string}
+use Rattle.ssh_wire.specs.Wire.{string, strings}
+use Rattle.ssh_wire.specs.Fields.{length-string}
 use Rattle.krl_plan.specs.declared.group.Sort.{Sort}
 use Rattle.krl_plan.specs.declared.group.Sort.TheVariants as sorts
 use Rattle.krl_plan.specs.declared.group.Group.{Group}
-use Rattle.krl_core.specs.Krl.{IsPositive, SpellsBitmap, SpellsEach, SpellsSubsection}
-use Rattle.krl_plan.specs.Plan.{Covers, IsGroup, IsPlan, end_of, reach}
-use Rattle.krl_plan.specs.Written.{bitmap_of, bitmap_size, bits_of, content_of, first_of, group_text, plan_text, serials_from, serials_of}
-use Rattle.krl_writer.specs.KrlText.{group_subsection, plan_subsections}
-use Rattle.krl_writer.proofs.BitmapNames.{bits_name, number-bitmap, top_bit_clear}
-use Rattle.krl_core.specs.Elements.{all_append}
 use Rattle.krl_plan.specs.Chosen.{IsRuns-drop, RunsFrom-take}
-use Rattle.krl_plan.specs.GroupTexts.{length-bitmap_of}
-use Rattle.krl_plan.specs.ListTexts.{length-listed, small_few}
-
--- ---- runs within the serials
-
-AreSerials-tail : (run : Span) (runs : List Span) → AreSerials (run ∷ runs) → AreSerials runs
-AreSerials-tail run runs h s n = h s (inr n)
-
-pub names_parts : (n : ℕ) (runs : List Span) (s : ℕ) → (Names (take n runs) s ⊎ Names (drop n runs) s) ↔ Names runs s
-names_parts n runs s =
-    subst (λ (l : List Span). (Names (take n runs) s ⊎ Names (drop n runs) s) ↔ Names l s) (take-append-drop n runs) (Iff.symm (covers_append (take n runs) (drop n runs) s))
-
-pub AreSerials-take : (n : ℕ) (runs : List Span) → AreSerials runs → AreSerials (take n runs)
-AreSerials-take n runs h s named = h s ((names_parts n runs s).0 (inl named))
-
-pub AreSerials-drop : (n : ℕ) (runs : List Span) → AreSerials runs → AreSerials (drop n runs)
-AreSerials-drop n runs h s named = h s ((names_parts n runs s).0 (inr named))
-
--- a run's end is a serial
-end_fits : (a : ℕ) (run : Span) (runs : List Span) → RunsFrom a (run ∷ runs) → AreSerials (run ∷ runs) → run.hi < 2 ^ 64
-end_fits a run runs r h = (h run.hi (inl (r.1, omega arith))).1
-
-last_fits : (a : ℕ) (run : Span) (runs : List Span) → RunsFrom a (run ∷ runs) → AreSerials (run ∷ runs) → end_of run runs < 2 ^ 64
-last_fits a run [] r h = end_fits a run [] r h
-last_fits a run (next ∷ runs) r h = last_fits (run.hi + 2) next runs r.2 (AreSerials-tail run (next ∷ runs) h)
-
--- the last run ends at the first one's beginning or above
-end_above : (a : ℕ) (run : Span) (runs : List Span) → RunsFrom a (run ∷ runs) → run.lo ≤ end_of run runs
-end_above a run [] r = r.1
-end_above a run (next ∷ runs) r =
-    let far = end_above (run.hi + 2) next runs r.2 in
-    let above : run.hi + 2 ≤ next.lo = r.2.0 in
-    let here : run.lo ≤ run.hi = r.1 in
-    omega arith
+use Rattle.krl_plan.specs.Named.{AreSerials-drop, AreSerials-take, bits_name, last_fits, number-bitmap, top_bit_clear}
+use Rattle.krl_plan.specs.OnePlan.{content_few}
+use Rattle.krl_plan.specs.Plan.{Covers, IsGroup, IsPlan, reach}
+use Rattle.krl_plan.specs.Written.{bitmap_of, bitmap_size, bits_of, content_of, first_of, group_text, plan_text, serials_from, serials_of}
+use Rattle.krl_core.specs.Elements.{contains_none}
+use Rattle.krl_core.specs.Krl.{IsPositive, SpellsBitmap, SpellsEach, SpellsSubsection}
+use Rattle.krl_core.proofs.BothWays.{contains_append, contains_cons, iff_or}
+use Rattle.krl_writer.specs.KrlText.{group_subsection, listed_as, listed_text, plan_subsections}
 
 -- ---- lists of serials
 
-all_from : (first count most : ℕ) → first + count ≤ most → AllByRecursion (λ n. n < most) (serials_from first count)
-all_from first zero most le = tt
-all_from first (suc count) most le = (omega arith, all_from (first + 1) count most (omega arith))
+from_in : (first count s : ℕ) → Contains (serials_from first count) s ↔ ((first ≤ s) × (s < first + count))
+from_in first zero s = (λ h. absurd (contains_none s h), λ h. absurd (omega (arith, h.0, h.1)))
+from_in first (suc count) s =
+    Iff.trans (contains_cons first (serials_from (first + 1) count) s) (Iff.trans (iff_or Iff.rfl (from_in (first + 1) count s)) (
+      λ h. elim h [ inl here ↦ (omega (arith, here), omega (arith, here)) | inr later ↦ (omega (arith, later.0), omega (arith, later.1)) ],
+      λ h. elim (cases_lt first s) [ inl above ↦ inr (omega arith, omega (arith, h.1)) | inr not_above ↦ inl (let e : first ≡ s = omega (arith, h.0) in e) ],
+    ))
 
-all_serials : (a : ℕ) (runs : List Span) → RunsFrom a runs → AreSerials runs → AllByRecursion (λ n. n < 2 ^ 64) (serials_of runs)
-all_serials a [] r h = tt
-all_serials a (run ∷ runs) r h =
-    let end = end_fits a run runs r h in
+pub serials_name : (a : ℕ) (runs : List Span) (s : ℕ) → RunsFrom a runs → Contains (serials_of runs) s ↔ Names runs s
+serials_name a [] s r = (λ h. absurd (contains_none s h), λ n. absurd n)
+serials_name a (run ∷ runs) s r =
     let ordered : run.lo ≤ run.hi = r.1 in
-    all_append (λ n. n < 2 ^ 64) (serials_from run.lo (run.hi + 1 - run.lo)) (serials_of runs) (all_from run.lo (run.hi + 1 - run.lo) (2 ^ 64) (omega arith))
-    (all_serials (run.hi + 2) runs r.2 (AreSerials-tail run runs h))
+    let in_run : ((run.lo ≤ s) × (s < run.lo + (run.hi + 1 - run.lo))) ↔ ((run.lo ≤ s) × (s ≤ run.hi)) = (λ h. (h.0, omega (arith, h.1)), λ h. (h.0, omega (arith, h.1))) in
+    Iff.trans (contains_append (serials_from run.lo (run.hi + 1 - run.lo)) (serials_of runs) s)
+    (iff_or (Iff.trans (from_in run.lo (run.hi + 1 - run.lo) s) in_run) (serials_name (run.hi + 2) runs s r.2))
+
+all_serials : (runs : List Span) → IsRuns runs → AreSerials runs → AllByRecursion (λ n. n < 2 ^ 64) (serials_of runs)
+all_serials runs r h =
+    let all : List ℕ = serials_of runs in
+    recursion_from_All (λ (n : ℕ). n < 2 ^ 64) all (All-weaker (Contains all) (λ (n : ℕ). n < 2 ^ 64) (λ n found. (h n ((serials_name 0 runs n r).0 found)).1) all (All-contains_itself all))
 
 -- ---- a group
-
-range_fits : (runs : List Span) → IsRuns runs → AreSerials runs → (first_of runs ≤ first_of runs + reach runs) × (first_of runs + reach runs < 2 ^ 64)
-range_fits [] r h = (omega arith, omega arith)
-range_fits (run ∷ runs) r h =
-    let last = last_fits 0 run runs r h in
-    let above = end_above 0 run runs r in
-    (omega arith, omega arith)
 
 positive : (runs : List Span) (first size : ℕ) → bits_of runs (first + 8 * size) 8 < 128 → IsPositive (bitmap_of runs first (suc size))
 positive runs first size lt = lt
@@ -83,7 +54,7 @@ bitmap_spelled : (runs : List Span) → IsRuns runs → AreSerials runs → Spel
 bitmap_spelled runs r h =
     let top : ℕ = (reach runs + 1) / 8 in
     let size : bitmap_size runs ≡ suc top = omega arith in
-    let fits = range_fits runs r h in
+    let fits = last_fits runs r h in
     record {
       bytes = bitmap_of runs (first_of runs) (bitmap_size runs);
       spelled = refl;
@@ -93,22 +64,10 @@ bitmap_spelled runs r h =
       within = λ bit e. (h (first_of runs + bit) ((bits_name runs (first_of runs) (8 * bitmap_size runs) bit).0 e).1).1;
     }
 
--- the bytes of a group are few
-content_few : (sort : Sort) (runs : List Span) → Covers sort runs → length (content_of sort runs) < 2 ^ 32
-content_few sorts.Serials runs c = let few = small_few runs c.1 in let most = c.0 in omega (arith, length-listed runs)
-content_few sorts.Range runs c =
-    omega (arith, length-append (number 8 (first_of runs)) (number 8 (first_of runs + reach runs)), length-number 8 (first_of runs), length-number 8 (first_of runs + reach runs))
-content_few sorts.Bitmap runs c =
-    let near : reach runs < 2048 = c in
-    let bits : List ℕ = bitmap_of runs (first_of runs) (bitmap_size runs) in
-    let len : length bits ≡ bitmap_size runs = length-bitmap_of runs (first_of runs) (bitmap_size runs) in
-    omega (arith, length-append (number 8 (first_of runs)) (string bits), length-number 8 (first_of runs), length-string bits)
-
 pub group_spelled : (sort : Sort) (runs : List Span) → IsRuns runs → AreSerials runs → Covers sort runs → SpellsSubsection (group_text sort runs) (group_subsection sort runs)
-group_spelled sorts.Serials runs r h c = record { content = content_of sorts.Serials runs; spelled = refl; fits = content_few sorts.Serials runs c; content_is = (refl, all_serials 0 runs r h) }
+group_spelled sorts.Serials runs r h c = record { content = content_of sorts.Serials runs; spelled = refl; fits = content_few sorts.Serials runs c; content_is = (refl, all_serials runs r h) }
 group_spelled sorts.Range runs r h c =
-    let fits = range_fits runs r h in
-    record { content = content_of sorts.Range runs; spelled = refl; fits = content_few sorts.Range runs c; content_is = (refl, fits.0, fits.1) }
+    record { content = content_of sorts.Range runs; spelled = refl; fits = content_few sorts.Range runs c; content_is = (refl, omega arith, last_fits runs r h) }
 group_spelled sorts.Bitmap runs r h c = record { content = content_of sorts.Bitmap runs; spelled = refl; fits = content_few sorts.Bitmap runs c; content_is = bitmap_spelled runs r h }
 
 -- ---- one item after another
@@ -121,8 +80,13 @@ each_append Spelling a b (x ∷ xs) ys p q =
     let same : a ++ b ≡ first ++ (rest ++ b) = ap (λ (t : List ℕ). t ++ b) p.1.1.0 ∙ append_assoc first rest b in
     (first, (rest ++ b, (same, p.1.1.1, each_append Spelling rest b xs ys p.1.1.2 q)))
 
-pub each_one : {X : Type 0} (Spelling : List ℕ → X → Type 0) (a : List ℕ) (x : X) → Spelling a x → SpellsEach Spelling a (x ∷ [])
-each_one Spelling a x p = (a, ([], (sym (append-nil a), p, refl)))
+-- the item of some texts, where there are any
+pub listed_spelled : {X : Type 0} (Spelling : List ℕ → X → Type 0) (kind : ℕ) (item : List (List ℕ) → X) (texts : List (List ℕ)) → (length (strings texts) < 2 ^ 32 → Spelling (kind ∷ string (strings texts)) (item texts))
+    → length (listed_text kind texts) < 2 ^ 32 → SpellsEach Spelling (listed_text kind texts) (listed_as item texts)
+listed_spelled Spelling kind item [] spelled lt = refl
+listed_spelled Spelling kind item (text ∷ texts) spelled lt =
+    let whole : List ℕ = listed_text kind (text ∷ texts) in
+    (whole, ([], (sym (append-nil whole), spelled (omega (arith, length-string (strings (text ∷ texts)))), refl)))
 
 -- the subsections of a plan
 pub plan_spelled : (runs : List Span) (plan : List Group) → IsRuns runs → AreSerials runs → IsPlan runs plan → SpellsEach SpellsSubsection (plan_text runs plan) (plan_subsections runs plan)

@@ -36,11 +36,13 @@ authorities_text (plan ∷ plans) [] = []
 authorities_text (plan ∷ plans) (first ∷ listed) =
     authority_text plan first ++ authorities_text plans listed
 
+-- the sections of keys and hashes
+abbrev pub texts_text : Contents → List ℕ
+texts_text r = listed_text 2 r.keys ++ (listed_text 3 r.sha1s ++ listed_text 5 r.sha256s)
+
 -- all sections
 abbrev pub sections_text : List (List Group) → Contents → List ℕ
-sections_text plans r =
-    authorities_text plans r.sections
-    ++ (listed_text 2 r.keys ++ (listed_text 3 r.sha1s ++ listed_text 5 r.sha256s))
+sections_text plans r = authorities_text plans r.sections ++ texts_text r
 
 -- the list of a header and of what is held, with a plan for each authority
 abbrev pub text_of : Header → List (List Group) → Contents → List ℕ
@@ -75,24 +77,20 @@ plan_subsections runs (group ∷ groups) =
     group_subsection group.sort (take group.count runs)
     ∷ plan_subsections (drop group.count runs) groups
 
-abbrev pub ids_subsections : List (List ℕ) → List Subsection
-ids_subsections [] = []
-ids_subsections (id ∷ ids) = Ids (id ∷ ids) ∷ []
+-- the item of some texts, where there are any
+abbrev pub listed_as : {X : Type 0} → (List (List ℕ) → X) → List (List ℕ) → List X
+listed_as item [] = []
+listed_as item (text ∷ texts) = item (text ∷ texts) ∷ []
 
 abbrev pub authority_sections : List (List Group) → List Section → List SpelledSection
 authority_sections [] listed = []
 authority_sections (plan ∷ plans) [] = []
 authority_sections (plan ∷ plans) (first ∷ listed) =
-    Certificates first.authority (plan_subsections first.spans plan ++ ids_subsections first.ids)
+    Certificates first.authority (plan_subsections first.spans plan ++ listed_as Ids first.ids)
     ∷ authority_sections plans listed
-
-abbrev pub listed_sections : (List (List ℕ) → SpelledSection) → List (List ℕ) → List SpelledSection
-listed_sections section [] = []
-listed_sections section (text ∷ texts) = section (text ∷ texts) ∷ []
 
 -- the sections that the text spells
 abbrev pub sections_of : List (List Group) → Contents → List SpelledSection
 sections_of plans r =
     authority_sections plans r.sections
-    ++ (listed_sections Keys r.keys
-    ++ (listed_sections Sha1s r.sha1s ++ listed_sections Sha256s r.sha256s))
+    ++ (listed_as Keys r.keys ++ (listed_as Sha1s r.sha1s ++ listed_as Sha256s r.sha256s))

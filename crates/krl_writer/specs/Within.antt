@@ -1,5 +1,5 @@
 -- Text that is added to a list that is written, within the limit.
-use Rattle.std.specs.Prelude.{◌≡◌, ℕ, ◌+◌, ◌<◌, ◌≤◌, Bool, true, false, List, ◌++◌, length, take}
+use Rattle.std.specs.Prelude.{◌≡◌, ℕ, ◌<◌, ◌≤◌, Bool, true, false, List, ◌++◌, length, take}
 use Rattle.std.specs.Prelude.{Option, Result, Ok, Err, ⊤}
 use Rattle.std.specs.Io.KnownBytes.{Appends}
 use Rattle.krl_core.specs.Front.{limit}
@@ -19,21 +19,24 @@ abbrev pub text_fault_number : TextFault → ℕ
 text_fault_number NoMemory = 1
 text_fault_number TooLong = 2
 
+-- what the fault says of the whole text
+abbrev pub Refuses : TextFault → List ℕ → Type 0
+Refuses NoMemory text = ⊤
+Refuses TooLong text = limit < length text
+
 -- The text was added and the whole is within the limit, or with the text it would not be.
 abbrev pub AddsWithin : {A : Type 0} → Result A TextFault → List ℕ → List ℕ → List ℕ → Type 0
 AddsWithin (Ok done) old new text = (new ≡ old ++ text) × (length new ≤ limit)
-AddsWithin (Err NoMemory) old new text = ⊤
-AddsWithin (Err TooLong) old new text = limit < length old + length text
+AddsWithin (Err fault) old new text = Refuses fault (old ++ text)
 
 -- The same for the section of an authority, by the least plan of its runs.
 abbrev pub AddsAuthority : {A : Type 0} → Result A TextFault → List ℕ → List ℕ → Section → Type 0
 AddsAuthority (Ok done) old new listed =
     (plan : List Group) × (IsLeastPlan listed.spans plan
     × ((new ≡ old ++ authority_text plan listed) × (length new ≤ limit)))
-AddsAuthority (Err NoMemory) old new listed = ⊤
-AddsAuthority (Err TooLong) old new listed =
+AddsAuthority (Err fault) old new listed =
     (plan : List Group) → IsLeastPlan listed.spans plan
-    → limit < length old + length (authority_text plan listed)
+    → Refuses fault (old ++ authority_text plan listed)
 
 -- The same for the sections of some authorities.
 abbrev pub AddsAuthorities : {A : Type 0}
@@ -41,10 +44,9 @@ abbrev pub AddsAuthorities : {A : Type 0}
 AddsAuthorities (Ok done) old new listed =
     (plans : List (List Group)) × (EachPlan IsLeastPlan plans listed
     × ((new ≡ old ++ authorities_text plans listed) × (length new ≤ limit)))
-AddsAuthorities (Err NoMemory) old new listed = ⊤
-AddsAuthorities (Err TooLong) old new listed =
+AddsAuthorities (Err fault) old new listed =
     (plans : List (List Group)) → EachPlan IsLeastPlan plans listed
-    → limit < length old + length (authorities_text plans listed)
+    → Refuses fault (old ++ authorities_text plans listed)
 
 -- The bytes are those of the list that is written, and within the limit, or the list is too long.
 abbrev pub IsWritten : {A : Type 0} → (A → List ℕ) → Result A TextFault → Header → Contents → Type 0

@@ -7,9 +7,9 @@ ghost use Rattle.krl_writer.specs.Within.{AddsAuthorities, AddsAuthority};
 use crate::strings::{LIMIT, add_listed, add_string};
 use crate::text_fault::TextFault;
 use krl_core::{Authorities, Texts};
-use krl_plan::{end_string, put_least_plan};
+use krl_plan::{begin_string, end_string, put_least_plan};
 use serial_set::Spans;
-use ssh_wire::{put_byte, put_string, put_u32};
+use ssh_wire::put_string;
 use std::alloc::Global;
 
 // Appends the sections of authorities, one after the other.
@@ -40,9 +40,7 @@ fn add_authority<S: Spans>(
     ensures { AddsAuthority result out.old.items out.new.items
         (record { authority = authority.now; spans = S.spans spans.now; ids = ids.entry }) }
 {
-    put_byte(out, 1)?;
-    let at = out.len();
-    put_u32(out, 0)?;
+    let at = begin_string(out, 1)?;
     add_string(out, authority)?;
     put_string(out, b"")?;
     put_least_plan(out, alloc, spans)?;

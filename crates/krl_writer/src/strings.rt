@@ -8,8 +8,8 @@ ghost use Rattle.krl_writer.specs.Within.{AddsWithin};
 
 use crate::text_fault::TextFault;
 use krl_core::Texts;
-use krl_plan::end_string;
-use ssh_wire::{put_byte, put_string, put_u32};
+use krl_plan::{begin_string, end_string};
+use ssh_wire::put_string;
 
 // The most bytes that a list has.
 pub(crate) const LIMIT: usize = krl_core::LIMIT as usize;
@@ -51,9 +51,7 @@ pub(crate) fn add_listed(
     let Some(first) = texts.next() else {
         return Ok(());
     };
-    put_byte(out, type_byte)?;
-    let at = out.len();
-    put_u32(out, 0)?;
+    let at = begin_string(out, type_byte)?;
     add_string(out, first)?;
     add_strings(out, texts)?;
     end_string(out, at);

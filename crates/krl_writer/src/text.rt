@@ -1,7 +1,9 @@
 //! The text of what is held, and its way out.
 
-ghost use Rattle.std.specs.Prelude.{◌≡◌, [], false};
+ghost use Rattle.std.specs.Prelude.{◌≡◌, ◌≤◌, [], false, length};
+ghost use Rattle.krl_core.specs.Front.{limit};
 ghost use Rattle.krl_core.specs.Krl.{header_text};
+ghost use Rattle.krl_writer.specs.KrlText.{texts_text};
 ghost use Rattle.krl_writer.specs.Within.{AddsWithin, IsWritten, Writes, write_fault_number};
 
 use crate::authorities::add_authorities;
@@ -28,9 +30,7 @@ pub fn krl_text<S: Spans>(
     let mut out = Vec::new(alloc);
     add_header(&mut out, header)?;
     add_authorities(&mut out, alloc, revocations.walk_authorities())?;
-    add_listed(&mut out, 2, revocations.walk_keys())?;
-    add_listed(&mut out, 3, revocations.walk_sha1s())?;
-    add_listed(&mut out, 5, revocations.walk_sha256s())?;
+    add_texts(&mut out, revocations)?;
     Ok(out)
 }
 
@@ -45,6 +45,17 @@ fn add_header(out: &mut Vec<u8>, header: &Header) -> Result<(), TextFault>
     put_u64(out, 0)?;
     put_string(out, b"")?;
     add_string(out, header.comment.as_slice())?;
+    Ok(())
+}
+
+// Appends the sections of keys and hashes.
+fn add_texts<S: Spans>(out: &mut Vec<u8>, revocations: &Revocations<S>) -> Result<(), TextFault>
+    requires { length out.old.items ≤ limit }
+    ensures { AddsWithin result out.old.items out.new.items (texts_text revocations.now) }
+{
+    add_listed(out, 2, revocations.walk_keys())?;
+    add_listed(out, 3, revocations.walk_sha1s())?;
+    add_listed(out, 5, revocations.walk_sha256s())?;
     Ok(())
 }
 

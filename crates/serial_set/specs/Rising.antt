@@ -1,11 +1,16 @@
 -- Rising lists of spans: what they name, and how they are cut and joined.
 use Rattle.std.proofs.Common.{ℕ, ◌+◌, ◌-◌, ◌<◌, ◌≤◌, List, [], ◌∷◌, ◌++◌, ◌⊎◌, length, get_or, inl}
-use Rattle.std.proofs.Common.{inr, arith, zero, suc}
+use Rattle.std.proofs.Common.{inr, arith, zero, suc, leb}
+use Rattle.std.specs.Prelude.{◌↔◌, ◌&&◌}
+use Rattle.std.specs.Bool.{Decides}
+use Rattle.std.proofs.Math.Logic.{⊎_elim}
+use Rattle.std.proofs.lemmas.Bool.{le-leb, leb-true}
+use Rattle.std.proofs.lemmas.Bool.Decides.{Decides-and, Decides-or}
 use Rattle.std.specs.List.{All}
 use Rattle.std.specs.List.Sorted.{IsNonDecreasingBy}
 use Rattle.std.proofs.lemmas.List.Elements.{All-nil, All-cons, All-head, All-tail}
 use Rattle.serial_set.specs.declared.span.Span.{Span}
-use Rattle.serial_set.specs.Span.{Covers, RunsFrom}
+use Rattle.serial_set.specs.Span.{Covers, RunsFrom, has}
 
 pub names_append : (xs ys : List Span) (s : ℕ) → Covers (xs ++ ys) s → Covers xs s ⊎ Covers ys s
 names_append [] ys s n = inr n
@@ -23,6 +28,16 @@ names_left (x ∷ xs) ys s n =
 pub names_right : (xs ys : List Span) (s : ℕ) → Covers ys s → Covers (xs ++ ys) s
 names_right [] ys s n = n
 names_right (x ∷ xs) ys s n = inr (names_right xs ys s n)
+
+pub covers_append : (xs ys : List Span) (s : ℕ) → Covers (xs ++ ys) s ↔ (Covers xs s ⊎ Covers ys s)
+covers_append xs ys s = (names_append xs ys s, ⊎_elim (names_left xs ys s) (names_right xs ys s))
+
+pub has_names : (xs : List Span) (s : ℕ) → Decides (has xs s) (Covers xs s)
+has_names [] s = (λ yes. absurd cc, λ no. absurd no)
+has_names (x ∷ xs) s =
+    Decides-or (leb x.lo s && leb s x.hi) (has xs s)
+    (Decides-and (leb x.lo s) (leb s x.hi) (leb-true x.lo s, le-leb x.lo s) (leb-true s x.hi, le-leb s x.hi))
+    (has_names xs s)
 
 pub RunsFrom-weaker : (a b : ℕ) (xs : List Span) → b ≤ a → RunsFrom a xs → RunsFrom b xs
 RunsFrom-weaker a b [] h r = tt

@@ -1,11 +1,11 @@
-use Rattle.std.proofs.Common.{◌≡◌, ◌+◌, ◌++◌, [], ◌∷◌, List, ℕ, ap, sym, ◌∙◌, arith, length, take, get_or, append_assoc}
+use Rattle.std.proofs.Common.{◌≡◌, ◌+◌, ◌++◌, [], ◌∷◌, List, ℕ, ap, sym, ◌∙◌, arith, take, get_or}
 use Rattle.std.specs.List.{flat_map}
 use Rattle.std.proofs.lemmas.List.{take_more}
 use Rattle.serial_set.specs.declared.span.Span.{Span}
 use Rattle.serial_set.specs.Rising.{runs_at}
-use Rattle.ssh_wire.specs.Wire.{number, string}
+use Rattle.ssh_wire.specs.Wire.{number}
 use Rattle.krl_plan.specs.Written.{serials_of}
-use Rattle.krl_plan.specs.ListTexts.{all_listed, length-all_listed, listed_more, small_few, string_ended}
+use Rattle.krl_plan.specs.ListTexts.{all_listed, length-begun, length-listed, listed_more, small_few, string_ended}
 use Rattle.krl_plan.proofs.Zero.{zero_span}
 use Rattle.krl_plan.proofs.group_text.put_listed.Goals as goal
 
@@ -19,29 +19,30 @@ loop-run-preserved c =
     let run : Span = get_or runs i zero_span in
     let more : take (i + 1) runs ≡ take i runs ++ run ∷ [] = take_more runs i zero_span c.loop-run-test.true in
     c.in_ok-put_serials.ensures ∙ ap (λ (t : List ℕ). t ++ flat_map (number 8) (serials_of (run ∷ []))) c.loop-run.invariant
-    ∙ listed_more c.put_u32.new.out.items (take i runs) run
-    ∙ ap (λ (xs : List Span). c.put_u32.new.out.items ++ flat_map (number 8) (serials_of xs)) (sym more)
+    ∙ listed_more c.begin_string.new.out.items (take i runs) run
+    ∙ ap (λ (xs : List Span). c.begin_string.new.out.items ++ flat_map (number 8) (serials_of xs)) (sym more)
 
 pub end_string-requires-clause-within : goal.end_string-requires-clause-within
 end_string-requires-clause-within c =
-    let out = all_listed c.args.runs.now c.loop-run.run-index c.put_byte.new.out.items c.put_u32.new.out.items c.loop-run.out.items c.loop-run-test.false c.loop-run.invariant c.in_ok-put_u32.ensures.appends in
-    let size = length-all_listed c.args.runs.now c.put_byte.new.out.items c.loop-run.out.items out in
-    let at = c.len-at.ensures in
-    omega arith
+    let content : List ℕ = flat_map (number 8) (serials_of c.args.runs.now) in
+    let out = all_listed c.args.runs.now c.loop-run.run-index c.begin_string.new.out.items c.loop-run.out.items c.loop-run-test.false c.loop-run.invariant in
+    omega (arith, length-begun c.args.out.now.items c.begin_string.new.out.items content c.loop-run.out.items 0x20 c.in_ok-at.ensures.1 out, c.in_ok-at.ensures.0)
 
 pub end_string-requires-clause-fits : goal.end_string-requires-clause-fits
 end_string-requires-clause-fits c =
-    let out = all_listed c.args.runs.now c.loop-run.run-index c.put_byte.new.out.items c.put_u32.new.out.items c.loop-run.out.items c.loop-run-test.false c.loop-run.invariant c.in_ok-put_u32.ensures.appends in
-    let size = length-all_listed c.args.runs.now c.put_byte.new.out.items c.loop-run.out.items out in
-    let at = c.len-at.ensures in
-    let few = small_few c.args.runs.now c.requires.covers.1 in
-    let most = c.requires.covers.0 in
-    omega arith
+    let content : List ℕ = flat_map (number 8) (serials_of c.args.runs.now) in
+    let out = all_listed c.args.runs.now c.loop-run.run-index c.begin_string.new.out.items c.loop-run.out.items c.loop-run-test.false c.loop-run.invariant in
+    omega (
+      arith,
+      length-begun c.args.out.now.items c.begin_string.new.out.items content c.loop-run.out.items 0x20 c.in_ok-at.ensures.1 out,
+      c.in_ok-at.ensures.0,
+      length-listed c.args.runs.now,
+      small_few c.args.runs.now c.requires.covers.1,
+      c.requires.covers.0,
+    )
 
 pub returns : goal.returns
 returns c =
     let content : List ℕ = flat_map (number 8) (serials_of c.args.runs.now) in
-    let out = all_listed c.args.runs.now c.loop-run.run-index c.put_byte.new.out.items c.put_u32.new.out.items c.loop-run.out.items c.loop-run-test.false c.loop-run.invariant c.in_ok-put_u32.ensures.appends in
-    let at : c.len-at.result ≡ length c.put_byte.new.out.items = omega (arith, c.len-at.ensures) in
-    c.end_string.ensures ∙ string_ended c.put_byte.new.out.items content c.loop-run.out.items c.len-at.result out at
-    ∙ ap (λ (t : List ℕ). t ++ string content) c.in_ok-put_byte.ensures.appends ∙ append_assoc c.args.out.now.items (0x20 ∷ []) (string content)
+    let out = all_listed c.args.runs.now c.loop-run.run-index c.begin_string.new.out.items c.loop-run.out.items c.loop-run-test.false c.loop-run.invariant in
+    c.end_string.ensures ∙ string_ended c.args.out.now.items c.begin_string.new.out.items content c.loop-run.out.items 0x20 _ c.in_ok-at.ensures.1 out c.in_ok-at.ensures.0

@@ -1,63 +1,62 @@
-use Rattle.std.proofs.Common.{◌≡◌, ◌∷◌, [], ap, arith, length, length-append}
+use Rattle.std.proofs.Common.{◌<◌, ◌++◌, List, ℕ, ap, arith, length, length-append, refl, subst, ◌∙◌}
 use Rattle.std.proofs.lemmas.Result.{err_from_is_err_and}
 use Rattle.ssh_wire.specs.Wire.{string}
 use Rattle.krl_core.specs.Contents.{Section, section_with}
+use Rattle.krl_core.specs.Front.{limit}
+use Rattle.krl_plan.specs.ListTexts.{length-begun}
+use Rattle.krl_writer.specs.declared.text_fault.TextFault.TheVariants.{TooLong}
 use Rattle.krl_writer.specs.KrlText.{authority_content, listed_text}
-use Rattle.krl_plan.specs.Written.{plan_text}
-use Rattle.krl_writer.proofs.Limits.{authority_front, length-planned_any, length-put, put_done, put_four, too_long_authority}
+use Rattle.krl_writer.specs.Within.{Refuses}
+use Rattle.krl_writer.proofs.Limits.{any_plan, authority_parts, refuses_front, refuses_more, refuses_string, string_put}
 use Rattle.krl_writer.proofs.authorities.add_authority.Goals as goal
 
 pub returns-in_err-add_string : goal.returns-in_err-add_string
 returns-in_err-add_string g c =
     let p = err_from_is_err_and c.from_residual-in_err-add_string.result c.from_residual-in_err-add_string.ensures.1 in
     let listed : Section = section_with c.args.authority.now (g.S.Spans.spans c.args.spans.now) c.args.ids in
-    rw (p.1, p.2)
-    (too_long_authority c.in_err-add_string.field-0.0 c.put_u32.new.out.items c.add_string.new.out.items (string c.args.authority.now) c.args.out.now.items c.add_string.new.out.items listed
-    c.in_err-add_string.ensures (λ plan least. authority_front plan listed c.args.out.now.items c.put_byte.new.out.items c.put_u32.new.out.items c.in_ok-put_byte.ensures.appends c.in_ok-put_u32.ensures.appends))
+    let fault = c.in_err-add_string.field-0.0 in
+    let begun = c.begin_string.new.out.items in
+    rw (p.1, p.2) (λ plan least.
+    let content : List ℕ = authority_content plan listed in
+    refuses_string fault 1 c.args.out.now.items begun content c.in_ok-at.ensures.1 (refuses_front fault (begun ++ content) begun (string listed.authority) _ c.in_err-add_string.ensures refl))
 
 pub returns-then-len-gt-LIMIT : goal.returns-then-len-gt-LIMIT
 returns-then-len-gt-LIMIT g c plan least =
     let listed : Section = section_with c.args.authority.now (g.S.Spans.spans c.args.spans.now) c.args.ids in
     let written = c.in_ok-put_least_plan.ensures in
-    let len = length-planned_any written.0 plan listed c.args.out.now.items c.put_byte.new.out.items c.put_u32.new.out.items c.add_string.new.out.items c.put_string.new.out.items c.put_least_plan.new.out.items
-    written.1.0 least c.in_ok-put_byte.ensures.appends c.in_ok-put_u32.ensures.appends c.in_ok-add_string.ensures.0 c.in_ok-put_string.ensures.appends written.1.1 in
-    omega arith
+    let begun = c.begin_string.new.out.items in
+    let put = c.put_least_plan.new.out.items in
+    let left = authority_parts written.0 listed begun c.add_string.new.out.items c.put_string.new.out.items put c.in_ok-add_string.ensures.0 c.in_ok-put_string.ensures.appends written.1.1 in
+    let long : limit < length put = omega arith in
+    let whole = refuses_more TooLong put (begun ++ authority_content written.0 listed) long (omega (arith, ap length left, length-append put (listed_text 0x23 listed.ids))) in
+    any_plan TooLong written.0 plan listed c.args.out.now.items written.1.0 least (refuses_string TooLong 1 c.args.out.now.items begun (authority_content written.0 listed) c.in_ok-at.ensures.1 whole)
 
 pub returns-in_err-add_listed : goal.returns-in_err-add_listed
 returns-in_err-add_listed g c =
     let p = err_from_is_err_and c.from_residual-in_err-add_listed.result c.from_residual-in_err-add_listed.ensures.1 in
     let listed : Section = section_with c.args.authority.now (g.S.Spans.spans c.args.spans.now) c.args.ids in
+    let fault = c.in_err-add_listed.field-0.0 in
     let written = c.in_ok-put_least_plan.ensures in
-    rw (p.1, p.2)
-    (too_long_authority c.in_err-add_listed.field-0.0 c.put_least_plan.new.out.items c.add_listed.new.out.items (listed_text 0x23 listed.ids) c.args.out.now.items c.add_listed.new.out.items listed
-    c.in_err-add_listed.ensures
-    (λ plan least.
-    let len = length-planned_any written.0 plan listed c.args.out.now.items c.put_byte.new.out.items c.put_u32.new.out.items c.add_string.new.out.items c.put_string.new.out.items c.put_least_plan.new.out.items
-    written.1.0 least c.in_ok-put_byte.ensures.appends c.in_ok-put_u32.ensures.appends c.in_ok-add_string.ensures.0 c.in_ok-put_string.ensures.appends written.1.1 in
-    omega arith))
+    let begun = c.begin_string.new.out.items in
+    let left = authority_parts written.0 listed begun c.add_string.new.out.items c.put_string.new.out.items c.put_least_plan.new.out.items c.in_ok-add_string.ensures.0 c.in_ok-put_string.ensures.appends written.1.1 in
+    rw (p.1, p.2) (λ plan least.
+    any_plan fault written.0 plan listed c.args.out.now.items written.1.0 least
+    (refuses_string fault 1 c.args.out.now.items begun (authority_content written.0 listed) c.in_ok-at.ensures.1 (subst (Refuses fault) left c.in_err-add_listed.ensures)))
 
 pub end_string-requires-clause-within : goal.end_string-requires-clause-within
 end_string-requires-clause-within g c =
-    let written = c.in_ok-put_least_plan.ensures in
     let listed : Section = section_with c.args.authority.now (g.S.Spans.spans c.args.spans.now) c.args.ids in
-    let out = put_four c.args.out.now.items c.put_byte.new.out.items c.put_u32.new.out.items c.add_string.new.out.items c.put_string.new.out.items c.put_least_plan.new.out.items c.add_listed.new.out.items
-    listed.authority (plan_text listed.spans written.0) (listed_text 0x23 listed.ids) c.in_ok-put_byte.ensures.appends c.in_ok-put_u32.ensures.appends c.in_ok-add_string.ensures.0 c.in_ok-put_string.ensures.appends written.1.1 c.in_ok-add_listed.ensures.0 in
-    let len = length-put 1 c.args.out.now.items c.add_listed.new.out.items (authority_content written.0 listed) out in
-    let at = c.len-at.ensures in
-    let begun = ap length c.in_ok-put_byte.ensures.appends in
-    omega (arith, length-append c.args.out.now.items (1 ∷ []))
+    let written = c.in_ok-put_least_plan.ensures in
+    let begun = c.begin_string.new.out.items in
+    let left = authority_parts written.0 listed begun c.add_string.new.out.items c.put_string.new.out.items c.put_least_plan.new.out.items c.in_ok-add_string.ensures.0 c.in_ok-put_string.ensures.appends written.1.1 in
+    omega (arith, length-begun c.args.out.now.items begun (authority_content written.0 listed) c.add_listed.new.out.items 1 c.in_ok-at.ensures.1 (c.in_ok-add_listed.ensures.0 ∙ left), c.in_ok-at.ensures.0)
 
 pub returns : goal.returns
 returns g c =
-    let written = c.in_ok-put_least_plan.ensures in
     let listed : Section = section_with c.args.authority.now (g.S.Spans.spans c.args.spans.now) c.args.ids in
-    let out = put_four c.args.out.now.items c.put_byte.new.out.items c.put_u32.new.out.items c.add_string.new.out.items c.put_string.new.out.items c.put_least_plan.new.out.items c.add_listed.new.out.items
-    listed.authority (plan_text listed.spans written.0) (listed_text 0x23 listed.ids) c.in_ok-put_byte.ensures.appends c.in_ok-put_u32.ensures.appends c.in_ok-add_string.ensures.0 c.in_ok-put_string.ensures.appends written.1.1 c.in_ok-add_listed.ensures.0 in
-    let at : c.len-at.result ≡ length c.put_byte.new.out.items = omega (arith, c.len-at.ensures) in (
-      written.0,
-      (
-        written.1.0,
-        put_done 1 c.len-at.result c.args.out.now.items c.put_byte.new.out.items c.add_listed.new.out.items c.end_string.new.out.items (authority_content written.0 listed)
-            c.in_ok-put_byte.ensures.appends out at c.in_ok-add_listed.ensures.1 c.end_string.ensures,
-      ),
-    )
+    let written = c.in_ok-put_least_plan.ensures in
+    let begun = c.begin_string.new.out.items in
+    let left = authority_parts written.0 listed begun c.add_string.new.out.items c.put_string.new.out.items c.put_least_plan.new.out.items c.in_ok-add_string.ensures.0 c.in_ok-put_string.ensures.appends written.1.1 in
+    let done = string_put 1 _ c.args.out.now.items begun (authority_content written.0 listed) c.add_listed.new.out.items c.end_string.new.out.items c.in_ok-at.ensures.1 (c.in_ok-add_listed.ensures.0 ∙ left)
+    c.in_ok-at.ensures.0 c.in_ok-add_listed.ensures.1 c.end_string.ensures in
+    (written.0, (written.1.0, done))

@@ -1,6 +1,7 @@
-use Rattle.std.proofs.Common.{arith}
+use Rattle.std.proofs.Common.{arith, length-append}
+use Rattle.ssh_wire.specs.Wire.{string}
 use Rattle.ssh_wire.specs.Fields.{length-string}
 use Rattle.krl_writer.proofs.strings.add_string.Goals as goal
 
 pub returns-then-text-gt-LIMIT : goal.returns-then-text-gt-LIMIT
-returns-then-text-gt-LIMIT c = omega (arith, length-string c.args.text.now)
+returns-then-text-gt-LIMIT c = omega (arith, length-append c.args.out.now.items (string c.args.text.now), length-string c.args.text.now)
