@@ -47,13 +47,3 @@ reached_end old pull place keeping h ends = record {
   ends = λ _. record { may_end = ends.may_end; at_end = ends.at_end; faultless = refl };
   bounded = h.bounded;
 }
-
--- the end was found before
-pub ends_again : (position : Position) → IsEnded position → Ends position position
-ends_again position h = record {
-  may_end = h.may_end;
-  at_end = h.at_end;
-  still = λ text fields read.
-      let none = at_end_none (left_of position.pull) read.rest read.left_is h.at_end in
-      (read, read.parts ∙ ap (λ (l : List ℕ). concat fields ++ l) none ∙ append-nil (concat fields));
-}

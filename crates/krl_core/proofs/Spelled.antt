@@ -35,12 +35,6 @@ use Rattle.krl_core.proofs.Rests.{IsItem}
 
 -- ---- a field, and what follows it
 
--- a length where the length is judged so
-length_goes : (p : Place) (q : ℕ → Place) (n : ℕ) (rest : List ℕ) → HasRoom (expected p) → (expected p).size ≡ 4 → n < 2 ^ 32
-    → ((m : ℕ) (field : List ℕ) → number_of field ≡ m → m ≡ n → (expected p).judged field ≡ Ok (q m)) → Goes p (number 4 n ++ rest) (q n) rest
-length_goes p q n rest room size fits judged =
-    goes_one p (q n) (number 4 n) rest room (length-number 4 n ∙ sym size) (judged n (number 4 n) (number_again4 n fits) refl)
-
 -- a string: its length, and its content
 pub string_goes : (p : Place) (q : Place) (r : Place) (content rest : List ℕ) → HasRoom (expected p) → (expected p).size ≡ 4 → length content < 2 ^ 32
     → ((field : List ℕ) → number_of field ≡ length content → (expected p).judged field ≡ Ok q)

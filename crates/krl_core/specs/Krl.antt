@@ -49,11 +49,6 @@ SpellsEach Spelling text (item ∷ items) =
     (first : List ℕ) × ((rest : List ℕ) × ((text ≡ first ++ rest)
     × Spelling first item × SpellsEach Spelling rest items))
 
--- The text is a string whose content is short enough for one.
-pub record IsString (text content : List ℕ) : Type 0 where
-  pub spelled : text ≡ string content
-  pub fits : length content < 2 ^ 32
-
 -- numbers of eight bytes, one after the other
 abbrev pub numbers_text : List ℕ → List ℕ
 numbers_text numbers = flat_map (number 8) numbers

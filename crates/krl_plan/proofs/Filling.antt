@@ -107,19 +107,6 @@ window_rises window runs i d lt rises =
     let there : IsRuns (drop i (window ++ runs)) = IsRuns-drop 0 i (window ++ runs) rises in
     subst IsRuns (drop-append-le i window runs (omega arith) ∙ window_at window runs i d lt) there
 
--- a copied part, and the runs after it
-pub part_rest : (spans window : List Span) (from end : ℕ) → from ≤ end → window ≡ take (end - from) (drop from spans) → window ++ drop end spans ≡ drop from spans
-part_rest spans window from end le is =
-    let sum : from + (end - from) ≡ end = omega arith in
-    let rest : drop (end - from) (drop from spans) ≡ drop end spans = drop-drop (end - from) from spans ∙ ap (λ (n : ℕ). drop n spans) sum in
-    ap (λ (xs : List Span). xs ++ drop end spans) is ∙ ap (λ (xs : List Span). take (end - from) (drop from spans) ++ xs) (sym rest) ∙ take-append-drop (end - from) (drop from spans)
-
-pub part_end : (spans window : List Span) (from end : ℕ) → end ≤ length spans → from ≤ end → window ≡ take (end - from) (drop from spans) → end ≡ from + length window
-part_end spans window from end within le is =
-    let dropped = length-drop from spans in
-    let len : length window ≡ end - from = ap length is ∙ length-take-le (end - from) (drop from spans) (omega arith) in
-    omega arith
-
 -- ---- the walk
 
 -- the groups so far, before the least plan of what is left, are the least plan

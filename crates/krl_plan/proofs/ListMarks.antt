@@ -14,12 +14,6 @@ use Rattle.krl_plan.specs.Window.{Forgets, IsFilled, IsLeastOf, Pushes}
 use Rattle.krl_plan.proofs.Best.{group_of, one_better, same_cell}
 use Rattle.krl_plan.proofs.Stairs.{forgets_filled, pushes_filled, same_mark}
 
-pub list_small : (run : Span) (runs : List Span) (count : ℕ) → IsList (run ∷ runs) count → IsSmall run
-list_small run runs zero g = let some : 0 < 0 = g.some in absurd (omega arith)
-list_small run runs (suc count) g =
-    let covers : Covers Serials (run ∷ take count runs) = g.covers in
-    All-head IsSmall run (take count runs) covers.1
-
 list_first : (run : Span) (runs : List Span) → IsSmall run → IsList (run ∷ runs) 1
 list_first run runs small = record {
   some = omega arith;

@@ -160,13 +160,6 @@ same_mark a b place value end =
     let made : ℕ → ℕ → ℕ → Mark = λ p v e. record { place = p; value = v; end = e } in
     ap (λ (p : ℕ). made p a.value a.end) place ∙ ap (λ (v : ℕ). made b.place v a.end) value ∙ ap (made b.place b.value) end
 
-pub none_filled : (Is : ℕ → Type 0) (mark_of : ℕ → Mark) → ((count : ℕ) → Is count → ⊥) → IsFilled [] Is mark_of
-none_filled Is mark_of none = record {
-  only = λ mark c. (let lt = c.1 in absurd (omega arith));
-  all = λ count is. absurd (none count is);
-  small = λ mark c. (let lt = c.1 in absurd (omega arith));
-}
-
 -- those within a limit
 pub forgets_filled : (old marks : List Mark) (limit : ℕ) (Is Near : ℕ → Type 0) (mark_of : ℕ → Mark) → IsFilled old Is mark_of → Forgets limit old marks
     → ((count : ℕ) → Is count → (mark_of count).place ≤ limit → Near count) → ((count : ℕ) → Near count → Is count × ((mark_of count).place ≤ limit)) → IsFilled marks Near mark_of

@@ -69,24 +69,6 @@ Above-less runs left more less le a = record {
   above = λ k d from lt. let h = a.above k d from lt in omega arith;
 }
 
--- a run that begins above the serial is passed over
-pub Above-more : (runs : List Span) (left bound : ℕ) (e : Span) → 0 < left
-    → bound ≤ (get_or runs (left - 1) e).lo → Above runs left bound → Above runs (left - 1) bound
-Above-more runs left bound e some le a =
-    let within = a.within in
-    record {
-      within = omega arith;
-      above = λ k d from lt. elim (cases_lt (left - 1) k) [
-        | inl later ↦ a.above k d (omega arith) lt
-        | inr first ↦
-            let at : k ≡ left - 1 = omega arith in
-            let same : get_or runs (left - 1) e ≡ get_or runs k d =
-            get_or_default runs (left - 1) e d (omega arith)
-            ∙ ap (λ (n : ℕ). get_or runs n d) (sym at) in
-            subst (λ (span : Span). bound ≤ span.lo) same le
-      ];
-    }
-
 -- ---- one byte
 
 pub bits_of_lt : (runs : List Span) (first count : ℕ) → bits_of runs first count < 2 ^ count

@@ -47,10 +47,6 @@ pub blob_answered : (answer : Answering) (key : Found) (asked : Subject) (plain 
     → found_item answer (Ok key) ≡ said key.name (answer.say key.name key.number key.line asked plain)
 blob_answered answer key asked plain is_asked is_plain = ap (subject_item answer key) is_asked ∙ ap (key_item answer key asked) is_plain
 
-pub key_answered : (answer : Answering) (key : Found) (any : AnyKey) (reply : Option Answer) → IsReadAs key.line.blob any → reply ≡ answer.say key.name key.number key.line (asked_of any) (plain_of any)
-    → found_item answer (Ok key) ≡ said key.name reply
-key_answered answer key any reply is reported = blob_answered answer key (asked_of any) (plain_of any) is.asked is.plain ∙ ap (said key.name) (sym reported)
-
 -- a blob has a first fault
 pub blob_refused : (answer : Answering) (key : Found) (fault : SubjectFault) → subject_of key.line.blob ≡ Err fault → found_item answer (Ok key) ≡ Stopped (stop_in key fault)
 blob_refused answer key fault is_fault = ap (subject_item answer key) is_fault

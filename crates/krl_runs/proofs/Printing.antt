@@ -43,12 +43,6 @@ more_said name all lines left old mid new is carries = record {
       subst (λ (items : List Item). Carries items said old new) (sym (both_said name is.done lines)) (carries_then (all_said name is.done) (all_said name lines) tt said old mid new is.carried carries);
 }
 
--- all of them are said
-pub whole_said : (name : List ℕ) (all left : List (List ℕ)) (old now : Printed) → IsSaid name all left old now → left ≡ [] → Carries (all_said name all) said old now
-whole_said name all left old now is none =
-    let whole : all ≡ is.done = is.parts ∙ ap (λ (lines : List (List ℕ)). is.done ++ lines) none ∙ append-nil is.done in
-    subst (λ (lines : List (List ℕ)). Carries (all_said name lines) said old now) (sym whole) is.carried
-
 -- the next of them ended the run
 pub saying_stops : {A B : Type 0} (name : List ℕ) (all lines left : List (List ℕ)) (stop : Stop) (old mid new : Printed) → IsSaid name all (lines ++ left) old mid
     → Carries {A = A} (all_said name lines) (Err stop) mid new → Carries {A = B} (all_said name all) (Err stop) old new

@@ -53,9 +53,6 @@ flat_drop_set f xs at y h = ap (flat_map f) (drop-set xs at y h)
 
 -- ---- what is left where some are removed
 
-pub left_front : {X : Type 0} (xs ys : List X) (from gone : ℕ) → ys ≡ take from xs ++ drop gone (drop from xs) → from ≤ length xs → take from ys ≡ take from xs
-left_front xs ys from gone is h = ap (take from) is ∙ take_at (take from xs) (drop gone (drop from xs)) from (length-take-le from xs h)
-
 pub left_back : {X : Type 0} (xs ys : List X) (from gone : ℕ) → ys ≡ take from xs ++ drop gone (drop from xs) → from ≤ length xs → drop from ys ≡ drop gone (drop from xs)
 left_back xs ys from gone is h = ap (drop from) is ∙ drop_at (take from xs) (drop gone (drop from xs)) from (length-take-le from xs h)
 

@@ -39,30 +39,6 @@ OnFrom-closed : (n m : ℕ) (p : Option Span) (f : List Span) → n ≡ m + 1 �
 OnFrom-closed n m None f e h = RunsFrom-weaker (n + 1) (m + 1) (reverse f) (omega arith) h
 OnFrom-closed n m (Some run) f e h = subst (λ a. RunsFrom a (run ∷ reverse f)) e h.2
 
--- the pending run with one more number at its low end
-abbrev pub extended : ℕ → Option Span → Span
-extended n p = record { lo = n; hi = option_map_or (λ run. run.hi) p n }
-
-OnFrom-extended : (n m : ℕ) (p : Option Span) (f : List Span) → n ≡ m + 1 → 0 < m → OnFrom n p (reverse f) → OnFrom m (Some (extended m p)) (reverse f)
-OnFrom-extended n m None f e h r = (refl, h, (omega arith, omega arith, RunsFrom-weaker (n + 1) (m + 2) (reverse f) (omega arith) r))
-OnFrom-extended n m (Some run) f e h r = (refl, h, (omega arith, omega arith, r.2.2))
-
-extended_to : (n m s : ℕ) (p : Option Span) (f : List Span) → n ≡ m + 1 → OnFrom n p (reverse f) → Covers (extended m p ∷ reverse f) s → (s ≡ m) ⊎ Covers (option_to_list p ++ reverse f) s
-extended_to n m s None f e r h = elim h [ inl here ↦ inl (omega arith) | inr later ↦ inr later ]
-extended_to n m s (Some run) f e r h =
-    elim h [
-      | inl here ↦ elim (cases_eq s m) [ inl same ↦ inl same | inr other ↦ inr (inl (omega arith, here.1)) ]
-      | inr later ↦ inr (inr later)
-    ]
-
-extended_from : (n m s : ℕ) (p : Option Span) (f : List Span) → n ≡ m + 1 → OnFrom n p (reverse f) → (s ≡ m) ⊎ Covers (option_to_list p ++ reverse f) s → Covers (extended m p ∷ reverse f) s
-extended_from n m s None f e r h = elim h [ inl same ↦ inl (omega arith, omega arith) | inr old ↦ inr old ]
-extended_from n m s (Some run) f e r h =
-    elim h [
-      | inl same ↦ inl (omega arith, omega arith)
-      | inr old ↦ elim old [ inl here ↦ inl (omega arith, here.1) | inr later ↦ inr later ]
-    ]
-
 pub SoFar-start : (base byte : ℕ) (old : Option Span) → byte < 256 → IsInStep (base + 8) old → SoFar base byte old 8 old [] 0
 SoFar-start base byte old h step = record {
   on = OnFrom-start (base + 8) old step;
@@ -88,20 +64,6 @@ SoFar-unset base byte old bit next p f count e unset so = record {
   few = omega (arith, so.few, one_at_most p);
 }
 
-pub SoFar-set : (base byte : ℕ) (old : Option Span) (bit next : ℕ) (p : Option Span) (f : List Span) (count : ℕ) → bit ≡ next + 1 → BitNames base byte (base + next) → SoFar base byte old bit p f count → SoFar base byte old next (Some (extended (base + next) p)) f count
-SoFar-set base byte old bit next p f count e set so = record {
-  on = OnFrom-extended (base + bit) (base + next) p f (omega arith) set.0 so.on;
-  only = λ s n. elim (extended_to (base + bit) (base + next) s p f (omega arith) so.on n) [
-    | inl same ↦ inr (subst (λ x. BitNames base byte x) (sym same) set)
-    | inr before ↦ so.only s before
-  ];
-  found = λ s n. extended_from (base + bit) (base + next) s p f (omega arith) so.on (elim n [
-    | inl before ↦ inr (so.found s (inl before))
-    | inr here ↦ elim (cases_eq s (base + next)) [ inl same ↦ inl same | inr other ↦ inr (so.found s (inr (here.0, omega arith))) ]
-  ]);
-  few = omega (arith, so.few, one_at_most p);
-}
-
 -- ---- the whole byte
 
 pub OnFrom-runs : (n : ℕ) (p : Option Span) (rest : List Span) → OnFrom n p rest → RunsFrom n (option_to_list p ++ rest)
@@ -111,10 +73,6 @@ OnFrom-runs n (Some run) rest r = r.2
 pub OnFrom-past : (n : ℕ) (p : Option Span) (rest : List Span) → OnFrom n p rest → RunsFrom (n + 1) rest
 OnFrom-past n None rest r = r
 OnFrom-past n (Some run) rest r = RunsFrom-weaker (run.hi + 2) (n + 1) rest (omega arith) r.2.2
-
-pub OnFrom-in_step : (n : ℕ) (p : Option Span) (rest : List Span) → OnFrom n p rest → IsInStep n p
-OnFrom-in_step n None rest r = tt
-OnFrom-in_step n (Some run) rest r = (r.0, (r.1, r.2.1))
 
 pub whole_runs : (base byte : ℕ) (old p : Option Span) (f : List Span) (count : ℕ) → SoFar base byte old 0 p f count → IsRunsOf (option_to_list p ++ reverse f) (λ s. Covers (option_to_list old) s ⊎ BitNames base byte s)
 whole_runs base byte old p f count so = (

@@ -96,10 +96,6 @@ entries_past a (x ∷ (z ∷ xs)) ys some r =
 
 -- ---- cut at a place
 
-pub order_take : (a : ℕ) (es : List Entry) (n : ℕ) → EntriesFrom a es → EntriesFrom a (take n es)
-order_take a es n r =
-    entries_front a (take n es) (drop n es) (subst (EntriesFrom a) (sym (take-append-drop n es)) r)
-
 pub order_drop : (a : ℕ) (es : List Entry) (n : ℕ) → EntriesFrom a es → EntriesFrom a (drop n es)
 order_drop a es n r =
     entries_back a (take n es) (drop n es) (subst (EntriesFrom a) (sym (take-append-drop n es)) r)

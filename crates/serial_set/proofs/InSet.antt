@@ -105,10 +105,6 @@ pub from_owns : (entries : List Entry) (n last s : ℕ) (o : Option Entry) → E
 from_owns entries n last s None order is from to m = none_below entries s (λ k d h. (let end = is k d h in omega arith)) m
 from_owns entries n last s (Some e) order is from to m = members_own entries is.0 e is.1.0 n s order is.1.1.0 is.1.1.1 from to m
 
-pub from_reach : (entries : List Entry) (n : ℕ) (o : Option Entry) → IsEntryFrom entries n o → IfSome o (λ e. n ≤ hi_of e)
-from_reach entries n None is = tt
-from_reach entries n (Some e) is = is.1.1.2
-
 -- ---- one change
 
 members_above : (es : List Entry) (to s : ℕ) → All (λ e. to < lo_of e) es → Covers (members_of es) s → to < s

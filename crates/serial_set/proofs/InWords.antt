@@ -12,18 +12,6 @@ use Rattle.serial_set.specs.Entry.{pieces, lo_of, hi_of, EntriesFrom, members_of
 use Rattle.serial_set.specs.Entries.{stretch, has_append, has_left, has_right, has_from, none_below, entries_back, Replaces, replaced_order, replaced_runs, runs_of_entries}
 use Rattle.serial_set.specs.Places.{IsEntryFrom, IsListFrom, PutBetween, PutIf, WordWidened}
 
-pub some_from : (es part : List Entry) (n : ℕ) (x : Entry) → IsListFrom es n part → 0 < length part → x ≡ get_or part 0 x → IsEntryFrom es n (Some x)
-some_from es [] n x k h read = absurd (omega arith)
-some_from es (y ∷ ys) n x k h read =
-    let reach : n ≤ hi_of y = All-head (λ e. n ≤ hi_of e) y ys k.reach in
-    subst (λ z. IsEntryFrom es n (Some z)) (sym read) (k.front, (ys ++ k.back, (k.parts, k.below, reach)))
-
-pub none_from : (es part : List Entry) (n : ℕ) → IsListFrom es n part → length part ≤ 0 → IsEntryFrom es n None
-none_from es [] n k h =
-    let all : es ≡ k.front = k.parts ∙ ap (λ l. k.front ++ l) (k.some refl) ∙ append-nil k.front in
-    subst (All (λ e. hi_of e < n)) (sym all) k.below
-none_from es (y ∷ ys) n k h = absurd (omega arith)
-
 -- whether the number is a member is asked of the entry that reaches it
 pub asked : (es : List Entry) (e : Entry) (s : ℕ) → EntriesFrom 0 es → IsEntryFrom es s (Some e) → Covers (pieces e) s ↔ Covers (members_of es) s
 asked es e s order k =

@@ -78,9 +78,6 @@ joined_after old new front last lo hi was is r past apart h =
 
 -- ---- runs that are taken up to a number
 
-pub taken_none : (spans : List Span) (n : ℕ) → Taken spans n n []
-taken_none spans n = record { from = omega arith; are = (tt, λ s. (λ m. absurd m, λ k. absurd (omega (arith, k.0, k.1)))) }
-
 pub taken_past : (spans runs : List Span) (n at lo s : ℕ) → Taken spans n at runs → at ≤ lo → Covers runs s → s < lo
 taken_past spans runs n at lo s t h m = let k = (t.are.1 s).0 m in omega (arith, k.1)
 
@@ -164,9 +161,6 @@ pub record Rest (es : List Entry) (number at : ℕ) (rest : List Entry) : Type 0
   pub order : (at ≡ number) ⊎ EntriesFrom at rest
   pub from : number ≤ at
   pub reach : All (λ e. number ≤ hi_of e) rest
-
-pub rest_all : (es part : List Entry) (n : ℕ) → IsListFrom es n part → Rest es n n part
-rest_all es part n k = record { front = k.front; back = k.back; parts = k.parts; below = k.below; order = inl refl; from = omega arith; reach = k.reach }
 
 pub rest_first : (es : List Entry) (n at : ℕ) (e : Entry) (rest : List Entry) → EntriesFrom 0 es → Rest es n at (e ∷ rest) → Reads (members_of es) at e n
 rest_first es n at e rest order k =

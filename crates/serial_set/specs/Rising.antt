@@ -84,11 +84,6 @@ runs_join a b (x ∷ xs) ys h r below s =
     let tail = All-tail (λ t. t.hi + 2 ≤ b) x xs below in
     (r.0, r.1, runs_join (x.hi + 2) b xs ys head r.2 tail s)
 
--- a list rises from further up where its first span does
-pub runs_raise : (a b : ℕ) (xs : List Span) → RunsFrom a xs → All (λ t. b ≤ t.lo) xs → RunsFrom b xs
-runs_raise a b [] r above = tt
-runs_raise a b (x ∷ xs) r above = (All-head (λ t. b ≤ t.lo) x xs above, r.1, r.2)
-
 -- ---- by places
 
 pub runs_at : (a : ℕ) (xs : List Span) (i : ℕ) (d : Span) → RunsFrom a xs → i < length xs

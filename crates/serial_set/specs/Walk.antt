@@ -284,17 +284,6 @@ clipped_take n zero xs = refl
 clipped_take n (suc k) [] = refl
 clipped_take n (suc k) (x ∷ xs) = refl
 
-pub clipped_set : (n c : ℕ) (xs : List Span) (d : Span) → 0 < c → c ≤ length xs
-    → take c (set xs 0 (record { lo = max n (get_or xs 0 d).lo; hi = (get_or xs 0 d).hi }))
-    ≡ clipped n (take c xs)
-clipped_set n zero xs d h k = absurd (omega arith)
-clipped_set n (suc c) [] d h k = absurd (omega arith)
-clipped_set n (suc c) (x ∷ xs) d h k = refl
-
-pub clipped_none : (n c : ℕ) (xs : List Span) → c ≤ 0 → take c xs ≡ clipped n (take c xs)
-clipped_none n zero xs h = refl
-clipped_none n (suc c) xs h = absurd (omega arith)
-
 -- the first of what is left are a piece
 pub piece_first : (spans rest piece : List Span) (n : ℕ) → since n spans ≡ rest
     → piece ≡ take 32 rest → IsPiece spans n piece

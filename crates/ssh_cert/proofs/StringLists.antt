@@ -212,10 +212,3 @@ pub count_ends : (all left : List ℕ) (count : ℕ) → Counts all left count �
 count_ends all left count counts none =
     let empty : strings_of left ≡ Some [] = ap strings_of none ∙ strings_of_none in
     ap (λ (n : ℕ). Some n) (omega arith) ∙ ap (option_map (λ (list : List (List ℕ)). count + length list)) (sym empty) ∙ counts.counted
-
--- where the strings are counted, they fill the bytes
-pub counted_are : (bytes : List ℕ) (count : ℕ) → Some count ≡ option_map length (strings_of bytes) → (AreStrings bytes) × (count ≡ length (strings_in bytes))
-counted_are bytes count e =
-    let m = map_some length (strings_of bytes) count (sym e) in
-    let are = are_some bytes m.0 m.1 in
-    (are.1, sym m.2 ∙ ap length (sym are.0))

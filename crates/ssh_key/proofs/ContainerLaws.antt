@@ -100,9 +100,6 @@ has_parts inside rest values p nothing leads =
 opened_parts : (inside rest : List ℕ) (values : List (List ℕ)) (p : Parts inside values rest) → opened values ≡ (list_at p.key p.list >>= λ comment. Ok (record { blob = p.blob; comment = comment }))
 opened_parts inside rest values p = ap opened (sym p.is) ∙ rw (p.read) refl
 
-opened_made : (blob comment : List ℕ) → Opened
-opened_made blob comment = record { blob = blob; comment = comment }
-
 pub inside_found : (inside : List ℕ) (o : Opened) → IsBytes inside → inside_at inside ≡ Ok o → Inside inside o.blob o.comment
 unfolding inside_at
 inside_found inside o fits e =

@@ -67,10 +67,6 @@ pub ed25519_device_same : (public bytes k r1 a r2 : List ℕ) (flags : ℕ) (r3 
 unfolding same_at row_at
 ed25519_device_same public bytes k r1 a r2 flags r3 h r4 s r5 e1 e2 e3 e4 e5 = rw (e1, e2, e3, e4, e5) refl
 
-pub rsa_same : (public bytes n r1 e r2 d r3 i r4 p r5 q r6 : List ℕ) → mpint_at bytes ≡ Ok (n, r1) → mpint_at r1 ≡ Ok (e, r2) → mpint_at r2 ≡ Ok (d, r3) → mpint_at r3 ≡ Ok (i, r4) → mpint_at r4 ≡ Ok (p, r5) → mpint_at r5 ≡ Ok (q, r6) → same_at Rsa public bytes ≡ Ok (bytes_eq (mpint e ++ (mpint n ++ [])) public, r6)
-unfolding same_at row_at
-rsa_same public bytes n r1 e r2 d r3 i r4 p r5 q r6 e1 e2 e3 e4 e5 e6 = rw (e1, e2, e3, e4, e5, e6) refl
-
 -- ---- two parts
 
 pub joined_same : (first second bytes rest : List ℕ) → bytes ≡ first ++ rest → bytes_eq rest second ≡ bytes_eq (first ++ second) bytes

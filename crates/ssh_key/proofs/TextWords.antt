@@ -170,10 +170,6 @@ by_part text (Some part) found = by_rest text part found
 pub none_or_words : (text : List ℕ) → (line_at text ≡ Err NoKey) ⊎ HasSomeWords text
 none_or_words text = by_part text (key_part (trimmed text)) refl
 
-pub words_name : (text word encoded comment : List ℕ) → HasWords text word encoded comment → Contains type_names word
-words_name text word encoded comment (inl k) = k.name
-words_name text word encoded comment (inr o) = o.are_words.name
-
 IsBytes-encoded : (part word encoded comment : List ℕ) → IsBytes part → AreWords part word encoded comment → IsBytes encoded
 IsBytes-encoded part word encoded comment fits k =
     let after = IsBytes-back word (k.blanks ++ (encoded ++ k.end)) (subst IsBytes k.spelled fits) in

@@ -49,14 +49,6 @@ length-numbers (n ∷ numbers) =
       length-numbers numbers,
     )
 
--- the number of the first k bytes
-pub number_of-take : (k : ℕ) (bytes : List ℕ) → k ≤ length bytes
-    → number_of (take k bytes) ≡ big_number k bytes
-unfolding number_of
-number_of-take k bytes long =
-    let len : length (take k bytes) ≡ k = omega (arith, length-take k bytes) in
-    rw len (big_from-take 0 k k bytes (omega arith))
-
 pub number_takes : (k : ℕ) (bytes : List ℕ) (n : ℕ) (rest : List ℕ) → IsBytes bytes
     → number_at k bytes ≡ Ok (n, rest) → HasFront bytes (number k n) rest × (n < 256 ^ k)
 unfolding number_at number
