@@ -1,12 +1,9 @@
 -- The end of a list, once it was found.
-use Rattle.std.proofs.Common.{ℕ, true, List, ◌++◌, None, refl, ap, ◌∙◌}
-use Rattle.std.specs.List.{concat}
-use Rattle.std.proofs.lemmas.List.{append-nil}
-use Rattle.ssh_wire.specs.Pull.{Pulled, left_of}
+use Rattle.std.proofs.Common.{ℕ, true, List, None, refl}
+use Rattle.ssh_wire.specs.Pull.{Pulled}
 use Rattle.krl_core.specs.declared.place.Place.{Place}
 use Rattle.krl_core.specs.Keeping.{Keeping}
-use Rattle.krl_core.specs.Reading.{Ends, HasRead, IsEnded, IsReached, Position, working}
-use Rattle.krl_core.proofs.Stepping.{at_end_none}
+use Rattle.krl_core.specs.Reading.{Ends, HasRead, IsReached, Position, working}
 
 -- a position at which the end was found
 abbrev pub at_its_end : Pulled → Place → Keeping → Position

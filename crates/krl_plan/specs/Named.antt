@@ -68,7 +68,8 @@ pub last_fits : (runs : List Span) → IsRuns runs → AreSerials runs
 last_fits [] r h = omega arith
 last_fits (run ∷ runs) r h =
     let named = end_named 0 run runs r in
-    omega (arith, (within_end 0 run runs (end_of run runs) r named).0, (h (end_of run runs) named).1)
+    let end : ℕ = end_of run runs in
+    omega (arith, (within_end 0 run runs end r named).0, (h end named).1)
 
 -- ---- bits
 

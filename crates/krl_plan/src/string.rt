@@ -8,8 +8,8 @@ use byteorder::{BigEndian, ByteOrder};
 use ssh_wire::{put_byte, put_u32};
 use std::alloc::AllocError;
 
-/// Appends a type byte and, for the length of the string that follows, four bytes that are zero. Gives
-/// the place of the four, at which `end_string` puts the length.
+/// Appends a type byte and, for the length of the string that follows, four bytes that are zero.
+/// Gives the place of the four, at which `end_string` puts the length.
 pub fn begin_string(out: &mut Vec<u8>, type_byte: u8) -> Result<usize, AllocError>
     ensures { IfOk result (λ at. (at ≡ length out.old.items + 1)
         × (out.new.items ≡ out.old.items ++ type_byte ∷ number 4 0)) }

@@ -15,7 +15,7 @@ use Rattle.krl_core.specs.Entry.{Entry, RangeEntry, KeyEntry, Sha1Entry, Sha256E
 use Rattle.krl_spec.specs.Number.{serials_of_text}
 use Rattle.krl_spec.specs.Line.{Order, bare_line, order_in}
 use Rattle.krl_spec.specs.Entry.{bare_entry, counted_entry, hash_order, id_order, line_entry, names_entry, order_entry, plain_in, serial_order, subject_in, text_entry}
-use Rattle.krl_spec.specs.Naming.{IsJudged, IsKeyCause, IsOrderFault, IsSubjectLine, NamesKey, NamesSubject, OrderNames, by_key, by_order}
+use Rattle.krl_spec.specs.Naming.{IsJudged, IsKeyCause, IsLineFault, IsOrderFault, IsSubjectLine, LineNames, NamesKey, NamesSubject, OrderNames, by_key, by_order}
 use Rattle.krl_spec.specs.Spelled.{Counts, IsOrder}
 use Rattle.krl_spec.specs.declared.number.Bounds.{Bounds}
 use Rattle.krl_spec.specs.declared.directive.Directive.{Directive}
@@ -39,10 +39,10 @@ pub record ReadLaws : Type 0 where
 
 -- ---- what is made of what is read
 
-pub made_found : {A B E : Type 0} (make : A → B) (read : Result A E) (made : B) → (read >>= λ x. Ok (make x)) ≡ Ok made → (x : A) × (read ≡ Ok x) × (made ≡ make x)
+made_found : {A B E : Type 0} (make : A → B) (read : Result A E) (made : B) → (read >>= λ x. Ok (make x)) ≡ Ok made → (x : A) × (read ≡ Ok x) × (made ≡ make x)
 made_found make read made e = let found = bind_ok read (λ x. Ok (make x)) made e in (found.0, found.1, cc)
 
-pub made_refused : {A B E : Type 0} (make : A → B) (read : Result A E) (fault : E) → (read >>= λ x. Ok (make x)) ≡ Err fault → read ≡ Err fault
+made_refused : {A B E : Type 0} (make : A → B) (read : Result A E) (fault : E) → (read >>= λ x. Ok (make x)) ≡ Err fault → read ≡ Err fault
 made_refused make (Ok x) fault e = absurd cc
 made_refused {E = E} make (Err other) fault e = let same : other ≡ fault = cc in ap (λ (f : E). Err f) same
 
@@ -93,102 +93,77 @@ id_fault_met (Some under) given cause is = rw (is.0, is.1) refl
 abbrev key_made : (List ℕ → Entry) → List ℕ → Result Entry SpecCause
 key_made make given = plain_in given >>= λ plain. Ok (make plain)
 
-key_found : ReadLaws → (make : List ℕ → Entry) (given : List ℕ) (entry : Entry) → IsBytes given → key_made make given ≡ Ok entry → NamesKey make given entry
+key_names : ReadLaws → (make : List ℕ → Entry) (given : List ℕ) (entry : Entry) → IsBytes given → (key_made make given ≡ Ok entry) ↔ NamesKey make given entry
 unfolding plain_in
-key_found laws make given entry fits e =
-    let read = made_found make (subject_in given >>= λ asked. Ok asked.plain) entry e in
-    let asks = made_found (λ asked. asked.plain) (subject_in given) read.0 read.1 in
-    (asks.0, (laws.keys given asks.0 fits).0 asks.1, read.2 ∙ ap make asks.2)
+key_names laws make given entry fits = (
+  λ e.
+      let read = made_found make (subject_in given >>= λ asked. Ok asked.plain) entry e in
+      let asks = made_found (λ asked. asked.plain) (subject_in given) read.0 read.1 in
+      (asks.0, (laws.keys given asks.0 fits).0 asks.1, read.2 ∙ ap make asks.2),
+  λ named. rw ((laws.keys given named.0 fits).1 named.1, named.2) refl,
+)
 
-key_again : ReadLaws → (make : List ℕ → Entry) (given : List ℕ) (entry : Entry) → IsBytes given → NamesKey make given entry → key_made make given ≡ Ok entry
+key_refuses : ReadLaws → (make : List ℕ → Entry) (given : List ℕ) (cause : SpecCause) → IsBytes given → (key_made make given ≡ Err cause) ↔ IsKeyCause given cause
 unfolding plain_in
-key_again laws make given entry fits (asked, is_line, is) = rw ((laws.keys given asked fits).1 is_line, is) refl
-
-key_refused : ReadLaws → (make : List ℕ → Entry) (given : List ℕ) (cause : SpecCause) → IsBytes given → key_made make given ≡ Err cause → IsKeyCause given cause
-unfolding plain_in
-key_refused laws make given cause fits e =
-    let read = made_refused make (subject_in given >>= λ asked. Ok asked.plain) cause e in
-    (laws.no_keys given cause fits).0 (made_refused (λ asked. asked.plain) (subject_in given) cause read)
-
-key_fault_met : ReadLaws → (make : List ℕ → Entry) (given : List ℕ) (cause : SpecCause) → IsBytes given → IsKeyCause given cause → key_made make given ≡ Err cause
-unfolding plain_in
-key_fault_met laws make given cause fits is = rw ((laws.no_keys given cause fits).1 is) refl
+key_refuses laws make given cause fits = (
+  λ e.
+      let read = made_refused make (subject_in given >>= λ asked. Ok asked.plain) cause e in
+      (laws.no_keys given cause fits).0 (made_refused (λ asked. asked.plain) (subject_in given) cause read),
+  λ is. rw ((laws.no_keys given cause fits).1 is) refl,
+)
 
 abbrev digest_read : List ℕ → Result (List ℕ) SpecCause
 digest_read given = in_fault causes.Fingerprint (fingerprint_at given)
 
-hash_found : ReadLaws → (authority : Option (List ℕ)) (given : List ℕ) (entry : Entry) → IsBytes given → hash_order given ≡ Ok entry → OrderNames authority Hash given entry
-hash_found laws authority given entry fits e =
-    let read = made_found Sha256Entry (digest_read given) entry e in
-    (read.0, (laws.digests given read.0 fits).0 (in_fault_ok causes.Fingerprint (fingerprint_at given) read.0 read.1), read.2)
+hash_names : ReadLaws → (authority : Option (List ℕ)) (given : List ℕ) (entry : Entry) → IsBytes given → (hash_order given ≡ Ok entry) ↔ OrderNames authority Hash given entry
+hash_names laws authority given entry fits = (
+  λ e.
+      let read = made_found Sha256Entry (digest_read given) entry e in
+      (read.0, (laws.digests given read.0 fits).0 (in_fault_ok causes.Fingerprint (fingerprint_at given) read.0 read.1), read.2),
+  λ named. rw (named.2, (laws.digests given named.0 fits).1 named.1) refl,
+)
 
-hash_again : ReadLaws → (authority : Option (List ℕ)) (given : List ℕ) (entry : Entry) → IsBytes given → OrderNames authority Hash given entry → hash_order given ≡ Ok entry
-hash_again laws authority given entry fits (digest, named, is) = rw (is, (laws.digests given digest fits).1 named) refl
-
-hash_refused : ReadLaws → (authority : Option (List ℕ)) (given : List ℕ) (cause : SpecCause) → IsBytes given → hash_order given ≡ Err cause → IsOrderFault authority Hash given cause
-hash_refused laws authority given cause fits e =
-    let why = in_fault_err causes.Fingerprint (fingerprint_at given) cause (made_refused Sha256Entry (digest_read given) cause e) in
-    (why.0, (laws.no_digests given why.0 fits).0 why.1, why.2)
-
-hash_fault_met : ReadLaws → (authority : Option (List ℕ)) (given : List ℕ) (cause : SpecCause) → IsBytes given → IsOrderFault authority Hash given cause → hash_order given ≡ Err cause
-hash_fault_met laws authority given cause fits (fault, first, is) = rw (is, (laws.no_digests given fault fits).1 first) refl
+hash_refuses : ReadLaws → (authority : Option (List ℕ)) (given : List ℕ) (cause : SpecCause) → IsBytes given → (hash_order given ≡ Err cause) ↔ IsOrderFault authority Hash given cause
+hash_refuses laws authority given cause fits = (
+  λ e.
+      let why = in_fault_err causes.Fingerprint (fingerprint_at given) cause (made_refused Sha256Entry (digest_read given) cause e) in
+      (why.0, (laws.no_digests given why.0 fits).0 why.1, why.2),
+  λ is. rw (is.2, (laws.no_digests given is.0 fits).1 is.1) refl,
+)
 
 -- ---- directives
 
-pub order_names : ReadLaws → (authority : Option (List ℕ)) (directive : Directive) (given : List ℕ) (entry : Entry) → IsBytes given
-    → order_entry authority directive given ≡ Ok entry → OrderNames authority directive given entry
-order_names laws authority Serial given entry fits e = serial_found authority given entry e
-order_names laws authority Id given entry fits e = id_found authority given entry e
-order_names laws authority Key given entry fits e = key_found laws KeyEntry given entry fits e
-order_names laws authority Sha1 given entry fits e = key_found laws (λ plain. Sha1Entry (sha1 plain)) given entry fits e
-order_names laws authority Sha256 given entry fits e = key_found laws (λ plain. Sha256Entry (sha256 plain)) given entry fits e
-order_names laws authority Hash given entry fits e = hash_found laws authority given entry fits e
+order_names : ReadLaws → (authority : Option (List ℕ)) (directive : Directive) (given : List ℕ) (entry : Entry) → IsBytes given
+    → (order_entry authority directive given ≡ Ok entry) ↔ OrderNames authority directive given entry
+order_names laws authority Serial given entry fits = (serial_found authority given entry, serial_again authority given entry)
+order_names laws authority Id given entry fits = (id_found authority given entry, id_again authority given entry)
+order_names laws authority Key given entry fits = key_names laws KeyEntry given entry fits
+order_names laws authority Sha1 given entry fits = key_names laws (λ plain. Sha1Entry (sha1 plain)) given entry fits
+order_names laws authority Sha256 given entry fits = key_names laws (λ plain. Sha256Entry (sha256 plain)) given entry fits
+order_names laws authority Hash given entry fits = hash_names laws authority given entry fits
 
-pub names_order : ReadLaws → (authority : Option (List ℕ)) (directive : Directive) (given : List ℕ) (entry : Entry) → IsBytes given
-    → OrderNames authority directive given entry → order_entry authority directive given ≡ Ok entry
-names_order laws authority Serial given entry fits is = serial_again authority given entry is
-names_order laws authority Id given entry fits is = id_again authority given entry is
-names_order laws authority Key given entry fits is = key_again laws KeyEntry given entry fits is
-names_order laws authority Sha1 given entry fits is = key_again laws (λ plain. Sha1Entry (sha1 plain)) given entry fits is
-names_order laws authority Sha256 given entry fits is = key_again laws (λ plain. Sha256Entry (sha256 plain)) given entry fits is
-names_order laws authority Hash given entry fits is = hash_again laws authority given entry fits is
-
-pub order_refused : ReadLaws → (authority : Option (List ℕ)) (directive : Directive) (given : List ℕ) (cause : SpecCause) → IsBytes given
-    → order_entry authority directive given ≡ Err cause → IsOrderFault authority directive given cause
-order_refused laws authority Serial given cause fits e = serial_refused authority given cause e
-order_refused laws authority Id given cause fits e = id_refused authority given cause e
-order_refused laws authority Key given cause fits e = key_refused laws KeyEntry given cause fits e
-order_refused laws authority Sha1 given cause fits e = key_refused laws (λ plain. Sha1Entry (sha1 plain)) given cause fits e
-order_refused laws authority Sha256 given cause fits e = key_refused laws (λ plain. Sha256Entry (sha256 plain)) given cause fits e
-order_refused laws authority Hash given cause fits e = hash_refused laws authority given cause fits e
-
-pub order_fault_met : ReadLaws → (authority : Option (List ℕ)) (directive : Directive) (given : List ℕ) (cause : SpecCause) → IsBytes given
-    → IsOrderFault authority directive given cause → order_entry authority directive given ≡ Err cause
-order_fault_met laws authority Serial given cause fits is = serial_fault_met authority given cause is
-order_fault_met laws authority Id given cause fits is = id_fault_met authority given cause is
-order_fault_met laws authority Key given cause fits is = key_fault_met laws KeyEntry given cause fits is
-order_fault_met laws authority Sha1 given cause fits is = key_fault_met laws (λ plain. Sha1Entry (sha1 plain)) given cause fits is
-order_fault_met laws authority Sha256 given cause fits is = key_fault_met laws (λ plain. Sha256Entry (sha256 plain)) given cause fits is
-order_fault_met laws authority Hash given cause fits is = hash_fault_met laws authority given cause fits is
+order_refuses : ReadLaws → (authority : Option (List ℕ)) (directive : Directive) (given : List ℕ) (cause : SpecCause) → IsBytes given
+    → (order_entry authority directive given ≡ Err cause) ↔ IsOrderFault authority directive given cause
+order_refuses laws authority Serial given cause fits = (serial_refused authority given cause, serial_fault_met authority given cause)
+order_refuses laws authority Id given cause fits = (id_refused authority given cause, id_fault_met authority given cause)
+order_refuses laws authority Key given cause fits = key_refuses laws KeyEntry given cause fits
+order_refuses laws authority Sha1 given cause fits = key_refuses laws (λ plain. Sha1Entry (sha1 plain)) given cause fits
+order_refuses laws authority Sha256 given cause fits = key_refuses laws (λ plain. Sha256Entry (sha256 plain)) given cause fits
+order_refuses laws authority Hash given cause fits = hash_refuses laws authority given cause fits
 
 -- ---- bare lines
 
 abbrev entry_of : Subject → Entry
 entry_of asked = names_entry asked.plain asked.cert
 
-pub bare_names : ReadLaws → (text : List ℕ) (entry : Entry) → IsBytes text → bare_entry text ≡ Ok entry → NamesSubject text entry
-bare_names laws text entry fits e =
-    let read = made_found entry_of (subject_in text) entry e in
-    (read.0, (laws.keys text read.0 fits).0 read.1, read.2)
+bare_names : ReadLaws → (text : List ℕ) (entry : Entry) → IsBytes text → (bare_entry text ≡ Ok entry) ↔ NamesSubject text entry
+bare_names laws text entry fits = (
+  λ e. let read = made_found entry_of (subject_in text) entry e in (read.0, (laws.keys text read.0 fits).0 read.1, read.2),
+  λ named. rw ((laws.keys text named.0 fits).1 named.1, named.2) refl,
+)
 
-pub names_bare : ReadLaws → (text : List ℕ) (entry : Entry) → IsBytes text → NamesSubject text entry → bare_entry text ≡ Ok entry
-names_bare laws text entry fits (asked, is_line, is) = rw ((laws.keys text asked fits).1 is_line, is) refl
-
-pub bare_refused : ReadLaws → (text : List ℕ) (cause : SpecCause) → IsBytes text → bare_entry text ≡ Err cause → IsKeyCause text cause
-bare_refused laws text cause fits e = (laws.no_keys text cause fits).0 (made_refused entry_of (subject_in text) cause e)
-
-pub bare_fault_met : ReadLaws → (text : List ℕ) (cause : SpecCause) → IsBytes text → IsKeyCause text cause → bare_entry text ≡ Err cause
-bare_fault_met laws text cause fits is = rw ((laws.no_keys text cause fits).1 is) refl
+bare_refuses : ReadLaws → (text : List ℕ) (cause : SpecCause) → IsBytes text → (bare_entry text ≡ Err cause) ↔ IsKeyCause text cause
+bare_refuses laws text cause fits = (λ e. (laws.no_keys text cause fits).0 (made_refused entry_of (subject_in text) cause e), λ is. rw ((laws.no_keys text cause fits).1 is) refl)
 
 -- ---- lines
 
@@ -214,9 +189,9 @@ counted_cases : (authority : Option (List ℕ)) (text : List ℕ) (read : Result
 counted_cases authority [] read e = absurd cc
 counted_cases authority (byte ∷ bytes) read e = (omega arith, same_Some _ _ e)
 
-pub judged_found : (Ordered : Directive → List ℕ → Type 0) (Bare : List ℕ → Type 0) (authority : Option (List ℕ)) (line : List ℕ) (read : Result Entry SpecCause) → IsBytes line
-    → ((directive : Directive) (given : List ℕ) → IsBytes given → order_entry authority directive given ≡ read → Ordered directive given)
-    → ((text : List ℕ) → IsBytes text → bare_entry text ≡ read → Bare text)
+judged_found : (Ordered : Directive → List ℕ → Type 0) (Bare : List ℕ → Type 0) (authority : Option (List ℕ)) (line : List ℕ) (read : Result Entry SpecCause) → IsBytes line
+    → ((directive : Directive) (given : List ℕ) → IsBytes given → (order_entry authority directive given ≡ read) ↔ Ordered directive given)
+    → ((text : List ℕ) → IsBytes text → (bare_entry text ≡ read) ↔ Bare text)
     → line_entry authority line ≡ Some read → IsJudged Ordered Bare line
 unfolding line_entry
 judged_found Ordered Bare authority line read fits by_directive by_line e =
@@ -225,16 +200,16 @@ judged_found Ordered Bare authority line read fits by_directive by_line e =
     let text_fits : IsBytes text = counted_bytes line text counts fits in
     let has = counted_cases authority text read e in
     elim (none_or_order text) [
-      | inl none ↦ by_key text counts has.0 (no_order text none) (by_line text text_fits (sym (ap (text_entry authority text) none) ∙ has.1))
+      | inl none ↦ by_key text counts has.0 (no_order text none) ((by_line text text_fits).0 (sym (ap (text_entry authority text) none) ∙ has.1))
       | inr found ↦
           let is = order_found text found.0 found.1 in
           by_order text found.0.directive found.0.given counts is
-          (by_directive found.0.directive found.0.given (given_bytes text found.0.directive found.0.given is text_fits) (sym (ap (text_entry authority text) found.1) ∙ has.1))
+          ((by_directive found.0.directive found.0.given (given_bytes text found.0.directive found.0.given is text_fits)).0 (sym (ap (text_entry authority text) found.1) ∙ has.1))
     ]
 
-pub judged_again : (Ordered : Directive → List ℕ → Type 0) (Bare : List ℕ → Type 0) (authority : Option (List ℕ)) (line : List ℕ) (read : Result Entry SpecCause) → IsBytes line
-    → ((directive : Directive) (given : List ℕ) → IsBytes given → Ordered directive given → order_entry authority directive given ≡ read)
-    → ((text : List ℕ) → IsBytes text → Bare text → bare_entry text ≡ read)
+judged_again : (Ordered : Directive → List ℕ → Type 0) (Bare : List ℕ → Type 0) (authority : Option (List ℕ)) (line : List ℕ) (read : Result Entry SpecCause) → IsBytes line
+    → ((directive : Directive) (given : List ℕ) → IsBytes given → (order_entry authority directive given ≡ read) ↔ Ordered directive given)
+    → ((text : List ℕ) → IsBytes text → (bare_entry text ≡ read) ↔ Bare text)
     → IsJudged Ordered Bare line → line_entry authority line ≡ Some read
 unfolding line_entry
 judged_again Ordered Bare authority line read fits by_directive by_line (by_order text directive given counts is ordered) =
@@ -242,12 +217,28 @@ judged_again Ordered Bare authority line read fits by_directive by_line (by_orde
     ap (counted_entry authority) (counted_again line text counts)
     ∙ counted_some authority text (order_some text directive given is)
     ∙ ap (λ (o : Option Order). Some (text_entry authority text o)) (order_again text directive given is)
-    ∙ ap (λ (r : Result Entry SpecCause). Some r) (by_directive directive given given_fits ordered)
+    ∙ ap (λ (r : Result Entry SpecCause). Some r) ((by_directive directive given given_fits).1 ordered)
 judged_again Ordered Bare authority line read fits by_directive by_line (by_key text counts some none bare) =
     ap (counted_entry authority) (counted_again line text counts)
     ∙ counted_some authority text some
     ∙ ap (λ (o : Option Order). Some (text_entry authority text o)) (order_missing text none)
-    ∙ ap (λ (r : Result Entry SpecCause). Some r) (by_line text (counted_bytes line text counts fits) bare)
+    ∙ ap (λ (r : Result Entry SpecCause). Some r) ((by_line text (counted_bytes line text counts fits)).1 bare)
+
+pub line_names : ReadLaws → (authority : Option (List ℕ)) (line : List ℕ) (entry : Entry) → IsBytes line → (line_entry authority line ≡ Some (Ok entry)) ↔ LineNames authority line entry
+line_names laws authority line entry fits =
+    let ordered = λ (directive : Directive) (given : List ℕ). order_names laws authority directive given entry in
+    let bare = λ (text : List ℕ). bare_names laws text entry in (
+      judged_found _ _ authority line (Ok entry) fits ordered bare,
+      judged_again _ _ authority line (Ok entry) fits ordered bare,
+    )
+
+pub line_refuses : ReadLaws → (authority : Option (List ℕ)) (line : List ℕ) (cause : SpecCause) → IsBytes line → (line_entry authority line ≡ Some (Err cause)) ↔ IsLineFault authority line cause
+line_refuses laws authority line cause fits =
+    let ordered = λ (directive : Directive) (given : List ℕ). order_refuses laws authority directive given cause in
+    let bare = λ (text : List ℕ). bare_refuses laws text cause in (
+      judged_found _ _ authority line (Err cause) fits ordered bare,
+      judged_again _ _ authority line (Err cause) fits ordered bare,
+    )
 
 nothing_counted : (authority : Option (List ℕ)) (text : List ℕ) → counted_entry authority text ≡ None → text ≡ []
 nothing_counted authority [] e = refl

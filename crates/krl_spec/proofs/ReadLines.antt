@@ -154,13 +154,7 @@ stops : (authority : Option (List ℕ)) (text : List ℕ) (passed : ℕ) (line :
     (read : Result Entry SpecCause) (cause : SpecCause) → IsAt authority (slice_split is_newline text) passed (line ∷ rest) old new
     → line_entry authority line ≡ Some read → Reports cause read → StopsAt authority text (passed + 1) cause old new
 stops authority text passed line rest old new read causes.NoMemory at is reports = starved authority _ passed line rest old new at
-stops authority text passed line rest old new read causes.Number at is reports = reported authority text passed line rest old new _ at (is ∙ ap Some reports)
-stops authority text passed line rest old new read causes.Zero at is reports = reported authority text passed line rest old new _ at (is ∙ ap Some reports)
-stops authority text passed line rest old new read causes.Reversed at is reports = reported authority text passed line rest old new _ at (is ∙ ap Some reports)
-stops authority text passed line rest old new read causes.NoAuthority at is reports = reported authority text passed line rest old new _ at (is ∙ ap Some reports)
-stops authority text passed line rest old new read causes.EmptyId at is reports = reported authority text passed line rest old new _ at (is ∙ ap Some reports)
-stops authority text passed line rest old new read (causes.Key cause) at is reports = reported authority text passed line rest old new _ at (is ∙ ap Some reports)
-stops authority text passed line rest old new read (causes.Fingerprint fault) at is reports = reported authority text passed line rest old new _ at (is ∙ ap Some reports)
+stops authority text passed line rest old new read cause at is reports = reported authority text passed line rest old new cause at (is ∙ ap Some reports)
 
 stopped_by : (Stores : Contents → Contents → Type 0) (authority : Option (List ℕ)) (text : List ℕ) (passed : ℕ) (line : List ℕ) (rest : List (List ℕ)) (old mid new : Contents)
     (read : Option (Result Entry SpecCause)) (cause : SpecCause) → IsAt authority (slice_split is_newline text) passed (line ∷ rest) old mid

@@ -226,8 +226,4 @@ serials_fault_met text causes.Zero (lo, hi, are, zeros) =
     within text (bounds lo hi) (bounds_again text lo hi are) ∙ judged_zero (bounds lo hi) zeros
 serials_fault_met text causes.Reversed (lo, hi, are, some, below) =
     within text (bounds lo hi) (bounds_again text lo hi are) ∙ judged_reversed (bounds lo hi) some below
-serials_fault_met text causes.NoAuthority none = absurd none
-serials_fault_met text causes.EmptyId none = absurd none
-serials_fault_met text (causes.Key why) none = absurd none
-serials_fault_met text (causes.Fingerprint fault) none = absurd none
-serials_fault_met text causes.NoMemory none = absurd none
+serials_fault_met text cause none = absurd none

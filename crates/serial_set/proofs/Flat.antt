@@ -1,7 +1,7 @@
 -- Lists in a row: what the lists before a place have, the one there, and those after it.
 use Rattle.std.proofs.Common.{◌≡◌, ℕ, ◌+◌, ◌-◌, ◌<◌, ◌≤◌, List, [], ◌∷◌, ◌++◌, length, get_or, take, drop, sym, ap, subst, arith, suc, set, ◌∙◌, add-zero, length-append, length-drop}
 use Rattle.std.specs.List.{All, flat_map, insert}
-use Rattle.std.proofs.lemmas.List.{append_assoc, take-append-drop, drop_more, take_at, drop_at, drop-drop, drop-set, drop-set-lt, get_or-drop, length-take-le, set_split, take_more_set, get_or_append_left, get_or-append-add}
+use Rattle.std.proofs.lemmas.List.{append_assoc, take-append-drop, drop_more, drop_at, drop-drop, drop-set, drop-set-lt, get_or-drop, length-take-le, set_split, take_more_set, get_or_append_left, get_or-append-add}
 use Rattle.std.proofs.lemmas.List.Concat.{flat_map-append}
 use Rattle.std.proofs.lemmas.List.Elements.{All-head}
 

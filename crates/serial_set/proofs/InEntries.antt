@@ -7,7 +7,7 @@ use Rattle.std.proofs.lemmas.List.{take-append-drop, take_all, drop_more, length
 use Rattle.std.proofs.lemmas.List.Elements.{All-nil, All-cons, All-head, All-tail}
 use Rattle.serial_set.specs.declared.entry.Entry.{Entry}
 use Rattle.serial_set.specs.Entry.{lo_of, hi_of, EntriesFrom}
-use Rattle.serial_set.specs.Entries.{stretch, entries_front, entries_back}
+use Rattle.serial_set.specs.Entries.{stretch, entries_back}
 use Rattle.serial_set.specs.Places.{end_of}
 
 pub entries_each : (a : ℕ) (es : List Entry) → EntriesFrom a es → All (λ e. a ≤ lo_of e) es

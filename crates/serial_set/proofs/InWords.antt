@@ -1,8 +1,7 @@
 -- A set's entries: asked for a number, and after one change.
-use Rattle.std.proofs.Common.{◌≡◌, ℕ, ◌+◌, ◌*◌, ◌^◌, ◌<◌, ◌≤◌, ◌⊎◌, ◌↔◌, List, [], ◌∷◌, ◌++◌, Some, None, Result, Ok, Err, OnOk, OnErr, length, get_or, sym, subst, inl, inr, arith, ◌∙◌, ap, refl}
+use Rattle.std.proofs.Common.{◌≡◌, ℕ, ◌+◌, ◌*◌, ◌^◌, ◌<◌, ◌≤◌, ◌⊎◌, ◌↔◌, List, [], ◌∷◌, ◌++◌, Some, Result, Ok, Err, OnOk, OnErr, sym, subst, inl, inr, arith, ◌∙◌, refl}
 use Rattle.std.specs.List.{All}
-use Rattle.std.proofs.lemmas.List.{append-nil}
-use Rattle.std.proofs.lemmas.List.Elements.{All-nil, All-cons, All-head, All-weaker}
+use Rattle.std.proofs.lemmas.List.Elements.{All-nil, All-cons, All-weaker}
 use Rattle.serial_set.specs.declared.entry.Entry.{Entry}
 use Rattle.std.specs.Prelude.{Bool, true, false, IsTrue, IfOk}
 use Rattle.serial_set.specs.Span.{Covers, AreSerials, IsRunsOf}
@@ -10,7 +9,7 @@ use Rattle.serial_set.specs.Words.{BitCovers}
 use Rattle.serial_set.specs.Rising.{names_append, names_left, names_right}
 use Rattle.serial_set.specs.Entry.{pieces, lo_of, hi_of, EntriesFrom, members_of, runs_of}
 use Rattle.serial_set.specs.Entries.{stretch, has_append, has_left, has_right, has_from, none_below, entries_back, Replaces, replaced_order, replaced_runs, runs_of_entries}
-use Rattle.serial_set.specs.Places.{IsEntryFrom, IsListFrom, PutBetween, PutIf, WordWidened}
+use Rattle.serial_set.specs.Places.{IsEntryFrom, PutBetween, PutIf, WordWidened}
 
 -- whether the number is a member is asked of the entry that reaches it
 pub asked : (es : List Entry) (e : Entry) (s : ℕ) → EntriesFrom 0 es → IsEntryFrom es s (Some e) → Covers (pieces e) s ↔ Covers (members_of es) s

@@ -10,7 +10,7 @@ use Rattle.serial_set.specs.Entries.{entries_back, entries_front, piece_in, runs
 use Rattle.serial_set.specs.Entry.{hi_of, lo_of, members_of, pieces, runs_of, EntriesFrom}
 use Rattle.serial_set.specs.Least.{runs_first}
 use Rattle.serial_set.specs.Members.{GoesOn, IsFirst, Reads, Taken}
-use Rattle.serial_set.specs.Places.{IsEntryFrom, IsListFrom}
+use Rattle.serial_set.specs.Places.{IsEntryFrom}
 use Rattle.serial_set.specs.Rising.{names_append, names_at, names_left, names_right, runs_apart, runs_front, runs_join, runs_middle, runs_reach}
 use Rattle.serial_set.specs.Span.{AddsSpan, Covers, IsRuns, RunsFrom}
 use Rattle.serial_set.specs.Walk.{IsPiece, since, since_from, since_runs, since_to}

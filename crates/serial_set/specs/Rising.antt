@@ -36,7 +36,8 @@ pub has_names : (xs : List Span) (s : ℕ) → Decides (has xs s) (Covers xs s)
 has_names [] s = (λ yes. absurd cc, λ no. absurd no)
 has_names (x ∷ xs) s =
     Decides-or (leb x.lo s && leb s x.hi) (has xs s)
-    (Decides-and (leb x.lo s) (leb s x.hi) (leb-true x.lo s, le-leb x.lo s) (leb-true s x.hi, le-leb s x.hi))
+    (Decides-and (leb x.lo s) (leb s x.hi) (leb-true x.lo s, le-leb x.lo s)
+    (leb-true s x.hi, le-leb s x.hi))
     (has_names xs s)
 
 pub RunsFrom-weaker : (a b : ℕ) (xs : List Span) → b ≤ a → RunsFrom a xs → RunsFrom b xs

@@ -1,7 +1,7 @@
 -- A walk over runs: what is left of them from a number on, and where it goes on after a piece.
 use Rattle.std.proofs.Common.{◌≡◌, ℕ, ◌+◌, ◌-◌, ◌^◌, ◌<◌, ◌≤◌, List, [], ◌∷◌, length, take}
 use Rattle.std.proofs.Common.{drop, max, refl, sym, subst, ap, ◌∙◌, inl, inr, arith, zero, suc}
-use Rattle.std.proofs.Common.{length-drop, length-take, get_or, set, min}
+use Rattle.std.proofs.Common.{length-drop, length-take, get_or, min}
 use Rattle.std.specs.Prelude.{Bool, true, false, nat_le, Option, Some, None}
 use Rattle.std.specs.List.{All}
 use Rattle.std.specs.Option.{SomeIff}

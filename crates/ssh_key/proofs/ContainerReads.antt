@@ -22,7 +22,7 @@ use Rattle.ssh_key.specs.ContainerReading.{body_at, bytes_at, decoded_at, ended,
 use Rattle.ssh_key.specs.Key.{Key}
 use Rattle.ssh_key.specs.KeyReading.{key_at}
 use Rattle.ssh_key.specs.Rows.{row_at}
-use Rattle.ssh_key.specs.declared.kind.Kind.TheVariants.{Dsa, EcdsaSk, Ed25519Sk, Rsa}
+use Rattle.ssh_key.specs.declared.kind.Kind.TheVariants.{Dsa, EcdsaSk, Ed25519Sk}
 use Rattle.ssh_key.specs.declared.private_fault.PrivateFault.{PrivateFault}
 use Rattle.ssh_key.specs.declared.private_fault.PrivateFault.TheVariants.{Base64, Wire}
 use Rattle.ssh_key.proofs.ListLaws.{front_met, not_front}

@@ -10,11 +10,11 @@ use Rattle.std.proofs.lemmas.Bool.{cases_lt, lt-ltb, ltb-false, le-ltb}
 use Rattle.std.proofs.lemmas.List.{take_at, drop_at, take-append-drop, length-append, length-drop}
 use Rattle.std.proofs.lemmas.List.{length-take, take_all}
 use Rattle.byteorder.specs.Endian.{big_number}
-use Rattle.byteorder.specs.Numbers.{big_from-lt, big_from-take, big_number-reads_back}
+use Rattle.byteorder.specs.Numbers.{big_from-lt, big_number-reads_back}
 use Rattle.byteorder.specs.Numbers.{length-bytes_high_first}
 use Rattle.ssh_wire.specs.declared.fault.WireFault.{WireFault}
 use Rattle.ssh_wire.specs.declared.fault.WireFault.TheVariants.{Short}
-use Rattle.ssh_wire.specs.Wire.{IsBytes, IsMagnitude, complement, mpint, number, number_of, string}
+use Rattle.ssh_wire.specs.Wire.{IsBytes, IsMagnitude, complement, mpint, number, string}
 use Rattle.ssh_wire.specs.Reading.{Lends, content_at, front_at, magnitude_at, magnitude_before}
 use Rattle.ssh_wire.specs.Reading.{magnitude_of, mpint_at, number_at, string_at}
 use Rattle.ssh_wire.specs.Digits.{IsBytes-append, IsBytes-back, IsBytes-big, IsBytes-drop}
