@@ -22,6 +22,16 @@ flat_drop f xs at d h = ap (flat_map f) (drop_more xs at d h)
 pub flat_at : {X Y : Type 0} (f : X → List Y) (xs : List X) (at : ℕ) (d : X) → at < length xs → flat_map f xs ≡ flat_map f (take at xs) ++ (f (get_or xs at d) ++ flat_map f (drop (at + 1) xs))
 flat_at f xs at d h = flat_cut f xs at ∙ ap (λ l. flat_map f (take at xs) ++ l) (flat_drop f xs at d h)
 
+-- a cut within the list between two others
+cut_between : {Y : Type 0} (front l ys zs back : List Y) → l ≡ ys ++ zs → front ++ (l ++ back) ≡ (front ++ ys) ++ (zs ++ back)
+cut_between front l ys zs back is =
+    ap (λ t. front ++ (t ++ back)) is ∙ ap (λ t. front ++ t) (append_assoc ys zs back) ∙ sym (append_assoc front ys (zs ++ back))
+
+-- the same with the list at the place cut in two
+pub part_at : {X Y : Type 0} (f : X → List Y) (xs : List X) (at : ℕ) (d : X) (ys zs : List Y) → at < length xs → f (get_or xs at d) ≡ ys ++ zs
+    → flat_map f xs ≡ (flat_map f (take at xs) ++ ys) ++ (zs ++ flat_map f (drop (at + 1) xs))
+part_at f xs at d ys zs h is = flat_at f xs at d h ∙ cut_between (flat_map f (take at xs)) (f (get_or xs at d)) ys zs (flat_map f (drop (at + 1) xs)) is
+
 -- ---- one in place of another, and one after it
 
 pub flat_set : {X Y : Type 0} (f : X → List Y) (xs : List X) (at : ℕ) (y : X) → at < length xs → flat_map f (set xs at y) ≡ flat_map f (take at xs) ++ (f y ++ flat_map f (drop (at + 1) xs))
@@ -30,6 +40,10 @@ flat_set f xs at y h =
     ap (flat_map f) (set_split xs at y h)
     ∙ flat_map-append f (take at xs) (y ∷ drop (suc at) xs)
     ∙ ap (λ n. flat_map f (take at xs) ++ (f y ++ flat_map f (drop n xs))) one
+
+pub part_set : {X Y : Type 0} (f : X → List Y) (xs : List X) (at : ℕ) (y : X) (ys zs : List Y) → at < length xs → f y ≡ ys ++ zs
+    → flat_map f (set xs at y) ≡ (flat_map f (take at xs) ++ ys) ++ (zs ++ flat_map f (drop (at + 1) xs))
+part_set f xs at y ys zs h is = flat_set f xs at y h ∙ cut_between (flat_map f (take at xs)) (f y) ys zs (flat_map f (drop (at + 1) xs)) is
 
 pub flat_same : {X Y : Type 0} (f : X → List Y) (xs : List X) (at : ℕ) (x y : X) → at < length xs → x ≡ get_or xs at x → f y ≡ f x → flat_map f (set xs at y) ≡ flat_map f xs
 flat_same f xs at x y h read same =

@@ -2,7 +2,7 @@
 use Rattle.std.proofs.Common.{◌≡◌, ℕ, ◌+◌, ◌-◌, ◌*◌, ◌/◌, ◌%◌, ◌^◌, ◌<◌, ◌≤◌, min, refl, sym, subst, ap, ◌∙◌, inl, inr, arith}
 use Rattle.std.specs.Prelude.{Bool, true, false, ◌↔◌, ◌⊎◌, bit_or}
 use Rattle.std.specs.Int.{bit_at}
-use Rattle.std.proofs.lemmas.Bool.{cases_lt, cases_eq}
+use Rattle.std.proofs.lemmas.Bool.{cases_lt}
 use Rattle.std.proofs.lemmas.Nat.{one_shl, pow_pos}
 use Rattle.std.proofs.Math.Pow.{pow_mono}
 use Rattle.std.proofs.lemmas.Nat.Bits.{ones_shr, bit_at_or, bit_at-lt, bit_at_mask_inside, bit_at_mask_below, bit_at_mask_above}
@@ -63,19 +63,14 @@ in_clipped base lo hi s first last bits e a b c d f from to =
 pub in_or : (base a b s : ℕ) → BitCovers 64 base (bit_or a b) s ↔ (BitCovers 64 base a s ⊎ BitCovers 64 base b s)
 in_or base a b s =
     let i = s - base in
-    let both = bit_at_or a b i in
-    let low_a = bit_at-lt a i in
-    let low_b = bit_at-lt b i in (
-      λ n. elim (cases_eq (bit_at a i) 1) [
-        | inl set ↦ inl (n.0, n.1, set)
-        | inr not ↦ elim (cases_eq (bit_at b i) 1) [
-          | inl set ↦ inr (n.0, n.1, set)
-          | inr neither ↦ absurd (omega (arith, n.2))
-        ]
+    let one = bit_at_or a b i in (
+      λ n. elim (cases_lt (bit_at a i) 1) [
+        | inl zero ↦ inr (n.0, n.1, omega (arith, n.2, one, bit_at-lt b i))
+        | inr some ↦ inl (n.0, n.1, omega (arith, bit_at-lt a i))
       ],
-      λ n. elim n [
-        | inl here ↦ (here.0, here.1, omega (arith, here.2))
-        | inr there ↦ (there.0, there.1, omega (arith, there.2))
+      λ m. elim m [
+        | inl x ↦ (x.0, x.1, omega (arith, x.2, one, bit_at-lt b i))
+        | inr y ↦ (y.0, y.1, omega (arith, y.2, one, bit_at-lt a i))
       ],
     )
 

@@ -5,13 +5,13 @@ use Rattle.std.specs.List.{All}
 use Rattle.std.proofs.lemmas.List.{take_more}
 use Rattle.std.proofs.lemmas.List.Elements.{All-head, All-tail}
 use Rattle.serial_set.specs.declared.span.Span.{Span}
+use Rattle.serial_set.proofs.InEntry.{in_or}
 use Rattle.serial_set.specs.Span.{SpanCovers, Covers, AddsSpan, IsRuns}
 use Rattle.serial_set.specs.BitRuns.{IsInterval}
 use Rattle.serial_set.specs.Least.{runs_least}
 use Rattle.serial_set.specs.Near.{AddsSpans, LiesIn}
 use Rattle.serial_set.specs.Rising.{names_append, names_left, names_right}
 use Rattle.serial_set.specs.Words.{BitCovers}
-use Rattle.serial_set.proofs.InNews.{or_bits}
 use Rattle.serial_set.proofs.InSet.{mask_has}
 
 -- one span more
@@ -28,7 +28,7 @@ pub bits_more : (spans : List Span) (i window bits mask : ℕ) (d : Span) → i 
 bits_more spans i window bits mask d h intervals near is so s =
     let span = get_or spans i d in
     let at = near i d h in
-    let both = or_bits (64 * window) bits mask s in
+    let both = in_or (64 * window) bits mask s in
     let more = covers_more spans i d s h in
     let has : BitCovers 64 (64 * window) mask s ↔ SpanCovers span s =
     subst (λ (w : ℕ). BitCovers 64 (64 * w) mask s ↔ SpanCovers span s) at.0 (mask_has span.lo span.hi mask s (omega (arith, at.0, at.1)) (intervals i d h).1 is) in (

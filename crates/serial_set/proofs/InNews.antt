@@ -1,51 +1,36 @@
 -- What entries have that an addition puts in place of others.
 use Rattle.std.proofs.Common.{◌≡◌, ℕ, ◌+◌, ◌-◌, ◌*◌, ◌/◌, ◌%◌, ◌^◌, ◌<◌, ◌≤◌, ◌⊎◌, List, [], ◌++◌, length, sym, subst, ap, inl, inr, arith, length-append}
 use Rattle.std.specs.Prelude.{false, Option, Some, None, IfSome, bit_or, ◌↔◌}
-use Rattle.std.specs.Int.{bit_at}
 use Rattle.std.specs.List.{All}
 use Rattle.std.specs.Option.{option_to_list}
 use Rattle.std.proofs.lemmas.Bool.{cases_lt}
-use Rattle.std.proofs.lemmas.Nat.Bits.{bit_at_or, bit_at-lt}
+use Rattle.std.proofs.Math.Logic.{⊎_elim, ⊎_map}
 use Rattle.std.proofs.lemmas.List.Elements.{All-nil, All-cons, All-append}
 use Rattle.serial_set.specs.declared.entry.Entry.{Entry}
 use Rattle.serial_set.specs.Span.{Covers}
-use Rattle.serial_set.specs.Rising.{names_append, names_left}
 use Rattle.serial_set.specs.Words.{BitCovers, singles, singles_to, singles_from}
 use Rattle.serial_set.specs.Entry.{is_run, window_of, bits_of, pieces, lo_of, lo_by, hi_of, hi_by, EntriesFrom, members_of}
 use Rattle.serial_set.specs.Entries.{piece_in, entries_join, has_append, has_left, has_right}
 use Rattle.serial_set.specs.News.{end_of, Has, IsNews}
-use Rattle.serial_set.proofs.InEntry.{in_mask, in_word}
+use Rattle.serial_set.proofs.InEntry.{in_mask, in_or, in_word}
+use Rattle.serial_set.proofs.InWords.{one_has}
 
 -- ---- words
-
-pub or_bits : (base a b s : ℕ) → BitCovers 64 base (bit_or a b) s ↔ (BitCovers 64 base a s ⊎ BitCovers 64 base b s)
-or_bits base a b s =
-    let i = s - base in
-    let one = bit_at_or a b i in (
-      λ n. elim (cases_lt (bit_at a i) 1) [
-        | inl zero ↦ inr (n.0, n.1, omega (arith, n.2, one, bit_at-lt b i))
-        | inr some ↦ inl (n.0, n.1, omega (arith, bit_at-lt a i))
-      ],
-      λ m. elim m [
-        | inl x ↦ (x.0, x.1, omega (arith, x.2, one, bit_at-lt b i))
-        | inr y ↦ (y.0, y.1, omega (arith, y.2, one, bit_at-lt a i))
-      ],
-    )
 
 pub in_singles : (w : Entry) (base bits s : ℕ) → pieces w ≡ singles 64 base bits → Covers (pieces w) s ↔ BitCovers 64 base bits s
 in_singles w base bits s e =
     subst (λ l. Covers l s ↔ BitCovers 64 base bits s) (sym e) (singles_to 64 base bits s, singles_from 64 base bits s)
 
 -- a word with more bits
-with_bits : (e w : Entry) (bits more s : ℕ) → is_run e ≡ false → pieces w ≡ singles 64 (64 * window_of e) (bit_or bits more) → bits ≡ bits_of e
+pub with_bits : (e w : Entry) (bits more s : ℕ) → is_run e ≡ false → pieces w ≡ singles 64 (64 * window_of e) (bit_or bits more) → bits ≡ bits_of e
     → Covers (pieces w) s ↔ (Covers (pieces e) s ⊎ BitCovers 64 (64 * window_of e) more s)
 with_bits e w bits more s word is b =
     let base = 64 * window_of e in
     let new = in_singles w base (bit_or bits more) s is in
-    let both = or_bits base bits more s in
+    let both = in_or base bits more s in
     let old = subst (λ (n : ℕ). Covers (pieces e) s ↔ BitCovers 64 base n s) (sym b) (in_word e s word) in (
-      λ n. elim (both.0 (new.0 n)) [ inl x ↦ inl (old.1 x) | inr y ↦ inr y ],
-      λ m. new.1 (both.1 (elim m [ inl x ↦ inl (old.0 x) | inr y ↦ inr y ])),
+      λ n. ⊎_map old.1 (λ y. y) (both.0 (new.0 n)),
+      λ m. new.1 (both.1 (⊎_map old.0 (λ y. y) m)),
     )
 
 pub front_word : (e w : Entry) (lo bits more s : ℕ) → is_run e ≡ false → lo_of e ≤ lo → lo ≤ hi_of e → pieces w ≡ singles 64 (64 * window_of e) (bit_or bits more) → bits ≡ bits_of e
@@ -77,10 +62,7 @@ back_word e w hi bits more s word from upto is b m h =
 
 pub opt_has : (o : Option Entry) (s : ℕ) → Covers (members_of (option_to_list o)) s ↔ Has o s
 opt_has None s = (λ n. n, λ n. n)
-opt_has (Some e) s = (
-  λ n. elim (names_append (pieces e) [] s n) [ inl x ↦ x | inr none ↦ absurd none ],
-  λ n. names_left (pieces e) [] s n,
-)
+opt_has (Some e) s = one_has e s
 
 -- the members of up to three entries
 pub three_has : (few : List Entry) (a b c : Option Entry) (s : ℕ) → few ≡ option_to_list a ++ (option_to_list b ++ option_to_list c)
@@ -90,20 +72,9 @@ three_has few a b c s e =
     let lb = option_to_list b in
     let lc = option_to_list c in
     subst (λ (l : List Entry). Covers (members_of l) s ↔ (Has a s ⊎ (Has b s ⊎ Has c s))) (sym e) (
-      λ n. elim (has_append la (lb ++ lc) s n) [
-        | inl x ↦ inl ((opt_has a s).0 x)
-        | inr rest ↦ elim (has_append lb lc s rest) [
-          | inl y ↦ inr (inl ((opt_has b s).0 y))
-          | inr z ↦ inr (inr ((opt_has c s).0 z))
-        ]
-      ],
-      λ n. elim n [
-        | inl x ↦ has_left la (lb ++ lc) s ((opt_has a s).1 x)
-        | inr rest ↦ has_right la (lb ++ lc) s (elim rest [
-          | inl y ↦ has_left lb lc s ((opt_has b s).1 y)
-          | inr z ↦ has_right lb lc s ((opt_has c s).1 z)
-        ])
-      ],
+      λ n. ⊎_map (opt_has a s).0 (λ rest. ⊎_map (opt_has b s).0 (opt_has c s).0 (has_append lb lc s rest)) (has_append la (lb ++ lc) s n),
+      λ n. ⊎_elim (λ x. has_left la (lb ++ lc) s ((opt_has a s).1 x)) (λ rest. has_right la (lb ++ lc) s
+          (⊎_elim (λ y. has_left lb lc s ((opt_has b s).1 y)) (λ z. has_right lb lc s ((opt_has c s).1 z)) rest)) n,
     )
 
 opt_order : (o : Option Entry) (from to : ℕ) → IfSome o (λ e. (from ≤ lo_of e) × (hi_of e < to)) → EntriesFrom from (option_to_list o)
@@ -183,14 +154,8 @@ run_has lo hi at to s fa a_at fb fc c_to front back h_hi t_lo at_hi lo_to = (
 -- one of three, each of them said in another way
 pub either_of : {X A B C P Q R : Type 0} → X ↔ (A ⊎ (B ⊎ C)) → A ↔ P → B ↔ Q → C ↔ R → X ↔ (P ⊎ (Q ⊎ R))
 either_of x a b c = (
-  λ n. elim (x.0 n) [
-    | inl k ↦ inl (a.0 k)
-    | inr rest ↦ elim rest [ inl k ↦ inr (inl (b.0 k)) | inr k ↦ inr (inr (c.0 k)) ]
-  ],
-  λ n. x.1 (elim n [
-    | inl k ↦ inl (a.1 k)
-    | inr rest ↦ elim rest [ inl k ↦ inr (inl (b.1 k)) | inr k ↦ inr (inr (c.1 k)) ]
-  ]),
+  λ n. ⊎_map a.0 (⊎_map b.0 c.0) (x.0 n),
+  λ n. x.1 (⊎_map a.1 (⊎_map b.1 c.1) n),
 )
 
 pub same_as : {X Y Z : Type 0} → X ↔ Y → Y ↔ Z → X ↔ Z

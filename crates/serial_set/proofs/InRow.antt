@@ -15,7 +15,7 @@ use Rattle.serial_set.specs.Entries.{stretch, entries_front, entries_back, Repla
 use Rattle.serial_set.specs.Pages.{entries_in, entries_of}
 use Rattle.serial_set.specs.Places.{end_of, IsListFrom, CutTo, PutBetween, PutIf, WordWidened}
 use Rattle.serial_set.proofs.Placed.{rises_before, rises_past}
-use Rattle.serial_set.proofs.Flat.{all_left, all_right, flat_cut, flat_drop, flat_at, flat_same, flat_set, first_of}
+use Rattle.serial_set.proofs.Flat.{all_left, all_right, flat_cut, flat_drop, flat_at, flat_same, part_at, part_set, first_of}
 use Rattle.serial_set.proofs.InEntries.{entries_each, end_most, end_upto, end_back, entries_past}
 
 pub page_some : (p : Page) → 0 < length (entries_in p)
@@ -44,20 +44,15 @@ past_page ps at d h r =
 
 -- ---- ends
 
--- where each entry ends at a number or past it, a page does
-end_least : (n : ℕ) (es : List Entry) → 0 < length es → All (λ e. n ≤ hi_of e) es → n ≤ end_of es
-end_least n [] some h = absurd (omega arith)
-end_least n (e ∷ []) some h = All-head (λ t. n ≤ hi_of t) e [] h
-end_least n (e ∷ (f ∷ es)) some h = end_least n (f ∷ es) (omega arith) (All-tail (λ t. n ≤ hi_of t) e (f ∷ es) h)
-
-pub end_below : (n : ℕ) (es : List Entry) → 0 < length es → All (λ e. hi_of e < n) es → end_of es < n
-end_below n [] some h = absurd (omega arith)
-end_below n (e ∷ []) some h = All-head (λ t. hi_of t < n) e [] h
-end_below n (e ∷ (f ∷ es)) some h = end_below n (f ∷ es) (omega arith) (All-tail (λ t. hi_of t < n) e (f ∷ es) h)
+-- what holds of where each entry ends holds of where a page does
+end_holds : (P : ℕ → Type 0) (es : List Entry) → 0 < length es → All (λ e. P (hi_of e)) es → P (end_of es)
+end_holds P [] some h = absurd (omega arith)
+end_holds P (e ∷ []) some h = All-head (λ t. P (hi_of t)) e [] h
+end_holds P (e ∷ (f ∷ es)) some h = end_holds P (f ∷ es) (omega arith) (All-tail (λ t. P (hi_of t)) e (f ∷ es) h)
 
 least_page : (n : ℕ) (ps : List Page) (j : ℕ) (d : Page) → All (λ e. n ≤ hi_of e) (entries_of ps) → j < length ps → n ≤ end_of (entries_in (get_or ps j d))
 least_page n [] j d h q = absurd (omega arith)
-least_page n (p ∷ ps) zero d h q = end_least n (entries_in p) (page_some p) (all_left (λ e. n ≤ hi_of e) (entries_in p) (entries_of ps) h)
+least_page n (p ∷ ps) zero d h q = end_holds (λ m. n ≤ m) (entries_in p) (page_some p) (all_left (λ e. n ≤ hi_of e) (entries_in p) (entries_of ps) h)
 least_page n (p ∷ ps) (suc j) d h q = least_page n ps j d (all_right (λ e. n ≤ hi_of e) (entries_in p) (entries_of ps) h) (omega arith)
 
 pub pages_rise : (a : ℕ) (ps : List Page) → EntriesFrom a (entries_of ps) → IsNonDecreasingBy (λ p. end_of (entries_in p)) ps
@@ -81,12 +76,9 @@ pages_below n a (p ∷ ps) r h =
     (pages_below n (end_of (entries_in p) + 1) ps (entries_past a (entries_in p) (entries_of ps) (page_some p) r) (All-tail (λ q. end_of (entries_in q) < n) p ps h))
 
 pub pages_upto : (n a : ℕ) (ps : List Page) → EntriesFrom a (entries_of ps) → All (λ p. end_of (entries_in p) ≤ n) ps → All (λ e. hi_of e ≤ n) (entries_of ps)
-pages_upto n a [] r h = All-nil (λ e. hi_of e ≤ n)
-pages_upto n a (p ∷ ps) r h =
-    let here : end_of (entries_in p) ≤ n = All-head (λ q. end_of (entries_in q) ≤ n) p ps h in
-    let most = end_most a (entries_in p) (entries_front a (entries_in p) (entries_of ps) r) in
-    All-append (λ e. hi_of e ≤ n) (entries_in p) (entries_of ps) (λ k d q. let at = most k d q in omega arith)
-    (pages_upto n (end_of (entries_in p) + 1) ps (entries_past a (entries_in p) (entries_of ps) (page_some p) r) (All-tail (λ q. end_of (entries_in q) ≤ n) p ps h))
+pages_upto n a ps r h =
+    let below = pages_below (n + 1) a ps r (λ k d q. let at = h k d q in omega arith) in
+    λ k d q. let at = below k d q in omega arith
 
 -- the entries of fewer pages are among those of more
 pub fewer_pages : (P : Entry → Type 0) (ps : List Page) (m n : ℕ) → m ≤ n → All P (entries_of (take n ps)) → All P (entries_of (take m ps))
@@ -123,15 +115,12 @@ list_at ps at place number d h before end below reach =
     record {
       front = front ++ take place page;
       back = back;
-      parts = flat_at entries_in ps at d h
-          ∙ ap (λ l. front ++ (l ++ back)) (sym (take-append-drop place page))
-          ∙ ap (λ l. front ++ l) (append_assoc (take place page) (drop place page) back)
-          ∙ sym (append_assoc front (take place page) (drop place page ++ back));
+      parts = part_at entries_in ps at d (take place page) (drop place page) h (sym (take-append-drop place page));
       below = All-append (λ e. hi_of e < number) front (take place page) before below;
       reach = reach;
       some = λ none.
           let all : take place page ≡ page = take_all place page (let n = ap length none in omega (arith, length-drop place page)) in
-          let less = end_below number page (page_some (get_or ps at d)) (subst (All (λ e. hi_of e < number)) all below) in
+          let less = end_holds (λ m. m < number) page (page_some (get_or ps at d)) (subst (All (λ e. hi_of e < number)) all below) in
           absurd (omega arith);
     }
 
@@ -167,10 +156,7 @@ cut_some ps gone number d left r h by past k =
     let later = past_page ps gone d h r in
     record {
       gone = front ++ k.gone;
-      were = flat_at entries_in ps gone d h
-          ∙ ap (λ l. front ++ (l ++ back)) k.were
-          ∙ ap (λ l. front ++ l) (append_assoc k.gone left back)
-          ∙ sym (append_assoc front k.gone (left ++ back));
+      were = part_at entries_in ps gone d k.gone left h k.were;
       inside = All-append (λ e. lo_of e ≤ number) front k.gone
           (λ i e q. let at = by i e q in let whole = stretch (get_or front i e) in omega arith) k.inside;
       above = All-append (λ e. number < lo_of e) left back k.above (λ i e q. let at = later i e q in omega arith);
@@ -272,15 +258,8 @@ widened_pages xs at window bits x y h read k =
       back = k.back ++ back;
       was = k.was;
       is = k.is;
-      were = flat_at entries_in xs at x h
-          ∙ ap (λ p. front ++ (entries_in p ++ back)) (sym read)
-          ∙ ap (λ l. front ++ (l ++ back)) k.were
-          ∙ ap (λ l. front ++ l) (append_assoc k.front (k.was ∷ k.back) back)
-          ∙ sym (append_assoc front k.front (k.was ∷ (k.back ++ back)));
-      are = flat_set entries_in xs at y h
-          ∙ ap (λ l. front ++ (l ++ back)) k.are
-          ∙ ap (λ l. front ++ l) (append_assoc k.front (k.is ∷ k.back) back)
-          ∙ sym (append_assoc front k.front (k.is ∷ (k.back ++ back)));
+      were = part_at entries_in xs at x k.front (k.was ∷ k.back) h (ap entries_in (sym read) ∙ k.were);
+      are = part_set entries_in xs at y k.front (k.is ∷ k.back) h k.are;
       word = k.word;
     }
 
@@ -288,18 +267,7 @@ widened_pages xs at window bits x y h read k =
 pub stands_in : (xs : List Page) (at : ℕ) (x : Page) (o : Option Entry) → at < length xs → x ≡ get_or xs at x → Stands (entries_in x) o → Stands (entries_of xs) o
 stands_in xs at x None h read k = tt
 stands_in xs at x (Some e) h read k =
-    let front = entries_of (take at xs) in
-    let back = entries_of (drop (at + 1) xs) in (
-      front ++ k.0,
-      (
-        k.1.0 ++ back,
-        flat_at entries_in xs at x h
-            ∙ ap (λ p. front ++ (entries_in p ++ back)) (sym read)
-            ∙ ap (λ l. front ++ (l ++ back)) k.1.1
-            ∙ ap (λ l. front ++ l) (append_assoc k.0 (e ∷ k.1.0) back)
-            ∙ sym (append_assoc front k.0 (e ∷ (k.1.0 ++ back))),
-      ),
-    )
+    (entries_of (take at xs) ++ k.0, (k.1.0 ++ entries_of (drop (at + 1) xs), part_at entries_in xs at x k.0 (e ∷ k.1.0) h (ap entries_in (sym read) ∙ k.1.1)))
 
 -- an entry put between those of a page, of which the last ends past it, or which is the last page
 between_pages : (xs : List Page) (at : ℕ) (e : Entry) (x y : Page) → at < length xs → x ≡ get_or xs at x → EntriesFrom 0 (entries_of xs) → All (λ t. hi_of t < lo_of e) (entries_of (take at xs))
@@ -314,15 +282,8 @@ between_pages xs at e x y h read order before last k =
     record {
       front = front ++ k.front;
       back = k.back ++ back;
-      were = flat_at entries_in xs at x h
-          ∙ ap (λ p. front ++ (entries_in p ++ back)) (sym read)
-          ∙ ap (λ l. front ++ (l ++ back)) k.were
-          ∙ ap (λ l. front ++ l) (append_assoc k.front k.back back)
-          ∙ sym (append_assoc front k.front (k.back ++ back));
-      are = flat_set entries_in xs at y h
-          ∙ ap (λ l. front ++ (l ++ back)) k.are
-          ∙ ap (λ l. front ++ l) (append_assoc k.front (e ∷ k.back) back)
-          ∙ sym (append_assoc front k.front (e ∷ (k.back ++ back)));
+      were = part_at entries_in xs at x k.front k.back h (ap entries_in (sym read) ∙ k.were);
+      are = part_set entries_in xs at y k.front (e ∷ k.back) h k.are;
       below = All-append (λ t. hi_of t < lo_of e) front k.front before k.below;
       above = All-append (λ t. hi_of e < lo_of t) k.back back k.above past;
     }

@@ -3,11 +3,12 @@ use Rattle.std.proofs.Common.{◌≡◌, ℕ, ◌+◌, ◌-◌, ◌*◌, ◌/◌
 use Rattle.std.specs.Prelude.{Option, Some, None, IfSome, OnOk, Result, Ok, Err, bit_or, ◌↔◌}
 use Rattle.std.specs.List.{All}
 use Rattle.std.proofs.lemmas.Bool.{cases_lt}
+use Rattle.std.proofs.Math.Logic.{⊎_elim, ⊎_map, ⊎_swap}
 use Rattle.std.proofs.lemmas.List.Elements.{All-nil, All-cons, All-head, All-tail, All-append}
 use Rattle.serial_set.specs.declared.span.Span.{Span}
 use Rattle.serial_set.specs.declared.entry.Entry.{Entry}
 use Rattle.serial_set.specs.Span.{Covers, IsRunsOf, AreSerials, AddsSpan}
-use Rattle.serial_set.specs.Rising.{names_append, names_left}
+use Rattle.serial_set.specs.Rising.{names_append}
 use Rattle.serial_set.specs.Least.{runs_least}
 use Rattle.serial_set.specs.Words.{BitCovers}
 use Rattle.serial_set.specs.Entry.{pieces, lo_of, hi_of, EntriesFrom, members_of, runs_of}
@@ -17,8 +18,8 @@ use Rattle.serial_set.specs.Additions.{IsAt}
 use Rattle.serial_set.specs.Places.{IsEntryFrom}
 use Rattle.serial_set.proofs.Flat.{all_left, all_right}
 use Rattle.serial_set.proofs.InEntries.{entries_each}
-use Rattle.serial_set.proofs.InEntry.{in_mask}
-use Rattle.serial_set.proofs.InNews.{or_bits}
+use Rattle.serial_set.proofs.InEntry.{in_mask, in_or}
+use Rattle.serial_set.proofs.InWords.{members_part, members_own}
 
 -- ---- the entry at a number
 
@@ -30,24 +31,6 @@ ends_before : (a : ℕ) (xs : List Entry) (e : Entry) (ys : List Entry) → Entr
 ends_before a [] e ys r = All-nil (λ x. hi_of x < lo_of e)
 ends_before a (x ∷ xs) e ys r =
     All-cons (λ t. hi_of t < lo_of e) x xs (omega (arith, begins_past (hi_of x + 1) xs e ys r.1)) (ends_before (hi_of x + 1) xs e ys r.1)
-
-members_part : (entries front : List Entry) (e : Entry) (back : List Entry) (s : ℕ) → entries ≡ front ++ e ∷ back → Covers (pieces e) s → Covers (members_of entries) s
-members_part entries front e back s parts n =
-    subst (λ (l : List Entry). Covers (members_of l) s) (sym parts) (has_right front (e ∷ back) s (names_left (pieces e) (members_of back) s n))
-
-members_own : (entries front : List Entry) (e : Entry) (back : List Entry) (n s : ℕ) → EntriesFrom 0 entries → entries ≡ front ++ e ∷ back → All (λ x. hi_of x < n) front → n ≤ s → s ≤ hi_of e
-    → Covers (members_of entries) s → Covers (pieces e) s
-members_own entries front e back n s order parts below from to m =
-    let rise = subst (EntriesFrom 0) parts order in
-    let rest = entries_back 0 front (e ∷ back) rise in
-    let ends : All (λ x. hi_of x < s) front = λ k d h. (let end = below k d h in omega arith) in
-    elim (has_append front (e ∷ back) s (subst (λ (l : List Entry). Covers (members_of l) s) parts m)) [
-      | inl x ↦ absurd (none_below front s ends x)
-      | inr y ↦ elim (names_append (pieces e) (members_of back) s y) [
-        | inl here ↦ here
-        | inr later ↦ (let far = has_from (hi_of e + 1) back s rest.1 later in absurd (omega arith))
-      ]
-    ]
 
 pub at_some : (entries front : List Entry) (e : Entry) (back : List Entry) (n : ℕ) → EntriesFrom 0 entries → entries ≡ front ++ e ∷ back → lo_of e ≤ n → n ≤ hi_of e → IsAt entries n (Some e)
 at_some entries front e back n order parts from to =
@@ -107,32 +90,11 @@ from_owns entries n last s (Some e) order is from to m = members_own entries is.
 
 -- ---- one change
 
-members_above : (es : List Entry) (to s : ℕ) → All (λ e. to < lo_of e) es → Covers (members_of es) s → to < s
-members_above [] to s h m = absurd m
-members_above (e ∷ es) to s h m =
-    let first : to < lo_of e = All-head (λ t. to < lo_of t) e es h in
-    elim (names_append (pieces e) (members_of es) s m) [
-      | inl here ↦ (let at = piece_in e s here in omega arith)
-      | inr later ↦ members_above es to s (All-tail (λ t. to < lo_of t) e es h) later
-    ]
-
-members_upto : (es : List Entry) (to s : ℕ) → All (λ e. hi_of e ≤ to) es → Covers (members_of es) s → s ≤ to
-members_upto [] to s h m = absurd m
-members_upto (e ∷ es) to s h m =
-    let first : hi_of e ≤ to = All-head (λ t. hi_of t ≤ to) e es h in
-    elim (names_append (pieces e) (members_of es) s m) [
-      | inl here ↦ (let at = piece_in e s here in omega arith)
-      | inr later ↦ members_upto es to s (All-tail (λ t. hi_of t ≤ to) e es h) later
-    ]
-
-members_since : (es : List Entry) (from s : ℕ) → All (λ e. from ≤ lo_of e) es → Covers (members_of es) s → from ≤ s
-members_since [] from s h m = absurd m
-members_since (e ∷ es) from s h m =
-    let first : from ≤ lo_of e = All-head (λ t. from ≤ lo_of t) e es h in
-    elim (names_append (pieces e) (members_of es) s m) [
-      | inl here ↦ (let at = piece_in e s here in omega arith)
-      | inr later ↦ members_since es from s (All-tail (λ t. from ≤ lo_of t) e es h) later
-    ]
+-- what each of some entries says of its members holds of all theirs
+members_each : (P : Entry → Type 0) (Q : Type 0) (es : List Entry) (s : ℕ) → ((e : Entry) → P e → Covers (pieces e) s → Q) → All P es → Covers (members_of es) s → Q
+members_each P Q [] s f h m = absurd m
+members_each P Q (e ∷ es) s f h m =
+    ⊎_elim (f e (All-head P e es h)) (members_each P Q es s f (All-tail P e es h)) (names_append (pieces e) (members_of es) s m)
 
 -- The news are all that the set has between two numbers, which cut none of its entries, and what is
 -- added.
@@ -161,16 +123,18 @@ fills_keeps old from to news new Added r n f =
       | inl x ↦ absurd (none_below r.front s (λ k d h. (let end = r.below k d h in omega arith)) x)
       | inr y ↦ elim (has_append r.middle r.back s y) [
         | inl z ↦ z
-        | inr w ↦ (let far = members_above r.back to s r.above w in absurd (omega arith))
+        | inr w ↦ (members_each (λ e. to < lo_of e) (In r.middle s) r.back s (λ e h n. let at = piece_in e s n in absurd (omega arith)) r.above w)
       ]
     ] in
     record {
-      still = λ s m. (f.all s (members_since r.middle from s low m) (members_upto r.middle to s high m)).1 (inl (to_old s m));
+      still = λ s m. let a = members_each (λ e. from ≤ lo_of e) (from ≤ s) r.middle s (λ e h n. let at = piece_in e s n in omega arith) low m in
+          let b = members_each (λ e. hi_of e ≤ to) (s ≤ to) r.middle s (λ e h n. let at = piece_in e s n in omega arith) high m in
+          (f.all s a b).1 (inl (to_old s m));
       added = λ s a. let at = f.inside s a in (f.all s at.0 at.1).1 (inr a);
       only = λ s m.
           let a = has_from from news s n.order m in
-          let b = members_upto news to s n.ends m in
-          elim ((f.all s a b).0 m) [ inl o ↦ inl (to_mid s a b o) | inr x ↦ inr x ];
+          let b = members_each (λ e. hi_of e ≤ to) (s ≤ to) news s (λ e h n. let at = piece_in e s n in omega arith) n.ends m in
+          ⊎_map (to_mid s a b) (λ x. x) ((f.all s a b).0 m);
     }
 
 -- the runs after a change
@@ -183,16 +147,10 @@ fills_runs old from to news new Added order n f r =
 -- ---- what is added fills
 
 low_of : (entries : List Entry) (n : ℕ) (o : Option Entry) → IsAt entries n o → All (λ e. (hi_of e < begin_of o n) ⊎ (begin_of o n ≤ lo_of e)) entries
-low_of entries n o at = λ k d h. elim (at.apart k d h) [
-  | inl x ↦ inl x
-  | inr rest ↦ elim rest [ inl y ↦ inr y.0 | inr z ↦ inr (let a = at.from in let b = at.to in omega arith) ]
-]
+low_of entries n o at = λ k d h. ⊎_map (λ x. x) (⊎_elim (λ y. y.0) (λ z. let a = at.from in let b = at.to in omega arith)) (at.apart k d h)
 
 high_of : (entries : List Entry) (n : ℕ) (o : Option Entry) → IsAt entries n o → All (λ e. (hi_of e ≤ end_of o n) ⊎ (end_of o n < lo_of e)) entries
-high_of entries n o at = λ k d h. elim (at.apart k d h) [
-  | inl x ↦ inl (let a = at.from in let b = at.to in omega arith)
-  | inr rest ↦ elim rest [ inl y ↦ inl y.1 | inr z ↦ inr z ]
-]
+high_of entries n o at = λ k d h. elim (at.apart k d h) [ inl x ↦ inl (let a = at.from in let b = at.to in omega arith) | inr rest ↦ ⊎_map (λ y. y.1) (λ z. z) rest ]
 
 pub run_fills : (old news : List Entry) (lo hi from to : ℕ) (head tail : Option Entry) → IsAt old lo head → IsAt old hi tail → lo ≤ hi → from ≡ begin_of head lo → to ≡ end_of tail hi
     → ((s : ℕ) → Covers (members_of news) s ↔ (Has head s ⊎ (Has tail s ⊎ ((lo ≤ s) × (s ≤ hi))))) → Fills old from to news (λ s. (lo ≤ s) × (s ≤ hi))
@@ -263,10 +221,7 @@ adds_none old Added is a = (is.0, λ s. (λ n. inl n, λ n. elim n [ inl x ↦ x
 pub one_more : (old new : List Span) (lo hi : ℕ) → AddsSpan old lo hi new → length new ≤ length old + 1
 one_more old new lo hi adds =
     let x : Span = record { lo = lo; hi = hi } in
-    let most = runs_least new (x ∷ old) adds.0 (λ s. (
-      λ n. elim ((adds.1 s).0 n) [ inl o ↦ inr o | inr k ↦ inl k ],
-      λ n. (adds.1 s).1 (elim n [ inl k ↦ inr k | inr o ↦ inl o ]),
-    )) in
+    let most = runs_least new (x ∷ old) adds.0 (λ s. (λ n. ⊎_swap ((adds.1 s).0 n), λ n. (adds.1 s).1 (⊎_swap n))) in
     omega (arith, most)
 
 -- ---- what the calls ask
@@ -320,9 +275,9 @@ bits_serials old few first bits more head tail serials at end fits some b m = λ
 -- bits that a window had, and more
 pub bits_both : (old : List Entry) (first was more s : ℕ) → BitCovers 64 first was s ↔ Covers (members_of old) s → BitCovers 64 first (bit_or more was) s ↔ (BitCovers 64 first more s ⊎ Covers (members_of old) s)
 bits_both old first was more s h =
-    let both = or_bits first more was s in (
-      λ n. elim (both.0 n) [ inl x ↦ inl x | inr y ↦ inr (h.0 y) ],
-      λ n. both.1 (elim n [ inl x ↦ inl x | inr y ↦ inr (h.1 y) ]),
+    let both = in_or first more was s in (
+      λ n. ⊎_map (λ x. x) h.0 (both.0 n),
+      λ n. both.1 (⊎_map (λ x. x) h.1 n),
     )
 
 pub on_ok : {T E : Type 0} (r : Result T E) (P Q : Type 0) → (P → Q) → OnOk r P → OnOk r Q
@@ -343,7 +298,7 @@ pub adds_mask : (old new : List Span) (lo hi mask : ℕ) → lo / 64 ≡ hi / 64
 adds_mask old new lo hi mask w h e is = (
   is.0,
   λ s. (
-    λ n. elim ((is.1 s).0 n) [ inl o ↦ inl o | inr k ↦ inr ((mask_has lo hi mask s w h e).0 k) ],
-    λ n. (is.1 s).1 (elim n [ inl o ↦ inl o | inr k ↦ inr ((mask_has lo hi mask s w h e).1 k) ]),
+    λ n. ⊎_map (λ o. o) (mask_has lo hi mask s w h e).0 ((is.1 s).0 n),
+    λ n. (is.1 s).1 (⊎_map (λ o. o) (mask_has lo hi mask s w h e).1 n),
   ),
 )

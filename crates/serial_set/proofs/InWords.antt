@@ -1,50 +1,58 @@
 -- A set's entries: asked for a number, and after one change.
 use Rattle.std.proofs.Common.{◌≡◌, ℕ, ◌+◌, ◌*◌, ◌^◌, ◌<◌, ◌≤◌, ◌⊎◌, ◌↔◌, List, [], ◌∷◌, ◌++◌, Some, Result, Ok, Err, OnOk, OnErr, sym, subst, inl, inr, arith, ◌∙◌, refl}
 use Rattle.std.specs.List.{All}
+use Rattle.std.proofs.Math.Logic.{⊎_elim, ⊎_map}
 use Rattle.std.proofs.lemmas.List.Elements.{All-nil, All-cons, All-weaker}
 use Rattle.serial_set.specs.declared.entry.Entry.{Entry}
 use Rattle.std.specs.Prelude.{Bool, true, false, IsTrue, IfOk}
 use Rattle.serial_set.specs.Span.{Covers, AreSerials, IsRunsOf}
 use Rattle.serial_set.specs.Words.{BitCovers}
-use Rattle.serial_set.specs.Rising.{names_append, names_left, names_right}
+use Rattle.serial_set.specs.Rising.{names_append, names_left}
 use Rattle.serial_set.specs.Entry.{pieces, lo_of, hi_of, EntriesFrom, members_of, runs_of}
 use Rattle.serial_set.specs.Entries.{stretch, has_append, has_left, has_right, has_from, none_below, entries_back, Replaces, replaced_order, replaced_runs, runs_of_entries}
 use Rattle.serial_set.specs.Places.{IsEntryFrom, PutBetween, PutIf, WordWidened}
 
+-- a member of one entry is one of all
+pub members_part : (entries front : List Entry) (e : Entry) (back : List Entry) (s : ℕ) → entries ≡ front ++ e ∷ back → Covers (pieces e) s → Covers (members_of entries) s
+members_part entries front e back s parts n =
+    subst (λ (l : List Entry). Covers (members_of l) s) (sym parts) (has_right front (e ∷ back) s (names_left (pieces e) (members_of back) s n))
+
+-- and a member that the entries before do not reach, and no later than its end, is its own
+pub members_own : (entries front : List Entry) (e : Entry) (back : List Entry) (n s : ℕ) → EntriesFrom 0 entries → entries ≡ front ++ e ∷ back → All (λ x. hi_of x < n) front → n ≤ s → s ≤ hi_of e
+    → Covers (members_of entries) s → Covers (pieces e) s
+members_own entries front e back n s order parts below from to m =
+    let rise = subst (EntriesFrom 0) parts order in
+    let rest = entries_back 0 front (e ∷ back) rise in
+    let ends : All (λ x. hi_of x < s) front = λ k d h. (let end = below k d h in omega arith) in
+    elim (has_append front (e ∷ back) s (subst (λ (l : List Entry). Covers (members_of l) s) parts m)) [
+      | inl x ↦ absurd (none_below front s ends x)
+      | inr y ↦ elim (names_append (pieces e) (members_of back) s y) [
+        | inl here ↦ here
+        | inr later ↦ (let far = has_from (hi_of e + 1) back s rest.1 later in absurd (omega arith))
+      ]
+    ]
+
 -- whether the number is a member is asked of the entry that reaches it
 pub asked : (es : List Entry) (e : Entry) (s : ℕ) → EntriesFrom 0 es → IsEntryFrom es s (Some e) → Covers (pieces e) s ↔ Covers (members_of es) s
 asked es e s order k =
-    let front = k.0 in
-    let back = k.1.0 in
-    let parts = k.1.1.0 in
-    let In : List Entry → Type 0 = λ l. Covers (members_of l) s in
-    let tail = entries_back 0 front (e ∷ back) (subst (EntriesFrom 0) parts order) in (
-      λ n. subst In (sym parts) (has_right front (e ∷ back) s (names_left (pieces e) (members_of back) s n)),
-      λ n. elim (has_append front (e ∷ back) s (subst In parts n)) [
-        | inl before ↦ absurd (none_below front s k.1.1.1 before)
-        | inr rest ↦ elim (names_append (pieces e) (members_of back) s rest) [
-          | inl here ↦ here
-          | inr later ↦ (let past = has_from (hi_of e + 1) back s tail.1 later in let reach : s ≤ hi_of e = k.1.1.2 in absurd (omega arith))
-        ]
-      ],
-    )
+    (members_part es k.0 e k.1.0 s k.1.1.0, members_own es k.0 e k.1.0 s s order k.1.1.0 k.1.1.1 (omega arith) k.1.1.2)
 
--- a change adds no member that is not one of the new entries'
-pub replaced_only : (old news new : List Entry) (lo hi s : ℕ) → Replaces old lo hi news new → Covers (members_of new) s → Covers (members_of old) s ⊎ Covers (members_of news) s
-replaced_only old news new lo hi s r n =
+-- where some entries stand in place of others, a member is one of before or one of theirs
+parts_only : (old new front middle news back : List Entry) (s : ℕ) → old ≡ front ++ (middle ++ back) → new ≡ front ++ (news ++ back)
+    → Covers (members_of new) s → Covers (members_of old) s ⊎ Covers (members_of news) s
+parts_only old new front middle news back s were are n =
     let In : List Entry → Type 0 = λ l. Covers (members_of l) s in
-    let back : In (r.front ++ (r.middle ++ r.back)) → In old = λ m. subst In (sym r.were) m in
-    elim (has_append r.front (news ++ r.back) s (subst In r.are n)) [
-      | inl front ↦ inl (back (has_left r.front (r.middle ++ r.back) s front))
-      | inr rest ↦ elim (has_append news r.back s rest) [
+    elim (has_append front (news ++ back) s (subst In are n)) [
+      | inl early ↦ inl (subst In (sym were) (has_left front (middle ++ back) s early))
+      | inr rest ↦ elim (has_append news back s rest) [
         | inl here ↦ inr here
-        | inr after ↦ inl (back (has_right r.front (r.middle ++ r.back) s (has_right r.middle r.back s after)))
+        | inr after ↦ inl (subst In (sym were) (has_right front (middle ++ back) s (has_right middle back s after)))
       ]
     ]
 
 pub replaced_serials : (old news new : List Entry) (lo hi : ℕ) → Replaces old lo hi news new → AreSerials (members_of old) → AreSerials (members_of news) → AreSerials (members_of new)
 replaced_serials old news new lo hi r was added s n =
-    elim (replaced_only old news new lo hi s r n) [ inl m ↦ was s m | inr m ↦ added s m ]
+    ⊎_elim (was s) (added s) (parts_only old new r.front r.middle news r.back s r.were r.are n)
 
 pub replaced_rise : (old news new : List Entry) (lo hi : ℕ) → Replaces old lo hi news new → lo ≤ hi → EntriesFrom 0 old → EntriesFrom lo news → All (λ e. hi_of e ≤ hi) news → EntriesFrom 0 new
 replaced_rise old news new lo hi r h order rise ends =
@@ -75,7 +83,7 @@ put_or_same (Ok true) old new e put same = inl put
 put_or_same (Ok false) old new e put same = inr put
 put_or_same (Err x) old new e put same = inr same
 
-one_has : (e : Entry) (s : ℕ) → Covers (members_of (e ∷ [])) s ↔ Covers (pieces e) s
+pub one_has : (e : Entry) (s : ℕ) → Covers (members_of (e ∷ [])) s ↔ Covers (pieces e) s
 one_has e s = (λ n. elim (names_append (pieces e) [] s n) [ inl x ↦ x | inr none ↦ absurd none ], λ n. names_left (pieces e) [] s n)
 
 pub put_serials : (old new : List Entry) (e : Entry) → PutBetween old e new → AreSerials (members_of old) → AreSerials (pieces e) → AreSerials (members_of new)
@@ -124,35 +132,17 @@ widened_order old new window bits k order =
     subst (EntriesFrom 0) (sym k.are)
     (swapped_order 0 k.front k.back k.was k.is (k.word.lo.1 ∙ sym k.word.lo.0) (k.word.hi.1 ∙ sym k.word.hi.0) (subst (EntriesFrom 0) k.were order))
 
-pub widened_to : (old new : List Entry) (window bits s : ℕ) → WordWidened old window bits new → Covers (members_of new) s → Covers (members_of old) s ⊎ BitCovers 64 (64 * window) bits s
+widened_to : (old new : List Entry) (window bits s : ℕ) → WordWidened old window bits new → Covers (members_of new) s → Covers (members_of old) s ⊎ BitCovers 64 (64 * window) bits s
 widened_to old new window bits s k n =
-    let In : List Entry → Type 0 = λ l. Covers (members_of l) s in
-    let back : In (k.front ++ k.was ∷ k.back) → In old = λ m. subst In (sym k.were) m in
-    elim (has_append k.front (k.is ∷ k.back) s (subst In k.are n)) [
-      | inl front ↦ inl (back (has_left k.front (k.was ∷ k.back) s front))
-      | inr rest ↦ elim (names_append (pieces k.is) (members_of k.back) s rest) [
-        | inl here ↦ elim ((k.word.more s).0 here) [
-          | inl was ↦ inl (back (has_right k.front (k.was ∷ k.back) s (names_left (pieces k.was) (members_of k.back) s was)))
-          | inr added ↦ inr added
-        ]
-        | inr later ↦ inl (back (has_right k.front (k.was ∷ k.back) s (names_right (pieces k.was) (members_of k.back) s later)))
-      ]
-    ]
+    ⊎_elim inl (λ here. ⊎_map (members_part old k.front k.was k.back s k.were) (λ added. added) ((k.word.more s).0 ((one_has k.is s).0 here)))
+    (parts_only old new k.front (k.was ∷ []) (k.is ∷ []) k.back s k.were k.are n)
 
-pub widened_from : (old new : List Entry) (window bits s : ℕ) → WordWidened old window bits new → Covers (members_of old) s ⊎ BitCovers 64 (64 * window) bits s → Covers (members_of new) s
+widened_from : (old new : List Entry) (window bits s : ℕ) → WordWidened old window bits new → Covers (members_of old) s ⊎ BitCovers 64 (64 * window) bits s → Covers (members_of new) s
 widened_from old new window bits s k n =
-    let In : List Entry → Type 0 = λ l. Covers (members_of l) s in
-    let to : In (k.front ++ k.is ∷ k.back) → In new = λ m. subst In (sym k.are) m in
-    let here : Covers (pieces k.is) s → In new = λ m. to (has_right k.front (k.is ∷ k.back) s (names_left (pieces k.is) (members_of k.back) s m)) in
+    let word : Covers (pieces k.was) s ⊎ BitCovers 64 (64 * window) bits s → Covers (members_of new) s = λ m. members_part new k.front k.is k.back s k.are ((k.word.more s).1 m) in
     elim n [
-      | inl was ↦ elim (has_append k.front (k.was ∷ k.back) s (subst In k.were was)) [
-        | inl front ↦ to (has_left k.front (k.is ∷ k.back) s front)
-        | inr rest ↦ elim (names_append (pieces k.was) (members_of k.back) s rest) [
-          | inl word ↦ here ((k.word.more s).1 (inl word))
-          | inr later ↦ to (has_right k.front (k.is ∷ k.back) s (names_right (pieces k.is) (members_of k.back) s later))
-        ]
-      ]
-      | inr added ↦ here ((k.word.more s).1 (inr added))
+      | inl was ↦ ⊎_elim (λ m. m) (λ here. word (inl ((one_has k.was s).0 here))) (parts_only new old k.front (k.is ∷ []) (k.was ∷ []) k.back s k.are k.were was)
+      | inr added ↦ word (inr added)
     ]
 
 pub widened_serials : (old new : List Entry) (window bits : ℕ) → WordWidened old window bits new → window < 2 ^ 58 → ((s : ℕ) → BitCovers 64 (64 * window) bits s → 0 < s) → AreSerials (members_of old) → AreSerials (members_of new)
@@ -165,7 +155,7 @@ widened_runs old new window bits k order =
     let is = runs_of_entries new (widened_order old new window bits k order) in (
       is.0,
       λ s. (
-        λ n. elim (widened_to old new window bits s k ((is.1 s).0 n)) [ inl m ↦ inl ((was.1 s).1 m) | inr added ↦ inr added ],
-        λ n. (is.1 s).1 (widened_from old new window bits s k (elim n [ inl m ↦ inl ((was.1 s).0 m) | inr added ↦ inr added ])),
+        λ n. ⊎_map (was.1 s).1 (λ added. added) (widened_to old new window bits s k ((is.1 s).0 n)),
+        λ n. (is.1 s).1 (widened_from old new window bits s k (⊎_map (was.1 s).0 (λ added. added) n)),
       ),
     )

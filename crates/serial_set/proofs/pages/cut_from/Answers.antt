@@ -2,6 +2,7 @@ use Rattle.std.proofs.Common.{◌<◌, ◌≤◌, ◌⊎◌, ◌≡◌, ◌++◌
 use Rattle.std.specs.List.{All}
 use Rattle.std.proofs.lemmas.List.{drop_all, take_rest}
 use Rattle.serial_set.specs.declared.entry.Entry.{Entry}
+use Rattle.serial_set.specs.declared.page.Page.{Page}
 use Rattle.serial_set.specs.Entry.{lo_of, hi_of, EntriesFrom}
 use Rattle.serial_set.specs.Pages.{entries_in, entries_of}
 use Rattle.serial_set.specs.Places.{end_of, CutTo}
@@ -9,46 +10,31 @@ use Rattle.serial_set.proofs.Flat.{left_back, left_more, left_rest, left_first, 
 use Rattle.serial_set.proofs.InRow.{order_page, all_page, cut_all, cut_some}
 use Rattle.serial_set.proofs.pages.cut_from.Goals as goal
 
+-- the first page that is left is the first that is not removed
+first : (c : goal.After-index_mut) → (c.pages_ending_upto-gone.result < length (drop c.args.from c.args.pages.now.items))
+    × (c.index_mut.result.now ≡ get_or (drop c.args.from c.args.pages.now.items) c.pages_ending_upto-gone.result c.index_mut.result.now)
+first c =
+    let some : c.args.from < length c.remove_pages.new.pages.items = omega (arith, c.if-from-len.true) in
+    left_first c.args.pages.now.items c.remove_pages.new.pages.items c.args.from c.pages_ending_upto-gone.result c.index_mut.result.now c.remove_pages.ensures (omega arith) some c.index_mut.ensures.value
+
 pub cut_to-requires-clause-order : goal.cut_to-requires-clause-order
 cut_to-requires-clause-order c =
-    let xs = c.args.pages.now.items in
-    let from = c.args.from in
-    let tail = drop from xs in
-    let gone = c.pages_ending_upto-gone.result in
-    let ys = c.remove_pages.new.pages.items in
-    let y = c.index_mut.result.now in
-    let some : from < length ys = omega (arith, c.if-from-len.true) in
-    let first = left_first xs ys from gone y c.remove_pages.ensures (omega arith) some c.index_mut.ensures.value in
-    subst (λ p. EntriesFrom 0 (entries_in p)) (sym first.1) (order_page tail gone y first.0 c.requires.order)
+    subst (λ p. EntriesFrom 0 (entries_in p)) (sym (first c).1)
+    (order_page (drop c.args.from c.args.pages.now.items) c.pages_ending_upto-gone.result c.index_mut.result.now (first c).0 c.requires.order)
 
 pub cut_to-requires-clause-whole : goal.cut_to-requires-clause-whole
 cut_to-requires-clause-whole c =
-    let xs = c.args.pages.now.items in
-    let from = c.args.from in
-    let tail = drop from xs in
-    let gone = c.pages_ending_upto-gone.result in
-    let ys = c.remove_pages.new.pages.items in
-    let y = c.index_mut.result.now in
-    let some : from < length ys = omega (arith, c.if-from-len.true) in
-    let first = left_first xs ys from gone y c.remove_pages.ensures (omega arith) some c.index_mut.ensures.value in
     let P : Entry → Type 0 = λ e. (hi_of e ≤ c.args.number) ⊎ (c.args.number < lo_of e) in
-    subst (λ p. All P (entries_in p)) (sym first.1) (all_page P tail gone y first.0 c.requires.whole)
+    subst (λ p. All P (entries_in p)) (sym (first c).1)
+    (all_page P (drop c.args.from c.args.pages.now.items) c.pages_ending_upto-gone.result c.index_mut.result.now (first c).0 c.requires.whole)
 
 pub cut_to-requires-clause-past : goal.cut_to-requires-clause-past
 cut_to-requires-clause-past c =
-    let xs = c.args.pages.now.items in
-    let from = c.args.from in
-    let tail = drop from xs in
-    let gone = c.pages_ending_upto-gone.result in
-    let ys = c.remove_pages.new.pages.items in
-    let y = c.index_mut.result.now in
-    let some : from < length ys = omega (arith, c.if-from-len.true) in
-    let first = left_first xs ys from gone y c.remove_pages.ensures (omega arith) some c.index_mut.ensures.value in
-    let tail_is = take_rest c.deref.result.now from ∙ ap (drop from) c.deref.ensures.value in
-    let ends = subst (λ l. All (λ p. c.args.number < end_of (entries_in p)) (drop gone l)) tail_is c.pages_ending_upto-gone.ensures.past in
-    let past : c.args.number < end_of (entries_in (get_or tail gone y)) =
-    first_of (λ p. c.args.number < end_of (entries_in p)) tail gone y first.0 ends in
-    subst (λ p. c.args.number < end_of (entries_in p)) (sym first.1) past
+    let P : Page → Type 0 = λ p. c.args.number < end_of (entries_in p) in
+    let gone = c.pages_ending_upto-gone in
+    let tail_is = take_rest c.deref.result.now c.args.from ∙ ap (drop c.args.from) c.deref.ensures.value in
+    subst P (sym (first c).1)
+    (first_of P (drop c.args.from c.args.pages.now.items) gone.result c.index_mut.result.now (first c).0 (subst (λ l. All P (drop gone.result l)) tail_is gone.ensures.past))
 
 pub returns-then-from-len-clause-cut : goal.returns-then-from-len-clause-cut
 returns-then-from-len-clause-cut c =
@@ -58,19 +44,17 @@ returns-then-from-len-clause-cut c =
     let n = c.args.number in
     let gone = c.pages_ending_upto-gone.result in
     let ys = c.remove_pages.new.pages.items in
-    let y = c.index_mut.result.now in
-    let new = c.cut_to.new.self in
-    let left = entries_in new in
+    let left = entries_in c.cut_to.new.self in
     let some : from < length ys = omega (arith, c.if-from-len.true) in
-    let kept = c.remove_pages.ensures in
-    let first = left_first xs ys from gone y kept (omega arith) some c.index_mut.ensures.value in
-    let rest = left_rest tail ys from gone (left_back xs ys from gone kept (omega arith)) in
+    let rest = left_rest tail ys from gone (left_back xs ys from gone c.remove_pages.ensures (omega arith)) in
     let tail_is = take_rest c.deref.result.now from ∙ ap (drop from) c.deref.ensures.value in
     let by = subst (λ l. All (λ e. hi_of e ≤ n) (entries_of (take gone l))) tail_is c.pages_ending_upto-gone.ensures.upto in
+    let y = c.index_mut.result.now in
+    let first = left_first xs ys from gone y c.remove_pages.ensures (omega arith) some c.index_mut.ensures.value in
     let ends = subst (λ l. All (λ p. n < end_of (entries_in p)) (drop gone l)) tail_is c.pages_ending_upto-gone.ensures.past in
-    let past : n < end_of (entries_in (get_or tail gone y)) = first_of (λ p. n < end_of (entries_in p)) tail gone y first.0 ends in
+    let past = first_of (λ p. n < end_of (entries_in p)) tail gone y first.0 ends in
     let k = subst (λ p. CutTo (entries_in p) n left) first.1 c.cut_to.ensures in
-    subst (CutTo (entries_of tail) n) (sym (flat_drop_set entries_in ys from new some ∙ ap (λ l. left ++ entries_of l) rest))
+    subst (CutTo (entries_of tail) n) (sym (flat_drop_set entries_in ys from c.cut_to.new.self some ∙ ap (λ l. left ++ entries_of l) rest))
     (cut_some tail gone n y left c.requires.order first.0 by past k)
 
 pub returns-else-from-len-clause-cut : goal.returns-else-from-len-clause-cut

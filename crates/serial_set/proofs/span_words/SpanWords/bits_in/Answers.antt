@@ -2,7 +2,7 @@ use Rattle.std.proofs.Common.{◌+◌, ◌*◌, ◌-◌, inl, inr, arith}
 use Rattle.std.proofs.lemmas.Bool.{cases_lt}
 use Rattle.std.proofs.lemmas.Nat.Bits.{bit_at-zero}
 use Rattle.serial_set.specs.SpanWords.{entries_held}
-use Rattle.serial_set.proofs.InNews.{or_bits}
+use Rattle.serial_set.proofs.InEntry.{in_or}
 use Rattle.serial_set.proofs.InSet.{from_has, from_owns}
 use Rattle.serial_set.proofs.span_words.SpanWords.bits_in.Goals as goal
 
@@ -22,11 +22,11 @@ loop-at-preserved c =
     let up = part.ensures.at in
     record {
       at = up.1;
-      sound = λ s n. elim ((or_bits first c.loop-at.bits part.result.bits s).0 n) [
+      sound = λ s n. elim ((in_or first c.loop-at.bits part.result.bits s).0 n) [
         | inl x ↦ c.loop-at.invariant.sound s x
         | inr y ↦ from_has entries (first + c.loop-at.at) s c.entry_from.result is ((part.ensures.bits s y.0 y.1).0 y)
       ];
-      done = λ s a b m. (or_bits first c.loop-at.bits part.result.bits s).1 (elim (cases_lt s (first + c.loop-at.at)) [
+      done = λ s a b m. (in_or first c.loop-at.bits part.result.bits s).1 (elim (cases_lt s (first + c.loop-at.at)) [
         | inl old ↦ inl (c.loop-at.invariant.done s a old m)
         | inr new ↦ inr ((part.ensures.bits s a (let top = up.1 in omega arith)).1
             (from_owns entries (first + c.loop-at.at) (first + 63) s c.entry_from.result c.args.self.now.order is new (part.ensures.end s b) m))
