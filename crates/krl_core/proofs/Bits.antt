@@ -102,15 +102,12 @@ bits_kept old mid new byte finished fed contents authority h entries k =
       same = same_then (here.closed ++ open_entries new) ((C ++ O) ++ F) (entries ++ E) here.same all;
     }
 
-lowest_is : (before : FedBitmap) (byte : ℕ) (after : FedBitmap) (finished : List Span) → Feeds before byte after finished
-    → lowest after ≡ base_of before.offset before.bytes_left
-lowest_is before byte after finished fed =
-    let offset : after.offset ≡ before.offset = ap (λ p. p.offset) fed.same_bitmap in
-    omega (arith, offset, fed.one_less)
-
 entry_is : (old mid : Keeping) (byte : ℕ) (finished : List Span) → Feeds old.bitmap byte mid.bitmap finished
     → BitmapEntry old.authority (lowest mid.bitmap) byte ∷ [] ≡ BitmapEntry old.authority (base_of old.bitmap.offset old.bitmap.bytes_left) byte ∷ []
-entry_is old mid byte finished fed = ap (λ (n : ℕ). BitmapEntry old.authority n byte ∷ []) (lowest_is old.bitmap byte mid.bitmap finished fed)
+entry_is old mid byte finished fed =
+    let offset : mid.bitmap.offset ≡ old.bitmap.offset = ap (λ p. p.offset) fed.same_bitmap in
+    let low : lowest mid.bitmap ≡ base_of old.bitmap.offset old.bitmap.bytes_left = omega (arith, offset, fed.one_less) in
+    ap (λ (n : ℕ). BitmapEntry old.authority n byte ∷ []) low
 
 pub bits_go_on : (old mid new : Keeping) (byte : ℕ) (last : Bool) (finished : List Span) → last ≡ false → Feeds old.bitmap byte mid.bitmap finished
     → mid.contents ≡ old.contents → mid.authority ≡ old.authority → mid.header ≡ old.header
@@ -145,21 +142,15 @@ bits_close old mid new last_one byte last finished on fed contents authority hea
       goes_on = λ off. absurd (cc (on, off));
     }
 
--- a byte makes at most four runs more
-bits_held : (old mid new : Keeping) (byte : ℕ) (finished : List Span) → Feeds old.bitmap byte mid.bitmap finished
-    → mid.contents ≡ old.contents → held_with_open new ≤ held_with_open mid + length finished → held_with_open new ≤ held_with_open old + 4
-bits_held old mid new byte finished fed contents h =
-    let same : held mid.contents ≡ held old.contents = ap held contents in
-    omega (arith, fed.four_more, h, same, length-append (option_to_list mid.bitmap.pending) (reverse finished), length-reverse finished)
-
--- A byte was fed, and of the runs that it finished some were added.
+-- A byte was fed (which makes at most four runs more), and of the runs that it finished some were added.
 pub fed_few : (old mid new : Keeping) (byte : ℕ) (finished : List Span) → Feeds old.bitmap byte mid.bitmap finished
     → mid ≡ record old { bitmap = mid.bitmap } → held_with_open new ≤ held_with_open mid + length finished → KeepsStored mid new
     → (held_with_open new ≤ held_with_open old + 4) × KeepsStored old new
-fed_few old mid new byte finished fed rest held stored =
+fed_few old mid new byte finished fed rest more stored =
     let contents = ap (λ (k : Keeping). k.contents) rest in
     let authority = ap (λ (k : Keeping). k.authority) rest in
-    (bits_held old mid new byte finished fed contents held, stored_then old mid new (stored_same old mid contents authority) stored)
+    let same : held mid.contents ≡ held old.contents = ap held contents in
+    (omega (arith, fed.four_more, more, same, length-append (option_to_list mid.bitmap.pending) (reverse finished), length-reverse finished), stored_then old mid new (stored_same old mid contents authority) stored)
 
 -- ---- a byte that passes its judgement shows no fault
 
@@ -189,9 +180,6 @@ highest_around byte =
       ])
     ]
 
-bit_upto : (byte i : ℕ) → byte < 256 → bit_at byte i ≡ 1 → i ≤ highest_bit byte
-bit_upto byte i h b = omega (arith, bit_below byte (highest_bit byte + 1) i ((highest_around byte).1 h) b)
-
 pub not_past_at : (base byte : ℕ) → byte < 256 → passes_end base byte ≡ false → (k : ℕ) → bit_at byte k ≡ 1 → base + k < 2 ^ 64
 not_past_at base byte h passes k bit =
     elim (either_false (eqb byte 0) (leb 18446744073709551616 (base + highest_bit byte)) passes) [
@@ -200,7 +188,7 @@ not_past_at base byte h passes k bit =
           let o : bit_at 0 k ≡ 1 = subst (λ (n : ℕ). bit_at n k ≡ 1) (eqb-true byte 0 none) bit in
           absurd (omega (arith, z, o))
       | inr low ↦
-          let top = bit_upto byte k h bit in
+          let top = bit_below byte (highest_bit byte + 1) k ((highest_around byte).1 h) bit in
           let lt : base + highest_bit byte < 18446744073709551616 = leb-false 18446744073709551616 (base + highest_bit byte) low in
           omega (arith, top, lt)
     ]

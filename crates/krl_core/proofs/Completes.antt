@@ -56,12 +56,14 @@ item_front size entry Then field tail more len h =
     record { content = field; rest = tail; others = more; parts = refl; size_is = len; named = refl; then_is = h }
 
 -- a length and what it counts make a string
-pub string_parts : (field tail content rest : List ℕ) → IsBytes field → length field ≡ 4 → length content ≡ number_of field → tail ≡ content ++ rest → field ++ tail ≡ string content ++ rest
+pub whole_string : (size : ℕ) (content rest after bytes : List ℕ) → bytes ≡ number 4 size ++ after → after ≡ content ++ rest → length content ≡ size → bytes ≡ string content ++ rest
 unfolding string
+whole_string size content rest after bytes e f len =
+    e ∙ ap (λ (n : ℕ). number 4 n ++ after) (sym len) ∙ ap (λ (x : List ℕ). number 4 (length content) ++ x) f ∙ sym (append_assoc (number 4 (length content)) content rest)
+
+pub string_parts : (field tail content rest : List ℕ) → IsBytes field → length field ≡ 4 → length content ≡ number_of field → tail ≡ content ++ rest → field ++ tail ≡ string content ++ rest
 string_parts field tail content rest fits size len parts =
-    let n = number_back4 field size fits in
-    let e : field ≡ number 4 (length content) = sym n.0 ∙ ap (number 4) (sym len) in
-    ap (λ (x : List ℕ). x ++ tail) e ∙ ap (λ (x : List ℕ). number 4 (length content) ++ x) parts ∙ sym (append_assoc (number 4 (length content)) content rest)
+    whole_string (number_of field) content rest tail (field ++ tail) (ap (λ (x : List ℕ). x ++ tail) (sym (number_back4 field size fits).0)) parts len
 
 items_none : {X : Type 0} (spell : X → List ℕ) (Good : X → Type 0) (entry : X → Entry) (Then : Rest) (bytes : List ℕ) (more : List Entry) → Then bytes more → FromItems spell Good entry 0 Then bytes more
 items_none spell Good entry Then bytes more h =
@@ -118,10 +120,6 @@ items_from last h kind a zero after bytes more k =
     items_none string (IsItem kind) (item_entry kind a) (FromSubsections (last ≡ h) a after) bytes more (subsections_from last h a after bytes more k)
 items_from last h kind a (suc left) after bytes more k = k
 
--- no bytes are left for a subsection
-no_subsection : (text : List ℕ) (subsection : Subsection) → SpellsSubsection text subsection → length text ≡ 0 → ⊥
-no_subsection text subsection h none = omega (arith, ap length h.spelled, none)
-
 pub sections_from : (K : Type 0) (a : List ℕ) (bytes : List ℕ) (more : List Entry) → FromSubsections K a 0 bytes more → FromSections false K bytes more
 sections_from K a bytes more h = only h.subsections h.body h.spelled h.size_is h.parts h.named
   where
@@ -138,7 +136,7 @@ sections_from K a bytes more h = only h.subsections h.body h.spelled h.size_is h
           known = k.known;
         }
     only (sub ∷ subs) body (first, (more', (e, spelled, others))) size parts named =
-        absurd (no_subsection first sub spelled (omega (arith, ap length e, length-append first more', size)))
+        absurd (omega (arith, ap length spelled.spelled, ap length e, length-append first more', size))
 
 -- ---- sections
 
@@ -156,12 +154,6 @@ sections_more signed K section text tail rest more others k parts spelled named 
 
 tail_string : (type_byte : ℕ) (content rest bytes : List ℕ) → bytes ≡ string content ++ rest → type_byte ∷ bytes ≡ (type_byte ∷ string content) ++ rest
 tail_string type_byte content rest bytes e = ap (λ (x : List ℕ). type_byte ∷ x) e
-
--- the length and content of a section
-pub whole_string : (size : ℕ) (content rest after bytes : List ℕ) → bytes ≡ number 4 size ++ after → after ≡ content ++ rest → length content ≡ size → bytes ≡ string content ++ rest
-unfolding string
-whole_string size content rest after bytes e f len =
-    e ∙ ap (λ (n : ℕ). number 4 n ++ after) (sym len) ∙ ap (λ (x : List ℕ). number 4 (length content) ++ x) f ∙ sym (append_assoc (number 4 (length content)) content rest)
 
 -- a section of items, of whatever kind
 pub items_section : (K : Type 0) (signed : Bool) (kind : ItemKind) (a : List ℕ) (type_byte : ℕ) (section : SpelledSection) (bytes : List ℕ) (more : List Entry) → signed ≡ false → (l : FromLength (λ n. Items K kind a n 0) bytes more)

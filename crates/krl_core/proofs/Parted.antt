@@ -14,8 +14,9 @@ use Rattle.std.proofs.lemmas.Map.Lookups.{exact_bytes}
 use Rattle.std.proofs.lemmas.List.{map-append}
 use Rattle.krl_core.specs.Asked.{Stands}
 use Rattle.krl_core.specs.Rising.{bytes_cmp, AllAbove, RisesBy}
-use Rattle.krl_core.specs.Elements.{contains_here, contains_later, contains_cases, contains_none}
+use Rattle.krl_core.specs.Elements.{contains_cases, contains_none}
 use Rattle.krl_core.specs.TextMap.{AreParted, Enters, Swaps, merged, name_of, names_of}
+use Rattle.krl_core.proofs.BothWays.{contains_middle}
 use Rattle.krl_core.proofs.Ordered.{back_above, front_below, inserts_map, tied}
 use Rattle.krl_core.specs.Changes.{Puts}
 use Rattle.krl_core.proofs.Merging.{Entries, Longs, Parts, Shorts, all_merged, by_order, lengths_apart, merged_rise, parts_first, parts_second}
@@ -55,10 +56,6 @@ module _ {K V : Type 0} (read : K → List ℕ) where
   shown_lookup bytes (e ∷ es) = ap (λ o. cond (is_at (bytes_cmp bytes) (read e.0)) (Some e.1) o) (shown_lookup bytes es)
 
 -- ---- one list
-
-contains_middle : (front : List (List ℕ)) (k : List ℕ) (back : List (List ℕ)) → Contains (front ++ k ∷ back) k
-contains_middle [] k back = contains_here k back
-contains_middle (x ∷ front) k back = contains_later x k (front ++ k ∷ back) (contains_middle front k back)
 
 module _ {V : Type 0} where
   -- an entry more
@@ -174,7 +171,7 @@ module _ {V : Type 0} where
   pub names_stay : (k : List ℕ) (was v : V) (old new : Entries V) → Swaps k was v old new → Contains (names_of old) k × (names_of new ≡ names_of old)
   names_stay k was v old new s =
       let before = ap names_of s.before ∙ names_middle s.front k was s.back in (
-        subst (λ l. Contains l k) (sym before) (contains_middle (names_of s.front) k (names_of s.back)),
+        subst (λ l. Contains l k) (sym before) ((contains_middle (names_of s.front) k (names_of s.back) k).1 (inl refl)),
         ap names_of s.after ∙ names_middle s.front k v s.back ∙ sym before,
       )
 

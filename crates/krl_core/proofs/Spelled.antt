@@ -35,17 +35,6 @@ use Rattle.krl_core.proofs.Rests.{IsItem}
 
 -- ---- a field, and what follows it
 
--- a string: its length, and its content
-pub string_goes : (p : Place) (q : Place) (r : Place) (content rest : List ℕ) → HasRoom (expected p) → (expected p).size ≡ 4 → length content < 2 ^ 32
-    → ((field : List ℕ) → number_of field ≡ length content → (expected p).judged field ≡ Ok q)
-    → HasRoom (expected q) → length content ≡ (expected q).size → (expected q).judged content ≡ Ok r → Goes p (string content ++ rest) r rest
-unfolding string
-string_goes p q r content rest room size fits judged room' size' judged' =
-    goes_from p r (string content ++ rest) (number 4 (length content) ++ (content ++ rest)) rest (append_assoc (number 4 (length content)) content rest)
-    (goes_then p q r (number 4 (length content) ++ (content ++ rest)) (content ++ rest) rest
-    (goes_one p q (number 4 (length content)) (content ++ rest) room (length-number 4 (length content) ∙ sym size) (judged (number 4 (length content)) (number_again4 (length content) fits)))
-    (goes_one q r content rest room' size' judged'))
-
 -- a length of content that is read in parts
 pub content_goes : (p q r : Place) (content rest : List ℕ) → HasRoom (expected p) → (expected p).size ≡ 4 → length content < 2 ^ 32
     → ((field : List ℕ) → number_of field ≡ length content → (expected p).judged field ≡ Ok q) → Goes q (content ++ rest) r rest → Goes p (string content ++ rest) r rest
@@ -54,6 +43,12 @@ content_goes p q r content rest room size fits judged w =
     goes_from p r (string content ++ rest) (number 4 (length content) ++ (content ++ rest)) rest (append_assoc (number 4 (length content)) content rest)
     (goes_then p q r (number 4 (length content) ++ (content ++ rest)) (content ++ rest) rest
     (goes_one p q (number 4 (length content)) (content ++ rest) room (length-number 4 (length content) ∙ sym size) (judged (number 4 (length content)) (number_again4 (length content) fits))) w)
+
+-- a string: its length, and its content
+pub string_goes : (p : Place) (q : Place) (r : Place) (content rest : List ℕ) → HasRoom (expected p) → (expected p).size ≡ 4 → length content < 2 ^ 32
+    → ((field : List ℕ) → number_of field ≡ length content → (expected p).judged field ≡ Ok q)
+    → HasRoom (expected q) → length content ≡ (expected q).size → (expected q).judged content ≡ Ok r → Goes p (string content ++ rest) r rest
+string_goes p q r content rest room size fits judged room' size' judged' = content_goes p q r content rest room size fits judged (goes_one q r content rest room' size' judged')
 
 -- a length that fits is checked by what follows
 pub within_is : (left : ℕ) (next : ℕ → Result Place KrlFault) (size n : ℕ) → size ≡ n → n ≤ left - 4 → within left next size ≡ next n
@@ -135,9 +130,6 @@ serials_go (n ∷ items) total left after rest e =
     goes_from (next_serial total after) (next_serial left after) (numbers_text (n ∷ items) ++ rest) (number 8 n ++ (numbers_text items ++ rest)) rest (append_assoc (number 8 n) (numbers_text items) rest)
     (goes_then (next_serial total after) (next_serial mid after) (next_serial left after) (number 8 n ++ (numbers_text items ++ rest)) (numbers_text items ++ rest) rest
     (serial_goes total mid after n (numbers_text items ++ rest) (omega arith)) (serials_go items mid left after rest refl))
-
-eights : (n m : ℕ) → n ≡ 8 * m → n % 8 ≡ 0
-eights n m e = omega (arith, e)
 
 -- ---- the bytes of a bitmap
 
@@ -263,7 +255,7 @@ subsection_goes left (Serials numbers) text rest h le fits =
     let n = length h.content in
     let b = left - length text in
     let all : n ≡ length (numbers_text numbers) = ap length h.content_is.0 in
-    let eight : n % 8 ≡ 0 = eights n (length numbers) (all ∙ length-numbers numbers) in
+    let eight : n % 8 ≡ 0 = omega (arith, all ∙ length-numbers numbers) in
     part_goes left 0x20 (places.Serials (serials.SerialsLength (left - 1))) (next_serial n b) text h.content rest (λ size after. judge (size % 8 == 0) faults.Length (next_serial size after)) h.spelled le h.fits refl refl
     (judge_is (eqb (n % 8) 0) faults.Length (next_serial n b) (eq-eqb (n % 8) 0 eight))
     (goes_from (next_serial n b) (next_subsection b) (h.content ++ rest) (numbers_text numbers ++ rest) rest (ap (λ (x : List ℕ). x ++ rest) h.content_is.0) (serials_go numbers n 0 b rest (omega (arith, all))))
@@ -317,10 +309,6 @@ subsection_goes left SubsectionExtension text rest h le fits =
     part_goes left 0x39 (places.Extension (extensions.SubsectionLength (left - 1))) (places.Extension (extensions.NameLength n b)) text h.content rest (λ size after. Ok (places.Extension (extensions.NameLength size after))) h.spelled le h.fits refl refl refl
     (extension_goes n b h.content rest h.content_is refl h.fits)
 
--- a subsection is not empty
-subsection_some : (sub : Subsection) (text : List ℕ) → SpellsSubsection text sub → 0 < length text
-subsection_some sub text h = omega (arith, ap length h.spelled)
-
 pub subsections_go : (subs : List Subsection) (body rest : List ℕ) (total : ℕ) → SpellsEach SpellsSubsection body subs → total ≡ length body → IsBytes body
     → Goes (next_subsection total) (body ++ rest) (places.SectionType false) rest
 subsections_go [] body rest total h e fits =
@@ -328,7 +316,7 @@ subsections_go [] body rest total h e fits =
     goes_from (next_subsection total) (places.SectionType false) (body ++ rest) rest rest (ap (λ (x : List ℕ). x ++ rest) h)
     (subst (λ (m : ℕ). Goes (next_subsection m) rest (places.SectionType false) rest) (sym none) (goes_none (places.SectionType false) rest))
 subsections_go (sub ∷ subs) body rest zero (first, (later, (parts, spelled, others))) e fits =
-    absurd (omega (arith, e, ap length parts, length-append first later, subsection_some sub first spelled))
+    absurd (omega (arith, e, ap length parts, length-append first later, ap length spelled.spelled))
 subsections_go (sub ∷ subs) body rest (suc k) (first, (later, (parts, spelled, others))) e fits =
     let len = length-append first later in
     let all = subst IsBytes parts fits in
