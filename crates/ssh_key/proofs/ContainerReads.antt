@@ -1,9 +1,9 @@
 -- What the fields of a container give, read one after the other.
-use Rattle.std.proofs.Common.{◌≡◌, ◌≢◌, ℕ, ◌+◌, ◌-◌, ◌<◌, ◌≤◌, ◌==◌, ◌&&◌, Bool, true, false, List, [], ◌∷◌, ◌++◌, length, take, drop, get_or, codes, map, nat_eq, Option, Some, None, Ok, Err, Decides, refl, sym, ap, inl, inr, ◌∙◌, arith, append_assoc}
+use Rattle.std.proofs.Common.{◌≡◌, ◌≢◌, ℕ, ◌+◌, ◌-◌, ◌<◌, ◌≤◌, ◌==◌, ◌&&◌, Bool, true, false, List, [], ◌∷◌, ◌++◌, length, take, drop, get_or, codes, map, nat_eq, Option, Some, None, Ok, Err, Decides, refl, sym, ap, ◌∙◌, arith, append_assoc}
 use Rattle.std.specs.Prelude.{option_map}
 use Rattle.std.specs.List.{slice_split, starts_with, suffix_len}
 use Rattle.std.specs.Str.{bytes_eq}
-use Rattle.std.proofs.lemmas.Bool.{and_parts, cases_Bool, eqb-true}
+use Rattle.std.proofs.lemmas.Bool.{and_parts, eqb-true, false_from_ne_true}
 use Rattle.std.proofs.lemmas.Bool.Decides.{same_from_decides}
 use Rattle.std.proofs.lemmas.List.{append_cancel_left, ext_get_or, get_or_append_left, get_or-take, length-append, length-drop, length-take, nil_from_length, take-append-drop, take_all}
 use Rattle.std.proofs.lemmas.List.FromFn.{get_or-range_with_len, length-range_with_len}
@@ -76,10 +76,7 @@ joined_same first second bytes rest e =
     same_from_decides (bytes_eq rest second) (bytes_eq (first ++ second) bytes) (bytes_eq-Decides rest second) after
 
 pub joined_other : (first second bytes : List ℕ) → ((rest : List ℕ) → bytes ≢ first ++ rest) → false ≡ bytes_eq (first ++ second) bytes
-joined_other first second bytes none = elim (cases_Bool (bytes_eq (first ++ second) bytes)) [
-  | inl same ↦ absurd (none second (sym ((bytes_eq-Decides (first ++ second) bytes).0 same)))
-  | inr not ↦ sym not
-]
+joined_other first second bytes none = sym (false_from_ne_true (bytes_eq (first ++ second) bytes) (λ same. none second (sym ((bytes_eq-Decides (first ++ second) bytes).0 same))))
 
 -- ---- the padding
 

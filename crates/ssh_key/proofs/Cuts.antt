@@ -10,7 +10,7 @@ use Rattle.ssh_wire.specs.Cut.{mpint-cut, string-cut, take-after}
 use Rattle.ssh_wire.specs.Fields.{length-mpint, length-string}
 use Rattle.ssh_wire.specs.Laws.{IsShortWhereCut}
 use Rattle.ssh_key.specs.declared.fault.KeyFault.TheVariants.{Wire}
-use Rattle.ssh_key.specs.Kind.{Field, Positive, Curve, Point, Sized, Text, type_name, fields_of}
+use Rattle.ssh_key.specs.Kind.{Field, Positive, type_name, fields_of}
 use Rattle.ssh_key.specs.Key.{AreValues, HasLength, IsKey, Key, blob_of, field_text, fields_text}
 use Rattle.ssh_key.specs.FirstFault.{IsFieldsFault, IsFirstFault, Refuses, in_fields, no_name, not_long}
 use Rattle.ssh_key.proofs.FirstFaults.{refused_in_field}
@@ -28,20 +28,11 @@ cut_at read text rest n short lt =
 pub string_cut : (text rest : List ℕ) (n : ℕ) → length text < 2 ^ 32 → n < length (string text) → string_at (take n (string text ++ rest)) ≡ Err Short
 string_cut text rest n fits lt = cut_at string_at (string text) rest n (string-cut text fits) lt
 
-mpint_cut : (magnitude rest : List ℕ) (n : ℕ) → HasLength (mpint magnitude) → n < length (mpint magnitude) → mpint_at (take n (mpint magnitude ++ rest)) ≡ Err Short
-mpint_cut magnitude rest n has_length lt = cut_at mpint_at (mpint magnitude) rest n (mpint-cut magnitude (omega (arith, length-mpint magnitude))) lt
-
 -- ---- fields
 
-text_cut : (value rest : List ℕ) (n : ℕ) → HasLength (string value) → n < length (string value) → string_at (take n (string value ++ rest)) ≡ Err Short
-text_cut value rest n has_length lt = string_cut value rest n (omega (arith, length-string value)) lt
-
 field_cut : (field : Field) (value rest : List ℕ) (n : ℕ) → HasLength (field_text field value) → n < length (field_text field value) → Refuses field (take n (field_text field value ++ rest)) (Wire Short)
-field_cut Positive value rest n has_length lt = mpint_cut value rest n has_length lt
-field_cut (Curve name) value rest n has_length lt = text_cut value rest n has_length lt
-field_cut (Point size) value rest n has_length lt = text_cut value rest n has_length lt
-field_cut (Sized size) value rest n has_length lt = text_cut value rest n has_length lt
-field_cut Text value rest n has_length lt = text_cut value rest n has_length lt
+field_cut Positive value rest n has_length lt = cut_at mpint_at (mpint value) rest n (mpint-cut value (omega (arith, length-mpint value))) lt
+field_cut field value rest n has_length lt = string_cut value rest n (omega (arith, length-string value)) lt
 
 fields_cut : (fields : List Field) (values : List (List ℕ)) (n : ℕ) → AreValues fields values → n < length (fields_text fields values) → RefusedIn fields (take n (fields_text fields values)) (Wire Short)
 fields_cut [] values n allowed lt = absurd (omega arith)

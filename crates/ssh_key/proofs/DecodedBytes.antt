@@ -56,11 +56,8 @@ IsBytes-groups dec text (suc count) table fits none =
 -- ---- the last group
 
 zeros : (k : ℕ) → slice_index no_leftover.morsels k < 64
-zeros zero = omega arith
-zeros (suc zero) = omega arith
-zeros (suc (suc zero)) = omega arith
 zeros (suc (suc (suc zero))) = omega arith
-zeros (suc (suc (suc (suc k)))) = omega arith
+zeros k = omega arith
 
 IsBytes-suffix : (enc dec text : List ℕ) (pad at : ℕ) → is_inverse enc dec ≡ true → IsBytes text → length text ≤ at + 4 → IsBytes (suffix_bytes dec pad at text)
 IsBytes-suffix enc dec text pad at inverse fits short = elim (ok_or_not (scan_last dec pad at text)) [

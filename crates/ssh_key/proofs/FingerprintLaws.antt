@@ -1,12 +1,10 @@
 -- Reading a printed fingerprint and the relation: what is read is one, each one is read, and the fault
 -- that is met is the first.
-use Rattle.std.proofs.Common.{◌≡◌, ◌≢◌, ℕ, zero, suc, Bool, true, false, cond, eqb, List, ◌++◌, Result, Ok, Err, length, drop, slice_index, nat_eq, refl, sym, ap, subst, ◌∙◌, inl, inr, ◌⊎◌}
+use Rattle.std.proofs.Common.{◌≡◌, ◌≢◌, ℕ, zero, suc, true, false, eqb, List, ◌++◌, Result, Ok, Err, length, drop, slice_index, nat_eq, refl, sym, ap, subst, ◌∙◌, inl, inr, ◌⊎◌}
 use Rattle.std.specs.Prelude.{IfErr, IfOk}
 use Rattle.std.specs.List.{starts_with}
 use Rattle.std.proofs.lemmas.Bool.{cases_Bool, eq-eqb, eqb-true, eqb-false, ne_eqb}
-use Rattle.std.proofs.lemmas.Bool.Decides.{Decides-eqb}
 use Rattle.std.proofs.lemmas.List.{drop_at}
-use Rattle.std.proofs.lemmas.Slice.Eq.{starts_is}
 use Rattle.base64.proofs.EngineFacts.{decode_of-encode_of, decode_of_strict}
 use Rattle.base64.specs.Engines.{standard_no_pad}
 use Rattle.base64.specs.GeneralPurpose.{decode_of}
@@ -22,15 +20,10 @@ use Rattle.ssh_key.specs.FingerprintReading.{Encodes, GivesDigest, HasOtherBase6
 use Rattle.ssh_key.specs.declared.fingerprint_fault.FingerprintFault.{FingerprintFault}
 use Rattle.ssh_key.specs.declared.fingerprint_fault.FingerprintFault.TheVariants.{Prefix, Base64, Length, NoMemory}
 use Rattle.ssh_key.proofs.DecodedBytes.{engine_fits}
-use Rattle.ssh_wire.specs.Steps.{err_is, ok_or_err}
+use Rattle.ssh_key.proofs.ListLaws.{front_met, front_not, front_taken}
+use Rattle.ssh_wire.specs.Steps.{err_is, failed_err, ok_or_err, passed_ok}
 
 -- ---- the prefix
-
-prefix_taken : (text : List ℕ) → starts_with nat_eq text sha256_prefix ≡ true → text ≡ sha256_prefix ++ drop 7 text
-prefix_taken text h = (starts_is Decides-eqb text sha256_prefix (starts_with nat_eq text sha256_prefix) refl).0 h
-
-prefix_met : (text rest : List ℕ) → text ≡ sha256_prefix ++ rest → starts_with nat_eq text sha256_prefix ≡ true
-prefix_met text rest e = (starts_is Decides-eqb text sha256_prefix (starts_with nat_eq text sha256_prefix) refl).1 rest e
 
 after : (text rest : List ℕ) → text ≡ sha256_prefix ++ rest → drop 7 text ≡ rest
 after text rest e = rw e (drop_at sha256_prefix rest 7 refl)
@@ -39,14 +32,14 @@ after text rest e = rw e (drop_at sha256_prefix rest 7 refl)
 pub prefixed_at : (text rest : List ℕ) → text ≡ sha256_prefix ++ rest → fingerprint_at text ≡ sized (decode_of standard_no_pad rest)
 unfolding fingerprint_at
 prefixed_at text rest e =
-    let met = prefix_met text rest e in
+    let met = front_met text sha256_prefix rest e in
     rw met (ap (λ (xs : List ℕ). sized (decode_of standard_no_pad xs)) (after text rest e))
 
 prefix_or_not : (text : List ℕ) → ((fingerprint_at text ≡ Err Prefix) × ((rest : List ℕ) → text ≢ sha256_prefix ++ rest)) ⊎ ((rest : List ℕ) × (text ≡ sha256_prefix ++ rest))
 unfolding fingerprint_at
 prefix_or_not text = elim (cases_Bool (starts_with nat_eq text sha256_prefix)) [
-  | inl met ↦ inr (drop 7 text, prefix_taken text met)
-  | inr not ↦ inl (rw not refl, λ rest e. let met = prefix_met text rest e in cc)
+  | inl met ↦ inr (drop 7 text, front_taken text sha256_prefix met)
+  | inr not ↦ inl (rw not refl, front_not text sha256_prefix not)
 ]
 
 -- ---- the base64
@@ -56,11 +49,7 @@ done bytes = Ok bytes
 
 sized_ok : (read : Result (List ℕ) DecodeError) (digest : List ℕ) → sized read ≡ Ok digest → (read ≡ Ok digest) × (length digest ≡ 32)
 sized_ok (Err error) digest e = absurd cc
-sized_ok (Ok bytes) digest e = by_test (eqb (length bytes) 32) refl e
-  where
-    by_test : (b : Bool) → eqb (length bytes) 32 ≡ b → cond {A = Result (List ℕ) FingerprintFault} b (Ok bytes) (Err Length) ≡ Ok digest → (done bytes ≡ Ok digest) × (length digest ≡ 32)
-    by_test true test given = let same : bytes ≡ digest = cc in (ap done same, ap length (sym same) ∙ eqb-true _ _ test)
-    by_test false test given = absurd cc
+sized_ok (Ok bytes) digest e = let g = passed_ok (eqb (length bytes) 32) Length bytes digest e in (ap done g.1, ap length (sym g.1) ∙ eqb-true _ _ g.0)
 
 -- what is refused there: no base64, or that of another count of bytes
 Refused : Result (List ℕ) DecodeError → FingerprintFault → Type 0
@@ -71,11 +60,7 @@ Refused read fault =
 sized_err : (read : Result (List ℕ) DecodeError) (fault : FingerprintFault) → sized read ≡ Err fault → Refused read fault
 unfolding Refused
 sized_err (Err error) fault e = let same : fault ≡ Base64 = cc in inl (error, refl, same)
-sized_err (Ok bytes) fault e = by_test (eqb (length bytes) 32) refl e
-  where
-    by_test : (b : Bool) → eqb (length bytes) 32 ≡ b → cond {A = Result (List ℕ) FingerprintFault} b (Ok bytes) (Err Length) ≡ Err fault → Refused (Ok bytes) fault
-    by_test true test given = absurd cc
-    by_test false test given = let same : fault ≡ Length = cc in inr (bytes, refl, eqb-false _ _ test, same)
+sized_err (Ok bytes) fault e = let g = failed_err (eqb (length bytes) 32) bytes Length fault e in inr (bytes, refl, eqb-false _ _ g.0, g.1)
 
 decoded_encodes : (text rest bytes : List ℕ) → IsBytes text → text ≡ sha256_prefix ++ rest → decode_of standard_no_pad rest ≡ Ok bytes → Encodes text bytes
 unfolding unpadded
@@ -133,10 +118,8 @@ prefix_stands text some = elim (prefix_or_not text) [
 
 pub is_reported : (text : List ℕ) (result : Result (List ℕ) FingerprintFault) → IsBytes text → GivesDigest result (fingerprint_at text) → IfErr result (IsReportedFingerprintFault text)
 is_reported text (Ok digest) fits given = tt
-is_reported text (Err Prefix) fits given = fingerprint_refused text Prefix fits given
-is_reported text (Err Base64) fits given = fingerprint_refused text Base64 fits given
-is_reported text (Err Length) fits given = fingerprint_refused text Length fits given
 is_reported text (Err NoMemory) fits given = prefix_stands text given
+is_reported text (Err fault) fits given = fingerprint_refused text fault fits given
 
 -- ---- a first fault is what is met
 

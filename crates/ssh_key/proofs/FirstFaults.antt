@@ -16,7 +16,7 @@ use Rattle.ssh_key.specs.Key.{Key, AreValues, BeginsWithFields, blob_of, fields_
 use Rattle.ssh_key.specs.KeyReading.{before_rest, bits_at, fields_at, key_at, kind_at, not_too_long, of_size, public_at}
 use Rattle.ssh_key.specs.FirstFault.{Refuses, Reaches, IsFieldsFault, in_field, long_fields, IsFault, no_name, no_kind, in_fields, after_fields, IsFirstFault, too_long, not_long}
 use Rattle.ssh_key.proofs.Names.{kind_named-name, kind_named-type_name}
-use Rattle.ssh_wire.specs.Steps.{above_zero, bind_err, failed_err, in_fault_err, in_fault_ok, never_err, none_err}
+use Rattle.ssh_wire.specs.Steps.{above_zero, bind_err, failed_err, guard_err, in_fault_err, in_fault_ok, never_err, none_err}
 use Rattle.ssh_key.proofs.Public.{fields_take, fields_again}
 use Rattle.ssh_key.proofs.Keys.{before_is, bits_ok, kind_again, kind_takes, public_found}
 use Rattle.ssh_key.proofs.Refusals.{string_read, RefusedIn, fields_refused, stop_read}
@@ -60,11 +60,7 @@ refused_in_field kind bytes fault s = in_field s.field s.later s.rest
 
 -- a key that is too long
 kept_err : (key : Key) (rest : List ℕ) (d : KeyFault) → not_too_long key rest ≡ Err d → (65536 < length (blob_of key)) × (d ≡ faults.TooLong)
-kept_err key rest d e = by_test (ltb 65536 (length (blob_of key))) refl e
-  where
-    by_test : (b : Bool) → ltb 65536 (length (blob_of key)) ≡ b → cond {A = Result (Key × List ℕ) KeyFault} b (Err faults.TooLong) (Ok (key, rest)) ≡ Err d → (65536 < length (blob_of key)) × (d ≡ faults.TooLong)
-    by_test true test given = (ltb-true _ _ test, cc)
-    by_test false test given = absurd cc
+kept_err key rest d e = let g = guard_err (ltb 65536 (length (blob_of key))) faults.TooLong d (key, rest) e in (ltb-true _ _ g.0, g.1)
 
 -- how long a blob is that ends before the rest
 without_rest : (name bytes text rest : List ℕ) → bytes ≡ text ++ rest → length (string name ++ text) + length rest ≡ length (string name ++ bytes)

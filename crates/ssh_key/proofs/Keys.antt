@@ -11,13 +11,13 @@ use Rattle.ssh_wire.specs.Fields.{HasFront, IsBytes-string, string_again, string
 use Rattle.ssh_key.specs.declared.fault.KeyFault.{KeyFault}
 use Rattle.ssh_key.specs.declared.fault.KeyFault.TheVariants as faults
 use Rattle.ssh_key.specs.declared.kind.Kind.{Kind}
-use Rattle.ssh_key.specs.declared.kind.Kind.TheVariants.{Rsa, Dsa, Ecdsa256, Ecdsa384, Ecdsa521, Ed25519, EcdsaSk, Ed25519Sk}
+use Rattle.ssh_key.specs.declared.kind.Kind.TheVariants.{Rsa}
 use Rattle.ssh_key.specs.Kind.{type_name, fields_of, bits_of, kind_named}
 use Rattle.ssh_key.specs.Key.{Key, BeginsWithFields, IsKey, AreValues, blob_of, fields_text}
 use Rattle.ssh_key.specs.KeyReading.{before_rest, bits_at, fields_at, key_at, kind_at, IsRead, not_too_long, of_size, public_at}
 use Rattle.ssh_key.specs.Value.{SameValues}
 use Rattle.ssh_key.proofs.Names.{kind_named-name, kind_named-type_name}
-use Rattle.ssh_wire.specs.Steps.{bind_ok, in_fault_ok, ok_is, passed_ok, some_ok}
+use Rattle.ssh_wire.specs.Steps.{bind_ok, guard_ok, in_fault_ok, ok_is, passed_ok, some_ok}
 use Rattle.ssh_key.proofs.Numbers.{values_same}
 use Rattle.ssh_key.proofs.Public.{fields_take, fields_again}
 use Rattle.ssh_key.proofs.Wire.{IsBytes-test}
@@ -37,23 +37,11 @@ kind_takes bytes x fits e =
 
 pub length-type_name : (kind : Kind) → length (type_name kind) < 64
 length-type_name Rsa = omega arith
-length-type_name Dsa = omega arith
-length-type_name Ecdsa256 = omega arith
-length-type_name Ecdsa384 = omega arith
-length-type_name Ecdsa521 = omega arith
-length-type_name Ed25519 = omega arith
-length-type_name EcdsaSk = omega arith
-length-type_name Ed25519Sk = omega arith
+length-type_name kind = omega arith
 
 name_is_bytes : (kind : Kind) → IsBytes (type_name kind)
 name_is_bytes Rsa = IsBytes-test (type_name Rsa) refl
-name_is_bytes Dsa = IsBytes-test (type_name Dsa) refl
-name_is_bytes Ecdsa256 = IsBytes-test (type_name Ecdsa256) refl
-name_is_bytes Ecdsa384 = IsBytes-test (type_name Ecdsa384) refl
-name_is_bytes Ecdsa521 = IsBytes-test (type_name Ecdsa521) refl
-name_is_bytes Ed25519 = IsBytes-test (type_name Ed25519) refl
-name_is_bytes EcdsaSk = IsBytes-test (type_name EcdsaSk) refl
-name_is_bytes Ed25519Sk = IsBytes-test (type_name Ed25519Sk) refl
+name_is_bytes kind = IsBytes-test (type_name kind) refl
 
 pub kind_again : (kind : Kind) (rest : List ℕ) → kind_at (string (type_name kind) ++ rest) ≡ Ok (kind, rest)
 unfolding kind_at
@@ -93,11 +81,7 @@ bits_left kind bytes size fits read =
 
 -- a key that is not too long
 kept_ok : (key : Key) (rest : List ℕ) (x : Key × List ℕ) → not_too_long key rest ≡ Ok x → (length (blob_of key) ≤ 65536) × ((key, rest) ≡ x)
-kept_ok key rest x e = by_test (ltb 65536 (length (blob_of key))) refl e
-  where
-    by_test : (b : Bool) → ltb 65536 (length (blob_of key)) ≡ b → cond {A = Result (Key × List ℕ) KeyFault} b (Err faults.TooLong) (Ok (key, rest)) ≡ Ok x → (length (blob_of key) ≤ 65536) × ((key, rest) ≡ x)
-    by_test true test given = absurd cc
-    by_test false test given = (ltb-false _ _ test, cc)
+kept_ok key rest x e = let g = guard_ok (ltb 65536 (length (blob_of key))) faults.TooLong (key, rest) x e in (ltb-false _ _ g.0, g.1)
 
 values_are_key : (kind : Kind) (bytes rest : List ℕ) (bits : ℕ) (values : List (List ℕ)) → bits_of kind values ≡ bits → AreValues (fields_of kind) values → bytes ≡ fields_text (fields_of kind) values ++ rest → length (blob_of (of_size kind bytes (bits, rest))) ≤ 65536
     → BeginsWithFields bytes (of_size kind bytes (bits, rest)) rest

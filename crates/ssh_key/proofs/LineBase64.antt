@@ -1,5 +1,5 @@
 -- Base64: its words have no blank and are not empty, and decoding undoes it and gives bytes.
-use Rattle.std.proofs.Common.{◌≡◌, ℕ, ◌+◌, ◌*◌, ◌/◌, ◌%◌, ◌<◌, true, List, [], ◌∷◌, Result, Ok, Err, length, replicate, slice_index, refl, ap, arith, inl, inr, ◌⊎◌}
+use Rattle.std.proofs.Common.{◌≡◌, ℕ, ◌+◌, ◌*◌, ◌/◌, ◌%◌, ◌<◌, true, List, [], ◌∷◌, Result, Ok, Err, length, map, replicate, slice_index, refl, ap, arith, inl, inr, ◌⊎◌}
 use Rattle.std.proofs.lemmas.Bool.{cases_lt}
 use Rattle.std.proofs.lemmas.List.{get_or_past, length-append}
 use Rattle.std.proofs.lemmas.List.Elements.{All-append, All-cons, All-nil, All-replicate}
@@ -24,38 +24,27 @@ table = engine_symbols standard
 
 -- ---- no blank
 
-symbols_pass : AllPass not_blank table
-symbols_pass = AllPass-from_list_all not_blank table refl
-
 symbol : (i : ℕ) → not_blank (slice_index table i) ≡ true
 symbol i = elim (cases_lt i 64) [
-  | inl lt ↦ symbols_pass i 0 lt
+  | inl lt ↦ AllPass-from_list_all not_blank table refl i 0 lt
   | inr le ↦ ap not_blank (get_or_past table i 0 le)
 ]
 
 abbrev Passes : ℕ → Type 0
 Passes byte = not_blank byte ≡ true
 
-symbol_then : (i : ℕ) (rest : List ℕ) → AllPass not_blank rest → AllPass not_blank (slice_index table i ∷ rest)
-symbol_then i rest each = All-cons Passes (slice_index table i) rest (symbol i) each
-
-two : (i j : ℕ) → AllPass not_blank (slice_index table i ∷ slice_index table j ∷ [])
-two i j = symbol_then i (slice_index table j ∷ []) (symbol_then j [] (All-nil Passes))
-
-three : (i j k : ℕ) → AllPass not_blank (slice_index table i ∷ slice_index table j ∷ slice_index table k ∷ [])
-three i j k = symbol_then i (slice_index table j ∷ slice_index table k ∷ []) (two j k)
-
-four : (i j k l : ℕ) → AllPass not_blank (slice_index table i ∷ slice_index table j ∷ slice_index table k ∷ slice_index table l ∷ [])
-four i j k l = symbol_then i (slice_index table j ∷ slice_index table k ∷ slice_index table l ∷ []) (three j k l)
+symbols_of : (places : List ℕ) → AllPass not_blank (map (slice_index table) places)
+symbols_of [] = All-nil Passes
+symbols_of (i ∷ places) = All-cons Passes (slice_index table i) (map (slice_index table) places) (symbol i) (symbols_of places)
 
 symbols : (bytes : List ℕ) → AllPass not_blank (encode_symbols table bytes)
 unfolding encode_symbols
 symbols [] = All-nil Passes
-symbols (a ∷ []) = two (a / 4) (a % 4 * 16)
-symbols (a ∷ b ∷ []) = three (a / 4) (a % 4 * 16 + b / 16) (b % 16 * 4)
+symbols (a ∷ []) = symbols_of (a / 4 ∷ a % 4 * 16 ∷ [])
+symbols (a ∷ b ∷ []) = symbols_of (a / 4 ∷ (a % 4 * 16 + b / 16) ∷ b % 16 * 4 ∷ [])
 symbols (a ∷ b ∷ c ∷ rest) =
     All-append Passes (encode_group table a b c) (encode_symbols table rest)
-    (four (a / 4) (a % 4 * 16 + b / 16) (b % 16 * 4 + c / 64) (c % 64)) (symbols rest)
+    (symbols_of (a / 4 ∷ (a % 4 * 16 + b / 16) ∷ (b % 16 * 4 + c / 64) ∷ c % 64 ∷ [])) (symbols rest)
 
 pub base64_passes : (bytes : List ℕ) → AllPass not_blank (base64 bytes)
 unfolding base64
@@ -67,9 +56,8 @@ base64_passes bytes =
 
 some_symbols : (byte : ℕ) (bytes : List ℕ) → 0 < length (encode_symbols table (byte ∷ bytes))
 unfolding encode_symbols
-some_symbols a [] = omega arith
 some_symbols a (b ∷ []) = omega arith
-some_symbols a (b ∷ c ∷ rest) = omega arith
+some_symbols a bytes = omega arith
 
 pub base64_some : (bytes : List ℕ) → 0 < length bytes → 0 < length (base64 bytes)
 unfolding base64

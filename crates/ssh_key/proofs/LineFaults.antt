@@ -7,10 +7,10 @@ use Rattle.ssh_key.specs.declared.line_fault.LineFault.{LineFault}
 use Rattle.ssh_key.specs.declared.line_fault.LineFault.TheVariants.{NoKey, Base64, WordDiffers, NoMemory}
 use Rattle.ssh_key.specs.KeyLine.{HasWords, base64}
 use Rattle.ssh_key.specs.LineFaults.{EncodesOtherKey, HasBadBase64, HasSomeWords, IsFirstLineFault, IsReportedFault}
-use Rattle.ssh_key.specs.LineReading.{ReportsFault, checked, content_of, decoded, has_word, line_at}
+use Rattle.ssh_key.specs.LineReading.{ReportsFault, checked, content, content_of, decoded, has_word, line_at}
 use Rattle.ssh_key.proofs.LineBase64.{decoded_again, decoded_bytes, decoded_cases, decoded_takes}
 use Rattle.ssh_key.proofs.LineLaws.{word_again, word_takes}
-use Rattle.ssh_wire.specs.Steps.{err_is, ok_or_err}
+use Rattle.ssh_wire.specs.Steps.{err_is, failed_err, ok_or_err}
 use Rattle.ssh_key.proofs.TextWords.{IsBytes-words, none_or_words, words_read}
 use Rattle.ssh_wire.specs.Wire.{BeginsWith, IsBytes}
 
@@ -22,16 +22,10 @@ Refused word encoded fault =
     ((decoded encoded ≡ Err Base64) × (fault ≡ Base64))
     ⊎ ((blob : List ℕ) × (decoded encoded ≡ Ok blob) × (has_word word blob ≡ false) × (fault ≡ WordDiffers))
 
-refused_by : (word encoded comment blob : List ℕ) (fault : LineFault) → decoded encoded ≡ Ok blob → checked word (decoded encoded) comment ≡ Err fault → Refused word encoded fault
-refused_by word encoded comment blob fault read e = elim (cases_Bool (has_word word blob)) [
-  | inl begins ↦ absurd (let h = rw (read, begins) at e in cc)
-  | inr differs ↦ let h = rw (read, differs) at e in let same : fault ≡ WordDiffers = cc in inr (blob, read, differs, same)
-]
-
 refused : (word encoded comment : List ℕ) (fault : LineFault) → checked word (decoded encoded) comment ≡ Err fault → Refused word encoded fault
 refused word encoded comment fault e = elim (decoded_cases encoded) [
   | inl bad ↦ let h = rw bad at e in let same : fault ≡ Base64 = cc in inl (bad, same)
-  | inr read ↦ refused_by word encoded comment read.0 fault read.1 e
+  | inr read ↦ let h = failed_err (has_word word read.0) (content word read.0 comment) WordDiffers fault (rw read.1 at e) in inr (read.0, read.1, h.0, h.1)
 ]
 
 -- words are never refused as no key
@@ -104,7 +98,5 @@ words_stand text some = elim (none_or_words text) [
 
 pub is_reported : (text : List ℕ) (result : Result Line LineFault) → IsBytes text → Answers ReportsFault content_of result (line_at text) → IfErr result (IsReportedFault text)
 is_reported text (Ok line) fits exact = tt
-is_reported text (Err NoKey) fits exact = line_refused text NoKey fits exact
-is_reported text (Err Base64) fits exact = line_refused text Base64 fits exact
-is_reported text (Err WordDiffers) fits exact = line_refused text WordDiffers fits exact
 is_reported text (Err NoMemory) fits exact = words_stand text exact
+is_reported text (Err fault) fits exact = line_refused text fault fits exact

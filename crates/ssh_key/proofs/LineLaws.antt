@@ -1,30 +1,28 @@
 -- Reading a key line and the relation: what is read is a key line, and each key line is read.
-use Rattle.std.proofs.Common.{◌≡◌, ℕ, ◌<◌, ◌^◌, true, List, ◌++◌, Result, Ok, Err, length, refl, sym, ap, subst, ◌∙◌, inl, inr}
-use Rattle.std.proofs.lemmas.Bool.{cases_Bool}
+use Rattle.std.proofs.Common.{◌≡◌, ℕ, true, List, Result, Ok, Err, refl, sym, ap, subst, ◌∙◌, inl, inr}
 use Rattle.std.proofs.lemmas.Slice.Eq.{bytes_eq-Decides}
-use Rattle.ssh_wire.specs.Steps.{ok_is, ok_or_err}
+use Rattle.ssh_wire.specs.Steps.{ok_or_err, passed_ok}
 use Rattle.ssh_wire.specs.Reading.{string_at}
 use Rattle.ssh_wire.specs.declared.fault.WireFault.{WireFault}
-use Rattle.ssh_wire.specs.Fields.{string_again, string_takes}
+use Rattle.ssh_wire.specs.Fields.{string_takes}
 use Rattle.ssh_key.specs.declared.line_fault.LineFault.{LineFault}
+use Rattle.ssh_key.specs.declared.line_fault.LineFault.TheVariants.{WordDiffers}
 use Rattle.ssh_key.specs.KeyLine.{HasWords, IsKeyLine, base64}
 use Rattle.ssh_key.specs.LineReading.{Content, checked, content, decoded, has_word, is_string, line_at}
 use Rattle.ssh_key.proofs.LineBase64.{decoded_again, decoded_bytes, decoded_takes}
+use Rattle.ssh_key.proofs.Refusals.{string_read}
 use Rattle.ssh_key.proofs.TextWords.{IsBytes-words, none_or_words, words_read}
-use Rattle.ssh_wire.specs.Wire.{BeginsWith, IsBytes, string}
+use Rattle.ssh_wire.specs.Wire.{BeginsWith, IsBytes}
 
 -- ---- the first string of a key
 
 abbrev Field : Type 0
 Field = List ℕ × List ℕ
 
-has_word_again : (word fields : List ℕ) → length word < 2 ^ 32 → has_word word (string word ++ fields) ≡ true
-unfolding has_word
-has_word_again word fields lt = rw (string_again word fields lt) ((bytes_eq-Decides word word).1 refl)
-
 -- a key that begins with the string of a word has that word
 pub word_again : (word blob : List ℕ) → BeginsWith blob word → has_word word blob ≡ true
-word_again word blob begins = ap (has_word word) begins.spelled ∙ has_word_again word begins.rest begins.fits
+unfolding has_word
+word_again word blob begins = rw (string_read blob word begins) ((bytes_eq-Decides word word).1 refl)
 
 is_string_takes : (word : List ℕ) (read : Result Field WireFault) → is_string word read ≡ true → (rest : List ℕ) × (read ≡ Ok (word, rest))
 is_string_takes word (Err fault) e = absurd cc
@@ -43,14 +41,10 @@ word_takes word blob fits e =
 
 checked_takes : (word : List ℕ) (read : Result (List ℕ) LineFault) (comment : List ℕ) (parts : Content) → checked word read comment ≡ Ok parts → (read ≡ Ok parts.blob) × (has_word word parts.blob ≡ true) × (content word parts.blob comment ≡ parts)
 checked_takes word (Err fault) comment parts e = absurd cc
-checked_takes word (Ok blob) comment parts e = elim (cases_Bool (has_word word blob)) [
-  | inl begins ↦
-      let h = rw begins at e in
-      let same = ok_is (content word blob comment) parts (Ok (content word blob comment)) refl h in
-      let blobs : blob ≡ parts.blob = ap (λ (p : Content). p.blob) same in
-      (ap (λ (xs : List ℕ). Ok xs) blobs, sym (ap (has_word word) blobs) ∙ begins, ap (λ (xs : List ℕ). content word xs comment) (sym blobs) ∙ same)
-  | inr differs ↦ absurd (let h = rw differs at e in cc)
-]
+checked_takes word (Ok blob) comment parts e =
+    let g = passed_ok (has_word word blob) WordDiffers (content word blob comment) parts e in
+    let blobs : blob ≡ parts.blob = ap (λ (p : Content). p.blob) g.1 in
+    (ap (λ (xs : List ℕ). Ok xs) blobs, sym (ap (has_word word) blobs) ∙ g.0, ap (λ (xs : List ℕ). content word xs comment) (sym blobs) ∙ g.1)
 
 pub line_found : (text : List ℕ) (parts : Content) → IsBytes text → line_at text ≡ Ok parts → IsKeyLine text parts.word parts.blob parts.comment
 line_found text parts fits e = elim (none_or_words text) [

@@ -1,6 +1,6 @@
 -- The options field: what the scan stops after is a field, and after a field it stops.
 use Rattle.std.proofs.Common.{◌≡◌, ◌≢◌, ℕ, ◌==◌, ◌&&◌, Bool, true, false, not, cond, List, [], ◌∷◌, ◌++◌, Some, None, refl, sym, ap, subst, ◌∙◌, arith, inl, inr}
-use Rattle.std.proofs.lemmas.Bool.{and_right, both_ways, cases_Bool, cases_eq, eq-eqb, ne_eqb}
+use Rattle.std.proofs.lemmas.Bool.{and_right, both_ways, cases_Bool, cases_eq, eq-eqb, false_from_ne_true, ne_eqb}
 use Rattle.std.proofs.lemmas.List.{append_assoc}
 use Rattle.std.proofs.lemmas.Option.{same_Some, none-some}
 use Rattle.ssh_key.specs.Blanks.{is_blank}
@@ -154,10 +154,7 @@ plain_byte byte text holds other apart true rest stays e =
     record { inner = byte ∷ f.inner; is_quoted = quoted_byte byte f.inner other (apart_from_quote byte text f.inner (f.field ++ rest) f.whole apart) f.is_quoted; field = f.field; options = f.options; whole = ap (λ (xs : List ℕ). byte ∷ xs) f.whole; stops = f.stops }
 plain_byte byte text holds other apart false rest stays e =
     let f = holds false rest (sym (passes false byte text other stays apart) ∙ e) in
-    let bare : is_blank byte ≡ false = elim (cases_Bool (is_blank byte)) [
-      | inl blank ↦ absurd (let h = rw blank at stays in cc)
-      | inr bare ↦ bare
-    ] in
+    let bare : is_blank byte ≡ false = false_from_ne_true (is_blank byte) (λ blank. let h = rw blank at stays in cc) in
     record { field = byte ∷ f.field; options = options_byte byte f.field other bare (apart_from byte text f.field rest f.whole apart) f.options; whole = ap (λ (xs : List ℕ). byte ∷ xs) f.whole; stops = f.stops }
 
 -- a quote that is not escaped

@@ -1,9 +1,9 @@
 -- The private list of a container: what is read is one, each one is read, and the fault that is met is
 -- the first.
-use Rattle.std.proofs.Common.{◌≡◌, ◌≢◌, ℕ, Bool, true, false, cond, List, [], ◌++◌, length, drop, nat_eq, Result, Ok, Err, refl, sym, subst, ◌∙◌, inl, inr, ◌⊎◌}
+use Rattle.std.proofs.Common.{◌≡◌, ◌≢◌, ℕ, Bool, true, false, List, [], ◌++◌, length, drop, nat_eq, Result, Ok, Err, refl, sym, subst, ◌∙◌, inl, inr, ◌⊎◌}
 use Rattle.std.specs.List.{starts_with}
 use Rattle.std.specs.Str.{bytes_eq}
-use Rattle.std.proofs.lemmas.Bool.{cases_Bool}
+use Rattle.std.proofs.lemmas.Bool.{cases_Bool, false_from_ne_true}
 use Rattle.std.proofs.lemmas.Bool.Decides.{Decides-eqb}
 use Rattle.std.proofs.lemmas.Slice.Eq.{bytes_eq-Decides, starts_is}
 use Rattle.ssh_wire.specs.Wire.{IsBytes}
@@ -14,7 +14,7 @@ use Rattle.ssh_key.specs.Key.{Key}
 use Rattle.ssh_key.specs.Rows.{Stands, Text, row_at}
 use Rattle.ssh_key.specs.declared.private_fault.PrivateFault.{PrivateFault}
 use Rattle.ssh_key.specs.declared.private_fault.PrivateFault.TheVariants as faults
-use Rattle.ssh_wire.specs.Steps.{bind_err, bind_ok, in_fault_err, in_fault_ok, ok_or_err}
+use Rattle.ssh_wire.specs.Steps.{bind_err, bind_ok, failed_err, in_fault_err, in_fault_ok, ok_or_err, passed_ok}
 use Rattle.ssh_key.proofs.RowLaws.{part_again, part_takes, row_again, row_fails, row_refused, row_takes}
 
 -- ---- a front of a list
@@ -29,26 +29,15 @@ pub front_not : (whole front : List ℕ) → starts_with nat_eq whole front ≡ 
 front_not whole front h rest e = let met = front_met whole front rest e in cc
 
 pub not_front : (whole front : List ℕ) → ((rest : List ℕ) → whole ≢ front ++ rest) → starts_with nat_eq whole front ≡ false
-not_front whole front none = elim (cases_Bool (starts_with nat_eq whole front)) [
-  | inl met ↦ absurd (none (drop (length front) whole) (front_taken whole front met))
-  | inr not ↦ not
-]
+not_front whole front none = false_from_ne_true (starts_with nat_eq whole front) (λ met. none (drop (length front) whole) (front_taken whole front met))
 
 -- ---- the end of the list
 
 padded_ok : (comment padding x : List ℕ) → padded comment padding ≡ Ok x → (starts_with nat_eq all_padding padding ≡ true) × (comment ≡ x)
-padded_ok comment padding x e = by_test (starts_with nat_eq all_padding padding) refl e
-  where
-    by_test : (b : Bool) → starts_with nat_eq all_padding padding ≡ b → cond {A = Result (List ℕ) PrivateFault} b (Ok comment) (Err faults.Padding) ≡ Ok x → (starts_with nat_eq all_padding padding ≡ true) × (comment ≡ x)
-    by_test true test given = (test, cc)
-    by_test false test given = absurd cc
+padded_ok comment padding x e = passed_ok (starts_with nat_eq all_padding padding) faults.Padding comment x e
 
 padded_err : (comment padding : List ℕ) (d : PrivateFault) → padded comment padding ≡ Err d → (starts_with nat_eq all_padding padding ≡ false) × (d ≡ faults.Padding)
-padded_err comment padding d e = by_test (starts_with nat_eq all_padding padding) refl e
-  where
-    by_test : (b : Bool) → starts_with nat_eq all_padding padding ≡ b → cond {A = Result (List ℕ) PrivateFault} b (Ok comment) (Err faults.Padding) ≡ Err d → (starts_with nat_eq all_padding padding ≡ false) × (d ≡ faults.Padding)
-    by_test true test given = absurd cc
-    by_test false test given = (test, cc)
+padded_err comment padding d e = failed_err (starts_with nat_eq all_padding padding) comment faults.Padding d e
 
 -- whether the values have the public fields of the key
 abbrev same_as : Key → List (List ℕ) → Bool
@@ -64,10 +53,9 @@ ended_same : (key : Key) (values : List (List ℕ)) (comment padding : List ℕ)
 ended_same key values comment padding same = let test = (bytes_eq-Decides (public_text key.kind values) key.fields).1 same in rw test refl
 
 ended_other : (key : Key) (values : List (List ℕ)) (comment padding : List ℕ) → public_text key.kind values ≢ key.fields → ended (same_as key values) comment padding ≡ Err faults.PublicDiffers
-ended_other key values comment padding other = elim (cases_Bool (bytes_eq (public_text key.kind values) key.fields)) [
-  | inl same ↦ absurd (other ((bytes_eq-Decides (public_text key.kind values) key.fields).0 same))
-  | inr not ↦ rw not refl
-]
+ended_other key values comment padding other =
+    let test : same_as key values ≡ false = false_from_ne_true (same_as key values) (λ same. other ((bytes_eq-Decides (public_text key.kind values) key.fields).0 same)) in
+    rw test refl
 
 -- ---- the rows of a list
 

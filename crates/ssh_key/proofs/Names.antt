@@ -5,7 +5,7 @@ use Rattle.std.specs.List.{find}
 use Rattle.std.specs.Str.{bytes_eq}
 use Rattle.std.proofs.lemmas.Slice.Eq.{bytes_eq-Decides}
 use Rattle.ssh_key.specs.declared.kind.Kind.{Kind}
-use Rattle.ssh_key.specs.declared.kind.Kind.TheVariants.{Rsa, Dsa, Ecdsa256, Ecdsa384, Ecdsa521, Ed25519, EcdsaSk, Ed25519Sk}
+use Rattle.ssh_key.specs.declared.kind.Kind.TheVariants.{Rsa}
 use Rattle.ssh_key.specs.Kind.{certificate_name, kind_certified, kind_named, kinds, type_name}
 
 -- what is found passes the test
@@ -24,13 +24,7 @@ kind_named-name name kind e = (bytes_eq-Decides (type_name kind) name).0 (find_p
 pub kind_named-type_name : (kind : Kind) → kind_named (type_name kind) ≡ Some kind
 unfolding kind_named
 kind_named-type_name Rsa = refl
-kind_named-type_name Dsa = refl
-kind_named-type_name Ecdsa256 = refl
-kind_named-type_name Ecdsa384 = refl
-kind_named-type_name Ecdsa521 = refl
-kind_named-type_name Ed25519 = refl
-kind_named-type_name EcdsaSk = refl
-kind_named-type_name Ed25519Sk = refl
+kind_named-type_name kind = refl
 
 pub is_named : (r : Option Kind) (name : List ℕ) → r ≡ kind_named name → IfSome r (λ kind. type_name kind ≡ name)
 is_named None name e = tt
@@ -50,13 +44,7 @@ certified-name name kind e = (bytes_eq-Decides (certificate_name kind) name).0 (
 pub certified-certificate_name : (kind : Kind) → kind_certified (certificate_name kind) ≡ Some kind
 unfolding kind_certified
 certified-certificate_name Rsa = refl
-certified-certificate_name Dsa = refl
-certified-certificate_name Ecdsa256 = refl
-certified-certificate_name Ecdsa384 = refl
-certified-certificate_name Ecdsa521 = refl
-certified-certificate_name Ed25519 = refl
-certified-certificate_name EcdsaSk = refl
-certified-certificate_name Ed25519Sk = refl
+certified-certificate_name kind = refl
 
 pub is_certified : (r : Option Kind) (name : List ℕ) → r ≡ kind_certified name → IfSome r (λ kind. certificate_name kind ≡ name)
 is_certified None name e = tt
@@ -70,13 +58,7 @@ certificate_name-injective a b e =
 plain_not_certified : (kind : Kind) → kind_certified (type_name kind) ≡ None
 unfolding kind_certified
 plain_not_certified Rsa = refl
-plain_not_certified Dsa = refl
-plain_not_certified Ecdsa256 = refl
-plain_not_certified Ecdsa384 = refl
-plain_not_certified Ecdsa521 = refl
-plain_not_certified Ed25519 = refl
-plain_not_certified EcdsaSk = refl
-plain_not_certified Ed25519Sk = refl
+plain_not_certified kind = refl
 
 -- no name is both that of a kind and that of its certificates
 pub names_apart : (a b : Kind) → type_name a ≢ certificate_name b

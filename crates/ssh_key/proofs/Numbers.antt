@@ -6,7 +6,7 @@ use Rattle.ssh_wire.specs.Wire.{IsBytes, complement, mpint, number_of}
 use Rattle.ssh_wire.specs.Digits.{IsBytes-back, IsBytes-front, IsBytes-tail, bytes_as_bits}
 use Rattle.ssh_wire.specs.Fields.{IsBytes-in_string}
 use Rattle.ssh_wire.specs.Magnitudes.{IsBytes-complement, number_of-cons, number_of-lt, same_magnitude}
-use Rattle.ssh_key.specs.Kind.{Field, Positive, Curve, Point, Sized, Text, bit_count}
+use Rattle.ssh_key.specs.Kind.{Field, Positive, bit_count}
 use Rattle.ssh_key.specs.Key.{IsPositive, IsValue, AreValues, field_text, fields_text}
 use Rattle.ssh_key.specs.Value.{SameValue, SameValues}
 use Rattle.ssh_key.proofs.Wire.{positive_is_magnitude}
@@ -21,10 +21,7 @@ IsBytes-mpint m h = IsBytes-complement m (IsBytes-in_string (complement m) h)
 
 value_same : (field : Field) (a b : List ℕ) → IsBytes (field_text field a) → IsBytes (field_text field b) → IsValue field a → IsValue field b → SameValue field a b → a ≡ b
 value_same Positive a b h k p q same = same_magnitude a b (IsBytes-mpint a h) (IsBytes-mpint b k) (positive_is_magnitude a p) (positive_is_magnitude b q) same
-value_same (Curve name) a b h k p q same = same
-value_same (Point size) a b h k p q same = same
-value_same (Sized size) a b h k p q same = same
-value_same Text a b h k p q same = same
+value_same field a b h k p q same = same
 
 pub values_same : (fields : List Field) (left right : List (List ℕ)) → IsBytes (fields_text fields left) → IsBytes (fields_text fields right) → AreValues fields left → AreValues fields right → SameValues fields left right → left ≡ right
 values_same [] [] [] h k p q same = refl

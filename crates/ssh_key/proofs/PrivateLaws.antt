@@ -197,15 +197,5 @@ has_armour text (Some body) e some = (body, armour_found text body e)
 
 pub is_reported : (text : List ℕ) (result : Result Private PrivateFault) → IsBytes text → GivesPrivate result (private_at text) → (result ≡ Err faults.NoMemory → armour_at text ≢ None) → IfErr result (IsReportedPrivateFault text)
 is_reported text (Ok private) fits given armoured = tt
-is_reported text (Err faults.Armour) fits given armoured = private_refused text faults.Armour fits given
-is_reported text (Err faults.Base64) fits given armoured = private_refused text faults.Base64 fits given
-is_reported text (Err faults.Magic) fits given armoured = private_refused text faults.Magic fits given
-is_reported text (Err faults.Encrypted) fits given armoured = private_refused text faults.Encrypted fits given
-is_reported text (Err faults.KeyCount) fits given armoured = private_refused text faults.KeyCount fits given
-is_reported text (Err faults.Check) fits given armoured = private_refused text faults.Check fits given
-is_reported text (Err (faults.Key k)) fits given armoured = private_refused text (faults.Key k) fits given
-is_reported text (Err faults.PublicDiffers) fits given armoured = private_refused text faults.PublicDiffers fits given
-is_reported text (Err faults.Padding) fits given armoured = private_refused text faults.Padding fits given
-is_reported text (Err faults.Trailing) fits given armoured = private_refused text faults.Trailing fits given
-is_reported text (Err (faults.Wire w)) fits given armoured = private_refused text (faults.Wire w) fits given
 is_reported text (Err faults.NoMemory) fits given armoured = has_armour text (armour_at text) refl (armoured refl)
+is_reported text (Err fault) fits given armoured = private_refused text fault fits given

@@ -4,7 +4,7 @@ use Rattle.std.specs.Prelude.{◌&&◌}
 use Rattle.std.specs.Str.{bytes_eq}
 use Rattle.std.proofs.lemmas.Bool.{and_parts, eq-eqb, eqb-true, ne_eqb}
 use Rattle.std.proofs.lemmas.Slice.Eq.{bytes_eq-Decides}
-use Rattle.ssh_wire.specs.Wire.{IsBytes, string}
+use Rattle.ssh_wire.specs.Wire.{IsBytes}
 use Rattle.ssh_wire.specs.Reading.{mpint_at, string_at, ◌>>=◌}
 use Rattle.ssh_wire.specs.Fields.{HasFront, HasFront-then, length-string, mpint_takes, string_again, string_takes}
 use Rattle.ssh_key.specs.declared.fault.KeyFault.{KeyFault}
@@ -39,10 +39,7 @@ uncompressed-begins (byte ∷ bytes) h = rw h refl
 
 pub value_takes : (field : Field) (bytes value rest : List ℕ) → IsBytes bytes → value_at field bytes ≡ Ok (value, rest) → HasFront bytes (field_text field value) rest
 value_takes Positive bytes value rest fits e = (mpint_takes bytes value rest fits (in_fault_ok faults.Wire (mpint_at bytes) (value, rest) e)).0
-value_takes (Curve name) bytes value rest fits e = (string_takes bytes value rest fits (in_fault_ok faults.Wire (string_at bytes) (value, rest) e)).0
-value_takes (Point size) bytes value rest fits e = (string_takes bytes value rest fits (in_fault_ok faults.Wire (string_at bytes) (value, rest) e)).0
-value_takes (Sized size) bytes value rest fits e = (string_takes bytes value rest fits (in_fault_ok faults.Wire (string_at bytes) (value, rest) e)).0
-value_takes Text bytes value rest fits e = (string_takes bytes value rest fits (in_fault_ok faults.Wire (string_at bytes) (value, rest) e)).0
+value_takes field bytes value rest fits e = (string_takes bytes value rest fits (in_fault_ok faults.Wire (string_at bytes) (value, rest) e)).0
 
 value_allowed : (field : Field) (bytes value rest : List ℕ) → IsBytes bytes → value_at field bytes ≡ Ok (value, rest) → fault_in field value ≡ None → IsValue field value
 value_allowed Positive bytes value rest fits e none =
@@ -54,16 +51,9 @@ value_allowed (Point size) bytes value rest fits e none =
 value_allowed (Sized size) bytes value rest fits e none = eqb-true _ _ (passed (eqb (length value) size) faults.Length none)
 value_allowed Text bytes value rest fits e none = tt
 
--- a string whose length four bytes can tell
-string_has_length : (value : List ℕ) → length value < 2 ^ 32 → HasLength (string value)
-string_has_length value lt = omega (arith, length-string value)
-
 pub value_has_length : (field : Field) (bytes value rest : List ℕ) → IsBytes bytes → value_at field bytes ≡ Ok (value, rest) → HasLength (field_text field value)
 value_has_length Positive bytes value rest fits e = mpint_has_length value (mpint_takes bytes value rest fits (in_fault_ok faults.Wire (mpint_at bytes) (value, rest) e)).2
-value_has_length (Curve name) bytes value rest fits e = string_has_length value (string_takes bytes value rest fits (in_fault_ok faults.Wire (string_at bytes) (value, rest) e)).1
-value_has_length (Point size) bytes value rest fits e = string_has_length value (string_takes bytes value rest fits (in_fault_ok faults.Wire (string_at bytes) (value, rest) e)).1
-value_has_length (Sized size) bytes value rest fits e = string_has_length value (string_takes bytes value rest fits (in_fault_ok faults.Wire (string_at bytes) (value, rest) e)).1
-value_has_length Text bytes value rest fits e = string_has_length value (string_takes bytes value rest fits (in_fault_ok faults.Wire (string_at bytes) (value, rest) e)).1
+value_has_length field bytes value rest fits e = let t = string_takes bytes value rest fits (in_fault_ok faults.Wire (string_at bytes) (value, rest) e) in omega (arith, t.1, length-string value)
 
 pub field_takes : (field : Field) (bytes value rest : List ℕ) → IsBytes bytes → field_at field bytes ≡ Ok (value, rest) → HasFront bytes (field_text field value) rest × IsValue field value × HasLength (field_text field value)
 unfolding field_at
@@ -75,10 +65,7 @@ field_takes field bytes value rest fits e =
 
 value_again : (field : Field) (value rest : List ℕ) → IsValue field value → HasLength (field_text field value) → value_at field (field_text field value ++ rest) ≡ Ok (value, rest)
 value_again Positive value rest allowed lt = rw (positive_again value rest allowed lt) refl
-value_again (Curve name) value rest allowed lt = let short : length value < 2 ^ 32 = omega (arith, length-string value) in rw (string_again value rest short) refl
-value_again (Point size) value rest allowed lt = let short : length value < 2 ^ 32 = omega (arith, length-string value) in rw (string_again value rest short) refl
-value_again (Sized size) value rest allowed lt = let short : length value < 2 ^ 32 = omega (arith, length-string value) in rw (string_again value rest short) refl
-value_again Text value rest allowed lt = let short : length value < 2 ^ 32 = omega (arith, length-string value) in rw (string_again value rest short) refl
+value_again field value rest allowed lt = let short : length value < 2 ^ 32 = omega (arith, length-string value) in rw (string_again value rest short) refl
 
 no_fault : (field : Field) (value : List ℕ) → IsValue field value → fault_in field value ≡ None
 no_fault Positive [] allowed = absurd allowed

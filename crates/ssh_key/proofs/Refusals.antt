@@ -39,10 +39,7 @@ begins bytes value rest t has_length = record { rest = rest; spelled = t.parts; 
 -- a field that is misspelt
 value_refused : (field : Field) (bytes : List ℕ) (fault : KeyFault) → value_at field bytes ≡ Err fault → Refuses field bytes fault
 value_refused Positive bytes fault e = let w = in_fault_err Wire (mpint_at bytes) fault e in subst (λ (d : KeyFault). Refuses Positive bytes d) (sym w.2) w.1
-value_refused (Curve name) bytes fault e = let w = in_fault_err Wire (string_at bytes) fault e in subst (λ (d : KeyFault). Refuses (Curve name) bytes d) (sym w.2) w.1
-value_refused (Point size) bytes fault e = let w = in_fault_err Wire (string_at bytes) fault e in subst (λ (d : KeyFault). Refuses (Point size) bytes d) (sym w.2) w.1
-value_refused (Sized size) bytes fault e = let w = in_fault_err Wire (string_at bytes) fault e in subst (λ (d : KeyFault). Refuses (Sized size) bytes d) (sym w.2) w.1
-value_refused Text bytes fault e = let w = in_fault_err Wire (string_at bytes) fault e in subst (λ (d : KeyFault). Refuses Text bytes d) (sym w.2) w.1
+value_refused field bytes fault e = let w = in_fault_err Wire (string_at bytes) fault e in subst (λ (d : KeyFault). Refuses field bytes d) (sym w.2) w.1
 
 not_both : (size : ℕ) (value : List ℕ) → (eqb (length value) size && begins_with_4 value) ≡ false → ¬ ((length value ≡ size) × IsUncompressed value)
 not_both size value e h =
@@ -136,17 +133,13 @@ both_false size value h = false_from_ne_true (eqb (length value) size && begins_
 
 pub refusal_read : (field : Field) (bytes : List ℕ) (fault : KeyFault) → Refuses field bytes fault → field_at field bytes ≡ Err fault
 unfolding field_at
-refusal_read Positive bytes (Wire why) r = rw r refl
 refusal_read Positive bytes Number r = rw (zero_read bytes r) refl
-refusal_read (Curve name) bytes (Wire why) r = rw r refl
 refusal_read (Curve name) bytes faults.Curve r =
     let other : bytes_eq r.value name ≡ false = false_from_ne_true (bytes_eq r.value name) (λ e. r.other ((bytes_eq-Decides r.value name).0 e)) in
     rw (string_read bytes r.value r.begins, other) refl
-refusal_read (Point size) bytes (Wire why) r = rw r refl
 refusal_read (Point size) bytes faults.Point r = rw (string_read bytes r.value r.begins, both_false size r.value r.other) refl
-refusal_read (Sized size) bytes (Wire why) r = rw r refl
 refusal_read (Sized size) bytes Length r = rw (string_read bytes r.value r.begins, ne_eqb (length r.value) size r.other) refl
-refusal_read Text bytes (Wire why) r = rw r refl
+refusal_read field bytes (Wire why) r = rw r refl
 refusal_read field bytes fault r = absurd r
 
 pub stop_read : (before : List Field) (field : Field) (later : List Field) (values : List (List ℕ)) (rest : List ℕ) (fault : KeyFault) → AreValues before values → Refuses field rest fault → fields_at (before ++ field ∷ later) (fields_text before values ++ rest) ≡ Err fault

@@ -1,6 +1,6 @@
 -- The words of a text, and what reading makes of them: it judges the words, where a text has them.
-use Rattle.std.proofs.Common.{◌≡◌, ℕ, ◌<◌, ◌⊎◌, true, false, List, [], ◌∷◌, ◌++◌, Option, Some, None, Result, Err, length, Contains, refl, sym, ap, subst, ◌∙◌, arith, inl, inr}
-use Rattle.std.proofs.lemmas.Bool.{both_ways, cases_Bool, cases_lt}
+use Rattle.std.proofs.Common.{◌≡◌, ℕ, ◌<◌, ◌⊎◌, true, false, List, [], ◌∷◌, ◌++◌, Option, Some, None, Result, Err, length, refl, sym, ap, subst, ◌∙◌, arith, inl, inr}
+use Rattle.std.proofs.lemmas.Bool.{both_ways, cases_Bool, cases_lt, false_from_ne_true}
 use Rattle.std.proofs.lemmas.List.{length-append, nil_from_length}
 use Rattle.std.proofs.lemmas.Option.{same_Some}
 use Rattle.ssh_wire.specs.Wire.{IsBytes}
@@ -11,7 +11,7 @@ use Rattle.ssh_key.specs.Blanks.{after_blanks, first_word, is_blank, trimmed}
 use Rattle.ssh_key.specs.KeyLine.{AreWords, AreWordsAfterOptions, HasWords}
 use Rattle.ssh_key.specs.LineFaults.{HasSomeWords}
 use Rattle.ssh_key.specs.LineReading.{Content, after_options, after_word, blob_at, checked, content_at, decoded, key_part, line_at, typed, part_after}
-use Rattle.ssh_key.specs.TypeName.{is_type_name, type_names}
+use Rattle.ssh_key.specs.TypeName.{is_type_name}
 use Rattle.ssh_key.proofs.LineNames.{Contains-from_test, name_is_word, test-from_Contains}
 use Rattle.ssh_key.proofs.LineOptions.{options_again, options_take}
 use Rattle.ssh_key.proofs.LineWords.{IsBytes-trimmed, FailsFirst, blanks_cut, blanks_front, blanks_stop, comment_cut, comment_stops, first_word_is, gap, leading, word_cut, word_front, word_stops}
@@ -78,9 +78,6 @@ after_takes : (found : Option (List ℕ)) (part : List ℕ) → part_after found
 after_takes None part e = absurd cc
 after_takes (Some rest) part e = let h = typed-takes (after_blanks rest) part e in (rest, refl, h.0, h.1)
 
-test-false : (word : List ℕ) → is_type_name word ≡ false → ¬ Contains type_names word
-test-false word other h = both_ways (is_type_name word) other (test-from_Contains word h)
-
 name_some : (line : List ℕ) → is_type_name (first_word line) ≡ true → 0 < length line
 name_some line name =
     let is_word = name_is_word (first_word line) (Contains-from_test (first_word line) name) in
@@ -103,7 +100,7 @@ part_words line part found some = elim (cases_Bool (is_type_name (first_word lin
       let before = options_take line rest taken.1 in
       let blanks = blanks_cut rest in
       inr (record {
-        other = test-false (first_word line) other;
+        other = λ h. both_ways (is_type_name (first_word line)) other (test-from_Contains (first_word line) h);
         options = before.field;
         are_options = before.options;
         blanks = leading rest;
@@ -135,10 +132,7 @@ options_line_again : (line word encoded comment : List ℕ) → AreWordsAfterOpt
 unfolding key_part typed
 options_line_again line word encoded comment o =
     let read = words_again o.part word encoded comment o.are_words in
-    let other : is_type_name (first_word line) ≡ false = elim (cases_Bool (is_type_name (first_word line))) [
-      | inl name ↦ absurd (o.other (Contains-from_test (first_word line) name))
-      | inr other ↦ other
-    ] in
+    let other : is_type_name (first_word line) ≡ false = false_from_ne_true (is_type_name (first_word line)) (λ name. o.other (Contains-from_test (first_word line) name)) in
     let after : after_options false false line ≡ Some (o.blanks ++ o.part) =
     ap (after_options false false) o.spelled ∙ options_again o.options (o.blanks ++ o.part) o.are_options (blanks_stop o.blanks o.part o.are_blanks) in
     let part : after_blanks (o.blanks ++ o.part) ≡ o.part = blanks_front o.blanks o.part o.are_blanks.each (part_stops o.part word encoded comment o.are_words) in
