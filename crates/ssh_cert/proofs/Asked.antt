@@ -1,8 +1,8 @@
 -- What is asked of a blob: what is read is asked, what is asked is read, and the first fault is met.
-use Rattle.std.proofs.Common.{◌≡◌, ℕ, ◌^◌, ◌<◌, Bool, true, false, cond, List, ◌++◌, length, Option, Some, None, Result, Ok, Err, is_some, refl, sym, ap, subst, ◌∙◌, arith, inl, inr}
+use Rattle.std.proofs.Common.{◌≡◌, ℕ, ◌^◌, ◌<◌, Bool, true, false, cond, List, ◌++◌, length, Option, Some, None, Result, Ok, Err, is_some, refl, sym, ap, subst, ◌∙◌, arith}
 use Rattle.std.specs.Prelude.{IfErr, IfOk}
 use Rattle.std.specs.Result.{result_ok}
-use Rattle.std.proofs.lemmas.Bool.{both_ways, cases_Bool}
+use Rattle.std.proofs.lemmas.Bool.{both_ways, false_from_ne_true}
 use Rattle.ssh_wire.specs.declared.fault.WireFault.{WireFault}
 use Rattle.ssh_wire.specs.Wire.{BeginsWith, IsBytes, string}
 use Rattle.ssh_wire.specs.Reading.{string_at}
@@ -14,7 +14,7 @@ use Rattle.ssh_key.specs.KeyReading.{key_at}
 use Rattle.ssh_key.specs.Kind.{certificate_name, kind_certified, type_name}
 use Rattle.ssh_key.proofs.FirstFaults.{first_fault_read as key_fault_read, key_refused}
 use Rattle.ssh_key.proofs.Keys.{key_again, key_found, length-type_name}
-use Rattle.ssh_key.proofs.Names.{certified-certificate_name, certified-name, names_apart}
+use Rattle.ssh_key.proofs.Names.{certified-certificate_name, certified-name, plain_not_certified}
 use Rattle.ssh_key.proofs.Refusals.{string_read}
 use Rattle.ssh_cert.specs.declared.fault.CertFault.{CertFault}
 use Rattle.ssh_cert.specs.declared.subject_fault.SubjectFault.{SubjectFault}
@@ -62,20 +62,13 @@ no_name : (blob : List ℕ) → is_certificate blob ≡ false → ¬ HasCertific
 no_name blob e h = both_ways (is_certificate blob) e (name_read blob h)
 
 other_name : (blob : List ℕ) → IsBytes blob → ¬ HasCertificateName blob → is_certificate blob ≡ false
-other_name blob fits none = elim (cases_Bool (is_certificate blob)) [
-  | inl named ↦ absurd (none (has_name blob fits named))
-  | inr other ↦ other
-]
-
-none_certified : (kind : Kind) (o : Option Kind) → kind_certified (type_name kind) ≡ o → is_some o ≡ false
-none_certified kind None e = refl
-none_certified kind (Some other) e = absurd (names_apart kind other (sym (certified-name (type_name kind) other e)))
+other_name blob fits none = false_from_ne_true (is_certificate blob) (λ named. none (has_name blob fits named))
 
 key_name : (kind : Kind) (rest : List ℕ) → is_certificate (string (type_name kind) ++ rest) ≡ false
 unfolding is_certificate
 key_name kind rest =
     let short : length (type_name kind) < 2 ^ 32 = omega (arith, length-type_name kind) in
-    rw (string_again (type_name kind) rest short) (none_certified kind (kind_certified (type_name kind)) refl)
+    rw (string_again (type_name kind) rest short, plain_not_certified kind) refl
 
 -- ---- what is read is asked
 
@@ -142,8 +135,7 @@ is_found blob (Err fault) fits given = tt
 pub is_reported : (blob : List ℕ) (r : Result Subject SubjectFault) → IsBytes blob → AnswersSubject r (subject_of blob) → IfErr r (λ fault. IsReportedFault blob fault)
 is_reported blob (Ok s) fits given = tt
 is_reported blob (Err faults.NoMemory) fits given = record { subject = given.subject; is = subject_found blob given.subject fits given.read_as }
-is_reported blob (Err (faults.Key why)) fits given = subject_refused blob (faults.Key why) fits given
-is_reported blob (Err (faults.Cert why)) fits given = subject_refused blob (faults.Cert why) fits given
+is_reported blob (Err fault) fits given = subject_refused blob fault fits given
 
 pub is_only : (blob : List ℕ) (r : Result Subject SubjectFault) (s : Subject) → AnswersSubject r (subject_of blob) → IsSubject blob s → AnswersSubject r (Ok s)
 is_only blob r s given is = subst (AnswersSubject r) (subject_again blob s is) given
@@ -192,5 +184,4 @@ no_key_read blob why name read = rw (name, read) refl
 pub nothing_asked : (blob : List ℕ) (fault : SubjectFault) → IsSubjectFault blob fault → subject_of blob ≡ Err fault → AnswersSubject (Err fault) (subject_of blob)
 nothing_asked blob faults.NoMemory (no_key why none first is) read = absurd cc
 nothing_asked blob faults.NoMemory (no_certificate why name first is) read = absurd cc
-nothing_asked blob (faults.Key why) first read = read
-nothing_asked blob (faults.Cert why) first read = read
+nothing_asked blob fault first read = read

@@ -7,47 +7,36 @@ use Rattle.std.proofs.lemmas.List.{append-nil, nil_from_length}
 use Rattle.ssh_wire.specs.declared.fault.WireFault.TheVariants.{Short}
 use Rattle.ssh_wire.specs.Wire.{BeginsWith, IsBytes, string}
 use Rattle.ssh_wire.specs.Digits.{IsBytes-back}
-use Rattle.ssh_wire.specs.Reading.{◌>>=◌, Gives, in_fault, string_at}
-use Rattle.ssh_wire.specs.Fields.{HasFront, string_again, string_takes}
+use Rattle.ssh_wire.specs.Reading.{◌>>=◌, Gives, string_at}
+use Rattle.ssh_wire.specs.Fields.{HasFront, string_again}
 use Rattle.ssh_key.specs.declared.kind.Kind.{Kind}
-use Rattle.ssh_key.specs.declared.kind.Kind.TheVariants.{Rsa, Dsa, Ecdsa256, Ecdsa384, Ecdsa521, Ed25519, EcdsaSk, Ed25519Sk}
-use Rattle.ssh_key.proofs.Names.{certified-certificate_name, certified-name}
+use Rattle.ssh_key.specs.declared.kind.Kind.TheVariants.{Rsa}
+use Rattle.ssh_key.proofs.Names.{certified-certificate_name, certified-name, some_or_none}
 use Rattle.ssh_key.proofs.Refusals.{string_read}
-use Rattle.ssh_wire.specs.Steps.{above_zero, bind_err, bind_ok, failed_err, in_fault_err, in_fault_ok, never_err, none_err, ok_is, passed_ok, some_ok}
+use Rattle.ssh_key.proofs.Wire.{content_refused, content_taken}
+use Rattle.ssh_wire.specs.Steps.{above_zero, bind_err, bind_ok, failed_err, never_err, none_err, passed_ok, some_ok}
 use Rattle.ssh_key.specs.Kind.{certificate_name, kind_certified}
 use Rattle.ssh_cert.specs.declared.fault.CertFault.{CertFault}
 use Rattle.ssh_cert.specs.declared.fault.CertFault.TheVariants as faults
 use Rattle.ssh_cert.specs.Certificate.{Certificate, IsCertificate}
 use Rattle.ssh_cert.specs.CertReading.{body_at, certificate_at, certificate_of, cut_short, fields_at, kind_at}
-use Rattle.ssh_cert.specs.Field.{AreValues, Field, ValuesOf, fields_of, fields_text}
+use Rattle.ssh_cert.specs.Field.{AreValues, Authority, Field, Signature, ValuesOf, fields_of, fields_text}
 use Rattle.ssh_cert.specs.FirstFault.{IsFirstFault, Reaches, after_fields, in_field, no_kind, no_name}
-use Rattle.ssh_cert.proofs.FieldLemmas.{begins, string_cut}
+use Rattle.ssh_cert.proofs.FieldLemmas.{string_cut}
 use Rattle.ssh_cert.proofs.Fronts.{RefusedIn, TakesFields, fields_again, fields_refused, fields_take, stop_read}
 
 -- ---- the kind
 
-abbrev named : Kind → List ℕ → Result (Kind × List ℕ) CertFault
-named kind rest = Ok (kind, rest)
-
 kind_takes : (blob : List ℕ) (x : Kind × List ℕ) → IsBytes blob → kind_at blob ≡ Ok x → HasFront blob (string (certificate_name x.0)) x.1
 unfolding kind_at
 kind_takes blob x fits e =
-    let a = bind_ok (in_fault cut_short (string_at blob)) (λ name. ok_or (kind_certified name.0) faults.UnknownType >>= λ kind. Ok (kind, name.1)) x e in
-    let b = bind_ok (ok_or (kind_certified a.0.0) faults.UnknownType) (λ kind. Ok (kind, a.0.1)) x a.2 in
-    let name : certificate_name b.0 ≡ a.0.0 = certified-name a.0.0 b.0 (some_ok (kind_certified a.0.0) faults.UnknownType b.0 b.1) in
-    let t = (string_takes blob a.0.0 a.0.1 fits (in_fault_ok cut_short (string_at blob) a.0 a.1)).0 in
-    let spelled : HasFront blob (string (certificate_name b.0)) a.0.1 = subst (λ (s : List ℕ). HasFront blob (string s) a.0.1) (sym name) t in
-    subst (λ (y : Kind × List ℕ). HasFront blob (string (certificate_name y.0)) y.1) (ok_is (b.0, a.0.1) x (named b.0 a.0.1) refl b.2) spelled
+    let c = content_taken cut_short (λ name. ok_or (kind_certified name) faults.UnknownType) (λ name kind. kind) blob x fits e in
+    let name : certificate_name c.value ≡ c.content = certified-name c.content c.value (some_ok (kind_certified c.content) faults.UnknownType c.value c.judged) in
+    subst (λ (y : Kind × List ℕ). HasFront blob (string (certificate_name y.0)) y.1) c.same (subst (λ (s : List ℕ). HasFront blob (string s) c.rest) (sym name) c.front)
 
 pub length-certificate_name : (kind : Kind) → length (certificate_name kind) < 2 ^ 32
 length-certificate_name Rsa = omega arith
-length-certificate_name Dsa = omega arith
-length-certificate_name Ecdsa256 = omega arith
-length-certificate_name Ecdsa384 = omega arith
-length-certificate_name Ecdsa521 = omega arith
-length-certificate_name Ed25519 = omega arith
-length-certificate_name EcdsaSk = omega arith
-length-certificate_name Ed25519Sk = omega arith
+length-certificate_name kind = omega arith
 
 pub kind_again : (kind : Kind) (rest : List ℕ) → kind_at (string (certificate_name kind) ++ rest) ≡ Ok (kind, rest)
 unfolding kind_at
@@ -63,43 +52,10 @@ kind_read bytes name rest (Some kind) r string_read certified answer = rw (answe
 
 -- the values of a certificate's fields
 abbrev pub values_of : (certificate : Certificate) → List ℕ → List ℕ → ValuesOf (fields_of certificate.key.kind)
-values_of c reserved signature = (
-  c.nonce,
-  (
-    c.key,
-    (
-      c.serial,
-      (
-        c.role,
-        (
-          c.key_id,
-          (
-            c.principals,
-            (
-              c.after,
-              (
-                c.before,
-                (
-                  c.critical,
-                  (
-                    c.extensions,
-                    (
-                      reserved,
-                      (
-                        record { blob = c.authority; key = c.authority_key },
-                        (record { text = signature; algorithm = c.algorithm }, tt),
-                      ),
-                    ),
-                  ),
-                ),
-              ),
-            ),
-          ),
-        ),
-      ),
-    ),
-  ),
-)
+values_of c reserved signature =
+    let authority : Authority = record { blob = c.authority; key = c.authority_key } in
+    let signed : Signature = record { text = signature; algorithm = c.algorithm } in
+    (c.nonce, (c.key, (c.serial, (c.role, (c.key_id, (c.principals, (c.after, (c.before, (c.critical, (c.extensions, (reserved, (authority, (signed, tt)))))))))))))
 
 pub values_allowed : (blob : List ℕ) (c : Certificate) → (is : IsCertificate blob c) → AreValues (fields_of c.key.kind) (values_of c is.reserved is.signature)
 values_allowed blob c is =
@@ -131,17 +87,11 @@ parts_are_certificate blob after rest kind v first second allowed none = record 
   signed = allowed.1.1.1.1.1.1.1.1.1.1.1.1.0.1;
 }
 
-abbrev body : Certificate → List ℕ → Result (Certificate × List ℕ) CertFault
-body c rest = Ok (c, rest)
-
-body_is : (c : Certificate) (rest : List ℕ) (x : Certificate × List ℕ) → body c rest ≡ Ok x → (c, rest) ≡ x
-body_is c rest x e = cc
-
 body_ok : (kind : Kind) (bytes : List ℕ) (x : Certificate × List ℕ) → body_at kind bytes ≡ Ok x → (values : ValuesOf (fields_of kind) × List ℕ) × (fields_at (fields_of kind) bytes ≡ Ok values) × (certificate_of kind values.0 ≡ x.0) × (values.1 ≡ x.1)
 unfolding body_at
 body_ok kind bytes x e =
     let v = bind_ok (fields_at (fields_of kind) bytes) (λ values. Ok (certificate_of kind values.0, values.1)) x e in
-    let same = body_is (certificate_of kind v.0.0) v.0.1 x v.2 in
+    let same : (certificate_of kind v.0.0, v.0.1) ≡ x = cc in
     (v.0, v.1, ap (λ (y : Certificate × List ℕ). y.0) same, ap (λ (y : Certificate × List ℕ). y.1) same)
 
 body_err : (kind : Kind) (bytes : List ℕ) (fault : CertFault) → body_at kind bytes ≡ Err fault → fields_at (fields_of kind) bytes ≡ Err fault
@@ -186,16 +136,9 @@ kind_none name none kind same =
 kind_refused : (blob : List ℕ) (fault : CertFault) → IsBytes blob → kind_at blob ≡ Err fault → IsFirstFault blob fault
 unfolding kind_at
 kind_refused blob fault fits e =
-    elim (bind_err (in_fault cut_short (string_at blob)) (λ name. ok_or (kind_certified name.0) faults.UnknownType >>= λ kind. Ok (kind, name.1)) fault e) [
-      | inl cut ↦ let w = in_fault_err cut_short (string_at blob) fault cut in no_name (string_cut blob w.0 w.1) w.2
-      | inr name ↦
-          elim (bind_err (ok_or (kind_certified name.0.0) faults.UnknownType) (λ kind. Ok (kind, name.0.1)) fault name.2) [
-            | inl unknown ↦
-                let w = none_err (kind_certified name.0.0) faults.UnknownType fault unknown in
-                let t = string_takes blob name.0.0 name.0.1 fits (in_fault_ok cut_short (string_at blob) name.0 name.1) in
-                no_kind name.0.0 (begins blob name.0.0 name.0.1 t.0.parts t.1) (kind_none name.0.0 w.0) w.1
-            | inr kind ↦ absurd (never_err (kind.0, name.0.1) fault kind.2)
-          ]
+    elim (content_refused cut_short (λ name. ok_or (kind_certified name) faults.UnknownType) (λ name kind. kind) blob fault fits e) [
+      | inl cut ↦ no_name (string_cut blob cut.0 cut.1) cut.2
+      | inr name ↦ let w = none_err (kind_certified name.0) faults.UnknownType fault name.3 in no_kind name.0 name.1 (kind_none name.0 w.0) w.1
     ]
 
 refused_in_field : (blob after : List ℕ) (kind : Kind) (fault : CertFault) → HasFront blob (string (certificate_name kind)) after → RefusedIn (fields_of kind) after fault → IsFirstFault blob fault
@@ -232,10 +175,6 @@ certificate_refused blob fault fits e =
 
 -- ---- and a first fault is what reading meets
 
-none_certified : (name : List ℕ) → ((kind : Kind) → certificate_name kind ≢ name) → (o : Option Kind) → kind_certified name ≡ o → o ≡ None
-none_certified name other None e = refl
-none_certified name other (Some kind) e = absurd (other kind (certified-name name kind e))
-
 name_cut : (blob : List ℕ) → string_at blob ≡ Err Short → kind_at blob ≡ Err faults.Wire
 unfolding kind_at
 name_cut blob e = rw e refl
@@ -243,7 +182,7 @@ name_cut blob e = rw e refl
 name_unknown : (blob name : List ℕ) → BeginsWith blob name → ((kind : Kind) → certificate_name kind ≢ name) → kind_at blob ≡ Err faults.UnknownType
 unfolding kind_at
 name_unknown blob name b other =
-    let none : kind_certified name ≡ None = none_certified name other (kind_certified name) refl in
+    let none : kind_certified name ≡ None = some_or_none (kind_certified name) (λ kind e. other kind (certified-name name kind e)) in
     rw (string_read blob name b, none) refl
 
 rest_fits : (blob front middle rest : List ℕ) → IsBytes blob → blob ≡ front ++ (middle ++ rest) → IsBytes rest

@@ -7,7 +7,9 @@ use Rattle.ssh_wire.specs.Reading.{◌>>=◌, in_fault, number_at, string_at}
 use Rattle.ssh_wire.specs.Fields.{IsBytes-content, number_again, number_takes, string_takes}
 use Rattle.ssh_key.specs.KeyReading.{key_at, public_at}
 use Rattle.ssh_key.proofs.FirstFaults.{first_fault_read, key_refused, fields_fault_read, public_refused}
+use Rattle.ssh_key.proofs.Names.{some_or_none}
 use Rattle.ssh_key.proofs.Refusals.{string_read}
+use Rattle.ssh_key.proofs.Wire.{content_refused}
 use Rattle.ssh_wire.specs.Steps.{bind_err, in_fault_err, in_fault_ok, never_err, none_err}
 use Rattle.ssh_cert.specs.declared.fault.CertFault.{CertFault}
 use Rattle.ssh_cert.specs.declared.fault.CertFault.TheVariants as faults
@@ -24,12 +26,6 @@ reported field bytes c d e refused = subst (λ (fault : CertFault). Refuses fiel
 
 -- ---- the content of a string that may not stand there
 
--- what was read begins the bytes
-read_begins : (bytes : List ℕ) (read : List ℕ × List ℕ) → IsBytes bytes → in_fault cut_short (string_at bytes) ≡ Ok read → BeginsWith bytes read.0 × IsBytes read.0
-read_begins bytes read fits e =
-    let t = string_takes bytes read.0 read.1 fits (in_fault_ok cut_short (string_at bytes) read e) in
-    (begins bytes read.0 read.1 t.0.parts t.1, IsBytes-content bytes read.0 read.1 fits t.0.parts)
-
 none_or : {A : Type 0} (o : Option A) → o ≡ None → (x : A) → o ≡ Some x → ⊥
 none_or o none x some = cc
 
@@ -40,10 +36,6 @@ no_strings content lt none list e =
 no_options : (content : List ℕ) → length content < 2 ^ 32 → options_of content ≡ None → (list : List NamedData) → content ≡ options_text list → ⊥
 no_options content lt none list e =
     none_or (options_of content) none list (ap options_of e ∙ options_again list (subst (λ (s : List ℕ). length s < 2 ^ 32) e lt))
-
-some_or_none : {A : Type 0} (o : Option A) → ((x : A) → o ≡ Some x → ⊥) → o ≡ None
-some_or_none None never = refl
-some_or_none (Some x) never = absurd (never x refl)
 
 -- ---- what is refused
 
@@ -74,60 +66,32 @@ field_refused RoleField bytes fault fits e =
           ]
     ]
 field_refused PrincipalsField bytes fault fits e =
-    elim (bind_err (in_fault cut_short (string_at bytes)) (λ content. ok_or (strings_of content.0) faults.Principals >>= λ list. Ok (list, content.1)) fault e) [
-      | inl cut ↦
-          let w = in_fault_err cut_short (string_at bytes) fault cut in
-          reported PrincipalsField bytes faults.Wire fault w.2 (string_cut bytes w.0 w.1)
-      | inr content ↦
-          elim (bind_err (ok_or (strings_of content.0.0) faults.Principals) (λ list. Ok (list, content.0.1)) fault content.2) [
-            | inl other ↦
-                let w = none_err (strings_of content.0.0) faults.Principals fault other in
-                let b = read_begins bytes content.0 fits content.1 in
-                reported PrincipalsField bytes faults.Principals fault w.1 (content.0.0, b.0, no_strings content.0.0 b.0.fits w.0)
-            | inr list ↦ absurd (never_err (list.0, content.0.1) fault list.2)
-          ]
+    elim (content_refused cut_short (λ content. ok_or (strings_of content) faults.Principals) (λ content list. list) bytes fault fits e) [
+      | inl cut ↦ reported PrincipalsField bytes faults.Wire fault cut.2 (string_cut bytes cut.0 cut.1)
+      | inr read ↦
+          let w = none_err (strings_of read.0) faults.Principals fault read.3 in
+          reported PrincipalsField bytes faults.Principals fault w.1 (read.0, read.1, no_strings read.0 read.1.fits w.0)
     ]
 field_refused OptionsField bytes fault fits e =
-    elim (bind_err (in_fault cut_short (string_at bytes)) (λ content. ok_or (options_of content.0) faults.Options >>= λ list. Ok (list, content.1)) fault e) [
-      | inl cut ↦
-          let w = in_fault_err cut_short (string_at bytes) fault cut in
-          reported OptionsField bytes faults.Wire fault w.2 (string_cut bytes w.0 w.1)
-      | inr content ↦
-          elim (bind_err (ok_or (options_of content.0.0) faults.Options) (λ list. Ok (list, content.0.1)) fault content.2) [
-            | inl other ↦
-                let w = none_err (options_of content.0.0) faults.Options fault other in
-                let b = read_begins bytes content.0 fits content.1 in
-                reported OptionsField bytes faults.Options fault w.1 (content.0.0, b.0, no_options content.0.0 b.0.fits w.0)
-            | inr list ↦ absurd (never_err (list.0, content.0.1) fault list.2)
-          ]
+    elim (content_refused cut_short (λ content. ok_or (options_of content) faults.Options) (λ content list. list) bytes fault fits e) [
+      | inl cut ↦ reported OptionsField bytes faults.Wire fault cut.2 (string_cut bytes cut.0 cut.1)
+      | inr read ↦
+          let w = none_err (options_of read.0) faults.Options fault read.3 in
+          reported OptionsField bytes faults.Options fault w.1 (read.0, read.1, no_options read.0 read.1.fits w.0)
     ]
 field_refused AuthorityField bytes fault fits e =
-    elim (bind_err (in_fault cut_short (string_at bytes)) (λ blob. in_fault faults.Authority (key_at blob.0) >>= λ key. Ok (authority_of blob.0 key, blob.1)) fault e) [
-      | inl cut ↦
-          let w = in_fault_err cut_short (string_at bytes) fault cut in
-          reported AuthorityField bytes faults.Wire fault w.2 (string_cut bytes w.0 w.1)
-      | inr blob ↦
-          elim (bind_err (in_fault faults.Authority (key_at blob.0.0)) (λ key. Ok (authority_of blob.0.0 key, blob.0.1)) fault blob.2) [
-            | inl other ↦
-                let w = in_fault_err faults.Authority (key_at blob.0.0) fault other in
-                let b = read_begins bytes blob.0 fits blob.1 in
-                reported AuthorityField bytes (faults.Authority w.0) fault w.2 (blob.0.0, b.0, key_refused blob.0.0 w.0 b.1 w.1)
-            | inr key ↦ absurd (never_err (authority_of blob.0.0 key.0, blob.0.1) fault key.2)
-          ]
+    elim (content_refused cut_short (λ blob. in_fault faults.Authority (key_at blob)) authority_of bytes fault fits e) [
+      | inl cut ↦ reported AuthorityField bytes faults.Wire fault cut.2 (string_cut bytes cut.0 cut.1)
+      | inr read ↦
+          let w = in_fault_err faults.Authority (key_at read.0) fault read.3 in
+          reported AuthorityField bytes (faults.Authority w.0) fault w.2 (read.0, read.1, key_refused read.0 w.0 read.2 w.1)
     ]
 field_refused SignatureField bytes fault fits e =
-    elim (bind_err (in_fault cut_short (string_at bytes)) (λ text. ok_or (named text.0 (string_at text.0)) faults.Signature >>= λ signature. Ok (signature, text.1)) fault e) [
-      | inl cut ↦
-          let w = in_fault_err cut_short (string_at bytes) fault cut in
-          reported SignatureField bytes faults.Wire fault w.2 (string_cut bytes w.0 w.1)
-      | inr text ↦
-          elim (bind_err (ok_or (named text.0.0 (string_at text.0.0)) faults.Signature) (λ signature. Ok (signature, text.0.1)) fault text.2) [
-            | inl other ↦
-                let w = none_err (named text.0.0 (string_at text.0.0)) faults.Signature fault other in
-                let b = read_begins bytes text.0 fits text.1 in
-                reported SignatureField bytes faults.Signature fault w.1 (text.0.0, b.0, λ algorithm first. unnamed text.0.0 (string_at text.0.0) (algorithm, first.rest) w.0 (string_read text.0.0 algorithm first))
-            | inr signature ↦ absurd (never_err (signature.0, text.0.1) fault signature.2)
-          ]
+    elim (content_refused cut_short (λ text. ok_or (named text (string_at text)) faults.Signature) (λ text signature. signature) bytes fault fits e) [
+      | inl cut ↦ reported SignatureField bytes faults.Wire fault cut.2 (string_cut bytes cut.0 cut.1)
+      | inr read ↦
+          let w = none_err (named read.0 (string_at read.0)) faults.Signature fault read.3 in
+          reported SignatureField bytes faults.Signature fault w.1 (read.0, read.1, λ algorithm first. unnamed read.0 (string_at read.0) (algorithm, first.rest) w.0 (string_read read.0 algorithm first))
     ]
 
 -- ---- is reported
@@ -137,28 +101,25 @@ begins_fits bytes value fits b = IsBytes-content bytes value b.rest fits b.spell
 
 pub refusal_read : (field : Field) (bytes : List ℕ) (fault : CertFault) → IsBytes bytes → Refuses field bytes fault → field_at field bytes ≡ Err fault
 unfolding field_at
-refusal_read TextField bytes faults.Wire fits r = rw r refl
+refusal_read (PublicField kind) bytes faults.Wire fits r = absurd r
 refusal_read (PublicField kind) bytes (faults.Key fault) fits r = rw (fields_fault_read kind bytes fault r) refl
 refusal_read NumberField bytes faults.Wire fits r = rw (number-short 8 bytes r) refl
 refusal_read RoleField bytes faults.Wire fits r = rw (number-short 4 bytes r) refl
 refusal_read RoleField bytes faults.CertType fits r =
     let read : number_at 4 bytes ≡ Ok (r.role, r.rest) = ap (number_at 4) r.spelled ∙ number_again 4 r.role r.rest r.fits in
     rw (read, no_role-read r.role r.no_user r.no_host) refl
-refusal_read PrincipalsField bytes faults.Wire fits r = rw r refl
 refusal_read PrincipalsField bytes faults.Principals fits r =
     let none : strings_of r.0 ≡ None = some_or_none (strings_of r.0) (λ list e. r.2 list (strings_of_takes r.0 list (begins_fits bytes r.0 fits r.1) e)) in
     rw (string_read bytes r.0 r.1, none) refl
-refusal_read OptionsField bytes faults.Wire fits r = rw r refl
 refusal_read OptionsField bytes faults.Options fits r =
     let none : options_of r.0 ≡ None = some_or_none (options_of r.0) (λ list e. r.2 list (options_take r.0 list (begins_fits bytes r.0 fits r.1) e)) in
     rw (string_read bytes r.0 r.1, none) refl
-refusal_read AuthorityField bytes faults.Wire fits r = rw r refl
 refusal_read AuthorityField bytes (faults.Authority fault) fits r = rw (string_read bytes r.0 r.1, first_fault_read r.0 fault r.2) refl
-refusal_read SignatureField bytes faults.Wire fits r = rw r refl
 refusal_read SignatureField bytes faults.Signature fits r =
     let inner : IsBytes r.0 = begins_fits bytes r.0 fits r.1 in
     let none : named r.0 (string_at r.0) ≡ None = unnamed_read r.0 (string_at r.0) (λ first e.
     let t = string_takes r.0 first.0 first.1 inner e in
     r.2 first.0 (begins r.0 first.0 first.1 t.0.parts t.1)) in
     rw (string_read bytes r.0 r.1, none) refl
+refusal_read field bytes faults.Wire fits r = rw r refl
 refusal_read field bytes fault fits r = absurd r

@@ -1,10 +1,10 @@
 -- Fields in a row: what is read is spelled so, what is spelled so is read, and the first that is
 -- refused is the fault.
-use Rattle.std.proofs.Common.{◌≡◌, ℕ, List, [], ◌∷◌, ◌++◌, Result, Ok, Err, refl, sym, ap, subst, ◌∙◌, append_assoc, inl, inr}
+use Rattle.std.proofs.Common.{◌≡◌, ℕ, List, [], ◌∷◌, ◌++◌, Ok, Err, refl, sym, ap, subst, ◌∙◌, append_assoc, inl, inr}
 use Rattle.ssh_wire.specs.Wire.{IsBytes}
 use Rattle.ssh_wire.specs.Fields.{HasFront, HasFront-then}
 use Rattle.ssh_wire.specs.Reading.{◌>>=◌}
-use Rattle.ssh_wire.specs.Steps.{bind_err, bind_ok, never_err, ok_is}
+use Rattle.ssh_wire.specs.Steps.{bind_err, bind_ok, never_err}
 use Rattle.ssh_cert.specs.declared.fault.CertFault.{CertFault}
 use Rattle.ssh_cert.specs.CertReading.{field_at, fields_at}
 use Rattle.ssh_cert.specs.Field.{Field, IsValue, AreValues, ValueOf, ValuesOf, field_text, fields_text}
@@ -17,22 +17,19 @@ pub record TakesFields (fields : List Field) (bytes : List ℕ) (x : ValuesOf fi
   pub takes : HasFront bytes (fields_text fields x.0) x.1
   pub allowed : AreValues fields x.0
 
-abbrev done : (fields : List Field) → ValuesOf fields → List ℕ → Result (ValuesOf fields × List ℕ) CertFault
-done fields values rest = Ok (values, rest)
-
-taken : (fields : List Field) (bytes : List ℕ) (values : ValuesOf fields) (rest : List ℕ) (x : ValuesOf fields × List ℕ) → done fields values rest ≡ Ok x → HasFront bytes (fields_text fields values) rest → AreValues fields values → TakesFields fields bytes x
-taken fields bytes values rest x e t allowed = subst (λ (y : ValuesOf fields × List ℕ). TakesFields fields bytes y) (ok_is (values, rest) x (done fields values rest) refl e) (record { takes = t; allowed = allowed })
+taken : (fields : List Field) (bytes : List ℕ) (values : ValuesOf fields) (rest : List ℕ) (x : ValuesOf fields × List ℕ) → (values, rest) ≡ x → HasFront bytes (fields_text fields values) rest → AreValues fields values → TakesFields fields bytes x
+taken fields bytes values rest x e t allowed = subst (λ (y : ValuesOf fields × List ℕ). TakesFields fields bytes y) e (record { takes = t; allowed = allowed })
 
 pub fields_take : (fields : List Field) (bytes : List ℕ) (x : ValuesOf fields × List ℕ) → IsBytes bytes → fields_at fields bytes ≡ Ok x → TakesFields fields bytes x
 unfolding fields_at
-fields_take [] bytes x fits e = taken [] bytes tt bytes x e (record { parts = refl; rest_fits = fits }) tt
+fields_take [] bytes x fits e = taken [] bytes tt bytes x (let same : (tt, bytes) ≡ x = cc in same) (record { parts = refl; rest_fits = fits }) tt
 fields_take (field ∷ fields) bytes x fits e =
     let a = bind_ok (field_at field bytes) (λ first. fields_at fields first.1 >>= λ others. Ok ((first.0, others.0), others.1)) x e in
     let b = bind_ok (fields_at fields a.0.1) (λ others. Ok ((a.0.0, others.0), others.1)) x a.2 in
     let first = field_takes field bytes a.0 fits a.1 in
     let second = fields_take fields a.0.1 b.0 first.takes.rest_fits b.1 in
     let both = HasFront-then bytes (field_text field a.0.0) a.0.1 (fields_text fields b.0.0) b.0.1 first.takes second.takes in
-    taken (field ∷ fields) bytes (a.0.0, b.0.0) b.0.1 x b.2 both (first.allowed, second.allowed)
+    taken (field ∷ fields) bytes (a.0.0, b.0.0) b.0.1 x (let same : ((a.0.0, b.0.0), b.0.1) ≡ x = cc in same) both (first.allowed, second.allowed)
 
 pub fields_again : (fields : List Field) (values : ValuesOf fields) (rest : List ℕ) → AreValues fields values → fields_at fields (fields_text fields values ++ rest) ≡ Ok (values, rest)
 unfolding fields_at

@@ -2,6 +2,7 @@
 use Rattle.std.proofs.Common.{◌≡◌, ◌≢◌, ℕ, ◌%◌, List, [], ◌∷◌, length, Option, Some, None, refl, sym, ap, ◌∙◌, arith}
 use Rattle.std.specs.Prelude.{unwrap_or}
 use Rattle.std.specs.Option.{option_and_then, option_map}
+use Rattle.std.proofs.lemmas.Option.{same_Some}
 use Rattle.ssh_cert.specs.CertReading.{options_of}
 use Rattle.ssh_cert.specs.Options.{ArePairs, NamedData, pairs_in, pairs_of, parts_of}
 use Rattle.ssh_cert.specs.Strings.{strings_of}
@@ -41,12 +42,9 @@ even_list bytes list e even =
       options = ap (λ (o : List NamedData). Some o) in_list ∙ sym (ap (option_and_then pairs_of) e ∙ some.1);
     }
 
-some_is : {A : Type 0} (x y : A) (o : Option A) → o ≡ Some x → o ≡ Some y → x ≡ y
-some_is x y o p q = cc
-
 pub even_options : (bytes : List ℕ) (count : ℕ) (list : List (List ℕ)) → Some count ≡ option_map length (strings_of bytes) → count % 2 ≢ 1 → Some list ≡ strings_of bytes → Even bytes list
 even_options bytes count list e even read =
     let m = counted bytes count e in
-    let same : m.0 ≡ list = some_is m.0 list (strings_of bytes) m.1 (sym read) in
+    let same : m.0 ≡ list = same_Some m.0 list (sym m.1 ∙ sym read) in
     let len : length list ≡ count = ap length (sym same) ∙ m.2 in
     even_list bytes list (sym read) (λ odd. even (ap (λ (n : ℕ). n % 2) (sym len) ∙ odd))

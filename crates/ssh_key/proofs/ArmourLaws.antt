@@ -1,15 +1,14 @@
 -- The lines round a container: what is between them is read, and each such text is.
-use Rattle.std.proofs.Common.{◌≡◌, ◌≢◌, ℕ, ◌<◌, map, true, false, List, [], ◌∷◌, ◌++◌, Option, Some, None, refl, sym, ap, subst, ◌∙◌, inl, inr, ◌⊎◌}
+use Rattle.std.proofs.Common.{◌≡◌, ℕ, ◌<◌, map, List, [], ◌∷◌, ◌++◌, Option, Some, None, refl, sym, ap, subst, ◌∙◌, inl, inr}
 use Rattle.std.specs.Prelude.{option_map}
 use Rattle.std.specs.List.{concat, onto_first, slice_split}
-use Rattle.std.specs.Str.{bytes_eq}
 use Rattle.std.proofs.lemmas.Bool.{cases_Bool}
-use Rattle.std.proofs.lemmas.Slice.Eq.{bytes_eq-Decides}
 use Rattle.ssh_wire.specs.Wire.{IsBytes}
 use Rattle.ssh_wire.specs.Digits.{IsBytes-append, IsBytes-cons, IsBytes-nil, IsBytes-tail, IsBytes-take}
 use Rattle.ssh_key.specs.Armour.{AreInner, IsArmour, armour_at, armoured, begin_line, body_of, end_line, lines_of}
 use Rattle.ssh_key.specs.Lines.{is_newline}
 use Rattle.ssh_key.specs.Blanks.{before_ending}
+use Rattle.ssh_key.proofs.ListLaws.{equal_or_not}
 
 -- lines, the first of which that is the end line is there, and their join before it
 record Between (lines : List (List ℕ)) (body : List ℕ) : Type 0 where
@@ -19,19 +18,13 @@ record Between (lines : List (List ℕ)) (body : List ℕ) : Type 0 where
   pub inner : AreInner between
   pub joined : body ≡ concat between
 
-is_end_or_not : (line other : List ℕ) → ((bytes_eq line other ≡ true) × (line ≡ other)) ⊎ ((bytes_eq line other ≡ false) × (line ≢ other))
-is_end_or_not line other = elim (cases_Bool (bytes_eq line other)) [
-  | inl same ↦ inl (same, (bytes_eq-Decides line other).0 same)
-  | inr not ↦ inr (not, λ e. let same = (bytes_eq-Decides line other).1 e in cc)
-]
-
 mapped_some : (line : List ℕ) (o : Option (List ℕ)) (x : List ℕ) → option_map (λ body. line ++ body) o ≡ Some x → (body : List ℕ) × (o ≡ Some body) × (line ++ body ≡ x)
 mapped_some line None x e = absurd cc
 mapped_some line (Some body) x e = (body, refl, cc)
 
 body_found : (lines : List (List ℕ)) (x : List ℕ) → body_of lines ≡ Some x → Between lines x
 body_found [] x e = absurd cc
-body_found (line ∷ lines) x e = elim (is_end_or_not line end_line) [
+body_found (line ∷ lines) x e = elim (equal_or_not line end_line) [
   | inl same ↦
       let h = rw same.0 at e in
       let empty : [] ≡ x = cc in
@@ -51,14 +44,14 @@ body_found (line ∷ lines) x e = elim (is_end_or_not line end_line) [
 
 body_again : (between after : List (List ℕ)) → AreInner between → body_of (between ++ end_line ∷ after) ≡ Some (concat between)
 body_again [] after inner = refl
-body_again (line ∷ between) after inner = elim (is_end_or_not line end_line) [
+body_again (line ∷ between) after inner = elim (equal_or_not line end_line) [
   | inl same ↦ absurd (inner.0 same.1)
   | inr other ↦ rw (other.0, body_again between after inner.1) refl
 ]
 
 armoured_found : (lines : List (List ℕ)) (body : List ℕ) → armoured lines ≡ Some body → (rest : List (List ℕ)) × (lines ≡ begin_line ∷ rest) × (body_of rest ≡ Some body)
 armoured_found [] body e = absurd cc
-armoured_found (line ∷ lines) body e = elim (is_end_or_not line begin_line) [
+armoured_found (line ∷ lines) body e = elim (equal_or_not line begin_line) [
   | inl same ↦ let h = rw same.0 at e in (lines, ap (λ (l : List ℕ). l ∷ lines) same.1, h)
   | inr other ↦ absurd (let h = rw other.0 at e in cc)
 ]
@@ -102,7 +95,7 @@ trimmed_bytes (part ∷ parts) all = (IsBytes-take _ part all.0, trimmed_bytes p
 body_bytes : (lines : List (List ℕ)) (body : List ℕ) → AllBytes lines → body_of lines ≡ Some body → IsBytes body
 unfolding AllBytes
 body_bytes [] body all e = absurd cc
-body_bytes (line ∷ lines) body all e = elim (is_end_or_not line end_line) [
+body_bytes (line ∷ lines) body all e = elim (equal_or_not line end_line) [
   | inl same ↦
       let h = rw same.0 at e in
       let empty : [] ≡ body = cc in

@@ -1,7 +1,7 @@
 -- The bytes of a container: what is read is one, each one is read, and the fault that is met is the
 -- first.
-use Rattle.std.proofs.Common.{◌≡◌, ℕ, ◌<◌, Bool, true, false, cond, eqb, List, [], ◌∷◌, ◌++◌, length, None, Result, Ok, Err, refl, sym, ap, subst, ◌∙◌, arith, inl, inr, ◌⊎◌}
-use Rattle.std.proofs.lemmas.Bool.{eqb-true, ne_eqb}
+use Rattle.std.proofs.Common.{◌≡◌, ℕ, ◌<◌, false, cond, eqb, List, [], ◌∷◌, ◌++◌, length, None, Result, Ok, Err, refl, sym, ap, subst, ◌∙◌, arith, inl, inr, ◌⊎◌}
+use Rattle.std.proofs.lemmas.Bool.{cases_Bool, eqb-true, ne_eqb}
 use Rattle.std.proofs.lemmas.List.{nil_from_length}
 use Rattle.ssh_wire.specs.Wire.{IsBytes, string}
 use Rattle.ssh_wire.specs.Fields.{IsBytes-content}
@@ -66,18 +66,16 @@ parts_of inside values rest fits (c, r1, s1, p1, (k, r2, s2, p2, (o, r3, s3, p3,
     }
 
 ended_ok : (o : Opened) (rest : List ℕ) (r : Result Opened PrivateFault) → cond {A = Result Opened PrivateFault} (eqb (length rest) 0) r (Err faults.Trailing) ≡ Ok o → (rest ≡ []) × (r ≡ Ok o)
-ended_ok o rest r e = by_test (eqb (length rest) 0) refl e
-  where
-    by_test : (b : Bool) → eqb (length rest) 0 ≡ b → cond {A = Result Opened PrivateFault} b r (Err faults.Trailing) ≡ Ok o → (rest ≡ []) × (r ≡ Ok o)
-    by_test true test given = (nil_from_length rest (eqb-true _ _ test), given)
-    by_test false test given = absurd cc
+ended_ok o rest r e = elim (cases_Bool (eqb (length rest) 0)) [
+  | inl test ↦ (nil_from_length rest (eqb-true _ _ test), rw test at e)
+  | inr test ↦ absurd (let h = rw test at e in cc)
+]
 
 ended_err : (rest : List ℕ) (r : Result Opened PrivateFault) (d : PrivateFault) → cond {A = Result Opened PrivateFault} (eqb (length rest) 0) r (Err faults.Trailing) ≡ Err d → ((rest ≡ []) × (r ≡ Err d)) ⊎ ((0 < length rest) × (d ≡ faults.Trailing))
-ended_err rest r d e = by_test (eqb (length rest) 0) refl e
-  where
-    by_test : (b : Bool) → eqb (length rest) 0 ≡ b → cond {A = Result Opened PrivateFault} b r (Err faults.Trailing) ≡ Err d → ((rest ≡ []) × (r ≡ Err d)) ⊎ ((0 < length rest) × (d ≡ faults.Trailing))
-    by_test true test given = inl (nil_from_length rest (eqb-true _ _ test), given)
-    by_test false test given = inr (above_zero (length rest) test, cc)
+ended_err rest r d e = elim (cases_Bool (eqb (length rest) 0)) [
+  | inl test ↦ inl (nil_from_length rest (eqb-true _ _ test), rw test at e)
+  | inr test ↦ let h = rw test at e in inr (above_zero (length rest) test, cc)
+]
 
 -- what is after the name of the format
 pub record Inside (inside blob comment : List ℕ) : Type 0 where
@@ -88,9 +86,6 @@ pub record Inside (inside blob comment : List ℕ) : Type 0 where
   pub secret : IsPrivateList key list comment
 
 -- ---- what is read
-
-six : List ℕ → List ℕ → List ℕ → List ℕ → List ℕ → List ℕ → List (List ℕ)
-six cipher kdf options count blob list = cipher ∷ kdf ∷ options ∷ count ∷ blob ∷ list ∷ []
 
 has_parts : (inside rest : List ℕ) (values : List (List ℕ)) (p : Parts inside values rest) → rest ≡ [] → Leads outer [] inside values rest → HasParts inside p.blob p.list
 has_parts inside rest values p nothing leads =

@@ -110,15 +110,12 @@ pub is_fingerprint : (text : List ℕ) (result : Result (List ℕ) FingerprintFa
 is_fingerprint text (Ok digest) fits given = fingerprint_found text digest fits given
 is_fingerprint text (Err fault) fits given = tt
 
-prefix_stands : (text : List ℕ) → fingerprint_at text ≢ Err Prefix → (rest : List ℕ) × (text ≡ sha256_prefix ++ rest)
-prefix_stands text some = elim (prefix_or_not text) [
-  | inl none ↦ absurd (some none.0)
-  | inr has ↦ has
-]
-
 pub is_reported : (text : List ℕ) (result : Result (List ℕ) FingerprintFault) → IsBytes text → GivesDigest result (fingerprint_at text) → IfErr result (IsReportedFingerprintFault text)
 is_reported text (Ok digest) fits given = tt
-is_reported text (Err NoMemory) fits given = prefix_stands text given
+is_reported text (Err NoMemory) fits given = elim (prefix_or_not text) [
+  | inl none ↦ absurd (given none.0)
+  | inr has ↦ has
+]
 is_reported text (Err fault) fits given = fingerprint_refused text fault fits given
 
 -- ---- a first fault is what is met

@@ -1,13 +1,13 @@
 -- Reading a blob meets its first fault, and no other.
-use Rattle.std.proofs.Common.{◌≡◌, ◌≢◌, ℕ, ◌+◌, ◌<◌, ◌≤◌, Bool, true, false, cond, eqb, ltb, List, [], ◌∷◌, ◌++◌, length, Option, Some, None, Result, Ok, Err, refl, sym, ap, subst, ◌∙◌, arith, inl, inr}
+use Rattle.std.proofs.Common.{◌≡◌, ◌≢◌, ℕ, ◌+◌, ◌<◌, ◌≤◌, Bool, true, false, cond, eqb, ltb, List, [], ◌∷◌, ◌++◌, length, Some, None, Result, Ok, Err, refl, sym, ap, subst, ◌∙◌, arith, inl, inr}
 use Rattle.std.specs.Prelude.{IfErr}
 use Rattle.std.specs.Option.{ok_or}
 use Rattle.std.proofs.lemmas.Bool.{ne_eqb, ltb-true, ltb-false, lt-ltb, le-ltb}
 use Rattle.std.proofs.lemmas.List.{append-nil, length-append}
 use Rattle.ssh_wire.specs.declared.fault.WireFault.{WireFault}
 use Rattle.ssh_wire.specs.Wire.{BeginsWith, IsBytes, string}
-use Rattle.ssh_wire.specs.Reading.{◌>>=◌, in_fault, string_at}
-use Rattle.ssh_wire.specs.Fields.{HasFront, string_takes}
+use Rattle.ssh_wire.specs.Reading.{◌>>=◌, string_at}
+use Rattle.ssh_wire.specs.Fields.{HasFront}
 use Rattle.ssh_key.specs.declared.fault.KeyFault.{KeyFault}
 use Rattle.ssh_key.specs.declared.fault.KeyFault.TheVariants as faults
 use Rattle.ssh_key.specs.declared.kind.Kind.{Kind}
@@ -15,10 +15,11 @@ use Rattle.ssh_key.specs.Kind.{Field, type_name, fields_of, bits_of, kind_named}
 use Rattle.ssh_key.specs.Key.{Key, AreValues, BeginsWithFields, blob_of, fields_text}
 use Rattle.ssh_key.specs.KeyReading.{before_rest, bits_at, fields_at, key_at, kind_at, not_too_long, of_size, public_at}
 use Rattle.ssh_key.specs.FirstFault.{Refuses, Reaches, IsFieldsFault, in_field, long_fields, IsFault, no_name, no_kind, in_fields, after_fields, IsFirstFault, too_long, not_long}
-use Rattle.ssh_key.proofs.Names.{kind_named-name, kind_named-type_name}
-use Rattle.ssh_wire.specs.Steps.{above_zero, bind_err, failed_err, guard_err, in_fault_err, in_fault_ok, never_err, none_err}
+use Rattle.ssh_key.proofs.Names.{kind_named-name, kind_named-type_name, some_or_none}
+use Rattle.ssh_wire.specs.Steps.{above_zero, bind_err, failed_err, guard_err, never_err, none_err}
 use Rattle.ssh_key.proofs.Public.{fields_take, fields_again}
-use Rattle.ssh_key.proofs.Keys.{before_is, bits_ok, kind_again, kind_takes, public_found}
+use Rattle.ssh_key.proofs.Wire.{content_refused}
+use Rattle.ssh_key.proofs.Keys.{before_is, bits_ok, ended, kind_again, kind_takes, public_found, whole_at}
 use Rattle.ssh_key.proofs.Refusals.{string_read, RefusedIn, fields_refused, stop_read}
 
 -- ---- what reading meets is a fault
@@ -31,16 +32,9 @@ named_none name none kind same =
 kind_refused : (blob : List ℕ) (fault : KeyFault) → IsBytes blob → kind_at blob ≡ Err fault → IsFault blob fault
 unfolding kind_at
 kind_refused blob fault fits e =
-    elim (bind_err (in_fault faults.Wire (string_at blob)) (λ name. ok_or (kind_named name.0) faults.UnknownType >>= λ kind. Ok (kind, name.1)) fault e) [
-      | inl cut ↦ let w = in_fault_err faults.Wire (string_at blob) fault cut in no_name w.0 w.1 w.2
-      | inr named ↦
-          elim (bind_err (ok_or (kind_named named.0.0) faults.UnknownType) (λ kind. Ok (kind, named.0.1)) fault named.2) [
-            | inl unknown ↦
-                let w = none_err (kind_named named.0.0) faults.UnknownType fault unknown in
-                let t = string_takes blob named.0.0 named.0.1 fits (in_fault_ok faults.Wire (string_at blob) named.0 named.1) in
-                no_kind named.0.0 (record { rest = named.0.1; spelled = t.0.parts; fits = t.1 }) (named_none named.0.0 w.0) w.1
-            | inr kind ↦ absurd (never_err (kind.0, named.0.1) fault kind.2)
-          ]
+    elim (content_refused faults.Wire (λ name. ok_or (kind_named name) faults.UnknownType) (λ name kind. kind) blob fault fits e) [
+      | inl cut ↦ no_name cut.0 cut.1 cut.2
+      | inr named ↦ let w = none_err (kind_named named.0) faults.UnknownType fault named.3 in no_kind named.0 named.1 (named_none named.0 w.0) w.1
     ]
 
 -- ---- of public fields
@@ -107,8 +101,7 @@ reached_end kind bytes rest key found =
     (subst (λ (fields : List Field). bytes ≡ fields_text fields is.values ++ rest) kinds spelled)
     (subst (λ (fields : List Field). AreValues fields is.values) kinds is.allowed)
 
-end_refused : (blob fields : List ℕ) (kind : Kind) (found : Key × List ℕ) (fault : KeyFault) → HasFront blob (string (type_name kind)) fields → public_at kind fields ≡ Ok found
-    → cond {A = Result Key KeyFault} (eqb (length found.1) 0) (Ok found.0) (Err faults.Trailing) ≡ Err fault → IsFault blob fault
+end_refused : (blob fields : List ℕ) (kind : Kind) (found : Key × List ℕ) (fault : KeyFault) → HasFront blob (string (type_name kind)) fields → public_at kind fields ≡ Ok found → ended found ≡ Err fault → IsFault blob fault
 end_refused blob fields kind found fault t read e =
     let w = failed_err (eqb (length found.1) 0) found.0 faults.Trailing fault e in
     let taken = public_found kind fields found t.rest_fits read in
@@ -121,9 +114,7 @@ long_or_not blob false r fault test later e = not_long (ltb-false _ _ test) (lat
 pub key_refused : (blob : List ℕ) (fault : KeyFault) → IsBytes blob → key_at blob ≡ Err fault → IsFirstFault blob fault
 unfolding key_at
 key_refused blob fault fits e =
-    let ended = λ (found : Key × List ℕ). cond {A = Result Key KeyFault} (eqb (length found.1) 0) (Ok found.0) (Err faults.Trailing) in
-    let read = kind_at blob >>= λ kind. public_at kind.0 kind.1 >>= ended in
-    long_or_not blob (ltb 65536 (length blob)) read fault refl (λ later.
+    long_or_not blob (ltb 65536 (length blob)) (whole_at blob) fault refl (λ later.
     elim (bind_err (kind_at blob) (λ kind. public_at kind.0 kind.1 >>= ended) fault later) [
       | inl refused ↦ kind_refused blob fault fits refused
       | inr kind ↦
@@ -136,10 +127,6 @@ key_refused blob fault fits e =
 
 -- ---- and a first fault is what reading meets
 
-none_named : (name : List ℕ) → ((kind : Kind) → type_name kind ≢ name) → (o : Option Kind) → kind_named name ≡ o → o ≡ None
-none_named name other None e = refl
-none_named name other (Some kind) e = absurd (other kind (kind_named-name name kind e))
-
 name_cut : (blob : List ℕ) (why : WireFault) → string_at blob ≡ Err why → kind_at blob ≡ Err (faults.Wire why)
 unfolding kind_at
 name_cut blob why e = rw e refl
@@ -147,7 +134,7 @@ name_cut blob why e = rw e refl
 name_unknown : (blob name : List ℕ) → BeginsWith blob name → ((kind : Kind) → type_name kind ≢ name) → kind_at blob ≡ Err faults.UnknownType
 unfolding kind_at
 name_unknown blob name b other =
-    let none : kind_named name ≡ None = none_named name other (kind_named name) refl in
+    let none : kind_named name ≡ None = some_or_none (kind_named name) (λ kind e. other kind (kind_named-name name kind e)) in
     rw (string_read blob name b, none) refl
 
 stop_bits : (kind : Kind) (bytes : List ℕ) (field : Field) (later : List Field) (rest : List ℕ) (fault : KeyFault) → (r : Reaches kind bytes (field ∷ later) rest) → Refuses field rest fault → bits_at kind bytes ≡ Err fault
@@ -186,29 +173,23 @@ more_left kind bytes rest short r =
 named : (blob : List ℕ) (kind : Kind) (fields : List ℕ) → blob ≡ string (type_name kind) ++ fields → kind_at blob ≡ Ok (kind, fields)
 named blob kind fields e = ap kind_at e ∙ kind_again kind fields
 
-fault_read : (blob : List ℕ) (fault : KeyFault) → length blob ≤ 65536 → IsFault blob fault → key_at blob ≡ Err fault
-unfolding key_at
-fault_read blob fault short (no_name why cut is) =
-    let not_long : ltb 65536 (length blob) ≡ false = le-ltb _ _ short in
-    rw (is, not_long, name_cut blob why cut) refl
-fault_read blob fault short (no_kind name b other is) =
-    let not_long : ltb 65536 (length blob) ≡ false = le-ltb _ _ short in
-    rw (is, not_long, name_unknown blob name b other) refl
-fault_read blob fault short (in_fields kind fields spelled f) =
-    let not_long : ltb 65536 (length blob) ≡ false = le-ltb _ _ short in
-    rw (not_long, named blob kind fields spelled, fields_fault_read kind fields fault f) refl
+fault_read : (blob : List ℕ) (fault : KeyFault) → length blob ≤ 65536 → IsFault blob fault → whole_at blob ≡ Err fault
+fault_read blob fault short (no_name why cut is) = rw (is, name_cut blob why cut) refl
+fault_read blob fault short (no_kind name b other is) = rw (is, name_unknown blob name b other) refl
+fault_read blob fault short (in_fields kind fields spelled f) = rw (named blob kind fields spelled, fields_fault_read kind fields fault f) refl
 fault_read blob fault short (after_fields kind fields rest spelled r more is) =
-    let not_long : ltb 65536 (length blob) ≡ false = le-ltb _ _ short in
     let left : eqb (length rest) 0 ≡ false = ne_eqb (length rest) 0 (λ e. omega arith) in
     let whole : length (string (type_name kind) ++ fields) ≤ 65536 = omega (arith, ap length spelled) in
-    rw (is, not_long, named blob kind fields spelled, more_left kind fields rest whole r, left) refl
+    rw (is, named blob kind fields spelled, more_left kind fields rest whole r, left) refl
 
 pub first_fault_read : (blob : List ℕ) (fault : KeyFault) → IsFirstFault blob fault → key_at blob ≡ Err fault
 unfolding key_at
 first_fault_read blob fault (too_long long is) =
     let test : ltb 65536 (length blob) ≡ true = lt-ltb _ _ long in
     rw (is, test) refl
-first_fault_read blob fault (not_long short is) = fault_read blob fault short is
+first_fault_read blob fault (not_long short is) =
+    let test : ltb 65536 (length blob) ≡ false = le-ltb _ _ short in
+    rw test (fault_read blob fault short is)
 
 pub is_refused : (blob : List ℕ) (r : Result Key KeyFault) → IsBytes blob → r ≡ key_at blob → IfErr r (λ fault. IsFirstFault blob fault)
 is_refused blob (Ok key) fits given = tt

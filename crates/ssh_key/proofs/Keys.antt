@@ -6,8 +6,8 @@ use Rattle.std.proofs.lemmas.Bool.{eqb-true, ltb-false, le-ltb}
 use Rattle.std.proofs.lemmas.List.{append-nil, nil_from_length, length-append, take_at}
 use Rattle.ssh_wire.specs.Wire.{IsBytes, string}
 use Rattle.ssh_wire.specs.Digits.{IsBytes-append, IsBytes-back}
-use Rattle.ssh_wire.specs.Reading.{◌>>=◌, Gives, in_fault, string_at}
-use Rattle.ssh_wire.specs.Fields.{HasFront, IsBytes-string, string_again, string_takes}
+use Rattle.ssh_wire.specs.Reading.{◌>>=◌, Gives, string_at}
+use Rattle.ssh_wire.specs.Fields.{HasFront, IsBytes-string, string_again}
 use Rattle.ssh_key.specs.declared.fault.KeyFault.{KeyFault}
 use Rattle.ssh_key.specs.declared.fault.KeyFault.TheVariants as faults
 use Rattle.ssh_key.specs.declared.kind.Kind.{Kind}
@@ -17,23 +17,19 @@ use Rattle.ssh_key.specs.Key.{Key, BeginsWithFields, IsKey, AreValues, blob_of, 
 use Rattle.ssh_key.specs.KeyReading.{before_rest, bits_at, fields_at, key_at, kind_at, IsRead, not_too_long, of_size, public_at}
 use Rattle.ssh_key.specs.Value.{SameValues}
 use Rattle.ssh_key.proofs.Names.{kind_named-name, kind_named-type_name}
-use Rattle.ssh_wire.specs.Steps.{bind_ok, guard_ok, in_fault_ok, ok_is, passed_ok, some_ok}
+use Rattle.ssh_wire.specs.Steps.{bind_ok, guard_ok, ok_is, passed_ok, some_ok}
 use Rattle.ssh_key.proofs.Numbers.{values_same}
 use Rattle.ssh_key.proofs.Public.{fields_take, fields_again}
-use Rattle.ssh_key.proofs.Wire.{IsBytes-test}
+use Rattle.ssh_key.proofs.Wire.{IsBytes-test, content_taken}
 
 -- ---- the kind
 
 pub kind_takes : (bytes : List ℕ) (x : Kind × List ℕ) → IsBytes bytes → kind_at bytes ≡ Ok x → HasFront bytes (string (type_name x.0)) x.1
 unfolding kind_at
 kind_takes bytes x fits e =
-    let a = bind_ok (in_fault faults.Wire (string_at bytes)) (λ name. ok_or (kind_named name.0) faults.UnknownType >>= λ kind. Ok (kind, name.1)) x e in
-    let b = bind_ok (ok_or (kind_named a.0.0) faults.UnknownType) (λ kind. Ok (kind, a.0.1)) x a.2 in
-    let named : type_name b.0 ≡ a.0.0 = kind_named-name a.0.0 b.0 (some_ok (kind_named a.0.0) faults.UnknownType b.0 b.1) in
-    let t = (string_takes bytes a.0.0 a.0.1 fits (in_fault_ok faults.Wire (string_at bytes) a.0 a.1)).0 in
-    let spelled : HasFront bytes (string (type_name b.0)) a.0.1 = subst (λ (s : List ℕ). HasFront bytes (string s) a.0.1) (sym named) t in
-    let same : (b.0, a.0.1) ≡ x = cc in
-    subst (λ (y : Kind × List ℕ). HasFront bytes (string (type_name y.0)) y.1) same spelled
+    let c = content_taken faults.Wire (λ name. ok_or (kind_named name) faults.UnknownType) (λ name kind. kind) bytes x fits e in
+    let named : type_name c.value ≡ c.content = kind_named-name c.content c.value (some_ok (kind_named c.content) faults.UnknownType c.value c.judged) in
+    subst (λ (y : Kind × List ℕ). HasFront bytes (string (type_name y.0)) y.1) c.same (subst (λ (s : List ℕ). HasFront bytes (string s) c.rest) (sym named) c.front)
 
 pub length-type_name : (kind : Kind) → length (type_name kind) < 64
 length-type_name Rsa = omega arith
@@ -121,6 +117,14 @@ public_again kind bytes rest key same begins = ap (λ (k : Kind). public_at k by
 
 -- ---- the whole blob
 
+-- the key that was read, where nothing is left
+abbrev pub ended : Key × List ℕ → Result Key KeyFault
+ended found = cond (eqb (length found.1) 0) (Ok found.0) (Err faults.Trailing)
+
+-- a blob, however long it is
+abbrev pub whole_at : List ℕ → Result Key KeyFault
+whole_at blob = kind_at blob >>= λ kind. public_at kind.0 kind.1 >>= ended
+
 -- a blob that is not too long
 short_ok : {A : Type 0} (b : Bool) (r : Result A KeyFault) (y : A) → cond b (Err faults.TooLong) r ≡ Ok y → (b ≡ false) × (r ≡ Ok y)
 short_ok true r y e = absurd cc
@@ -137,8 +141,7 @@ whole_key blob fields rest kind key named found ended =
 pub key_found : (blob : List ℕ) (key : Key) → IsBytes blob → key_at blob ≡ Ok key → IsKey blob key
 unfolding key_at
 key_found blob key fits e =
-    let ended = λ (found : Key × List ℕ). cond {A = Result Key KeyFault} (eqb (length found.1) 0) (Ok found.0) (Err faults.Trailing) in
-    let s = short_ok (ltb 65536 (length blob)) (kind_at blob >>= λ kind. public_at kind.0 kind.1 >>= ended) key e in
+    let s = short_ok (ltb 65536 (length blob)) (whole_at blob) key e in
     let a = bind_ok (kind_at blob) (λ kind. public_at kind.0 kind.1 >>= ended) key s.1 in
     let b = bind_ok (public_at a.0.0 a.0.1) ended key a.2 in
     let g = passed_ok (eqb (length b.0.1) 0) faults.Trailing b.0.0 key b.2 in

@@ -73,13 +73,16 @@ pub decoded_again : (bytes : List ℕ) → IsBytes bytes → decoded (base64 byt
 unfolding decoded base64
 decoded_again bytes fits = ap (in_fault no_base64) (decode_of-encode_of standard bytes refl fits)
 
-pub decoded_takes : (text bytes : List ℕ) → IsBytes text → decoded text ≡ Ok bytes → text ≡ base64 bytes
-unfolding decoded base64
-decoded_takes text bytes fits e = decode_of_strict standard text bytes (refl, refl) fits (in_fault_ok no_base64 (decode_of standard text) bytes e)
+-- what decodes, whatever a fault is reported as
+pub base64_takes : {F : Type 0} (words : DecodeError → F) (text bytes : List ℕ) → IsBytes text → in_fault words (decode_of standard text) ≡ Ok bytes → (text ≡ base64 bytes) × IsBytes bytes
+unfolding base64
+base64_takes words text bytes fits e =
+    let read = in_fault_ok words (decode_of standard text) bytes e in
+    (decode_of_strict standard text bytes (refl, refl) fits read, IsBytes-decoded text bytes fits read)
 
-pub decoded_bytes : (text bytes : List ℕ) → IsBytes text → decoded text ≡ Ok bytes → IsBytes bytes
+pub decoded_takes : (text bytes : List ℕ) → IsBytes text → decoded text ≡ Ok bytes → (text ≡ base64 bytes) × IsBytes bytes
 unfolding decoded
-decoded_bytes text bytes fits e = IsBytes-decoded text bytes fits (in_fault_ok no_base64 (decode_of standard text) bytes e)
+decoded_takes text bytes fits e = base64_takes no_base64 text bytes fits e
 
 cases : (read : Result (List ℕ) DecodeError) → (in_fault no_base64 read ≡ Err Base64) ⊎ ((bytes : List ℕ) × (in_fault no_base64 read ≡ Ok bytes))
 cases (Err error) = inl refl

@@ -8,7 +8,7 @@ use Rattle.ssh_key.specs.declared.line_fault.LineFault.TheVariants.{NoKey, Base6
 use Rattle.ssh_key.specs.KeyLine.{HasWords, base64}
 use Rattle.ssh_key.specs.LineFaults.{EncodesOtherKey, HasBadBase64, HasSomeWords, IsFirstLineFault, IsReportedFault}
 use Rattle.ssh_key.specs.LineReading.{ReportsFault, checked, content, content_of, decoded, has_word, line_at}
-use Rattle.ssh_key.proofs.LineBase64.{decoded_again, decoded_bytes, decoded_cases, decoded_takes}
+use Rattle.ssh_key.proofs.LineBase64.{decoded_again, decoded_cases, decoded_takes}
 use Rattle.ssh_key.proofs.LineLaws.{word_again, word_takes}
 use Rattle.ssh_wire.specs.Steps.{err_is, failed_err, ok_or_err}
 use Rattle.ssh_key.proofs.TextWords.{IsBytes-words, none_or_words, words_read}
@@ -48,13 +48,13 @@ words_refused text fault fits has e = elim (refused has.word has.encoded has.com
       subst (IsFirstLineFault text) (sym bad.1) is
   | inr read ↦
       let encoded_fits = IsBytes-words text has.word has.encoded has.comment fits has.words in
-      let spelled : has.encoded ≡ base64 read.0 = decoded_takes has.encoded read.0 encoded_fits read.1 in
+      let taken = decoded_takes has.encoded read.0 encoded_fits read.1 in
       let is : EncodesOtherKey text = record {
         word = has.word;
         blob = read.0;
         comment = has.comment;
-        words = subst (λ (xs : List ℕ). HasWords text has.word xs has.comment) spelled has.words;
-        bytes = decoded_bytes has.encoded read.0 encoded_fits read.1;
+        words = subst (λ (xs : List ℕ). HasWords text has.word xs has.comment) taken.0 has.words;
+        bytes = taken.1;
         differs = other_word has.word read.0 read.2;
       } in
       subst (IsFirstLineFault text) (sym read.3) is
@@ -80,7 +80,7 @@ first_line_fault_met text Base64 fits k =
     let encoded_fits = IsBytes-words text has.word has.encoded has.comment fits has.words in
     elim (decoded_cases has.encoded) [
       | inl bad ↦ words_read text has.word has.encoded has.comment has.words ∙ rw bad refl
-      | inr read ↦ absurd (k.none read.0 (decoded_bytes has.encoded read.0 encoded_fits read.1) (sym (decoded_takes has.encoded read.0 encoded_fits read.1)))
+      | inr read ↦ absurd (let taken = decoded_takes has.encoded read.0 encoded_fits read.1 in k.none read.0 taken.1 (sym taken.0))
     ]
 first_line_fault_met text WordDiffers fits k = elim (cases_Bool (has_word k.word k.blob)) [
   | inl begins ↦ absurd (k.differs (word_takes k.word k.blob k.bytes begins))
@@ -90,13 +90,10 @@ first_line_fault_met text NoMemory fits k = absurd k
 
 -- ---- the fault that is reported
 
-words_stand : (text : List ℕ) → line_at text ≢ Err NoKey → HasSomeWords text
-words_stand text some = elim (none_or_words text) [
-  | inl none ↦ absurd (some none)
-  | inr has ↦ has
-]
-
 pub is_reported : (text : List ℕ) (result : Result Line LineFault) → IsBytes text → Answers ReportsFault content_of result (line_at text) → IfErr result (IsReportedFault text)
 is_reported text (Ok line) fits exact = tt
-is_reported text (Err NoMemory) fits exact = words_stand text exact
+is_reported text (Err NoMemory) fits exact = elim (none_or_words text) [
+  | inl none ↦ absurd (exact none)
+  | inr has ↦ has
+]
 is_reported text (Err fault) fits exact = line_refused text fault fits exact

@@ -9,7 +9,7 @@ use Rattle.ssh_key.specs.declared.line_fault.LineFault.{LineFault}
 use Rattle.ssh_key.specs.declared.line_fault.LineFault.TheVariants.{WordDiffers}
 use Rattle.ssh_key.specs.KeyLine.{HasWords, IsKeyLine, base64}
 use Rattle.ssh_key.specs.LineReading.{Content, checked, content, decoded, has_word, is_string, line_at}
-use Rattle.ssh_key.proofs.LineBase64.{decoded_again, decoded_bytes, decoded_takes}
+use Rattle.ssh_key.proofs.LineBase64.{decoded_again, decoded_takes}
 use Rattle.ssh_key.proofs.Refusals.{string_read}
 use Rattle.ssh_key.proofs.TextWords.{IsBytes-words, none_or_words, words_read}
 use Rattle.ssh_wire.specs.Wire.{BeginsWith, IsBytes}
@@ -52,12 +52,11 @@ line_found text parts fits e = elim (none_or_words text) [
   | inr has ↦
       let taken = checked_takes has.word (decoded has.encoded) has.comment parts (sym (words_read text has.word has.encoded has.comment has.words) ∙ e) in
       let encoded_fits = IsBytes-words text has.word has.encoded has.comment fits has.words in
-      let spelled : has.encoded ≡ base64 parts.blob = decoded_takes has.encoded parts.blob encoded_fits taken.0 in
-      let blob_fits : IsBytes parts.blob = decoded_bytes has.encoded parts.blob encoded_fits taken.0 in
+      let blob = decoded_takes has.encoded parts.blob encoded_fits taken.0 in
       let is : IsKeyLine text has.word parts.blob has.comment = record {
-        words = subst (λ (xs : List ℕ). HasWords text has.word xs has.comment) spelled has.words;
-        bytes = blob_fits;
-        begins = word_takes has.word parts.blob blob_fits taken.1;
+        words = subst (λ (xs : List ℕ). HasWords text has.word xs has.comment) blob.0 has.words;
+        bytes = blob.1;
+        begins = word_takes has.word parts.blob blob.1 taken.1;
       } in
       subst (λ (p : Content). IsKeyLine text p.word p.blob p.comment) taken.2 is
 ]

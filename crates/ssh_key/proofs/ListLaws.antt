@@ -9,12 +9,12 @@ use Rattle.std.proofs.lemmas.Slice.Eq.{bytes_eq-Decides, starts_is}
 use Rattle.ssh_wire.specs.Wire.{IsBytes}
 use Rattle.ssh_wire.specs.Reading.{in_fault, string_at, ◌>>=◌}
 use Rattle.ssh_key.specs.Container.{IsListFault, IsPrivateList, Opens, all_padding, beginning, in_beginning, in_comment, in_secrets, other_padding, other_public, public_text, secrets}
-use Rattle.ssh_key.specs.ContainerReading.{ended, list_at, padded, same_at}
+use Rattle.ssh_key.specs.ContainerReading.{ended, list_at, same_at}
 use Rattle.ssh_key.specs.Key.{Key}
 use Rattle.ssh_key.specs.Rows.{Stands, Text, row_at}
 use Rattle.ssh_key.specs.declared.private_fault.PrivateFault.{PrivateFault}
 use Rattle.ssh_key.specs.declared.private_fault.PrivateFault.TheVariants as faults
-use Rattle.ssh_wire.specs.Steps.{bind_err, bind_ok, failed_err, in_fault_err, in_fault_ok, ok_or_err, passed_ok}
+use Rattle.ssh_wire.specs.Steps.{bind_err, bind_ok, failed_err, in_fault_err, in_fault_ok, passed_ok}
 use Rattle.ssh_key.proofs.RowLaws.{part_again, part_takes, row_again, row_fails, row_refused, row_takes}
 
 -- ---- a front of a list
@@ -31,26 +31,18 @@ front_not whole front h rest e = let met = front_met whole front rest e in cc
 pub not_front : (whole front : List ℕ) → ((rest : List ℕ) → whole ≢ front ++ rest) → starts_with nat_eq whole front ≡ false
 not_front whole front none = false_from_ne_true (starts_with nat_eq whole front) (λ met. none (drop (length front) whole) (front_taken whole front met))
 
+-- bytes that are equal, or not
+pub equal_or_not : (a b : List ℕ) → ((bytes_eq a b ≡ true) × (a ≡ b)) ⊎ ((bytes_eq a b ≡ false) × (a ≢ b))
+equal_or_not a b = elim (cases_Bool (bytes_eq a b)) [
+  | inl same ↦ inl (same, (bytes_eq-Decides a b).0 same)
+  | inr not ↦ inr (not, λ e. let same = (bytes_eq-Decides a b).1 e in cc)
+]
+
 -- ---- the end of the list
-
-padded_ok : (comment padding x : List ℕ) → padded comment padding ≡ Ok x → (starts_with nat_eq all_padding padding ≡ true) × (comment ≡ x)
-padded_ok comment padding x e = passed_ok (starts_with nat_eq all_padding padding) faults.Padding comment x e
-
-padded_err : (comment padding : List ℕ) (d : PrivateFault) → padded comment padding ≡ Err d → (starts_with nat_eq all_padding padding ≡ false) × (d ≡ faults.Padding)
-padded_err comment padding d e = failed_err (starts_with nat_eq all_padding padding) comment faults.Padding d e
 
 -- whether the values have the public fields of the key
 abbrev same_as : Key → List (List ℕ) → Bool
 same_as key values = bytes_eq (public_text key.kind values) key.fields
-
-public_or_not : (key : Key) (values : List (List ℕ)) → (public_text key.kind values ≡ key.fields) ⊎ (public_text key.kind values ≢ key.fields)
-public_or_not key values = elim (cases_Bool (bytes_eq (public_text key.kind values) key.fields)) [
-  | inl same ↦ inl ((bytes_eq-Decides (public_text key.kind values) key.fields).0 same)
-  | inr other ↦ inr (λ e. let same = (bytes_eq-Decides (public_text key.kind values) key.fields).1 e in cc)
-]
-
-ended_same : (key : Key) (values : List (List ℕ)) (comment padding : List ℕ) → public_text key.kind values ≡ key.fields → ended (same_as key values) comment padding ≡ padded comment padding
-ended_same key values comment padding same = let test = (bytes_eq-Decides (public_text key.kind values) key.fields).1 same in rw test refl
 
 ended_other : (key : Key) (values : List (List ℕ)) (comment padding : List ℕ) → public_text key.kind values ≢ key.fields → ended (same_as key values) comment padding ≡ Err faults.PublicDiffers
 ended_other key values comment padding other =
@@ -81,21 +73,21 @@ by_rows key list = bind_same (row_at (beginning key.kind) [] list) _ _ (λ head.
 -- ---- what is read is a private list
 
 list_is : (key : Key) (list comment padding x rest : List ℕ) (values : List (List ℕ)) → Opens key list values rest → Stands Text rest comment padding → ended (same_as key values) comment padding ≡ Ok x → IsPrivateList key list x
-list_is key list comment padding x rest values opens stands e = elim (public_or_not key values) [
+list_is key list comment padding x rest values opens stands e = elim (equal_or_not (public_text key.kind values) key.fields) [
   | inl same ↦
-      let p = padded_ok comment padding x (sym (ended_same key values comment padding same) ∙ e) in
+      let p = passed_ok (starts_with nat_eq all_padding padding) faults.Padding comment x (rw same.0 at e) in
       let is : IsPrivateList key list comment = record {
         values = values;
         rest = rest;
         opens = opens;
         padding = padding;
         ended = stands;
-        same = same;
+        same = same.1;
         unused = drop (length padding) all_padding;
         padded = front_taken all_padding padding p.0;
       } in
       subst (IsPrivateList key list) p.1 is
-  | inr other ↦ absurd (ok_or_err x faults.PublicDiffers (ended (same_as key values) comment padding) e (ended_other key values comment padding other))
+  | inr other ↦ absurd (let h = rw other.0 at e in cc)
 ]
 
 pub list_found : (key : Key) (list comment : List ℕ) → IsBytes list → list_at key list ≡ Ok comment → IsPrivateList key list comment
@@ -112,18 +104,18 @@ pub list_again : (key : Key) (list comment : List ℕ) → IsPrivateList key lis
 list_again key list comment is =
     let o = is.opens in
     let test = front_met all_padding is.padding is.unused is.padded in
-    by_rows key list ∙ rw (row_again (beginning key.kind) [] list o.head o.fields o.begun, row_again (secrets key.kind) [] o.fields is.values is.rest o.read, part_again Text is.rest comment is.padding is.ended, ended_same key is.values comment is.padding is.same, test) refl
+    by_rows key list ∙ rw (row_again (beginning key.kind) [] list o.head o.fields o.begun, row_again (secrets key.kind) [] o.fields is.values is.rest o.read, part_again Text is.rest comment is.padding is.ended, (bytes_eq-Decides (public_text key.kind is.values) key.fields).1 is.same, test) refl
 
 -- ---- what is refused has that fault first
 
 end_refused : (key : Key) (list comment padding rest : List ℕ) (values : List (List ℕ)) (fault : PrivateFault) → Opens key list values rest → Stands Text rest comment padding → ended (same_as key values) comment padding ≡ Err fault → IsListFault key list fault
-end_refused key list comment padding rest values fault opens stands e = elim (public_or_not key values) [
+end_refused key list comment padding rest values fault opens stands e = elim (equal_or_not (public_text key.kind values) key.fields) [
   | inl same ↦
-      let p = padded_err comment padding fault (sym (ended_same key values comment padding same) ∙ e) in
-      other_padding values rest comment padding opens stands same (front_not all_padding padding p.0) p.1
+      let p = failed_err (starts_with nat_eq all_padding padding) comment faults.Padding fault (rw same.0 at e) in
+      other_padding values rest comment padding opens stands same.1 (front_not all_padding padding p.0) p.1
   | inr other ↦
-      let is : faults.PublicDiffers ≡ fault = let h = ended_other key values comment padding other in cc in
-      other_public values rest comment padding opens stands other (sym is)
+      let is : fault ≡ faults.PublicDiffers = let h = rw other.0 at e in cc in
+      other_public values rest comment padding opens stands other.1 is
 ]
 
 pub list_refused : (key : Key) (list : List ℕ) (fault : PrivateFault) → IsBytes list → list_at key list ≡ Err fault → IsListFault key list fault
@@ -155,4 +147,4 @@ list_met key list fault (other_public values rest comment padding o stands other
     by_rows key list ∙ rw (is, row_again (beginning key.kind) [] list o.head o.fields o.begun, row_again (secrets key.kind) [] o.fields values rest o.read, part_again Text rest comment padding stands) (ended_other key values comment padding other)
 list_met key list fault (other_padding values rest comment padding o stands same none is) =
     let test = not_front all_padding padding none in
-    by_rows key list ∙ rw (is, row_again (beginning key.kind) [] list o.head o.fields o.begun, row_again (secrets key.kind) [] o.fields values rest o.read, part_again Text rest comment padding stands, ended_same key values comment padding same, test) refl
+    by_rows key list ∙ rw (is, row_again (beginning key.kind) [] list o.head o.fields o.begun, row_again (secrets key.kind) [] o.fields values rest o.read, part_again Text rest comment padding stands, (bytes_eq-Decides (public_text key.kind values) key.fields).1 same, test) refl

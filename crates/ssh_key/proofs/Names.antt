@@ -17,6 +17,11 @@ find_passes : {X : Type 0} (test : X → Bool) (xs : List X) (x : X) → find te
 find_passes test [] x e = absurd cc
 find_passes test (y ∷ ys) x e = chosen_passes test y x (find test ys) (test y) refl (find_passes test ys x) e
 
+-- a value that cannot be there is not
+pub some_or_none : {A : Type 0} (o : Option A) → ((x : A) → o ≢ Some x) → o ≡ None
+some_or_none None never = refl
+some_or_none (Some x) never = absurd (never x refl)
+
 pub kind_named-name : (name : List ℕ) (kind : Kind) → kind_named name ≡ Some kind → type_name kind ≡ name
 unfolding kind_named
 kind_named-name name kind e = (bytes_eq-Decides (type_name kind) name).0 (find_passes (λ k. bytes_eq (type_name k) name) kinds kind e)
@@ -55,7 +60,7 @@ certificate_name-injective a b e =
     let both : Some a ≡ Some b = sym (certified-certificate_name a) ∙ ap kind_certified e ∙ certified-certificate_name b in
     cc
 
-plain_not_certified : (kind : Kind) → kind_certified (type_name kind) ≡ None
+pub plain_not_certified : (kind : Kind) → kind_certified (type_name kind) ≡ None
 unfolding kind_certified
 plain_not_certified Rsa = refl
 plain_not_certified kind = refl
@@ -69,17 +74,9 @@ names_apart a b e =
 -- what `of_cert_name` ensures determines its answer
 pub certified_is : (r : Option Kind) (name : List ℕ) → IfSome r (λ kind. certificate_name kind ≡ name) → ((kind : Kind) → certificate_name kind ≡ name → r ≡ Some kind) → kind_certified name ≡ r
 certified_is (Some kind) name found only = ap kind_certified (sym found) ∙ certified-certificate_name kind
-certified_is None name found only = none (kind_certified name) refl
-  where
-    none : (k : Option Kind) → kind_certified name ≡ k → k ≡ None
-    none None e = refl
-    none (Some kind) e = let absent : None ≡ Some kind = only kind (certified-name name kind e) in absurd cc
+certified_is None name found only = some_or_none (kind_certified name) (λ kind e. let absent : None ≡ Some kind = only kind (certified-name name kind e) in cc)
 
 -- what `of_name` ensures determines its answer
 pub named_is : (r : Option Kind) (name : List ℕ) → IfSome r (λ kind. type_name kind ≡ name) → ((kind : Kind) → type_name kind ≡ name → r ≡ Some kind) → kind_named name ≡ r
 named_is (Some kind) name found only = ap kind_named (sym found) ∙ kind_named-type_name kind
-named_is None name found only = none (kind_named name) refl
-  where
-    none : (k : Option Kind) → kind_named name ≡ k → k ≡ None
-    none None e = refl
-    none (Some kind) e = let absent : None ≡ Some kind = only kind (kind_named-name name kind e) in absurd cc
+named_is None name found only = some_or_none (kind_named name) (λ kind e. let absent : None ≡ Some kind = only kind (kind_named-name name kind e) in cc)

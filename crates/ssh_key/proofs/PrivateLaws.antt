@@ -4,7 +4,7 @@ use Rattle.std.specs.Prelude.{IfErr, IfOk}
 use Rattle.std.specs.List.{starts_with}
 use Rattle.std.proofs.lemmas.Bool.{cases_Bool}
 use Rattle.std.proofs.lemmas.List.{drop_at}
-use Rattle.base64.proofs.EngineFacts.{decode_of-encode_of, decode_of_strict}
+use Rattle.base64.proofs.EngineFacts.{decode_of-encode_of}
 use Rattle.base64.specs.Engines.{standard}
 use Rattle.base64.specs.GeneralPurpose.{decode_of}
 use Rattle.ssh_wire.specs.Wire.{IsBytes}
@@ -18,10 +18,10 @@ use Rattle.ssh_key.specs.declared.container.Private.{Private}
 use Rattle.ssh_key.specs.declared.private_fault.PrivateFault.{PrivateFault}
 use Rattle.ssh_key.specs.declared.private_fault.PrivateFault.TheVariants as faults
 use Rattle.ssh_key.proofs.ArmourLaws.{armour_again, armour_bytes, armour_found}
-use Rattle.ssh_key.proofs.DecodedBytes.{IsBytes-decoded}
+use Rattle.ssh_key.proofs.LineBase64.{base64_takes}
 use Rattle.ssh_key.proofs.ContainerLaws.{Inside, IsInsideFault, fails, goes_on, inside_again, inside_found, inside_met, inside_refused, refused}
 use Rattle.ssh_key.proofs.ListLaws.{front_met, front_not, front_taken}
-use Rattle.ssh_wire.specs.Steps.{bind_err, bind_ok, err_is, in_fault_err, in_fault_ok, ok_or_err}
+use Rattle.ssh_wire.specs.Steps.{bind_err, bind_ok, err_is, in_fault_err, ok_or_err}
 
 -- ---- the name of the format
 
@@ -29,14 +29,11 @@ length-magic : length magic ≡ 15
 unfolding magic
 length-magic = refl
 
-after_magic : (bytes inside : List ℕ) → bytes ≡ magic ++ inside → drop 15 bytes ≡ inside
-after_magic bytes inside e = ap (drop 15) e ∙ drop_at magic inside 15 length-magic
-
 bytes_read : (inside : List ℕ) → bytes_at (magic ++ inside) ≡ inside_at inside
 unfolding bytes_at
 bytes_read inside =
     let met = front_met (magic ++ inside) magic inside refl in
-    rw (met, after_magic (magic ++ inside) inside refl) refl
+    rw (met, drop_at magic inside 15 length-magic) refl
 
 bytes_cases : (bytes : List ℕ) → ((bytes_at bytes ≡ Err faults.Magic) × ((rest : List ℕ) → bytes ≢ magic ++ rest)) ⊎ ((inside : List ℕ) × (bytes ≡ magic ++ inside))
 unfolding bytes_at
@@ -71,16 +68,10 @@ some_body_err None d e = (refl, cc)
 some_body_err (Some body) d e = absurd cc
 
 decoded_holds : (text body bytes : List ℕ) → IsBytes text → armour_at text ≡ Some body → decoded_at body ≡ Ok bytes → Holds text bytes
-unfolding decoded_at base64
+unfolding decoded_at
 decoded_holds text body bytes fits armour e =
-    let body_fits = armour_bytes text body fits armour in
-    let read = in_fault_ok (λ error. faults.Base64) (decode_of standard body) bytes e in
-    record {
-      body = body;
-      armour = armour_found text body armour;
-      encoded = decode_of_strict standard body bytes (refl, refl) body_fits read;
-      are_bytes = IsBytes-decoded body bytes body_fits read;
-    }
+    let taken = base64_takes (λ error. faults.Base64) body bytes (armour_bytes text body fits armour) e in
+    record { body = body; armour = armour_found text body armour; encoded = taken.0; are_bytes = taken.1 }
 
 container_of : (text inside blob comment : List ℕ) → Holds text (magic ++ inside) → Inside inside blob comment → IsContainer text blob comment
 container_of text inside blob comment holds is = record { inside = inside; holds = holds; list = is.list; parts = is.parts; key = is.key; is_key = is.is_key; secret = is.secret }
@@ -156,16 +147,10 @@ no_armour_met text None e none = rw e refl
 no_armour_met text (Some body) e none = absurd (none body (armour_found text body e))
 
 no_base64_met : (text body : List ℕ) (read : Result (List ℕ) PrivateFault) → IsBytes text → IsArmour text body → decoded_at body ≡ read → ((bytes : List ℕ) → IsBytes bytes → base64 bytes ≢ body) → private_at text ≡ Err faults.Base64
-unfolding private_at body_at
+unfolding private_at body_at decoded_at
 no_base64_met text body (Ok bytes) fits armour e none =
-    let holds = decoded_holds text body bytes fits (armour_again text body armour) e in
-    absurd (none bytes holds.are_bytes (sym (held_body text body bytes holds (armour_again text body armour))))
-  where
-    held_body : (text body bytes : List ℕ) (holds : Holds text bytes) → armour_at text ≡ Some body → body ≡ base64 bytes
-    held_body text body bytes holds armour =
-        let other = armour_again text holds.body holds.armour in
-        let same : holds.body ≡ body = cc in
-        sym same ∙ holds.encoded
+    let taken = base64_takes (λ error. faults.Base64) body bytes (armour_bytes text body fits (armour_again text body armour)) e in
+    absurd (none bytes taken.1 (sym taken.0))
 no_base64_met text body (Err fault) fits armour e none =
     let is = decoded_err body fault e in
     let some = armour_again text body armour in

@@ -149,17 +149,13 @@ words_read text word encoded comment (inl k) = plain_again (trimmed text) word e
 words_read text word encoded comment (inr o) = options_line_again (trimmed text) word encoded comment o
 
 -- and where it has none, there is no key
-by_rest : (text part : List ℕ) → key_part (trimmed text) ≡ Some part → (line_at text ≡ Err NoKey) ⊎ HasSomeWords text
-unfolding line_at
-by_rest text part found = elim (cases_lt 0 (length (rest_of part))) [
-  | inl some ↦ inr (record { word = first_word part; encoded = first_word (rest_of part); comment = after_blanks (after_word (rest_of part)); words = part_words (trimmed text) part found some })
-  | inr none ↦ inl (ap content_at found ∙ blob_at-none (first_word part) (rest_of part) (nil_from_length (rest_of part) (omega (arith, none))))
-]
-
 by_part : (text : List ℕ) (read : Option (List ℕ)) → key_part (trimmed text) ≡ read → (line_at text ≡ Err NoKey) ⊎ HasSomeWords text
 unfolding line_at
 by_part text None found = inl (ap content_at found)
-by_part text (Some part) found = by_rest text part found
+by_part text (Some part) found = elim (cases_lt 0 (length (rest_of part))) [
+  | inl some ↦ inr (record { word = first_word part; encoded = first_word (rest_of part); comment = after_blanks (after_word (rest_of part)); words = part_words (trimmed text) part found some })
+  | inr none ↦ inl (ap content_at found ∙ blob_at-none (first_word part) (rest_of part) (nil_from_length (rest_of part) (omega (arith, none))))
+]
 
 pub none_or_words : (text : List ℕ) → (line_at text ≡ Err NoKey) ⊎ HasSomeWords text
 none_or_words text = by_part text (key_part (trimmed text)) refl
