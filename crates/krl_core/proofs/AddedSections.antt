@@ -1,5 +1,5 @@
 -- Additions keep the order of what is held, and mean one entry more.
-use Rattle.std.proofs.Common.{◌≡◌, ℕ, ◌+◌, ◌<◌, ◌≤◌, ◌⊎◌, List, [], ◌∷◌, ◌++◌, ◌↔◌, Bor, length, refl, sym, ap, subst, inl, inr, arith}
+use Rattle.std.proofs.Common.{◌≡◌, ℕ, ◌+◌, ◌<◌, ◌≤◌, ◌⊎◌, List, [], ◌∷◌, ◌++◌, ◌↔◌, length, refl, sym, ap, subst, inl, inr, arith}
 use Rattle.std.specs.List.{Contains, All}
 use Rattle.std.proofs.lemmas.List.Elements.{All-cons, All-head, All-tail}
 use Rattle.std.proofs.lemmas.List.Sums.{sum_by-cons, sum_by-append}
@@ -7,7 +7,6 @@ use Rattle.serial_set.specs.declared.span.Span.{Span}
 use Rattle.serial_set.specs.BitRuns.{IsInterval}
 use Rattle.serial_set.specs.Span.{Covers, IsRuns, AreSerials}
 use Rattle.krl_core.specs.declared.addition.Addition.{Addition}
-use Rattle.krl_core.specs.declared.addition.Addition.TheVariants.{Serials}
 use Rattle.krl_core.specs.Rising.{RisesBy, Rises}
 use Rattle.krl_core.specs.Changes.{Takes, TakesSerials, TakesId, AddsTo, Puts, empty_section}
 use Rattle.krl_core.specs.Contents.{Section, IsListed, size_of}
@@ -49,9 +48,6 @@ pub record InOrder (section : Section) : Type 0 where
   pub serials : AreSerials section.spans
   pub ids_rise : Rises section.ids
 
-empty_in_order : (authority : List ℕ) → InOrder (empty_section authority)
-empty_in_order authority = record { runs = tt; serials = λ s n. absurd n; ids_rise = tt }
-
 has_span : (spans : List Span) (s : ℕ) → Covers spans s → 0 < length spans
 has_span [] s n = absurd n
 has_span (x ∷ xs) s n = omega arith
@@ -65,7 +61,7 @@ some_covered : (spans : List Span) → 0 < length spans → All IsInterval spans
 some_covered [] some intervals = absurd (omega arith)
 some_covered (x ∷ xs) some intervals = (x.lo, inl (omega arith, (All-head IsInterval x xs intervals).1))
 
-takes_serials_listed : (more : List Span) (from to : Section) → 0 < length more → All IsInterval more → InOrder from → TakesSerials more from to → IsListed to
+pub takes_serials_listed : (more : List Span) (from to : Section) → 0 < length more → All IsInterval more → InOrder from → TakesSerials more from to → IsListed to
 takes_serials_listed more from to some intervals o t =
     let ids : to.ids ≡ from.ids = ap (λ (s : Section). s.ids) t.same in
     let one = some_covered more some intervals in
@@ -95,22 +91,16 @@ all_middle P (y ∷ front) x back =
       λ h. All-cons P y (front ++ x ∷ back) (All-head P y (front ++ back) h.1) (rest.1 (h.0, All-tail P y (front ++ back) h.1)),
     )
 
-in_order : (section : Section) → IsListed section → InOrder section
-in_order section l = record { runs = l.runs; serials = l.serials; ids_rise = l.ids_rise }
-
 pub adds_listed : (addition : Addition) (authority : List ℕ) (old new : List Section) → ((from to : Section) → InOrder from → Takes addition from to → IsListed to) → AddsTo addition authority old new → All IsListed old → All IsListed new
 adds_listed addition authority old new lists adds a =
     elim adds [
       | inl c ↦
           let was = (all_middle IsListed c.front c.from c.back).0 (subst (All IsListed) c.before a) in
-          subst (All IsListed) (sym c.after) ((all_middle IsListed c.front c.to c.back).1 (lists c.from c.to (in_order c.from was.0) c.changed, was.1))
+          subst (All IsListed) (sym c.after) ((all_middle IsListed c.front c.to c.back).1 (lists c.from c.to (record { runs = was.0.runs; serials = was.0.serials; ids_rise = was.0.ids_rise }) c.changed, was.1))
       | inr n ↦
-          subst (All IsListed) (sym n.put.after) ((all_middle IsListed n.put.front n.section n.put.back).1 (lists (empty_section authority) n.section (empty_in_order authority) n.takes, subst (All IsListed) n.put.before a))
+          let none : InOrder (empty_section authority) = record { runs = tt; serials = λ s n. absurd n; ids_rise = tt } in
+          subst (All IsListed) (sym n.put.after) ((all_middle IsListed n.put.front n.section n.put.back).1 (lists (empty_section authority) n.section none n.takes, subst (All IsListed) n.put.before a))
     ]
-
-pub serials_listed : (near : Bor (List Span)) (authority : List ℕ) (old new : List Section) → 0 < length near.now → All IsInterval near.now → AddsTo (Serials near) authority old new → All IsListed old → All IsListed new
-serials_listed near authority old new some intervals adds a =
-    adds_listed (Serials near) authority old new (λ from to o t. takes_serials_listed near.now from to some intervals o t) adds a
 
 pub adds_rise : (addition : Addition) (authority : List ℕ) (old new : List Section) → AddsTo addition authority old new → RisesBy (λ section. section.authority) old → RisesBy (λ section. section.authority) new
 adds_rise addition authority old new adds r =

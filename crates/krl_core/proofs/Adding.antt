@@ -10,7 +10,7 @@ use Rattle.krl_core.specs.Changes.{AddsTo, run_entries}
 use Rattle.krl_core.specs.Contents.{HoldsName, Section, SomeSection, contents_of, IsListed, IsOrderly, Means}
 use Rattle.krl_core.specs.Entry.{Entry, IdEntry}
 use Rattle.krl_core.specs.Naming.{EntryNames, IdOf, Name, SerialOf, SomeNames}
-use Rattle.krl_core.proofs.AddedSections.{adds_rise, adds_listed, serials_listed, takes_id_listed}
+use Rattle.krl_core.proofs.AddedSections.{adds_rise, adds_listed, takes_serials_listed, takes_id_listed}
 use Rattle.krl_core.proofs.SomeSections.{HeldIn, some_adds}
 use Rattle.krl_core.proofs.Entries.{serials_step, id_step, runs_name_none}
 use Rattle.krl_core.proofs.BothWays.{iff_none}
@@ -32,7 +32,8 @@ orderly_with old new keys sha1s sha256s rise listed o =
 
 pub serials_orderly : (near : Bor (List Span)) (b : List ℕ) (old new : List Section) (keys sha1s sha256s : List (List ℕ)) → 0 < length near.now → All IsInterval near.now → AddsTo (Serials near) b old new → IsOrderly (contents_of old keys sha1s sha256s) → IsOrderly (contents_of new keys sha1s sha256s)
 serials_orderly near b old new keys sha1s sha256s some intervals adds o =
-    orderly_with old new keys sha1s sha256s (adds_rise (Serials near) b old new adds o.authorities_rise) (serials_listed near b old new some intervals adds o.listed) o
+    orderly_with old new keys sha1s sha256s (adds_rise (Serials near) b old new adds o.authorities_rise)
+    (adds_listed (Serials near) b old new (λ from to i t. takes_serials_listed near.now from to some intervals i t) adds o.listed) o
 
 pub id_orderly : (id : Bor (List ℕ)) (b : List ℕ) (old new : List Section) (keys sha1s sha256s : List (List ℕ)) → AddsTo (Id id) b old new → IsOrderly (contents_of old keys sha1s sha256s) → IsOrderly (contents_of new keys sha1s sha256s)
 id_orderly id b old new keys sha1s sha256s adds o =

@@ -1,58 +1,38 @@
 -- How much more an addition holds and stores.
-use Rattle.std.proofs.Common.{◌≡◌, ℕ, ◌+◌, ◌≤◌, List, [], ◌∷◌, ◌++◌, Bor, length, map, refl, sym, ap, subst, ◌∙◌, inl, inr, arith}
+use Rattle.std.proofs.Common.{◌≡◌, ℕ, ◌+◌, ◌≤◌, List, [], ◌∷◌, ◌++◌, Bor, length, map, sym, ap, subst, ◌∙◌, inl, inr, arith}
 use Rattle.std.specs.Prelude.{sum_by}
 use Rattle.std.specs.List.{Contains}
+use Rattle.std.proofs.Math.Logic.{⊎_map}
 use Rattle.serial_set.specs.declared.span.Span.{Span}
 use Rattle.krl_core.specs.declared.addition.Addition.{Addition}
 use Rattle.krl_core.specs.declared.addition.Addition.TheVariants.{Serials, Id}
 use Rattle.krl_core.specs.Changes.{Takes, AddsTo, empty_section}
-use Rattle.krl_core.specs.Contents.{Section, contents_of, SomeSection, IsNamed, held, stored, section_size}
+use Rattle.krl_core.specs.Contents.{Section, SomeSection, section_size}
 use Rattle.krl_core.proofs.Members.{absent_parts}
 use Rattle.krl_core.proofs.Shelving.{takes_authority}
 use Rattle.krl_core.proofs.AddedSections.{put_size}
-use Rattle.krl_core.proofs.SomeSections.{some_middle, sum_adds, sum_middle}
+use Rattle.krl_core.proofs.SomeSections.{some_middle, sum_middle}
 use Rattle.krl_core.specs.Elements.{contains_here, contains_later}
 
 -- a change of each section that keeps a number keeps the sum
-sum_stays : (addition : Addition) (b : List ℕ) (old new : List Section) (f : Section → ℕ) → ((from to : Section) → Takes addition from to → f to ≡ f from) → f (empty_section b) ≡ 0 → AddsTo addition b old new → sum_by f new ≡ sum_by f old
+pub sum_stays : (addition : Addition) (b : List ℕ) (old new : List Section) (f : Section → ℕ) → ((from to : Section) → Takes addition from to → f to ≡ f from) → f (empty_section b) ≡ 0 → AddsTo addition b old new → sum_by f new ≡ sum_by f old
 sum_stays addition b old new f step none adds =
     elim adds [
       | inl c ↦ omega (arith, ap (sum_by f) c.before, ap (sum_by f) c.after, sum_middle f c.front c.from c.back, sum_middle f c.front c.to c.back, step c.from c.to c.changed)
       | inr n ↦ omega (arith, ap (sum_by f) n.put.before, ap (sum_by f) n.put.after, sum_middle f n.put.front n.section n.put.back, step (empty_section b) n.section n.takes)
     ]
 
-serials_size : (near : Bor (List Span)) (from to : Section) → Takes (Serials near) from to → section_size to ≤ section_size from + 0
+pub serials_size : (near : Bor (List Span)) (from to : Section) → Takes (Serials near) from to → section_size to ≤ section_size from + 0
 serials_size near from to t =
     let same : section_size to ≡ section_size from = ap section_size t.same in omega arith
 
-id_size : (id : Bor (List ℕ)) (from to : Section) → Takes (Id id) from to → section_size to ≤ section_size from + length id.now
+pub id_size : (id : Bor (List ℕ)) (from to : Section) → Takes (Id id) from to → section_size to ≤ section_size from + length id.now
 id_size id from to t =
     let same : length to.authority ≡ length from.authority = ap (λ (x : Section). length x.authority) t.same in
     omega (arith, put_size from.ids id.now to.ids t.put)
 
--- ---- held
-
-pub serials_held : (near : Bor (List Span)) (b : List ℕ) (old new : List Section) (keys sha1s sha256s : List (List ℕ)) → AddsTo (Serials near) b old new → held (contents_of new keys sha1s sha256s) ≤ held (contents_of old keys sha1s sha256s) + length near.now
-serials_held near b old new keys sha1s sha256s adds =
-    omega (arith, sum_adds (Serials near) b old new (λ section. length section.spans) (length near.now) (λ from to t. t.as_many_more) adds)
-
-pub id_held : (id : Bor (List ℕ)) (b : List ℕ) (old new : List Section) (keys sha1s sha256s : List (List ℕ)) → AddsTo (Id id) b old new → held (contents_of new keys sha1s sha256s) ≡ held (contents_of old keys sha1s sha256s)
-id_held id b old new keys sha1s sha256s adds =
-    sum_stays (Id id) b old new (λ section. length section.spans) (λ from to t. ap (λ (x : Section). length x.spans) t.same) refl adds
-
--- ---- stored
-
-pub serials_stored : (near : Bor (List Span)) (b : List ℕ) (old new : List Section) (keys sha1s sha256s : List (List ℕ)) → AddsTo (Serials near) b old new → stored (contents_of new keys sha1s sha256s) ≤ stored (contents_of old keys sha1s sha256s) + length b
-serials_stored near b old new keys sha1s sha256s adds =
-    let more = sum_adds (Serials near) b old new section_size 0 (serials_size near) adds in
-    let fresh : section_size (empty_section b) ≡ length b = omega arith in
-    omega arith
-
-pub id_stored : (id : Bor (List ℕ)) (b : List ℕ) (old new : List Section) (keys sha1s sha256s : List (List ℕ)) → AddsTo (Id id) b old new → stored (contents_of new keys sha1s sha256s) ≤ stored (contents_of old keys sha1s sha256s) + length b + length id.now
-id_stored id b old new keys sha1s sha256s adds =
-    let more = sum_adds (Id id) b old new section_size (length id.now) (id_size id) adds in
-    let fresh : section_size (empty_section b) ≡ length b = omega arith in
-    omega arith
+pub empty_size : (b : List ℕ) → section_size (empty_section b) ≡ length b
+empty_size b = omega arith
 
 -- ---- an authority that is named
 
@@ -64,7 +44,7 @@ some_contains b (x ∷ xs) h =
       | inr later ↦ contains_later x.authority b (map (λ section. section.authority) xs) (some_contains b xs later)
     ]
 
-sum_named : (addition : Addition) (b : List ℕ) (old new : List Section) (f : Section → ℕ) (more : ℕ) → ((from to : Section) → Takes addition from to → f to ≤ f from + more) → SomeSection (λ section. section.authority ≡ b) old → AddsTo addition b old new → sum_by f new ≤ sum_by f old + more
+pub sum_named : (addition : Addition) (b : List ℕ) (old new : List Section) (f : Section → ℕ) (more : ℕ) → ((from to : Section) → Takes addition from to → f to ≤ f from + more) → SomeSection (λ section. section.authority ≡ b) old → AddsTo addition b old new → sum_by f new ≤ sum_by f old + more
 sum_named addition b old new f more step named adds =
     elim adds [
       | inl c ↦ omega (arith, ap (sum_by f) c.before, ap (sum_by f) c.after, sum_middle f c.front c.from c.back, sum_middle f c.front c.to c.back, step c.from c.to c.changed)
@@ -74,16 +54,6 @@ sum_named addition b old new f more step named adds =
           absurd (absent_parts key n.section.authority n.put.front n.put.back n.put.below n.put.above
           (subst (λ a. Contains (map key (n.put.front ++ n.put.back)) a) (sym at) (subst (λ l. Contains (map key l) b) n.put.before (some_contains b old named))))
     ]
-
-pub serials_known : (near : Bor (List Span)) (b : List ℕ) (old new : List Section) (keys sha1s sha256s : List (List ℕ)) → AddsTo (Serials near) b old new → IsNamed (contents_of old keys sha1s sha256s) b → stored (contents_of new keys sha1s sha256s) ≤ stored (contents_of old keys sha1s sha256s)
-serials_known near b old new keys sha1s sha256s adds named =
-    let more = sum_named (Serials near) b old new section_size 0 (serials_size near) named adds in
-    omega arith
-
-pub id_known : (id : Bor (List ℕ)) (b : List ℕ) (old new : List Section) (keys sha1s sha256s : List (List ℕ)) → AddsTo (Id id) b old new → IsNamed (contents_of old keys sha1s sha256s) b → stored (contents_of new keys sha1s sha256s) ≤ stored (contents_of old keys sha1s sha256s) + length id.now
-id_known id b old new keys sha1s sha256s adds named =
-    let more = sum_named (Id id) b old new section_size (length id.now) (id_size id) named adds in
-    omega arith
 
 pub adds_named : (addition : Addition) (b : List ℕ) (old new : List Section) → AddsTo addition b old new → SomeSection (λ section. section.authority ≡ b) new
 adds_named addition b old new adds =
@@ -98,9 +68,7 @@ pub adds_stays : (addition : Addition) (b a : List ℕ) (old new : List Section)
 adds_stays addition b a old new adds named =
     let P : Section → Type 0 = λ section. section.authority ≡ a in
     elim adds [
-      | inl c ↦ subst (SomeSection P) (sym c.after) ((some_middle P c.front c.to c.back).1 (elim ((some_middle P c.front c.from c.back).0 (subst (SomeSection P) c.before named)) [
-        | inl here ↦ inl (takes_authority addition c.from c.to c.changed ∙ here)
-        | inr other ↦ inr other
-      ]))
+      | inl c ↦ subst (SomeSection P) (sym c.after) ((some_middle P c.front c.to c.back).1 (⊎_map (λ here. takes_authority addition c.from c.to c.changed ∙ here) (λ other. other)
+          ((some_middle P c.front c.from c.back).0 (subst (SomeSection P) c.before named))))
       | inr n ↦ subst (SomeSection P) (sym n.put.after) ((some_middle P n.put.front n.section n.put.back).1 (inr (subst (SomeSection P) n.put.before named)))
     ]

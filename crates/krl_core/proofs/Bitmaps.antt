@@ -11,7 +11,7 @@ use Rattle.ssh_wire.specs.Wire.{number_of}
 use Rattle.ssh_wire.specs.Digits.{bytes_as_bits}
 use Rattle.krl_core.specs.Entry.{BitmapEntry}
 use Rattle.krl_core.specs.Naming.{NamesSame}
-use Rattle.krl_core.proofs.Same.{same_serials}
+use Rattle.krl_core.proofs.Same.{same_nothing, same_serials}
 
 -- the number of a bitmap that is fed byte by byte is the wire's
 pub bitmap_number : (bytes : List ℕ) → big_endian bytes ≡ number_of bytes
@@ -49,10 +49,7 @@ bit_of-byte b bits k low bit =
 -- a bitmap without bytes names none
 pub same_no_bits : (a : List ℕ) (offset : ℕ) → NamesSame [] (BitmapEntry a offset (number_of []) ∷ [])
 unfolding number_of
-same_no_bits a offset = same_serials [] (BitmapEntry a offset 0 ∷ []) tt (tt, tt) (λ c s. (
-  λ h. absurd h,
-  λ h. elim h [ inl k ↦ let z = bit_at-zero (s - offset) in absurd (omega (arith, z, k.1.2)) | inr none ↦ absurd none ],
-))
+same_no_bits a offset = same_nothing (BitmapEntry a offset 0) tt (λ c s k. let z = bit_at-zero (s - offset) in omega (arith, z, k.1.2))
 
 pub same_bits : (a : List ℕ) (offset b : ℕ) (bits : List ℕ) → b < 256 → number_of bits < 2 ^ (8 * length bits)
     → NamesSame (BitmapEntry a (offset + 8 * length bits) b ∷ BitmapEntry a offset (number_of bits) ∷ []) (BitmapEntry a offset (number_of (b ∷ bits)) ∷ [])
@@ -66,17 +63,12 @@ same_bits a offset b bits byte low =
             let at : s - offset - n ≡ s - (offset + n) = omega arith in
             inl (k.0, (k.1.0, omega (arith, k.1.1), whole (s - offset) 1 (bit_at_cat_high b n (number_of bits) (s - offset) low le ∙ ap (bit_at b) at ∙ k.1.2)))
         | inr r ↦ elim r [
-          | inl k ↦ inl (
-            k.0,
-            (
-              k.1.0,
-              k.1.1,
-              elim (cases_lt (s - offset) n) [
+          | inl k ↦
+              let bit : bit_at (number_of (b ∷ bits)) (s - offset) ≡ 1 = elim (cases_lt (s - offset) n) [
                 | inl lt ↦ whole (s - offset) 1 (bit_at_cat_low b n (number_of bits) (s - offset) lt ∙ k.1.2)
                 | inr le ↦ let z = bit_at_above (number_of bits) n (s - offset) low le in absurd (omega (arith, z, k.1.2))
-              ],
-            ),
-          )
+              ] in
+              inl (k.0, (k.1.0, k.1.1, bit))
           | inr none ↦ absurd none
         ]
       ],

@@ -1,8 +1,8 @@
 -- What a byte of a bitmap adds.
-use Rattle.std.proofs.Common.{◌≡◌, ℕ, ◌+◌, ◌-◌, ◌*◌, ◌^◌, ◌<◌, ◌≤◌, ◌⊎◌, ◌↔◌, Bool, true, false, not, cond, eqb, ltb, leb, leb-false, eq-eqb, zero, suc, Option, None, List, [], ◌∷◌, ◌++◌, length, reverse, Ok, Err, refl, sym, ap, subst, ◌∙◌, append_assoc, arith, inl, inr}
+use Rattle.std.proofs.Common.{◌≡◌, ℕ, ◌+◌, ◌-◌, ◌*◌, ◌^◌, ◌<◌, ◌≤◌, ◌↔◌, Bool, true, false, not, cond, eqb, ltb, leb, leb-false, eq-eqb, zero, suc, Option, None, List, [], ◌∷◌, ◌++◌, length, reverse, Ok, Err, refl, sym, ap, subst, ◌∙◌, append_assoc, arith, inl, inr}
 use Rattle.std.specs.Option.{option_to_list}
 use Rattle.std.specs.Int.{bit_at}
-use Rattle.std.proofs.lemmas.Bool.{cases_lt, eqb-true, ne_eqb, ltb-true, lt-ltb, le-ltb}
+use Rattle.std.proofs.lemmas.Bool.{cases_lt, cases_Bool, eqb-true, ne_eqb, ltb-true, lt-ltb, le-ltb}
 use Rattle.std.proofs.lemmas.List.{append-nil, length-append, length-reverse, reverse-append}
 use Rattle.std.proofs.lemmas.Nat.Bits.{bit_at-zero}
 use Rattle.serial_set.specs.declared.span.Span.{Span}
@@ -38,7 +38,7 @@ names_reverse (x ∷ xs) s =
     (Iff.trans (covers_append (reverse xs) (x ∷ []) s) (Iff.trans iff_swap (iff_or (Iff.symm (iff_none (λ no. no))) (names_reverse xs s))))
 
 -- the entries of runs name the numbers in them
-run_entries-name : (a : List ℕ) (runs : List Span) (b : List ℕ) (s : ℕ)
+pub run_entries-name : (a : List ℕ) (runs : List Span) (b : List ℕ) (s : ℕ)
     → SomeNames (run_entries a runs) (SerialOf b s) ↔ (((a ≡ b) × (0 < s)) × Covers runs s)
 run_entries-name a [] b s = (λ h. absurd h, λ h. absurd h.1)
 run_entries-name a (run ∷ runs) b s =
@@ -154,51 +154,37 @@ fed_few old mid new byte finished fed rest more stored =
 
 -- ---- a byte that passes its judgement shows no fault
 
--- a number that is not 0 is no less than its highest bit, and a byte is below twice that
+-- a number that is not 0 is no less than this bit, and a byte is below twice that
+abbrev IsAround : (byte bit : ℕ) → Type 0
+IsAround byte bit = (0 < byte → 2 ^ bit ≤ byte) × (byte < 256 → byte < 2 ^ (bit + 1))
+
+around_next : (byte bound bit rest : ℕ) → (byte < bound → IsAround byte bit) → (bound ≤ byte → IsAround byte rest) → IsAround byte (cond (ltb byte bound) bit rest)
+around_next byte bound bit rest low high = elim (cases_lt byte bound) [ inl lt ↦ rw (lt-ltb byte bound lt) (low lt) | inr le ↦ rw (le-ltb byte bound le) (high le) ]
+
+-- every byte stands so around its highest bit
 pub highest_around : (byte : ℕ) → (0 < byte → 2 ^ highest_bit byte ≤ byte) × (byte < 256 → byte < 2 ^ (highest_bit byte + 1))
 highest_around byte =
-    elim (cases_lt byte 2) [
-      | inl a ↦ rw (lt-ltb byte 2 a) (λ some. omega arith, λ small. omega arith)
-      | inr a' ↦ rw (le-ltb byte 2 a') (elim (cases_lt byte 4) [
-        | inl a ↦ rw (lt-ltb byte 4 a) (λ some. omega arith, λ small. omega arith)
-        | inr b' ↦ rw (le-ltb byte 4 b') (elim (cases_lt byte 8) [
-          | inl a ↦ rw (lt-ltb byte 8 a) (λ some. omega arith, λ small. omega arith)
-          | inr c' ↦ rw (le-ltb byte 8 c') (elim (cases_lt byte 16) [
-            | inl a ↦ rw (lt-ltb byte 16 a) (λ some. omega arith, λ small. omega arith)
-            | inr d' ↦ rw (le-ltb byte 16 d') (elim (cases_lt byte 32) [
-              | inl a ↦ rw (lt-ltb byte 32 a) (λ some. omega arith, λ small. omega arith)
-              | inr e' ↦ rw (le-ltb byte 32 e') (elim (cases_lt byte 64) [
-                | inl a ↦ rw (lt-ltb byte 64 a) (λ some. omega arith, λ small. omega arith)
-                | inr f' ↦ rw (le-ltb byte 64 f') (elim (cases_lt byte 128) [
-                  | inl a ↦ rw (lt-ltb byte 128 a) (λ some. omega arith, λ small. omega arith)
-                  | inr g' ↦ rw (le-ltb byte 128 g') (λ some. omega arith, λ small. omega arith)
-                ])
-              ])
-            ])
-          ])
-        ])
-      ])
-    ]
+    around_next byte 2 0 _ (λ b. (λ some. omega arith, λ small. omega arith)) (λ a1.
+    around_next byte 4 1 _ (λ b. (λ some. omega arith, λ small. omega arith)) (λ a2.
+    around_next byte 8 2 _ (λ b. (λ some. omega arith, λ small. omega arith)) (λ a3.
+    around_next byte 16 3 _ (λ b. (λ some. omega arith, λ small. omega arith)) (λ a4.
+    around_next byte 32 4 _ (λ b. (λ some. omega arith, λ small. omega arith)) (λ a5.
+    around_next byte 64 5 _ (λ b. (λ some. omega arith, λ small. omega arith)) (λ a6.
+    around_next byte 128 6 7 (λ b. (λ some. omega arith, λ small. omega arith)) (λ a7. (λ some. omega arith, λ small. omega arith))))))))
 
 pub not_past_at : (base byte : ℕ) → byte < 256 → passes_end base byte ≡ false → (k : ℕ) → bit_at byte k ≡ 1 → base + k < 2 ^ 64
 not_past_at base byte h passes k bit =
-    elim (either_false (eqb byte 0) (leb 18446744073709551616 (base + highest_bit byte)) passes) [
+    elim (cases_Bool (eqb byte 0)) [
       | inl none ↦
           let z = bit_at-zero k in
           let o : bit_at 0 k ≡ 1 = subst (λ (n : ℕ). bit_at n k ≡ 1) (eqb-true byte 0 none) bit in
           absurd (omega (arith, z, o))
-      | inr low ↦
+      | inr some ↦
+          let low : leb 18446744073709551616 (base + highest_bit byte) ≡ false = rw some at passes in
           let top = bit_below byte (highest_bit byte + 1) k ((highest_around byte).1 h) bit in
           let lt : base + highest_bit byte < 18446744073709551616 = leb-false 18446744073709551616 (base + highest_bit byte) low in
           omega (arith, top, lt)
     ]
-  where
-    either_false : (b c : Bool) → cond b false c ≡ false → (b ≡ true) ⊎ (c ≡ false)
-    either_false true c e = inl refl
-    either_false false c e = inr e
-
-not_past : (base byte : ℕ) → byte < 256 → passes_end base byte ≡ false → (s : ℕ) → BitNames base byte s → s < 2 ^ 64
-not_past base byte h passes s bit = omega (arith, not_past_at base byte h passes (s - base) bit.2, bit.1)
 
 pub judged_parts : (first sign_free past : Bool) (next place : Place)
     → cond first (cond sign_free (judge (not past) faults.BitmapWraps place) (Err faults.BitmapNegative)) (judge (not past) faults.BitmapWraps place) ≡ Ok next
@@ -219,7 +205,10 @@ good_bits p offset size left after byte next h is judged fault bad =
     let len : p.len ≡ size = ap (λ x. x.len) is in
     let at : p.offset ≡ offset = ap (λ x. x.offset) is in
     shown fault (rw none at bad) (λ n. ltb-true byte 128 (parts.0 (eq-eqb left size (sym bytes_left ∙ n ∙ len))))
-    (λ s b. not_past (base_of offset left) byte h parts.1 s (subst (λ (base : ℕ). BitNames base byte s) (let e : p.offset + 8 * (p.bytes_left - 1) ≡ base_of offset left = omega (arith, at, bytes_left) in e) b))
+    (λ s b.
+    let base : p.offset + 8 * (p.bytes_left - 1) ≡ base_of offset left = omega (arith, at, bytes_left) in
+    let named = subst (λ (n : ℕ). BitNames n byte s) base b in
+    omega (arith, not_past_at (base_of offset left) byte h parts.1 (s - base_of offset left) named.2, named.1))
   where
     shown : (fault : BitFault) → ShowsFault p byte fault → (p.bytes_left ≡ p.len → byte < 128)
         → ((s : ℕ) → BitNames (p.offset + 8 * (p.bytes_left - 1)) byte s → s < 2 ^ 64) → ⊥

@@ -32,9 +32,8 @@ chosen true p x q e = inl (refl, same_place p q e)
 chosen false p x q e = inr (refl, e)
 
 pub one_byte : (field : List ℕ) → length field ≡ 1 → field ≡ number_of field ∷ []
-one_byte [] len = absurd (omega arith)
 one_byte (a ∷ []) len = ap (λ (n : ℕ). n ∷ []) (sym (number_of-one a))
-one_byte (a ∷ b ∷ field) len = absurd (omega arith)
+one_byte _ len = absurd (omega arith)
 
 -- ---- one field in front
 
@@ -75,12 +74,11 @@ pub string_more : (Good : List ℕ → Type 0) (entry : List ℕ → Entry) (lef
     → FromItems string Good entry left Then (field ++ tail) more
 string_more Good entry left Then field tail more after fits size total h good =
     let k = h.then_is in
-    let front : field ++ tail ≡ string h.content ++ h.rest = string_parts field tail h.content h.rest fits size h.size_is h.parts in
     record {
       items = h.content ∷ k.items;
       rest = k.rest;
       others = k.others;
-      parts = front ∙ ap (λ (x : List ℕ). string h.content ++ x) k.parts ∙ sym (append_assoc (string h.content) (flat_map string k.items) k.rest);
+      parts = string_parts field tail h.content h.rest fits size h.size_is h.parts ∙ ap (λ (x : List ℕ). string h.content ++ x) k.parts ∙ sym (append_assoc (string h.content) (flat_map string k.items) k.rest);
       size_is = omega (arith, length-append (string h.content) (flat_map string k.items), length-string h.content, h.size_is, k.size_is, total);
       good = (good, k.good);
       named = h.named ∙ ap (λ (x : List Entry). entry h.content ∷ x) k.named;
@@ -101,12 +99,9 @@ serial_more K a left after field tail more fits size room k =
       then_is = k.then_is;
     }
 
-pub subsections_none : (K : Type 0) (a : List ℕ) (bytes : List ℕ) (more : List Entry) → FromSections false K bytes more → FromSubsections K a 0 bytes more
-subsections_none K a bytes more h =
-    record { subsections = []; body = []; rest = bytes; others = more; parts = refl; size_is = refl; spelled = refl; named = same_refl more; then_is = h }
-
 pub subsections_from : (last h : Header) (a : List ℕ) (left : ℕ) (bytes : List ℕ) (more : List Entry) → Completes last h a (next_subsection left) bytes more → FromSubsections (last ≡ h) a left bytes more
-subsections_from last h a zero bytes more k = subsections_none (last ≡ h) a bytes more k
+subsections_from last h a zero bytes more k =
+    record { subsections = []; body = []; rest = bytes; others = more; parts = refl; size_is = refl; spelled = refl; named = same_refl more; then_is = k }
 subsections_from last h a (suc left) bytes more k = k
 
 pub serials_from : (last h : Header) (a : List ℕ) (left after : ℕ) (bytes : List ℕ) (more : List Entry) → Completes last h a (next_serial left after) bytes more → SerialItems (last ≡ h) a left after bytes more
@@ -152,9 +147,6 @@ sections_more signed K section text tail rest more others k parts spelled named 
   known = k.known;
 }
 
-tail_string : (type_byte : ℕ) (content rest bytes : List ℕ) → bytes ≡ string content ++ rest → type_byte ∷ bytes ≡ (type_byte ∷ string content) ++ rest
-tail_string type_byte content rest bytes e = ap (λ (x : List ℕ). type_byte ∷ x) e
-
 -- a section of items, of whatever kind
 pub items_section : (K : Type 0) (signed : Bool) (kind : ItemKind) (a : List ℕ) (type_byte : ℕ) (section : SpelledSection) (bytes : List ℕ) (more : List Entry) → signed ≡ false → (l : FromLength (λ n. Items K kind a n 0) bytes more)
     → (length (strings l.then_is.items) < 2 ^ 32 → SpellsSection (type_byte ∷ string (strings l.then_is.items)) section)
@@ -165,7 +157,7 @@ items_section K signed kind a type_byte section bytes more off l spelled names l
     let k = sections_from K a h.rest h.others h.then_is in
     let content : List ℕ = strings h.items in
     let parts = whole_string l.size content h.rest l.rest bytes l.parts h.parts h.size_is in
-    sections_more signed K section (type_byte ∷ string content) (type_byte ∷ bytes) h.rest more h.others k (tail_string type_byte content h.rest bytes parts) (spelled (omega (arith, l.fits, h.size_is)))
+    sections_more signed K section (type_byte ∷ string content) (type_byte ∷ bytes) h.rest more h.others k (ap (λ (x : List ℕ). type_byte ∷ x) parts) (spelled (omega (arith, l.fits, h.size_is)))
     (same_is more (section_entries section ++ h.others) (h.named ∙ ap (λ (x : List Entry). x ++ h.others) (sym names))) (last k.sections k.last) off
 
 pub certificates_section : (K : Type 0) (signed : Bool) (bytes : List ℕ) (more : List Entry) → signed ≡ false → FromLength (FromCertificates K) bytes more → FromSections signed K (1 ∷ bytes) more
@@ -173,7 +165,7 @@ certificates_section K signed bytes more off l =
     let h = l.then_is in
     let content : List ℕ = string h.authority ++ (string h.reserved ++ h.body) in
     let parts = whole_string l.size content h.rest l.rest bytes l.parts h.parts h.size_is in
-    sections_more signed K (Certificates h.authority h.subsections) (1 ∷ string content) (1 ∷ bytes) h.rest more h.others h.then_is (tail_string 1 content h.rest bytes parts)
+    sections_more signed K (Certificates h.authority h.subsections) (1 ∷ string content) (1 ∷ bytes) h.rest more h.others h.then_is (ap (λ (x : List ℕ). 1 ∷ x) parts)
     (record { content = content; spelled = refl; fits = omega (arith, l.fits, h.size_is); content_is = record { reserved = h.reserved; body = h.body; spelled = refl; subsections_are = h.spelled } })
     h.named h.then_is.last off
 
@@ -181,7 +173,7 @@ pub extension_section : (K : Type 0) (signed : Bool) (bytes : List ℕ) (more : 
 extension_section K signed bytes more off l =
     let h = l.then_is in
     let parts = whole_string l.size h.content h.rest l.rest bytes l.parts h.parts h.size_is in
-    sections_more signed K Extension (255 ∷ string h.content) (255 ∷ bytes) h.rest more more h.then_is (tail_string 255 h.content h.rest bytes parts)
+    sections_more signed K Extension (255 ∷ string h.content) (255 ∷ bytes) h.rest more more h.then_is (ap (λ (x : List ℕ). 255 ∷ x) parts)
     (record { content = h.content; spelled = refl; fits = omega (arith, l.fits, h.size_is); content_is = h.spelled }) (same_refl more) h.then_is.last off
 
 signature_last : (signed : Bool) (sections : List SpelledSection) → AllByRecursion IsSignature sections → LastFor signed (Signature ∷ sections)
@@ -199,25 +191,11 @@ signature_section K signed bytes more l =
     let two = whole_string m.size sig.content sig.rest m.rest key.rest m.parts sig.parts sig.size_is in
     let parts : 4 ∷ bytes ≡ (4 ∷ (string key.content ++ string sig.content)) ++ sig.rest =
     ap (λ (x : List ℕ). 4 ∷ x) (one ∙ ap (λ (x : List ℕ). string key.content ++ x) two ∙ sym (append_assoc (string key.content) (string sig.content) sig.rest)) in
+    let spells : SpellsSection (4 ∷ (string key.content ++ string sig.content)) Signature =
+    record { key = key.content; signature = sig.content; spelled = refl; key_fits = omega (arith, l.fits, key.size_is); signature_fits = omega (arith, m.fits, sig.size_is) } in
     record {
       sections = Signature ∷ k.sections;
-      spelled = (
-        4 ∷ (string key.content ++ string sig.content),
-        (
-          sig.rest,
-          (
-            parts,
-            record {
-              key = key.content;
-              signature = sig.content;
-              spelled = refl;
-              key_fits = omega (arith, l.fits, key.size_is);
-              signature_fits = omega (arith, m.fits, sig.size_is);
-            },
-            k.spelled,
-          ),
-        ),
-      );
+      spelled = (4 ∷ (string key.content ++ string sig.content), (sig.rest, (parts, spells, k.spelled)));
       last = signature_last signed k.sections k.last;
       named = k.named;
       known = k.known;

@@ -14,7 +14,7 @@ use Rattle.krl_core.specs.Front.{State, start, limit, Passes, Leads, IsFirstFaul
 use Rattle.krl_core.specs.Krl.{SpelledSection, Spells}
 use Rattle.krl_core.specs.Place.{can_end, expected}
 use Rattle.krl_core.proofs.Exists.{each_is_judged}
-use Rattle.krl_core.proofs.Fronts.{append_same, end_room, end_size, fronts_compare, leads_to_one, Leads-split}
+use Rattle.krl_core.proofs.Fronts.{append_same, end_room, end_short, end_size, fronts_compare, leads_to_one, Leads-split}
 use Rattle.krl_core.proofs.Lists.{unfaulted_row}
 use Rattle.krl_core.proofs.SpelledLists.{spelled_unfaulted}
 
@@ -38,8 +38,7 @@ cut_end : (p : Place) (rest : List ℕ) (fault : Option KrlFault) → can_end p 
 cut_end p rest fault may none (ended at_end off is) = inl is
 cut_end p rest fault may none (no_room full is) = absurd (full (end_room p may))
 cut_end p rest fault may none (refused field after why room parts size judged is) =
-    let len : length rest ≡ 0 = ap length none in
-    absurd (omega (arith, end_size p may, len, size, ap length parts, length-append field after))
+    absurd (omega (arith, end_short p rest (may, none), size, ap length parts, length-append field after))
 cut_end p rest fault may none (too_long room short on is) = absurd (cc (on))
 cut_end p rest fault may none (ends_early room short not_end off is) = absurd (not_end (may, none))
 

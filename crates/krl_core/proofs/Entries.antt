@@ -1,5 +1,5 @@
 -- What an addition makes of a section, by the names of what it holds.
-use Rattle.std.proofs.Common.{◌≡◌, ℕ, ◌<◌, List, [], ◌∷◌, Bor, sym, ap, subst, ◌∙◌, inl, inr}
+use Rattle.std.proofs.Common.{◌≡◌, ℕ, List, [], ◌∷◌, Bor, sym, ap, subst, ◌∙◌, inl, inr}
 use Rattle.std.specs.Prelude.{◌↔◌}
 use Rattle.std.specs.List.{Contains}
 use Rattle.serial_set.specs.declared.span.Span.{Span}
@@ -11,6 +11,7 @@ use Rattle.krl_core.specs.Contents.{Section}
 use Rattle.krl_core.specs.Entry.{RangeEntry, IdEntry}
 use Rattle.krl_core.specs.Naming.{EntryNames, IdOf, Name, SerialOf, SomeNames}
 use Rattle.krl_core.proofs.AddedSections.{put_held}
+use Rattle.krl_core.proofs.Bits.{run_entries-name}
 use Rattle.krl_core.proofs.BothWays.{iff_none}
 use Rattle.std.proofs.Math.Logic.Iff as Iff
 use Rattle.krl_core.proofs.SomeSections.{HeldIn, Step}
@@ -32,14 +33,6 @@ pub runs_name_none : (b : List ℕ) (runs : List Span) (name : Name) → ((lo hi
 runs_name_none b [] name none h = h
 runs_name_none b (x ∷ xs) name none h = elim h [ inl here ↦ none x.lo x.hi here | inr later ↦ runs_name_none b xs name none later ]
 
-runs_name : (b : List ℕ) (runs : List Span) (a : List ℕ) (s : ℕ) → SomeNames (run_entries b runs) (SerialOf a s) ↔ ((b ≡ a) × ((0 < s) × Covers runs s))
-runs_name b [] a s = (λ h. absurd h, λ h. h.1.1)
-runs_name b (x ∷ xs) a s =
-    let rest = runs_name b xs a s in (
-      λ h. elim h [ inl here ↦ (here.0, (here.1.0, inl here.1.1)) | inr later ↦ (let k = rest.0 later in (k.0, (k.1.0, inr k.1.1))) ],
-      λ h. elim h.1.1 [ inl here ↦ inl (h.0, (h.1.0, here)) | inr later ↦ inr (rest.1 (h.0, (h.1.0, later))) ],
-    )
-
 -- where nothing new is held, what names nothing is
 step_none : (addition : Addition) (b : List ℕ) (P : Section → Type 0) (Q : Type 0) → (Q → ⊥) → Step addition b P ⊥ → Step addition b P Q
 step_none addition b P Q none step = record {
@@ -51,14 +44,14 @@ pub serials_step : (near : Bor (List Span)) (b : List ℕ) (name : Name) → Ste
 serials_step near b (SerialOf a s) = record {
   one = λ from to under t.
       let same : to.authority ≡ from.authority = ap (λ (x : Section). x.authority) t.same in
-      let names = runs_name b near.now a s in (
+      let names = run_entries-name b near.now a s in (
         λ h. elim ((t.runs.1 s).0 h.1) [
           | inl was ↦ inl (sym same ∙ h.0, was)
-          | inr new ↦ inr (names.1 (sym under ∙ sym same ∙ h.0, ((t.serials s h.1).0, new)))
+          | inr new ↦ inr (names.1 ((sym under ∙ sym same ∙ h.0, (t.serials s h.1).0), new))
         ],
         λ h. elim h [
           | inl was ↦ (same ∙ was.0, (t.runs.1 s).1 (inl was.1))
-          | inr new ↦ (let k = names.0 new in (same ∙ under ∙ k.0, (t.runs.1 s).1 (inr k.1.1)))
+          | inr new ↦ (let k = names.0 new in (same ∙ under ∙ k.0.0, (t.runs.1 s).1 (inr k.1)))
         ],
       );
   none = λ h. absurd h.1;

@@ -9,16 +9,14 @@ use Rattle.krl_fault.specs.declared.krl_fault.KrlFault.TheVariants as faults
 use Rattle.krl_core.specs.declared.place.list.ItemKind.{ItemKind}
 use Rattle.krl_core.specs.declared.place.Place.{Place}
 use Rattle.krl_core.specs.declared.place.Place.TheVariants as places
-use Rattle.krl_core.specs.declared.place.bitmap.BitmapPlace.{BitmapPlace}
 use Rattle.krl_core.specs.declared.place.bitmap.BitmapPlace.TheVariants as bitmaps
-use Rattle.krl_core.specs.declared.place.serials.SerialsPlace.{SerialsPlace}
 use Rattle.krl_core.specs.declared.place.serials.SerialsPlace.TheVariants as serials
 use Rattle.krl_core.specs.declared.place.header.HeaderPlace.TheVariants as headers
 use Rattle.krl_core.specs.declared.place.signature.SignaturePlace.TheVariants as signatures
 use Rattle.krl_core.specs.declared.place.list.ListPlace.TheVariants as lists
 use Rattle.krl_core.specs.declared.place.certificates.CertificatesPlace.TheVariants as certificates
 use Rattle.krl_core.specs.declared.place.extension.ExtensionPlace.TheVariants as extensions
-use Rattle.krl_core.specs.Place.{bitmap_expected, can_end, expected, next_item, next_subsection, serials_expected}
+use Rattle.krl_core.specs.Place.{can_end, expected, next_item, next_subsection}
 use Rattle.krl_core.specs.Front.{State, start, state_after, HasRoom, Reported, ended, no_room, refused, too_long, ends_early, IsFirstFault, limit}
 use Rattle.krl_core.proofs.Fronts.{first_fault_is}
 use Rattle.krl_core.proofs.Walks.{EndsReported, walks_one, walks_from, reported_here, reported_then}
@@ -57,14 +55,10 @@ weight _ = 0
 
 weight_below : (p : Place) → weight p < 2
 weight_below (places.Header (headers.Reserved n)) = omega arith
-weight_below (places.Header (headers.Comment n)) = omega arith
 weight_below (places.Signature (signatures.Key n)) = omega arith
-weight_below (places.Signature (signatures.Signature n)) = omega arith
 weight_below (places.Certificates (certificates.Authority n m)) = omega arith
-weight_below (places.Certificates (certificates.Reserved n m)) = omega arith
 weight_below (places.List (lists.Item kind n m k)) = omega arith
 weight_below (places.Extension (extensions.Name n m k)) = omega arith
-weight_below (places.Extension (extensions.Contents n m)) = omega arith
 weight_below _ = omega arith
 
 weight-next_subsection : (left : ℕ) → weight (next_subsection left) ≡ 0
@@ -78,19 +72,6 @@ weight-next_item kind (suc left) after = refl
 same_weight : (p q : Place) → done p ≡ done q → weight p ≡ weight q
 same_weight p q e = ap weight (same_place p q e)
 
-serials_some : (at : SerialsPlace) → 0 < (serials_expected at).size
-serials_some (serials.SerialsLength n) = omega arith
-serials_some (serials.Serial n m) = omega arith
-serials_some (serials.RangeLength n) = omega arith
-serials_some (serials.RangeMin n) = omega arith
-serials_some (serials.RangeMax n m) = omega arith
-
-bitmap_some : (at : BitmapPlace) → 0 < (bitmap_expected at).size
-bitmap_some (bitmaps.Length n) = omega arith
-bitmap_some (bitmaps.Offset n m) = omega arith
-bitmap_some (bitmaps.Size n m k) = omega arith
-bitmap_some (bitmaps.Byte n m k l) = omega arith
-
 -- each field brings the end nearer
 pub nearer : (p q : Place) (field : List ℕ) → (expected p).judged field ≡ Ok q → weight q < 2 * (expected p).size + weight p
 nearer (places.Header (headers.Reserved n)) q field e = omega (arith, same_weight (places.Header headers.CommentLength) q e)
@@ -102,8 +83,8 @@ nearer (places.Certificates (certificates.Reserved n m)) q field e = omega (arit
 nearer (places.List (lists.Item kind n m k)) q field e = omega (arith, same_weight (next_item kind m k) q e, weight-next_item kind m k)
 nearer (places.Extension (extensions.Name n m k)) q field e = omega (arith, same_weight (places.Extension (extensions.Critical m k)) q e)
 nearer (places.Extension (extensions.Contents n m)) q field e = omega (arith, same_weight (next_subsection m) q e, weight-next_subsection m)
-nearer (places.Serials at) q field e = omega (arith, weight_below q, serials_some at)
-nearer (places.Bitmap at) q field e = omega (arith, weight_below q, bitmap_some at)
+nearer (places.Serials (serials.Serial n m)) q field e = omega (arith, weight_below q)
+nearer (places.Bitmap (bitmaps.Offset n m)) q field e = omega (arith, weight_below q)
 nearer _ q field e = omega (arith, weight_below q)
 
 pub reported_from : (n : ℕ) (p : State) (bytes : List ℕ) (goes_on : Bool) → 2 * length bytes + weight p.place < n → (fault : Option KrlFault) × EndsReported p bytes goes_on fault

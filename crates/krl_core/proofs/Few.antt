@@ -3,7 +3,7 @@ use Rattle.std.proofs.Common.{◌≡◌, ℕ, zero, suc, ◌+◌, ◌≤◌, Lis
 use Rattle.std.specs.Prelude.{Some, insert}
 use Rattle.std.specs.List.{Contains, slice_get}
 use Rattle.std.specs.declared.cmp.Ordering.TheVariants.{Less}
-use Rattle.std.proofs.lemmas.List.{append-nil, take-append-drop}
+use Rattle.std.proofs.lemmas.List.{append-nil, take-append-drop, take_all}
 use Rattle.std.specs.Global.{Vec}
 use Rattle.krl_core.specs.Changes.{Puts}
 use Rattle.krl_core.specs.Elements.{contains_cases, contains_here, contains_later, contains_none}
@@ -17,9 +17,6 @@ use Rattle.krl_core.proofs.Parted.{enters_puts}
 use Rattle.krl_core.specs.TextMap.{Enters, names_of}
 
 -- ---- where a byte string goes
-
-next : (at : ℕ) → suc at ≡ at + 1
-next at = omega arith
 
 pub above_from : (texts : List (Vec ℕ)) (at : ℕ) (x : Vec ℕ) (bytes : List ℕ) → slice_get texts at ≡ Some x → bytes_cmp bytes x.items ≡ Less → RisesBy bytes_of texts → AllAbove bytes_of bytes (drop at texts)
 above_from [] at x bytes is less r = absurd (cc is)
@@ -89,19 +86,13 @@ take_suc (y ∷ ys) zero x is =
     ap (λ (v : Vec ℕ). bytes_of v ∷ []) same
 take_suc (y ∷ ys) (suc at) x is = ap (λ l. bytes_of y ∷ l) (take_suc ys at x is)
 
-take_end : (texts : List (Vec ℕ)) (at : ℕ) → length texts ≤ at → take at texts ≡ texts
-take_end [] zero h = refl
-take_end [] (suc at) h = refl
-take_end (y ∷ ys) zero h = absurd (omega arith)
-take_end (y ∷ ys) (suc at) h = ap (λ l. y ∷ l) (take_end ys at (omega arith))
-
 -- the next of a few is put into a map of those before it
 pub spread_more : (texts : List (Vec ℕ)) (at : ℕ) (x : Vec ℕ) (old new : Entries (Unit {0})) → slice_get texts at ≡ Some x → RisesBy bytes_of texts → names_of old ≡ texts_of (take at texts) → Enters old x.items (record {}) new
     → names_of new ≡ texts_of (take (at + 1) texts)
 spread_more texts at x old new is r so_far e =
     let puts = subst (λ l. Puts l x.items (names_of new)) so_far (enters_puts x.items (record {}) old new e) in
     put_last (texts_of (take at texts)) x.items (names_of new) puts (rises_take texts at x is r)
-    ∙ sym (take_suc texts at x is) ∙ ap (λ n. texts_of (take n texts)) (next at)
+    ∙ sym (take_suc texts at x is) ∙ ap (λ n. texts_of (take n texts)) (let next : suc at ≡ at + 1 = omega arith in next)
 
 pub spread_end : (texts : List (Vec ℕ)) (at : ℕ) (old : Entries (Unit {0})) → length texts ≤ at → names_of old ≡ texts_of (take at texts) → names_of old ≡ texts_of texts
-spread_end texts at old h so_far = so_far ∙ ap texts_of (take_end texts at h)
+spread_end texts at old h so_far = so_far ∙ ap texts_of (take_all at texts h)

@@ -1,11 +1,12 @@
 -- The expected field, in front of what is spelled after it.
-use Rattle.std.proofs.Common.{◌≡◌, ℕ, ◌-◌, ◌%◌, ◌==◌, ◌<◌, ◌≤◌, Bool, true, false, eqb, ltb, leb, leb-true, eq-eqb, List, [], ◌∷◌, ◌++◌, get_or, Ok, refl, sym, ap, subst, ◌∙◌, append_assoc, arith, inl, inr}
-use Rattle.std.specs.List.{concat}
+use Rattle.std.proofs.Common.{◌≡◌, ℕ, ◌-◌, ◌%◌, ◌==◌, ◌<◌, ◌≤◌, Bool, true, false, eqb, ltb, leb, leb-true, eq-eqb, List, [], ◌∷◌, ◌++◌, map, get_or, Ok, refl, sym, ap, subst, ◌∙◌, append_assoc, arith, inl, inr}
+use Rattle.std.specs.List.{concat, flat_map}
 use Rattle.std.specs.Str.{bytes_eq}
 use Rattle.std.proofs.lemmas.Bool.{eqb-true, ltb-true}
-use Rattle.std.proofs.lemmas.List.{append-nil}
+use Rattle.std.proofs.lemmas.List.{append-nil, length-append}
 use Rattle.std.proofs.lemmas.Slice.Eq.{bytes_eq-Decides}
-use Rattle.ssh_wire.specs.Wire.{IsBytes, number, number_of, strings}
+use Rattle.ssh_wire.specs.Wire.{IsBytes, number, number_of, string, strings}
+use Rattle.ssh_wire.specs.Fields.{length-string, length-number}
 use Rattle.ssh_wire.specs.Steps.{passed_ok}
 use Rattle.ssh_wire.specs.Digits.{IsBytes-back, IsBytes-front}
 use Rattle.krl_fault.specs.declared.krl_fault.KrlFault.TheVariants as faults
@@ -20,15 +21,15 @@ use Rattle.krl_core.specs.declared.place.certificates.CertificatesPlace.TheVaria
 use Rattle.krl_core.specs.declared.place.serials.SerialsPlace.TheVariants as serials
 use Rattle.krl_core.specs.declared.place.bitmap.BitmapPlace.TheVariants as bitmaps
 use Rattle.krl_core.specs.declared.place.extension.ExtensionPlace.TheVariants as extensions
-use Rattle.krl_core.specs.Entry.{Entry, BitmapEntry}
+use Rattle.krl_core.specs.Entry.{Entry, SerialsEntry, RangeEntry, BitmapEntry, IdEntry}
 use Rattle.krl_core.specs.Front.{State, Passes, Leads, state_after}
-use Rattle.krl_core.specs.Krl.{Keys, Sha1s, Sha256s, magic}
+use Rattle.krl_core.specs.Krl.{Keys, Sha1s, Sha256s, Serials, Range, Bitmap, Ids, SubsectionExtension, magic}
 use Rattle.krl_core.specs.Place.{can_end, judge, names, authority_after, header_after, item_entry, item_size, next_item, next_subsection, next_serial, next_bits, section_of_type, subsection_of_type, base_of, passes_end}
 use Rattle.krl_core.proofs.Bits.{judged_parts}
-use Rattle.krl_core.proofs.Completes.{fits_within, chosen, one_byte, number_front, length_front, content_front, item_front, string_more, serial_more, items_from, subsections_from, serials_from, sections_from, items_section, certificates_section, extension_section, signature_section}
-use Rattle.krl_core.proofs.CompletesParts.{subsections_more, reserved_front, certificates_front, extension_front, contents_front, range_front, serials_part, ids_part, range_part, bitmap_part, extension_part, bits_from, bits_more, bitmap_front, offset_front}
+use Rattle.krl_core.proofs.Completes.{fits_within, chosen, one_byte, number_front, length_front, content_front, string_parts, item_front, string_more, serial_more, items_from, subsections_from, serials_from, sections_from, items_section, certificates_section, extension_section, signature_section}
+use Rattle.krl_core.proofs.CompletesParts.{subsections_more, part_front, serials_same, bits_from, bits_more}
 use Rattle.krl_core.proofs.Numbers.{number_back4, number_back8}
-use Rattle.krl_core.proofs.Same.{same_refl}
+use Rattle.krl_core.proofs.Same.{same_refl, same_is, same_then, same_append}
 use Rattle.krl_core.proofs.Rests.{FromItem, FromBits, FromSections, FromLength, FromContent, FromExtension, FromCritical, FromComment, FromHeaderReserved, FromFlags, FromDate, FromSubsections, FromReserved, FromCertificates, FromPart, Completes, IsItem, Items}
 use Rattle.krl_core.proofs.Judged.{held_back, same_place}
 
@@ -131,8 +132,9 @@ field_front last h a (places.List (lists.SectionLength kind)) q field tail more 
 field_front last h a (places.List (lists.IdsLength left)) q field tail more fits pass k =
     let n = number_of field in
     let w = fits_within left (λ size. Ok (next_item kinds.Id size (left - 4 - size))) n q pass.judged in
-    ids_part (last ≡ h) a left field tail more fits pass.whole pass.room w.0
-    (items_from last h kinds.Id a n (left - 4 - n) tail more (along last h a (next_item kinds.Id n (left - 4 - n)) q tail more (same_place (next_item kinds.Id n (left - 4 - n)) q w.1) k))
+    let x = items_from last h kinds.Id a n (left - 4 - n) tail more (along last h a (next_item kinds.Id n (left - 4 - n)) q tail more (same_place (next_item kinds.Id n (left - 4 - n)) q w.1) k) in
+    part_front (last ≡ h) a 0x23 left (Ids x.items) field tail (strings x.items) x.rest more x.others fits pass.whole pass.room w.0 refl x.parts x.size_is refl
+    (same_is more (map (IdEntry a) x.items ++ x.others) x.named) x.then_is
 field_front last h a (places.List (lists.ItemLength kind left after)) q field tail more fits pass k =
     let n = number_of field in
     let item : ℕ → Place = λ size. places.List (lists.Item kind size (left - 4 - size) after) in
@@ -151,14 +153,39 @@ field_front last h a (places.Certificates certificates.SectionLength) q field ta
     length_front (FromCertificates (last ≡ h)) field tail more fits pass.whole (along last h a (places.Certificates (certificates.AuthorityLength (number_of field))) q tail more (same_place (places.Certificates (certificates.AuthorityLength (number_of field))) q pass.judged) k)
 field_front last h a (places.Certificates (certificates.AuthorityLength left)) q field tail more fits pass k =
     let w = fits_within left (λ size. Ok (places.Certificates (certificates.Authority size (left - 4 - size)))) (number_of field) q pass.judged in
-    certificates_front (last ≡ h) left field tail more fits pass.whole pass.room w.0
-    (along last h a (places.Certificates (certificates.Authority (number_of field) (left - 4 - number_of field))) q tail more (same_place (places.Certificates (certificates.Authority (number_of field) (left - 4 - number_of field))) q w.1) k)
+    let x = along last h a (places.Certificates (certificates.Authority (number_of field) (left - 4 - number_of field))) q tail more (same_place (places.Certificates (certificates.Authority (number_of field) (left - 4 - number_of field))) q w.1) k in
+    let y = x.then_is in
+    record {
+      authority = x.content;
+      reserved = y.reserved;
+      body = y.body;
+      subsections = y.subsections;
+      rest = y.rest;
+      others = y.others;
+      parts = string_parts field tail x.content x.rest fits pass.whole x.size_is x.parts ∙ ap (λ (l : List ℕ). string x.content ++ l) y.parts ∙ sym (append_assoc (string x.content) (string y.reserved ++ y.body) y.rest);
+      size_is = omega (arith, length-append (string x.content) (string y.reserved ++ y.body), length-string x.content, x.size_is, y.size_is, (let room : 4 ≤ left = pass.room in room), w.0);
+      spelled = y.spelled;
+      named = y.named;
+      then_is = y.then_is;
+    }
 field_front last h a (places.Certificates (certificates.Authority n after)) q field tail more fits pass k =
     content_front n (λ b. FromReserved (last ≡ h) b after) field tail more pass.whole (along last h field (places.Certificates (certificates.ReservedLength after)) q tail more (same_place (places.Certificates (certificates.ReservedLength after)) q pass.judged) k)
 field_front last h a (places.Certificates (certificates.ReservedLength left)) q field tail more fits pass k =
     let w = fits_within left (λ size. Ok (places.Certificates (certificates.Reserved size (left - 4 - size)))) (number_of field) q pass.judged in
-    reserved_front (last ≡ h) a left field tail more fits pass.whole pass.room w.0
-    (along last h a (places.Certificates (certificates.Reserved (number_of field) (left - 4 - number_of field))) q tail more (same_place (places.Certificates (certificates.Reserved (number_of field) (left - 4 - number_of field))) q w.1) k)
+    let x = along last h a (places.Certificates (certificates.Reserved (number_of field) (left - 4 - number_of field))) q tail more (same_place (places.Certificates (certificates.Reserved (number_of field) (left - 4 - number_of field))) q w.1) k in
+    let y = x.then_is in
+    record {
+      reserved = x.content;
+      body = y.body;
+      subsections = y.subsections;
+      rest = y.rest;
+      others = y.others;
+      parts = string_parts field tail x.content x.rest fits pass.whole x.size_is x.parts ∙ ap (λ (l : List ℕ). string x.content ++ l) y.parts ∙ sym (append_assoc (string x.content) y.body y.rest);
+      size_is = omega (arith, length-append (string x.content) y.body, length-string x.content, x.size_is, y.size_is, (let room : 4 ≤ left = pass.room in room), w.0);
+      spelled = y.spelled;
+      named = y.named;
+      then_is = y.then_is;
+    }
 field_front last h a (places.Certificates (certificates.Reserved n after)) q field tail more fits pass k =
     content_front n (λ r. FromSubsections (last ≡ h) a after) field tail more pass.whole (subsections_from last h a after tail more (along last h a (next_subsection after) q tail more (same_place (next_subsection after) q pass.judged) k))
 field_front last h a (places.Certificates (certificates.SubsectionType left)) q field tail more fits pass k =
@@ -167,8 +194,11 @@ field_front last h a (places.Serials (serials.SerialsLength left)) q field tail 
     let n = number_of field in
     let w = fits_within left (λ size. judge (size % 8 == 0) faults.Length (next_serial size (left - 4 - size))) n q pass.judged in
     let v = passed_ok (n % 8 == 0) faults.Length (next_serial n (left - 4 - n)) q w.1 in
-    serials_part (last ≡ h) a left field tail more fits pass.whole pass.room w.0
-    (serials_from last h a n (left - 4 - n) tail more (along last h a (next_serial n (left - 4 - n)) q tail more v.1 k))
+    let x = serials_from last h a n (left - 4 - n) tail more (along last h a (next_serial n (left - 4 - n)) q tail more v.1 k) in
+    let E = map (λ n. SerialsEntry a (n ∷ [])) x.items in
+    part_front (last ≡ h) a 0x20 left (Serials x.items) field tail (flat_map (number 8) x.items) x.rest more x.others fits pass.whole pass.room w.0 refl x.parts x.size_is (refl, x.good)
+    (same_then more (E ++ x.others) (SerialsEntry a x.items ∷ x.others) (same_is more (E ++ x.others) x.named)
+    (same_append E x.others (SerialsEntry a x.items ∷ []) x.others (serials_same a x.items) (same_refl x.others))) x.then_is
 field_front last h a (places.Serials (serials.Serial left after)) q field tail more fits pass k =
     serial_more (last ≡ h) a left after field tail more fits pass.whole pass.room
     (serials_from last h a (left - 8) after tail more (along last h a (next_serial (left - 8) after) q tail more (same_place (next_serial (left - 8) after) q pass.judged) k))
@@ -176,10 +206,24 @@ field_front last h a (places.Serials (serials.RangeLength left)) q field tail mo
     let n = number_of field in
     let w = fits_within left (λ size. judge (size == 16) faults.Length (places.Serials (serials.RangeMin (left - 4 - size)))) n q pass.judged in
     let v = passed_ok (eqb n 16) faults.Length (places.Serials (serials.RangeMin (left - 4 - n))) q w.1 in
-    range_part (last ≡ h) a left field tail more fits pass.whole pass.room w.0 (eqb-true n 16 v.0) (along last h a (places.Serials (serials.RangeMin (left - 4 - n))) q tail more v.1 k)
+    let x = along last h a (places.Serials (serials.RangeMin (left - 4 - n))) q tail more v.1 k in
+    part_front (last ≡ h) a 0x21 left (Range x.min x.max) field tail (number 8 x.min ++ number 8 x.max) x.rest more x.others fits pass.whole pass.room w.0 refl x.parts
+    (omega (arith, length-append (number 8 x.min) (number 8 x.max), length-number 8 x.min, length-number 8 x.max, eqb-true n 16 v.0)) (refl, x.ordered, x.fits)
+    (same_is more (RangeEntry a x.min x.max ∷ x.others) x.named) x.then_is
 field_front last h a (places.Serials (serials.RangeMin after)) q field tail more fits pass k =
-    range_front (last ≡ h) a after field tail more fits pass.whole
-    (along last h a (places.Serials (serials.RangeMax (number_of field) after)) q tail more (same_place (places.Serials (serials.RangeMax (number_of field) after)) q pass.judged) k)
+    let x = along last h a (places.Serials (serials.RangeMax (number_of field) after)) q tail more (same_place (places.Serials (serials.RangeMax (number_of field) after)) q pass.judged) k in
+    let n = number_back8 field pass.whole fits in
+    record {
+      min = number_of field;
+      max = x.max;
+      rest = x.rest;
+      others = x.others;
+      parts = ap (λ (l : List ℕ). l ++ tail) (sym n.0) ∙ ap (λ (l : List ℕ). number 8 (number_of field) ++ l) x.parts ∙ sym (append_assoc (number 8 (number_of field)) (number 8 x.max) x.rest);
+      ordered = x.ordered;
+      fits = x.fits;
+      named = x.named;
+      then_is = x.then_is;
+    }
 field_front last h a (places.Serials (serials.RangeMax min after)) q field tail more fits pass k =
     let w = passed_ok (leb min (number_of field)) faults.RangeReversed (next_subsection after) q pass.judged in
     let n = number_back8 field pass.whole fits in
@@ -195,15 +239,37 @@ field_front last h a (places.Serials (serials.RangeMax min after)) q field tail 
     }
 field_front last h a (places.Bitmap (bitmaps.Length left)) q field tail more fits pass k =
     let w = fits_within left (λ size. Ok (places.Bitmap (bitmaps.Offset size (left - 4 - size)))) (number_of field) q pass.judged in
-    bitmap_part (last ≡ h) a left field tail more fits pass.whole pass.room w.0
-    (along last h a (places.Bitmap (bitmaps.Offset (number_of field) (left - 4 - number_of field))) q tail more (same_place (places.Bitmap (bitmaps.Offset (number_of field) (left - 4 - number_of field))) q w.1) k)
+    let x = along last h a (places.Bitmap (bitmaps.Offset (number_of field) (left - 4 - number_of field))) q tail more (same_place (places.Bitmap (bitmaps.Offset (number_of field) (left - 4 - number_of field))) q w.1) k in
+    part_front (last ≡ h) a 0x22 left (Bitmap x.offset x.value) field tail x.content x.rest more x.others fits pass.whole pass.room w.0 refl x.parts x.size_is x.spelled x.named x.then_is
 field_front last h a (places.Bitmap (bitmaps.Offset left after)) q field tail more fits pass k =
-    offset_front (last ≡ h) a left after field tail more fits pass.whole pass.room
-    (along last h a (places.Bitmap (bitmaps.Size (number_of field) (left - 8) after)) q tail more (same_place (places.Bitmap (bitmaps.Size (number_of field) (left - 8) after)) q pass.judged) k)
+    let x = along last h a (places.Bitmap (bitmaps.Size (number_of field) (left - 8) after)) q tail more (same_place (places.Bitmap (bitmaps.Size (number_of field) (left - 8) after)) q pass.judged) k in
+    let n = number_back8 field pass.whole fits in
+    record {
+      content = number 8 (number_of field) ++ string x.bits;
+      offset = number_of field;
+      value = number_of x.bits;
+      rest = x.rest;
+      others = x.others;
+      parts = ap (λ (l : List ℕ). l ++ tail) (sym n.0) ∙ ap (λ (l : List ℕ). number 8 (number_of field) ++ l) x.parts ∙ sym (append_assoc (number 8 (number_of field)) (string x.bits) x.rest);
+      size_is = omega (arith, length-append (number 8 (number_of field)) (string x.bits), length-number 8 (number_of field), x.size_is, (let room : 8 ≤ left = pass.room in room));
+      spelled = record { bytes = x.bits; spelled = refl; positive = x.positive; value_is = refl; offset_fits = n.1; within = x.within };
+      named = x.named;
+      then_is = x.then_is;
+    }
 field_front last h a (places.Bitmap (bitmaps.Size offset left after)) q field tail more fits pass k =
     let w = passed_ok (eqb (number_of field) (left - 4)) faults.Length (next_bits offset (left - 4) (left - 4) after) q pass.judged in
-    bitmap_front (last ≡ h) a offset left after field tail more fits pass.whole pass.room (eqb-true (number_of field) (left - 4) w.0)
-    (bits_from last h a offset (left - 4) (left - 4) after tail more (along last h a (next_bits offset (left - 4) (left - 4) after) q tail more w.1 k))
+    let x = bits_from last h a offset (left - 4) (left - 4) after tail more (along last h a (next_bits offset (left - 4) (left - 4) after) q tail more w.1 k) in
+    record {
+      bits = x.bits;
+      rest = x.rest;
+      others = x.others;
+      parts = string_parts field tail x.bits x.rest fits pass.whole (x.size_is ∙ sym (eqb-true (number_of field) (left - 4) w.0)) x.parts;
+      size_is = omega (arith, length-string x.bits, x.size_is, (let room : 4 ≤ left = pass.room in room));
+      positive = x.positive refl;
+      within = x.within;
+      named = x.named;
+      then_is = x.then_is;
+    }
 field_front last h a (places.Bitmap (bitmaps.Byte offset size left after)) q field tail more fits pass k = λ pos.
     let n = number_of field in
     let one = one_byte field pass.whole in
@@ -219,12 +285,20 @@ field_front last h a (places.Extension extensions.SectionLength) q field tail mo
     (record { content = x.content; rest = x.rest; parts = x.parts; size_is = x.size_is; spelled = x.spelled; then_is = sections_from (last ≡ h) a x.rest more x.then_is })
 field_front last h a (places.Extension (extensions.SubsectionLength left)) q field tail more fits pass k =
     let w = fits_within left (λ size. Ok (places.Extension (extensions.NameLength size (left - 4 - size)))) (number_of field) q pass.judged in
-    extension_part (last ≡ h) a left field tail more fits pass.whole pass.room w.0
-    (along last h a (places.Extension (extensions.NameLength (number_of field) (left - 4 - number_of field))) q tail more (same_place (places.Extension (extensions.NameLength (number_of field) (left - 4 - number_of field))) q w.1) k)
+    let x = along last h a (places.Extension (extensions.NameLength (number_of field) (left - 4 - number_of field))) q tail more (same_place (places.Extension (extensions.NameLength (number_of field) (left - 4 - number_of field))) q w.1) k in
+    part_front (last ≡ h) a 0x39 left SubsectionExtension field tail x.content x.rest more more fits pass.whole pass.room w.0 refl x.parts x.size_is x.spelled (same_refl more) x.then_is
 field_front last h a (places.Extension (extensions.NameLength left after)) q field tail more fits pass k =
     let w = fits_within left (λ size. Ok (places.Extension (extensions.Name size (left - 4 - size) after))) (number_of field) q pass.judged in
-    extension_front left (FromSubsections (last ≡ h) a after) field tail more fits pass.whole pass.room w.0
-    (along last h a (places.Extension (extensions.Name (number_of field) (left - 4 - number_of field) after)) q tail more (same_place (places.Extension (extensions.Name (number_of field) (left - 4 - number_of field) after)) q w.1) k)
+    let x = along last h a (places.Extension (extensions.Name (number_of field) (left - 4 - number_of field) after)) q tail more (same_place (places.Extension (extensions.Name (number_of field) (left - 4 - number_of field) after)) q w.1) k in
+    let y = x.then_is in
+    record {
+      content = string x.content ++ 0 ∷ string y.contents;
+      rest = y.rest;
+      parts = string_parts field tail x.content x.rest fits pass.whole x.size_is x.parts ∙ ap (λ (l : List ℕ). string x.content ++ l) y.parts ∙ sym (append_assoc (string x.content) (0 ∷ string y.contents) y.rest);
+      size_is = omega (arith, length-append (string x.content) (0 ∷ string y.contents), length-string x.content, x.size_is, y.size_is, (let room : 4 ≤ left = pass.room in room), w.0);
+      spelled = record { name = x.content; contents = y.contents; spelled = refl };
+      then_is = y.then_is;
+    }
 field_front last h a (places.Extension (extensions.Name n left after)) q field tail more fits pass k =
     content_front n (λ n. FromCritical left (FromSubsections (last ≡ h) a after)) field tail more pass.whole
     (along last h a (places.Extension (extensions.Critical left after)) q tail more (same_place (places.Extension (extensions.Critical left after)) q pass.judged) k)
@@ -242,8 +316,14 @@ field_front last h a (places.Extension (extensions.Critical left after)) q field
     }
 field_front last h a (places.Extension (extensions.ContentsLength left after)) q field tail more fits pass k =
     let w = passed_ok (eqb (number_of field) (left - 4)) faults.Length (places.Extension (extensions.Contents (left - 4) after)) q pass.judged in
-    contents_front left (FromSubsections (last ≡ h) a after) field tail more fits pass.whole pass.room (eqb-true (number_of field) (left - 4) w.0)
-    (along last h a (places.Extension (extensions.Contents (left - 4) after)) q tail more w.1 k)
+    let x = along last h a (places.Extension (extensions.Contents (left - 4) after)) q tail more w.1 k in
+    record {
+      contents = x.content;
+      rest = x.rest;
+      parts = string_parts field tail x.content x.rest fits pass.whole (x.size_is ∙ sym (eqb-true (number_of field) (left - 4) w.0)) x.parts;
+      size_is = omega (arith, length-string x.content, x.size_is, (let room : 4 ≤ left = pass.room in room));
+      then_is = x.then_is;
+    }
 field_front last h a (places.Extension (extensions.Contents n after)) q field tail more fits pass k =
     content_front n (λ c. FromSubsections (last ≡ h) a after) field tail more pass.whole
     (subsections_from last h a after tail more (along last h a (next_subsection after) q tail more (same_place (next_subsection after) q pass.judged) k))

@@ -2,6 +2,7 @@
 use Rattle.std.proofs.Common.{◌≡◌, ℕ, ◌⊎◌, List, [], ◌∷◌, ◌++◌, sym, subst, ◌∙◌, inl, inr}
 use Rattle.std.specs.Prelude.{◌↔◌}
 use Rattle.std.specs.List.{Contains}
+use Rattle.std.proofs.Math.Logic.{⊎_elim, ⊎_map}
 use Rattle.serial_set.specs.Span.{Covers}
 use Rattle.krl_core.specs.Asked.{Stands, HoldsUnder}
 use Rattle.krl_core.specs.Contents.{Section, SomeSection}
@@ -31,20 +32,14 @@ none_above a P under (x ∷ xs) b h =
 section_cases : (P : Section → Type 0) (front back : List Section) → SomeSection P (front ++ back) → SomeSection P front ⊎ SomeSection P back
 section_cases P [] back h = inr h
 section_cases P (x ∷ front) back h =
-    elim h [
-      | inl here ↦ inl (inl here)
-      | inr later ↦ elim (section_cases P front back later) [ inl l ↦ inl (inr l) | inr r ↦ inr r ]
-    ]
+    elim h [ inl here ↦ inl (inl here) | inr later ↦ ⊎_map inr (λ r. r) (section_cases P front back later) ]
 
 -- what holds under an authority holds of its section
 one_under : (sections : List Section) (section : Section) (P : Section → Type 0) → Under section.authority P → Stands key sections section → SomeSection P sections ↔ P section
 one_under sections section P under s = (
   λ h. elim ((some_middle P s.front section s.back).0 (subst (SomeSection P) s.parts h)) [
     | inl at ↦ at
-    | inr other ↦ elim (section_cases P s.front s.back other) [
-      | inl l ↦ absurd (none_below section.authority P under s.front s.below l)
-      | inr r ↦ absurd (none_above section.authority P under s.back s.above r)
-    ]
+    | inr other ↦ absurd (⊎_elim (none_below section.authority P under s.front s.below) (none_above section.authority P under s.back s.above) (section_cases P s.front s.back other))
   ],
   λ h. subst (SomeSection P) (sym s.parts) ((some_middle P s.front section s.back).1 (inl h)),
 )
@@ -61,7 +56,4 @@ under_section sections section a id serial same stands =
 
 pub under_none : (sections : List Section) (a id : List ℕ) (serial : ℕ) → (SomeSection (λ s. s.authority ≡ a) sections → ⊥) → HoldsUnder sections a id serial → ⊥
 under_none sections a id serial absent h =
-    elim h [
-      | inl i ↦ absent (some_weaker (λ s at. at.0) sections i)
-      | inr s ↦ absent (some_weaker (λ s at. at.0) sections s)
-    ]
+    absent (⊎_elim (some_weaker (λ s at. at.0) sections) (some_weaker (λ s at. at.0) sections) h)

@@ -17,9 +17,6 @@ abbrev pub Needs : Place → ℕ → Type 0
 Needs place size = (state : State) → state.place ≡ place → (fields : List (List ℕ)) (last : State) → Leads state fields last
     → is_fixed last.place ≡ false → size ≤ length (concat fields)
 
-any_needs : (place : Place) → Needs place 0
-any_needs place state at fields last leads late = omega arith
-
 -- one field more in front
 needs_more : (place : Place) (size more : ℕ) → is_fixed place ≡ true → (expected place).size ≡ size
     → ((field : List ℕ) (after : Place) → (expected place).judged field ≡ Ok after → Needs after more) → Needs place (size + more)
@@ -37,7 +34,7 @@ after_is : (place after : Place) (more : ℕ) → done place ≡ Ok after → Ne
 after_is place after more e h = subst (λ (p : Place). Needs p more) (same_place place after e) h
 
 needs_reserved : Needs (places.Header headers.ReservedLength) 4
-needs_reserved = needs_more (places.Header headers.ReservedLength) 4 0 refl refl (λ field after e. any_needs after)
+needs_reserved = needs_more (places.Header headers.ReservedLength) 4 0 refl refl (λ field after e state at fields last leads late. omega arith)
 
 needs_flags : Needs (places.Header headers.Flags) 12
 needs_flags = needs_more (places.Header headers.Flags) 8 4 refl refl (λ field after e. after_is (places.Header headers.ReservedLength) after 4 e needs_reserved)
@@ -62,10 +59,7 @@ late_enough fields last leads late = needs_magic start refl fields last leads la
 
 -- a large field is none of the first
 pub late_where_large : (p : Place) → 32 < (expected p).size → is_fixed p ≡ false
-late_where_large (places.Header headers.Magic) large = absurd (omega arith)
-late_where_large (places.Header headers.FormatVersion) large = absurd (omega arith)
-late_where_large (places.Header headers.Version) large = absurd (omega arith)
-late_where_large (places.Header headers.Date) large = absurd (omega arith)
-late_where_large (places.Header headers.Flags) large = absurd (omega arith)
-late_where_large (places.Header headers.ReservedLength) large = absurd (omega arith)
+late_where_large (places.Header (headers.Reserved n)) large = refl
+late_where_large (places.Header (headers.Comment n)) large = refl
+late_where_large (places.Header first) large = absurd (omega arith)
 late_where_large _ large = refl

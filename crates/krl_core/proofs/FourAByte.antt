@@ -118,14 +118,9 @@ count_more : (entry : Entry) (entries : List Entry) (sections : List Section) �
 unfolding all_under
 count_more entry entries [] = refl
 count_more entry entries (x ∷ xs) =
-    omega (
-      arith,
-      sum_by-cons (count_all (entry ∷ entries)) x xs,
-      sum_by-cons (count_under entry) x xs,
-      sum_by-cons (count_all entries) x xs,
-      length-append (under x.authority entry) (all_under x.authority entries),
-      count_more entry entries xs,
-    )
+    let cons = λ (f : Section → ℕ). sum_by-cons f x xs in
+    let both = length-append (under x.authority entry) (all_under x.authority entries) in
+    omega (arith, cons (count_all (entry ∷ entries)), cons (count_under entry), cons (count_all entries), both, count_more entry entries xs)
 
 count_most : (entries : List Entry) (sections : List Section) → RisesBy section_authority sections → sum_by (count_all entries) sections ≤ sum_by most entries
 count_most [] sections rise = omega (arith, count_none sections)
@@ -170,24 +165,18 @@ field_few (places.Serials (serials.Serial left after)) next authority field p = 
 field_few (places.Serials (serials.RangeMax min after)) next authority field p = omega (arith, p.whole)
 field_few (places.Bitmap (bitmaps.Byte offset size left after)) next authority field p = omega (arith, p.whole)
 field_few (places.List (lists.Item kinds.Key size left after)) next authority field p = omega arith
-field_few (places.List (lists.Item kinds.Sha1 size left after)) next authority field p = omega arith
-field_few (places.List (lists.Item kinds.Sha256 size left after)) next authority field p = omega arith
-field_few (places.List (lists.Item kinds.Id size left after)) next authority field p = omega arith
 field_few place next authority field p = omega arith
 
 byte_number : (field : List ℕ) → length field ≡ 1 → IsBytes field → number_of field < 256
-byte_number [] size fits = absurd (omega arith)
 byte_number (byte ∷ []) size fits = omega (arith, number_of-one byte, fits 0)
-byte_number (byte ∷ (other ∷ rest)) size fits = absurd (omega arith)
+byte_number _ size fits = absurd (omega arith)
 
 field_bytes : (place next : Place) (authority field : List ℕ) → Passes place field next → IsBytes field → AllByRecursion IsByteOnly (names place authority field)
 field_bytes (places.Serials (serials.Serial left after)) next authority field p fits = (tt, tt)
 field_bytes (places.Serials (serials.RangeMax min after)) next authority field p fits = (tt, tt)
 field_bytes (places.Bitmap (bitmaps.Byte offset size left after)) next authority field p fits = (byte_number field p.whole fits, tt)
 field_bytes (places.List (lists.Item kinds.Key size left after)) next authority field p fits = (tt, tt)
-field_bytes (places.List (lists.Item kinds.Sha1 size left after)) next authority field p fits = (tt, tt)
-field_bytes (places.List (lists.Item kinds.Sha256 size left after)) next authority field p fits = (tt, tt)
-field_bytes (places.List (lists.Item kinds.Id size left after)) next authority field p fits = (tt, tt)
+field_bytes (places.List (lists.Item kind size left after)) next authority field p fits = (tt, tt)
 field_bytes place next authority field p fits = tt
 
 fields_few : (fields : List (List ℕ)) (state last : State) → Leads state fields last → sum_by most last.entries ≤ sum_by most state.entries + 4 * length (concat fields)

@@ -1,5 +1,5 @@
 -- Fronts of one text: one begins the other, the longest is one, and what is reported there is one.
-use Rattle.std.proofs.Common.{◌≡◌, ℕ, ◌<◌, Bool, true, false, ltb, List, [], ◌∷◌, ◌++◌, length, take, drop, Option, Some, None, Result, Ok, Err, refl, sym, ap, subst, ◌∙◌, append_assoc, arith, inl, inr, ◌⊎◌}
+use Rattle.std.proofs.Common.{◌≡◌, ℕ, ◌<◌, Bool, true, false, ltb, List, [], ◌∷◌, ◌++◌, length, take, drop, Option, Some, None, Ok, Err, refl, sym, ap, subst, ◌∙◌, append_assoc, arith, inl, inr, ◌⊎◌}
 use Rattle.std.specs.List.{concat}
 use Rattle.std.proofs.lemmas.List.{append-nil, length-append}
 use Rattle.std.proofs.lemmas.List.Folds.{concat-append}
@@ -68,21 +68,24 @@ pub end_room : (p : Place) → can_end p ≡ true → HasRoom (expected p)
 end_room (SectionType signed) e = tt
 end_room _ e = absurd (cc)
 
+-- fewer bytes are left there than that
+pub end_short : (p : Place) (rest : List ℕ) → IsEnd p rest → length rest < (expected p).size
+end_short p rest at = omega (arith, end_size p at.0, ap length at.1)
+
+-- what begins with a whole field is as long as the field
+whole_rest : (p : Place) (rest field after : List ℕ) → length field ≡ (expected p).size → rest ≡ field ++ after → length rest < (expected p).size → ⊥
+whole_rest p rest field after size e short = omega (arith, short, size, ap length e, length-append field after)
+
 -- where something is reported, no next field passes
 pub blocked : (p next : Place) (rest field after : List ℕ) (goes_on : Bool) (fault : Option KrlFault) → Reported p rest goes_on fault
     → HasRoom (expected p) → length field ≡ (expected p).size → (expected p).judged field ≡ Ok next → rest ≡ field ++ after → ⊥
-blocked p next rest field after goes_on fault (ended at off is) room size judged e =
-    let one : (expected p).size ≡ 1 = end_size p at.0 in
-    let len : length rest ≡ 0 = ap length at.1 in
-    absurd (omega (arith, one, len, size, ap length e, length-append field after))
+blocked p next rest field after goes_on fault (ended at off is) room size judged e = whole_rest p rest field after size e (end_short p rest at)
 blocked p next rest field after goes_on fault (no_room none is) room size judged e = none room
 blocked p next rest field after goes_on fault (refused field' after' why room' e' size' judged' is) room size judged e =
     let same = append_same field field' after after' (size ∙ sym size') (sym e ∙ e') in
     never_err next why (sym judged ∙ ap (expected p).judged same.0 ∙ judged')
-blocked p next rest field after goes_on fault (too_long room' short on is) room size judged e =
-    absurd (omega (arith, short, size, ap length e, length-append field after))
-blocked p next rest field after goes_on fault (ends_early room' short not_end off is) room size judged e =
-    absurd (omega (arith, short, size, ap length e, length-append field after))
+blocked p next rest field after goes_on fault (too_long room' short on is) room size judged e = whole_rest p rest field after size e short
+blocked p next rest field after goes_on fault (ends_early room' short not_end off is) room size judged e = whole_rest p rest field after size e short
 
 pub is_longest : (text : List ℕ) (fields : List (List ℕ)) (p : State) (rest : List ℕ) (goes_on : Bool) (fault : Option KrlFault)
     → IsFront text fields p rest → Reported p.place rest goes_on fault → IsLongestFront text fields p rest
@@ -111,10 +114,7 @@ first_fault_is text fault h =
 ended_only : (p : Place) (rest : List ℕ) (goes_on : Bool) (fault : Option KrlFault) → IsEnd p rest → goes_on ≡ false → Reported p rest goes_on fault → None ≡ fault
 ended_only p rest goes_on fault at off (ended at' off' is) = sym is
 ended_only p rest goes_on fault at off (no_room full is) = absurd (full (end_room p at.0))
-ended_only p rest goes_on fault at off (refused field after why room e size judged is) =
-    let one : (expected p).size ≡ 1 = end_size p at.0 in
-    let len : length rest ≡ 0 = ap length at.1 in
-    absurd (omega (arith, one, len, size, ap length e, length-append field after))
+ended_only p rest goes_on fault at off (refused field after why room e size judged is) = absurd (whole_rest p rest field after size e (end_short p rest at))
 ended_only p rest goes_on fault at off (too_long room short on is) = absurd (cc (on, off))
 ended_only p rest goes_on fault at off (ends_early room short not_end off' is) = absurd (not_end at)
 
@@ -125,37 +125,28 @@ full_only p rest goes_on fault full (refused field after why room e size judged 
 full_only p rest goes_on fault full (too_long room short on is) = absurd (full room)
 full_only p rest goes_on fault full (ends_early room short not_end off is) = absurd (full room)
 
-refused_same : (why why' : KrlFault) (r : Result Place KrlFault) → r ≡ Err why → r ≡ Err why' → Some why ≡ Some why'
-refused_same why why' r h k = cc
-
 refused_only : (p : Place) (rest : List ℕ) (goes_on : Bool) (fault : Option KrlFault) (field after : List ℕ) (why : KrlFault) → HasRoom (expected p) → rest ≡ field ++ after → length field ≡ (expected p).size
     → (expected p).judged field ≡ Err why → Reported p rest goes_on fault → Some why ≡ fault
-refused_only p rest goes_on fault field after why room e size judged (ended at off is) =
-    let one : (expected p).size ≡ 1 = end_size p at.0 in
-    let len : length rest ≡ 0 = ap length at.1 in
-    absurd (omega (arith, one, len, size, ap length e, length-append field after))
+refused_only p rest goes_on fault field after why room e size judged (ended at off is) = absurd (whole_rest p rest field after size e (end_short p rest at))
 refused_only p rest goes_on fault field after why room e size judged (no_room full is) = absurd (full room)
 refused_only p rest goes_on fault field after why room e size judged (refused field' after' why' room' e' size' judged' is) =
     let same = append_same field field' after after' (size ∙ sym size') (sym e ∙ e') in
-    refused_same why why' ((expected p).judged field') (ap (expected p).judged (sym same.0) ∙ judged) judged' ∙ sym is
-refused_only p rest goes_on fault field after why room e size judged (too_long room' short on is) =
-    absurd (omega (arith, short, size, ap length e, length-append field after))
-refused_only p rest goes_on fault field after why room e size judged (ends_early room' short not_end off is) =
-    absurd (omega (arith, short, size, ap length e, length-append field after))
+    let one : Err why ≡ Err why' = sym judged ∙ ap (expected p).judged same.0 ∙ judged' in
+    (let e'' : Some why ≡ Some why' = cc in e'') ∙ sym is
+refused_only p rest goes_on fault field after why room e size judged (too_long room' short on is) = absurd (whole_rest p rest field after size e short)
+refused_only p rest goes_on fault field after why room e size judged (ends_early room' short not_end off is) = absurd (whole_rest p rest field after size e short)
 
 too_long_only : (p : Place) (rest : List ℕ) (goes_on : Bool) (fault : Option KrlFault) → HasRoom (expected p) → length rest < (expected p).size → goes_on ≡ true → Reported p rest goes_on fault → Some faults.TooLong ≡ fault
 too_long_only p rest goes_on fault room short on (ended at off is) = absurd (cc (on, off))
 too_long_only p rest goes_on fault room short on (no_room full is) = absurd (full room)
-too_long_only p rest goes_on fault room short on (refused field after why room' e size judged is) =
-    absurd (omega (arith, short, size, ap length e, length-append field after))
+too_long_only p rest goes_on fault room short on (refused field after why room' e size judged is) = absurd (whole_rest p rest field after size e short)
 too_long_only p rest goes_on fault room short on (too_long room' short' on' is) = sym is
 too_long_only p rest goes_on fault room short on (ends_early room' short' not_end off is) = absurd (cc (on, off))
 
 early_only : (p : Place) (rest : List ℕ) (goes_on : Bool) (fault : Option KrlFault) → HasRoom (expected p) → length rest < (expected p).size → (IsEnd p rest → ⊥) → goes_on ≡ false → Reported p rest goes_on fault → Some faults.EndsEarly ≡ fault
 early_only p rest goes_on fault room short not_end off (ended at off' is) = absurd (not_end at)
 early_only p rest goes_on fault room short not_end off (no_room full is) = absurd (full room)
-early_only p rest goes_on fault room short not_end off (refused field after why room' e size judged is) =
-    absurd (omega (arith, short, size, ap length e, length-append field after))
+early_only p rest goes_on fault room short not_end off (refused field after why room' e size judged is) = absurd (whole_rest p rest field after size e short)
 early_only p rest goes_on fault room short not_end off (too_long room' short' on is) = absurd (cc (on, off))
 early_only p rest goes_on fault room short not_end off (ends_early room' short' not_end' off' is) = sym is
 

@@ -1,6 +1,6 @@
 -- Hashes in a set of the standard library.
-use Rattle.std.proofs.Common.{◌≡◌, ℕ, List, [], ◌∷◌, ◌++◌, Bool, true, false, refl, sym, ap, subst, ◌∙◌, inl, inr}
-use Rattle.std.specs.Prelude.{◌⊎◌, ◌||◌, IsTrue, ◌↔◌}
+use Rattle.std.proofs.Common.{◌≡◌, ℕ, List, [], ◌∷◌, ◌++◌, Bool, refl, sym, ap, subst, inl, inr}
+use Rattle.std.specs.Prelude.{◌⊎◌, IsTrue, ◌↔◌}
 use Rattle.std.specs.List.{Contains, list_any}
 use Rattle.std.specs.List.Sorted.{IsStrictlySortedBy}
 use Rattle.std.specs.declared.cmp.Ordering.{Ordering}
@@ -9,10 +9,13 @@ use Rattle.std.specs.Ordering.{match_ordering, is_eq}
 use Rattle.std.specs.BTreeMap.{is_at}
 use Rattle.std.specs.BTreeSet.{insert_key}
 use Rattle.std.proofs.lemmas.Bool.{false≢true}
+use Rattle.std.proofs.lemmas.Bool.Decides.{Decides-or}
+use Rattle.std.proofs.Math.Logic.Iff as Iff
+use Rattle.krl_core.proofs.BothWays.{contains_cons}
 use Rattle.std.proofs.lemmas.Map.Lookups.{exact_bytes}
 use Rattle.krl_core.specs.Changes.{Puts}
 use Rattle.krl_core.specs.Rising.{bytes_cmp, Rises}
-use Rattle.krl_core.specs.Elements.{contains_here, contains_later, contains_cases, contains_none}
+use Rattle.krl_core.specs.Elements.{contains_here, contains_later, contains_none}
 use Rattle.krl_core.proofs.Ordered.{back_above, front_below, tied}
 
 rises_sorted : (ks : List (List ℕ)) → IsStrictlySortedBy bytes_cmp ks → Rises ks
@@ -62,27 +65,18 @@ hash_puts k old new is sorted =
 
 -- ---- whether there is one
 
-any_contains : (k : List ℕ) (ks : List (List ℕ)) → list_any (is_at (bytes_cmp k)) ks ≡ true → Contains ks k
-any_contains k [] h = absurd (false≢true h)
-any_contains k (x ∷ ks) h = by (bytes_cmp k x) refl h (any_contains k ks)
+at_decides : (k x : List ℕ) → IsTrue (is_at (bytes_cmp k) x) ↔ (x ≡ k)
+at_decides k x = (by (bytes_cmp k x) refl, λ same. ap is_eq (tied k x same))
   where
-    by : (o : Ordering) → bytes_cmp k x ≡ o → (is_eq o || list_any (is_at (bytes_cmp k)) ks) ≡ true
-        → (list_any (is_at (bytes_cmp k)) ks ≡ true → Contains ks k) → Contains (x ∷ ks) k
-    by Less e h later = contains_later x k ks (later h)
-    by Equal e h later = subst (Contains (x ∷ ks)) (sym (exact_bytes k x e)) (contains_here x ks)
-    by Greater e h later = contains_later x k ks (later h)
+    by : (o : Ordering) → bytes_cmp k x ≡ o → IsTrue (is_eq o) → x ≡ k
+    by Equal e h = sym (exact_bytes k x e)
+    by Less e h = absurd (false≢true h)
+    by Greater e h = absurd (false≢true h)
 
-contains_any : (k : List ℕ) (ks : List (List ℕ)) → Contains ks k → list_any (is_at (bytes_cmp k)) ks ≡ true
-contains_any k [] m = absurd (contains_none k m)
-contains_any k (x ∷ ks) m =
-    elim (contains_cases x k ks m) [
-      | inl here ↦ ap (λ o. is_eq o || list_any (is_at (bytes_cmp k)) ks) (tied k x here)
-      | inr later ↦ by (is_at (bytes_cmp k) x) (contains_any k ks later)
-    ]
-  where
-    by : (b : Bool) → list_any (is_at (bytes_cmp k)) ks ≡ true → (b || list_any (is_at (bytes_cmp k)) ks) ≡ true
-    by true h = refl
-    by false h = h
+any_listed : (k : List ℕ) (ks : List (List ℕ)) → IsTrue (list_any (is_at (bytes_cmp k)) ks) ↔ Contains ks k
+any_listed k [] = (λ h. absurd (false≢true h), λ m. absurd (contains_none k m))
+any_listed k (x ∷ ks) =
+    Iff.trans (Decides-or (is_at (bytes_cmp k) x) (list_any (is_at (bytes_cmp k)) ks) (at_decides k x) (any_listed k ks)) (Iff.symm (contains_cons x ks k))
 
 pub hash_listed : (k : List ℕ) (ks : List (List ℕ)) (b : Bool) → b ≡ list_any (is_at (bytes_cmp k)) ks → IsTrue b ↔ Contains ks k
-hash_listed k ks b is = (λ h. any_contains k ks (sym is ∙ h), λ m. is ∙ contains_any k ks m)
+hash_listed k ks b is = subst (λ (x : Bool). IsTrue x ↔ Contains ks k) (sym is) (any_listed k ks)

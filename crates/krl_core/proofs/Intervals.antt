@@ -9,6 +9,7 @@ use Rattle.serial_set.specs.Span.{Covers}
 use Rattle.serial_set.specs.BitRuns.{BitNames}
 use Rattle.serial_set.specs.Bits.{bit_below}
 use Rattle.serial_set.specs.Rising.{covers_append}
+use Rattle.std.proofs.Math.Logic.{⊎_map}
 use Rattle.std.proofs.Math.Logic.Iff as Iff
 use Rattle.krl_core.proofs.BothWays.{contains_cons, iff_both, iff_or}
 use Rattle.krl_core.specs.Entry.{Entry, SerialsEntry, RangeEntry, BitmapEntry}
@@ -73,31 +74,25 @@ pair_at base byte at = pair (base + at) (bit_at byte at) (bit_at byte (at + 1))
 pub of_byte : (base byte : ℕ) → List Span
 of_byte base byte = pair_at base byte 0 ++ (pair_at base byte 2 ++ (pair_at base byte 4 ++ pair_at base byte 6))
 
-set_bit : (byte at : ℕ) → 0 < bit_at byte at → bit_at byte at ≡ 1
-set_bit byte at some = omega (arith, bit_at-lt byte at)
-
 pair_names : (base byte at s : ℕ) → Covers (pair_at base byte at) s → BitNames base byte s
 unfolding pair_at
 pair_names base byte at s h =
     let in_pair = (covers_pair (base + at) (bit_at byte at) (bit_at byte (at + 1)) s).0 h in
-    elim in_pair.1 [
-      | inl one ↦
-          let place : s - base ≡ at = omega (arith, one.0) in
-          (in_pair.0, (let e : base ≤ s = omega (arith, one.0) in e), subst (λ (k : ℕ). bit_at byte k ≡ 1) (sym place) (set_bit byte at one.1))
-      | inr next ↦
-          let place : s - base ≡ at + 1 = omega (arith, next.0) in
-          (in_pair.0, (let e : base ≤ s = omega (arith, next.0) in e), subst (λ (k : ℕ). bit_at byte k ≡ 1) (sym place) (set_bit byte (at + 1) next.1))
-    ]
+    let named : (k : ℕ) → s ≡ base + k → 0 < bit_at byte k → BitNames base byte s = λ k e some.
+    let place : s - base ≡ k = omega (arith, e) in
+    let from : base ≤ s = omega (arith, e) in
+    let set : bit_at byte k ≡ 1 = omega (arith, some, bit_at-lt byte k) in
+    (in_pair.0, from, subst (λ (m : ℕ). bit_at byte m ≡ 1) (sym place) set) in
+    elim in_pair.1 [ inl one ↦ named at one.0 one.1 | inr next ↦ named (at + 1) (omega (arith, next.0)) next.1 ]
 
-low_named : (base byte at s : ℕ) → 0 < s → s ≡ base + at → bit_at byte at ≡ 1 → Covers (pair_at base byte at) s
+pair_named : (base byte at s : ℕ) → BitNames base byte s → at ≤ s - base → s - base < at + 2 → Covers (pair_at base byte at) s
 unfolding pair_at
-low_named base byte at s some e bit =
-    (covers_pair (base + at) (bit_at byte at) (bit_at byte (at + 1)) s).1 (some, inl (e, omega (arith, bit)))
-
-high_named : (base byte at s : ℕ) → 0 < s → s ≡ base + (at + 1) → bit_at byte (at + 1) ≡ 1 → Covers (pair_at base byte at) s
-unfolding pair_at
-high_named base byte at s some e bit =
-    (covers_pair (base + at) (bit_at byte at) (bit_at byte (at + 1)) s).1 (some, inr (omega (arith, e), omega (arith, bit)))
+pair_named base byte at s h from to =
+    let bit : (k : ℕ) → s - base ≡ k → 0 < bit_at byte k = λ k e. omega (arith, subst (λ (m : ℕ). bit_at byte m ≡ 1) e h.2) in
+    (covers_pair (base + at) (bit_at byte at) (bit_at byte (at + 1)) s).1 (
+      h.0,
+      ⊎_map (λ low. (omega (arith, h.1, low), bit at (omega (arith, low)))) (λ high. (omega (arith, h.1, high), bit (at + 1) (omega (arith, high)))) (cases_lt (s - base) (at + 1)),
+    )
 
 -- a serial of the byte is one of one of its pairs
 in_byte : (base byte s : ℕ) → Covers (of_byte base byte) s
@@ -109,24 +104,22 @@ in_byte base byte s =
     let p2 : List Span = pair_at base byte 2 in
     Iff.trans (covers_append (pair_at base byte 0) (p2 ++ (p4 ++ p6)) s) (iff_or Iff.rfl (Iff.trans (covers_append p2 (p4 ++ p6) s) (iff_or Iff.rfl (covers_append p4 p6 s))))
 
-bit_named : (base byte s k : ℕ) → 0 < s → s ≡ base + k → k < 8 → bit_at byte k ≡ 1 → Covers (of_byte base byte) s
-bit_named base byte s zero some e lt bit = (in_byte base byte s).1 (inl (low_named base byte 0 s some e bit))
-bit_named base byte s (suc zero) some e lt bit = (in_byte base byte s).1 (inl (high_named base byte 0 s some e bit))
-bit_named base byte s (suc (suc zero)) some e lt bit = (in_byte base byte s).1 (inr (inl (low_named base byte 2 s some e bit)))
-bit_named base byte s (suc (suc (suc zero))) some e lt bit = (in_byte base byte s).1 (inr (inl (high_named base byte 2 s some e bit)))
-bit_named base byte s (suc (suc (suc (suc zero)))) some e lt bit = (in_byte base byte s).1 (inr (inr (inl (low_named base byte 4 s some e bit))))
-bit_named base byte s (suc (suc (suc (suc (suc zero))))) some e lt bit = (in_byte base byte s).1 (inr (inr (inl (high_named base byte 4 s some e bit))))
-bit_named base byte s (suc (suc (suc (suc (suc (suc zero)))))) some e lt bit = (in_byte base byte s).1 (inr (inr (inr (low_named base byte 6 s some e bit))))
-bit_named base byte s (suc (suc (suc (suc (suc (suc (suc zero))))))) some e lt bit = (in_byte base byte s).1 (inr (inr (inr (high_named base byte 6 s some e bit))))
-bit_named base byte s (suc (suc (suc (suc (suc (suc (suc (suc k)))))))) some e lt bit = absurd (omega arith)
-
 byte_names : (base byte s : ℕ) → byte < 256 → Covers (of_byte base byte) s ↔ BitNames base byte s
 byte_names base byte s small = (
   λ h. elim ((in_byte base byte s).0 h) [
     | inl a ↦ pair_names base byte 0 s a
     | inr b ↦ elim b [ inl c ↦ pair_names base byte 2 s c | inr d ↦ elim d [ inl e ↦ pair_names base byte 4 s e | inr f ↦ pair_names base byte 6 s f ] ]
   ],
-  λ h. bit_named base byte s (s - base) h.0 (omega (arith, h.1)) (bit_below byte 8 (s - base) small h.2) h.2,
+  λ h. (in_byte base byte s).1 (elim (cases_lt (s - base) 2) [
+    | inl a ↦ inl (pair_named base byte 0 s h (omega arith) a)
+    | inr a ↦ inr (elim (cases_lt (s - base) 4) [
+      | inl b ↦ inl (pair_named base byte 2 s h a b)
+      | inr b ↦ inr (elim (cases_lt (s - base) 6) [
+        | inl c ↦ inl (pair_named base byte 4 s h b c)
+        | inr c ↦ inr (pair_named base byte 6 s h c (bit_below byte 8 (s - base) small h.2))
+      ])
+    ])
+  ]),
 )
 
 length-of_byte : (base byte : ℕ) → length (of_byte base byte) ≤ 4

@@ -33,11 +33,6 @@ adds_all old new more rest means = record {
   rest = rest;
 }
 
--- what is held means one entry more
-pub adds_one : (old new : Keeping) (entry : Entry) → KeepsRest old new
-    → ((entries : List Entry) → Means old.contents entries → Means new.contents (entries ++ entry ∷ [])) → Adds old (entry ∷ []) new
-adds_one old new entry rest means = adds_all old new (entry ∷ []) rest means
-
 -- other entries that name the same were added
 pub adds_same : (old new : Keeping) (xs ys : List Entry) → NamesSame xs ys → Adds old xs new → Adds old ys new
 adds_same old new xs ys same h = record {
@@ -51,9 +46,6 @@ adds_same old new xs ys same h = record {
   rest = h.rest;
 }
 
-pub rest_refl : (k : Keeping) → KeepsRest k k
-rest_refl k = record { authority_is = refl; header_is = refl; bitmap_is = refl }
-
 pub rest_then : (a b c : Keeping) → KeepsRest a b → KeepsRest b c → KeepsRest a c
 rest_then a b c h k = record {
   authority_is = k.authority_is ∙ h.authority_is;
@@ -64,7 +56,7 @@ rest_then a b c h k = record {
 pub adds_none : (k : Keeping) → Adds k [] k
 adds_none k = record {
   kept = λ entries h. subst (IsKept k) (sym (append-nil entries)) h;
-  rest = rest_refl k;
+  rest = record { authority_is = refl; header_is = refl; bitmap_is = refl };
 }
 
 pub adds_then : (a b c : Keeping) (xs ys : List Entry) → Adds a xs b → Adds b ys c → Adds a (xs ++ ys) c

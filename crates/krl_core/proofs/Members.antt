@@ -1,6 +1,7 @@
 -- What rising lists contain.
-use Rattle.std.proofs.Common.{ℕ, List, [], ◌∷◌, ◌++◌, map, sym, subst, inl, inr}
+use Rattle.std.proofs.Common.{ℕ, List, [], ◌∷◌, ◌++◌, map, sym, subst}
 use Rattle.std.specs.List.{Contains}
+use Rattle.std.proofs.Math.Logic.{⊎_elim}
 use Rattle.std.proofs.lemmas.List.{map-append}
 use Rattle.std.proofs.lemmas.List.Elements.{Contains-append_right, Contains-append_cases}
 use Rattle.krl_core.specs.Rising.{AllBelow, AllAbove}
@@ -12,28 +13,20 @@ module _ {X : Type 0} (key : X → List ℕ) where
   pub absent_below : (bytes : List ℕ) (xs : List X) → AllBelow key bytes xs → Contains (map key xs) bytes → ⊥
   absent_below bytes [] b m = contains_none bytes m
   absent_below bytes (x ∷ xs) b m =
-      elim (contains_cases (key x) bytes (map key xs) m) [
-        | inl here ↦ less_apart (key x) bytes b.0 here
-        | inr later ↦ absent_below bytes xs b.1 later
-      ]
+      ⊎_elim (less_apart (key x) bytes b.0) (absent_below bytes xs b.1) (contains_cases (key x) bytes (map key xs) m)
 
   pub absent_above : (bytes : List ℕ) (xs : List X) → AllAbove key bytes xs → Contains (map key xs) bytes → ⊥
   absent_above bytes [] b m = contains_none bytes m
   absent_above bytes (x ∷ xs) b m =
-      elim (contains_cases (key x) bytes (map key xs) m) [
-        | inl here ↦ less_apart bytes (key x) b.0 (sym here)
-        | inr later ↦ absent_above bytes xs b.1 later
-      ]
+      ⊎_elim (λ here. less_apart bytes (key x) b.0 (sym here)) (absent_above bytes xs b.1) (contains_cases (key x) bytes (map key xs) m)
 
   pub contains_right : (bytes : List ℕ) (xs ys : List X) → Contains (map key ys) bytes → Contains (map key (xs ++ ys)) bytes
   contains_right bytes xs ys m = subst (λ l. Contains l bytes) (sym (map-append key xs ys)) (Contains-append_right (map key xs) (map key ys) bytes m)
 
   pub absent_parts : (bytes : List ℕ) (xs ys : List X) → AllBelow key bytes xs → AllAbove key bytes ys → Contains (map key (xs ++ ys)) bytes → ⊥
   absent_parts bytes xs ys b a m =
-      elim (Contains-append_cases (map key xs) (map key ys) bytes (subst (λ l. Contains l bytes) (map-append key xs ys) m)) [
-        | inl l ↦ absent_below bytes xs b l
-        | inr r ↦ absent_above bytes ys a r
-      ]
+      ⊎_elim (absent_below bytes xs b) (absent_above bytes ys a)
+      (Contains-append_cases (map key xs) (map key ys) bytes (subst (λ l. Contains l bytes) (map-append key xs ys) m))
 
   pub stands_contained : (xs : List X) (x : X) → Stands key xs x → Contains (map key xs) (key x)
   stands_contained xs x s =

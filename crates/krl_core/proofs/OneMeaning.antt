@@ -5,6 +5,7 @@ use Rattle.std.specs.List.{Contains, All}
 use Rattle.std.specs.declared.cmp.Ordering.{Ordering}
 use Rattle.std.specs.declared.cmp.Ordering.TheVariants.{Less, Equal, Greater}
 use Rattle.std.specs.Ordering.{ordering_reverse}
+use Rattle.std.proofs.Math.Logic.{⊎_elim}
 use Rattle.std.proofs.lemmas.Cmp.{nat_list_cmp_total}
 use Rattle.std.proofs.lemmas.Map.Lookups.{exact_bytes}
 use Rattle.std.proofs.lemmas.List.Elements.{All-tail}
@@ -44,10 +45,7 @@ not_before_itself a less = less_apart a a less refl
 above_member : (a text : List ℕ) (texts : List (List ℕ)) → AllAbove (λ bytes. bytes) a texts → Contains texts text → bytes_cmp a text ≡ Less
 above_member a text [] above m = absurd (contains_none text m)
 above_member a text (x ∷ xs) above m =
-    elim (contains_cases x text xs m) [
-      | inl here ↦ subst (λ (t : List ℕ). bytes_cmp a t ≡ Less) here above.0
-      | inr later ↦ above_member a text xs above.1 later
-    ]
+    ⊎_elim (λ here. subst (λ (t : List ℕ). bytes_cmp a t ≡ Less) here above.0) (above_member a text xs above.1) (contains_cases x text xs m)
 
 -- the first text of the one list is not before the first of the other
 not_first : (x y : List ℕ) (xs ys : List (List ℕ)) → Rises (y ∷ ys) → Contains (y ∷ ys) x → bytes_cmp x y ≡ Less → ⊥
@@ -86,10 +84,7 @@ section_authority section = section.authority
 pub above_named : (a b : List ℕ) (xs : List Section) → AllAbove section_authority a xs → SomeSection (λ section. section.authority ≡ b) xs → bytes_cmp a b ≡ Less
 above_named a b [] above h = absurd h
 above_named a b (x ∷ xs) above h =
-    elim h [
-      | inl here ↦ subst (λ (t : List ℕ). bytes_cmp a t ≡ Less) here above.0
-      | inr later ↦ above_named a b xs above.1 later
-    ]
+    ⊎_elim (λ here. subst (λ (t : List ℕ). bytes_cmp a t ≡ Less) here above.0) (above_named a b xs above.1) h
 
 -- something is held under it
 pub above_held : (P : Section → Type 0) (a b : List ℕ) (xs : List Section) → AllAbove section_authority a xs → SomeSection (λ section. (section.authority ≡ b) × P section) xs → bytes_cmp a b ≡ Less

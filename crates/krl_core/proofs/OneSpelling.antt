@@ -72,13 +72,8 @@ same_each {X} Spelling one some text other (x ∷ xs) (y ∷ ys) e h k =
     let more = same_each Spelling one some h.1.0 k.1.0 xs ys s.1 h.1.1.2 k.1.1.2 in
     ap (λ (z : X). z ∷ xs) s.0 ∙ ap (λ (zs : List X). y ∷ zs) more
 
-first_byte : List ℕ → ℕ
-first_byte [] = 0
-first_byte (byte ∷ bytes) = byte
-
 head_is : (m n : ℕ) (xs ys : List ℕ) → m ∷ xs ≡ n ∷ ys → m ≡ n
-unfolding first_byte
-head_is m n xs ys e = ap first_byte e
+head_is m n xs ys e = cc
 
 -- a type byte and a string
 typed_front : (m n : ℕ) (content content' text other rest rest' : List ℕ) → text ≡ m ∷ string content → other ≡ n ∷ string content' → length content < 2 ^ 32 → length content' < 2 ^ 32
@@ -89,13 +84,7 @@ typed_front m n content content' text other rest rest' e f fits fits' same =
     let t = same_string content content' rest rest' fits fits' s.1 in
     (head_is m n (string content ++ rest) (string content' ++ rest') whole, t.0, t.1)
 
-typed_some : (n : ℕ) (content text : List ℕ) → text ≡ n ∷ string content → 0 < length text
-typed_some n content text e = omega (arith, ap length e)
-
 -- ---- subsections
-
-number_last : (m n : ℕ) → m < 2 ^ 64 → n < 2 ^ 64 → number 8 m ≡ number 8 n → m ≡ n
-number_last m n fits fits' e = sym (number_again8 m fits) ∙ ap number_of e ∙ number_again8 n fits'
 
 bitmap_fits : (content bytes : List ℕ) (offset : ℕ) → content ≡ number 8 offset ++ string bytes → length content < 2 ^ 32 → length bytes < 2 ^ 32
 bitmap_fits content bytes offset e fits = omega (arith, ap length e, length-append (number 8 offset) (string bytes), length-string bytes)
@@ -113,7 +102,7 @@ same_content (Range min max) (Range min' max') content fits e h k =
     let below : min < 2 ^ 64 = omega (arith, h.1, h.2) in
     let below' : min' < 2 ^ 64 = omega (arith, k.1, k.2) in
     let s = same_number8 min min' (number 8 max) (number 8 max') below below' (sym h.0 ∙ k.0) in
-    ap (λ (n : ℕ). Range n max) s.0 ∙ ap (λ (n : ℕ). Range min' n) (number_last max max' h.2 k.2 s.1)
+    ap (λ (n : ℕ). Range n max) s.0 ∙ ap (λ (n : ℕ). Range min' n) (sym (number_again8 max h.2) ∙ ap number_of s.1 ∙ number_again8 max' k.2)
 same_content (Bitmap offset value) (Bitmap offset' value') content fits e h k = same_bitmap content offset value offset' value' fits h k
 same_content (Ids texts) (Ids others) content fits e h k = ap Ids (same_strings texts others (omega (arith, ap length h)) (sym h ∙ k))
 same_content SubsectionExtension SubsectionExtension content fits e h k = refl
@@ -125,7 +114,7 @@ one_subsection x y text other rest rest' h k e =
     (same_content x y h.content h.fits t.0 h.content_is (subst (λ (c : List ℕ). SubsectionContent c y) (sym t.1) k.content_is), t.2)
 
 some_subsection : HasBytes SpellsSubsection
-some_subsection x text h = typed_some (subsection_type x) h.content text h.spelled
+some_subsection x text h = omega (arith, ap length h.spelled)
 
 -- ---- sections
 
@@ -158,12 +147,8 @@ section_type Extension = 255
 
 -- the text begins with the type byte of the section
 section_head : (x : SpelledSection) (text : List ℕ) → SpellsSection text x → (more : List ℕ) × (text ≡ section_type x ∷ more)
-section_head (Certificates authority subs) text h = (string h.content, h.spelled)
-section_head (Keys blobs) text h = (string h.content, h.spelled)
-section_head (Sha1s hashes) text h = (string h.content, h.spelled)
 section_head Signature text h = (string h.key ++ string h.signature, h.spelled)
-section_head (Sha256s hashes) text h = (string h.content, h.spelled)
-section_head Extension text h = (string h.content, h.spelled)
+section_head x text h = (string h.content, h.spelled)
 
 same_type : (x y : SpelledSection) (text other rest rest' : List ℕ) → SpellsSection text x → SpellsSection other y → text ++ rest ≡ other ++ rest' → section_type x ≡ section_type y
 same_type x y text other rest rest' h k e =

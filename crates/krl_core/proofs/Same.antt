@@ -1,6 +1,7 @@
 -- Lists of entries that name the same.
 use Rattle.std.proofs.Common.{◌≡◌, ℕ, ◌<◌, ◌≤◌, ◌⊎◌, ◌↔◌, List, [], ◌∷◌, ◌++◌, map, sym, subst, append_assoc, arith, inl, inr}
 use Rattle.std.specs.List.{AllByRecursion, Contains}
+use Rattle.std.proofs.Math.Logic.{⊎_elim}
 use Rattle.std.proofs.Math.Logic.Iff as Iff
 use Rattle.krl_core.specs.Entry.{Entry, SerialsEntry, RangeEntry, BitmapEntry}
 use Rattle.krl_core.specs.Naming.{EntryNames, Name, NamesSame, SerialOf, SomeNames}
@@ -91,39 +92,31 @@ mapped_name f name P x each (y ∷ xs) =
     let here : (P × ((y ≡ x) ⊎ Contains xs x)) ↔ (P × Contains (y ∷ xs) x) = Iff.and Iff.rfl (Iff.symm (contains_cons y xs x)) in
     Iff.trans (iff_or (each y) (mapped_name f name P x each xs)) (Iff.trans iff_both here)
 
+-- one entry of serials for another, and one that names none
+pub same_one : (x y : Entry) → IsSerials x → IsSerials y → ((a : List ℕ) (s : ℕ) → EntryNames x (SerialOf a s) ↔ EntryNames y (SerialOf a s)) → NamesSame (x ∷ []) (y ∷ [])
+same_one x y h k each = same_serials (x ∷ []) (y ∷ []) (h, tt) (k, tt) (λ a s. iff_or (each a s) Iff.rfl)
+
+pub same_nothing : (x : Entry) → IsSerials x → ((a : List ℕ) (s : ℕ) → EntryNames x (SerialOf a s) → ⊥) → NamesSame [] (x ∷ [])
+same_nothing x h none = same_serials [] (x ∷ []) tt (h, tt) (λ a s. (λ n. absurd n, ⊎_elim (none a s) (λ no. no)))
+
 -- a range of one serial
 pub same_serial : (a : List ℕ) (n : ℕ) → NamesSame (RangeEntry a n n ∷ []) (SerialsEntry a (n ∷ []) ∷ [])
-same_serial a n = same_serials (RangeEntry a n n ∷ []) (SerialsEntry a (n ∷ []) ∷ []) (tt, tt) (tt, tt) (λ b s. (
-  λ h. elim h [
-    | inl k ↦ inl (k.0, (k.1.0, (contains_one n s).1 (let e : n ≡ s = omega (arith, k.1.1.0, k.1.1.1) in e)))
-    | inr no_one ↦ absurd no_one
-  ],
-  λ h. elim h [
-    | inl k ↦ let same = (contains_one n s).0 k.1.1 in inl (k.0, (k.1.0, (omega (arith, same), omega (arith, same))))
-    | inr no_one ↦ absurd no_one
-  ],
+same_serial a n = same_one (RangeEntry a n n) (SerialsEntry a (n ∷ [])) tt tt (λ b s. (
+  λ k. (k.0, (k.1.0, (contains_one n s).1 (let e : n ≡ s = omega (arith, k.1.1.0, k.1.1.1) in e))),
+  λ k. let same = (contains_one n s).0 k.1.1 in (k.0, (k.1.0, (omega (arith, same), omega (arith, same)))),
 ))
 
 -- the serial 0 names none
 pub same_zero : (a : List ℕ) → NamesSame [] (SerialsEntry a (0 ∷ []) ∷ [])
-same_zero a = same_serials [] (SerialsEntry a (0 ∷ []) ∷ []) tt (tt, tt) (λ b s. (
-  λ h. absurd h,
-  λ h. elim h [
-    | inl k ↦ absurd (let same = (contains_one 0 s).0 k.1.1 in omega (arith, same, k.1.0))
-    | inr no_one ↦ no_one
-  ],
-))
+same_zero a = same_nothing (SerialsEntry a (0 ∷ [])) tt (λ b s k. let same = (contains_one 0 s).0 k.1.1 in omega (arith, same, k.1.0))
 
 -- a range to 0 names none
 pub same_none : (a : List ℕ) (min : ℕ) → NamesSame [] (RangeEntry a min 0 ∷ [])
-same_none a min = same_serials [] (RangeEntry a min 0 ∷ []) tt (tt, tt) (λ b s. (
-  λ h. absurd h,
-  λ h. elim h [ inl k ↦ absurd (omega (arith, k.1.0, k.1.1.1)) | inr no_one ↦ no_one ],
-))
+same_none a min = same_nothing (RangeEntry a min 0) tt (λ b s k. omega (arith, k.1.0, k.1.1.1))
 
 -- a range from 0 is one from 1
 pub same_from_one : (a : List ℕ) (min low max : ℕ) → (s : (s : ℕ) → 0 < s → (low ≤ s) ↔ (min ≤ s)) → NamesSame (RangeEntry a low max ∷ []) (RangeEntry a min max ∷ [])
-same_from_one a min low max from = same_serials (RangeEntry a low max ∷ []) (RangeEntry a min max ∷ []) (tt, tt) (tt, tt) (λ b s. (
-  λ h. elim h [ inl k ↦ inl (k.0, (k.1.0, ((from s k.1.0).0 k.1.1.0, k.1.1.1))) | inr no_one ↦ absurd no_one ],
-  λ h. elim h [ inl k ↦ inl (k.0, (k.1.0, ((from s k.1.0).1 k.1.1.0, k.1.1.1))) | inr no_one ↦ absurd no_one ],
+same_from_one a min low max from = same_one (RangeEntry a low max) (RangeEntry a min max) tt tt (λ b s. (
+  λ k. (k.0, (k.1.0, ((from s k.1.0).0 k.1.1.0, k.1.1.1))),
+  λ k. (k.0, (k.1.0, ((from s k.1.0).1 k.1.1.0, k.1.1.1))),
 ))

@@ -6,8 +6,8 @@ use Rattle.krl_core.specs.Contents.{Contents, HoldsName, IsOrderly, Means, nothi
 use Rattle.krl_core.specs.Entry.{Entry}
 use Rattle.krl_core.specs.Naming.{EntryNames, IdOf, KeyOf, Name, NamesSame, SerialOf, Sha1Of, Sha256Of, SomeNames}
 use Rattle.krl_core.specs.Elements.{contains_none}
-use Rattle.krl_core.proofs.BothWays.{iff_or}
-use Rattle.krl_core.proofs.Same.{one_more, some_append}
+use Rattle.krl_core.proofs.BothWays.{iff_none, iff_or}
+use Rattle.krl_core.proofs.Same.{some_append}
 
 pub same_meaning : (r : Contents) (entries others : List Entry) → Means r entries → NamesSame entries others → Means r others
 same_meaning r entries others m same = record { orderly = m.orderly; names = λ name. Iff.trans (m.names name) (same name) }
@@ -24,10 +24,8 @@ means_all old new entries more orderly gains m = record {
 
 -- what is held means one entry more where just what that one names is held beside it
 pub means_more : (old new : Contents) (entries : List Entry) (entry : Entry) → IsOrderly new → ((name : Name) → HoldsName new name ↔ (HoldsName old name ⊎ EntryNames entry name)) → Means old entries → Means new (entries ++ entry ∷ [])
-means_more old new entries entry orderly gains m = record {
-  orderly = orderly;
-  names = λ name. Iff.trans (gains name) (Iff.trans (iff_or (m.names name) Iff.rfl) (Iff.symm (one_more entries entry name)));
-}
+means_more old new entries entry orderly gains m =
+    means_all old new entries (entry ∷ []) orderly (λ name. Iff.trans (gains name) (iff_or Iff.rfl (iff_none (λ none. none)))) m
 
 -- without entries nothing is held
 pub nothing_meant : Means nothing []

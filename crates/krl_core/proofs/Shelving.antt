@@ -54,28 +54,23 @@ apart_back : (front : Places) (x : List ℕ × ℕ) (back : Places) → AreApart
 apart_back [] x back a = a.0
 apart_back (e ∷ front) x back a = apart_back front x back a.1
 
-elsewhere : (n : ℕ) (entry : List ℕ × ℕ) → Below n entry → Elsewhere n entry
-elsewhere n entry below same = omega (arith, same)
-
 apart_between : (front : Places) (name : List ℕ) (n : ℕ) (back : Places) → AllByRecursion (Below n) (front ++ back) → AreApart (front ++ back) → AreApart (front ++ (name, n) ∷ back)
-apart_between [] name n back b a = (all_weaker (Below n) (Elsewhere n) (elsewhere n) back b, a)
+apart_between [] name n back b a = (all_weaker (Below n) (Elsewhere n) (λ entry below same. omega (arith, below, same)) back b, a)
 apart_between (e ∷ front) name n back b a = (
   all_append (Elsewhere (place_of e)) front ((name, n) ∷ back) (all_left (Elsewhere (place_of e)) front back a.0)
       (λ same. omega (arith, b.0, same), all_right (Elsewhere (place_of e)) front back a.0),
   apart_between front name n back b.1 a.1,
 )
 
-more : (n : ℕ) (entry : List ℕ × ℕ) → Below n entry → Below (n + 1) entry
-more n entry below = omega arith
-
 -- a place after all others is put in
 pub placed_more : (n : ℕ) (old : Places) (name : List ℕ) (new : Places) → Inserts name_of old (name, n) new → ArePlaced n old → ArePlaced (n + 1) new
 placed_more n old name new i p =
     let within = subst (AllByRecursion (Below n)) i.before p.within in
+    let more : (entry : List ℕ × ℕ) → Below n entry → Below (n + 1) entry = λ entry below. omega (arith, below) in
     record {
       within = subst (AllByRecursion (Below (n + 1))) (sym i.after)
-          (all_append (Below (n + 1)) i.front ((name, n) ∷ i.back) (all_weaker (Below n) (Below (n + 1)) (more n) i.front (all_left (Below n) i.front i.back within))
-          (omega arith, all_weaker (Below n) (Below (n + 1)) (more n) i.back (all_right (Below n) i.front i.back within)));
+          (all_append (Below (n + 1)) i.front ((name, n) ∷ i.back) (all_weaker (Below n) (Below (n + 1)) more i.front (all_left (Below n) i.front i.back within))
+          (omega arith, all_weaker (Below n) (Below (n + 1)) more i.back (all_right (Below n) i.front i.back within)));
       apart = subst AreApart (sym i.after) (apart_between i.front name n i.back within (subst AreApart i.before p.apart));
     }
 

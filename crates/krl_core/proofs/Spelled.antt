@@ -2,7 +2,7 @@
 use Rattle.std.proofs.Common.{◌≡◌, ℕ, zero, suc, ◌+◌, ◌-◌, ◌*◌, ◌%◌, ◌==◌, ◌<◌, ◌≤◌, ◌^◌, Bool, true, false, not, cond, eqb, ltb, leb, eq-eqb, List, [], ◌∷◌, ◌++◌, length, Result, Ok, Err, refl, sym, ap, subst, ◌∙◌, append_assoc, arith, inl, inr}
 use Rattle.std.specs.List.{AllByRecursion}
 use Rattle.std.specs.Int.{bit_at}
-use Rattle.std.proofs.lemmas.Bool.{cases_lt, le-ltb, lt-ltb, le-leb, lt-leb, eqb-true}
+use Rattle.std.proofs.lemmas.Bool.{cases_lt, cases_Bool, ne_eqb, le-ltb, lt-ltb, le-leb, lt-leb, eqb-true}
 use Rattle.std.proofs.lemmas.List.{length-append}
 use Rattle.ssh_wire.specs.Wire.{IsBytes, number, number_of, string, strings}
 use Rattle.ssh_wire.specs.Digits.{IsBytes-back, IsBytes-front}
@@ -149,24 +149,18 @@ not_passes : (base byte : ℕ) → byte < 256 → ((k : ℕ) → bit_at byte k �
 not_passes base zero lt within = refl
 not_passes base (suc b) lt within =
     let top = within (highest_bit (suc b)) (highest_set (suc b) (omega arith) lt) in
-    rw (lt-leb 18446744073709551616 (base + highest_bit (suc b)) (omega (arith, top))) (elim_same (eqb (suc b) 0))
-  where
-    elim_same : (c : Bool) → cond c false false ≡ false
-    elim_same true = refl
-    elim_same false = refl
+    rw (ne_eqb (suc b) 0 (λ e. absurd (omega arith)), lt-leb 18446744073709551616 (base + highest_bit (suc b)) (omega (arith, top))) refl
 
 bits_pass : (offset size left after byte : ℕ) → (left ≡ size → byte < 128) → passes_end (base_of offset left) byte ≡ false
     → bits_judged offset size left after byte ≡ Ok (next_bits offset size (left - 1) after)
 bits_pass offset size left after byte sign passes =
-    decide (eqb left size) (ltb byte 128) (judge (not (passes_end (base_of offset left) byte)) faults.BitmapWraps (next_bits offset size (left - 1) after))
-    (λ e. lt-ltb byte 128 (sign (eqb-true left size e)))
-    (ap (λ (b : Bool). judge (not b) faults.BitmapWraps (next_bits offset size (left - 1) after)) passes)
-  where
-    decide : (e t : Bool) (w : Result Place KrlFault) → (e ≡ true → t ≡ true) → w ≡ Ok (next_bits offset size (left - 1) after)
-        → cond e (cond t w (Err faults.BitmapNegative)) w ≡ Ok (next_bits offset size (left - 1) after)
-    decide true true w h k = k
-    decide true false w h k = let c = h refl in absurd (cc)
-    decide false t w h k = k
+    let W : Result Place KrlFault = judge (not (passes_end (base_of offset left) byte)) faults.BitmapWraps (next_bits offset size (left - 1) after) in
+    let w : W ≡ Ok (next_bits offset size (left - 1) after) = ap (λ (b : Bool). judge (not b) faults.BitmapWraps (next_bits offset size (left - 1) after)) passes in
+    let tested = λ (b : Bool). cond b (cond (ltb byte 128) W (Err faults.BitmapNegative)) W in
+    elim (cases_Bool (eqb left size)) [
+      | inl e ↦ ap tested e ∙ ap (λ (b : Bool). cond b W (Err faults.BitmapNegative)) (lt-ltb byte 128 (sign (eqb-true left size e))) ∙ w
+      | inr e ↦ ap tested e ∙ w
+    ]
 
 low_bytes : (bits : List ℕ) → IsBytes bits → number_of bits < 2 ^ (8 * length bits)
 low_bytes [] fits = low_none

@@ -138,16 +138,14 @@ spelled_unfaulted text header sections fits h le =
       reported = subst (λ (p : Place). Reported p [] (ltb limit (length text)) None) (sym a.place_is) (ended (refl, refl) off refl);
     })
 
-not_some : (fault : KrlFault) → Some fault ≡ None → ⊥
-not_some fault e = cc
-
 -- of a list that is spelled nothing else is said than that memory ran out or that the reader failed
 pub only_broken_off : (fault : KrlFault) (failed : Bool) (left : Option (List ℕ)) (text : List ℕ) (header : Header) (sections : List SpelledSection) → Says fault text failed left → IsBytes text → Spells text header sections → length text ≤ limit
     → (fault ≡ faults.NoMemory) ⊎ ((fault ≡ faults.Read) × (failed ≡ true))
 only_broken_off fault failed left text header sections (starved is some works) fits h le = inl is
 only_broken_off fault failed left text header sections (failed_read is given) fits h le = inr (is, given.failed_is)
 only_broken_off fault failed left text header sections (first reported works) fits h le =
-    absurd (not_some fault (one_reported text (Some fault) None reported (spelled_unfaulted text header sections fits h le)))
+    let e = one_reported text (Some fault) None reported (spelled_unfaulted text header sections fits h le) in
+    absurd (cc (e))
 
 pub only_starved : (fault : KrlFault) (failed : Bool) (left : Option (List ℕ)) (text : List ℕ) (header : Header) (sections : List SpelledSection) → Says fault text failed left → IsBytes text → Spells text header sections → length text ≤ limit
     → (fault ≡ faults.NoMemory) ⊎ (fault ≡ faults.Read)

@@ -52,10 +52,6 @@ ahead_left (Some byte) (Some xs) rest p e f left some none = let l = rw (e, f) a
 pub ahead_some : (p : Pulled) (rest : List ℕ) → left_of p ≡ Some rest → IsSome p.ahead → rest ≡ [] → ⊥
 ahead_some p rest left some none = ahead_left p.ahead p.source rest p refl refl left some none
 
--- where no byte was looked at, what is left is what the reader has
-none_ahead : (p : Pulled) → p.ahead ≡ None → left_of p ≡ p.source
-none_ahead p none = ap (λ (ahead : Option ℕ). after_ahead ahead p.source) none
-
 -- ---- the front that was read
 
 -- what is reported at the place that was reached is the first fault
@@ -88,9 +84,6 @@ reported_given fields state came fault leads le reported =
 
 -- ---- faults
 
-says_as : (a b : KrlFault) (text : List ℕ) (failed : Bool) (left : Option (List ℕ)) → b ≡ a → Says a text failed left → Says b text failed left
-says_as a b text failed left e h = subst (λ (f : KrlFault). Says f text failed left) (sym e) h
-
 -- the reader failed in a field, or where the end was looked for
 pub says_read : (old : Position) (mid new : Pulled) (text : List ℕ) (fields : List (List ℕ)) → IsBounded old.pull old.keeping
     → HasRead text fields old → Keeps (left_of old.pull) (left_of mid) → mid.taken ≡ old.pull.taken → mid.limit ≡ old.pull.limit
@@ -106,7 +99,7 @@ says_read old mid new text fields bounded h keeps taken limit_is room r =
       given = concat fields ++ m.came;
       later = after.0;
       parts = h.parts ∙ ap (λ (l : List ℕ). concat fields ++ l) after.2 ∙ sym (append_assoc (concat fields) m.came after.0);
-      left_is = sym (none_ahead new m.reports.0) ∙ after.1;
+      left_is = ap (λ (ahead : Option ℕ). after_ahead ahead new.source) (sym m.reports.0) ∙ after.1;
       failed_is = m.reports.1;
       reported = elim (end_or_early h.state.place m.came room' short) [
         | inl t ↦ inl (reported_given fields h.state m.came None h.leads le t)
@@ -176,10 +169,10 @@ pub missed_says : (old : Position) (mid new : Pulled) (fault : KrlFault) → IsB
     → LooksFor old.place old.pull false mid → Missed old.place mid fault new → (fault ≡ faults.NoMemory → is_fixed old.place ≡ false) → Refused fault old new
 missed_says old mid new fault bounded looks (room_missed full is same) late text fields h =
     let le : length (concat fields) ≤ limit = omega (arith, bounded.within, h.taken_is) in
-    says_as faults.Length fault text new.failed new.source is
+    subst (λ (f : KrlFault). Says f text new.failed new.source) (sym is)
     (first (reported_there text fields old h (Some faults.Length) le (no_room full refl)) (ap (λ p. p.failed) same ∙ looks.works))
 missed_says old mid new fault bounded looks (cut why room r is) late text fields h =
-    says_as (reported_as why) fault text new.failed new.source is (says_cut old mid new text fields why bounded h looks room r (λ e. late (is ∙ e)))
+    subst (λ (f : KrlFault). Says f text new.failed new.source) (sym is) (says_cut old mid new text fields why bounded h looks room r (λ e. late (is ∙ e)))
 
 -- a field that was refused
 pub refused_says : (old : Position) (mid new : Pulled) (field : List ℕ) (fault : KrlFault) → IsBounded old.pull old.keeping
@@ -253,5 +246,5 @@ pub end_refused : (old : Position) (new : Pulled) (fault : KrlFault) → IsBound
 end_refused old new fault bounded is may r text fields h =
     let one : (expected old.place).size ≡ 1 = end_size old.place may in
     let refuses : Refuses old.pull (expected old.place).size pulls.Read new = subst (λ (n : ℕ). Refuses old.pull n pulls.Read new) (sym one) r in
-    says_as faults.Read fault text new.failed new.source is
+    subst (λ (f : KrlFault). Says f text new.failed new.source) (sym is)
     (says_read old old.pull new text fields bounded h (keeps_refl (left_of old.pull)) refl refl (end_room old.place may) refuses)

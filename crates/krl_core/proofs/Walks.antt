@@ -30,9 +30,6 @@ pub Leads-push : (p q : State) (fields : List (List ℕ)) (field : List ℕ) (ne
 Leads-push p q fields field next h k =
     Leads-append p q (state_after q field next) fields (field ∷ []) h (next, (k, refl))
 
-pub walks_none : (p : State) (bytes : List ℕ) → Walks p bytes p bytes
-walks_none p bytes = record { fields = []; leads = refl; parts = refl }
-
 -- one whole field that passes its judgement
 pub walks_one : (p : State) (next : Place) (field rest : List ℕ) → Passes p.place field next
     → Walks p (field ++ rest) (state_after p field next) rest
@@ -58,4 +55,4 @@ reported_then p q a b goes_on fault h k =
     record { last = k.last; rest = k.rest; walks = walks_then p q k.last a b k.rest h k.walks; reported = k.reported }
 
 pub reported_here : (p : State) (bytes : List ℕ) (goes_on : Bool) (fault : Option KrlFault) → Reported p.place bytes goes_on fault → EndsReported p bytes goes_on fault
-reported_here p bytes goes_on fault reported = record { last = p; rest = bytes; walks = walks_none p bytes; reported = reported }
+reported_here p bytes goes_on fault reported = record { last = p; rest = bytes; walks = record { fields = []; leads = refl; parts = refl }; reported = reported }

@@ -1,4 +1,5 @@
 use Rattle.std.proofs.Common.{inl, inr, refl, sym, ◌∙◌}
+use Rattle.std.proofs.Math.Logic.{⊎_elim}
 use Rattle.std.proofs.lemmas.Bool.{false≢true}
 use Rattle.krl_core.specs.Shelf.{section_of}
 use Rattle.krl_core.proofs.Finding.{under_none, under_section}
@@ -21,8 +22,5 @@ returns g c =
     let section = section_of g.S.Spans.spans (c.args.authority.now, c.in-Some.shelf.now) in
     let is = under_section c.args.shelves.now section c.args.authority.now c.args.id.now c.args.serial refl c.in-Some.ensures in (
       λ h. is.1 (inr (c.has-2.ensures.0 h)),
-      λ h. elim (is.0 h) [
-        | inl id ↦ absurd (false≢true (sym c.if-has.false ∙ c.has.ensures.1 id))
-        | inr serial ↦ c.has-2.ensures.1 serial
-      ],
+      λ h. ⊎_elim (λ id. absurd (false≢true (sym c.if-has.false ∙ c.has.ensures.1 id))) c.has-2.ensures.1 (is.0 h),
     )

@@ -1,11 +1,12 @@
-use Rattle.std.proofs.Common.{◌≡◌, ◌≤◌, ◌+◌, length, sym, subst}
+use Rattle.std.proofs.Common.{◌≡◌, ◌≤◌, ◌+◌, length, refl, sym, ap, subst, arith}
 use Rattle.krl_core.specs.declared.addition.Addition.TheVariants.{Id}
 use Rattle.krl_core.specs.Authority.{authority_bytes}
 use Rattle.krl_core.specs.Changes.{AddsTo}
-use Rattle.krl_core.specs.Contents.{contents_of, IsNamed, Means, held, stored}
+use Rattle.krl_core.specs.Contents.{Section, contents_of, IsNamed, Means, held, section_size, stored}
 use Rattle.krl_core.specs.TextMap.{names_of}
 use Rattle.krl_core.proofs.Adding.{id_orderly, id_mean}
-use Rattle.krl_core.proofs.Amounts.{id_held, id_stored, id_known, adds_named, adds_stays}
+use Rattle.krl_core.proofs.Amounts.{empty_size, id_size, sum_named, sum_stays, adds_named, adds_stays}
+use Rattle.krl_core.proofs.SomeSections.{sum_adds}
 use Rattle.krl_core.proofs.revocations.Revocations.add_id.Goals as goal
 use Rattle.krl_core.proofs.revocations.Revocations.add_id.Given.{Over}
 
@@ -29,7 +30,7 @@ returns-clause-held g c =
     let r = c.self.inside in
     let new = c.add.new.self in
     subst (λ x. held (contents_of new (names_of r.keys) r.sha1s.keys r.sha256s.keys) ≡ held x) c.self.view_is
-    (id_held c.args.id (authority_bytes c.args.authority) r.shelves new (names_of r.keys) r.sha1s.keys r.sha256s.keys (adds g c))
+    (sum_stays (Id c.args.id) (authority_bytes c.args.authority) r.shelves new (λ section. length section.spans) (λ from to t. ap (λ (x : Section). length x.spans) t.same) refl (adds g c))
 
 pub returns-clause-stored : goal.returns-clause-stored
 returns-clause-stored g c =
@@ -37,7 +38,7 @@ returns-clause-stored g c =
     let new = c.add.new.self in
     let b = authority_bytes c.args.authority in
     subst (λ x. stored (contents_of new (names_of r.keys) r.sha1s.keys r.sha256s.keys) ≤ stored x + length b + length c.args.id.now) c.self.view_is
-    (id_stored c.args.id b r.shelves new (names_of r.keys) r.sha1s.keys r.sha256s.keys (adds g c))
+    (omega (arith, sum_adds (Id c.args.id) b r.shelves new section_size (length c.args.id.now) (id_size c.args.id) (adds g c), empty_size b))
 
 pub returns-clause-known : goal.returns-clause-known
 returns-clause-known g c named =
@@ -45,7 +46,7 @@ returns-clause-known g c named =
     let new = c.add.new.self in
     let b = authority_bytes c.args.authority in
     subst (λ x. stored (contents_of new (names_of r.keys) r.sha1s.keys r.sha256s.keys) ≤ stored x + length c.args.id.now) c.self.view_is
-    (id_known c.args.id b r.shelves new (names_of r.keys) r.sha1s.keys r.sha256s.keys (adds g c) (subst (λ x. IsNamed x b) (sym c.self.view_is) named))
+    (omega (arith, sum_named (Id c.args.id) b r.shelves new section_size (length c.args.id.now) (id_size c.args.id) (subst (λ x. IsNamed x b) (sym c.self.view_is) named) (adds g c)))
 
 pub returns-clause-named : goal.returns-clause-named
 returns-clause-named g c =

@@ -1,11 +1,12 @@
-use Rattle.std.proofs.Common.{◌≤◌, ◌+◌, length, sym, subst}
+use Rattle.std.proofs.Common.{◌≤◌, ◌+◌, length, sym, subst, arith}
 use Rattle.krl_core.specs.declared.addition.Addition.TheVariants.{Serials}
 use Rattle.krl_core.specs.Authority.{authority_bytes}
 use Rattle.krl_core.specs.Changes.{AddsTo}
-use Rattle.krl_core.specs.Contents.{contents_of, IsNamed, Means, held, stored}
+use Rattle.krl_core.specs.Contents.{contents_of, IsNamed, Means, held, section_size, stored}
 use Rattle.krl_core.specs.TextMap.{names_of}
 use Rattle.krl_core.proofs.Adding.{serials_orderly, serials_mean}
-use Rattle.krl_core.proofs.Amounts.{serials_held, serials_stored, serials_known, adds_named, adds_stays}
+use Rattle.krl_core.proofs.Amounts.{empty_size, serials_size, sum_named, adds_named, adds_stays}
+use Rattle.krl_core.proofs.SomeSections.{sum_adds}
 use Rattle.krl_core.proofs.revocations.Revocations.add_near.Goals as goal
 use Rattle.krl_core.proofs.revocations.Revocations.add_near.Given.{Over}
 
@@ -29,7 +30,7 @@ returns-clause-held g c =
     let r = c.self.inside in
     let new = c.add.new.self in
     subst (λ x. held (contents_of new (names_of r.keys) r.sha1s.keys r.sha256s.keys) ≤ held x + length c.args.near.now) c.self.view_is
-    (serials_held c.args.near (authority_bytes c.args.authority) r.shelves new (names_of r.keys) r.sha1s.keys r.sha256s.keys (adds g c))
+    (omega (arith, sum_adds (Serials c.args.near) (authority_bytes c.args.authority) r.shelves new (λ section. length section.spans) (length c.args.near.now) (λ from to t. t.as_many_more) (adds g c)))
 
 pub returns-clause-stored : goal.returns-clause-stored
 returns-clause-stored g c =
@@ -37,7 +38,7 @@ returns-clause-stored g c =
     let new = c.add.new.self in
     let b = authority_bytes c.args.authority in
     subst (λ x. stored (contents_of new (names_of r.keys) r.sha1s.keys r.sha256s.keys) ≤ stored x + length b) c.self.view_is
-    (serials_stored c.args.near b r.shelves new (names_of r.keys) r.sha1s.keys r.sha256s.keys (adds g c))
+    (omega (arith, sum_adds (Serials c.args.near) b r.shelves new section_size 0 (serials_size c.args.near) (adds g c), empty_size b))
 
 pub returns-clause-known : goal.returns-clause-known
 returns-clause-known g c named =
@@ -45,7 +46,7 @@ returns-clause-known g c named =
     let new = c.add.new.self in
     let b = authority_bytes c.args.authority in
     subst (λ x. stored (contents_of new (names_of r.keys) r.sha1s.keys r.sha256s.keys) ≤ stored x) c.self.view_is
-    (serials_known c.args.near b r.shelves new (names_of r.keys) r.sha1s.keys r.sha256s.keys (adds g c) (subst (λ x. IsNamed x b) (sym c.self.view_is) named))
+    (omega (arith, sum_named (Serials c.args.near) b r.shelves new section_size 0 (serials_size c.args.near) (subst (λ x. IsNamed x b) (sym c.self.view_is) named) (adds g c)))
 
 pub returns-clause-named : goal.returns-clause-named
 returns-clause-named g c =
