@@ -12,8 +12,8 @@ none_ahead : (before source : Option (List ℕ)) (ahead : Option ℕ) (came : Li
 none_ahead before source ahead came none bytes = subst (λ (a : Option ℕ). Consumes before (after_ahead a source) came) none bytes
 
 -- all that was left came
-pub loads_all : (before : Option (List ℕ)) (bytes : List ℕ) (new : Pulled) → TakesRest (untaken before file_limit) bytes new → IsLoaded before new.source new.failed (Ok bytes)
-loads_all before bytes new takes = record {
+pub loads_all : (before : Option (List ℕ)) (buffered bytes : List ℕ) (new : Pulled) → TakesRest (untaken before buffered file_limit) bytes new → IsLoaded before new.source new.failed (Ok bytes)
+loads_all before buffered bytes new takes = record {
   taken = bytes;
   consumed = none_ahead before new.source new.ahead bytes takes.none_ahead takes.takes.bytes;
   made = (refl, omega (arith, takes.takes.within), takes.ends, takes.takes.working);
@@ -29,20 +29,20 @@ passes_limit before source (Some byte) came failed bytes some full working = rec
 }
 
 -- not all that was left came
-pub loads_none : (before : Option (List ℕ)) (fault : PullFault) (new : Pulled) → RefusesRest (untaken before file_limit) fault new → IsLoaded before new.source new.failed (Err (file_fault fault))
-loads_none before EndsEarly new refuses = absurd refuses.misses.reports
-loads_none before TooLong new refuses =
+pub loads_none : (before : Option (List ℕ)) (buffered : List ℕ) (fault : PullFault) (new : Pulled) → RefusesRest (untaken before buffered file_limit) fault new → IsLoaded before new.source new.failed (Err (file_fault fault))
+loads_none before buffered EndsEarly new refuses = absurd refuses.misses.reports
+loads_none before buffered TooLong new refuses =
     let misses = refuses.misses in
     let full : length misses.came ≡ file_limit = omega (arith, misses.reports.0, refuses.taken, refuses.limit) in
     passes_limit before new.source new.ahead misses.came new.failed misses.bytes misses.reports.1 full misses.reports.2
-loads_none before Read new refuses =
+loads_none before buffered Read new refuses =
     let misses = refuses.misses in
     record {
       taken = misses.came;
       consumed = none_ahead before new.source new.ahead misses.came misses.reports.0 misses.bytes;
       made = (omega (arith, misses.within), misses.reports.1);
     }
-loads_none before NoMemory new refuses =
+loads_none before buffered NoMemory new refuses =
     let misses = refuses.misses in
     record {
       taken = misses.came;

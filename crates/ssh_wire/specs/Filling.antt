@@ -1,5 +1,5 @@
 -- The parts of taking a field from a reader.
-use Rattle.std.specs.Prelude.{◌≡◌, ℕ, ◌≤◌, ◌<◌, Bool, true, false, List, length, Option, None}
+use Rattle.std.specs.Prelude.{◌≡◌, ℕ, ◌≤◌, ◌<◌, Bool, true, false, List, [], length, Option, None}
 use Rattle.std.specs.Prelude.{Result, Ok, Err, IsSome}
 use Rattle.std.specs.Io.KnownBytes.{Consumes, IsAtEnd}
 use Rattle.ssh_wire.specs.declared.pull_fault.PullFault.{PullFault}
@@ -18,6 +18,7 @@ pulled source failed ahead taken limit =
     record {
       source = source;
       failed = failed;
+      buffered = [];
       ahead = ahead;
       taken = taken;
       limit = limit;

@@ -1,17 +1,19 @@
 -- How far a reader was pulled, and what taking a field from it does.
-use Rattle.std.specs.Prelude.{◌≡◌, ℕ, ◌+◌, ◌≤◌, ◌<◌, Bool, true, false, List, [], ◌∷◌, length}
-use Rattle.std.specs.Prelude.{Option, Some, None, Result, Err, IfSome, IsSome, MatchBool}
+use Rattle.std.specs.Prelude.{◌≡◌, ℕ, ◌+◌, ◌-◌, ◌≤◌, ◌<◌, Bool, true, false, List, [], ◌∷◌}
+use Rattle.std.specs.Prelude.{length, take, Option, Some, None, Result, Err, IfSome, IsSome, MatchBool}
 use Rattle.std.proofs.Common.{refl}
 use Rattle.std.specs.Io.KnownBytes.{Consumes, IsAtEnd, Keeps, prepend_known}
 use Rattle.ssh_wire.specs.declared.pull_fault.PullFault.{PullFault}
 use Rattle.ssh_wire.specs.declared.pull_fault.PullFault.TheVariants.{EndsEarly, TooLong, Read}
 use Rattle.ssh_wire.specs.declared.pull_fault.PullFault.TheVariants.{NoMemory}
 
--- What the reader has left, where it knows that, and whether it failed; the byte that was looked at
--- and not taken; how many bytes were taken, and how many may be; the fault that was met.
+-- What the reader has left, where it knows that, whether it failed, and what stands in its buffer;
+-- the byte that was looked at and not taken; how many bytes were taken, and how many may be; the
+-- fault that was met.
 pub record Pulled : Type 0 where
   pub source : Option (List ℕ)
   pub failed : Bool
+  pub buffered : List ℕ
   pub ahead : Option ℕ
   pub taken : ℕ
   pub limit : ℕ
@@ -32,10 +34,27 @@ Consumes-ahead byte (Some xs) = refl
 abbrev pub left_of : Pulled → Option (List ℕ)
 left_of pull = after_ahead pull.ahead pull.source
 
--- nothing was taken of a reader that has these bytes left
-abbrev pub untaken : Option (List ℕ) → ℕ → Pulled
-untaken source limit =
-    record { source = source; failed = false; ahead = None; taken = 0; limit = limit; fault = None }
+-- nothing was taken of a reader that has these bytes left, and these in its buffer
+abbrev pub untaken : Option (List ℕ) → (buffered : List ℕ) → ℕ → Pulled
+untaken source buffered limit =
+    record {
+      source = source;
+      failed = false;
+      buffered = buffered;
+      ahead = None;
+      taken = 0;
+      limit = limit;
+      fault = None;
+    }
+
+-- the bytes that can be taken from the reader's buffer: none where a byte stands before them
+abbrev pub front_of : Option ℕ → (buffered : List ℕ) → (room : ℕ) → List ℕ
+front_of None buffered room = take room buffered
+front_of (Some byte) buffered room = []
+
+-- the bytes that can be taken now, within the limit
+abbrev pub at_hand : Pulled → List ℕ
+at_hand pull = front_of pull.ahead pull.buffered (pull.limit - pull.taken)
 
 -- The field was taken: it is the next bytes, within the limit.
 pub record Takes (old : Pulled) (field : List ℕ) (new : Pulled) : Type 0 where

@@ -1,7 +1,8 @@
 //! Where bytes come from and where they go, with the failures of either.
 
-ghost use Rattle.std.specs.Prelude.{◌≡◌, ℕ, ◌<◌, List, Option, Bool, true, length, IfOk, is_err};
-ghost use Rattle.std.specs.Io.KnownBytes.{ReadConsumes, WriteAppends};
+ghost use Rattle.std.specs.Prelude.{◌≡◌, ℕ, ◌<◌, ◌≤◌, List, Option, Bool, true, length, take, IfOk};
+ghost use Rattle.std.specs.Prelude.{is_err};
+ghost use Rattle.std.specs.Io.KnownBytes.{Consumes, ReadConsumes, WriteAppends};
 ghost use Rattle.ssh_wire.specs.Device.{IsPart};
 
 /// A device failed. It fails from then on.
@@ -16,6 +17,9 @@ pub trait Source {
     // whether a read has failed
     ghost has_failed: { Self → Bool };
 
+    // the bytes that stand in its buffer
+    ghost buffered: { Self → List ℕ };
+
     /// Reads to the front of a slice, and says how many bytes. Into a slice with room it reads none
     /// only at the end.
     fn read(&mut self, into: &mut [u8]) -> Result<usize, Failed>
@@ -27,6 +31,17 @@ pub trait Source {
     /// Whether a read has failed.
     fn failed(&self) -> bool
         ensures { result ≡ has_failed self.now };
+
+    /// The bytes that stand in its buffer, which come next: none where it has no buffer.
+    fn buffer(&self) -> &[u8]
+        ensures { result.now ≡ buffered self.now };
+
+    /// Takes bytes from the front of the buffer, which cannot fail.
+    fn consume(&mut self, count: usize)
+        requires { count ≤ length (buffered self.old) }
+        ensures bytes { Consumes (left self.old) (left self.new)
+            (take count (buffered self.old)) }
+        ensures failed { has_failed self.new ≡ has_failed self.old };
 }
 
 /// A writer that fails for good.

@@ -1,7 +1,7 @@
 //! A buffered reader of the standard library as a source.
 
 ghost use Rattle.std.specs.Prelude.{◌≡◌, false};
-ghost use Rattle.std.specs.Io.Buffered.{reader_remaining};
+ghost use Rattle.std.specs.Io.Buffered.{reader_buffer, reader_remaining};
 
 use crate::device::{Failed, Source};
 use crate::from_read::FromRead;
@@ -32,6 +32,8 @@ impl<R: Read + Drop> Source for FromBuffer<R> {
 
     ghost has_failed = { λ source. source.reader.failed };
 
+    ghost buffered = { λ source. reader_buffer source.reader.inner };
+
     #[inline(always)]
     fn read(&mut self, into: &mut [u8]) -> Result<usize, Failed> {
         let held = self.reader.inner.buffer();
@@ -40,11 +42,21 @@ impl<R: Read + Drop> Source for FromBuffer<R> {
             return self.reader.read(into);
         }
         into.copy_from_slice(&held[..count]);
-        self.reader.inner.consume(count);
+        self.consume(count);
         Ok(count)
     }
 
     fn failed(&self) -> bool {
         self.reader.failed
+    }
+
+    #[inline(always)]
+    fn buffer(&self) -> &[u8] {
+        self.reader.inner.buffer()
+    }
+
+    #[inline(always)]
+    fn consume(&mut self, count: usize) {
+        self.reader.inner.consume(count);
     }
 }

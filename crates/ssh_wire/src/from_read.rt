@@ -1,6 +1,6 @@
 //! A reader of the standard library as a source.
 
-ghost use Rattle.std.specs.Prelude.{◌≡◌, false};
+ghost use Rattle.std.specs.Prelude.{◌≡◌, [], false};
 
 use crate::device::{Failed, Source};
 use crate::interruptions::Interruptions;
@@ -35,6 +35,8 @@ impl<R: Read + Drop> Source for FromRead<R> {
 
     ghost has_failed = { λ reader. reader.failed };
 
+    ghost buffered = { λ _. [] };
+
     #[inline(never)]
     fn read(&mut self, into: &mut [u8]) -> Result<usize, Failed> {
         while !self.failed {
@@ -53,4 +55,10 @@ impl<R: Read + Drop> Source for FromRead<R> {
     fn failed(&self) -> bool {
         self.failed
     }
+
+    fn buffer(&self) -> &[u8] {
+        &[]
+    }
+
+    fn consume(&mut self, _count: usize) {}
 }

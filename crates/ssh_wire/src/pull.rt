@@ -1,8 +1,8 @@
 //! Taking fields from a reader, whatever pieces it gives.
 
 ghost use Rattle.std.specs.Prelude.{◌≡◌, ◌≢◌, ◌<◌, ◌∷◌, [], None, Err, length, IfOk, IfErr};
-ghost use Rattle.std.specs.Prelude.{OnOk, OnErr, ◌+◌, ◌≤◌, false, vec_capacity, vec_len};
-ghost use Rattle.ssh_wire.specs.Pull.{Looks, Refuses, RefusesAgain, RefusesRest, Takes, TakesRest, untaken};
+ghost use Rattle.std.specs.Prelude.{OnOk, OnErr, ◌+◌, ◌≤◌, false, take, vec_capacity, vec_len};
+ghost use Rattle.ssh_wire.specs.Pull.{at_hand, Looks, Refuses, RefusesAgain, RefusesRest, Takes, TakesRest, untaken};
 ghost use Rattle.ssh_wire.specs.declared.pull_fault.PullFault.TheVariants.{NoMemory, Read};
 
 use crate::bytes::Bytes;
@@ -34,6 +34,7 @@ impl<R: Source + Drop> Model for Pull<R> {
     ghost view = { λ pull. record {
       source = R.left pull.reader;
       failed = R.has_failed pull.reader;
+      buffered = R.buffered pull.reader;
       ahead = pull.ahead;
       taken = pull.taken;
       limit = pull.limit;
@@ -48,7 +49,7 @@ impl<R: Source + Drop> Pull<R> {
     /// Takes nothing yet, and at most `limit` bytes in all. The reader has not failed before.
     pub fn new(reader: R, limit: u64) -> Self
         requires { R.has_failed reader ≡ false }
-        ensures { result ≡ untaken (R.left reader) limit }
+        ensures { result ≡ untaken (R.left reader) (R.buffered reader) limit }
     {
         Pull {
             reader,
@@ -108,6 +109,35 @@ impl<R: Source + Drop> Pull<R> {
                 Err(fault)
             }
         }
+    }
+
+    /// Bytes that can be taken by `consume`: those that stand in the reader's buffer, within the
+    /// limit. They come next.
+    #[inline(always)]
+    pub fn buffer(&self) -> &[u8]
+        ensures { result.now ≡ at_hand self.now }
+    {
+        if self.ahead.is_some() {
+            return &[];
+        }
+        let held = self.reader.buffer();
+        let room = self.limit - self.taken;
+        if held.len() as u64 <= room {
+            held
+        } else {
+            &held[..room as usize]
+        }
+    }
+
+    /// Takes bytes from the front of those that `buffer` lends. No fault was met before.
+    #[inline(always)]
+    pub fn consume(&mut self, count: usize)
+        requires there { count ≤ length (at_hand self.old) }
+        requires faultless { self.old.fault ≡ None }
+        ensures { Takes self.old (take count (at_hand self.old)) self.new }
+    {
+        self.reader.consume(count);
+        self.taken += count as u64;
     }
 
     /// Takes a byte. It is refused as `fill` is.
