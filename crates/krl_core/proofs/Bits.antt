@@ -14,9 +14,10 @@ use Rattle.krl_fault.specs.declared.krl_fault.KrlFault.TheVariants as faults
 use Rattle.krl_core.specs.declared.place.Place.{Place}
 use Rattle.krl_core.specs.Entry.{Entry, BitmapEntry, RangeEntry}
 use Rattle.krl_core.specs.Naming.{EntryNames, NamesSame, SerialOf, SomeNames}
-use Rattle.krl_core.specs.Contents.{Means, held}
+use Rattle.krl_core.specs.Contents.{Contents, held}
+use Rattle.krl_core.specs.Scope.{MeansWithin, Scope}
 use Rattle.krl_core.specs.Changes.{run_entries}
-use Rattle.krl_core.specs.Keeping.{Keeping, IsKept, AddsEntries, Adds, InStep, KeepsBits, KeepsField, Closes, held_with_open, open_run, KeepsStored}
+use Rattle.krl_core.specs.Keeping.{Keeping, IsKept, AddsEntries, Adds, InStep, KeepsBits, KeepsField, Closes, held_with_open, open_run, StaysWithin}
 use Rattle.ssh_wire.specs.Wire.{number_of}
 use Rattle.krl_core.specs.declared.place.Place.TheVariants as places
 use Rattle.krl_core.specs.declared.place.bitmap.BitmapPlace.TheVariants as bitmaps
@@ -71,15 +72,15 @@ fed_same a before byte after finished fed =
 
 -- A byte was fed, and the runs that it finished were added.
 pub bits_kept : (old mid new : Keeping) (byte : ℕ) (finished : List Span) → Feeds old.bitmap byte mid.bitmap finished
-    → mid.contents ≡ old.contents → mid.authority ≡ old.authority → Adds mid (run_entries mid.authority finished) new
+    → mid.contents ≡ old.contents → mid.scope ≡ old.scope → mid.authority ≡ old.authority → Adds mid (run_entries mid.authority finished) new
     → AddsEntries old (BitmapEntry old.authority (lowest mid.bitmap) byte ∷ []) new
-bits_kept old mid new byte finished fed contents authority h entries k =
+bits_kept old mid new byte finished fed contents scope authority h entries k =
     let F : List Entry = run_entries mid.authority finished in
     let O : List Entry = open_entries mid in
     let E : List Entry = BitmapEntry old.authority (lowest mid.bitmap) byte ∷ [] in
     let before : IsKept mid (k.closed ++ O) = record {
       closed = k.closed;
-      means = subst (λ x. Means x k.closed) (sym contents) k.means;
+      means = subst (λ (r : Contents). MeansWithin mid.scope r k.closed) (sym contents) (subst (λ (s : Scope). MeansWithin s old.contents k.closed) (sym scope) k.means);
       same = same_refl (k.closed ++ O);
     } in
     let here = h.kept (k.closed ++ O) before in
@@ -110,13 +111,14 @@ entry_is old mid byte finished fed =
     ap (λ (n : ℕ). BitmapEntry old.authority n byte ∷ []) low
 
 pub bits_go_on : (old mid new : Keeping) (byte : ℕ) (last : Bool) (finished : List Span) → last ≡ false → Feeds old.bitmap byte mid.bitmap finished
-    → mid.contents ≡ old.contents → mid.authority ≡ old.authority → mid.header ≡ old.header
+    → mid.contents ≡ old.contents → mid.scope ≡ old.scope → mid.authority ≡ old.authority → mid.header ≡ old.header
     → Adds mid (run_entries mid.authority finished) new → KeepsBits byte last old new
-bits_go_on old mid new byte last finished off fed contents authority header h = record {
+bits_go_on old mid new byte last finished off fed contents scope authority header h = record {
   kept = subst (λ (e : List Entry). AddsEntries old e new) (entry_is old mid byte finished fed)
-      (bits_kept old mid new byte finished fed contents authority h);
+      (bits_kept old mid new byte finished fed contents scope authority h);
   authority_is = h.rest.authority_is ∙ authority;
   header_is = h.rest.header_is ∙ header;
+  scope_is = h.rest.scope_is ∙ scope;
   closed = λ on. absurd (cc (on, off));
   goes_on = λ _.
       let bytes_left : mid.bitmap.bytes_left ≡ old.bitmap.bytes_left - 1 = omega (arith, fed.one_less) in
@@ -127,30 +129,32 @@ bits_go_on old mid new byte last finished off fed contents authority header h = 
 }
 
 pub bits_close : (old mid new last_one : Keeping) (byte : ℕ) (last : Bool) (finished : List Span) → last ≡ true → Feeds old.bitmap byte mid.bitmap finished
-    → mid.contents ≡ old.contents → mid.authority ≡ old.authority → mid.header ≡ old.header
+    → mid.contents ≡ old.contents → mid.scope ≡ old.scope → mid.authority ≡ old.authority → mid.header ≡ old.header
     → Adds mid (run_entries mid.authority finished) new → Closes new last_one → KeepsBits byte last old last_one
-bits_close old mid new last_one byte last finished on fed contents authority header h c =
+bits_close old mid new last_one byte last finished on fed contents scope authority header h c =
     let E : List Entry = BitmapEntry old.authority (base_of old.bitmap.offset old.bitmap.bytes_left) byte ∷ [] in
     record {
       kept = λ entries k.
           let one : IsKept new (entries ++ E) = subst (λ (e : List Entry). AddsEntries old e new) (entry_is old mid byte finished fed)
-          (bits_kept old mid new byte finished fed contents authority h) entries k in
+          (bits_kept old mid new byte finished fed contents scope authority h) entries k in
           subst (IsKept last_one) (append-nil (entries ++ E)) (c.kept (entries ++ E) one);
       authority_is = c.authority_is ∙ h.rest.authority_is ∙ authority;
       header_is = c.header_is ∙ h.rest.header_is ∙ header;
+      scope_is = c.scope_is ∙ h.rest.scope_is ∙ scope;
       closed = λ _. c.closed;
       goes_on = λ off. absurd (cc (on, off));
     }
 
 -- A byte was fed (which makes at most four runs more), and of the runs that it finished some were added.
 pub fed_few : (old mid new : Keeping) (byte : ℕ) (finished : List Span) → Feeds old.bitmap byte mid.bitmap finished
-    → mid ≡ record old { bitmap = mid.bitmap } → held_with_open new ≤ held_with_open mid + length finished → KeepsStored mid new
-    → (held_with_open new ≤ held_with_open old + 4) × KeepsStored old new
+    → mid ≡ record old { bitmap = mid.bitmap } → held_with_open new ≤ held_with_open mid + length finished → StaysWithin mid new
+    → (held_with_open new ≤ held_with_open old + 4) × StaysWithin old new
 fed_few old mid new byte finished fed rest more stored =
     let contents = ap (λ (k : Keeping). k.contents) rest in
     let authority = ap (λ (k : Keeping). k.authority) rest in
+    let scope = ap (λ (k : Keeping). k.scope) rest in
     let same : held mid.contents ≡ held old.contents = ap held contents in
-    (omega (arith, fed.four_more, more, same, length-append (option_to_list mid.bitmap.pending) (reverse finished), length-reverse finished), stored_then old mid new (stored_same old mid contents authority) stored)
+    (omega (arith, fed.four_more, more, same, length-append (option_to_list mid.bitmap.pending) (reverse finished), length-reverse finished), stored_then old mid new (stored_same old mid contents authority scope) stored)
 
 -- ---- a byte that passes its judgement shows no fault
 
@@ -261,6 +265,7 @@ keeps_bits old new offset size left after byte field next step value judged h =
       kept = subst (λ (e : List Entry). AddsEntries old e new) entry h.kept;
       authority_is = h.authority_is;
       header_is = h.header_is;
+      scope_is = h.scope_is;
       in_step = subst (λ (p : Place). InStep p new.bitmap) parts.2
           (bits_in_step old.bitmap new.bitmap offset size left after step.1 h.closed h.goes_on step.0);
     }

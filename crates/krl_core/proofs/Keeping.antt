@@ -4,11 +4,12 @@ use Rattle.std.specs.Option.{option_to_list}
 use Rattle.std.proofs.lemmas.List.{append-nil, length-take-le}
 use Rattle.std.proofs.Math.Seq.{take-add}
 use Rattle.serial_set.specs.declared.span.Span.{Span}
-use Rattle.krl_core.specs.Contents.{Means}
+use Rattle.krl_core.specs.Contents.{Contents}
 use Rattle.krl_core.specs.Entry.{Entry, RangeEntry, SerialsEntry}
 use Rattle.krl_core.specs.Naming.{NamesSame}
 use Rattle.krl_core.specs.Changes.{run_entries}
-use Rattle.krl_core.specs.Keeping.{Keeping, IsKept, Adds, KeepsRest, Closes, KeepsStored, GrowsWithin, StoresWithin, held_with_open, open_run}
+use Rattle.krl_core.specs.Keeping.{Keeping, IsKept, Adds, KeepsRest, Closes, StaysWithin, GrowsWithin, StoresWithin, held_with_open, open_run}
+use Rattle.krl_core.specs.Scope.{MeansMoreWithin, MeansWithin, Scope}
 use Rattle.krl_core.proofs.Same.{same_refl, same_is, same_then, same_append, same_between, same_zero, same_none}
 
 abbrev pub open_entries : Keeping → List Entry
@@ -22,11 +23,11 @@ open_same old new rest =
 
 -- what is held means some entries more
 pub adds_all : (old new : Keeping) (more : List Entry) → KeepsRest old new
-    → ((entries : List Entry) → Means old.contents entries → Means new.contents (entries ++ more)) → Adds old more new
+    → MeansMoreWithin old.scope old.contents new.contents more → Adds old more new
 adds_all old new more rest means = record {
   kept = λ entries k. record {
     closed = k.closed ++ more;
-    means = means k.closed k.means;
+    means = subst (λ (s : Scope). MeansWithin s new.contents (k.closed ++ more)) (sym rest.scope_is) (means k.closed k.means);
     same = subst (λ (xs : List Entry). NamesSame ((k.closed ++ more) ++ xs) (entries ++ more))
         (sym (open_same old new rest)) (same_between k.closed (open_entries old) more entries k.same);
   };
@@ -51,12 +52,13 @@ rest_then a b c h k = record {
   authority_is = k.authority_is ∙ h.authority_is;
   header_is = k.header_is ∙ h.header_is;
   bitmap_is = k.bitmap_is ∙ h.bitmap_is;
+  scope_is = k.scope_is ∙ h.scope_is;
 }
 
 pub adds_none : (k : Keeping) → Adds k [] k
 adds_none k = record {
   kept = λ entries h. subst (IsKept k) (sym (append-nil entries)) h;
-  rest = record { authority_is = refl; header_is = refl; bitmap_is = refl };
+  rest = record { authority_is = refl; header_is = refl; bitmap_is = refl; scope_is = refl };
 }
 
 pub adds_then : (a b c : Keeping) (xs ys : List Entry) → Adds a xs b → Adds b ys c → Adds a (xs ++ ys) c
@@ -81,20 +83,23 @@ stored_wider k n m le h = record {
   next = elim h.next [ inl named ↦ inl named | inr fits ↦ inr (omega (arith, fits)) ];
 }
 
-pub grows_one : (old new : Keeping) (n : ℕ) → held_with_open new ≤ held_with_open old + n → n ≤ 4 → KeepsStored old new → GrowsWithin 1 old new
+pub grows_one : (old new : Keeping) (n : ℕ) → held_with_open new ≤ held_with_open old + n → n ≤ 4 → StaysWithin old new → GrowsWithin 1 old new
 grows_one old new n held le stored = record {
   held_is = omega arith;
-  stored_is = λ m h. stored_wider new m (m + 1) (omega arith) (stored m h);
+  stored_is = λ m h. stored_wider new m (m + 1) (omega arith) (stored.stored_is m h);
+  scope_is = stored.scope_is;
+  same_scope = stored.same_scope;
 }
 
-pub stored_same : (old new : Keeping) → new.contents ≡ old.contents → new.authority ≡ old.authority → KeepsStored old new
-stored_same old new e a m h = record {
-  now = rw e h.now;
-  next = rw (e, a) h.next;
+pub stored_same : (old new : Keeping) → new.contents ≡ old.contents → new.authority ≡ old.authority → new.scope ≡ old.scope → StaysWithin old new
+stored_same old new e a s = record {
+  stored_is = λ m h. record { now = rw e h.now; next = rw (e, a) h.next };
+  scope_is = λ h. rw (e, s) h;
+  same_scope = s;
 }
 
-pub stored_then : (a b c : Keeping) → KeepsStored a b → KeepsStored b c → KeepsStored a c
-stored_then a b c h k m s = k m (h m s)
+pub stored_then : (a b c : Keeping) → StaysWithin a b → StaysWithin b c → StaysWithin a c
+stored_then a b c h k = record { stored_is = λ m s. k.stored_is m (h.stored_is m s); scope_is = λ s. k.scope_is (h.scope_is s); same_scope = k.same_scope ∙ h.same_scope }
 
 -- ---- runs
 
@@ -110,13 +115,13 @@ adds_runs old mid new runs more h k =
     (adds_then old mid new (run_entries old.authority runs) (run_entries old.authority more) h next)
 
 -- the open run becomes one that is held
-pub closes_run : (old mid new : Keeping) (run : Span) → old.bitmap.pending ≡ Some run → mid.contents ≡ old.contents → mid.authority ≡ old.authority
+pub closes_run : (old mid new : Keeping) (run : Span) → old.bitmap.pending ≡ Some run → mid.contents ≡ old.contents → mid.scope ≡ old.scope → mid.authority ≡ old.authority
     → mid.header ≡ old.header → mid.bitmap.pending ≡ None → Adds mid (RangeEntry mid.authority run.lo run.hi ∷ []) new → Closes old new
-closes_run old mid new run is contents authority header none h = record {
+closes_run old mid new run is contents scope authority header none h = record {
   kept = λ entries k.
       let before : IsKept mid k.closed = record {
         closed = k.closed;
-        means = subst (λ x. Means x k.closed) (sym contents) k.means;
+        means = subst (λ (r : Contents). MeansWithin mid.scope r k.closed) (sym contents) (subst (λ (s : Scope). MeansWithin s old.contents k.closed) (sym scope) k.means);
         same = same_is (k.closed ++ open_entries mid) k.closed
             (ap (λ (p : Option Span). k.closed ++ run_entries mid.authority (option_to_list p)) none ∙ append-nil k.closed);
       } in
@@ -131,6 +136,7 @@ closes_run old mid new run is contents authority header none h = record {
       });
   authority_is = h.rest.authority_is ∙ authority;
   header_is = h.rest.header_is ∙ header;
+  scope_is = h.rest.scope_is ∙ scope;
   closed = ap (λ b. b.pending) h.rest.bitmap_is ∙ none;
 }
 
@@ -138,10 +144,10 @@ closes_run old mid new run is contents authority header none h = record {
 pub record AddsFirst (old : Keeping) (spans : List Span) (count : ℕ) (new : Keeping) : Type 0 where
   pub adds : Adds old (run_entries old.authority (take count spans)) new
   pub held_is : held_with_open new ≤ held_with_open old + count
-  pub stored_is : KeepsStored old new
+  pub stored_is : StaysWithin old new
 
 pub adds_first_more : (old mid new : Keeping) (spans : List Span) (count n : ℕ) → n ≤ length (drop count spans) → AddsFirst old spans count mid
-    → Adds mid (run_entries mid.authority (take n (drop count spans))) new → held_with_open new ≤ held_with_open mid + length (take n (drop count spans)) → KeepsStored mid new → AddsFirst old spans (count + n) new
+    → Adds mid (run_entries mid.authority (take n (drop count spans))) new → held_with_open new ≤ held_with_open mid + length (take n (drop count spans)) → StaysWithin mid new → AddsFirst old spans (count + n) new
 adds_first_more old mid new spans count n within h k held stored = record {
   adds = subst (λ (xs : List Span). Adds old (run_entries old.authority xs) new) (sym (take-add count n spans))
       (adds_runs old mid new (take count spans) (take n (drop count spans)) h.adds k);
@@ -153,4 +159,14 @@ pub grows_more : (old new : Keeping) (n m : ℕ) → n ≤ m → GrowsWithin n o
 grows_more old new n m le h = record {
   held_is = omega (arith, h.held_is);
   stored_is = λ k s. stored_wider new (k + n) (k + m) (omega arith) (h.stored_is k s);
+  scope_is = h.scope_is;
+  same_scope = h.same_scope;
+}
+
+pub grows_then : (a b c : Keeping) (n m : ℕ) → GrowsWithin n a b → GrowsWithin m b c → GrowsWithin (n + m) a c
+grows_then a b c n m h k = record {
+  held_is = omega (arith, h.held_is, k.held_is);
+  stored_is = λ x s. subst (λ (y : ℕ). StoresWithin c y) (omega arith) (k.stored_is (x + n) (h.stored_is x s));
+  scope_is = λ s. k.scope_is (h.scope_is s);
+  same_scope = k.same_scope ∙ h.same_scope;
 }

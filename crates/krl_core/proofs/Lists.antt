@@ -1,6 +1,7 @@
 -- A whole list is spelled, and means what its sections name.
-use Rattle.std.proofs.Common.{◌≡◌, ℕ, ◌<◌, ◌≤◌, ◌^◌, Bool, true, false, ltb, List, ◌++◌, length, Option, None, refl, sym, ap, subst, ◌∙◌, append_assoc}
+use Rattle.std.proofs.Common.{◌≡◌, ℕ, ◌<◌, ◌≤◌, ◌^◌, Bool, true, false, ltb, List, ◌++◌, length, Option, Some, None, refl, sym, ap, subst, ◌∙◌, append_assoc}
 use Rattle.std.specs.List.{concat}
+use Rattle.std.specs.Prelude.{Result, Ok, Err, IfOk}
 use Rattle.ssh_wire.specs.Wire.{IsBytes, number, string}
 use Rattle.krl_core.specs.declared.header.Header.{Header}
 use Rattle.krl_core.specs.Contents.{Contents}
@@ -14,10 +15,11 @@ use Rattle.krl_core.specs.Front.{State, start, Leads, limit, IsEnd, IsFirstFault
 use Rattle.krl_core.specs.Krl.{SpelledSection, Spells, header_text, magic}
 use Rattle.krl_core.specs.Naming.{NamesSame}
 use Rattle.krl_core.specs.Place.{can_end}
-use Rattle.krl_core.specs.Reading.{IsWhole, IsList}
+use Rattle.krl_core.specs.Reading.{HoldsAll, HoldsWithin, IsList, IsListAs, IsWholeAs}
+use Rattle.krl_core.specs.Scope.{Scope, all as every_name}
 use Rattle.krl_core.proofs.Fields.{completes}
 use Rattle.krl_core.proofs.Rests.{FromText, FromFormat}
-use Rattle.krl_core.proofs.SameMeaning.{same_meaning}
+use Rattle.krl_core.proofs.Scoped.{means_all_within, same_within}
 use Rattle.krl_core.proofs.Completes.{whole_string}
 
 -- the fields of a header and what follows it, one after the other
@@ -79,18 +81,38 @@ row_spelled fields last leads may fits =
       named = subst (λ (x : List Entry). NamesSame x (entries_of k.sections)) (sym w.1) k.named;
     }
 
-pub list_of_whole : (text : List ℕ) (header : Header) (contents : Contents) → IsWhole text header contents → IsList text header contents
-list_of_whole text header contents h =
+-- a whole list is one that sections spell, where what is held is what anything names that names the same
+pub list_of_whole : (Holds : List ℕ → Contents → List Entry → Type 0) (text : List ℕ) (header : Header) (contents : Contents)
+    → ((entries others : List Entry) → Holds text contents entries → NamesSame entries others → Holds text contents others) → IsWholeAs Holds text header contents
+    → IsListAs Holds text header contents
+list_of_whole Holds text header contents same h =
     let k = row_spelled h.fields h.state h.leads h.may_end (subst IsBytes h.text_is h.are_bytes) in
     let at_text : Spells text h.state.header k.sections = subst (λ (x : List ℕ). Spells x h.state.header k.sections) (sym h.text_is) k.spelled in
     record {
       sections = k.sections;
       spelled = subst (λ (x : Header). Spells text x k.sections) (sym h.header_is) at_text;
       within = h.within;
-      means = same_meaning contents h.state.entries (entries_of k.sections) h.means k.named;
-      held_is = h.held_is;
-      stored_is = h.stored_is;
+      holds = same h.state.entries (entries_of k.sections) h.holds k.named;
     }
+
+pub same_holds_within : (scope : Scope) (text : List ℕ) (contents : Contents) (entries others : List Entry) → HoldsWithin scope text contents entries → NamesSame entries others
+    → HoldsWithin scope text contents others
+same_holds_within scope text contents entries others h same =
+    record { means = same_within scope contents entries others h.means same; within = h.within; bounds = h.bounds }
+
+-- where all names are in scope
+pub holds_all : (text : List ℕ) (contents : Contents) (entries : List Entry) → HoldsWithin every_name text contents entries → HoldsAll text contents entries
+holds_all text contents entries h = let b = h.bounds refl in record { means = means_all_within contents entries h.means; held_is = b.0; stored_is = b.1 }
+
+pub list_of_all : (text : List ℕ) (header : Header) (contents : Contents) → IsListAs (HoldsWithin every_name) text header contents → IsList text header contents
+list_of_all text header contents h =
+    record { sections = h.sections; spelled = h.spelled; within = h.within; holds = holds_all text contents (entries_of h.sections) h.holds }
+
+pub lists_of_all : (left : Option (List ℕ)) (read : Result (Header × Contents) KrlFault)
+    → IfOk read (λ list. (text : List ℕ) → left ≡ Some text → IsListAs (HoldsWithin every_name) text list.0 list.1)
+    → IfOk read (λ list. (text : List ℕ) → left ≡ Some text → IsList text list.0 list.1)
+lists_of_all left (Ok list) h = λ text e. list_of_all text list.0 list.1 (h text e)
+lists_of_all left (Err fault) h = h
 
 is_end : (p : Place) (rest : List ℕ) (goes_on : Bool) (fault : Option KrlFault) → fault ≡ None → Reported p rest goes_on fault → IsEnd p rest × (goes_on ≡ false)
 is_end p rest goes_on fault e (ended at_end off is) = (at_end, off)

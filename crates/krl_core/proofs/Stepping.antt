@@ -52,10 +52,23 @@ ahead_left (Some byte) (Some xs) rest p e f left some none = let l = rw (e, f) a
 pub ahead_some : (p : Pulled) (rest : List ℕ) → left_of p ≡ Some rest → IsSome p.ahead → rest ≡ [] → ⊥
 ahead_some p rest left some none = ahead_left p.ahead p.source rest p refl refl left some none
 
+-- Fields of the text lead to a place, and the reader has the rest of the text left.
+pub record HasCome (text : List ℕ) (fields : List (List ℕ)) (position : Position) : Type 0 where
+  pub state : State
+  pub leads : Leads start fields state
+  pub place_is : position.place ≡ state.place
+  pub rest : List ℕ
+  pub left_is : left_of position.pull ≡ Some rest
+  pub parts : text ≡ concat fields ++ rest
+  pub taken_is : position.pull.taken ≡ length (concat fields)
+
+abbrev pub come : {text : List ℕ} {fields : List (List ℕ)} {p : Position} → HasRead text fields p → HasCome text fields p
+come h = record { state = h.state; leads = h.leads; place_is = h.place_is; rest = h.rest; left_is = h.left_is; parts = h.parts; taken_is = h.taken_is }
+
 -- ---- the front that was read
 
 -- what is reported at the place that was reached is the first fault
-pub reported_there : (text : List ℕ) (fields : List (List ℕ)) (p : Position) (h : HasRead text fields p) (fault : Option KrlFault)
+pub reported_there : (text : List ℕ) (fields : List (List ℕ)) (p : Position) (h : HasCome text fields p) (fault : Option KrlFault)
     → length (concat fields) ≤ limit
     → Reported p.place (take (limit - length (concat fields)) h.rest) (ltb limit (length text)) fault → IsFirstFault text fault
 reported_there text fields p h fault le reported =
@@ -86,7 +99,7 @@ reported_given fields state came fault leads le reported =
 
 -- the reader failed in a field, or where the end was looked for
 pub says_read : (old : Position) (mid new : Pulled) (text : List ℕ) (fields : List (List ℕ)) → IsBounded old.pull old.keeping
-    → HasRead text fields old → Keeps (left_of old.pull) (left_of mid) → mid.taken ≡ old.pull.taken → mid.limit ≡ old.pull.limit
+    → HasCome text fields old → Keeps (left_of old.pull) (left_of mid) → mid.taken ≡ old.pull.taken → mid.limit ≡ old.pull.limit
     → HasRoom (expected old.place) → Refuses mid (expected old.place).size pulls.Read new → Says faults.Read text new.failed new.source
 says_read old mid new text fields bounded h keeps taken limit_is room r =
     let left = keeps_some (left_of old.pull) (left_of mid) h.rest h.left_is keeps in
@@ -108,7 +121,7 @@ says_read old mid new text fields bounded h keeps taken limit_is room r =
     })
 
 says_early : (old : Position) (mid new : Pulled) (text : List ℕ) (fields : List (List ℕ)) → IsBounded old.pull old.keeping
-    → HasRead text fields old → LooksFor old.place old.pull false mid
+    → HasCome text fields old → LooksFor old.place old.pull false mid
     → HasRoom (expected old.place) → Refuses mid (expected old.place).size pulls.EndsEarly new → Says faults.EndsEarly text new.failed new.source
 says_early old mid new text fields bounded h looks room r =
     let left = keeps_some (left_of old.pull) (left_of mid) h.rest h.left_is looks.bytes in
@@ -127,7 +140,7 @@ says_early old mid new text fields bounded h looks room r =
     (rw (whole, off) reported)) m.reports.1
 
 says_long : (old : Position) (mid new : Pulled) (text : List ℕ) (fields : List (List ℕ)) → IsBounded old.pull old.keeping
-    → HasRead text fields old → LooksFor old.place old.pull false mid
+    → HasCome text fields old → LooksFor old.place old.pull false mid
     → HasRoom (expected old.place) → Refuses mid (expected old.place).size pulls.TooLong new → Says faults.TooLong text new.failed new.source
 says_long old mid new text fields bounded h looks room r =
     let left = keeps_some (left_of old.pull) (left_of mid) h.rest h.left_is looks.bytes in
@@ -149,14 +162,14 @@ says_long old mid new text fields bounded h looks room r =
     not_empty (x ∷ l) h = omega arith
 
 -- after the first fields a text has 40 bytes
-says_starved : (old : Position) (new : Pulled) (text : List ℕ) (fields : List (List ℕ)) (fault : KrlFault) → HasRead text fields old
+pub says_starved : (old : Position) (new : Pulled) (text : List ℕ) (fields : List (List ℕ)) (fault : KrlFault) → HasCome text fields old
     → is_fixed old.place ≡ false → fault ≡ faults.NoMemory → new.failed ≡ false → Says fault text new.failed new.source
 says_starved old new text fields fault h late is works =
     let some = late_enough fields h.state h.leads (subst (λ (p : Place). is_fixed p ≡ false) h.place_is late) in
     starved is (omega (arith, some, ap length h.parts, length-append (concat fields) h.rest)) works
 
-says_cut : (old : Position) (mid new : Pulled) (text : List ℕ) (fields : List (List ℕ)) (why : PullFault) → IsBounded old.pull old.keeping
-    → HasRead text fields old → LooksFor old.place old.pull false mid
+pub says_cut : (old : Position) (mid new : Pulled) (text : List ℕ) (fields : List (List ℕ)) (why : PullFault) → IsBounded old.pull old.keeping
+    → HasCome text fields old → LooksFor old.place old.pull false mid
     → HasRoom (expected old.place) → Refuses mid (expected old.place).size why new → (reported_as why ≡ faults.NoMemory → is_fixed old.place ≡ false) → Says (reported_as why) text new.failed new.source
 says_cut old mid new text fields pulls.EndsEarly bounded h looks room r late = says_early old mid new text fields bounded h looks room r
 says_cut old mid new text fields pulls.TooLong bounded h looks room r late = says_long old mid new text fields bounded h looks room r
@@ -170,22 +183,22 @@ pub missed_says : (old : Position) (mid new : Pulled) (fault : KrlFault) → IsB
 missed_says old mid new fault bounded looks (room_missed full is same) late text fields h =
     let le : length (concat fields) ≤ limit = omega (arith, bounded.within, h.taken_is) in
     subst (λ (f : KrlFault). Says f text new.failed new.source) (sym is)
-    (first (reported_there text fields old h (Some faults.Length) le (no_room full refl)) (ap (λ p. p.failed) same ∙ looks.works))
+    (first (reported_there text fields old (come h) (Some faults.Length) le (no_room full refl)) (ap (λ p. p.failed) same ∙ looks.works))
 missed_says old mid new fault bounded looks (cut why room r is) late text fields h =
-    subst (λ (f : KrlFault). Says f text new.failed new.source) (sym is) (says_cut old mid new text fields why bounded h looks room r (λ e. late (is ∙ e)))
+    subst (λ (f : KrlFault). Says f text new.failed new.source) (sym is) (says_cut old mid new text fields why bounded (come h) looks room r (λ e. late (is ∙ e)))
 
 -- a field that was refused
 pub refused_says : (old : Position) (mid new : Pulled) (field : List ℕ) (fault : KrlFault) → IsBounded old.pull old.keeping
     → LooksFor old.place old.pull false mid → Takes mid field new → HasRoom (expected old.place) → length field ≡ (expected old.place).size
     → ((fault ≡ faults.NoMemory) × (is_fixed old.place ≡ false)) ⊎ ((expected old.place).judged field ≡ Err fault) → Refused fault old new
-refused_says old mid new field fault bounded looks takes room size (inl none) text fields h = says_starved old new text fields fault h none.1 none.0 takes.working
+refused_says old mid new field fault bounded looks takes room size (inl none) text fields h = says_starved old new text fields fault (come h) none.1 none.0 takes.working
 refused_says old mid new field fault bounded looks takes room size (inr judged) text fields h =
     let left = keeps_some (left_of old.pull) (left_of mid) h.rest h.left_is looks.bytes in
     let after = consumes_some (left_of mid) (left_of new) h.rest field left takes.bytes in
     let within : length (concat fields) + length field ≤ limit = omega (arith, takes.within, looks.taken, looks.limit_is, bounded.limit_is, h.taken_is) in
     let front : take (limit - length (concat fields)) h.rest ≡ field ++ take (limit - length (concat fields) - length field) after.0 =
     ap (take (limit - length (concat fields))) after.2 ∙ take-after field after.0 (limit - length (concat fields)) (omega arith) in
-    first (reported_there text fields old h (Some fault) (omega arith)
+    first (reported_there text fields old (come h) (Some fault) (omega arith)
     (refused field (take (limit - length (concat fields) - length field) after.0) fault room front size judged refl)) takes.working
 
 -- ---- one field more
@@ -230,8 +243,10 @@ bounded_more old mid new keeping field b looks takes grows =
     record {
       limit_is = takes.limit ∙ looks.limit_is ∙ b.limit_is;
       within = omega (arith, takes.within, takes.taken, looks.limit_is, b.limit_is);
-      held_is = omega (arith, grows.held_is, b.held_is, taken);
-      stored_is = subst (λ (n : ℕ). StoresWithin keeping n) (sym taken) (grows.stored_is old.pull.taken b.stored_is);
+      all_is = λ every.
+          let was = b.all_is (sym grows.same_scope ∙ every) in
+          (omega (arith, grows.held_is, was.0, taken), subst (λ (n : ℕ). StoresWithin keeping n) (sym taken) (grows.stored_is old.pull.taken was.1));
+      scope_is = grows.scope_is b.scope_is;
     }
 
 -- ---- the parts of a step
@@ -247,4 +262,4 @@ end_refused old new fault bounded is may r text fields h =
     let one : (expected old.place).size ≡ 1 = end_size old.place may in
     let refuses : Refuses old.pull (expected old.place).size pulls.Read new = subst (λ (n : ℕ). Refuses old.pull n pulls.Read new) (sym one) r in
     subst (λ (f : KrlFault). Says f text new.failed new.source) (sym is)
-    (says_read old old.pull new text fields bounded h (keeps_refl (left_of old.pull)) refl refl (end_room old.place may) refuses)
+    (says_read old old.pull new text fields bounded (come h) (keeps_refl (left_of old.pull)) refl refl (end_room old.place may) refuses)

@@ -16,10 +16,10 @@ use Rattle.krl_core.specs.Changes.{run_entries}
 use Rattle.krl_core.specs.Keeping.{Keeping, InStep, open_run}
 use Rattle.krl_core.specs.Naming.{NamesSame}
 use Rattle.krl_core.specs.Place.{can_end}
-use Rattle.krl_core.specs.Reading.{Position, HasRead, Follows, IsReached, IsWhole}
+use Rattle.krl_core.specs.Reading.{Position, HasRead, Follows, HoldsWithin, IsReached, IsWholeAs}
 use Rattle.krl_core.proofs.Exists.{weight, nearer}
 use Rattle.krl_core.proofs.Fronts.{first_fault_is}
-use Rattle.krl_core.proofs.SameMeaning.{same_meaning}
+use Rattle.krl_core.proofs.Scoped.{same_within}
 
 -- some fields of what the reader had were read, without a fault
 pub record Follow (left : Option (List ℕ)) (position : Position) : Type 0 where
@@ -40,7 +40,7 @@ none_open (SectionType signed) keeping may step = step
 none_open _ keeping may step = absurd (cc)
 
 pub whole_list : (text : List ℕ) (fields : List (List ℕ)) (p : Position) → IsReached p → HasRead text fields p → text ≡ concat fields
-    → can_end p.place ≡ true → IsWhole text p.keeping.header p.keeping.contents
+    → can_end p.place ≡ true → IsWholeAs (HoldsWithin p.keeping.scope) text p.keeping.header p.keeping.contents
 whole_list text fields p sound h all may =
     let keeping = p.keeping in
     let kept = h.kept in
@@ -58,14 +58,31 @@ whole_list text fields p sound h all may =
       are_bytes = subst IsBytes (sym all) h.are_bytes;
       may_end = subst (λ (q : Place). can_end q ≡ true) h.place_is may;
       header_is = h.header_is;
-      means = same_meaning keeping.contents kept.closed h.state.entries kept.means same;
-      held_is = omega (arith, sound.bounded.held_is, size);
-      stored_is = omega (arith, sound.bounded.stored_is.now, size);
+      holds = record {
+        means = same_within keeping.scope keeping.contents kept.closed h.state.entries kept.means same;
+        within = sound.bounded.scope_is;
+        bounds = λ every. let b = sound.bounded.all_is every in (omega (arith, b.0, size), omega (arith, b.1.now, size));
+      };
     }
 
+-- where what is held is in another way what the fields name
+pub whole_holds : (Holds Other : List ℕ → Contents → List Entry → Type 0) (text : List ℕ) (header : Header) (contents : Contents)
+    → ((entries : List Entry) → Holds text contents entries → Other text contents entries) → IsWholeAs Holds text header contents → IsWholeAs Other text header contents
+whole_holds Holds Other text header contents other h = record {
+  fields = h.fields;
+  state = h.state;
+  leads = h.leads;
+  text_is = h.text_is;
+  within = h.within;
+  are_bytes = h.are_bytes;
+  may_end = h.may_end;
+  header_is = h.header_is;
+  holds = other h.state.entries h.holds;
+}
+
 -- what leads to the end of a list has no fault
-pub whole_unfaulted : (text : List ℕ) (header : Header) (contents : Contents) → IsWhole text header contents → IsFirstFault text None
-whole_unfaulted text header contents h =
+pub whole_unfaulted : (Holds : List ℕ → Contents → List Entry → Type 0) (text : List ℕ) (header : Header) (contents : Contents) → IsWholeAs Holds text header contents → IsFirstFault text None
+whole_unfaulted Holds text header contents h =
     let all : take limit text ≡ text = take_all limit text h.within in
     let off : ltb limit (length text) ≡ false = le-ltb limit (length text) h.within in
     first_fault_is text None (record {

@@ -1,5 +1,5 @@
 -- What revocations hold, as lists, and which entries they mean.
-use Rattle.std.specs.Prelude.{◌≡◌, ℕ, ◌+◌, ◌<◌, ◌≤◌, ◌⊎◌, ◌↔◌, List, [], ◌∷◌, length, sum_by, All}
+use Rattle.std.specs.Prelude.{◌≡◌, ℕ, ◌+◌, ◌-◌, ◌<◌, ◌≤◌, ◌⊎◌, ◌↔◌, List, [], ◌∷◌, length, sum_by, All}
 use Rattle.std.specs.Prelude.{Contains}
 use Rattle.serial_set.specs.declared.span.Span.{Span}
 use Rattle.serial_set.specs.Span.{Covers, IsRuns, AreSerials}
@@ -92,6 +92,14 @@ pub record Means (r : Contents) (entries : List Entry) : Type 0 where
 -- how many spans are held
 abbrev pub held : Contents → ℕ
 held r = sum_by (λ section. length section.spans) r.sections
+
+-- how many numbers a span has
+abbrev pub span_size : Span → ℕ
+span_size span = span.hi - span.lo + 1
+
+-- how many serial numbers are held, each under its authority
+abbrev pub serials_in : List Section → ℕ
+serials_in sections = sum_by (λ section. sum_by span_size section.spans) sections
 
 -- how many bytes some texts have
 abbrev pub size_of : List (List ℕ) → ℕ

@@ -10,27 +10,29 @@ use Rattle.krl_core.specs.declared.place.Place.{Place}
 use Rattle.krl_core.specs.declared.place.Place.TheVariants as places
 use Rattle.krl_core.specs.declared.place.bitmap.BitmapPlace.TheVariants as bitmaps
 use Rattle.krl_core.specs.Changes.{run_entries}
-use Rattle.krl_core.specs.Contents.{Contents, IsStoredWithin, Means, held}
+use Rattle.krl_core.specs.Contents.{Contents, IsStoredWithin, held}
 use Rattle.krl_core.specs.Entry.{Entry, BitmapEntry}
 use Rattle.krl_core.specs.Naming.{NamesSame}
 use Rattle.krl_core.specs.Place.{names, authority_after, header_after, base_of}
+use Rattle.krl_core.specs.Scope.{MeansWithin, Scope, WithinScope}
 
--- What is known of the header, the authority in force, what is held, and how far the bitmap at hand
--- is read.
+-- What is known of the header, the authority in force, what is held, which names it answers for, and
+-- how far the bitmap at hand is read.
 pub record Keeping : Type 0 where
   pub header : Header
   pub authority : List ℕ
   pub contents : Contents
+  pub scope : Scope
   pub bitmap : FedBitmap
 
 -- the run of the bitmap at hand with which its next byte may go on
 abbrev pub open_run : Keeping → List Span
 open_run keeping = option_to_list keeping.bitmap.pending
 
--- What is held means some entries, which with the open run name the same as these.
+-- What is held means, in its scope, some entries, which with the open run name the same as these.
 pub record IsKept (keeping : Keeping) (entries : List Entry) : Type 0 where
   pub closed : List Entry
-  pub means : Means keeping.contents closed
+  pub means : MeansWithin keeping.scope keeping.contents closed
   pub same : NamesSame (closed ++ run_entries keeping.authority (open_run keeping)) entries
 
 -- at a byte of a bitmap the bytes before it are fed, and elsewhere no run is open
@@ -59,6 +61,7 @@ pub record KeepsRest (old new : Keeping) : Type 0 where
   pub authority_is : new.authority ≡ old.authority
   pub header_is : new.header ≡ old.header
   pub bitmap_is : new.bitmap ≡ old.bitmap
+  pub scope_is : new.scope ≡ old.scope
 
 -- These entries are kept too.
 abbrev pub AddsEntries : Keeping → List Entry → Keeping → Type 0
@@ -77,6 +80,7 @@ pub record KeepsField (place : Place) (field : List ℕ) (next : Place) (old new
   pub authority_is : new.authority ≡ authority_after place old.authority field
   pub header_is : new.header ≡ header_after place old.header field
   pub in_step : InStep next new.bitmap
+  pub scope_is : new.scope ≡ old.scope
 
 -- a byte of the bitmap is left, and this one has no fault
 pub record TakesByte (bitmap : FedBitmap) (byte : ℕ) : Type 0 where
@@ -89,6 +93,7 @@ pub record KeepsBits (byte : ℕ) (last : Bool) (old new : Keeping) : Type 0 whe
       (BitmapEntry old.authority (base_of old.bitmap.offset old.bitmap.bytes_left) byte ∷ []) new
   pub authority_is : new.authority ≡ old.authority
   pub header_is : new.header ≡ old.header
+  pub scope_is : new.scope ≡ old.scope
   pub closed : last ≡ true → new.bitmap.pending ≡ None
   pub goes_on : last ≡ false → new.bitmap
       ≡ record old.bitmap { bytes_left = old.bitmap.bytes_left - 1; pending = new.bitmap.pending }
@@ -98,13 +103,28 @@ pub record Closes (old new : Keeping) : Type 0 where
   pub kept : AddsEntries old [] new
   pub authority_is : new.authority ≡ old.authority
   pub header_is : new.header ≡ old.header
+  pub scope_is : new.scope ≡ old.scope
   pub closed : new.bitmap.pending ≡ None
 
--- What is stored stays within any number that it is within.
-abbrev pub KeepsStored : Keeping → Keeping → Type 0
-KeepsStored old new = (m : ℕ) → StoresWithin old m → StoresWithin new m
+-- what is held is within the scope
+abbrev pub KeepsWithin : Keeping → Type 0
+KeepsWithin keeping = WithinScope keeping.scope keeping.contents
+
+-- What is stored stays within any number that it is within, and what is held within the scope.
+pub record StaysWithin (old new : Keeping) : Type 0 where
+  pub stored_is : (m : ℕ) → StoresWithin old m → StoresWithin new m
+  pub scope_is : KeepsWithin old → KeepsWithin new
+  pub same_scope : new.scope ≡ old.scope
 
 -- At most n bytes of the list made it grow, also where memory ran out in between.
 pub record GrowsWithin (n : ℕ) (old new : Keeping) : Type 0 where
   pub held_is : held_with_open new ≤ held_with_open old + 4 * n
   pub stored_is : (m : ℕ) → StoresWithin old m → StoresWithin new (m + n)
+  pub scope_is : KeepsWithin old → KeepsWithin new
+  pub same_scope : new.scope ≡ old.scope
+
+-- The same is kept, no run is open, and this many bytes of the bitmap at hand were passed over.
+pub record Skips (count : ℕ) (old new : Keeping) : Type 0 where
+  pub closes : Closes old new
+  pub bitmap_is : new.bitmap
+      ≡ record old.bitmap { bytes_left = old.bitmap.bytes_left - count; pending = None }

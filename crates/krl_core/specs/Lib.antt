@@ -11,11 +11,16 @@ pub mod Inserting
 pub mod Naming
 pub mod Elements
 pub mod Revoked
+pub mod Scope
+pub mod Questions
+pub mod NamingTests
 pub mod Rising
 pub mod Shelf
 pub mod TextMap
 pub mod Texts
 pub mod Keeping
+pub mod Crossing
 pub mod Reading
 pub mod Entries
 pub mod Tested
+pub mod Canonical

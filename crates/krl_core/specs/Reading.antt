@@ -1,5 +1,5 @@
 -- How far a list is read, a field at a time.
-use Rattle.std.specs.Prelude.{◌≡◌, ℕ, ◌+◌, ◌*◌, ◌≤◌, ◌⊎◌, ◌↔◌, Bool, true, false, List, []}
+use Rattle.std.specs.Prelude.{◌≡◌, ℕ, ◌+◌, ◌*◌, ◌<◌, ◌≤◌, ◌⊎◌, ◌↔◌, Bool, true, false, List, []}
 use Rattle.std.specs.Prelude.{◌∷◌, ◌++◌, length, Option, Some, None, IsSome, Result, Ok, Err}
 use Rattle.std.specs.List.{concat}
 use Rattle.std.specs.Io.KnownBytes.{IsAtEnd, Keeps}
@@ -18,8 +18,10 @@ use Rattle.krl_core.specs.Contents.{Contents, Means, held, stored}
 use Rattle.krl_core.specs.Entries.{entries_of}
 use Rattle.krl_core.specs.Krl.{SpelledSection, Spells}
 use Rattle.krl_core.specs.Front.{State, start, Leads, Passes, HasRoom, IsFirstFault, limit}
-use Rattle.krl_core.specs.Keeping.{InStep, IsKept, Keeping, StoresWithin, held_with_open}
+use Rattle.krl_core.specs.Keeping.{InStep, IsKept, Keeping, KeepsWithin, StoresWithin, held_with_open}
 use Rattle.krl_core.specs.Place.{can_end, expected}
+use Rattle.krl_core.specs.Entry.{Entry}
+use Rattle.krl_core.specs.Scope.{MeansWithin, Scope, WithinScope, all}
 
 -- the reader, the place where the next field is expected, what is kept, whether the list's end was
 -- found, and the fault that was met
@@ -64,6 +66,7 @@ pub record Follows (old new : Position) : Type 0 where
   pub passes : Passes old.place field new.place
   pub taken : new.pull.taken ≡ old.pull.taken + length field
   pub within : new.pull.taken ≤ limit
+  pub scope_is : new.keeping.scope ≡ old.keeping.scope
 
 -- The list is at its end: the end is expected, and no byte is left.
 pub record Ends (old new : Position) : Type 0 where
@@ -71,6 +74,7 @@ pub record Ends (old new : Position) : Type 0 where
   pub at_end : IsAtEnd (left_of new.pull)
   pub still : (text : List ℕ) (fields : List (List ℕ)) → HasRead text fields old
       → HasRead text fields new × (text ≡ concat fields)
+  pub scope_is : new.keeping.scope ≡ old.keeping.scope
 
 -- The reader failed when it had given the first bytes of the text and had these left. The bytes
 -- that it gave end where a field or the end is expected.
@@ -131,12 +135,14 @@ pub data Missed (place : Place) (old : Pulled) (fault : KrlFault) (new : Pulled)
   cut : (why : PullFault) → HasRoom (expected place) → Refuses old (expected place).size why new
       → fault ≡ reported_as why → Missed place old fault new
 
--- What is held and stored is within what was taken, which is within the limit.
+-- What was taken is within the limit, and what is held within the scope. Where all names are in
+-- scope, what is held and stored is within what was taken.
 pub record IsBounded (pull : Pulled) (keeping : Keeping) : Type 0 where
   pub limit_is : pull.limit ≡ limit
   pub within : pull.taken ≤ limit
-  pub held_is : held_with_open keeping ≤ 4 * pull.taken
-  pub stored_is : StoresWithin keeping pull.taken
+  pub all_is : keeping.scope ≡ all
+      → (held_with_open keeping ≤ 4 * pull.taken) × StoresWithin keeping pull.taken
+  pub scope_is : KeepsWithin keeping
 
 -- The end of the list was found: it is expected, no byte is left, and no fault was met.
 pub record IsEnded (position : Position) : Type 0 where
@@ -152,9 +158,24 @@ pub record IsReached (position : Position) : Type 0 where
   pub ends : position.ended ≡ true → IsEnded position
   pub bounded : IsBounded position.pull position.keeping
 
+-- Of the names in scope just what the entries name is held, and nothing that is not within it. Where
+-- all are in scope, it is no more than the text has room for.
+pub record HoldsWithin (scope : Scope) (text : List ℕ) (r : Contents) (entries : List Entry)
+    : Type 0 where
+  pub means : MeansWithin scope r entries
+  pub within : WithinScope scope r
+  pub bounds : scope ≡ all → (held r ≤ 4 * length text) × (stored r ≤ length text)
+
+-- All that the entries name is held, and no more than the text has room for.
+pub record HoldsAll (text : List ℕ) (r : Contents) (entries : List Entry) : Type 0 where
+  pub means : Means r entries
+  pub held_is : held r ≤ 4 * length text
+  pub stored_is : stored r ≤ length text
+
 -- A whole list was read: its fields lead from the first byte to its end, and the header and what is
 -- held are what they say.
-pub record IsWhole (text : List ℕ) (header : Header) (contents : Contents) : Type 0 where
+pub record IsWholeAs (Holds : List ℕ → Contents → List Entry → Type 0) (text : List ℕ)
+    (header : Header) (contents : Contents) : Type 0 where
   pub fields : List (List ℕ)
   pub state : State
   pub leads : Leads start fields state
@@ -163,19 +184,21 @@ pub record IsWhole (text : List ℕ) (header : Header) (contents : Contents) : T
   pub are_bytes : IsBytes text
   pub may_end : can_end state.place ≡ true
   pub header_is : header ≡ state.header
-  pub means : Means contents state.entries
-  pub held_is : held contents ≤ 4 * length text
-  pub stored_is : stored contents ≤ length text
+  pub holds : Holds text contents state.entries
 
--- A list was read: a header and sections spell the text, and what is held means what the sections
--- name.
-pub record IsList (text : List ℕ) (header : Header) (contents : Contents) : Type 0 where
+abbrev pub IsWhole : List ℕ → Header → Contents → Type 0
+IsWhole = IsWholeAs HoldsAll
+
+-- A list was read: a header and sections spell the text, and what is held is what the sections name.
+pub record IsListAs (Holds : List ℕ → Contents → List Entry → Type 0) (text : List ℕ)
+    (header : Header) (contents : Contents) : Type 0 where
   pub sections : List SpelledSection
   pub spelled : Spells text header sections
   pub within : length text ≤ limit
-  pub means : Means contents (entries_of sections)
-  pub held_is : held contents ≤ 4 * length text
-  pub stored_is : stored contents ≤ length text
+  pub holds : Holds text contents (entries_of sections)
+
+abbrev pub IsList : List ℕ → Header → Contents → Type 0
+IsList = IsListAs HoldsAll
 
 -- What reading a text gives: what is known of it, or its fault, by whether the reader failed and
 -- the bytes that it has left.
@@ -190,3 +213,19 @@ pub record IsReadingOf {K : Type 0} (Knows : List ℕ → K → Type 0) (before 
     (reading : Result K KrlFault) (failed : Bool) (left : Option (List ℕ)) : Type 0 where
   pub failure : ReportsFailure reading failed
   pub read : (text : List ℕ) → before ≡ Some text → IsReadAs Knows text reading failed left
+
+-- For each row of fields that was read before, it is read now with some fields more.
+abbrev pub ReadsMore : Position → Position → Type 0
+ReadsMore old new =
+    (text : List ℕ) (fields : List (List ℕ)) → HasRead text fields old
+    → (more : List (List ℕ)) × HasRead text (fields ++ more) new
+
+-- Some bytes were taken.
+pub record Leaps (old new : Position) : Type 0 where
+  pub taken : old.pull.taken < new.pull.taken
+  pub within : new.pull.taken ≤ limit
+  pub scope_is : new.keeping.scope ≡ old.keeping.scope
+
+-- A field or some bytes more were taken.
+abbrev pub Advances : Position → Position → Type 0
+Advances old new = Follows old new ⊎ Leaps old new

@@ -1,26 +1,34 @@
 //! Keeping what the fields of a list name.
 
-ghost use Rattle.std.specs.Prelude.{◌≡◌, ◌+◌, ◌^◌, ◌<◌, ◌≤◌, ◌∷◌, [], ℕ, None, OnErr, OnOk, false};
+ghost use Rattle.std.specs.Prelude.{◌≡◌, ◌+◌, ◌%◌, ◌^◌, ◌<◌, ◌≤◌, ◌∷◌, [], ℕ, List, None, OnErr};
+ghost use Rattle.std.specs.Prelude.{OnOk, false};
 ghost use Rattle.std.specs.Prelude.{length, All};
 ghost use Rattle.serial_set.specs.BitRuns.{Feeds, IsInterval};
 ghost use Rattle.serial_set.specs.Finished.{finished_of};
 ghost use Rattle.serial_set.specs.Near.{AreNear};
+ghost use Rattle.krl_core.specs.Contents.{nothing};
 ghost use Rattle.krl_core.specs.Authority.{IsAuthority, authority_bytes};
-ghost use Rattle.krl_core.specs.Entry.{SerialsEntry, RangeEntry};
+ghost use Rattle.krl_core.specs.Entry.{Entry, SerialsEntry, RangeEntry};
+ghost use Rattle.krl_core.specs.Naming.{SerialOf};
+ghost use Rattle.krl_core.specs.Questions.{FindsIn, asked_in};
+ghost use Rattle.krl_core.specs.Scope.{InScope, WithinScope, all};
 ghost use Rattle.krl_core.specs.Front.{Passes, start};
 ghost use Rattle.krl_core.specs.Keeping.{Adds, Closes, GrowsWithin, InStep, IsKept, StoresWithin};
-ghost use Rattle.krl_core.specs.Keeping.{KeepsBits, KeepsField, KeepsRest, KeepsStored, TakesByte};
+ghost use Rattle.krl_core.specs.Keeping.{KeepsBits, KeepsField, KeepsRest, KeepsWithin, Skips, StaysWithin, TakesByte};
 ghost use Rattle.krl_core.specs.Changes.{run_entries};
+ghost use Rattle.krl_core.specs.Crossing.{AreUnwanted};
 ghost use Rattle.krl_core.specs.Keeping.{held_with_open};
 ghost use Rattle.krl_core.specs.Place.{item_entry, item_size};
 ghost use Rattle.krl_core.specs.Reading.{is_fixed};
 
 use crate::field::{byte_of, u64_of};
+use crate::findings::Findings;
 use crate::header::Header;
 use crate::place::{
     BitmapPlace, CertificatesPlace, HeaderPlace, ItemKind, ListPlace, Place, SerialsPlace,
 };
 use crate::revocations::Revocations;
+use crate::store::Store;
 use serial_set::{BitRuns, Finished, Span, Spans, count_near};
 use ssh_wire::Bytes;
 use std::alloc::{AllocError, Global};
@@ -28,17 +36,17 @@ use std::marker::Model;
 
 /// What is kept of a list while it is read.
 #[derive(Drop)]
-pub struct Keeper<S: Spans> {
+pub struct Keeper<T: Store> {
     version: u64,
     date: u64,
     comment: Vec<u8>,
     // the authority in force, empty for all authorities
     authority: Vec<u8>,
-    held: Revocations<S>,
+    store: T,
     bitmap: BitRuns,
 }
 
-impl<S: Spans> Model for Keeper<S> {
+impl<T: Store> Model for Keeper<T> {
     ghost use Rattle.krl_core.specs.Keeping.{Keeping};
 
     ghost Value = { Keeping };
@@ -50,53 +58,47 @@ impl<S: Spans> Model for Keeper<S> {
         comment = keeper.comment.items;
       };
       authority = keeper.authority.items;
-      contents = keeper.held;
+      contents = T.contents keeper.store;
+      scope = T.scope keeper.store;
       bitmap = keeper.bitmap;
     } };
 }
 
-impl<S: Spans> Keeper<S> {
+impl<T: Store> Keeper<T> {
     /// Nothing is kept yet.
-    pub fn new(alloc: Global) -> Self
+    pub fn new(alloc: Global, store: T) -> Self
+        requires empty { T.contents store ≡ nothing }
+        requires within { WithinScope (T.scope store) nothing }
+        ensures scope { result.scope ≡ T.scope store }
         ensures kept { IsKept result [] }
         ensures start { (result.authority ≡ []) × (result.header ≡ start.header) }
         ensures in_step { result.bitmap.pending ≡ None }
         ensures held { held_with_open result ≡ 0 }
         ensures stored { StoresWithin result 0 }
+        ensures within { KeepsWithin result }
     {
         Keeper {
             version: 0,
             date: 0,
             comment: Vec::new(alloc),
             authority: Vec::new(alloc),
-            held: Revocations::new(alloc),
+            store,
             bitmap: BitRuns::new(0, 0),
         }
     }
 
-    /// How many spans are held, with the run that may still grow.
-    pub fn held(&self) -> u128
-        requires { held_with_open self.now < 2 ^ 64 }
-        ensures { result ≡ held_with_open self.now }
-    {
-        let open = match self.bitmap.pending() {
-            Some(_) => 1,
-            None => 0,
-        };
-        self.held.held() + open
-    }
-
     /// What was kept.
-    pub fn done(self) -> (Header, Revocations<S>)
+    pub fn done(self) -> (Header, T)
         ensures header { result.0 ≡ self.header }
-        ensures contents { result.1 ≡ self.contents }
+        ensures contents { T.contents result.1 ≡ self.contents }
+        ensures scope { T.scope result.1 ≡ self.scope }
     {
         let header = Header {
             version: self.version,
             date: self.date,
             comment: Bytes::from_vec(self.comment),
         };
-        (header, self.held)
+        (header, self.store)
     }
 
     /// Keeps what a field names, where it is expected and passes its judgement.
@@ -159,6 +161,7 @@ impl<S: Spans> Keeper<S> {
         ensures grows { GrowsWithin (length authority.now) self.old self.new }
     {
         self.authority.clear();
+        self.store.seek(authority);
         self.authority.extend_from_slice(authority)
     }
 
@@ -167,7 +170,7 @@ impl<S: Spans> Keeper<S> {
         ensures adds { OnOk result
             (Adds self.old (SerialsEntry self.old.authority (serial ∷ []) ∷ []) self.new) }
         ensures held { held_with_open self.new ≤ held_with_open self.old + 1 }
-        ensures stored { KeepsStored self.old self.new }
+        ensures stored { StaysWithin self.old self.new }
     {
         if serial == 0 {
             return Ok(());
@@ -195,7 +198,7 @@ impl<S: Spans> Keeper<S> {
         ensures adds { OnOk result
             (Adds self.old (RangeEntry self.old.authority lo hi ∷ []) self.new) }
         ensures held { held_with_open self.new ≤ held_with_open self.old + 1 }
-        ensures stored { KeepsStored self.old self.new }
+        ensures stored { StaysWithin self.old self.new }
         ensures rest { KeepsRest self.old self.new }
     {
         self.add_near(&[Span { lo, hi }])
@@ -209,10 +212,11 @@ impl<S: Spans> Keeper<S> {
         ensures adds { OnOk result
             (Adds self.old (run_entries self.old.authority near.now) self.new) }
         ensures held { held_with_open self.new ≤ held_with_open self.old + length near.now }
-        ensures stored { KeepsStored self.old self.new }
+        ensures stored { StaysWithin self.old self.new }
         ensures rest { KeepsRest self.old self.new }
     {
-        self.held.add_near(under(self.authority.as_slice()), near)
+        self.store
+            .put_serials(under(self.authority.as_slice()), near)
     }
 
     // Adds a key, a hash, or a key ID under the authority in force.
@@ -223,10 +227,10 @@ impl<S: Spans> Keeper<S> {
         ensures grows { GrowsWithin (length item.now) self.old self.new }
     {
         match kind {
-            ItemKind::Key => self.held.add_key(item),
-            ItemKind::Sha1 => self.held.add_sha1(&array_of(item)),
-            ItemKind::Sha256 => self.held.add_sha256(&array_of(item)),
-            ItemKind::Id => self.held.add_id(under(self.authority.as_slice()), item),
+            ItemKind::Key => self.store.put_key(item),
+            ItemKind::Sha1 => self.store.put_sha1(&array_of(item)),
+            ItemKind::Sha256 => self.store.put_sha256(&array_of(item)),
+            ItemKind::Id => self.store.put_id(under(self.authority.as_slice()), item),
         }
     }
 
@@ -261,7 +265,7 @@ impl<S: Spans> Keeper<S> {
         ensures adds { OnOk result
             (Adds self.old (run_entries self.old.authority spans.now) self.new) }
         ensures held { held_with_open self.new ≤ held_with_open self.old + length spans.now }
-        ensures stored { KeepsStored self.old self.new }
+        ensures stored { StaysWithin self.old self.new }
         ensures rest { KeepsRest self.old self.new }
     {
         let mut at = 0;
@@ -273,11 +277,45 @@ impl<S: Spans> Keeper<S> {
         Ok(())
     }
 
+    /// Whether some serial from `lo` to `hi` may be in scope under the authority in force.
+    pub fn wants(&self, lo: u64, hi: u64) -> bool
+        requires { lo ≤ hi }
+        ensures { result ≡ false → (s : ℕ) → lo ≤ s → s ≤ hi
+            → InScope self.now.scope (SerialOf self.now.authority s) → ⊥ }
+    {
+        self.store.wants(self.authority.as_slice(), lo, hi)
+    }
+
+    /// How many bytes at the front of some serial numbers, of eight bytes each, are of those that
+    /// are not in scope under the authority in force.
+    pub fn unwanted(&self, serials: &[u8]) -> usize
+        ensures within { result ≤ length serials.now }
+        ensures whole { result % 8 ≡ 0 }
+        ensures unwanted { AreUnwanted self.now.scope self.now.authority serials.now result }
+    {
+        self.store.unwanted(self.authority.as_slice(), serials)
+    }
+
+    /// Passes over bytes of the bitmap at hand unread. The open run ends before them.
+    pub fn skip(&mut self, count: u32) -> Result<(), AllocError>
+        requires { count ≤ self.old.bitmap.bytes_left }
+        ensures skips { OnOk result (Skips count self.old self.new) }
+        ensures held { held_with_open self.new ≤ held_with_open self.old }
+        ensures stored { StaysWithin self.old self.new }
+    {
+        let run = self.bitmap.pending();
+        self.bitmap.skip(count);
+        match run {
+            Some(run) => self.add_span(run.lo, run.hi),
+            None => Ok(()),
+        }
+    }
+
     // Adds the open run of the bitmap, which is at its end.
     fn close(&mut self) -> Result<(), AllocError>
         ensures closes { OnOk result (Closes self.old self.new) }
         ensures held { held_with_open self.new ≤ held_with_open self.old }
-        ensures stored { KeepsStored self.old self.new }
+        ensures stored { StaysWithin self.old self.new }
     {
         if let Some(run) = self.bitmap.pending() {
             self.bitmap = BitRuns::new(0, 0);
@@ -285,6 +323,55 @@ impl<S: Spans> Keeper<S> {
         }
         self.bitmap = BitRuns::new(0, 0);
         Ok(())
+    }
+}
+
+impl<S: Spans> Keeper<Revocations<S>> {
+    /// How many spans are held, with the run that may still grow.
+    pub fn held(&self) -> u128
+        requires { self.now.scope ≡ all → held_with_open self.now < 2 ^ 64 }
+        ensures value { result ≡ held_with_open self.now }
+        ensures scope { self.now.scope ≡ all }
+    {
+        let open = match self.bitmap.pending() {
+            Some(_) => 1,
+            None => 0,
+        };
+        self.store.held() + open
+    }
+
+    /// What is held so far.
+    pub fn held_so_far(&self) -> &Revocations<S>
+        ensures { result.now ≡ self.now.contents }
+    {
+        &self.store
+    }
+
+    /// Goes on with what is asked alone, of which just what is held so far is found.
+    pub fn ask(self, findings: Findings<S>) -> Keeper<Findings<S>>
+        requires { FindsIn self.contents findings }
+        ensures kept { (entries : List Entry) → IsKept self entries → IsKept result entries }
+        ensures same { result ≡ record self {
+          contents = findings.found;
+          scope = asked_in findings;
+        } }
+    {
+        let Keeper {
+            version,
+            date,
+            comment,
+            authority,
+            store: _store,
+            bitmap,
+        } = self;
+        Keeper {
+            version,
+            date,
+            comment,
+            authority,
+            store: findings,
+            bitmap,
+        }
     }
 }
 

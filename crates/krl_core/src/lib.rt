@@ -2,7 +2,10 @@
 #![tactic(auto)]
 
 mod addition;
+mod asking;
+mod crossing;
 mod field;
+mod findings;
 mod getters;
 mod header;
 mod ids;
@@ -12,6 +15,7 @@ pub mod laws;
 mod listed;
 mod place;
 mod query;
+mod questions;
 mod read;
 mod reading;
 mod recent;
@@ -19,15 +23,19 @@ mod revocations;
 mod shelf;
 mod shelves;
 mod short;
+mod store;
 mod text_map;
 mod text_walk;
 mod texts;
 
+pub use findings::Findings;
 pub use header::{Header, MAGIC};
 pub use krl_fault::KrlFault;
 pub use listed::{Authorities, Listed};
 pub use place::Place;
-pub use read::read_krl;
-pub use reading::{LIMIT, Reading};
+pub use questions::Questions;
+pub use read::{read_into, read_krl};
+pub use reading::{LIMIT, Reading, Walk};
 pub use revocations::Revocations;
+pub use store::Store;
 pub use texts::Texts;

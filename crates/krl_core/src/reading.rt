@@ -7,17 +7,24 @@ ghost use Rattle.ssh_wire.specs.Wire.{IsBytes};
 ghost use Rattle.ssh_wire.specs.Pull.{Refuses, Takes};
 ghost use Rattle.ssh_wire.specs.declared.pull_fault.PullFault.TheVariants as pulls;
 ghost use Rattle.krl_fault.specs.declared.krl_fault.KrlFault.TheVariants.{NoMemory, Read};
+ghost use Rattle.krl_core.specs.Contents.{nothing};
 ghost use Rattle.krl_core.specs.Front.{HasRoom, Passes, limit};
-ghost use Rattle.krl_core.specs.Keeping.{GrowsWithin, InStep, KeepsField, held_with_open};
+ghost use Rattle.krl_core.specs.Keeping.{GrowsWithin, InStep, KeepsField, StoresWithin, held_with_open};
 ghost use Rattle.krl_core.specs.Place.{can_end, expected};
-ghost use Rattle.krl_core.specs.Reading.{Ends, Follows, HasRead, IsBounded, IsReached, IsList};
-ghost use Rattle.krl_core.specs.Reading.{IsWhole, LooksFor, Missed, ReadsOneMore, Refused};
+ghost use Rattle.krl_core.specs.Questions.{FindsIn, asked_in};
+ghost use Rattle.krl_core.specs.Reading.{Advances, Ends, Follows, HasRead, HoldsWithin, IsBounded, IsReached};
+ghost use Rattle.krl_core.specs.Reading.{ReadsMore};
+ghost use Rattle.krl_core.specs.Reading.{IsList, IsWhole, IsWholeAs, LooksFor, Missed, ReadsOneMore, Refused};
 ghost use Rattle.krl_core.specs.Reading.{ReportsFailure, is_fixed, working};
+ghost use Rattle.krl_core.specs.Scope.{WithinScope, all};
 
+use crate::crossing::cross;
+use crate::findings::Findings;
 use crate::header::Header;
 use crate::keeper::Keeper;
-use crate::place::{BitmapPlace, HeaderPlace, Place, SerialsPlace};
+use crate::place::{HeaderPlace, Place};
 use crate::revocations::Revocations;
+use crate::store::Store;
 use krl_fault::KrlFault;
 use serial_set::Spans;
 use ssh_wire::{Pull, Source};
@@ -30,20 +37,20 @@ pub const LIMIT: u64 = 67_108_864;
 // Fields of at most this many bytes take no memory: numbers, lengths and hashes.
 const SMALL: usize = 32;
 
-/// A list that is read from a reader in one pass. No more of its bytes is held than the field at
-/// hand, and of a bitmap only the byte at hand.
+/// A list that is read from a reader in one pass, into a store. No more of its bytes is held than
+/// the field at hand, and of a bitmap only the byte at hand.
 #[derive(Drop)]
-pub struct Reading<S: Spans, R: Source + Drop> {
+pub struct Walk<T: Store, R: Source + Drop> {
     pull: Pull<R>,
     place: Place,
-    keeper: Keeper<S>,
+    keeper: Keeper<T>,
     // the field at hand, where it is large
     large: Vec<u8>,
     ended: bool,
     fault: Option<KrlFault>,
 }
 
-impl<S: Spans, R: Source + Drop> Model for Reading<S, R> {
+impl<T: Store, R: Source + Drop> Model for Walk<T, R> {
     ghost use Rattle.krl_core.specs.Reading.{Position, IsReached as Reached};
 
     ghost Value = { Position };
@@ -65,18 +72,95 @@ impl<S: Spans, R: Source + Drop> Model for Reading<S, R> {
     }) };
 }
 
-impl<S: Spans, R: Source + Drop> Reading<S, R> {
+/// A list that is read in one pass, of which all is held.
+pub type Reading<S, R> = Walk<Revocations<S>, R>;
+
+impl<S: Spans, R: Source + Drop> Walk<Revocations<S>, R> {
     /// Nothing is read yet. The reader has not failed before.
     pub fn new(alloc: Global, reader: R) -> Self
         requires { R.has_failed reader ≡ false }
         ensures start { (text : List ℕ) → R.left reader ≡ Some text → HasRead text [] result }
         ensures bounds { IsBounded result.pull result.keeping }
         ensures faultless { result.fault ≡ None }
+        ensures all { result.keeping.scope ≡ all }
     {
-        Reading {
+        Walk::over(alloc, Revocations::new(alloc), reader)
+    }
+
+    /// How many spans are held of the list so far, with the run of a bitmap that may still grow.
+    pub fn held(&self) -> u128
+        ensures value { result ≡ held_with_open self.now.keeping }
+        ensures four_a_byte { result ≤ 4 * self.now.pull.taken }
+        ensures stored { StoresWithin self.now.keeping self.now.pull.taken }
+    {
+        self.keeper.held()
+    }
+
+    /// What was read, after a step that answered false, and the reader.
+    pub fn done(self) -> (Header, Revocations<S>, R)
+        ensures whole { (text : List ℕ) → (fields : List (List ℕ)) → HasRead text fields self
+            → text ≡ concat fields → can_end self.place ≡ true
+            → IsWhole text result.0 result.1 }
+        ensures list { (text : List ℕ) → (fields : List (List ℕ)) → HasRead text fields self
+            → text ≡ concat fields → can_end self.place ≡ true
+            → IsList text result.0 result.1 }
+        ensures failed { R.has_failed result.2 ≡ self.pull.failed }
+    {
+        self.end()
+    }
+}
+
+impl<S: Spans, R: Source + Drop> Walk<Revocations<S>, R> {
+    /// What is held of the fields so far.
+    pub fn held_so_far(&self) -> &Revocations<S>
+        ensures { result.now ≡ self.now.keeping.contents }
+    {
+        self.keeper.held_so_far()
+    }
+
+    /// Goes on with what is asked alone, of which just what is held so far is found.
+    pub fn ask(self, findings: Findings<S>) -> Walk<Findings<S>, R>
+        requires { FindsIn self.keeping.contents findings }
+        ensures reads { (text : List ℕ) (fields : List (List ℕ)) → HasRead text fields self
+            → HasRead text fields result }
+        ensures scope { result.keeping.scope ≡ asked_in findings }
+        ensures fault { result.fault ≡ self.fault }
+        ensures bounds { IsBounded result.pull result.keeping }
+    {
+        let Walk {
+            pull,
+            place,
+            keeper,
+            large,
+            ended,
+            fault,
+        } = self;
+        Walk {
+            pull,
+            place,
+            keeper: keeper.ask(findings),
+            large,
+            ended,
+            fault,
+        }
+    }
+}
+
+impl<T: Store, R: Source + Drop> Walk<T, R> {
+    /// Nothing is read yet, and the store is empty. The reader has not failed before.
+    pub fn over(alloc: Global, store: T, reader: R) -> Self
+        requires empty { T.contents store ≡ nothing }
+        requires within { WithinScope (T.scope store) nothing }
+        requires fresh { R.has_failed reader ≡ false }
+        ensures start { (text : List ℕ) → R.left reader ≡ Some text → HasRead text [] result }
+        ensures bounds { IsBounded result.pull result.keeping }
+        ensures faultless { result.fault ≡ None }
+        ensures scope { result.keeping.scope ≡ T.scope store }
+    {
+        Walk {
             pull: Pull::new(reader, LIMIT),
             place: Place::Header(HeaderPlace::Magic),
-            keeper: Keeper::new(alloc),
+            keeper: Keeper::new(alloc, store),
             large: Vec::new(alloc),
             ended: false,
             fault: None,
@@ -125,26 +209,51 @@ impl<S: Spans, R: Source + Drop> Reading<S, R> {
         }
     }
 
-    /// How many spans are held of the list so far, with the run of a bitmap that may still grow.
-    pub fn held(&self) -> u128
-        ensures value { result ≡ held_with_open self.now.keeping }
-        ensures four_a_byte { result ≤ 4 * self.now.pull.taken }
+    /// The same, where it may read many fields that stand in the reader's buffer.
+    pub fn stride(&mut self) -> Result<bool, KrlFault>
+        ensures more { IfOk result (λ more. IsTrue more → ReadsMore self.old self.new) }
+        ensures advances { IfOk result (λ more. IsTrue more → Advances self.old self.new) }
+        ensures ends { IfOk result (λ more. more ≡ false → Ends self.old self.new) }
+        ensures fault { self.old.fault ≡ None
+            → IfErr result (λ fault. Refused fault self.old self.new.pull) }
+        ensures failure { self.old.fault ≡ None
+            → ReportsFailure result self.new.pull.failed }
+        ensures working { OnOk result (self.new.fault ≡ None) }
+        ensures bounds { IsBounded self.new.pull self.new.keeping }
     {
-        self.keeper.held()
+        if let Some(fault) = self.fault {
+            return Err(fault);
+        }
+        if self.ended {
+            return Ok(false);
+        }
+        match advance_far(
+            &mut self.pull,
+            &mut self.place,
+            &mut self.keeper,
+            &mut self.large,
+        ) {
+            Ok(more) => {
+                self.ended = !more;
+                Ok(more)
+            }
+            Err(fault) => {
+                self.fault = Some(fault);
+                Err(fault)
+            }
+        }
     }
 
     /// What was read, after a step that answered false, and the reader.
-    pub fn done(self) -> (Header, Revocations<S>, R)
+    pub fn end(self) -> (Header, T, R)
         ensures whole { (text : List ℕ) → (fields : List (List ℕ)) → HasRead text fields self
             → text ≡ concat fields → can_end self.place ≡ true
-            → IsWhole text result.0 result.1 }
-        ensures list { (text : List ℕ) → (fields : List (List ℕ)) → HasRead text fields self
-            → text ≡ concat fields → can_end self.place ≡ true
-            → IsList text result.0 result.1 }
+            → IsWholeAs (HoldsWithin (T.scope result.1)) text result.0 (T.contents result.1) }
+        ensures scope { T.scope result.1 ≡ self.keeping.scope }
         ensures failed { R.has_failed result.2 ≡ self.pull.failed }
     {
-        let (header, revocations) = self.keeper.done();
-        (header, revocations, self.pull.into_inner())
+        let (header, store) = self.keeper.done();
+        (header, store, self.pull.into_inner())
     }
 
     /// The reader, which goes on after the last byte that was taken or looked at.
@@ -209,7 +318,7 @@ fn take<'a, R: Source + Drop>(
 
 // Judges the field that was taken, keeps what it names, and answers the place after it.
 #[inline(always)]
-fn pass<S: Spans>(place: Place, keeper: &mut Keeper<S>, field: &[u8]) -> Result<Place, KrlFault>
+fn pass<T: Store>(place: Place, keeper: &mut Keeper<T>, field: &[u8]) -> Result<Place, KrlFault>
     requires room { HasRoom (expected place) }
     requires size { length field.now ≡ (expected place).size }
     requires in_step { InStep place keeper.old.bitmap }
@@ -226,11 +335,46 @@ fn pass<S: Spans>(place: Place, keeper: &mut Keeper<S>, field: &[u8]) -> Result<
     Ok(next)
 }
 
-// Reads a field, or finds that the list is at its end.
-fn advance<S: Spans, R: Source + Drop>(
+// Crosses the fields that stand in the reader's buffer, if there are any, else reads a field, or
+// finds that the list is at its end.
+fn advance_far<T: Store, R: Source + Drop>(
     pull: &mut Pull<R>,
     place: &mut Place,
-    keeper: &mut Keeper<S>,
+    keeper: &mut Keeper<T>,
+    large: &mut Vec<u8>,
+) -> Result<bool, KrlFault>
+    requires { IsReached (working pull.old place.old keeper.old) }
+    ensures more { IfOk result (λ more. IsTrue more → ReadsMore
+        (working pull.old place.old keeper.old) (working pull.new place.new keeper.new)) }
+    ensures advances { IfOk result (λ more. IsTrue more → Advances
+        (working pull.old place.old keeper.old) (working pull.new place.new keeper.new)) }
+    ensures ends { IfOk result (λ more. more ≡ false → Ends
+        (working pull.old place.old keeper.old) (working pull.new place.new keeper.new)) }
+    ensures fault { IfErr result (λ fault. Refused fault
+        (working pull.old place.old keeper.old) pull.new) }
+    ensures sound { OnOk result (IsReached (working pull.new place.new keeper.new)) }
+    ensures failure { ReportsFailure result pull.new.failed }
+    ensures bounds { IsBounded pull.new keeper.new }
+{
+    if let Place::Header(_) = *place {
+        return advance(pull, place, keeper, large);
+    }
+    let (count, crossed) = cross(place, keeper, pull.buffer());
+    if count == 0 {
+        return advance(pull, place, keeper, large);
+    }
+    pull.consume(count);
+    match crossed {
+        Ok(()) => Ok(true),
+        Err(_) => Err(KrlFault::NoMemory),
+    }
+}
+
+// Reads a field, or finds that the list is at its end.
+fn advance<T: Store, R: Source + Drop>(
+    pull: &mut Pull<R>,
+    place: &mut Place,
+    keeper: &mut Keeper<T>,
     large: &mut Vec<u8>,
 ) -> Result<bool, KrlFault>
     requires { IsReached (working pull.old place.old keeper.old) }
@@ -246,60 +390,11 @@ fn advance<S: Spans, R: Source + Drop>(
     ensures failure { ReportsFailure result pull.new.failed }
     ensures bounds { IsBounded pull.new keeper.new }
 {
-    // Of these a list can have millions, so each has code of its own, made for its place.
-    match *place {
-        Place::Serials(SerialsPlace::Serial { left, after }) => {
-            let at = Place::Serials(SerialsPlace::Serial { left, after });
-            advance_at(pull, place, at, keeper, large)
-        }
-        Place::Bitmap(
-            BitmapPlace::Byte {
-                offset,
-                size,
-                left,
-                after,
-            },
-        ) => {
-            let at = Place::Bitmap(BitmapPlace::Byte {
-                offset,
-                size,
-                left,
-                after,
-            });
-            advance_at(pull, place, at, keeper, large)
-        }
-        at => advance_at(pull, place, at, keeper, large),
-    }
-}
-
-// The same at a place that the caller knows.
-#[inline(always)]
-fn advance_at<S: Spans, R: Source + Drop>(
-    pull: &mut Pull<R>,
-    place: &mut Place,
-    at: Place,
-    keeper: &mut Keeper<S>,
-    large: &mut Vec<u8>,
-) -> Result<bool, KrlFault>
-    requires at { at ≡ place.old }
-    requires reached { IsReached (working pull.old place.old keeper.old) }
-    ensures more { IfOk result (λ more. IsTrue more → ReadsOneMore
-        (working pull.old place.old keeper.old) (working pull.new place.new keeper.new)) }
-    ensures follows { IfOk result (λ more. IsTrue more → Follows
-        (working pull.old place.old keeper.old) (working pull.new place.new keeper.new)) }
-    ensures ends { IfOk result (λ more. more ≡ false → Ends
-        (working pull.old place.old keeper.old) (working pull.new place.new keeper.new)) }
-    ensures fault { IfErr result (λ fault. Refused fault
-        (working pull.old place.old keeper.old) pull.new) }
-    ensures sound { OnOk result (IsReached (working pull.new place.new keeper.new)) }
-    ensures failure { ReportsFailure result pull.new.failed }
-    ensures bounds { IsBounded pull.new keeper.new }
-{
-    if ends(pull, at)? {
+    if ends(pull, *place)? {
         return Ok(false);
     }
     let mut small = [0; SMALL];
-    let field = take(pull, at, &mut small, large)?;
-    *place = pass(at, keeper, field)?;
+    let field = take(pull, *place, &mut small, large)?;
+    *place = pass(*place, keeper, field)?;
     Ok(true)
 }

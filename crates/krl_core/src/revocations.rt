@@ -4,7 +4,7 @@ ghost use Rattle.serial_set.specs.BitRuns.{IsInterval};
 ghost use Rattle.serial_set.specs.Near.{AreNear};
 ghost use Rattle.krl_core.specs.Authority.{authority_bytes, IsAuthority};
 ghost use Rattle.krl_core.specs.Changes.{MeansMore, run_entries};
-ghost use Rattle.krl_core.specs.Contents.{IsNamed, Means, nothing, held, stored};
+ghost use Rattle.krl_core.specs.Contents.{IsNamed, IsOrderly, Means, nothing, held, stored};
 ghost use Rattle.krl_core.specs.Entry.{RangeEntry, IdEntry, KeyEntry, Sha1Entry, Sha256Entry};
 
 use crate::addition::Addition;
@@ -68,6 +68,7 @@ impl<S: Spans> Revocations<S> {
         requires authority { IsAuthority authority }
         ensures means { OnOk result (MeansMore self.old self.new
             (RangeEntry (authority_bytes authority.entry) lo hi ∷ [])) }
+        ensures orderly { IsOrderly self.old }
         ensures refused { OnErr result (self.new ≡ self.old) }
         ensures held { held self.new ≤ held self.old + 1 }
         ensures stored { stored self.new
@@ -76,6 +77,7 @@ impl<S: Spans> Revocations<S> {
             → stored self.new ≤ stored self.old }
         ensures named { OnOk result (IsNamed self.new (authority_bytes authority.entry)) }
         ensures stays { (other : List ℕ) → IsNamed self.old other → IsNamed self.new other }
+        ensures keys { self.new.keys ≡ self.old.keys }
     {
         self.add_near(authority, &[Span { lo, hi }])
     }
@@ -93,6 +95,7 @@ impl<S: Spans> Revocations<S> {
         requires authority { IsAuthority authority }
         ensures means { OnOk result (MeansMore self.old self.new
             (run_entries (authority_bytes authority.entry) near.now)) }
+        ensures orderly { IsOrderly self.old }
         ensures refused { OnErr result (self.new ≡ self.old) }
         ensures held { held self.new ≤ held self.old + length near.now }
         ensures stored { stored self.new
@@ -101,6 +104,7 @@ impl<S: Spans> Revocations<S> {
             → stored self.new ≤ stored self.old }
         ensures named { OnOk result (IsNamed self.new (authority_bytes authority.entry)) }
         ensures stays { (other : List ℕ) → IsNamed self.old other → IsNamed self.new other }
+        ensures keys { self.new.keys ≡ self.old.keys }
     {
         let bytes = bytes_or_none(authority);
         let addition = Addition::Serials(near);
@@ -114,6 +118,7 @@ impl<S: Spans> Revocations<S> {
         requires { IsAuthority authority }
         ensures means { OnOk result (MeansMore self.old self.new
             (IdEntry (authority_bytes authority.entry) id.now ∷ [])) }
+        ensures orderly { IsOrderly self.old }
         ensures refused { OnErr result (self.new ≡ self.old) }
         ensures held { held self.new ≡ held self.old }
         ensures stored { stored self.new
@@ -122,6 +127,7 @@ impl<S: Spans> Revocations<S> {
             → stored self.new ≤ stored self.old + length id.now }
         ensures named { OnOk result (IsNamed self.new (authority_bytes authority.entry)) }
         ensures stays { (other : List ℕ) → IsNamed self.old other → IsNamed self.new other }
+        ensures keys { self.new.keys ≡ self.old.keys }
     {
         let bytes = bytes_or_none(authority);
         let addition = Addition::Id(id);
@@ -132,10 +138,12 @@ impl<S: Spans> Revocations<S> {
     /// Revokes a key by its blob. Fails only where memory runs out, and changes nothing then.
     pub fn add_key(&mut self, blob: &[u8]) -> Result<(), AllocError>
         ensures means { OnOk result (MeansMore self.old self.new (KeyEntry blob.now ∷ [])) }
+        ensures orderly { IsOrderly self.old }
         ensures refused { OnErr result (self.new ≡ self.old) }
         ensures held { held self.new ≡ held self.old }
         ensures stored { stored self.new ≤ stored self.old + length blob.now }
         ensures sections { self.new.sections ≡ self.old.sections }
+        ensures keys { length self.new.keys ≤ length self.old.keys + 1 }
     {
         self.keys.put(self.alloc, blob, ())?;
         Ok(())
@@ -145,6 +153,7 @@ impl<S: Spans> Revocations<S> {
     /// nothing then.
     pub fn add_sha1(&mut self, hash: &[u8; 20]) -> Result<(), AllocError>
         ensures means { OnOk result (MeansMore self.old self.new (Sha1Entry hash.now ∷ [])) }
+        ensures orderly { IsOrderly self.old }
         ensures refused { OnErr result (self.new ≡ self.old) }
         ensures held { held self.new ≡ held self.old }
         ensures stored { stored self.new ≤ stored self.old + 20 }
@@ -158,6 +167,7 @@ impl<S: Spans> Revocations<S> {
     /// nothing then.
     pub fn add_sha256(&mut self, hash: &[u8; 32]) -> Result<(), AllocError>
         ensures means { OnOk result (MeansMore self.old self.new (Sha256Entry hash.now ∷ [])) }
+        ensures orderly { IsOrderly self.old }
         ensures refused { OnErr result (self.new ≡ self.old) }
         ensures held { held self.new ≡ held self.old }
         ensures stored { stored self.new ≤ stored self.old + 32 }
@@ -169,7 +179,7 @@ impl<S: Spans> Revocations<S> {
 }
 
 // The bytes of an authority, and none for all authorities.
-fn bytes_or_none<'a>(authority: Option<&'a [u8]>) -> &'a [u8]
+pub(crate) fn bytes_or_none<'a>(authority: Option<&'a [u8]>) -> &'a [u8]
     ensures { result.now ≡ authority_bytes authority.entry }
 {
     match authority {

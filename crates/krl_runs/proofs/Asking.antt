@@ -1,11 +1,24 @@
 -- A run by what is held of a list, or by why the list is refused.
-use Rattle.std.proofs.Common.{◌≡◌, ℕ, true, false, List, [], ◌∷◌, ◌++◌, Bool, None, Result, Ok, Err, refl, sym, ap, ◌∙◌, append_assoc}
+use Rattle.std.proofs.Common.{◌≡◌, ℕ, true, false, List, [], ◌∷◌, ◌++◌, Bool, Option, Some, None, Result, Ok, Err, refl, sym, ap, subst, ◌∙◌, append_assoc}
 use Rattle.std.specs.List.{concat}
 use Rattle.krl_core.proofs.Tested.{revokes_meant}
-use Rattle.krl_core.specs.Contents.{Contents}
+use Rattle.krl_core.specs.Canonical.{entries_in}
+use Rattle.krl_core.specs.Contents.{Contents, IsOrderly, nothing}
+use Rattle.krl_core.specs.Entry.{Entry}
+use Rattle.key_files.specs.declared.cause.Cause.TheVariants as causes
+use Rattle.krl_core.proofs.Canonical.{means_itself}
+use Rattle.krl_core.proofs.OneMeaning.{one_meaning}
+use Rattle.krl_core.proofs.SameMeaning.{nothing_meant}
+use Rattle.krl_core.proofs.Scoped.{means_within}
 use Rattle.krl_core.specs.Entries.{entries_of}
 use Rattle.krl_core.specs.Front.{IsFirstFault}
-use Rattle.krl_core.specs.Reading.{IsList}
+use Rattle.krl_core.specs.NamingTests.{is_revoked as is_named}
+use Rattle.krl_core.specs.Questions.{Asked, Asks, FindsIn}
+use Rattle.krl_core.specs.Reading.{HoldsWithin, IsList, IsListAs}
+use Rattle.krl_core.specs.Scope.{Scope}
+use Rattle.krl_core.specs.Tested.{revokes}
+use Rattle.ssh_subject.specs.Subject.{Subject}
+use Rattle.krl_core.proofs.NamingTests.{found_tested}
 use Rattle.krl_core.specs.declared.header.Header.{Header}
 use Rattle.krl_fault.specs.declared.krl_fault.KrlFault.{KrlFault}
 use Rattle.krl_fault.specs.declared.krl_fault.KrlFault.TheVariants as faults
@@ -13,7 +26,7 @@ use Rattle.krl_runs.specs.Carries.{Carries}
 use Rattle.krl_runs.specs.Printer.{Printed}
 use Rattle.krl_runs.specs.Contents.{Known, all_said, contents_items, dump_text, known_lines, known_of}
 use Rattle.key_files.specs.Stop.{krl_cause}
-use Rattle.krl_runs.specs.Query.{IsHeld, ask, query_run_of}
+use Rattle.krl_runs.specs.Query.{AnswersAbout, HasEntries, IsHeld, answer_of, ask, ask_by, asked_run_of, query_run_of}
 use Rattle.key_files.specs.Keys.{File}
 use Rattle.krl_runs.specs.Run.{Item, Outcome, Passed, Stopped, before, files_items, outcome_of}
 use Rattle.key_files.specs.Stop.{Stop, stop_of}
@@ -25,7 +38,7 @@ pub held : (text : List ℕ) (header : Header) (contents : Contents)
 held text header contents list none = record {
   list = list;
   no_fault = none;
-  answers = λ asked. revokes_meant contents (entries_of list.sections) list.means asked;
+  answers = λ asked. revokes_meant contents (entries_of list.sections) list.holds.means asked;
 }
 
 -- The contents are said where they are asked for, and the files are asked about by what is held.
@@ -71,3 +84,77 @@ pub nothing_first : (name : List ℕ) (known : Known) (files : List File)
     → outcome_of (query_run_of name (Ok known) false files) ≡ outcome_of (files_items (ask known.contents) files)
 unfolding query_run_of contents_items
 nothing_first name known files = refl
+
+-- ---- a list that passed
+
+-- of nothing, nothing is found
+pub finds_nothing : (asked : Asked) → FindsIn nothing asked → asked.found ≡ nothing
+finds_nothing asked finds =
+    one_meaning asked.found nothing [] (record { orderly = finds.orderly; names = λ name. (λ h. (nothing_meant.names name).0 (finds.held name h), λ none. absurd none) }) nothing_meant
+
+pub some_same : {A : Type 0} {x y : A} → Some x ≡ Some y → x ≡ y
+some_same same = cc
+
+-- the entries of a list that passed
+pub passed_entries : (left : Option (List ℕ)) (scope : Scope) (found : Contents) (header : Header)
+    → ((text : List ℕ) → left ≡ Some text → IsListAs (HoldsWithin scope) text header found) → ((text : List ℕ) → left ≡ Some text → IsFirstFault text None)
+    → (entries : List Entry) × ((text : List ℕ) → left ≡ Some text → HasEntries text entries)
+passed_entries None scope found header list none = ([], λ text e. absurd (cc))
+passed_entries (Some text) scope found header list none =
+    let is = list text refl in
+    let entries = entries_of is.sections in
+    let has : HasEntries text entries = record {
+      header = header;
+      sections = is.sections;
+      spelled = is.spelled;
+      within = is.within;
+      no_fault = none text refl;
+      entries_are = refl;
+    } in
+    (entries, λ other e. let same : text ≡ other = cc in subst (λ (t : List ℕ). HasEntries t entries) same has)
+
+-- the entries that answer for a list that passed: those of its sections, or of what was found
+pub passed_list : (left : Option (List ℕ)) (topics found : Contents) (header : Header) → IsOrderly found
+    → ((text : List ℕ) → left ≡ Some text → IsListAs (HoldsWithin (Some topics)) text header found) → ((text : List ℕ) → left ≡ Some text → IsFirstFault text None)
+    → (entries : List Entry) × ((text : List ℕ) → left ≡ Some text → HasEntries text entries) × ((asked : Subject) → Asks topics asked → is_named entries asked ≡ revokes found asked)
+unfolding passed_entries
+passed_list None topics found header orderly list none = (
+  entries_in found,
+  λ text e. absurd (cc),
+  λ asked asks. sym (found_tested topics found (entries_in found) (means_within (Some topics) found (entries_in found) (means_itself found orderly)) asked asks),
+)
+passed_list (Some text) topics found header orderly list none =
+    let is = list text refl in
+    let entries = entries_of is.sections in (
+      entries,
+      (passed_entries (Some text) (Some topics) found header list none).1,
+      λ asked asks. sym (found_tested topics found entries is.holds.means asked asks),
+    )
+
+-- what was found of it answers for what was asked about
+pub passed_answers : (topics found : Contents) (entries : List Entry) → ((asked : Subject) → Asks topics asked → is_named entries asked ≡ revokes found asked)
+    → AnswersAbout topics found (ask_by (is_named entries))
+passed_answers topics found entries same = record {
+  say = λ name number line asked key asks. ap (λ (b : Bool). Some (answer_of name line b)) (same asked asks);
+  unanswered = refl;
+}
+
+pub asked_run : {A : Type 0} (name : List ℕ) (files : List File) (entries : List Entry) (result : Result A Stop) (old new : Printed)
+    → Carries (files_items (ask_by (is_named entries)) files) result old new → Carries (asked_run_of name (Ok entries) files) result old new
+unfolding asked_run_of
+asked_run name files entries result old new rest =
+    carries_then (Passed name ∷ []) (files_items (ask_by (is_named entries)) files) tt result old old new (carries_passed (tt {0}) name old) rest
+
+pub asked_refused : (name : List ℕ) (files : List File) (fault : KrlFault) (now : Printed)
+    → Carries {A = Unit {0}} (asked_run_of name (Err fault) files) (Err (stop_of name (krl_cause fault))) now now
+unfolding asked_run_of
+asked_refused name files faults.NoMemory now = carries_withheld (Stopped (stop_of name (krl_cause faults.NoMemory))) (stop_of name (krl_cause faults.NoMemory)) now refl
+asked_refused name files fault now = carries_withheld (Stopped (stop_of name (krl_cause fault))) (stop_of name (krl_cause fault)) now refl
+
+-- memory ran out before the first key was answered for
+pub asked_starved : (name : List ℕ) (files : List File) (entries : List Entry) (now : Printed)
+    → Carries {A = Unit {0}} (asked_run_of name (Ok entries) files) (Err (stop_of name causes.NoMemory)) now now
+unfolding asked_run_of
+asked_starved name files entries now =
+    carries_more {A = Unit {0}} {B = Unit {0}} (Passed name ∷ []) (files_items (ask_by (is_named entries)) files) (stop_of name causes.NoMemory) now now
+    (carries_withheld (Passed name) (stop_of name causes.NoMemory) now refl)

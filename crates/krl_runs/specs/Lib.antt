@@ -3,6 +3,7 @@ pub mod Items
 pub mod Printer
 pub mod Carries
 pub mod Contents
+pub mod Expected
 pub mod Query
 pub mod Done
 pub mod Listing

@@ -1,9 +1,15 @@
 -- Asking a list about keys (ssh-keygen(1), KEY REVOCATION LISTS).
-use Rattle.std.specs.Prelude.{◌↔◌, ℕ, Bool, true, false, List, [], ◌∷◌, ◌++◌}
+use Rattle.std.specs.Prelude.{◌≡◌, ◌↔◌, ◌≤◌, length, ℕ, Bool, true, false, List, [], ◌∷◌, ◌++◌}
 use Rattle.std.specs.Prelude.{Option, None, Some, Result, Ok, Err, IsTrue, codes}
 use Rattle.krl_core.specs.Contents.{Contents}
 use Rattle.krl_core.specs.Entries.{entries_of}
-use Rattle.krl_core.specs.Front.{IsFirstFault}
+use Rattle.krl_core.specs.Front.{IsFirstFault, limit}
+use Rattle.krl_core.specs.Krl.{SpelledSection, Spells}
+use Rattle.krl_core.specs.Questions.{Asks}
+use Rattle.krl_core.specs.Entry.{Entry}
+use Rattle.krl_core.specs.NamingTests.{is_revoked}
+use Rattle.krl_core.specs.declared.header.Header.{Header}
+use Rattle.ssh_key.specs.Key.{Key}
 use Rattle.krl_core.specs.Reading.{IsList, IsReadAs, IsReadingOf}
 use Rattle.krl_core.specs.Revoked.{Revoked}
 use Rattle.krl_core.specs.Tested.{revokes}
@@ -31,18 +37,37 @@ abbrev pub query_line : List ℕ → List ℕ → Bool → List ℕ
 query_line name comment is_revoked =
     escaped name ++ (comment_part comment ++ (verdict is_revoked ++ 10 ∷ []))
 
--- the answer for a key by what is held of a list
-abbrev pub answer_of : Contents → List ℕ → Content → Subject → Answer
-answer_of contents name line asked =
-    let is_revoked = revokes contents asked in
+-- the answer for a key, by whether it is revoked
+abbrev pub answer_of : List ℕ → Content → Bool → Answer
+answer_of name line is_revoked =
     record { text = query_line name line.comment is_revoked; revoked = is_revoked }
 
--- each key is answered for
-abbrev pub ask : Contents → Answering
-ask contents = record {
-  say = λ name number line asked key. Some (answer_of contents name line asked);
+-- each key is answered for, by a test of what is asked about it
+abbrev pub ask_by : (Subject → Bool) → Answering
+ask_by test = record {
+  say = λ name number line asked key. Some (answer_of name line (test asked));
   unanswered = files.NoKeys;
 }
+
+-- by what is held of a list
+abbrev pub ask : Contents → Answering
+ask contents = ask_by (revokes contents)
+
+-- What was asked about is answered for by what was found of it.
+pub record AnswersAbout (topics found : Contents) (answering : Answering) : Type 0 where
+  pub say : (name : List ℕ) (number : Option ℕ) (line : Content) (asked : Subject) (key : Key)
+      → Asks topics asked
+      → answering.say name number line asked key ≡ Some (answer_of name line (revokes found asked))
+  pub unanswered : answering.unanswered ≡ files.NoKeys
+
+-- The text is a list without a fault, and these are the entries that its sections have.
+pub record HasEntries (text : List ℕ) (entries : List Entry) : Type 0 where
+  pub header : Header
+  pub sections : List SpelledSection
+  pub spelled : Spells text header sections
+  pub within : length text ≤ limit
+  pub no_fault : IsFirstFault text None
+  pub entries_are : entries ≡ entries_of sections
 
 -- The text is a list without a fault, this is known of it, and the answers are just those of what
 -- its sections name.
@@ -66,3 +91,21 @@ unfoldable pub query_run_of : List ℕ → Result Known KrlFault → Bool → Li
 query_run_of name (Err fault) dump files = Stopped (stop_of name (krl_cause fault)) ∷ []
 query_run_of name (Ok known) dump files =
     Passed name ∷ (contents_items name dump known ++ files_items (ask known.contents) files)
+
+-- The list's first fault ends the run at once. Else each key of each file gives one line, up to the
+-- first fault.
+unfoldable pub asked_run_of : List ℕ → Result (List Entry) KrlFault → List File → List Item
+asked_run_of name (Err fault) files = Stopped (stop_of name (krl_cause fault)) ∷ []
+asked_run_of name (Ok entries) files =
+    Passed name ∷ files_items (ask_by (is_revoked entries)) files
+
+-- What the run says and where it stops: by the list's contents where these are printed, else by the
+-- answers alone.
+pub data IsRun (name : List ℕ) (files : List File) (before : Option (List ℕ)) (dump failed : Bool)
+    (left : Option (List ℕ)) (items : List Item) : Type 0 where
+  dumped : (reading : Result Known KrlFault) → dump ≡ true
+      → IsListRead before reading failed left → items ≡ query_run_of name reading true files
+      → IsRun name files before dump failed left items
+  asked : (reading : Result (List Entry) KrlFault) → dump ≡ false
+      → IsReadingOf HasEntries before reading failed left → items ≡ asked_run_of name reading files
+      → IsRun name files before dump failed left items

@@ -16,6 +16,8 @@ ghost use Rattle.ssh_key.specs.declared.line_fault.LineFault.{LineFault};
 ghost use Rattle.ssh_key.specs.declared.private_fault.PrivateFault.{PrivateFault};
 ghost use Rattle.ssh_cert.specs.SubjectReading.{IsSubject, IsSubjectFault};
 ghost use Rattle.ssh_cert.specs.declared.subject_fault.SubjectFault.{SubjectFault};
+ghost use Rattle.krl_core.specs.Entry.{Entry};
+ghost use Rattle.krl_core.specs.NamingTests.{is_revoked};
 ghost use Rattle.krl_fault.specs.declared.krl_fault.KrlFault.{KrlFault};
 ghost use Rattle.krl_fault.specs.declared.krl_fault.KrlFault.TheVariants.{NoMemory};
 ghost use Rattle.krl_runs.specs.declared.output.answer.Answer.{Answer};
@@ -23,7 +25,7 @@ ghost use Rattle.key_files.specs.declared.cause.Cause.TheVariants.{Line, Private
 ghost use Rattle.krl_runs.specs.Contents.{Known, dump_text};
 ghost use Rattle.krl_runs.specs.Items.{SpellsKey};
 ghost use Rattle.krl_runs.specs.Listing.{certify, listed_certificate};
-ghost use Rattle.krl_runs.specs.Query.{IsRead, ask, query_run_of};
+ghost use Rattle.krl_runs.specs.Query.{HasEntries, IsHeld, IsRead, ask, ask_by, query_run_of};
 ghost use Rattle.key_files.specs.Keys.{File, stop_at};
 ghost use Rattle.krl_runs.specs.Run.{Answered, Answering, Stopped, before, container_item, files_items, item_of, outcome_of, said};
 ghost use Rattle.key_files.specs.Stop.{stop_of};
@@ -114,6 +116,15 @@ pub fn contents_stand_first()
         → outcome_of (query_run_of name (Ok known) false files)
         ≡ outcome_of (files_items (ask known.contents) files) }
 {}
+
+/// A list that is held and a list that is asked while it passes give the same lines of each file.
+pub fn held_or_passed()
+    ensures { (text : List ℕ) (known : Known) (entries : List Entry) (files : List File)
+        → IsHeld text known → HasEntries text entries
+        → files_items (ask known.contents) files ≡ files_items (ask_by (is_revoked entries)) files }
+{
+    one_spelling();
+}
 
 /// Where its reader does not fail, a text is read in one way, unless memory runs out: what is known
 /// of it is one, or its fault is.

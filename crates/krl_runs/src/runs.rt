@@ -2,4 +2,5 @@
 
 pub(crate) mod contents;
 pub mod listing;
+pub(crate) mod passing;
 pub mod query;

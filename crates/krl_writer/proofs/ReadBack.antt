@@ -42,5 +42,5 @@ written_spelled header r text is short version date orderly =
 pub read_back : (header read : Header) (r held : Contents) (text : List ℕ) → SpelledOf header r text → IsList text read held → (read ≡ header) × (held ≡ r)
 read_back header read r held text w h =
     let one = spelled_once text read header h.sections w.sections h.spelled w.spelled in
-    let means : Means held (entries_of w.sections) = subst (λ (sections : List SpelledSection). Means held (entries_of sections)) one.1 h.means in
+    let means : Means held (entries_of w.sections) = subst (λ (sections : List SpelledSection). Means held (entries_of sections)) one.1 h.holds.means in
     (one.0, one_meaning held r (entries_of w.sections) means w.means)

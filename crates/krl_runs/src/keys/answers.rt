@@ -11,8 +11,13 @@ use std::alloc::{AllocError, Global};
 /// How a run answers for each key of its files.
 pub trait Answers {
     ghost use Rattle.krl_runs.specs.Run.{Answering};
+    ghost use Rattle.ssh_subject.specs.Subject.{Subject};
 
-    ghost answer_to: { Self → Answering };
+    // It answers as such a run does.
+    ghost answers_as: { Self → Answering → Type 0 };
+
+    // what it can be asked
+    ghost expects: { Self → Subject → Type 0 };
 
     /// What the run says of a key, by what its blob was read as, or nothing.
     fn answer(
@@ -21,11 +26,14 @@ pub trait Answers {
         key: &FileKey,
         any: &AnyKey,
     ) -> Result<Option<Answer>, AllocError>
-        requires { IsReadAs key.now.line.blob any.now }
-        ensures { IfOk result (λ answer. answer ≡ (answer_to self.now).say key.now.name
-            key.now.number key.now.line (asked_of any.now) (plain_of any.now)) };
+        requires read { IsReadAs key.now.line.blob any.now }
+        requires expected { expects self.now (asked_of any.now) }
+        ensures { (answering : Answering) → answers_as self.now answering
+            → IfOk result (λ answer. answer ≡ answering.say key.now.name key.now.number
+            key.now.line (asked_of any.now) (plain_of any.now)) };
 
     /// The fault of a file of which nothing is said.
     fn unanswered(&self) -> FileFault
-        ensures { result ≡ (answer_to self.now).unanswered };
+        ensures { (answering : Answering) → answers_as self.now answering
+            → result ≡ answering.unanswered };
 }

@@ -1,8 +1,12 @@
 //! Going over the keys of files.
 
-ghost use Rattle.std.specs.Prelude.{◌≡◌, ◌∷◌, [], IfOk, Ok};
+ghost use Rattle.std.specs.Prelude.{◌≡◌, ◌∷◌, [], IfOk, Ok, OnOk};
+ghost use Rattle.std.specs.Result.{IsOk};
+ghost use Rattle.ssh_cert.specs.SubjectReading.{subject_of};
+ghost use Rattle.key_files.specs.Keys.{keys_of};
 ghost use Rattle.krl_runs.specs.Carries.{Carries};
-ghost use Rattle.krl_runs.specs.Run.{GivesAnswer, file_items, files_items, found_item, is_answered};
+ghost use Rattle.krl_runs.specs.Expected.{AllExpected, AreExpected};
+ghost use Rattle.krl_runs.specs.Run.{Answering, GivesAnswer, file_items, files_items, found_item, is_answered};
 
 use crate::keys::answers::Answers;
 use crate::output::answer::Answer;
@@ -17,8 +21,9 @@ pub fn print_files<'a, A: Answers, W: Sink>(
     answers: &A,
     files: &'a [Named<'a>],
 ) -> Result<(), RunFault<'a>>
-    ensures { Carries (files_items (A.answer_to answers.now) files.now) result
-        run.old.printer run.new.printer }
+    requires { AllExpected (A.expects answers.now) files.now }
+    ensures { (answering : Answering) → A.answers_as answers.now answering
+        → Carries (files_items answering files.now) result run.old.printer run.new.printer }
 {
     for file in files {
         print_file(run, answers, file)?;
@@ -32,8 +37,9 @@ pub fn print_file<'a, A: Answers, W: Sink>(
     answers: &A,
     file: &'a Named<'a>,
 ) -> Result<(), RunFault<'a>>
-    ensures { Carries (file_items (A.answer_to answers.now) file.now) result
-        run.old.printer run.new.printer }
+    requires { AreExpected (A.expects answers.now) (keys_of file.now) }
+    ensures { (answering : Answering) → A.answers_as answers.now answering
+        → Carries (file_items answering file.now) result run.old.printer run.new.printer }
 {
     let mut said = false;
     for next in keys_of(run.alloc, file) {
@@ -52,10 +58,13 @@ fn print_key<'a, A: Answers, W: Sink>(
     answers: &A,
     key: &FileKey<'a>,
 ) -> Result<bool, RunFault<'a>>
-    ensures carries { Carries (found_item (A.answer_to answers.now) (Ok key.now) ∷ []) result
+    requires { IfOk (subject_of key.now.line.blob) (A.expects answers.now) }
+    ensures read { OnOk result (IsOk (subject_of key.now.line.blob)) }
+    ensures carries { (answering : Answering) → A.answers_as answers.now answering
+        → Carries (found_item answering (Ok key.now) ∷ []) result
         run.old.printer run.new.printer }
-    ensures said { IfOk result (λ said.
-        said ≡ is_answered (found_item (A.answer_to answers.now) (Ok key.now) ∷ [])) }
+    ensures said { (answering : Answering) → A.answers_as answers.now answering
+        → IfOk result (λ said. said ≡ is_answered (found_item answering (Ok key.now) ∷ [])) }
 {
     let Some(answer) = answer_key(run.alloc, answers, key)? else {
         return Ok(false);
@@ -71,7 +80,10 @@ fn answer_key<'a, A: Answers>(
     answers: &A,
     key: &FileKey<'a>,
 ) -> Result<Option<Answer>, RunFault<'a>>
-    ensures { GivesAnswer (found_item (A.answer_to answers.now) (Ok key.now)) key.now.name result }
+    requires { IfOk (subject_of key.now.line.blob) (A.expects answers.now) }
+    ensures read { OnOk result (IsOk (subject_of key.now.line.blob)) }
+    ensures gives { (answering : Answering) → A.answers_as answers.now answering
+        → GivesAnswer (found_item answering (Ok key.now)) key.now.name result }
 {
     let any = key.read()?;
     match answers.answer(alloc, key, &any) {

@@ -1,6 +1,6 @@
 //! Listing the keys or the certificates of a file (ssh-keygen(1), options -l and -L).
 
-ghost use Rattle.std.specs.Prelude.{◌≡◌, ◌++◌, IfOk, OnOk, Some, false};
+ghost use Rattle.std.specs.Prelude.{◌≡◌, ◌++◌, IfOk, OnOk, Some, false, ⊤};
 ghost use Rattle.ssh_cert.specs.AnyKey.{asked_of, certificate_in, plain_of};
 ghost use Rattle.ssh_key.specs.Kind.{short_name_of};
 ghost use Rattle.krl_runs.specs.Done.{Ends};
@@ -37,7 +37,9 @@ struct Listing {
 }
 
 impl Answers for Listing {
-    ghost answer_to = { λ l. listing l.mode l.hash l.moment };
+    ghost answers_as = { λ l answering. answering ≡ listing l.mode l.hash l.moment };
+
+    ghost expects = { λ _ _. ⊤ };
 
     fn answer(
         &self,

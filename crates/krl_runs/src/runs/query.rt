@@ -1,12 +1,13 @@
 //! Asking a list about the keys of files (ssh-keygen(1), KEY REVOCATION LISTS).
 
-ghost use Rattle.std.specs.Prelude.{◌≡◌, ◌++◌, IfOk, Ok, Result, OnOk, false};
+ghost use Rattle.std.specs.Prelude.{◌≡◌, ◌++◌, IfOk, List, Ok, Result, OnOk, false, ⊤};
 ghost use Rattle.krl_fault.specs.declared.krl_fault.KrlFault.{KrlFault as FaultOf};
 ghost use Rattle.krl_runs.specs.Carries.{Carries};
 ghost use Rattle.krl_runs.specs.Contents.{Known as KnownOf, known_of};
 ghost use Rattle.krl_runs.specs.Done.{Ends};
-ghost use Rattle.key_files.specs.Stop.{krl_cause};
-ghost use Rattle.krl_runs.specs.Query.{IsListRead, ask, comment_part, query_line, query_run_of, verdict};
+ghost use Rattle.krl_runs.specs.Query.{IsListRead, IsRun, ask};
+ghost use Rattle.krl_runs.specs.Query.{comment_part, query_line, query_run_of, verdict};
+ghost use Rattle.krl_runs.specs.Run.{Item as ItemOf};
 
 use crate::keys::answers::Answers;
 use crate::keys::walk::print_files;
@@ -15,6 +16,7 @@ use crate::output::done::Done;
 use crate::output::printer::Printer;
 use crate::output::run::Run;
 use crate::runs::contents::print_contents;
+use crate::runs::passing::ask_passing;
 use key_files::{FileFault, FileKey, Named, RunFault, cause_of};
 use krl_core::{Header, Revocations, read_krl};
 use serial_set::Held;
@@ -36,7 +38,9 @@ struct Query<'q> {
 }
 
 impl<'q> Answers for Query<'q> {
-    ghost answer_to = { λ query. ask query.list.now };
+    ghost answers_as = { λ query answering. answering ≡ ask query.list.now };
+
+    ghost expects = { λ _ _. ⊤ };
 
     fn answer(
         &self,
@@ -54,8 +58,13 @@ impl<'q> Answers for Query<'q> {
     }
 }
 
-// The line of a key, with its line feed.
-fn query_line(alloc: Global, name: &str, comment: &[u8], revoked: bool) -> Result<Bytes, AllocError>
+/// The line of a key, with its line feed.
+pub(crate) fn query_line(
+    alloc: Global,
+    name: &str,
+    comment: &[u8],
+    revoked: bool,
+) -> Result<Bytes, AllocError>
     ensures { IfOk result (λ text. text ≡ query_line name.now comment.now revoked) }
 {
     let mut text = Vec::new(alloc);
@@ -99,10 +108,11 @@ pub fn query_run<'a, R: Source + Drop, W: Sink>(
 ) -> (Done<'a>, R)
     requires fresh { R.has_failed krl ≡ false }
     requires working { W.has_failed out.old ≡ false }
-    ensures { (reading : Result KnownOf FaultOf)
-        × IsListRead (R.left krl) reading (R.has_failed result.1) (R.left result.1)
-        × Ends (query_run_of krl_name.now reading dump files.now) (W.taken out.old)
-        (W.taken out.new) (W.has_failed out.new) result.0.status result.0.fault }
+    ensures { (items : List ItemOf)
+        × IsRun krl_name.now files.now (R.left krl) dump (R.has_failed result.1) (R.left result.1)
+        items
+        × Ends items (W.taken out.old) (W.taken out.new) (W.has_failed out.new)
+        result.0.status result.0.fault }
 {
     let mut buffer = Vec::new(alloc);
     let printer = Printer::new(&mut buffer, out);
@@ -112,7 +122,7 @@ pub fn query_run<'a, R: Source + Drop, W: Sink>(
         printer,
         line,
     };
-    let (asked, reader) = ask_list(&mut run, krl_name, krl, dump, files);
+    let (asked, reader) = ask(&mut run, krl_name, krl, dump, files);
     let Run {
         mut printer,
         line: _line,
@@ -121,6 +131,27 @@ pub fn query_run<'a, R: Source + Drop, W: Sink>(
     let done = printer.finish(asked.err());
     let Printer { out: _out, .. } = printer;
     (done, reader)
+}
+
+// Reads a list, prints its contents where `dump` is true, and says of each key of each file whether
+// it is revoked.
+fn ask<'a, R: Source + Drop, W: Sink>(
+    run: &mut Run<W>,
+    krl_name: &'a str,
+    krl: R,
+    dump: bool,
+    files: &'a [Named<'a>],
+) -> (Result<(), RunFault<'a>>, R)
+    requires { R.has_failed krl ≡ false }
+    ensures { (items : List ItemOf)
+        × IsRun krl_name.now files.now (R.left krl) dump (R.has_failed result.1) (R.left result.1)
+        items
+        × Carries items result.0 run.old.printer run.new.printer }
+{
+    if dump {
+        return ask_list(run, krl_name, krl, dump, files);
+    }
+    ask_passing(run, krl_name, krl, files)
 }
 
 // Reads a list and asks it about each key of each file.

@@ -24,8 +24,8 @@ returns c = one_way
     held_once : (text : List ℕ) (one other : Known) → IsHeld text one → IsHeld text other → one ≡ other
     held_once text one other h k =
         let spelled = c.one_spelling.ensures text one.header other.header h.list.sections k.list.sections h.list.spelled k.list.spelled in
-        let means = subst (λ (sections : List SpelledSection). Means other.contents (entries_of sections)) (sym spelled.1) k.list.means in
-        let contents = c.entries_decide_what_is_held.ensures one.contents other.contents (entries_of h.list.sections) h.list.means means in
+        let means = subst (λ (sections : List SpelledSection). Means other.contents (entries_of sections)) (sym spelled.1) k.list.holds.means in
+        let contents = c.entries_decide_what_is_held.ensures one.contents other.contents (entries_of h.list.sections) h.list.holds.means means in
         ap (λ (header : Header). record { header = header; contents = one.contents }) spelled.0
         ∙ ap (λ (contents : Contents). record { header = other.header; contents = contents }) contents
 

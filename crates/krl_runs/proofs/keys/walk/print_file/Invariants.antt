@@ -1,6 +1,10 @@
--- The keys so far are answered, and the others are left.
+-- The keys so far are answered, and the others are left, which are expected too.
+use Rattle.krl_runs.specs.Expected.{AreExpected}
+use Rattle.krl_runs.specs.Run.{Answering}
 use Rattle.krl_runs.proofs.Answering.{IsReached, key_items}
 use Rattle.krl_runs.proofs.keys.walk.print_file.Given as goal
 
 abbrev pub invariant-loop-next : goal.invariant-loop-next
-invariant-loop-next g l = IsReached (g.A.Answers.answer_to l.answers) (key_items (g.A.Answers.answer_to l.answers) l.file) l.next-iterator l.said l.initial.run.printer l.run.printer
+invariant-loop-next g l =
+    ((answering : Answering) → g.A.Answers.answers_as l.answers answering → IsReached answering (key_items answering l.file) l.next-iterator l.said l.initial.run.printer l.run.printer)
+    × AreExpected (g.A.Answers.expects l.answers) l.next-iterator

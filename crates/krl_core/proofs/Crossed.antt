@@ -1,0 +1,206 @@
+-- Fields that are crossed, one row after another.
+use Rattle.std.proofs.Common.{◌≡◌, ℕ, ◌+◌, ◌-◌, ◌*◌, ◌<◌, ◌≤◌, List, [], ◌∷◌, ◌++◌, length, take, drop, Result, Ok, Err, true, false, refl, sym, ap, subst, ◌∙◌, append_assoc, arith, length-drop}
+use Rattle.std.specs.Prelude.{OnOk, is_err}
+use Rattle.std.specs.List.{concat}
+use Rattle.std.specs.declared.alloc.AllocError.{AllocError}
+use Rattle.std.proofs.lemmas.List.{append-nil, length-append, length-take-le, take_rest}
+use Rattle.std.proofs.lemmas.List.Folds.{concat-append}
+use Rattle.std.proofs.lemmas.Result.{on_ok_weaker}
+use Rattle.std.proofs.Math.Seq.{take-add}
+use Rattle.ssh_wire.specs.Digits.{IsBytes-append, IsBytes-drop, IsBytes-nil, IsBytes-take}
+use Rattle.ssh_wire.specs.Wire.{IsBytes}
+use Rattle.ssh_wire.specs.Pull.{Pulled, Takes, left_of}
+use Rattle.krl_core.specs.declared.place.Place.{Place}
+use Rattle.krl_core.specs.Crossing.{Crosses, CrossesSome, HasKept}
+use Rattle.krl_core.specs.Front.{Passes, start, state_after}
+use Rattle.krl_core.specs.Keeping.{GrowsWithin, InStep, IsKept, Keeping, KeepsField, StoresWithin}
+use Rattle.krl_core.specs.Place.{authority_after, header_after, names}
+use Rattle.krl_core.specs.Reading.{HasRead, IsBounded, Leaps, Position, ReadsMore, working}
+use Rattle.krl_core.proofs.Exists.{nearer, weight}
+use Rattle.krl_core.proofs.Keeping.{grows_then}
+use Rattle.krl_core.proofs.Stepping.{consumes_some}
+use Rattle.krl_core.proofs.Walks.{Leads-push}
+
+-- ---- rows of fields
+
+kept_of : (text : List ℕ) (fields : List (List ℕ)) (p : Position) → HasRead text fields p → HasKept fields p.place p.keeping
+kept_of text fields p h = record { state = h.state; leads = h.leads; place_is = h.place_is; authority_is = h.authority_is; header_is = h.header_is; kept = h.kept }
+
+crosses_none : (place : Place) (k : Keeping) → InStep place k.bitmap → Crosses [] place k place k
+crosses_none place k step = record {
+  kept = λ fields h. ([], (subst (λ (fs : List (List ℕ)). HasKept fs place k) (sym (append-nil fields)) h, refl));
+  are_bytes = IsBytes-nil;
+  in_step = step;
+  scope_is = refl;
+}
+
+crosses_then : (xs ys : List ℕ) (p q r : Place) (a b c : Keeping) → Crosses xs p a q b → Crosses ys q b r c → Crosses (xs ++ ys) p a r c
+crosses_then xs ys p q r a b c h k = record {
+  kept = λ fields was.
+      let one = h.kept fields was in
+      let two = k.kept (fields ++ one.0) one.1.0 in (
+        one.0 ++ two.0,
+        (
+          subst (λ (fs : List (List ℕ)). HasKept fs r c) (append_assoc fields one.0 two.0) two.1.0,
+          concat-append one.0 two.0 ∙ ap (λ (l : List ℕ). l ++ concat two.0) one.1.1 ∙ ap (λ (l : List ℕ). xs ++ l) two.1.1,
+        ),
+      );
+  are_bytes = IsBytes-append xs ys h.are_bytes k.are_bytes;
+  in_step = k.in_step;
+  scope_is = k.scope_is ∙ h.scope_is;
+}
+
+-- a field that passes its judgement, and is kept
+pub crosses_field : (place next : Place) (old new : Keeping) (field : List ℕ) → Passes place field next → KeepsField place field next old new → IsBytes field
+    → Crosses field place old next new
+crosses_field place next old new field passes keeps bytes = record {
+  kept = λ fields h.
+      let pass : Passes h.state.place field next = subst (λ (p : Place). Passes p field next) h.place_is passes in
+      let place_is = h.place_is in
+      let authority_is = h.authority_is in
+      let header_is = h.header_is in
+      let named : names place old.authority field ≡ names h.state.place h.state.authority field = cc in
+      let authority : authority_after place old.authority field ≡ authority_after h.state.place h.state.authority field = cc in
+      let header : header_after place old.header field ≡ header_after h.state.place h.state.header field = cc in (
+        field ∷ [],
+        (
+          record {
+            state = state_after h.state field next;
+            leads = Leads-push start h.state fields field next h.leads pass;
+            place_is = refl;
+            authority_is = keeps.authority_is ∙ authority;
+            header_is = keeps.header_is ∙ header;
+            kept = subst (λ n. IsKept new (h.state.entries ++ n)) named (keeps.kept h.state.entries h.kept);
+          },
+          append-nil field,
+        ),
+      );
+  are_bytes = bytes;
+  in_step = keeps.in_step;
+  scope_is = keeps.scope_is;
+}
+
+-- ---- some of the bytes
+
+pub some_none : (bytes : List ℕ) (place : Place) (k : Keeping) → InStep place k.bitmap → CrossesSome bytes 0 (Ok (tt {0})) place k place k
+some_none bytes place k step = record {
+  within = omega arith;
+  ok = crosses_none place k step;
+  grows = record { held_is = omega arith; stored_is = λ m s. subst (λ (n : ℕ). StoresWithin k n) (omega arith) s; scope_is = λ s. s; same_scope = refl };
+  none = λ _. (refl, refl);
+}
+
+-- some bytes more
+pub some_more : (bytes : List ℕ) (at n : ℕ) (result : Result (Unit {0}) AllocError) (p q r : Place) (a b c : Keeping) → CrossesSome bytes at (Ok (tt {0})) p a q b
+    → n ≤ length (drop at bytes) → OnOk result (Crosses (take n (drop at bytes)) q b r c) → GrowsWithin n b c → (at + n ≡ 0 → (r ≡ p) × (c ≡ a))
+    → CrossesSome bytes (at + n) result p a r c
+some_more bytes at n result p q r a b c h within ok grows none = record {
+  within = omega (arith, within, h.within, length-drop at bytes);
+  ok = on_ok_weaker result (λ k. subst (λ (l : List ℕ). Crosses l p a r c) (sym (take-add at n bytes)) (crosses_then (take at bytes) (take n (drop at bytes)) p q r a b c h.ok k)) ok;
+  grows = grows_then a b c at n h.grows grows;
+  none = none;
+}
+
+pub some_then : (bytes : List ℕ) (at n : ℕ) (result : Result (Unit {0}) AllocError) (p q r : Place) (a b c : Keeping) → CrossesSome bytes at (Ok (tt {0})) p a q b
+    → CrossesSome (drop at bytes) n result q b r c → CrossesSome bytes (at + n) result p a r c
+some_then bytes at n result p q r a b c h k =
+    some_more bytes at n result p q r a b c h k.within k.ok k.grows
+    (λ at_none. let one = h.none (omega arith) in let two = k.none (omega arith) in (two.0 ∙ one.0, two.1 ∙ one.1))
+
+-- the rest of the bytes
+pub some_after : (bytes : List ℕ) (at n : ℕ) (result : Result (Unit {0}) AllocError) (p q r : Place) (a b c : Keeping) → CrossesSome bytes at (Ok (tt {0})) p a q b
+    → CrossesSome (take (length bytes - at) (drop at bytes)) n result q b r c → CrossesSome bytes (at + n) result p a r c
+some_after bytes at n result p q r a b c h k =
+    some_then bytes at n result p q r a b c h (subst (λ (xs : List ℕ). CrossesSome xs n result q b r c) (take_rest bytes at) k)
+
+pub some_ok : (bytes : List ℕ) (n : ℕ) (result : Result (Unit {0}) AllocError) (p q : Place) (a b : Keeping) → is_err result ≡ false → CrossesSome bytes n result p a q b
+    → CrossesSome bytes n (Ok (tt {0})) p a q b
+some_ok bytes n (Ok done) p q a b off h = record { within = h.within; ok = h.ok; grows = h.grows; none = h.none }
+some_ok bytes n (Err fault) p q a b off h = absurd (cc)
+
+-- ---- one field
+
+-- a field of the rest of the bytes
+pub passes_there : (bytes : List ℕ) (at size : ℕ) (p q : Place) → Passes p (take size (take (length bytes - at) (drop at bytes))) q
+    → Passes p (take (at + size - at) (drop at bytes)) q
+passes_there bytes at size p q h =
+    let same : size ≡ at + size - at = omega arith in
+    subst (λ (n : ℕ). Passes p (take n (drop at bytes)) q) same (subst (λ (xs : List ℕ). Passes p (take size xs) q) (take_rest bytes at) h)
+
+pub crossed_nearer : (bytes : List ℕ) (at size : ℕ) (p q : Place) → size ≤ length (take (length bytes - at) (drop at bytes)) → Passes p (take size (take (length bytes - at) (drop at bytes))) q
+    → at + size ≤ length bytes → 2 * (length bytes - (at + size)) + weight q < 2 * (length bytes - at) + weight p
+crossed_nearer bytes at size p q there h within =
+    let near = nearer p q _ h.judged in
+    omega (arith, near, h.whole, length-take-le size _ there, within)
+
+some_field : (bytes : List ℕ) (at size : ℕ) (result : Result (Unit {0}) AllocError) (p q r : Place) (a b c : Keeping) → CrossesSome bytes at (Ok (tt {0})) p a q b
+    → size ≤ length (take (length bytes - at) (drop at bytes)) → OnOk result (Crosses (take size (drop at bytes)) q b r c)
+    → GrowsWithin (length (take (at + size - at) (drop at bytes))) b c → (at + size ≡ 0 → ⊥) → CrossesSome bytes (at + size) result p a r c
+some_field bytes at size result p q r a b c h there ok grows some =
+    let within : size ≤ length (drop at bytes) = subst (λ (xs : List ℕ). size ≤ length xs) (take_rest bytes at) there in
+    let same : at + size - at ≡ size = omega arith in
+    let long : length (take (at + size - at) (drop at bytes)) ≡ size = ap (λ (n : ℕ). length (take n (drop at bytes))) same ∙ length-take-le size (drop at bytes) within in
+    some_more bytes at size result p q r a b c h within ok (subst (λ (n : ℕ). GrowsWithin n b c) long grows) (λ none. absurd (some none))
+
+pub field_crossed : (bytes : List ℕ) (at size : ℕ) (result : Result (Unit {0}) AllocError) (p q next : Place) (a b c : Keeping) → IsBytes bytes → CrossesSome bytes at (Ok (tt {0})) p a q b
+    → size ≤ length (take (length bytes - at) (drop at bytes)) → Passes q (take size (take (length bytes - at) (drop at bytes))) next
+    → OnOk result (KeepsField q (take (at + size - at) (drop at bytes)) next b c)
+    → GrowsWithin (length (take (at + size - at) (drop at bytes))) b c → (at + size ≡ 0 → ⊥) → CrossesSome bytes (at + size) result p a next c
+field_crossed bytes at size result p q next a b c are h there passes kept grows some =
+    let same : at + size - at ≡ size = omega arith in
+    let field : List ℕ = take size (drop at bytes) in
+    let passed : Passes q field next = subst (λ (n : ℕ). Passes q (take n (drop at bytes)) next) same (passes_there bytes at size q next passes) in
+    some_field bytes at size result p q next a b c h there
+    (on_ok_weaker result (λ keeps. crosses_field q next b c field passed (subst (λ (n : ℕ). KeepsField q (take n (drop at bytes)) next b c) same keeps) (IsBytes-take size (drop at bytes) (IsBytes-drop at bytes are))) kept)
+    grows some
+
+pub field_refused : (bytes : List ℕ) (at size : ℕ) (result : Result (Unit {0}) AllocError) (p q : Place) (a b c : Keeping) → is_err result ≡ true → CrossesSome bytes at (Ok (tt {0})) p a q b
+    → size ≤ length (take (length bytes - at) (drop at bytes)) → GrowsWithin (length (take (at + size - at) (drop at bytes))) b c → (at + size ≡ 0 → ⊥) → CrossesSome bytes (at + size) result p a q c
+field_refused bytes at size (Ok done) p q a b c on h there grows some = absurd (cc)
+field_refused bytes at size (Err fault) p q a b c on h there grows some = some_field bytes at size (Err fault) p q q a b c h there tt grows some
+
+-- ---- a reading
+
+pub reads_crossed : (old : Position) (new : Pulled) (place : Place) (keeping : Keeping) (bytes : List ℕ) → Takes old.pull bytes new
+    → Crosses bytes old.place old.keeping place keeping → ReadsMore old (working new place keeping)
+reads_crossed old new place keeping bytes takes crosses text fields h =
+    let more = crosses.kept fields (kept_of text fields old h) in
+    let now = more.1.0 in
+    let after = consumes_some (left_of old.pull) (left_of new) h.rest bytes h.left_is takes.bytes in
+    let joined : concat (fields ++ more.0) ≡ concat fields ++ bytes = concat-append fields more.0 ∙ ap (λ (l : List ℕ). concat fields ++ l) more.1.1 in (
+      more.0,
+      record {
+        state = now.state;
+        leads = now.leads;
+        place_is = now.place_is;
+        authority_is = now.authority_is;
+        header_is = now.header_is;
+        kept = now.kept;
+        are_bytes = subst IsBytes (sym joined) (IsBytes-append (concat fields) bytes h.are_bytes crosses.are_bytes);
+        rest = after.0;
+        left_is = after.1;
+        parts = h.parts ∙ ap (λ (l : List ℕ). concat fields ++ l) after.2 ∙ sym (append_assoc (concat fields) bytes after.0) ∙ ap (λ (l : List ℕ). l ++ after.0) (sym joined);
+        taken_is = omega (arith, takes.taken, h.taken_is, ap length joined, length-append (concat fields) bytes);
+        works = takes.working;
+        faultless = refl;
+      },
+    )
+
+pub bounded_crossed : (old : Position) (new : Pulled) (keeping : Keeping) (bytes : List ℕ) → IsBounded old.pull old.keeping → Takes old.pull bytes new
+    → GrowsWithin (length bytes) old.keeping keeping → IsBounded new keeping
+bounded_crossed old new keeping bytes b takes grows = record {
+  limit_is = takes.limit ∙ b.limit_is;
+  within = omega (arith, takes.within, takes.taken, b.limit_is);
+  all_is = λ every.
+      let was = b.all_is (sym grows.same_scope ∙ every) in
+      (omega (arith, grows.held_is, was.0, takes.taken), subst (λ (n : ℕ). StoresWithin keeping n) (sym takes.taken) (grows.stored_is old.pull.taken was.1));
+  scope_is = grows.scope_is b.scope_is;
+}
+
+pub leaps_crossed : (old : Position) (new : Pulled) (place : Place) (keeping : Keeping) (bytes : List ℕ) → IsBounded old.pull old.keeping → Takes old.pull bytes new
+    → Crosses bytes old.place old.keeping place keeping → 0 < length bytes → Leaps old (working new place keeping)
+leaps_crossed old new place keeping bytes b takes crosses some = record {
+  taken = omega (arith, takes.taken);
+  within = omega (arith, takes.within, takes.taken, b.limit_is);
+  scope_is = crosses.scope_is;
+}

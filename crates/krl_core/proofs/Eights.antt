@@ -1,0 +1,142 @@
+-- Serial numbers of eight bytes each that are crossed at once.
+use Rattle.std.proofs.Common.{◌≡◌, ℕ, ◌+◌, ◌-◌, ◌*◌, ◌<◌, ◌≤◌, List, [], ◌∷◌, ◌++◌, length, take, drop, zero, suc, inl, inr, refl, sym, ap, subst, ◌∙◌, append_assoc, arith, length-drop}
+use Rattle.std.specs.Prelude.{None}
+use Rattle.std.specs.List.{concat}
+use Rattle.std.proofs.lemmas.List.{append-nil, length-take-le}
+use Rattle.std.proofs.Math.Seq.{drop-nil, take-add}
+use Rattle.serial_set.specs.BitRuns.{FedBitmap}
+use Rattle.ssh_wire.specs.Digits.{IsBytes-take}
+use Rattle.ssh_wire.specs.Wire.{IsBytes, number_of}
+use Rattle.krl_core.specs.declared.place.Place.{Place}
+use Rattle.krl_core.specs.declared.place.Place.TheVariants as places
+use Rattle.krl_core.specs.declared.place.serials.SerialsPlace.TheVariants as serials
+use Rattle.krl_core.specs.Crossing.{AreUnwanted, Crosses, serial_at}
+use Rattle.krl_core.specs.Elements.{contains_cases, contains_none}
+use Rattle.krl_core.specs.Entry.{Entry, SerialsEntry}
+use Rattle.krl_core.specs.Front.{Leads, Passes, State, start, state_after}
+use Rattle.krl_core.specs.Keeping.{InStep, IsKept, Keeping}
+use Rattle.krl_core.specs.Naming.{Name, SerialOf, SomeNames}
+use Rattle.krl_core.specs.Place.{authority_after, header_after, names, next_serial}
+use Rattle.krl_core.specs.Scope.{InScope, Scope}
+use Rattle.krl_core.proofs.Skipping.{skipped_kept}
+use Rattle.krl_core.proofs.Walks.{Leads-append}
+
+-- the first serial numbers, as fields
+eights : ℕ → List ℕ → List (List ℕ)
+eights zero bytes = []
+eights (suc count) bytes = take 8 bytes ∷ eights count (drop 8 bytes)
+
+-- what they name
+serial_entries : List ℕ → ℕ → List ℕ → List Entry
+serial_entries a zero bytes = []
+serial_entries a (suc count) bytes = SerialsEntry a (number_of (take 8 bytes) ∷ []) ∷ serial_entries a count (drop 8 bytes)
+
+concat_eights : (count : ℕ) (bytes : List ℕ) → concat (eights count bytes) ≡ take (8 * count) bytes
+unfolding eights
+concat_eights zero bytes = refl
+concat_eights (suc count) bytes =
+    let all : 8 * suc count ≡ 8 + 8 * count = omega arith in
+    ap (λ (l : List ℕ). take 8 bytes ++ l) (concat_eights count (drop 8 bytes)) ∙ sym (take-add 8 (8 * count) bytes) ∙ ap (λ (n : ℕ). take n bytes) (sym all)
+
+at_serial : (left after : ℕ) → 0 < left → places.Serials (serials.Serial left after) ≡ next_serial left after
+at_serial zero after pos = absurd (omega arith)
+at_serial (suc left) after pos = refl
+
+-- They lead on, and name what they name.
+record LeadsSerials (state : State) (count left after : ℕ) (bytes : List ℕ) : Type 0 where
+  pub last : State
+  pub leads : Leads state (eights count bytes) last
+  pub place_is : last.place ≡ next_serial (left - 8 * count) after
+  pub header_is : last.header ≡ state.header
+  pub authority_is : last.authority ≡ state.authority
+  pub entries_are : last.entries ≡ state.entries ++ serial_entries state.authority count bytes
+
+leads_serials : (count : ℕ) (state : State) (left after : ℕ) (bytes : List ℕ) → state.place ≡ next_serial left after → 8 * count ≤ length bytes → 8 * count ≤ left
+    → LeadsSerials state count left after bytes
+unfolding eights serial_entries
+leads_serials zero state left after bytes at there within = record {
+  last = state;
+  leads = refl;
+  place_is = let all : left ≡ left - 8 * 0 = omega arith in at ∙ ap (λ (n : ℕ). next_serial n after) all;
+  header_is = refl;
+  authority_is = refl;
+  entries_are = sym (append-nil state.entries);
+}
+leads_serials (suc count) state left after bytes at there within =
+    let field : List ℕ = take 8 bytes in
+    let next : Place = next_serial (left - 8) after in
+    let here : state.place ≡ places.Serials (serials.Serial left after) = at ∙ sym (at_serial left after (omega arith)) in
+    let passes : Passes (places.Serials (serials.Serial left after)) field next = record { room = omega arith; whole = length-take-le 8 bytes (omega arith); judged = refl } in
+    let pass : Passes state.place field next = subst (λ (p : Place). Passes p field next) (sym here) passes in
+    let more = leads_serials count (state_after state field next) (left - 8) after (drop 8 bytes) refl (omega (arith, length-drop 8 bytes)) (omega arith) in
+    let a = state.authority in
+    let E : Entry = SerialsEntry a (number_of field ∷ []) in
+    let authority : authority_after state.place a field ≡ a = ap (λ (p : Place). authority_after p a field) here in
+    let named : names state.place a field ≡ E ∷ [] = ap (λ (p : Place). names p a field) here in
+    let less : left - 8 - 8 * count ≡ left - 8 * suc count = omega arith in
+    record {
+      last = more.last;
+      leads = (next, (pass, more.leads));
+      place_is = more.place_is ∙ ap (λ (n : ℕ). next_serial n after) less;
+      header_is = more.header_is ∙ ap (λ (p : Place). header_after p state.header field) here;
+      authority_is = more.authority_is ∙ authority;
+      entries_are = more.entries_are
+          ∙ ap (λ (es : List Entry). (state.entries ++ es) ++ serial_entries (authority_after state.place a field) count (drop 8 bytes)) named
+          ∙ ap (λ (c : List ℕ). (state.entries ++ E ∷ []) ++ serial_entries c count (drop 8 bytes)) authority
+          ∙ append_assoc state.entries (E ∷ []) (serial_entries a count (drop 8 bytes));
+    }
+
+drop_drop : (n m : ℕ) (xs : List ℕ) → drop m (drop n xs) ≡ drop (n + m) xs
+drop_drop zero m xs = let same : m ≡ 0 + m = omega arith in subst (λ (k : ℕ). drop m xs ≡ drop k xs) same refl
+drop_drop (suc n) m [] = drop-nil m ∙ sym (drop-nil (suc n + m))
+drop_drop (suc n) m (x ∷ xs) = let same : suc (n + m) ≡ suc n + m = omega arith in subst (λ (k : ℕ). drop m (drop n xs) ≡ drop k (x ∷ xs)) same (drop_drop n m xs)
+
+-- the serial number after one more
+serial_later : (bytes : List ℕ) (k : ℕ) → serial_at (drop 8 bytes) k ≡ serial_at bytes (suc k)
+serial_later bytes k =
+    let more : 8 * suc k ≡ 8 + 8 * k = omega arith in
+    ap (λ (l : List ℕ). number_of (take 8 l)) (drop_drop 8 (8 * k) bytes ∙ ap (λ (n : ℕ). drop n bytes) (sym more))
+
+-- none of the serial numbers is in scope
+serials_unwanted : (count : ℕ) (scope : Scope) (a bytes : List ℕ) → AreUnwanted scope a bytes (8 * count)
+    → (name : Name) → InScope scope name → SomeNames (serial_entries a count bytes) name → ⊥
+unfolding serial_entries
+serials_unwanted zero scope a bytes none name is h = h
+serials_unwanted (suc count) scope a bytes none (SerialOf b s) is (inl h) =
+    let same : s ≡ number_of (take 8 bytes) = elim (contains_cases (number_of (take 8 bytes)) s [] h.1.1) [ inl e ↦ sym e | inr more ↦ absurd (contains_none s more) ] in
+    none 0 (omega arith) (subst (λ (n : ℕ). InScope scope (SerialOf a n)) same (subst (λ (c : List ℕ). InScope scope (SerialOf c s)) (sym h.0) is))
+serials_unwanted (suc count) scope a bytes none name is (inl h) = h
+serials_unwanted (suc count) scope a bytes none name is (inr h) =
+    serials_unwanted count scope a (drop 8 bytes) (λ k fits. subst (λ (n : ℕ). InScope scope (SerialOf a n) → ⊥) (sym (serial_later bytes k)) (none (suc k) (omega (arith, fits)))) name is h
+
+still : (left after : ℕ) (bitmap : FedBitmap) → bitmap.pending ≡ None → InStep (next_serial left after) bitmap
+still zero zero bitmap none = none
+still zero (suc after) bitmap none = none
+still (suc left) after bitmap none = none
+
+-- the serial numbers are crossed, since none of them is in scope
+pub crosses_serials : (count : ℕ) (keeping : Keeping) (left after : ℕ) (bytes : List ℕ) → 0 < left → keeping.bitmap.pending ≡ None → IsBytes bytes → 8 * count ≤ length bytes
+    → 8 * count ≤ left → AreUnwanted keeping.scope keeping.authority bytes (8 * count)
+    → Crosses (take (8 * count) bytes) (places.Serials (serials.Serial left after)) keeping (next_serial (left - 8 * count) after) keeping
+crosses_serials count keeping left after bytes pos none are there within unwanted = record {
+  kept = λ fields h.
+      let here : h.state.place ≡ next_serial left after = sym h.place_is ∙ at_serial left after pos in
+      let more = leads_serials count h.state left after bytes here there within in
+      let kept = skipped_kept keeping keeping h.state.entries (serial_entries keeping.authority count bytes) (serials_unwanted count keeping.scope keeping.authority bytes unwanted) refl refl none none h.kept in (
+        eights count bytes,
+        (
+          record {
+            state = more.last;
+            leads = Leads-append start h.state more.last fields (eights count bytes) h.leads more.leads;
+            place_is = sym more.place_is;
+            authority_is = h.authority_is ∙ sym more.authority_is;
+            header_is = h.header_is ∙ sym more.header_is;
+            kept = subst (IsKept keeping) (ap (λ (a : List ℕ). h.state.entries ++ serial_entries a count bytes) h.authority_is ∙ sym more.entries_are) kept;
+          },
+          concat_eights count bytes,
+        ),
+      );
+  are_bytes = IsBytes-take (8 * count) bytes are;
+  in_step = still (left - 8 * count) after keeping.bitmap none;
+  scope_is = refl;
+}

@@ -1,0 +1,20 @@
+use Rattle.std.proofs.Common.{[], sym, subst, ap}
+use Rattle.std.specs.Option.{option_to_list}
+use Rattle.serial_set.specs.BitRuns.{FedBitmap}
+use Rattle.krl_core.specs.Changes.{run_entries}
+use Rattle.krl_core.specs.Contents.{Contents}
+use Rattle.krl_core.specs.Scope.{MeansWithin, WithinScope}
+use Rattle.krl_core.proofs.Same.{same_is}
+use Rattle.krl_core.proofs.Scoped.{nothing_within}
+use Rattle.krl_core.proofs.keeper.Keeper.new.Goals as goal
+
+pub returns-clause-kept : goal.returns-clause-kept
+returns-clause-kept g c = record {
+  closed = [];
+  means = subst (λ (r : Contents). MeansWithin (g.T.Store.scope c.args.store) r []) (sym c.requires.empty) (nothing_within (g.T.Store.scope c.args.store));
+  same = same_is (run_entries c.new-2.result.items (option_to_list c.new-3.result.pending)) []
+      (ap (λ (b : FedBitmap). run_entries c.new-2.result.items (option_to_list b.pending)) c.new-3.ensures);
+}
+
+pub returns-clause-within : goal.returns-clause-within
+returns-clause-within g c = subst (WithinScope (g.T.Store.scope c.args.store)) (sym c.requires.empty) c.requires.within

@@ -1,0 +1,70 @@
+use Rattle.std.proofs.Common.{◌≡◌, ℕ, List, length, take, inr, refl, sym, subst, arith, ◌∙◌}
+use Rattle.std.proofs.lemmas.Bool.{false≢true}
+use Rattle.std.proofs.lemmas.List.{length-take-le}
+use Rattle.ssh_wire.specs.Pull.{at_hand}
+use Rattle.krl_core.specs.Keeping.{GrowsWithin}
+use Rattle.krl_core.specs.Reading.{working}
+use Rattle.krl_core.proofs.Advancing.{advances_of, late_past_header, more_of}
+use Rattle.krl_core.proofs.Crossed.{bounded_crossed, leaps_crossed, reads_crossed}
+use Rattle.krl_core.proofs.Stepping.{come, says_starved}
+use Rattle.krl_core.proofs.reading.advance_far.Goals as goal
+
+pub returns-in-Header-clause-more : goal.returns-in-Header-clause-more
+returns-in-Header-clause-more g c = more_of c.advance.result (working c.args.pull.now c.args.place.now c.args.keeper.now) (working c.advance.new.pull c.advance.new.place c.advance.new.keeper) c.advance.ensures.more
+
+pub returns-then-count-eq0 : goal.returns-then-count-eq0
+returns-then-count-eq0 g c =
+    let same = c.cross-count.ensures.none c.if-count-eq0.true in
+    let e = rw (same.0, same.1) at c.advance-then-count-eq0.ensures in
+    let old = working c.args.pull.now c.args.place.now c.args.keeper.now in
+    let new = working c.advance-then-count-eq0.new.pull c.advance-then-count-eq0.new.place c.advance-then-count-eq0.new.keeper in
+    record {
+      more = more_of c.advance-then-count-eq0.result old new e.more;
+      advances = advances_of c.advance-then-count-eq0.result old new e.follows;
+      ends = e.ends;
+      fault = e.fault;
+      sound = e.sound;
+      failure = e.failure;
+      bounds = e.bounds;
+    }
+
+pub returns-in-Ok : goal.returns-in-Ok
+returns-in-Ok g c =
+    let old = working c.args.pull.now c.args.place.now c.args.keeper.now in
+    let crossed = rw (c.in-Ok.is, c.buffer.ensures) at c.cross-count.ensures in
+    let bytes : List ℕ = take c.cross-count.result.0 (at_hand c.args.pull.now) in
+    let long : length bytes ≡ c.cross-count.result.0 = length-take-le c.cross-count.result.0 (at_hand c.args.pull.now) crossed.within in
+    let t = c.consume.ensures in
+    let bounded = bounded_crossed old c.consume.new.self c.cross-count.new.keeper bytes c.requires.bounded t (subst (λ (n : ℕ). GrowsWithin n c.args.keeper.now c.cross-count.new.keeper) (sym long) crossed.grows) in
+    record {
+      more = λ _. reads_crossed old c.consume.new.self c.cross-count.new.place c.cross-count.new.keeper bytes t crossed.ok;
+      advances = λ _. inr (leaps_crossed old c.consume.new.self c.cross-count.new.place c.cross-count.new.keeper bytes c.requires.bounded t crossed.ok (omega (arith, long, c.if-count-eq0.false)));
+      ends = λ off. absurd (false≢true (sym off));
+      fault = tt;
+      sound = record {
+        in_step = λ _. crossed.ok.in_step;
+        pull_faultless = λ _. t.is_faultless;
+        works = λ _. t.working;
+        ends = λ off. absurd (false≢true off);
+        bounded = bounded;
+      };
+      failure = t.working;
+      bounds = bounded;
+    }
+
+pub returns-in-Err : goal.returns-in-Err
+returns-in-Err g c =
+    let old = working c.args.pull.now c.args.place.now c.args.keeper.now in
+    let crossed = rw c.buffer.ensures at c.cross-count.ensures in
+    let bytes : List ℕ = take c.cross-count.result.0 (at_hand c.args.pull.now) in
+    let long : length bytes ≡ c.cross-count.result.0 = length-take-le c.cross-count.result.0 (at_hand c.args.pull.now) crossed.within in
+    let t = c.consume.ensures in
+    record {
+      more = tt;
+      advances = tt;
+      ends = tt;
+      fault = λ text fields h. says_starved old c.consume.new.self text fields _ (come h) (late_past_header c.args.place.now c.in_default.not-Header) refl t.working;
+      sound = tt;
+      failure = (λ e. absurd (cc), λ e. absurd (false≢true (sym t.working ∙ e)));
+      bounds = bounded_crossed old c.consume.new.self c.cross-count.new.keeper bytes c.requires.bounded t (subst (λ (n : ℕ). GrowsWithin n c.args.keeper.now c.cross-count.new.keeper) (sym long) crossed.grows);
+    }

@@ -1,0 +1,69 @@
+-- Fields that stand in a reader's buffer, and are read without it.
+use Rattle.std.specs.Prelude.{◌≡◌, ℕ, ◌+◌, ◌-◌, ◌*◌, ◌≤◌, ◌<◌, List, ◌++◌, length, take, drop, Result}
+use Rattle.std.specs.Prelude.{OnOk}
+use Rattle.std.specs.List.{concat}
+use Rattle.std.specs.declared.alloc.AllocError.{AllocError}
+use Rattle.ssh_wire.specs.Wire.{IsBytes, number_of}
+use Rattle.krl_core.specs.declared.place.Place.{Place}
+use Rattle.krl_core.specs.Front.{Leads, State, start}
+use Rattle.krl_core.specs.Keeping.{GrowsWithin, InStep, IsKept, Keeping}
+use Rattle.krl_core.specs.Naming.{SerialOf}
+use Rattle.krl_core.specs.Scope.{InScope, Scope}
+
+-- These fields lead from a list's first byte to a place, and what is kept means what they name.
+pub record HasKept (fields : List (List ℕ)) (place : Place) (keeping : Keeping) : Type 0 where
+  pub state : State
+  pub leads : Leads start fields state
+  pub place_is : place ≡ state.place
+  pub authority_is : keeping.authority ≡ state.authority
+  pub header_is : keeping.header ≡ state.header
+  pub kept : IsKept keeping state.entries
+
+-- The bytes are whole fields, which lead from one place to another, and what they name is kept too.
+pub record Crosses (bytes : List ℕ) (place : Place) (old : Keeping) (next : Place) (new : Keeping)
+    : Type 0 where
+  pub kept : (fields : List (List ℕ)) → HasKept fields place old
+      → (more : List (List ℕ)) × (HasKept (fields ++ more) next new × (concat more ≡ bytes))
+  pub are_bytes : IsBytes bytes
+  pub in_step : InStep next new.bitmap
+  pub scope_is : new.scope ≡ old.scope
+
+-- So many of the bytes were crossed, or memory ran out at the last of them.
+pub record CrossesSome (bytes : List ℕ) (count : ℕ) (result : Result (Unit {0}) AllocError)
+    (place : Place) (old : Keeping) (next : Place) (new : Keeping) : Type 0 where
+  pub within : count ≤ length bytes
+  pub ok : OnOk result (Crosses (take count bytes) place old next new)
+  pub grows : GrowsWithin count old new
+  pub none : count ≡ 0 → (next ≡ place) × (new ≡ old)
+
+-- ---- fields that name nothing in scope
+
+-- the serial number that stands after so many others
+abbrev pub serial_at : List ℕ → ℕ → ℕ
+serial_at bytes count = number_of (take 8 (drop (8 * count) bytes))
+
+-- something holds of none of the serial numbers in the first bytes
+abbrev pub NoneHolds : (ℕ → Type 0) → (bytes : List ℕ) → (count : ℕ) → Type 0
+NoneHolds Holds bytes count = (k : ℕ) → 8 * k + 8 ≤ count → Holds (serial_at bytes k) → ⊥
+
+-- none of the serial numbers in the first bytes is in scope under the authority
+abbrev pub AreUnwanted : Scope → (authority bytes : List ℕ) → (count : ℕ) → Type 0
+AreUnwanted scope authority bytes count =
+    NoneHolds (λ s. InScope scope (SerialOf authority s)) bytes count
+
+-- none of the serial numbers of the `count` highest of the `left` last bytes of a bitmap is in scope
+abbrev pub AreUnasked : Keeping → (offset left count : ℕ) → Type 0
+AreUnasked keeping offset left count =
+    (s : ℕ) → offset + 8 * (left - count) ≤ s → s < offset + 8 * left
+    → InScope keeping.scope (SerialOf keeping.authority s) → ⊥
+
+-- The bytes are left of a bitmap, the first of all is not negative, none can pass 2^64-1, and
+-- nothing in scope is among their numbers.
+pub record MayPass (keeping : Keeping) (offset size left : ℕ) (bytes : List ℕ) (count : ℕ)
+    : Type 0 where
+  pub there : count ≤ length bytes
+  pub within : count ≤ left
+  pub sign_free : left ≡ size → number_of (take 1 bytes) < 128
+  pub left_is : left ≤ size
+  pub fits : offset + 8 * left ≤ 18446744073709551616
+  pub unasked : AreUnasked keeping offset left count

@@ -1,0 +1,203 @@
+//! Crossing the fields that stand in a reader's buffer, without the reader.
+
+ghost use Rattle.std.specs.Prelude.{◌≡◌, ◌+◌, ◌*◌, ◌%◌, ◌^◌, ◌≤◌, ◌<◌, IsTrue, IfSome, false, length};
+ghost use Rattle.std.specs.Prelude.{take};
+ghost use Rattle.krl_core.specs.Crossing.{AreUnasked, AreUnwanted, CrossesSome, MayPass};
+ghost use Rattle.krl_core.specs.Front.{Passes};
+ghost use Rattle.krl_core.specs.Keeping.{InStep};
+
+use crate::judging::{next_bits, next_serial};
+use crate::keeper::Keeper;
+use crate::place::{BitmapPlace, Place, SerialsPlace};
+use crate::store::Store;
+use std::alloc::AllocError;
+
+// At most so many bytes of serial numbers or of a bitmap are crossed at once.
+const STRIDE: usize = 512;
+
+/// Crosses whole fields at the front of some bytes, as far as they pass their judgements, and says
+/// how many bytes these have. Where memory runs out, the last field is one of them.
+pub(crate) fn cross<T: Store>(
+    place: &mut Place,
+    keeper: &mut Keeper<T>,
+    bytes: &[u8],
+) -> (usize, Result<(), AllocError>)
+    requires { InStep place.old keeper.old.bitmap }
+    ensures { CrossesSome bytes.now result.0 result.1 place.old keeper.old place.new keeper.new }
+{
+    let mut at = 0;
+    'fields: while at < bytes.len() {
+        let (count, crossed) = cross_front(place, keeper, &bytes[at..]);
+        at += count;
+        if crossed.is_err() || count == 0 {
+            return (at, crossed);
+        }
+    }
+    (at, Ok(()))
+}
+
+// Crosses at once what names nothing in scope, else one field after the other.
+fn cross_front<T: Store>(
+    place: &mut Place,
+    keeper: &mut Keeper<T>,
+    bytes: &[u8],
+) -> (usize, Result<(), AllocError>)
+    requires some { 0 < length bytes.now }
+    requires in_step { InStep place.old keeper.old.bitmap }
+    ensures { CrossesSome bytes.now result.0 result.1 place.old keeper.old place.new keeper.new }
+{
+    let (count, crossed) = cross_unasked(place, keeper, bytes);
+    if count > 0 {
+        return (count, crossed);
+    }
+    cross_each(place, keeper, bytes)
+}
+
+// Crosses at once fields of one kind that name nothing in scope: serial numbers, or bytes of a
+// bitmap.
+fn cross_unasked<T: Store>(
+    place: &mut Place,
+    keeper: &mut Keeper<T>,
+    bytes: &[u8],
+) -> (usize, Result<(), AllocError>)
+    requires some { 0 < length bytes.now }
+    requires in_step { InStep place.old keeper.old.bitmap }
+    ensures { CrossesSome bytes.now result.0 result.1 place.old keeper.old place.new keeper.new }
+{
+    match *place {
+        Place::Serials(SerialsPlace::Serial { left, after }) => {
+            let count = unwanted(keeper, left, bytes);
+            if count == 0 {
+                return (0, Ok(()));
+            }
+            *place = next_serial(left - count as u32, after);
+            (count, Ok(()))
+        }
+        Place::Bitmap(
+            BitmapPlace::Byte {
+                offset,
+                size,
+                left,
+                after,
+            },
+        ) => {
+            let count = unasked(keeper, offset, size, left, bytes);
+            if count == 0 {
+                return (0, Ok(()));
+            }
+            let crossed = keeper.skip(count as u32);
+            *place = next_bits(offset, size, left - count as u32, after);
+            (count, crossed)
+        }
+        _ => (0, Ok(())),
+    }
+}
+
+// How many bytes of serial numbers at the front, of which `left` bytes remain, are not in scope.
+fn unwanted<T: Store>(keeper: &Keeper<T>, left: u32, bytes: &[u8]) -> usize
+    ensures within { result ≤ length bytes.now }
+    ensures left { result ≤ left }
+    ensures whole { result % 8 ≡ 0 }
+    ensures unwanted { AreUnwanted keeper.now.scope keeper.now.authority bytes.now result }
+{
+    let count = bytes.len().min(left as usize).min(STRIDE);
+    keeper.unwanted(&bytes[..count])
+}
+
+// How many bytes at the front of a bitmap, of whose `size` bytes `left` remain, are crossed at
+// once: none of their serial numbers is in scope, and none of them is refused.
+fn unasked<T: Store>(keeper: &Keeper<T>, offset: u64, size: u32, left: u32, bytes: &[u8]) -> usize
+    requires there { 0 < length bytes.now }
+    ensures { 0 < result → MayPass keeper.now offset size left bytes.now result }
+{
+    if left > size || 8 * u64::from(left) > u64::MAX - offset || is_negative(size, left, bytes[0]) {
+        return 0;
+    }
+    let mut count = bytes.len().min(left as usize).min(STRIDE);
+    'halves: while count > 0 {
+        if is_unasked(keeper, offset, left, count as u32) {
+            return count;
+        }
+        count /= 8;
+    }
+    0
+}
+
+// Whether a byte is a bitmap's first, and shows that its number is negative.
+fn is_negative(size: u32, left: u32, byte: u8) -> bool
+    ensures { result ≡ false → left ≡ size → byte < 128 }
+{
+    left == size && byte >= 128
+}
+
+// Whether no serial of the `count` highest of the `left` last bytes of a bitmap is in scope.
+fn is_unasked<T: Store>(keeper: &Keeper<T>, offset: u64, left: u32, count: u32) -> bool
+    requires some { 0 < count }
+    requires within { count ≤ left }
+    requires fits { offset + 8 * left < 2 ^ 64 }
+    ensures { IsTrue result → AreUnasked keeper.now offset left count }
+{
+    let lo = offset + 8 * u64::from(left - count);
+    let hi = offset + 8 * u64::from(left) - 1;
+    !keeper.wants(lo, hi)
+}
+
+// Crosses one field after the other, up to a place where many may be crossed at once. A field
+// without bytes is crossed only after one that has some.
+fn cross_each<T: Store>(
+    place: &mut Place,
+    keeper: &mut Keeper<T>,
+    bytes: &[u8],
+) -> (usize, Result<(), AllocError>)
+    requires { InStep place.old keeper.old.bitmap }
+    ensures { CrossesSome bytes.now result.0 result.1 place.old keeper.old place.new keeper.new }
+{
+    let mut at = 0;
+    'fields: while at < bytes.len() {
+        let Some((size, next)) = passes(*place, &bytes[at..]) else {
+            break;
+        };
+        if at + size == 0 {
+            break;
+        }
+        let kept = keeper.keep(*place, &bytes[at..at + size], next);
+        at += size;
+        if kept.is_err() {
+            return (at, kept);
+        }
+        *place = next;
+        if is_one_of_many(next) {
+            break;
+        }
+    }
+    (at, Ok(()))
+}
+
+// How many bytes the expected field has, and the place after it, where it is whole and passes its
+// judgement.
+#[inline(always)]
+fn passes(place: Place, bytes: &[u8]) -> Option<(usize, Place)>
+    ensures within { IfSome result (λ field. field.0 ≤ length bytes.now) }
+    ensures passes { IfSome result (λ field. Passes place (take field.0 bytes.now) field.1) }
+{
+    if !place.has_room() {
+        return None;
+    }
+    let size = place.size() as usize;
+    if size > bytes.len() {
+        return None;
+    }
+    match place.after(&bytes[..size]) {
+        Ok(next) => Some((size, next)),
+        Err(_) => None,
+    }
+}
+
+// Whether the field at this place may be one of many that are crossed at once.
+#[inline(always)]
+fn is_one_of_many(place: Place) -> bool {
+    matches!(
+        place,
+        Place::Serials(SerialsPlace::Serial { .. }) | Place::Bitmap(BitmapPlace::Byte { .. })
+    )
+}

@@ -1,0 +1,17 @@
+-- Keys of files that are expected where they are answered for.
+use Rattle.std.specs.Prelude.{List, [], ◌∷◌, Result, Ok, Err, IfOk, All, ⊤}
+use Rattle.ssh_cert.specs.SubjectReading.{subject_of}
+use Rattle.ssh_subject.specs.Subject.{Subject}
+use Rattle.key_files.specs.Keys.{File, Found, keys_of}
+use Rattle.key_files.specs.Stop.{Stop}
+
+-- Each key is expected, up to the first fault.
+abbrev pub AreExpected : (Subject → Type 0) → List (Result Found Stop) → Type 0
+AreExpected Expected [] = ⊤
+AreExpected Expected (Err stop ∷ keys) = ⊤
+AreExpected Expected (Ok key ∷ keys) =
+    IfOk (subject_of key.line.blob) (λ asked. Expected asked × AreExpected Expected keys)
+
+-- so it is in each file
+abbrev pub AllExpected : (Subject → Type 0) → List File → Type 0
+AllExpected Expected files = All (λ file. AreExpected Expected (keys_of file)) files
