@@ -7,7 +7,7 @@ import sys
 
 from measure import TOP
 
-sys.path.insert(0, os.path.join(TOP, "tests"))
+sys.path.append(os.path.join(TOP, "tests", "lib"))
 from wire import HEADER, bitmap, certificates, serials, span, string
 
 # Bytes of one section at the most, and of one bitmap: OpenSSH reads none that is larger.

@@ -43,7 +43,7 @@ while read -r type blob; do
   at=$((at + 1))
   printf '%s %s the comment of device%d\n' "$type" "$blob" $at >device$at.pub
   keys+=(device$at)
-done <"$tests/device_keys"
+done <"$tests/lib/device_keys"
 
 for key in "${keys[@]}"; do
   sign "$key" ca-ed25519 -I id

@@ -62,7 +62,6 @@ made 'make install over another program where FORCE says so' 0 install PREFIX=/u
 runs 'the program in place of the other' "$root/usr/bin/ssh-keygen"
 rm -r "$root"
 
-. "$tests/needs.sh"
 need lintian lintian || judge 'lintian is there' '  install it, on Debian by apt-get install lintian'
 need strip binutils || judge 'strip is there' '  install it, on Debian by apt-get install binutils'
 PROGRAM=$binary "$top/packaging/deb" "$scratch" >"$scratch/output" 2>&1

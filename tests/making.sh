@@ -1,7 +1,7 @@
 # Lists that the program makes: to the byte, but for their time, and asked beside those that OpenSSH's
 # ssh-keygen makes of the same files.
 
-. "$tests/spec_files.sh"
+make_asked
 highest=18446744073709551615
 line ssh-ed25519 "$G" >g.pub
 line ssh-ed25519 "$A" >a

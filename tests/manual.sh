@@ -1,7 +1,5 @@
 # The manual page: well formed, with the forms of use that --help prints, and examples that were run.
 
-. "$tests/needs.sh"
-. "$tests/transcript.sh"
 page=$top/docs/ssh-keygen.1
 
 need mandoc mandoc || judge 'mandoc is there' '  install it, on Debian by apt-get install mandoc'

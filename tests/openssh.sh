@@ -22,7 +22,7 @@ while read -r type blob; do
   name=${type%@*}.pub
   printf '%s %s\n' "$type" "$blob" >"$name"
   made+=("$name")
-done <"$tests/device_keys"
+done <"$tests/lib/device_keys"
 
 # OpenSSH prints a tab as it is, and we print the escape for it.
 escaped() {
@@ -41,8 +41,8 @@ done
 
 # What OpenSSH 9.2 printed for the ready lines.
 for hash in sha256 md5; do
-  expect "device keys listed by $hash" 0 "$(cat "$tests/device_keys.$hash")"$'\n' '' \
-    -l -E $hash -f "$tests/device_keys"
+  expect "device keys listed by $hash" 0 "$(cat "$tests/lib/device_keys.$hash")"$'\n' '' \
+    -l -E $hash -f "$tests/lib/device_keys"
 done
 
 # Each key has its name as its comment, since without one OpenSSH prints the file's name there.

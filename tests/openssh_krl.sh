@@ -2,7 +2,6 @@
 # where lists are made or asked and where keys are listed, and with OpenSSH's for all else, which is
 # the making and signing of keys.
 
-. "$tests/needs.sh"
 suite=/usr/lib/openssh/regress
 if ! need $suite/run-tests openssh-tests; then
   judge "OpenSSH's tests are there" '  install them, on Debian by apt-get install openssh-tests'
@@ -14,7 +13,7 @@ mkdir -p "$room"
 # Before each test of the suite its server looks at its configuration, for which it wants to be
 # installed as a service. This test runs no server.
 server=/bin/true
-CALLS=$scratch/calls PROGRAM=$binary OPENSSH=$openssh TEST_SSH_SSHKEYGEN=$tests/handing_on \
+CALLS=$scratch/calls PROGRAM=$binary OPENSSH=$openssh TEST_SSH_SSHKEYGEN=$tests/lib/handing_on \
   BUILDDIR=$suite TEST_SHELL=sh TEST_SSH_SSHD=$server TEST_SSH_UNSAFE_PERMISSIONS=1 \
   sh $suite/test-exec.sh "$room" $suite/krl.sh >"$scratch/output" 2>"$scratch/error"
 status=$?

@@ -1,8 +1,6 @@
 # The pages of the crates: each library has one and so has the program, and the map leads to it. The caller
 # that a library's page shows is one that a crate of tests proves and runs, in the same words. What the
-# program's page shows is what it prints.
-
-. "$tests/transcript.sh"
+# program's page and the README show is what the program prints.
 
 # shown LANGUAGE PAGE: what the page shows in it.
 shown() {
@@ -31,3 +29,8 @@ cp -r "$top/demo" demo && cd demo || exit 1
 use=$(shown console "$top/crates/krl_tool/README.md")
 judge 'the page of the program shows a use' "$([ -n "$use" ] || echo '  it shows none')"
 transcript 'what the page of the program shows' <<<"$use"
+cd ..
+
+mkdir walk && cp -r "$top/demo" walk && ln -s "$program" walk/ssh-keygen && cd walk || exit 1
+transcript 'the walk of the README' < <(awk '/^```/ { on = !on; next } on' "$top/README.md")
+cd ..

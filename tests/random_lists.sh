@@ -1,7 +1,7 @@
 # Lists that OpenSSH's ssh-keygen makes from random specification files, of every sort of entry and in
 # every shape of serials: both programs say the same of keys and certificates.
 
-. "$tests/spec_files.sh"
+make_asked
 RANDOM=4711
 
 # make_list SORT AUTHORITY [-u]

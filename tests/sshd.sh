@@ -1,7 +1,6 @@
 # A real sshd on the loopback, whose RevokedKeys are lists that the program made: who logs in with a key
 # or a certificate is let in or refused as -Q answers about it.
 
-. "$tests/needs.sh"
 need sshd openssh-server || judge 'sshd is there' '  install it, on Debian by apt-get install openssh-server'
 daemon=$(command -v sshd || echo /usr/sbin/sshd)
 room=$scratch/sshd

@@ -1,21 +1,24 @@
 # Specification files at random, and the keys and certificates that lists of them are asked about.
 
-# They are made once, and the files are the same in each run.
-[ -z "${asked[*]:-}" ] || return 0
-RANDOM=4711
-for name in one two ca-one ca-two ca-three; do
-  "$openssh" -q -t ed25519 -N '' -C "the comment of $name" -f $name
-done
-asked=(one.pub two.pub ca-one.pub ca-two.pub)
 highest=18446744073709551615
-for authority in one two; do
-  for serial in 0 1 2 3 4 7 8 9 15 16 63 64 65 127 128 200 255 256 257 999 1000 1001 4096 70000 \
-    $((RANDOM % 300)) $((RANDOM % 300)) 9223372036854775808 18446744073709551614 $highest; do
-    "$openssh" -q -s ca-$authority -I "id $((serial % 10)) of $authority" -z $serial one.pub
-    mv one-cert.pub "$authority-$serial.pub"
-    asked+=("$authority-$serial.pub")
+
+# make_asked: the keys and certificates, whose names are the array asked. They are the same in each run.
+make_asked() {
+  local name authority serial
+  RANDOM=4711
+  for name in one two ca-one ca-two ca-three; do
+    "$openssh" -q -t ed25519 -N '' -C "the comment of $name" -f $name
   done
-done
+  asked=(one.pub two.pub ca-one.pub ca-two.pub)
+  for authority in one two; do
+    for serial in 0 1 2 3 4 7 8 9 15 16 63 64 65 127 128 200 255 256 257 999 1000 1001 4096 70000 \
+      $((RANDOM % 300)) $((RANDOM % 300)) 9223372036854775808 18446744073709551614 $highest; do
+      "$openssh" -q -s ca-$authority -I "id $((serial % 10)) of $authority" -z $serial one.pub
+      mv one-cert.pub "$authority-$serial.pub"
+      asked+=("$authority-$serial.pub")
+    done
+  done
+}
 
 # dense COUNT WIDTH START: COUNT serials, each one of WIDTH from START on.
 dense() {

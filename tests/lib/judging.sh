@@ -1,4 +1,4 @@
-# What the parts of tests/run share: running the program and comparing what it did.
+# What the parts of tests/ share: running the program and comparing what it did.
 
 passed=0
 failed=0

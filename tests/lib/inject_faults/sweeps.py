@@ -2,7 +2,8 @@
 
 import errno
 
-from fault_injection import answers
+import trial
+from inject_faults import answers
 
 ALWAYS = 1 << 62
 SHORT, NOTHING = -1, 0
@@ -69,29 +70,19 @@ def numbers(count, most):
     return sorted({*range(1, 41), *range(count + 1, 40, -step), count})
 
 
-class Room:
+class Room(trial.Tests):
     """Where the runs take place, and what they showed."""
 
     def __init__(self, program, files, most):
+        super().__init__()
         self.program = program
         self.files = files
         self.most = most
         self.runs = 0
-        self.passed = 0
-        self.failed = 0
 
     def start(self, run, failing):
         self.runs += 1
         return self.program.run(run.words, run.given, run.before, **failing)
-
-    def judge(self, name, wrong):
-        """A test passes where nothing is wrong."""
-        if wrong:
-            self.failed += 1
-            print("not ok %s\n  %s" % (name, "\n  ".join(wrong)), flush=True)
-        else:
-            self.passed += 1
-            print("ok %s" % name, flush=True)
 
     def sweep(self, run, sweep):
         ample = self.start(run, sweep.failing(0, 0))

@@ -3,7 +3,7 @@
 import errno
 import struct
 
-from fault_injection.runs import Run
+from inject_faults.runs import Run
 from wire import HEADER
 
 FULL = "4-4:%d:3" % errno.ENOSPC

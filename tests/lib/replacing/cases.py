@@ -5,7 +5,7 @@ import stat
 import subprocess
 import threading
 
-from replaced.folder import LIST, NOBODY, OLD, fault, without_key
+from replacing.folder import LIST, NOBODY, OLD, fault, without_key
 
 
 def links(place, made):

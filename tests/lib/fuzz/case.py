@@ -2,7 +2,7 @@
 
 import random
 
-from fuzzing import change
+from fuzz import change
 
 
 class Case:

@@ -6,7 +6,8 @@ import shutil
 import signal
 import subprocess
 
-from fault_injection import files
+import files
+import trial
 from wire import HEADER, certificates, section, strings
 
 LIST = "r.krl"
@@ -32,18 +33,17 @@ SPEC = "id: %s\n%ssha1: %ssha256: %s" % (
 )
 
 
-class Folder:
+class Folder(trial.Tests):
     """The scratch folder, which is the one at hand too, and the count of what was judged."""
 
     def __init__(self, scratch, program, library):
+        super().__init__()
         self.scratch = scratch
         self.library = library
         # The user nobody may run this copy, wherever the program stands.
         self.program = os.path.join(scratch, "ssh-keygen")
         shutil.copy(program, self.program)
         os.chmod(self.program, 0o755)
-        self.passed = 0
-        self.failed = 0
 
     def enter(self, name="here", old=OLD):
         """An empty folder but for the key, the specification file and the old list."""
@@ -126,14 +126,6 @@ class Folder:
         if (done.returncode, done.stdout) != (1, b"../key.pub: REVOKED\n"):
             return ["asked, it says %d %r %r" % (done.returncode, done.stdout, done.stderr)]
         return []
-
-    def judge(self, name, wrong):
-        if wrong:
-            self.failed += 1
-            print("not ok %s\n  %s" % (name, "\n  ".join(wrong[:3])), flush=True)
-        else:
-            self.passed += 1
-            print("ok %s" % name, flush=True)
 
 
 def without_key(made):

@@ -5,7 +5,7 @@ import os
 import subprocess
 import sys
 
-from fault_injection import process, runs, sweeps
+from inject_faults import process, runs, sweeps
 
 BINARY = "crates/refused_tests/out/refused_tests_tests"
 RAN_OUT = b"memory ran out\n"

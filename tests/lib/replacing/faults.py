@@ -4,7 +4,7 @@ import os
 import signal
 import subprocess
 
-from replaced.folder import LIST, OLD, PAGE, fault, without_key
+from replacing.folder import LIST, OLD, PAGE, fault, without_key
 from wire import HEADER
 
 

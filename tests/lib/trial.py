@@ -1,0 +1,36 @@
+"""What the programs of tests/ share: the program that is tried, tests that are counted, and libraries
+that are loaded before a program, and change what its calls do."""
+
+import os
+import subprocess
+import sys
+
+LIB = os.path.dirname(os.path.abspath(__file__))
+TOP = os.path.dirname(os.path.dirname(LIB))
+PROGRAM = os.path.abspath(os.environ.get("PROGRAM", os.path.join(TOP, "built", "ssh-keygen")))
+
+
+def built_library(source, folder):
+    """Compiles a C file of this folder into another one."""
+    library = os.path.join(folder, os.path.splitext(source)[0] + ".so")
+    words = ["cc", "-O2", "-shared", "-fPIC", "-o", library, os.path.join(LIB, source)]
+    subprocess.run(words, check=True)
+    return library
+
+
+class Tests:
+    """Tests that are counted, each of which passes where nothing is wrong."""
+
+    def __init__(self):
+        self.passed = 0
+        self.failed = 0
+
+    def judge(self, name, wrong):
+        self.failed += bool(wrong)
+        self.passed += not wrong
+        line = "not ok %s\n  %s" % (name, "\n  ".join(wrong[:3])) if wrong else "ok " + name
+        print(line, flush=True)
+
+    def end(self):
+        print("%d passed, %d failed" % (self.passed, self.failed))
+        sys.exit(1 if self.failed else 0)
