@@ -1,32 +1,17 @@
 # Proves the crates that the program is made of, and builds it: what the launcher does on first use.
 #
-# At work on a crate, rt locks all crates below it. So two crates are proved at once only in two trees:
-# this one, and trees of hard links to it, one for each further crate. What rt keeps of its work there
-# goes into this tree, also when the build is interrupted. rt then takes the library over, or makes it
-# of what was kept, in seconds.
+# At work on a crate, rt locks all crates below it. So each crate is proved in a tree of its own, of hard links
+# to this one, where more than one is proved at once. What rt keeps of its work there goes into this tree, also
+# when the build is interrupted. rt then takes the library over, or makes it of what was kept, in seconds.
 
 last=krl_tool
 trees=$built/trees
 processors=$(nproc)
 
-# About how many seconds each crate takes, one after the other on four cores of a virtual machine.
-declare -A seconds=([ssh_subject]=25 [spec_fault]=40 [ssh_wire]=104 [serial_set]=155 [ssh_key]=135 [ssh_cert]=108 [krl_plan]=63
-  [krl_fault]=25 [krl_core]=230 [krl_writer]=60 [krl_spec]=116 [key_files]=60 [krl_runs]=190 [krl_make]=139 [krl_job]=30
-  [krl_words]=87 [krl_tool]=256)
-# The same of a crate that is not named there.
-usual=60
-
-# By crate: all crates that it stands on; the seconds from its beginning to the end of the build, where
-# nothing is waited for; when it was begun; the process that proves it; whether it is proved.
-declare -A below=() chain=() begun=() process=() proved=()
-# The crates, those with the longest way to the end first. So each comes after what it stands on.
-crates=()
-# The crate that is proved in this tree, or none.
-here=
-# The seconds that crates took in this build, and those above of the same crates, both from 100 on, so
-# that one small crate does not decide alone.
-took=100
-took_before=100
+# By crate: all crates that it stands on; the process that proves it; whether it was begun and is proved.
+declare -A below=() process=() begun=() proved=()
+# The crates, each after what it stands on, and the program where it was built.
+crates=() made=
 
 build() {
   command -v rt >/dev/null || refuse \
@@ -39,54 +24,35 @@ build() {
   give_up_trees
   read_crates
   prove_all
+  # The program's time is that of the build's beginning, so a source that changed during it is newer.
+  cp "$made" "$built/new" && touch -r "$built/begun" "$built/new" && mv "$built/new" "$program" ||
+    refuse "$program cannot be written"
   give_up_trees
   trap - EXIT HUP INT TERM
-  # The program's time is that of the build's beginning, so a source that changed during it is newer.
-  cp "$top/crates/$last/out/$last" "$built/new" &&
-    touch -r "$built/begun" "$built/new" &&
-    mv "$built/new" "$program" || refuse "$program cannot be written"
 }
 
 # A crate that crates.txt names stands on libraries that it names before it, and on some of the kit.
 read_crates() {
-  local crate words it at
+  local crate words it
   while IFS=: read -r crate words; do
     below[$crate]=
     for it in $words; do
-      [ -z "${below[$it]+is}" ] || add_below "$crate" ${below[$it]} "$it"
+      [ -z "${below[$it]+is}" ] || below[$crate]+="${below[$it]} $it "
     done
+    below[$crate]=$(printf '%s\n' ${below[$crate]} | awk '!seen[$0]++')
   done < <(grep '^[a-z]' "$top/crates.txt")
   crates=(${below[$last]} "$last")
-  for ((at = ${#crates[@]} - 1; at >= 0; at--)); do
-    add_chain "${crates[at]}"
-  done
-  crates=($(for it in "${crates[@]}"; do echo "${chain[$it]} $it"; done | sort -rn | cut -d ' ' -f 2))
-}
-
-# add_below CRATE OTHER..: the crate stands on the others.
-add_below() {
-  local it
-  for it in "${@:2}"; do
-    [[ " ${below[$1]} " == *" $it "* ]] || below[$1]+=" $it"
-  done
-}
-
-# add_chain CRATE: those above it have been added, and those below it wait for it.
-add_chain() {
-  local it
-  chain[$1]=$((${chain[$1]:-0} + ${seconds[$1]:-usual}))
-  for it in ${below[$1]}; do
-    ((${chain[$it]:-0} >= chain[$1])) || chain[$it]=${chain[$1]}
-  done
 }
 
 prove_all() {
-  local at_once crate
+  local at_once crate ready busy
   at_once=$(crates_at_once)
-  say "proving and building the program, this once: $(progress)"
+  say "proving and building the program, this once: ${#crates[@]} crates"
   while [ -z "${proved[$last]:-}" ]; do
-    for crate in "${crates[@]}"; do
-      ((${#process[@]} == at_once)) || ! is_ready "$crate" || begin "$crate" || at_once=1
+    ready=($(for crate in "${crates[@]}"; do ! is_ready "$crate" || echo "$crate"; done))
+    busy=$((${#ready[@]} + ${#process[@]}))
+    for crate in "${ready[@]}"; do
+      ((${#process[@]} >= at_once)) || begin "$crate" || at_once=1
     done
     sleep 0.1
     for crate in "${!process[@]}"; do
@@ -111,23 +77,6 @@ crates_at_once() {
   echo "$free"
 }
 
-# How much is done, in parts of the whole by the seconds above, and for about how long the rest goes on.
-progress() {
-  local crate rest whole=0 done=0 longest=0 pace=$((100 * took / took_before))
-  for crate in "${crates[@]}"; do
-    whole=$((whole + ${seconds[$crate]:-usual}))
-    if [ -n "${proved[$crate]:-}" ]; then
-      done=$((done + ${seconds[$crate]:-usual}))
-    else
-      rest=$((chain[$crate] * pace / 100 - SECONDS + ${begun[$crate]:-SECONDS}))
-      ((rest <= longest)) || longest=$rest
-    fi
-  done
-  rest=$(((whole - done) * pace / 100 / at_once))
-  rest=$((((rest > longest ? rest : longest) + 59) / 60))
-  echo "$((100 * done / whole)) % done, about $rest minute$( ((rest == 1)) || echo s) left"
-}
-
 is_ready() {
   local it
   [ -z "${begun[$1]:-}" ] || return
@@ -136,72 +85,56 @@ is_ready() {
   done
 }
 
-# begin CRATE: this tree is for the crate with the longest way to the end. It fails where there is no tree
-# for another one.
+# begin CRATE: it fails where there is no tree for another crate. A crate has all processors where at most one
+# other is ready or at work, and else half of them.
 begin() {
-  local tree=$trees/$1
-  if [ -z "$here" ] && [ "$1" = "$(first_left)" ]; then
-    here=$1 tree=$top
-  else
-    make_tree "$1" || return
+  local tree=$top jobs=$processors
+  if ((at_once > 1)); then
+    make_tree "$1" && tree=$trees/$1 || ((${#process[@]} == 0)) || return
   fi
-  begun[$1]=$SECONDS
-  say "proving $1: $(progress)"
-  prove "$1" "$tree" >"$built/$1.log" 2>&1 </dev/null &
+  ((busy <= 2)) || jobs=$(((processors + 1) / 2))
+  begun[$1]=yes made=$tree/crates/$1/out/$1
+  say "proving $1: ${#proved[@]} of ${#crates[@]} are proved"
+  prove "$1" "$tree" "$jobs" >"$built/$1.log" 2>&1 </dev/null &
   process[$1]=$!
 }
 
 # make_tree CRATE: links into a tree the crate, with what was kept of it, and all below it, with the
 # libraries from where they were made.
 make_tree() {
-  local it part made new=$trees/new
+  local it part from new=$trees/new
   rm -rf "$new"
   for it in ${below[$1]} "$1"; do
     mkdir -p "$new/crates/$it/out" && grep "^$it:" "$top/crates.txt" >>"$new/crates.txt" || return
     for part in src specs proofs; do
       [ ! -e "$top/crates/$it/$part" ] || cp -al "$top/crates/$it/$part" "$new/crates/$it/" 2>/dev/null || return
     done
-    made=$trees/$it/crates/$it/out/rlib
-    [ -e "$made" ] || made=$top/crates/$it/out/rlib
-    [ "$it" != "$1" ] || made=$top/crates/$1/out/.
+    from=$trees/$it/crates/$it/out/rlib
+    [ -e "$from" ] || from=$top/crates/$it/out/rlib
+    [ "$it" != "$1" ] || from=$top/crates/$1/out/.
     # rt may be renewing a library there. It finds what is missing here in another tree.
-    cp -al "$made" "$new/crates/$it/out/" 2>/dev/null
+    cp -al "$from" "$new/crates/$it/out/" 2>/dev/null
   done
   mv "$new" "$trees/$1"
 }
 
-# prove CRATE TREE: rt builds a program where it runs it, so it runs the one that needs no file.
+# prove CRATE TREE JOBS: rt builds a program where it runs it, so it runs the one that needs no file.
 prove() {
-  local jobs=$processors yields=0
-  # The crate with the longest way to the end has the processors first.
-  [ "$1" = "$(first_left)" ] || { jobs=$((processors > 1 ? processors / 2 : 1)) && yields=10; }
-  set -- "$1" "$2" lib --jobs "$jobs"
-  [ "$1" != $last ] || set -- "$1" "$2" run --jobs "$jobs" -- -h
-  cd "$2/crates/$1" && exec nice -n $yields rt "${@:3}"
-}
-
-first_left() {
-  local it
-  for it in "${crates[@]}"; do
-    [ -n "${proved[$it]:-}" ] || { echo "$it" && return; }
-  done
+  local words=(lib --jobs "$3")
+  [ "$1" != $last ] || words=(run --jobs "$3" -- -h)
+  cd "$2/crates/$1" && exec rt "${words[@]}"
 }
 
 # finish CRATE: its process has ended.
 finish() {
-  local status time=$((SECONDS - begun[$1])) before=${seconds[$1]:-usual}
-  wait "${process[$1]}" 2>/dev/null
-  status=$?
-  unset "process[$1]"
-  if [ $status != 0 ]; then
+  wait "${process[$1]}" 2>/dev/null || {
+    unset "process[$1]"
     tail -n 20 "$built/$1.log" >&2
     refuse "$1 is not proved: all that was said is in $built/$1.log"
-  fi
-  [ "$here" != "$1" ] || here=
+  }
+  unset "process[$1]"
   proved[$1]=yes
   hand_back "$1"
-  # What was kept of an earlier build takes little time, and says nothing of the rest.
-  ((time * 5 < before)) || took=$((took + time)) took_before=$((took_before + before))
 }
 
 # hand_back CRATE: what was kept of it goes from its tree into this one, where its library is removed if

@@ -101,11 +101,9 @@ said_by() {
 : >calls.steps
 one=(env RT_JOBS=1)
 two=(env RT_JOBS=2)
-# By the launcher's table krl_tool takes 256 seconds, and what it does not name takes 60.
-all=$(said_by 'proving and building the program, this once: 0 % done, about 9 minutes left' \
-  'proving side: 0 % done, about 9 minutes left' 'proving low: 12 % done, about 8 minutes left' \
-  'proving upper: 24 % done, about 7 minutes left' 'proving aside: 36 % done, about 6 minutes left' \
-  'proving krl_tool: 48 % done, about 5 minutes left')
+all=$(said_by 'proving and building the program, this once: 5 crates' 'proving low: 0 of 5 are proved' \
+  'proving side: 1 of 5 are proved' 'proving upper: 2 of 5 are proved' 'proving aside: 3 of 5 are proved' \
+  'proving krl_tool: 4 of 5 are proved')
 build 'the first use builds' 0 made "$all" "${one[@]}"
 in_turn 'the first use'
 steps 'the first use does each step' "$every"
@@ -148,10 +146,11 @@ waiting=$(said_by 'the program is being built: waiting for that')
 anew "${two[@]}"
 whole 'a first use with two crates at once'
 judge 'crates are proved side by side' "$(differs 'first calls' $'low begins\nside begins' "$(head -n 2 calls | sort)")"
+judge 'two crates have all processors each' \
+  "$(grep -E '^(low|side) ends' calls | grep -v -e "--jobs $(nproc)\$")"
 judge 'what is said of it' "$(differs 'first and last lines' "$(said_by \
-  'proving and building the program, this once: 0 % done, about 7 minutes left' \
-  'proving side: 0 % done, about 7 minutes left' 'proving low: 0 % done, about 7 minutes left' \
-  'proving krl_tool: 48 % done, about 5 minutes left')" "$(sed -n '1,3p;$p' "$scratch/error")")"
+  'proving and building the program, this once: 5 crates' 'proving low: 0 of 5 are proved' \
+  'proving side: 0 of 5 are proved' 'proving krl_tool: 4 of 5 are proved')" "$(sed -n '1,3p;$p' "$scratch/error")")"
 
 anew "${two[@]}"
 until_steps 1
