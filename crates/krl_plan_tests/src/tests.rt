@@ -1,6 +1,5 @@
 //! What no contract says: worked plans, and their cost beside that of every other plan.
 
 mod page;
-mod plain;
 mod planning;
 mod string;

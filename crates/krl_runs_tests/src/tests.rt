@@ -1,18 +1,9 @@
-//! What no clause says: the rows of the format's worked examples.
+//! What no contract says: worked runs, printed faults, devices that fail.
 
 mod asking;
-mod bytes;
-mod certificates;
-mod chunks;
-mod containers;
-mod contents;
-mod describing;
 mod devices;
-mod encoding;
 mod faults;
-mod keys_of_files;
 mod listing;
 mod making;
 mod page;
 mod runs;
-mod spec_files;

@@ -1,5 +1,4 @@
 //! Which words give which command.
 
 mod page;
-mod repeated;
 mod words;

@@ -1,18 +1,23 @@
-//! What the tests of several crates are made of: strings and points as the formats spell them, a
-//! published key and its containers, lists and runs of serials, numbers that look random, and
-//! printed texts.
+//! What the tests of several crates are made of: strings and points as the formats spell them, keys as
+//! their files have them, lists and runs of serials, texts as they print, and readers and writers that
+//! give and take few bytes at a call, are interrupted, and fail.
 #![tactic(auto)]
 
-mod containers;
+mod calls;
+mod giver;
+mod keys;
 mod lists;
 mod printing;
-mod random;
 mod serials;
 mod spelled;
+mod taker;
 
-pub use containers::{Parts, around, private_list};
-pub use lists::{FIVE, HEADER};
-pub use printing::printed;
-pub use random::Random;
+pub use giver::{Giver, Then};
+pub use keys::{
+    CERT_LINE, CONTAINER, GITHUB, GITHUB_LINE, GITHUB_PRINT, OTHER, OTHER_LINE, PUBLISHED,
+};
+pub use lists::{BITMAP, FIVE, HEADER, ID_A, KEY_SECTION, SHA256_SECTION, list_of};
+pub use printing::misprinted;
 pub use serials::EIGHT_AND_ONE;
-pub use spelled::{PUBLISHED, joined, point, repeated, strings};
+pub use spelled::{joined, point, repeated, strings};
+pub use taker::Taker;

@@ -3,7 +3,16 @@
 use std::alloc::{AllocError, Global};
 use std::fmt::Display;
 
-/// How something prints.
-pub fn printed(alloc: Global, value: &impl Display) -> Result<String, AllocError> {
-    format!(in alloc; "{value}")
+/// The first of some rows whose value does not print as the text beside it.
+pub fn misprinted<V: Display>(
+    alloc: Global,
+    rows: &[(V, &'static str)],
+) -> Result<Option<usize>, AllocError> {
+    for (at, (value, text)) in rows.iter().enumerate() {
+        let printed = format!(in alloc; "{value}")?;
+        if printed.as_str() != *text {
+            return Ok(Some(at));
+        }
+    }
+    Ok(None)
 }

@@ -4,5 +4,4 @@ mod bitmaps;
 mod near;
 mod page;
 mod pages;
-mod walk;
-mod windows;
+mod sets;

@@ -3,7 +3,6 @@
 mod asking;
 mod cut;
 mod fault;
-mod kinds;
 mod listing;
 mod options;
 mod page;

@@ -2,10 +2,8 @@
 
 use crate::tests::full::Full;
 use crate::tests::lists::{list_of, read_from, spans_from};
-use crate::tests::rows::BITMAP;
-use devices_for_tests::{Giver, Then};
 use krl_core::{KrlFault, Revocations};
-use parts_for_tests::joined;
+use parts_for_tests::{BITMAP, Giver, Then, joined};
 use serial_set::{Held, SpanVec};
 use std::alloc::Global;
 use std::process::Abort;

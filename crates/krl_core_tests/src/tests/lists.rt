@@ -2,8 +2,7 @@
 //! a test only compares values, and its proof is the cheaper for each fact that it does not carry.
 
 use krl_core::{Header, KrlFault, Revocations, read_krl};
-use krl_writer::{TextFault, krl_text};
-use parts_for_tests::{HEADER, joined};
+use krl_writer::krl_text;
 use serial_set::{Held, Spans};
 use ssh_wire::{Bytes, FromRead};
 use std::alloc::Global;
@@ -12,16 +11,7 @@ use std::process::Abort;
 
 /// The list with these bytes after its header.
 pub fn list_of(rt: &impl Abort, alloc: Global, sections: &[u8]) -> Vec<u8> {
-    joined(alloc, &[&HEADER, sections]).expect(rt, "there is memory")
-}
-
-/// The bytes with one of them set.
-pub fn with_byte(rt: &impl Abort, alloc: Global, bytes: &[u8], at: usize, byte: u8) -> Vec<u8> {
-    let mut other = Vec::from_slice(alloc, bytes).expect(rt, "there is memory");
-    if let Some(old) = other.get_mut(at) {
-        *old = byte;
-    }
-    other
+    parts_for_tests::list_of(alloc, sections).expect(rt, "there is memory")
 }
 
 /// What is read of a list.
@@ -50,30 +40,7 @@ pub fn header(alloc: Global) -> Header {
     }
 }
 
-/// A header has these parts.
-pub fn says(rt: &impl Abort, header: &Header, version: u64, date: u64, comment: &[u8]) {
-    assert!(rt; header.version == version);
-    assert!(rt; header.date == date);
-    assert!(rt; header.comment.as_slice() == comment);
-}
-
-/// The text of what is held.
-pub fn text_of(
-    alloc: Global,
-    header: &Header,
-    held: &Revocations<Held>,
-) -> Result<Vec<u8>, TextFault> {
-    krl_text(alloc, header, held)
-}
-
-/// What is held has this text.
-pub fn has_text(
-    rt: &impl Abort,
-    alloc: Global,
-    header: &Header,
-    held: &Revocations<Held>,
-    expected: &[u8],
-) {
-    let text = text_of(alloc, header, held).expect(rt, "what is held has a text");
-    assert!(rt; text.as_slice() == expected);
+/// The text of what is held, with that header.
+pub fn text_of(rt: &impl Abort, alloc: Global, held: &Revocations<Held>) -> Vec<u8> {
+    krl_text(alloc, &header(alloc), held).expect(rt, "what is held has a text")
 }

@@ -1,8 +1,9 @@
 //! What is held, written and read in great numbers, with memory enough.
 
-use crate::tests::lists::{has_text, header, list_of, read_from, spans_from, text_of};
-use crate::tests::plain_model::{Said, hold, id_under, serials_under};
-use crate::tests::subjects::ALL;
+ghost use Rattle.std.specs.Prelude.{◌≤◌};
+
+use crate::tests::lists::{list_of, read_from, spans_from, text_of};
+use crate::tests::said::{ALL, Said, hold};
 use krl_core::{Authorities, Listed, Revocations};
 use parts_for_tests::{joined, strings};
 use serial_set::{Held, Spans};
@@ -12,18 +13,28 @@ use std::process::Abort;
 // How many of each sort: enough for a tree of five levels.
 const COUNT: usize = 40_000;
 
+// How many bytes a name has, one with another.
+const NAME: usize = 44;
+
+// Short and long in turn.
+fn size_of_name(number: u64) -> usize
+    ensures { result ≤ 80 }
+{
+    if number & 1 == 0 { 8 } else { 80 }
+}
+
 // Holds a key, its hashes, an authority with a serial and a key ID, and a key ID of all
 // authorities, all by one number.
 fn hold_each(rt: &impl Abort, held: &mut Revocations<Held>, number: u64) {
-    let mut hash = [0; 32];
+    let mut hash = [0; 80];
     hash[..8].copy_from_slice(&number.to_be_bytes());
-    let name = &hash[..8];
+    let name = &hash[..size_of_name(number)];
     hold(rt, held, Said::Key(name));
     hold(rt, held, Said::Sha1(&hash[..20]));
-    hold(rt, held, Said::Sha256(&hash));
-    hold(rt, held, serials_under(name, 5, 5));
-    hold(rt, held, id_under(name, name));
-    hold(rt, held, id_under(ALL, name));
+    hold(rt, held, Said::Sha256(&hash[..32]));
+    hold(rt, held, Said::Serials(name, 5, 5));
+    hold(rt, held, Said::Id(name, name));
+    hold(rt, held, Said::Id(ALL, name));
 }
 
 // What is held by `COUNT` numbers, in an order that is not theirs.
@@ -63,11 +74,11 @@ fn are_listed(rt: &impl Abort, held: &Revocations<Held>) {
 
 // What is held has a text of this many bytes, which is read back.
 fn has_length(rt: &impl Abort, alloc: Global, held: &Revocations<Held>, length: usize) {
-    let text = text_of(alloc, &header(alloc), held).expect(rt, "what is held has a text");
+    let text = text_of(rt, alloc, held);
     assert!(rt; text.len() == length);
-    let (header, held) = read_from::<Held, &[u8]>(alloc, &text).expect(rt, "the list is spelled");
+    let (_, held) = read_from::<Held, &[u8]>(alloc, &text).expect(rt, "the list is spelled");
     assert!(rt; counts(&held) == [COUNT; 3]);
-    has_text(rt, alloc, &header, &held, &text);
+    assert!(rt; text_of(rt, alloc, &held).as_slice() == text.as_slice());
 }
 
 #[test]
@@ -76,9 +87,10 @@ fn many_of_each_sort(rt: HostRuntime) {
     assert!(rt; counts(&held) == [COUNT; 3]);
     are_listed(&rt, &held);
     // the header, the key IDs of all authorities and the sections of the others, and the keys, the
-    // SHA-1s and the SHA-256s
-    let others = 5 + 12 + 4 + 13 + 17;
-    let length = 44 + (18 + 12 * COUNT) + others * COUNT + (15 + (12 + 24 + 36) * COUNT);
+    // SHA-1s and the SHA-256s; a name has 44 bytes, one with another
+    let others = 5 + (4 + NAME) + 4 + 13 + (5 + 4 + NAME);
+    let keys_and_hashes = 15 + (4 + NAME + 24 + 36) * COUNT;
+    let length = 44 + (18 + (4 + NAME) * COUNT) + others * COUNT + keys_and_hashes;
     has_length(&rt, rt.alloc(), &held, length);
 }
 

@@ -1,10 +1,9 @@
 //! Lists, read from a slice and in pieces.
 
-use crate::tests::lists::{list_of, read_from, says, spans_from, with_byte};
-use crate::tests::rows::{BITMAP, ROWS, Row};
-use devices_for_tests::{Giver, Then};
+use crate::tests::lists::{list_of, spans_from};
+use crate::tests::rows::{ROWS, Row};
 use krl_core::{KrlFault, Reading};
-use parts_for_tests::{FIVE, HEADER};
+use parts_for_tests::{BITMAP, FIVE, Giver, HEADER, Then};
 use serial_set::{Held, SpanVec, Spans};
 use ssh_wire::FromRead;
 use std::alloc::Global;
@@ -19,14 +18,14 @@ fn reported(alloc: Global, giver: Giver<'_>) -> Result<u128, KrlFault> {
 fn is_reported_in_pieces<S: Spans>(rt: &impl Abort, alloc: Global, text: &[u8], row: &Row) {
     for piece in [1, 3, 7, 1000] {
         let found = spans_from::<S, Giver<'_>>(alloc, Giver::new(text, piece));
-        assert!(rt; found == row.expected(), "in case {piece}");
+        assert!(rt; found == row.1, "in case {piece}");
     }
 }
 
 #[test]
 fn rows_in_pieces(rt: HostRuntime) {
     for row in &ROWS {
-        let text = list_of(&rt, rt.alloc(), row.sections);
+        let text = list_of(&rt, rt.alloc(), row.0);
         is_reported_in_pieces::<Held>(&rt, rt.alloc(), &text, row);
         is_reported_in_pieces::<SpanVec>(&rt, rt.alloc(), &text, row);
     }
@@ -39,11 +38,13 @@ fn failing(bytes: &[u8]) -> Giver<'_> {
     giver
 }
 
-// A front of the list of serial 5 has its fault, and that of the reader where it fails.
-fn front_is_reported(rt: &impl Abort, alloc: Global, front: &[u8]) {
-    let fault = match front.len() {
-        44 | 70 => None,
-        _ => Some(KrlFault::EndsEarly),
+// A front of a list has its fault, and that of the reader where it fails.
+fn front_is_reported(rt: &impl Abort, alloc: Global, front: &[u8], whole: usize) {
+    let ends = front.len() == 44 || front.len() == whole;
+    let fault = if ends {
+        None
+    } else {
+        Some(KrlFault::EndsEarly)
     };
     let found = reported(alloc, Giver::new(front, 1000)).err();
     assert!(rt; found == fault, "in case {}", front.len());
@@ -53,10 +54,12 @@ fn front_is_reported(rt: &impl Abort, alloc: Global, front: &[u8]) {
 
 #[test]
 fn each_front_of_a_list(rt: HostRuntime) {
-    let text = list_of(&rt, rt.alloc(), FIVE);
-    assert!(rt; text.len() == 70);
-    for n in 0..71 {
-        front_is_reported(&rt, rt.alloc(), &text[..n]);
+    for (sections, whole) in [(FIVE, 70), (ROWS[12].0, 121)] {
+        let text = list_of(&rt, rt.alloc(), sections);
+        assert!(rt; text.len() == whole);
+        for n in 0..=text.len() {
+            front_is_reported(&rt, rt.alloc(), &text[..n], whole);
+        }
     }
 }
 
@@ -85,8 +88,11 @@ fn faults_of_the_header(rt: HostRuntime) {
         is_refused(&rt, rt.alloc(), Giver::new(*bytes, 1000), *fault);
     }
     for (place, byte, fault) in &CHANGES {
-        let text = with_byte(&rt, rt.alloc(), &HEADER, *place, *byte);
-        is_refused(&rt, rt.alloc(), Giver::new(&text, 1000), *fault);
+        let mut text = HEADER;
+        if let Some(there) = text.get_mut(*place) {
+            *there = *byte;
+        }
+        is_refused(&rt, rt.alloc(), Giver::whole(&text), *fault);
     }
 }
 
@@ -144,60 +150,6 @@ fn stays_at_the_end(rt: &impl Abort, reading: &mut OfSlice<'_>) {
     }
 }
 
-// Reads to the end, which the reader reports once.
-fn ends_once(rt: &impl Abort, alloc: Global, text: &[u8]) {
-    let mut giver = Giver::new(text, 7);
-    giver.then = Then::EndsOnce;
-    let mut reading = Reading::<Held, FromRead<Giver<'_>>>::new(alloc, FromRead::new(giver));
-    for _ in 0..100 {
-        if reading.step() != Ok(true) {
-            break;
-        }
-    }
-    for _ in 0..3 {
-        assert!(rt; reading.step() == Ok(false));
-        assert!(rt; reading.taken() == text.len() as u64);
-    }
-}
-
-// The end is found once: a reader that would fail after it is not asked again.
-#[test]
-fn the_end_is_kept(rt: HostRuntime) {
-    for sections in [b"".as_slice(), FIVE, BITMAP] {
-        let text = list_of(&rt, rt.alloc(), sections);
-        ends_once(&rt, rt.alloc(), &text);
-    }
-}
-
-// A list of the serials 1, 9, 3, 3 and 2.
-const NO_ORDER: &[u8] = b"\x01\0\0\0\x35\0\0\0\0\0\0\0\0\x20\0\0\0\x28\0\0\0\0\0\0\0\x01\
-\0\0\0\0\0\0\0\x09\0\0\0\0\0\0\0\x03\0\0\0\0\0\0\0\x03\0\0\0\0\0\0\0\x02";
-
-// How many spans are held after each of the serials; before them none is.
-fn holds_at_once(rt: &impl Abort, reading: &mut OfSlice<'_>, expected: &[u128]) {
-    for _ in 0..100 {
-        if taken(reading) == 70 - 8 {
-            break;
-        }
-        assert!(rt; step(reading) == Ok(true));
-        assert!(rt; held(reading) == 0);
-    }
-    for spans in expected {
-        assert!(rt; step(reading) == Ok(true));
-        assert!(rt; held(reading) == *spans);
-    }
-    assert!(rt; step(reading) == Ok(false));
-}
-
-// Serials in no order are held at once. One that is there already takes nothing, and one between
-// two others joins them.
-#[test]
-fn serials_are_held_at_once(rt: HostRuntime) {
-    let text = list_of(&rt, rt.alloc(), NO_ORDER);
-    let mut reading = OfSlice::new(rt.alloc(), FromRead::new(text.as_slice()));
-    holds_at_once(&rt, &mut reading, &[1, 2, 3, 3, 2]);
-}
-
 // The version of what was read, and how many spans are held of it.
 fn done(reading: OfSlice<'_>) -> (u64, u128) {
     let (header, held, _) = reading.done();
@@ -213,24 +165,29 @@ fn held_at_each_moment(rt: HostRuntime) {
     assert!(rt; done(reading) == (1, 4));
 }
 
-// The header of a list has these parts, and nothing is held of it.
-fn is_only_a_header(
-    rt: &impl Abort,
-    alloc: Global,
-    text: &[u8],
-    version: u64,
-    date: u64,
-    comment: &[u8],
-) {
-    let (header, _) = read_from::<Held, &[u8]>(alloc, text).expect(rt, "the list is spelled");
-    says(rt, &header, version, date, comment);
-    assert!(rt; spans_from::<Held, &[u8]>(alloc, text) == Ok(0));
+// The list with each of its bytes set in turn answers alike in one piece and byte by byte.
+fn each_byte_is_set(rt: &impl Abort, alloc: Global, text: &mut Vec<u8>) {
+    for at in 0..text.len() {
+        let kept = text.get(at).copied().unwrap_or(0);
+        for byte in [0x00, 0x7f, 0x80, 0xff, kept] {
+            if let Some(there) = text.get_mut(at) {
+                *there = byte;
+            }
+            let found = reported(alloc, Giver::whole(text.as_slice()));
+            assert!(rt; found != Err(KrlFault::TooLong), "in case {at}");
+            assert!(rt;
+                reported(alloc, Giver::new(text.as_slice(), 1)) == found,
+                "in case {at}"
+            );
+        }
+    }
 }
 
 #[test]
-fn what_a_header_says(rt: HostRuntime) {
-    // version 1, date 2, flags 3, reserved `r`, comment `a b`
-    let text = b"SSHKRL\n\0\0\0\0\x01\0\0\0\0\0\0\0\x01\0\0\0\0\0\0\0\x02\0\0\0\0\0\0\0\x03\
-\0\0\0\x01r\0\0\0\x03a b";
-    is_only_a_header(&rt, rt.alloc(), text, 1, 2, b"a b");
+fn any_byte_changed(rt: HostRuntime) {
+    // of a key, of a bitmap, and of a serial of an authority
+    for row in [&ROWS[3], &ROWS[5], &ROWS[12]] {
+        let mut text = list_of(&rt, rt.alloc(), row.0);
+        each_byte_is_set(&rt, rt.alloc(), &mut text);
+    }
 }

@@ -1,47 +1,18 @@
 //! Lists that go out to a writer, which may fail.
 
 use crate::tests::lists::{header, list_of};
-use crate::tests::writing::of_runs;
-use devices_for_tests::Taker;
+use crate::tests::said::held_of_runs;
 use krl_core::Revocations;
 use krl_writer::{WriteFault, write_krl};
-use parts_for_tests::FIVE;
+use parts_for_tests::{FIVE, Taker};
 use serial_set::Held;
 use ssh_wire::ToWrite;
 use std::alloc::Global;
-use std::process::Abort;
 
 // What comes of a list at a device.
 fn send(alloc: Global, held: &Revocations<Held>, device: &mut Taker) -> Result<(), WriteFault> {
     let mut writer = ToWrite::new(device);
     write_krl(alloc, &header(alloc), held, &mut writer)
-}
-
-// What comes of a list of serial 5 at a device, and what it took.
-fn sent(
-    rt: &impl Abort,
-    alloc: Global,
-    piece: usize,
-    calls: usize,
-) -> (Result<(), WriteFault>, Vec<u8>) {
-    let held = of_runs(rt, alloc, &[(5, 5)]);
-    let mut device = Taker::new(alloc, piece, calls);
-    let done = send(alloc, &held, &mut device);
-    (done, device.taken)
-}
-
-// Of the list a device takes a front of this length, and this comes of it.
-fn is_sent(
-    rt: &impl Abort,
-    alloc: Global,
-    (piece, calls): (usize, usize),
-    count: usize,
-    expected: Result<(), WriteFault>,
-) {
-    let text = list_of(rt, alloc, FIVE);
-    let (done, taken) = sent(rt, alloc, piece, calls);
-    assert!(rt; done == expected);
-    assert!(rt; text.get(..count) == Some(taken.as_slice()));
 }
 
 // How much is taken at a call, after how many calls the device fails, how much it took, and what
@@ -54,7 +25,15 @@ const ROWS: [(usize, usize, usize, Result<(), WriteFault>); 3] = [
 
 #[test]
 fn counts_what_went_out(rt: HostRuntime) {
-    for (piece, calls, count, expected) in &ROWS {
-        is_sent(&rt, rt.alloc(), (*piece, *calls), *count, *expected);
+    let text = list_of(&rt, rt.alloc(), FIVE);
+    let held = held_of_runs(&rt, rt.alloc(), &[(5, 5)]);
+    for (i, (piece, calls, count, expected)) in ROWS.iter().enumerate() {
+        let mut device = Taker::new(rt.alloc(), *piece, *calls);
+        let done = send(rt.alloc(), &held, &mut device);
+        assert!(rt; done == *expected, "in case {i}");
+        assert!(rt;
+            text.get(..*count) == Some(device.taken.as_slice()),
+            "in case {i}"
+        );
     }
 }

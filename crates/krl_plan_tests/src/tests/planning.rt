@@ -1,13 +1,13 @@
 //! The least plan of worked lists of runs, and its cost beside that of every plan of short lists.
 
 use krl_plan::{Group, Sort, least_plan, put_least_plan};
-use parts_for_tests::{EIGHT_AND_ONE, Random};
+use parts_for_tests::EIGHT_AND_ONE;
 use serial_set::{Held, Spans};
 use std::alloc::{AllocError, Global};
 use std::process::Abort;
 
 // The ends of a run of serials.
-pub(super) type Run = (u64, u64);
+type Run = (u64, u64);
 
 // The bytes of a subsection, as PROTOCOL.krl lays it out, or none where it may not stand.
 fn bytes_of(sort: Sort, runs: &[Run]) -> Option<u64> {
@@ -56,7 +56,7 @@ fn least_cost(runs: &[Run]) -> Option<u64> {
 }
 
 // What a plan of the runs costs.
-pub(super) fn cost_of(plan: &[Group], runs: &[Run]) -> Option<u64> {
+fn cost_of(plan: &[Group], runs: &[Run]) -> Option<u64> {
     let mut at: usize = 0;
     let mut cost: u64 = 0;
     for group in plan {
@@ -79,7 +79,7 @@ fn set_of(alloc: Global, runs: &[Run]) -> Result<Held, AllocError> {
 }
 
 // The least plan of a set with these runs.
-pub(super) fn plan_of(alloc: Global, runs: &[Run]) -> Result<Vec<Group>, AllocError> {
+fn plan_of(alloc: Global, runs: &[Run]) -> Result<Vec<Group>, AllocError> {
     let set = set_of(alloc, runs)?;
     least_plan(alloc, &set)
 }
@@ -185,38 +185,6 @@ fn no_plan_of_a_short_list_costs_less(rt: HostRuntime) {
     for chosen in 0..64u32 {
         let runs = chosen_runs(rt.alloc(), chosen).expect(&rt, "there is memory");
         costs_least(&rt, rt.alloc(), &runs).expect(&rt, "there is memory");
-    }
-}
-
-// The run that comes at random above a serial.
-fn run_above(random: &mut Random, serial: u64) -> Run {
-    let number = random.below(0x8000_0000) as usize;
-    let gap = [1, 2, 5, 30, 200, 1000, 5000, 100_000][number % 8];
-    let more = [0, 0, 0, 1, 1, 2, 20, 300][(number >> 7) % 8];
-    let lo = serial.wrapping_add(gap);
-    (lo, lo.wrapping_add(more))
-}
-
-// This many runs at random.
-fn some_runs(alloc: Global, random: &mut Random, count: usize) -> Result<Vec<Run>, AllocError> {
-    let mut runs = Vec::new(alloc);
-    let mut next: u64 = 1;
-    for _ in 0..count {
-        let (lo, hi) = run_above(random, next);
-        runs.push((lo, hi))?;
-        next = hi.wrapping_add(1);
-    }
-    Ok(runs)
-}
-
-#[test]
-fn no_plan_of_a_random_list_costs_less(rt: HostRuntime) {
-    let mut random = Random::new(2026);
-    for _ in 0..6 {
-        for count in 3..13usize {
-            let runs = some_runs(rt.alloc(), &mut random, count).expect(&rt, "there is memory");
-            costs_least(&rt, rt.alloc(), &runs).expect(&rt, "there is memory");
-        }
     }
 }
 

@@ -1,47 +1,36 @@
 //! Asking lists about the keys of files.
 
-use crate::tests::bytes::{GITHUB, ONE_KEY, joined, list_of_one};
-use crate::tests::runs::{CLOSED, File, KEY, OTHER_LINE, Said, asks};
-use parts_for_tests::HEADER;
+use crate::tests::runs::{CLOSED, File, KEY, LONG, ONE, Said, asks, joined, repeated};
+use parts_for_tests::{CERT_LINE, CONTAINER, HEADER, OTHER_LINE};
+use std::alloc::Global;
+use std::process::Abort;
 
 const OTHER: File<'static> = ("a", Some(&[OTHER_LINE, b" x y\n"]));
-
-const ONE: &[&[u8]] = &[&HEADER, &ONE_KEY, &GITHUB];
-
-const NONE: &str = "ssh-keygen: none: file 1 Open";
 
 const EARLY: &str = "ssh-keygen: r.krl: krl 3 EndsEarly";
 
 // The parts of a list, the files, and what is said of them.
 type Row<'a> = (&'a [&'a [u8]], &'a [File<'a>], Said<'a>);
 
-const ROWS: [Row<'static>; 15] = [
+const ROWS: [Row<'static>; 8] = [
     (&[&HEADER], &[KEY], (b"g.pub: ok\n", 0, "")),
-    (ONE, &[KEY], (b"g.pub: REVOKED\n", 1, "")),
-    (ONE, &[OTHER], (b"a (x y): ok\n", 0, "")),
     (
         ONE,
         &[KEY, OTHER],
         (b"g.pub: REVOKED\na (x y): ok\n", 1, ""),
     ),
+    // a certificate of the key, and its private key
     (
         ONE,
-        &[OTHER, KEY],
-        (b"a (x y): ok\ng.pub: REVOKED\n", 1, ""),
-    ),
-    (ONE, &[], (b"", 0, "")),
-    // a serial under all authorities
-    (
-        &[
-            &HEADER,
-            b"\x01\0\0\0\x15\0\0\0\0\0\0\0\0\x20\0\0\0\x08\0\0\0\0\0\0\0\x07",
-        ],
-        &[KEY],
-        (b"g.pub: ok\n", 0, ""),
+        &[("c", Some(&[CERT_LINE])), ("id", Some(&[CONTAINER]))],
+        (b"c: REVOKED\nid (a): REVOKED\n", 1, ""),
     ),
     // stopped at a fault
-    (ONE, &[KEY, CLOSED], (b"g.pub: REVOKED\n", 255, NONE)),
-    (ONE, &[OTHER, CLOSED, KEY], (b"a (x y): ok\n", 255, NONE)),
+    (
+        ONE,
+        &[KEY, CLOSED, KEY],
+        (b"g.pub: REVOKED\n", 255, "ssh-keygen: none: file 1 Open"),
+    ),
     (&[], &[CLOSED], (b"", 255, EARLY)),
     (&[b"\0\0\0"], &[KEY], (b"", 255, EARLY)),
     (
@@ -54,47 +43,44 @@ const ROWS: [Row<'static>; 15] = [
         &[KEY],
         (b"", 255, "ssh-keygen: r.krl: krl 4 UnknownSection"),
     ),
-    // a critical extension, and a range that ends before it begins
-    (
-        &[&HEADER, b"\xff\0\0\0\x0a\0\0\0\x01a\x01\0\0\0\0"],
-        &[KEY],
-        (b"", 255, "ssh-keygen: r.krl: krl 15 CriticalExtension"),
-    ),
-    (
-        &[
-            &HEADER,
-            b"\x01\0\0\0\x1d\0\0\0\0\0\0\0\0\x21\0\0\0\x10",
-            b"\0\0\0\0\0\0\0\x02\0\0\0\0\0\0\0\x01",
-        ],
-        &[KEY],
-        (b"", 255, "ssh-keygen: r.krl: krl 7 RangeReversed"),
-    ),
 ];
 
 // A body that is always out of memory meets the contracts. It fails here.
 #[test]
 fn reports_each_key_or_stops_at_a_fault(rt: HostRuntime) {
     for (i, (parts, files, said)) in ROWS.iter().enumerate() {
-        let list = joined(&rt, rt.alloc(), *parts);
-        asks(&rt, rt.alloc(), i, (&list, false), *files, *said);
+        asks(&rt, rt.alloc(), i, *parts, *files, *said);
     }
 }
 
-// What is said of the key by this many bytes of the list that names it.
-fn said_by_front(size: usize) -> Said<'static> {
-    match size {
-        44 => (b"g.pub: ok\n", 0, ""),
-        104 => (b"g.pub: REVOKED\n", 1, ""),
-        _ => (b"", 255, EARLY),
+// This is said of the file of this name and these parts, and nothing is revoked.
+fn is_ok<'a>(
+    rt: &impl Abort,
+    alloc: Global,
+    number: usize,
+    name: &'a str,
+    parts: &'a [&'a [u8]],
+    text: &[u8],
+) {
+    let file = (name, Some(parts));
+    asks(rt, alloc, number, ONE, &[file], (text, 0, ""))
+}
+
+// A file of a long name has a key with a comment that is as long.
+fn reports_long(rt: &impl Abort, alloc: Global, size: usize) {
+    let shown = repeated(rt, alloc, b"a\\x7f", size);
+    let mut name = String::new(alloc);
+    for _ in 0..size {
+        name.push_str("a\x7f").expect(rt, "there is memory");
     }
+    let line = joined(rt, alloc, &[OTHER_LINE, b" ", name.as_bytes()]);
+    let text = joined(rt, alloc, &[&shown, b" (", &shown, b"): ok\n"]);
+    is_ok(rt, alloc, size, name.as_str(), &[&line], &text)
 }
 
 #[test]
-fn each_front_of_a_list(rt: HostRuntime) {
-    let list = list_of_one(&rt, rt.alloc(), &GITHUB);
-    assert!(rt; list.len() == 104);
-    for n in 0..105 {
-        let front = list.get(..n).expect(&rt, "the list has 104 bytes");
-        asks(&rt, rt.alloc(), n, (front, false), &[KEY], said_by_front(n));
+fn reports_long_names_and_comments(rt: HostRuntime) {
+    for size in LONG {
+        reports_long(&rt, rt.alloc(), size);
     }
 }

@@ -1,20 +1,18 @@
 //! Files and outputs that give or take few bytes at a call, and fail.
 
-use crate::tests::bytes::{GITHUB, filled, list_of_one};
 use crate::tests::runs::{
-    CLOSED, File, GITHUB_LINE, Ran, Said, all_named, asked, listed, named, says,
+    CLOSED, File, ONE, Ran, Said, all_named, asked, joined, listed, named, says,
 };
-use devices_for_tests::{Giver, Taker};
 use krl_runs::{FileFault, ListMode, load};
+use parts_for_tests::{GITHUB_LINE, Giver, Taker, Then};
 use ssh_key::Hash;
 use ssh_wire::{Bytes, FromRead};
 use std::alloc::Global;
-use std::io::Read;
 use std::process::Abort;
 
-/// Asks the list that names the published key about the files, with a device as the output.
-pub fn asked_of_key(rt: &impl Abort, alloc: Global, files: &[File], device: Taker) -> Ran {
-    let list = list_of_one(rt, alloc, &GITHUB);
+// Asks the list that names the published key about the files, with a device as the output.
+fn asked_of_key(rt: &impl Abort, alloc: Global, files: &[File], device: Taker) -> Ran {
+    let list = joined(rt, alloc, ONE);
     let files = all_named(rt, alloc, files);
     asked(
         rt,
@@ -27,26 +25,10 @@ pub fn asked_of_key(rt: &impl Abort, alloc: Global, files: &[File], device: Take
 }
 
 // What is loaded of the file `a` that a device gives.
-fn loaded<R: Read + Drop>(rt: &impl Abort, alloc: Global, device: R) -> Result<Bytes, FileFault> {
+fn loaded(rt: &impl Abort, alloc: Global, device: Giver<'_>) -> Result<Bytes, FileFault> {
     let (file, _) = load(alloc, "a", FromRead::new(device));
     assert!(rt; file.name == "a");
     file.content
-}
-
-// Whether these bytes are loaded.
-fn loads<R: Read + Drop>(rt: &impl Abort, alloc: Global, device: R, bytes: &[u8]) -> bool {
-    match loaded(rt, alloc, device) {
-        Ok(content) => content.as_slice() == bytes,
-        Err(_) => false,
-    }
-}
-
-// Whether nothing is loaded, for this fault.
-fn refuses<R: Read + Drop>(rt: &impl Abort, alloc: Global, device: R, fault: FileFault) -> bool {
-    match loaded(rt, alloc, device) {
-        Ok(_) => false,
-        Err(found) => found == fault,
-    }
 }
 
 // In pieces of this many bytes the line of the key takes this many calls, all of which are made.
@@ -54,10 +36,9 @@ fn takes(rt: &impl Abort, alloc: Global, piece: usize, calls: usize) {
     for calls_before_failure in 0..90 {
         let mut device = Giver::new(GITHUB_LINE, piece);
         device.calls_before_failure = calls_before_failure;
-        let right = if calls_before_failure < calls {
-            refuses(rt, alloc, device, FileFault::Read)
-        } else {
-            loads(rt, alloc, device, GITHUB_LINE)
+        let right = match loaded(rt, alloc, device) {
+            Ok(content) => calls_before_failure >= calls && content.as_slice() == GITHUB_LINE,
+            Err(fault) => calls_before_failure < calls && fault == FileFault::Read,
         };
         assert!(rt; right, "{piece} {calls_before_failure}");
     }
@@ -71,15 +52,28 @@ fn loaded_in_pieces(rt: HostRuntime) {
     }
 }
 
+// What comes of a file of this many zero bytes: how many are loaded.
+fn zeros(rt: &impl Abort, alloc: Global, count: usize) -> Result<usize, FileFault> {
+    let mut device = Giver::whole(b"");
+    device.then = Then::Zeros(count);
+    let bytes = loaded(rt, alloc, device)?;
+    Ok(bytes.as_slice().len())
+}
+
 #[test]
 fn loaded_up_to_the_limit(rt: HostRuntime) {
-    let alloc = rt.alloc();
-    let mut bytes = Vec::from_slice(alloc, GITHUB_LINE).expect(&rt, "there is memory");
-    filled(&rt, &mut bytes, 16_777_216);
-    assert!(rt; loads(&rt, alloc, bytes.as_slice(), &bytes));
-    bytes.push(0).expect(&rt, "there is memory");
-    assert!(rt; refuses(&rt, alloc, bytes.as_slice(), FileFault::TooLong));
-    assert!(rt; loads(&rt, alloc, b"".as_slice(), b""));
+    for (count, expected) in [
+        (0, Ok(0)),
+        (16_777_216, Ok(16_777_216)),
+        (16_777_217, Err(FileFault::TooLong)),
+        // without end
+        (usize::MAX, Err(FileFault::TooLong)),
+    ] {
+        assert!(rt;
+            zeros(&rt, rt.alloc(), count) == expected,
+            "in case {count}"
+        );
+    }
 }
 
 // A file of the published key.
@@ -88,7 +82,7 @@ const KEY: File<'static> = ("g.pub", Some(&[GITHUB_LINE]));
 // Asks the list that names the key, with a zero byte at a place of it; each call gives one byte,
 // until one fails.
 fn asked_in_part(rt: &impl Abort, alloc: Global, place: usize, calls: usize) -> Ran {
-    let mut bytes = list_of_one(rt, alloc, &GITHUB);
+    let mut bytes = joined(rt, alloc, ONE);
     if let Some(byte) = bytes.get_mut(place) {
         *byte = 0;
     }
@@ -124,7 +118,7 @@ const NINE: &str = "ssh-keygen: output: output 1 Write after 9 bytes";
 const TWELVE: &str = "ssh-keygen: output: output 1 Write after 12 bytes";
 
 // How many calls come before the failure, the files, and what is said of them.
-const SAID: [(usize, &[File<'static>], Said<'static>); 6] = [
+const SAID: [(usize, &[File<'static>], Said<'static>); 5] = [
     (
         0,
         &[KEY],
@@ -132,7 +126,6 @@ const SAID: [(usize, &[File<'static>], Said<'static>); 6] = [
     ),
     (3, &[KEY], (b"g.pub: RE", 255, NINE)),
     (4, &[KEY, CLOSED], (b"g.pub: REVOK", 255, TWELVE)),
-    (4, &[KEY], (b"g.pub: REVOK", 255, TWELVE)),
     (5, &[KEY], (b"g.pub: REVOKED\n", 1, "")),
     (
         5,
@@ -157,29 +150,22 @@ fn listed_in_part(rt: &impl Abort, alloc: Global, calls: usize, file: &File) -> 
     listed(rt, alloc, ListMode::Keys, Hash::Sha256, &file, 0, device)
 }
 
-// How many calls come before the failure, the file, and what is listed of it.
-const LISTED: [(usize, File<'static>, Said<'static>); 2] = [
-    (
-        2,
-        KEY,
-        (
-            b"256 SH",
-            255,
-            "ssh-keygen: output: output 1 Write after 6 bytes",
-        ),
-    ),
-    // where nothing is to be written, nothing fails
-    (
-        0,
-        ("k", Some(&[])),
-        (b"", 255, "ssh-keygen: k: file 5 NoKeys"),
-    ),
-];
-
 #[test]
 fn the_output_of_a_listing_fails(rt: HostRuntime) {
-    for (i, (calls, file, said)) in LISTED.iter().enumerate() {
-        let ran = listed_in_part(&rt, rt.alloc(), *calls, file);
-        says(&rt, i, &ran, *said);
-    }
+    let six = "ssh-keygen: output: output 1 Write after 6 bytes";
+    says(
+        &rt,
+        0,
+        &listed_in_part(&rt, rt.alloc(), 2, &KEY),
+        (b"256 SH", 255, six),
+    );
+    // where nothing is to be written, nothing fails
+    let empty = ("k", Some([].as_slice()));
+    let none = "ssh-keygen: k: file 5 NoKeys";
+    says(
+        &rt,
+        1,
+        &listed_in_part(&rt, rt.alloc(), 0, &empty),
+        (b"", 255, none),
+    );
 }

@@ -1,12 +1,12 @@
 //! The callers of the pages of `spec_fault`, `krl_spec`, `key_files`, `krl_make` and `krl_runs`.
 
-use crate::tests::bytes::GITHUB;
-use crate::tests::runs::{GITHUB_LINE, holding};
+use crate::tests::runs::holding;
 use key_files::{Named, RunFault, keys_of};
 use krl_core::Revocations;
 use krl_make::{Authority, Old, make_run};
 use krl_runs::{Done, query_run};
 use krl_spec::{SpecFault, Under, read_spec};
+use parts_for_tests::{GITHUB, GITHUB_LINE};
 use serial_set::Held;
 use ssh_cert::subject;
 use ssh_wire::{FromRead, ToWrite};
@@ -67,7 +67,7 @@ fn asked<'a>(alloc: Global, list: &[u8], files: &'a [Named<'a>], text: &mut Vec<
 #[test]
 fn lines_revoke(rt: HostRuntime) {
     let held = revoked_by(rt.alloc(), GITHUB_LINE).expect(&rt, "the line names a key");
-    let asked = subject(rt.alloc(), &GITHUB).ok().expect(&rt, "it is a key");
+    let asked = subject(rt.alloc(), GITHUB).ok().expect(&rt, "it is a key");
     assert!(rt; held.query(&asked));
     let fault = revoked_by(rt.alloc(), b"serial: 9-7")
         .err()

@@ -1,20 +1,32 @@
 //! Runs over files that the tests make, and what they answer.
 
-use crate::tests::bytes::{joined, same};
-use devices_for_tests::{Giver, Taker};
 use krl_runs::{Done, FileFault, ListMode, Named, fault_line, list_run, query_run};
+use parts_for_tests::{GITHUB_LINE, Giver, HEADER, KEY_SECTION, Taker};
 use ssh_key::Hash;
 use ssh_wire::{Bytes, FromRead, ToWrite};
 use std::alloc::Global;
 use std::process::Abort;
 
-/// The line of GitHub's published Ed25519 host key.
-pub const GITHUB_LINE: &[u8] =
-    b"ssh-ed25519 AAAAC3NzaC1lZDI1NTE5AAAAIOMqqnkVzrm0SdG6UOoqKLsabgH5C9okWi0dh2l9GKJl";
+/// The list that names the published key.
+pub const ONE: &[&[u8]] = &[&HEADER, KEY_SECTION];
 
-/// The line of the Ed25519 key of 32 bytes 0x11.
-pub const OTHER_LINE: &[u8] =
-    b"ssh-ed25519 AAAAC3NzaC1lZDI1NTE5AAAAIBERERERERERERERERERERERERERERERERERERERERER";
+/// How many bytes a text has, or how many lines a file, that is longer than blocks of memory.
+pub const LONG: [usize; 3] = [1_025, 4_097, 70_001];
+
+/// The parts one after the other.
+pub fn joined(rt: &impl Abort, alloc: Global, parts: &[&[u8]]) -> Vec<u8> {
+    parts_for_tests::joined(alloc, parts).expect(rt, "there is memory")
+}
+
+/// The bytes, this many times.
+pub fn repeated(rt: &impl Abort, alloc: Global, bytes: &[u8], times: usize) -> Vec<u8> {
+    parts_for_tests::repeated(alloc, bytes, times).expect(rt, "there is memory")
+}
+
+/// The bytes that were found are these; a number distinguishes the case from the others of a test.
+pub fn same(rt: &impl Abort, number: usize, found: &[u8], wanted: &[u8]) {
+    assert_eq!(rt; found, wanted, "in case {number}");
+}
 
 /// A file's name and the parts of its text; none where it cannot be opened.
 pub type File<'a> = (&'a str, Option<&'a [&'a [u8]]>);
@@ -103,26 +115,25 @@ pub fn asked<'a>(
     reported(rt, alloc, device.taken, &done)
 }
 
-/// The bytes of a list, and whether what it holds is printed before it is asked about files.
-pub type Krl<'a> = (&'a [u8], bool);
-
-/// The list `r.krl` is asked about the files, and this is said.
+/// The list `r.krl` of these parts is asked about the files, and this is said.
 pub fn asks(
     rt: &impl Abort,
     alloc: Global,
     number: usize,
-    (krl, dump): Krl,
+    krl: &[&[u8]],
     files: &[File],
     said: Said,
 ) {
+    let krl = joined(rt, alloc, krl);
     let files = all_named(rt, alloc, files);
+    let device = Taker::whole(alloc);
     let ran = asked(
         rt,
         alloc,
-        Giver::whole(krl),
-        dump,
+        Giver::whole(&krl),
+        false,
         files.as_slice(),
-        Taker::whole(alloc),
+        device,
     );
     says(rt, number, &ran, said);
 }
@@ -141,41 +152,4 @@ pub fn listed<'a>(
     let done = list_run(alloc, mode, hash, file, moment, &mut out);
     drop(out);
     reported(rt, alloc, device.taken, &done)
-}
-
-/// The keys of the file are listed so.
-pub fn lists(rt: &impl Abort, alloc: Global, number: usize, hash: Hash, file: &File, said: Said) {
-    let file = named(rt, alloc, file);
-    let ran = listed(
-        rt,
-        alloc,
-        ListMode::Keys,
-        hash,
-        &file,
-        0,
-        Taker::whole(alloc),
-    );
-    says(rt, number, &ran, said);
-}
-
-/// The certificates of the file are listed so at a moment.
-pub fn certifies(
-    rt: &impl Abort,
-    alloc: Global,
-    number: usize,
-    file: &File,
-    moment: u64,
-    said: Said,
-) {
-    let file = named(rt, alloc, file);
-    let ran = listed(
-        rt,
-        alloc,
-        ListMode::Certs,
-        Hash::Sha256,
-        &file,
-        moment,
-        Taker::whole(alloc),
-    );
-    says(rt, number, &ran, said);
 }

@@ -7,7 +7,7 @@ use std::alloc::{AllocError, Global};
 use std::test::Fail;
 
 // The job that the words ask for, the program's name before them.
-pub(super) fn job_by<'a>(alloc: Global, words: &'a [&'a str]) -> Result<Job<'a>, &'static str> {
+fn job_by<'a>(alloc: Global, words: &'a [&'a str]) -> Result<Job<'a>, &'static str> {
     match command_of(alloc, words) {
         Ok(job) => Ok(job),
         Err(_) => Err("the words ask for a job"),
@@ -15,7 +15,7 @@ pub(super) fn job_by<'a>(alloc: Global, words: &'a [&'a str]) -> Result<Job<'a>,
 }
 
 // Why the words ask for none.
-pub(super) fn fault_by(alloc: Global, words: &[&str]) -> Result<CommandFault, &'static str> {
+fn fault_by(alloc: Global, words: &[&str]) -> Result<CommandFault, &'static str> {
     match command_of(alloc, words) {
         Ok(_) => Err("the words ask for nothing"),
         Err(fault) => Ok(fault),
@@ -23,24 +23,10 @@ pub(super) fn fault_by(alloc: Global, words: &[&str]) -> Result<CommandFault, &'
 }
 
 // The words, and the job that they ask for: the mode, the file, the hash and the files.
-pub(super) type Asked<'a> = (&'a [&'a str], Mode, &'a str, Hash, &'a [&'a str]);
+type Asked<'a> = (&'a [&'a str], Mode, &'a str, Hash, &'a [&'a str]);
 
-const JOBS: [Asked<'static>; 11] = [
+const JOBS: [Asked<'static>; 7] = [
     (&["ssh-keygen", "-LfE"], Mode::Certs, "E", Hash::Sha256, &[]),
-    (
-        &["ssh-keygen", "-Q", "-f", "k", "a", "b"],
-        Mode::Query,
-        "k",
-        Hash::Sha256,
-        &["a", "b"],
-    ),
-    (
-        &["ssh-keygen", "-Qf", "k"],
-        Mode::Query,
-        "k",
-        Hash::Sha256,
-        &[],
-    ),
     (
         &["ssh-keygen", "a", "-fk", "b", "-Q", "a"],
         Mode::Query,
@@ -63,44 +49,31 @@ const JOBS: [Asked<'static>; 11] = [
         &["-"],
     ),
     (
-        &["ssh-keygen", "-l", "-f", "-"],
-        Mode::Keys,
-        "-",
-        Hash::Sha256,
-        &[],
-    ),
-    (
-        &["ssh-keygen", "-l", "-E", "MD5", "-f", "x"],
+        &["ssh-keygen", "-f", "x", "-lE", "MD5"],
         Mode::Keys,
         "x",
         Hash::Md5,
         &[],
     ),
+    // of options that are given twice the last value counts
     (
-        &["ssh-keygen", "-f", "x", "-lE", "md5"],
+        &["ssh-keygen", "-Q", "-Q", "-f", "k", "a", "-f", "m", "b"],
+        Mode::Query,
+        "m",
+        Hash::Sha256,
+        &["a", "b"],
+    ),
+    (
+        &["ssh-keygen", "-l", "-E", "sha1", "-E", "md5", "-f", "x"],
         Mode::Keys,
         "x",
         Hash::Md5,
-        &[],
-    ),
-    (
-        &["ssh-keygen", "-l", "-E", "sha256", "-f", "x"],
-        Mode::Keys,
-        "x",
-        Hash::Sha256,
-        &[],
-    ),
-    (
-        &["ssh-keygen", "-l", "-E", "Sha256", "-f", "x"],
-        Mode::Keys,
-        "x",
-        Hash::Sha256,
         &[],
     ),
 ];
 
 // Whether the job is that of a row.
-pub(super) fn is_asked(job: &Job, row: &Asked) -> bool {
+fn is_asked(job: &Job, row: &Asked) -> bool {
     let (_, mode, file, hash, files) = row;
     job.mode == *mode && job.file == *file && job.hash == *hash && job.files.as_slice() == *files
 }
@@ -116,25 +89,20 @@ fn jobs(rt: HostRuntime) -> Result<(), Fail> {
 
 #[test]
 fn contents_are_asked_for(rt: HostRuntime) -> Result<(), Fail> {
-    let rows: [(&[&str], bool); 5] = [
-        (&["ssh-keygen", "-Q", "-f", "k"], false),
-        (&["ssh-keygen", "-Q", "-l", "-f", "k"], true),
-        (&["ssh-keygen", "-lQf", "k", "a"], true),
-        (&["ssh-keygen", "a", "-l", "-f", "k", "-Q"], true),
-        (&["ssh-keygen", "-l", "-f", "k"], false),
-    ];
-    for (i, (words, dump)) in rows.iter().enumerate() {
-        let job = job_by(rt.alloc(), *words)?;
-        assert_eq!(rt; job.dump, *dump, "in row {i}");
+    for (words, dump) in [
+        (["ssh-keygen", "-lQf", "k"], true),
+        (["ssh-keygen", "-lf", "k"], false),
+    ] {
+        let job = job_by(rt.alloc(), &words)?;
+        assert_eq!(rt; job.dump, dump);
     }
     Ok(())
 }
 
 // Words of `-k`, whether it updates, the authority, the version and the files.
-pub(super) type Making<'a> = (&'a [&'a str], bool, &'a str, Option<u64>, &'a [&'a str]);
+type Making<'a> = (&'a [&'a str], bool, &'a str, Option<u64>, &'a [&'a str]);
 
-const MAKING: [Making<'static>; 7] = [
-    (&["ssh-keygen", "-k", "-f", "l"], false, "", None, &[]),
+const MAKING: [Making<'static>; 5] = [
     (
         &["ssh-keygen", "-kuf", "l", "a", "-"],
         true,
@@ -150,17 +118,10 @@ const MAKING: [Making<'static>; 7] = [
         &[],
     ),
     (
-        &["ssh-keygen", "-k", "-f", "l", "-s", "nOnE"],
+        &["ssh-keygen", "-k", "-s", "ca", "-f", "l", "-s", "nOnE"],
         false,
         "all",
         None,
-        &[],
-    ),
-    (
-        &["ssh-keygen", "-k", "-f", "l", "-z", "0"],
-        false,
-        "",
-        Some(0),
         &[],
     ),
     (
@@ -171,7 +132,16 @@ const MAKING: [Making<'static>; 7] = [
         &["a"],
     ),
     (
-        &["ssh-keygen", "-k", "-f", "l", "-z", "00000000000000000001"],
+        &[
+            "ssh-keygen",
+            "-k",
+            "-f",
+            "l",
+            "-z",
+            "x",
+            "-z",
+            "00000000000000000001",
+        ],
         false,
         "",
         Some(1),
@@ -189,7 +159,7 @@ fn is_authority(authority: &Authority<&str>, words: &str) -> bool {
 }
 
 // Whether the job makes the list of a row.
-pub(super) fn is_making(job: &Job, row: &Making) -> bool {
+fn is_making(job: &Job, row: &Making) -> bool {
     let (_, update, authority, version, files) = row;
     job.mode == Mode::Make
         && job.file == "l"
@@ -208,44 +178,21 @@ fn making(rt: HostRuntime) -> Result<(), Fail> {
     Ok(())
 }
 
-const MISUSED: [&[&str]; 33] = [
+const MISUSED: [&[&str]; 10] = [
     &["ssh-keygen"],
     &["ssh-keygen", "-Q"],
-    &["ssh-keygen", "-l"],
-    &["ssh-keygen", "-L"],
-    &["ssh-keygen", "-k"],
     &["ssh-keygen", "-f", "k"],
-    &["ssh-keygen", "a"],
-    &["ssh-keygen", "-Q", "a", "b"],
-    &["ssh-keygen", "-Q", "-l"],
     &["ssh-keygen", "-Q", "-l", "-E", "md5", "-f", "k"],
     &["ssh-keygen", "-l", "-f", "k", "a"],
-    &["ssh-keygen", "-L", "-f", "k", "a"],
     &["ssh-keygen", "-l", "-L", "-f", "k"],
-    &["ssh-keygen", "-k", "-l", "-f", "k"],
-    &["ssh-keygen", "-k", "-Q", "-f", "k"],
-    &["ssh-keygen", "-L", "-Q", "-f", "k"],
-    &["ssh-keygen", "-Q", "-E", "md5", "-f", "k"],
-    &["ssh-keygen", "-k", "-E", "md5", "-f", "k"],
     &["ssh-keygen", "-l", "-E", "sha1", "-f", "k"],
-    &["ssh-keygen", "-l", "-E", "", "-f", "k"],
-    &["ssh-keygen", "-E", "md5", "-f", "k"],
     &["ssh-keygen", "-Q", "-f", "k", "-u"],
-    &["ssh-keygen", "-l", "-f", "k", "-s", "none"],
-    &["ssh-keygen", "-L", "-f", "k", "-z", "1"],
-    &["ssh-keygen", "-k", "-f", "k", "-z", ""],
     &["ssh-keygen", "-k", "-f", "k", "-z", "18446744073709551616"],
-    &["ssh-keygen", "-k", "-f", "k", "-z", "000000000000000000001"],
-    &["ssh-keygen", "-k", "-f", "k", "-z", "+1"],
-    &["ssh-keygen", "-k", "-f", "k", "-z", "0x1"],
-    &["ssh-keygen", "-k", "-f", "k", "-z", "1a"],
-    &["ssh-keygen", "-k", "-f", "k", "-z", " 1"],
-    &["ssh-keygen", "-k", "-f", "k", "-z", "1 "],
     &["ssh-keygen", "-k", "-f", "k", "-z", "\u{661}"],
 ];
 
 // Whether the fault is that of a misuse, and says so.
-pub(super) fn is_misuse(alloc: Global, fault: &CommandFault) -> Result<bool, AllocError> {
+fn is_misuse(alloc: Global, fault: &CommandFault) -> Result<bool, AllocError> {
     let text = format!(in alloc; "{fault}")?;
     Ok(fault.number() == 1 && text.as_str() == "usage 1 Usage")
 }
@@ -260,7 +207,7 @@ fn misused(rt: HostRuntime) -> Result<(), Fail> {
 }
 
 // Whether the fault is of words that are not read, or that ask for help, with something to print.
-pub(super) fn reports(fault: &CommandFault, of_help: bool) -> bool {
+fn reports(fault: &CommandFault, of_help: bool) -> bool {
     match fault {
         CommandFault::Words { help, text } => *help == of_help && !text.is_empty(),
         _ => false,
@@ -268,14 +215,12 @@ pub(super) fn reports(fault: &CommandFault, of_help: bool) -> bool {
 }
 
 // Words, and whether they ask for help.
-const ANSWERED: [(&[&str], bool); 7] = [
-    (&["ssh-keygen", "-h"], true),
+const ANSWERED: [(&[&str], bool); 5] = [
     (&["ssh-keygen", "-Q", "-h"], true),
     (&["ssh-keygen", "-x"], false),
-    (&["ssh-keygen", "-Q", "-f", "k", "-y"], false),
     (&["ssh-keygen", "--query", "-f", "k"], false),
-    (&["ssh-keygen", "-Q", "-f"], false),
     (&["ssh-keygen", "-Q", "-f", "--"], false),
+    (&["ssh-keygen", "-k", "-f", "k", "-z", "1", "-z"], false),
 ];
 
 #[test]
@@ -310,17 +255,9 @@ fn asks_for_files(alloc: Global, first: &[&'static str], count: usize) -> Result
 
 #[test]
 fn many_files(rt: HostRuntime) -> Result<(), Fail> {
-    let rows: [&[&str]; 2] = [
-        &["ssh-keygen", "-Q", "-f", "k"],
-        &["ssh-keygen", "-k", "-f", "l"],
-    ];
-    for (i, first) in rows.iter().enumerate() {
-        for count in [1_025, 5_000] {
-            assert!(rt;
-                asks_for_files(rt.alloc(), *first, count)?,
-                "{count} files of row {i}"
-            );
-        }
+    for first in ["-Q", "-k"] {
+        let words = ["ssh-keygen", first, "-f", "k"];
+        assert!(rt; asks_for_files(rt.alloc(), &words, 5_000)?, "after {first}");
     }
     Ok(())
 }

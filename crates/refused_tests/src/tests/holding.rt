@@ -1,8 +1,9 @@
 //! What is held, which a refused addition leaves as it was.
 
 use crate::tests::answered::{answered, ran_out};
-use crate::tests::parts::{GITHUB_LINE, SHA256, blob_of};
+use crate::tests::parts::{SHA256, blob_of};
 use krl_core::Revocations;
+use parts_for_tests::GITHUB_LINE;
 use serial_set::Held;
 use std::alloc::AllocError;
 use std::io::{self, Write};

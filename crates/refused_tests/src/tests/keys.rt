@@ -1,8 +1,8 @@
 //! Keys, certificates and fingerprints.
 
 use crate::tests::answered::answered;
-use crate::tests::parts::{CERT_LINE, CONTAINER, GITHUB_LINE, GITHUB_PRINT, blob_of};
-use parts_for_tests::joined;
+use crate::tests::parts::blob_of;
+use parts_for_tests::{CERT_LINE, CONTAINER, GITHUB_LINE, GITHUB_PRINT, joined};
 use ssh_cert::{SubjectFault, list_cert, read_cert, subject, time_text};
 use ssh_key::{
     FingerprintFault, Hash, LineFault, PrivateFault, fingerprint, parse_fingerprint, plain_blob,

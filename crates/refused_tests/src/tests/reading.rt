@@ -1,10 +1,11 @@
 //! Fields and lists that are read.
 
 use crate::tests::answered::{answered, ran_out};
-use crate::tests::parts::{KEY_SECTION, SHA256_SECTION, list_of};
-use devices_for_tests::{Giver, Then};
+use crate::tests::parts::list_of;
 use krl_core::{Header, KrlFault, Reading, Revocations, read_krl};
-use parts_for_tests::{FIVE, HEADER, joined};
+use parts_for_tests::{
+    BITMAP, FIVE, Giver, HEADER, ID_A, KEY_SECTION, SHA256_SECTION, Then, joined,
+};
 use serial_set::Held;
 use ssh_wire::{FromRead, Pull, PullFault};
 use std::alloc::{AllocError, Global};
@@ -31,15 +32,8 @@ fn read(alloc: Global, text: &[u8]) -> Result<(Header, Revocations<Held>), KrlFa
     read
 }
 
-// Serials 1, 3, 5 and 7 in a bitmap.
-const BITMAP: &[u8] =
-    b"\x01\0\0\0\x1a\0\0\0\0\0\0\0\0\x22\0\0\0\x0d\0\0\0\0\0\0\0\x01\0\0\0\x01\x55";
-
 // Serial 7 under the authority `a key`.
 const UNDER_A_KEY: &[u8] = b"\x01\0\0\0\x1a\0\0\0\x05a key\0\0\0\0\x20\0\0\0\x08\0\0\0\0\0\0\0\x07";
-
-/// Key ID `a` of all authorities.
-pub const ID_A: &[u8] = b"\x01\0\0\0\x12\0\0\0\0\0\0\0\0\x23\0\0\0\x05\0\0\0\x01a";
 
 // The sections of a list, how many spans it has, and how many keys and hashes.
 const ROWS: [(&[u8], u128, usize); 6] = [

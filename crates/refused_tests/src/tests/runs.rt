@@ -2,17 +2,16 @@
 
 use crate::tests::answered::{answered, ran_out};
 use crate::tests::buffer::Buffer;
-use crate::tests::parts::{
-    CERT_LINE, CONTAINER, GITHUB_LINE, KEY_SECTION, OTHER_LINE, SHA256_SECTION, list_of,
-};
-use crate::tests::reading::ID_A;
-use devices_for_tests::{Giver, Then};
+use crate::tests::parts::list_of;
 use krl_make::{Authority, Old, make_run};
 use krl_runs::{
     Cause, Done, FileFault, ListMode, Named, RunFault, fault_line, list_run, load, query_run,
 };
 use krl_spec::{KeyCause, SpecCause};
-use parts_for_tests::joined;
+use parts_for_tests::{
+    CERT_LINE, CONTAINER, GITHUB_LINE, Giver, ID_A, KEY_SECTION, OTHER_LINE, SHA256_SECTION, Then,
+    joined,
+};
 use ssh_key::{Hash, LineFault};
 use ssh_wire::{Bytes, FromRead, ToWrite};
 use std::alloc::{AllocError, Global};

@@ -2,10 +2,9 @@
 
 use crate::tests::answered::{answered, ran_out};
 use crate::tests::holding::size;
-use crate::tests::parts::{CERT_LINE, GITHUB_LINE, GITHUB_PRINT, OTHER_LINE};
 use krl_core::Revocations;
 use krl_spec::{SpecCause, Under, read_spec};
-use parts_for_tests::joined;
+use parts_for_tests::{CERT_LINE, GITHUB_LINE, GITHUB_PRINT, OTHER_LINE, joined};
 use serial_set::Held;
 use std::alloc::AllocError;
 

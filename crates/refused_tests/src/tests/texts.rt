@@ -2,10 +2,9 @@
 
 use crate::tests::answered::answered;
 use crate::tests::holding::{Counter, held, one_of_each};
-use crate::tests::parts::{KEY_SECTION, SHA256_SECTION};
 use krl_core::{Header, Revocations};
 use krl_writer::{TextFault, WriteFault, krl_text, write_krl};
-use parts_for_tests::{HEADER, joined};
+use parts_for_tests::{HEADER, KEY_SECTION, SHA256_SECTION, joined};
 use serial_set::Held;
 use ssh_wire::{Bytes, ToWrite};
 use std::alloc::{AllocError, Global};

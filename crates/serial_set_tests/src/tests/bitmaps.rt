@@ -1,7 +1,5 @@
 //! Bitmaps, byte for byte, and why they are refused.
-ghost use Rattle.std.specs.Prelude.{◌≡◌, ◌+◌, ◌<◌, ◌≤◌, IsTrue, OnSome};
-
-use crate::tests::walk::{add, empty, lists};
+use crate::tests::sets::{add, empty, has_just};
 use serial_set::{BitFault, BitRuns, Held, Span, Spans};
 use std::alloc::Global;
 use std::process::Abort;
@@ -33,7 +31,7 @@ fn read(rt: &impl Abort, alloc: Global, offset: u64, bytes: &[u8]) -> Result<Hel
 fn reads(rt: &impl Abort, alloc: Global, number: usize, row: &Row) {
     let (offset, bytes, expected) = *row;
     match (read(rt, alloc, offset, bytes), expected) {
-        (Ok(set), Ok(runs)) => lists(rt, alloc, number, &set, runs),
+        (Ok(set), Ok(runs)) => assert!(rt; has_just(&set, runs), "in case {number}"),
         (Err(fault), Err(expected)) => assert!(rt; fault == expected, "in case {number}"),
         _ => assert!(rt; false, "in case {number}"),
     }
@@ -75,74 +73,27 @@ fn reads_bitmaps(rt: HostRuntime) {
     }
 }
 
-// Whether the byte finishes these runs.
-fn finishes(bits: &mut BitRuns, byte: u8, runs: &[Span]) -> bool
-    requires { 0 < bits.old.bytes_left }
-    ensures { IsTrue result → bits.old.bytes_left ≡ bits.new.bytes_left + 1 }
-{
-    match bits.feed(byte) {
-        Ok(finished) => { finished.as_slice() == runs && usize::from(finished.count) == runs.len() }
-        Err(_) => false,
-    }
-}
-
-#[test]
-fn finishes_the_highest_run_first(rt: HostRuntime) {
-    let mut bits = BitRuns::new(1, 1);
-    let runs = [
-        Span { lo: 7, hi: 7 },
-        Span { lo: 5, hi: 5 },
-        Span { lo: 3, hi: 3 },
-    ];
-    assert!(rt; finishes(&mut bits, 0x55, &runs));
-    assert!(rt; bits.pending() == Some(Span { lo: 1, hi: 1 }));
-    assert!(rt; bits.end() == Some(Span { lo: 1, hi: 1 }));
-}
-
 // A run over a thousand bytes is never cut.
 #[test]
 fn goes_on_over_bytes(rt: HostRuntime) {
-    let mut bits = BitRuns::new(1, 1000);
-    for place in 0..1000u32 {
-        let byte = if place == 0 { 0x7f } else { 0xff };
-        let Ok(finished) = bits.feed(byte) else {
-            assert!(rt; false);
-            return;
-        };
-        assert!(rt; finished.count == 0);
+    let mut bytes = vec![in rt.alloc(); 0xff; 1000].expect(&rt, "there is memory");
+    if let Some(first) = bytes.first_mut() {
+        *first = 0x7f;
     }
-    assert!(rt; bits.end() == Some(Span { lo: 1, hi: 7999 }));
+    let set = read(&rt, rt.alloc(), 1, &bytes)
+        .ok()
+        .expect(&rt, "it is no fault");
+    assert!(rt; has_just(&set, &[Span { lo: 1, hi: 7999 }]));
 }
 
-// Why a byte is refused, if it is.
-fn refusal(bits: &mut BitRuns, byte: u8) -> Option<BitFault>
-    requires { 0 < bits.old.bytes_left }
-    ensures { OnSome result (bits.new.bytes_left ≡ bits.old.bytes_left) }
-{
-    match bits.feed(byte) {
-        Ok(_) => None,
-        Err(fault) => Some(fault),
-    }
-}
-
-// Whether a byte and two more are refused with this fault.
-fn repeats(offset: u64, first: u8, expected: BitFault) -> bool {
-    let mut bits = BitRuns::new(offset, 1);
-    for byte in [first, 0x00, 0x7f] {
-        let Some(fault) = refusal(&mut bits, byte) else {
-            return false;
-        };
-        if fault != expected || bits.pending().is_some() {
-            return false;
-        }
-    }
-    true
-}
-
+// What is finished at a byte comes highest first, and what is open then is pending.
 #[test]
-fn repeats_its_fault(rt: HostRuntime) {
-    assert!(rt; repeats(u64::MAX, 0x02, BitFault::Wraps));
-    assert!(rt; repeats(1, 0x80, BitFault::Negative));
-    assert!(rt; BitFault::Negative.number() == 1);
-    assert!(rt; BitFault::Wraps.number() == 2);
+fn the_lowest_run_is_pending(rt: HostRuntime) {
+    let mut bits = BitRuns::new(1, 1);
+    let finished = bits.feed(0x55).ok().expect(&rt, "it is no fault");
+    assert!(rt; finished.as_slice().first() == Some(&Span { lo: 7, hi: 7 }));
+    assert!(rt; finished.as_slice().len() == 3);
+    let pending = bits.pending();
+    assert!(rt; pending == Some(Span { lo: 1, hi: 1 }));
+    assert!(rt; bits.end() == pending);
 }

@@ -2,10 +2,9 @@
 
 use crate::tests::parts::{Part, changed, with};
 use parts_for_tests::{PUBLISHED, joined, repeated, strings};
-use ssh_cert::{list_cert, push_escaped, read_cert, time_text, valid_at};
+use ssh_cert::{list_cert, push_escaped, read_cert, time_text};
 use ssh_key::Hash;
 use std::alloc::{AllocError, Global};
-use std::process::Abort;
 
 // The listing of the blob's certificate at the moment 0.
 fn listing(alloc: Global, blob: &[u8], hash: Hash) -> Option<Vec<u8>> {
@@ -95,146 +94,59 @@ fn principals_options_and_extensions_are_listed(rt: HostRuntime) {
     }
 }
 
-// How many bytes a text has that is longer than blocks of memory.
-const LONG: [usize; 3] = [1_025, 4_097, 70_001];
-
-// The lines of the certificate by the other key before its ID.
-const BEFORE_THE_ID: &[u8] = b"        Type: ssh-ed25519-cert-v01@openssh.com user certificate\n\
-     \x20       Public key: ED25519-CERT SHA256:+DiY3wvvV6TuJJhbpZisF/zLDA0zPMSvHdkr4UvCOqU\n\
-     \x20       Signing CA: ED25519 SHA256:SQfC+vTbLURn9cTkVxIS8fGQ3FKNAJWeB0o139+gV4M \
-     (using ssh-ed25519)\n\
-     \x20       Key ID: \"";
-
-// Those after it.
-const AFTER_THE_ID: &[u8] = b"\"\n\
-     \x20       Serial: 7\n\
-     \x20       Valid: forever\n\
-     \x20       Valid now: yes\n\
-     \x20       Principals: (none)\n\
-     \x20       Critical Options: (none)\n\
-     \x20       Extensions: (none)\n";
-
-// Whether a certificate with a key ID of this many escape bytes is listed with each of them.
-fn lists_id(alloc: Global, size: usize) -> Result<bool, AllocError> {
-    let id = vec![in alloc; 0x1b; size]?;
-    let field = strings(alloc, &[&id])?;
-    let blob = changed(alloc, Part::KeyId, &field)?;
-    let escaped = repeated(alloc, b"\\x1b", size)?;
-    let wanted = joined(alloc, &[BEFORE_THE_ID, &escaped, AFTER_THE_ID])?;
-    Ok(listing(alloc, &blob, Hash::Sha256) == Some(wanted))
-}
-
-#[test]
-fn long_key_ids_are_listed(rt: HostRuntime) {
-    for size in LONG {
-        let right = lists_id(rt.alloc(), size).expect(&rt, "there is memory");
-        assert!(rt; right, "in case {size}");
-    }
-}
-
-// Whether a certificate with these strings in a field is listed with these lines last.
-fn lists_last(
-    alloc: Global,
-    part: Part,
-    strings: &[&[u8]],
-    lines: &[u8],
-) -> Result<bool, AllocError> {
-    let blob = with(alloc, part, strings)?;
-    Ok(lists(alloc, &blob, Hash::Md5, lines))
+// Whether a certificate with principals of these many letters and as many principals of one letter,
+// and with extensions of as many letters and data, is listed with all of them.
+fn lists_long(alloc: Global, size: usize) -> Result<bool, AllocError> {
+    let long = vec![in alloc; b'a'; size]?;
+    let first = strings(alloc, &[&long])?;
+    let more = repeated(alloc, b"\0\0\0\x01b", size)?;
+    let names = joined(alloc, &[&first, &more])?;
+    let field = strings(alloc, &[&names])?;
+    let blob = changed(alloc, Part::Principals, &field)?;
+    let shown = repeated(alloc, b"\n                b", size)?;
+    let front = b"        Principals:\n                ";
+    let lines = joined(alloc, &[front, &long, &shown, NO_OPTIONS])?;
+    let are = lists(alloc, &blob, Hash::Md5, &lines);
+    let blob = with(alloc, Part::Extensions, &[&long, &long])?;
+    let digits = repeated(alloc, b"61", size)?;
+    let front = b"        Extensions:\n                ";
+    let lines = joined(alloc, &[front, &long, b" hex:", &digits, b"\n"])?;
+    Ok(are && lists(alloc, &blob, Hash::Md5, &lines))
 }
 
 const NO_OPTIONS: &[u8] = b"\n        Critical Options: (none)\n        Extensions: (none)\n";
 
-// Whether a certificate is listed with a principal of this many letters.
-fn lists_principal(alloc: Global, size: usize) -> Result<bool, AllocError> {
-    let long = vec![in alloc; b'a'; size]?;
-    let front = b"        Principals:\n                ";
-    let lines = joined(alloc, &[front, &long, NO_OPTIONS])?;
-    lists_last(alloc, Part::Principals, &[&long], &lines)
-}
-
-// Whether a certificate is listed with this many principals.
-fn lists_principals(alloc: Global, count: usize) -> Result<bool, AllocError> {
-    let names = repeated(alloc, b"\0\0\0\x01a", count)?;
-    let field = strings(alloc, &[&names])?;
-    let blob = changed(alloc, Part::Principals, &field)?;
-    let shown = repeated(alloc, b"\n                a", count)?;
-    let lines = joined(alloc, &[b"        Principals:", &shown, NO_OPTIONS])?;
-    Ok(lists(alloc, &blob, Hash::Md5, &lines))
-}
-
-// Whether a certificate is listed with a command of this many letters.
-fn lists_command(alloc: Global, size: usize) -> Result<bool, AllocError> {
-    let long = vec![in alloc; b'a'; size]?;
-    let command = strings(alloc, &[&long])?;
-    let front = b"        Critical Options:\n                force-command ";
-    let lines = joined(alloc, &[front, &long, b"\n        Extensions: (none)\n"])?;
-    lists_last(alloc, Part::Critical, &[b"force-command", &command], &lines)
-}
-
-// Whether a certificate is listed with an extension of this many letters, and as many of its data.
-fn lists_extension(alloc: Global, size: usize) -> Result<bool, AllocError> {
-    let long = vec![in alloc; b'a'; size]?;
-    let digits = repeated(alloc, b"61", size)?;
-    let front = b"        Extensions:\n                ";
-    let lines = joined(alloc, &[front, &long, b" hex:", &digits, b"\n"])?;
-    lists_last(alloc, Part::Extensions, &[&long, &long], &lines)
-}
-
-// The case is right, with the memory that it takes.
-fn is_listed(rt: &impl Abort, size: usize, right: Result<bool, AllocError>) {
-    assert!(rt; right.expect(rt, "there is memory"), "in case {size}");
-}
-
 #[test]
-fn long_principals_options_and_extensions_are_listed(rt: HostRuntime) {
-    for size in LONG {
-        is_listed(&rt, size, lists_principal(rt.alloc(), size));
-        is_listed(&rt, size, lists_principals(rt.alloc(), size));
-        is_listed(&rt, size, lists_command(rt.alloc(), size));
-        is_listed(&rt, size, lists_extension(rt.alloc(), size));
+fn long_principals_and_extensions_are_listed(rt: HostRuntime) {
+    for size in [1_025, 4_097, 70_001] {
+        let right = lists_long(rt.alloc(), size).expect(&rt, "there is memory");
+        assert!(rt; right, "in case {size}");
     }
 }
 
-// A time of the certificate, its seconds, and the last lines of the listing.
-const TIMES: [(Part, u64, &str); 4] = [
+// A time of the certificate, its seconds, and the lines of the time in the listing.
+const TIMES: [(Part, u64, &str); 3] = [
     (
         Part::Before,
         253_370_764_800,
-        "        Valid: before @253370764800\n\
-         \x20       Valid now: yes\n\
-         \x20       Principals: (none)\n\
-         \x20       Critical Options: (none)\n\
-         \x20       Extensions: (none)\n",
+        "Valid: before @253370764800\n        Valid now: yes\n",
     ),
     (
         Part::Before,
         253_370_764_799,
-        "        Valid: before 9998-12-31T23:59:59Z\n\
-         \x20       Valid now: yes\n\
-         \x20       Principals: (none)\n\
-         \x20       Critical Options: (none)\n\
-         \x20       Extensions: (none)\n",
-    ),
-    (
-        Part::Before,
-        0,
-        "        Valid: before 1970-01-01T00:00:00Z\n\
-         \x20       Valid now: no\n\
-         \x20       Principals: (none)\n\
-         \x20       Critical Options: (none)\n\
-         \x20       Extensions: (none)\n",
+        "Valid: before 9998-12-31T23:59:59Z\n        Valid now: yes\n",
     ),
     (
         Part::After,
         1_600_000_000,
-        "        Valid: after 2020-09-13T12:26:40Z\n\
-         \x20       Valid now: no\n\
-         \x20       Principals: (none)\n\
-         \x20       Critical Options: (none)\n\
-         \x20       Extensions: (none)\n",
+        "Valid: after 2020-09-13T12:26:40Z\n        Valid now: no\n",
     ),
 ];
+
+// What comes after them.
+const NO_LISTS: &[u8] = b"        Principals: (none)\n\
+     \x20       Critical Options: (none)\n\
+     \x20       Extensions: (none)\n";
 
 #[test]
 fn times_are_listed(rt: HostRuntime) {
@@ -243,17 +155,20 @@ fn times_are_listed(rt: HostRuntime) {
             &rt,
             "there is memory",
         );
+        let lines = joined(rt.alloc(), &[lines.as_bytes(), NO_LISTS]).expect(
+            &rt,
+            "there is memory",
+        );
         assert!(rt;
-            lists(rt.alloc(), &blob, Hash::Sha256, lines.as_bytes()),
+            lists(rt.alloc(), &blob, Hash::Sha256, &lines),
             "in case {i}"
         );
     }
 }
 
-const INSTANTS: [(u64, &str); 6] = [
+const INSTANTS: [(u64, &str); 5] = [
     (0, "1970-01-01T00:00:00Z"),
     (951_782_400, "2000-02-29T00:00:00Z"),
-    (1_600_000_000, "2020-09-13T12:26:40Z"),
     (253_370_764_799, "9998-12-31T23:59:59Z"),
     (253_370_764_800, "@253370764800"),
     (u64::MAX, "@18446744073709551615"),
@@ -264,36 +179,6 @@ fn instants_as_they_are_printed(rt: HostRuntime) {
     for (i, (seconds, wanted)) in INSTANTS.iter().enumerate() {
         let text = time_text(rt.alloc(), *seconds).expect(&rt, "there is memory");
         assert!(rt; text.as_slice() == wanted.as_bytes(), "in case {i}");
-    }
-}
-
-// A time of the certificate, its seconds, and whether the certificate is valid at a moment.
-const VALID: [(Part, u64, u64, bool); 6] = [
-    (Part::Before, 9, 0, true),
-    (Part::Before, 9, 8, true),
-    (Part::Before, 9, 9, false),
-    (Part::After, 9, 8, false),
-    (Part::After, 9, 9, true),
-    // The published certificate as it is.
-    (Part::After, 0, u64::MAX, false),
-];
-
-// Whether the blob is a certificate that is valid at a moment where it is to be, and only there.
-fn is_valid(blob: &[u8], moment: u64, wanted: bool) -> bool {
-    match read_cert(blob) {
-        Ok(cert) => valid_at(&cert, moment) == wanted,
-        Err(_) => false,
-    }
-}
-
-#[test]
-fn valid_from_the_first_second_before_the_last(rt: HostRuntime) {
-    for (i, (part, seconds, moment, wanted)) in VALID.iter().enumerate() {
-        let blob = changed(rt.alloc(), *part, &seconds.to_be_bytes()).expect(
-            &rt,
-            "there is memory",
-        );
-        assert!(rt; is_valid(&blob, *moment, *wanted), "in case {i}");
     }
 }
 

@@ -26,77 +26,27 @@ fn are_principals(mut principals: Strings<'_>, names: &[&[u8]]) -> bool {
     principals.next().is_none() && principals.next().is_none()
 }
 
-// A field of a certificate, the strings that are in it, and what is read of the certificate.
-struct Row<'a> {
-    part: Part,
-    strings: &'a [&'a [u8]],
-    principals: &'a [&'a [u8]],
-    critical: &'a [(&'a [u8], &'a [u8])],
-    extensions: &'a [(&'a [u8], &'a [u8])],
-}
-
-const ROWS: [Row<'static>; 4] = [
-    // an empty name and empty data
-    Row {
-        part: Part::Critical,
-        strings: &[b"", b""],
-        principals: &[],
-        critical: &[(b"", b"")],
-        extensions: &[],
-    },
-    // options in their order
-    Row {
-        part: Part::Critical,
-        strings: &[
-            b"force-command",
-            b"\0\0\0\x02id",
-            b"verify-required",
-            b"",
-            b"a",
-            b"b",
-        ],
-        principals: &[],
-        critical: &[
-            (b"force-command", b"\0\0\0\x02id"),
-            (b"verify-required", b""),
-            (b"a", b"b"),
-        ],
-        extensions: &[],
-    },
-    // extensions beside options
-    Row {
-        part: Part::Extensions,
-        strings: &[b"permit-pty", b""],
-        principals: &[],
-        critical: &[],
-        extensions: &[(b"permit-pty", b"")],
-    },
-    // principals in their order
-    Row {
-        part: Part::Principals,
-        strings: &[b"root", b"", b"admin"],
-        principals: &[b"root", b"", b"admin"],
-        critical: &[],
-        extensions: &[],
-    },
-];
-
-// Whether the lists of the blob's certificate are those of the row.
-fn has_lists(blob: &[u8], row: &Row<'_>) -> bool {
-    match read_cert(blob) {
-        Ok(cert) => {
-            are_principals(cert.principals(), row.principals)
-                && are_options(cert.critical(), row.critical)
-                && are_options(cert.extensions(), row.extensions)
-        }
-        Err(_) => false,
-    }
+// Critical options, which are pairs, and one of empty name and empty data among them.
+#[test]
+fn options_in_their_order(rt: HostRuntime) {
+    let list: [&[u8]; 4] = [b"force-command", b"\0\0\0\x02id", b"", b""];
+    let blob = with(rt.alloc(), Part::Critical, &list).expect(&rt, "there is memory");
+    let cert = read_cert(&blob).ok().expect(&rt, "it is a certificate");
+    let pairs: [(&[u8], &[u8]); 2] = [(b"force-command", b"\0\0\0\x02id"), (b"", b"")];
+    assert!(rt; are_options(cert.critical(), &pairs));
+    assert!(rt; are_options(cert.extensions(), &[]) && are_principals(cert.principals(), &[]));
 }
 
 #[test]
-fn lists_in_their_order(rt: HostRuntime) {
-    for (i, row) in ROWS.iter().enumerate() {
-        let blob = with(rt.alloc(), row.part, row.strings).expect(&rt, "there is memory");
-        assert!(rt; has_lists(&blob, row), "in case {i}");
-    }
+fn extensions_and_principals_in_their_order(rt: HostRuntime) {
+    let blob = with(rt.alloc(), Part::Extensions, &[b"permit-pty", b""]).expect(
+        &rt,
+        "there is memory",
+    );
+    let cert = read_cert(&blob).ok().expect(&rt, "it is a certificate");
+    assert!(rt; are_options(cert.extensions(), &[(b"permit-pty", b"")]));
+    let list: [&[u8]; 3] = [b"root", b"", b"admin"];
+    let blob = with(rt.alloc(), Part::Principals, &list).expect(&rt, "there is memory");
+    let cert = read_cert(&blob).ok().expect(&rt, "it is a certificate");
+    assert!(rt; are_principals(cert.principals(), &list));
 }

@@ -1,11 +1,8 @@
 //! Certificates from their parts.
 
 use parts_for_tests::strings;
-use ssh_cert::{CertFault, read_cert, subject};
+use ssh_cert::{CertFault, read_cert};
 use std::alloc::{AllocError, Global};
-
-/// The public field of the authority's key.
-pub const AUTHORITY: [u8; 32] = [0x11; 32];
 
 /// A field of the certificate that the tests change, in the order of the format.
 #[derive(Clone, Copy, PartialEq, Eq)]
@@ -60,11 +57,6 @@ const FIELDS: [(Part, &[u8]); 14] = [
     ),
 ];
 
-/// The blob of a plain Ed25519 key.
-pub fn plain(alloc: Global, public: &[u8]) -> Result<Vec<u8>, AllocError> {
-    strings(alloc, &[b"ssh-ed25519", public])
-}
-
 /// That certificate with other bytes in place of a field.
 pub fn changed(alloc: Global, part: Part, field: &[u8]) -> Result<Vec<u8>, AllocError> {
     let mut blob = Vec::new(alloc);
@@ -87,29 +79,10 @@ pub fn certificate(alloc: Global) -> Result<Vec<u8>, AllocError> {
     changed(alloc, Part::Nonce, &[0; 4])
 }
 
-/// How that certificate spells a field that is a string, with another length before its bytes.
-pub fn relengthened(alloc: Global, part: Part, length: u32) -> Result<Vec<u8>, AllocError> {
-    let mut field = Vec::from_slice(alloc, &length.to_be_bytes())?;
-    for (other, own) in &FIELDS {
-        if *other == part {
-            field.extend_from_slice(own.get(4..).unwrap_or(&[]))?;
-        }
-    }
-    Ok(field)
-}
-
 /// Whether the blob is no certificate, for this fault.
 pub fn has_fault(blob: &[u8], fault: CertFault) -> bool {
     match read_cert(blob) {
         Ok(_) => false,
         Err(found) => found == fault,
-    }
-}
-
-/// Whether this plain key is asked for a blob.
-pub fn is_asked(alloc: Global, blob: &[u8], plain: &[u8]) -> bool {
-    match subject(alloc, blob) {
-        Ok(asked) => asked.plain.as_slice() == plain,
-        Err(_) => false,
     }
 }

@@ -5,7 +5,7 @@ ghost use Rattle.ssh_key.specs.Fingerprints.{fingerprint_text};
 ghost use Rattle.ssh_key.specs.KeyLine.{IsKeyLine};
 ghost use Rattle.ssh_key.specs.declared.hash.Hash.TheVariants.{Sha256};
 
-use crate::tests::parts::PUBLISHED_BASE64;
+use parts_for_tests::{GITHUB_LINE, GITHUB_PRINT};
 use ssh_key::{Hash, LineFault, fingerprint, read_line};
 use std::alloc::Global;
 
@@ -24,12 +24,7 @@ fn printed_key(alloc: Global, text: &[u8]) -> Result<Vec<u8>, LineFault>
 
 #[test]
 fn a_line_is_printed(rt: HostRuntime) {
-    let line = format!(in rt.alloc(); "ssh-ed25519 {PUBLISHED_BASE64} a comment").expect(
-        &rt,
-        "there is memory",
-    );
-    let printed = printed_key(rt.alloc(), line.as_bytes()).expect(&rt, "it is a key line");
-    let want = b"SHA256:+DiY3wvvV6TuJJhbpZisF/zLDA0zPMSvHdkr4UvCOqU";
-    assert!(rt; printed.as_slice() == want.as_slice());
+    let printed = printed_key(rt.alloc(), GITHUB_LINE).expect(&rt, "it is a key line");
+    assert!(rt; printed.as_slice() == GITHUB_PRINT);
     assert!(rt; printed_key(rt.alloc(), b"nothing").err() == Some(LineFault::NoKey));
 }

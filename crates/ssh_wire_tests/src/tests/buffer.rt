@@ -1,6 +1,6 @@
 //! Buffers in front of readers: fields within them, over their ends, and past a failure.
 
-use devices_for_tests::{Giver, Then};
+use parts_for_tests::{Giver, Then};
 use ssh_wire::{Failed, FromBuffer, Pull, PullFault, Source};
 use std::alloc::Global;
 use std::io::{self, BufReader};

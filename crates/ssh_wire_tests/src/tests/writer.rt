@@ -1,15 +1,7 @@
 //! Writers that are interrupted, take few bytes, or fail.
 
-use devices_for_tests::Taker;
-use ssh_wire::{Failed, Sent, Sink, ToWrite, send};
-use std::alloc::Global;
-
-// A writer that is interrupted this many times first.
-fn fresh(alloc: Global, piece: usize, interruptions: usize, calls_before_failure: usize) -> Taker {
-    let mut taker = Taker::new(alloc, piece, calls_before_failure);
-    taker.interruptions = interruptions;
-    taker
-}
+use parts_for_tests::Taker;
+use ssh_wire::{Sent, Sink, ToWrite, send};
 
 const LINE: &[u8] = b"g.pub: REVOKED\n";
 
@@ -19,52 +11,39 @@ fn sends(device: &mut Taker, text: &[u8], answer: Result<(), Sent>) -> bool {
     send(&mut writer, text) == answer && writer.failed() == answer.is_err()
 }
 
-#[test]
-fn sends_all_in_pieces(rt: HostRuntime) {
-    let mut inner = fresh(rt.alloc(), 3, 1000, 255);
-    assert!(rt; sends(&mut inner, LINE, Ok(())));
-    assert!(rt; inner.taken.as_slice() == LINE);
-}
+// How many bytes are taken at a call, how many interruptions come first, how many calls there are
+// before a failure, and what comes of the line.
+const ROWS: [(usize, usize, usize, Result<(), Sent>); 4] = [
+    (3, 1000, 255, Ok(())),
+    (3, 1001, 255, Err(Sent { count: 0 })),
+    (3, 0, 3, Err(Sent { count: 9 })),
+    // A writer that takes nothing has failed.
+    (0, 0, 255, Err(Sent { count: 0 })),
+];
 
 #[test]
-fn reports_how_many_bytes_went_out(rt: HostRuntime) {
-    let mut inner = fresh(rt.alloc(), 3, 0, 3);
-    assert!(rt; sends(&mut inner, LINE, Err(Sent { count: 9 })));
-    assert!(rt; inner.taken.as_slice() == b"g.pub: RE".as_slice());
-}
-
-#[test]
-fn a_writer_that_takes_nothing_fails(rt: HostRuntime) {
-    let mut inner = fresh(rt.alloc(), 0, 0, 255);
-    let mut writer = ToWrite::new(&mut inner);
-    assert!(rt; writer.write(b"") == Ok(0));
-    assert!(rt; send(&mut writer, LINE) == Err(Sent { count: 0 }));
-    for _ in 0..3 {
-        assert!(rt; writer.write(b"") == Err(Failed));
-        assert!(rt; writer.failed());
+fn counts_what_went_out(rt: HostRuntime) {
+    for (i, (piece, interruptions, calls, answer)) in ROWS.iter().enumerate() {
+        let mut device = Taker::new(rt.alloc(), *piece, *calls);
+        device.interruptions = *interruptions;
+        assert!(rt; sends(&mut device, LINE, *answer), "in case {i}");
+        let count = match answer {
+            Ok(()) => LINE.len(),
+            Err(sent) => sent.count,
+        };
+        assert!(rt;
+            LINE.get(..count) == Some(device.taken.as_slice()),
+            "in case {i}"
+        );
     }
-    drop(writer);
-    assert!(rt; inner.taken.is_empty());
-}
-
-#[test]
-fn one_more_interruption_is_a_failure(rt: HostRuntime) {
-    let mut inner = fresh(rt.alloc(), 3, 1001, 255);
-    let mut writer = ToWrite::new(&mut inner);
-    for _ in 0..3 {
-        assert!(rt; writer.write(LINE) == Err(Failed));
-        assert!(rt; writer.failed());
-    }
-    drop(writer);
-    assert!(rt; inner.taken.is_empty());
 }
 
 #[test]
 fn sends_long_texts(rt: HostRuntime) {
     let text = vec![in rt.alloc(); 7; 70_000].expect(&rt, "there is memory");
     for piece in [1000, 4096, 100_000] {
-        let mut inner = fresh(rt.alloc(), piece, 0, 255);
-        assert!(rt; sends(&mut inner, &text, Ok(())), "in case {piece}");
-        assert!(rt; inner.taken.as_slice() == text.as_slice());
+        let mut device = Taker::new(rt.alloc(), piece, 255);
+        assert!(rt; sends(&mut device, &text, Ok(())), "in case {piece}");
+        assert!(rt; device.taken.as_slice() == text.as_slice());
     }
 }

@@ -1,0 +1,118 @@
+//! What is said to be revoked, and what is asked about then.
+
+ghost use Rattle.std.specs.Prelude.{◌≡◌, ◌<◌, ◌≤◌};
+ghost use Rattle.krl_core.specs.Authority.{IsAuthority};
+
+use krl_core::Revocations;
+use serial_set::{Held, Spans};
+use ssh_cert::{CertNames, Subject};
+use ssh_wire::Bytes;
+use std::alloc::{AllocError, Global};
+use std::process::Abort;
+
+/// The blob of a key. It need not be that of a real one, since blobs are only compared and hashed.
+pub const G: &[u8] = b"G, the key of a certificate";
+
+/// The blob of an authority's key.
+pub const A: &[u8] = b"A, an authority";
+
+/// The blob of another authority's key.
+pub const B: &[u8] = b"B, another authority";
+
+/// No bytes stand for all authorities.
+pub const ALL: &[u8] = b"";
+
+/// One thing that is said to be revoked. No bytes stand for all authorities.
+#[derive(Clone, Copy)]
+pub enum Said<'a> {
+    Serials(&'a [u8], u64, u64),
+    Id(&'a [u8], &'a [u8]),
+    Key(&'a [u8]),
+    Sha1(&'a [u8]),
+    Sha256(&'a [u8]),
+}
+
+// The authority that some bytes name.
+fn under(authority: &[u8]) -> Option<&[u8]>
+    ensures { IsAuthority result }
+{
+    if authority.is_empty() {
+        None
+    } else {
+        Some(authority)
+    }
+}
+
+// The bytes as an array, or zeros where they are not as many.
+fn array_of<const N: usize>(bytes: &[u8]) -> [u8; N] {
+    let mut array = [0; N];
+    if bytes.len() == N {
+        array.copy_from_slice(bytes);
+    }
+    array
+}
+
+// Adds what is said. Serials are from 1 on, and in order.
+fn add<S: Spans>(r: &mut Revocations<S>, said: Said<'_>) -> Result<(), AllocError> {
+    match said {
+        Said::Serials(authority, lo, hi) => {
+            let lo = lo.max(1);
+            if lo <= hi {
+                r.add_serials(under(authority), lo, hi)?;
+            }
+            Ok(())
+        }
+        Said::Id(authority, id) => r.add_id(under(authority), id),
+        Said::Key(blob) => r.add_key(blob),
+        Said::Sha1(hash) => r.add_sha1(&array_of(hash)),
+        Said::Sha256(hash) => r.add_sha256(&array_of(hash)),
+    }
+}
+
+/// Holds what is said.
+pub fn hold<S: Spans>(rt: &impl Abort, r: &mut Revocations<S>, said: Said<'_>) {
+    add(r, said).expect(rt, "there is memory");
+}
+
+/// What is held of all that was said.
+pub fn held_of<S: Spans>(rt: &impl Abort, alloc: Global, all: &[Said<'_>]) -> Revocations<S> {
+    let mut held: Revocations<S> = Revocations::new(alloc);
+    for said in all {
+        hold(rt, &mut held, *said);
+    }
+    held
+}
+
+/// What is held of the serials of all authorities from each number to the one beside it.
+pub fn held_of_runs(rt: &impl Abort, alloc: Global, runs: &[(u64, u64)]) -> Revocations<Held> {
+    let mut held: Revocations<Held> = Revocations::new(alloc);
+    for (lo, hi) in runs {
+        hold(rt, &mut held, Said::Serials(ALL, *lo, *hi));
+    }
+    held
+}
+
+/// The authority, the serial and the key ID of a certificate of `G`; none stands for `G` itself.
+pub type About<'a> = Option<(&'a [u8], u64, &'a [u8])>;
+
+/// Whether what is held revokes it.
+pub fn revokes<S: Spans>(
+    rt: &impl Abort,
+    alloc: Global,
+    held: &Revocations<S>,
+    about: About<'_>,
+) -> bool {
+    let blob = Vec::from_slice(alloc, G).expect(rt, "there is memory");
+    let mut subject = Subject {
+        plain: Bytes::from_vec(blob),
+        cert: None,
+    };
+    if let Some((authority, serial, key_id)) = about {
+        subject.cert = Some(CertNames {
+            serial,
+            key_id,
+            authority,
+        });
+    }
+    held.query(&subject)
+}

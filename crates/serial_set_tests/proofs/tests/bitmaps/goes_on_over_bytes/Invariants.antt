@@ -1,5 +1,0 @@
-use Rattle.std.proofs.Common.{◌≡◌, ◌+◌}
-use Rattle.serial_set_tests.proofs.tests.bitmaps.goes_on_over_bytes.Given as goal
-
-abbrev pub invariant-loop-place : goal.invariant-loop-place
-invariant-loop-place g l = l.bits.bytes_left + l.place ≡ 1000
