@@ -76,12 +76,73 @@ rm made.krl
 expect 'a file name that is not UTF-8' 2 '' "$usage" -l -f $'\xff'
 expect 'a word that is not UTF-8' 2 '' "$usage" $'-\xc0'
 
-expect_text 'help' 0 output -h
-expect_text 'help beside other options' 0 output -Q -h
+help=$(
+  cat <<'END'
+Lists keys and certificates; makes, prints and asks key revocation lists
+
+Usage: ssh-keygen -l [-E hash] -f file
+       ssh-keygen -L [-E hash] -f file
+       ssh-keygen -k -f krl [-u] [-s ca_public] [-z version] [file ...]
+       ssh-keygen -Q [-l] -f krl [file ...]
+
+Arguments:
+  [file]...  Key files, or with -k specification files
+
+Options:
+  -l              List keys; with -Q print what the list holds
+  -L              List certificates
+  -k              Make a key revocation list
+  -Q              Ask a key revocation list about keys
+  -f <file>       The key file, or the revocation list
+  -E <hash>       The hash of fingerprints: md5 or sha256
+  -u              Add to the list that there is
+  -s <ca_public>  The authority's key file, or none for all
+  -z <version>    The list's version
+  -h, --help      Print help
+
+Examples:
+  ssh-keygen -l -f key.pub                      the fingerprints of keys
+  ssh-keygen -L -f key-cert.pub                 what certificates say
+  ssh-keygen -k -f list.krl -s ca.pub lines     a list made of specification files
+  ssh-keygen -Q -f list.krl key.pub             whether keys are revoked
+END
+)
+for words in '-h' '--help' '-Q -h' '-h -Z'; do
+  expect "help by $words" 0 "$help"$'\n' '' $words
+done
 expect_text 'an unknown option' 2 error -Z
 expect_text 'an unknown long option' 2 error --nothing
 expect_text 'an option without its value' 2 error -l -f
 expect_text 'a second time without its value' 2 error -l -f g.pub -f
+
+# What is refused is said without control characters, and no word begins a line.
+# says_plainly NAME WORD..: the words are refused so.
+says_plainly() {
+  local name=$1 said
+  shift
+  run "$@"
+  said=$(tr -d '\n -~' <"$scratch/error" | od -An -tx1)
+  judge "$name" "$(
+    differs 'exit status' 2 "$got_status"
+    differs 'standard output' '' "$got_output"
+    differs 'bytes that are no letters' '' "$said"
+    ! grep -n '^fake' "$scratch/error" || echo '  a word begins a line'
+    [ -z "${wanted:-}" ] || grep -qF -- "$wanted" "$scratch/error" || echo "  it does not say $wanted"
+  )"
+}
+for letter in $'\e' $'\r' $'\n' $'\x7f' $'\u9b'; do
+  shown=$(printf %s "$letter" | od -An -v -tx1 | sed 's/ /\\x/g')
+  wanted="'--x${shown}fake.pub: ok$shown'" says_plainly "an option with $shown" \
+    -Q -f r.krl "--x${letter}fake.pub: ok$letter"
+  says_plainly "letters of options with $shown" "-l${letter}fake"
+  says_plainly "a value with $shown for help" "--help=${letter}fake"
+  says_plainly "a file name with $shown beside an option" -l --no "${letter}fake" -f "a${letter}fake"
+done
+# Such files among those that a pattern names: --x.. is taken for an option.
+touch -- $'--x\nfake.pub (bob@desk): ok\n'
+says_plainly 'a file name that a pattern gives' -Q -f r.krl *
+rm -- --x*
+expect 'a word with the byte 0x9b alone' 2 '' "$usage" -Q -f r.krl $'--x\x9b'
 
 expect 'a question asked twice, of the last of two lists' 1 $'g.pub: REVOKED\n' '' \
   -Q -f none.krl -Q -f r.krl g.pub

@@ -9,6 +9,7 @@ ghost use Rattle.krl_words.specs.declared.command.CommandFault.TheVariants.{NoMe
 
 use crate::given::given_in;
 use crate::options::program;
+use crate::shown::text_for;
 use clap::error::ErrorKind;
 use clap::{ArgMatches, Error};
 use krl_job::{Job, job_of};
@@ -60,18 +61,18 @@ pub fn command_of<'a, S: AsStr>(alloc: Global, words: &'a [S]) -> Result<Job<'a>
     let program = program(alloc)?;
     match program.try_get_matches_from(words) {
         Ok(matches) => job_in(alloc, &matches),
-        Err(error) => Err(words_fault(alloc, &error)),
+        Err(error) => Err(words_fault(alloc, &error, words)),
     }
 }
 
 // Why the words are not read, or the help that they ask for.
-fn words_fault(alloc: Global, error: &Error) -> CommandFault
+fn words_fault<S: AsStr>(alloc: Global, error: &Error, words: &[S]) -> CommandFault
     ensures { ReportsError error.now result }
 {
     if error.kind() == ErrorKind::OutOfMemory {
         return CommandFault::NoMemory;
     }
-    match error.to_string(alloc) {
+    match text_for(alloc, words) {
         Ok(text) => CommandFault::Words {
             help: !error.use_stderr(),
             text,

@@ -4,5 +4,6 @@
 mod command;
 mod given;
 mod options;
+mod shown;
 
 pub use command::{CommandFault, command_of};

@@ -1,0 +1,53 @@
+//! What the command line library says of words that it refuses.
+
+use crate::options::program;
+use clap::error::ErrorKind;
+use std::alloc::{AllocError, Global};
+use std::convert::AsStr;
+
+// What is said of words that are read once they are escaped.
+const REFUSED: &str = "ssh-keygen: usage 2 Words\n";
+
+/// The library's text for these words, or its help. It repeats words as they are given, so it is
+/// given them with their control characters escaped: no word moves the terminal or begins a line.
+pub fn text_for<S: AsStr>(alloc: Global, words: &[S]) -> Result<String, AllocError> {
+    let mut shown = Vec::new(alloc);
+    for word in words {
+        shown.push(shown_word(alloc, word.as_str())?)?;
+    }
+    said_of(alloc, shown.as_slice())
+}
+
+// The library's text for words without control characters.
+fn said_of(alloc: Global, words: &[String]) -> Result<String, AllocError> {
+    let program = program(alloc)?;
+    match program.try_get_matches_from(words) {
+        Ok(_matches) => String::from_str(alloc, REFUSED),
+        Err(error) if error.kind() == ErrorKind::OutOfMemory => Err(AllocError),
+        Err(error) => error.to_string(alloc),
+    }
+}
+
+// The word with each byte of a control character as `\x` and two hexadecimal digits, as names are
+// printed. The control characters past those of ASCII are among them.
+fn shown_word(alloc: Global, word: &str) -> Result<String, AllocError> {
+    let mut shown = String::new(alloc);
+    for letter in word.chars() {
+        if letter.is_control() {
+            push_digits(alloc, &mut shown, letter)?;
+        } else {
+            shown.push(letter)?;
+        }
+    }
+    Ok(shown)
+}
+
+// Appends the bytes of the letter by their digits.
+fn push_digits(alloc: Global, shown: &mut String, letter: char) -> Result<(), AllocError> {
+    let mut bytes = [0u8; 4];
+    for byte in letter.encode_utf8(&mut bytes).bytes() {
+        let digits = format!(in alloc; "\\x{byte:02x}")?;
+        shown.push_str(digits.as_str())?;
+    }
+    Ok(())
+}
