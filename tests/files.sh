@@ -113,6 +113,12 @@ full 'a query on a full device' 255 "$fault" -Q -f r.krl g.pub a
 full 'a query of no revoked key on a full device' 255 "$fault" -Q -f r.krl a
 full 'a missing file, reported to a full device' 255 "$fault" -Q -f r.krl g.pub none
 full 'nothing to write on a full device' 0 '' -Q -f r.krl
+full 'help on a full device' 255 "$fault" -h
+expect 'a file whose name has no bytes' 255 '' $'ssh-keygen: : file 1 Open\n' -k -u -f r.krl -s none ''
+expect 'the same in a query' 255 '' $'ssh-keygen: : file 1 Open\n' -Q -f r.krl ''
+expect 'the same of a list' 255 '' $'ssh-keygen: : file 1 Open\n' -k -u -f '' -s none g.pub
+expect 'the same of an authority' 255 '' $'ssh-keygen: : file 1 Open\n' -k -u -f r.krl -s '' g.pub
+judge 'the list is as it was' "$(differs 'the list' "$H$(section "$G")" "$(digits r.krl)")"
 
 # A listing that is written in several pieces: 2,000 lines of 76 bytes.
 for _ in {1..2000}; do cat g.pub; done >many

@@ -8,7 +8,7 @@
                              other calls move at most PIECE bytes
      CREATE=K-L:HOW          the same of openings that may create a file, MODE of changes of a mode, OWNER
                              of those of an owner, SYNC of syncs, CLOSE of the closing of files that were
-                             opened so, RENAME and REMOVE of those of a name
+                             opened so, RENAME and REMOVE of those of a name, LINK of a second name
      KILL=K                  the K-th write moves half of its bytes, and then the program is killed
      MOMENT=N                the clock shows N seconds since 1970, before it where N is negative
      REPORT=FILE             the counts of what was called and of what failed stand there at the end */
@@ -26,9 +26,9 @@
 #include <time.h>
 #include <unistd.h>
 
-enum { MEMORY, READ, WRITE, CREATE, MODE, OWNER, SYNC, CLOSE, RENAME, REMOVE, SORTS };
-static const char *const names[SORTS] = {"MEMORY", "READ", "WRITE", "CREATE", "MODE",
-                                         "OWNER",  "SYNC", "CLOSE", "RENAME", "REMOVE"};
+enum { MEMORY, READ, WRITE, CREATE, MODE, OWNER, SYNC, CLOSE, RENAME, REMOVE, LINK, SORTS };
+static const char *const names[SORTS] = {"MEMORY", "READ",  "WRITE",  "CREATE", "MODE", "OWNER",
+                                         "SYNC",   "CLOSE", "RENAME", "REMOVE", "LINK"};
 
 /* What was called and what of it failed, and the descriptor of the last call that failed. */
 struct count {
@@ -182,6 +182,10 @@ int close(int descriptor) {
 
 int rename(const char *from, const char *to) {
   return ends(RENAME, 0) ? -1 : syscall(SYS_rename, from, to);
+}
+
+int link(const char *from, const char *to) {
+  return ends(LINK, 0) ? -1 : syscall(SYS_link, from, to);
 }
 
 int unlink(const char *path) {

@@ -9,11 +9,16 @@ use std::io::BufReader;
 // How many bytes of a list are read ahead.
 const BUFFER: usize = 65_536;
 
-/// The list of this name, with a buffer, since it is read a field at a time.
+/// The list of this name, with a buffer.
 pub fn open_list(rt: &HostRuntime, name: &str) -> Result<BufReader<File>, Cause> {
-    let Ok(file) = fs::open(rt, name) else {
-        return Err(Cause::File(FileFault::Open));
-    };
+    match fs::open(rt, name) {
+        Ok(file) => buffered(rt, file),
+        Err(_) => Err(Cause::File(FileFault::Open)),
+    }
+}
+
+/// A list with a buffer, since it is read a field at a time.
+pub fn buffered(rt: &HostRuntime, file: File) -> Result<BufReader<File>, Cause> {
     match BufReader::with_capacity(rt.alloc(), BUFFER, file) {
         Ok(list) => Ok(list),
         Err(_) => Err(Cause::NoMemory),

@@ -1,17 +1,16 @@
 //! A list is replaced whole or not at all: its bytes go to a new file beside it, which then takes
 //! its name.
 
-ghost use Rattle.std.specs.Prelude.{◌≡◌, ◌↔◌, ◌⊎◌, ◌<◌, ◌≤◌, IsTrue, IfErr, length};
+ghost use Rattle.std.specs.Prelude.{◌≡◌, ◌↔◌, ◌⊎◌, IsNone, IsSome, IsTrue, bit_and};
+ghost use Rattle.std.specs.Fs.{metadata_mode, permissions_mode};
 
-use krl_runs::{Cause, FileFault};
-use ssh_wire::{ToWrite, send};
+use crate::holding::{OldList, Place, is_at, unopened};
+use crate::in_place::{send_all, write_in_place};
+use crate::names::{beside, new_name};
+use krl_runs::Cause;
 use std::fs::{self, File, Metadata, OpenOptions, Permissions};
 use std::io::{self, ErrorKind};
 use std::os::unix::fs::{MetadataExt, OpenOptionsExt, PermissionsExt, fchown};
-
-mod names;
-
-use names::{beside, followed, new_name};
 
 // How many names are tried for the new file.
 const TRIES: usize = 16;
@@ -21,50 +20,42 @@ const USUAL: u32 = 0o666;
 const CLOSED: u32 = 0o600;
 // The bits of a mode that are permissions.
 const PERMISSIONS: u32 = 0o7777;
+// Of a new file that does not take the name of the list no byte stands.
+const UNWRITTEN: Cause = Cause::Output { count: 0 };
 
-/// Writes the list of this name. On a fault an old list stands as it was, unless its folder takes
-/// no new file. The old list is opened as one that is to be written, so who may not write it, or
-/// may not follow the link to it, is refused, and what is no regular file gets its bytes in place.
-pub fn write_list(rt: &HostRuntime, name: &str, text: &[u8]) -> Result<(), Cause> {
-    let mut options = OpenOptions::new();
-    options.write(true);
-    let old = match options.open(rt, name) {
-        Ok(file) => file,
-        Err(error) if error.kind() == ErrorKind::NotFound && !name.is_empty() => {
-            return replace(rt, name, None, text);
-        }
-        Err(_) => return Err(Cause::File(FileFault::Open)),
-    };
-    match old.metadata() {
-        Ok(found) if found.is_file() => replace(rt, name, Some(&found), text),
-        Ok(_) => send_all(&old, text).map_err(output_fault),
-        Err(_) => Err(output_fault(0)),
+/// What came of writing a list.
+#[derive(Clone, Copy, Debug, PartialEq, Eq)]
+pub enum Written {
+    /// All of it stands under its name.
+    Whole,
+    /// Its name leads to another file by now, which stands as it was.
+    Elsewhere,
+}
+
+/// Writes a list. On a fault an old list stands as it was, unless its folder takes no new file.
+pub fn write_list(rt: &HostRuntime, place: &Place, text: &[u8]) -> Result<Written, Cause> {
+    match place {
+        Place::Held(old) => replace(rt, old, text),
+        Place::Free(path) => match create_beside(rt, path, None) {
+            Ok(new) => take_its_place(rt, path, None, &new, text),
+            Err(error) => Err(unopened(&error)),
+        },
+        Place::Stream(file) => match send_all(file, text) {
+            Ok(()) => Ok(Written::Whole),
+            Err(count) => Err(Cause::Output { count }),
+        },
     }
 }
 
-// Writes a regular file, or one that is not there.
-fn replace(rt: &HostRuntime, name: &str, old: Option<&Metadata>, text: &[u8]) -> Result<(), Cause> {
-    let path = match followed(rt, name) {
-        Ok(path) => path,
-        Err(error) => return Err(early_fault(old, &error)),
-    };
-    if !is_at(rt, path.as_str(), old) {
-        return write_in_place(rt, name, text);
-    }
-    match create_beside(rt, path.as_str(), old) {
-        Ok((file, new)) => take_its_place(rt, path.as_str(), old, (file, new.as_str()), text),
-        Err(error) if takes_no_file(error.kind()) => write_in_place(rt, name, text),
-        Err(error) => Err(early_fault(old, &error)),
-    }
-}
-
-// Whether the old list stands at this path, or nothing where there is none. A list may have been
-// opened by a name that leads to it in another way, as one of `/proc` does.
-fn is_at(rt: &HostRuntime, path: &str, old: Option<&Metadata>) -> bool {
-    match (fs::symlink_metadata(rt, path), old) {
-        (Ok(found), Some(old)) => found.dev() == old.dev() && found.ino() == old.ino(),
-        (Err(error), None) => error.kind() == ErrorKind::NotFound,
-        _ => false,
+// Replaces a list, or writes it in place where its folder takes no new file.
+fn replace(rt: &HostRuntime, old: &OldList, text: &[u8]) -> Result<Written, Cause> {
+    match create_beside(rt, &old.path, Some(&old.found)) {
+        Ok(new) => take_its_place(rt, &old.path, Some(&old.found), &new, text),
+        Err(error) if takes_no_file(error.kind()) => match write_in_place(&old.file, text) {
+            Ok(()) => Ok(Written::Whole),
+            Err(count) => Err(Cause::Output { count }),
+        },
+        Err(error) => Err(unopened(&error)),
     }
 }
 
@@ -79,20 +70,22 @@ fn takes_no_file(reason: ErrorKind) -> bool
     )
 }
 
-// A file that was not there before, in the folder of the path, and its own path.
-fn create_beside(
-    rt: &HostRuntime,
-    path: &str,
-    old: Option<&Metadata>,
-) -> io::Result<(File, String)> {
-    let mode = if old.is_some() { CLOSED } else { USUAL };
+// The new file, until it has the name of the list.
+#[derive(Drop)]
+struct NewFile {
+    file: File,
+    path: String,
+}
+
+// A file that was not there before, in the folder of the path.
+fn create_beside(rt: &HostRuntime, path: &str, old: Option<&Metadata>) -> io::Result<NewFile> {
     let mut options = OpenOptions::new();
     options.write(true).create_new(true);
-    options.mode(mode);
+    options.mode(first_mode(old));
     for _ in 0..TRIES {
-        let new = new_name(rt, path)?;
-        match options.open(rt, new.as_str()) {
-            Ok(file) => return Ok((file, new)),
+        let path = new_name(rt, path)?;
+        match options.open(rt, path.as_str()) {
+            Ok(file) => return Ok(NewFile { file, path }),
             Err(error) if error.kind() == ErrorKind::AlreadyExists => {}
             Err(error) => return Err(error),
         }
@@ -100,50 +93,83 @@ fn create_beside(
     Err(io::Error::from(ErrorKind::AlreadyExists))
 }
 
+// The mode with which the new file is made: while it is written, no one else reads what replaces a
+// list.
+fn first_mode(old: Option<&Metadata>) -> u32
+    ensures usual { IsNone old.entry → result ≡ 0o666 }
+    ensures closed { IsSome old.entry → result ≡ 0o600 }
+{
+    if old.is_some() { CLOSED } else { USUAL }
+}
+
 // Writes the new file and gives it the name of the list, or takes it away.
 fn take_its_place(
     rt: &HostRuntime,
     path: &str,
     old: Option<&Metadata>,
-    new: (File, &str),
+    new: &NewFile,
     text: &[u8],
-) -> Result<(), Cause> {
-    let (file, new) = new;
-    let done = match finish(file, old, text) {
-        Ok(()) if fs::rename(rt, new, path).is_ok() => Ok(()),
-        Ok(()) => Err(text.len() as u64),
-        Err(count) => Err(count),
+) -> Result<Written, Cause> {
+    let done = match finish(&new.file, old, text) {
+        Ok(()) => give_name(rt, new.path.as_str(), path, old),
+        Err(cause) => Err(cause),
     };
-    match done {
-        Ok(()) => {
-            sync_folder(rt, path);
-            Ok(())
-        }
-        Err(count) => {
-            let _ = fs::remove_file(rt, new);
-            Err(output_fault(count))
-        }
+    if matches!(done, Ok(Written::Whole)) {
+        sync_folder(rt, path);
+    } else {
+        let _ = fs::remove_file(rt, new.path.as_str());
     }
+    done
 }
 
-// All of a new file until it takes the name of the list. A fault is the count of bytes that went
-// out.
-fn finish(file: File, old: Option<&Metadata>, text: &[u8]) -> Result<(), u64>
-    ensures bound { IfErr result (λ count. count ≤ length text.now) }
-{
+// All of a new file until it takes the name of the list. It is synced, so that what happens when it
+// is closed loses no byte.
+fn finish(file: &File, old: Option<&Metadata>, text: &[u8]) -> Result<(), Cause> {
     if let Some(old) = old
-        && keep_rights(&file, old).is_err()
+        && keep_rights(file, old).is_err()
     {
-        return Err(0);
+        return Err(UNWRITTEN);
     }
-    send_and_sync(&file, text)
+    if send_all(file, text).is_err() || file.sync_all().is_err() {
+        return Err(UNWRITTEN);
+    }
+    Ok(())
 }
 
 // Gives the file the mode of the old list, and its owner and group where the user may do that.
 fn keep_rights(file: &File, old: &Metadata) -> io::Result<()> {
     let _ = fchown(file, None, Some(old.gid()));
     let _ = fchown(file, Some(old.uid()), None);
-    file.set_permissions(Permissions::from_mode(old.mode() & PERMISSIONS))
+    file.set_permissions(kept_mode(old))
+}
+
+// The mode of the old list, with the bits that set an owner or a group.
+fn kept_mode(old: &Metadata) -> Permissions
+    ensures { permissions_mode result ≡ bit_and (metadata_mode old.now) 0o7777 }
+{
+    Permissions::from_mode(old.mode() & PERMISSIONS)
+}
+
+// Gives the new file the name of the list. Where none had the name, no file is replaced that got it
+// meanwhile: a link is only made to a name that is free. Where there are no links, as on some file
+// systems, and else, the name is looked at right before.
+fn give_name(
+    rt: &HostRuntime,
+    new: &str,
+    path: &str,
+    old: Option<&Metadata>,
+) -> Result<Written, Cause> {
+    if old.is_none() && fs::hard_link(rt, new, path).is_ok() {
+        let _ = fs::remove_file(rt, new);
+        return Ok(Written::Whole);
+    }
+    if !is_at(rt, path, old) {
+        return Ok(Written::Elsewhere);
+    }
+    match fs::rename(rt, new, path) {
+        Ok(()) => Ok(Written::Whole),
+        Err(_) => Err(UNWRITTEN),
+    }
 }
 
 // The new name outlasts a machine that stops, where the folder can be synced. The list has its
@@ -153,50 +179,5 @@ fn sync_folder(rt: &HostRuntime, path: &str) {
         && let Ok(folder) = fs::open(rt, folder.as_str())
     {
         let _ = folder.sync_all();
-    }
-}
-
-// Writes the file itself, which has nothing of what it held from its opening on.
-fn write_in_place(rt: &HostRuntime, name: &str, text: &[u8]) -> Result<(), Cause> {
-    match fs::create(rt, name) {
-        Ok(file) => send_and_sync(&file, text).map_err(output_fault),
-        Err(_) => Err(Cause::File(FileFault::Open)),
-    }
-}
-
-// Writes the bytes, and has them synced: what happens when the file is closed then loses none.
-fn send_and_sync(file: &File, text: &[u8]) -> Result<(), u64>
-    ensures bound { IfErr result (λ count. count ≤ length text.now) }
-{
-    send_all(file, text)?;
-    match file.sync_all() {
-        Ok(()) => Ok(()),
-        Err(_) => Err(text.len() as u64),
-    }
-}
-
-// Writes the bytes. A fault is the count of those that went out.
-fn send_all(file: &File, text: &[u8]) -> Result<(), u64>
-    ensures short { IfErr result (λ count. count < length text.now) }
-{
-    match send(&mut ToWrite::new(file), text) {
-        Ok(()) => Ok(()),
-        Err(part) => Err(part.count as u64),
-    }
-}
-
-// A write that failed after `count` bytes.
-fn output_fault(count: u64) -> Cause {
-    Cause::Output { count }
-}
-
-// Why a list could not be begun. No byte of it went out.
-fn early_fault(old: Option<&Metadata>, error: &io::Error) -> Cause {
-    if error.kind() == ErrorKind::OutOfMemory {
-        Cause::NoMemory
-    } else if old.is_some() {
-        output_fault(0)
-    } else {
-        Cause::File(FileFault::Open)
     }
 }

@@ -7,7 +7,6 @@ import re
 NO_MEMORY = re.compile(rb"ssh-keygen: (?:usage 3 NoMemory|[^\n]+: (?:file 4|run 1) NoMemory)\n")
 READ = re.compile(rb"ssh-keygen: [^\n]+: (?:file 2|krl 13) Read\n")
 WRITE = b"ssh-keygen: %s: output 1 Write after %d bytes\n"
-COUNT = re.compile(rb"ssh-keygen: made.krl: output 1 Write after (\d+) bytes\n")
 OPEN = b"ssh-keygen: made.krl: file 1 Open\n"
 FAULT = 255
 OUTPUT, ERROR = 1, 2
@@ -69,40 +68,36 @@ def after_write(run, ample, got):
         return None if said and is_front_of_line else "a line that could not be written"
     if descriptor == OUTPUT and not ample.output.startswith(got.output):
         return "standard output"
-    if run.words == ["-h"]:
-        return None if (got.status, got.error) == (0, b"") else "help that could not be printed"
     if descriptor != OUTPUT:
-        return after_list(run, ample, got)
+        return unwritten(run, ample, got)
     if got.error != WRITE % (b"output", len(got.output)):
         return "standard error"
     return None if got.status == FAULT else "the status"
 
 
-def after_list(run, ample, got):
-    """Writing a list failed: the old one stands, and not all bytes went out."""
-    count = COUNT.fullmatch(got.error)
-    if not count or int(count[1]) >= len(ample.made):
-        return "standard error"
-    return stopped(run, ample, got)
+def unopened(run, ample, got):
+    """The new file could not be made."""
+    return "standard error" if got.error != OPEN else stopped(run, ample, got)
 
 
-def unbegun(run, ample, got):
-    """No byte of the list went out."""
-    if got.error != (OPEN if run.before is None else WRITE % (b"made.krl", 0)):
-        return "standard error"
-    return stopped(run, ample, got)
+def in_place(run, ample, got):
+    """The folder takes no new file, so a list that was there is written in place."""
+    return (unopened if run.before is None else same)(run, ample, got)
 
 
-def unended(run, ample, got):
-    """All bytes of the list went out, and then it was not given its name."""
-    if got.error != WRITE % (b"made.krl", len(ample.made)):
+def unwritten(run, ample, got):
+    """The new file was not given the name of the list, so the old one stands, and no byte of it."""
+    if got.error != WRITE % (b"made.krl", 0):
         return "standard error"
     return stopped(run, ample, got)
 
 
 def unsynced(run, ample, got):
     """The sync of the list comes first, then that of its folder, which no fault reports."""
-    return (unended if got.counts["RENAME"].called == 0 else same)(run, ample, got)
+    named = sum(got.counts[sort].called for sort in ("RENAME", "LINK"))
+    if ample.counts["SYNC"].called == 1:
+        return "the folder is not synced"
+    return (same if named else unwritten)(run, ample, got)
 
 
 def unremoved(run, ample, got):
@@ -110,4 +105,4 @@ def unremoved(run, ample, got):
     if got.left != 1:
         return "whether a file is left"
     got.left = 0
-    return unended(run, ample, got)
+    return unwritten(run, ample, got)

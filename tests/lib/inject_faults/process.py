@@ -8,7 +8,7 @@ from pathlib import Path
 MOMENT = 951782400
 SECONDS = 20
 # What the library counts, in its order.
-SORTS = "MEMORY READ WRITE CREATE MODE OWNER SYNC CLOSE RENAME REMOVE".split()
+SORTS = "MEMORY READ WRITE CREATE MODE OWNER SYNC CLOSE RENAME REMOVE LINK".split()
 LIST = "made.krl"
 
 

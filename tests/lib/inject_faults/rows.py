@@ -61,7 +61,7 @@ def all_rows(room):
     fault(
         room,
         "a list whose fourth write of three bytes fails",
-        b"made.krl: output 1 Write after 9 bytes",
+        b"made.krl: output 1 Write after 0 bytes",
         "-k -f made.krl empty",
         WRITE=FULL,
     )

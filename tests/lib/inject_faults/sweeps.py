@@ -49,14 +49,16 @@ MEMORY = [
     Sweep("last allocations refused", "MEMORY", answers.without_any_memory, lasts=True),
 ]
 FILES = [
-    Sweep("lists that are not created", "CREATE", answers.unbegun, errno.ENOSPC),
-    Sweep("folders that take no new file", "CREATE", answers.same, errno.EACCES),
-    Sweep("folders that cannot be written", "CREATE", answers.same, errno.EROFS),
-    Sweep("modes that are not kept", "MODE", answers.unbegun, errno.EIO),
+    Sweep("lists that are not created", "CREATE", answers.unopened, errno.ENOSPC),
+    Sweep("new names that are taken", "CREATE", answers.same, errno.EEXIST),
+    Sweep("folders that take no new file", "CREATE", answers.in_place, errno.EACCES),
+    Sweep("folders that cannot be written", "CREATE", answers.in_place, errno.EROFS),
+    Sweep("modes that are not kept", "MODE", answers.unwritten, errno.EIO),
     Sweep("owners that are not kept", "OWNER", answers.same, errno.EPERM),
     Sweep("syncs that fail", "SYNC", answers.unsynced, errno.EIO),
     Sweep("closings that fail", "CLOSE", answers.same, errno.EIO),
-    Sweep("lists that get no name", "RENAME", answers.unended, errno.EIO),
+    Sweep("lists that get no name", "RENAME", answers.unwritten, errno.EIO),
+    Sweep("lists that get no link", "LINK", answers.same, errno.EPERM),
 ]
 ALL = MEMORY + READS + WRITES
 

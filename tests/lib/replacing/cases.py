@@ -32,15 +32,36 @@ def links(place, made):
             if {*os.listdir("below")} != below or os.path.islink("below/to.krl"):
                 wrong.append("the folder has %r" % os.listdir("below"))
             place.judge("%s to %s" % (name, "a list" if old else "nothing"), wrong)
+    long_chains(place, made)
     place.enter(old=None)
     os.symlink(LIST, LIST)
     done = place.run("-k", "-f", LIST, "../spec", "-s", "none")
     place.judge("a link to itself", place.differs(done, 255, b"ssh-keygen: r.krl: file 1 Open\n"))
 
 
+def long_chains(place, made):
+    """As many links as the system follows, and one more."""
+    for count in (9, 40, 41):
+        place.enter(old=None)
+        place.put("0", OLD)
+        for number in range(count):
+            os.symlink(str(number), str(number + 1))
+        before = os.stat("0").st_ino
+        done = place.update(str(count))
+        names = [str(it) for it in range(count + 1)]
+        if count > 40:
+            wrong = place.differs(done, 255, b"ssh-keygen: 41: file 1 Open\n")
+            wrong += place.stands(OLD, names=names, name="0")
+        else:
+            wrong = place.differs(done, 0, b"") + place.stands(made, names=names, name="0")
+            if os.path.islink("0") or os.stat("0").st_ino == before:
+                wrong.append("it is not replaced")
+        place.judge("a chain of %d links" % count, wrong)
+
+
 def modes(place, made):
     """The old list's mode stays, whatever the mask; a new list has the usual one."""
-    for mode in (0o640, 0o600, 0o666, 0o755):
+    for mode in (0o640, 0o600, 0o666, 0o755, 0o2640, 0o1640):
         place.enter()
         os.chmod(LIST, mode)
         done = place.update(umask=0o077)

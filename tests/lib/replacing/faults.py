@@ -27,7 +27,7 @@ def limits(place, made):
     place.enter()
     for length in sorted(lengths):
         done = place.update(limit=length)
-        found = place.differs(done, 255, fault(length)) + place.stands(OLD) + place.revoked()
+        found = place.differs(done, 255, fault(0)) + place.stands(OLD) + place.revoked()
         wrong += ["%d bytes: %s" % (length, it) for it in found]
         if found:
             place.enter()
@@ -41,7 +41,7 @@ def new_limits(place, made):
     for length in [0, 1, *section_ends(made)[:-1], len(made) - 1]:
         place.enter(old=None)
         done = place.run("-k", "-f", LIST, "-s", "none", "../spec", limit=length)
-        found = place.differs(done, 255, fault(length)) + place.stands(None, names=[])
+        found = place.differs(done, 255, fault(0)) + place.stands(None, names=[])
         wrong += ["%d bytes: %s" % (length, it) for it in found]
     place.judge("a new list, and files of a limited length", wrong)
 
@@ -60,7 +60,7 @@ def full(place, made):
         for pages in range(-(-len(made) // PAGE)):
             fill(place, pages)
             done = place.update()
-            wrong = place.differs(done, 255, fault(pages * PAGE))
+            wrong = place.differs(done, 255, fault(0))
             wrong += place.stands(OLD, names=[LIST, "filler"]) + place.revoked()
             place.judge("a file system with %d pages free" % pages, wrong)
         read_only(place, path)

@@ -14,7 +14,8 @@ const FRONT: usize = 100;
 /// The path of the file that the name leads to, over links. There need be none.
 pub fn followed(rt: &HostRuntime, name: &str) -> io::Result<String> {
     let mut path = String::from_str(rt.alloc(), name)?;
-    for _ in 0..LINKS {
+    // After the last link the file itself is looked at.
+    for _ in 0..=LINKS {
         let target = match fs::read_link(rt, path.as_str()) {
             Ok(target) => target,
             Err(error) if matches!(error.kind(), ErrorKind::InvalidInput | ErrorKind::NotFound) => {

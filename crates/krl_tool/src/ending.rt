@@ -1,0 +1,87 @@
+//! How a run ends: with a status, and a line that says why it stopped.
+
+ghost use Rattle.std.specs.Prelude.{◌≡◌, ◌⊎◌, None, Some};
+ghost use Rattle.krl_words.specs.Command.{command_fault_status};
+
+use krl_runs::{Cause, Done, FAILED, RunFault, fault_line};
+use krl_words::CommandFault;
+use ssh_wire::{ToWrite, send};
+
+/// The status of a command line that asks for nothing that the program does.
+const MISUSED: u8 = 2;
+/// The name of standard output where it fails.
+const OUTPUT: &str = "output";
+
+/// A run that ended with a fault and said nothing.
+pub fn stopped(fault: RunFault<'_>) -> Done<'_>
+    ensures status { result.status ≡ 255 }
+    ensures fault { result.fault ≡ Some fault.entry }
+{
+    Done {
+        status: FAILED,
+        fault: Some(fault),
+    }
+}
+
+/// A run that a file stopped before it began.
+pub fn failed(name: &str, cause: Cause) -> Done<'_>
+    ensures status { result.status ≡ 255 }
+    ensures fault { result.fault ≡ Some (record { name = name.now; line = None; cause = cause }) }
+{
+    stopped(RunFault::whole(name, cause))
+}
+
+/// Reports why the run stopped, if it did, and gives its status.
+pub fn end(rt: &HostRuntime, done: &Done) -> u8
+    ensures { result ≡ done.now.status }
+{
+    if let Some(fault) = &done.fault
+        && let Ok(text) = fault_line(rt.alloc(), fault)
+    {
+        report(rt, text.as_slice());
+    }
+    done.status
+}
+
+// Prints a line on standard error. A fault of standard error cannot be reported.
+fn report(rt: &HostRuntime, line: &[u8]) {
+    let mut err = ToWrite::new(rt.stderr());
+    if send(&mut err, line).is_ok() {
+        let _ = send(&mut err, b"\n");
+    }
+}
+
+/// Prints help, or why the words are refused, and gives the status. Help that cannot be printed is
+/// a fault of the output.
+pub fn refuse(rt: &HostRuntime, fault: &CommandFault) -> u8
+    ensures { (result ≡ command_fault_status fault.now) ⊎ (result ≡ 255) }
+{
+    match fault {
+        CommandFault::Words { help: true, text } => print_help(rt, text.as_bytes()),
+        CommandFault::Words { help: false, text } => {
+            let _ = send(&mut ToWrite::new(rt.stderr()), text.as_bytes());
+            MISUSED
+        }
+        CommandFault::Usage => {
+            let _ = rt.eprintln(format_args!("ssh-keygen: {fault}"));
+            MISUSED
+        }
+        CommandFault::NoMemory => {
+            let _ = rt.eprintln(format_args!("ssh-keygen: {fault}"));
+            FAILED
+        }
+    }
+}
+
+// Prints the help, and gives the status.
+fn print_help(rt: &HostRuntime, text: &[u8]) -> u8
+    ensures { (result ≡ 0) ⊎ (result ≡ 255) }
+{
+    match send(&mut ToWrite::new(rt.stdout()), text) {
+        Ok(()) => 0,
+        Err(part) => {
+            let count = part.count as u64;
+            end(rt, &failed(OUTPUT, Cause::Output { count }))
+        }
+    }
+}

@@ -1,0 +1,70 @@
+//! A list that is written in place, where its folder takes no new file.
+
+ghost use Rattle.std.specs.Prelude.{◌<◌, ◌≤◌, IfErr, length};
+
+use ssh_wire::{ToWrite, send};
+use std::fs::File;
+use std::io::{self, Seek, SeekFrom};
+use std::os::unix::fs::FileExt;
+
+// Where the format version of a list stands, after its magic, and where it ends.
+const VERSION: usize = 8;
+
+const FRONT: usize = 12;
+// Each byte of a format version that no reader of lists takes.
+const NO_VERSION: u8 = 0xff;
+
+/// Writes a list over another file. Until all of it is written and synced, its format version is one
+/// that every reader refuses: so none takes a part of the list for the whole, nor finds it empty,
+/// also where the writing fails or the machine stops. A fault is the count of bytes that went out.
+pub fn write_in_place(file: &File, text: &[u8]) -> Result<(), u64>
+    ensures bound { IfErr result (λ count. count ≤ length text.now) }
+{
+    let Some((front, rest)) = text.split_first_chunk::<FRONT>() else {
+        return Err(0);
+    };
+    begin(file, front)?;
+    if let Err(count) = send_all(file, rest) {
+        return Err(FRONT as u64 + count);
+    }
+    match end(file, &front[VERSION..], text.len() as u64) {
+        Ok(()) => Ok(()),
+        Err(_) => Err(text.len() as u64),
+    }
+}
+
+// Writes the front of the list, with a version that no reader takes. It is synced before anything
+// else changes.
+fn begin(file: &File, front: &[u8; FRONT]) -> Result<(), u64>
+    ensures bound { IfErr result (λ count. count ≤ 12) }
+{
+    let mut refused = [NO_VERSION; FRONT];
+    refused[..VERSION].copy_from_slice(&front[..VERSION]);
+    let mut at_start = file;
+    if at_start.seek(SeekFrom::Start(0)).is_err() {
+        return Err(0);
+    }
+    send_all(file, &refused)?;
+    match file.sync_all() {
+        Ok(()) => Ok(()),
+        Err(_) => Err(FRONT as u64),
+    }
+}
+
+// Cuts the file to the length of the list, and gives it the true version once the rest is synced.
+fn end(file: &File, version: &[u8], length: u64) -> io::Result<()> {
+    file.set_len(length)?;
+    file.sync_all()?;
+    file.write_all_at(version, VERSION as u64)?;
+    file.sync_all()
+}
+
+/// Writes the bytes. A fault is the count of those that went out.
+pub fn send_all(file: &File, text: &[u8]) -> Result<(), u64>
+    ensures short { IfErr result (λ count. count < length text.now) }
+{
+    match send(&mut ToWrite::new(file), text) {
+        Ok(()) => Ok(()),
+        Err(part) => Err(part.count as u64),
+    }
+}

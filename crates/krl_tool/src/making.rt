@@ -1,0 +1,174 @@
+//! Making a list, and updating one (ssh-keygen(1), options -k and -u).
+
+ghost use Rattle.std.specs.Prelude.{◌≡◌, false};
+ghost use Rattle.std.specs.Option.{ForSome};
+
+use crate::clock::moment;
+use crate::ending::{end, failed, stopped};
+use crate::files::{buffered, open_authority, open_inputs};
+use crate::holding::{Place, hold};
+use crate::replacing::{Written, write_list};
+use krl_job::{Authority, Job};
+use krl_make::{Old, make_run};
+use krl_runs::{Cause, FileFault, Named, RunFault};
+use ssh_wire::{FromBuffer, Source};
+use std::fs::{self, File};
+
+// How often a list is opened anew whose name another file has got. Of updates at once each waits for
+// those before it, and opens what they made, so this is far above their number.
+const TRIES: u32 = 10_000;
+
+// What the list is made of.
+#[derive(Drop)]
+enum Base {
+    // Nothing.
+    Nothing,
+    // A regular file, which is opened anew once the lines are read, and locked.
+    File,
+    // A pipe or a device, which is read as it is.
+    Stream(File),
+}
+
+// The list that is wanted, beside what an old one holds.
+#[derive(Drop)]
+struct Wanted<'a> {
+    name: &'a str,
+    version: Option<u64>,
+    authority: Authority<Named<'a>>,
+    files: Vec<Named<'a>>,
+}
+
+/// `-k`: makes a list, of the old one where `-u` is given. Answers the exit status.
+pub fn make_list(rt: &HostRuntime, job: &Job) -> u8 {
+    let base = match base_of(rt, job) {
+        Ok(base) => base,
+        Err(cause) => return end(rt, &failed(job.file, cause)),
+    };
+    let authority = open_authority(rt, &job.authority);
+    let files = match open_inputs(rt, job.files.as_slice()) {
+        Ok(files) => files,
+        Err(fault) => return end(rt, &stopped(fault)),
+    };
+    let wanted = Wanted {
+        name: job.file,
+        version: job.version,
+        authority,
+        files,
+    };
+    make_of(rt, base, &wanted)
+}
+
+// What the list is made of. An old list that cannot be opened is reported before any file is read.
+fn base_of(rt: &HostRuntime, job: &Job) -> Result<Base, Cause> {
+    if !job.update {
+        return Ok(Base::Nothing);
+    }
+    let Ok(file) = fs::open(rt, job.file) else {
+        return Err(Cause::File(FileFault::Open));
+    };
+    match file.metadata() {
+        Ok(found) if found.is_file() => Ok(Base::File),
+        Ok(_) => Ok(Base::Stream(file)),
+        Err(_) => Err(Cause::File(FileFault::Open)),
+    }
+}
+
+// Makes the list and writes it, once the lines are read. Answers the exit status.
+fn make_of(rt: &HostRuntime, base: Base, wanted: &Wanted) -> u8 {
+    let made = match made_of(rt, base, wanted) {
+        Ok(made) => made,
+        Err(fault) => return end(rt, &stopped(fault)),
+    };
+    for _ in 0..TRIES {
+        match write_once(rt, &made, wanted) {
+            Ok(Written::Whole) => return 0,
+            Ok(Written::Elsewhere) => {}
+            Err(fault) => return end(rt, &stopped(fault)),
+        }
+    }
+    end(rt, &failed(wanted.name, Cause::Output { count: 0 }))
+}
+
+// The bytes of the list, where it is not made of one that is to be locked.
+fn made_of<'a>(
+    rt: &HostRuntime,
+    base: Base,
+    wanted: &'a Wanted<'a>,
+) -> Result<Option<Vec<u8>>, RunFault<'a>> {
+    match base {
+        Base::Nothing => Ok(Some(text_of(rt, None::<FromBuffer<File>>, wanted)?)),
+        Base::Stream(file) => Ok(Some(text_over(rt, file, wanted)?)),
+        Base::File => Ok(None),
+    }
+}
+
+// Writes what was made; else makes it of the list as it is now, which no other update changes
+// meanwhile.
+fn write_once<'a>(
+    rt: &HostRuntime,
+    made: &Option<Vec<u8>>,
+    wanted: &'a Wanted<'a>,
+) -> Result<Written, RunFault<'a>> {
+    let place = match hold(rt, wanted.name, made.is_none()) {
+        Ok(Some(place)) => place,
+        Ok(None) => return Ok(Written::Elsewhere),
+        Err(cause) => return Err(RunFault::whole(wanted.name, cause)),
+    };
+    let written = match made {
+        Some(text) => write_list(rt, &place, text),
+        None => write_list(rt, &place, &updated(rt, &place, wanted)?),
+    };
+    match written {
+        Ok(written) => Ok(written),
+        Err(cause) => Err(RunFault::whole(wanted.name, cause)),
+    }
+}
+
+// The list that is held, with the lines added. What is no file any more is not read.
+fn updated<'a>(
+    rt: &HostRuntime,
+    place: &Place,
+    wanted: &'a Wanted<'a>,
+) -> Result<Vec<u8>, RunFault<'a>> {
+    if let Place::Held(old) = place
+        && let Ok(file) = old.file.try_clone()
+    {
+        return text_over(rt, file, wanted);
+    }
+    Err(RunFault::whole(wanted.name, Cause::File(FileFault::Open)))
+}
+
+// The bytes of the list over an old one.
+fn text_over<'a>(
+    rt: &HostRuntime,
+    file: File,
+    wanted: &'a Wanted<'a>,
+) -> Result<Vec<u8>, RunFault<'a>> {
+    match buffered(rt, file) {
+        Ok(list) => text_of(rt, Some(FromBuffer::new(list)), wanted),
+        Err(cause) => Err(RunFault::whole(wanted.name, cause)),
+    }
+}
+
+// The bytes of the list over what a reader gives.
+fn text_of<'a, R: Source + Drop>(
+    rt: &HostRuntime,
+    list: Option<R>,
+    wanted: &'a Wanted<'a>,
+) -> Result<Vec<u8>, RunFault<'a>>
+    requires { ForSome list (λ reader. R.has_failed reader ≡ false) }
+{
+    let old = Old {
+        name: wanted.name,
+        list,
+    };
+    let (made, _) = make_run(
+        rt.alloc(),
+        old,
+        &wanted.authority,
+        wanted.version,
+        wanted.files.as_slice(),
+        moment(rt),
+    );
+    made
+}

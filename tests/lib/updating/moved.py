@@ -1,0 +1,152 @@
+"""The list's name during an update: given to another file, taken away, or not to be looked at."""
+
+import errno
+import os
+
+from files import OTHER
+from replacing.folder import LIST, OLD, without_key
+from updating.steps import Steps, content, same, shown
+from wire import HEADER, section, string
+
+ANOTHER = HEADER + section(2, string(OTHER))
+FAULTS = (b"ssh-keygen: r.krl: output 1 Write after 0 bytes\n", b"ssh-keygen: r.krl: file 1 Open\n")
+SORTS = (errno.EIO, errno.EACCES, errno.ENOMEM)
+ALL = 1 << 62
+
+
+def begin(place):
+    """The old list, and another one beside the folder. Links show whether a file is written."""
+    place.enter()
+    for name in ("../another", "../old"):
+        if os.path.exists(name):
+            os.remove(name)
+    place.put("../another", ANOTHER)
+    os.link(LIST, "../old")
+
+
+def with_lines(base, made):
+    """The list that an update makes of this one, by the one that it makes of the old one."""
+    return made.replace(OLD[len(HEADER) :], base[len(HEADER) :])
+
+
+def replaced(place, made):
+    """Another program renames its list over it. One call before the renaming is too late to see."""
+    steps = Steps(place)
+    begin(place)
+    calls, _ = steps.calls()
+    wrong = []
+    for number, name in enumerate(calls, 1):
+        begin(place)
+        done = steps.stopped(number, lambda: (os.link("../another", "x"), os.rename("x", LIST)))
+        wanted = [(0, with_lines(ANOTHER, made)), (255, ANOTHER)]
+        if "rename" in calls[number - 1 :]:
+            wanted += [(0, made)] if name == "rename" else []
+        else:
+            wanted += [(0, ANOTHER)]
+        found = content()
+        if not any(done.returncode == status and same(found, it) for status, it in wanted):
+            wrong.append("before call %d, %s: %s, %r" % (number, name, shown(done), found))
+        if content("../old") != OLD or content("../another") != ANOTHER:
+            wrong.append("before call %d, %s: a list is written in place" % (number, name))
+        if os.listdir() != [LIST] or (done.returncode and done.stderr not in FAULTS):
+            wrong.append("before call %d, %s: %s, %r" % (number, name, shown(done), os.listdir()))
+    place.judge("a list replaced by another program at each of %d calls" % len(calls), wrong)
+
+
+def taken_away(place, made):
+    """Another program moves it away, and no other list comes."""
+    steps = Steps(place)
+    begin(place)
+    calls, _ = steps.calls()
+    wrong = []
+    for number, name in enumerate(calls, 1):
+        begin(place)
+        done = steps.stopped(number, lambda: os.rename(LIST, "../away"))
+        is_named = "rename" not in calls[number - 1 :]
+        wanted = [(0, None, made)] if is_named else [(255, None, OLD)]
+        wanted += [(0, made, OLD)] if name == "rename" else []
+        found = (done.returncode, content(), content("../away"))
+        if not any(it[0] == found[0] and same(it[1], found[1]) and same(it[2], found[2]) for it in wanted):
+            wrong.append("before call %d, %s: %s" % (number, name, shown(done)))
+        if content("../old") != OLD or set(os.listdir()) - {LIST}:
+            wrong.append("before call %d, %s: %r" % (number, name, os.listdir()))
+    place.judge("a list moved away at each of %d calls" % len(calls), wrong)
+
+
+def first_list(place, made):
+    """Where there was no list, one that another program makes is not replaced unseen."""
+    steps = Steps(place, ("-k", "-f", LIST, "-s", "none", "../spec"))
+    begin(place)
+    os.remove(LIST)
+    calls, _ = steps.calls()
+    made = without_key(made)
+    wrong = []
+    for number, name in enumerate(calls, 1):
+        begin(place)
+        os.remove(LIST)
+        done = steps.stopped(number, lambda: os.link("../another", LIST) if LIST not in os.listdir() else None)
+        # It is made anew, so that the other list is replaced, as if it had been there before.
+        if done.returncode or content()[28:] != made[28:]:
+            wrong.append("before call %d, %s: %s" % (number, name, shown(done)))
+        if content("../another") != ANOTHER or os.listdir() != [LIST]:
+            wrong.append("before call %d, %s: %r" % (number, name, os.listdir()))
+    place.judge("a first list beside another one, at each of %d calls" % len(calls), wrong)
+
+
+def failing(place, made):
+    """Each call fails in turn, and all of a name: the list is replaced whole, or stays."""
+    steps = Steps(place)
+    begin(place)
+    calls, _ = steps.calls()
+    for name in sorted({*calls} - {"close", "unlink"}):
+        turns = ["%d-%d" % (it, it) for it in range(1, calls.count(name) + 1)] + ["1-%d" % ALL]
+        wrong = []
+        for turn in turns:
+            for error in SORTS:
+                begin(place)
+                done = steps.run(FAIL="%s:%s:%d" % (name, turn, error))
+                # The list of a folder that takes no new file is written in place.
+                in_place = name == "create" and error == errno.EACCES
+                is_whole = done.returncode == 0 and same(content(), made)
+                if not is_whole and (done.returncode, content()) != (255, OLD):
+                    wrong.append("%s of %s: %s" % (turn, os.strerror(error), shown(done)))
+                if (content("../old") != OLD) != in_place or os.listdir() != [LIST]:
+                    wrong.append("%s of %s: it is written in place" % (turn, os.strerror(error)))
+        place.judge("each %s of an update fails" % name, wrong)
+
+
+def without_locks(place, made):
+    """A file system without locks is written as ever. Other faults of a lock are refused opens."""
+    for error in (errno.EOPNOTSUPP, errno.ENOSYS, errno.ENOLCK):
+        begin(place)
+        done = Steps(place).run(FAIL="flock:1-%d:%d" % (ALL, error))
+        wrong = place.differs(done, 0, b"") + place.stands(made)
+        place.judge("no locks: %s" % os.strerror(error), wrong)
+    begin(place)
+    done = Steps(place).run(FAIL="flock:1-1:%d" % errno.EIO)
+    place.judge("a lock that fails", place.differs(done, 255, FAULTS[1]) + place.stands(OLD))
+
+
+def unseen(place):
+    """A list whose path is never seen is left as it is, at the end of a bounded number of tries."""
+    begin(place)
+    done = Steps(place).run(FAIL="lstat:1-%d:%d" % (ALL, errno.EIO))
+    place.judge("a path that cannot be looked at", place.differs(done, 255, FAULTS[0]) + place.stands(OLD))
+
+
+def refused_opens(place):
+    """A list, or the new file beside it, that cannot be opened, is so reported."""
+    for name in ("open", "create"):
+        for error in (errno.EIO, errno.ENOSPC, errno.EMFILE):
+            begin(place)
+            done = Steps(place).run(FAIL="%s:1-%d:%d" % (name, ALL, error))
+            wrong = place.differs(done, 255, FAULTS[1]) + place.stands(OLD)
+            place.judge("no %s: %s" % (name, os.strerror(error)), wrong)
+
+
+def all_of_them(place):
+    made = place.made()
+    for case in (replaced, taken_away, first_list, failing, without_locks):
+        case(place, made)
+    unseen(place)
+    refused_opens(place)

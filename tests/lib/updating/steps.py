@@ -1,0 +1,91 @@
+"""Runs of the program over the library that counts its calls on files, and acts at one of them."""
+
+import os
+import signal
+import subprocess
+
+from replacing.folder import LIST, NOBODY, timeless
+from wire import HEADER
+
+# A list up to its format version, in place of which no reader takes this.
+REFUSED = HEADER[:8] + b"\xff" * 4
+UPDATE = ("-k", "-u", "-f", LIST, "-s", "none", "../spec")
+
+
+class Ended:
+    def __init__(self, process, was_stopped):
+        self.stdout, self.stderr = process.communicate(timeout=60)
+        self.returncode = process.returncode
+        # Whether the call was made at which the program was to stop.
+        self.was_stopped = was_stopped
+
+
+class Steps:
+    """Runs with these words, maybe as another user."""
+
+    def __init__(self, place, words=UPDATE, user=None):
+        self.place = place
+        self.words = words
+        self.user = user
+
+    def run(self, **orders):
+        """A run to its end, by the orders that the library is given."""
+        environment = {"LD_PRELOAD": self.place.library, **orders}
+        return self.place.run(*self.words, user=self.user, env=environment)
+
+    def calls(self, **orders):
+        """The names of the calls of a run, in their order, and how it ended."""
+        log = os.path.join(self.place.scratch, "calls")
+        with open(log, "wb") as out:
+            os.fchmod(out.fileno(), 0o666)
+        done = self.run(CALLS=log, **orders)
+        with open(log, encoding="ascii") as text:
+            return text.read().split(), done
+
+    def stopped(self, number, meanwhile):
+        """A run that stops before this call; then meanwhile is done, and it goes on."""
+        as_user = {} if self.user is None else {"user": self.user, "extra_groups": []}
+        orders = {"AT": str(number), "SIGNAL": str(int(signal.SIGSTOP))}
+        process = subprocess.Popen(
+            [self.place.program, *self.words],
+            stdin=subprocess.DEVNULL,
+            stdout=subprocess.PIPE,
+            stderr=subprocess.PIPE,
+            env={"LD_PRELOAD": self.place.library, **orders},
+            **as_user,
+        )
+        # It is left to be waited for, where it has ended.
+        found = os.waitid(os.P_PID, process.pid, os.WSTOPPED | os.WEXITED | os.WNOWAIT)
+        was_stopped = found.si_code == os.CLD_STOPPED
+        if was_stopped:
+            meanwhile()
+            os.kill(process.pid, signal.SIGCONT)
+        return Ended(process, was_stopped)
+
+
+def content(name=LIST):
+    if not os.path.exists(name):
+        return None
+    with open(name, "rb") as file:
+        return file.read()
+
+
+def same(left, right):
+    """Whether both are the same list, but for its time."""
+    if left is None or right is None:
+        return left is right
+    return timeless(left) == timeless(right)
+
+
+def closed(place, old):
+    """A folder that takes no new file, and a list in it that the user may write."""
+    user = NOBODY if os.geteuid() == 0 else None
+    place.enter(old=old)
+    if user is not None:
+        os.chown(LIST, user, user)
+    os.chmod(".", 0o555)
+    return user
+
+
+def shown(done):
+    return "status %d, error %r" % (done.returncode, done.stderr)
