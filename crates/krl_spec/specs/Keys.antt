@@ -4,7 +4,7 @@ use Rattle.std.proofs.lemmas.List.{length-append}
 use Rattle.ssh_wire.specs.Fields.{length-string}
 use Rattle.ssh_wire.specs.Wire.{complement, mpint, string}
 use Rattle.ssh_key.specs.Key.{AreValues, IsKey, Key, field_text, fields_text}
-use Rattle.ssh_key.specs.Kind.{Field, Positive, Curve, Point, Sized, Text, fields_of, type_name}
+use Rattle.ssh_key.specs.Kind.{Field, Positive, Curve, Point, Sized, Application, fields_of, type_name}
 use Rattle.ssh_key.specs.declared.kind.Kind.{Kind}
 use Rattle.ssh_key.specs.declared.kind.Kind.TheVariants.{Rsa, Dsa, Ecdsa256, Ecdsa384}
 use Rattle.ssh_key.specs.declared.kind.Kind.TheVariants.{Ecdsa521, Ed25519, EcdsaSk, Ed25519Sk}
@@ -15,7 +15,7 @@ field_room Positive value = omega (arith, length-string (complement value))
 field_room (Curve name) value = omega (arith, length-string value)
 field_room (Point size) value = omega (arith, length-string value)
 field_room (Sized size) value = omega (arith, length-string value)
-field_room Text value = omega (arith, length-string value)
+field_room Application value = omega (arith, length-string value)
 
 fields_room : (fields : List Field) (values : List (List ℕ)) → AreValues fields values
     → 4 * length fields ≤ length (fields_text fields values)

@@ -6,7 +6,7 @@ use Rattle.ssh_wire.specs.declared.fault.WireFault.{WireFault}
 use Rattle.ssh_key.specs.declared.fault.KeyFault.{KeyFault}
 use Rattle.ssh_key.specs.declared.fault.KeyFault.TheVariants as faults
 use Rattle.ssh_key.specs.declared.kind.Kind.{Kind}
-use Rattle.ssh_key.specs.Kind.{Field, Positive, Curve, Point, Sized, type_name, fields_of}
+use Rattle.ssh_key.specs.Kind.{Field, Positive, Curve, Point, Sized, Application, type_name, fields_of}
 use Rattle.ssh_key.specs.Key.{IsValue, AreValues, fields_text, longest_blob}
 
 -- a string at the front of the bytes that may not be in the field
@@ -24,6 +24,7 @@ Refuses field bytes (faults.Wire fault) = string_at bytes ≡ Err fault
 Refuses (Curve name) bytes faults.Curve = BeginsWithOther (Curve name) bytes
 Refuses (Point size) bytes faults.Point = BeginsWithOther (Point size) bytes
 Refuses (Sized size) bytes faults.Length = BeginsWithOther (Sized size) bytes
+Refuses Application bytes faults.Length = BeginsWithOther Application bytes
 Refuses field bytes fault = ⊥
 
 -- The bytes are the public fields before the later ones, with values that may stand there, and then

@@ -1,9 +1,9 @@
--- What a public key is, and the one spelling of its blob (RFC 4253 section 6.6, RFC 5656 and
--- RFC 8709).
-use Rattle.std.specs.Prelude.{◌≡◌, ℕ, ◌+◌, ◌^◌, ◌<◌, ◌≤◌, List, [], ◌∷◌, ◌++◌, length}
+-- What a public key is, and the one spelling of its blob (RFC 4253 section 6.6, RFC 5656, RFC 8709
+-- and OpenSSH's PROTOCOL.u2f).
+use Rattle.std.specs.Prelude.{◌≡◌, ◌≢◌, ℕ, ◌+◌, ◌^◌, ◌<◌, ◌≤◌, List, [], ◌∷◌, ◌++◌, length}
 use Rattle.ssh_wire.specs.Wire.{mpint, string}
 use Rattle.ssh_key.specs.declared.kind.Kind.{Kind}
-use Rattle.ssh_key.specs.Kind.{Field, Positive, Curve, Point, Sized, Text, type_name, fields_of, bits_of}
+use Rattle.ssh_key.specs.Kind.{Field, Positive, Curve, Point, Sized, Application, type_name, fields_of, bits_of}
 
 -- a key: its kind, the bytes of its public fields, and its size in bits
 pub record Key : Type 0 where
@@ -29,13 +29,19 @@ abbrev pub IsUncompressed : List ℕ → Type 0
 IsUncompressed [] = ⊥
 IsUncompressed (byte ∷ bytes) = byte ≡ 4
 
+-- An application has no zero byte, as OpenSSH writes it: a zero byte ends its texts, and it drops one
+-- that stands last.
+abbrev pub IsApplication : List ℕ → Type 0
+IsApplication [] = Unit {0}
+IsApplication (byte ∷ bytes) = (byte ≢ 0) × IsApplication bytes
+
 -- The value may be in the field. A number stands there by its magnitude.
 abbrev pub IsValue : Field → List ℕ → Type 0
 IsValue Positive value = IsPositive value
 IsValue (Curve name) value = value ≡ name
 IsValue (Point size) value = (length value ≡ size) × IsUncompressed value
 IsValue (Sized size) value = length value ≡ size
-IsValue Text value = Unit {0}
+IsValue Application value = IsApplication value
 
 -- how the value is spelled in the field
 abbrev pub field_text : Field → List ℕ → List ℕ

@@ -1,12 +1,13 @@
 -- Reading a key from left to right, with the first fault that is met.
 use Rattle.std.specs.Prelude.{◌≡◌, ℕ, ◌-◌, Bool, List, [], ◌∷◌, length, take, Option, Some, None, Result, Ok, Err, nat_lt, ◌==◌, ◌&&◌, if◌then◌else◌}
+use Rattle.std.specs.List.{list_any}
 use Rattle.std.specs.Option.{ok_or}
 use Rattle.std.specs.Str.{bytes_eq}
 use Rattle.ssh_wire.specs.Reading.{◌>>=◌, in_fault, mpint_at, string_at}
 use Rattle.ssh_key.specs.declared.fault.KeyFault.{KeyFault}
 use Rattle.ssh_key.specs.declared.fault.KeyFault.TheVariants as faults
 use Rattle.ssh_key.specs.declared.kind.Kind.{Kind}
-use Rattle.ssh_key.specs.Kind.{Field, Positive, Curve, Point, Sized, Text, fields_of, bits_of, kind_named}
+use Rattle.ssh_key.specs.Kind.{Field, Positive, Curve, Point, Sized, Application, fields_of, bits_of, kind_named}
 use Rattle.ssh_key.specs.Key.{Key, blob_of, longest_blob}
 
 -- the value at the front, whether or not it may stand there, and the bytes after it
@@ -18,6 +19,9 @@ abbrev pub begins_with_4 : List ℕ → Bool
 begins_with_4 [] = Bool.false
 begins_with_4 (byte ∷ bytes) = byte == 4
 
+abbrev pub has_zero : List ℕ → Bool
+has_zero value = list_any (λ byte. byte == 0) value
+
 -- why the value may not be in the field
 abbrev pub fault_in : Field → List ℕ → Option KeyFault
 fault_in Positive value = if length value == 0 then Some faults.Number else None
@@ -25,7 +29,7 @@ fault_in (Curve name) value = if bytes_eq value name then None else Some faults.
 fault_in (Point size) value =
     if length value == size && begins_with_4 value then None else Some faults.Point
 fault_in (Sized size) value = if length value == size then None else Some faults.Length
-fault_in Text value = None
+fault_in Application value = if has_zero value then Some faults.Length else None
 
 abbrev pub unless : {A : Type 0} → Option KeyFault → A → Result A KeyFault
 unless None x = Ok x

@@ -50,13 +50,13 @@ unfoldable pub kind_certified : List ℕ → Option Kind
 kind_certified name = find (λ kind. bytes_eq (certificate_name kind) name) kinds
 
 -- What is in a public field: a number above zero; the name of the curve; an uncompressed point
--- of this many bytes; any string of this many bytes; any string.
+-- of this many bytes; any string of this many bytes; what a key of a device is for.
 pub data Field : Type 0 where
   Positive : Field
   Curve : (name : List ℕ) → Field
   Point : (size : ℕ) → Field
   Sized : (size : ℕ) → Field
-  Text : Field
+  Application : Field
 
 abbrev pub fields_of : Kind → List Field
 fields_of Rsa = Positive ∷ Positive ∷ []
@@ -65,8 +65,8 @@ fields_of Ecdsa256 = Curve (codes "nistp256") ∷ Point 65 ∷ []
 fields_of Ecdsa384 = Curve (codes "nistp384") ∷ Point 97 ∷ []
 fields_of Ecdsa521 = Curve (codes "nistp521") ∷ Point 133 ∷ []
 fields_of Ed25519 = Sized 32 ∷ []
-fields_of EcdsaSk = Curve (codes "nistp256") ∷ Point 65 ∷ Text ∷ []
-fields_of Ed25519Sk = Sized 32 ∷ Text ∷ []
+fields_of EcdsaSk = Curve (codes "nistp256") ∷ Point 65 ∷ Application ∷ []
+fields_of Ed25519Sk = Sized 32 ∷ Application ∷ []
 
 -- eight for each byte of a magnitude, less the leading zero bits of the first
 abbrev pub bit_count : List ℕ → ℕ

@@ -20,7 +20,7 @@ pub enum KeyFault {
     Curve,
     /// A point is not as long as the curve's, or is not uncompressed.
     Point,
-    /// A field of 32 bytes has another length.
+    /// A field of 32 bytes has another length, or an application has a zero byte.
     Length,
     /// A number is zero.
     Number,

@@ -2,7 +2,7 @@
 
 ghost use Rattle.std.specs.Prelude.{◌+◌, ◌-◌, ◌≤◌, ◌∷◌, [], IfOk, length};
 ghost use Rattle.ssh_wire.specs.Reading.{Gives};
-ghost use Rattle.ssh_key.specs.Kind.{Curve, Point, Positive, Sized, Text};
+ghost use Rattle.ssh_key.specs.Kind.{Application, Curve, Point, Positive, Sized};
 ghost use Rattle.ssh_key.specs.KeyReading.{bits_at, field_at};
 ghost use Rattle.ssh_key.specs.Fields.{bits_of_size, IsWithin, sized_at};
 
@@ -99,7 +99,7 @@ fn read_ecdsa_device<'a>(cursor: &mut Cursor<'a>) -> Result<Size<'a>, KeyFault>
 {
     let _curve = read_curve(cursor, "nistp256")?;
     let _point = read_point(cursor, 65)?;
-    let _application = read_text(cursor)?;
+    let _application = read_application(cursor)?;
     Ok(Size::Bits(256))
 }
 
@@ -110,7 +110,7 @@ fn read_ed25519_device<'a>(cursor: &mut Cursor<'a>) -> Result<Size<'a>, KeyFault
     ensures within { IfOk result (λ size. IsWithin size (length cursor.old - length cursor.new)) }
 {
     let _public = read_sized(cursor, ED25519_SIZE)?;
-    let _application = read_text(cursor)?;
+    let _application = read_application(cursor)?;
     Ok(Size::Bits(256))
 }
 
@@ -167,10 +167,15 @@ fn read_sized<'a>(cursor: &mut Cursor<'a>, size: usize) -> Result<&'a [u8], KeyF
     Ok(string)
 }
 
-// Any string.
+// What a key of a device is for (PROTOCOL.u2f): a string without a zero byte. OpenSSH drops such a
+// byte where it stands last, so with it a key would have a second spelling.
 #[tactic(auto, unfolding(crate::specs::KeyReading::field_at))]
-fn read_text<'a>(cursor: &mut Cursor<'a>) -> Result<&'a [u8], KeyFault>
-    ensures { Gives (λ value. value.now) result cursor.new (field_at Text cursor.old) }
+fn read_application<'a>(cursor: &mut Cursor<'a>) -> Result<&'a [u8], KeyFault>
+    ensures { Gives (λ value. value.now) result cursor.new (field_at Application cursor.old) }
 {
-    Ok(cursor.string()?)
+    let string = cursor.string()?;
+    if string.contains(&0) {
+        return Err(KeyFault::Length);
+    }
+    Ok(string)
 }

@@ -56,11 +56,28 @@ const NEGATIVE: KeyFault = KeyFault::Wire(WireFault::Negative);
 const NOT_SHORTEST: KeyFault = KeyFault::Wire(WireFault::NotShortest);
 
 // The strings of a blob, and its fault.
-const REFUSED: [(&[&[u8]], KeyFault); 7] = [
+const REFUSED: [(&[&[u8]], KeyFault); 11] = [
     (&[b"ssh-rsa", &[3], &[0, 0x7f]], NOT_SHORTEST),
     (&[b"ssh-rsa", &[3], &[0xff]], NEGATIVE),
     (&[b"ssh-rsa", &[], &[0, 0xff]], KeyFault::Number),
     (&[b"ssh-ed25519", &[7; 31]], KeyFault::Length),
+    // an application with a zero byte at its end, in its middle and alone
+    (
+        &[b"sk-ssh-ed25519@openssh.com", &PUBLISHED, b"ssh:\0"],
+        KeyFault::Length,
+    ),
+    (
+        &[b"sk-ssh-ed25519@openssh.com", &PUBLISHED, b"ss\0h:"],
+        KeyFault::Length,
+    ),
+    (
+        &[b"sk-ssh-ed25519@openssh.com", &PUBLISHED, b"\0"],
+        KeyFault::Length,
+    ),
+    (
+        &[b"sk-ssh-ed25519@openssh.com", &PUBLISHED, b"\0", b""],
+        KeyFault::Length,
+    ),
     (
         &[b"ssh-ed25519-cert-v01@openssh.com", &PUBLISHED],
         KeyFault::UnknownType,
