@@ -129,6 +129,15 @@ lists 'all serial numbers but 0' "serial: 1-$highest" "a5 a$highest" 'a0 b5' "${
 lists 'the highest serial number' "serial: $highest" a$highest 'a5 a0' "${under_a[@]}"
 lists 'a certificate of serial number 0' "$(cat "$room/a0.pub")" a0 a5
 lists 'a certificate' "$(cat "$room/a7.pub")" a7 'a6 one'
+# A key that sshd would read as another one, for OpenSSH drops the zero byte: it is in no list.
+cp "$room/revoked.krl" "$room/before.krl"
+sk=sk-ssh-ed25519@openssh.com
+line $sk "$(words $sk)$(string "${G: -64}")$(string "$(text ssh:)00")" >"$room/spec"
+expect 'an application with a zero byte' 255 '' \
+  "ssh-keygen: $room/spec: line 1: spec 6 Key, subject 1 Key, key 5 Length"$'\n' \
+  -k -u -f "$room/revoked.krl" "$room/spec"
+judge 'the list is as it was' "$(cmp "$room/before.krl" "$room/revoked.krl" 2>&1)"
+. "$tests/lib/sshd/meanwhile.sh"
 rm "$room/revoked.krl"
 judge 'sshd refuses all keys where the list is missing' "$(enters one && echo '  it lets in')"
 

@@ -1,14 +1,13 @@
-"""Lists in a folder that takes no new file: what stands there between the calls, and after faults."""
+"""Lists in a folder that takes no new file: what stands there between calls, and after faults."""
 
 import errno
 import os
 
 from replacing.folder import LIST, OLD, fault, without_key
 from updating.cut_off import is_refused
-from updating.steps import REFUSED, UPDATE, Steps, closed, content, same, shown
+from updating.steps import ANEW, REFUSED, UPDATE, Steps, closed, content, same, shown
 from wire import HEADER
 
-ANEW = ("-k", "-f", LIST, "-s", "none", "../spec")
 CHANGES = ("write", "ftruncate", "pwrite")
 
 
@@ -24,14 +23,14 @@ def between(place, name, old, words, wanted):
         done = steps.stopped(number, lambda: seen.append(content()))
         it = seen[0]
         if it != old and not it.startswith(REFUSED) and not same(it, wanted):
-            wrong.append("before call %d, %s, it has %d bytes: %r" % (number, call, len(it), it[:40]))
+            wrong.append("before call %d, %s, it is %r" % (number, call, it[:40]))
         if done.returncode or not same(content(), wanted):
             wrong.append("stopped at call %d, %s: %s" % (number, call, shown(done)))
     place.judge("%s in place, at each of %d calls" % (name, len(calls)), wrong)
 
 
 def synced(place):
-    """The refused version is synced before anything else, and all of the rest before the true one."""
+    """The refused version is synced before all else, and the rest before the true version."""
     calls, _ = Steps(place, user=closed(place, OLD)).calls()
     order = [it for it in calls if it in CHANGES + ("fsync",)]
     changes = [at for at, it in enumerate(order) if it in CHANGES]
@@ -44,7 +43,7 @@ def synced(place):
 
 
 def failing(place, made):
-    """Each change and each sync fails in turn: the list is refused, or the old one, and it is told."""
+    """Each change and each sync fails in turn: it is told, and the list is refused, or the old one."""
     calls, _ = Steps(place, user=closed(place, OLD)).calls()
     wrong = []
     for name in CHANGES + ("fsync",):
@@ -64,7 +63,7 @@ def failing(place, made):
 
 
 def limits(place, made):
-    """A file that may not grow further: the count is what went out, and no reader takes the list."""
+    """A file that may not grow further: the count is what went out, and no reader takes it."""
     wrong = []
     for length in (len(OLD), len(OLD) + 1, len(made) // 2, len(made) - 1):
         user = closed(place, OLD)

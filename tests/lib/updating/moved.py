@@ -5,7 +5,7 @@ import os
 
 from files import OTHER
 from replacing.folder import LIST, OLD, without_key
-from updating.steps import Steps, content, same, shown
+from updating.steps import ANEW, UPDATE, Steps, content, same, shown
 from wire import HEADER, section, string
 
 ANOTHER = HEADER + section(2, string(OTHER))
@@ -44,8 +44,8 @@ def replaced(place, made):
         else:
             wanted += [(0, ANOTHER)]
         found = content()
-        if not any(done.returncode == status and same(found, it) for status, it in wanted):
-            wrong.append("before call %d, %s: %s, %r" % (number, name, shown(done), found))
+        if not is_one_of((done.returncode, found), wanted):
+            wrong.append("before call %d, %s: %s, %r" % (number, name, shown(done), found[:60]))
         if content("../old") != OLD or content("../another") != ANOTHER:
             wrong.append("before call %d, %s: a list is written in place" % (number, name))
         if os.listdir() != [LIST] or (done.returncode and done.stderr not in FAULTS):
@@ -65,17 +65,28 @@ def taken_away(place, made):
         is_named = "rename" not in calls[number - 1 :]
         wanted = [(0, None, made)] if is_named else [(255, None, OLD)]
         wanted += [(0, made, OLD)] if name == "rename" else []
-        found = (done.returncode, content(), content("../away"))
-        if not any(it[0] == found[0] and same(it[1], found[1]) and same(it[2], found[2]) for it in wanted):
+        if not is_one_of((done.returncode, content(), content("../away")), wanted):
             wrong.append("before call %d, %s: %s" % (number, name, shown(done)))
         if content("../old") != OLD or set(os.listdir()) - {LIST}:
             wrong.append("before call %d, %s: %r" % (number, name, os.listdir()))
     place.judge("a list moved away at each of %d calls" % len(calls), wrong)
 
 
+def link_another():
+    if LIST not in os.listdir():
+        os.link("../another", LIST)
+
+
+def is_one_of(found, wanted):
+    """Whether a status and lists are wanted together."""
+    return any(
+        it[0] == found[0] and all(same(*pair) for pair in zip(it[1:], found[1:])) for it in wanted
+    )
+
+
 def first_list(place, made):
     """Where there was no list, one that another program makes is not replaced unseen."""
-    steps = Steps(place, ("-k", "-f", LIST, "-s", "none", "../spec"))
+    steps = Steps(place, ANEW)
     begin(place)
     os.remove(LIST)
     calls, _ = steps.calls()
@@ -84,7 +95,7 @@ def first_list(place, made):
     for number, name in enumerate(calls, 1):
         begin(place)
         os.remove(LIST)
-        done = steps.stopped(number, lambda: os.link("../another", LIST) if LIST not in os.listdir() else None)
+        done = steps.stopped(number, link_another)
         # It is made anew, so that the other list is replaced, as if it had been there before.
         if done.returncode or content()[28:] != made[28:]:
             wrong.append("before call %d, %s: %s" % (number, name, shown(done)))
@@ -131,7 +142,8 @@ def unseen(place):
     """A list whose path is never seen is left as it is, at the end of a bounded number of tries."""
     begin(place)
     done = Steps(place).run(FAIL="lstat:1-%d:%d" % (ALL, errno.EIO))
-    place.judge("a path that cannot be looked at", place.differs(done, 255, FAULTS[0]) + place.stands(OLD))
+    wrong = place.differs(done, 255, FAULTS[0]) + place.stands(OLD)
+    place.judge("a path that cannot be looked at", wrong)
 
 
 def refused_opens(place):
@@ -144,9 +156,25 @@ def refused_opens(place):
             place.judge("no %s: %s" % (name, os.strerror(error)), wrong)
 
 
+def synced(place):
+    """The new file is synced before it gets its name, and the folder after that."""
+    for words, naming, old in ((UPDATE, "rename", OLD), (ANEW, "link", None)):
+        place.enter(old=old)
+        calls, _ = Steps(place, words).calls()
+        order = [it for it in calls if it in ("write", "fsync", naming)]
+        wanted = ["write", "fsync", naming, "fsync"]
+        place.judge("syncs beside the %s" % naming, [] if order == wanted else ["%s" % order])
+        place.enter(old=old)
+        done = Steps(place, words).run(FAIL="fsync:1-1:%d" % errno.EIO)
+        wrong = place.differs(done, 255, FAULTS[0])
+        wrong += place.stands(old, names=[LIST] if old else [])
+        place.judge("a first sync that fails, beside the %s" % naming, wrong)
+
+
 def all_of_them(place):
     made = place.made()
     for case in (replaced, taken_away, first_list, failing, without_locks):
         case(place, made)
     unseen(place)
+    synced(place)
     refused_opens(place)

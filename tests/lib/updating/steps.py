@@ -10,6 +10,7 @@ from wire import HEADER
 # A list up to its format version, in place of which no reader takes this.
 REFUSED = HEADER[:8] + b"\xff" * 4
 UPDATE = ("-k", "-u", "-f", LIST, "-s", "none", "../spec")
+ANEW = ("-k", "-f", LIST, "-s", "none", "../spec")
 
 
 class Ended:

@@ -110,8 +110,8 @@ def slow_lines(place):
     """Who waits for lines keeps nobody out, and adds them to the list as it is then."""
     place.enter()
     slow = started(place, *WORDS)
-    quick = ended([started(place, *WORDS) for _ in range(3)], [b"serial: %d\n" % it for it in (1, 3, 5)])
-    wrong = faults(quick)
+    lines = [b"serial: %d\n" % it for it in (1, 3, 5)]
+    wrong = faults(ended([started(place, *WORDS) for _ in lines], lines))
     if slow.poll() is not None:
         wrong.append("it did not wait")
     wrong += faults(ended([slow], [b"serial: 7\n"]))
