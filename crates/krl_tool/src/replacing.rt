@@ -51,11 +51,20 @@ pub fn write_list(rt: &HostRuntime, place: &Place, text: &[u8]) -> Result<Writte
 fn replace(rt: &HostRuntime, old: &OldList, text: &[u8]) -> Result<Written, Cause> {
     match create_beside(rt, &old.path, Some(&old.found)) {
         Ok(new) => take_its_place(rt, &old.path, Some(&old.found), &new, text),
-        Err(error) if takes_no_file(error.kind()) => match write_in_place(&old.file, text) {
-            Ok(()) => Ok(Written::Whole),
-            Err(count) => Err(Cause::Output { count }),
-        },
+        Err(error) if takes_no_file(error.kind()) => overwrite(rt, old, text),
         Err(error) => Err(unopened(&error)),
+    }
+}
+
+// Writes the list in place. What was written there counts only if it still has the name then.
+fn overwrite(rt: &HostRuntime, old: &OldList, text: &[u8]) -> Result<Written, Cause> {
+    if !is_at(rt, &old.path, Some(&old.found)) {
+        return Ok(Written::Elsewhere);
+    }
+    match write_in_place(&old.file, text) {
+        Ok(()) if is_at(rt, &old.path, Some(&old.found)) => Ok(Written::Whole),
+        Ok(()) => Ok(Written::Elsewhere),
+        Err(count) => Err(Cause::Output { count }),
     }
 }
 

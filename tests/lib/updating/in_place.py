@@ -5,6 +5,7 @@ import os
 
 from replacing.folder import LIST, OLD, fault, without_key
 from updating.cut_off import is_refused
+from updating.moved import ANOTHER, with_lines
 from updating.steps import ANEW, REFUSED, UPDATE, Steps, closed, content, same, shown
 from wire import HEADER
 
@@ -79,6 +80,35 @@ def limits(place, made):
     place.judge("a list in place that may not grow", wrong)
 
 
+def replaced(place, made):
+    """Another program, which may make files there, renames its list over the one in place."""
+    steps = Steps(place, user=closed(place, OLD))
+    calls, _ = steps.calls()
+    last = len(calls) - calls[::-1].index("lstat")
+    wrong = []
+    for number, name in enumerate(calls, 1):
+        user = closed(place, OLD)
+        put_another(place, user)
+        done = steps.stopped(number, put_over)
+        # After the last look at the name it is too late to see.
+        wanted = ANOTHER if number > last else with_lines(ANOTHER, made)
+        if done.returncode or not same(content(), wanted):
+            wrong.append("before call %d, %s: %s" % (number, name, shown(done)))
+    place.judge("another list over one in place, at each of %d calls" % len(calls), wrong)
+
+
+def put_another(place, user):
+    place.put("../another", ANOTHER)
+    if user is not None:
+        os.chown("../another", user, user)
+
+
+def put_over():
+    os.chmod(".", 0o755)
+    os.rename("../another", LIST)
+    os.chmod(".", 0o555)
+
+
 def all_of_them(place):
     made = place.made()
     anew = without_key(made)[:12] + bytes(8) + without_key(made)[20:]
@@ -89,6 +119,7 @@ def all_of_them(place):
     with open("../key.pub", "rb") as keys:
         between(place, "a list over a file of keys", keys.read(), ANEW, anew)
     between(place, "a shorter list", made, ("-k", "-f", LIST, "-z", "1"), HEADER)
+    replaced(place, made)
     synced(place)
     failing(place, made)
     limits(place, made)
