@@ -26,7 +26,7 @@ done
 cat "$room/ca-a.pub" "$room/ca-b.pub" >"$room/authorities"
 cat "$room/one.pub" "$room/two.pub" >"$room/allowed"
 
-# listen PORT: starts sshd, and reports whether it listens. It ends by itself after five minutes.
+# listen PORT: starts sshd, and reports whether it listens. It ends by itself after ten minutes.
 listen() {
   cat >"$room/config" <<END
 Port $1
@@ -45,7 +45,7 @@ PasswordAuthentication no
 KbdInteractiveAuthentication no
 MaxStartups 100
 END
-  timeout 300 "$daemon" -D -e -f "$room/config" 2>"$room/log" &
+  timeout 600 "$daemon" -D -e -f "$room/config" 2>"$room/log" &
   server=$!
   for _ in {1..100}; do
     kill -0 $server 2>/dev/null || return
