@@ -125,6 +125,13 @@ BITMAPS = {
     "even bits, then odd ones": large_bitmaps(b"\x55" * BITMAP, b"\x2a" * BITMAP),
 }
 
+# Lists that are refused at their end.
+LYING = {
+    "a section that is not whole": lying_section,
+    "a key that is not whole": lying_key,
+    "a bitmap that is not whole": lying_bitmap,
+}
+
 SHAPES = {
     **BITMAPS,
     "key IDs of one byte": short_ids,
@@ -136,7 +143,5 @@ SHAPES = {
     "ranges that one range joins": merged_ranges,
     "serials that fill gaps": merged_one_by_one,
     "sections of nothing": empty_sections,
-    "a section that is not whole": lying_section,
-    "a key that is not whole": lying_key,
-    "a bitmap that is not whole": lying_bitmap,
+    **LYING,
 }

@@ -1,11 +1,25 @@
-//! The yardstick: a revocation list (PROTOCOL.krl) read as one would in plain Rust, over the standard
-//! library's ordered maps, and keys asked by their blobs. `plain LIST [KEYS]` prints a line for each key.
+//! The yardstick: a revocation list (PROTOCOL.krl) read as one would in plain Rust, and keys asked by their
+//! blobs. `plain hold LIST [KEYS]` puts the list into the standard library's ordered maps first, and
+//! `plain pass LIST [KEYS]` looks at each entry as it passes; both print a line for each key.
 
-use std::collections::{BTreeMap, BTreeSet};
+use std::collections::{BTreeMap, BTreeSet, HashSet};
 use std::fs::File;
 use std::io::{self, BufRead, BufReader, BufWriter, Read, Write};
 
 const LIMIT: u64 = 64 << 20;
+
+/// What becomes of the entries of a list.
+trait Entries {
+    fn authority(&mut self, name: &[u8]);
+    /// Whether some serial from `lo` to `hi` counts.
+    fn wants(&self, lo: u64, hi: u64) -> bool;
+    fn serials(&mut self, lo: u64, hi: u64);
+    fn id(&mut self, id: &[u8]);
+    fn key(&mut self, blob: &[u8]);
+    fn sha1(&mut self, hash: [u8; 20]);
+    fn sha256(&mut self, hash: [u8; 32]);
+    fn is_revoked(&self, blob: &[u8]) -> bool;
+}
 
 /// Intervals that do not touch, by their first number.
 #[derive(Default)]
@@ -36,12 +50,97 @@ struct Authority {
     ids: BTreeSet<Vec<u8>>,
 }
 
+/// All of a list.
 #[derive(Default)]
 struct Revoked {
-    authorities: BTreeMap<Vec<u8>, Authority>,
+    places: BTreeMap<Vec<u8>, usize>,
+    authorities: Vec<Authority>,
+    at: usize,
     keys: BTreeSet<Vec<u8>>,
     sha1s: BTreeSet<[u8; 20]>,
     sha256s: BTreeSet<[u8; 32]>,
+}
+
+impl Entries for Revoked {
+    fn authority(&mut self, name: &[u8]) {
+        self.at = match self.places.get(name) {
+            Some(&at) => at,
+            None => {
+                self.places.insert(name.to_vec(), self.authorities.len());
+                self.authorities.push(Authority::default());
+                self.authorities.len() - 1
+            }
+        }
+    }
+
+    fn wants(&self, _lo: u64, _hi: u64) -> bool {
+        true
+    }
+
+    fn serials(&mut self, lo: u64, hi: u64) {
+        self.authorities[self.at].serials.add(lo, hi);
+    }
+
+    fn id(&mut self, id: &[u8]) {
+        self.authorities[self.at].ids.insert(id.to_vec());
+    }
+
+    fn key(&mut self, blob: &[u8]) {
+        self.keys.insert(blob.to_vec());
+    }
+
+    fn sha1(&mut self, hash: [u8; 20]) {
+        self.sha1s.insert(hash);
+    }
+
+    fn sha256(&mut self, hash: [u8; 32]) {
+        self.sha256s.insert(hash);
+    }
+
+    fn is_revoked(&self, blob: &[u8]) -> bool {
+        self.keys.contains(blob)
+    }
+}
+
+/// What is asked, and what of it was named. Plain keys have no serials and no key IDs; the standard
+/// library has no hashes, so those of a list are looked up among none that it can have.
+#[derive(Default)]
+struct Asked {
+    keys: HashSet<Vec<u8>>,
+    found: HashSet<Vec<u8>>,
+    sha1s: HashSet<[u8; 20]>,
+    sha256s: HashSet<[u8; 32]>,
+    named: u64,
+}
+
+impl Entries for Asked {
+    fn authority(&mut self, _name: &[u8]) {}
+
+    fn wants(&self, _lo: u64, _hi: u64) -> bool {
+        false
+    }
+
+    fn serials(&mut self, _lo: u64, _hi: u64) {}
+
+    fn id(&mut self, _id: &[u8]) {}
+
+    fn key(&mut self, blob: &[u8]) {
+        if self.keys.contains(blob) {
+            self.found.insert(blob.to_vec());
+        }
+    }
+
+    fn sha1(&mut self, hash: [u8; 20]) {
+        self.named += u64::from(self.sha1s.contains(&hash));
+    }
+
+    fn sha256(&mut self, hash: [u8; 32]) {
+        self.named += u64::from(self.sha256s.contains(&hash));
+    }
+
+    fn is_revoked(&self, blob: &[u8]) -> bool {
+        self.found.contains(blob)
+    }
 }
 
 fn refuse<T>(why: &str) -> io::Result<T> {
@@ -82,12 +181,12 @@ impl<R: Read> Part<'_, R> {
         Ok(u64::from_be_bytes(self.array()?))
     }
 
-    fn string(&mut self) -> io::Result<Vec<u8>> {
+    fn string(&mut self, bytes: &mut Vec<u8>) -> io::Result<()> {
         let size = self.u32()?;
         self.take(size)?;
-        let mut bytes = Vec::new();
-        self.reader.take(size).read_to_end(&mut bytes)?;
-        if bytes.len() as u64 == size { Ok(bytes) } else { refuse("end") }
+        bytes.clear();
+        (&mut *self.reader).take(size).read_to_end(bytes)?;
+        if bytes.len() as u64 == size { Ok(()) } else { refuse("end") }
     }
 
     fn part(&mut self) -> io::Result<Part<'_, R>> {
@@ -98,16 +197,23 @@ impl<R: Read> Part<'_, R> {
 
     fn skip(&mut self) -> io::Result<()> {
         let size = self.u32()?;
+        self.pass(size)
+    }
+
+    fn pass(&mut self, size: u64) -> io::Result<()> {
         self.take(size)?;
-        io::copy(&mut self.reader.take(size), &mut io::sink())?;
+        io::copy(&mut (&mut *self.reader).take(size), &mut io::sink())?;
         Ok(())
     }
 }
 
 /// The set bits of a bitmap, highest byte first, as intervals.
-fn bitmap<R: Read>(part: &mut Part<R>, spans: &mut Spans) -> io::Result<()> {
+fn bitmap<R: Read>(part: &mut Part<R>, entries: &mut impl Entries) -> io::Result<()> {
     let offset = part.u64()?;
     let size = part.u32()?;
+    if !entries.wants(offset, offset.saturating_add(8 * size)) {
+        return part.pass(size);
+    }
     let mut open: Option<(u64, u64)> = None;
     for after in (0..size).rev() {
         let byte = part.byte()?;
@@ -116,19 +222,20 @@ fn bitmap<R: Read>(part: &mut Part<R>, spans: &mut Spans) -> io::Result<()> {
             if byte >> bit & 1 == 1 && serial > 0 {
                 open = Some((serial, open.map_or(serial, |(_, hi)| hi)));
             } else if let Some((lo, hi)) = open.take() {
-                spans.add(lo, hi);
+                entries.serials(lo, hi);
             }
         }
     }
     if let Some((lo, hi)) = open {
-        spans.add(lo, hi);
+        entries.serials(lo, hi);
     }
     Ok(())
 }
 
-fn certificates<R: Read>(part: &mut Part<R>, revoked: &mut Revoked) -> io::Result<()> {
-    let name = part.string()?;
-    let authority = revoked.authorities.entry(name).or_default();
+fn certificates<R: Read>(part: &mut Part<R>, entries: &mut impl Entries) -> io::Result<()> {
+    let mut text = Vec::new();
+    part.string(&mut text)?;
+    entries.authority(&text);
     part.skip()?;
     while part.left > 0 {
         let kind = part.byte()?;
@@ -138,20 +245,21 @@ fn certificates<R: Read>(part: &mut Part<R>, revoked: &mut Revoked) -> io::Resul
                 while part.left > 0 {
                     let serial = part.u64()?;
                     if serial > 0 {
-                        authority.serials.add(serial, serial);
+                        entries.serials(serial, serial);
                     }
                 }
             }
             0x21 => {
                 let (lo, hi) = (part.u64()?.max(1), part.u64()?);
                 if lo <= hi {
-                    authority.serials.add(lo, hi);
+                    entries.serials(lo, hi);
                 }
             }
-            0x22 => bitmap(&mut part, &mut authority.serials)?,
+            0x22 => bitmap(&mut part, entries)?,
             0x23 => {
                 while part.left > 0 {
-                    authority.ids.insert(part.string()?);
+                    part.string(&mut text)?;
+                    entries.id(&text);
                 }
             }
             _ => return refuse("subsection"),
@@ -160,7 +268,7 @@ fn certificates<R: Read>(part: &mut Part<R>, revoked: &mut Revoked) -> io::Resul
     Ok(())
 }
 
-fn read_list(reader: &mut impl Read) -> io::Result<Revoked> {
+fn read_list(reader: &mut impl Read, entries: &mut impl Entries) -> io::Result<()> {
     let mut list = Part { reader, left: LIMIT };
     if &list.array::<8>()? != b"SSHKRL\n\0" || list.u32()? != 1 {
         return refuse("magic");
@@ -168,30 +276,31 @@ fn read_list(reader: &mut impl Read) -> io::Result<Revoked> {
     list.array::<24>()?;
     list.skip()?;
     list.skip()?;
-    let mut revoked = Revoked::default();
+    let mut text = Vec::new();
     loop {
         let kind = match list.byte() {
-            Err(error) if error.kind() == io::ErrorKind::UnexpectedEof => return Ok(revoked),
+            Err(error) if error.kind() == io::ErrorKind::UnexpectedEof => return Ok(()),
             kind => kind?,
         };
         let mut part = list.part()?;
         match kind {
-            1 => certificates(&mut part, &mut revoked)?,
+            1 => certificates(&mut part, entries)?,
             2 => {
                 while part.left > 0 {
-                    revoked.keys.insert(part.string()?);
+                    part.string(&mut text)?;
+                    entries.key(&text);
                 }
             }
             3 => {
                 while part.left > 0 {
                     part.u32()?;
-                    revoked.sha1s.insert(part.array()?);
+                    entries.sha1(part.array()?);
                 }
             }
             5 => {
                 while part.left > 0 {
                     part.u32()?;
-                    revoked.sha256s.insert(part.array()?);
+                    entries.sha256(part.array()?);
                 }
             }
             _ => return refuse("section"),
@@ -213,17 +322,35 @@ fn decoded(word: &str) -> Vec<u8> {
     bytes
 }
 
-fn main() -> io::Result<()> {
-    let words: Vec<String> = std::env::args().skip(1).collect();
-    let revoked = read_list(&mut BufReader::with_capacity(1 << 16, File::open(&words[0])?))?;
-    let mut out = BufWriter::new(io::stdout().lock());
-    for name in &words[1..] {
+/// The blobs of the keys of files, each with the file's name.
+fn keys_of(names: &[String]) -> io::Result<Vec<(&str, Vec<u8>)>> {
+    let mut keys = Vec::new();
+    for name in names {
         for line in BufReader::new(File::open(name)?).lines() {
-            let line = line?;
-            let blob = decoded(line.split(' ').nth(1).unwrap_or(""));
-            let verdict = if revoked.keys.contains(&blob) { "REVOKED" } else { "ok" };
-            writeln!(out, "{name}: {verdict}")?;
+            keys.push((name.as_str(), decoded(line?.split(' ').nth(1).unwrap_or(""))));
         }
     }
+    Ok(keys)
+}
+
+/// Reads the list, and says of each key whether it is revoked.
+fn answer(list: &str, keys: &[(&str, Vec<u8>)], entries: &mut impl Entries) -> io::Result<()> {
+    read_list(&mut BufReader::with_capacity(1 << 16, File::open(list)?), entries)?;
+    let mut out = BufWriter::new(io::stdout().lock());
+    for (name, blob) in keys {
+        let verdict = if entries.is_revoked(blob) { "REVOKED" } else { "ok" };
+        writeln!(out, "{name}: {verdict}")?;
+    }
     out.flush()
+}
+
+fn main() -> io::Result<()> {
+    let words: Vec<String> = std::env::args().skip(1).collect();
+    let keys = keys_of(&words[2..])?;
+    if words[0] == "hold" {
+        return answer(&words[1], &keys, &mut Revoked::default());
+    }
+    let mut asked = Asked::default();
+    asked.keys.extend(keys.iter().map(|(_, blob)| blob.clone()));
+    answer(&words[1], &keys, &mut asked)
 }
