@@ -51,7 +51,7 @@ abbrev pub AreUnwanted : Scope → (authority bytes : List ℕ) → (count : ℕ
 AreUnwanted scope authority bytes count =
     NoneHolds (λ s. InScope scope (SerialOf authority s)) bytes count
 
--- none of the serial numbers of the `count` highest of the `left` last bytes of a bitmap is in scope
+-- no serial number of the `count` highest of the `left` last bytes of a bitmap is in scope
 abbrev pub AreUnasked : Keeping → (offset left count : ℕ) → Type 0
 AreUnasked keeping offset left count =
     (s : ℕ) → offset + 8 * (left - count) ≤ s → s < offset + 8 * left

@@ -16,8 +16,8 @@ use Rattle.krl_core.specs.Naming.{NamesSame}
 use Rattle.krl_core.specs.Place.{names, authority_after, header_after, base_of}
 use Rattle.krl_core.specs.Scope.{MeansWithin, Scope, WithinScope}
 
--- What is known of the header, the authority in force, what is held, which names it answers for, and
--- how far the bitmap at hand is read.
+-- What is known of the header, the authority in force, what is held, which names it answers for,
+-- and how far the bitmap at hand is read.
 pub record Keeping : Type 0 where
   pub header : Header
   pub authority : List ℕ

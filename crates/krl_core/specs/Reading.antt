@@ -158,8 +158,8 @@ pub record IsReached (position : Position) : Type 0 where
   pub ends : position.ended ≡ true → IsEnded position
   pub bounded : IsBounded position.pull position.keeping
 
--- Of the names in scope just what the entries name is held, and nothing that is not within it. Where
--- all are in scope, it is no more than the text has room for.
+-- Of the names in scope just what the entries name is held, and nothing that is not within it.
+-- Where all are in scope, it is no more than the text has room for.
 pub record HoldsWithin (scope : Scope) (text : List ℕ) (r : Contents) (entries : List Entry)
     : Type 0 where
   pub means : MeansWithin scope r entries
@@ -189,7 +189,7 @@ pub record IsWholeAs (Holds : List ℕ → Contents → List Entry → Type 0) (
 abbrev pub IsWhole : List ℕ → Header → Contents → Type 0
 IsWhole = IsWholeAs HoldsAll
 
--- A list was read: a header and sections spell the text, and what is held is what the sections name.
+-- A list was read: a header and sections spell the text, and what the sections name is held.
 pub record IsListAs (Holds : List ℕ → Contents → List Entry → Type 0) (text : List ℕ)
     (header : Header) (contents : Contents) : Type 0 where
   pub sections : List SpelledSection

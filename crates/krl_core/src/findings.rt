@@ -86,7 +86,7 @@ impl<S: Spans> Findings<S> {
         self.found.in_order()
     }
 
-    // Whether a key that is asked about has this SHA-1. All are hashed when the first is looked for.
+    // Whether a key that is asked about has this SHA-1. All are hashed once one is looked for.
     fn asks_sha1(&mut self, hash: &[u8; 20]) -> Result<bool, AllocError>
         ensures same { self.new ≡ self.old }
         ensures asked { IfOk result (λ asked. IsTrue asked

@@ -74,8 +74,8 @@ fn lock(file: &File) -> Result<(), Cause> {
     }
 }
 
-/// Whether the old list stands at this path, or nothing where there is none. Its name may have led to
-/// it in another way, as one of `/proc` does, or may have got another file meanwhile.
+/// Whether the old list stands at this path, or nothing where there is none. Its name may have led
+/// to it in another way, as one of `/proc` does, or may have got another file meanwhile.
 pub fn is_at(rt: &HostRuntime, path: &str, old: Option<&Metadata>) -> bool {
     match (fs::symlink_metadata(rt, path), old) {
         (Ok(found), Some(old)) => found.dev() == old.dev() && found.ino() == old.ino(),

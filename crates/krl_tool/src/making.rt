@@ -14,8 +14,8 @@ use krl_runs::{Cause, FileFault, Named, RunFault};
 use ssh_wire::{FromBuffer, Source};
 use std::fs::{self, File};
 
-// How often a list is opened anew whose name another file has got. Of updates at once each waits for
-// those before it, and opens what they made, so this is far above their number.
+// How often a list is opened anew whose name another file has got. Of updates at once each waits
+// for those before it, and opens what they made, so this is far above their number.
 const TRIES: u32 = 10_000;
 
 // What the list is made of.

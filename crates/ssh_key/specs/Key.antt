@@ -29,8 +29,8 @@ abbrev pub IsUncompressed : List ℕ → Type 0
 IsUncompressed [] = ⊥
 IsUncompressed (byte ∷ bytes) = byte ≡ 4
 
--- An application has no zero byte, as OpenSSH writes it: a zero byte ends its texts, and it drops one
--- that stands last.
+-- An application has no zero byte, as OpenSSH writes it: a zero byte ends its texts, and it drops
+-- one that stands last.
 abbrev pub IsApplication : List ℕ → Type 0
 IsApplication [] = Unit {0}
 IsApplication (byte ∷ bytes) = (byte ≢ 0) × IsApplication bytes

@@ -53,7 +53,8 @@ impl<'q> Answers for Passed<'q> {
 }
 
 /// Lets a list pass, with the keys of the files in mind, and then says of each what it said. Where
-/// memory runs out before all of them are in mind, the list passes all the same: its fault is first.
+/// memory runs out before all of them are in mind, the list passes all the same: its fault is
+/// first.
 pub(crate) fn ask_passing<'a, R: Source + Drop, W: Sink>(
     run: &mut Run<W>,
     krl_name: &'a str,

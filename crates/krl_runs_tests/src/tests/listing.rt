@@ -21,7 +21,8 @@ fn lists(
     says(rt, number, &ran, said);
 }
 
-// A hash, the parts of a file, and what is listed of its keys. Other programs made the fingerprints.
+// A hash, the parts of a file, and what is listed of its keys. The fingerprints are from other
+// programs.
 type Listed<'a> = (Hash, &'a [&'a [u8]], Said<'a>);
 
 const LISTED: [Listed<'static>; 5] = [

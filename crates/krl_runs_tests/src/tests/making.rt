@@ -11,8 +11,8 @@ use ssh_wire::FromRead;
 use std::alloc::Global;
 use std::process::Abort;
 
-// Makes the list `r.krl` of the old one, of the authority and of the files, at the moment 0: the list,
-// or the line of the fault.
+// Makes the list `r.krl` of the old one, of the authority and of the files, at the moment 0: the
+// list, or the line of the fault.
 fn made(
     rt: &impl Abort,
     alloc: Global,
@@ -117,8 +117,8 @@ fn of_a_certificate_without_a_serial(rt: HostRuntime) {
     );
 }
 
-// A list's version and sections, the lines that are added under all authorities, and the sections of
-// the new list.
+// A list's version and sections, the lines that are added under all authorities, and the sections
+// of the new list.
 type Update<'a> = (u64, &'a [&'a [u8]], &'a [u8], &'a [&'a [u8]]);
 
 const UPDATES: [Update<'static>; 3] = [

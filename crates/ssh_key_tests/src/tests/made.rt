@@ -5,8 +5,8 @@ use parts_for_tests::{GITHUB, joined, strings};
 use ssh_key::read_private;
 use std::alloc::{AllocError, Global};
 
-/// What a container is made of: its cipher, the number of its keys, the blob, the second of the check
-/// words, of which the first is 1, the fields of the key, the comment and the padding.
+/// What a container is made of: its cipher, the number of its keys, the blob, the second of the
+/// check words, of which the first is 1, the fields of the key, the comment and the padding.
 #[derive(Clone, Copy)]
 pub struct Container<'a> {
     pub cipher: &'a [u8],
