@@ -10,7 +10,7 @@ use Rattle.krl_core.specs.declared.place.header.HeaderPlace.{HeaderPlace}
 use Rattle.krl_core.proofs.Exists.{weight, weight_below}
 use Rattle.krl_core.proofs.Whole.{step_nearer}
 
-one_or_more : (old new : Position) → ReadsOneMore old new → ReadsMore old new
+pub one_or_more : (old new : Position) → ReadsOneMore old new → ReadsMore old new
 one_or_more old new one text fields h = let more = one text fields h in (more.0 ∷ [], more.1)
 
 pub more_of : (result : Result Bool KrlFault) (old : Position) (new : Position) → IfOk result (λ more. IsTrue more → ReadsOneMore old new) → IfOk result (λ more. IsTrue more → ReadsMore old new)

@@ -1,7 +1,7 @@
 -- A whole list is spelled, and means what its sections name.
-use Rattle.std.proofs.Common.{◌≡◌, ℕ, ◌<◌, ◌≤◌, ◌^◌, Bool, true, false, ltb, List, ◌++◌, length, Option, Some, None, refl, sym, ap, subst, ◌∙◌, append_assoc}
+use Rattle.std.proofs.Common.{◌≡◌, ℕ, ◌<◌, ◌≤◌, ◌^◌, Bool, true, false, ltb, List, [], ◌++◌, length, Option, Some, None, refl, sym, ap, subst, ◌∙◌, append_assoc}
 use Rattle.std.specs.List.{concat}
-use Rattle.std.specs.Prelude.{Result, Ok, Err, IfOk}
+use Rattle.std.specs.Prelude.{Result, Ok, Err, IfOk, IfErr}
 use Rattle.ssh_wire.specs.Wire.{IsBytes, number, string}
 use Rattle.krl_core.specs.declared.header.Header.{Header}
 use Rattle.krl_core.specs.Contents.{Contents}
@@ -15,7 +15,7 @@ use Rattle.krl_core.specs.Front.{State, start, Leads, limit, IsEnd, IsFirstFault
 use Rattle.krl_core.specs.Krl.{SpelledSection, Spells, header_text, magic}
 use Rattle.krl_core.specs.Naming.{NamesSame}
 use Rattle.krl_core.specs.Place.{can_end}
-use Rattle.krl_core.specs.Reading.{HoldsAll, HoldsWithin, IsList, IsListAs, IsWholeAs}
+use Rattle.krl_core.specs.Reading.{HasRead, HoldsAll, HoldsWithin, IsList, IsListAs, IsWholeAs, Position}
 use Rattle.krl_core.specs.Scope.{Scope, all as every_name}
 use Rattle.krl_core.proofs.Fields.{completes}
 use Rattle.krl_core.proofs.Rests.{FromText, FromFormat}
@@ -108,11 +108,23 @@ pub list_of_all : (text : List ℕ) (header : Header) (contents : Contents) → 
 list_of_all text header contents h =
     record { sections = h.sections; spelled = h.spelled; within = h.within; holds = holds_all text contents (entries_of h.sections) h.holds }
 
-pub lists_of_all : (left : Option (List ℕ)) (read : Result (Header × Contents) KrlFault)
-    → IfOk read (λ list. (text : List ℕ) → left ≡ Some text → IsListAs (HoldsWithin every_name) text list.0 list.1)
-    → IfOk read (λ list. (text : List ℕ) → left ≡ Some text → IsList text list.0 list.1)
-lists_of_all left (Ok list) h = λ text e. list_of_all text list.0 list.1 (h text e)
-lists_of_all left (Err fault) h = h
+-- ---- from the first field on
+
+-- what is known of each text of which fields were read is known of the one that is read
+pub known_from : {A : Type 0} {Knows Other : A → List ℕ → Type 0} (left : Option (List ℕ)) (begun : Position) (read : Result A KrlFault)
+    → ((text : List ℕ) → left ≡ Some text → HasRead text [] begun) → ((a : A) (text : List ℕ) → Knows a text → Other a text)
+    → IfOk read (λ a. (text : List ℕ) (fields : List (List ℕ)) → HasRead text fields begun → Knows a text)
+    → IfOk read (λ a. (text : List ℕ) → left ≡ Some text → Other a text)
+known_from left begun (Ok a) starts other h = λ text e. other a text (h text [] (starts text e))
+known_from left begun (Err fault) starts other h = tt
+
+-- so it is of a fault
+pub said_from : {A : Type 0} {Said Other : KrlFault → List ℕ → Type 0} (left : Option (List ℕ)) (begun : Position) (read : Result A KrlFault)
+    → ((text : List ℕ) → left ≡ Some text → HasRead text [] begun) → ((fault : KrlFault) (text : List ℕ) → Said fault text → Other fault text)
+    → IfErr read (λ fault. (text : List ℕ) (fields : List (List ℕ)) → HasRead text fields begun → Said fault text)
+    → IfErr read (λ fault. (text : List ℕ) → left ≡ Some text → Other fault text)
+said_from left begun (Ok a) starts other h = tt
+said_from left begun (Err fault) starts other h = λ text e. other fault text (h text [] (starts text e))
 
 is_end : (p : Place) (rest : List ℕ) (goes_on : Bool) (fault : Option KrlFault) → fault ≡ None → Reported p rest goes_on fault → IsEnd p rest × (goes_on ≡ false)
 is_end p rest goes_on fault e (ended at_end off is) = (at_end, off)

@@ -11,7 +11,7 @@ use Rattle.std.proofs.Math.Logic.Iff as Iff
 use Rattle.sha1.specs.Sha1.{sha1}
 use Rattle.sha2.specs.Sha256.{sha256}
 use Rattle.ssh_subject.specs.Subject.{Names, Subject}
-use Rattle.krl_core.specs.Contents.{Contents}
+use Rattle.krl_core.specs.Contents.{Contents, Means}
 use Rattle.krl_core.specs.Elements.{contains_none}
 use Rattle.krl_core.specs.Entry.{BitmapEntry, Entry, IdEntry, KeyEntry, RangeEntry, SerialsEntry, Sha1Entry, Sha256Entry}
 use Rattle.krl_core.specs.Naming.{EntryNames, IdOf, KeyNamed, KeyOf, Name, SerialOf, Sha1Of, Sha256Of, SomeNames}
@@ -88,3 +88,9 @@ found_tested topics found entries m subject asks =
     let found_is = answer_within topics found subject (revokes found subject) asks (λ others n. revokes_meant found others n subject) entries m in
     let same = Iff.trans found_is (Iff.symm (revoked_tested entries subject)) in
     both_ways (revokes found subject) (is_revoked entries subject) same.0 same.1
+
+-- what is held revokes just what the entries do that it means
+pub meant_tested : (r : Contents) (entries : List Entry) → Means r entries → (subject : Subject) → revokes r subject ≡ is_revoked entries subject
+meant_tested r entries m subject =
+    let same = Iff.trans (revokes_meant r entries m subject) (Iff.symm (revoked_tested entries subject)) in
+    both_ways (revokes r subject) (is_revoked entries subject) same.0 same.1

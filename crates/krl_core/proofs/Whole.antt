@@ -1,5 +1,5 @@
 -- A whole list, read field by field.
-use Rattle.std.proofs.Common.{◌≡◌, ℕ, ◌+◌, ◌-◌, ◌*◌, ◌<◌, ◌≤◌, true, false, ltb, take, List, [], ◌++◌, length, Option, Some, None, refl, sym, ap, subst, ◌∙◌, arith}
+use Rattle.std.proofs.Common.{◌≡◌, ℕ, ◌+◌, ◌-◌, ◌*◌, ◌<◌, true, false, ltb, take, List, [], ◌++◌, length, Option, None, refl, sym, ap, subst, ◌∙◌, append_assoc, arith}
 use Rattle.std.specs.List.{concat}
 use Rattle.std.specs.Option.{option_to_list}
 use Rattle.std.proofs.lemmas.List.{append-nil, take_all}
@@ -16,16 +16,44 @@ use Rattle.krl_core.specs.Changes.{run_entries}
 use Rattle.krl_core.specs.Keeping.{Keeping, InStep, open_run}
 use Rattle.krl_core.specs.Naming.{NamesSame}
 use Rattle.krl_core.specs.Place.{can_end}
-use Rattle.krl_core.specs.Reading.{Position, HasRead, Follows, HoldsWithin, IsReached, IsWholeAs}
+use Rattle.krl_core.specs.Reading.{Ends, EndsAfter, Position, HasRead, Follows, HoldsWithin, IsReached, IsWholeAs, ReadsMore}
 use Rattle.krl_core.proofs.Exists.{weight, nearer}
 use Rattle.krl_core.proofs.Fronts.{first_fault_is}
 use Rattle.krl_core.proofs.Scoped.{same_within}
 
--- some fields of what the reader had were read, without a fault
-pub record Follow (left : Option (List ℕ)) (position : Position) : Type 0 where
-  pub reads : (text : List ℕ) → left ≡ Some text → (fields : List (List ℕ)) × HasRead text fields position
-  pub faultless : position.fault ≡ None
-  pub within : position.pull.taken ≤ limit
+-- some fields more were read, without a fault
+pub record LeadsOn (old new : Position) : Type 0 where
+  pub reads : ReadsMore old new
+  pub faultless : new.fault ≡ None
+  pub scope_is : new.keeping.scope ≡ old.keeping.scope
+
+-- none was read yet
+pub leads_on : (p : Position) → p.fault ≡ None → LeadsOn p p
+leads_on p faultless = record {
+  reads = λ text fields h. ([], subst (λ (row : List (List ℕ)). HasRead text row p) (sym (append-nil fields)) h);
+  faultless = faultless;
+  scope_is = refl;
+}
+
+pub leads_further : (old mid new : Position) → LeadsOn old mid → ReadsMore mid new → new.fault ≡ None → new.keeping.scope ≡ mid.keeping.scope → LeadsOn old new
+leads_further old mid new first then faultless scope = record {
+  reads = λ text fields h.
+      let one = first.reads text fields h in
+      let two = then text (fields ++ one.0) one.1 in
+      (one.0 ++ two.0, subst (λ (row : List (List ℕ)). HasRead text row new) (append_assoc fields one.0 two.0) two.1);
+  faultless = faultless;
+  scope_is = scope ∙ first.scope_is;
+}
+
+-- the fields that were read are all of the text
+pub ends_after : (old mid new : Position) → LeadsOn old mid → Ends mid new → EndsAfter old new
+ends_after old mid new first ends = record {
+  may_end = ends.may_end;
+  whole = λ text fields h.
+      let one = first.reads text fields h in
+      let still = ends.still text (fields ++ one.0) one.1 in
+      (one.0, still.0, still.1);
+}
 
 -- each step brings the end nearer
 pub step_nearer : (old new : Position) → Follows old new

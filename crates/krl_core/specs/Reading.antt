@@ -54,6 +54,11 @@ pub record HasRead (text : List ℕ) (fields : List (List ℕ)) (position : Posi
   pub works : position.pull.failed ≡ false
   pub faultless : position.fault ≡ None
 
+-- Of the bytes that the reader had left before, some fields were read.
+abbrev pub HasReadOf : (before : Option (List ℕ)) → Position → Type 0
+HasReadOf before position =
+    (text : List ℕ) → before ≡ Some text → (fields : List (List ℕ)) × HasRead text fields position
+
 -- For each row of fields that was read before, it is read now with one field more.
 abbrev pub ReadsOneMore : Position → Position → Type 0
 ReadsOneMore old new =
@@ -229,3 +234,9 @@ pub record Leaps (old new : Position) : Type 0 where
 -- A field or some bytes more were taken.
 abbrev pub Advances : Position → Position → Type 0
 Advances old new = Follows old new ⊎ Leaps old new
+
+-- Reading went on to the list's end.
+pub record EndsAfter (old new : Position) : Type 0 where
+  pub may_end : can_end new.place ≡ true
+  pub whole : (text : List ℕ) (fields : List (List ℕ)) → HasRead text fields old
+      → (more : List (List ℕ)) × HasRead text (fields ++ more) new × (text ≡ concat (fields ++ more))

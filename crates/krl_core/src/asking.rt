@@ -1,6 +1,8 @@
 //! Whether single names are held.
 
 ghost use Rattle.std.specs.Prelude.{◌≡◌, ◌↔◌, ◌%◌, ◌<◌, ◌≤◌, ℕ, Contains, IsTrue, false, length};
+ghost use Rattle.sha1.specs.Sha1.{sha1};
+ghost use Rattle.sha2.specs.Sha256.{sha256};
 ghost use Rattle.serial_set.specs.Span.{Covers};
 ghost use Rattle.krl_core.specs.Contents.{HoldsId, HoldsSerial, IsOrderly};
 ghost use Rattle.krl_core.specs.Crossing.{NoneHolds};
@@ -10,6 +12,9 @@ use crate::field::u64_of;
 use crate::revocations::Revocations;
 use crate::shelves::Shelves;
 use serial_set::Spans;
+use sha1::Sha1;
+use sha2::{Digest, Sha256};
+use std::collections::BTreeSet;
 
 impl<S: Spans> Revocations<S> {
     // All that is held, which is in order.
@@ -35,18 +40,18 @@ impl<S: Spans> Revocations<S> {
         self.keys.has(blob)
     }
 
-    // Whether a SHA-1 is held.
-    pub(crate) fn has_sha1(&self, hash: &[u8; 20]) -> bool
-        ensures { IsTrue result ↔ Contains self.now.sha1s hash.now }
+    // Whether the SHA-1 of a key is held.
+    pub(crate) fn has_sha1(&self, blob: &[u8]) -> bool
+        ensures { IsTrue result ↔ Contains self.now.sha1s (sha1 blob.now) }
     {
-        self.sha1s.contains(hash)
+        has_sha1(&self.sha1s, blob)
     }
 
-    // Whether a SHA-256 is held.
-    pub(crate) fn has_sha256(&self, hash: &[u8; 32]) -> bool
-        ensures { IsTrue result ↔ Contains self.now.sha256s hash.now }
+    // Whether the SHA-256 of a key is held.
+    pub(crate) fn has_sha256(&self, blob: &[u8]) -> bool
+        ensures { IsTrue result ↔ Contains self.now.sha256s (sha256 blob.now) }
     {
-        self.sha256s.contains(hash)
+        has_sha256(&self.sha256s, blob)
     }
 
     // Whether a key ID is held under just this authority.
@@ -87,6 +92,26 @@ impl<S: Spans> Revocations<S> {
     {
         unheld(&self.shelves, authority, serials)
     }
+}
+
+// Whether the SHA-1 of the bytes is among the hashes. It is not computed where there are none.
+fn has_sha1(hashes: &BTreeSet<[u8; 20]>, bytes: &[u8]) -> bool
+    ensures { IsTrue result ↔ Contains hashes.now.keys (sha1 bytes.now) }
+{
+    if hashes.is_empty() {
+        return false;
+    }
+    hashes.contains(&Sha1::digest(bytes))
+}
+
+// Whether the SHA-256 of the bytes is among the hashes. It is not computed where there are none.
+fn has_sha256(hashes: &BTreeSet<[u8; 32]>, bytes: &[u8]) -> bool
+    ensures { IsTrue result ↔ Contains hashes.now.keys (sha256 bytes.now) }
+{
+    if hashes.is_empty() {
+        return false;
+    }
+    hashes.contains(&Sha256::digest(bytes))
 }
 
 // Whether a key ID is held under just this authority.

@@ -34,7 +34,7 @@ pub use krl_fault::KrlFault;
 pub use listed::{Authorities, Listed};
 pub use place::Place;
 pub use questions::Questions;
-pub use read::{read_into, read_krl};
+pub use read::read_krl;
 pub use reading::{LIMIT, Reading, Walk};
 pub use revocations::Revocations;
 pub use store::Store;

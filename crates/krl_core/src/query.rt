@@ -1,7 +1,5 @@
 //! The question of whether a key or a certificate is revoked.
-ghost use Rattle.std.specs.Prelude.{◌≡◌, ◌↔◌, IsTrue, List, Contains};
-ghost use Rattle.sha1.specs.Sha1.{sha1};
-ghost use Rattle.sha2.specs.Sha256.{sha256};
+ghost use Rattle.std.specs.Prelude.{◌≡◌, ◌↔◌, IsTrue, List};
 ghost use Rattle.krl_core.specs.Asked.{HoldsKey, HoldsUnder, HoldsCert};
 ghost use Rattle.krl_core.specs.Contents.{Means};
 ghost use Rattle.krl_core.specs.Entry.{Entry};
@@ -11,10 +9,7 @@ ghost use Rattle.krl_core.specs.Tested.{revokes};
 use crate::revocations::Revocations;
 use crate::shelves::Shelves;
 use serial_set::Spans;
-use sha1::Sha1;
-use sha2::{Digest, Sha256};
 use ssh_subject::{CertNames, Subject};
-use std::collections::BTreeSet;
 
 impl<S: Spans> Revocations<S> {
     /// Whether a plain key or a certificate is revoked (ssh-keygen(1), KEY REVOCATION LISTS). Takes
@@ -51,34 +46,14 @@ impl<S: Spans> Revocations<S> {
     fn has_key(&self, blob: &[u8]) -> bool
         ensures { IsTrue result ↔ HoldsKey self.now blob.now }
     {
-        if self.keys.has(blob) {
+        if self.has_blob(blob) {
             return true;
         }
-        if has_sha1(&self.sha1s, blob) {
+        if self.has_sha1(blob) {
             return true;
         }
-        has_sha256(&self.sha256s, blob)
+        self.has_sha256(blob)
     }
-}
-
-// Whether the SHA-1 of the bytes is among the hashes. It is not computed where there are none.
-fn has_sha1(hashes: &BTreeSet<[u8; 20]>, bytes: &[u8]) -> bool
-    ensures { IsTrue result ↔ Contains hashes.now.keys (sha1 bytes.now) }
-{
-    if hashes.is_empty() {
-        return false;
-    }
-    hashes.contains(&Sha1::digest(bytes))
-}
-
-// Whether the SHA-256 of the bytes is among the hashes. It is not computed where there are none.
-fn has_sha256(hashes: &BTreeSet<[u8; 32]>, bytes: &[u8]) -> bool
-    ensures { IsTrue result ↔ Contains hashes.now.keys (sha256 bytes.now) }
-{
-    if hashes.is_empty() {
-        return false;
-    }
-    hashes.contains(&Sha256::digest(bytes))
 }
 
 // Whether a key ID or a serial number is held under just this authority.

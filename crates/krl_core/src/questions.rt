@@ -4,7 +4,7 @@ ghost use Rattle.std.specs.Prelude.{◌≡◌, ◌+◌, ◌<◌, ◌≤◌, Cont
 ghost use Rattle.sha1.specs.Sha1.{sha1};
 ghost use Rattle.sha2.specs.Sha256.{sha256};
 ghost use Rattle.krl_core.specs.Authority.{authority_bytes, IsAuthority};
-ghost use Rattle.krl_core.specs.Contents.{nothing, serials_in, stored};
+ghost use Rattle.krl_core.specs.Contents.{Contents, nothing, serials_in, stored};
 ghost use Rattle.krl_core.specs.Naming.{IdOf, KeyOf, SerialOf, Sha1Of, Sha256Of};
 ghost use Rattle.krl_core.specs.Questions.{Asks, AsksMore, Finds, FindsIn, HasAll, HasUnder};
 ghost use Rattle.krl_core.specs.Questions.{IsOfKey, names_size, subject_size};
@@ -39,6 +39,7 @@ impl<S: Spans> Questions<S> {
     pub fn new(alloc: Global) -> Questions<S>
         ensures topics { result.topics ≡ nothing }
         ensures found { result.found ≡ nothing }
+        ensures of_any { (front : Contents) → FindsIn front result }
     {
         Questions {
             topics: Revocations::new(alloc),
@@ -169,11 +170,10 @@ fn find_sha1<S: Spans>(
     ensures { OnOk result
         (Finds front.now (λ name. name ≡ Sha1Of (sha1 blob.now)) found.old found.new) }
 {
-    let hash = Sha1::digest(blob);
-    if !front.has_sha1(&hash) {
+    if !front.has_sha1(blob) {
         return Ok(());
     }
-    found.add_sha1(&hash)
+    found.add_sha1(&Sha1::digest(blob))
 }
 
 // Finds a key by its SHA-256.
@@ -185,11 +185,10 @@ fn find_sha256<S: Spans>(
     ensures { OnOk result
         (Finds front.now (λ name. name ≡ Sha256Of (sha256 blob.now)) found.old found.new) }
 {
-    let hash = Sha256::digest(blob);
-    if !front.has_sha256(&hash) {
+    if !front.has_sha256(blob) {
         return Ok(());
     }
-    found.add_sha256(&hash)
+    found.add_sha256(&Sha256::digest(blob))
 }
 
 // Finds a key ID under an authority.

@@ -1,18 +1,18 @@
-//! Reading a whole list.
+//! Reading a list on, to its end or as far as its front goes.
 
-ghost use Rattle.std.specs.Prelude.{◌≡◌, ◌≤◌, ◌⊎◌, length, false, ℕ, List, None, Some};
-ghost use Rattle.std.specs.Prelude.{IfOk, IfErr};
+ghost use Rattle.std.specs.Prelude.{◌≡◌, ◌+◌, ◌<◌, ◌≤◌, ◌⊎◌, length, false, ℕ, List, None, Some};
+ghost use Rattle.std.specs.Prelude.{IfErr, IfOk, IsTrue, OnOk};
 ghost use Rattle.ssh_wire.specs.Wire.{IsBytes};
 ghost use Rattle.krl_core.specs.declared.header.Header.{Header as HeaderOf};
 ghost use Rattle.krl_fault.specs.declared.krl_fault.KrlFault.TheVariants.{NoMemory, Read};
 ghost use Rattle.krl_core.specs.Front.{IsFirstFault, limit};
 ghost use Rattle.krl_core.specs.Krl.{SpelledSection, Spells};
-ghost use Rattle.krl_core.specs.Contents.{nothing};
-ghost use Rattle.krl_core.specs.Reading.{HoldsWithin, IsList, IsListAs, ReportsFailure, Says};
-ghost use Rattle.krl_core.specs.Scope.{WithinScope};
+ghost use Rattle.krl_core.specs.Place.{expected};
+ghost use Rattle.krl_core.specs.Reading.{EndsAfter, HasRead, HoldsWithin, IsBounded, IsList};
+ghost use Rattle.krl_core.specs.Reading.{IsListAs, ReadsMore, Refused, ReportsFailure, Says};
 
 use crate::header::Header;
-use crate::reading::Walk;
+use crate::reading::{Reading, Walk};
 use crate::revocations::Revocations;
 use crate::store::Store;
 use krl_fault::KrlFault;
@@ -41,41 +41,62 @@ pub fn read_krl<S: Spans, R: Source + Drop>(
         → Says fault text (R.has_failed result.1) (R.left result.1)) }
     ensures failure { ReportsFailure result.0 (R.has_failed result.1) }
 {
-    read_into(alloc, Revocations::new(alloc), reader)
+    Reading::new(alloc, reader).read_on()
 }
 
-/// The same into a store that is empty. What it holds means, of the names in its scope, just what
-/// the list's sections name.
-pub fn read_into<T: Store, R: Source + Drop>(
-    alloc: Global,
-    store: T,
-    reader: R,
-) -> (Result<(Header, T), KrlFault>, R)
-    requires empty { T.contents store ≡ nothing }
-    requires within { WithinScope (T.scope store) nothing }
-    requires fresh { R.has_failed reader ≡ false }
-    ensures found { IfOk result.0 (λ list. (text : List ℕ) → R.left reader ≡ Some text
-        → IsListAs (HoldsWithin (T.scope list.1)) text list.0 (T.contents list.1)) }
-    ensures scope { IfOk result.0 (λ list. T.scope list.1 ≡ T.scope store) }
-    ensures no_fault { IfOk result.0 (λ list. (text : List ℕ) → R.left reader ≡ Some text
-        → IsFirstFault text None) }
-    ensures only { IfErr result.0 (λ fault.
-        (text : List ℕ) → (header : HeaderOf) → (sections : List SpelledSection)
-        → R.left reader ≡ Some text → IsBytes text → Spells text header sections
-        → length text ≤ limit → (fault ≡ NoMemory) ⊎ (fault ≡ Read)) }
-    ensures fault { IfErr result.0 (λ fault. (text : List ℕ) → R.left reader ≡ Some text
-        → Says fault text (R.has_failed result.1) (R.left result.1)) }
-    ensures failure { ReportsFailure result.0 (R.has_failed result.1) }
-{
-    let mut walk = Walk::over(alloc, store, reader);
-    'fields: loop {
-        match walk.stride() {
-            Ok(true) => {}
-            Ok(false) => {
-                let (header, store, reader) = walk.end();
-                return (Ok((header, store)), reader);
+impl<T: Store, R: Source + Drop> Walk<T, R> {
+    /// Reads on to the list's end, and gives the reader back. Of the names in scope, what is held
+    /// means just what the list's sections name.
+    pub fn read_on(self) -> (Result<(Header, T), KrlFault>, R)
+        requires { self.fault ≡ None }
+        ensures found { IfOk result.0 (λ list. (text : List ℕ) (fields : List (List ℕ))
+            → HasRead text fields self
+            → IsListAs (HoldsWithin (T.scope list.1)) text list.0 (T.contents list.1)) }
+        ensures scope { IfOk result.0 (λ list. T.scope list.1 ≡ self.keeping.scope) }
+        ensures no_fault { IfOk result.0 (λ _. (text : List ℕ) (fields : List (List ℕ))
+            → HasRead text fields self → IsFirstFault text None) }
+        ensures fault { IfErr result.0 (λ fault. (text : List ℕ) (fields : List (List ℕ))
+            → HasRead text fields self
+            → Says fault text (R.has_failed result.1) (R.left result.1)) }
+        ensures failure { ReportsFailure result.0 (R.has_failed result.1) }
+    {
+        let mut walk = self;
+        'fields: loop {
+            match walk.stride() {
+                Ok(true) => {}
+                Ok(false) => {
+                    let (header, store, reader) = walk.end();
+                    return (Ok((header, store)), reader);
+                }
+                Err(fault) => return (Err(fault), walk.into_reader()),
             }
-            Err(fault) => return (Err(fault), walk.into_reader()),
         }
+    }
+
+    /// Reads on to the list's end, and answers false there; or to a field that would lead past so
+    /// many bytes.
+    pub fn read_to(&mut self, most: u64) -> Result<bool, KrlFault>
+        requires { self.old.fault ≡ None }
+        ensures more { IfOk result (λ more. IsTrue more → ReadsMore self.old self.new) }
+        ensures full { IfOk result (λ more. IsTrue more
+            → most < self.new.pull.taken + (expected self.new.place).size) }
+        ensures within { IfOk result (λ more. IsTrue more
+            → self.old.pull.taken ≤ most → self.new.pull.taken ≤ most) }
+        ensures ends { IfOk result (λ more. more ≡ false → EndsAfter self.old self.new) }
+        ensures scope { OnOk result (self.new.keeping.scope ≡ self.old.keeping.scope) }
+        ensures fault { IfErr result (λ fault. Refused fault self.old self.new.pull) }
+        ensures failure { ReportsFailure result self.new.pull.failed }
+        ensures working { OnOk result (self.new.fault ≡ None) }
+        ensures bounds { IsBounded self.new.pull self.new.keeping }
+    {
+        let _pull = &self.pull;
+        'fields: while self.taken_with_next() <= most {
+            match self.step() {
+                Ok(true) => {}
+                Ok(false) => return Ok(false),
+                Err(fault) => return Err(fault),
+            }
+        }
+        Ok(true)
     }
 }

@@ -7,7 +7,7 @@ ghost use Rattle.ssh_wire.specs.Wire.{IsBytes};
 ghost use Rattle.ssh_wire.specs.Pull.{Refuses, Takes};
 ghost use Rattle.ssh_wire.specs.declared.pull_fault.PullFault.TheVariants as pulls;
 ghost use Rattle.krl_fault.specs.declared.krl_fault.KrlFault.TheVariants.{NoMemory, Read};
-ghost use Rattle.krl_core.specs.Contents.{nothing};
+ghost use Rattle.krl_core.specs.Contents.{IsOrderly, nothing};
 ghost use Rattle.krl_core.specs.Front.{HasRoom, Passes, limit};
 ghost use Rattle.krl_core.specs.Keeping.{GrowsWithin, InStep, KeepsField, StoresWithin, held_with_open};
 ghost use Rattle.krl_core.specs.Place.{can_end, expected};
@@ -41,7 +41,7 @@ const SMALL: usize = 32;
 /// the field at hand, and of a bitmap only the byte at hand.
 #[derive(Drop)]
 pub struct Walk<T: Store, R: Source + Drop> {
-    pull: Pull<R>,
+    pub(crate) pull: Pull<R>,
     place: Place,
     keeper: Keeper<T>,
     // the field at hand, where it is large
@@ -104,9 +104,12 @@ impl<S: Spans, R: Source + Drop> Walk<Revocations<S>, R> {
         ensures list { (text : List ℕ) → (fields : List (List ℕ)) → HasRead text fields self
             → text ≡ concat fields → can_end self.place ≡ true
             → IsList text result.0 result.1 }
+        ensures orderly { IsOrderly result.1 }
         ensures failed { R.has_failed result.2 ≡ self.pull.failed }
     {
-        self.end()
+        let (header, list, reader) = self.end();
+        let _list = list.in_order();
+        (header, list, reader)
     }
 }
 
@@ -270,6 +273,13 @@ impl<T: Store, R: Source + Drop> Walk<T, R> {
         ensures within { result ≤ limit }
     {
         self.pull.taken()
+    }
+
+    // How many bytes of the list are taken once the next field is.
+    pub(crate) fn taken_with_next(&self) -> u64
+        ensures { result ≡ self.now.pull.taken + (expected self.now.place).size }
+    {
+        self.taken() + self.place.size() as u64
     }
 }
 

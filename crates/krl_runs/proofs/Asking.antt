@@ -3,22 +3,19 @@ use Rattle.std.proofs.Common.{◌≡◌, ℕ, true, false, List, [], ◌∷◌, 
 use Rattle.std.specs.List.{concat}
 use Rattle.krl_core.proofs.Tested.{revokes_meant}
 use Rattle.krl_core.specs.Canonical.{entries_in}
-use Rattle.krl_core.specs.Contents.{Contents, IsOrderly, nothing}
+use Rattle.krl_core.specs.Contents.{Contents, IsOrderly}
 use Rattle.krl_core.specs.Entry.{Entry}
 use Rattle.key_files.specs.declared.cause.Cause.TheVariants as causes
 use Rattle.krl_core.proofs.Canonical.{means_itself}
-use Rattle.krl_core.proofs.OneMeaning.{one_meaning}
-use Rattle.krl_core.proofs.SameMeaning.{nothing_meant}
 use Rattle.krl_core.proofs.Scoped.{means_within}
 use Rattle.krl_core.specs.Entries.{entries_of}
 use Rattle.krl_core.specs.Front.{IsFirstFault}
 use Rattle.krl_core.specs.NamingTests.{is_revoked as is_named}
-use Rattle.krl_core.specs.Questions.{Asked, Asks, FindsIn}
+use Rattle.krl_core.specs.Questions.{Asks}
 use Rattle.krl_core.specs.Reading.{HoldsWithin, IsList, IsListAs}
-use Rattle.krl_core.specs.Scope.{Scope}
 use Rattle.krl_core.specs.Tested.{revokes}
 use Rattle.ssh_subject.specs.Subject.{Subject}
-use Rattle.krl_core.proofs.NamingTests.{found_tested}
+use Rattle.krl_core.proofs.NamingTests.{found_tested, meant_tested}
 use Rattle.krl_core.specs.declared.header.Header.{Header}
 use Rattle.krl_fault.specs.declared.krl_fault.KrlFault.{KrlFault}
 use Rattle.krl_fault.specs.declared.krl_fault.KrlFault.TheVariants as faults
@@ -30,6 +27,7 @@ use Rattle.krl_runs.specs.Query.{AnswersAbout, HasEntries, IsHeld, answer_of, as
 use Rattle.key_files.specs.Keys.{File}
 use Rattle.krl_runs.specs.Run.{Item, Outcome, Passed, Stopped, before, files_items, outcome_of}
 use Rattle.key_files.specs.Stop.{Stop, stop_of}
+use Rattle.krl_runs.proofs.Agreeing.{files_same}
 use Rattle.krl_runs.proofs.Carrying.{carries_more, carries_passed, carries_then, carries_withheld}
 
 -- A list that was read is held.
@@ -87,20 +85,13 @@ nothing_first name known files = refl
 
 -- ---- a list that passed
 
--- of nothing, nothing is found
-pub finds_nothing : (asked : Asked) → FindsIn nothing asked → asked.found ≡ nothing
-finds_nothing asked finds =
-    one_meaning asked.found nothing [] (record { orderly = finds.orderly; names = λ name. (λ h. (nothing_meant.names name).0 (finds.held name h), λ none. absurd none) }) nothing_meant
-
-pub some_same : {A : Type 0} {x y : A} → Some x ≡ Some y → x ≡ y
-some_same same = cc
-
--- the entries of a list that passed
-pub passed_entries : (left : Option (List ℕ)) (scope : Scope) (found : Contents) (header : Header)
-    → ((text : List ℕ) → left ≡ Some text → IsListAs (HoldsWithin scope) text header found) → ((text : List ℕ) → left ≡ Some text → IsFirstFault text None)
-    → (entries : List Entry) × ((text : List ℕ) → left ≡ Some text → HasEntries text entries)
-passed_entries None scope found header list none = ([], λ text e. absurd (cc))
-passed_entries (Some text) scope found header list none =
+-- the entries that answer for a list: those of its sections, or of what is held of it
+pub list_entries : {Holds : List ℕ → Contents → List Entry → Type 0} {Agrees : List Entry → Type 0} (left : Option (List ℕ)) (held : Contents) (header : Header)
+    → ((text : List ℕ) → left ≡ Some text → IsListAs Holds text header held) → ((text : List ℕ) → left ≡ Some text → IsFirstFault text None)
+    → Agrees (entries_in held) → ((text : List ℕ) (entries : List Entry) → Holds text held entries → Agrees entries)
+    → (entries : List Entry) × ((text : List ℕ) → left ≡ Some text → HasEntries text entries) × Agrees entries
+list_entries None held header list none own agree = (entries_in held, λ text e. absurd (cc), own)
+list_entries (Some text) held header list none own agree =
     let is = list text refl in
     let entries = entries_of is.sections in
     let has : HasEntries text entries = record {
@@ -111,31 +102,39 @@ passed_entries (Some text) scope found header list none =
       no_fault = none text refl;
       entries_are = refl;
     } in
-    (entries, λ other e. let same : text ≡ other = cc in subst (λ (t : List ℕ). HasEntries t entries) same has)
+    (entries, λ other e. let same : text ≡ other = cc in subst (λ (t : List ℕ). HasEntries t entries) same has, agree text entries is.holds)
 
--- the entries that answer for a list that passed: those of its sections, or of what was found
+-- ---- of which all is held
+
+-- what is held answers for each key
+pub held_list : (left : Option (List ℕ)) (held : Contents) (header : Header) → IsOrderly held
+    → ((text : List ℕ) → left ≡ Some text → IsList text header held) → ((text : List ℕ) → left ≡ Some text → IsFirstFault text None)
+    → (entries : List Entry) × ((text : List ℕ) → left ≡ Some text → HasEntries text entries) × ((asked : Subject) → revokes held asked ≡ is_named entries asked)
+held_list left held header orderly list none =
+    list_entries left held header list none (meant_tested held (entries_in held) (means_itself held orderly)) (λ text entries holds. meant_tested held entries holds.means)
+
+-- and its run is that of the entries
+pub held_run : (name : List ℕ) (files : List File) (known : Known) (entries : List Entry) → ((asked : Subject) → revokes known.contents asked ≡ is_named entries asked)
+    → query_run_of name (Ok known) false files ≡ asked_run_of name (Ok entries) files
+unfolding query_run_of contents_items asked_run_of
+held_run name files known entries same = ap (λ (items : List Item). Passed name ∷ items) (files_same (revokes known.contents) (is_named entries) same files)
+
+-- ---- of which what was asked about is found
+
+-- what was found answers for what was asked about
 pub passed_list : (left : Option (List ℕ)) (topics found : Contents) (header : Header) → IsOrderly found
     → ((text : List ℕ) → left ≡ Some text → IsListAs (HoldsWithin (Some topics)) text header found) → ((text : List ℕ) → left ≡ Some text → IsFirstFault text None)
-    → (entries : List Entry) × ((text : List ℕ) → left ≡ Some text → HasEntries text entries) × ((asked : Subject) → Asks topics asked → is_named entries asked ≡ revokes found asked)
-unfolding passed_entries
-passed_list None topics found header orderly list none = (
-  entries_in found,
-  λ text e. absurd (cc),
-  λ asked asks. sym (found_tested topics found (entries_in found) (means_within (Some topics) found (entries_in found) (means_itself found orderly)) asked asks),
-)
-passed_list (Some text) topics found header orderly list none =
-    let is = list text refl in
-    let entries = entries_of is.sections in (
-      entries,
-      (passed_entries (Some text) (Some topics) found header list none).1,
-      λ asked asks. sym (found_tested topics found entries is.holds.means asked asks),
-    )
+    → (entries : List Entry) × ((text : List ℕ) → left ≡ Some text → HasEntries text entries) × ((asked : Subject) → Asks topics asked → revokes found asked ≡ is_named entries asked)
+passed_list left topics found header orderly list none =
+    list_entries left found header list none
+    (found_tested topics found (entries_in found) (means_within (Some topics) found (entries_in found) (means_itself found orderly)))
+    (λ text entries holds. found_tested topics found entries holds.means)
 
 -- what was found of it answers for what was asked about
-pub passed_answers : (topics found : Contents) (entries : List Entry) → ((asked : Subject) → Asks topics asked → is_named entries asked ≡ revokes found asked)
+pub passed_answers : (topics found : Contents) (entries : List Entry) → ((asked : Subject) → Asks topics asked → revokes found asked ≡ is_named entries asked)
     → AnswersAbout topics found (ask_by (is_named entries))
 passed_answers topics found entries same = record {
-  say = λ name number line asked key asks. ap (λ (b : Bool). Some (answer_of name line b)) (same asked asks);
+  say = λ name number line asked key asks. ap (λ (b : Bool). Some (answer_of name line b)) (sym (same asked asks));
   unanswered = refl;
 }
 

@@ -24,11 +24,11 @@ use ssh_cert::{AnyKey, push_escaped};
 use ssh_wire::{Bytes, Sink, Source};
 use std::alloc::{AllocError, Global};
 
-// What was read of a list.
+/// What was read of a list.
 #[derive(Drop)]
-struct Known {
-    header: Header,
-    list: Revocations<Held>,
+pub(crate) struct Known {
+    pub(crate) header: Header,
+    pub(crate) list: Revocations<Held>,
 }
 
 // Says of each key whether a list revokes it.
@@ -178,8 +178,8 @@ fn ask_list<'a, R: Source + Drop, W: Sink>(
     }
 }
 
-// Prints the contents of a list where `dump` is true, and asks it about each key of each file.
-fn ask_held<'a, W: Sink>(
+/// Prints the contents of a list where `dump` is true, and asks it about each key of each file.
+pub(crate) fn ask_held<'a, W: Sink>(
     run: &mut Run<W>,
     krl_name: &'a str,
     known: &Known,

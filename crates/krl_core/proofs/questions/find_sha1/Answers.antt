@@ -9,13 +9,11 @@ use Rattle.krl_core.proofs.questions.find_sha1.Goals as goal
 
 pub returns-then-not-has_sha1 : goal.returns-then-not-has_sha1
 returns-then-not-has_sha1 g c =
-    let has = rw c.digest-hash.ensures at c.has_sha1.ensures in
-    finds_none c.args.front.now c.args.found.now (Sha1Of (sha1 c.args.blob.now)) (λ h. false≢true (sym c.if-not-has_sha1.true ∙ has.1 h))
+    finds_none c.args.front.now c.args.found.now (Sha1Of (sha1 c.args.blob.now)) (λ h. false≢true (sym c.if-not-has_sha1.true ∙ c.has_sha1.ensures.1 h))
 
 pub returns : goal.returns
 returns g c =
     let hash = sha1 c.args.blob.now in
-    let has = rw c.digest-hash.ensures at c.has_sha1.ensures in
     on_ok_weaker c.add_sha1.result
-    (finds_one c.args.front.now c.args.found.now c.add_sha1.new.self (Sha1Entry hash) (Sha1Of hash) (just_sha1 hash) (has.0 c.if-not-has_sha1.false) c.add_sha1.ensures.orderly)
-    (rw c.digest-hash.ensures at c.add_sha1.ensures.means)
+    (finds_one c.args.front.now c.args.found.now c.add_sha1.new.self (Sha1Entry hash) (Sha1Of hash) (just_sha1 hash) (c.has_sha1.ensures.0 c.if-not-has_sha1.false) c.add_sha1.ensures.orderly)
+    (rw c.digest.ensures at c.add_sha1.ensures.means)

@@ -1,5 +1,4 @@
-use Rattle.krl_core.proofs.Hashes.{hash_listed}
 use Rattle.krl_core.proofs.revocations.Revocations.has_sha256.Goals as goal
 
 pub returns : goal.returns
-returns g c = hash_listed c.args.hash.now c.args.self.now.sha256s c.contains.result (rw (← c.self.view_is) c.contains.ensures)
+returns g c = rw (← c.self.view_is) c.has_sha256.ensures

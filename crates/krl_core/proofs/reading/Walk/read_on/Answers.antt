@@ -1,0 +1,38 @@
+use Rattle.krl_core.proofs.Advancing.{advance_nearer, advance_scope}
+use Rattle.krl_core.proofs.Lists.{list_of_whole, same_holds_within}
+use Rattle.std.proofs.Common.{◌∙◌}
+use Rattle.krl_core.proofs.Whole.{ends_after, leads_further, leads_on, whole_unfaulted}
+use Rattle.krl_core.proofs.reading.Walk.read_on.Goals as goal
+
+pub fields-init : goal.fields-init
+fields-init g c = leads_on c.args.self c.requires
+
+pub fields-smaller : goal.fields-smaller
+fields-smaller g c = advance_nearer c.fields.walk c.stride.new.self (c.in-Ok-true.ensures.advances c.in-Ok-true.field-0-test)
+
+pub fields-preserved : goal.fields-preserved
+fields-preserved g c =
+    let on = c.in-Ok-true.field-0-test in
+    let ok = c.in-Ok-true.ensures in
+    leads_further _ c.fields.walk c.stride.new.self c.fields.invariant (ok.more on) ok.working (advance_scope c.fields.walk c.stride.new.self (ok.advances on))
+
+pub returns-in-Ok-false-clause-found : goal.returns-in-Ok-false-clause-found
+returns-in-Ok-false-clause-found g c = λ text fields h.
+    let ends = ends_after _ _ _ c.fields.invariant (c.in-Ok-false.ensures.ends c.in-Ok-false.field-0-test) in
+    let whole = ends.whole text fields h in
+    list_of_whole _ text _ _ (same_holds_within _ text _) (c.end-header.ensures.whole text _ whole.1 whole.2 ends.may_end)
+
+pub returns-in-Ok-false-clause-scope : goal.returns-in-Ok-false-clause-scope
+returns-in-Ok-false-clause-scope g c =
+    c.end-header.ensures.scope ∙ (c.in-Ok-false.ensures.ends c.in-Ok-false.field-0-test).scope_is ∙ c.fields.invariant.scope_is
+
+pub returns-in-Ok-false-clause-no_fault : goal.returns-in-Ok-false-clause-no_fault
+returns-in-Ok-false-clause-no_fault g c = λ text fields h.
+    let ends = ends_after _ _ _ c.fields.invariant (c.in-Ok-false.ensures.ends c.in-Ok-false.field-0-test) in
+    let whole = ends.whole text fields h in
+    whole_unfaulted _ text _ _ (c.end-header.ensures.whole text _ whole.1 whole.2 ends.may_end)
+
+pub returns-in-Err-clause-fault : goal.returns-in-Err-clause-fault
+returns-in-Err-clause-fault g c = λ text fields h.
+    let one = c.fields.invariant.reads text fields h in
+    rw (c.into_reader.ensures.left, c.into_reader.ensures.failed) (c.in-Err.ensures.fault c.fields.invariant.faultless text _ one.1)

@@ -1,0 +1,12 @@
+use Rattle.std.proofs.Common.{◌+◌, ◌-◌, ◌*◌}
+use Rattle.krl_core.specs.Front.{limit}
+use Rattle.krl_core.proofs.Exists.{weight}
+use Rattle.krl_core.proofs.Whole.{LeadsOn}
+use Rattle.krl_core.proofs.reading.Walk.read_on.Given as goal
+
+-- some fields more were read
+abbrev pub invariant-fields : goal.invariant-fields
+invariant-fields g l = LeadsOn l.fn.self l.walk
+
+abbrev pub decreases-fields : goal.decreases-fields
+decreases-fields g l = 2 * (limit - l.walk.pull.taken) + weight l.walk.place
