@@ -7,6 +7,7 @@ mod hostile;
 mod lists;
 mod many;
 mod page;
+mod passing;
 mod reading;
 mod rows;
 mod said;

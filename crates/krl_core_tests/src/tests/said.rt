@@ -95,13 +95,8 @@ pub fn held_of_runs(rt: &impl Abort, alloc: Global, runs: &[(u64, u64)]) -> Revo
 /// The authority, the serial and the key ID of a certificate of `G`; none stands for `G` itself.
 pub type About<'a> = Option<(&'a [u8], u64, &'a [u8])>;
 
-/// Whether what is held revokes it.
-pub fn revokes<S: Spans>(
-    rt: &impl Abort,
-    alloc: Global,
-    held: &Revocations<S>,
-    about: About<'_>,
-) -> bool {
+/// What is asked about it.
+pub fn subject_of<'a>(rt: &impl Abort, alloc: Global, about: About<'a>) -> Subject<'a> {
     let blob = Vec::from_slice(alloc, G).expect(rt, "there is memory");
     let mut subject = Subject {
         plain: Bytes::from_vec(blob),
@@ -114,5 +109,15 @@ pub fn revokes<S: Spans>(
             authority,
         });
     }
-    held.query(&subject)
+    subject
+}
+
+/// Whether what is held revokes it.
+pub fn revokes<S: Spans>(
+    rt: &impl Abort,
+    alloc: Global,
+    held: &Revocations<S>,
+    about: About<'_>,
+) -> bool {
+    held.query(&subject_of(rt, alloc, about))
 }

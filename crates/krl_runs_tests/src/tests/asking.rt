@@ -1,7 +1,7 @@
 //! Asking lists about the keys of files.
 
 use crate::tests::runs::{CLOSED, File, KEY, LONG, ONE, Said, asks, joined, repeated};
-use parts_for_tests::{CERT_LINE, CONTAINER, HEADER, OTHER_LINE};
+use parts_for_tests::{CERT_LINE, CONTAINER, HEADER, ID_A, KEY_SECTION, OTHER_LINE};
 use std::alloc::Global;
 use std::process::Abort;
 
@@ -50,6 +50,36 @@ const ROWS: [Row<'static>; 8] = [
 fn reports_each_key_or_stops_at_a_fault(rt: HostRuntime) {
     for (i, (parts, files, said)) in ROWS.iter().enumerate() {
         asks(&rt, rt.alloc(), i, *parts, *files, *said);
+    }
+}
+
+// A list that is longer than the files passes, and the key is named before or after most of it.
+#[test]
+fn reports_each_key_of_a_list_that_passes(rt: HostRuntime) {
+    let fill = repeated(&rt, rt.alloc(), ID_A, 200);
+    let files = [
+        KEY,
+        OTHER,
+        ("c", Some(&[CERT_LINE])),
+        ("id", Some(&[CONTAINER])),
+    ];
+    let said: &[u8] = b"g.pub: REVOKED\na (x y): ok\nc: REVOKED\nid (a): REVOKED\n";
+    for parts in [[&HEADER, KEY_SECTION, &fill], [&HEADER, &fill, KEY_SECTION]] {
+        asks(&rt, rt.alloc(), 0, &parts, &files, (said, 1, ""));
+        // the list's fault is first
+        let faulty = joined(&rt, rt.alloc(), &parts);
+        let unknown = "ssh-keygen: r.krl: krl 4 UnknownSection";
+        asks(
+            &rt,
+            rt.alloc(),
+            1,
+            &[&faulty, b"\x99"],
+            &files,
+            (b"", 255, unknown),
+        );
+        let closed = "ssh-keygen: none: file 1 Open";
+        let found: Said = (b"g.pub: REVOKED\n", 255, closed);
+        asks(&rt, rt.alloc(), 2, &parts, &[KEY, CLOSED, KEY], found);
     }
 }
 

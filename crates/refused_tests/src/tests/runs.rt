@@ -72,40 +72,69 @@ fn is_whole_or_stopped(
 }
 
 // Asks a list about the keys of files.
-fn query<'a>(alloc: Global, krl: &[u8], files: &'a [Named<'a>], said: &mut Buffer) -> Done<'a> {
+fn query<'a>(
+    alloc: Global,
+    krl: &[u8],
+    dump: bool,
+    files: &'a [Named<'a>],
+    said: &mut Buffer,
+) -> Done<'a> {
     let (done, _) = query_run(
         alloc,
         "r.krl",
         FromRead::new(krl),
-        true,
+        dump,
         files,
         &mut ToWrite::new(said),
     );
     done
 }
 
-// What a list with the published key says of three files, with the list itself before it.
-const ANSWERS: &[u8] = b"# KRL version 1\n# Generated at 1970-01-01T00:00:00Z\n\
+// What a list with the published key says of three files.
+const ANSWERS: &[u8] = b"a: REVOKED\nb: ok\nid (a): REVOKED\n";
+
+// The same, with the list itself before it.
+const LIST_AND_ANSWERS: &[u8] = b"# KRL version 1\n# Generated at 1970-01-01T00:00:00Z\n\
 key: AAAAC3NzaC1lZDI1NTE5AAAAIOMqqnkVzrm0SdG6UOoqKLsabgH5C9okWi0dh2l9GKJl\n\
 a: REVOKED\nb: ok\nid (a): REVOKED\n";
 
 // Asks about files of a certificate, of another key and of a private key.
-fn ask_three(rt: &(impl AllocGlobal + Abort + Print)) -> Option<()> {
-    let krl = list_of(rt, KEY_SECTION)?;
+fn ask_three(
+    rt: &(impl AllocGlobal + Abort + Print),
+    sections: &[u8],
+    dump: bool,
+    answers: &[u8],
+) -> Option<()> {
+    let krl = list_of(rt, sections)?;
     let files = [
         file(rt, "a", CERT_LINE)?,
         file(rt, "b", OTHER_LINE)?,
         file(rt, "id", CONTAINER)?,
     ];
     let mut said = Buffer::new();
-    let done = query(rt.alloc(), &krl, &files, &mut said);
-    is_whole_or_stopped(rt, &done, &said, 1, ANSWERS);
+    let done = query(rt.alloc(), &krl, dump, &files, &mut said);
+    is_whole_or_stopped(rt, &done, &said, 1, answers);
     Some(())
 }
 
 #[test]
-fn a_question(rt: HostRuntime) {
-    ask_three(&rt);
+fn a_question_and_the_list(rt: HostRuntime) {
+    ask_three(&rt, KEY_SECTION, true, LIST_AND_ANSWERS);
+}
+
+#[test]
+fn a_question_of_a_short_list(rt: HostRuntime) {
+    ask_three(&rt, KEY_SECTION, false, ANSWERS);
+}
+
+// The list is longer than the files, and the key is named at its end.
+#[test]
+fn a_question_of_a_list_that_passes(rt: HostRuntime) {
+    let mut parts = [ID_A; 100];
+    parts[99] = KEY_SECTION;
+    if let Some(sections) = answered(&rt, joined(rt.alloc(), &parts), AllocError) {
+        ask_three(&rt, &sections, false, ANSWERS);
+    }
 }
 
 // Lists a file.

@@ -1,0 +1,218 @@
+//! Lists that are held up to some byte, and pass from there on with what is asked.
+
+ghost use Rattle.std.specs.Prelude.{◌≡◌, false};
+
+use crate::tests::lists::{list_of, text_of};
+use crate::tests::rows::ROWS;
+use crate::tests::said::{A, ALL, About, B, Said, held_of, subject_of};
+use krl_core::{Findings, KrlFault, Questions, Reading, Store, Walk};
+use parts_for_tests::{Giver, Then};
+use serial_set::Held;
+use ssh_key::{sha1_of, sha256_of};
+use ssh_wire::{FromBuffer, Source};
+use std::alloc::Global;
+use std::io::BufReader;
+use std::process::Abort;
+
+// Authorities whose keys are revoked, by the blob and by each hash.
+const C: &[u8] = b"C, by its blob";
+
+const D: &[u8] = b"D, by a SHA-1";
+
+const E: &[u8] = b"E, by a SHA-256";
+
+// What is asked about, and whether the list revokes it.
+const ASKED: [(About<'static>, bool); 15] = [
+    (None, false),
+    (Some((A, 70, b"x")), true),
+    (Some((A, 71, b"x")), false),
+    (Some((B, 70, b"x")), false),
+    (Some((B, 3, b"x")), true),
+    (Some((A, 9, b"x")), true),
+    (Some((B, 10, b"x")), false),
+    (Some((B, 103, b"x")), true),
+    (Some((B, 104, b"x")), false),
+    (Some((B, 0, b"b")), true),
+    (Some((A, 0, b"b")), false),
+    (Some((A, 0, b"all")), true),
+    (Some((C, 0, b"x")), true),
+    (Some((D, 0, b"x")), true),
+    (Some((E, 0, b"x")), true),
+];
+
+// A list with entries of each kind.
+fn text(rt: &impl Abort, alloc: Global) -> Vec<u8> {
+    let all = [
+        Said::Serials(ALL, 3, 9),
+        Said::Serials(ALL, 101, 101),
+        Said::Serials(ALL, 103, 103),
+        Said::Serials(ALL, 105, 106),
+        Said::Id(ALL, b"all"),
+        Said::Serials(A, 70, 70),
+        Said::Serials(A, 1_000_000, 1_000_000),
+        Said::Id(B, b"b"),
+        Said::Key(C),
+        Said::Sha1(&sha1_of(D)),
+        Said::Sha256(&sha256_of(E)),
+    ];
+    text_of(rt, alloc, &held_of::<Held>(rt, alloc, &all))
+}
+
+// A buffer of this size in front of a giver.
+type Buffered<'a> = FromBuffer<Giver<'a>>;
+
+fn buffered<'a>(rt: &impl Abort, alloc: Global, size: usize, giver: Giver<'a>) -> Buffered<'a>
+    ensures { ⟦<FromBuffer<Giver<'a>> as Source>⟧.has_failed result ≡ false }
+{
+    FromBuffer::new(BufReader::with_capacity(alloc, size, giver).expect(rt, "there is memory"))
+}
+
+// Whether a list revokes what is asked, where no more of it than `most` bytes is held.
+fn passes<R: Source + Drop>(
+    rt: &impl Abort,
+    alloc: Global,
+    reader: R,
+    most: u64,
+    about: About<'_>,
+) -> Result<bool, KrlFault>
+    requires { R.has_failed reader ≡ false }
+{
+    let subject = subject_of(rt, alloc, about);
+    let mut front: Reading<Held, R> = Reading::new(alloc, reader);
+    if !front.read_to(most)? {
+        let (_, list, _) = front.done();
+        return Ok(list.query(&subject));
+    }
+    let mut questions: Questions<Held> = Questions::new(alloc);
+    questions
+        .ask(front.held_so_far(), &subject)
+        .expect(rt, "there is memory");
+    let (read, _) = front.ask(Findings::of(alloc, questions)).read_on();
+    let (_, findings) = read?;
+    Ok(findings.answer(&subject))
+}
+
+#[test]
+fn from_each_byte_on(rt: HostRuntime) {
+    let text = text(&rt, rt.alloc());
+    for most in 0..=text.len() {
+        for (i, (about, revoked)) in ASKED.iter().enumerate() {
+            let giver = Giver::new(&text, 1 + most % 7);
+            let reader = buffered(&rt, rt.alloc(), 1 + i * 9, giver);
+            let found = passes(&rt, rt.alloc(), reader, most as u64, *about);
+            assert!(rt;
+                found == Ok(*revoked),
+                "in case {i}, with {most} bytes held"
+            );
+        }
+    }
+}
+
+// What ended a walk, and how many bytes it took.
+type End = (Result<(), KrlFault>, u64);
+
+// Reads to the end, a field at a time.
+fn step_on<T: Store, R: Source + Drop>(mut walk: Walk<T, R>) -> End {
+    for _ in 0..100_000 {
+        match walk.step() {
+            Ok(true) => {}
+            Ok(false) => return (Ok(()), walk.taken()),
+            Err(fault) => return (Err(fault), walk.taken()),
+        }
+    }
+    (Ok(()), 0)
+}
+
+// Reads to the end, many fields at a time.
+fn stride_on<T: Store, R: Source + Drop>(mut walk: Walk<T, R>) -> End {
+    for _ in 0..100_000 {
+        match walk.stride() {
+            Ok(true) => {}
+            Ok(false) => return (Ok(()), walk.taken()),
+            Err(fault) => return (Err(fault), walk.taken()),
+        }
+    }
+    (Ok(()), 0)
+}
+
+// Reads on from the byte that the front ends with, with what is asked alone.
+fn pass_on<R: Source + Drop>(rt: &impl Abort, alloc: Global, reader: R, most: u64) -> End
+    requires { R.has_failed reader ≡ false }
+{
+    let mut front: Reading<Held, R> = Reading::new(alloc, reader);
+    match front.read_to(most) {
+        Ok(true) => {}
+        Ok(false) => return (Ok(()), front.taken()),
+        Err(fault) => return (Err(fault), front.taken()),
+    }
+    let mut questions: Questions<Held> = Questions::new(alloc);
+    let subject = subject_of(rt, alloc, Some((A, 70, b"x")));
+    questions
+        .ask(front.held_so_far(), &subject)
+        .expect(rt, "there is memory");
+    stride_on(front.ask(Findings::of(alloc, questions)))
+}
+
+// A giver of a text's first bytes, some at a call, which fails from a call on or where they end.
+type Given = (usize, usize, usize, Then);
+
+fn giver<'a>(text: &'a [u8], given: Given) -> Giver<'a> {
+    let (count, piece, calls, then) = given;
+    let mut giver = Giver::new(&text[..count.min(text.len())], piece);
+    giver.calls_before_failure = calls;
+    giver.then = then;
+    giver
+}
+
+// A list that passes ends as one that is held a field at a time, from whichever byte on.
+fn ends_alike(rt: &impl Abort, alloc: Global, text: &[u8], given: Given) {
+    let (count, piece, calls, _) = given;
+    let reader = buffered(rt, alloc, 32, giver(text, given));
+    let held = step_on::<_, Buffered<'_>>(Reading::<Held, Buffered<'_>>::new(alloc, reader));
+    for most in [0, 60, 130, count as u64, u64::MAX] {
+        let reader = buffered(rt, alloc, 32, giver(text, given));
+        let passed = pass_on(rt, alloc, reader, most);
+        assert!(rt;
+            passed == held,
+            "{count} bytes, {piece} a call, {calls} calls, {most} held"
+        );
+    }
+}
+
+#[test]
+fn cut_at_each_byte(rt: HostRuntime) {
+    let text = text(&rt, rt.alloc());
+    for count in 0..=text.len() {
+        for then in [Then::Ends, Then::Fails] {
+            ends_alike(&rt, rt.alloc(), &text, (count, 1000, usize::MAX, then));
+        }
+    }
+}
+
+#[test]
+fn failing_at_each_call(rt: HostRuntime) {
+    let text = text(&rt, rt.alloc());
+    for piece in [1, 3, 7] {
+        for calls in 0..=text.len() / piece + 2 {
+            ends_alike(
+                &rt,
+                rt.alloc(),
+                &text,
+                (text.len(), piece, calls, Then::Ends),
+            );
+        }
+    }
+}
+
+#[test]
+fn worked_lists(rt: HostRuntime) {
+    for row in &ROWS {
+        let text = list_of(&rt, rt.alloc(), row.0);
+        ends_alike(
+            &rt,
+            rt.alloc(),
+            &text,
+            (text.len(), 7, usize::MAX, Then::Ends),
+        );
+    }
+}
