@@ -17,7 +17,8 @@ def asked(room, words, **failing):
 
 def equal_growths(room, name, small, large):
     """Both lists take the same number of allocations, however many numbers they name."""
-    few, many = (asked(room, "-Q -f %s g.pub" % krl) for krl in (small, large))
+    # Both end within their front, which is as long as the file of keys.
+    few, many = (asked(room, "-Q -f %s many.pub" % krl) for krl in (small, large))
     wrong = []
     if few.says() != many.says():
         wrong.append("%s, and %s" % (few.shown(), many.shown()))
