@@ -15,13 +15,14 @@ stands() {
   done
   return 1
 }
-for crate in $(sed -n 's/^\([a-z0-9_]*\):.*/\1/p' "$top/crates.txt" | grep -v '_tests$'); do
+for crate in $(sed -n 's/^\([a-z0-9_]*\)\( staticlib\)\{0,1\}:.*/\1/p' "$top/crates.txt" | grep -v '_tests$'); do
   page=$top/crates/$crate/README.md
   judge "the page of $crate" "$(
     [ -e "$page" ] || echo '  there is none'
     grep -qF "(../crates/$crate/README.md)" "$top/docs/ARCHITECTURE.md" || echo '  the map does not lead to it'
   )"
-  [ "$crate" = krl_tool ] && continue
+  # The program's use is shown below; what C calls is tried by tests/library.
+  [[ $crate == krl_tool || $crate == krl_c ]] && continue
   caller=$(shown rust "$page")
   judge "the caller on the page of $crate" "$([ -n "$caller" ] && stands "$caller" || echo '  no module page has it')"
 done

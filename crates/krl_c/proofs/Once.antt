@@ -1,0 +1,90 @@
+-- One answer for one question, but for want of memory.
+use Rattle.std.proofs.Common.{◌≡◌, ◌⊎◌, inl, inr, ℕ, ℤ, List, Option, Some, None, Result, Ok, Err, refl, sym, ap, subst, ◌∙◌}
+use Rattle.ssh_subject.specs.Subject.{Subject}
+use Rattle.ssh_cert.specs.declared.subject_fault.SubjectFault.{SubjectFault}
+use Rattle.ssh_cert.specs.SubjectReading.{IsSubject, IsSubjectFault}
+use Rattle.ssh_key.specs.KeyLine.{IsKeyLine}
+use Rattle.ssh_key.specs.LineFaults.{IsFirstLineFault}
+use Rattle.ssh_key.specs.LineReading.{Content, content}
+use Rattle.ssh_key.specs.declared.line_fault.LineFault.{LineFault}
+use Rattle.krl_fault.specs.declared.krl_fault.KrlFault.{KrlFault}
+use Rattle.krl_core.specs.Entry.{Entry}
+use Rattle.krl_core.specs.Front.{IsFirstFault}
+use Rattle.krl_c.specs.Answer.{Answers, AnswersBlob, AnswersLine, AnswersOfLine, HasOne, Says, names, spares, said, no_blob, starved, answered, no_list, list_starved, of_key, no_line, line_starved, line_answered, no_list_for_line, list_starved_for_line}
+use Rattle.krl_c.specs.Number.{list_number, line_number, no_memory, subject_number}
+
+-- the two are one, or memory ran out for one of them
+abbrev pub Once : ℤ → ℤ → Type 0
+Once one other = (one ≡ other) ⊎ ((one ≡ no_memory) ⊎ (other ≡ no_memory))
+
+-- what is so of one of two numbers of a fault is so of both
+numbers_same : {F : Type 0} (number : F → ℤ) (one other : ℤ) (fault fault' : F) → fault ≡ fault' → one ≡ number fault → other ≡ number fault' → Once one other
+numbers_same number one other fault fault' same e f = inl (e ∙ ap number same ∙ sym f)
+
+said_once : (entries : List Entry) (asked : Subject) (one other : ℤ) → Says entries asked one → Says entries asked other → one ≡ other
+said_once entries asked one other (names is e) (names also f) = e ∙ sym f
+said_once entries asked one other (names is e) (spares not f) = absurd (not is)
+said_once entries asked one other (spares not e) (names is f) = absurd (not is)
+said_once entries asked one other (spares not e) (spares also f) = e ∙ sym f
+
+-- of a blob, by a reading of it
+pub blob_once : (blob : List ℕ) (read : Result Subject SubjectFault) → ((asked : Subject) → IsSubject blob asked → read ≡ Ok asked) → ((fault : SubjectFault) → IsSubjectFault blob fault → read ≡ Err fault)
+    → (entries : List Entry) (one other : ℤ) → AnswersBlob entries blob one → AnswersBlob entries blob other → Once one other
+blob_once blob read of_subject of_fault entries one other (said a is says) (said b also tells) =
+    let left = of_subject a is in
+    let right = of_subject b also in
+    let same : b ≡ a = cc in
+    inl (said_once entries a one other says (subst (λ (s : Subject). Says entries s other) same tells))
+blob_once blob read of_subject of_fault entries one other (said a is says) (no_blob fault first e) = let left = of_subject a is in let right = of_fault fault first in absurd (cc)
+blob_once blob read of_subject of_fault entries one other (no_blob fault first e) (said a is says) = let left = of_subject a is in let right = of_fault fault first in absurd (cc)
+blob_once blob read of_subject of_fault entries one other (no_blob fault first e) (no_blob fault' first' f) =
+    let left = of_fault fault first in
+    let right = of_fault fault' first' in
+    let same : fault ≡ fault' = cc in
+    numbers_same subject_number one other fault fault' same e f
+blob_once blob read of_subject of_fault entries one other (starved e) tells = inr (inl e)
+blob_once blob read of_subject of_fault entries one other says (starved f) = inr (inr f)
+
+-- of a line, by a reading of it
+pub line_once : (text : List ℕ) (read : Result Content LineFault) → ((word blob comment : List ℕ) → IsKeyLine text word blob comment → read ≡ Ok (content word blob comment))
+    → ((fault : LineFault) → IsFirstLineFault text fault → read ≡ Err fault)
+    → (entries : List Entry)
+    → ((word blob comment : List ℕ) → IsKeyLine text word blob comment → (one other : ℤ) → AnswersBlob entries blob one → AnswersBlob entries blob other → Once one other)
+    → (one other : ℤ) → AnswersLine entries text one → AnswersLine entries text other → Once one other
+line_once text read of_line of_fault entries once one other (of_key w b c is says) (of_key w' b' c' also tells) =
+    let left = of_line w b c is in
+    let right = of_line w' b' c' also in
+    let both : content w' b' c' ≡ content w b c = cc in
+    let same : b' ≡ b = ap (λ (line : Content). line.blob) both in
+    once w b c is one other says (subst (λ (blob : List ℕ). AnswersBlob entries blob other) same tells)
+line_once text read of_line of_fault entries once one other (of_key w b c is says) (no_line fault first e) = let left = of_line w b c is in let right = of_fault fault first in absurd (cc)
+line_once text read of_line of_fault entries once one other (no_line fault first e) (of_key w b c is says) = let left = of_line w b c is in let right = of_fault fault first in absurd (cc)
+line_once text read of_line of_fault entries once one other (no_line fault first e) (no_line fault' first' f) =
+    let left = of_fault fault first in
+    let right = of_fault fault' first' in
+    let same : fault ≡ fault' = cc in
+    numbers_same line_number one other fault fault' same e f
+line_once text read of_line of_fault entries once one other (line_starved e) tells = inr (inl e)
+line_once text read of_line of_fault entries once one other says (line_starved f) = inr (inr f)
+
+-- ---- of a list
+
+pub list_once : (list blob : List ℕ) → HasOne list → ((entries : List Entry) (one other : ℤ) → AnswersBlob entries blob one → AnswersBlob entries blob other → Once one other)
+    → (one other : ℤ) → Answers list blob one → Answers list blob other → Once one other
+list_once list blob has once one other (answered these is says) (answered others also tells) =
+    once these one other says (subst (λ (es : List Entry). AnswersBlob es blob other) (sym (has.entries these others is also)) tells)
+list_once list blob has once one other (answered these is says) (no_list fault first e) = absurd (has.none these fault is first)
+list_once list blob has once one other (no_list fault first e) (answered these is says) = absurd (has.none these fault is first)
+list_once list blob has once one other (no_list fault first e) (no_list fault' first' f) = numbers_same list_number one other fault fault' (has.fault fault fault' first first') e f
+list_once list blob has once one other (list_starved e) tells = inr (inl e)
+list_once list blob has once one other says (list_starved f) = inr (inr f)
+
+pub list_once_for_line : (list text : List ℕ) → HasOne list → ((entries : List Entry) (one other : ℤ) → AnswersLine entries text one → AnswersLine entries text other → Once one other)
+    → (one other : ℤ) → AnswersOfLine list text one → AnswersOfLine list text other → Once one other
+list_once_for_line list text has once one other (line_answered these is says) (line_answered others also tells) =
+    once these one other says (subst (λ (es : List Entry). AnswersLine es text other) (sym (has.entries these others is also)) tells)
+list_once_for_line list text has once one other (line_answered these is says) (no_list_for_line fault first e) = absurd (has.none these fault is first)
+list_once_for_line list text has once one other (no_list_for_line fault first e) (line_answered these is says) = absurd (has.none these fault is first)
+list_once_for_line list text has once one other (no_list_for_line fault first e) (no_list_for_line fault' first' f) = numbers_same list_number one other fault fault' (has.fault fault fault' first first') e f
+list_once_for_line list text has once one other (list_starved_for_line e) tells = inr (inl e)
+list_once_for_line list text has once one other says (list_starved_for_line f) = inr (inr f)

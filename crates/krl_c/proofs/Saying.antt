@@ -1,0 +1,88 @@
+-- What answers say, by what was read and asked.
+use Rattle.std.proofs.Common.{◌≡◌, ◌⊎◌, inl, inr, ℕ, ℤ, false, List, Option, Some, refl, ◌∙◌, arith}
+use Rattle.std.proofs.lemmas.Int.{to_z-of_z}
+use mir.Syntax.{w32}
+use mir.Val.{SFits, of_z, to_z}
+use Rattle.ssh_cert.specs.SubjectReading.{IsReportedFault}
+use Rattle.ssh_cert.specs.declared.subject_fault.SubjectFault.{SubjectFault}
+use Rattle.ssh_cert.specs.declared.subject_fault.SubjectFault.TheVariants as subjects
+use Rattle.ssh_key.specs.KeyLine.{IsKeyLine}
+use Rattle.ssh_key.specs.LineFaults.{IsReportedFault as IsReportedLineFault}
+use Rattle.ssh_key.specs.declared.line_fault.LineFault.{LineFault}
+use Rattle.ssh_key.specs.declared.line_fault.LineFault.TheVariants as lines
+use Rattle.krl_fault.specs.declared.krl_fault.KrlFault.{KrlFault}
+use Rattle.krl_fault.specs.declared.krl_fault.KrlFault.TheVariants as lists
+use Rattle.krl_core.specs.declared.header.Header.{Header}
+use Rattle.krl_core.specs.Entries.{entries_of}
+use Rattle.krl_core.specs.Entry.{Entry}
+use Rattle.krl_core.specs.Contents.{Contents}
+use Rattle.krl_core.specs.Front.{IsFirstFault}
+use Rattle.krl_core.specs.Reading.{IsListAs, Says as ListSays, starved as runs_out, failed_read, first}
+use Rattle.krl_c.specs.Answer.{Answers, AnswersBlob, AnswersLine, AnswersOfLine, IsListOf, answered, line_answered, of_key, no_list, list_starved, no_blob, starved, no_line, line_starved, no_list_for_line, list_starved_for_line}
+use Rattle.krl_c.specs.Kept.{Loads, load_starved, not_loaded_for}
+use Rattle.krl_c.specs.declared.kept.Kept.{Kept}
+use Rattle.krl_c.specs.Number.{list_number, line_number, subject_number}
+
+-- an answer that was handed over is itself
+pub same : (number : ℤ) → SFits w32 number → to_z w32 (of_z w32 number) ≡ number
+same number fits = to_z-of_z w32 number fits
+
+-- a blob's fault is answered by its number
+pub refused : (entries : List Entry) (blob : List ℕ) (fault : SubjectFault) (number : ℤ)
+    → IsReportedFault blob fault → number ≡ subject_number fault → AnswersBlob entries blob number
+refused entries blob (subjects.Key why) number reported e = no_blob (subjects.Key why) reported e
+refused entries blob (subjects.Cert why) number reported e = no_blob (subjects.Cert why) reported e
+refused entries blob subjects.NoMemory number reported e = starved e
+
+-- a line's fault is answered by its number
+pub line_refused : (entries : List Entry) (text : List ℕ) (fault : LineFault) (number : ℤ)
+    → IsReportedLineFault text fault → number ≡ line_number fault → AnswersLine entries text number
+line_refused entries text lines.NoKey number reported e = no_line lines.NoKey reported e
+line_refused entries text lines.Base64 number reported e = no_line lines.Base64 reported e
+line_refused entries text lines.WordDiffers number reported e = no_line lines.WordDiffers reported e
+line_refused entries text lines.NoMemory number reported e = line_starved e
+
+-- what was read of a list is that of its sections
+pub of_list : {Holds : List ℕ → Contents → List Entry → Type 0} (text : List ℕ) (header : Header) (contents : Contents)
+    (list : IsListAs Holds text header contents) → IsListOf text (entries_of list.sections)
+of_list text header contents list = record {
+  header = header;
+  sections = list.sections;
+  spelled = list.spelled;
+  within = list.within;
+  entries_are = refl;
+}
+
+-- a list's fault is its first one, unless memory ran out, where its reader did not fail
+pub first_of : (text : List ℕ) (fault : KrlFault) (left : Option (List ℕ))
+    → ListSays fault text false left
+    → (fault ≡ lists.NoMemory) ⊎ IsFirstFault text (Some fault)
+first_of text fault left (runs_out is size works) = inl is
+first_of text fault left (failed_read is after) = let wrong : ⊥ = grind (arith, after.failed_is) in absurd wrong
+first_of text fault left (first is works) = inr is
+
+pub list_refused : (text blob : List ℕ) (fault : KrlFault) (number : ℤ)
+    → (fault ≡ lists.NoMemory) ⊎ IsFirstFault text (Some fault)
+    → number ≡ list_number fault → Answers text blob number
+list_refused text blob fault number (inl is) e = list_starved (e ∙ (rw is refl))
+list_refused text blob fault number (inr is) e = no_list fault is e
+
+pub list_refused_for_line : (text line : List ℕ) (fault : KrlFault) (number : ℤ)
+    → (fault ≡ lists.NoMemory) ⊎ IsFirstFault text (Some fault)
+    → number ≡ list_number fault → AnswersOfLine text line number
+list_refused_for_line text line fault number (inl is) e = list_starved_for_line (e ∙ (rw is refl))
+list_refused_for_line text line fault number (inr is) e = no_list_for_line fault is e
+
+-- what a list answers about the key of a line is what it answers about that key's blob
+pub of_its_blob : (list text word blob comment : List ℕ) (number : ℤ) → IsKeyLine text word blob comment
+    → Answers list blob number → AnswersOfLine list text number
+of_its_blob list text word blob comment number line (answered entries is says) = line_answered entries is (of_key word blob comment line says)
+of_its_blob list text word blob comment number line (no_list fault is_first is) = no_list_for_line fault is_first is
+of_its_blob list text word blob comment number line (list_starved is) = list_starved_for_line is
+
+-- a list that is refused is not held, and what was held stays
+pub kept_where_refused : (list : List ℕ) (held : Kept) (fault : KrlFault) (number : ℤ)
+    → (fault ≡ lists.NoMemory) ⊎ IsFirstFault list (Some fault)
+    → number ≡ list_number fault → Loads list held held number
+kept_where_refused list held fault number (inl is) e = load_starved (e ∙ (rw is refl)) refl
+kept_where_refused list held fault number (inr is) e = not_loaded_for fault is e refl

@@ -1,0 +1,34 @@
+-- The list says whether it names what is asked; else its first fault is answered, or the blob's.
+use Rattle.std.proofs.Common.{refl, sym, rules, ◌∙◌}
+use Rattle.std.proofs.lemmas.Bool.{false≢true}
+use mir.Syntax.{w32}
+use mir.Val.{SFits}
+use Rattle.krl_c.specs.Answer.{answered, said, names, spares}
+use Rattle.krl_c.proofs.Saying.{list_refused, refused, same}
+use Rattle.krl_c.proofs.check.ask_list.Goals as goal
+
+pub returns-in-Ok-true : goal.returns-in-Ok-true
+returns-in-Ok-true c =
+    let found = c.in-Ok-true.ensures.answer in
+    answered found.0 found.1 (said c.in-Ok.asked c.in-Ok.ensures.found (names (found.2.0 c.in-Ok-true.field-0-test) refl))
+
+pub returns-in-Ok-false : goal.returns-in-Ok-false
+returns-in-Ok-false c =
+    let found = c.in-Ok-false.ensures.answer in
+    answered found.0 found.1 (said c.in-Ok.asked c.in-Ok.ensures.found (spares (λ is. false≢true (sym c.in-Ok-false.field-0-test ∙ found.2.1 is)) refl))
+
+pub returns-in-Ok : goal.returns-in-Ok
+returns-in-Ok c =
+    let fits : SFits w32 c.of_list.result = search rules in
+    list_refused c.args.list.now c.args.blob.now c.in-Err-revokes.fault _ c.in-Err-revokes.ensures.fault (same c.of_list.result fits ∙ c.of_list.ensures)
+
+pub returns-in-Ok-judge : goal.returns-in-Ok-judge
+returns-in-Ok-judge c =
+    let fits : SFits w32 c.of_subject.result = search rules in
+    let list = c.in-Ok-judge.ensures.list in
+    answered list.0 list.1 (refused list.0 c.args.blob.now c.in-Err.fault _ c.in-Err.ensures.fault (same c.of_subject.result fits ∙ c.of_subject.ensures))
+
+pub returns : goal.returns
+returns c =
+    let fits : SFits w32 c.of_list-in-Err-judge.result = search rules in
+    list_refused c.args.list.now c.args.blob.now c.in-Err-judge.first _ c.in-Err-judge.ensures.fault (same c.of_list-in-Err-judge.result fits ∙ c.of_list-in-Err-judge.ensures)

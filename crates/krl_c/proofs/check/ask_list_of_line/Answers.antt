@@ -1,0 +1,23 @@
+-- The key of the line is asked about; else the list's first fault is answered, or the line's.
+use Rattle.std.proofs.Common.{rules, ◌∙◌}
+use mir.Syntax.{w32}
+use mir.Val.{SFits}
+use Rattle.krl_c.specs.Answer.{line_answered}
+use Rattle.krl_c.proofs.Saying.{line_refused, list_refused_for_line, of_its_blob, same}
+use Rattle.krl_c.proofs.check.ask_list_of_line.Goals as goal
+
+pub returns-in-Ok : goal.returns-in-Ok
+returns-in-Ok c =
+    let fits : SFits w32 c.ask_list.result = search rules in
+    rw (same c.ask_list.result fits) (of_its_blob _ _ _ _ _ _ c.in-Ok.ensures.found (rw c.as_slice.ensures at c.ask_list.ensures))
+
+pub returns-in-Ok-judge : goal.returns-in-Ok-judge
+returns-in-Ok-judge c =
+    let fits : SFits w32 c.of_line.result = search rules in
+    let list = c.in-Ok-judge.ensures.list in
+    line_answered list.0 list.1 (line_refused list.0 c.args.line.now c.in-Err.fault _ c.in-Err.ensures.fault (same c.of_line.result fits ∙ c.of_line.ensures))
+
+pub returns-in-Err-judge : goal.returns-in-Err-judge
+returns-in-Err-judge c =
+    let fits : SFits w32 c.of_list.result = search rules in
+    list_refused_for_line c.args.list.now c.args.line.now c.in-Err-judge.first _ c.in-Err-judge.ensures.fault (same c.of_list.result fits ∙ c.of_list.ensures)

@@ -1,0 +1,27 @@
+-- What is held may go to another thread, and so the handle may.
+use base.Fraction.{full_share}
+use base.Shift.{Keyless}
+use denote.Exit.{Exit, unchanged, leaves, hidden, under}
+use denote.Param.Send.{IsSend, Quiet, part_keyless, owning_send, struct_send, sendable}
+use denote.Builtin.{RawPtr}
+use denote.RawPtr.{Ptr, block_ptr, null_ptr, lies_at}
+use denote.Struct.Struct.{exits_of}
+use denote.Struct.Owning.{shape, fields, to}
+use Rattle.krl_c.specs.contracts.handle.Krl.{the_row, the_type}
+use Rattle.krl_c.specs.contracts.kept.Kept.{the_row as K}
+use Rattle.krl_c.proofs.kept.Kept.TheSendSync.{the_send}
+
+-- an exit that is hidden behind a part is as quiet as it was
+still : {D X : Type 0} (part : D → X) (exit : Exit X) → Quiet exit → Quiet (hidden (under part exit))
+still part unchanged quiet = λ whole last. tt
+still part (leaves L l S s r) quiet = λ whole. quiet (part whole)
+
+-- what lies at a pointer names no thread
+no_key : (p : Ptr) (x : K.Denot) → Keyless (lies_at K full_share p x)
+no_key (block_ptr b o) x = part_keyless K the_send full_share x b o
+no_key null_ptr x = tt
+
+pub send : IsSend the_row
+send = let O = the_type in let ps : IsSend RawPtr = search sendable in
+    owning_send O (ps, tt) (λ d. no_key d.at d.held)
+    (λ k. still (to O) (exits_of k (fields O)) ((struct_send (shape O) (ps, tt)).leaving k))

@@ -1,0 +1,17 @@
+-- The key of the line is asked about, or the line's fault is answered.
+use Rattle.std.proofs.Common.{rules, ◌∙◌}
+use mir.Syntax.{w32}
+use mir.Val.{SFits}
+use Rattle.krl_c.specs.Answer.{of_key}
+use Rattle.krl_c.proofs.Saying.{line_refused, same}
+use Rattle.krl_c.proofs.held.ask_held_of_line.Goals as goal
+
+pub returns-in-Ok : goal.returns-in-Ok
+returns-in-Ok c = λ entries means.
+    let fits : SFits w32 c.ask_held.result = search rules in
+    rw (same c.ask_held.result fits) (of_key _ _ _ c.in-Ok.ensures.found (rw c.as_slice.ensures at (c.ask_held.ensures entries means)))
+
+pub returns-in-Err : goal.returns-in-Err
+returns-in-Err c = λ entries means.
+    let fits : SFits w32 c.of_line.result = search rules in
+    line_refused entries c.args.line.now c.in-Err.fault _ c.in-Err.ensures.fault (same c.of_line.result fits ∙ c.of_line.ensures)

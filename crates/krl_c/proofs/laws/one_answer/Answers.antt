@@ -1,0 +1,9 @@
+-- By one spelling, one first fault and one reading of the blob.
+use Rattle.ssh_cert.specs.SubjectReading.{subject_of}
+use Rattle.krl_c.proofs.Once.{blob_once, list_once}
+use Rattle.krl_c.proofs.laws.one_answer.Goals as goal
+
+pub returns : goal.returns
+returns c = λ list blob one other fits bytes.
+    list_once list blob (c.one_list.ensures list fits)
+    (blob_once blob (subject_of blob) (λ asked. (c.asked_where_spelled.ensures blob asked bytes).1) (λ fault. (c.not_asked_by_first_fault.ensures blob fault bytes).1)) one other

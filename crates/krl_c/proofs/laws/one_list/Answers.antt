@@ -1,0 +1,15 @@
+-- By one spelling and one first fault.
+use Rattle.std.proofs.Common.{Some, None, sym, ap, ◌≡◌, ◌∙◌}
+use Rattle.krl_core.specs.Entries.{entries_of}
+use Rattle.krl_c.proofs.laws.one_list.Goals as goal
+
+pub returns : goal.returns
+returns c = λ list fits. record {
+  entries = λ these others is also.
+      is.entries_are ∙ ap entries_of (c.one_spelling.ensures list is.header also.header is.sections also.sections is.spelled also.spelled).1 ∙ sym also.entries_are;
+  fault = λ one other first also. let same = c.one_first_fault.ensures list (Some one) (Some other) first also in cc;
+  none = λ these fault is first.
+      let none = c.no_fault_where_spelled.ensures.spelled list is.header is.sections fits is.spelled is.within in
+      let same = c.one_first_fault.ensures list None (Some fault) none first in
+      absurd (cc);
+}

@@ -1,0 +1,71 @@
+-- What a list answers about the blob of a key or of a certificate.
+use Rattle.std.specs.Prelude.{◌≡◌, ◌≤◌, ℕ, ℤ, List, length, Some}
+use Rattle.ssh_subject.specs.Subject.{Subject}
+use Rattle.ssh_key.specs.KeyLine.{IsKeyLine}
+use Rattle.ssh_key.specs.LineFaults.{IsFirstLineFault}
+use Rattle.ssh_key.specs.declared.line_fault.LineFault.{LineFault}
+use Rattle.ssh_cert.specs.SubjectReading.{IsSubject, IsSubjectFault}
+use Rattle.ssh_cert.specs.declared.subject_fault.SubjectFault.{SubjectFault}
+use Rattle.krl_fault.specs.declared.krl_fault.KrlFault.{KrlFault}
+use Rattle.krl_core.specs.declared.header.Header.{Header}
+use Rattle.krl_core.specs.Entry.{Entry}
+use Rattle.krl_core.specs.Entries.{entries_of}
+use Rattle.krl_core.specs.Front.{IsFirstFault, limit}
+use Rattle.krl_core.specs.Krl.{SpelledSection, Spells}
+use Rattle.krl_core.specs.Revoked.{Revoked}
+use Rattle.krl_c.specs.Number.{fine, revoked, no_memory, list_number, line_number, subject_number}
+
+-- A header and sections spell the list, within the limit.
+pub record IsListOf (list : List ℕ) (entries : List Entry) : Type 0 where
+  pub header : Header
+  pub sections : List SpelledSection
+  pub spelled : Spells list header sections
+  pub within : length list ≤ limit
+  pub entries_are : entries ≡ entries_of sections
+
+-- A list has one row of entries at most, and one first fault, and not both.
+pub record HasOne (list : List ℕ) : Type 0 where
+  pub entries : (these others : List Entry) → IsListOf list these → IsListOf list others
+      → these ≡ others
+  pub fault : (one other : KrlFault) → IsFirstFault list (Some one)
+      → IsFirstFault list (Some other) → one ≡ other
+  pub none : (these : List Entry) (fault : KrlFault) → IsListOf list these
+      → IsFirstFault list (Some fault) → ⊥
+
+-- The question was answered: 1 exactly where the entries revoke what is asked, else 0.
+pub data Says (entries : List Entry) (asked : Subject) (number : ℤ) : Type 0 where
+  names : Revoked entries asked → number ≡ revoked → Says entries asked number
+  spares : ¬ Revoked entries asked → number ≡ fine → Says entries asked number
+
+-- What entries answer about a blob.
+pub data AnswersBlob (entries : List Entry) (blob : List ℕ) (number : ℤ) : Type 0 where
+  said : (asked : Subject) → IsSubject blob asked → Says entries asked number
+      → AnswersBlob entries blob number
+  no_blob : (fault : SubjectFault) → IsSubjectFault blob fault → number ≡ subject_number fault
+      → AnswersBlob entries blob number
+  starved : number ≡ no_memory → AnswersBlob entries blob number
+
+-- What a list answers about a blob. Of a list that is refused the first fault is answered.
+pub data Answers (list blob : List ℕ) (number : ℤ) : Type 0 where
+  answered : (entries : List Entry) → IsListOf list entries → AnswersBlob entries blob number
+      → Answers list blob number
+  no_list : (fault : KrlFault) → IsFirstFault list (Some fault) → number ≡ list_number fault
+      → Answers list blob number
+  list_starved : number ≡ no_memory → Answers list blob number
+
+-- What entries answer about the key of a line, as one of an authorized keys file.
+pub data AnswersLine (entries : List Entry) (text : List ℕ) (number : ℤ) : Type 0 where
+  of_key : (word blob comment : List ℕ) → IsKeyLine text word blob comment
+      → AnswersBlob entries blob number → AnswersLine entries text number
+  no_line : (fault : LineFault) → IsFirstLineFault text fault → number ≡ line_number fault
+      → AnswersLine entries text number
+  line_starved : number ≡ no_memory → AnswersLine entries text number
+
+-- What a list answers about the key of a line. Of a list that is refused the first fault is
+-- answered.
+pub data AnswersOfLine (list text : List ℕ) (number : ℤ) : Type 0 where
+  line_answered : (entries : List Entry) → IsListOf list entries → AnswersLine entries text number
+      → AnswersOfLine list text number
+  no_list_for_line : (fault : KrlFault) → IsFirstFault list (Some fault)
+      → number ≡ list_number fault → AnswersOfLine list text number
+  list_starved_for_line : number ≡ no_memory → AnswersOfLine list text number

@@ -1,0 +1,27 @@
+-- What is held of a list, by the entries that it means.
+use Rattle.std.specs.Prelude.{◌≡◌, ℕ, ℤ, Bool, true, false, List, Some}
+use Rattle.krl_core.specs.Contents.{Contents, Means, nothing}
+use Rattle.krl_core.specs.Entry.{Entry}
+use Rattle.krl_core.specs.Front.{IsFirstFault}
+use Rattle.krl_fault.specs.declared.krl_fault.KrlFault.{KrlFault}
+use Rattle.krl_c.specs.Answer.{IsListOf}
+use Rattle.krl_c.specs.Number.{fine, list_number, no_memory}
+use Rattle.krl_c.specs.declared.kept.Kept.{Kept}
+
+-- a list was read, and what is held means these entries
+pub record Holds (loaded : Bool) (contents : Contents) (entries : List Entry) : Type 0 where
+  pub is_loaded : loaded ≡ true
+  pub means : Means contents entries
+
+-- no list was read
+abbrev pub unloaded : Kept
+unloaded = record { loaded = false; list = nothing }
+
+-- What reading a list into a place does: what is held is then what the list names. Where it is
+-- refused, by its first fault or for want of memory, what was there stays.
+pub data Loads (list : List ℕ) (old new : Kept) (number : ℤ) : Type 0 where
+  loaded : (entries : List Entry) → IsListOf list entries → Holds new.loaded new.list entries
+      → number ≡ fine → Loads list old new number
+  not_loaded_for : (fault : KrlFault) → IsFirstFault list (Some fault) → number ≡ list_number fault
+      → new ≡ old → Loads list old new number
+  load_starved : number ≡ no_memory → new ≡ old → Loads list old new number

@@ -1,0 +1,80 @@
+//! Asking a list about a blob while it passes: no more of it is held than was asked.
+
+ghost use Rattle.std.specs.Prelude.{◌≡◌, ◌⊎◌, ◌↔◌, List, IfOk, IfErr, IsTrue, OnOk};
+ghost use Rattle.krl_fault.specs.declared.krl_fault.KrlFault.TheVariants.{NoMemory};
+ghost use Rattle.krl_core.specs.Entry.{Entry};
+ghost use Rattle.krl_core.specs.Front.{IsFirstFault};
+ghost use Rattle.krl_core.specs.Revoked.{Revoked};
+ghost use Rattle.krl_c.specs.Answer.{Answers, AnswersOfLine, IsListOf};
+
+use crate::lent::Lent;
+use crate::number::{FINE, REVOKED, of_line, of_list, of_subject};
+use krl_core::{Findings, KrlFault, Questions, Reading};
+use serial_set::Held;
+use ssh_cert::{Subject, subject};
+use ssh_key::read_line;
+use std::alloc::Global;
+
+// Asks a list about a blob.
+pub(crate) fn ask_list(alloc: Global, list: &[u8], blob: &[u8]) -> i32
+    ensures { Answers list.now blob.now result }
+{
+    match subject(alloc, blob) {
+        Ok(asked) => match revokes(alloc, list, &asked) {
+            Ok(true) => REVOKED,
+            Ok(false) => FINE,
+            Err(fault) => of_list(fault),
+        },
+        Err(fault) => match judge(alloc, list) {
+            Ok(()) => of_subject(fault),
+            Err(first) => of_list(first),
+        },
+    }
+}
+
+// Asks a list about the key of a line.
+pub(crate) fn ask_list_of_line(alloc: Global, list: &[u8], line: &[u8]) -> i32
+    ensures { AnswersOfLine list.now line.now result }
+{
+    match read_line(alloc, line) {
+        Ok(read) => ask_list(alloc, list, read.blob.as_slice()),
+        Err(fault) => match judge(alloc, list) {
+            Ok(()) => of_line(fault),
+            Err(first) => of_list(first),
+        },
+    }
+}
+
+// Whether a list revokes what is asked, or its first fault.
+fn revokes(alloc: Global, list: &[u8], asked: &Subject) -> Result<bool, KrlFault>
+    ensures answer { IfOk result (λ revoked. (entries : List Entry)
+        × IsListOf list.now entries × (IsTrue revoked ↔ Revoked entries asked.now)) }
+    ensures fault { IfErr result (λ fault.
+        (fault ≡ NoMemory) ⊎ IsFirstFault list.now (Some fault)) }
+{
+    let reading: Reading<Held, Lent> = Reading::new(alloc, Lent::new(list));
+    let mut questions: Questions<Held> = Questions::new(alloc);
+    let Ok(()) = questions.ask(reading.held_so_far(), asked) else {
+        return Err(KrlFault::NoMemory);
+    };
+    let (read, _list) = reading.ask(Findings::of(alloc, questions)).read_on();
+    match read {
+        Ok((_header, findings)) => Ok(findings.answer(asked)),
+        Err(fault) => Err(fault),
+    }
+}
+
+// Reads a list, of which nothing is asked: its first fault, if it has one.
+fn judge(alloc: Global, list: &[u8]) -> Result<(), KrlFault>
+    ensures list { OnOk result ((entries : List Entry) × IsListOf list.now entries) }
+    ensures fault { IfErr result (λ fault.
+        (fault ≡ NoMemory) ⊎ IsFirstFault list.now (Some fault)) }
+{
+    let reading: Reading<Held, Lent> = Reading::new(alloc, Lent::new(list));
+    let none: Questions<Held> = Questions::new(alloc);
+    let (read, _list) = reading.ask(Findings::of(alloc, none)).read_on();
+    match read {
+        Ok(_) => Ok(()),
+        Err(fault) => Err(fault),
+    }
+}

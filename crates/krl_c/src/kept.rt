@@ -1,0 +1,56 @@
+//! What is held of a list, or that none was read.
+
+ghost use Rattle.std.specs.Prelude.{◌≡◌, List, false};
+ghost use Rattle.krl_core.specs.Entry.{Entry};
+ghost use Rattle.krl_c.specs.Answer.{AnswersBlob, AnswersLine};
+ghost use Rattle.krl_c.specs.Kept.{Holds, unloaded};
+ghost use Rattle.krl_c.specs.Number.{not_loaded};
+
+use crate::held::{ask_held, ask_held_of_line};
+use crate::number::NOT_LOADED;
+use krl_core::Revocations;
+use serial_set::Held;
+use std::alloc::Global;
+
+/// What is held of a list, and whether one was read.
+#[derive(Drop)]
+pub struct Kept {
+    pub(crate) loaded: bool,
+    pub(crate) list: Revocations<Held>,
+}
+
+// No list was read. Takes no memory.
+pub(crate) fn empty(alloc: Global) -> Kept
+    ensures { result ≡ unloaded }
+{
+    Kept {
+        loaded: false,
+        list: Revocations::new(alloc),
+    }
+}
+
+// Asks what is held about a blob.
+pub(crate) fn ask(alloc: Global, kept: &Kept, blob: &[u8]) -> i32
+    ensures answer { (entries : List Entry) → Holds kept.now.loaded kept.now.list entries
+        → AnswersBlob entries blob.now result }
+    ensures none { kept.now.loaded ≡ false → result ≡ not_loaded }
+{
+    if kept.loaded {
+        ask_held(alloc, &kept.list, blob)
+    } else {
+        NOT_LOADED
+    }
+}
+
+// Asks what is held about the key of a line.
+pub(crate) fn ask_of_line(alloc: Global, kept: &Kept, line: &[u8]) -> i32
+    ensures answer { (entries : List Entry) → Holds kept.now.loaded kept.now.list entries
+        → AnswersLine entries line.now result }
+    ensures none { kept.now.loaded ≡ false → result ≡ not_loaded }
+{
+    if kept.loaded {
+        ask_held_of_line(alloc, &kept.list, line)
+    } else {
+        NOT_LOADED
+    }
+}

@@ -1,0 +1,108 @@
+//! The question of whether a key is revoked, for programs in other languages.
+#![tactic(auto)]
+
+ghost use Rattle.std.specs.Prelude.{◌≡◌, List, false};
+ghost use denote.Param.{layout};
+ghost use prog.Memory.{capped, size};
+ghost use Rattle.krl_core.specs.Entry.{Entry};
+ghost use Rattle.krl_c.specs.Answer.{Answers, AnswersBlob, AnswersLine, AnswersOfLine};
+ghost use Rattle.krl_c.specs.Kept.{Holds, Loads};
+ghost use Rattle.krl_c.specs.contracts.kept.Kept.{the_row};
+ghost use Rattle.krl_c.specs.Number.{not_loaded};
+
+mod check;
+mod handle;
+mod held;
+mod init;
+mod kept;
+pub mod laws;
+mod lent;
+mod number;
+
+use check::{ask_list, ask_list_of_line};
+use handle::{Krl, swap};
+use held::held_of;
+use kept::{Kept, ask, ask_of_line, empty};
+use number::{FINE, of_list};
+use std::alloc::Global;
+
+/// Whether a list revokes the key or the certificate of a blob: 0 where it does not, 1 where it
+/// does, and below zero why that is not known.
+#[unsafe(no_mangle)]
+pub extern "C" fn krl_check(alloc: Global, list: &[u8], blob: &[u8]) -> i32
+    ensures { Answers list.now blob.now result }
+{
+    ask_list(alloc, list, blob)
+}
+
+/// The same of the key or the certificate of a line, as one of an authorized keys file.
+#[unsafe(no_mangle)]
+pub extern "C" fn krl_check_line(alloc: Global, list: &[u8], line: &[u8]) -> i32
+    ensures { AnswersOfLine list.now line.now result }
+{
+    ask_list_of_line(alloc, list, line)
+}
+
+/// Reads a list into a place, for many questions. Where it is refused, what was there stays.
+#[unsafe(no_mangle)]
+pub extern "C" fn krl_load(alloc: Global, krl: &mut Krl, list: &[u8]) -> i32
+    ensures { Loads list.now krl.old.held krl.new.held result }
+{
+    match held_of(alloc, list) {
+        Ok(held) => {
+            let _old = swap(
+                krl,
+                Kept {
+                    loaded: true,
+                    list: held,
+                },
+            );
+            FINE
+        }
+        Err(fault) => of_list(fault),
+    }
+}
+
+/// Asks the list that was read into a place about the key or the certificate of a blob.
+#[unsafe(no_mangle)]
+pub extern "C" fn krl_ask(alloc: Global, krl: &mut Krl, blob: &[u8]) -> i32
+    ensures answer { (entries : List Entry) → Holds krl.old.held.loaded krl.old.held.list entries
+        → AnswersBlob entries blob.now result }
+    ensures none { krl.old.held.loaded ≡ false → result ≡ not_loaded }
+    ensures stays { krl.new.held ≡ krl.old.held }
+{
+    let kept = swap(krl, empty(alloc));
+    let answer = ask(alloc, &kept, blob);
+    let _none = swap(krl, kept);
+    answer
+}
+
+/// The same about the key or the certificate of a line.
+#[unsafe(no_mangle)]
+pub extern "C" fn krl_ask_line(alloc: Global, krl: &mut Krl, line: &[u8]) -> i32
+    ensures answer { (entries : List Entry) → Holds krl.old.held.loaded krl.old.held.list entries
+        → AnswersLine entries line.now result }
+    ensures none { krl.old.held.loaded ≡ false → result ≡ not_loaded }
+    ensures stays { krl.new.held ≡ krl.old.held }
+{
+    let kept = swap(krl, empty(alloc));
+    let answer = ask_of_line(alloc, &kept, line);
+    let _none = swap(krl, kept);
+    answer
+}
+
+/// Gives back the memory of what is held in a place. The place stays ready for another list.
+#[unsafe(no_mangle)]
+pub extern "C" fn krl_unload(alloc: Global, krl: &mut Krl)
+    ensures { krl.new.held.loaded ≡ false }
+{
+    let _old = swap(krl, empty(alloc));
+}
+
+/// How many bytes a place has.
+#[unsafe(no_mangle)]
+pub extern "C" fn krl_size() -> usize
+    ensures { result ≡ capped (size (layout the_row)) }
+{
+    std::mem::size_of::<Kept>()
+}
