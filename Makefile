@@ -5,7 +5,7 @@ NAME = krl-keygen
 # How long make fuzz goes on.
 SECONDS = 60
 
-.PHONY: build test fault_injection fuzz bench install uninstall deb
+.PHONY: build test fault_injection fuzz bench install uninstall deb library
 
 # Proves and builds the program.
 build:
@@ -34,6 +34,10 @@ install: build
 
 uninstall:
 	packaging/uninstall '$(DESTDIR)' '$(PREFIX)' '$(NAME)'
+
+# libkrl, which asks revocation lists for programs in other languages, in built/.
+library:
+	library/build
 
 # A Debian package krl-keygen, beside OpenSSH's ssh-keygen.
 deb: build

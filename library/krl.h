@@ -1,0 +1,117 @@
+/* krl.h: whether an OpenSSH key revocation list (KRL) revokes a key or a certificate.
+ *
+ * A RevokedKeys file of sshd can be a KRL or a plain file of public keys. These calls read KRLs:
+ * they answer -101 for a plain file, as for anything else that is no KRL. A server that takes
+ * plain files too has to look for the keys in them itself.
+ *
+ * Fail closed: let a key in where the answer is KRL_OK, and in no other case.
+ *
+ * What is not checked: the signatures of a list, of a certificate or of a login, whether a
+ * certificate's authority is trusted, and when the certificate is valid. Do that too.
+ *
+ * The calls read only the bytes that they are given, which may be any bytes. They keep no state
+ * of their own, print nothing, never end the process, and take memory from malloc alone. They
+ * may overlap in any threads, over the same bytes too, as long as nobody writes these bytes
+ * meanwhile; of one handle (struct krl, below) only one call at a time. Call none from a signal
+ * handler, nor in the forked child of a process with threads before it calls exec, since they
+ * call malloc.
+ *
+ * No pointer is null. Where a length is 0, any other address does.
+ */
+#ifndef KRL_H
+#define KRL_H
+
+#include <stddef.h>
+#include <stdint.h>
+
+#define KRL_VERSION_MAJOR 1
+#define KRL_VERSION_MINOR 0
+#define KRL_VERSION_PATCH 0
+
+#ifdef __cplusplus
+extern "C" {
+#endif
+
+/* The answers. Below zero there is no answer, and the number says why. */
+#define KRL_OK 0           /* the list does not revoke the key */
+#define KRL_REVOKED 1      /* the list revokes it */
+#define KRL_NO_MEMORY (-1) /* malloc gave none: the same call may succeed later */
+#define KRL_NOT_LOADED (-2) /* no list was read into the handle */
+
+/* -101 to -115: the list is refused. The last two digits are the number of its first fault. */
+#define KRL_LIST_MAGIC (-101) /* no KRL */
+#define KRL_LIST_FORMAT_VERSION (-102) /* not format version 1 */
+#define KRL_LIST_ENDS_EARLY (-103) /* cut short within a section */
+#define KRL_LIST_UNKNOWN_SECTION (-104) /* it may revoke the key, so the list is refused */
+#define KRL_LIST_UNKNOWN_CERT_SECTION (-105)
+#define KRL_LIST_LENGTH (-106) /* a length does not fit what it is the length of */
+#define KRL_LIST_RANGE_REVERSED (-107)
+#define KRL_LIST_BITMAP_NEGATIVE (-108)
+#define KRL_LIST_BITMAP_WRAPS (-109)
+#define KRL_LIST_HASH_LENGTH (-110)
+#define KRL_LIST_AFTER_SIGNATURE (-111)
+#define KRL_LIST_TOO_LONG (-112) /* more than 67,108,864 bytes */
+#define KRL_LIST_CRITICAL_EXTENSION (-115)
+
+/* -201 to -203: the line has no key. */
+#define KRL_LINE_NO_KEY (-201)
+#define KRL_LINE_BASE64 (-202)
+#define KRL_LINE_WORD_DIFFERS (-203) /* the line names another type than the key has */
+
+/* -302 to -313: the blob is no plain key, -401 to -409: no certificate. -502 to -513: the key of
+ * the certificate is none, -602 to -613: the key of its authority is none. The last two digits
+ * of the number of a key's fault: 02 its type is not known, 03 another curve than its type says,
+ * 04 its point has another form, 05 a length, 06 a number, 07 bytes after it, 08 more than
+ * 65,536 bytes, and of a field: 11 it ends early, 12 a negative number, 13 a number with a
+ * needless zero byte. */
+#define KRL_IS_LIST_FAULT(answer) ((answer) <= -101 && (answer) >= -115)
+#define KRL_IS_KEY_FAULT(answer) ((answer) <= -201)
+
+/* Whether a list revokes the key of a blob.
+ *
+ * list: the whole content of the file. Nothing of it is held but what is asked about.
+ * blob: a public key or a certificate as SSH sends it (RFC 4253, section 6.6, and
+ *     PROTOCOL.certkeys). Of a certificate its plain key, its key ID, its serial number and its
+ *     authority's key are asked about.
+ *
+ * A list that is refused is reported before the blob is. */
+int32_t krl_check(const uint8_t *list, size_t list_length,
+                  const uint8_t *blob, size_t blob_length);
+
+/* The same of the key of a line, as of a .pub or an authorized_keys file: options or none, the
+ * name of the type, the key in base64, and a comment or none. It has no line feed. */
+int32_t krl_check_line(const uint8_t *list, size_t list_length,
+                       const uint8_t *line, size_t line_length);
+
+/* A list that is read once and asked often.
+ *
+ * The place is krl_size() bytes at a multiple of 16, as malloc gives them. From krl_init on they
+ * are the library's: neither read, write, copy nor move them until krl_unload. The struct around
+ * the place may be copied and moved, but only one call at a time may be given it or a copy of
+ * it: put a lock around the calls, or have a handle for each thread. */
+typedef struct krl {
+    void *at;
+} krl;
+
+/* How many bytes a place has. Ask for it: another version of the library may have another
+ * number. */
+size_t krl_size(void);
+
+/* Makes a place ready: no list is held. Takes no memory. */
+void krl_init(void *at);
+
+/* Reads a list: KRL_OK, or why not. Then what was held stays, so a list can be renewed while it
+ * is in use. */
+int32_t krl_load(krl *handle, const uint8_t *list, size_t list_length);
+
+/* As krl_check and krl_check_line, of the list that is held: KRL_NOT_LOADED where none is. */
+int32_t krl_ask(krl *handle, const uint8_t *blob, size_t blob_length);
+int32_t krl_ask_line(krl *handle, const uint8_t *line, size_t line_length);
+
+/* Gives back the memory of the list. The place is then as krl_init leaves it, or may be freed. */
+void krl_unload(krl *handle);
+
+#ifdef __cplusplus
+}
+#endif
+#endif
