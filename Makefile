@@ -5,7 +5,7 @@ NAME = krl-keygen
 # How long make fuzz goes on.
 SECONDS = 60
 
-.PHONY: build test fault_injection fuzz bench install uninstall deb library
+.PHONY: build test test_library fault_injection fuzz bench install uninstall deb library
 
 # Proves and builds the program.
 build:
@@ -14,6 +14,10 @@ build:
 # All of the checking: each proof from nothing, and the program that was proved beside OpenSSH.
 test:
 	tests/all
+
+# libkrl as programs in C, Rust and Python call it. make test proves it, and does not build it.
+test_library: build
+	tests/run library
 
 # Each allocation, read and write of many runs fails in turn; make test does this for fewer of them.
 fault_injection: build
