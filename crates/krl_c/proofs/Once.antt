@@ -1,5 +1,5 @@
 -- One answer for one question, but for want of memory.
-use Rattle.std.proofs.Common.{◌≡◌, ◌⊎◌, inl, inr, ℕ, ℤ, List, Option, Some, None, Result, Ok, Err, refl, sym, ap, subst, ◌∙◌}
+use Rattle.std.proofs.Common.{◌≡◌, ◌⊎◌, inl, inr, ℕ, ℤ, List, Result, Ok, Err, sym, ap, subst, ◌∙◌}
 use Rattle.ssh_subject.specs.Subject.{Subject}
 use Rattle.ssh_cert.specs.declared.subject_fault.SubjectFault.{SubjectFault}
 use Rattle.ssh_cert.specs.SubjectReading.{IsSubject, IsSubjectFault}
@@ -7,10 +7,8 @@ use Rattle.ssh_key.specs.KeyLine.{IsKeyLine}
 use Rattle.ssh_key.specs.LineFaults.{IsFirstLineFault}
 use Rattle.ssh_key.specs.LineReading.{Content, content}
 use Rattle.ssh_key.specs.declared.line_fault.LineFault.{LineFault}
-use Rattle.krl_fault.specs.declared.krl_fault.KrlFault.{KrlFault}
 use Rattle.krl_core.specs.Entry.{Entry}
-use Rattle.krl_core.specs.Front.{IsFirstFault}
-use Rattle.krl_c.specs.Answer.{Answers, AnswersBlob, AnswersLine, AnswersOfLine, HasOne, Says, names, spares, said, no_blob, starved, answered, no_list, list_starved, of_key, no_line, line_starved, line_answered, no_list_for_line, list_starved_for_line}
+use Rattle.krl_c.specs.Answer.{AnswersBlob, AnswersBy, AnswersLine, HasOne, Says, names, spares, said, no_blob, starved, answered, no_list, list_starved, of_key, no_line, line_starved}
 use Rattle.krl_c.specs.Number.{list_number, line_number, no_memory, subject_number}
 
 -- the two are one, or memory ran out for one of them
@@ -69,22 +67,12 @@ line_once text read of_line of_fault entries once one other says (line_starved f
 
 -- ---- of a list
 
-pub list_once : (list blob : List ℕ) → HasOne list → ((entries : List Entry) (one other : ℤ) → AnswersBlob entries blob one → AnswersBlob entries blob other → Once one other)
-    → (one other : ℤ) → Answers list blob one → Answers list blob other → Once one other
-list_once list blob has once one other (answered these is says) (answered others also tells) =
-    once these one other says (subst (λ (es : List Entry). AnswersBlob es blob other) (sym (has.entries these others is also)) tells)
-list_once list blob has once one other (answered these is says) (no_list fault first e) = absurd (has.none these fault is first)
-list_once list blob has once one other (no_list fault first e) (answered these is says) = absurd (has.none these fault is first)
-list_once list blob has once one other (no_list fault first e) (no_list fault' first' f) = numbers_same list_number one other fault fault' (has.fault fault fault' first first') e f
-list_once list blob has once one other (list_starved e) tells = inr (inl e)
-list_once list blob has once one other says (list_starved f) = inr (inr f)
-
-pub list_once_for_line : (list text : List ℕ) → HasOne list → ((entries : List Entry) (one other : ℤ) → AnswersLine entries text one → AnswersLine entries text other → Once one other)
-    → (one other : ℤ) → AnswersOfLine list text one → AnswersOfLine list text other → Once one other
-list_once_for_line list text has once one other (line_answered these is says) (line_answered others also tells) =
-    once these one other says (subst (λ (es : List Entry). AnswersLine es text other) (sym (has.entries these others is also)) tells)
-list_once_for_line list text has once one other (line_answered these is says) (no_list_for_line fault first e) = absurd (has.none these fault is first)
-list_once_for_line list text has once one other (no_list_for_line fault first e) (line_answered these is says) = absurd (has.none these fault is first)
-list_once_for_line list text has once one other (no_list_for_line fault first e) (no_list_for_line fault' first' f) = numbers_same list_number one other fault fault' (has.fault fault fault' first first') e f
-list_once_for_line list text has once one other (list_starved_for_line e) tells = inr (inl e)
-list_once_for_line list text has once one other says (list_starved_for_line f) = inr (inr f)
+pub list_once : {Tells : List Entry → ℤ → Type 0} (list : List ℕ) → HasOne list → ((entries : List Entry) (one other : ℤ) → Tells entries one → Tells entries other → Once one other)
+    → (one other : ℤ) → AnswersBy Tells list one → AnswersBy Tells list other → Once one other
+list_once {Tells} list has once one other (answered these is says) (answered others also tells) =
+    once these one other says (subst (λ (es : List Entry). Tells es other) (sym (has.entries these others is also)) tells)
+list_once list has once one other (answered these is says) (no_list fault first e) = absurd (has.none these fault is first)
+list_once list has once one other (no_list fault first e) (answered these is says) = absurd (has.none these fault is first)
+list_once list has once one other (no_list fault first e) (no_list fault' first' f) = numbers_same list_number one other fault fault' (has.fault fault fault' first first') e f
+list_once list has once one other (list_starved e) tells = inr (inl e)
+list_once list has once one other says (list_starved f) = inr (inr f)

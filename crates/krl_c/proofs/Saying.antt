@@ -18,7 +18,7 @@ use Rattle.krl_core.specs.Entry.{Entry}
 use Rattle.krl_core.specs.Contents.{Contents}
 use Rattle.krl_core.specs.Front.{IsFirstFault}
 use Rattle.krl_core.specs.Reading.{IsListAs, Says as ListSays, starved as runs_out, failed_read, first}
-use Rattle.krl_c.specs.Answer.{Answers, AnswersBlob, AnswersLine, AnswersOfLine, IsListOf, answered, line_answered, of_key, no_list, list_starved, no_blob, starved, no_line, line_starved, no_list_for_line, list_starved_for_line}
+use Rattle.krl_c.specs.Answer.{Answers, AnswersBlob, AnswersBy, AnswersLine, AnswersOfLine, IsListOf, answered, of_key, no_list, list_starved, no_blob, starved, no_line, line_starved}
 use Rattle.krl_c.specs.Kept.{Loads, load_starved, not_loaded_for}
 use Rattle.krl_c.specs.declared.kept.Kept.{Kept}
 use Rattle.krl_c.specs.Number.{list_number, line_number, subject_number}
@@ -61,24 +61,18 @@ first_of text fault left (runs_out is size works) = inl is
 first_of text fault left (failed_read is after) = let wrong : ⊥ = grind (arith, after.failed_is) in absurd wrong
 first_of text fault left (first is works) = inr is
 
-pub list_refused : (text blob : List ℕ) (fault : KrlFault) (number : ℤ)
+pub list_refused : {Says : List Entry → ℤ → Type 0} (text : List ℕ) (fault : KrlFault) (number : ℤ)
     → (fault ≡ lists.NoMemory) ⊎ IsFirstFault text (Some fault)
-    → number ≡ list_number fault → Answers text blob number
-list_refused text blob fault number (inl is) e = list_starved (e ∙ (rw is refl))
-list_refused text blob fault number (inr is) e = no_list fault is e
-
-pub list_refused_for_line : (text line : List ℕ) (fault : KrlFault) (number : ℤ)
-    → (fault ≡ lists.NoMemory) ⊎ IsFirstFault text (Some fault)
-    → number ≡ list_number fault → AnswersOfLine text line number
-list_refused_for_line text line fault number (inl is) e = list_starved_for_line (e ∙ (rw is refl))
-list_refused_for_line text line fault number (inr is) e = no_list_for_line fault is e
+    → number ≡ list_number fault → AnswersBy Says text number
+list_refused text fault number (inl is) e = list_starved (e ∙ (rw is refl))
+list_refused text fault number (inr is) e = no_list fault is e
 
 -- what a list answers about the key of a line is what it answers about that key's blob
 pub of_its_blob : (list text word blob comment : List ℕ) (number : ℤ) → IsKeyLine text word blob comment
     → Answers list blob number → AnswersOfLine list text number
-of_its_blob list text word blob comment number line (answered entries is says) = line_answered entries is (of_key word blob comment line says)
-of_its_blob list text word blob comment number line (no_list fault is_first is) = no_list_for_line fault is_first is
-of_its_blob list text word blob comment number line (list_starved is) = list_starved_for_line is
+of_its_blob list text word blob comment number line (answered entries is says) = answered entries is (of_key word blob comment line says)
+of_its_blob list text word blob comment number line (no_list fault is_first is) = no_list fault is_first is
+of_its_blob list text word blob comment number line (list_starved is) = list_starved is
 
 -- a list that is refused is not held, and what was held stays
 pub kept_where_refused : (list : List ℕ) (held : Kept) (fault : KrlFault) (number : ℤ)

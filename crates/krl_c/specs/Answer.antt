@@ -45,14 +45,6 @@ pub data AnswersBlob (entries : List Entry) (blob : List ℕ) (number : ℤ) : T
       → AnswersBlob entries blob number
   starved : number ≡ no_memory → AnswersBlob entries blob number
 
--- What a list answers about a blob. Of a list that is refused the first fault is answered.
-pub data Answers (list blob : List ℕ) (number : ℤ) : Type 0 where
-  answered : (entries : List Entry) → IsListOf list entries → AnswersBlob entries blob number
-      → Answers list blob number
-  no_list : (fault : KrlFault) → IsFirstFault list (Some fault) → number ≡ list_number fault
-      → Answers list blob number
-  list_starved : number ≡ no_memory → Answers list blob number
-
 -- What entries answer about the key of a line, as one of an authorized keys file.
 pub data AnswersLine (entries : List Entry) (text : List ℕ) (number : ℤ) : Type 0 where
   of_key : (word blob comment : List ℕ) → IsKeyLine text word blob comment
@@ -61,11 +53,19 @@ pub data AnswersLine (entries : List Entry) (text : List ℕ) (number : ℤ) : T
       → AnswersLine entries text number
   line_starved : number ≡ no_memory → AnswersLine entries text number
 
--- What a list answers about the key of a line. Of a list that is refused the first fault is
+-- What a list answers, by what its entries answer. Of a list that is refused the first fault is
 -- answered.
-pub data AnswersOfLine (list text : List ℕ) (number : ℤ) : Type 0 where
-  line_answered : (entries : List Entry) → IsListOf list entries → AnswersLine entries text number
-      → AnswersOfLine list text number
-  no_list_for_line : (fault : KrlFault) → IsFirstFault list (Some fault)
-      → number ≡ list_number fault → AnswersOfLine list text number
-  list_starved_for_line : number ≡ no_memory → AnswersOfLine list text number
+pub data AnswersBy (Says : List Entry → ℤ → Type 0) (list : List ℕ) (number : ℤ) : Type 0 where
+  answered : (entries : List Entry) → IsListOf list entries → Says entries number
+      → AnswersBy Says list number
+  no_list : (fault : KrlFault) → IsFirstFault list (Some fault) → number ≡ list_number fault
+      → AnswersBy Says list number
+  list_starved : number ≡ no_memory → AnswersBy Says list number
+
+-- about a blob
+abbrev pub Answers : (list blob : List ℕ) → ℤ → Type 0
+Answers list blob = AnswersBy (λ entries. AnswersBlob entries blob) list
+
+-- about the key of a line
+abbrev pub AnswersOfLine : (list text : List ℕ) → ℤ → Type 0
+AnswersOfLine list text = AnswersBy (λ entries. AnswersLine entries text) list

@@ -6,7 +6,7 @@ ghost use denote.Param.{layout};
 ghost use prog.Memory.{capped, size};
 ghost use Rattle.krl_core.specs.Entry.{Entry};
 ghost use Rattle.krl_c.specs.Answer.{Answers, AnswersBlob, AnswersLine, AnswersOfLine};
-ghost use Rattle.krl_c.specs.Kept.{Holds, Loads};
+ghost use Rattle.krl_c.specs.Kept.{Holds, Loads, unloaded};
 ghost use Rattle.krl_c.specs.contracts.kept.Kept.{the_row};
 ghost use Rattle.krl_c.specs.Number.{not_loaded};
 
@@ -94,7 +94,7 @@ pub extern "C" fn krl_ask_line(alloc: Global, krl: &mut Krl, line: &[u8]) -> i32
 /// Gives back the memory of what is held in a place. The place stays ready for another list.
 #[unsafe(no_mangle)]
 pub extern "C" fn krl_unload(alloc: Global, krl: &mut Krl)
-    ensures { krl.new.held.loaded ≡ false }
+    ensures { krl.new.held ≡ unloaded }
 {
     let _old = swap(krl, empty(alloc));
 }

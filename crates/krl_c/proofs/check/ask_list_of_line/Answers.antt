@@ -2,8 +2,8 @@
 use Rattle.std.proofs.Common.{rules, ◌∙◌}
 use mir.Syntax.{w32}
 use mir.Val.{SFits}
-use Rattle.krl_c.specs.Answer.{line_answered}
-use Rattle.krl_c.proofs.Saying.{line_refused, list_refused_for_line, of_its_blob, same}
+use Rattle.krl_c.specs.Answer.{answered}
+use Rattle.krl_c.proofs.Saying.{line_refused, list_refused, of_its_blob, same}
 use Rattle.krl_c.proofs.check.ask_list_of_line.Goals as goal
 
 pub returns-in-Ok : goal.returns-in-Ok
@@ -15,9 +15,9 @@ pub returns-in-Ok-judge : goal.returns-in-Ok-judge
 returns-in-Ok-judge c =
     let fits : SFits w32 c.of_line.result = search rules in
     let list = c.in-Ok-judge.ensures.list in
-    line_answered list.0 list.1 (line_refused list.0 c.args.line.now c.in-Err.fault _ c.in-Err.ensures.fault (same c.of_line.result fits ∙ c.of_line.ensures))
+    answered list.0 list.1 (line_refused list.0 c.args.line.now c.in-Err.fault _ c.in-Err.ensures.fault (same c.of_line.result fits ∙ c.of_line.ensures))
 
 pub returns-in-Err-judge : goal.returns-in-Err-judge
 returns-in-Err-judge c =
     let fits : SFits w32 c.of_list.result = search rules in
-    list_refused_for_line c.args.list.now c.args.line.now c.in-Err-judge.first _ c.in-Err-judge.ensures.fault (same c.of_list.result fits ∙ c.of_list.ensures)
+    list_refused c.args.list.now c.in-Err-judge.first _ c.in-Err-judge.ensures.fault (same c.of_list.result fits ∙ c.of_list.ensures)

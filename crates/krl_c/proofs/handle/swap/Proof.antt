@@ -17,7 +17,6 @@ use denote.Exit.{yes}
 use denote.Memory.{cell_at, lone, part_at}
 use denote.Laws.{Is, Typed, shows}
 use denote.Steps.{nothing, opens, closes, peeks, only}
-use denote.Struct.Members.{Lone}
 use denote.Signature.{plain}
 use denote.RawPtr.{Ptr, lies_at, in_a_block}
 use denote.Ref.{MutRef, mut_vals, mut_Tells}

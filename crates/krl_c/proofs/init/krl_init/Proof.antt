@@ -18,7 +18,6 @@ use denote.Exit.{yes}
 use denote.Memory.{lone, part_at}
 use denote.Laws.{Is, Typed, shows}
 use denote.Steps.{nothing, peeks, heard, only}
-use denote.Struct.Members.{Lone}
 use denote.Signature.{plain}
 use denote.RawPtr.{Ptr, RawPtr, block_ptr, lies_at, room_at, in_a_block, rawptr_vals, rawptr_Tells}
 use denote.Triple.Call.{calls_at}

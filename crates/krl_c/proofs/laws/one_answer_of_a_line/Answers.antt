@@ -1,12 +1,12 @@
 -- By one spelling, one first fault, and one reading of the line and of its blob.
 use Rattle.ssh_cert.specs.SubjectReading.{subject_of}
 use Rattle.ssh_key.specs.LineReading.{line_at}
-use Rattle.krl_c.proofs.Once.{blob_once, line_once, list_once_for_line}
+use Rattle.krl_c.proofs.Once.{blob_once, line_once, list_once}
 use Rattle.krl_c.proofs.laws.one_answer_of_a_line.Goals as goal
 
 pub returns : goal.returns
 returns c = λ list text one other fits bytes.
-    list_once_for_line list text (c.one_list.ensures list fits)
+    list_once list (c.one_list.ensures list fits)
     (λ entries. line_once text (line_at text) (λ word blob comment. c.line_read_where_spelled.ensures.read text word blob comment) (λ fault. (c.line_refused_by_first_fault.ensures text fault bytes).1) entries
     (λ word blob comment is.
     blob_once blob (subject_of blob) (λ asked. (c.asked_where_spelled.ensures blob asked is.bytes).1) (λ fault. (c.not_asked_by_first_fault.ensures blob fault is.bytes).1) entries)) one other

@@ -1,5 +1,5 @@
 -- By one spelling and one first fault.
-use Rattle.std.proofs.Common.{Some, None, sym, ap, ◌≡◌, ◌∙◌}
+use Rattle.std.proofs.Common.{Some, None, sym, ap, ◌∙◌}
 use Rattle.krl_core.specs.Entries.{entries_of}
 use Rattle.krl_c.proofs.laws.one_list.Goals as goal
 
