@@ -18,7 +18,8 @@ use Rattle.krl_core.specs.Contents.{Contents, Means, held, stored}
 use Rattle.krl_core.specs.Entries.{entries_of}
 use Rattle.krl_core.specs.Krl.{SpelledSection, Spells}
 use Rattle.krl_core.specs.Front.{State, start, Leads, Passes, HasRoom, IsFirstFault, limit}
-use Rattle.krl_core.specs.Keeping.{InStep, IsKept, Keeping, KeepsWithin, StoresWithin, held_with_open}
+use Rattle.krl_core.specs.Keeping.{InStep, IsKept, Keeping, KeepsWithin, StoresWithin}
+use Rattle.krl_core.specs.Keeping.{held_with_open}
 use Rattle.krl_core.specs.Place.{can_end, expected}
 use Rattle.krl_core.specs.Entry.{Entry}
 use Rattle.krl_core.specs.Scope.{MeansWithin, Scope, WithinScope, all}
@@ -239,4 +240,5 @@ Advances old new = Follows old new ⊎ Leaps old new
 pub record EndsAfter (old new : Position) : Type 0 where
   pub may_end : can_end new.place ≡ true
   pub whole : (text : List ℕ) (fields : List (List ℕ)) → HasRead text fields old
-      → (more : List (List ℕ)) × HasRead text (fields ++ more) new × (text ≡ concat (fields ++ more))
+      → (more : List (List ℕ)) × HasRead text (fields ++ more) new
+      × (text ≡ concat (fields ++ more))

@@ -16,8 +16,8 @@ const NO_VERSION: u8 = 0xff;
 
 /// Writes a list over another file. Until all of it is written and synced, its format version is
 /// one that every reader refuses: so none takes a part of the list for the whole, nor finds it
-/// empty, also where the writing fails or the machine stops. A fault is the count of bytes that went
-/// out.
+/// empty, also where the writing fails or the machine stops. A fault is the count of bytes that
+/// went out.
 pub fn write_in_place(file: &File, text: &[u8]) -> Result<(), u64>
     ensures bound { IfErr result (λ count. count ≤ length text.now) }
 {
