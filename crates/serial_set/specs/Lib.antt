@@ -17,6 +17,6 @@ pub mod Pages
 pub mod Places
 pub mod Rising
 pub mod Span
-pub mod SpanWords
+pub mod SpanPages
 pub mod Walk
 pub mod Words

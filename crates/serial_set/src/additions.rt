@@ -6,14 +6,14 @@ ghost use Rattle.serial_set.specs.Entry.{lo_of, hi_of, members_of, runs_of};
 ghost use Rattle.serial_set.specs.Near.{AddsSpans, AreNear};
 ghost use Rattle.serial_set.specs.News.{begin_of, end_of, Has};
 ghost use Rattle.serial_set.specs.Span.{AddsSpan, Covers, IsRunsOf};
-ghost use Rattle.serial_set.specs.SpanWords.{entries_held};
+ghost use Rattle.serial_set.specs.SpanPages.{entries_held};
 ghost use Rattle.serial_set.specs.Words.{BitCovers};
 
 use crate::entry::{Entry, mask};
 use crate::near::bits_of;
 use crate::news::{news_of_bits, news_of_run};
 use crate::span::Span;
-use crate::span_words::SpanWords;
+use crate::span_pages::SpanPages;
 use std::alloc::AllocError;
 
 // The bits of an entry in a window, and the place in the window after it.
@@ -23,7 +23,7 @@ struct WindowBits {
     at: u64,
 }
 
-impl SpanWords {
+impl SpanPages {
     // Adds the numbers from `lo` to `hi`.
     pub(crate) fn add_numbers(&mut self, lo: u64, hi: u64) -> Result<(), AllocError>
         requires from_one { 0 < lo }

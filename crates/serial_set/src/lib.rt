@@ -23,8 +23,8 @@ mod place;
 mod runs;
 mod search;
 mod span;
+mod span_pages;
 mod span_vec;
-mod span_words;
 mod spans;
 mod spot;
 mod walk;
@@ -36,10 +36,10 @@ pub use finished::Finished;
 pub use near::count_near;
 pub use piece::Piece;
 pub use span::Span;
+pub use span_pages::SpanPages;
 pub use span_vec::SpanVec;
-pub use span_words::SpanWords;
 pub use spans::Spans;
 pub use walk::next_after;
 
 /// The representation of a set of serials that is in use.
-pub type Held = SpanWords;
+pub type Held = SpanPages;

@@ -3,15 +3,15 @@ ghost use Rattle.std.specs.Prelude.{◌≡◌, ◌+◌, ◌<◌, ◌≤◌, ◌�
 ghost use Rattle.serial_set.specs.Entry.{hi_of, members_of, runs_of};
 ghost use Rattle.serial_set.specs.Members.{GoesOn, IsFirst, Reads, Taken};
 ghost use Rattle.serial_set.specs.Span.{Covers};
-ghost use Rattle.serial_set.specs.SpanWords.{entries_held};
+ghost use Rattle.serial_set.specs.SpanPages.{entries_held};
 ghost use Rattle.serial_set.specs.Walk.{IsPiece, piece_of, since};
 
 use crate::entry::Entry;
 use crate::piece::Piece;
 use crate::span::Span;
-use crate::span_words::SpanWords;
+use crate::span_pages::SpanPages;
 
-impl SpanWords {
+impl SpanPages {
     // The first runs of the members from a number on, as many as a piece has room for, or as lie
     // together.
     pub(crate) fn runs_from(&self, number: u64) -> Piece

@@ -4,7 +4,7 @@ ghost use Rattle.serial_set.specs.BitRuns.{IsInterval};
 ghost use Rattle.serial_set.specs.Near.{AreNear};
 
 use crate::tests::answered::ran_out;
-use serial_set::{Span, SpanVec, SpanWords, Spans};
+use serial_set::{Span, SpanPages, SpanVec, Spans};
 use std::alloc::AllocError;
 use std::process::Abort;
 use std::test::Fail;
@@ -89,9 +89,9 @@ fn fill<S: Spans>(rt: &(impl AllocGlobal + Abort + Print), order: Order) -> Resu
 
 #[test]
 fn pages(rt: HostRuntime) -> Result<(), Fail> {
-    fill::<SpanWords>(&rt, Order::Rising)?;
-    fill::<SpanWords>(&rt, Order::Falling)?;
-    fill::<SpanWords>(&rt, Order::BothEnds)
+    fill::<SpanPages>(&rt, Order::Rising)?;
+    fill::<SpanPages>(&rt, Order::Falling)?;
+    fill::<SpanPages>(&rt, Order::BothEnds)
 }
 
 #[test]
@@ -122,7 +122,7 @@ fn join<S: Spans>(rt: &(impl AllocGlobal + Abort + Print)) -> Result<(), Fail> {
 
 #[test]
 fn joined_pages(rt: HostRuntime) -> Result<(), Fail> {
-    join::<SpanWords>(&rt)
+    join::<SpanPages>(&rt)
 }
 
 #[test]
@@ -144,7 +144,7 @@ const SECOND: [((u64, u64), (u64, u64)); 4] = [
 fn a_second_entry(rt: HostRuntime) -> Result<(), Fail> {
     for ((lo, hi), (from, to)) in SECOND {
         assert!(&rt; 0 < lo && lo <= hi && 0 < from && from <= to);
-        let mut set: SpanWords = empty(&rt)?;
+        let mut set: SpanPages = empty(&rt)?;
         set.add(lo, hi)?;
         if set.add(from, to).is_err() {
             ran_out(&rt);
@@ -206,7 +206,7 @@ fn fill_near<S: Spans>(rt: &(impl AllocGlobal + Abort + Print)) -> Result<(), Fa
 
 #[test]
 fn pages_of_near_spans(rt: HostRuntime) -> Result<(), Fail> {
-    fill_near::<SpanWords>(&rt)
+    fill_near::<SpanPages>(&rt)
 }
 
 #[test]

@@ -1,6 +1,6 @@
 //! Intervals that are added, one after the other.
 use crate::tests::sets::{add, empty, has_just};
-use serial_set::{Span, SpanVec, SpanWords, Spans};
+use serial_set::{Span, SpanPages, SpanVec, Spans};
 use std::alloc::Global;
 use std::process::Abort;
 
@@ -42,6 +42,6 @@ fn adds<S: Spans>(rt: &impl Abort, alloc: Global, number: usize, row: &Row) {
 fn adds_intervals(rt: HostRuntime) {
     for (i, row) in ROWS.iter().enumerate() {
         adds::<SpanVec>(&rt, rt.alloc(), i, row);
-        adds::<SpanWords>(&rt, rt.alloc(), i, row);
+        adds::<SpanPages>(&rt, rt.alloc(), i, row);
     }
 }

@@ -4,7 +4,7 @@ ghost use Rattle.std.specs.Prelude.{◌<◌, length, All};
 ghost use Rattle.serial_set.specs.BitRuns.{IsInterval};
 
 use crate::tests::sets::{add, empty, has_just};
-use serial_set::{Span, SpanVec, SpanWords, Spans, count_near};
+use serial_set::{Span, SpanPages, SpanVec, Spans, count_near};
 use std::alloc::{AllocError, Global};
 use std::process::Abort;
 
@@ -40,5 +40,5 @@ fn adds_near<S: Spans>(rt: &impl Abort, alloc: Global) {
 #[test]
 fn adds_near_spans(rt: HostRuntime) {
     adds_near::<SpanVec>(&rt, rt.alloc());
-    adds_near::<SpanWords>(&rt, rt.alloc());
+    adds_near::<SpanPages>(&rt, rt.alloc());
 }

@@ -2,7 +2,7 @@
 ghost use Rattle.std.specs.Prelude.{◌≡◌, ◌+◌, ◌*◌, ◌^◌, ◌<◌, ◌≤◌};
 
 use crate::tests::sets::{add, empty, has_just, has_span};
-use serial_set::{Span, SpanVec, SpanWords, Spans};
+use serial_set::{Span, SpanPages, SpanVec, Spans};
 use std::alloc::Global;
 use std::process::Abort;
 
@@ -70,7 +70,7 @@ const ORDERS: [Order; 3] = [Order::Rising, Order::Falling, Order::Alternating];
 #[test]
 fn joins_over_pages(rt: HostRuntime) {
     for order in &ORDERS {
-        has_rows::<SpanWords>(&rt, rt.alloc(), *order);
+        has_rows::<SpanPages>(&rt, rt.alloc(), *order);
         has_rows::<SpanVec>(&rt, rt.alloc(), *order);
     }
 }
@@ -85,7 +85,7 @@ fn one(number: u64) -> Span {
 
 // A set of 600,000 odd numbers, and one interval over most of them.
 fn fills(rt: &impl Abort, alloc: Global, order: Order) {
-    let mut set: SpanWords = odd_numbers(rt, alloc, order, 600_000);
+    let mut set: SpanPages = odd_numbers(rt, alloc, order, 600_000);
     assert!(rt; set.len() == 600_000);
     assert!(rt; has_span(&set, 262_144, one(524_289)) && has_span(&set, 599_999, one(1_199_999)));
     add(rt, &mut set, 4, 1_199_996);

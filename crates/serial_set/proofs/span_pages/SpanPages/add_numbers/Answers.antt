@@ -1,0 +1,15 @@
+use Rattle.std.proofs.Common.{arith}
+use Rattle.serial_set.specs.Entry.{runs_of}
+use Rattle.serial_set.specs.SpanPages.{entries_held}
+use Rattle.serial_set.proofs.InSet.{adds_mask, mask_has, on_ok}
+use Rattle.serial_set.proofs.span_pages.SpanPages.add_numbers.Goals as goal
+
+pub add_bits-requires-clause-serials : goal.add_bits-requires-clause-serials
+add_bits-requires-clause-serials c = λ s n.
+    let at = (mask_has c.args.lo c.args.hi c.mask.result s c.if-lo-hi.true c.requires.ordered c.mask.ensures).0 n in
+    let some = c.requires.from_one in
+    omega (arith, at.0)
+
+pub returns-then-lo-hi-clause-runs : goal.returns-then-lo-hi-clause-runs
+returns-then-lo-hi-clause-runs c =
+    on_ok c.add_bits.result _ _ (λ is. adds_mask (runs_of (entries_held c.args.self.now)) (runs_of (entries_held c.add_bits.new.self)) c.args.lo c.args.hi c.mask.result c.if-lo-hi.true c.requires.ordered c.mask.ensures is) c.add_bits.ensures.runs

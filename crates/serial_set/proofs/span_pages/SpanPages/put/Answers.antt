@@ -1,0 +1,29 @@
+use Rattle.std.proofs.Common.{subst, sym, inl, inr}
+use Rattle.serial_set.specs.Span.{AreSerials}
+use Rattle.serial_set.specs.Entry.{EntriesFrom, members_of}
+use Rattle.serial_set.specs.Entries.{Replaces}
+use Rattle.serial_set.specs.Kept.{entries_kept}
+use Rattle.serial_set.specs.Few.{few_of}
+use Rattle.serial_set.proofs.InWords.{ok_or_err, replaced_rise, replaced_serials}
+use Rattle.serial_set.proofs.span_pages.SpanPages.put.Goals as goal
+
+pub invariant_of-self : goal.invariant_of-self
+invariant_of-self c =
+    let set = c.args.self.now in
+    let old = entries_kept set.kept in
+    let new = entries_kept c.put.new.self in
+    let few = few_of c.args.few.now in
+    let lo = c.args.lo in
+    let hi = c.args.hi in
+    elim (ok_or_err c.put.result _ _ c.put.ensures.put c.put.ensures.refused) [
+      | inl put ↦
+          let r = subst (λ l. Replaces old lo hi l new) c.as_slice.ensures put in
+          record {
+            order = replaced_rise old few new lo hi r c.requires.order.0 set.order c.requires.order.1 c.requires.ends;
+            serials = replaced_serials old few new lo hi r set.serials c.requires.serials;
+          }
+      | inr same ↦ record {
+        order = subst (EntriesFrom 0) (sym same) set.order;
+        serials = subst (λ l. AreSerials (members_of l)) (sym same) set.serials;
+      }
+    ]

@@ -1,9 +1,0 @@
--- A set of serials as its entries.
-use Rattle.std.specs.Prelude.{List}
-use Rattle.serial_set.specs.declared.entry.Entry.{Entry}
-use Rattle.serial_set.specs.declared.span_words.SpanWords.{SpanWords}
-use Rattle.serial_set.specs.Kept.{entries_kept}
-
--- its only entry, if it has one, or the entries of all pages
-abbrev pub entries_held : SpanWords → List Entry
-entries_held set = entries_kept set.kept
