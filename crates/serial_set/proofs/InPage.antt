@@ -1,21 +1,12 @@
--- A page: entries after a gap, and what one change puts in place of others.
+-- A page: what one change puts in place of others.
 use Rattle.std.proofs.Common.{◌≡◌, ℕ, ◌+◌, ◌<◌, ◌≤◌, List, ◌∷◌, ◌++◌, length, get_or, set, suc, take, drop, sym, ap, subst, arith, ◌∙◌}
 use Rattle.std.specs.List.{All}
-use Rattle.std.proofs.lemmas.List.{take-append-drop, drop-take, drop-drop, drop-append-le, length-take-le, drop_more, set_split}
+use Rattle.std.proofs.lemmas.List.{take-append-drop, drop-drop, drop_more, set_split}
 use Rattle.std.proofs.lemmas.List.Elements.{All-take}
 use Rattle.serial_set.specs.declared.entry.Entry.{Entry}
 use Rattle.serial_set.specs.Entry.{lo_of, hi_of}
 use Rattle.serial_set.specs.Entries.{Replaces}
 use Rattle.serial_set.specs.Places.{CutTo, Widened, WordWidened}
-
--- others in place of those from one place after a gap to another
-pub put_gap : {X : Type 0} (xs ys : List X) (gap from to : ℕ) → gap + from ≤ length xs
-    → drop gap (take (gap + from) xs ++ (ys ++ drop (gap + to) xs)) ≡ take from (drop gap xs) ++ (ys ++ drop to (drop gap xs))
-put_gap xs ys gap from to h =
-    let long : length (take (gap + from) xs) ≡ gap + from = length-take-le (gap + from) xs h in
-    drop-append-le gap (take (gap + from) xs) (ys ++ drop (gap + to) xs) (omega arith)
-    ∙ ap (λ l. l ++ (ys ++ drop (gap + to) xs)) (drop-take gap from xs)
-    ∙ ap (λ l. take from (drop gap xs) ++ (ys ++ l)) (sym (drop-drop to gap xs))
 
 -- what two searches found, as one change
 pub replaced_at : (es few new : List Entry) (lo hi from count : ℕ)
@@ -45,23 +36,19 @@ cut_page es new number count inside above is = record {
   above = subst (All (λ e. number < lo_of e)) (sym is) above;
 }
 
--- one word after a gap in place of what it was
-pub widened_at : (xs : List Entry) (gap place window bits : ℕ) (was is : Entry) → gap ≤ place → place < length xs → was ≡ get_or xs place was → Widened was window bits is
-    → WordWidened (drop gap xs) window bits (drop gap (set xs place is))
-widened_at xs gap place window bits was is h within read word =
+-- one word in place of what it was
+pub widened_at : (xs : List Entry) (place window bits : ℕ) (was is : Entry) → place < length xs → was ≡ get_or xs place was → Widened was window bits is
+    → WordWidened xs window bits (set xs place is)
+widened_at xs place window bits was is within read word =
     let front = take place xs in
     let back = drop (place + 1) xs in
-    let long : length front ≡ place = length-take-le place xs (omega arith) in
     let one : suc place ≡ place + 1 = omega arith in
-    let parts : xs ≡ front ++ was ∷ back =
-    sym (take-append-drop place xs) ∙ ap (λ l. front ++ l) (drop_more xs place was within ∙ ap (λ x. x ∷ back) (sym read)) in
-    let made : set xs place is ≡ front ++ is ∷ back = set_split xs place is within ∙ ap (λ n. front ++ is ∷ drop n xs) one in
     record {
-      front = drop gap front;
+      front = front;
       back = back;
       was = was;
       is = is;
-      were = ap (drop gap) parts ∙ drop-append-le gap front (was ∷ back) (omega arith);
-      are = ap (drop gap) made ∙ drop-append-le gap front (is ∷ back) (omega arith);
+      were = sym (take-append-drop place xs) ∙ ap (λ l. front ++ l) (drop_more xs place was within ∙ ap (λ x. x ∷ back) (sym read));
+      are = set_split xs place is within ∙ ap (λ n. front ++ is ∷ drop n xs) one;
       word = word;
     }

@@ -1,25 +1,23 @@
 -- Pages in a row.
-use Rattle.std.proofs.Common.{◌≡◌, ℕ, ◌+◌, ◌-◌, ◌<◌, ◌≤◌, ◌⊎◌, List, [], ◌∷◌, ◌++◌, length, get_or, take, drop, refl, sym, ap, subst, inl, inr, arith, zero, suc, min, set, ◌∙◌, length-append, length-drop}
-use Rattle.std.specs.Prelude.{Bool, true, false, IsTrue, Option, Some, None}
-use Rattle.std.specs.List.{All}
+use Rattle.std.proofs.Common.{◌≡◌, ℕ, ◌+◌, ◌-◌, ◌<◌, ◌≤◌, ◌⊎◌, List, [], ◌∷◌, ◌++◌, length, get_or, take, drop, refl, sym, ap, subst, inl, inr, arith, zero, suc, min, set, ◌∙◌, length-append, length-drop, add-zero}
+use Rattle.std.specs.List.{All, insert}
 use Rattle.std.specs.List.Sorted.{IsNonDecreasingBy}
 use Rattle.std.proofs.lemmas.Bool.{cases_lt}
-use Rattle.std.proofs.lemmas.List.{append-nil, append_assoc, take-append-drop, drop_all, take_all, take-take, take_more_set}
+use Rattle.std.proofs.lemmas.List.{append-nil, append_assoc, take-append-drop, drop_all, drop_at, drop-drop, drop-set-lt, get_or-drop, length-take-le, take_all, take_at, take-take, take_more_set}
 use Rattle.std.proofs.lemmas.List.Concat.{flat_map-append}
 use Rattle.std.proofs.lemmas.List.Elements.{All-nil, All-head, All-tail, All-append}
 use Rattle.serial_set.specs.declared.entry.Entry.{Entry}
 use Rattle.serial_set.specs.declared.page.Page.{Page}
-use Rattle.serial_set.specs.Additions.{Stands}
 use Rattle.serial_set.specs.Entry.{lo_of, hi_of, EntriesFrom}
 use Rattle.serial_set.specs.Entries.{stretch, entries_front, entries_back, Replaces}
-use Rattle.serial_set.specs.Pages.{entries_in, entries_of}
-use Rattle.serial_set.specs.Places.{end_of, IsListFrom, CutTo, PutBetween, PutIf, WordWidened}
-use Rattle.serial_set.proofs.Placed.{rises_before, rises_past}
+use Rattle.serial_set.specs.Pages.{entries_in, entries_of, IsSplit}
+use Rattle.serial_set.specs.Places.{end_of, IsListFrom, CutTo, WordWidened}
+use Rattle.serial_set.proofs.Placed.{rises_before}
 use Rattle.serial_set.proofs.Flat.{all_left, all_right, flat_cut, flat_drop, flat_at, flat_same, part_at, part_set, first_of}
 use Rattle.serial_set.proofs.InEntries.{entries_each, end_most, end_upto, end_back, entries_past}
 
 pub page_some : (p : Page) → 0 < length (entries_in p)
-page_some p = omega (arith, length-drop p.gap p.items.items, p.filled)
+page_some p = p.some
 
 -- ---- order
 
@@ -263,45 +261,29 @@ widened_pages xs at window bits x y h read k =
       word = k.word;
     }
 
--- an entry of a page is one of all
-pub stands_in : (xs : List Page) (at : ℕ) (x : Page) (o : Option Entry) → at < length xs → x ≡ get_or xs at x → Stands (entries_in x) o → Stands (entries_of xs) o
-stands_in xs at x None h read k = tt
-stands_in xs at x (Some e) h read k =
-    (entries_of (take at xs) ++ k.0, (k.1.0 ++ entries_of (drop (at + 1) xs), part_at entries_in xs at x k.0 (e ∷ k.1.0) h (ap entries_in (sym read) ∙ k.1.1)))
-
--- an entry put between those of a page, of which the last ends past it, or which is the last page
-between_pages : (xs : List Page) (at : ℕ) (e : Entry) (x y : Page) → at < length xs → x ≡ get_or xs at x → EntriesFrom 0 (entries_of xs) → All (λ t. hi_of t < lo_of e) (entries_of (take at xs))
-    → (length xs ≤ at + 1) ⊎ (hi_of e < end_of (entries_in x)) → PutBetween (entries_in x) e (entries_in y) → PutBetween (entries_of xs) e (entries_of (set xs at y))
-between_pages xs at e x y h read order before last k =
-    let front = entries_of (take at xs) in
-    let back = entries_of (drop (at + 1) xs) in
-    let past : All (λ t. hi_of e < lo_of t) back = elim last [
-      | inl none ↦ subst (λ l. All (λ t. hi_of e < lo_of t) (entries_of l)) (sym (drop_all (at + 1) xs none)) (All-nil (λ t. hi_of e < lo_of t))
-      | inr ends ↦ (let later = past_page xs at x h order in let same = ap (λ p. end_of (entries_in p)) read in λ i d q. let from = later i d q in omega arith)
-    ] in
-    record {
-      front = front ++ k.front;
-      back = k.back ++ back;
-      were = part_at entries_in xs at x k.front k.back h (ap entries_in (sym read) ∙ k.were);
-      are = part_set entries_in xs at y k.front (e ∷ k.back) h k.are;
-      below = All-append (λ t. hi_of t < lo_of e) front k.front before k.below;
-      above = All-append (λ t. hi_of e < lo_of t) k.back back k.above past;
-    }
-
-pub put_pages_if : (b last : Bool) (xs : List Page) (at : ℕ) (e : Entry) (x y : Page) → at < length xs → x ≡ get_or xs at x → EntriesFrom 0 (entries_of xs) → All (λ t. hi_of t < lo_of e) (entries_of (take at xs))
-    → (IsTrue last → length xs ≤ at + 1) → (IsTrue b → IsTrue last ⊎ (hi_of e < end_of (entries_in x))) → PutIf b (entries_in x) e (entries_in y) → PutIf b (entries_of xs) e (entries_of (set xs at y))
-put_pages_if true last xs at e x y h read order before none ends k =
-    between_pages xs at e x y h read order before (elim (ends refl) [ inl l ↦ inl (none l) | inr past ↦ inr past ]) k
-put_pages_if false last xs at e x y h read order before none ends k = flat_same entries_in xs at x y h read k
-
--- ---- a page that is looked at first
+-- ---- a page that is split
 
 pub all_before : (ps : List Page) (count number : ℕ) (d : Page) → EntriesFrom 0 (entries_of ps) → 0 < count → count ≤ length ps → end_of (entries_in (get_or ps (count - 1) d)) < number → All (λ e. hi_of e < number) (entries_of (take count ps))
 all_before ps count number d r some within last =
     pages_below number 0 (take count ps) (order_left 0 ps count r) (rises_before (λ p. end_of (entries_in p)) ps count number d (pages_rise 0 ps r) some within last)
 
-pub all_past : (ps : List Page) (count number : ℕ) (d : Page) → EntriesFrom 0 (entries_of ps) → count < length ps → number ≤ end_of (entries_in (get_or ps count d)) → All (λ p. number ≤ end_of (entries_in p)) (drop count ps)
-all_past ps count number d r within first = rises_past (λ p. end_of (entries_in p)) ps count number d (pages_rise 0 ps r) within first
-
-pub none_past : (ps : List Page) (count number : ℕ) → length ps ≤ count → All (λ p. number ≤ end_of (entries_in p)) (drop count ps)
-none_past ps count number h = subst (All (λ p. number ≤ end_of (entries_in p))) (sym (drop_all count ps h)) (All-nil (λ p. number ≤ end_of (entries_in p)))
+-- two pages that stand for one
+pub split_is : (old new : List Page) (at : ℕ) (y z : Page) → at < length old → new ≡ insert (set old at y) (at + 1) z → length (entries_in y) ≤ 253 → length (entries_in z) ≤ 253 → IsSplit old at new
+split_is old new at y z h is front back =
+    let rest = drop (at + 1) old in
+    let long : length (take at old) ≡ at = length-take-le at old (omega arith) in
+    let later : at < at + 1 = omega arith in
+    let parts : new ≡ take at old ++ (y ∷ (z ∷ rest)) =
+    is ∙ ap (λ l. l ++ z ∷ drop (at + 1) (set old at y)) (take_more_set old at y h)
+    ∙ ap (λ l. (take at old ++ y ∷ []) ++ z ∷ l) (drop-set-lt (at + 1) old at y later)
+    ∙ append_assoc (take at old) (y ∷ []) (z ∷ rest) in
+    let left : drop at new ≡ y ∷ (z ∷ rest) = ap (drop at) parts ∙ drop_at (take at old) (y ∷ (z ∷ rest)) at long in
+    let read : (k : ℕ) (d : Page) → get_or new (at + k) d ≡ get_or (y ∷ (z ∷ rest)) k d =
+    λ k d. sym (get_or-drop at new k d) ∙ ap (λ l. get_or l k d) left in
+    record {
+      within = omega (arith, ap length left, length-drop at new);
+      before = ap (take at) parts ∙ take_at (take at old) (y ∷ (z ∷ rest)) at long;
+      after = sym (drop-drop 2 at new) ∙ ap (drop 2) left;
+      front = λ d. subst (λ p. length (entries_in p) ≤ 253) (sym (ap (λ n. get_or new n d) (sym (add-zero at)) ∙ read 0 d)) front;
+      back = λ d. subst (λ p. length (entries_in p) ≤ 253) (sym (read 1 d)) back;
+    }

@@ -280,10 +280,6 @@ bits_both old first was more s h =
       λ n. both.1 (⊎_map (λ x. x) h.1 n),
     )
 
-pub on_ok : {T E : Type 0} (r : Result T E) (P Q : Type 0) → (P → Q) → OnOk r P → OnOk r Q
-on_ok (Ok x) P Q f h = f h
-on_ok (Err e) P Q f h = h
-
 -- a mask has the numbers from one to another of its window
 pub mask_has : (lo hi mask s : ℕ) → lo / 64 ≡ hi / 64 → lo ≤ hi → mask ≡ 2 ^ (hi % 64 + 1) - 2 ^ (lo % 64) → BitCovers 64 (64 * (lo / 64)) mask s ↔ ((lo ≤ s) × (s ≤ hi))
 mask_has lo hi mask s w h e =

@@ -29,14 +29,6 @@ rises_before f xs count n d rise some within last = λ k e q.
     let read = ap f (get_or_default xs (count - 1) d e (omega arith)) in
     omega (arith, most, same, read)
 
-pub rises_past : {X : Type 0} (f : X → ℕ) (xs : List X) (count n : ℕ) (d : X) → IsNonDecreasingBy f xs → count < length xs → n ≤ f (get_or xs count d) → All (λ x. n ≤ f x) (drop count xs)
-rises_past f xs count n d rise within first = λ k e q.
-    let inside : count + k < length xs = omega (arith, length-drop count xs) in
-    let least = rise count (count + k) e (omega arith) inside in
-    let same = ap f (get_or-drop count xs k e) in
-    let read = ap f (get_or_default xs count d e within) in
-    omega (arith, least, same, read)
-
 -- ---- where a test says which elements are below a number
 
 pub upto_parts : {X F : Type 0} {g : Mut F (Bor X × Unit {0}) Bool} {s : F} (f : X → ℕ) (n : ℕ) (xs : List X) (i : ℕ)

@@ -9,4 +9,4 @@ use Rattle.serial_set.specs.Pages.{entries_of}
 -- the only entry, if there is one, or the entries of all pages
 abbrev pub entries_kept : Kept → List Entry
 entries_kept (Only only) = option_to_list only
-entries_kept (Pages last pages) = entries_of pages.items
+entries_kept (Pages pages) = entries_of pages.items

@@ -1,6 +1,6 @@
 -- Places in a list of entries: where a number stands, where the list ends, what is cut off.
 use Rattle.std.specs.Prelude.{◌≡◌, ℕ, ◌+◌, ◌*◌, ◌≤◌, ◌<◌, ◌⊎◌, ◌↔◌, List, [], ◌∷◌, ◌++◌}
-use Rattle.std.specs.Prelude.{Option, Some, None, Bool, true, false, All}
+use Rattle.std.specs.Prelude.{Option, Some, None, All}
 use Rattle.serial_set.specs.declared.entry.Entry.{Entry}
 use Rattle.std.specs.Coded.{Unit-prop, le_prop}
 use Rattle.serial_set.specs.Entry.{pieces, lo_of, hi_of, EntriesFrom}
@@ -60,17 +60,3 @@ pub record WordWidened (old : List Entry) (window bits : ℕ) (new : List Entry)
   pub were : old ≡ front ++ was ∷ back
   pub are : new ≡ front ++ is ∷ back
   pub word : Widened was window bits is
-
--- an entry is put between others, of which none reaches into its stretch
-pub record PutBetween (old : List Entry) (e : Entry) (new : List Entry) : Type 0 where
-  pub front : List Entry
-  pub back : List Entry
-  pub were : old ≡ front ++ back
-  pub are : new ≡ front ++ e ∷ back
-  pub below : All (λ x. hi_of x < lo_of e) front
-  pub above : All (λ x. hi_of e < lo_of x) back
-
--- the same where the answer is yes, and else nothing changes
-abbrev pub PutIf : Bool → List Entry → Entry → List Entry → Type 0
-PutIf true old e new = PutBetween old e new
-PutIf false old e new = new ≡ old

@@ -68,28 +68,10 @@ impl SpanPages {
         if self.set_bits(window, bits) {
             return Ok(());
         }
-        self.put_bits(window, bits)
-    }
-
-    // The same, where the word of the window is not the entry that was put last.
-    fn put_bits(&mut self, window: u64, bits: u64) -> Result<(), AllocError>
-        requires window { window < 2 ^ 58 }
-        requires serials { (s : ℕ) → BitCovers 64 (64 * window) bits s → 0 < s }
-        ensures runs { OnOk result (IsRunsOf (runs_of (entries_held self.new))
-            (λ s. Covers (runs_of (entries_held self.old)) s
-            ⊎ BitCovers 64 (64 * window) bits s)) }
-        ensures refused { OnErr result (entries_held self.new ≡ entries_held self.old) }
-    {
-        if self.put_new(Entry::word(window, bits))? {
-            return Ok(());
-        }
-        if self.set_bits(window, bits) {
-            return Ok(());
-        }
         self.join_bits(window, bits)
     }
 
-    // The same, where other entries may reach into the window.
+    // The same, where the window has no word.
     fn join_bits(&mut self, window: u64, bits: u64) -> Result<(), AllocError>
         requires window { window < 2 ^ 58 }
         requires serials { (s : ℕ) → BitCovers 64 (64 * window) bits s → 0 < s }
@@ -103,8 +85,9 @@ impl SpanPages {
         if holds(head, first + 63) {
             return Ok(());
         }
+        let tail = self.entry_at(first + 63);
         let bits = bits | self.bits_in(window);
-        let news = news_of_bits(window, bits, head, self.entry_on(first + 63));
+        let news = news_of_bits(window, bits, head, tail);
         self.put(&news.few, news.lo, news.hi)
     }
 
@@ -116,40 +99,17 @@ impl SpanPages {
             (runs_of (entries_held self.new))) }
         ensures refused { OnErr result (entries_held self.new ≡ entries_held self.old) }
     {
-        if self.put_new(Entry::run(lo, hi))? {
-            return Ok(());
-        }
-        self.join_run(lo, hi)
-    }
-
-    // The same, where other entries may reach into these numbers.
-    fn join_run(&mut self, lo: u64, hi: u64) -> Result<(), AllocError>
-        requires from_one { 0 < lo }
-        requires windows { lo / 64 < hi / 64 }
-        ensures runs { OnOk result (AddsSpan (runs_of (entries_held self.old)) lo hi
-            (runs_of (entries_held self.new))) }
-        ensures refused { OnErr result (entries_held self.new ≡ entries_held self.old) }
-    {
         let head = self.entry_at(lo);
         if holds(head, hi) {
             return Ok(());
         }
-        let news = news_of_run(lo, hi, head, self.entry_on(hi));
+        let tail = self.entry_at(hi);
+        let news = news_of_run(lo, hi, head, tail);
         self.put(&news.few, news.lo, news.hi)
     }
 
     // The entry that has a number in its stretch.
     fn entry_at(&self, number: u64) -> Option<Entry>
-        ensures { IsAt (entries_held self.now) number result }
-    {
-        match self.entry_last() {
-            Some(entry) if entry.lo() <= number && number <= entry.hi() => Some(entry),
-            _ => self.entry_on(number),
-        }
-    }
-
-    // The same, where it is not the entry that was put or looked for last.
-    fn entry_on(&self, number: u64) -> Option<Entry>
         ensures { IsAt (entries_held self.now) number result }
     {
         match self.entry_from(number) {

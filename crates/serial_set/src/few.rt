@@ -1,5 +1,5 @@
 //! At most three entries, which take the place of others.
-ghost use Rattle.std.specs.Prelude.{◌≡◌, ◌≤◌, ◌<◌, ◌+◌, ◌++◌, [], ◌∷◌};
+ghost use Rattle.std.specs.Prelude.{◌≡◌, ◌≤◌, ◌<◌, ◌+◌, ◌++◌, [], ◌∷◌, length};
 ghost use Rattle.std.specs.Option.{option_to_list};
 
 use crate::entry::Entry;
@@ -38,10 +38,12 @@ impl Few {
 
     /// The entries.
     pub fn as_slice(&self) -> &[Entry]
-        ensures { result.now ≡ few_of self.now }
+        ensures entries { result.now ≡ few_of self.now }
+        ensures most { length result.now ≤ 3 }
     {
         &self.entries[..usize::from(self.count)]
     }
+
     /// Up to three entries, one after the other.
     pub fn of(first: Option<Entry>, second: Option<Entry>, third: Option<Entry>) -> Few
         ensures { few_of result

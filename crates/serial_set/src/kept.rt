@@ -1,89 +1,44 @@
 //! The entries of a set: its only one, or those of pages.
-ghost use Rattle.std.specs.Prelude.{◌≡◌, ◌<◌, ◌≤◌, ◌⊎◌, [], length, false, All, IsTrue, IfOk, OnOk, OnErr};
+ghost use Rattle.std.specs.Prelude.{◌≡◌, ◌^◌, ◌<◌, ◌≤◌, ◌⊎◌, [], length, false, All, IsTrue, IfOk, OnOk, OnErr};
 ghost use Rattle.std.specs.Option.{option_to_list};
-ghost use Rattle.serial_set.specs.Additions.{Stands};
 ghost use Rattle.serial_set.specs.Entry.{lo_of, hi_of, EntriesFrom};
 ghost use Rattle.serial_set.specs.Entries.{Replaces};
 ghost use Rattle.serial_set.specs.Kept.{entries_kept};
 ghost use Rattle.serial_set.specs.Pages.{entries_of};
-ghost use Rattle.serial_set.specs.Places.{IsListFrom, PutIf, WordWidened};
+ghost use Rattle.serial_set.specs.Places.{IsListFrom, WordWidened};
 
 use crate::entry::Entry;
 use crate::page::Page;
-use crate::pages::{entry_in, list_in, page_near, put_entries, put_first, put_new, set_bits_at};
-use crate::spot::Spot;
+use crate::pages::{list_in, put_entries, put_first, set_bits_in};
 use std::alloc::{AllocError, Global};
 use std::slice;
 
-/// At most one entry, which takes no memory of its own, or those of pages, with the spot where one
-/// was put or looked for last, if none was moved since.
+/// At most one entry, which takes no memory of its own, or those of pages.
 #[derive(Drop)]
 pub enum Kept {
     Only(Option<Entry>),
-    Pages { last: Spot, pages: Vec<Page> },
+    Pages(Vec<Page>),
 }
 
 impl Kept {
-    /// The page where an entry was put or looked for last.
-    pub fn page_last(&self) -> usize {
-        match self {
-            Kept::Only(_) => 0,
-            Kept::Pages { last, .. } => last.page(),
-        }
-    }
-
-    /// The page where a number may well stand, to look at first.
-    pub fn page_near(&self, number: u64) -> usize
-        requires { EntriesFrom 0 (entries_kept self.now) }
-    {
-        match self {
-            Kept::Only(_) => 0,
-            Kept::Pages { last, pages } => page_near(pages, number, last.page()),
-        }
-    }
-
-    /// The entries from the first that ends at a number or past it on, as many as lie together. The
-    /// page `near` is looked at first.
-    pub fn list_near(&self, number: u64, near: usize) -> &[Entry]
+    /// The entries from the first that ends at a number or past it on, as many as lie together.
+    pub fn list_from(&self, number: u64) -> &[Entry]
         requires { EntriesFrom 0 (entries_kept self.now) }
         ensures { IsListFrom (entries_kept self.now) number result.now }
     {
         match self {
             Kept::Only(only) => list_of(only, number),
-            Kept::Pages { pages, .. } => list_in(pages, number, near),
+            Kept::Pages(pages) => list_in(pages, number),
         }
     }
 
-    /// The entry that was put or looked for last, if one stands there.
-    pub fn entry_last(&self) -> Option<Entry>
-        ensures { Stands (entries_kept self.now) result }
-    {
-        match self {
-            Kept::Only(only) => *only,
-            Kept::Pages { last, pages } => entry_in(pages, *last),
-        }
-    }
-
-    /// Puts an entry between others, where none of them reaches into its stretch and their page has
-    /// room. Else nothing changes.
-    pub fn put_new(&mut self, new: Entry) -> Result<bool, AllocError>
-        requires { EntriesFrom 0 (entries_kept self.old) }
-        ensures put { IfOk result
-            (λ is_put. PutIf is_put (entries_kept self.old) new (entries_kept self.new)) }
-        ensures refused { OnErr result (entries_kept self.new ≡ entries_kept self.old) }
-    {
-        match self {
-            Kept::Only(_) => Ok(false),
-            Kept::Pages { last, pages } => put_new(pages, last, new),
-        }
-    }
-
-    /// Puts entries that rise in place of all that reach into the numbers from `lo` to `hi`. Where
-    /// memory runs out nothing changes.
+    /// Puts at most three entries that rise in place of all that reach into the numbers from `lo`
+    /// to `hi`. Where memory runs out nothing changes.
     pub fn put(&mut self, alloc: Global, few: &[Entry], lo: u64, hi: u64) -> Result<(), AllocError>
         requires order { EntriesFrom 0 (entries_kept self.old) }
         requires whole { All (λ e. (hi_of e ≤ hi) ⊎ (hi < lo_of e)) (entries_kept self.old) }
-        requires few { (0 < length few.now) × All (λ e. hi_of e ≤ hi) few.now }
+        requires few { (0 < length few.now) × (length few.now ≤ 3)
+            × All (λ e. hi_of e ≤ hi) few.now }
         ensures put { OnOk result
             (Replaces (entries_kept self.old) lo hi few.now (entries_kept self.new)) }
         ensures refused { OnErr result (entries_kept self.new ≡ entries_kept self.old) }
@@ -93,23 +48,21 @@ impl Kept {
                 *self = put_by_one(alloc, *only, few, lo, hi)?;
                 Ok(())
             }
-            Kept::Pages { last, pages } => {
-                *last = put_entries(pages, few, lo, hi, *last)?;
-                Ok(())
-            }
+            Kept::Pages(pages) => put_entries(pages, few, lo, hi),
         }
     }
 
-    /// Sets bits of a window where an entry was put or looked for last, if that is the word of the
-    /// window. Else nothing changes.
+    /// Sets bits in the word of their window, if there is one. Else nothing changes.
     pub fn set_bits(&mut self, window: u64, bits: u64) -> bool
+        requires order { EntriesFrom 0 (entries_kept self.old) }
+        requires window { window < 2 ^ 58 }
         ensures set { IsTrue result
             → WordWidened (entries_kept self.old) window bits (entries_kept self.new) }
         ensures same { result ≡ false → entries_kept self.new ≡ entries_kept self.old }
     {
         match self {
             Kept::Only(only) => set_bits_of(only, window, bits),
-            Kept::Pages { last, pages } => set_bits_at(pages, *last, window, bits),
+            Kept::Pages(pages) => set_bits_in(pages, window, bits),
         }
     }
 }
@@ -154,7 +107,8 @@ fn put_by_one(
 ) -> Result<Kept, AllocError>
     requires order { EntriesFrom 0 (option_to_list only) }
     requires whole { All (λ e. (hi_of e ≤ hi) ⊎ (hi < lo_of e)) (option_to_list only) }
-    requires few { (0 < length few.now) × All (λ e. hi_of e ≤ hi) few.now }
+    requires few { (0 < length few.now) × (length few.now ≤ 3)
+        × All (λ e. hi_of e ≤ hi) few.now }
     ensures { IfOk result
         (λ kept. Replaces (option_to_list only) lo hi few.now (entries_kept kept)) }
 {
@@ -162,8 +116,8 @@ fn put_by_one(
         return Ok(Kept::Only(Some(few[0])));
     }
     let mut pages = pages_of(alloc, only)?;
-    let last = put_entries(&mut pages, few, lo, hi, Spot::of(0, 0))?;
-    Ok(Kept::Pages { last, pages })
+    put_entries(&mut pages, few, lo, hi)?;
+    Ok(Kept::Pages(pages))
 }
 
 // Whether there is an entry, and it lies beside the numbers from `lo` to `hi`.

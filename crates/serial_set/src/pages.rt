@@ -1,80 +1,20 @@
 //! Pages of entries in a row, one after the other.
-ghost use Rattle.std.specs.Prelude.{◌≡◌, ◌+◌, ◌<◌, ◌≤◌, ◌⊎◌, ◌++◌, [], ℕ, length, take, drop, nat_lt, nat_le, slice_index_or, false, All, IsTrue, IfOk, OnOk, OnErr};
+ghost use Rattle.std.specs.Prelude.{◌≡◌, ◌+◌, ◌*◌, ◌^◌, ◌<◌, ◌≤◌, ◌⊎◌, ◌++◌, [], ℕ, length, take, drop, nat_lt, nat_le, slice_index_or, false, All, IsTrue, IfOk, OnOk, OnErr};
 ghost use Rattle.std.specs.Vec.{vec_len};
 ghost use Rattle.serial_set.specs.declared.page.Page.{Page};
-ghost use Rattle.serial_set.specs.Additions.{Stands};
 ghost use Rattle.serial_set.specs.Entry.{lo_of, hi_of, EntriesFrom};
 ghost use Rattle.serial_set.specs.Entries.{Replaces};
-ghost use Rattle.serial_set.specs.Pages.{entries_in, entries_of};
-ghost use Rattle.serial_set.specs.Places.{end_of, CutTo, IsListFrom, PutIf, WordWidened};
+ghost use Rattle.serial_set.specs.Pages.{entries_in, entries_of, IsPlace, IsSplit};
+ghost use Rattle.serial_set.specs.Places.{end_of, CutTo, IsListFrom, WordWidened};
 
 use crate::entry::Entry;
-use crate::gap::insert_at;
-use crate::page::{PAGE_LEN, Page};
+use crate::page::Page;
+use crate::row::{insert_at, remove};
 use crate::search::count_ending_below;
-use crate::spot::Spot;
 use std::alloc::AllocError;
 
-/// The page where a number may well stand, to look at first.
-pub fn page_near(pages: &[Page], number: u64, near: usize) -> usize
-    requires { EntriesFrom 0 (entries_of pages.now) }
-    ensures { result ≤ length pages.now }
-{
-    pages_ending_below(pages, number, near)
-}
-
-// How many pages end before a number. It looks at the page `near` first, and after it.
-fn pages_ending_below(pages: &[Page], number: u64, near: usize) -> usize
-    requires { EntriesFrom 0 (entries_of pages.now) }
-    ensures within { result ≤ length pages.now }
-    ensures below { All (λ e. hi_of e < number) (entries_of (take result pages.now)) }
-    ensures reach { All (λ page. number ≤ end_of (entries_in page)) (drop result pages.now) }
-{
-    if are_ending_below(pages, number, near) {
-        return near;
-    }
-    let next = near.saturating_add(1);
-    if are_ending_below(pages, number, next) {
-        return next;
-    }
-    search_pages(pages, number)
-}
-
-// Whether just the first `count` pages end before a number.
-fn are_ending_below(pages: &[Page], number: u64, count: usize) -> bool
-    requires { EntriesFrom 0 (entries_of pages.now) }
-    ensures within { IsTrue result → count ≤ length pages.now }
-    ensures below { IsTrue result
-        → All (λ e. hi_of e < number) (entries_of (take count pages.now)) }
-    ensures reach { IsTrue result
-        → All (λ page. number ≤ end_of (entries_in page)) (drop count pages.now) }
-{
-    if count > pages.len() || !are_below(pages, number, count) {
-        return false;
-    }
-    reaches(pages, number, count)
-}
-
-// Whether the first `count` pages end before a number.
-fn are_below(pages: &[Page], number: u64, count: usize) -> bool
-    requires order { EntriesFrom 0 (entries_of pages.now) }
-    requires within { count ≤ length pages.now }
-    ensures { IsTrue result → All (λ e. hi_of e < number) (entries_of (take count pages.now)) }
-{
-    count == 0 || pages[count - 1].end() < number
-}
-
-// Whether the page at a place, if there is one, ends at a number or past it. Then all after it do.
-fn reaches(pages: &[Page], number: u64, at: usize) -> bool
-    requires { EntriesFrom 0 (entries_of pages.now) }
-    ensures { IsTrue result
-        → All (λ page. number ≤ end_of (entries_in page)) (drop at pages.now) }
-{
-    at >= pages.len() || number <= pages[at].end()
-}
-
-// How many pages end below a number, by binary search.
-fn search_pages(pages: &[Page], number: u64) -> usize
+// How many pages end before a number.
+fn pages_ending_below(pages: &[Page], number: u64) -> usize
     requires { EntriesFrom 0 (entries_of pages.now) }
     ensures within { result ≤ length pages.now }
     ensures below { All (λ e. hi_of e < number) (entries_of (take result pages.now)) }
@@ -101,13 +41,12 @@ fn pages_ending_upto(pages: &[Page], number: u64) -> usize
     )
 }
 
-/// The entries from the first that ends at a number or past it on, as many as lie together. `near`
-/// is the page where they may well stand.
-pub fn list_in(pages: &[Page], number: u64, near: usize) -> &[Entry]
+/// The entries from the first that ends at a number or past it on, as many as lie together.
+pub fn list_in(pages: &[Page], number: u64) -> &[Entry]
     requires { EntriesFrom 0 (entries_of pages.now) }
     ensures { IsListFrom (entries_of pages.now) number result.now }
 {
-    let at = pages_ending_below(pages, number, near);
+    let at = pages_ending_below(pages, number);
     if at >= pages.len() {
         return &[];
     }
@@ -126,59 +65,23 @@ fn list_in_page(page: &Page, number: u64) -> &[Entry]
 }
 
 // The page in which entries from `lo` on belong: the first that does not end before, or the last.
-fn page_for(pages: &[Page], lo: u64, near: usize) -> usize
+fn page_for(pages: &[Page], lo: u64) -> usize
     requires order { EntriesFrom 0 (entries_of pages.now) }
     requires some { 0 < length pages.now }
     ensures within { result < length pages.now }
     ensures below { All (λ e. hi_of e < lo) (entries_of (take result pages.now)) }
     ensures after { All (λ e. lo ≤ hi_of e) (entries_of (drop (result + 1) pages.now)) }
 {
-    pages_ending_below(pages, lo, near).min(pages.len() - 1)
+    pages_ending_below(pages, lo).min(pages.len() - 1)
 }
 
-/// Puts an entry between others, where none of them reaches into its stretch and their page has
-/// room. Else nothing changes. `at`, where to look first, becomes where the entry belongs.
-pub fn put_new(pages: &mut Vec<Page>, at: &mut Spot, new: Entry) -> Result<bool, AllocError>
-    requires { EntriesFrom 0 (entries_of pages.old.items) }
-    ensures put { IfOk result (λ is_put.
-        PutIf is_put (entries_of pages.old.items) new (entries_of pages.new.items)) }
-    ensures refused { OnErr result
-        (entries_of pages.new.items ≡ entries_of pages.old.items) }
-{
-    if pages.is_empty() {
-        return Ok(false);
-    }
-    let lo = new.lo();
-    // Where numbers come in order, it is mostly this one that reaches into it, if any does.
-    if let Some(entry) = entry_in(pages, *at) {
-        if entry.lo() <= lo && lo <= entry.hi() {
-            return Ok(false);
-        }
-    }
-    let page = page_for(pages, lo, at.page());
-    let is_last = page + 1 == pages.len();
-    let near = if page == at.page() {
-        at.place()
-    } else {
-        usize::MAX
-    };
-    let tried = pages[page].put_new(new, is_last, near)?;
-    *at = Spot::of(page, tried.place);
-    Ok(tried.is_put)
-}
-
-/// Puts entries that rise in place of all that reach into the numbers from `lo` to `hi`, and says
-/// where. Where memory runs out nothing changes.
-pub fn put_entries(
-    pages: &mut Vec<Page>,
-    few: &[Entry],
-    lo: u64,
-    hi: u64,
-    near: Spot,
-) -> Result<Spot, AllocError>
+/// Puts at most three entries that rise in place of all that reach into the numbers from `lo` to
+/// `hi`. Where memory runs out nothing changes.
+pub fn put_entries(pages: &mut Vec<Page>, few: &[Entry], lo: u64, hi: u64) -> Result<(), AllocError>
     requires order { EntriesFrom 0 (entries_of pages.old.items) }
     requires whole { All (λ e. (hi_of e ≤ hi) ⊎ (hi < lo_of e)) (entries_of pages.old.items) }
-    requires few { (0 < length few.now) × All (λ e. hi_of e ≤ hi) few.now }
+    requires few { (0 < length few.now) × (length few.now ≤ 3)
+        × All (λ e. hi_of e ≤ hi) few.now }
     ensures put { OnOk result
         (Replaces (entries_of pages.old.items) lo hi few.now (entries_of pages.new.items)) }
     ensures refused { OnErr result
@@ -186,16 +89,16 @@ pub fn put_entries(
 {
     if pages.is_empty() {
         put_first(pages, few)?;
-        return Ok(Spot::of(0, 0));
+        return Ok(());
     }
-    make_room(pages, lo, near.page())?;
-    put_in(pages, few, lo, hi, near)
+    let at = make_room(pages, lo)?;
+    put_in(pages, at, few, lo, hi)
 }
 
 /// Makes the first page.
 pub fn put_first(pages: &mut Vec<Page>, few: &[Entry]) -> Result<(), AllocError>
     requires none { pages.old.items ≡ [] }
-    requires some { 0 < length few.now }
+    requires some { (0 < length few.now) × (length few.now ≤ 3) }
     ensures put { OnOk result (entries_of pages.new.items ≡ few.now ++ []) }
     ensures refused { OnErr result (pages.new.items ≡ pages.old.items) }
 {
@@ -204,27 +107,27 @@ pub fn put_first(pages: &mut Vec<Page>, few: &[Entry]) -> Result<(), AllocError>
     Ok(())
 }
 
-// The same, where there is a page.
+// Puts entries into the page where they belong, which has room, and in place of all after it.
 fn put_in(
     pages: &mut Vec<Page>,
+    at: usize,
     few: &[Entry],
     lo: u64,
     hi: u64,
-    near: Spot,
-) -> Result<Spot, AllocError>
-    requires some { 0 < length pages.old.items }
+) -> Result<(), AllocError>
     requires order { EntriesFrom 0 (entries_of pages.old.items) }
+    requires place { IsPlace pages.old.items lo at }
     requires whole { All (λ e. (hi_of e ≤ hi) ⊎ (hi < lo_of e)) (entries_of pages.old.items) }
-    requires few { (0 < length few.now) × All (λ e. hi_of e ≤ hi) few.now }
+    requires few { (0 < length few.now) × (length few.now ≤ 3)
+        × All (λ e. hi_of e ≤ hi) few.now }
     ensures put { OnOk result
         (Replaces (entries_of pages.old.items) lo hi few.now (entries_of pages.new.items)) }
     ensures refused { OnErr result
         (entries_of pages.new.items ≡ entries_of pages.old.items) }
 {
-    let at = page_for(pages, lo, near.page());
-    let place = pages[at].put(few, lo, hi, near.place())?;
+    pages[at].put(few, lo, hi)?;
     cut_after(pages, at, hi);
-    Ok(Spot::of(at, place))
+    Ok(())
 }
 
 // Cuts off the entries up to a number after a page, if that does not reach past it.
@@ -257,41 +160,34 @@ fn cut_from(pages: &mut Vec<Page>, from: usize, number: u64)
         (entries_of (drop from pages.new.items)) }
 {
     let gone = pages_ending_upto(&pages[from..], number);
-    remove_pages(pages, from, gone);
+    remove(pages, from, gone);
     if from < pages.len() {
         pages[from].cut_to(number);
     }
 }
 
-// Removes `gone` pages from `from` on.
-fn remove_pages(pages: &mut Vec<Page>, from: usize, gone: usize)
-    requires { from + gone ≤ vec_len pages.old }
-    ensures { pages.new.items ≡ take from pages.old.items ++ drop gone (drop from pages.old.items) }
-{
-    pages.drain(from..from + gone);
-}
-
-// Splits the page in which entries from `lo` on belong, if it is full.
-fn make_room(pages: &mut Vec<Page>, lo: u64, near: usize) -> Result<(), AllocError>
+// Gives the page in which entries from `lo` on belong, split before if it was full.
+fn make_room(pages: &mut Vec<Page>, lo: u64) -> Result<usize, AllocError>
     requires some { 0 < length pages.old.items }
     requires order { EntriesFrom 0 (entries_of pages.old.items) }
     ensures same { entries_of pages.new.items ≡ entries_of pages.old.items }
-    ensures some { 0 < length pages.new.items }
+    ensures place { IfOk result (λ at. IsPlace pages.new.items lo at) }
 {
-    let at = page_for(pages, lo, near);
-    if pages[at].len() < PAGE_LEN - 2 {
-        return Ok(());
+    let at = page_for(pages, lo);
+    if pages[at].has_room() {
+        return Ok(at);
     }
-    split_at(pages, at, lo)
+    split_at(pages, at, lo)?;
+    Ok(side_for(pages, at, lo))
 }
 
 // Makes two pages of one.
 fn split_at(pages: &mut Vec<Page>, at: usize, lo: u64) -> Result<(), AllocError>
     requires within { at < length pages.old.items }
     requires order { EntriesFrom 0 (entries_of pages.old.items) }
-    requires some { (d : Page) → 1 < length (entries_in (slice_index_or pages.old.items at d)) }
+    requires full { (d : Page) → 253 < length (entries_in (slice_index_or pages.old.items at d)) }
     ensures same { entries_of pages.new.items ≡ entries_of pages.old.items }
-    ensures some { 0 < length pages.new.items }
+    ensures split { OnOk result (IsSplit pages.old.items at pages.new.items) }
 {
     pages.reserve(1)?;
     let back = pages[at].split(lo)?;
@@ -299,27 +195,31 @@ fn split_at(pages: &mut Vec<Page>, at: usize, lo: u64) -> Result<(), AllocError>
     Ok(())
 }
 
-/// What is at a spot.
-pub fn entry_in(pages: &[Page], at: Spot) -> Option<Entry>
-    ensures { Stands (entries_of pages.now) result }
+// In which of two pages entries from `lo` on belong.
+fn side_for(pages: &[Page], at: usize, lo: u64) -> usize
+    requires order { EntriesFrom 0 (entries_of pages.now) }
+    requires within { at + 1 < length pages.now }
+    requires below { All (λ e. hi_of e < lo) (entries_of (take at pages.now)) }
+    requires after { All (λ e. lo ≤ hi_of e) (entries_of (drop (at + 2) pages.now)) }
+    requires front { (d : Page) → length (entries_in (slice_index_or pages.now at d)) ≤ 253 }
+    requires back { (d : Page) → length (entries_in (slice_index_or pages.now (at + 1) d)) ≤ 253 }
+    ensures { IsPlace pages.now lo result }
 {
-    let page = at.page();
-    if page >= pages.len() {
-        return None;
-    }
-    pages[page].entry(at.place())
+    if pages[at].end() < lo { at + 1 } else { at }
 }
 
-/// Sets bits in what is at a spot, if that is the word of their window. Else nothing changes.
-pub fn set_bits_at(pages: &mut Vec<Page>, at: Spot, window: u64, bits: u64) -> bool
+/// Sets bits in the word of their window, if there is one. Else nothing changes.
+pub fn set_bits_in(pages: &mut Vec<Page>, window: u64, bits: u64) -> bool
+    requires order { EntriesFrom 0 (entries_of pages.old.items) }
+    requires window { window < 2 ^ 58 }
     ensures set { IsTrue result
         → WordWidened (entries_of pages.old.items) window bits (entries_of pages.new.items) }
     ensures same { result ≡ false
         → entries_of pages.new.items ≡ entries_of pages.old.items }
 {
-    let page = at.page();
-    if page >= pages.len() {
+    let at = pages_ending_below(pages, 64 * window);
+    if at >= pages.len() {
         return false;
     }
-    pages[page].set_bits(at.place(), window, bits)
+    pages[at].set_bits(window, bits)
 }

@@ -33,20 +33,3 @@ pub fn count_beginning_by(spans: &[Span], number: u64) -> usize
         { span.lo.saturating_sub(1) <= number },
     )
 }
-
-/// Where a full row of `len` is cut for what would be at `at`: there, if that is near an end, and
-/// else in the middle. Neither side is empty.
-pub fn cut_place(at: usize, len: usize) -> usize
-    requires { 1 < len }
-    ensures front { 0 < result }
-    ensures back { result < len }
-{
-    let edge = len / 8;
-    if at <= edge {
-        at.max(1)
-    } else if at >= len - edge {
-        at.min(len - 1)
-    } else {
-        len / 2
-    }
-}

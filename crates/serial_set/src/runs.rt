@@ -17,24 +17,23 @@ impl SpanPages {
     pub(crate) fn runs_from(&self, number: u64) -> Piece
         ensures { IsPiece (runs_of (entries_held self.now)) number (piece_of result) }
     {
-        let near = self.page_near(number);
         let mut piece = Piece::none();
-        self.take_whole(&mut piece, number, near);
+        self.take_whole(&mut piece, number);
         if piece.is_empty() {
-            self.take_first(&mut piece, number, near);
+            self.take_first(&mut piece, number);
         }
         piece
     }
 
     // Takes the runs that lie together, but for one that goes on past them.
-    fn take_whole(&self, piece: &mut Piece, number: u64, near: usize)
+    fn take_whole(&self, piece: &mut Piece, number: u64)
         requires { piece.old.count ≡ 0 }
         ensures { piece_of piece.new ≡ take (length (piece_of piece.new))
             (since number (runs_of (entries_held self.now))) }
     {
-        self.take_near(piece, number, near);
+        self.take_list(piece, number);
         if let Some(last) = piece.pop() {
-            if !self.has_after(last.hi, near) {
+            if !self.has_after(last.hi) {
                 piece.push(last);
             }
         }
@@ -42,12 +41,12 @@ impl SpanPages {
 
     // Takes the runs of the members from a number on up to one where the piece is full or where
     // what lies together ends. The last of them may go on there.
-    fn take_near(&self, piece: &mut Piece, number: u64, near: usize)
+    fn take_list(&self, piece: &mut Piece, number: u64)
         requires { piece.old.count ≡ 0 }
         ensures { (at : ℕ) × Taken (members_of (entries_held self.now)) number at
             (piece_of piece.new) }
     {
-        let entries = self.list_near(number, near);
+        let entries = self.list_from(number);
         for at in 0..entries.len() {
             if !self.take_entry(piece, entries[at], number) {
                 return;
@@ -78,27 +77,27 @@ impl SpanPages {
     }
 
     // Takes the first run of the members from a number on, wherever it ends.
-    fn take_first(&self, piece: &mut Piece, number: u64, near: usize)
+    fn take_first(&self, piece: &mut Piece, number: u64)
         requires { piece.old.count ≡ 0 }
         ensures { IsPiece (runs_of (entries_held self.now)) number (piece_of piece.new) }
     {
-        let Some(lo) = self.first_near(number, near) else {
+        let Some(lo) = self.first_member(number) else {
             return;
         };
-        let hi = self.end_near(lo, near);
+        let hi = self.run_end(lo);
         piece.push(Span { lo, hi });
     }
 
     // The first member from a number on, as far as the first entry there says it, and else the
     // number past that entry.
-    fn first_or_next(&self, number: u64, near: usize) -> Result<Option<u64>, u64>
+    fn first_or_next(&self, number: u64) -> Result<Option<u64>, u64>
         ensures first { IfOk result
             (λ first. IsFirst (members_of (entries_held self.now)) number first) }
         ensures next { IfErr result (λ next. number < next) }
         ensures none { IfErr result (λ next. (s : ℕ) → number ≤ s → s < next
             → Covers (members_of (entries_held self.now)) s → ⊥) }
     {
-        let Some(entry) = self.entry_near(number, near) else {
+        let Some(entry) = self.entry_from(number) else {
             return Ok(None);
         };
         match entry.first_from(number) {
@@ -111,12 +110,12 @@ impl SpanPages {
     }
 
     // The first member from a number on. No word lacks a member, but that is not known here.
-    fn first_near(&self, number: u64, near: usize) -> Option<u64>
+    fn first_member(&self, number: u64) -> Option<u64>
         ensures { IsFirst (members_of (entries_held self.now)) number result }
     {
         let mut at = number;
         loop {
-            match self.first_or_next(at, near) {
+            match self.first_or_next(at) {
                 Ok(first) => return first,
                 Err(next) => at = next,
             }
@@ -124,26 +123,26 @@ impl SpanPages {
     }
 
     // The last of the members of one entry that follow a member without a gap.
-    fn last_near(&self, member: u64, near: usize) -> u64
+    fn last_in_entry(&self, member: u64) -> u64
         requires { Covers (members_of (entries_held self.now)) member }
         ensures { GoesOn (members_of (entries_held self.now)) member result }
     {
-        match self.entry_near(member, near) {
+        match self.entry_from(member) {
             Some(entry) => entry.last_from(member),
             None => unreachable!(),
         }
     }
 
     // Where the run of a member ends.
-    fn end_near(&self, member: u64, near: usize) -> u64
+    fn run_end(&self, member: u64) -> u64
         requires { Covers (members_of (entries_held self.now)) member }
         ensures on { GoesOn (members_of (entries_held self.now)) member result }
         ensures stops { Covers (members_of (entries_held self.now)) (result + 1) → ⊥ }
     {
         let mut from = member;
         loop {
-            let last = self.last_near(from, near);
-            if !self.has_after(last, near) {
+            let last = self.last_in_entry(from);
+            if !self.has_after(last) {
                 return last;
             }
             from = last + 1;
@@ -151,13 +150,13 @@ impl SpanPages {
     }
 
     // Whether the number after a number is a member.
-    fn has_after(&self, number: u64, near: usize) -> bool
+    fn has_after(&self, number: u64) -> bool
         ensures { IsTrue result ↔ Covers (members_of (entries_held self.now)) (number + 1) }
     {
         if number == u64::MAX {
             return false;
         }
-        self.has_near(number + 1, near)
+        self.has_number(number + 1)
     }
 
     // How many runs the members are.

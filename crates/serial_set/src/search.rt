@@ -1,39 +1,9 @@
 //! Where a number is among entries in order, by binary search.
-ghost use Rattle.std.specs.Prelude.{◌≡◌, ◌<◌, ◌≤◌, length, take, drop, nat_lt, nat_le, IsTrue};
+ghost use Rattle.std.specs.Prelude.{◌≡◌, ◌<◌, ◌≤◌, length, take, drop, nat_lt, nat_le};
 ghost use Rattle.std.specs.List.{All};
 ghost use Rattle.serial_set.specs.Entry.{lo_of, hi_of, EntriesFrom};
 
 use crate::entry::Entry;
-
-/// Whether just the first `count` entries end before a number.
-pub fn are_ending_below(entries: &[Entry], number: u64, count: usize) -> bool
-    requires { EntriesFrom 0 entries.now }
-    ensures within { IsTrue result → count ≤ length entries.now }
-    ensures below { IsTrue result → All (λ e. hi_of e < number) (take count entries.now) }
-    ensures reach { IsTrue result → All (λ e. number ≤ hi_of e) (drop count entries.now) }
-{
-    if count > entries.len() || !are_below(entries, number, count) {
-        return false;
-    }
-    reaches(entries, number, count)
-}
-
-// Whether the first `count` entries end before a number.
-fn are_below(entries: &[Entry], number: u64, count: usize) -> bool
-    requires order { EntriesFrom 0 entries.now }
-    requires within { count ≤ length entries.now }
-    ensures { IsTrue result → All (λ e. hi_of e < number) (take count entries.now) }
-{
-    count == 0 || entries[count - 1].hi() < number
-}
-
-// Whether the entry at a place, if there is one, ends at a number or past it. Then all after it do.
-fn reaches(entries: &[Entry], number: u64, at: usize) -> bool
-    requires { EntriesFrom 0 entries.now }
-    ensures { IsTrue result → All (λ e. number ≤ hi_of e) (drop at entries.now) }
-{
-    at >= entries.len() || number <= entries[at].hi()
-}
 
 /// How many entries end before a number.
 pub fn count_ending_below(entries: &[Entry], number: u64) -> usize

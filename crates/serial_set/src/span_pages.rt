@@ -1,11 +1,10 @@
 //! A set of serials as pages of runs and words of bits.
 ghost use Rattle.std.specs.Prelude.{◌≡◌, ◌*◌, ◌^◌, ◌<◌, ◌≤◌, ◌⊎◌, ◌↔◌, ℕ, [], length, false, All, IsTrue, IfOk, OnOk, OnErr};
-ghost use Rattle.serial_set.specs.Additions.{Stands};
-ghost use Rattle.serial_set.specs.Entry.{lo_of, hi_of, EntriesFrom, members_of, pieces, runs_of};
+ghost use Rattle.serial_set.specs.Entry.{lo_of, hi_of, EntriesFrom, members_of, runs_of};
 ghost use Rattle.serial_set.specs.Entries.{Replaces, runs_of_entries, serials_of_runs};
 ghost use Rattle.serial_set.specs.Few.{few_of};
 ghost use Rattle.serial_set.specs.Kept.{entries_kept};
-ghost use Rattle.serial_set.specs.Places.{IsEntryFrom, IsListFrom, PutIf, order_prop};
+ghost use Rattle.serial_set.specs.Places.{IsEntryFrom, IsListFrom, order_prop};
 ghost use Rattle.serial_set.specs.Span.{AreSerials, Covers, IsRunsOf};
 ghost use Rattle.serial_set.specs.Words.{BitCovers};
 
@@ -17,9 +16,9 @@ use crate::span::Span;
 use crate::spans::Spans;
 use std::alloc::{AllocError, Global};
 
-/// The members as runs and as words of 64 serials: one in the set itself, or more in pages of about
-/// 256 of these. An addition moves the entries of one page, whatever the order of the additions,
-/// and a page that is filled in order stays full.
+/// The members as runs and as words of 64 serials: one in the set itself, or more in pages of at
+/// most 256 of these. An addition moves the entries of one page, whatever the order of the
+/// additions, and a page that is filled in order stays full.
 #[derive(Drop)]
 pub struct SpanPages {
     alloc: Global,
@@ -44,38 +43,18 @@ impl SpanPages {
         }
     }
 
-    // The entries from the first that ends at a number or past it on, as many as lie together. The
-    // page `near` is looked at first.
-    pub(crate) fn list_near(&self, number: u64, near: usize) -> &[Entry]
+    // The entries from the first that ends at a number or past it on, as many as lie together.
+    pub(crate) fn list_from(&self, number: u64) -> &[Entry]
         ensures { IsListFrom (entries_held self.now) number result.now }
     {
-        self.kept.list_near(number, near)
-    }
-
-    // The page where a number may well stand.
-    pub(crate) fn page_near(&self, number: u64) -> usize {
-        self.kept.page_near(number)
+        self.kept.list_from(number)
     }
 
     // The first entry that ends at a number or past it.
     pub(crate) fn entry_from(&self, number: u64) -> Option<Entry>
         ensures { IsEntryFrom (entries_held self.now) number result }
     {
-        self.entry_near(number, self.kept.page_last())
-    }
-
-    // The entry that was put or looked for last, if one stands there.
-    pub(crate) fn entry_last(&self) -> Option<Entry>
-        ensures { Stands (entries_held self.now) result }
-    {
-        self.kept.entry_last()
-    }
-
-    // The same as `entry_from`, where the page `near` is looked at first.
-    pub(crate) fn entry_near(&self, number: u64, near: usize) -> Option<Entry>
-        ensures { IsEntryFrom (entries_held self.now) number result }
-    {
-        let list = self.list_near(number, near);
+        let list = self.list_from(number);
         if list.len() > 0 { Some(list[0]) } else { None }
     }
 
@@ -83,14 +62,7 @@ impl SpanPages {
     pub(crate) fn has_number(&self, number: u64) -> bool
         ensures { IsTrue result ↔ Covers (members_of (entries_held self.now)) number }
     {
-        self.has_near(number, self.kept.page_last())
-    }
-
-    // The same, where the page `near` is looked at first.
-    pub(crate) fn has_near(&self, number: u64, near: usize) -> bool
-        ensures { IsTrue result ↔ Covers (members_of (entries_held self.now)) number }
-    {
-        match self.entry_near(number, near) {
+        match self.entry_from(number) {
             Some(entry) => entry.has(number),
             None => false,
         }
@@ -105,17 +77,6 @@ impl SpanPages {
             Some(entry) => entry.lo() <= hi,
             None => false,
         }
-    }
-
-    // Puts an entry between others, where none of them reaches into its stretch and their page has
-    // room. Else nothing changes.
-    pub(crate) fn put_new(&mut self, new: Entry) -> Result<bool, AllocError>
-        requires { AreSerials (pieces new) }
-        ensures put { IfOk result
-            (λ is_put. PutIf is_put (entries_held self.old) new (entries_held self.new)) }
-        ensures refused { OnErr result (entries_held self.new ≡ entries_held self.old) }
-    {
-        self.kept.put_new(new)
     }
 
     // Puts at most three entries in place of all that reach into the numbers from `lo` to `hi`.
@@ -133,8 +94,7 @@ impl SpanPages {
         self.kept.put(self.alloc, few.as_slice(), lo, hi)
     }
 
-    // Sets bits of a window where an entry was put or looked for last, if that is the word of the
-    // window. Else nothing changes.
+    // Sets bits in the word of their window, if there is one. Else nothing changes.
     pub(crate) fn set_bits(&mut self, window: u64, bits: u64) -> bool
         requires window { window < 2 ^ 58 }
         requires serials { (s : ℕ) → BitCovers 64 (64 * window) bits s → 0 < s }

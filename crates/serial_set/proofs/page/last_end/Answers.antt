@@ -5,4 +5,4 @@ use Rattle.serial_set.proofs.page.last_end.Goals as goal
 
 pub returns : goal.returns
 returns c =
-    c.hi.ensures ∙ ap hi_of c.index-items-items.is ∙ sym (end_at c.args.items.now c.args.gap c.index-items-items.result c.requires)
+    c.hi.ensures ∙ ap hi_of c.index-items-items.is ∙ sym (end_at c.args.items.now 0 c.index-items-items.result c.requires)

@@ -14,8 +14,8 @@ use Rattle.serial_set.proofs.pages.cut_from.Goals as goal
 first : (c : goal.After-index_mut) → (c.pages_ending_upto-gone.result < length (drop c.args.from c.args.pages.now.items))
     × (c.index_mut.result.now ≡ get_or (drop c.args.from c.args.pages.now.items) c.pages_ending_upto-gone.result c.index_mut.result.now)
 first c =
-    let some : c.args.from < length c.remove_pages.new.pages.items = omega (arith, c.if-from-len.true) in
-    left_first c.args.pages.now.items c.remove_pages.new.pages.items c.args.from c.pages_ending_upto-gone.result c.index_mut.result.now c.remove_pages.ensures (omega arith) some c.index_mut.ensures.value
+    let some : c.args.from < length c.remove.new.items.items = omega (arith, c.if-from-len.true) in
+    left_first c.args.pages.now.items c.remove.new.items.items c.args.from c.pages_ending_upto-gone.result c.index_mut.result.now c.remove.ensures (omega arith) some c.index_mut.ensures.value
 
 pub cut_to-requires-clause-order : goal.cut_to-requires-clause-order
 cut_to-requires-clause-order c =
@@ -43,14 +43,14 @@ returns-then-from-len-clause-cut c =
     let tail = drop from xs in
     let n = c.args.number in
     let gone = c.pages_ending_upto-gone.result in
-    let ys = c.remove_pages.new.pages.items in
+    let ys = c.remove.new.items.items in
     let left = entries_in c.cut_to.new.self in
     let some : from < length ys = omega (arith, c.if-from-len.true) in
-    let rest = left_rest tail ys from gone (left_back xs ys from gone c.remove_pages.ensures (omega arith)) in
+    let rest = left_rest tail ys from gone (left_back xs ys from gone c.remove.ensures (omega arith)) in
     let tail_is = take_rest c.deref.result.now from ∙ ap (drop from) c.deref.ensures.value in
     let by = subst (λ l. All (λ e. hi_of e ≤ n) (entries_of (take gone l))) tail_is c.pages_ending_upto-gone.ensures.upto in
     let y = c.index_mut.result.now in
-    let first = left_first xs ys from gone y c.remove_pages.ensures (omega arith) some c.index_mut.ensures.value in
+    let first = left_first xs ys from gone y c.remove.ensures (omega arith) some c.index_mut.ensures.value in
     let ends = subst (λ l. All (λ p. n < end_of (entries_in p)) (drop gone l)) tail_is c.pages_ending_upto-gone.ensures.past in
     let past = first_of (λ p. n < end_of (entries_in p)) tail gone y first.0 ends in
     let k = subst (λ p. CutTo (entries_in p) n left) first.1 c.cut_to.ensures in
@@ -64,8 +64,8 @@ returns-else-from-len-clause-cut c =
     let tail = drop from xs in
     let n = c.args.number in
     let gone = c.pages_ending_upto-gone.result in
-    let ys = c.remove_pages.new.pages.items in
-    let kept = c.remove_pages.ensures in
+    let ys = c.remove.new.items.items in
+    let kept = c.remove.ensures in
     let back = left_back xs ys from gone kept (omega arith) in
     let more = left_more tail ys from gone back in
     let tail_is = take_rest c.deref.result.now from ∙ ap (drop from) c.deref.ensures.value in

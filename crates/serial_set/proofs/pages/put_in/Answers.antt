@@ -13,26 +13,33 @@ use Rattle.serial_set.proofs.pages.put_in.Goals as goal
 
 pub put-requires-clause-order : goal.put-requires-clause-order
 put-requires-clause-order c =
+    let place = c.requires.place in
     let xs = c.args.pages.now.items in
-    let at = c.page_for-at.result in
+    let at = c.args.at in
     let page = c.index_mut.result.now in
-    subst (λ p. EntriesFrom 0 (entries_in p)) (sym c.index_mut.ensures.value) (order_page xs at page (omega arith) c.requires.order)
+    subst (λ p. EntriesFrom 0 (entries_in p)) (sym c.index_mut.ensures.value) (order_page xs at page place.within c.requires.order)
 
-pub returns-in_err-place-clause-refused : goal.returns-in_err-place-clause-refused
-returns-in_err-place-clause-refused c =
-    on_err _ _ (flat_same entries_in c.args.pages.now.items c.page_for-at.result c.index_mut.result.now c.put.new.self (omega arith) c.index_mut.ensures.value c.in_err-place.ensures.refused)
+pub put-requires-clause-room : goal.put-requires-clause-room
+put-requires-clause-room c =
+    let place = c.requires.place in
+    subst (λ p. length (entries_in p) ≤ 253) (sym c.index_mut.ensures.value) (place.room c.index_mut.result.now)
+
+pub returns-in_err-put-clause-refused : goal.returns-in_err-put-clause-refused
+returns-in_err-put-clause-refused c =
+    let place = c.requires.place in
+    on_err _ _ (flat_same entries_in c.args.pages.now.items c.args.at c.index_mut.result.now c.put.new.self place.within c.index_mut.ensures.value c.in_err-put.ensures.refused)
 
 pub cut_after-requires-clause-order : goal.cut_after-requires-clause-order
 cut_after-requires-clause-order c =
     let xs = c.args.pages.now.items in
-    let at = c.page_for-at.result in
+    let at = c.args.at in
     let later : at < at + 1 = omega arith in
     subst (λ l. EntriesFrom 0 (entries_of l)) (sym (drop-set-lt (at + 1) xs at c.put.new.self later)) (order_right 0 xs (at + 1) c.requires.order)
 
 pub cut_after-requires-clause-whole : goal.cut_after-requires-clause-whole
 cut_after-requires-clause-whole c =
     let xs = c.args.pages.now.items in
-    let at = c.page_for-at.result in
+    let at = c.args.at in
     let later : at < at + 1 = omega arith in
     let P : Entry → Type 0 = λ e. (hi_of e ≤ c.args.hi) ⊎ (c.args.hi < lo_of e) in
     subst (λ l. All P (entries_of l)) (sym (drop-set-lt (at + 1) xs at c.put.new.self later))
@@ -40,36 +47,36 @@ cut_after-requires-clause-whole c =
 
 pub cut_after-requires-clause-past : goal.cut_after-requires-clause-past
 cut_after-requires-clause-past c =
+    let place = c.requires.place in
     let xs = c.args.pages.now.items in
-    let at = c.page_for-at.result in
+    let at = c.args.at in
     let page = c.index_mut.result.now in
     let new = c.put.new.self in
     let hi = c.args.hi in
     let few = c.args.few.now in
-    let within : at < length xs = omega arith in
+    let within : at < length xs = place.within in
     let later : at < at + 1 = omega arith in
     let rest = entries_of (drop (at + 1) xs) in
     let order = subst (EntriesFrom 0) (flat_drop entries_in xs at page within) (order_right 0 xs at c.requires.order) in
-    let r = subst (λ p. Replaces (entries_in p) c.args.lo hi few (entries_in new)) c.index_mut.ensures.value c.in_ok-place.ensures.put in
+    let r = subst (λ p. Replaces (entries_in p) c.args.lo hi few (entries_in new)) c.index_mut.ensures.value c.in_ok-put.ensures.put in
     λ d past.
     let end = subst (λ p. hi < end_of (entries_in p)) (get_or-set_same xs at new d within) past in
     subst (λ l. All (λ e. hi < lo_of e) (entries_of l)) (sym (drop-set-lt (at + 1) xs at new later))
-    (past_put (entries_in (get_or xs at page)) rest few (entries_in new) c.args.lo hi order c.requires.few.0 c.requires.few.1 r end)
+    (past_put (entries_in (get_or xs at page)) rest few (entries_in new) c.args.lo hi order c.requires.few.0 c.requires.few.2 r end)
 
 pub returns-clause-put : goal.returns-clause-put
 returns-clause-put c =
     let xs = c.args.pages.now.items in
-    let at = c.page_for-at in
+    let at = c.args.at in
+    let place = c.requires.place in
     let page = c.index_mut.result.now in
     let new = c.put.new.self in
     let lo = c.args.lo in
     let hi = c.args.hi in
     let few = c.args.few.now in
     let zs = c.cut_after.new.pages.items in
-    let within : at.result < length xs = omega arith in
-    let later : at.result < at.result + 1 = omega arith in
-    let r = subst (λ p. Replaces (entries_in p) lo hi few (entries_in new)) c.index_mut.ensures.value c.in_ok-place.ensures.put in
-    let below = subst (λ l. All (λ e. hi_of e < lo) (entries_of (take at.result l))) c.deref.ensures.value at.ensures.below in
-    let after = subst (λ l. All (λ e. lo ≤ hi_of e) (entries_of (drop (at.result + 1) l))) c.deref.ensures.value at.ensures.after in
-    let k = subst (λ l. CutTo (entries_of l) hi (entries_of (drop (at.result + 1) zs))) (drop-set-lt (at.result + 1) xs at.result new later) c.cut_after.ensures.cut in
-    put_whole xs zs at.result new page few lo hi within c.requires.order below after r c.cut_after.ensures.kept k
+    let within : at < length xs = place.within in
+    let later : at < at + 1 = omega arith in
+    let r = subst (λ p. Replaces (entries_in p) lo hi few (entries_in new)) c.index_mut.ensures.value c.in_ok-put.ensures.put in
+    let k = subst (λ l. CutTo (entries_of l) hi (entries_of (drop (at + 1) zs))) (drop-set-lt (at + 1) xs at new later) c.cut_after.ensures.cut in
+    put_whole xs zs at new page few lo hi within c.requires.order place.below place.after r c.cut_after.ensures.kept k

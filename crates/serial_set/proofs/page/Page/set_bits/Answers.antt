@@ -1,20 +1,26 @@
 use Rattle.std.proofs.Common.{◌<◌, length, sym, ap, arith, ◌∙◌}
+use Rattle.std.proofs.lemmas.List.{length-set}
 use Rattle.serial_set.specs.Entry.{hi_of}
 use Rattle.serial_set.proofs.InEntries.{end_set}
 use Rattle.serial_set.proofs.InPage.{widened_at}
 use Rattle.serial_set.proofs.page.Page.set_bits.Goals as goal
 
+pub invariant_of-self-clause-most : goal.invariant_of-self-clause-most
+invariant_of-self-clause-most c =
+    let page = c.args.self.now in
+    omega (arith, page.most, length-set page.items.items c.count_ending_below-at.result c.in-Some.wider)
+
 pub invariant_of-self-clause-ending : goal.invariant_of-self-clause-ending
 invariant_of-self-clause-ending c =
     let page = c.args.self.now in
     let xs = page.items.items in
+    let at = c.count_ending_below-at.result in
     let entry = c.index.result.now in
-    let within : c.args.place < length xs = omega arith in
+    let within : at < length xs = omega arith in
     let word = c.in-Some.ensures in
-    page.ending ∙ sym (end_set xs page.gap c.args.place c.in-Some.wider entry page.filled within (word.hi.1 ∙ sym word.hi.0 ∙ ap hi_of c.index.ensures))
+    page.ending ∙ sym (end_set xs at c.in-Some.wider entry within (word.hi.1 ∙ sym word.hi.0 ∙ ap hi_of c.index.ensures))
 
 pub returns-clause-set : goal.returns-clause-set
 returns-clause-set c t =
-    let page = c.args.self.now in
-    let xs = page.items.items in
-    widened_at xs page.gap c.args.place c.args.window c.args.bits c.index.result.now c.in-Some.wider (omega arith) (omega arith) c.index.ensures c.in-Some.ensures
+    let xs = c.args.self.now.items.items in
+    widened_at xs c.count_ending_below-at.result c.args.window c.args.bits c.index.result.now c.in-Some.wider (omega arith) c.index.ensures c.in-Some.ensures

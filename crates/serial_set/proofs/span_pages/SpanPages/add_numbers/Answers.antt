@@ -1,7 +1,8 @@
 use Rattle.std.proofs.Common.{arith}
 use Rattle.serial_set.specs.Entry.{runs_of}
 use Rattle.serial_set.specs.SpanPages.{entries_held}
-use Rattle.serial_set.proofs.InSet.{adds_mask, mask_has, on_ok}
+use Rattle.serial_set.proofs.InSet.{adds_mask, mask_has}
+use Rattle.serial_set.proofs.Refused.{on_ok}
 use Rattle.serial_set.proofs.span_pages.SpanPages.add_numbers.Goals as goal
 
 pub add_bits-requires-clause-serials : goal.add_bits-requires-clause-serials

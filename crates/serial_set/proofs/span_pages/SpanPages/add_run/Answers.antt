@@ -1,17 +1,42 @@
-use Rattle.std.proofs.Common.{◌≤◌, subst, sym, inl, inr}
-use Rattle.std.specs.Prelude.{◌↔◌}
-use Rattle.serial_set.specs.Span.{Covers}
+use Rattle.std.proofs.Common.{◌≤◌, arith, refl}
+use Rattle.serial_set.specs.Few.{few_of}
+use Rattle.serial_set.specs.Entries.{runs_of_entries}
 use Rattle.serial_set.specs.SpanPages.{entries_held}
-use Rattle.serial_set.specs.Places.{PutIf}
-use Rattle.serial_set.proofs.InWords.{put_runs}
+use Rattle.serial_set.proofs.InSet.{Fills, adds_none, fills_runs, head_ends, run_fills, run_serials, tail_starts}
+use Rattle.serial_set.proofs.Refused.{on_ok}
 use Rattle.serial_set.proofs.span_pages.SpanPages.add_run.Goals as goal
 
-pub returns-then-branch-clause-runs : goal.returns-then-branch-clause-runs
-returns-then-branch-clause-runs c =
+pub returns-then-holds-clause-runs : goal.returns-then-holds-clause-runs
+returns-then-holds-clause-runs c =
+    let at = c.entry_at-head.ensures in
+    let from = at.from in
+    adds_none (entries_held c.args.self.now) (λ s. (c.args.lo ≤ s) × (s ≤ c.args.hi)) (runs_of_entries _ c.args.self.now.order)
+    (λ s k. at.has s (c.if-holds.ensures.all c.args.lo s refl (let a = k.0 in omega arith) k.1))
+
+pub news_of_run-news-requires-clause-tail : goal.news_of_run-news-requires-clause-tail
+news_of_run-news-requires-clause-tail c =
+    let at = c.entry_at-head.ensures in
+    tail_starts (entries_held c.args.self.now) c.args.lo c.args.hi c.entry_at-head.result c.entry_at-tail.result at c.entry_at-tail.ensures
+    (head_ends c.args.lo c.args.hi c.entry_at-head.result c.requires.windows at.to at.from (c.if-holds.ensures.none refl))
+
+pub put-requires-clause-serials : goal.put-requires-clause-serials
+put-requires-clause-serials c =
+    let news = c.news_of_run-news in
+    run_serials (entries_held c.args.self.now) (few_of news.result.few) c.args.lo c.args.hi c.entry_at-head.result c.entry_at-tail.result c.args.self.now.serials c.entry_at-head.ensures c.entry_at-tail.ensures
+    c.requires.from_one (omega arith) news.ensures.members
+
+pub put-requires-clause-whole : goal.put-requires-clause-whole
+put-requires-clause-whole c =
+    let news = c.news_of_run-news in
+    let w = c.requires.windows in
+    Fills.high (run_fills (entries_held c.args.self.now) (few_of news.result.few) c.args.lo c.args.hi news.result.lo news.result.hi c.entry_at-head.result c.entry_at-tail.result c.entry_at-head.ensures c.entry_at-tail.ensures (omega arith)
+    news.ensures.lo news.ensures.hi news.ensures.members)
+
+pub returns-clause-runs : goal.returns-clause-runs
+returns-clause-runs c =
     let old = entries_held c.args.self.now in
-    let new = entries_held c.put_new.new.self in
-    let run = c.run.result in
-    put_runs old new run (λ s. (c.args.lo ≤ s) × (s ≤ c.args.hi))
-    (subst (λ b. PutIf b old run new) c.if-branch.true c.in_ok-put_new.ensures.put) c.args.self.now.order
-    (λ s. subst (λ l. Covers l s ↔ ((c.args.lo ≤ s) × (s ≤ c.args.hi))) (sym c.run.ensures.pieces)
-    (λ n. elim n [ inl here ↦ here | inr none ↦ absurd none ], λ k. inl k))
+    let news = c.news_of_run-news in
+    let w = c.requires.windows in
+    let fills = run_fills old (few_of news.result.few) c.args.lo c.args.hi news.result.lo news.result.hi c.entry_at-head.result c.entry_at-tail.result c.entry_at-head.ensures c.entry_at-tail.ensures (omega arith)
+    news.ensures.lo news.ensures.hi news.ensures.members in
+    on_ok c.put.result _ _ (λ r. fills_runs old news.result.lo news.result.hi (few_of news.result.few) (entries_held c.put.new.self) (λ s. (c.args.lo ≤ s) × (s ≤ c.args.hi)) c.args.self.now.order news.ensures.lies fills r) c.put.ensures.put

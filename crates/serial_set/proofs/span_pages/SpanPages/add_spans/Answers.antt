@@ -3,7 +3,7 @@ use Rattle.serial_set.specs.Entries.{runs_of_entries}
 use Rattle.serial_set.specs.Entry.{runs_of}
 use Rattle.serial_set.specs.SpanPages.{entries_held}
 use Rattle.serial_set.proofs.InNear.{adds_none, adds_only, covered_is_serial}
-use Rattle.serial_set.proofs.InSet.{on_ok}
+use Rattle.serial_set.proofs.Refused.{on_ok}
 use Rattle.serial_set.proofs.span_pages.SpanPages.add_spans.Goals as goal
 
 pub add_bits-requires-clause-serials : goal.add_bits-requires-clause-serials

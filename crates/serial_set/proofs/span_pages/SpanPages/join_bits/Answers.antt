@@ -3,7 +3,8 @@ use Rattle.serial_set.specs.Few.{few_of}
 use Rattle.serial_set.specs.Entries.{runs_of_entries}
 use Rattle.serial_set.specs.SpanPages.{entries_held}
 use Rattle.serial_set.specs.Words.{BitCovers}
-use Rattle.serial_set.proofs.InSet.{Fills, adds_none, bits_both, bits_fill, bits_serials, fills_runs, on_ok, tail_reaches}
+use Rattle.serial_set.proofs.InSet.{Fills, adds_none, bits_both, bits_fill, bits_serials, fills_runs, tail_reaches}
+use Rattle.serial_set.proofs.Refused.{on_ok}
 use Rattle.serial_set.proofs.span_pages.SpanPages.join_bits.Goals as goal
 
 pub returns-then-holds-clause-runs : goal.returns-then-holds-clause-runs
@@ -18,7 +19,7 @@ pub news_of_bits-news-requires-clause-head : goal.news_of_bits-news-requires-cla
 news_of_bits-news-requires-clause-head c = tail_reaches (entries_held c.args.self.now) (64 * c.args.window) c.entry_at-head.result c.entry_at-head.ensures
 
 pub news_of_bits-news-requires-clause-tail : goal.news_of_bits-news-requires-clause-tail
-news_of_bits-news-requires-clause-tail c = tail_reaches (entries_held c.args.self.now) (64 * c.args.window + 63) c.entry_on.result c.entry_on.ensures
+news_of_bits-news-requires-clause-tail c = tail_reaches (entries_held c.args.self.now) (64 * c.args.window + 63) c.entry_at-tail.result c.entry_at-tail.ensures
 
 pub put-requires-clause-serials : goal.put-requires-clause-serials
 put-requires-clause-serials c =
@@ -27,7 +28,7 @@ put-requires-clause-serials c =
     let news = c.news_of_bits-news in
     let more = c.args.bits in
     let small = c.requires.window in
-    bits_serials old (few_of news.result.few) first (bit_or more c.bits_in.result) more c.entry_at-head.result c.entry_on.result c.args.self.now.serials c.entry_at-head.ensures c.entry_on.ensures (omega arith) c.requires.serials
+    bits_serials old (few_of news.result.few) first (bit_or more c.bits_in.result) more c.entry_at-head.result c.entry_at-tail.result c.args.self.now.serials c.entry_at-head.ensures c.entry_at-tail.ensures (omega arith) c.requires.serials
     (λ s a b. bits_both old first c.bits_in.result more s (c.bits_in.ensures s a b)) news.ensures.members
 
 pub put-requires-clause-whole : goal.put-requires-clause-whole
@@ -36,7 +37,7 @@ put-requires-clause-whole c =
     let first = 64 * c.args.window in
     let news = c.news_of_bits-news in
     let more = c.args.bits in
-    Fills.high (bits_fill old (few_of news.result.few) first news.result.lo news.result.hi (bit_or more c.bits_in.result) more c.entry_at-head.result c.entry_on.result c.entry_at-head.ensures c.entry_on.ensures news.ensures.lo news.ensures.hi
+    Fills.high (bits_fill old (few_of news.result.few) first news.result.lo news.result.hi (bit_or more c.bits_in.result) more c.entry_at-head.result c.entry_at-tail.result c.entry_at-head.ensures c.entry_at-tail.ensures news.ensures.lo news.ensures.hi
     (λ s a b. bits_both old first c.bits_in.result more s (c.bits_in.ensures s a b)) news.ensures.members)
 
 pub returns-clause-runs : goal.returns-clause-runs
@@ -45,6 +46,6 @@ returns-clause-runs c =
     let first = 64 * c.args.window in
     let news = c.news_of_bits-news in
     let more = c.args.bits in
-    let fills = bits_fill old (few_of news.result.few) first news.result.lo news.result.hi (bit_or more c.bits_in.result) more c.entry_at-head.result c.entry_on.result c.entry_at-head.ensures c.entry_on.ensures news.ensures.lo news.ensures.hi
+    let fills = bits_fill old (few_of news.result.few) first news.result.lo news.result.hi (bit_or more c.bits_in.result) more c.entry_at-head.result c.entry_at-tail.result c.entry_at-head.ensures c.entry_at-tail.ensures news.ensures.lo news.ensures.hi
     (λ s a b. bits_both old first c.bits_in.result more s (c.bits_in.ensures s a b)) news.ensures.members in
     on_ok c.put.result _ _ (λ r. fills_runs old news.result.lo news.result.hi (few_of news.result.few) (entries_held c.put.new.self) (λ s. BitCovers 64 first more s) c.args.self.now.order news.ensures.lies fills r) c.put.ensures.put

@@ -17,7 +17,7 @@ pub returns : goal.returns
 returns c =
     let set = c.args.self.now in
     let es = entries_held set in
-    let run : Span = record { lo = c.in-Some.lo; hi = c.end_near-hi.result } in
+    let run : Span = record { lo = c.in-Some.lo; hi = c.run_end-hi.result } in
     let none : piece_of c.args.piece.now ≡ [] = ap (λ n. take n c.args.piece.now.spans) c.requires in
     subst (IsPiece (runs_of es) c.args.number) (sym (c.push.ensures.runs ∙ ap (λ l. l ++ run ∷ []) none))
-    (first_alone es c.args.number c.in-Some.lo c.end_near-hi.result set.order c.in-Some.ensures c.end_near-hi.ensures.on c.end_near-hi.ensures.stops)
+    (first_alone es c.args.number c.in-Some.lo c.run_end-hi.result set.order c.in-Some.ensures c.run_end-hi.ensures.on c.run_end-hi.ensures.stops)

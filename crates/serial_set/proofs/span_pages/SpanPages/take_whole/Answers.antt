@@ -9,13 +9,13 @@ pub returns-then-not-has_after : goal.returns-then-not-has_after
 returns-then-not-has_after c =
     let set = c.args.self.now in
     let es = entries_held set in
-    let taken = c.take_near.ensures in
+    let taken = c.take_list.ensures in
     let was = c.in-Some.ensures.runs in
     subst (λ l. l ≡ take (length l) (since c.args.number (runs_of es))) (was ∙ sym c.push.ensures.runs)
-    (all_whole es c.args.number taken.0 (piece_of c.take_near.new.piece) (piece_of c.pop.new.self) c.in-Some.last set.order taken.1 was (λ m. let yes = c.has_after.ensures.1 m in cc))
+    (all_whole es c.args.number taken.0 (piece_of c.take_list.new.piece) (piece_of c.pop.new.self) c.in-Some.last set.order taken.1 was (λ m. let yes = c.has_after.ensures.1 m in cc))
 
 pub returns-else-not-has_after : goal.returns-else-not-has_after
 returns-else-not-has_after c =
     let set = c.args.self.now in
-    let taken = c.take_near.ensures in
-    all_but_last (entries_held set) c.args.number taken.0 (piece_of c.take_near.new.piece) (piece_of c.pop.new.self) c.in-Some.last set.order taken.1 c.in-Some.ensures.runs
+    let taken = c.take_list.ensures in
+    all_but_last (entries_held set) c.args.number taken.0 (piece_of c.take_list.new.piece) (piece_of c.pop.new.self) c.in-Some.last set.order taken.1 c.in-Some.ensures.runs

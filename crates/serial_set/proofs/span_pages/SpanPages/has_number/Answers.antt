@@ -1,0 +1,14 @@
+use Rattle.serial_set.specs.Entries.{none_below}
+use Rattle.serial_set.specs.SpanPages.{entries_held}
+use Rattle.serial_set.proofs.InWords.{asked}
+use Rattle.serial_set.proofs.span_pages.SpanPages.has_number.Goals as goal
+
+pub returns-in-Some : goal.returns-in-Some
+returns-in-Some c =
+    let set = c.args.self.now in
+    let same = asked (entries_held set) c.in-Some.entry c.args.number set.order c.in-Some.ensures in
+    (λ t. same.0 (c.has.ensures.0 t), λ n. c.has.ensures.1 (same.1 n))
+
+pub returns-in-None : goal.returns-in-None
+returns-in-None c =
+    (λ t. cc, λ n. absurd (none_below (entries_held c.args.self.now) c.args.number c.in-None.ensures n))

@@ -1,0 +1,22 @@
+use Rattle.std.proofs.Common.{arith}
+use Rattle.serial_set.specs.Entries.{piece_in, none_below}
+use Rattle.serial_set.specs.SpanPages.{entries_held}
+use Rattle.serial_set.proofs.InWords.{asked}
+use Rattle.serial_set.proofs.InWalk.{goes_in}
+use Rattle.serial_set.proofs.span_pages.SpanPages.last_in_entry.Goals as goal
+
+pub last_from-requires : goal.last_from-requires
+last_from-requires c =
+    let set = c.args.self.now in
+    (asked (entries_held set) c.in-Some.entry c.args.member set.order c.in-Some.ensures).1 c.requires
+
+pub unreachable-requires : goal.unreachable-requires
+unreachable-requires c = none_below (entries_held c.args.self.now) c.args.member c.in-None.ensures c.requires
+
+pub returns : goal.returns
+returns c =
+    let set = c.args.self.now in
+    let e = c.in-Some.entry in
+    let g = c.last_from.ensures in
+    let at = piece_in e c.last_from.result (g.all c.last_from.result g.order (omega arith)) in
+    goes_in (entries_held set) e c.args.member c.last_from.result set.order c.in-Some.ensures at.1 g
