@@ -9,7 +9,7 @@ use Rattle.serial_set.specs.declared.span.Span.{Span}
 use Rattle.serial_set.specs.declared.bit_fault.BitFault.{BitFault}
 use Rattle.serial_set.specs.declared.bit_fault.BitFault.TheVariants.{Negative, Wraps}
 use Rattle.serial_set.specs.Span.{Covers}
-use Rattle.serial_set.specs.BitRuns.{FedBitmap, BitNames, Feeds, HasFault, ShowsFault, lowest}
+use Rattle.serial_set.specs.BitRuns.{BitRuns, BitNames, Feeds, HasFault, ShowsFault, lowest}
 use Rattle.krl_fault.specs.declared.krl_fault.KrlFault.TheVariants as faults
 use Rattle.krl_core.specs.declared.place.Place.{Place}
 use Rattle.krl_core.specs.Entry.{Entry, BitmapEntry, RangeEntry}
@@ -51,7 +51,7 @@ run_entries-serials a [] = tt
 run_entries-serials a (run ∷ runs) = (tt, run_entries-serials a runs)
 
 -- the runs that a byte finished and the one that is open name what was open and the byte's bits
-fed_same : (a : List ℕ) (before : FedBitmap) (byte : ℕ) (after : FedBitmap) (finished : List Span) → Feeds before byte after finished
+fed_same : (a : List ℕ) (before : BitRuns) (byte : ℕ) (after : BitRuns) (finished : List Span) → Feeds before byte after finished
     → NamesSame (run_entries a finished ++ run_entries a (option_to_list after.pending))
     (run_entries a (option_to_list before.pending) ++ BitmapEntry a (lowest after) byte ∷ [])
 fed_same a before byte after finished fed =
@@ -199,7 +199,7 @@ judged_parts true false past next place e = absurd (cc)
 judged_parts false t true next place e = absurd (cc)
 judged_parts false t false next place e = (λ f. absurd (cc), refl, cc)
 
-pub good_bits : (p : FedBitmap) (offset size left after byte : ℕ) (next : Place) → byte < 256
+pub good_bits : (p : BitRuns) (offset size left after byte : ℕ) (next : Place) → byte < 256
     → p ≡ record { offset = offset; len = size; bytes_left = left; pending = p.pending; fault = None }
     → bits_judged offset size left after byte ≡ Ok next → (fault : BitFault) → HasFault p byte fault → ⊥
 good_bits p offset size left after byte next h is judged fault bad =
@@ -224,7 +224,7 @@ abbrev IsOut : Place → Type 0
 IsOut (places.Bitmap (bitmaps.Byte n m k l)) = ⊥
 IsOut _ = Unit {0}
 
-out_step : (p : Place) (bitmap : FedBitmap) → IsOut p → bitmap.pending ≡ None → InStep p bitmap
+out_step : (p : Place) (bitmap : BitRuns) → IsOut p → bitmap.pending ≡ None → InStep p bitmap
 out_step (places.Bitmap (bitmaps.Byte n m k l)) bitmap out none = absurd out
 out_step _ bitmap out none = none
 
@@ -233,7 +233,7 @@ out_subsection zero = tt
 out_subsection (suc left) = tt
 
 -- where a byte of a bitmap is left, the byte before it is fed
-bits_in_step : (before fed : FedBitmap) (offset size left after : ℕ)
+bits_in_step : (before fed : BitRuns) (offset size left after : ℕ)
     → before ≡ record { offset = offset; len = size; bytes_left = left; pending = before.pending; fault = None }
     → (eqb left 1 ≡ true → fed.pending ≡ None)
     → (eqb left 1 ≡ false → fed ≡ record before { bytes_left = before.bytes_left - 1; pending = fed.pending })
@@ -244,7 +244,7 @@ bits_in_step before fed offset size (suc (suc left)) after is closed opened pos 
     let more : fed ≡ record before { bytes_left = before.bytes_left - 1; pending = fed.pending } = opened (ne_eqb (suc (suc left)) 1 (λ e. absurd (omega arith))) in
     let bytes_left : before.bytes_left - 1 ≡ suc left = omega (arith, ap (λ x. x.bytes_left) is) in
     let all : record before { bytes_left = before.bytes_left - 1; pending = fed.pending } ≡ record { offset = offset; len = size; bytes_left = suc left; pending = fed.pending; fault = None } =
-    ap (λ (b : FedBitmap). record b { bytes_left = before.bytes_left - 1; pending = fed.pending }) is
+    ap (λ (b : BitRuns). record b { bytes_left = before.bytes_left - 1; pending = fed.pending }) is
     ∙ ap (λ (n : ℕ). record { offset = offset; len = size; bytes_left = n; pending = fed.pending; fault = None }) bytes_left in
     let left_is : suc (suc left) - 1 ≡ suc left = omega arith in
     subst (λ (n : ℕ). InStep (next_bits offset size n after) fed) (sym left_is) (omega arith, more ∙ all)

@@ -4,7 +4,7 @@ use Rattle.std.specs.Prelude.{None}
 use Rattle.std.specs.List.{concat}
 use Rattle.std.proofs.lemmas.List.{append-nil, length-take-le}
 use Rattle.std.proofs.Math.Seq.{drop-nil, take-add}
-use Rattle.serial_set.specs.BitRuns.{FedBitmap}
+use Rattle.serial_set.specs.BitRuns.{BitRuns}
 use Rattle.ssh_wire.specs.Digits.{IsBytes-take}
 use Rattle.ssh_wire.specs.Wire.{IsBytes, number_of}
 use Rattle.krl_core.specs.declared.place.Place.{Place}
@@ -109,7 +109,7 @@ serials_unwanted (suc count) scope a bytes none name is (inl h) = h
 serials_unwanted (suc count) scope a bytes none name is (inr h) =
     serials_unwanted count scope a (drop 8 bytes) (λ k fits. subst (λ (n : ℕ). InScope scope (SerialOf a n) → ⊥) (sym (serial_later bytes k)) (none (suc k) (omega (arith, fits)))) name is h
 
-still : (left after : ℕ) (bitmap : FedBitmap) → bitmap.pending ≡ None → InStep (next_serial left after) bitmap
+still : (left after : ℕ) (bitmap : BitRuns) → bitmap.pending ≡ None → InStep (next_serial left after) bitmap
 still zero zero bitmap none = none
 still zero (suc after) bitmap none = none
 still (suc left) after bitmap none = none

@@ -2,7 +2,7 @@
 use Rattle.std.proofs.Common.{◌≡◌, ℕ, ◌∙◌, sym, List, [], ◌++◌, subst}
 use Rattle.std.proofs.Math.Logic.Iff as Iff
 use Rattle.std.specs.Option.{option_to_list}
-use Rattle.serial_set.specs.BitRuns.{FedBitmap}
+use Rattle.serial_set.specs.BitRuns.{BitRuns}
 use Rattle.krl_core.specs.Changes.{run_entries}
 use Rattle.krl_core.specs.Contents.{Contents, Means, nothing}
 use Rattle.krl_core.specs.Entry.{Entry}
@@ -42,7 +42,7 @@ found_kept old new asked entries every finds contents scope authority bitmap h =
   closed = h.closed;
   means = subst (λ (s : Scope). MeansWithin s new.contents h.closed) (sym scope) (subst (λ (r : Contents). MeansWithin (asked_in asked) r h.closed) (sym contents)
       (found_within old.contents asked h.closed finds (subst (λ (s : Scope). MeansWithin s old.contents h.closed) every h.means)));
-  same = subst (λ (b : FedBitmap). NamesSame (h.closed ++ run_entries new.authority (option_to_list b.pending)) entries) (sym bitmap)
+  same = subst (λ (b : BitRuns). NamesSame (h.closed ++ run_entries new.authority (option_to_list b.pending)) entries) (sym bitmap)
       (subst (λ (a : List ℕ). NamesSame (h.closed ++ run_entries a (option_to_list old.bitmap.pending)) entries) (sym authority) h.same);
 }
 

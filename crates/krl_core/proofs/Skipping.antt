@@ -6,7 +6,7 @@ use Rattle.std.proofs.lemmas.Bool.Decides.{nat_tests}
 use Rattle.std.proofs.lemmas.List.{append-nil}
 use Rattle.std.specs.Option.{option_to_list}
 use Rattle.serial_set.specs.declared.span.Span.{Span}
-use Rattle.serial_set.specs.BitRuns.{BitNames, FedBitmap}
+use Rattle.serial_set.specs.BitRuns.{BitNames, BitRuns}
 use Rattle.serial_set.specs.Bits.{bit_below}
 use Rattle.ssh_wire.specs.Digits.{IsBytes-tail}
 use Rattle.ssh_wire.specs.Wire.{IsBytes, number_of}
@@ -192,7 +192,7 @@ bits_in_step old keeping offset size left after count step skips =
     let was = step.1 in
     let is = skips.bitmap_is in
     let all : keeping.bitmap ≡ record { offset = offset; len = size; bytes_left = left - count; pending = None; fault = None } =
-    is ∙ ap (λ (b : FedBitmap). record b { bytes_left = b.bytes_left - count; pending = None }) was in
+    is ∙ ap (λ (b : BitRuns). record b { bytes_left = b.bytes_left - count; pending = None }) was in
     in_step (left - count) refl all skips.closes.closed
   where
     none_in : (n : ℕ) → keeping.bitmap.pending ≡ None → InStep (next_subsection n) keeping.bitmap

@@ -4,7 +4,7 @@ use Rattle.std.specs.Prelude.{[], ◌∷◌, ◌++◌, length}
 use Rattle.std.specs.Option.{option_to_list}
 use Rattle.serial_set.specs.declared.span.Span.{Span}
 use Rattle.serial_set.specs.declared.bit_fault.BitFault.{BitFault}
-use Rattle.serial_set.specs.BitRuns.{FedBitmap, HasFault}
+use Rattle.serial_set.specs.BitRuns.{BitRuns, HasFault}
 use Rattle.krl_core.specs.declared.header.Header.{Header}
 use Rattle.krl_core.specs.declared.place.Place.{Place}
 use Rattle.krl_core.specs.declared.place.Place.TheVariants as places
@@ -23,7 +23,7 @@ pub record Keeping : Type 0 where
   pub authority : List ℕ
   pub contents : Contents
   pub scope : Scope
-  pub bitmap : FedBitmap
+  pub bitmap : BitRuns
 
 -- the run of the bitmap at hand with which its next byte may go on
 abbrev pub open_run : Keeping → List Span
@@ -36,7 +36,7 @@ pub record IsKept (keeping : Keeping) (entries : List Entry) : Type 0 where
   pub same : NamesSame (closed ++ run_entries keeping.authority (open_run keeping)) entries
 
 -- at a byte of a bitmap the bytes before it are fed, and elsewhere no run is open
-abbrev pub InStep : Place → FedBitmap → Type 0
+abbrev pub InStep : Place → BitRuns → Type 0
 InStep (places.Bitmap (bitmaps.Byte offset size left after)) bitmap =
     (0 < left)
     × (bitmap ≡ record {
@@ -83,7 +83,7 @@ pub record KeepsField (place : Place) (field : List ℕ) (next : Place) (old new
   pub scope_is : new.scope ≡ old.scope
 
 -- a byte of the bitmap is left, and this one has no fault
-pub record TakesByte (bitmap : FedBitmap) (byte : ℕ) : Type 0 where
+pub record TakesByte (bitmap : BitRuns) (byte : ℕ) : Type 0 where
   pub bytes_left : 0 < bitmap.bytes_left
   pub good : (fault : BitFault) → HasFault bitmap byte fault → ⊥
 

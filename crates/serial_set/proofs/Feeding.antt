@@ -12,7 +12,7 @@ use Rattle.serial_set.specs.declared.span.Span.{Span}
 use Rattle.serial_set.specs.declared.bit_fault.BitFault.{BitFault}
 use Rattle.serial_set.specs.declared.bit_fault.BitFault.TheVariants.{Negative, Wraps}
 use Rattle.serial_set.specs.Span.{SpanCovers, Covers, RunsFrom, IsRunsOf, AreSerials}
-use Rattle.serial_set.specs.BitRuns.{FedBitmap, start, lowest, BitNames, big_endian, HasFault, PassesEnd, Feeds, FeedsAll, runs_after}
+use Rattle.serial_set.specs.BitRuns.{BitRuns, start, lowest, BitNames, big_endian, HasFault, PassesEnd, Feeds, FeedsAll, runs_after}
 use Rattle.serial_set.specs.Rising.{RunsFrom-weaker, names_append, names_left, names_right, runs_join}
 use Rattle.serial_set.specs.Bits.{bit_below, BitNames-split, BitNames-join}
 use Rattle.serial_set.proofs.InByte.{OnFrom, OnFrom-runs}
@@ -123,7 +123,7 @@ fed_more n number count byte p q f z h fed runs goes ends fits four =
 
 -- ---- all bytes
 
-no_past : (before : FedBitmap) (fault : Option BitFault) (byte : ℕ) → before.fault ≡ fault → ((e : BitFault) → HasFault before byte e → ⊥) → PassesEnd before byte → ⊥
+no_past : (before : BitRuns) (fault : Option BitFault) (byte : ℕ) → before.fault ≡ fault → ((e : BitFault) → HasFault before byte e → ⊥) → PassesEnd before byte → ⊥
 no_past before None byte e free passes =
     let negative : HasFault before byte Negative → ⊥ = free Negative in
     free Wraps (rw e ((rw e at negative), passes))
@@ -133,10 +133,10 @@ fed_same : (n m a b i j : ℕ) (p : Option Span) (y z : List Span) → n ≡ m �
 fed_same n m a b i j p y z e f g h fed =
     subst (λ l. Fed m b j p l) h (subst (λ k. Fed m b k p y) g (subst (λ k. Fed m k i p y) f (subst (λ k. Fed k a i p y) e fed)))
 
-fed_step : (before : FedBitmap) (byte : ℕ) (after : FedBitmap) (finished : List Span) (number count : ℕ) (z : List Span) → byte < 256 → Feeds before byte after finished → Fed (lowest before) number count before.pending z
+fed_step : (before : BitRuns) (byte : ℕ) (after : BitRuns) (finished : List Span) (number count : ℕ) (z : List Span) → byte < 256 → Feeds before byte after finished → Fed (lowest before) number count before.pending z
     → Fed (lowest after) (number * 256 + byte) (count + 4) after.pending (reverse finished ++ z) × (after.offset ≡ before.offset)
 fed_step before byte after finished number count z h step fed =
-    let same : after.offset ≡ before.offset = ap (λ (q : FedBitmap). q.offset) step.same_bitmap in
+    let same : after.offset ≡ before.offset = ap (λ (q : BitRuns). q.offset) step.same_bitmap in
     let bytes_left = step.one_less in
     let low : lowest before ≡ lowest after + 8 = omega arith in
     let base : lowest after ≡ before.offset + 8 * (before.bytes_left - 1) = omega arith in
@@ -146,12 +146,12 @@ fed_step before byte after finished number count z h step fed =
     ] in
     (fed_more (lowest after) number count byte before.pending after.pending finished z h (subst (λ k. Fed k number count before.pending z) low fed) step.runs step.goes_on step.ends fits step.four_more, same)
 
-fed_all : (before : FedBitmap) (bytes : List ℕ) (after : FedBitmap) (finished : List Span) (number count : ℕ) (z : List Span) → All (λ b. b < 256) bytes → FeedsAll before bytes after finished → Fed (lowest before) number count before.pending z
+fed_all : (before : BitRuns) (bytes : List ℕ) (after : BitRuns) (finished : List Span) (number count : ℕ) (z : List Span) → All (λ b. b < 256) bytes → FeedsAll before bytes after finished → Fed (lowest before) number count before.pending z
     → Fed (lowest after) (number * 256 ^ length bytes + big_endian bytes) (count + 4 * length bytes) after.pending (reverse finished ++ z) × (after.bytes_left + length bytes ≡ before.bytes_left) × (after.offset ≡ before.offset)
 fed_all before [] after finished number count z small path fed =
-    let same : after.pending ≡ before.pending = ap (λ (q : FedBitmap). q.pending) path.0 in
-    let bytes_left : after.bytes_left ≡ before.bytes_left = ap (λ (q : FedBitmap). q.bytes_left) path.0 in
-    let offset : after.offset ≡ before.offset = ap (λ (q : FedBitmap). q.offset) path.0 in
+    let same : after.pending ≡ before.pending = ap (λ (q : BitRuns). q.pending) path.0 in
+    let bytes_left : after.bytes_left ≡ before.bytes_left = ap (λ (q : BitRuns). q.bytes_left) path.0 in
+    let offset : after.offset ≡ before.offset = ap (λ (q : BitRuns). q.offset) path.0 in
     let none : z ≡ reverse finished ++ z = ap (λ (l : List Span). reverse l ++ z) (sym path.1) in
     (fed_same (lowest before) (lowest after) number _ count _ after.pending z _ (omega arith) (omega arith) (omega arith) none (subst (λ p. Fed (lowest before) number count p z) (sym same) fed), omega arith, offset)
 fed_all before (byte ∷ bytes) after finished number count z small path fed =
@@ -177,36 +177,36 @@ nothing_fed n = record {
   few = omega arith;
 }
 
-fed_from_start : (offset len : ℕ) (bytes : List ℕ) (after : FedBitmap) (finished : List Span) → All (λ b. b < 256) bytes → FeedsAll (start offset len) bytes after finished
+fed_from_start : (offset len : ℕ) (bytes : List ℕ) (after : BitRuns) (finished : List Span) → All (λ b. b < 256) bytes → FeedsAll (start offset len) bytes after finished
     → Fed (lowest after) (big_endian bytes) (4 * length bytes) after.pending (reverse finished) × (after.bytes_left + length bytes ≡ len) × (after.offset ≡ offset)
 fed_from_start offset len bytes after finished small path =
     let whole = fed_all (start offset len) bytes after finished 0 0 [] small path (nothing_fed (offset + 8 * len)) in
     (fed_same (lowest after) (lowest after) _ _ _ _ after.pending _ _ refl (omega arith) (omega arith) (append-nil (reverse finished)) whole.0, whole.1, whole.2)
 
-pub fed_runs : (offset len : ℕ) (bytes : List ℕ) (after : FedBitmap) (finished : List Span) → All (λ b. b < 256) bytes → FeedsAll (start offset len) bytes after finished → IsRunsOf (runs_after after finished) (λ s. BitNames (lowest after) (big_endian bytes) s)
+pub fed_runs : (offset len : ℕ) (bytes : List ℕ) (after : BitRuns) (finished : List Span) → All (λ b. b < 256) bytes → FeedsAll (start offset len) bytes after finished → IsRunsOf (runs_after after finished) (λ s. BitNames (lowest after) (big_endian bytes) s)
 fed_runs offset len bytes after finished small path =
     let fed = (fed_from_start offset len bytes after finished small path).0 in
     (RunsFrom-weaker (lowest after) 0 _ (omega arith) (OnFrom-runs (lowest after) after.pending (reverse finished) fed.on), λ s. (fed.only s, fed.found s))
 
-pub fed_serials : (offset len : ℕ) (bytes : List ℕ) (after : FedBitmap) (finished : List Span) → All (λ b. b < 256) bytes → FeedsAll (start offset len) bytes after finished → AreSerials (runs_after after finished)
+pub fed_serials : (offset len : ℕ) (bytes : List ℕ) (after : BitRuns) (finished : List Span) → All (λ b. b < 256) bytes → FeedsAll (start offset len) bytes after finished → AreSerials (runs_after after finished)
 fed_serials offset len bytes after finished small path s n =
     let fed = (fed_from_start offset len bytes after finished small path).0 in
     ((fed.only s n).0, fed.top s n)
 
-pub fed_few : (offset len : ℕ) (bytes : List ℕ) (after : FedBitmap) (finished : List Span) → All (λ b. b < 256) bytes → FeedsAll (start offset len) bytes after finished → length (runs_after after finished) ≤ 4 * length bytes
+pub fed_few : (offset len : ℕ) (bytes : List ℕ) (after : BitRuns) (finished : List Span) → All (λ b. b < 256) bytes → FeedsAll (start offset len) bytes after finished → length (runs_after after finished) ≤ 4 * length bytes
 fed_few offset len bytes after finished small path = (fed_from_start offset len bytes after finished small path).0.few
 
-pub fed_place : (offset len : ℕ) (bytes : List ℕ) (after : FedBitmap) (finished : List Span) → All (λ b. b < 256) bytes → FeedsAll (start offset len) bytes after finished → (after.bytes_left + length bytes ≡ len) × (after.offset ≡ offset)
+pub fed_place : (offset len : ℕ) (bytes : List ℕ) (after : BitRuns) (finished : List Span) → All (λ b. b < 256) bytes → FeedsAll (start offset len) bytes after finished → (after.bytes_left + length bytes ≡ len) × (after.offset ≡ offset)
 fed_place offset len bytes after finished small path =
     let whole = fed_from_start offset len bytes after finished small path in (whole.1, whole.2)
 
-pub fed_whole : (offset len : ℕ) (bytes : List ℕ) (after : FedBitmap) (finished : List Span) → All (λ b. b < 256) bytes → length bytes ≡ len → FeedsAll (start offset len) bytes after finished → IsRunsOf (runs_after after finished) (λ s. BitNames offset (big_endian bytes) s)
+pub fed_whole : (offset len : ℕ) (bytes : List ℕ) (after : BitRuns) (finished : List Span) → All (λ b. b < 256) bytes → length bytes ≡ len → FeedsAll (start offset len) bytes after finished → IsRunsOf (runs_after after finished) (λ s. BitNames offset (big_endian bytes) s)
 fed_whole offset len bytes after finished small all path =
     let place = fed_place offset len bytes after finished small path in
     let low : lowest after ≡ offset = omega arith in
     subst (λ n. IsRunsOf (runs_after after finished) (λ s. BitNames n (big_endian bytes) s)) low (fed_runs offset len bytes after finished small path)
 
-pub fed_one_more : (before middle after : FedBitmap) (bytes : List ℕ) (byte : ℕ) (finished more : List Span) → FeedsAll before bytes middle finished → Feeds middle byte after more → FeedsAll before (bytes ++ byte ∷ []) after (finished ++ more)
+pub fed_one_more : (before middle after : BitRuns) (bytes : List ℕ) (byte : ℕ) (finished more : List Span) → FeedsAll before bytes middle finished → Feeds middle byte after more → FeedsAll before (bytes ++ byte ∷ []) after (finished ++ more)
 fed_one_more before middle after [] byte finished more path step =
     (after, (more, ([], (subst (λ p. Feeds p byte after more) path.0 step, (refl, refl), ap (λ l. l ++ more) path.1 ∙ sym (append-nil more)))))
 fed_one_more before middle after (b ∷ bytes) byte finished more path step =

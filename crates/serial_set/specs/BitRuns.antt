@@ -9,7 +9,7 @@ use Rattle.serial_set.specs.Span.{SpanCovers, Covers, IsRunsOf}
 
 -- how far a bitmap of `len` bytes is fed: how many of them are left, the run that may still grow,
 -- and the fault that was met
-pub record FedBitmap : Type 0 where
+pub record BitRuns : Type 0 where
   pub offset : ℕ
   pub len : ℕ
   pub bytes_left : ℕ
@@ -17,12 +17,12 @@ pub record FedBitmap : Type 0 where
   pub fault : Option BitFault
 
 -- nothing is fed
-abbrev pub start : ℕ → ℕ → FedBitmap
+abbrev pub start : ℕ → ℕ → BitRuns
 start offset len =
     record { offset = offset; len = len; bytes_left = len; pending = None; fault = None }
 
 -- the number for which the lowest bit stands that is fed so far
-abbrev pub lowest : FedBitmap → ℕ
+abbrev pub lowest : BitRuns → ℕ
 lowest p = p.offset + 8 * p.bytes_left
 
 -- s is a serial, and its bit of `bits` is set, where the lowest bit stands for `base`
@@ -37,30 +37,30 @@ big_endian (byte ∷ bytes) = byte * 256 ^ length bytes + big_endian bytes
 -- ---- faults
 
 -- the byte is the bitmap's first, and its highest bit is set
-abbrev pub IsNegative : FedBitmap → ℕ → Type 0
+abbrev pub IsNegative : BitRuns → ℕ → Type 0
 IsNegative p byte = (p.bytes_left ≡ p.len) × (128 ≤ byte)
 
 -- a set bit of the byte stands for a number past 2^64-1
-abbrev pub PassesEnd : FedBitmap → ℕ → Type 0
+abbrev pub PassesEnd : BitRuns → ℕ → Type 0
 PassesEnd p byte = (s : ℕ) × ((2 ^ 64 ≤ s) × BitNames (p.offset + 8 * (p.bytes_left - 1)) byte s)
 
 -- the fault that a byte shows, of two the first
-abbrev pub ShowsFault : FedBitmap → ℕ → BitFault → Type 0
+abbrev pub ShowsFault : BitRuns → ℕ → BitFault → Type 0
 ShowsFault p byte Negative = IsNegative p byte
 ShowsFault p byte Wraps = ¬ IsNegative p byte × PassesEnd p byte
 
 -- the fault of feeding a byte: an earlier one again, else the one that the byte shows
-abbrev pub HasFault : FedBitmap → ℕ → BitFault → Type 0
+abbrev pub HasFault : BitRuns → ℕ → BitFault → Type 0
 HasFault p byte fault = MatchOption p.fault (ShowsFault p byte fault) (λ earlier. fault ≡ earlier)
 
 -- ---- runs
 
 -- the pending run, and then the finished ones from the last to the first
-abbrev pub runs_after : FedBitmap → List Span → List Span
+abbrev pub runs_after : BitRuns → List Span → List Span
 runs_after p finished = option_to_list p.pending ++ reverse finished
 
 -- a byte without a fault leads from one state to another and finishes these runs
-pub record Feeds (before : FedBitmap) (byte : ℕ) (after : FedBitmap) (finished : List Span)
+pub record Feeds (before : BitRuns) (byte : ℕ) (after : BitRuns) (finished : List Span)
     : Type 0 where
   pub one_less : after.bytes_left + 1 ≡ before.bytes_left
   pub same_bitmap : after ≡ record before { bytes_left = after.bytes_left; pending = after.pending }
@@ -74,10 +74,10 @@ pub record Feeds (before : FedBitmap) (byte : ℕ) (after : FedBitmap) (finished
   pub four_more : length (runs_after after finished) ≤ length (option_to_list before.pending) + 4
 
 -- these bytes, fed one after the other, lead from one state to another and finish these runs
-abbrev pub FeedsAll : FedBitmap → List ℕ → FedBitmap → List Span → Type 0
+abbrev pub FeedsAll : BitRuns → List ℕ → BitRuns → List Span → Type 0
 FeedsAll before [] after finished = (after ≡ before) × (finished ≡ [])
 FeedsAll before (byte ∷ bytes) after finished =
-    (middle : FedBitmap) × ((first : List Span) × ((rest : List Span)
+    (middle : BitRuns) × ((first : List Span) × ((rest : List Span)
     × (Feeds before byte middle first × FeedsAll middle bytes after rest
     × (finished ≡ first ++ rest))))
 

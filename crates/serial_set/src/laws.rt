@@ -2,7 +2,7 @@
 ghost use Rattle.std.specs.Prelude.{◌≡◌, ◌+◌, ◌*◌, ◌<◌, ◌≤◌, ◌↔◌, ◌⊎◌, ◌++◌, ◌∷◌, [], ℕ, List, length, All};
 ghost use Rattle.serial_set.specs.declared.span.Span.{Span};
 ghost use Rattle.serial_set.specs.Span.{Covers, IsRuns, IsRunsOf, AreSerials};
-ghost use Rattle.serial_set.specs.BitRuns.{FedBitmap, start, lowest, BitNames, big_endian, Feeds, FeedsAll, runs_after};
+ghost use Rattle.serial_set.specs.BitRuns.{BitRuns, start, lowest, BitNames, big_endian, Feeds, FeedsAll, runs_after};
 ghost use Rattle.serial_set.specs.declared.entry.Entry.{Entry};
 ghost use Rattle.serial_set.specs.Entry.{EntriesFrom, hi_of, runs_of};
 ghost use Rattle.serial_set.specs.Entries.{Keeps, Replaces};
@@ -58,7 +58,7 @@ pub fn whole_bitmap()
 
 /// One byte that is fed after others.
 pub fn one_byte_more()
-    ensures { (before middle after : FedBitmap) (bytes : List ℕ) (byte : ℕ)
+    ensures { (before middle after : BitRuns) (bytes : List ℕ) (byte : ℕ)
         (finished more : List Span)
         → FeedsAll before bytes middle finished → Feeds middle byte after more
         → FeedsAll before (bytes ++ byte ∷ []) after (finished ++ more) }

@@ -1,6 +1,6 @@
 use Rattle.std.proofs.Common.{[], sym, subst, ap}
 use Rattle.std.specs.Option.{option_to_list}
-use Rattle.serial_set.specs.BitRuns.{FedBitmap}
+use Rattle.serial_set.specs.BitRuns.{BitRuns}
 use Rattle.krl_core.specs.Changes.{run_entries}
 use Rattle.krl_core.specs.Contents.{Contents}
 use Rattle.krl_core.specs.Scope.{MeansWithin, WithinScope}
@@ -13,7 +13,7 @@ returns-clause-kept g c = record {
   closed = [];
   means = subst (λ (r : Contents). MeansWithin (g.T.Store.scope c.args.store) r []) (sym c.requires.empty) (nothing_within (g.T.Store.scope c.args.store));
   same = same_is (run_entries c.new-2.result.items (option_to_list c.new-3.result.pending)) []
-      (ap (λ (b : FedBitmap). run_entries c.new-2.result.items (option_to_list b.pending)) c.new-3.ensures);
+      (ap (λ (b : BitRuns). run_entries c.new-2.result.items (option_to_list b.pending)) c.new-3.ensures);
 }
 
 pub returns-clause-within : goal.returns-clause-within
