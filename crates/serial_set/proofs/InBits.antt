@@ -6,7 +6,7 @@ use Rattle.std.proofs.lemmas.Bool.{cases_eq, cases_lt}
 use Rattle.std.proofs.lemmas.Nat.Bits.{bit_at_and, bit_at_not, bit_at-lt, bit_at-zero, bit_at_mask_inside, bit_at_mask_below, bit_at-trailing_zeros}
 use Rattle.serial_set.specs.declared.entry.Entry.{Entry}
 use Rattle.serial_set.specs.Span.{Covers}
-use Rattle.serial_set.specs.Entry.{is_run, window_of, bits_of, pieces, lo_of}
+use Rattle.serial_set.specs.Entry.{is_run, window_of, bits_of, members_in, lo_of}
 use Rattle.serial_set.specs.Members.{IsFirst, IsFirstBit, GoesOn}
 use Rattle.serial_set.proofs.InEntry.{in_word, word_ends}
 
@@ -50,13 +50,13 @@ set_before bits i fits within clear =
 
 -- ---- the members of a word
 
-pub word_none : (e : Entry) (number place : ℕ) → is_run e ≡ false → place ≡ number - lo_of e → IsFirstBit (bits_of e) place None → IsFirst (pieces e) number None
+pub word_none : (e : Entry) (number place : ℕ) → is_run e ≡ false → place ≡ number - lo_of e → IsFirstBit (bits_of e) place None → IsFirst (members_in e) number None
 word_none e number place word is k s h n =
     let at = (in_word e s word).0 n in
     let ends = word_ends e word in
     omega (arith, at.0, at.1, at.2, k (s - 64 * window_of e) (omega arith) (omega (arith, at.0, at.1)))
 
-pub word_first : (e : Entry) (number place at : ℕ) → is_run e ≡ false → place ≡ number - lo_of e → IsFirstBit (bits_of e) place (Some at) → IsFirst (pieces e) number (Some (lo_of e + at))
+pub word_first : (e : Entry) (number place at : ℕ) → is_run e ≡ false → place ≡ number - lo_of e → IsFirstBit (bits_of e) place (Some at) → IsFirst (members_in e) number (Some (lo_of e + at))
 word_first e number place at word is k =
     let base = 64 * window_of e in
     let ends = word_ends e word in
@@ -66,8 +66,8 @@ word_first e number place at word is k =
       λ s h l n. let m = (in_word e s word).0 n in omega (arith, m.0, m.1, m.2, k.3 (s - base) (omega arith) (omega arith)),
     )
 
-pub word_on : (e : Entry) (member last : ℕ) → is_run e ≡ false → Covers (pieces e) member → member - lo_of e ≤ last → last < 64
-    → ((i : ℕ) → member - lo_of e ≤ i → i ≤ last → bit_at (bits_of e) i ≡ 1) → GoesOn (pieces e) member (lo_of e + last)
+pub word_on : (e : Entry) (member last : ℕ) → is_run e ≡ false → Covers (members_in e) member → member - lo_of e ≤ last → last < 64
+    → ((i : ℕ) → member - lo_of e ≤ i → i ≤ last → bit_at (bits_of e) i ≡ 1) → GoesOn (members_in e) member (lo_of e + last)
 word_on e member last word n order within all =
     let at = (in_word e member word).0 n in
     let ends = word_ends e word in

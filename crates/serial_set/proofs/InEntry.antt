@@ -9,18 +9,18 @@ use Rattle.std.proofs.lemmas.Nat.Bits.{ones_shr, bit_at_or, bit_at-lt, bit_at_ma
 use Rattle.serial_set.specs.declared.entry.Entry.{Entry}
 use Rattle.serial_set.specs.Span.{Covers}
 use Rattle.serial_set.specs.Words.{singles_to, singles_from, BitCovers}
-use Rattle.serial_set.specs.Entry.{is_run, window_of, bits_of, pieces, pieces_by, lo_of, lo_by, hi_of, hi_by}
+use Rattle.serial_set.specs.Entry.{is_run, window_of, bits_of, members_in, members_by, lo_of, lo_by, hi_of, hi_by}
 
 -- the members of a word are its set bits
-pub in_word : (e : Entry) (s : ℕ) → is_run e ≡ false → Covers (pieces e) s ↔ BitCovers 64 (64 * window_of e) (bits_of e) s
+pub in_word : (e : Entry) (s : ℕ) → is_run e ≡ false → Covers (members_in e) s ↔ BitCovers 64 (64 * window_of e) (bits_of e) s
 in_word e s word =
-    let P : Bool → Type 0 = λ v. Covers (pieces_by v e) s ↔ BitCovers 64 (64 * window_of e) (bits_of e) s in
+    let P : Bool → Type 0 = λ v. Covers (members_by v e) s ↔ BitCovers 64 (64 * window_of e) (bits_of e) s in
     subst P (sym word) (singles_to 64 (64 * window_of e) (bits_of e) s, singles_from 64 (64 * window_of e) (bits_of e) s)
 
 -- the members of a run
-pub in_run : (e : Entry) (s : ℕ) → is_run e ≡ true → Covers (pieces e) s ↔ ((e.a ≤ s) × (s ≤ e.b))
+pub in_run : (e : Entry) (s : ℕ) → is_run e ≡ true → Covers (members_in e) s ↔ ((e.a ≤ s) × (s ≤ e.b))
 in_run e s run =
-    let P : Bool → Type 0 = λ v. Covers (pieces_by v e) s ↔ ((e.a ≤ s) × (s ≤ e.b)) in
+    let P : Bool → Type 0 = λ v. Covers (members_by v e) s ↔ ((e.a ≤ s) × (s ≤ e.b)) in
     subst P (sym run) (λ n. elim n [ inl here ↦ here | inr none ↦ absurd none ], λ h. inl h)
 
 -- ---- masks

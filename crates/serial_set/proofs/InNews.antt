@@ -9,32 +9,32 @@ use Rattle.std.proofs.lemmas.List.Elements.{All-nil, All-cons, All-append}
 use Rattle.serial_set.specs.declared.entry.Entry.{Entry}
 use Rattle.serial_set.specs.Span.{Covers}
 use Rattle.serial_set.specs.Words.{BitCovers, singles, singles_to, singles_from}
-use Rattle.serial_set.specs.Entry.{is_run, window_of, bits_of, pieces, lo_of, lo_by, hi_of, hi_by, EntriesFrom, members_of}
-use Rattle.serial_set.specs.Entries.{piece_in, entries_join, has_append, has_left, has_right}
-use Rattle.serial_set.specs.News.{end_of, Has, IsNews}
+use Rattle.serial_set.specs.Entry.{is_run, window_of, bits_of, members_in, lo_of, lo_by, hi_of, hi_by, EntriesFrom, members_of}
+use Rattle.serial_set.specs.Entries.{in_stretch, entries_join, has_append, has_left, has_right}
+use Rattle.serial_set.specs.News.{hi_or, Has, IsNews}
 use Rattle.serial_set.proofs.InEntry.{in_mask, in_or, in_word}
 use Rattle.serial_set.proofs.InWords.{one_has}
 
 -- ---- words
 
-pub in_singles : (w : Entry) (base bits s : ℕ) → pieces w ≡ singles 64 base bits → Covers (pieces w) s ↔ BitCovers 64 base bits s
+pub in_singles : (w : Entry) (base bits s : ℕ) → members_in w ≡ singles 64 base bits → Covers (members_in w) s ↔ BitCovers 64 base bits s
 in_singles w base bits s e =
     subst (λ l. Covers l s ↔ BitCovers 64 base bits s) (sym e) (singles_to 64 base bits s, singles_from 64 base bits s)
 
 -- a word with more bits
-pub with_bits : (e w : Entry) (bits more s : ℕ) → is_run e ≡ false → pieces w ≡ singles 64 (64 * window_of e) (bit_or bits more) → bits ≡ bits_of e
-    → Covers (pieces w) s ↔ (Covers (pieces e) s ⊎ BitCovers 64 (64 * window_of e) more s)
+pub with_bits : (e w : Entry) (bits more s : ℕ) → is_run e ≡ false → members_in w ≡ singles 64 (64 * window_of e) (bit_or bits more) → bits ≡ bits_of e
+    → Covers (members_in w) s ↔ (Covers (members_in e) s ⊎ BitCovers 64 (64 * window_of e) more s)
 with_bits e w bits more s word is b =
     let base = 64 * window_of e in
     let new = in_singles w base (bit_or bits more) s is in
     let both = in_or base bits more s in
-    let old = subst (λ (n : ℕ). Covers (pieces e) s ↔ BitCovers 64 base n s) (sym b) (in_word e s word) in (
+    let old = subst (λ (n : ℕ). Covers (members_in e) s ↔ BitCovers 64 base n s) (sym b) (in_word e s word) in (
       λ n. ⊎_map old.1 (λ y. y) (both.0 (new.0 n)),
       λ m. new.1 (both.1 (⊎_map old.0 (λ y. y) m)),
     )
 
-pub front_word : (e w : Entry) (lo bits more s : ℕ) → is_run e ≡ false → lo_of e ≤ lo → lo ≤ hi_of e → pieces w ≡ singles 64 (64 * window_of e) (bit_or bits more) → bits ≡ bits_of e
-    → more ≡ 2 ^ (63 + 1) - 2 ^ (lo % 64) → s < hi_of e + 1 → Covers (pieces w) s ↔ (Covers (pieces e) s ⊎ (lo ≤ s))
+pub front_word : (e w : Entry) (lo bits more s : ℕ) → is_run e ≡ false → lo_of e ≤ lo → lo ≤ hi_of e → members_in w ≡ singles 64 (64 * window_of e) (bit_or bits more) → bits ≡ bits_of e
+    → more ≡ 2 ^ (63 + 1) - 2 ^ (lo % 64) → s < hi_of e + 1 → Covers (members_in w) s ↔ (Covers (members_in e) s ⊎ (lo ≤ s))
 front_word e w lo bits more s word from upto is b m h =
     let base = 64 * window_of e in
     let at : lo_of e ≡ base = ap (λ v. lo_by v e) word in
@@ -46,8 +46,8 @@ front_word e w lo bits more s word from upto is b m h =
       λ n. with.1 (elim n [ inl x ↦ inl x | inr k ↦ inr ((mask (omega arith)).1 (omega arith, omega arith)) ]),
     )
 
-pub back_word : (e w : Entry) (hi bits more s : ℕ) → is_run e ≡ false → lo_of e ≤ hi → hi ≤ hi_of e → pieces w ≡ singles 64 (64 * window_of e) (bit_or bits more) → bits ≡ bits_of e
-    → more ≡ 2 ^ (hi % 64 + 1) - 2 ^ 0 → lo_of e ≤ s → Covers (pieces w) s ↔ (Covers (pieces e) s ⊎ (s ≤ hi))
+pub back_word : (e w : Entry) (hi bits more s : ℕ) → is_run e ≡ false → lo_of e ≤ hi → hi ≤ hi_of e → members_in w ≡ singles 64 (64 * window_of e) (bit_or bits more) → bits ≡ bits_of e
+    → more ≡ 2 ^ (hi % 64 + 1) - 2 ^ 0 → lo_of e ≤ s → Covers (members_in w) s ↔ (Covers (members_in e) s ⊎ (s ≤ hi))
 back_word e w hi bits more s word from upto is b m h =
     let base = 64 * window_of e in
     let at : lo_of e ≡ base = ap (λ v. lo_by v e) word in
@@ -110,7 +110,7 @@ three_lie few a b c lo at past hi e ha hb hc p q r between some =
 
 pub opt_in : (o : Option Entry) (from to s : ℕ) → IfSome o (λ e. (from ≤ lo_of e) × (hi_of e < to)) → Has o s → (from ≤ s) × (s < to)
 opt_in None from to s h n = absurd n
-opt_in (Some e) from to s h n = let at = piece_in e s n in (omega arith, omega arith)
+opt_in (Some e) from to s h n = let at = in_stretch e s n in (omega arith, omega arith)
 
 -- ---- a run over several windows
 
@@ -186,12 +186,12 @@ some_weaker (Some e) P Q f h = f e h
 
 pub head_has : (o : Option Entry) (lo hi s : ℕ) → IfSome o (λ e. (lo_of e ≤ lo) × (lo ≤ hi_of e) × (hi_of e < hi)) → Has o s → s < hi
 head_has None lo hi s h n = absurd n
-head_has (Some e) lo hi s h n = let at = piece_in e s n in let end = h.2 in omega (arith, at.1)
+head_has (Some e) lo hi s h n = let at = in_stretch e s n in let end = h.2 in omega (arith, at.1)
 
 pub tail_has : (o : Option Entry) (lo hi s : ℕ) → IfSome o (λ e. (lo < lo_of e) × (lo_of e ≤ hi) × (hi ≤ hi_of e)) → Has o s → lo < s
 tail_has None lo hi s h n = absurd n
-tail_has (Some e) lo hi s h n = let at = piece_in e s n in let from = h.0 in omega (arith, at.0)
+tail_has (Some e) lo hi s h n = let at = in_stretch e s n in let from = h.0 in omega (arith, at.0)
 
-pub tail_end : (o : Option Entry) (lo hi : ℕ) → IfSome o (λ e. (lo < lo_of e) × (lo_of e ≤ hi) × (hi ≤ hi_of e)) → hi ≤ end_of o hi
+pub tail_end : (o : Option Entry) (lo hi : ℕ) → IfSome o (λ e. (lo < lo_of e) × (lo_of e ≤ hi) × (hi ≤ hi_of e)) → hi ≤ hi_or o hi
 tail_end None lo hi h = omega arith
 tail_end (Some e) lo hi h = h.2

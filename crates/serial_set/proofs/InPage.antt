@@ -1,19 +1,26 @@
 -- A page: what one change puts in place of others.
-use Rattle.std.proofs.Common.{◌≡◌, ℕ, ◌+◌, ◌<◌, ◌≤◌, List, ◌∷◌, ◌++◌, length, get_or, set, suc, take, drop, sym, ap, subst, arith, ◌∙◌}
+use Rattle.std.proofs.Common.{◌≡◌, ℕ, ◌+◌, ◌<◌, ◌≤◌, ◌⊎◌, List, ◌∷◌, ◌++◌, length, get_or, set, suc, take, drop, sym, ap, subst, inl, inr, arith, ◌∙◌}
 use Rattle.std.specs.List.{All}
 use Rattle.std.proofs.lemmas.List.{take-append-drop, drop-drop, drop_more, set_split}
-use Rattle.std.proofs.lemmas.List.Elements.{All-take}
+use Rattle.std.proofs.lemmas.List.Elements.{All-take, All-drop}
 use Rattle.serial_set.specs.declared.entry.Entry.{Entry}
 use Rattle.serial_set.specs.Entry.{lo_of, hi_of}
-use Rattle.serial_set.specs.Entries.{Replaces}
+use Rattle.serial_set.specs.Entries.{stretch, Replaces}
 use Rattle.serial_set.specs.Places.{CutTo, Widened, WordWidened}
 
+-- of entries that a number does not cut, those that end past it begin past it
+past_whole : (number n : ℕ) (es : List Entry) → All (λ e. (hi_of e ≤ number) ⊎ (number < lo_of e)) es → All (λ e. number < hi_of e) (drop n es) → All (λ e. number < lo_of e) (drop n es)
+past_whole number n es whole past = λ k d q. elim (All-drop (λ e. (hi_of e ≤ number) ⊎ (number < lo_of e)) n es whole k d q) [
+  | inl upto ↦ (let at = past k d q in absurd (omega arith))
+  | inr after ↦ after
+]
+
 -- what two searches found, as one change
-pub replaced_at : (es few new : List Entry) (lo hi from count : ℕ)
+pub replaced_at : (es few new : List Entry) (lo hi from count : ℕ) → All (λ e. (hi_of e ≤ hi) ⊎ (hi < lo_of e)) es
     → All (λ e. hi_of e < lo) (take from es) → All (λ e. lo ≤ hi_of e) (drop from es)
-    → All (λ e. lo_of e ≤ hi) (take count (drop from es)) → All (λ e. hi < lo_of e) (drop count (drop from es))
+    → All (λ e. hi_of e ≤ hi) (take count (drop from es)) → All (λ e. hi < hi_of e) (drop count (drop from es))
     → new ≡ take from es ++ (few ++ drop (from + count) es) → Replaces es lo hi few new
-replaced_at es few new lo hi from count below reach inside above is =
+replaced_at es few new lo hi from count whole below reach upto past is =
     let rest = drop from es in
     let reaches = All-take (λ e. lo ≤ hi_of e) count rest reach in
     record {
@@ -23,17 +30,17 @@ replaced_at es few new lo hi from count below reach inside above is =
       were = sym (ap (λ l. take from es ++ l) (take-append-drop count rest) ∙ take-append-drop from es);
       are = is ∙ ap (λ l. take from es ++ (few ++ l)) (sym (drop-drop count from es));
       below = below;
-      inside = λ k d q. (reaches k d q, inside k d q);
-      above = above;
+      inside = λ k d q. (let begin = stretch (get_or (take count rest) k d) in let end = upto k d q in (reaches k d q, omega arith));
+      above = past_whole hi count rest (All-drop (λ e. (hi_of e ≤ hi) ⊎ (hi < lo_of e)) from es whole) past;
     }
 
 -- what a search found, as a cut
-pub cut_page : (es new : List Entry) (number count : ℕ) → All (λ e. lo_of e ≤ number) (take count es) → All (λ e. number < lo_of e) (drop count es) → new ≡ drop count es → CutTo es number new
-cut_page es new number count inside above is = record {
+pub cut_page : (es new : List Entry) (number count : ℕ) → All (λ e. (hi_of e ≤ number) ⊎ (number < lo_of e)) es → All (λ e. hi_of e ≤ number) (take count es) → All (λ e. number < hi_of e) (drop count es) → new ≡ drop count es → CutTo es number new
+cut_page es new number count whole upto past is = record {
   gone = take count es;
   were = sym (ap (λ l. take count es ++ l) is ∙ take-append-drop count es);
-  inside = inside;
-  above = subst (All (λ e. number < lo_of e)) (sym is) above;
+  inside = λ k d q. let begin = stretch (get_or (take count es) k d) in let end = upto k d q in omega arith;
+  above = subst (All (λ e. number < lo_of e)) (sym is) (past_whole number count es whole past);
 }
 
 -- one word in place of what it was

@@ -11,9 +11,9 @@ use Rattle.serial_set.specs.Span.{Covers, IsRunsOf, AreSerials, AddsSpan}
 use Rattle.serial_set.specs.Rising.{names_append}
 use Rattle.serial_set.specs.Least.{runs_least}
 use Rattle.serial_set.specs.Words.{BitCovers}
-use Rattle.serial_set.specs.Entry.{pieces, lo_of, hi_of, EntriesFrom, members_of, runs_of}
-use Rattle.serial_set.specs.Entries.{piece_in, stretch, entries_back, has_append, has_left, has_right, none_below, has_from, Replaces, Keeps, replaced_order, replaced_runs}
-use Rattle.serial_set.specs.News.{begin_of, end_of, Has, IsNews}
+use Rattle.serial_set.specs.Entry.{members_in, lo_of, hi_of, EntriesFrom, members_of, runs_of}
+use Rattle.serial_set.specs.Entries.{in_stretch, stretch, entries_back, has_append, has_left, has_right, none_below, has_from, Replaces, Keeps, replaced_order, replaced_runs}
+use Rattle.serial_set.specs.News.{lo_or, hi_or, Has, IsNews}
 use Rattle.serial_set.specs.Additions.{IsAt}
 use Rattle.serial_set.specs.Places.{IsEntryFrom}
 use Rattle.serial_set.proofs.Flat.{all_left, all_right}
@@ -84,17 +84,17 @@ pub from_has : (entries : List Entry) (n s : ℕ) (o : Option Entry) → IsEntry
 from_has entries n s None is m = absurd m
 from_has entries n s (Some e) is m = members_part entries is.0 e is.1.0 s is.1.1.0 m
 
-pub from_owns : (entries : List Entry) (n last s : ℕ) (o : Option Entry) → EntriesFrom 0 entries → IsEntryFrom entries n o → n ≤ s → s ≤ end_of o last → Covers (members_of entries) s → Has o s
+pub from_owns : (entries : List Entry) (n last s : ℕ) (o : Option Entry) → EntriesFrom 0 entries → IsEntryFrom entries n o → n ≤ s → s ≤ hi_or o last → Covers (members_of entries) s → Has o s
 from_owns entries n last s None order is from to m = none_below entries s (λ k d h. (let end = is k d h in omega arith)) m
 from_owns entries n last s (Some e) order is from to m = members_own entries is.0 e is.1.0 n s order is.1.1.0 is.1.1.1 from to m
 
 -- ---- one change
 
 -- what each of some entries says of its members holds of all theirs
-members_each : (P : Entry → Type 0) (Q : Type 0) (es : List Entry) (s : ℕ) → ((e : Entry) → P e → Covers (pieces e) s → Q) → All P es → Covers (members_of es) s → Q
+members_each : (P : Entry → Type 0) (Q : Type 0) (es : List Entry) (s : ℕ) → ((e : Entry) → P e → Covers (members_in e) s → Q) → All P es → Covers (members_of es) s → Q
 members_each P Q [] s f h m = absurd m
 members_each P Q (e ∷ es) s f h m =
-    ⊎_elim (f e (All-head P e es h)) (members_each P Q es s f (All-tail P e es h)) (names_append (pieces e) (members_of es) s m)
+    ⊎_elim (f e (All-head P e es h)) (members_each P Q es s f (All-tail P e es h)) (names_append (members_in e) (members_of es) s m)
 
 -- The news are all that the set has between two numbers, which cut none of its entries, and what is
 -- added.
@@ -123,17 +123,17 @@ fills_keeps old from to news new Added r n f =
       | inl x ↦ absurd (none_below r.front s (λ k d h. (let end = r.below k d h in omega arith)) x)
       | inr y ↦ elim (has_append r.middle r.back s y) [
         | inl z ↦ z
-        | inr w ↦ (members_each (λ e. to < lo_of e) (In r.middle s) r.back s (λ e h n. let at = piece_in e s n in absurd (omega arith)) r.above w)
+        | inr w ↦ (members_each (λ e. to < lo_of e) (In r.middle s) r.back s (λ e h n. let at = in_stretch e s n in absurd (omega arith)) r.above w)
       ]
     ] in
     record {
-      still = λ s m. let a = members_each (λ e. from ≤ lo_of e) (from ≤ s) r.middle s (λ e h n. let at = piece_in e s n in omega arith) low m in
-          let b = members_each (λ e. hi_of e ≤ to) (s ≤ to) r.middle s (λ e h n. let at = piece_in e s n in omega arith) high m in
+      still = λ s m. let a = members_each (λ e. from ≤ lo_of e) (from ≤ s) r.middle s (λ e h n. let at = in_stretch e s n in omega arith) low m in
+          let b = members_each (λ e. hi_of e ≤ to) (s ≤ to) r.middle s (λ e h n. let at = in_stretch e s n in omega arith) high m in
           (f.all s a b).1 (inl (to_old s m));
       added = λ s a. let at = f.inside s a in (f.all s at.0 at.1).1 (inr a);
       only = λ s m.
           let a = has_from from news s n.order m in
-          let b = members_each (λ e. hi_of e ≤ to) (s ≤ to) news s (λ e h n. let at = piece_in e s n in omega arith) n.ends m in
+          let b = members_each (λ e. hi_of e ≤ to) (s ≤ to) news s (λ e h n. let at = in_stretch e s n in omega arith) n.ends m in
           ⊎_map (to_mid s a b) (λ x. x) ((f.all s a b).0 m);
     }
 
@@ -146,13 +146,13 @@ fills_runs old from to news new Added order n f r =
 
 -- ---- what is added fills
 
-low_of : (entries : List Entry) (n : ℕ) (o : Option Entry) → IsAt entries n o → All (λ e. (hi_of e < begin_of o n) ⊎ (begin_of o n ≤ lo_of e)) entries
+low_of : (entries : List Entry) (n : ℕ) (o : Option Entry) → IsAt entries n o → All (λ e. (hi_of e < lo_or o n) ⊎ (lo_or o n ≤ lo_of e)) entries
 low_of entries n o at = λ k d h. ⊎_map (λ x. x) (⊎_elim (λ y. y.0) (λ z. let a = at.from in let b = at.to in omega arith)) (at.apart k d h)
 
-high_of : (entries : List Entry) (n : ℕ) (o : Option Entry) → IsAt entries n o → All (λ e. (hi_of e ≤ end_of o n) ⊎ (end_of o n < lo_of e)) entries
+high_of : (entries : List Entry) (n : ℕ) (o : Option Entry) → IsAt entries n o → All (λ e. (hi_of e ≤ hi_or o n) ⊎ (hi_or o n < lo_of e)) entries
 high_of entries n o at = λ k d h. elim (at.apart k d h) [ inl x ↦ inl (let a = at.from in let b = at.to in omega arith) | inr rest ↦ ⊎_map (λ y. y.1) (λ z. z) rest ]
 
-pub run_fills : (old news : List Entry) (lo hi from to : ℕ) (head tail : Option Entry) → IsAt old lo head → IsAt old hi tail → lo ≤ hi → from ≡ begin_of head lo → to ≡ end_of tail hi
+pub run_fills : (old news : List Entry) (lo hi from to : ℕ) (head tail : Option Entry) → IsAt old lo head → IsAt old hi tail → lo ≤ hi → from ≡ lo_or head lo → to ≡ hi_or tail hi
     → ((s : ℕ) → Covers (members_of news) s ↔ (Has head s ⊎ (Has tail s ⊎ ((lo ≤ s) × (s ≤ hi))))) → Fills old from to news (λ s. (lo ≤ s) × (s ≤ hi))
 run_fills old news lo hi from to head tail at end order e f m =
     let begins = at.from in
@@ -181,7 +181,7 @@ run_fills old news lo hi from to head tail at end order e f m =
       inside = λ s k. (let a = k.0 in omega arith, let b = k.1 in omega arith);
     }
 
-pub bits_fill : (old news : List Entry) (first from to bits more : ℕ) (head tail : Option Entry) → IsAt old first head → IsAt old (first + 63) tail → from ≡ begin_of head first → to ≡ end_of tail (first + 63)
+pub bits_fill : (old news : List Entry) (first from to bits more : ℕ) (head tail : Option Entry) → IsAt old first head → IsAt old (first + 63) tail → from ≡ lo_or head first → to ≡ hi_or tail (first + 63)
     → ((s : ℕ) → first ≤ s → s < first + 64 → BitCovers 64 first bits s ↔ (BitCovers 64 first more s ⊎ Covers (members_of old) s))
     → ((s : ℕ) → Covers (members_of news) s ↔ ((Has head s × (s < first)) ⊎ (BitCovers 64 first bits s ⊎ (Has tail s × (first + 63 < s))))) → Fills old from to news (λ s. BitCovers 64 first more s)
 bits_fill old news first from to bits more head tail at end e f b m =
@@ -229,18 +229,18 @@ one_more old new lo hi adds =
 at_member : (P : Entry → Type 0) (entries front : List Entry) (e : Entry) (back : List Entry) → entries ≡ front ++ e ∷ back → All P entries → P e
 at_member P entries front e back parts h = All-head P e back (all_right P front (e ∷ back) (subst (All P) parts h))
 
-pub head_ends : (lo hi : ℕ) (head : Option Entry) → lo / 64 < hi / 64 → lo ≤ end_of head lo → begin_of head lo ≤ lo → IfSome head (λ e. (hi_of e < hi) ⊎ (hi_of e ≡ 64 * (lo_of e / 64) + 63)) → end_of head lo < hi
+pub head_ends : (lo hi : ℕ) (head : Option Entry) → lo / 64 < hi / 64 → lo ≤ hi_or head lo → lo_or head lo ≤ lo → IfSome head (λ e. (hi_of e < hi) ⊎ (hi_of e ≡ 64 * (lo_of e / 64) + 63)) → hi_or head lo < hi
 head_ends lo hi None w a b h = omega arith
 head_ends lo hi (Some e) w a b h = elim h [ inl x ↦ x | inr y ↦ omega arith ]
 
-pub tail_starts : (entries : List Entry) (lo hi : ℕ) (head tail : Option Entry) → IsAt entries lo head → IsAt entries hi tail → end_of head lo < hi → IfSome tail (λ e. (lo < lo_of e) × (lo_of e ≤ hi) × (hi ≤ hi_of e))
+pub tail_starts : (entries : List Entry) (lo hi : ℕ) (head tail : Option Entry) → IsAt entries lo head → IsAt entries hi tail → hi_or head lo < hi → IfSome tail (λ e. (lo < lo_of e) × (lo_of e ≤ hi) × (hi ≤ hi_of e))
 tail_starts entries lo hi head None at end h = tt
 tail_starts entries lo hi head (Some t) at end h =
     let from = at.from in
     let to = at.to in
     let starts = end.from in
     let ends = end.to in
-    let P : Entry → Type 0 = λ e. (hi_of e < begin_of head lo) ⊎ (((begin_of head lo ≤ lo_of e) × (hi_of e ≤ end_of head lo)) ⊎ (end_of head lo < lo_of e)) in
+    let P : Entry → Type 0 = λ e. (hi_of e < lo_or head lo) ⊎ (((lo_or head lo ≤ lo_of e) × (hi_of e ≤ hi_or head lo)) ⊎ (hi_or head lo < lo_of e)) in
     elim (at_member P entries end.stands.0 t end.stands.1.0 end.stands.1.1 at.apart) [
       | inl x ↦ absurd (omega arith)
       | inr rest ↦ elim rest [

@@ -2,7 +2,7 @@
 use Rattle.std.proofs.Common.{ℕ, ◌≤◌, List, Some, None, arith}
 use Rattle.serial_set.specs.declared.entry.Entry.{Entry}
 use Rattle.serial_set.specs.Span.{AreSerials, Covers}
-use Rattle.serial_set.specs.Entry.{pieces, hi_of, EntriesFrom, members_of, runs_of}
+use Rattle.serial_set.specs.Entry.{members_in, hi_of, EntriesFrom, members_of, runs_of}
 use Rattle.serial_set.specs.Entries.{none_below, runs_of_entries}
 use Rattle.serial_set.specs.Places.{IsEntryFrom}
 use Rattle.serial_set.specs.Members.{IsFirst, GoesOn}
@@ -15,14 +15,14 @@ from_on es e n s k h reach =
 
 -- ---- the first member
 
-pub first_in : (es : List Entry) (e : Entry) (n first : ℕ) → EntriesFrom 0 es → IsEntryFrom es n (Some e) → first ≤ hi_of e → IsFirst (pieces e) n (Some first) → IsFirst (members_of es) n (Some first)
+pub first_in : (es : List Entry) (e : Entry) (n first : ℕ) → EntriesFrom 0 es → IsEntryFrom es n (Some e) → first ≤ hi_of e → IsFirst (members_in e) n (Some first) → IsFirst (members_of es) n (Some first)
 first_in es e n first order k reach f = (
   f.0,
   (asked es e first order (from_on es e n first k f.0 reach)).0 f.1,
   λ s h l m. f.2 s h l ((asked es e s order (from_on es e n s k h (omega arith))).1 m),
 )
 
-pub none_in : (es : List Entry) (e : Entry) (n s : ℕ) → EntriesFrom 0 es → IsEntryFrom es n (Some e) → IsFirst (pieces e) n None → n ≤ s → s ≤ hi_of e → Covers (members_of es) s → ⊥
+pub none_in : (es : List Entry) (e : Entry) (n s : ℕ) → EntriesFrom 0 es → IsEntryFrom es n (Some e) → IsFirst (members_in e) n None → n ≤ s → s ≤ hi_of e → Covers (members_of es) s → ⊥
 none_in es e n s order k f h l m = f s h ((asked es e s order (from_on es e n s k h l)).1 m)
 
 pub no_entry : (es : List Entry) (n : ℕ) → IsEntryFrom es n None → IsFirst (members_of es) n None
@@ -30,7 +30,7 @@ no_entry es n k s h m = none_below es s (λ i d q. let at = k i d q in omega ari
 
 -- ---- members that follow each other
 
-pub goes_in : (es : List Entry) (e : Entry) (n last : ℕ) → EntriesFrom 0 es → IsEntryFrom es n (Some e) → last ≤ hi_of e → GoesOn (pieces e) n last → GoesOn (members_of es) n last
+pub goes_in : (es : List Entry) (e : Entry) (n last : ℕ) → EntriesFrom 0 es → IsEntryFrom es n (Some e) → last ≤ hi_of e → GoesOn (members_in e) n last → GoesOn (members_of es) n last
 goes_in es e n last order k reach g = record {
   order = g.order;
   all = λ s h l. (asked es e s order (from_on es e n s k h (omega arith))).0 (g.all s h l);

@@ -6,8 +6,8 @@ use Rattle.std.proofs.lemmas.Bool.{cases_lt}
 use Rattle.std.proofs.lemmas.List.Elements.{All-append, All-cons, All-head, All-nil, All-tail, All-weaker}
 use Rattle.serial_set.specs.declared.entry.Entry.{Entry}
 use Rattle.serial_set.specs.declared.span.Span.{Span}
-use Rattle.serial_set.specs.Entries.{entries_back, entries_front, piece_in, runs_of_entries, stretch}
-use Rattle.serial_set.specs.Entry.{hi_of, lo_of, members_of, pieces, runs_of, EntriesFrom}
+use Rattle.serial_set.specs.Entries.{entries_back, entries_front, in_stretch, runs_of_entries, stretch}
+use Rattle.serial_set.specs.Entry.{hi_of, lo_of, members_of, members_in, runs_of, EntriesFrom}
 use Rattle.serial_set.specs.Least.{runs_first}
 use Rattle.serial_set.specs.Members.{GoesOn, IsFirst, Reads, Taken}
 use Rattle.serial_set.specs.Places.{IsEntryFrom}
@@ -119,19 +119,19 @@ taken_on spans runs n at to t h none = record {
 
 -- ---- the members of one entry
 
-pub reads_first : (spans : List Span) (e : Entry) (at n lo : ℕ) → Reads spans at e n → IsFirst (pieces e) n (Some lo) → IsFirst spans at (Some lo)
+pub reads_first : (spans : List Span) (e : Entry) (at n lo : ℕ) → Reads spans at e n → IsFirst (members_in e) n (Some lo) → IsFirst spans at (Some lo)
 reads_first spans e at n lo r f =
-    let end = (piece_in e lo f.1).1 in
+    let end = (in_stretch e lo f.1).1 in
     let here = (r.same lo end).1 (f.0, f.1) in
     (here.0, here.1, λ s h l m. let k = (r.same s (omega (arith, l, end))).0 (h, m) in f.2 s k.0 l k.1)
 
-pub reads_goes : (spans : List Span) (e : Entry) (at n lo hi : ℕ) → Reads spans at e n → n ≤ lo → GoesOn (pieces e) lo hi → GoesOn spans lo hi
+pub reads_goes : (spans : List Span) (e : Entry) (at n lo hi : ℕ) → Reads spans at e n → n ≤ lo → GoesOn (members_in e) lo hi → GoesOn spans lo hi
 reads_goes spans e at n lo hi r h g = record {
   order = g.order;
-  all = λ s k l. let m = g.all s k l in ((r.same s (piece_in e s m).1).1 (omega arith, m)).1;
+  all = λ s k l. let m = g.all s k l in ((r.same s (in_stretch e s m).1).1 (omega arith, m)).1;
 }
 
-pub reads_on : (spans : List Span) (e : Entry) (at n lo hi : ℕ) → Reads spans at e n → IsFirst (pieces e) n (Some lo) → GoesOn (pieces e) lo hi → hi < hi_of e → Reads spans (hi + 1) e (hi + 1)
+pub reads_on : (spans : List Span) (e : Entry) (at n lo hi : ℕ) → Reads spans at e n → IsFirst (members_in e) n (Some lo) → GoesOn (members_in e) lo hi → hi < hi_of e → Reads spans (hi + 1) e (hi + 1)
 reads_on spans e at n lo hi r f g l =
     let from : n ≤ hi + 1 = omega (arith, f.0, g.order) in
     let to : at ≤ hi + 1 = omega (arith, (reads_first spans e at n lo r f).0, g.order) in
@@ -141,14 +141,14 @@ reads_on spans e at n lo hi r f g l =
       same = λ s q. (λ m. (m.0, ((r.same s q).0 (omega (arith, to, m.0), m.1)).1), λ m. (m.0, ((r.same s q).1 (omega (arith, from, m.0), m.1)).1));
     }
 
-pub reads_none : (spans : List Span) (e : Entry) (at n s : ℕ) → Reads spans at e n → IsFirst (pieces e) n None → at ≤ s → s < hi_of e + 1 → Covers spans s → ⊥
+pub reads_none : (spans : List Span) (e : Entry) (at n s : ℕ) → Reads spans at e n → IsFirst (members_in e) n None → at ≤ s → s < hi_of e + 1 → Covers spans s → ⊥
 reads_none spans e at n s r f h l m = let k = (r.same s (omega arith)).0 (h, m) in f s k.0 k.1
 
-pub taken_run : (spans old new : List Span) (e : Entry) (n at from lo hi : ℕ) → Taken spans n at old → Reads spans at e from → IsFirst (pieces e) from (Some lo) → GoesOn (pieces e) lo hi → AddsSpan old lo hi new → Taken spans n (hi + 1) new
+pub taken_run : (spans old new : List Span) (e : Entry) (n at from lo hi : ℕ) → Taken spans n at old → Reads spans at e from → IsFirst (members_in e) from (Some lo) → GoesOn (members_in e) lo hi → AddsSpan old lo hi new → Taken spans n (hi + 1) new
 taken_run spans old new e n at from lo hi t r f g adds = taken_more spans old new n at lo hi t (reads_first spans e at from lo r f) (reads_goes spans e at from lo hi r f.0 g) adds
 
-pub goes_within : (e : Entry) (lo hi : ℕ) → GoesOn (pieces e) lo hi → hi ≤ hi_of e
-goes_within e lo hi g = (piece_in e hi (g.all hi g.order (omega arith))).1
+pub goes_within : (e : Entry) (lo hi : ℕ) → GoesOn (members_in e) lo hi → hi ≤ hi_of e
+goes_within e lo hi g = (in_stretch e hi (g.all hi g.order (omega arith))).1
 
 -- ---- one entry after the other
 
@@ -174,7 +174,7 @@ rest_first es n at e rest order k =
       to = own (hi_of e) reach whole;
       same = λ s l. (
         λ q. (omega (arith, k.from, q.0), (asked es e s order (here s q.0 l)).1 q.1),
-        λ q. let h = own s q.0 (piece_in e s q.1).0 in (h, (asked es e s order (here s h l)).0 q.1),
+        λ q. let h = own s q.0 (in_stretch e s q.1).0 in (h, (asked es e s order (here s h l)).0 q.1),
       );
     }
 

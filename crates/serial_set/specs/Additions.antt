@@ -3,7 +3,7 @@ use Rattle.std.specs.Prelude.{◌≡◌, ℕ, ◌≤◌, ◌<◌, ◌⊎◌, Lis
 use Rattle.serial_set.specs.declared.entry.Entry.{Entry}
 use Rattle.serial_set.specs.Span.{Covers}
 use Rattle.serial_set.specs.Entry.{lo_of, hi_of, members_of}
-use Rattle.serial_set.specs.News.{begin_of, end_of, Has}
+use Rattle.serial_set.specs.News.{lo_or, hi_or, Has}
 
 -- the entry is one of the set's
 abbrev pub Stands : List Entry → Option Entry → Type 0
@@ -15,11 +15,11 @@ Stands entries (Some e) =
 -- it. What the entries have in its stretch it has.
 pub record IsAt (entries : List Entry) (number : ℕ) (o : Option Entry) : Type 0 where
   pub stands : Stands entries o
-  pub from : begin_of o number ≤ number
-  pub to : number ≤ end_of o number
-  pub apart : All (λ e. (hi_of e < begin_of o number)
-      ⊎ (((begin_of o number ≤ lo_of e) × (hi_of e ≤ end_of o number))
-      ⊎ (end_of o number < lo_of e))) entries
+  pub from : lo_or o number ≤ number
+  pub to : number ≤ hi_or o number
+  pub apart : All (λ e. (hi_of e < lo_or o number)
+      ⊎ (((lo_or o number ≤ lo_of e) × (hi_of e ≤ hi_or o number))
+      ⊎ (hi_or o number < lo_of e))) entries
   pub has : (s : ℕ) → Has o s → Covers (members_of entries) s
-  pub owns : (s : ℕ) → begin_of o number ≤ s → s ≤ end_of o number
+  pub owns : (s : ℕ) → lo_or o number ≤ s → s ≤ hi_or o number
       → Covers (members_of entries) s → Has o s

@@ -12,14 +12,14 @@ use Rattle.serial_set.specs.Span.{AreSerials, Covers, IsRunsOf}
 use Rattle.serial_set.specs.Rising.{names_append, names_left, names_right}
 use Rattle.serial_set.specs.Joined.{Rises, joined_of}
 use Rattle.serial_set.specs.Words.{singles_rise, singles_to, Rises-weaker}
-use Rattle.serial_set.specs.Entry.{window_of, bits_of, pieces, pieces_by, lo_of, lo_by}
+use Rattle.serial_set.specs.Entry.{window_of, bits_of, members_in, members_by, lo_of, lo_by}
 use Rattle.serial_set.specs.Entry.{hi_of, hi_by, EntriesFrom, members_of, runs_of}
 
 -- ---- one entry
 
-pub piece_in : (e : Entry) (s : ℕ) → Covers (pieces e) s → (lo_of e ≤ s) × (s ≤ hi_of e)
-piece_in e s n =
-    let P : Bool → Type 0 = λ v. Covers (pieces_by v e) s → (lo_by v e ≤ s) × (s ≤ hi_by v e) in
+pub in_stretch : (e : Entry) (s : ℕ) → Covers (members_in e) s → (lo_of e ≤ s) × (s ≤ hi_of e)
+in_stretch e s n =
+    let P : Bool → Type 0 = λ v. Covers (members_by v e) s → (lo_by v e ≤ s) × (s ≤ hi_by v e) in
     elim (leb_tells e.a e.b) [
       | inl run ↦ subst P (sym run.0) (λ m. elim m [ inl here ↦ here | inr none ↦ absurd none ]) n
       | inr word ↦ subst P (sym word.0) (λ m.
@@ -34,9 +34,9 @@ stretch e =
       | inr word ↦ subst P (sym word.0) (omega arith)
     ]
 
-pub pieces_rise : (e : Entry) → Rises (lo_of e) (pieces e)
-pieces_rise e =
-    let P : Bool → Type 0 = λ v. Rises (lo_by v e) (pieces_by v e) in
+pub members_rise : (e : Entry) → Rises (lo_of e) (members_in e)
+members_rise e =
+    let P : Bool → Type 0 = λ v. Rises (lo_by v e) (members_by v e) in
     elim (leb_tells e.a e.b) [
       | inl run ↦ subst P (sym run.0) (omega arith, run.1, tt)
       | inr word ↦ subst P (sym word.0) (singles_rise 64 (64 * window_of e) (bits_of e))
@@ -55,9 +55,9 @@ pub entries_rise : (a : ℕ) (es : List Entry) → EntriesFrom a es → Rises a 
 entries_rise a [] r = tt
 entries_rise a (e ∷ es) r =
     let whole = stretch e in
-    Rises-join a (hi_of e + 1) (pieces e) (members_of es) (omega arith)
-    (Rises-weaker (lo_of e) a (pieces e) r.0 (pieces_rise e))
-    (λ s n. let at = piece_in e s n in omega arith)
+    Rises-join a (hi_of e + 1) (members_in e) (members_of es) (omega arith)
+    (Rises-weaker (lo_of e) a (members_in e) r.0 (members_rise e))
+    (λ s n. let at = in_stretch e s n in omega arith)
     (entries_rise (hi_of e + 1) es r.1)
 
 -- the runs of entries have just the members of these
@@ -106,18 +106,18 @@ pub has_append : (xs ys : List Entry) (s : ℕ) → Covers (members_of (xs ++ ys
     → Covers (members_of xs) s ⊎ Covers (members_of ys) s
 has_append xs ys s n =
     names_append (members_of xs) (members_of ys) s
-    (subst (λ l. Covers l s) (flat_map-append pieces xs ys) n)
+    (subst (λ l. Covers l s) (flat_map-append members_in xs ys) n)
 
 pub has_left : (xs ys : List Entry) (s : ℕ) → Covers (members_of xs) s
     → Covers (members_of (xs ++ ys)) s
 has_left xs ys s n =
-    subst (λ l. Covers l s) (sym (flat_map-append pieces xs ys))
+    subst (λ l. Covers l s) (sym (flat_map-append members_in xs ys))
     (names_left (members_of xs) (members_of ys) s n)
 
 pub has_right : (xs ys : List Entry) (s : ℕ) → Covers (members_of ys) s
     → Covers (members_of (xs ++ ys)) s
 has_right xs ys s n =
-    subst (λ l. Covers l s) (sym (flat_map-append pieces xs ys))
+    subst (λ l. Covers l s) (sym (flat_map-append members_in xs ys))
     (names_right (members_of xs) (members_of ys) s n)
 
 -- no member of entries that end below a number is that number or past it
@@ -126,8 +126,8 @@ pub none_below : (es : List Entry) (s : ℕ) → All (λ e. hi_of e < s) es
 none_below [] s below n = n
 none_below (e ∷ es) s below n =
     let end : hi_of e < s = All-head (λ t. hi_of t < s) e es below in
-    elim (names_append (pieces e) (members_of es) s n) [
-      | inl here ↦ let at = piece_in e s here in omega arith
+    elim (names_append (members_in e) (members_of es) s n) [
+      | inl here ↦ let at = in_stretch e s here in omega arith
       | inr later ↦ none_below es s (All-tail (λ t. hi_of t < s) e es below) later
     ]
 
@@ -137,8 +137,8 @@ pub has_from : (a : ℕ) (es : List Entry) (s : ℕ) → EntriesFrom a es → Co
 has_from a [] s r n = absurd n
 has_from a (e ∷ es) s r n =
     let whole = stretch e in
-    elim (names_append (pieces e) (members_of es) s n) [
-      | inl here ↦ let at = piece_in e s here in omega arith
+    elim (names_append (members_in e) (members_of es) s n) [
+      | inl here ↦ let at = in_stretch e s here in omega arith
       | inr later ↦ let past = has_from (hi_of e + 1) es s r.1 later in omega arith
     ]
 

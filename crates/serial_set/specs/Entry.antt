@@ -23,13 +23,13 @@ abbrev pub bits_of : Entry → ℕ
 bits_of e = bits_by (nat_eq (e.b % 2) 1) e.a
 
 -- the members, where the entry is a run and where it is a word
-abbrev pub pieces_by : Bool → Entry → List Span
-pieces_by true e = record { lo = e.a; hi = e.b } ∷ []
-pieces_by false e = singles 64 (64 * window_of e) (bits_of e)
+abbrev pub members_by : Bool → Entry → List Span
+members_by true e = record { lo = e.a; hi = e.b } ∷ []
+members_by false e = singles 64 (64 * window_of e) (bits_of e)
 
 -- the entry's members as spans that rise
-abbrev pub pieces : Entry → List Span
-pieces e = pieces_by (is_run e) e
+abbrev pub members_in : Entry → List Span
+members_in e = members_by (is_run e) e
 
 abbrev pub lo_by : Bool → Entry → ℕ
 lo_by true e = e.a
@@ -52,7 +52,7 @@ EntriesFrom least [] = ⊤
 EntriesFrom least (e ∷ entries) = (least ≤ lo_of e) × EntriesFrom (hi_of e + 1) entries
 
 abbrev pub members_of : List Entry → List Span
-members_of entries = flat_map pieces entries
+members_of entries = flat_map members_in entries
 
 -- the runs of entries in order
 abbrev pub runs_of : List Entry → List Span

@@ -14,8 +14,8 @@ same_span x y p q =
     ap (λ (n : ℕ). record { lo = n; hi = x.hi }) p ∙ ap (λ (n : ℕ). record { lo = y.lo; hi = n }) q
 
 -- the number after the first span is not named
-gap : (a : ℕ) (x : Span) (xs : List Span) → RunsFrom a (x ∷ xs) → Covers (x ∷ xs) (x.hi + 1) → ⊥
-gap a x xs r n =
+not_after : (a : ℕ) (x : Span) (xs : List Span) → RunsFrom a (x ∷ xs) → Covers (x ∷ xs) (x.hi + 1) → ⊥
+not_after a x xs r n =
     elim n [
       | inl here ↦ omega (arith, here.1)
       | inr later ↦ omega (arith, names_from (x.hi + 2) xs (x.hi + 1) r.2 later)
@@ -31,7 +31,7 @@ first_no_longer : (a b : ℕ) (x y : Span) (xs ys : List Span) → RunsFrom a (x
     → y.hi ≤ x.hi
 first_no_longer a b x y xs ys r t same from =
     elim (cases_lt x.hi y.hi) [
-      | inl longer ↦ absurd (gap a x xs r (from (x.hi + 1) (inl (omega arith, omega arith))))
+      | inl longer ↦ absurd (not_after a x xs r (from (x.hi + 1) (inl (omega arith, omega arith))))
       | inr upto ↦ upto
     ]
 
@@ -73,7 +73,7 @@ runs_first a b (x ∷ xs) (y ∷ ys) r t to from =
     let lo : x.lo ≡ y.lo = omega arith in
     let shorter = first_no_longer b a y x ys xs t r (sym lo) to in
     let hi : x.hi ≡ y.hi = elim (cases_lt x.hi y.hi) [
-      | inl longer ↦ absurd (gap a x xs r (from (x.hi + 1) x.hi (inl (r.1, omega arith))
+      | inl longer ↦ absurd (not_after a x xs r (from (x.hi + 1) x.hi (inl (r.1, omega arith))
           (omega arith) (inl (omega arith, omega arith))))
       | inr upto ↦ omega arith
     ] in
@@ -138,7 +138,7 @@ least_from a (x ∷ xs) others r to from =
     let apart : (s : ℕ) → x.hi + 2 ≤ s → SpanCovers f.span s → ⊥ = λ s past held.
     let next = x.hi + 1 in
     let in_span : SpanCovers f.span next = (omega (arith, f.held), omega (arith, held)) in
-    gap a x xs r (from next (omega arith)
+    not_after a x xs r (from next (omega arith)
     (back next (names_right f.front (f.span ∷ f.back) next (inl in_span)))) in
     let rest = least_from (x.hi + 2) xs (f.front ++ f.back) r.2
     (λ s n.

@@ -3,7 +3,7 @@ use Rattle.std.specs.Prelude.{◌≡◌, ℕ, ◌≤◌, ◌<◌, ◌↔◌, Lis
 use Rattle.std.specs.Int.{bit_at}
 use Rattle.serial_set.specs.declared.span.Span.{Span}
 use Rattle.serial_set.specs.declared.entry.Entry.{Entry}
-use Rattle.serial_set.specs.Entry.{hi_of, pieces}
+use Rattle.serial_set.specs.Entry.{hi_of, members_in}
 use Rattle.serial_set.specs.Span.{Covers, IsRunsOf}
 
 -- the first of the lowest 64 bits that is set, from a place on
@@ -35,4 +35,4 @@ pub record Reads (spans : List Span) (at : ℕ) (entry : Entry) (number : ℕ) :
   pub from : number ≤ hi_of entry
   pub to : at ≤ hi_of entry
   pub same : (s : ℕ) → s ≤ hi_of entry
-      → ((at ≤ s) × Covers spans s) ↔ ((number ≤ s) × Covers (pieces entry) s)
+      → ((at ≤ s) × Covers spans s) ↔ ((number ≤ s) × Covers (members_in entry) s)

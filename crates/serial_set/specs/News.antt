@@ -2,22 +2,22 @@
 use Rattle.std.specs.Prelude.{ℕ, ◌≤◌, ◌<◌, List, Option, Some, None, All, length}
 use Rattle.serial_set.specs.declared.entry.Entry.{Entry}
 use Rattle.serial_set.specs.Span.{Covers}
-use Rattle.serial_set.specs.Entry.{pieces, lo_of, hi_of, EntriesFrom}
+use Rattle.serial_set.specs.Entry.{members_in, lo_of, hi_of, EntriesFrom}
 
 -- s is a member of the entry, if there is one
 abbrev pub Has : Option Entry → ℕ → Type 0
 Has None s = ⊥
-Has (Some e) s = Covers (pieces e) s
+Has (Some e) s = Covers (members_in e) s
 
 -- where the entry begins, or a number where there is none
-abbrev pub begin_of : Option Entry → ℕ → ℕ
-begin_of None number = number
-begin_of (Some e) number = lo_of e
+abbrev pub lo_or : Option Entry → ℕ → ℕ
+lo_or None number = number
+lo_or (Some e) number = lo_of e
 
 -- where the entry ends, or a number where there is none
-abbrev pub end_of : Option Entry → ℕ → ℕ
-end_of None number = number
-end_of (Some e) number = hi_of e
+abbrev pub hi_or : Option Entry → ℕ → ℕ
+hi_or None number = number
+hi_or (Some e) number = hi_of e
 
 -- entries that rise within the numbers from lo to hi
 pub record IsNews (few : List Entry) (lo hi : ℕ) : Type 0 where

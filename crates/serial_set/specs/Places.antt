@@ -3,7 +3,7 @@ use Rattle.std.specs.Prelude.{◌≡◌, ℕ, ◌+◌, ◌*◌, ◌≤◌, ◌<�
 use Rattle.std.specs.Prelude.{Option, Some, None, All}
 use Rattle.serial_set.specs.declared.entry.Entry.{Entry}
 use Rattle.std.specs.Coded.{Unit-prop, le_prop}
-use Rattle.serial_set.specs.Entry.{pieces, lo_of, hi_of, EntriesFrom}
+use Rattle.serial_set.specs.Entry.{members_in, lo_of, hi_of, EntriesFrom}
 use Rattle.serial_set.specs.Span.{Covers}
 use Rattle.serial_set.specs.Words.{BitCovers}
 
@@ -48,8 +48,8 @@ order_prop least (e ∷ entries) =
 pub record Widened (was : Entry) (window bits : ℕ) (is : Entry) : Type 0 where
   pub lo : (lo_of was ≡ 64 * window) × (lo_of is ≡ 64 * window)
   pub hi : (hi_of was ≡ 64 * window + 63) × (hi_of is ≡ 64 * window + 63)
-  pub more : (s : ℕ) → Covers (pieces is) s
-      ↔ (Covers (pieces was) s ⊎ BitCovers 64 (64 * window) bits s)
+  pub more : (s : ℕ) → Covers (members_in is) s
+      ↔ (Covers (members_in was) s ⊎ BitCovers 64 (64 * window) bits s)
 
 -- the word of a window gets more bits, and nothing else changes
 pub record WordWidened (old : List Entry) (window bits : ℕ) (new : List Entry) : Type 0 where

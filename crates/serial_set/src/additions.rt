@@ -4,7 +4,7 @@ ghost use Rattle.serial_set.specs.Additions.{IsAt};
 ghost use Rattle.serial_set.specs.BitRuns.{IsInterval};
 ghost use Rattle.serial_set.specs.Entry.{lo_of, hi_of, members_of, runs_of};
 ghost use Rattle.serial_set.specs.Near.{AddsSpans, AreNear};
-ghost use Rattle.serial_set.specs.News.{begin_of, end_of, Has};
+ghost use Rattle.serial_set.specs.News.{lo_or, hi_or, Has};
 ghost use Rattle.serial_set.specs.Span.{AddsSpan, Covers, IsRunsOf};
 ghost use Rattle.serial_set.specs.SpanPages.{entries_held};
 ghost use Rattle.serial_set.specs.Words.{BitCovers};
@@ -138,7 +138,7 @@ impl SpanPages {
 
 // Whether an entry is a run that ends at a number or past it.
 fn holds(head: Option<Entry>, hi: u64) -> bool
-    ensures all { (from s : ℕ) → IsTrue result → begin_of head from ≤ s → s ≤ hi → Has head s }
+    ensures all { (from s : ℕ) → IsTrue result → lo_or head from ≤ s → s ≤ hi → Has head s }
     ensures none { result ≡ false
         → IfSome head (λ e. (hi_of e < hi) ⊎ (hi_of e ≡ 64 * (lo_of e / 64) + 63)) }
 {
@@ -157,7 +157,7 @@ fn part_in(entry: Option<Entry>, window: u64, at: u64) -> WindowBits
         → BitCovers 64 (64 * window) result.bits s ↔ Has entry s }
     ensures at { (at < result.at) × (result.at ≤ 64) }
     ensures end { (s : ℕ) → s < 64 * window + result.at
-        → s ≤ end_of entry (64 * window + 63) }
+        → s ≤ hi_or entry (64 * window + 63) }
 {
     match entry {
         Some(entry) => WindowBits {

@@ -3,6 +3,7 @@ ghost use Rattle.std.specs.Prelude.{◌≡◌, ◌+◌, ◌-◌, ◌*◌, ◌^�
 ghost use Rattle.std.specs.Int.{bit_at};
 ghost use Rattle.serial_set.specs.Words.{BitCovers};
 
+use crate::search::HasEnd;
 use crate::word_bits::{first_bit, last_bit};
 
 /// A run where `a` is at most `b`, and else a word: the window `b / 2`, whose bits are those of
@@ -15,7 +16,7 @@ pub struct Entry {
 }
 
 impl Entry {
-    ghost use Rattle.serial_set.specs.Entry.{is_run, window_of, bits_of, pieces, lo_of, hi_of};
+    ghost use Rattle.serial_set.specs.Entry.{is_run, window_of, bits_of, members_in, lo_of, hi_of};
     ghost use Rattle.serial_set.specs.Members.{GoesOn, IsFirst};
     ghost use Rattle.serial_set.specs.Places.{Widened};
     ghost use Rattle.serial_set.specs.Words.{singles};
@@ -24,7 +25,7 @@ impl Entry {
     /// The serials from `lo` to `hi`.
     pub fn run(lo: u64, hi: u64) -> Entry
         requires { lo ≤ hi }
-        ensures pieces { pieces result ≡ record { lo = lo; hi = hi } ∷ [] }
+        ensures members { members_in result ≡ record { lo = lo; hi = hi } ∷ [] }
         ensures lo { lo_of result ≡ lo }
         ensures hi { hi_of result ≡ hi }
     {
@@ -34,7 +35,7 @@ impl Entry {
     /// The serials of a window whose bits are set.
     pub fn word(window: u64, bits: u64) -> Entry
         requires { window < 2 ^ 58 }
-        ensures pieces { pieces result ≡ singles 64 (64 * window) bits }
+        ensures members { members_in result ≡ singles 64 (64 * window) bits }
         ensures lo { lo_of result ≡ 64 * window }
         ensures hi { hi_of result ≡ 64 * window + 63 }
     {
@@ -101,7 +102,7 @@ impl Entry {
 
     /// Whether a serial is a member.
     pub fn has(self, serial: u64) -> bool
-        ensures { IsTrue result ↔ Covers (pieces self) serial }
+        ensures { IsTrue result ↔ Covers (members_in self) serial }
     {
         if self.is_run() {
             return self.a <= serial && serial <= self.b;
@@ -122,7 +123,7 @@ impl Entry {
     // A word with more bits of its window.
     fn with(self, bits: u64) -> Entry
         requires { self.b < self.a }
-        ensures more { (s : ℕ) → Covers (pieces result) s ↔ (Covers (pieces self) s
+        ensures more { (s : ℕ) → Covers (members_in result) s ↔ (Covers (members_in self) s
             ⊎ BitCovers 64 (64 * window_of self) bits s) }
         ensures lo { lo_of result ≡ lo_of self }
         ensures hi { hi_of result ≡ hi_of self }
@@ -133,7 +134,7 @@ impl Entry {
     /// The first member from a number on.
     pub fn first_from(self, number: u64) -> Option<u64>
         requires { number ≤ hi_of self }
-        ensures { IsFirst (pieces self) number result }
+        ensures { IsFirst (members_in self) number result }
     {
         if self.is_run() {
             return Some(number.max(self.a));
@@ -147,8 +148,8 @@ impl Entry {
 
     /// The last of the members that follow a member without a gap.
     pub fn last_from(self, member: u64) -> u64
-        requires { Covers (pieces self) member }
-        ensures { GoesOn (pieces self) member result }
+        requires { Covers (members_in self) member }
+        ensures { GoesOn (members_in self) member result }
     {
         if self.is_run() {
             return self.b;
@@ -161,7 +162,7 @@ impl Entry {
     pub fn bits_in(self, window: u64) -> u64
         requires { window < 2 ^ 58 }
         ensures { (s : ℕ) → 64 * window ≤ s → s < 64 * window + 64
-            → (BitCovers 64 (64 * window) result s ↔ Covers (pieces self) s) }
+            → (BitCovers 64 (64 * window) result s ↔ Covers (members_in self) s) }
     {
         if self.is_run() {
             return run_in(window, self.a, self.b);
@@ -171,6 +172,16 @@ impl Entry {
         } else {
             0
         }
+    }
+}
+
+impl HasEnd for Entry {
+    ghost use Rattle.serial_set.specs.Entry.{hi_of};
+
+    ghost end = { hi_of };
+
+    fn end(&self) -> u64 {
+        self.hi()
     }
 }
 

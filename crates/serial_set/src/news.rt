@@ -1,9 +1,9 @@
 //! Which entries an addition puts in place of those that it meets.
 ghost use Rattle.std.specs.Prelude.{◌≡◌, ◌+◌, ◌*◌, ◌/◌, ◌%◌, ◌^◌, ◌<◌, ◌≤◌, ◌⊎◌, ◌↔◌, ◌∷◌, ◌++◌, [], ℕ, IfSome, length};
 ghost use Rattle.std.specs.Option.{option_to_list};
-ghost use Rattle.serial_set.specs.Entry.{lo_of, hi_of, members_of, pieces};
+ghost use Rattle.serial_set.specs.Entry.{lo_of, hi_of, members_of, members_in};
 ghost use Rattle.serial_set.specs.Few.{few_of};
-ghost use Rattle.serial_set.specs.News.{begin_of, end_of, Has, IsNews};
+ghost use Rattle.serial_set.specs.News.{lo_or, hi_or, Has, IsNews};
 ghost use Rattle.serial_set.specs.Span.{Covers};
 ghost use Rattle.serial_set.specs.Words.{BitCovers};
 
@@ -33,8 +33,8 @@ pub fn news_of_run(lo: u64, hi: u64, head: Option<Entry>, tail: Option<Entry>) -
     requires head { IfSome head (λ e. (lo_of e ≤ lo) × (lo ≤ hi_of e) × (hi_of e < hi)) }
     requires tail { IfSome tail (λ e. (lo < lo_of e) × (lo_of e ≤ hi) × (hi ≤ hi_of e)) }
     ensures lies { IsNews (few_of result.few) result.lo result.hi }
-    ensures lo { result.lo ≡ begin_of head lo }
-    ensures hi { result.hi ≡ end_of tail hi }
+    ensures lo { result.lo ≡ lo_or head lo }
+    ensures hi { result.hi ≡ hi_or tail hi }
     ensures members { (s : ℕ) → Covers (members_of (few_of result.few)) s
         ↔ (Has head s ⊎ (Has tail s ⊎ ((lo ≤ s) × (s ≤ hi)))) }
 {
@@ -43,8 +43,8 @@ pub fn news_of_run(lo: u64, hi: u64, head: Option<Entry>, tail: Option<Entry>) -
     let run = run_between(front.at, back.at);
     News {
         few: Few::of(front.word, run, back.word),
-        lo: begin(head, lo),
-        hi: end(tail, hi),
+        lo: lo_or(head, lo),
+        hi: hi_or(tail, hi),
     }
 }
 
@@ -57,8 +57,8 @@ pub fn news_of_bits(window: u64, bits: u64, head: Option<Entry>, tail: Option<En
     requires tail { IfSome tail
         (λ e. (lo_of e ≤ 64 * window + 63) × (64 * window + 63 ≤ hi_of e)) }
     ensures lies { IsNews (few_of result.few) result.lo result.hi }
-    ensures lo { result.lo ≡ begin_of head (64 * window) }
-    ensures hi { result.hi ≡ end_of tail (64 * window + 63) }
+    ensures lo { result.lo ≡ lo_or head (64 * window) }
+    ensures hi { result.hi ≡ hi_or tail (64 * window + 63) }
     ensures members { (s : ℕ) → Covers (members_of (few_of result.few)) s
         ↔ ((Has head s × (s < 64 * window)) ⊎ (BitCovers 64 (64 * window) bits s
         ⊎ (Has tail s × (64 * window + 63 < s)))) }
@@ -67,8 +67,8 @@ pub fn news_of_bits(window: u64, bits: u64, head: Option<Entry>, tail: Option<En
     let word = Entry::word(window, bits);
     News {
         few: Few::of(before(head, first), Some(word), after(tail, first + 63)),
-        lo: begin(head, first),
-        hi: end(tail, first + 63),
+        lo: lo_or(head, first),
+        hi: hi_or(tail, first + 63),
     }
 }
 
@@ -77,8 +77,8 @@ fn front_of(head: Option<Entry>, lo: u64, hi: u64) -> Side
     requires order { lo ≤ hi }
     requires head { IfSome head (λ e. (lo_of e ≤ lo) × (lo ≤ hi_of e) × (hi_of e < hi)) }
     ensures word { IfSome result.word
-        (λ w. (begin_of head lo ≤ lo_of w) × (hi_of w < result.at)) }
-    ensures begins { begin_of head lo ≤ result.at }
+        (λ w. (lo_or head lo ≤ lo_of w) × (hi_of w < result.at)) }
+    ensures begins { lo_or head lo ≤ result.at }
     ensures at { result.at ≤ hi }
     ensures window { (result.at ≤ lo) ⊎ ((0 < length (option_to_list result.word))
         × (result.at ≡ 64 * (lo / 64) + 64)) }
@@ -102,8 +102,8 @@ fn front_at(entry: Entry, lo: u64, hi: u64) -> Side
     ensures window { (result.at ≤ lo) ⊎ ((0 < length (option_to_list result.word))
         × (result.at ≡ 64 * (lo / 64) + 64)) }
     ensures below { (s : ℕ) → s < result.at
-        → Has result.word s ↔ (Covers (pieces entry) s ⊎ (lo ≤ s)) }
-    ensures joins { (s : ℕ) → result.at ≤ s → s < lo → Covers (pieces entry) s }
+        → Has result.word s ↔ (Covers (members_in entry) s ⊎ (lo ≤ s)) }
+    ensures joins { (s : ℕ) → result.at ≤ s → s < lo → Covers (members_in entry) s }
 {
     if entry.is_run() {
         return Side {
@@ -123,8 +123,8 @@ fn back_of(tail: Option<Entry>, lo: u64, hi: u64) -> Side
     requires order { lo ≤ hi }
     requires tail { IfSome tail (λ e. (lo < lo_of e) × (lo_of e ≤ hi) × (hi ≤ hi_of e)) }
     ensures word { IfSome result.word
-        (λ w. (result.at < lo_of w) × (hi_of w ≤ end_of tail hi)) }
-    ensures ends { result.at ≤ end_of tail hi }
+        (λ w. (result.at < lo_of w) × (hi_of w ≤ hi_or tail hi)) }
+    ensures ends { result.at ≤ hi_or tail hi }
     ensures at { lo ≤ result.at }
     ensures window { (hi ≤ result.at) ⊎ (result.at + 1 ≡ 64 * (hi / 64)) }
     ensures above { (s : ℕ) → result.at < s → Has result.word s ↔ (Has tail s ⊎ (s ≤ hi)) }
@@ -146,8 +146,8 @@ fn back_at(entry: Entry, lo: u64, hi: u64) -> Side
     ensures at { lo ≤ result.at }
     ensures window { (hi ≤ result.at) ⊎ (result.at + 1 ≡ 64 * (hi / 64)) }
     ensures above { (s : ℕ) → result.at < s
-        → Has result.word s ↔ (Covers (pieces entry) s ⊎ (s ≤ hi)) }
-    ensures joins { (s : ℕ) → hi < s → s ≤ result.at → Covers (pieces entry) s }
+        → Has result.word s ↔ (Covers (members_in entry) s ⊎ (s ≤ hi)) }
+    ensures joins { (s : ℕ) → hi < s → s ≤ result.at → Covers (members_in entry) s }
 {
     if entry.is_run() {
         return Side {
@@ -179,7 +179,7 @@ fn run_between(lo: u64, hi: u64) -> Option<Entry>
 fn before(head: Option<Entry>, first: u64) -> Option<Entry>
     requires window { first / 64 * 64 ≡ first }
     requires head { IfSome head (λ e. (lo_of e ≤ first) × (first ≤ hi_of e)) }
-    ensures ends { IfSome result (λ e. (begin_of head first ≤ lo_of e) × (hi_of e < first)) }
+    ensures ends { IfSome result (λ e. (lo_or head first ≤ lo_of e) × (hi_of e < first)) }
     ensures members { (s : ℕ) → Has result s ↔ (Has head s × (s < first)) }
 {
     match head {
@@ -192,7 +192,7 @@ fn before(head: Option<Entry>, first: u64) -> Option<Entry>
 fn after(tail: Option<Entry>, last: u64) -> Option<Entry>
     requires window { last % 64 ≡ 63 }
     requires tail { IfSome tail (λ e. (lo_of e ≤ last) × (last ≤ hi_of e)) }
-    ensures ends { IfSome result (λ e. (last < lo_of e) × (hi_of e ≤ end_of tail last)) }
+    ensures ends { IfSome result (λ e. (last < lo_of e) × (hi_of e ≤ hi_or tail last)) }
     ensures members { (s : ℕ) → Has result s ↔ (Has tail s × (last < s)) }
 {
     match tail {
@@ -202,8 +202,8 @@ fn after(tail: Option<Entry>, last: u64) -> Option<Entry>
 }
 
 // Where an entry begins, or a number where there is none.
-fn begin(entry: Option<Entry>, number: u64) -> u64
-    ensures { result ≡ begin_of entry number }
+fn lo_or(entry: Option<Entry>, number: u64) -> u64
+    ensures { result ≡ lo_or entry number }
 {
     match entry {
         Some(entry) => entry.lo(),
@@ -212,8 +212,8 @@ fn begin(entry: Option<Entry>, number: u64) -> u64
 }
 
 // Where an entry ends, or a number where there is none.
-fn end(entry: Option<Entry>, number: u64) -> u64
-    ensures { result ≡ end_of entry number }
+fn hi_or(entry: Option<Entry>, number: u64) -> u64
+    ensures { result ≡ hi_or entry number }
 {
     match entry {
         Some(entry) => entry.hi(),

@@ -7,7 +7,7 @@ ghost use Rattle.serial_set.specs.Places.{end_of, CutTo, WordWidened};
 
 use crate::entry::Entry;
 use crate::row::{insert_at, remove};
-use crate::search::{count_beginning_upto, count_ending_below};
+use crate::search::{HasEnd, count_ending_below, count_ending_upto};
 use std::alloc::{AllocError, Global};
 
 /// How many entries a page has at most.
@@ -47,13 +47,6 @@ impl Page {
         &self.items
     }
 
-    /// Where its last entry ends.
-    pub fn end(&self) -> u64
-        ensures { result ≡ end_of (entries_in self.now) }
-    {
-        self.end
-    }
-
     /// Whether it has room for what one change puts in place of others.
     pub fn has_room(&self) -> bool
         ensures room { IsTrue result → length (entries_in self.now) ≤ 253 }
@@ -63,9 +56,10 @@ impl Page {
     }
 
     /// Puts at most three entries that rise in place of all that reach into the numbers from `lo`
-    /// to `hi`.
+    /// to `hi`, which cuts none of them.
     pub fn put(&mut self, few: &[Entry], lo: u64, hi: u64) -> Result<(), AllocError>
         requires order { EntriesFrom 0 (entries_in self.old) }
+        requires whole { All (λ e. (hi_of e ≤ hi) ⊎ (hi < lo_of e)) (entries_in self.old) }
         requires room { length (entries_in self.old) ≤ 253 }
         requires few { (0 < length few.now) × (length few.now ≤ 3) }
         ensures put { OnOk result
@@ -74,7 +68,7 @@ impl Page {
     {
         let entries = self.as_slice();
         let from = count_ending_below(entries, lo);
-        let to = from + count_beginning_upto(&entries[from..], hi);
+        let to = from + count_ending_upto(&entries[from..], hi);
         self.splice(from, to, few)
     }
 
@@ -185,7 +179,7 @@ impl Page {
         requires past { number < end_of (entries_in self.old) }
         ensures { CutTo (entries_in self.old) number (entries_in self.new) }
     {
-        let count = count_beginning_upto(self.as_slice(), number);
+        let count = count_ending_upto(self.as_slice(), number);
         self.cut_front(count);
     }
 
@@ -195,6 +189,16 @@ impl Page {
         ensures { entries_in self.new ≡ drop count (entries_in self.old) }
     {
         remove(&mut self.items, 0, count);
+    }
+}
+
+impl HasEnd for Page {
+    ghost use Rattle.serial_set.specs.Pages.{entries_in};
+
+    ghost end = { λ page. end_of (entries_in page) };
+
+    fn end(&self) -> u64 {
+        self.end
     }
 }
 

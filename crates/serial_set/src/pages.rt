@@ -1,5 +1,5 @@
 //! Pages of entries in a row, one after the other.
-ghost use Rattle.std.specs.Prelude.{◌≡◌, ◌+◌, ◌*◌, ◌^◌, ◌<◌, ◌≤◌, ◌⊎◌, ◌++◌, [], ℕ, length, take, drop, nat_lt, nat_le, slice_index_or, false, All, IsTrue, IfOk, OnOk, OnErr};
+ghost use Rattle.std.specs.Prelude.{◌≡◌, ◌+◌, ◌*◌, ◌^◌, ◌<◌, ◌≤◌, ◌⊎◌, ◌++◌, [], ℕ, length, take, drop, slice_index_or, false, All, IsTrue, IfOk, OnOk, OnErr};
 ghost use Rattle.std.specs.Vec.{vec_len};
 ghost use Rattle.serial_set.specs.declared.page.Page.{Page};
 ghost use Rattle.serial_set.specs.Entry.{lo_of, hi_of, EntriesFrom};
@@ -10,7 +10,7 @@ ghost use Rattle.serial_set.specs.Places.{end_of, CutTo, IsListFrom, WordWidened
 use crate::entry::Entry;
 use crate::page::Page;
 use crate::row::{insert_at, remove};
-use crate::search::count_ending_below;
+use crate::search::{HasEnd, count_ending_below, count_ending_upto};
 use std::alloc::AllocError;
 
 // How many pages end before a number.
@@ -20,11 +20,7 @@ fn pages_ending_below(pages: &[Page], number: u64) -> usize
     ensures below { All (λ e. hi_of e < number) (entries_of (take result pages.now)) }
     ensures reach { All (λ page. number ≤ end_of (entries_in page)) (drop result pages.now) }
 {
-    pages.partition_point(
-        |page: &Page| -> bool
-            ensures { result ≡ nat_lt (end_of (entries_in page.now)) number }
-        { page.end() < number },
-    )
+    count_ending_below(pages, number)
 }
 
 // How many pages end at a number or below it.
@@ -34,11 +30,7 @@ fn pages_ending_upto(pages: &[Page], number: u64) -> usize
     ensures upto { All (λ e. hi_of e ≤ number) (entries_of (take result pages.now)) }
     ensures past { All (λ page. number < end_of (entries_in page)) (drop result pages.now) }
 {
-    pages.partition_point(
-        |page: &Page| -> bool
-            ensures { result ≡ nat_le (end_of (entries_in page.now)) number }
-        { page.end() <= number },
-    )
+    count_ending_upto(pages, number)
 }
 
 /// The entries from the first that ends at a number or past it on, as many as lie together.

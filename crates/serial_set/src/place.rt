@@ -1,9 +1,18 @@
 //! Where a number is in a rising list of spans, by binary search.
-ghost use Rattle.std.specs.Prelude.{◌+◌, ◌<◌, ◌≤◌, length, take, drop, nat_lt, nat_le, ◌≡◌, ◌-◌};
+ghost use Rattle.std.specs.Prelude.{◌+◌, ◌<◌, ◌≤◌, length, take, drop, nat_le, ◌≡◌, ◌-◌};
 ghost use Rattle.std.specs.List.{All};
 ghost use Rattle.serial_set.specs.Span.{IsRuns};
 
+use crate::search::{HasEnd, count_ending_below};
 use crate::span::Span;
+
+impl HasEnd for Span {
+    ghost end = { λ span. span.hi };
+
+    fn end(&self) -> u64 {
+        self.hi
+    }
+}
 
 /// How many spans end before a number.
 pub fn count_ending_before(spans: &[Span], number: u64) -> usize
@@ -12,11 +21,7 @@ pub fn count_ending_before(spans: &[Span], number: u64) -> usize
     ensures before { All (λ t. t.hi < number) (take result spans.now) }
     ensures rest { All (λ t. number ≤ t.hi) (drop result spans.now) }
 {
-    spans.partition_point(
-        |span: &Span| -> bool
-            ensures { result ≡ nat_lt span.now.hi number }
-        { span.hi < number },
-    )
+    count_ending_below(spans, number)
 }
 
 /// How many spans begin at the number after `number`, or lower.

@@ -1,34 +1,40 @@
-//! Where a number is among entries in order, by binary search.
-ghost use Rattle.std.specs.Prelude.{◌≡◌, ◌<◌, ◌≤◌, length, take, drop, nat_lt, nat_le};
+//! Where a number is among things that rise, by binary search.
+ghost use Rattle.std.specs.Prelude.{◌≡◌, ◌<◌, ◌≤◌, ℕ, length, take, drop, nat_lt, nat_le};
 ghost use Rattle.std.specs.List.{All};
-ghost use Rattle.serial_set.specs.Entry.{lo_of, hi_of, EntriesFrom};
+ghost use Rattle.std.specs.List.Sorted.{IsNonDecreasingBy};
 
-use crate::entry::Entry;
+/// What ends at a number: a span, an entry, a page of entries.
+pub trait HasEnd {
+    ghost end: { Self → ℕ };
 
-/// How many entries end before a number.
-pub fn count_ending_below(entries: &[Entry], number: u64) -> usize
-    requires { EntriesFrom 0 entries.now }
-    ensures within { result ≤ length entries.now }
-    ensures below { All (λ e. hi_of e < number) (take result entries.now) }
-    ensures reach { All (λ e. number ≤ hi_of e) (drop result entries.now) }
+    fn end(&self) -> u64
+        ensures { result ≡ end self.now };
+}
+
+/// How many things end below a number, where their ends rise.
+pub fn count_ending_below<T: HasEnd>(items: &[T], number: u64) -> usize
+    requires { IsNonDecreasingBy T.end items.now }
+    ensures within { result ≤ length items.now }
+    ensures below { All (λ t. T.end t < number) (take result items.now) }
+    ensures reach { All (λ t. number ≤ T.end t) (drop result items.now) }
 {
-    entries.partition_point(
-        |entry: &Entry| -> bool
-            ensures { result ≡ nat_lt (hi_of entry.now) number }
-        { entry.hi() < number },
+    items.partition_point(
+        |item: &T| -> bool
+            ensures { result ≡ nat_lt (T.end item.now) number }
+        { item.end() < number },
     )
 }
 
-/// How many entries begin at a number or below it.
-pub fn count_beginning_upto(entries: &[Entry], number: u64) -> usize
-    requires { EntriesFrom 0 entries.now }
-    ensures within { result ≤ length entries.now }
-    ensures inside { All (λ e. lo_of e ≤ number) (take result entries.now) }
-    ensures above { All (λ e. number < lo_of e) (drop result entries.now) }
+/// How many of them end at a number or below it.
+pub fn count_ending_upto<T: HasEnd>(items: &[T], number: u64) -> usize
+    requires { IsNonDecreasingBy T.end items.now }
+    ensures within { result ≤ length items.now }
+    ensures upto { All (λ t. T.end t ≤ number) (take result items.now) }
+    ensures past { All (λ t. number < T.end t) (drop result items.now) }
 {
-    entries.partition_point(
-        |entry: &Entry| -> bool
-            ensures { result ≡ nat_le (lo_of entry.now) number }
-        { entry.lo() <= number },
+    items.partition_point(
+        |item: &T| -> bool
+            ensures { result ≡ nat_le (T.end item.now) number }
+        { item.end() <= number },
     )
 }

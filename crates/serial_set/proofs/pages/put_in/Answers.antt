@@ -7,7 +7,7 @@ use Rattle.serial_set.specs.Entries.{Replaces}
 use Rattle.serial_set.specs.Pages.{entries_in, entries_of}
 use Rattle.serial_set.specs.Places.{end_of, CutTo}
 use Rattle.serial_set.proofs.Flat.{flat_cut, flat_drop, flat_same, all_right}
-use Rattle.serial_set.proofs.InRow.{order_page, order_right, past_put, put_whole}
+use Rattle.serial_set.proofs.InRow.{all_page, order_page, order_right, past_put, put_whole}
 use Rattle.serial_set.proofs.Refused.{on_err}
 use Rattle.serial_set.proofs.pages.put_in.Goals as goal
 
@@ -18,6 +18,13 @@ put-requires-clause-order c =
     let at = c.args.at in
     let page = c.index_mut.result.now in
     subst (λ p. EntriesFrom 0 (entries_in p)) (sym c.index_mut.ensures.value) (order_page xs at page place.within c.requires.order)
+
+pub put-requires-clause-whole : goal.put-requires-clause-whole
+put-requires-clause-whole c =
+    let place = c.requires.place in
+    let page = c.index_mut.result.now in
+    let P : Entry → Type 0 = λ e. (hi_of e ≤ c.args.hi) ⊎ (c.args.hi < lo_of e) in
+    subst (λ p. All P (entries_in p)) (sym c.index_mut.ensures.value) (all_page P c.args.pages.now.items c.args.at page place.within c.requires.whole)
 
 pub put-requires-clause-room : goal.put-requires-clause-room
 put-requires-clause-room c =

@@ -3,7 +3,7 @@ use Rattle.std.specs.Prelude.{false}
 use Rattle.std.proofs.lemmas.Nat.Bits.{bit_at-zero}
 use Rattle.serial_set.specs.Span.{Covers}
 use Rattle.serial_set.specs.Words.{BitCovers}
-use Rattle.serial_set.specs.Entry.{is_run, window_of, pieces}
+use Rattle.serial_set.specs.Entry.{is_run, window_of, members_in}
 use Rattle.serial_set.proofs.InEntry.{in_word}
 use Rattle.serial_set.proofs.entry.Entry.bits_in.Goals as goal
 
@@ -13,7 +13,7 @@ returns-then-window c s from to =
     let word : is_run e ≡ false = sym c.is_run.ensures ∙ c.if-is_run.false in
     let window : window_of e ≡ c.args.window = sym c.window.ensures ∙ c.if-window.true in
     let members = in_word e s word in
-    let P : ℕ → ℕ → Type 0 = λ w b. (BitCovers 64 (64 * w) b s → Covers (pieces e) s) × (Covers (pieces e) s → BitCovers 64 (64 * w) b s) in
+    let P : ℕ → ℕ → Type 0 = λ w b. (BitCovers 64 (64 * w) b s → Covers (members_in e) s) × (Covers (members_in e) s → BitCovers 64 (64 * w) b s) in
     subst (λ w. P w c.bits.result) window (subst (λ b. P (window_of e) b) (sym c.bits.ensures) (members.1, members.0))
 
 pub returns-else-window : goal.returns-else-window

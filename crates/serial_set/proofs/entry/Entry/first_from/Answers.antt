@@ -1,6 +1,6 @@
 use Rattle.std.proofs.Common.{◌≡◌, ◌-◌, ◌+◌, Some, None, sym, subst, ap, ◌∙◌}
 use Rattle.std.specs.Prelude.{false}
-use Rattle.serial_set.specs.Entry.{is_run, pieces}
+use Rattle.serial_set.specs.Entry.{is_run, members_in}
 use Rattle.serial_set.specs.Members.{IsFirst, IsFirstBit}
 use Rattle.serial_set.proofs.InBits.{word_none, word_first}
 use Rattle.serial_set.proofs.entry.Entry.first_from.Goals as goal
@@ -11,7 +11,7 @@ returns-in-Some c =
     let word : is_run e ≡ false = sym c.is_run.ensures ∙ c.if-is_run.false in
     let place = c.saturating_sub.result in
     let k = subst (λ b. IsFirstBit b place (Some c.in-Some.at)) c.bits.ensures c.in-Some.ensures in
-    subst (λ n. IsFirst (pieces e) c.args.number (Some (n + c.in-Some.at))) (sym c.lo-first.ensures)
+    subst (λ n. IsFirst (members_in e) c.args.number (Some (n + c.in-Some.at))) (sym c.lo-first.ensures)
     (word_first e c.args.number place c.in-Some.at word (c.saturating_sub.ensures ∙ ap (λ n. c.args.number - n) c.lo-first.ensures) k)
 
 pub returns-in-None : goal.returns-in-None

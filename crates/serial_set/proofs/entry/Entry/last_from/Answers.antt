@@ -1,7 +1,7 @@
 use Rattle.std.proofs.Common.{◌≡◌, ◌-◌, ◌+◌, ◌≤◌, ℕ, sym, subst, ap, ◌∙◌, arith}
 use Rattle.std.specs.Prelude.{false}
 use Rattle.std.specs.Int.{bit_at}
-use Rattle.serial_set.specs.Entry.{is_run, bits_of, pieces}
+use Rattle.serial_set.specs.Entry.{is_run, bits_of, members_in}
 use Rattle.serial_set.specs.Members.{GoesOn}
 use Rattle.serial_set.proofs.InEntry.{in_word, word_ends}
 use Rattle.serial_set.proofs.InBits.{word_on}
@@ -40,5 +40,5 @@ returns c =
     let last = c.last_bit in
     let all = subst (λ n. (i : ℕ) → c.args.member - n ≤ i → i ≤ last.result → bit_at (bits_of e) i ≡ 1) c.lo-first.ensures
     (subst (λ b. (i : ℕ) → c.args.member - c.lo-first.result ≤ i → i ≤ last.result → bit_at b i ≡ 1) c.bits.ensures last.ensures.all) in
-    subst (λ n. GoesOn (pieces e) c.args.member (n + last.result)) (sym c.lo-first.ensures)
+    subst (λ n. GoesOn (members_in e) c.args.member (n + last.result)) (sym c.lo-first.ensures)
     (word_on e c.args.member last.result word c.requires (omega (arith, last.ensures.order, c.lo-first.ensures)) last.ensures.within all)

@@ -2,7 +2,7 @@ use Rattle.std.proofs.Common.{◌≡◌, ℕ, ◌+◌, ◌*◌, sym, ap, subst, 
 use Rattle.std.specs.Prelude.{false, ◌↔◌, ◌⊎◌}
 use Rattle.serial_set.specs.Span.{Covers}
 use Rattle.serial_set.specs.Words.{BitCovers}
-use Rattle.serial_set.specs.Entry.{is_run, window_of, lo_of, hi_of, pieces}
+use Rattle.serial_set.specs.Entry.{is_run, window_of, lo_of, hi_of, members_in}
 use Rattle.serial_set.proofs.InEntry.{word_ends}
 use Rattle.serial_set.proofs.entry.Entry.widened.Goals as goal
 
@@ -19,5 +19,5 @@ returns c =
     record {
       lo = (lo, c.with.ensures.lo ∙ lo);
       hi = (hi, c.with.ensures.hi ∙ hi);
-      more = subst (λ w. (s : ℕ) → Covers (pieces new) s ↔ (Covers (pieces entry) s ⊎ BitCovers 64 (64 * w) c.args.bits s)) same c.with.ensures.more;
+      more = subst (λ w. (s : ℕ) → Covers (members_in new) s ↔ (Covers (members_in entry) s ⊎ BitCovers 64 (64 * w) c.args.bits s)) same c.with.ensures.more;
     }

@@ -1,9 +1,12 @@
-use Rattle.std.proofs.Common.{◌<◌, length, sym, ap, arith, ◌∙◌}
+use Rattle.std.proofs.Common.{◌<◌, length, sym, ap, subst, arith, ◌∙◌}
 use Rattle.std.proofs.lemmas.List.{length-set}
-use Rattle.serial_set.specs.Entry.{hi_of}
-use Rattle.serial_set.proofs.InEntries.{end_set}
+use Rattle.serial_set.specs.Entry.{hi_of, EntriesFrom}
+use Rattle.serial_set.proofs.InEntries.{end_set, his_rise}
 use Rattle.serial_set.proofs.InPage.{widened_at}
 use Rattle.serial_set.proofs.page.Page.set_bits.Goals as goal
+
+pub count_ending_below-at-requires : goal.count_ending_below-at-requires
+count_ending_below-at-requires c = his_rise 0 _ (subst (EntriesFrom 0) (sym c.as_slice.ensures) c.requires.order)
 
 pub invariant_of-self-clause-most : goal.invariant_of-self-clause-most
 invariant_of-self-clause-most c =

@@ -1,5 +1,5 @@
 use Rattle.std.proofs.Common.{arith}
-use Rattle.serial_set.specs.Entries.{piece_in}
+use Rattle.serial_set.specs.Entries.{in_stretch}
 use Rattle.serial_set.specs.SpanPages.{entries_held}
 use Rattle.serial_set.proofs.InWalk.{no_entry, first_in, none_in}
 use Rattle.serial_set.proofs.span_pages.SpanPages.first_or_next.Goals as goal
@@ -12,7 +12,7 @@ returns-in-Some-first_from-clause-first c =
     let set = c.args.self.now in
     let e = c.in-Some.entry in
     let f = c.in-Some-first_from.ensures in
-    let at = piece_in e c.in-Some-first_from.first f.1 in
+    let at = in_stretch e c.in-Some-first_from.first f.1 in
     first_in (entries_held set) e c.args.number c.in-Some-first_from.first set.order c.in-Some.ensures at.1 f
 
 pub returns-in-Some-checked_add-clause-none : goal.returns-in-Some-checked_add-clause-none

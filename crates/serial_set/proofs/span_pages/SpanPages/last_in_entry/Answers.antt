@@ -1,5 +1,5 @@
 use Rattle.std.proofs.Common.{arith}
-use Rattle.serial_set.specs.Entries.{piece_in, none_below}
+use Rattle.serial_set.specs.Entries.{in_stretch, none_below}
 use Rattle.serial_set.specs.SpanPages.{entries_held}
 use Rattle.serial_set.proofs.InWords.{asked}
 use Rattle.serial_set.proofs.InWalk.{goes_in}
@@ -18,5 +18,5 @@ returns c =
     let set = c.args.self.now in
     let e = c.in-Some.entry in
     let g = c.last_from.ensures in
-    let at = piece_in e c.last_from.result (g.all c.last_from.result g.order (omega arith)) in
+    let at = in_stretch e c.last_from.result (g.all c.last_from.result g.order (omega arith)) in
     goes_in (entries_held set) e c.args.member c.last_from.result set.order c.in-Some.ensures at.1 g
