@@ -1,5 +1,5 @@
 //! The runs of a set, as a walk comes to them.
-ghost use Rattle.std.specs.Prelude.{◌≡◌, ◌+◌, ◌<◌, ◌≤◌, ◌↔◌, ℕ, length, take, slice_get, IsTrue, IfErr, IfOk};
+ghost use Rattle.std.specs.Prelude.{◌≡◌, ◌+◌, ◌<◌, ◌≤◌, ◌↔◌, ℕ, length, take, slice_get, false, IsTrue, IfErr, IfOk};
 ghost use Rattle.serial_set.specs.Entry.{hi_of, members_of, runs_of};
 ghost use Rattle.serial_set.specs.Members.{GoesOn, IsFirst, Reads, Taken};
 ghost use Rattle.serial_set.specs.Span.{Covers};
@@ -119,6 +119,19 @@ impl SpanPages {
                 Ok(first) => return first,
                 Err(next) => at = next,
             }
+        }
+    }
+
+    // Whether some number from `lo` to `hi` is a member.
+    pub(crate) fn has_some(&self, lo: u64, hi: u64) -> bool
+        ensures some { IsTrue result → (s : ℕ) × ((lo ≤ s) × (s ≤ hi)
+            × Covers (members_of (entries_held self.now)) s) }
+        ensures none { result ≡ false → (s : ℕ) → lo ≤ s → s ≤ hi
+            → Covers (members_of (entries_held self.now)) s → ⊥ }
+    {
+        match self.first_member(lo) {
+            Some(first) => first <= hi,
+            None => false,
         }
     }
 

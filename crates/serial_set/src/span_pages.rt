@@ -68,17 +68,6 @@ impl SpanPages {
         }
     }
 
-    // Whether some number from `lo` to `hi` may be a member.
-    pub(crate) fn has_some(&self, lo: u64, hi: u64) -> bool
-        ensures { result ≡ false → (s : ℕ) → lo ≤ s → s ≤ hi
-            → Covers (members_of (entries_held self.now)) s → ⊥ }
-    {
-        match self.entry_from(lo) {
-            Some(entry) => entry.lo() <= hi,
-            None => false,
-        }
-    }
-
     // Puts at most three entries in place of all that reach into the numbers from `lo` to `hi`.
     // Where memory runs out nothing changes.
     pub(crate) fn put(&mut self, few: &Few, lo: u64, hi: u64) -> Result<(), AllocError>

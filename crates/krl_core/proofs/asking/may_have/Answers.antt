@@ -9,4 +9,4 @@ returns-in-None g c = λ _ s _ _ h. no_serial_under c.args.shelves.now c.args.au
 pub returns-in-Some : goal.returns-in-Some
 returns-in-Some g c = λ off s low high h.
     let section = section_of g.S.Spans.spans (c.args.authority.now, c.in-Some.shelf.now) in
-    c.meets.ensures off s low high ((serial_under c.args.shelves.now section c.args.authority.now s refl c.in-Some.ensures).0 h)
+    c.meets.ensures.none off s low high ((serial_under c.args.shelves.now section c.args.authority.now s refl c.in-Some.ensures).0 h)
