@@ -48,9 +48,13 @@ AddsAuthorities (Err fault) old new listed =
     (plans : List (List Group)) → EachPlan IsLeastPlan plans listed
     → Refuses fault (old ++ authorities_text plans listed)
 
+-- the text is the list that is written, and within the limit
+abbrev pub IsTextWithin : Header → Contents → List ℕ → Type 0
+IsTextWithin header r text = IsKrlText header r text × (length text ≤ limit)
+
 -- The bytes are those of the list that is written, and within the limit, or the list is too long.
 abbrev pub IsWritten : {A : Type 0} → (A → List ℕ) → Result A TextFault → Header → Contents → Type 0
-IsWritten bytes (Ok made) header r = IsKrlText header r (bytes made) × (length (bytes made) ≤ limit)
+IsWritten bytes (Ok made) header r = IsTextWithin header r (bytes made)
 IsWritten bytes (Err NoMemory) header r = ⊤
 IsWritten bytes (Err TooLong) header r =
     (text : List ℕ) → IsKrlText header r text → limit < length text
@@ -60,15 +64,15 @@ write_fault_number (Write count) = 1
 write_fault_number NoMemory' = 2
 write_fault_number TooLong' = 3
 
--- The list went out, or on a fault its first bytes and no others, or it has no text and nothing
--- did.
--- The writer has failed just where it is at fault.
+-- The list went out, or on a fault of the writer its first bytes and no others, and it is within
+-- the limit. Or it has no text, and nothing went out. The writer has failed just where it is at
+-- fault.
 abbrev pub Writes : {A : Type 0} → Result A WriteFault → Header → Contents
     → Option (List ℕ) → Option (List ℕ) → Bool → Type 0
 Writes (Ok done) header r old new failed =
-    (text : List ℕ) × (IsKrlText header r text × (Appends old new text × (failed ≡ false)))
+    (text : List ℕ) × (IsTextWithin header r text × (Appends old new text × (failed ≡ false)))
 Writes (Err (Write count)) header r old new failed =
-    (text : List ℕ) × (IsKrlText header r text × (Appends old new (take count text)
+    (text : List ℕ) × (IsTextWithin header r text × (Appends old new (take count text)
     × ((count < length text) × (failed ≡ true))))
 Writes (Err NoMemory') header r old new failed = (new ≡ old) × (failed ≡ false)
 Writes (Err TooLong') header r old new failed =
