@@ -14,8 +14,8 @@ use std::alloc::{AllocError, Global};
 
 // Appends the subsections of a plan of a set's runs, one after the other.
 pub(crate) fn put_plan<S: Spans>(
-    out: &mut Vec<u8>,
     alloc: Global,
+    out: &mut Vec<u8>,
     set: &S,
     plan: &[Group],
 ) -> Result<(), AllocError>
@@ -34,11 +34,11 @@ pub(crate) fn put_plan<S: Spans>(
 
 /// Appends the subsections of a set's least plan (PROTOCOL.krl, certificate sections). Fails only
 /// where memory runs out.
-pub fn put_least_plan<S: Spans>(out: &mut Vec<u8>, alloc: Global, set: &S) -> Result<(), AllocError>
+pub fn put_least_plan<S: Spans>(alloc: Global, out: &mut Vec<u8>, set: &S) -> Result<(), AllocError>
     ensures { OnOk result ((plan : List Group) × (IsLeastPlan (S.spans set.now) plan
         × (out.new.items ≡ out.old.items ++ plan_text (S.spans set.now) plan))) }
 {
     let plan = least_plan(alloc, set)?;
-    put_plan(out, alloc, set, &plan)?;
+    put_plan(alloc, out, set, &plan)?;
     Ok(())
 }

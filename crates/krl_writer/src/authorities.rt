@@ -14,15 +14,15 @@ use std::alloc::Global;
 
 // Appends the sections of authorities, one after the other.
 pub(crate) fn add_authorities<S: Spans>(
-    out: &mut Vec<u8>,
     alloc: Global,
+    out: &mut Vec<u8>,
     authorities: Authorities<'_, S>,
 ) -> Result<(), TextFault>
     requires { length out.old.items ≤ limit }
     ensures { AddsAuthorities result out.old.items out.new.items authorities.entry }
 {
     for one in authorities {
-        add_authority(out, alloc, one.bytes(), one.spans(), one.walk_ids())?;
+        add_authority(alloc, out, one.bytes(), one.spans(), one.walk_ids())?;
     }
     Ok(())
 }
@@ -30,8 +30,8 @@ pub(crate) fn add_authorities<S: Spans>(
 // Appends the section of an authority, by its bytes: its serials by their least plan, and its key
 // IDs.
 fn add_authority<S: Spans>(
-    out: &mut Vec<u8>,
     alloc: Global,
+    out: &mut Vec<u8>,
     authority: &[u8],
     spans: &S,
     ids: Texts<'_>,
@@ -43,7 +43,7 @@ fn add_authority<S: Spans>(
     let at = begin_string(out, 1)?;
     add_string(out, authority)?;
     put_string(out, b"")?;
-    put_least_plan(out, alloc, spans)?;
+    put_least_plan(alloc, out, spans)?;
     if out.len() > LIMIT {
         return Err(TextFault::TooLong);
     }

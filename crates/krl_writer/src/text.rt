@@ -29,7 +29,7 @@ pub fn krl_text<S: Spans>(
 {
     let mut out = Vec::new(alloc);
     add_header(&mut out, header)?;
-    add_authorities(&mut out, alloc, revocations.walk_authorities())?;
+    add_authorities(alloc, &mut out, revocations.walk_authorities())?;
     add_texts(&mut out, revocations)?;
     Ok(out)
 }

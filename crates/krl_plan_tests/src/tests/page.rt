@@ -15,7 +15,7 @@ fn subsections<S: Spans>(alloc: Global, set: &S) -> Result<Vec<u8>, AllocError>
         × (text.items ≡ plan_text (S.spans set.now) plan))) }
 {
     let mut text = Vec::new(alloc);
-    put_least_plan(&mut text, alloc, set)?;
+    put_least_plan(alloc, &mut text, set)?;
     Ok(text)
 }
 

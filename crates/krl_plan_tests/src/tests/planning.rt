@@ -146,7 +146,7 @@ fn least_of(rt: &impl Abort, alloc: Global, runs: &[Run]) -> Result<u64, AllocEr
 fn bytes_put(alloc: Global, runs: &[Run]) -> Result<u64, AllocError> {
     let set = set_of(alloc, runs)?;
     let mut out = Vec::new(alloc);
-    put_least_plan(&mut out, alloc, &set)?;
+    put_least_plan(alloc, &mut out, &set)?;
     Ok(out.len() as u64)
 }
 
