@@ -1,7 +1,7 @@
 -- The table of costs and choices: one run more in front, and the walk that gives the plan.
 use Rattle.std.proofs.Common.{◌≡◌, ℕ, zero, suc, ◌+◌, ◌-◌, ◌*◌, ◌<◌, ◌≤◌, inl, inr, List, [], ◌∷◌, ◌++◌, length, drop, get_or, slice_index, refl, sym, ap, subst, ◌∙◌, arith, append_assoc}
 use Rattle.std.proofs.lemmas.Bool.{cases_lt}
-use Rattle.std.proofs.lemmas.List.{append-nil, drop-append-le, drop-drop, drop_all, drop_more, get_or_append_left, get_or_push, length_push}
+use Rattle.std.proofs.lemmas.List.{append-nil, drop-drop, drop_all, get_or_append_left, get_or_push, length_push}
 use Rattle.serial_set.specs.declared.span.Span.{Span}
 use Rattle.serial_set.specs.Span.{IsRuns}
 use Rattle.krl_plan.specs.declared.group.Group.{Group}
@@ -9,7 +9,7 @@ use Rattle.krl_plan.specs.declared.cell.Cell.{Cell}
 use Rattle.krl_plan.specs.Plan.{IsGroup, IsLeastPlan, IsPlan, Prefers}
 use Rattle.krl_plan.specs.Search.{IsBest, IsFirst, IsLeastCost}
 use Rattle.krl_plan.specs.Table.{AreChoices}
-use Rattle.krl_plan.specs.Chosen.{IsRuns-drop, Rests, best_first, best_least}
+use Rattle.krl_plan.specs.Chosen.{Rests, best_first, best_least}
 use Rattle.krl_plan.proofs.Best.{best_bounded}
 
 -- ---- no runs
@@ -95,17 +95,6 @@ bounded_more choices run runs least rests cell le best =
     let count = length_push choices cell.group in
     let bounded : cell.cost ≤ 21 + least = best_bounded (least ∷ rests) (run ∷ runs) cell (omega arith) best in
     omega arith
-
--- ---- parts of a set
-
--- the runs from a place of the window on, and those after it
-pub window_at : (window runs : List Span) (i : ℕ) (d : Span) → i < length window → drop i window ++ runs ≡ get_or window i d ∷ (drop (i + 1) window ++ runs)
-window_at window runs i d lt = ap (λ (xs : List Span). xs ++ runs) (drop_more window i d lt)
-
-pub window_rises : (window runs : List Span) (i : ℕ) (d : Span) → i < length window → IsRuns (window ++ runs) → IsRuns (get_or window i d ∷ (drop (i + 1) window ++ runs))
-window_rises window runs i d lt rises =
-    let there : IsRuns (drop i (window ++ runs)) = IsRuns-drop 0 i (window ++ runs) rises in
-    subst IsRuns (drop-append-le i window runs (omega arith) ∙ window_at window runs i d lt) there
 
 -- ---- the walk
 

@@ -1,10 +1,9 @@
 pub mod Zero
-pub mod Windows
 pub mod PlanTexts
 pub mod Stairs
 pub mod Best
 pub mod ListMarks
 pub mod MapMarks
 pub mod EightWindows
-pub mod Copies
 pub mod Filling
+pub mod CopiedRuns

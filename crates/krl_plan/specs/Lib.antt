@@ -1,8 +1,7 @@
-pub mod Ahead
 pub mod Sorts
 pub mod Plan
 pub mod Search
-pub mod Marks
+pub mod Copies
 pub mod Window
 pub mod Lists
 pub mod Bitmaps

@@ -1,5 +1,5 @@
 -- What the table knows of the last runs of a set.
-use Rattle.std.specs.Prelude.{◌≡◌, ℕ, ◌+◌, ◌-◌, ◌*◌, ◌<◌, ◌≤◌, List, ◌∷◌, length, drop}
+use Rattle.std.specs.Prelude.{◌≡◌, ℕ, ◌+◌, ◌-◌, ◌*◌, ◌^◌, ◌<◌, ◌≤◌, List, ◌∷◌, length, drop}
 use Rattle.std.specs.Prelude.{slice_index, slice_index_or as get_or}
 use Rattle.serial_set.specs.declared.span.Span.{Span}
 use Rattle.krl_plan.specs.declared.group.Group.{Group}
@@ -26,6 +26,7 @@ pub record IsKnown (table : Table) (at : ℕ) (runs : List Span) (rests : List �
   pub bounded : table.least ≤ 21 * length table.choices.items
   pub choices : AreChoices runs table.choices.items
 
--- the table is that of the runs from a place on
-abbrev pub Knows : Table → ℕ → List Span → Type 0
-Knows table at runs = (rests : List ℕ) × IsKnown table at runs rests
+-- The table is that of the runs. Their places are counted down from the greatest number.
+abbrev pub Knows : Table → List Span → Type 0
+Knows table runs =
+    (at : ℕ) × ((at + length runs ≡ 2 ^ 64 - 1) × ((rests : List ℕ) × IsKnown table at runs rests))

@@ -1,10 +1,10 @@
 //! Which subsections name serial numbers in the fewest bytes, and their bytes (PROTOCOL.krl).
 #![tactic(auto)]
 
-mod ahead;
 mod bitmap;
 mod bitmaps;
 mod cell;
+mod copies;
 mod group;
 mod group_text;
 pub mod laws;

@@ -5,7 +5,7 @@ ghost use Rattle.krl_plan.specs.declared.group.Group.{Group};
 ghost use Rattle.krl_plan.specs.Plan.{IsLeastPlan, IsPlan};
 ghost use Rattle.krl_plan.specs.Written.{plan_text};
 
-use crate::ahead::Ahead;
+use crate::copies::{copy_runs, drop_first};
 use crate::group::Group;
 use crate::group_text::put_group;
 use crate::planner::least_plan;
@@ -22,12 +22,13 @@ pub(crate) fn put_plan<S: Spans>(
     requires { IsPlan (S.spans set.now) plan.now }
     ensures { OnOk result (out.new.items ≡ out.old.items ++ plan_text (S.spans set.now) plan.now) }
 {
-    let mut ahead = Ahead::new(alloc);
+    let mut runs = Vec::new(alloc);
+    let mut next = Some(0);
     for group in plan {
         let count = group.count as usize;
-        ahead.fill(set, count)?;
-        put_group(out, group.sort, ahead.first(count))?;
-        ahead.pass(count);
+        next = copy_runs(set, next, count, &mut runs)?;
+        put_group(out, group.sort, &runs[..count])?;
+        drop_first(&mut runs, count);
     }
     Ok(())
 }

@@ -1,6 +1,6 @@
 //! The best groups and the least costs, from the last run to the first.
 
-ghost use Rattle.std.specs.Prelude.{ℕ, ◌+◌, ◌<◌, ◌≤◌, List, [], ◌∷◌, ◌++◌, length, IfOk, OnOk};
+ghost use Rattle.std.specs.Prelude.{List, [], ◌∷◌, ◌++◌, IfOk, OnOk};
 ghost use Rattle.serial_set.specs.declared.span.Span.{Span};
 ghost use Rattle.serial_set.specs.Span.{IsRuns};
 ghost use Rattle.krl_plan.specs.Plan.{IsLeastPlan};
@@ -27,42 +27,38 @@ pub(crate) struct Table {
 impl Table {
     ghost use Rattle.krl_plan.specs.Table.{Knows};
 
-    // The table of no run, where this many are to come.
-    pub(crate) fn new(alloc: Global, runs: usize) -> Table
-        ensures { Knows result runs [] }
+    // The table of no run.
+    pub(crate) fn new(alloc: Global) -> Table
+        ensures { Knows result [] }
     {
         Table {
-            lists: Lists::new(alloc, runs),
+            lists: Lists::new(alloc, usize::MAX),
             bitmaps: Bitmaps::new(alloc),
             least: 0,
             choices: Vec::new(alloc),
         }
     }
 
-    // Takes some of a set's runs, those from a place up to the known ones.
-    pub(crate) fn add_all(&mut self, window: &[Span], from: usize) -> Result<(), AllocError>
-        requires within { from + length window.now ≤ usize.MAX }
-        requires known { (runs : List Span)
-            × (IsRuns (window.now ++ runs) × Knows self.old (from + length window.now) runs) }
-        ensures { (runs : List Span) → IsRuns (window.now ++ runs)
-            → Knows self.old (from + length window.now) runs
-            → OnOk result (Knows self.new from (window.now ++ runs)) }
+    // Takes the runs before those that it knows.
+    pub(crate) fn add_all(&mut self, more: &[Span]) -> Result<(), AllocError>
+        requires { (runs : List Span) × (IsRuns (more.now ++ runs) × Knows self.old runs) }
+        ensures { (runs : List Span) → IsRuns (more.now ++ runs) → Knows self.old runs
+            → OnOk result (Knows self.new (more.now ++ runs)) }
     {
-        for i in (0..window.len()).rev() {
-            self.add(window[i], from + i)?;
+        for i in (0..more.len()).rev() {
+            self.add(more[i])?;
         }
         Ok(())
     }
 
     // Takes the run before those that it knows.
-    fn add(&mut self, run: Span, at: usize) -> Result<(), AllocError>
-        requires below { at < usize.MAX }
-        requires known { (runs : List Span)
-            × (IsRuns (run ∷ runs) × Knows self.old (at + 1) runs) }
-        ensures { (runs : List Span) → IsRuns (run ∷ runs) → Knows self.old (at + 1) runs
-            → OnOk result (Knows self.new at (run ∷ runs)) }
+    fn add(&mut self, run: Span) -> Result<(), AllocError>
+        requires { (runs : List Span) × (IsRuns (run ∷ runs) × Knows self.old runs) }
+        ensures { (runs : List Span) → IsRuns (run ∷ runs) → Knows self.old runs
+            → OnOk result (Knows self.new (run ∷ runs)) }
     {
-        let _known = self.choices.len();
+        // Their places are counted down, however many there are.
+        let at = usize::MAX - 1 - self.choices.len();
         self.lists.add(run, at, self.least)?;
         self.bitmaps.add(run, at, self.least)?;
         let group = Group {
@@ -79,8 +75,8 @@ impl Table {
 
     // The least plan of the known runs.
     pub(crate) fn plan(&self, alloc: Global) -> Result<Vec<Group>, AllocError>
-        requires known { (at : ℕ) × ((runs : List Span) × Knows self.now at runs) }
-        ensures { (at : ℕ) (runs : List Span) → Knows self.now at runs
+        requires known { (runs : List Span) × Knows self.now runs }
+        ensures { (runs : List Span) → Knows self.now runs
             → IfOk result (λ plan. IsLeastPlan runs plan.items) }
     {
         let mut plan = Vec::new(alloc);

@@ -1,9 +1,10 @@
-use Rattle.std.proofs.Common.{ℕ}
-use Rattle.krl_plan.specs.Ahead.{IsAhead}
+use Rattle.std.proofs.Common.{◌++◌, drop}
+use Rattle.serial_set.specs.Walk.{left}
+use Rattle.krl_plan.specs.Written.{plan_text}
 use Rattle.krl_plan.proofs.PlanTexts.{Putting}
 use Rattle.krl_plan.proofs.plan_text.put_plan.Given as goal
 
 abbrev pub invariant-loop-group : goal.invariant-loop-group
 invariant-loop-group g l =
-    let runs = g.S.Spans.spans l.set in
-    (at : ℕ) × (IsAhead runs l.ahead at × Putting runs l.plan l.initial.out.items l.out.items l.group-index at)
+    let spans = g.S.Spans.spans l.set in
+    Putting (l.runs.items ++ left l.next spans) (drop l.group-index l.plan) l.out.items (l.initial.out.items ++ plan_text spans l.plan)

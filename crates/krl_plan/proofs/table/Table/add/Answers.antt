@@ -1,47 +1,78 @@
-use Rattle.std.proofs.Common.{ℕ, ◌+◌, List, ◌∷◌, refl, rules}
+use Rattle.std.proofs.Common.{◌≡◌, ℕ, ◌+◌, ◌-◌, ◌^◌, List, ◌∷◌, arith, length, refl, rules, subst}
 use Rattle.serial_set.specs.declared.span.Span.{Span}
-use Rattle.serial_set.specs.Span.{IsRuns}
 use Rattle.krl_plan.specs.declared.group.Sort.TheVariants.{Range}
+use Rattle.krl_plan.specs.declared.table.Table.{Table}
 use Rattle.krl_plan.specs.Search.{IsBest}
-use Rattle.krl_plan.specs.Table.{IsKnown}
+use Rattle.krl_plan.specs.Table.{IsKnown, Knows}
 use Rattle.krl_plan.proofs.Best.{best_of_all, group_of}
 use Rattle.krl_plan.proofs.Filling.{bounded_more, choices_more, costs_more}
 use Rattle.krl_plan.proofs.table.Table.add.Goals as goal
-use Rattle.krl_plan.proofs.table.Table.add.Goals.{After-best-best}
+
+-- what is known stands past the place of the new run
+known_past : (table : Table) (runs : List Span) (at : ℕ) → (knows : Knows table runs) → at + 1 + length table.choices.items ≡ 2 ^ 64 - 1 → IsKnown table (at + 1) runs knows.1.1.0
+known_past table runs at knows e =
+    let one = knows.1.1.1.choices.one_each in
+    let here = knows.1.0 in
+    let place : knows.0 ≡ at + 1 = omega arith in
+    subst (λ (n : ℕ). IsKnown table n runs knows.1.1.0) place knows.1.1.1
+
+pub add-requires-clause-listed : goal.add-requires-clause-listed
+add-requires-clause-listed c =
+    let runs = c.requires.0 in
+    let knows = c.requires.1.1 in
+    let was = known_past c.args.self.now runs (2 ^ 64 - 2 - c.len.result) knows (let small = c.args.self.now.choices.small in omega arith) in
+    (runs, (knows.1.1.0, was.listed))
+
+pub add-requires-2-clause-mapped : goal.add-requires-2-clause-mapped
+add-requires-2-clause-mapped c =
+    let runs = c.requires.0 in
+    let knows = c.requires.1.1 in
+    let was = known_past c.args.self.now runs (2 ^ 64 - 2 - c.len.result) knows (let small = c.args.self.now.choices.small in omega arith) in
+    (runs, (knows.1.1.0, (c.requires.1.0, was.mapped)))
+
+pub best-listed-requires : goal.best-listed-requires
+best-listed-requires c =
+    let runs = c.requires.0 in
+    let knows = c.requires.1.1 in
+    let was = known_past c.args.self.now runs (2 ^ 64 - 2 - c.len.result) knows (let small = c.args.self.now.choices.small in omega arith) in
+    let rests = knows.1.1.0 in
+    record { listed = (c.args.run ∷ runs, (c.args.self.now.least ∷ rests, c.in_ok-add.ensures runs rests was.listed)) }
 
 pub best-best-requires : goal.best-best-requires
 best-best-requires c =
-    let known = c.requires.known in
-    let runs = known.0 in
-    let rests = known.1.1.0 in
-    record {
-      mapped = (runs, (c.args.self.now.least ∷ rests, (known.1.0, c.in_ok-add-2.ensures runs rests known.1.0 known.1.1.1.mapped)));
-    }
-
-best_is : (c : After-best-best) (runs : List Span) (rests : List ℕ) → IsRuns (c.args.run ∷ runs) → IsKnown c.args.self.now (c.args.at + 1) runs rests
-    → IsBest (c.args.self.now.least ∷ rests) (c.args.run ∷ runs) c.best-best.result
-best_is c runs rests rises known =
-    let costs = c.args.self.now.least ∷ rests in
-    let listed = c.in_ok-add.ensures runs rests known.listed in
-    let mapped = c.in_ok-add-2.ensures runs rests rises known.mapped in
-    best_of_all costs (c.args.run ∷ runs) (record { cost = 21 + c.args.self.now.least; group = group_of Range 1 }) c.best-listed.result c.best-best.result (search rules) refl
-    (λ candidate. c.best-listed.ensures (c.args.run ∷ runs) costs listed candidate)
-    (λ candidate. c.best-best.ensures runs costs rises mapped candidate)
+    let runs = c.requires.0 in
+    let knows = c.requires.1.1 in
+    let was = known_past c.args.self.now runs (2 ^ 64 - 2 - c.len.result) knows (let small = c.args.self.now.choices.small in omega arith) in
+    let rests = knows.1.1.0 in
+    record { mapped = (runs, (c.args.self.now.least ∷ rests, (c.requires.1.0, c.in_ok-add-2.ensures runs rests c.requires.1.0 was.mapped))) }
 
 pub returns : goal.returns
 returns c runs rises knows =
-    let rests = knows.0 in
-    let known = knows.1 in
+    let rests = knows.1.1.0 in
+    let was = known_past c.args.self.now runs (2 ^ 64 - 2 - c.len.result) knows (let small = c.args.self.now.choices.small in omega arith) in
     let costs = c.args.self.now.least ∷ rests in
     let cell = c.best-best.result in
     let choices = c.args.self.now.choices.items in
-    let best = best_is (goal.at.returns c).After-best-best runs rests rises known in (
-      costs,
-      record {
-        listed = c.in_ok-add.ensures runs rests known.listed;
-        mapped = c.in_ok-add-2.ensures runs rests rises known.mapped;
-        costs = costs_more c.args.run runs costs cell rises known.costs best;
-        bounded = rw c.in_ok-push.ensures.items (bounded_more choices c.args.run runs c.args.self.now.least rests cell known.bounded best);
-        choices = rw c.in_ok-push.ensures.items (choices_more choices c.args.run runs costs cell rises known.costs best known.choices);
-      },
+    let small = c.args.self.now.choices.small in
+    let one = was.choices.one_each in
+    let listed = c.in_ok-add.ensures runs rests was.listed in
+    let mapped = c.in_ok-add-2.ensures runs rests rises was.mapped in
+    let best : IsBest costs (c.args.run ∷ runs) cell =
+    best_of_all costs (c.args.run ∷ runs) (record { cost = 21 + c.args.self.now.least; group = group_of Range 1 }) c.best-listed.result cell (search rules) refl
+    (λ candidate. c.best-listed.ensures (c.args.run ∷ runs) costs listed candidate)
+    (λ candidate. c.best-best.ensures runs costs rises mapped candidate) in (
+      2 ^ 64 - 2 - c.len.result,
+      (
+        omega arith,
+        (
+          costs,
+          record {
+            listed = listed;
+            mapped = mapped;
+            costs = costs_more c.args.run runs costs cell rises was.costs best;
+            bounded = rw c.in_ok-push.ensures.items (bounded_more choices c.args.run runs c.args.self.now.least rests cell was.bounded best);
+            choices = rw c.in_ok-push.ensures.items (choices_more choices c.args.run runs costs cell rises was.costs best was.choices);
+          },
+        ),
+      ),
     )

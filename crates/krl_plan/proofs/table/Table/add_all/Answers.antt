@@ -1,38 +1,31 @@
-use Rattle.std.proofs.Common.{◌≡◌, ℕ, ◌+◌, ◌-◌, List, ◌++◌, ◌<◌, ◌∷◌, arith, drop, get_or, length, subst, sym}
+use Rattle.std.proofs.Common.{◌≡◌, ℕ, ◌+◌, ◌-◌, List, ◌++◌, ◌<◌, ◌∷◌, ap, arith, drop, get_or, length, subst, sym, ◌∙◌}
+use Rattle.std.proofs.lemmas.List.{drop-append-le, drop_more}
 use Rattle.serial_set.specs.declared.span.Span.{Span}
-use Rattle.krl_plan.specs.declared.table.Table.{Table}
+use Rattle.serial_set.specs.Span.{IsRuns}
+use Rattle.krl_plan.specs.Chosen.{IsRuns-drop}
 use Rattle.krl_plan.specs.Table.{Knows}
-use Rattle.krl_plan.proofs.Filling.{window_at, window_rises}
 use Rattle.krl_plan.proofs.Zero.{zero_span}
 use Rattle.krl_plan.proofs.table.Table.add_all.Goals as goal
 
--- what is known before a run is taken
-before : (table : Table) (from i : ℕ) (window runs : List Span) → 0 < i → Knows table (from + i) (drop i window ++ runs) → Knows table (from + (i - 1) + 1) (drop ((i - 1) + 1) window ++ runs)
-before table from i window runs some knows =
-    let one : i ≡ (i - 1) + 1 = omega arith in
-    let place : from + i ≡ from + (i - 1) + 1 = omega arith in
-    subst (λ (n : ℕ). Knows table (from + (i - 1) + 1) (drop n window ++ runs)) one (subst (λ (n : ℕ). Knows table n (drop i window ++ runs)) place knows)
+-- the runs from one on, and those after it
+from_on : (more runs : List Span) (i : ℕ) → 0 < i → i - 1 < length more → drop (i - 1) more ++ runs ≡ get_or more (i - 1) zero_span ∷ (drop i more ++ runs)
+from_on more runs i some lt =
+    let one : (i - 1) + 1 ≡ i = omega arith in
+    ap (λ (l : List Span). l ++ runs) (drop_more more (i - 1) zero_span lt ∙ ap (λ (n : ℕ). get_or more (i - 1) zero_span ∷ drop n more) one)
 
-pub add-requires-clause-known : goal.add-requires-clause-known
-add-requires-clause-known c =
-    let window = c.args.window.now in
-    let i = c.loop-i.i - 1 in
-    let known = c.requires.known in
-    let runs = known.0 in
-    let within : i < length window = omega arith in (
-      drop (i + 1) window ++ runs,
-      (
-        window_rises window runs i zero_span within known.1.0,
-        before c.loop-i.self c.args.from c.loop-i.i window runs (omega arith) (c.loop-i.invariant runs known.1.0 known.1.1),
-      ),
-    )
+rises : (more runs : List Span) (i : ℕ) → 0 < i → i - 1 < length more → IsRuns (more ++ runs) → IsRuns (get_or more (i - 1) zero_span ∷ (drop i more ++ runs))
+rises more runs i some lt r =
+    subst IsRuns (drop-append-le (i - 1) more runs (omega arith) ∙ from_on more runs i some lt) (IsRuns-drop 0 (i - 1) (more ++ runs) r)
+
+pub add-requires : goal.add-requires
+add-requires c =
+    let more = c.args.more.now in
+    let runs = c.requires.0 in
+    (drop c.loop-i.i more ++ runs, (rises more runs c.loop-i.i (omega arith) (omega arith) c.requires.1.0, c.loop-i.invariant runs c.requires.1.0 c.requires.1.1))
 
 pub loop-i-preserved : goal.loop-i-preserved
-loop-i-preserved c runs rises knows =
-    let window = c.args.window.now in
-    let i = c.loop-i.i - 1 in
-    let within : i < length window = omega arith in
-    let after : Knows c.add.new.self (c.args.from + i) (get_or window i zero_span ∷ (drop (i + 1) window ++ runs)) =
-    c.in_ok-add.ensures (drop (i + 1) window ++ runs) (window_rises window runs i zero_span within rises)
-    (before c.loop-i.self c.args.from c.loop-i.i window runs (omega arith) (c.loop-i.invariant runs rises knows)) in
-    subst (λ (xs : List Span). Knows c.add.new.self (c.args.from + i) xs) (sym (window_at window runs i zero_span within)) after
+loop-i-preserved c runs r knows =
+    let more = c.args.more.now in
+    let i = c.loop-i.i in
+    subst (Knows c.add.new.self) (sym (from_on more runs i (omega arith) (omega arith)))
+    (c.in_ok-add.ensures (drop i more ++ runs) (rises more runs i (omega arith) (omega arith) r) (c.loop-i.invariant runs r knows))

@@ -1,6 +1,9 @@
-use Rattle.std.proofs.Common.{[], arith}
+use Rattle.std.proofs.Common.{◌-◌, ◌^◌, [], arith}
 use Rattle.krl_plan.proofs.Filling.{none_choices, none_costs}
 use Rattle.krl_plan.proofs.table.Table.new.Goals as goal
 
 pub returns : goal.returns
-returns c = ([], record { listed = c.new.ensures; mapped = c.new-2.ensures c.args.runs; costs = none_costs; bounded = omega arith; choices = rw c.new-3.ensures.items none_choices })
+returns c = (
+  2 ^ 64 - 1,
+  (omega arith, ([], record { listed = c.new.ensures; mapped = c.new-2.ensures (2 ^ 64 - 1); costs = none_costs; bounded = omega arith; choices = rw c.new-3.ensures.items none_choices })),
+)

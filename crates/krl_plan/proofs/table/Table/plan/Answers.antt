@@ -10,7 +10,7 @@ loop-left-preserved c =
     let group = c.index-group.result.now in
     let is : group ≡ get_or choices (left - 1) group = c.index-group.ensures in
     let within : left ≤ length choices = c.loop-left.invariant.within in
-    let fits = c.requires.known.1.1.1.choices.fits (left - 1) group (omega arith) in
+    let fits = c.requires.known.1.1.1.1.choices.fits (left - 1) group (omega arith) in
     let least : (get_or choices (left - 1) group).count ≤ left = let h = fits.1 in omega arith in
     let more : Walked choices (c.loop-left.plan.items ++ get_or choices (left - 1) group ∷ []) (left - (get_or choices (left - 1) group).count) =
     Walked-more choices c.loop-left.plan.items left group (omega arith) within least c.loop-left.invariant.walked in
@@ -22,7 +22,7 @@ loop-left-preserved c =
     }
 
 pub returns : goal.returns
-returns c at runs known =
+returns c runs known =
     let none : c.loop-left.left ≡ 0 = omega arith in
     Walked-all c.args.self.now.choices.items c.loop-left.plan.items runs
-    (subst (λ (n : ℕ). Walked c.args.self.now.choices.items c.loop-left.plan.items n) none c.loop-left.invariant.walked) known.1.choices
+    (subst (λ (n : ℕ). Walked c.args.self.now.choices.items c.loop-left.plan.items n) none c.loop-left.invariant.walked) known.1.1.1.choices

@@ -1,0 +1,95 @@
+-- Runs that are copied from a set, and the numbers at which its chunks begin.
+use Rattle.std.proofs.lemmas.Grind.{common_steps}
+use Rattle.std.proofs.Common.{◌≡◌, ℕ, ◌+◌, ◌*◌, ◌<◌, ◌≤◌, inl, inr, List, [], ◌∷◌, ◌++◌, length, take, drop, sym, ap, subst, ◌∙◌, arith, append_assoc, length-take, length-take-le}
+use Rattle.std.specs.Prelude.{Option, Some}
+use Rattle.std.proofs.lemmas.Bool.{cases_lt}
+use Rattle.std.proofs.lemmas.List.{append-nil, drop-append-le, drop-drop, drop_all, get_or_append_left, get_or_push, length_push, take-append-drop, take-append-le, take_all}
+use Rattle.serial_set.specs.declared.span.Span.{Span}
+use Rattle.serial_set.specs.Span.{IsRuns, AreSerials}
+use Rattle.serial_set.specs.Walk.{IsPiece, left, next_of, since, walk_ends, walk_on, steps}
+use Rattle.krl_plan.specs.Chosen.{IsRuns-drop}
+use Rattle.krl_plan.specs.Copies.{BeginChunks, Copies}
+
+-- ---- copies
+
+-- a piece, and what a walk has left after it
+piece_then : (spans piece : List Span) (n : ℕ) → IsRuns spans → AreSerials spans → IsPiece spans n piece → piece ++ left (next_of piece) spans ≡ since n spans
+piece_then spans piece n r fits p =
+    ap (λ (l : List Span). piece ++ l) (walk_on spans piece n r fits p) ∙ ap (λ (l : List Span). l ++ drop (length piece) (since n spans)) p.front
+    ∙ take-append-drop (length piece) (since n spans)
+
+pub copied_more : (spans old new piece whole : List Span) (n : ℕ) (before next : Option ℕ) → IsRuns spans → AreSerials spans → IsPiece spans n piece → before ≡ Some n → next ≡ next_of piece
+    → new ≡ old ++ piece → old ++ left before spans ≡ whole → new ++ left next spans ≡ whole
+copied_more spans old new piece whole n before next r fits p b m e w = grind (arith, common_steps, append_assoc, piece_then)
+
+-- where as many are left, as many are copied, and they are the first
+copied_enough : (spans old new : List Span) (count : ℕ) (from next : Option ℕ) → Copies spans count from old new next → count ≤ length (old ++ left from spans) → count ≤ length new
+copied_enough spans old new count from next c le = elim c.enough [
+  | inl enough ↦ enough
+  | inr none ↦ (let all = sym (append-nil new) ∙ ap (λ (l : List Span). new ++ l) (sym none) ∙ c.same in omega (arith, ap length all))
+]
+
+pub copied_first : (spans old new : List Span) (count : ℕ) (from next : Option ℕ) → Copies spans count from old new next → count ≤ length (old ++ left from spans)
+    → (count ≤ length new) × (take count new ≡ take count (old ++ left from spans)) × (drop count new ++ left next spans ≡ drop count (old ++ left from spans))
+copied_first spans old new count from next c le =
+    let enough = copied_enough spans old new count from next c le in (
+      enough,
+      sym (take-append-le count new (left next spans) enough) ∙ ap (take count) c.same,
+      sym (drop-append-le count new (left next spans) enough) ∙ ap (drop count) c.same,
+    )
+
+pub copied_chunk : (spans old new : List Span) (count n : ℕ) (next : Option ℕ) → old ≡ [] → Copies spans count (Some n) old new next → take count new ≡ take count (since n spans)
+copied_chunk spans old new count n next e c =
+    let same : new ++ left next spans ≡ since n spans = c.same ∙ ap (λ (l : List Span). l ++ since n spans) e in
+    elim c.enough [
+      | inl enough ↦ sym (take-append-le count new (left next spans) enough) ∙ ap (take count) same
+      | inr none ↦ ap (take count) (sym (append-nil new) ∙ ap (λ (l : List Span). new ++ l) (sym none) ∙ same)
+    ]
+
+-- ---- chunks
+
+drop_taken : (n : ℕ) (xs : List Span) → drop (length (take n xs)) xs ≡ drop n xs
+drop_taken n xs = elim (cases_lt n (length xs)) [
+  | inl lt ↦ ap (λ (k : ℕ). drop k xs) (length-take-le n xs (omega arith))
+  | inr le ↦ ap (λ (l : List Span). drop (length l) xs) (take_all n xs le) ∙ drop_all (length xs) xs (omega arith) ∙ sym (drop_all n xs le)
+]
+
+chunk_piece : (spans chunk : List Span) (n : ℕ) → chunk ≡ take 1024 (since n spans) → IsPiece spans n chunk
+chunk_piece spans chunk n e =
+    let size = ap length e ∙ length-take 1024 (since n spans) in
+    record {
+      some = λ h. omega arith;
+      front = elim (cases_lt (length (since n spans)) 1024) [
+        | inl lt ↦ (let all = e ∙ take_all 1024 (since n spans) (omega arith) in all ∙ sym (take_all (length chunk) (since n spans) (omega (arith, ap length all))))
+        | inr le ↦ (let full : 1024 ≡ length chunk = omega arith in e ∙ ap (λ (k : ℕ). take k (since n spans)) full)
+      ];
+    }
+
+pub chunk_ends : (spans chunk : List Span) (n : ℕ) → IsRuns spans → AreSerials spans → chunk ≡ take 1024 (since n spans) → steps (next_of chunk) spans < steps (Some n) spans
+chunk_ends spans chunk n r fits e = walk_ends spans chunk n r fits (chunk_piece spans chunk n e)
+
+-- after a chunk the walk goes on at the next
+pub chunk_passed : (spans chunk : List Span) (starts : List ℕ) (n : ℕ) → IsRuns spans → AreSerials spans → chunk ≡ take 1024 (since n spans) → since n spans ≡ drop (1024 * length starts) spans
+    → left (next_of chunk) spans ≡ drop (1024 * length (starts ++ n ∷ [])) spans
+chunk_passed spans chunk starts n r fits e at =
+    let next : 1024 * length starts + 1024 ≡ 1024 * length (starts ++ n ∷ []) = omega (arith, length_push starts n) in
+    walk_on spans chunk n r fits (chunk_piece spans chunk n e) ∙ ap (λ (l : List Span). drop (length l) (since n spans)) e ∙ drop_taken 1024 (since n spans)
+    ∙ ap (drop 1024) at ∙ drop-drop 1024 (1024 * length starts) spans ∙ ap (λ (k : ℕ). drop k spans) next
+
+pub starts_more : (spans : List Span) (starts : List ℕ) (n : ℕ) → BeginChunks spans starts → since n spans ≡ drop (1024 * length starts) spans → BeginChunks spans (starts ++ n ∷ [])
+starts_more spans starts n begin at = grind (arith, common_steps, get_or_append_left, get_or_push, length_push)
+
+starts_pop : (spans : List Span) (starts rest : List ℕ) (n : ℕ) → starts ≡ rest ++ n ∷ [] → BeginChunks spans starts → BeginChunks spans rest × (since n spans ≡ drop (1024 * length rest) spans)
+starts_pop spans starts rest n e begin = grind (arith, common_steps, get_or_append_left, get_or_push, length_push)
+
+-- the last chunk before those that follow it
+pub last_chunk : (spans chunk : List Span) (starts rest : List ℕ) (n : ℕ) → IsRuns spans → starts ≡ rest ++ n ∷ [] → BeginChunks spans starts → chunk ≡ take 1024 (since n spans)
+    → BeginChunks spans rest × IsRuns (chunk ++ drop (1024 * length starts) spans) × (chunk ++ drop (1024 * length starts) spans ≡ drop (1024 * length rest) spans)
+last_chunk spans chunk starts rest n r e begin is =
+    let pop = starts_pop spans starts rest n e begin in
+    let from : List Span = drop (1024 * length rest) spans in
+    let next : 1024 * length starts ≡ 1024 * length rest + 1024 = omega (arith, ap length e, length_push rest n) in
+    let then : chunk ++ drop (1024 * length starts) spans ≡ from =
+    ap (λ (k : ℕ). chunk ++ drop k spans) next ∙ ap (λ (l : List Span). chunk ++ l) (sym (drop-drop 1024 (1024 * length rest) spans))
+    ∙ ap (λ (l : List Span). l ++ drop 1024 from) (is ∙ ap (take 1024) pop.1) ∙ take-append-drop 1024 from in
+    (pop.0, subst IsRuns (sym then) (IsRuns-drop 0 (1024 * length rest) spans r), then)

@@ -1,0 +1,51 @@
+//! Runs that are copied from a set.
+
+ghost use Rattle.std.specs.Prelude.{◌≡◌, ◌≤◌, length, take, drop, IfOk, OnOk};
+ghost use Rattle.serial_set.specs.Walk.{since};
+ghost use Rattle.krl_plan.specs.Copies.{Copies};
+
+use serial_set::{Span, Spans};
+use std::alloc::AllocError;
+
+// Copies runs from where a walk goes on, until there are this many or all are there. Gives where
+// the walk goes on then.
+pub(crate) fn copy_runs<S: Spans>(
+    set: &S,
+    from: Option<u64>,
+    count: usize,
+    runs: &mut Vec<Span>,
+) -> Result<Option<u64>, AllocError>
+    ensures { IfOk result (Copies (S.spans set.now) count from runs.old.items runs.new.items) }
+{
+    let mut next = from;
+    while runs.len() < count {
+        let Some(number) = next else { return Ok(None) };
+        let piece = set.piece_from(number);
+        runs.extend_from_slice(piece.as_slice())?;
+        next = piece.next();
+    }
+    Ok(next)
+}
+
+// Copies the runs from a number on, this many or all.
+pub(crate) fn copy_chunk<S: Spans>(
+    set: &S,
+    number: u64,
+    count: usize,
+    chunk: &mut Vec<Span>,
+) -> Result<(), AllocError>
+    ensures { OnOk result (chunk.new.items ≡ take count (since number (S.spans set.now))) }
+{
+    chunk.clear();
+    copy_runs(set, Some(number), count, chunk)?;
+    chunk.truncate(count);
+    Ok(())
+}
+
+// Drops the first of some runs, this many.
+pub(crate) fn drop_first(runs: &mut Vec<Span>, count: usize)
+    requires { count ≤ length runs.old.items }
+    ensures { runs.new.items ≡ drop count runs.old.items }
+{
+    runs.drain(0..count);
+}
