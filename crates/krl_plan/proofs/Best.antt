@@ -7,7 +7,7 @@ use Rattle.krl_plan.specs.declared.group.Sort.TheVariants.{Serials, Range, Bitma
 use Rattle.krl_plan.specs.declared.group.Group.{Group}
 use Rattle.krl_plan.specs.declared.cell.Cell.{Cell}
 use Rattle.krl_plan.specs.Plan.{IsGroup}
-use Rattle.krl_plan.specs.Bitmaps.{IsMap}
+use Rattle.krl_plan.specs.Bitmaps.{IsBitmap}
 use Rattle.krl_plan.specs.Lists.{IsList}
 use Rattle.krl_plan.specs.Search.{IsBest, IsBestOf, IsCandidate, Wins, cell_with, rest_cost}
 
@@ -38,28 +38,28 @@ one_better rests runs sort Is old cell best count c g is wins one first second =
     }
 
 pub best_of_all : (rests : List ℕ) (runs : List Span) (start listed best : Cell) → 0 < length runs → start ≡ cell_with rests runs (group_of Range 1)
-    → (IsCandidate rests runs start → IsBestOf rests runs Serials (IsList runs) start listed) → (IsCandidate rests runs listed → IsBestOf rests runs Bitmap (IsMap runs) listed best) → IsBest rests runs best
-best_of_all rests runs start listed best some is lists maps =
+    → (IsCandidate rests runs start → IsBestOf rests runs Serials (IsList runs) start listed) → (IsCandidate rests runs listed → IsBestOf rests runs Bitmap (IsBitmap runs) listed best) → IsBest rests runs best
+best_of_all rests runs start listed best some is lists bitmaps =
     let range : Cell = cell_with rests runs (group_of Range 1) in
-    let group : IsGroup runs (group_of Range 1) = record { some = omega arith; within = omega arith; covers = length-take-le 1 runs (omega arith) } in
+    let group : IsGroup runs (group_of Range 1) = record { some = omega arith; within = omega arith; allowed = length-take-le 1 runs (omega arith) } in
     let ranged : IsCandidate rests runs start = subst (λ (x : Cell). IsCandidate rests runs x) (sym is) (record { is_group = group; cost_is = refl }) in
     let by_lists = lists ranged in
-    let by_maps = maps by_lists.candidate in
-    let ranges : Wins best range = by_maps.kept range (by_lists.kept range (subst (λ (x : Cell). Wins start x) is (wins_itself start))) in
+    let by_bitmaps = bitmaps by_lists.candidate in
+    let ranges : Wins best range = by_bitmaps.kept range (by_lists.kept range (subst (λ (x : Cell). Wins start x) is (wins_itself start))) in
     let one : (sort : Sort) (count : ℕ) → IsGroup runs (group_of sort count) → Wins best (cell_with rests runs (group_of sort count)) =
     λ sort. elim sort as (λ s. (count : ℕ) → IsGroup runs (group_of s count) → Wins best (cell_with rests runs (group_of s count))) [
-      | Serials ↦ λ count g. by_maps.kept (cell_with rests runs (group_of Serials count)) (by_lists.beats count g)
+      | Serials ↦ λ count g. by_bitmaps.kept (cell_with rests runs (group_of Serials count)) (by_lists.beats count g)
       | Range ↦ λ count g.
-          let single : length (take count runs) ≡ 1 = IsGroup.covers g in
+          let single : length (take count runs) ≡ 1 = IsGroup.allowed g in
           let len = length-take-le count runs (IsGroup.within g) in
           let e : count ≡ 1 = omega arith in
           subst (λ (n : ℕ). Wins best (cell_with rests runs (group_of Range n))) (sym e) ranges
-      | Bitmap ↦ λ count g. by_maps.beats count g
+      | Bitmap ↦ λ count g. by_bitmaps.beats count g
     ] in
-    record { is_candidate = by_maps.candidate; wins = λ g is. one g.sort g.count is }
+    record { is_candidate = by_bitmaps.candidate; wins = λ g is. one g.sort g.count is }
 
 -- the best costs no more than a range before the rest
 pub best_bounded : (rests : List ℕ) (runs : List Span) (best : Cell) → 0 < length runs → IsBest rests runs best → best.cost ≤ 21 + rest_cost rests 1
 best_bounded rests runs best some b =
-    let group : IsGroup runs (group_of Range 1) = record { some = omega arith; within = omega arith; covers = length-take-le 1 runs (omega arith) } in
+    let group : IsGroup runs (group_of Range 1) = record { some = omega arith; within = omega arith; allowed = length-take-le 1 runs (omega arith) } in
     elim (b.wins (group_of Range 1) group) [ inl lt ↦ omega arith | inr tie ↦ omega arith ]

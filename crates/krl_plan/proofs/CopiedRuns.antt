@@ -7,7 +7,7 @@ use Rattle.std.proofs.lemmas.List.{append-nil, drop-append-le, drop-drop, drop_a
 use Rattle.serial_set.specs.declared.span.Span.{Span}
 use Rattle.serial_set.specs.Span.{IsRuns, AreSerials}
 use Rattle.serial_set.specs.Walk.{IsPiece, left, next_of, since, walk_ends, walk_on, steps}
-use Rattle.krl_plan.specs.Chosen.{IsRuns-drop}
+use Rattle.krl_plan.proofs.Chosen.{IsRuns-drop}
 use Rattle.krl_plan.specs.Copies.{BeginChunks, Copies}
 
 -- ---- copies

@@ -9,7 +9,7 @@ use Rattle.krl_plan.specs.declared.cell.Cell.{Cell}
 use Rattle.krl_plan.specs.Plan.{IsGroup, IsLeastPlan, IsPlan, Prefers}
 use Rattle.krl_plan.specs.Search.{IsBest, IsFirst, IsLeastCost}
 use Rattle.krl_plan.specs.Table.{AreChoices}
-use Rattle.krl_plan.specs.Chosen.{Rests, best_first, best_least}
+use Rattle.krl_plan.proofs.Chosen.{Rests, best_first, best_least}
 use Rattle.krl_plan.proofs.Best.{best_bounded}
 
 -- ---- no runs

@@ -7,29 +7,29 @@ use Rattle.serial_set.specs.declared.span.Span.{Span}
 use Rattle.krl_plan.specs.declared.group.Sort.TheVariants.{Serials}
 use Rattle.krl_plan.specs.declared.cell.Cell.{Cell}
 use Rattle.krl_plan.specs.declared.window.Mark.{Mark}
-use Rattle.krl_plan.specs.Plan.{Covers, IsGroup, IsSmall, serial_count}
+use Rattle.krl_plan.specs.Plan.{Allows, IsGroup, IsSmall, serial_count}
 use Rattle.krl_plan.specs.Lists.{IsList, list_mark}
 use Rattle.krl_plan.specs.Search.{IsBestOf, IsCandidate, Wins, cell_with, rest_cost}
 use Rattle.krl_plan.specs.Window.{Forgets, IsFilled, IsLeastOf, Pushes}
 use Rattle.krl_plan.proofs.Best.{group_of, one_better, same_cell}
-use Rattle.krl_plan.proofs.Stairs.{forgets_filled, pushes_filled, same_mark}
+use Rattle.krl_plan.proofs.Marks.{forgets_filled, pushes_filled, same_mark}
 
 list_first : (run : Span) (runs : List Span) → IsSmall run → IsList (run ∷ runs) 1
 list_first run runs small = record {
   some = omega arith;
   within = omega arith;
-  covers = (omega arith, All-cons IsSmall run [] small (All-nil IsSmall));
+  allowed = (omega arith, All-cons IsSmall run [] small (All-nil IsSmall));
 }
 
 list_up : (run : Span) (runs : List Span) (count : ℕ) → IsSmall run → IsList runs count → count < 1024 → IsList (run ∷ runs) (suc count)
 list_up run runs count small g few =
     let within : count ≤ length runs = g.within in
-    let covers : Covers Serials (take count runs) = g.covers in
+    let allowed : Allows Serials (take count runs) = g.allowed in
     let len = length-take-le count runs within in
     record {
       some = omega arith;
       within = omega arith;
-      covers = (omega arith, All-cons IsSmall run (take count runs) small covers.1);
+      allowed = (omega arith, All-cons IsSmall run (take count runs) small allowed.1);
     }
 
 list_down : (run : Span) (runs : List Span) (count : ℕ) → IsList (run ∷ runs) count → (count ≡ 1) ⊎ ((before : ℕ) × ((count ≡ suc before) × (IsList runs before × (before < 1024))))
@@ -37,21 +37,21 @@ list_down run runs zero g = let some : 0 < 0 = g.some in absurd (omega arith)
 list_down run runs (suc zero) g = inl refl
 list_down run runs (suc (suc count)) g =
     let within : suc (suc count) ≤ suc (length runs) = g.within in
-    let covers : Covers Serials (run ∷ take (suc count) runs) = g.covers in
-    let few : suc (length (take (suc count) runs)) ≤ 1024 = covers.0 in
+    let allowed : Allows Serials (run ∷ take (suc count) runs) = g.allowed in
+    let few : suc (length (take (suc count) runs)) ≤ 1024 = allowed.0 in
     let len = length-take-le (suc count) runs (omega arith) in
     let group : IsList runs (suc count) = record {
       some = omega arith;
       within = omega arith;
-      covers = (omega arith, All-tail IsSmall run (take (suc count) runs) covers.1);
+      allowed = (omega arith, All-tail IsSmall run (take (suc count) runs) allowed.1);
     } in
     inr (suc count, (refl, (group, omega arith)))
 
 -- no list has more than 1,024 runs
 pub list_few : (runs : List Span) (count : ℕ) → IsList runs count → count ≤ 1024
 list_few runs count g =
-    let covers : Covers Serials (take count runs) = g.covers in
-    let few : length (take count runs) ≤ 1024 = covers.0 in
+    let allowed : Allows Serials (take count runs) = g.allowed in
+    let few : length (take count runs) ≤ 1024 = allowed.0 in
     let len = length-take-le count runs g.within in
     omega arith
 

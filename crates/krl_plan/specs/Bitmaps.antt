@@ -16,24 +16,24 @@ last_of [] = 0
 last_of (run ∷ runs) = end_of run runs
 
 -- this many runs at the front may be a bitmap
-abbrev pub IsMap : List Span → ℕ → Type 0
-IsMap runs count = IsGroup runs (record { sort = Bitmap; count = count })
+abbrev pub IsBitmap : List Span → ℕ → Type 0
+IsBitmap runs count = IsGroup runs (record { sort = Bitmap; count = count })
 
 -- this many runs at the front may be a bitmap, and the serial after the last leaves this remainder
-pub record IsMapOf (runs : List Span) (remainder count : ℕ) : Type 0 where
-  pub is_map : IsMap runs count
+pub record IsBitmapOf (runs : List Span) (remainder count : ℕ) : Type 0 where
+  pub is_bitmap : IsBitmap runs count
   pub leaves : (last_of (take count runs) + 1) % 8 ≡ remainder
 
--- the mark of that bitmap, where the first run is at a place of the set
-abbrev pub map_mark : ℕ → List Span → List ℕ → ℕ → Mark
-map_mark at runs rests count = record {
+-- the mark of that bitmap, where the first run is at an index of the set
+abbrev pub bitmap_mark : ℕ → List Span → List ℕ → ℕ → Mark
+bitmap_mark at runs rests count = record {
   place = last_of (take count runs);
   value = (last_of (take count runs) + 1) / 8 + rest_cost rests count;
   end = at + count;
 }
 
--- the bitmaps of the runs from a place on, a window for each remainder
-abbrev pub IsMapped : Bitmaps → ℕ → List Span → List ℕ → Type 0
-IsMapped bitmaps at runs rests =
+-- the bitmaps of the runs from an index on, a window for each remainder
+abbrev pub HasBitmaps : Bitmaps → ℕ → List Span → List ℕ → Type 0
+HasBitmaps bitmaps at runs rests =
     (r : ℕ) (d : Window) → r < 8
-    → IsFilled (get_or bitmaps.windows r d).marks.items (IsMapOf runs r) (map_mark at runs rests)
+    → IsFilled (get_or bitmaps.windows r d).marks.items (IsBitmapOf runs r) (bitmap_mark at runs rests)

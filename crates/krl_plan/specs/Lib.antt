@@ -7,11 +7,3 @@ pub mod Lists
 pub mod Bitmaps
 pub mod Table
 pub mod Written
-pub mod Chosen
-pub mod Reach
-pub mod BitmapBits
-pub mod ListTexts
-pub mod GroupTexts
-pub mod OnePlan
-pub mod Named
-pub mod Ranges

@@ -12,7 +12,7 @@ use Rattle.krl_plan.specs.Window.{IsFilled}
 abbrev pub IsList : List Span → ℕ → Type 0
 IsList runs count = IsGroup runs (record { sort = Serials; count = count })
 
--- the mark of that list, where the first run is at a place of the set
+-- the mark of that list, where the first run is at an index of the set
 abbrev pub list_mark : ℕ → ℕ → List Span → List ℕ → ℕ → Mark
 list_mark base at runs rests count = record {
   place = at + count;
@@ -20,8 +20,8 @@ list_mark base at runs rests count = record {
   end = at + count;
 }
 
--- the lists of the runs from a place on
-pub record IsListed (lists : Lists) (at : ℕ) (runs : List Span) (rests : List ℕ) : Type 0 where
+-- the lists of the runs from an index on
+pub record HasLists (lists : Lists) (at : ℕ) (runs : List Span) (rests : List ℕ) : Type 0 where
   pub room : 16 * at ≤ lists.base
   pub bounded : lists.base < 2 ^ 100
   pub filled : IsFilled lists.window.marks.items (IsList runs) (list_mark lists.base at runs rests)

@@ -5,7 +5,7 @@ use Rattle.serial_set.specs.declared.span.Span.{Span}
 use Rattle.krl_plan.specs.declared.group.Sort.{Sort}
 use Rattle.krl_plan.specs.declared.group.Sort.TheVariants.{Serials, Range, Bitmap}
 use Rattle.krl_plan.specs.declared.group.Group.{Group}
-use Rattle.krl_plan.specs.Sorts.{place}
+use Rattle.krl_plan.specs.Sorts.{rank}
 
 -- how many serials the runs have
 abbrev pub serial_count : List Span → ℕ
@@ -29,10 +29,10 @@ abbrev pub IsSmall : Span → Type 0
 IsSmall run = run.hi ≤ run.lo + 1
 
 -- a subsection of the sort may name just these runs
-abbrev pub Covers : Sort → List Span → Type 0
-Covers Serials runs = (length runs ≤ 1024) × All IsSmall runs
-Covers Range runs = length runs ≡ 1
-Covers Bitmap runs = reach runs < 2048
+abbrev pub Allows : Sort → List Span → Type 0
+Allows Serials runs = (length runs ≤ 1024) × All IsSmall runs
+Allows Range runs = length runs ≡ 1
+Allows Bitmap runs = reach runs < 2048
 
 -- the bytes of a subsection that names these runs, its type byte and lengths counted
 abbrev pub bytes_of : Sort → List Span → ℕ
@@ -44,7 +44,7 @@ bytes_of Bitmap runs = 18 + (reach runs + 1) / 8
 pub record IsGroup (runs : List Span) (group : Group) : Type 0 where
   pub some : 0 < group.count
   pub within : group.count ≤ length runs
-  pub covers : Covers group.sort (take group.count runs)
+  pub allowed : Allows group.sort (take group.count runs)
 
 -- the bytes of the group at the front of the runs
 abbrev pub group_cost : List Span → Group → ℕ
@@ -69,7 +69,7 @@ pub record IsCheapest (runs : List Span) (plan : List Group) : Type 0 where
 
 -- The first group is of a sort that comes first, or of the same sort and longer.
 abbrev pub Before : Group → Group → Type 0
-Before a b = (place a.sort < place b.sort) ⊎ ((place a.sort ≡ place b.sort) × (b.count < a.count))
+Before a b = (rank a.sort < rank b.sort) ⊎ ((rank a.sort ≡ rank b.sort) × (b.count < a.count))
 
 -- At the first group that differs, the first plan's comes before the second's.
 abbrev pub Prefers : List Group → List Group → Type 0

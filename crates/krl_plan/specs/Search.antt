@@ -4,13 +4,13 @@ use Rattle.serial_set.specs.declared.span.Span.{Span}
 use Rattle.krl_plan.specs.declared.group.Sort.{Sort}
 use Rattle.krl_plan.specs.declared.group.Group.{Group}
 use Rattle.krl_plan.specs.declared.cell.Cell.{Cell}
-use Rattle.krl_plan.specs.Sorts.{place}
+use Rattle.krl_plan.specs.Sorts.{rank}
 use Rattle.krl_plan.specs.Plan.{IsGroup, IsPlan, IsLeastPlan, cost, group_cost}
 
 -- the one group comes before the other or is the same
 abbrev pub IsAtOrBefore : Group → Group → Type 0
 IsAtOrBefore a b =
-    (place a.sort < place b.sort) ⊎ ((place a.sort ≡ place b.sort) × (b.count ≤ a.count))
+    (rank a.sort < rank b.sort) ⊎ ((rank a.sort ≡ rank b.sort) × (b.count ≤ a.count))
 
 -- the one costs less, or as much with a group that does not come after the other's
 abbrev pub Wins : Cell → Cell → Type 0

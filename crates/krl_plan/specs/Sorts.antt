@@ -3,7 +3,7 @@ use Rattle.std.specs.Prelude.{ℕ}
 use Rattle.krl_plan.specs.declared.group.Sort.{Sort}
 use Rattle.krl_plan.specs.declared.group.Sort.TheVariants.{Serials, Range, Bitmap}
 
-abbrev pub place : Sort → ℕ
-place Serials = 0
-place Range = 1
-place Bitmap = 2
+abbrev pub rank : Sort → ℕ
+rank Serials = 0
+rank Range = 1
+rank Bitmap = 2

@@ -4,8 +4,8 @@ use Rattle.std.specs.Prelude.{slice_index, slice_index_or as get_or}
 use Rattle.serial_set.specs.declared.span.Span.{Span}
 use Rattle.krl_plan.specs.declared.group.Group.{Group}
 use Rattle.krl_plan.specs.declared.table.Table.{Table}
-use Rattle.krl_plan.specs.Bitmaps.{IsMapped}
-use Rattle.krl_plan.specs.Lists.{IsListed}
+use Rattle.krl_plan.specs.Bitmaps.{HasBitmaps}
+use Rattle.krl_plan.specs.Lists.{HasLists}
 use Rattle.krl_plan.specs.Search.{IsFirst, IsLeastCost}
 
 -- The choices are one for each run, that of the first run last. No choice has more runs than there
@@ -19,14 +19,14 @@ pub record AreChoices (runs : List Span) (choices : List Group) : Type 0 where
 
 -- The rests are what all runs but the first cost at least, then all but the first two, and so on.
 pub record IsKnown (table : Table) (at : ℕ) (runs : List Span) (rests : List ℕ) : Type 0 where
-  pub listed : IsListed table.lists at runs rests
-  pub mapped : IsMapped table.bitmaps at runs rests
+  pub lists : HasLists table.lists at runs rests
+  pub bitmaps : HasBitmaps table.bitmaps at runs rests
   pub costs : (k : ℕ) → k ≤ length runs
       → IsLeastCost (drop k runs) (slice_index (table.least ∷ rests) k)
   pub bounded : table.least ≤ 21 * length table.choices.items
   pub choices : AreChoices runs table.choices.items
 
--- The table is that of the runs. Their places are counted down from the greatest number.
+-- The table is that of the runs. Their indexes are counted down from the greatest number.
 abbrev pub Knows : Table → List Span → Type 0
 Knows table runs =
     (at : ℕ) × ((at + length runs ≡ 2 ^ 64 - 1) × ((rests : List ℕ) × IsKnown table at runs rests))

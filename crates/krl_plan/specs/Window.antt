@@ -5,7 +5,7 @@ use Rattle.std.specs.List.Sorted.{IsNonDecreasingBy}
 use Rattle.krl_plan.specs.declared.window.Mark.{Mark}
 
 -- No value is below an older one, and each place is before the older ones.
-pub record IsStairs (marks : List Mark) : Type 0 where
+pub record AreOrdered (marks : List Mark) : Type 0 where
   pub values : IsNonDecreasingBy (λ mark. mark.value) marks
   pub places : (i j : ℕ) (d : Mark) → i < j → j < length marks
       → (get_or marks j d).place < (get_or marks i d).place

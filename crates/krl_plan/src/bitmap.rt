@@ -17,8 +17,8 @@ pub(crate) fn put_bits(out: &mut Vec<u8>, runs: &[Span], size: u32) -> Result<()
 {
     let first = u128::from(runs[0].lo);
     let mut left = runs.len();
-    for place in (0..size).rev() {
-        let byte = byte_at(runs, &mut left, first + 8 * u128::from(place));
+    for index in (0..size).rev() {
+        let byte = byte_at(runs, &mut left, first + 8 * u128::from(index));
         put_byte(out, byte)?;
     }
     Ok(())

@@ -28,11 +28,11 @@ pub(crate) struct Bitmaps {
 }
 
 impl Bitmaps {
-    ghost use Rattle.krl_plan.specs.Bitmaps.{IsMap, IsMapOf, IsMapped};
+    ghost use Rattle.krl_plan.specs.Bitmaps.{IsBitmap, IsBitmapOf, HasBitmaps};
 
     // The bitmaps of no run.
     pub(crate) fn new(alloc: Global) -> Bitmaps
-        ensures { (at : ℕ) → IsMapped result at [] [] }
+        ensures { (at : ℕ) → HasBitmaps result at [] [] }
     {
         Bitmaps {
             windows: [
@@ -48,15 +48,15 @@ impl Bitmaps {
         }
     }
 
-    // Takes the run at a place of the set, and what the runs after it cost at least.
+    // Takes the run at an index of the set, and what the runs after it cost at least.
     pub(crate) fn add(&mut self, run: Span, at: usize, rest: u128) -> Result<(), AllocError>
         requires below { at < usize.MAX }
         requires small { rest < 2 ^ 100 }
-        requires mapped { (runs : List Span) × ((rests : List ℕ)
-            × (IsRuns (run ∷ runs) × IsMapped self.old (at + 1) runs rests)) }
+        requires bitmaps { (runs : List Span) × ((rests : List ℕ)
+            × (IsRuns (run ∷ runs) × HasBitmaps self.old (at + 1) runs rests)) }
         ensures { (runs : List Span) (rests : List ℕ) → IsRuns (run ∷ runs)
-            → IsMapped self.old (at + 1) runs rests
-            → OnOk result (IsMapped self.new at (run ∷ runs) (rest ∷ rests)) }
+            → HasBitmaps self.old (at + 1) runs rests
+            → OnOk result (HasBitmaps self.new at (run ∷ runs) (rest ∷ rests)) }
     {
         let after = run.hi as u128 + 1;
         self.windows[(after % 8) as usize].push(Mark {
@@ -68,13 +68,13 @@ impl Bitmaps {
         Ok(())
     }
 
-    // The best of a cell and of the bitmaps that the run at a place begins.
+    // The best of a cell and of the bitmaps that the run at an index begins.
     pub(crate) fn best(&self, run: Span, at: usize, best: Cell) -> Cell
-        requires mapped { (runs : List Span) × ((rests : List ℕ)
-            × (IsRuns (run ∷ runs) × IsMapped self.now at (run ∷ runs) rests)) }
+        requires bitmaps { (runs : List Span) × ((rests : List ℕ)
+            × (IsRuns (run ∷ runs) × HasBitmaps self.now at (run ∷ runs) rests)) }
         ensures { (runs : List Span) (rests : List ℕ) → IsRuns (run ∷ runs)
-            → IsMapped self.now at (run ∷ runs) rests → IsCandidate rests (run ∷ runs) best
-            → IsBestOf rests (run ∷ runs) Bitmap (IsMap (run ∷ runs)) best result }
+            → HasBitmaps self.now at (run ∷ runs) rests → IsCandidate rests (run ∷ runs) best
+            → IsBestOf rests (run ∷ runs) Bitmap (IsBitmap (run ∷ runs)) best result }
     {
         let mut best = best;
         for remainder in 0..8 {
@@ -86,11 +86,11 @@ impl Bitmaps {
     // The best of a cell and of the bitmaps with a remainder.
     fn best_of(&self, remainder: usize, run: Span, at: usize, best: Cell) -> Cell
         requires remainder { remainder < 8 }
-        requires mapped { (runs : List Span) × ((rests : List ℕ)
-            × (IsRuns (run ∷ runs) × IsMapped self.now at (run ∷ runs) rests)) }
+        requires bitmaps { (runs : List Span) × ((rests : List ℕ)
+            × (IsRuns (run ∷ runs) × HasBitmaps self.now at (run ∷ runs) rests)) }
         ensures { (runs : List Span) (rests : List ℕ) → IsRuns (run ∷ runs)
-            → IsMapped self.now at (run ∷ runs) rests → IsCandidate rests (run ∷ runs) best
-            → IsBestOf rests (run ∷ runs) Bitmap (IsMapOf (run ∷ runs) remainder) best result }
+            → HasBitmaps self.now at (run ∷ runs) rests → IsCandidate rests (run ∷ runs) best
+            → IsBestOf rests (run ∷ runs) Bitmap (IsBitmapOf (run ∷ runs) remainder) best result }
     {
         let Some(mark) = self.windows[remainder].least() else {
             return best

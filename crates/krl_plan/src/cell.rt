@@ -37,11 +37,11 @@ fn wins(a: Cell, b: Cell) -> bool
 fn is_at_or_before(a: Group, b: Group) -> bool
     ensures { IsTrue result ↔ IsAtOrBefore a b }
 {
-    let place = a.sort.place();
-    let other = b.sort.place();
-    if place == other {
+    let rank = a.sort.rank();
+    let other = b.sort.rank();
+    if rank == other {
         b.count <= a.count
     } else {
-        place < other
+        rank < other
     }
 }

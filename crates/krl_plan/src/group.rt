@@ -1,6 +1,6 @@
 //! Groups of runs, each of which one subsection names (PROTOCOL.krl).
 ghost use Rattle.std.specs.Prelude.{◌≡◌};
-ghost use Rattle.krl_plan.specs.Sorts.{place};
+ghost use Rattle.krl_plan.specs.Sorts.{rank};
 
 /// The sort of a serial subsection (PROTOCOL.krl, certificate sections).
 #[derive(Clone, Copy, Debug, PartialEq, Eq)]
@@ -24,8 +24,8 @@ pub struct Group {
 
 impl Sort {
     // Of plans that cost the same, the sort that comes first here is taken.
-    pub(crate) fn place(self) -> u8
-        ensures { result ≡ place self }
+    pub(crate) fn rank(self) -> u8
+        ensures { result ≡ rank self }
     {
         match self {
             Sort::Serials => 0,

@@ -5,7 +5,7 @@ ghost use Rattle.std.specs.List.{flat_map};
 ghost use Rattle.serial_set.specs.Span.{IsRuns};
 ghost use Rattle.ssh_wire.specs.Wire.{number};
 ghost use Rattle.krl_plan.specs.declared.group.Sort.TheVariants.{Serials, Range, Bitmap};
-ghost use Rattle.krl_plan.specs.Plan.{Covers, IsSmall, reach};
+ghost use Rattle.krl_plan.specs.Plan.{Allows, IsSmall, reach};
 ghost use Rattle.krl_plan.specs.Written.{group_text, serials_of};
 
 use crate::bitmap::put_bits;
@@ -19,7 +19,7 @@ use std::alloc::AllocError;
 pub(crate) fn put_group(out: &mut Vec<u8>, sort: Sort, runs: &[Span]) -> Result<(), AllocError>
     requires some { 0 < length runs.now }
     requires rising { IsRuns runs.now }
-    requires covers { Covers sort runs.now }
+    requires allowed { Allows sort runs.now }
     ensures { OnOk result (out.new.items ≡ out.old.items ++ group_text sort runs.now) }
 {
     match sort {
@@ -32,7 +32,7 @@ pub(crate) fn put_group(out: &mut Vec<u8>, sort: Sort, runs: &[Span]) -> Result<
 // Appends the subsection that lists each serial of the runs.
 fn put_listed(out: &mut Vec<u8>, runs: &[Span]) -> Result<(), AllocError>
     requires rising { IsRuns runs.now }
-    requires covers { Covers Serials runs.now }
+    requires allowed { Allows Serials runs.now }
     ensures { OnOk result (out.new.items ≡ out.old.items ++ group_text Serials runs.now) }
 {
     let at = begin_string(out, 0x20)?;
@@ -60,7 +60,7 @@ fn put_serials(out: &mut Vec<u8>, run: Span) -> Result<(), AllocError>
 // Appends the subsection of the first and the last serial of a run.
 fn put_range(out: &mut Vec<u8>, runs: &[Span]) -> Result<(), AllocError>
     requires rising { IsRuns runs.now }
-    requires covers { Covers Range runs.now }
+    requires allowed { Allows Range runs.now }
     ensures { OnOk result (out.new.items ≡ out.old.items ++ group_text Range runs.now) }
 {
     put_byte(out, 0x21)?;
@@ -74,7 +74,7 @@ fn put_range(out: &mut Vec<u8>, runs: &[Span]) -> Result<(), AllocError>
 fn put_bitmap(out: &mut Vec<u8>, runs: &[Span]) -> Result<(), AllocError>
     requires some { 0 < length runs.now }
     requires rising { IsRuns runs.now }
-    requires covers { Covers Bitmap runs.now }
+    requires allowed { Allows Bitmap runs.now }
     ensures { OnOk result (out.new.items ≡ out.old.items ++ group_text Bitmap runs.now) }
 {
     let size = (reach_of(runs) as u32 + 1) / 8 + 1;

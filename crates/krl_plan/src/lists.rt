@@ -23,11 +23,11 @@ pub(crate) struct Lists {
 }
 
 impl Lists {
-    ghost use Rattle.krl_plan.specs.Lists.{IsList, IsListed};
+    ghost use Rattle.krl_plan.specs.Lists.{IsList, HasLists};
 
     // The lists of no run, where this many are to come. None has more than two serials.
     pub(crate) fn new(alloc: Global, runs: usize) -> Lists
-        ensures { IsListed result runs [] [] }
+        ensures { HasLists result runs [] [] }
     {
         Lists {
             window: Window::new(alloc),
@@ -35,15 +35,15 @@ impl Lists {
         }
     }
 
-    // Takes the run at a place of the set, and what the runs after it cost at least.
+    // Takes the run at an index of the set, and what the runs after it cost at least.
     pub(crate) fn add(&mut self, run: Span, at: usize, rest: u128) -> Result<(), AllocError>
         requires ordered { run.lo ≤ run.hi }
         requires below { at < usize.MAX }
         requires small { rest < 2 ^ 100 }
-        requires listed { (runs : List Span)
-            × ((rests : List ℕ) × IsListed self.old (at + 1) runs rests) }
-        ensures { (runs : List Span) (rests : List ℕ) → IsListed self.old (at + 1) runs rests
-            → OnOk result (IsListed self.new at (run ∷ runs) (rest ∷ rests)) }
+        requires lists { (runs : List Span)
+            × ((rests : List ℕ) × HasLists self.old (at + 1) runs rests) }
+        ensures { (runs : List Span) (rests : List ℕ) → HasLists self.old (at + 1) runs rests
+            → OnOk result (HasLists self.new at (run ∷ runs) (rest ∷ rests)) }
     {
         let more = run.hi - run.lo;
         if more > 1 {
@@ -60,11 +60,11 @@ impl Lists {
         Ok(())
     }
 
-    // The best of a cell and of the lists that the run at a place begins.
+    // The best of a cell and of the lists that the run at an index begins.
     pub(crate) fn best(&self, at: usize, best: Cell) -> Cell
-        requires listed { (runs : List Span)
-            × ((rests : List ℕ) × IsListed self.now at runs rests) }
-        ensures { (runs : List Span) (rests : List ℕ) → IsListed self.now at runs rests
+        requires lists { (runs : List Span)
+            × ((rests : List ℕ) × HasLists self.now at runs rests) }
+        ensures { (runs : List Span) (rests : List ℕ) → HasLists self.now at runs rests
             → IsCandidate rests runs best → IsBestOf rests runs Serials (IsList runs) best result }
     {
         let Some(mark) = self.window.least() else {

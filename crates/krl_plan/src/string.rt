@@ -9,7 +9,7 @@ use ssh_wire::{put_byte, put_u32};
 use std::alloc::AllocError;
 
 /// Appends a type byte and, for the length of the string that follows, four bytes that are zero.
-/// Gives the place of the four, at which `end_string` puts the length.
+/// Gives where the four begin, which `end_string` is told.
 pub fn begin_string(out: &mut Vec<u8>, type_byte: u8) -> Result<usize, AllocError>
     ensures { IfOk result (λ at. (at ≡ length out.old.items + 1)
         × (out.new.items ≡ out.old.items ++ type_byte ∷ number 4 0)) }
@@ -20,8 +20,8 @@ pub fn begin_string(out: &mut Vec<u8>, type_byte: u8) -> Result<usize, AllocErro
     Ok(at)
 }
 
-/// Makes a string of the bytes after a place (RFC 4251 section 5): the four bytes at the place,
-/// which are there, get the length, which is below 2^32.
+/// Makes a string (RFC 4251 section 5) of the four bytes at `at`, which are there, and all bytes
+/// after them: the four get the length, which is below 2^32.
 #[tactic(auto, unfolding(ssh_wire::specs::Wire::string, ssh_wire::specs::Wire::number))]
 pub fn end_string(out: &mut Vec<u8>, at: usize)
     requires within { at + 4 ≤ vec_len out.old }

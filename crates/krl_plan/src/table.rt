@@ -57,7 +57,7 @@ impl Table {
         ensures { (runs : List Span) → IsRuns (run ∷ runs) → Knows self.old runs
             → OnOk result (Knows self.new (run ∷ runs)) }
     {
-        // Their places are counted down, however many there are.
+        // Their indexes are counted down, however many there are.
         let at = usize::MAX - 1 - self.choices.len();
         self.lists.add(run, at, self.least)?;
         self.bitmaps.add(run, at, self.least)?;

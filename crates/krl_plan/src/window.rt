@@ -4,7 +4,7 @@ ghost use Rattle.std.specs.Prelude.{◌≡◌, ◌<◌, ◌≤◌, ◌-◌, ◌�
 ghost use Rattle.std.specs.Prelude.{IfSome, IsSome, OnOk};
 ghost use Rattle.std.specs.List.{All, Contains};
 ghost use Rattle.krl_plan.specs.declared.window.Mark.{Mark};
-ghost use Rattle.krl_plan.specs.Window.{Forgets, IsLeastOf, IsStairs, Pushes};
+ghost use Rattle.krl_plan.specs.Window.{Forgets, IsLeastOf, AreOrdered, Pushes};
 
 use std::alloc::{AllocError, Global};
 use std::collections::VecDeque;
@@ -25,7 +25,7 @@ pub(crate) struct Mark {
 #[derive(Drop)]
 pub(crate) struct Window {
     marks: VecDeque<Mark>,
-    ghost stairs: { IsStairs marks.items },
+    ghost ordered: { AreOrdered marks.items },
 }
 
 impl Window {
@@ -72,9 +72,9 @@ impl Window {
 
 // Puts a mark before all others, and drops those that are no longer the least.
 fn push_to(marks: &mut VecDeque<Mark>, mark: Mark) -> Result<(), AllocError>
-    requires stairs { IsStairs marks.old.items }
+    requires ordered { AreOrdered marks.old.items }
     requires before { All (λ other. mark.place < other.place) marks.old.items }
-    ensures stairs { IsStairs marks.new.items }
+    ensures ordered { AreOrdered marks.new.items }
     ensures pushed { OnOk result (Pushes mark marks.old.items marks.new.items) }
 {
     drop_greater(marks, mark.value);
@@ -84,7 +84,7 @@ fn push_to(marks: &mut VecDeque<Mark>, mark: Mark) -> Result<(), AllocError>
 
 // Drops the newest marks that are greater than a value.
 fn drop_greater(marks: &mut VecDeque<Mark>, value: u128)
-    requires stairs { IsStairs marks.old.items }
+    requires ordered { AreOrdered marks.old.items }
     ensures front { marks.new.items ≡ take (length marks.new.items) marks.old.items }
     ensures within { All (λ mark. mark.value ≤ value) marks.new.items }
     ensures dropped { (mark : Mark) → Contains marks.old.items mark
@@ -100,8 +100,8 @@ fn drop_greater(marks: &mut VecDeque<Mark>, value: u128)
 
 // Drops the oldest marks, which lie past a limit.
 fn drop_past(marks: &mut VecDeque<Mark>, limit: u128)
-    requires stairs { IsStairs marks.old.items }
-    ensures stairs { IsStairs marks.new.items }
+    requires ordered { AreOrdered marks.old.items }
+    ensures ordered { AreOrdered marks.new.items }
     ensures forgotten { Forgets limit marks.old.items marks.new.items }
 {
     while let Some(oldest) = marks.front() {

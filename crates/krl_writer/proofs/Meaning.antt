@@ -12,16 +12,16 @@ use Rattle.krl_core.specs.Naming.{SerialOf, SomeNames}
 use Rattle.std.proofs.Math.Logic.Iff as Iff
 use Rattle.krl_core.proofs.BothWays.{iff_both, iff_none, iff_or}
 use Rattle.krl_core.proofs.Same.{IsSerials, AreSerials as AreSerialEntries, some_append}
-use Rattle.krl_plan.specs.Plan.{Covers, IsGroup, IsPlan}
+use Rattle.krl_plan.specs.Plan.{Allows, IsGroup, IsPlan}
 use Rattle.krl_plan.specs.Written.{bitmap_size, first_of}
-use Rattle.krl_plan.specs.Named.{AreSerials-drop, AreSerials-take, bits_name, names_parts, names_within}
-use Rattle.krl_plan.specs.Chosen.{IsRuns-drop, RunsFrom-take}
+use Rattle.krl_plan.proofs.Named.{AreSerials-drop, AreSerials-take, bits_name, names_parts, names_within}
+use Rattle.krl_plan.proofs.Chosen.{IsRuns-drop, RunsFrom-take}
 use Rattle.krl_writer.proofs.Spelling.{serials_name}
 use Rattle.krl_core.specs.Elements.{all_append}
 
 -- ---- a group
 
-group_names : (sort : Sort) (runs : List Span) (b a : List ℕ) (s : ℕ) → IsRuns runs → AreSerials runs → Covers sort runs → SomeNames (subsection_entries b (group_subsection sort runs)) (SerialOf a s) ↔ ((b ≡ a) × Names runs s)
+group_names : (sort : Sort) (runs : List Span) (b a : List ℕ) (s : ℕ) → IsRuns runs → AreSerials runs → Allows sort runs → SomeNames (subsection_entries b (group_subsection sort runs)) (SerialOf a s) ↔ ((b ≡ a) × Names runs s)
 group_names sorts.Serials runs b a s r serials c =
     Iff.trans (Iff.symm (iff_none (λ no. no))) (Iff.and Iff.rfl (λ h. (serials_name 0 runs s r).0 h.1, λ n. ((serials s n).0, (serials_name 0 runs s r).1 n)))
 group_names sorts.Range [] b a s r serials c = absurd (omega arith)
@@ -65,7 +65,7 @@ plan_names runs (group ∷ groups) b a s r serials p =
     let n = group.count in
     let front : List Span = take n runs in
     let back : List Span = drop n runs in
-    let here = group_names group.sort front b a s (RunsFrom-take 0 n runs r) (AreSerials-take n runs serials) (IsGroup.covers (p.0)) in
+    let here = group_names group.sort front b a s (RunsFrom-take 0 n runs r) (AreSerials-take n runs serials) (IsGroup.allowed (p.0)) in
     let later = plan_names back groups b a s (IsRuns-drop 0 n runs r) (AreSerials-drop n runs serials) p.1 in
     Iff.trans (some_append (subsection_entries b (group_subsection group.sort front)) (flat_map (subsection_entries b) (plan_subsections back groups)) (SerialOf a s))
     (Iff.trans (iff_or here later) (Iff.trans iff_both (Iff.and Iff.rfl (names_parts n runs s))))

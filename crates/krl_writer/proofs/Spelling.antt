@@ -12,10 +12,10 @@ use Rattle.ssh_wire.specs.Fields.{length-string}
 use Rattle.krl_plan.specs.declared.group.Sort.{Sort}
 use Rattle.krl_plan.specs.declared.group.Sort.TheVariants as sorts
 use Rattle.krl_plan.specs.declared.group.Group.{Group}
-use Rattle.krl_plan.specs.Chosen.{IsRuns-drop, RunsFrom-take}
-use Rattle.krl_plan.specs.Named.{AreSerials-drop, AreSerials-take, bits_name, last_fits, number-bitmap, top_bit_clear}
-use Rattle.krl_plan.specs.OnePlan.{content_few}
-use Rattle.krl_plan.specs.Plan.{Covers, IsGroup, IsPlan, reach}
+use Rattle.krl_plan.proofs.Chosen.{IsRuns-drop, RunsFrom-take}
+use Rattle.krl_plan.proofs.Named.{AreSerials-drop, AreSerials-take, bits_name, last_fits, number-bitmap, top_bit_clear}
+use Rattle.krl_plan.proofs.OnePlan.{content_few}
+use Rattle.krl_plan.specs.Plan.{Allows, IsGroup, IsPlan, reach}
 use Rattle.krl_plan.specs.Written.{bitmap_of, bitmap_size, bits_of, content_of, first_of, group_text, plan_text, serials_from, serials_of}
 use Rattle.krl_core.specs.Elements.{contains_none}
 use Rattle.krl_core.specs.Krl.{IsPositive, SpellsBitmap, SpellsEach, SpellsSubsection}
@@ -64,7 +64,7 @@ bitmap_spelled runs r h =
       within = λ bit e. (h (first_of runs + bit) ((bits_name runs (first_of runs) (8 * bitmap_size runs) bit).0 e).1).1;
     }
 
-pub group_spelled : (sort : Sort) (runs : List Span) → IsRuns runs → AreSerials runs → Covers sort runs → SpellsSubsection (group_text sort runs) (group_subsection sort runs)
+pub group_spelled : (sort : Sort) (runs : List Span) → IsRuns runs → AreSerials runs → Allows sort runs → SpellsSubsection (group_text sort runs) (group_subsection sort runs)
 group_spelled sorts.Serials runs r h c = record { content = content_of sorts.Serials runs; spelled = refl; fits = content_few sorts.Serials runs c; content_is = (refl, all_serials runs r h) }
 group_spelled sorts.Range runs r h c =
     record { content = content_of sorts.Range runs; spelled = refl; fits = content_few sorts.Range runs c; content_is = (refl, omega arith, last_fits runs r h) }
@@ -99,7 +99,7 @@ plan_spelled runs (group ∷ groups) r h p =
         plan_text back groups,
         (
           refl,
-          group_spelled group.sort front (RunsFrom-take 0 group.count runs r) (AreSerials-take group.count runs h) (IsGroup.covers (p.0)),
+          group_spelled group.sort front (RunsFrom-take 0 group.count runs r) (AreSerials-take group.count runs h) (IsGroup.allowed (p.0)),
           plan_spelled back groups (IsRuns-drop 0 group.count runs r) (AreSerials-drop group.count runs h) p.1,
         ),
       ),

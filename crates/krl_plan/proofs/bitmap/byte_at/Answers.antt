@@ -1,7 +1,7 @@
 use Rattle.std.proofs.Common.{◌≡◌, ◌+◌, ◌-◌, ◌≤◌, Bool, true, false, cond, ℕ, refl, ap, ◌∙◌, arith}
 use mir.Val.{bool_byte}
 use Rattle.serial_set.specs.Span.{has}
-use Rattle.krl_plan.specs.BitmapBits.{Above-less, bits_more, byte_small}
+use Rattle.krl_plan.proofs.BitmapBits.{Above-less, bits_more, byte_small}
 use Rattle.krl_plan.proofs.bitmap.byte_at.Goals as goal
 
 as_number : (b : Bool) → bool_byte b ≡ cond b 1 0

@@ -1,6 +1,6 @@
 use Rattle.std.proofs.Common.{◌≡◌, ◌+◌, ◌-◌, suc, ℕ, leb, subst, sym, ap, ◌∙◌, arith}
 use Rattle.krl_plan.specs.Written.{Above}
-use Rattle.krl_plan.specs.BitmapBits.{last_run_left, no_run_left}
+use Rattle.krl_plan.proofs.BitmapBits.{last_run_left, no_run_left}
 use Rattle.krl_plan.proofs.Zero.{zero_span}
 use Rattle.krl_plan.proofs.bitmap.has_serial.Goals as goal
 

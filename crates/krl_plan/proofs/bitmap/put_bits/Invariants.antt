@@ -2,8 +2,8 @@ use Rattle.std.proofs.Common.{◌≡◌, ◌+◌, ◌*◌, ◌++◌}
 use Rattle.krl_plan.specs.Written.{Above, bitmap_of, first_of}
 use Rattle.krl_plan.proofs.bitmap.put_bits.Given as goal
 
-abbrev pub invariant-loop-place : goal.invariant-loop-place
-invariant-loop-place l = record {
-  bytes : l.out.items ++ bitmap_of l.runs (first_of l.runs) l.place ≡ l.initial.out.items ++ bitmap_of l.runs (first_of l.runs) l.size;
-  above : Above l.runs l.left (first_of l.runs + 8 * l.place);
+abbrev pub invariant-loop-index : goal.invariant-loop-index
+invariant-loop-index l = record {
+  bytes : l.out.items ++ bitmap_of l.runs (first_of l.runs) l.index ≡ l.initial.out.items ++ bitmap_of l.runs (first_of l.runs) l.size;
+  above : Above l.runs l.left (first_of l.runs + 8 * l.index);
 }

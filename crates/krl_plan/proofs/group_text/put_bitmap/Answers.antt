@@ -1,7 +1,7 @@
 use Rattle.std.proofs.Common.{◌≡◌, ◌+◌, ◌/◌, ◌++◌, ◌∷◌, ℕ, get_or, sym, ap, ◌∙◌}
 use Rattle.ssh_wire.specs.Wire.{number, string}
 use Rattle.krl_plan.specs.Written.{bitmap_of, bitmap_size, first_of}
-use Rattle.krl_plan.specs.GroupTexts.{bitmap_put, first-get, length-bitmap_of}
+use Rattle.krl_plan.proofs.GroupTexts.{bitmap_put, first-get, length-bitmap_of}
 use Rattle.krl_plan.proofs.Zero.{zero_span}
 use Rattle.krl_plan.proofs.group_text.put_bitmap.Goals as goal
 

@@ -5,7 +5,7 @@ use Rattle.serial_set.specs.declared.span.Span.{Span}
 use Rattle.serial_set.specs.Rising.{runs_at}
 use Rattle.ssh_wire.specs.Wire.{number}
 use Rattle.krl_plan.specs.Written.{serials_of}
-use Rattle.krl_plan.specs.ListTexts.{all_listed, length-begun, length-listed, listed_more, small_few, string_ended}
+use Rattle.krl_plan.proofs.ListTexts.{all_listed, length-begun, length-listed, listed_more, small_few, string_ended}
 use Rattle.krl_plan.proofs.Zero.{zero_span}
 use Rattle.krl_plan.proofs.group_text.put_listed.Goals as goal
 
@@ -37,8 +37,8 @@ end_string-requires-clause-fits c =
       length-begun c.args.out.now.items c.begin_string.new.out.items content c.loop-run.out.items 0x20 c.in_ok-at.ensures.1 out,
       c.in_ok-at.ensures.0,
       length-listed c.args.runs.now,
-      small_few c.args.runs.now c.requires.covers.1,
-      c.requires.covers.0,
+      small_few c.args.runs.now c.requires.allowed.1,
+      c.requires.allowed.0,
     )
 
 pub returns : goal.returns

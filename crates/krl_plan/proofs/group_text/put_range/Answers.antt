@@ -3,14 +3,14 @@ use Rattle.serial_set.specs.Rising.{runs_at}
 use Rattle.ssh_wire.specs.Wire.{number, string}
 use Rattle.krl_plan.specs.Plan.{reach}
 use Rattle.krl_plan.specs.Written.{first_of}
-use Rattle.krl_plan.specs.GroupTexts.{first-get, range_put, reach-get}
+use Rattle.krl_plan.proofs.GroupTexts.{first-get, range_put, reach-get}
 use Rattle.krl_plan.proofs.Zero.{zero_span}
 use Rattle.krl_plan.proofs.group_text.put_range.Goals as goal
 
 pub returns : goal.returns
 returns c =
     let runs = c.args.runs.now in
-    let one : length runs ≡ 1 = c.requires.covers in
+    let one : length runs ≡ 1 = c.requires.allowed in
     let lo = first-get runs zero_span (omega arith) in
     let at : length runs - 1 ≡ 0 = omega arith in
     let far : reach runs ≡ (get_or runs 0 zero_span).hi - (get_or runs 0 zero_span).lo = reach-get runs zero_span (omega arith) ∙ ap (λ (n : ℕ). (get_or runs n zero_span).hi - (get_or runs 0 zero_span).lo) at in

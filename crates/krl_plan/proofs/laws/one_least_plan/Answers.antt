@@ -1,4 +1,4 @@
-use Rattle.krl_plan.specs.OnePlan.{one_plan}
+use Rattle.krl_plan.proofs.OnePlan.{one_plan}
 use Rattle.krl_plan.proofs.laws.one_least_plan.Goals as goal
 
 pub returns : goal.returns

@@ -1,5 +1,5 @@
-use Rattle.krl_plan.specs.OnePlan.{length-plan}
-use Rattle.krl_plan.specs.Ranges.{cheapest_small}
+use Rattle.krl_plan.proofs.OnePlan.{length-plan}
+use Rattle.krl_plan.proofs.Ranges.{cheapest_small}
 use Rattle.krl_plan.proofs.laws.plan_has_its_bytes.Goals as goal
 
 pub returns-clause-bytes : goal.returns-clause-bytes

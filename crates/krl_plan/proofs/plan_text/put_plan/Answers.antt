@@ -6,7 +6,7 @@ use Rattle.krl_plan.specs.declared.group.Sort.TheVariants.{Serials}
 use Rattle.krl_plan.specs.declared.group.Group.{Group}
 use Rattle.krl_plan.specs.Plan.{IsGroup}
 use Rattle.krl_plan.specs.Written.{group_text, plan_text}
-use Rattle.krl_plan.specs.Chosen.{RunsFrom-take}
+use Rattle.krl_plan.proofs.Chosen.{RunsFrom-take}
 use Rattle.krl_plan.proofs.CopiedRuns.{copied_first}
 use Rattle.krl_plan.proofs.PlanTexts.{Putting, Putting-more, next_group}
 use Rattle.krl_plan.proofs.plan_text.put_plan.Goals as goal

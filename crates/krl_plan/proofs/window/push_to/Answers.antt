@@ -1,4 +1,4 @@
-use Rattle.krl_plan.proofs.Stairs.{push_pushes}
+use Rattle.krl_plan.proofs.Marks.{push_pushes}
 use Rattle.krl_plan.proofs.window.push_to.Goals as goal
 
 pub returns-clause-pushed : goal.returns-clause-pushed

@@ -3,7 +3,7 @@ use Rattle.std.proofs.lemmas.Result.{err_from_is_err_and}
 use Rattle.ssh_wire.specs.Wire.{string}
 use Rattle.krl_core.specs.Contents.{Section, section_with}
 use Rattle.krl_core.specs.Front.{limit}
-use Rattle.krl_plan.specs.ListTexts.{length-begun}
+use Rattle.krl_plan.proofs.ListTexts.{length-begun}
 use Rattle.krl_writer.specs.declared.text_fault.TextFault.TheVariants.{TooLong}
 use Rattle.krl_writer.specs.KrlText.{authority_content, listed_text}
 use Rattle.krl_writer.specs.Within.{Refuses}

@@ -1,6 +1,6 @@
 use Rattle.std.proofs.Common.{◌≡◌, ◌+◌, ◌/◌, ◌%◌, get_or, length, arith, refl, rules}
 use Rattle.krl_plan.proofs.EightWindows.{windows_more}
-use Rattle.krl_plan.proofs.MapMarks.{map_past}
+use Rattle.krl_plan.proofs.BitmapMarks.{bitmap_past}
 use Rattle.krl_plan.proofs.bitmaps.Bitmaps.add.Goals as goal
 
 pub push-requires : goal.push-requires
@@ -8,8 +8,8 @@ push-requires c =
     let windows = c.args.self.now.windows in
     let r = (c.args.run.hi + 1) % 8 in
     let was = c.index-self-after.result in
-    let known = c.requires.mapped in
-    map_past (get_or windows r was).marks.items (c.args.at + 1) r c.args.run known.0 known.1.0 known.1.1.0 (known.1.1.1 r was (omega arith))
+    let known = c.requires.bitmaps in
+    bitmap_past (get_or windows r was).marks.items (c.args.at + 1) r c.args.run known.0 known.1.0 known.1.1.0 (known.1.1.1 r was (omega arith))
 
 pub returns : goal.returns
 returns c runs rests rises mapped =

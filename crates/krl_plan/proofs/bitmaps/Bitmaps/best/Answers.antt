@@ -37,5 +37,5 @@ returns c runs rests rises mapped candidate =
     record {
       candidate = all.candidate;
       kept = all.kept;
-      beats = λ count is. all.beats count ((last_of (take count (run ∷ runs)) + 1) % 8, (omega arith, record { is_map = is; leaves = refl }));
+      beats = λ count is. all.beats count ((last_of (take count (run ∷ runs)) + 1) % 8, (omega arith, record { is_bitmap = is; leaves = refl }));
     }

@@ -4,7 +4,7 @@ use Rattle.krl_plan.proofs.lists.Lists.add.Goals as goal
 
 pub push-requires : goal.push-requires
 push-requires c =
-    let listed = c.requires.listed in
+    let listed = c.requires.lists in
     list_past c.args.self.now.window.marks.items c.forget_past.new.self.marks.items c.args.self.now.base (c.args.at + 1) (c.args.at + 1024) listed.0 listed.1.0
     listed.1.1.filled c.forget_past.ensures
 

@@ -5,7 +5,7 @@ use Rattle.krl_plan.proofs.lists.Lists.best.Goals.{In-Some}
 
 known : (c : In-Some) → (c.args.self.now.base ≤ c.in-Some.mark.value) × ((c.args.at < c.in-Some.mark.end) × (c.in-Some.mark.end ≤ c.args.at + 1024)) × (c.in-Some.mark.value < 2 ^ 101)
 known c =
-    let listed = c.requires.listed in
+    let listed = c.requires.lists in
     list_is c.args.self.now.window.marks.items c.args.self.now.base c.args.at listed.0 listed.1.0 c.in-Some.mark listed.1.1.filled c.in-Some.ensures.least.one
 
 pub overflow_sub-group : goal.overflow_sub-group

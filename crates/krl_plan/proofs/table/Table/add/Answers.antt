@@ -16,19 +16,19 @@ known_past table runs at knows e =
     let place : knows.0 ≡ at + 1 = omega arith in
     subst (λ (n : ℕ). IsKnown table n runs knows.1.1.0) place knows.1.1.1
 
-pub add-requires-clause-listed : goal.add-requires-clause-listed
-add-requires-clause-listed c =
+pub add-requires-clause-lists : goal.add-requires-clause-lists
+add-requires-clause-lists c =
     let runs = c.requires.0 in
     let knows = c.requires.1.1 in
     let was = known_past c.args.self.now runs (2 ^ 64 - 2 - c.len.result) knows (let small = c.args.self.now.choices.small in omega arith) in
-    (runs, (knows.1.1.0, was.listed))
+    (runs, (knows.1.1.0, was.lists))
 
-pub add-requires-2-clause-mapped : goal.add-requires-2-clause-mapped
-add-requires-2-clause-mapped c =
+pub add-requires-2-clause-bitmaps : goal.add-requires-2-clause-bitmaps
+add-requires-2-clause-bitmaps c =
     let runs = c.requires.0 in
     let knows = c.requires.1.1 in
     let was = known_past c.args.self.now runs (2 ^ 64 - 2 - c.len.result) knows (let small = c.args.self.now.choices.small in omega arith) in
-    (runs, (knows.1.1.0, (c.requires.1.0, was.mapped)))
+    (runs, (knows.1.1.0, (c.requires.1.0, was.bitmaps)))
 
 pub best-listed-requires : goal.best-listed-requires
 best-listed-requires c =
@@ -36,7 +36,7 @@ best-listed-requires c =
     let knows = c.requires.1.1 in
     let was = known_past c.args.self.now runs (2 ^ 64 - 2 - c.len.result) knows (let small = c.args.self.now.choices.small in omega arith) in
     let rests = knows.1.1.0 in
-    record { listed = (c.args.run ∷ runs, (c.args.self.now.least ∷ rests, c.in_ok-add.ensures runs rests was.listed)) }
+    record { lists = (c.args.run ∷ runs, (c.args.self.now.least ∷ rests, c.in_ok-add.ensures runs rests was.lists)) }
 
 pub best-best-requires : goal.best-best-requires
 best-best-requires c =
@@ -44,7 +44,7 @@ best-best-requires c =
     let knows = c.requires.1.1 in
     let was = known_past c.args.self.now runs (2 ^ 64 - 2 - c.len.result) knows (let small = c.args.self.now.choices.small in omega arith) in
     let rests = knows.1.1.0 in
-    record { mapped = (runs, (c.args.self.now.least ∷ rests, (c.requires.1.0, c.in_ok-add-2.ensures runs rests c.requires.1.0 was.mapped))) }
+    record { bitmaps = (runs, (c.args.self.now.least ∷ rests, (c.requires.1.0, c.in_ok-add-2.ensures runs rests c.requires.1.0 was.bitmaps))) }
 
 pub returns : goal.returns
 returns c runs rises knows =
@@ -55,8 +55,8 @@ returns c runs rises knows =
     let choices = c.args.self.now.choices.items in
     let small = c.args.self.now.choices.small in
     let one = was.choices.one_each in
-    let listed = c.in_ok-add.ensures runs rests was.listed in
-    let mapped = c.in_ok-add-2.ensures runs rests rises was.mapped in
+    let listed = c.in_ok-add.ensures runs rests was.lists in
+    let mapped = c.in_ok-add-2.ensures runs rests rises was.bitmaps in
     let best : IsBest costs (c.args.run ∷ runs) cell =
     best_of_all costs (c.args.run ∷ runs) (record { cost = 21 + c.args.self.now.least; group = group_of Range 1 }) c.best-listed.result cell (search rules) refl
     (λ candidate. c.best-listed.ensures (c.args.run ∷ runs) costs listed candidate)
@@ -67,8 +67,8 @@ returns c runs rises knows =
         (
           costs,
           record {
-            listed = listed;
-            mapped = mapped;
+            lists = listed;
+            bitmaps = mapped;
             costs = costs_more c.args.run runs costs cell rises was.costs best;
             bounded = rw c.in_ok-push.ensures.items (bounded_more choices c.args.run runs c.args.self.now.least rests cell was.bounded best);
             choices = rw c.in_ok-push.ensures.items (choices_more choices c.args.run runs costs cell rises was.costs best was.choices);

@@ -7,7 +7,7 @@ use Rattle.ssh_wire.specs.Wire.{number, string}
 use Rattle.ssh_wire.specs.Fields.{length-number, length-string}
 use Rattle.krl_plan.specs.Plan.{reach}
 use Rattle.krl_plan.specs.Written.{bitmap_of, first_of}
-use Rattle.krl_plan.specs.Reach.{reach-take}
+use Rattle.krl_plan.proofs.Reach.{reach-take}
 
 pub first-get : (runs : List Span) (d : Span) → 0 < length runs
     → first_of runs ≡ (get_or runs 0 d).lo

@@ -10,8 +10,8 @@ use Rattle.krl_plan.specs.declared.group.Sort.{Sort}
 use Rattle.krl_plan.specs.declared.group.Sort.TheVariants.{Serials, Range, Bitmap}
 use Rattle.krl_plan.specs.declared.group.Group.{Group}
 use Rattle.krl_plan.specs.declared.cell.Cell.{Cell}
-use Rattle.krl_plan.specs.Sorts.{place}
-use Rattle.krl_plan.specs.Plan.{Covers, IsCheapest, IsGroup, IsLeastPlan, IsPlan, Prefers, cost}
+use Rattle.krl_plan.specs.Sorts.{rank}
+use Rattle.krl_plan.specs.Plan.{Allows, IsCheapest, IsGroup, IsLeastPlan, IsPlan, Prefers, cost}
 use Rattle.krl_plan.specs.Plan.{end_of}
 use Rattle.krl_plan.specs.Search.{IsBest, IsFirst, IsLeastCost, rest_cost}
 
@@ -37,11 +37,11 @@ end_far a run (next ∷ runs) r =
     let some : run.lo ≤ run.hi = r.1 in
     omega arith
 
-covers_few : (sort : Sort) (runs : List Span) → IsRuns runs → Covers sort runs → length runs ≤ 1024
-covers_few Serials runs r c = c.0
-covers_few Range runs r c = omega arith
-covers_few Bitmap [] r c = omega arith
-covers_few Bitmap (run ∷ runs) r c =
+allowed_few : (sort : Sort) (runs : List Span) → IsRuns runs → Allows sort runs → length runs ≤ 1024
+allowed_few Serials runs r c = c.0
+allowed_few Range runs r c = omega arith
+allowed_few Bitmap [] r c = omega arith
+allowed_few Bitmap (run ∷ runs) r c =
     let far = end_far 0 run runs r in
     let short : end_of run runs - run.lo < 2048 = c in
     omega arith
@@ -50,8 +50,8 @@ covers_few Bitmap (run ∷ runs) r c =
 pub group_few : (runs : List Span) (group : Group) → IsRuns runs → IsGroup runs group
     → group.count ≤ 1024
 group_few runs group r g =
-    let few = covers_few group.sort (take group.count runs) (RunsFrom-take 0 group.count runs r)
-    g.covers in
+    let few = allowed_few group.sort (take group.count runs) (RunsFrom-take 0 group.count runs r)
+    g.allowed in
     let len = length-take-le group.count runs g.within in
     omega arith
 
@@ -97,21 +97,21 @@ best_least costs runs cell r rests b =
       reached = (cell.group ∷ rest.reached.0, ((group, rest.reached.1.0), omega arith));
     }
 
-place_one : (a b : Sort) → place a ≡ place b → a ≡ b
-place_one Serials Serials e = refl
-place_one Serials Range e = absurd (omega (arith, e))
-place_one Serials Bitmap e = absurd (omega (arith, e))
-place_one Range Serials e = absurd (omega (arith, e))
-place_one Range Range e = refl
-place_one Range Bitmap e = absurd (omega (arith, e))
-place_one Bitmap Serials e = absurd (omega (arith, e))
-place_one Bitmap Range e = absurd (omega (arith, e))
-place_one Bitmap Bitmap e = refl
+rank_one : (a b : Sort) → rank a ≡ rank b → a ≡ b
+rank_one Serials Serials e = refl
+rank_one Serials Range e = absurd (omega (arith, e))
+rank_one Serials Bitmap e = absurd (omega (arith, e))
+rank_one Range Serials e = absurd (omega (arith, e))
+rank_one Range Range e = refl
+rank_one Range Bitmap e = absurd (omega (arith, e))
+rank_one Bitmap Serials e = absurd (omega (arith, e))
+rank_one Bitmap Range e = absurd (omega (arith, e))
+rank_one Bitmap Bitmap e = refl
 
-group_one : (a b : Group) → place a.sort ≡ place b.sort → a.count ≡ b.count → a ≡ b
+group_one : (a b : Group) → rank a.sort ≡ rank b.sort → a.count ≡ b.count → a ≡ b
 group_one a b e f =
     let made : Sort → ℕ → Group = λ s n. record { sort = s; count = n } in
-    ap (λ (s : Sort). made s a.count) (place_one a.sort b.sort e) ∙ ap (made b.sort) f
+    ap (λ (s : Sort). made s a.count) (rank_one a.sort b.sort e) ∙ ap (made b.sort) f
 
 -- what follows the first group of a cheapest plan is a cheapest plan
 tail_cheapest : (runs : List Span) (group : Group) (groups : List Group)

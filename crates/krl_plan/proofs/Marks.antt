@@ -6,10 +6,10 @@ use Rattle.std.proofs.lemmas.List.{get_or-drop, get_or-take, get_or_default, len
 use Rattle.std.proofs.lemmas.List.Elements.{All-contains, Contains-append_left, Contains-push, Contains-push_cases}
 use Rattle.std.proofs.lemmas.List.Sorted.{IsNonDecreasingBy-take}
 use Rattle.krl_plan.specs.declared.window.Mark.{Mark}
-use Rattle.krl_plan.specs.Window.{AnswersFor, Forgets, IsFilled, IsLeastOf, IsStairs, Pushes}
+use Rattle.krl_plan.specs.Window.{AnswersFor, Forgets, IsFilled, IsLeastOf, AreOrdered, Pushes}
 
-pub stairs_take : (n : ℕ) (marks : List Mark) → n ≤ length marks → IsStairs marks → IsStairs (take n marks)
-stairs_take n marks le s =
+pub ordered_take : (n : ℕ) (marks : List Mark) → n ≤ length marks → AreOrdered marks → AreOrdered (take n marks)
+ordered_take n marks le s =
     let len = length-take-le n marks le in
     record {
       values = IsNonDecreasingBy-take (λ mark. mark.value) n marks s.values;
@@ -24,10 +24,10 @@ stairs_take n marks le s =
 pub front_few : (old marks : List Mark) → marks ≡ take (length marks) old → length marks ≤ length old
 front_few old marks front = let h = ap length front in let len = length-take (length marks) old in omega arith
 
-pub front_within : (old marks : List Mark) (value n : ℕ) (last : Mark) → IsStairs old → marks ≡ take (length marks) old → n ≡ length marks - 1 → last ≡ get_or marks n last → last.value ≤ value
+pub front_within : (old marks : List Mark) (value n : ℕ) (last : Mark) → AreOrdered old → marks ≡ take (length marks) old → n ≡ length marks - 1 → last ≡ get_or marks n last → last.value ≤ value
     → All (λ mark. mark.value ≤ value) marks
 front_within old marks value n last s front e is le k d lt =
-    let here : IsStairs marks = subst IsStairs (sym front) (stairs_take (length marks) old (front_few old marks front) s) in
+    let here : AreOrdered marks = subst AreOrdered (sym front) (ordered_take (length marks) old (front_few old marks front) s) in
     let up : (get_or marks k d).value ≤ (get_or marks n d).value = here.values k n d (omega arith) (omega arith) in
     let at : last ≡ get_or marks n d = is ∙ get_or_default marks n last d (omega arith) in
     let same : last.value ≡ (get_or marks n d).value = ap (λ (m : Mark). m.value) at in
@@ -82,7 +82,7 @@ push_pushes old marks mark before front dropped = record {
 
 -- ---- the farthest dropped
 
-pub forgets_drop : (old : List Mark) (n limit : ℕ) → IsStairs old → ((k : ℕ) (d : Mark) → k < n → k < length old → limit < (get_or old k d).place)
+pub forgets_drop : (old : List Mark) (n limit : ℕ) → AreOrdered old → ((k : ℕ) (d : Mark) → k < n → k < length old → limit < (get_or old k d).place)
     → ((d : Mark) → n < length old → (get_or old n d).place ≤ limit) → Forgets limit old (drop n old)
 forgets_drop old n limit s past first =
     let len = length-drop n old in
@@ -116,7 +116,7 @@ forgets_drop old n limit s past first =
           ];
     }
 
-pub forgets_back : (old marks : List Mark) (limit : ℕ) (first : Mark) → IsStairs old → marks ≡ drop (length old - length marks) old → length marks ≤ length old
+pub forgets_back : (old marks : List Mark) (limit : ℕ) (first : Mark) → AreOrdered old → marks ≡ drop (length old - length marks) old → length marks ≤ length old
     → ((k : ℕ) (d : Mark) → k + length marks < length old → limit < (get_or old k d).place) → (0 < length marks → first ≡ get_or marks 0 first) → first.place ≤ limit → Forgets limit old marks
 forgets_back old marks limit first s back few past is near =
     let n : ℕ = length old - length marks in
@@ -127,7 +127,7 @@ forgets_back old marks limit first s back few past is near =
 
 -- ---- the least
 
-pub first_least : (marks : List Mark) (least : Mark) → IsStairs marks → 0 < length marks → least ≡ get_or marks 0 least → IsLeastOf marks least
+pub first_least : (marks : List Mark) (least : Mark) → AreOrdered marks → 0 < length marks → least ≡ get_or marks 0 least → IsLeastOf marks least
 first_least marks least s some is = record {
   one = (0, some, sym is);
   first = λ other a.

@@ -17,8 +17,8 @@ use Rattle.ssh_wire.specs.Magnitudes.{number_of-cons}
 use Rattle.ssh_wire.specs.Digits.{bytes_as_bits}
 use Rattle.krl_plan.specs.Plan.{end_of, reach}
 use Rattle.krl_plan.specs.Written.{bitmap_of, bits_of, first_of}
-use Rattle.krl_plan.specs.BitmapBits.{bits_of_lt}
-use Rattle.krl_plan.specs.GroupTexts.{length-bitmap_of}
+use Rattle.krl_plan.proofs.BitmapBits.{bits_of_lt}
+use Rattle.krl_plan.proofs.GroupTexts.{length-bitmap_of}
 
 -- ---- cut in two
 

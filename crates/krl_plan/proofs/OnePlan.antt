@@ -8,12 +8,12 @@ use Rattle.ssh_wire.specs.Fields.{length-number, length-string}
 use Rattle.krl_plan.specs.declared.group.Sort.{Sort}
 use Rattle.krl_plan.specs.declared.group.Sort.TheVariants as sorts
 use Rattle.krl_plan.specs.declared.group.Group.{Group}
-use Rattle.krl_plan.specs.Plan.{Before, Covers, IsLeastPlan, IsPlan, Prefers, bytes_of, cost, reach}
+use Rattle.krl_plan.specs.Plan.{Before, Allows, IsLeastPlan, IsPlan, Prefers, bytes_of, cost, reach}
 use Rattle.krl_plan.specs.Written.{bitmap_of, bitmap_size, content_of, first_of, group_text}
 use Rattle.krl_plan.specs.Written.{plan_text}
-use Rattle.krl_plan.specs.Chosen.{IsRuns-drop}
-use Rattle.krl_plan.specs.GroupTexts.{length-bitmap_of}
-use Rattle.krl_plan.specs.ListTexts.{length-listed, small_few}
+use Rattle.krl_plan.proofs.Chosen.{IsRuns-drop}
+use Rattle.krl_plan.proofs.GroupTexts.{length-bitmap_of}
+use Rattle.krl_plan.proofs.ListTexts.{length-listed, small_few}
 
 not_both : (a b : Group) → Before a b → Before b a → ⊥
 not_both a b p q =
@@ -81,7 +81,7 @@ length-content sorts.Bitmap runs =
       length-string bits,
     )
 
-pub content_few : (sort : Sort) (runs : List Span) → Covers sort runs
+pub content_few : (sort : Sort) (runs : List Span) → Allows sort runs
     → length (content_of sort runs) < 2 ^ 32
 content_few sorts.Serials runs c =
     omega (arith, length-content sorts.Serials runs, small_few runs c.1, c.0)

@@ -95,13 +95,13 @@ bits_more runs base bit some most =
 
 -- ---- all bytes
 
-pub bytes_more : (runs : List Span) (first place : ℕ) (out : List ℕ) → 0 < place
-    → (out ++ bits_of runs (first + 8 * (place - 1)) 8 ∷ []) ++ bitmap_of runs first (place - 1)
-    ≡ out ++ bitmap_of runs first place
-bytes_more runs first place out some =
-    let at : place ≡ suc (place - 1) = omega arith in
-    append_assoc out (bits_of runs (first + 8 * (place - 1)) 8 ∷ [])
-    (bitmap_of runs first (place - 1))
+pub bytes_more : (runs : List Span) (first index : ℕ) (out : List ℕ) → 0 < index
+    → (out ++ bits_of runs (first + 8 * (index - 1)) 8 ∷ []) ++ bitmap_of runs first (index - 1)
+    ≡ out ++ bitmap_of runs first index
+bytes_more runs first index out some =
+    let at : index ≡ suc (index - 1) = omega arith in
+    append_assoc out (bits_of runs (first + 8 * (index - 1)) 8 ∷ [])
+    (bitmap_of runs first (index - 1))
     ∙ ap (λ (n : ℕ). out ++ bitmap_of runs first n) (sym at)
 
 -- before the last bit a byte is not full

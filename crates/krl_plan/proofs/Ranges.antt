@@ -12,7 +12,7 @@ ranges (run ∷ runs) = record { sort = Range; count = 1 } ∷ ranges runs
 pub ranges_plan : (runs : List Span) → IsPlan runs (ranges runs)
 ranges_plan [] = refl
 ranges_plan (run ∷ runs) =
-    (record { some = omega arith; within = omega arith; covers = refl }, ranges_plan runs)
+    (record { some = omega arith; within = omega arith; allowed = refl }, ranges_plan runs)
 
 ranges_cost : (runs : List Span) → cost runs (ranges runs) ≡ 21 * length runs
 ranges_cost [] = refl
