@@ -140,10 +140,7 @@ before_of first r = elim (cases_lt r (first % 8)) [
 -- the bytes of the bits from one serial to another
 bytes_between : (first last r before : ℕ) → first ≤ last → (last + 1) % 8 ≡ r → (r < first % 8 → before ≡ first / 8 + 1) → (first % 8 ≤ r → before ≡ first / 8)
     → (last - first + 1) / 8 + before ≡ (last + 1) / 8
-bytes_between first last r before le e less more = elim (cases_lt r (first % 8)) [
-  | inl lt ↦ (let b = less lt in omega arith)
-  | inr ge ↦ (let b = more ge in omega arith)
-]
+bytes_between first last r before le e less more = grind arith
 
 reach_is : (run : Span) (runs : List Span) (count : ℕ) → 0 < count → reach (take count (run ∷ runs)) ≡ last_of (take count (run ∷ runs)) - run.lo
 reach_is run runs zero some = absurd (omega arith)
@@ -185,21 +182,9 @@ bitmap_wins at r before count other run runs rests least rises map it less more 
     let place : least.place ≡ last_of (take count (run ∷ runs)) = ap (λ (m : Mark). m.place) is in
     let one = bitmap_cost at r before count run runs rests rises map less more in
     let two = bitmap_cost at r before other run runs rests rises it less more in
-    elim first [
-      | inl lt ↦ inl (omega arith)
-      | inr tie ↦ inr (
-        omega arith,
-        inr (
-          refl,
-          elim (cases_lt count other) [
-            | inl more_runs ↦
-                let farther = last_rises 0 count other (run ∷ runs) rises (IsGroup.some (map.is_bitmap)) more_runs (IsGroup.within (it.is_bitmap)) in
-                absurd (omega arith)
-            | inr le ↦ le
-          ],
-        ),
-      )
-    ]
+    let farther : count < other → last_of (take count (run ∷ runs)) < last_of (take other (run ∷ runs)) =
+    λ more. last_rises 0 count other (run ∷ runs) rises (IsGroup.some (map.is_bitmap)) more (IsGroup.within (it.is_bitmap)) in
+    grind arith
 
 pub bitmap_best : (marks : List Mark) (at r before : ℕ) (run : Span) (runs : List Span) (rests : List ℕ) (least : Mark) (old cell best : Cell) → IsRuns (run ∷ runs)
     → IsFilled marks (IsBitmapOf (run ∷ runs) r) (bitmap_mark at (run ∷ runs) rests) → IsLeastOf marks least → (r < run.lo % 8 → before ≡ run.lo / 8 + 1) → (run.lo % 8 ≤ r → before ≡ run.lo / 8)

@@ -82,7 +82,7 @@ best_below costs runs cell r rests b [] p =
     absurd (omega arith)
 best_below costs runs cell r rests b (group ∷ groups) p =
     let after = IsLeastCost.below (rest_of costs runs group r rests p.0) groups p.1 in
-    elim (b.wins group p.0) [ inl lt ↦ omega arith | inr same ↦ omega arith ]
+    let wins = b.wins group p.0 in grind arith
 
 -- the best cell's cost is the least of the runs
 pub best_least : (costs : List ℕ) (runs : List Span) (cell : Cell) → IsRuns runs → Rests costs runs

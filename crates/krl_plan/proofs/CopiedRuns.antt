@@ -24,10 +24,7 @@ copied_more spans old new piece whole n before next r fits p b m e w = grind (ar
 
 -- where as many are left, as many are copied, and they are the first
 copied_enough : (spans old new : List Span) (count : ℕ) (from next : Option ℕ) → Copies spans count from old new next → count ≤ length (old ++ left from spans) → count ≤ length new
-copied_enough spans old new count from next c le = elim c.enough [
-  | inl enough ↦ enough
-  | inr none ↦ (let all = sym (append-nil new) ∙ ap (λ (l : List Span). new ++ l) (sym none) ∙ c.same in omega (arith, ap length all))
-]
+copied_enough spans old new count from next c le = grind (arith, common_steps, append-nil)
 
 pub copied_first : (spans old new : List Span) (count : ℕ) (from next : Option ℕ) → Copies spans count from old new next → count ≤ length (old ++ left from spans)
     → (count ≤ length new) × (take count new ≡ take count (old ++ left from spans)) × (drop count new ++ left next spans ≡ drop count (old ++ left from spans))
@@ -39,20 +36,12 @@ copied_first spans old new count from next c le =
     )
 
 pub copied_chunk : (spans old new : List Span) (count n : ℕ) (next : Option ℕ) → old ≡ [] → Copies spans count (Some n) old new next → take count new ≡ take count (since n spans)
-copied_chunk spans old new count n next e c =
-    let same : new ++ left next spans ≡ since n spans = c.same ∙ ap (λ (l : List Span). l ++ since n spans) e in
-    elim c.enough [
-      | inl enough ↦ sym (take-append-le count new (left next spans) enough) ∙ ap (take count) same
-      | inr none ↦ ap (take count) (sym (append-nil new) ∙ ap (λ (l : List Span). new ++ l) (sym none) ∙ same)
-    ]
+copied_chunk spans old new count n next e c = grind (arith, common_steps, append-nil, take-append-le)
 
 -- ---- chunks
 
 drop_taken : (n : ℕ) (xs : List Span) → drop (length (take n xs)) xs ≡ drop n xs
-drop_taken n xs = elim (cases_lt n (length xs)) [
-  | inl lt ↦ ap (λ (k : ℕ). drop k xs) (length-take-le n xs (omega arith))
-  | inr le ↦ ap (λ (l : List Span). drop (length l) xs) (take_all n xs le) ∙ drop_all (length xs) xs (omega arith) ∙ sym (drop_all n xs le)
-]
+drop_taken n xs = grind (arith, common_steps, drop_all, length-take-le, take_all)
 
 chunk_piece : (spans chunk : List Span) (n : ℕ) → chunk ≡ take 1024 (since n spans) → IsPiece spans n chunk
 chunk_piece spans chunk n e =

@@ -108,10 +108,7 @@ list_best marks base at runs rests least old cell best f l c cost group one firs
     let costs : cell.cost ≡ 5 + 8 * serial_count (take count runs) + rest_cost rests count = omega arith in
     let same : cell ≡ cell_with rests runs (group_of Serials count) = same_cell cell (cell_with rests runs (group_of Serials count)) costs (group ∙ ap (group_of Serials) counted) in
     let wins : (other : ℕ) → IsList runs other → Wins (cell_with rests runs (group_of Serials count)) (cell_with rests runs (group_of Serials other)) =
-    λ other it. elim (l.first (list_mark base at runs rests other) (f.all other it)) [
-      | inl lt ↦ inl (omega arith)
-      | inr tie ↦ inr (omega arith, inr (refl, omega arith))
-    ] in
+    λ other it. (let first = l.first (list_mark base at runs rests other) (f.all other it) in grind arith) in
     one_better rests runs Serials (IsList runs) old cell best count c is.1.0 same wins one first second
 
 -- all marks that are left lie past a new one

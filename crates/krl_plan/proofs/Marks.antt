@@ -1,4 +1,5 @@
 -- Windows: a mark more, the farthest dropped, and the least.
+use Rattle.std.proofs.lemmas.Grind.{common_steps}
 use Rattle.std.proofs.Common.{◌≡◌, ℕ, ◌+◌, ◌-◌, ◌^◌, ◌<◌, ◌≤◌, ◌⊎◌, inl, inr, suc, List, [], ◌∷◌, ◌++◌, length, take, drop, get_or, refl, sym, ap, subst, ◌∙◌, arith, length-drop, length-take}
 use Rattle.std.specs.List.{All, Contains}
 use Rattle.std.proofs.lemmas.Bool.{cases_lt}
@@ -6,7 +7,7 @@ use Rattle.std.proofs.lemmas.List.{get_or-drop, get_or-take, get_or_default, len
 use Rattle.std.proofs.lemmas.List.Elements.{All-contains, Contains-append_left, Contains-push, Contains-push_cases}
 use Rattle.std.proofs.lemmas.List.Sorted.{IsNonDecreasingBy-take}
 use Rattle.krl_plan.specs.declared.window.Mark.{Mark}
-use Rattle.krl_plan.specs.Window.{AnswersFor, Forgets, IsFilled, IsLeastOf, AreOrdered, Pushes}
+use Rattle.krl_plan.specs.Window.{AnswersFor, AreOrdered, Forgets, IsFilled, IsFirstOf, IsLeastOf, Pushes}
 
 pub ordered_take : (n : ℕ) (marks : List Mark) → n ≤ length marks → AreOrdered marks → AreOrdered (take n marks)
 ordered_take n marks le s =
@@ -29,23 +30,11 @@ pub front_within : (old marks : List Mark) (value n : ℕ) (last : Mark) → Are
 front_within old marks value n last s front e is le k d lt =
     let here : AreOrdered marks = subst AreOrdered (sym front) (ordered_take (length marks) old (front_few old marks front) s) in
     let up : (get_or marks k d).value ≤ (get_or marks n d).value = here.values k n d (omega arith) (omega arith) in
-    let at : last ≡ get_or marks n d = is ∙ get_or_default marks n last d (omega arith) in
-    let same : last.value ≡ (get_or marks n d).value = ap (λ (m : Mark). m.value) at in
-    omega arith
+    grind (arith, get_or_default)
 
 pub front_dropped : (old marks : List Mark) (value : ℕ) → marks ≡ take (length marks) old → ((k : ℕ) (d : Mark) → length marks ≤ k → k < length old → value < (get_or old k d).value)
     → (mark : Mark) → Contains old mark → Contains marks mark ⊎ (value < mark.value)
-front_dropped old marks value front past mark c =
-    elim (cases_lt c.0 (length marks)) [
-      | inl kept ↦ inl (
-        c.0,
-        kept,
-        ap (λ (xs : List Mark). get_or xs c.0 mark) front ∙ get_or-take (length marks) old c.0 mark kept ∙ c.2,
-      )
-      | inr gone ↦
-          let above : value < (get_or old c.0 mark).value = past c.0 mark gone c.1 in
-          inr (subst (λ (m : Mark). value < m.value) c.2 above)
-    ]
+front_dropped old marks value front past mark c = grind (arith, common_steps, get_or-take)
 
 -- ---- a mark more
 
@@ -58,10 +47,7 @@ contains_front old marks mark front c =
 -- what dropped marks answered for, the new one does
 answers_more : (marks : List Mark) (mark one other : Mark) → mark.value < one.value → mark.place < one.place → (one ≡ other) ⊎ ((one.value < other.value) × (one.place ≤ other.place)) → AnswersFor (marks ++ mark ∷ []) other
 answers_more marks mark one other value place is =
-    let below : (mark.value < other.value) × (mark.place ≤ other.place) = elim is [
-      | inl e ↦ (let v : one.value ≡ other.value = ap (λ (m : Mark). m.value) e in let p : one.place ≡ other.place = ap (λ (m : Mark). m.place) e in (omega arith, omega arith))
-      | inr less ↦ (omega arith, omega arith)
-    ] in
+    let below : (mark.value < other.value) × (mark.place ≤ other.place) = grind arith in
     (mark, (Contains-push marks mark, inr below))
 
 pub push_pushes : (old marks : List Mark) (mark : Mark) → All (λ other. mark.place < other.place) old → marks ≡ take (length marks) old
@@ -82,6 +68,16 @@ push_pushes old marks mark before front dropped = record {
 
 -- ---- the farthest dropped
 
+-- marks that lie after one lie no farther
+ordered_near : (marks : List Mark) (i j limit : ℕ) (d : Mark) → AreOrdered marks → i ≤ j → j < length marks → (get_or marks i d).place ≤ limit → (get_or marks j d).place ≤ limit
+ordered_near marks i j limit d s le lt near = elim (cases_lt i j) [
+  | inl before ↦ (let nearer = s.places i j d before lt in omega arith)
+  | inr ge ↦ (let same : i ≡ j = omega arith in subst (λ (k : ℕ). (get_or marks k d).place ≤ limit) same near)
+]
+
+answer_near : (one other : Mark) (limit : ℕ) → other.place ≤ limit → (one ≡ other) ⊎ ((one.value < other.value) × (one.place ≤ other.place)) → one.place ≤ limit
+answer_near one other limit near is = grind arith
+
 pub forgets_drop : (old : List Mark) (n limit : ℕ) → AreOrdered old → ((k : ℕ) (d : Mark) → k < n → k < length old → limit < (get_or old k d).place)
     → ((d : Mark) → n < length old → (get_or old n d).place ≤ limit) → Forgets limit old (drop n old)
 forgets_drop old n limit s past first =
@@ -91,19 +87,13 @@ forgets_drop old n limit s past first =
           let k : ℕ = c.0 in
           let there : get_or old (n + k) other ≡ other = sym (get_or-drop n old k other) ∙ c.2 in
           let here : (get_or old n other).place ≤ limit = first other (omega arith) in
-          let near : (get_or old (n + k) other).place ≤ limit = elim (cases_lt 0 k) [
-            | inl some ↦ (let lt = s.places n (n + k) other (omega arith) (omega arith) in omega arith)
-            | inr none ↦ (let e : n ≡ n + k = omega arith in subst (λ (j : ℕ). (get_or old j other).place ≤ limit) e here)
-          ] in
+          let near : (get_or old (n + k) other).place ≤ limit = ordered_near old n (n + k) limit other s (omega arith) (omega arith) here in
           ((n + k, omega arith, there), subst (λ (m : Mark). m.place ≤ limit) there near);
       kept = λ other near a.
           let one : Mark = a.0 in
           let c : Contains old one = a.1.0 in
           let k : ℕ = c.0 in
-          let place : one.place ≤ limit = elim a.1.1 [
-            | inl e ↦ (let p : one.place ≡ other.place = ap (λ (m : Mark). m.place) e in omega arith)
-            | inr less ↦ omega arith
-          ] in
+          let place : one.place ≤ limit = answer_near one other limit near a.1.1 in
           elim (cases_lt k n) [
             | inl dropped ↦
                 let far : limit < (get_or old k one).place = past k one dropped c.1 in
@@ -127,30 +117,20 @@ forgets_back old marks limit first s back few past is near =
 
 -- ---- the least
 
+first_of : (least oldest mark one other : Mark) → least ≡ oldest → mark ≡ one → oldest.value ≤ mark.value → mark.place ≤ oldest.place → (one ≡ other) ⊎ ((one.value < other.value) × (one.place ≤ other.place))
+    → IsFirstOf least other
+first_of least oldest mark one other e at le far is = grind arith
+
 pub first_least : (marks : List Mark) (least : Mark) → AreOrdered marks → 0 < length marks → least ≡ get_or marks 0 least → IsLeastOf marks least
 first_least marks least s some is = record {
   one = (0, some, sym is);
   first = λ other a.
-      let one : Mark = a.0 in
       let k : ℕ = a.1.0.0 in
       let within : k < length marks = a.1.0.1 in
-      let at : get_or marks k least ≡ one = get_or_default marks k least one within ∙ a.1.0.2 in
-      let value : least.value ≡ (get_or marks 0 least).value = ap (λ (m : Mark). m.value) is in
-      let place : least.place ≡ (get_or marks 0 least).place = ap (λ (m : Mark). m.place) is in
+      let at : get_or marks k least ≡ a.0 = get_or_default marks k least a.0 within ∙ a.1.0.2 in
       let le : (get_or marks 0 least).value ≤ (get_or marks k least).value = s.values 0 k least (omega arith) within in
-      let far : (get_or marks k least).place ≤ (get_or marks 0 least).place = elim (cases_lt 0 k) [
-        | inl later ↦ (let lt = s.places 0 k least later within in omega arith)
-        | inr none ↦ (let e : 0 ≡ k = omega arith in subst (λ (j : ℕ). (get_or marks j least).place ≤ (get_or marks 0 least).place) e (omega arith))
-      ] in
-      let one_value : (get_or marks k least).value ≡ one.value = ap (λ (m : Mark). m.value) at in
-      let one_place : (get_or marks k least).place ≡ one.place = ap (λ (m : Mark). m.place) at in
-      elim a.1.1 [
-        | inl e ↦
-            let v : one.value ≡ other.value = ap (λ (m : Mark). m.value) e in
-            let p : one.place ≡ other.place = ap (λ (m : Mark). m.place) e in
-            elim (cases_lt least.value other.value) [ inl lt ↦ inl lt | inr ge ↦ inr (omega arith, omega arith) ]
-        | inr less ↦ inl (omega arith)
-      ];
+      let far : (get_or marks k least).place ≤ (get_or marks 0 least).place = ordered_near marks 0 k (get_or marks 0 least).place least s (omega arith) within (omega arith) in
+      first_of least (get_or marks 0 least) (get_or marks k least) a.0 other is at le far a.1.1;
 }
 
 -- ---- the marks of counts

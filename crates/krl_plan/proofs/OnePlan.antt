@@ -16,23 +16,10 @@ use Rattle.krl_plan.proofs.GroupTexts.{length-bitmap_of}
 use Rattle.krl_plan.proofs.ListTexts.{length-listed, small_few}
 
 not_both : (a b : Group) → Before a b → Before b a → ⊥
-not_both a b p q =
-    elim p [
-      | inl first ↦ elim q [
-        | inl second ↦ absurd (omega arith)
-        | inr second ↦
-            (let e = second.0 in absurd (omega arith))
-      ]
-      | inr first ↦ elim q [
-        | inl second ↦ (let e = first.0 in absurd (omega arith))
-        | inr second ↦ (let lt = first.1 in let gt = second.1 in absurd (omega arith))
-      ]
-    ]
+not_both a b p q = grind arith
 
 not_itself : (a b : Group) → a ≡ b → Before a b → ⊥
-not_itself a b e p =
-    let h : Before b b = subst (λ (g : Group). Before g b) e p in
-    not_both b b h h
+not_itself a b e p = let h : Before b b = subst (λ (g : Group). Before g b) e p in not_both b b h h
 
 same_plan : (one other : List Group) → Prefers one other → Prefers other one → one ≡ other
 same_plan [] [] p q = refl

@@ -1,21 +1,23 @@
 -- What the table knows of the last runs of a set.
-use Rattle.std.specs.Prelude.{◌≡◌, ℕ, ◌+◌, ◌-◌, ◌*◌, ◌^◌, ◌<◌, ◌≤◌, List, ◌∷◌, length, drop}
+use Rattle.std.specs.Prelude.{◌≡◌, ℕ, ◌+◌, ◌-◌, ◌*◌, ◌^◌, ◌≤◌, List, ◌∷◌, length, drop}
 use Rattle.std.specs.Prelude.{slice_index, slice_index_or as get_or}
 use Rattle.serial_set.specs.declared.span.Span.{Span}
 use Rattle.krl_plan.specs.declared.group.Group.{Group}
 use Rattle.krl_plan.specs.declared.table.Table.{Table}
 use Rattle.krl_plan.specs.Bitmaps.{HasBitmaps}
 use Rattle.krl_plan.specs.Lists.{HasLists}
+use Rattle.krl_plan.specs.Plan.{IsGroup}
 use Rattle.krl_plan.specs.Search.{IsFirst, IsLeastCost}
 
--- The choices are one for each run, that of the first run last. No choice has more runs than there
--- are.
+-- The group can stand at the front of the runs, and the least plan begins with it.
+abbrev pub IsChoice : List Span → Group → Type 0
+IsChoice runs group = IsGroup runs group × IsFirst runs group
+
+-- The choices are one for each run, that of the first run last.
 pub record AreChoices (runs : List Span) (choices : List Group) : Type 0 where
   pub one_each : length choices ≡ length runs
-  pub firsts : (k : ℕ) (d : Group) → k < length choices
-      → IsFirst (drop (length choices - 1 - k) runs) (get_or choices k d)
-  pub fits : (k : ℕ) (d : Group) → k < length choices
-      → (0 < (get_or choices k d).count) × ((get_or choices k d).count ≤ k + 1)
+  pub each : (j k : ℕ) (d : Group) → j + k + 1 ≡ length choices
+      → IsChoice (drop j runs) (get_or choices k d)
 
 -- The rests are what all runs but the first cost at least, then all but the first two, and so on.
 pub record IsKnown (table : Table) (at : ℕ) (runs : List Span) (rests : List ℕ) : Type 0 where

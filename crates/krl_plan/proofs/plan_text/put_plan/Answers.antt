@@ -40,6 +40,6 @@ loop-group-preserved g c =
     let is : IsGroup rest group = next_group rest plan c.loop-group.out.items whole done zero_group c.loop-group-test.true c.loop-group.invariant in
     let first = copied_first spans c.loop-group.runs.items c.copy_runs.new.runs.items group.count c.loop-group.next c.in_ok-next.next c.in_ok-next.ensures is.within in
     let put : c.put_group.new.out.items ≡ c.loop-group.out.items ++ group_text group.sort (take group.count rest) =
-    c.in_ok-put_group.ensures ∙ ap (λ (l : List Span). c.loop-group.out.items ++ group_text group.sort l) (ap (take group.count) c.deref.ensures.value ∙ first.1) in
+    rw c.in_ok-put_group.ensures (ap (λ (l : List Span). c.loop-group.out.items ++ group_text group.sort l) (ap (take group.count) c.deref.ensures.value ∙ first.1)) in
     rw (c.drop_first.ensures, put) (subst (λ (l : List Span). Putting l (drop (done + 1) plan) (c.loop-group.out.items ++ group_text group.sort (take group.count rest)) whole) (sym first.2)
     (Putting-more rest plan c.loop-group.out.items whole done zero_group c.loop-group-test.true c.loop-group.invariant))

@@ -1,24 +1,27 @@
-use Rattle.std.proofs.Common.{◌≡◌, ◌-◌, ◌≤◌, ℕ, [], ◌∷◌, ◌++◌, arith, get_or, subst, sym, length}
-use Rattle.krl_plan.specs.declared.group.Group.{Group}
-use Rattle.krl_plan.proofs.Filling.{Walked, Walked-all, Walked-more}
+use Rattle.std.proofs.Common.{◌≡◌, ℕ, arith, subst}
+use Rattle.krl_plan.proofs.Filling.{Walked, Walked-all, Walked-more, Walked-start, choice_fits}
 use Rattle.krl_plan.proofs.table.Table.plan.Goals as goal
+
+pub loop-left-init : goal.loop-left-init
+loop-left-init c = record { within = omega arith; walked = Walked-start c.args.self.now.choices.items _ c.len-left.result c.new-plan.ensures.items (omega arith) }
+
+pub overflow_sub-left-in-loop-left : goal.overflow_sub-left-in-loop-left
+overflow_sub-left-in-loop-left c =
+    (choice_fits c.args.self.now.choices.items c.requires.known.0 c.loop-left.left c.index-group.result.now c.requires.known.1.1.1.1.choices c.index-group.ensures (omega arith) c.loop-left.invariant.within).1
+
+pub loop-left-smaller : goal.loop-left-smaller
+loop-left-smaller c =
+    let fits = choice_fits c.args.self.now.choices.items c.requires.known.0 c.loop-left.left c.index-group.result.now c.requires.known.1.1.1.1.choices c.index-group.ensures (omega arith) c.loop-left.invariant.within in
+    omega arith
 
 pub loop-left-preserved : goal.loop-left-preserved
 loop-left-preserved c =
     let choices = c.args.self.now.choices.items in
-    let left = c.loop-left.left in
-    let group = c.index-group.result.now in
-    let is : group ≡ get_or choices (left - 1) group = c.index-group.ensures in
-    let within : left ≤ length choices = c.loop-left.invariant.within in
-    let fits = c.requires.known.1.1.1.1.choices.fits (left - 1) group (omega arith) in
-    let least : (get_or choices (left - 1) group).count ≤ left = let h = fits.1 in omega arith in
-    let more : Walked choices (c.loop-left.plan.items ++ get_or choices (left - 1) group ∷ []) (left - (get_or choices (left - 1) group).count) =
-    Walked-more choices c.loop-left.plan.items left group (omega arith) within least c.loop-left.invariant.walked in
-    let here : Walked choices (c.loop-left.plan.items ++ group ∷ []) (left - group.count) =
-    subst (λ (g : Group). Walked choices (c.loop-left.plan.items ++ g ∷ []) (left - g.count)) (sym is) more in
+    let within = c.loop-left.invariant.within in
+    let fits = choice_fits choices c.requires.known.0 c.loop-left.left c.index-group.result.now c.requires.known.1.1.1.1.choices c.index-group.ensures (omega arith) within in
     record {
       within = omega arith;
-      walked = rw c.in_ok-push.ensures.items here;
+      walked = rw c.in_ok-push.ensures.items (Walked-more choices c.loop-left.plan.items c.loop-left.left c.index-group.result.now c.index-group.ensures (omega arith) within fits.1 c.loop-left.invariant.walked);
     }
 
 pub returns : goal.returns
