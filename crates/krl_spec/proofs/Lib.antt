@@ -2,13 +2,10 @@ pub mod Adds
 pub mod Digits
 pub mod Growth
 pub mod ReadLines
-pub mod Named
 pub mod Sizes
 pub mod Cuts
 pub mod CountedLaws
 pub mod NumberLaws
-pub mod SerialLaws
+pub mod BoundsLaws
 pub mod OrderLaws
 pub mod KeyLaws
-pub mod NamingLaws
-pub mod FileLaws

@@ -64,25 +64,6 @@ record LineAdds (authority : Option (List ℕ)) (number : ℕ) (line : List ℕ)
   adds : MeansMore old new named
   few : held new ≤ held old + length named
 
-line_adds : (Stores : Contents → Contents → Type 0) (authority : Option (List ℕ)) (number : ℕ) (line : List ℕ) (old new : Contents)
-    (read : Option (Result Entry SpecCause)) → line_entry authority line ≡ read
-    → AddsLine Stores read (Ok (tt {0})) old new → LineAdds authority number line old new
-line_adds Stores authority number line old new None is same = record {
-  named = [];
-  is = rw is refl;
-  adds = λ entries means. rw (append-nil entries, same) means;
-  few = let least : held new ≡ held old = ap held same in omega arith;
-}
-line_adds Stores authority number line old new (Some (Ok entry)) is (entry', (same, (adds, (few, stores)))) =
-    let one : entry ≡ entry' = cc in
-    record {
-      named = entry' ∷ [];
-      is = rw (is, one) refl;
-      adds = adds;
-      few = few;
-    }
-line_adds Stores authority number line old new (Some (Err cause)) is (entry', (same, more)) = absurd (cc)
-
 -- the next line is read
 next_line : (authority : Option (List ℕ)) (lines : List (List ℕ)) (passed : ℕ) (line : List ℕ) (rest : List (List ℕ))
     (old mid new : Contents) → (at : IsAt authority lines passed (line ∷ rest) old mid)
@@ -100,11 +81,20 @@ next_line authority lines passed line rest old mid new at now =
       few = rw is (omega (arith, at.few, now.few, length-append e now.named));
     }
 
-pub line_read : (Stores : Contents → Contents → Type 0) (authority : Option (List ℕ)) (lines : List (List ℕ)) (passed : ℕ) (line : List ℕ) (rest : List (List ℕ))
-    (old mid new : Contents) → IsAt authority lines passed (line ∷ rest) old mid
-    → AddsLine Stores (line_entry authority line) (Ok (tt {0})) mid new → IsAt authority lines (passed + 1) rest old new
-line_read Stores authority lines passed line rest old mid new at adds =
-    next_line authority lines passed line rest old mid new at (line_adds Stores authority (1 + length at.before) line mid new (line_entry authority line) refl adds)
+pub line_read : (authority : Option (List ℕ)) (lines : List (List ℕ)) (passed : ℕ) (line : List ℕ) (rest : List (List ℕ)) (old mid new : Contents)
+    (read : Option (Result Entry SpecCause)) → line_entry authority line ≡ read → IsAt authority lines passed (line ∷ rest) old mid
+    → AddsLine read (Ok (tt {0})) mid new → IsAt authority lines (passed + 1) rest old new
+line_read authority lines passed line rest old mid new None is at same =
+    next_line authority lines passed line rest old mid new at (record {
+      named = [];
+      is = rw is refl;
+      adds = λ entries means. rw (append-nil entries, same) means;
+      few = let least : held new ≡ held mid = ap held same in omega arith;
+    })
+line_read authority lines passed line rest old mid new (Some (Ok entry)) is at (other, same, adds, few) =
+    let one : entry ≡ other = cc in
+    next_line authority lines passed line rest old mid new at (record { named = other ∷ []; is = rw (is, one) refl; adds = adds; few = few })
+line_read authority lines passed line rest old mid new (Some (Err cause)) is at (other, same, adds, few) = absurd (cc)
 
 -- All lines are read.
 pub all_read : (authority : Option (List ℕ)) (text : List ℕ) (passed : ℕ) (old new : Contents)
@@ -156,19 +146,12 @@ stops : (authority : Option (List ℕ)) (text : List ℕ) (passed : ℕ) (line :
 stops authority text passed line rest old new read causes.NoMemory at is reports = starved authority _ passed line rest old new at
 stops authority text passed line rest old new read cause at is reports = reported authority text passed line rest old new cause at (is ∙ ap Some reports)
 
-stopped_by : (Stores : Contents → Contents → Type 0) (authority : Option (List ℕ)) (text : List ℕ) (passed : ℕ) (line : List ℕ) (rest : List (List ℕ)) (old mid new : Contents)
-    (read : Option (Result Entry SpecCause)) (cause : SpecCause) → IsAt authority (slice_split is_newline text) passed (line ∷ rest) old mid
-    → line_entry authority line ≡ read → AddsLine {A = Unit {0}} Stores read (Err cause) mid new
+-- A line stops the reading, or memory runs out there.
+pub line_stops : (authority : Option (List ℕ)) (text : List ℕ) (passed : ℕ) (line : List ℕ) (rest : List (List ℕ)) (old mid new : Contents) (cause : SpecCause)
+    (read : Option (Result Entry SpecCause)) → line_entry authority line ≡ read → IsAt authority (slice_split is_newline text) passed (line ∷ rest) old mid
+    → AddsLine {A = Unit {0}} read (Err cause) mid new
     → StopsAt authority text (passed + 1) cause old new × (held new ≤ held old + length (lines_of authority text).entries)
 unfolding lines_of
-stopped_by Stores authority text passed line rest old mid new None cause at is adds = absurd adds
-stopped_by Stores authority text passed line rest old mid new (Some read) cause at is (reports, same) =
+line_stops authority text passed line rest old mid new cause None is at adds = absurd adds
+line_stops authority text passed line rest old mid new cause (Some read) is at (reports, same) =
     rw same (stops authority text passed line rest old mid read cause at is reports, front_is_few authority _ passed (line ∷ rest) old mid at)
-
--- A line stops the reading, or memory runs out there.
-pub line_stops : (Stores : Contents → Contents → Type 0) (authority : Option (List ℕ)) (text : List ℕ) (passed : ℕ) (line : List ℕ) (rest : List (List ℕ)) (old mid new : Contents) (cause : SpecCause)
-    → IsAt authority (slice_split is_newline text) passed (line ∷ rest) old mid
-    → AddsLine {A = Unit {0}} Stores (line_entry authority line) (Err cause) mid new
-    → StopsAt authority text (passed + 1) cause old new × (held new ≤ held old + length (lines_of authority text).entries)
-line_stops Stores authority text passed line rest old mid new cause at adds =
-    stopped_by Stores authority text passed line rest old mid new (line_entry authority line) cause at refl adds

@@ -33,18 +33,17 @@ abbrev pub Reports : {A : Type 0} → SpecCause → Result A SpecCause → Type 
 Reports causes.NoMemory read = MayStarve read
 Reports cause read = read ≡ Err cause
 
--- What was read is added, and what is stored grows in a stated way. Else the cause is reported,
--- and nothing changed.
-abbrev pub Adds : {A : Type 0} → (Contents → Contents → Type 0) → Result Entry SpecCause
-    → Result A SpecCause → Contents → Contents → Type 0
-Adds Stores read (Ok done) old new =
-    (entry : Entry) × ((read ≡ Ok entry)
-    × (MeansMore old new (entry ∷ []) × ((held new ≤ held old + 1) × Stores old new)))
-Adds Stores read (Err cause) old new = Reports cause read × (new ≡ old)
+-- What was read is added, which makes at most one interval. Else the cause is reported, and nothing
+-- changed.
+abbrev pub Adds : {A : Type 0} → Result Entry SpecCause → Result A SpecCause
+    → Contents → Contents → Type 0
+Adds read (Ok done) old new =
+    (entry : Entry) × (read ≡ Ok entry) × MeansMore old new (entry ∷ []) × (held new ≤ held old + 1)
+Adds read (Err cause) old new = Reports cause read × (new ≡ old)
 
 -- The same of a line, of which nothing need count.
-abbrev pub AddsLine : {A : Type 0} → (Contents → Contents → Type 0)
-    → Option (Result Entry SpecCause) → Result A SpecCause → Contents → Contents → Type 0
-AddsLine Stores None (Ok done) old new = new ≡ old
-AddsLine Stores None (Err cause) old new = ⊥
-AddsLine Stores (Some read) result old new = Adds Stores read result old new
+abbrev pub AddsLine : {A : Type 0} → Option (Result Entry SpecCause) → Result A SpecCause
+    → Contents → Contents → Type 0
+AddsLine None (Ok done) old new = new ≡ old
+AddsLine None (Err cause) old new = ⊥
+AddsLine (Some read) result old new = Adds read result old new

@@ -4,9 +4,9 @@ pub mod Number
 pub mod Stored
 pub mod Adding
 pub mod Entry
+pub mod LineEntry
 pub mod SpecFile
 pub mod Line
 pub mod Spelled
 pub mod Naming
-pub mod FileNaming
 pub mod LineBytes

@@ -1,5 +1,5 @@
 -- What the lines of specification files spell (ssh-keygen(1), KEY REVOCATION LISTS).
-use Rattle.std.specs.Prelude.{◌≡◌, ◌≢◌, ℕ, ◌^◌, ◌<◌, ◌≤◌, ◌⊎◌, not, List, [], ◌∷◌, ◌++◌}
+use Rattle.std.specs.Prelude.{◌≡◌, ◌≢◌, ℕ, ◌^◌, ◌<◌, ◌⊎◌, not, List, [], ◌∷◌, ◌++◌}
 use Rattle.std.specs.Prelude.{codes, slice_index, ⊤}
 use Rattle.std.specs.List.{AllPass, prefix_len, suffix_len}
 use Rattle.std.specs.Str.{byte, str_to_ascii_lowercase}
@@ -7,8 +7,6 @@ use Rattle.std.specs.Str.Parse.{IsNumeral, digits_value}
 use Rattle.ssh_key.specs.Blanks.{BeginsWithNoBlank, is_blank, is_ending}
 use Rattle.krl_spec.specs.Line.{is_hash, name_of}
 use Rattle.krl_spec.specs.declared.directive.Directive.{Directive}
-use Rattle.spec_fault.specs.declared.spec_cause.SpecCause.{SpecCause}
-use Rattle.spec_fault.specs.declared.spec_cause.SpecCause.TheVariants as causes
 
 -- ---- numbers
 
@@ -34,21 +32,6 @@ pub data AreBounds (text : List ℕ) (lo hi : ℕ) : Type 0 where
       → AllPass is_blank before → AllPass is_blank after
       → IsNumber first lo → IsNumber last hi → AreBounds text lo hi
 
--- serials from the first to the last, of which none is 0
-pub record AreSerials (text : List ℕ) (lo hi : ℕ) : Type 0 where
-  pub bounds : AreBounds text lo hi
-  pub some : 0 < lo
-  pub ordered : lo ≤ hi
-
--- Why a text spells no serials: the first fault of three.
-abbrev pub IsSerialsFault : List ℕ → SpecCause → Type 0
-IsSerialsFault text causes.Number = (lo hi : ℕ) → ¬ AreBounds text lo hi
-IsSerialsFault text causes.Zero =
-    (lo : ℕ) × (hi : ℕ) × AreBounds text lo hi × ((lo ≡ 0) ⊎ (hi ≡ 0))
-IsSerialsFault text causes.Reversed =
-    (lo : ℕ) × (hi : ℕ) × AreBounds text lo hi × (0 < hi) × (hi < lo)
-IsSerialsFault text cause = ⊥
-
 -- ---- directives
 
 -- A directive's name in either case of letters, a colon, blanks or none, and what it is given.
@@ -59,9 +42,6 @@ pub record IsOrder (text : List ℕ) (directive : Directive) (given : List ℕ) 
   pub named : str_to_ascii_lowercase name ≡ name_of directive
   pub are_blanks : AllPass is_blank blanks
   pub bare : BeginsWithNoBlank given
-
-abbrev pub HasOrder : List ℕ → Type 0
-HasOrder text = (directive : Directive) × (given : List ℕ) × IsOrder text directive given
 
 -- ---- lines
 

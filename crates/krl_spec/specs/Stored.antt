@@ -1,7 +1,10 @@
 -- How much more is stored by reading what a specification file names.
-use Rattle.std.specs.Prelude.{ℕ, ◌+◌, ◌≤◌, List, [], length, Option, Some, None, unwrap_or}
+use Rattle.std.specs.Prelude.{◌≡◌, ℕ, ◌+◌, ◌≤◌, ◌⊎◌, List, [], length, Option, Some, None}
+use Rattle.std.specs.Prelude.{unwrap_or}
 use Rattle.ssh_subject.specs.Subject.{Names, Subject}
 use Rattle.krl_core.specs.Contents.{Contents, IsStoredWithin}
+use Rattle.krl_core.specs.Entry.{Entry, RangeEntry, IdEntry, KeyEntry, Sha1Entry}
+use Rattle.krl_core.specs.Entry.{Sha256Entry}
 
 -- The bytes of the authority at hand: all authorities have none, nor has one that is not given.
 abbrev pub bytes_under : Option (List ℕ) → List ℕ
@@ -16,9 +19,20 @@ GrowsUnder authority size old new =
 abbrev pub GrowsBy : Option (List ℕ) → List ℕ → Contents → Contents → Type 0
 GrowsBy authority text = GrowsUnder (bytes_under authority) (length text)
 
--- The same whatever authority is at hand.
-abbrev pub Grows : ℕ → Contents → Contents → Type 0
-Grows size old new = (authority : List ℕ) → GrowsUnder authority size old new
+-- The same number of bytes is enough for what stands under another authority, whose bytes are
+-- counted too.
+abbrev pub HasRoom : List ℕ → ℕ → List ℕ → ℕ → Type 0
+HasRoom under size authority bytes =
+    ((authority ≡ under) × (bytes ≤ size)) ⊎ (length authority + bytes ≤ size)
+
+-- An entry stores at most this many bytes more, where the bytes of one authority are not counted.
+abbrev pub Fits : List ℕ → ℕ → Entry → Type 0
+Fits under size (RangeEntry authority lo hi) = HasRoom under size authority 0
+Fits under size (IdEntry authority text) = HasRoom under size authority (length text)
+Fits under size (KeyEntry blob) = length blob ≤ size
+Fits under size (Sha1Entry hash) = 20 ≤ size
+Fits under size (Sha256Entry hash) = 32 ≤ size
+Fits under size entry = ⊥
 
 -- how many bytes what is asked can store: those of a plain key, or of what names a certificate
 abbrev pub asked_size : List ℕ → Option Names → ℕ

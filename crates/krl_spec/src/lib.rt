@@ -4,6 +4,7 @@
 mod adding;
 mod blanks;
 mod directive;
+mod entries;
 mod keys;
 pub mod laws;
 mod lines;

@@ -1,9 +1,17 @@
 -- What the key of the line asks has no more bytes than the line.
-use Rattle.krl_spec.proofs.Growth.{bare_adds}
+use Rattle.std.proofs.Common.{length, refl}
+use Rattle.krl_spec.specs.Entry.{subject_in}
+use Rattle.krl_spec.proofs.Adds.{one_added}
+use Rattle.krl_spec.proofs.Growth.{subject_fits}
 use Rattle.krl_spec.proofs.adding.add_bare.Goals as goal
 
-pub returns : goal.returns
-returns g c =
+pub returns-clause-adds : goal.returns-clause-adds
+unfolding subject_in
+returns-clause-adds g c =
     let asked = rw c.as_slice.ensures at c.in_ok-asked.ensures.asked in
-    let room = rw c.as_slice.ensures at c.in_ok-asked.ensures.room in
-    bare_adds _ _ _ _ _ _ c.in_ok-line.ensures.read asked c.in_ok-line.ensures.room room c.add_subject.ensures
+    one_added _ _ _ _ (rw (c.in_ok-line.ensures.read, asked, c.subject_entry.ensures.named) refl) c.in_ok-add.ensures.means c.in_ok-add.ensures.held
+
+pub returns-clause-grows : goal.returns-clause-grows
+returns-clause-grows g c = λ under.
+    let within = rw c.as_slice.ensures at c.in_ok-asked.ensures.room in
+    c.in_ok-add.ensures.grows under (length c.args.text.now) (rw c.subject_entry.ensures.named (subject_fits under _ _ _ c.in_ok-line.ensures.room within))

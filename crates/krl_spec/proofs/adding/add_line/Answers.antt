@@ -1,8 +1,8 @@
 -- What counts of a line has no more bytes than the line.
-use Rattle.std.proofs.Common.{sym, ◌∙◌}
-use Rattle.krl_spec.proofs.Growth.{counted_adds}
+use Rattle.std.proofs.Common.{ap, length, arith}
+use Rattle.krl_spec.proofs.Growth.{grows_more}
+use Rattle.krl_spec.proofs.Sizes.{length-bare_line}
 use Rattle.krl_spec.proofs.adding.add_line.Goals as goal
 
-pub returns : goal.returns
-returns g c =
-    counted_adds _ _ _ _ _ _ c.bare_line-text.ensures (sym c.is_empty.ensures ∙ c.if-is_empty.false) c.add_text.ensures
+pub returns-clause-grows : goal.returns-clause-grows
+returns-clause-grows g c = grows_more _ _ _ _ _ (omega (arith, ap length c.bare_line-text.ensures, length-bare_line c.args.line.now)) c.add_text.ensures.grows

@@ -1,9 +1,14 @@
 -- What a directive is given has no more bytes than the text.
-use Rattle.krl_spec.proofs.Growth.{text_bare_adds, text_order_adds}
+use Rattle.krl_spec.proofs.Adds.{one_added}
+use Rattle.krl_spec.proofs.Growth.{grows_more}
+use Rattle.krl_spec.proofs.Sizes.{order_room}
 use Rattle.krl_spec.proofs.adding.add_text.Goals as goal
 
-pub returns-in-Some : goal.returns-in-Some
-returns-in-Some g c = text_order_adds _ _ _ _ _ _ c.in-Some.ensures c.add_order.ensures
+pub returns-in_default-clause-grows : goal.returns-in_default-clause-grows
+returns-in_default-clause-grows g c = c.add_bare.ensures.grows _
 
-pub returns-in-None : goal.returns-in-None
-returns-in-None g c = text_bare_adds _ _ _ _ _ c.in-None.ensures c.add_bare.ensures
+pub returns-clause-adds : goal.returns-clause-adds
+returns-clause-adds g c = one_added _ _ _ _ (rw c.in-Some.ensures c.in_ok-entry.ensures.read) c.in_ok-add.ensures.means c.in_ok-add.ensures.held
+
+pub returns-clause-grows : goal.returns-clause-grows
+returns-clause-grows g c = grows_more _ _ _ _ _ (order_room _ _ c.in-Some.ensures) (c.in_ok-add.ensures.grows _ _ c.in_ok-entry.ensures.fits)

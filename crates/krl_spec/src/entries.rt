@@ -1,0 +1,136 @@
+//! The entries that lines of specification files name (ssh-keygen(1), KEY REVOCATION LISTS).
+
+ghost use Rattle.std.specs.Prelude.{◌≡◌, IfOk, MatchResult, None, Some, length};
+ghost use Rattle.ssh_wire.specs.Reading.{Answers};
+ghost use Rattle.krl_core.specs.Authority.{IsAuthority, authority_bytes};
+ghost use Rattle.krl_spec.specs.Adding.{Reports};
+ghost use Rattle.krl_spec.specs.Entry.{HasAuthority, IsUnder, authority_under, id_order, names_entry, order_entry, serial_order};
+ghost use Rattle.krl_spec.specs.LineEntry.{IsSound, entry_of};
+ghost use Rattle.krl_spec.specs.Stored.{Fits, bytes_under};
+ghost use Rattle.spec_fault.specs.declared.spec_cause.SpecCause.TheVariants.{NoAuthority};
+
+use crate::directive::Directive;
+use crate::keys::{plain_key, read_hash};
+use crate::number::{Bounds, read_serials};
+use crate::under::Under;
+use spec_fault::SpecCause;
+use ssh_cert::Subject;
+use ssh_key::{sha1_of, sha256_of};
+use ssh_wire::Bytes;
+use std::alloc::Global;
+
+/// What a line names. An authority that is None stands for all authorities.
+#[derive(Drop)]
+pub enum LineEntry<'a> {
+    /// Certificates of an authority, by their serials.
+    Serials(Option<&'a [u8]>, Bounds),
+    /// Certificates of an authority, by their key ID.
+    Id(Option<&'a [u8]>, &'a [u8]),
+    /// A key, by its blob.
+    Key(Bytes),
+    /// A key, by the SHA-1 of its blob.
+    Sha1([u8; 20]),
+    /// A key, by the SHA-256 of its blob.
+    Sha256([u8; 32]),
+}
+
+/// What a directive names by what it is given.
+pub fn read_order<'a>(
+    alloc: Global,
+    under: Under<'a>,
+    directive: Directive,
+    given: &'a [u8],
+) -> Result<LineEntry<'a>, SpecCause>
+    requires { IsUnder under }
+    ensures read { Answers Reports entry_of result
+        (order_entry (authority_under under.entry) directive given.now) }
+    ensures sound { IfOk result IsSound }
+    ensures fits { IfOk result (λ entry.
+        Fits (bytes_under (authority_under under.entry)) (length given.now) (entry_of entry)) }
+{
+    match directive {
+        Directive::Serial => read_serial_order(under, given),
+        Directive::Id => read_id_order(under, given),
+        Directive::Key => Ok(LineEntry::Key(plain_key(alloc, given)?)),
+        Directive::Sha1 => {
+            let plain = plain_key(alloc, given)?;
+            Ok(LineEntry::Sha1(sha1_of(plain.as_slice())))
+        }
+        Directive::Sha256 => {
+            let plain = plain_key(alloc, given)?;
+            Ok(LineEntry::Sha256(sha256_of(plain.as_slice())))
+        }
+        Directive::Hash => Ok(LineEntry::Sha256(read_hash(alloc, given)?)),
+    }
+}
+
+// The serials of a directive.
+fn read_serial_order<'a>(under: Under<'a>, given: &[u8]) -> Result<LineEntry<'a>, SpecCause>
+    requires { IsUnder under }
+    ensures read { Answers Reports entry_of result
+        (serial_order (authority_under under.entry) given.now) }
+    ensures sound { IfOk result IsSound }
+    ensures fits { IfOk result (λ entry.
+        Fits (bytes_under (authority_under under.entry)) (length given.now) (entry_of entry)) }
+{
+    let authority = authority_at_hand(under)?;
+    let serials = read_serials(given)?;
+    Ok(LineEntry::Serials(authority, serials))
+}
+
+// The key ID of a directive.
+fn read_id_order<'a>(under: Under<'a>, given: &'a [u8]) -> Result<LineEntry<'a>, SpecCause>
+    requires { IsUnder under }
+    ensures read { Answers Reports entry_of result
+        (id_order (authority_under under.entry) given.now) }
+    ensures sound { IfOk result IsSound }
+    ensures fits { IfOk result (λ entry.
+        Fits (bytes_under (authority_under under.entry)) (length given.now) (entry_of entry)) }
+{
+    let authority = authority_at_hand(under)?;
+    if given.is_empty() {
+        return Err(SpecCause::EmptyId);
+    }
+    Ok(LineEntry::Id(authority, given))
+}
+
+// The authority of serials and key IDs that name none themselves; None for all authorities.
+fn authority_at_hand<'a>(under: Under<'a>) -> Result<Option<&'a [u8]>, SpecCause>
+    requires { IsUnder under }
+    ensures { MatchResult result
+        (λ authority. IsAuthority authority
+        × (authority_under under.entry ≡ Some (authority_bytes authority)))
+        (λ cause. (cause ≡ NoAuthority) × (authority_under under.entry ≡ None)) }
+{
+    match under {
+        Under::NotGiven => Err(SpecCause::NoAuthority),
+        Under::All => Ok(None),
+        Under::Of(bytes) => Ok(Some(bytes)),
+    }
+}
+
+/// What names a key: a plain key its blob, and a certificate its serial, or its key ID where the
+/// serial is 0.
+pub fn subject_entry<'a>(asked: Subject<'a>) -> LineEntry<'a>
+    requires { HasAuthority asked.cert }
+    ensures named { entry_of result ≡ names_entry asked.entry.plain asked.entry.cert }
+    ensures sound { IsSound result }
+{
+    let Subject { plain, cert } = asked;
+    match cert {
+        None => LineEntry::Key(plain),
+        Some(names) => {
+            let authority = Some(names.authority);
+            if names.serial == 0 {
+                return LineEntry::Id(authority, names.key_id);
+            }
+            LineEntry::Serials(
+                authority,
+                Bounds {
+                    lo: names.serial,
+                    hi: names.serial,
+                },
+            )
+        }
+    }
+}
