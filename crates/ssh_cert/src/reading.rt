@@ -1,11 +1,9 @@
 //! Reading a certificate, field by field. A cursor that met a fault is not used again.
 
-ghost use Rattle.std.specs.Prelude.{◌≡◌, ℕ, IfErr, IfOk, Ok};
+ghost use Rattle.std.specs.Prelude.{◌≡◌};
 ghost use Rattle.ssh_wire.specs.Reading.{Gives};
-ghost use Rattle.ssh_cert.specs.Certificate.{Certificate, IsCertificate};
 ghost use Rattle.ssh_cert.specs.CertReading.{body_at, certificate_at, field_at, fields_at, kind_at};
 ghost use Rattle.ssh_cert.specs.Field.{AuthorityField, NumberField, OptionsField, PrincipalsField, PublicField, RoleField, SignatureField, TextField, closing_fields, naming_fields};
-ghost use Rattle.ssh_cert.specs.FirstFault.{IsFirstFault};
 ghost use Rattle.ssh_cert.specs.Parts.{closing_values, naming_values, numbered_fields, numbered_values, of_fields};
 
 use crate::cert::Cert;
@@ -84,24 +82,11 @@ struct Numbered<'a> {
 ///
 /// Of several faults the first is reported, in the order in which the fields come, and `Trailing`
 /// last.
-pub fn read_cert<'a>(blob: &'a [u8]) -> Result<Cert<'a>, CertFault>
-    // What is read is spelled so.
-    ensures found { IfOk result (λ cert. IsCertificate blob.now cert) }
-    // What is spelled so is read.
-    ensures only { (certificate : Certificate) → IsCertificate blob.now certificate
-        → result ≡ Ok certificate }
-    // The fault is the first one.
-    ensures fault { IfErr result (λ fault. IsFirstFault blob.now fault) }
-    // The same, for those who compute with the answer.
-    ensures exact { result ≡ certificate_at blob.now }
-{
-    cert_of(blob)
-}
-
-// The certificate that the whole blob spells, or the first fault.
 #[tactic(auto, unfolding(crate::specs::CertReading::certificate_at))]
-fn cert_of<'a>(blob: &'a [u8]) -> Result<Cert<'a>, CertFault>
-    ensures { result ≡ certificate_at blob.now }
+pub fn read_cert<'a>(blob: &'a [u8]) -> Result<Cert<'a>, CertFault>
+    // The certificate that is spelled (`laws::read_where_spelled`), else the first fault
+    // (`laws::refused_by_first_fault`).
+    ensures exact { result ≡ certificate_at blob.now }
 {
     let mut cursor = Cursor::new(blob);
     let kind = read_kind(&mut cursor)?;

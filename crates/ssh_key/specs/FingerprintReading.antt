@@ -35,11 +35,6 @@ IsFingerprintFault text Base64 = HasOtherBase64 text
 IsFingerprintFault text Length = (bytes : List ℕ) × Encodes text bytes × (length bytes ≢ 32)
 IsFingerprintFault text NoMemory = ⊥
 
--- What is reported of a text: its fault, or, where the prefix stands, that there is no memory.
-abbrev pub IsReportedFingerprintFault : List ℕ → FingerprintFault → Type 0
-IsReportedFingerprintFault text NoMemory = (rest : List ℕ) × (text ≡ sha256_prefix ++ rest)
-IsReportedFingerprintFault text fault = IsFingerprintFault text fault
-
 abbrev pub sized : Result (List ℕ) DecodeError → Result (List ℕ) FingerprintFault
 sized (Err error) = Err Base64
 sized (Ok bytes) = if length bytes == 32 then Ok bytes else Err Length

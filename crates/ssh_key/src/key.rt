@@ -1,10 +1,9 @@
 //! Public keys, read from their blobs.
 
-ghost use Rattle.std.specs.Prelude.{◌≡◌, ◌≤◌, ◌+◌, ℕ, List, IfErr, IfOk, Ok, length};
+ghost use Rattle.std.specs.Prelude.{◌≡◌, ◌≤◌, ◌+◌, length};
 ghost use Rattle.ssh_wire.specs.Reading.{Gives, Reads};
 ghost use Rattle.ssh_wire.specs.Wire.{IsBytes, string};
-ghost use Rattle.ssh_key.specs.FirstFault.{IsFieldsFault, IsFirstFault};
-ghost use Rattle.ssh_key.specs.Key.{BeginsWithFields, IsKey, Key, blob_of, longest_blob};
+ghost use Rattle.ssh_key.specs.Key.{IsKey, blob_of, longest_blob};
 ghost use Rattle.ssh_key.specs.KeyReading.{key_at, kind_at, public_at};
 ghost use Rattle.ssh_key.specs.Kind.{bit_count, short_name_of, type_name};
 ghost use Rattle.ssh_key.specs.Fields.{IsWithin, bits_of_size};
@@ -86,30 +85,18 @@ impl<'a> PublicKey<'a> {
 ///
 /// Of several faults the first is reported: `TooLong` before all else, then those of the type name
 /// and of each field, in the order in which they come, and `Trailing` last.
-pub fn read_key<'a>(blob: &'a [u8]) -> Result<PublicKey<'a>, KeyFault>
-    // What is read is spelled so.
-    ensures found { IfOk result (λ key. IsKey blob.now key) }
-    // What is spelled so is read.
-    ensures only { (key : Key) → IsKey blob.now key → result ≡ Ok key }
-    // The fault is the first one.
-    ensures fault { IfErr result (λ fault. IsFirstFault blob.now fault) }
-    // The same, for those who compute with the answer.
-    ensures exact { result ≡ key_at blob.now }
-{
-    key_of(blob)
-}
-
-// The key that the whole blob spells, or the first fault.
 #[tactic(auto, unfolding(crate::specs::KeyReading::key_at))]
-fn key_of<'a>(blob: &'a [u8]) -> Result<PublicKey<'a>, KeyFault>
-    ensures { result ≡ key_at blob.now }
+pub fn read_key<'a>(blob: &'a [u8]) -> Result<PublicKey<'a>, KeyFault>
+    // The key that is spelled (`laws::read_where_spelled`), else the first fault
+    // (`laws::refused_by_first_fault`).
+    ensures exact { result ≡ key_at blob.now }
 {
     if blob.len() > LONGEST_BLOB {
         return Err(KeyFault::TooLong);
     }
     let mut cursor = Cursor::new(blob);
     let kind = read_kind(&mut cursor)?;
-    let key = read_public(kind, &mut cursor)?;
+    let key = read_fields(kind, &mut cursor)?;
     if !cursor.at_end() {
         return Err(KeyFault::Trailing);
     }
@@ -132,26 +119,11 @@ fn read_kind(cursor: &mut Cursor) -> Result<Kind, KeyFault>
 /// Of several faults the first is reported: those of each field, in the order in which they come,
 /// and then `TooLong` where the blob of the type name and these fields would be longer than 65,536
 /// bytes.
-pub fn read_fields<'a>(kind: Kind, cursor: &mut Cursor<'a>) -> Result<PublicKey<'a>, KeyFault>
-    // What is read stands at the front, and is taken.
-    ensures found { IfOk result (λ key.
-        (key.kind ≡ kind) × BeginsWithFields cursor.old key cursor.new) }
-    // The public fields of a key that stand at the front are read.
-    ensures only { (key : Key) (rest : List ℕ) → key.kind ≡ kind
-        → BeginsWithFields cursor.old key rest → (result ≡ Ok key) × (cursor.new ≡ rest) }
-    // The fault is the first one, and nothing is taken.
-    ensures fault { IfErr result (λ fault. IsFieldsFault kind cursor.old fault) }
-    // The same, for those who compute with the answer.
-    ensures exact { Reads (λ key. key) result cursor.old cursor.new (public_at kind cursor.old) }
-{
-    read_public(kind, cursor)
-}
-
-// Reads the public fields of a kind of key. The cursor stays where it was if they are refused.
 #[tactic(auto, unfolding(crate::specs::KeyReading::public_at))]
-fn read_public<'a>(kind: Kind, cursor: &mut Cursor<'a>) -> Result<PublicKey<'a>, KeyFault>
+pub fn read_fields<'a>(kind: Kind, cursor: &mut Cursor<'a>) -> Result<PublicKey<'a>, KeyFault>
+    // The key whose public fields stand at the front (`laws::fields_read_where_spelled`), else the
+    // first fault, and then nothing is taken (`laws::fields_refused_by_first_fault`).
     ensures exact { Reads (λ key. key) result cursor.old cursor.new (public_at kind cursor.old) }
-    ensures bytes { IsBytes cursor.old }
 {
     let bytes = cursor.rest();
     are_bytes(bytes);

@@ -1,9 +1,9 @@
 //! Reading a printed fingerprint.
 
-ghost use Rattle.std.specs.Prelude.{ℕ, List, IfErr, IfOk, Ok};
+ghost use Rattle.std.specs.Prelude.{Ok};
 ghost use Rattle.base64.specs.Engines.{standard_no_pad};
 ghost use Rattle.base64.specs.GeneralPurpose.{decode_of};
-ghost use Rattle.ssh_key.specs.FingerprintReading.{GivesDigest, IsFingerprint, IsReportedFingerprintFault, fingerprint_at, sized};
+ghost use Rattle.ssh_key.specs.FingerprintReading.{GivesDigest, fingerprint_at, sized};
 
 use crate::fingerprint_fault::FingerprintFault;
 use base64::DecodeAllocError;
@@ -15,24 +15,11 @@ use std::alloc::Global;
 ///
 /// Faults come in the order of their numbers. The bytes are decoded into memory that is asked for
 /// before they are checked, so `NoMemory` may take the place of any answer but `Prefix`.
-pub fn parse_fingerprint(alloc: Global, text: &[u8]) -> Result<[u8; 32], FingerprintFault>
-    // What is read is a fingerprint.
-    ensures found { IfOk result (λ digest. IsFingerprint text.now digest) }
-    // Each fingerprint is read, unless memory runs out.
-    ensures only { (digest : List ℕ) → IsFingerprint text.now digest
-        → GivesDigest result (Ok digest) }
-    // The fault is the first one of the text, unless memory runs out.
-    ensures fault { IfErr result (λ fault. IsReportedFingerprintFault text.now fault) }
-    // The same, for those who compute with the answer.
-    ensures exact { GivesDigest result (fingerprint_at text.now) }
-{
-    read_digest(alloc, text)
-}
-
-// The digest of a printed fingerprint, or the first fault.
 #[tactic(auto, unfolding(crate::specs::FingerprintReading::fingerprint_at))]
-fn read_digest(alloc: Global, text: &[u8]) -> Result<[u8; 32], FingerprintFault>
-    ensures { GivesDigest result (fingerprint_at text.now) }
+pub fn parse_fingerprint(alloc: Global, text: &[u8]) -> Result<[u8; 32], FingerprintFault>
+    // The digest that is named (`laws::fingerprint_read_where_spelled`), else the first fault
+    // (`laws::fingerprint_refused_by_first_fault`), unless memory runs out.
+    ensures exact { GivesDigest result (fingerprint_at text.now) }
 {
     let prefix = b"SHA256:";
     if !text.starts_with(prefix) {

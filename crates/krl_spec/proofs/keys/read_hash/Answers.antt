@@ -1,6 +1,8 @@
 -- A fingerprint is longer than its digest.
+use Rattle.std.proofs.Common.{arith}
+use Rattle.ssh_key.proofs.FingerprintLaws.{fingerprint_found}
 use Rattle.krl_spec.proofs.Sizes.{fingerprint_room}
 use Rattle.krl_spec.proofs.keys.read_hash.Goals as goal
 
 pub returns-in-Ok-clause-room : goal.returns-in-Ok-clause-room
-returns-in-Ok-clause-room c = fingerprint_room _ _ c.in-Ok.ensures.found
+returns-in-Ok-clause-room c = fingerprint_room _ _ (fingerprint_found c.args.text.now _ (λ i. omega (arith, c.type_inv.text i)) c.in-Ok.ensures.exact)

@@ -1,34 +1,22 @@
-use Rattle.std.specs.Prelude.{◌≡◌, IfErr, IfOk, List, ℕ, Result, Ok, Err}
-use Rattle.std.proofs.Common.{ap}
-use Rattle.ssh_wire.specs.Wire.{IsBytes}
-use Rattle.ssh_key.specs.declared.fault.KeyFault.{KeyFault}
-use Rattle.ssh_key.specs.declared.kind.Kind.{Kind}
-use Rattle.ssh_key.specs.FirstFault.{IsFieldsFault}
-use Rattle.ssh_key.specs.Key.{BeginsWithFields, Key}
-use Rattle.ssh_wire.specs.Reading.{Reads}
-use Rattle.ssh_key.specs.KeyReading.{public_at}
-use Rattle.ssh_key.proofs.FirstFaults.{public_refused}
-use Rattle.ssh_key.proofs.Keys.{public_again, public_found}
-use Rattle.ssh_wire.specs.Steps.{ok_is, ok_or_err}
+use Rattle.std.proofs.Common.{◌≡◌, ◌≤◌, ℕ, List, Ok, length, arith}
+use Rattle.std.proofs.lemmas.List.{length-append}
+use Rattle.ssh_wire.specs.Wire.{string}
+use Rattle.ssh_key.specs.Fields.{bits_of_size}
+use Rattle.ssh_key.specs.Key.{blob_of}
+use Rattle.ssh_key.specs.KeyReading.{before_rest, bits_at, of_size}
+use Rattle.ssh_key.specs.Kind.{type_name}
+use Rattle.ssh_key.proofs.Keys.{bits_left, size_read}
 use Rattle.ssh_key.proofs.key.read_fields.Goals as goal
 
-found : (kind : Kind) (old new : List ℕ) (r : Result Key KeyFault) → IsBytes old → Reads (λ key. key) r old new (public_at kind old) → IfOk r (λ key. (key.kind ≡ kind) × BeginsWithFields old key new)
-found kind old new (Ok key) fits read = public_found kind old (key, new) fits read
-found kind old new (Err fault) fits read = tt
+pub slice_bounds-fields-count : goal.slice_bounds-fields-count
+slice_bounds-fields-count c =
+    rw (c.rest.ensures) (bits_left c.args.kind c.rest-bytes.result.now (_, c.read_size.new.cursor) c.are_bytes.ensures (rw c.new-ahead.ensures at c.in_ok-size.ensures.read))
 
-read_again : (old new rest : List ℕ) (key : Key) (r : Result Key KeyFault) (read : Result (Key × List ℕ) KeyFault) → read ≡ Ok (key, rest) → Reads (λ key. key) r old new read → (r ≡ Ok key) × (new ≡ rest)
-read_again old new rest key (Ok other) read e given = let same = ok_is (other, new) (key, rest) read given e in (ap (λ (x : Key × List ℕ). Ok x.0) same, ap (λ (x : Key × List ℕ). x.1) same)
-read_again old new rest key (Err fault) read e given = absurd (ok_or_err (key, rest) fault read e given.0)
-
-refused : (kind : Kind) (old new : List ℕ) (r : Result Key KeyFault) → IsBytes old → Reads (λ key. key) r old new (public_at kind old) → IfErr r (λ fault. IsFieldsFault kind old fault)
-refused kind old new (Ok key) fits read = tt
-refused kind old new (Err fault) fits read = public_refused kind old fault fits read.0
-
-pub returns-clause-found : goal.returns-clause-found
-returns-clause-found c = found c.args.kind c.args.cursor.now c.read_public.new.cursor c.read_public.result c.read_public.ensures.bytes c.read_public.ensures.exact
-
-pub returns-clause-only : goal.returns-clause-only
-returns-clause-only c = λ key rest same begins. read_again c.args.cursor.now c.read_public.new.cursor rest key c.read_public.result (public_at c.args.kind c.args.cursor.now) (public_again c.args.kind c.args.cursor.now rest key same begins) c.read_public.ensures.exact
-
-pub returns-clause-fault : goal.returns-clause-fault
-returns-clause-fault c = refused c.args.kind c.args.cursor.now c.read_public.new.cursor c.read_public.result c.read_public.ensures.bytes c.read_public.ensures.exact
+pub invariant_of-key : goal.invariant_of-key
+invariant_of-key c =
+    let bytes : List ℕ = c.rest-bytes.result.now in
+    let size : ℕ × List ℕ = (bits_of_size c.in_ok-size.size, c.read_size.new.cursor) in
+    let read : bits_at c.args.kind bytes ≡ Ok size = rw c.new-ahead.ensures at c.in_ok-size.ensures.read in
+    let kept : length (before_rest bytes c.read_size.new.cursor) ≤ c.longest_fields.result = rw c.rest.ensures at c.if-fields-longest_fields.false in
+    let short : length (blob_of (of_size c.args.kind bytes size)) ≤ 65536 = omega (arith, c.longest_fields.ensures, length-append (string (type_name c.args.kind)) (before_rest bytes c.read_size.new.cursor)) in
+    rw (c.bits.ensures, c.rest.ensures) (size_read c.args.kind bytes size c.are_bytes.ensures read short)

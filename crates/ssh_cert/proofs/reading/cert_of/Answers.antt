@@ -1,7 +1,0 @@
-use Rattle.std.proofs.Common.{rules}
-use Rattle.ssh_cert.specs.CertReading.{certificate_at}
-use Rattle.ssh_cert.proofs.reading.cert_of.Goals as goal
-
-pub returns : goal.returns
-unfolding certificate_at
-returns c = search rules steps 600000
