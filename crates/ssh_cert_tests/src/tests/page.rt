@@ -5,6 +5,7 @@ ghost use Rattle.ssh_cert.specs.Certificate.{Certificate, IsCertificate};
 ghost use Rattle.ssh_cert.specs.Time.{IsValidAt};
 
 use crate::tests::parts::{Part, changed};
+use ssh_cert::laws::read_where_spelled;
 use ssh_cert::{Subject, read_cert, subject, valid_at};
 
 /// Whether a blob is a certificate that is valid at a moment, in seconds from 1970 on.
@@ -12,6 +13,7 @@ fn is_valid_cert(blob: &[u8], moment: u64) -> bool
     ensures { IsTrue result → (certificate : Certificate)
         × (IsCertificate blob.now certificate × IsValidAt certificate moment) }
 {
+    read_where_spelled();
     match read_cert(blob) {
         Ok(cert) => valid_at(&cert, moment),
         Err(_) => false,
