@@ -22,9 +22,8 @@ use Rattle.ssh_key.specs.declared.kind.Kind.TheVariants.{Rsa, Dsa, Ecdsa256, Ecd
 use Rattle.ssh_key.specs.declared.private_fault.PrivateFault.{PrivateFault}
 use Rattle.ssh_subject.specs.Subject.{Subject}
 use Rattle.ssh_cert.specs.SubjectReading.{is_certificate, of_key, subject_of}
-use Rattle.krl_spec.specs.Entry.{subject_in}
-use Rattle.krl_spec.specs.LineBytes.{lines_bytes}
-use Rattle.krl_spec.specs.Naming.{IsKeyCause, IsKeyFault, IsSubjectLine}
+use Rattle.krl_make.proofs.LineBytes.{lines_bytes}
+use Rattle.krl_spec.specs.Keys.{IsKeyCause, IsKeyFault, IsSubjectLine, subject_in}
 use Rattle.spec_fault.specs.declared.spec_cause.KeyCause.{KeyCause}
 use Rattle.spec_fault.specs.declared.spec_cause.KeyCause.TheVariants as keys
 use Rattle.spec_fault.specs.declared.spec_cause.SpecCause.{SpecCause}

@@ -1,2 +1,3 @@
+pub mod LineBytes
 pub mod MadeLists
 pub mod FirstKeys

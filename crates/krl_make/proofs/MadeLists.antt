@@ -35,8 +35,8 @@ use Rattle.key_files.specs.Keys.{File, Found, GivesKey, IsRefused, container_fou
 use Rattle.key_files.specs.declared.file_fault.FileFault.{FileFault}
 use Rattle.key_files.specs.declared.file_fault.FileFault.TheVariants as files
 use Rattle.krl_core.specs.Changes.{MeansMore}
-use Rattle.krl_spec.specs.Keys.{key_room}
-use Rattle.krl_spec.specs.SpecFile.{ReadsSpec, StopsAt, lines_of}
+use Rattle.krl_spec.proofs.KeyRoom.{key_room}
+use Rattle.krl_spec.specs.Lines.{ReadsSpec, StopsAt, lines_of}
 use Rattle.spec_fault.specs.declared.spec_cause.SpecCause.{SpecCause}
 use Rattle.spec_fault.specs.declared.spec_cause.SpecCause.TheVariants as specs
 use Rattle.key_files.specs.Stop.{Stop, Ender, ByInput, ByMemory, ByOutput, ender_of, stop_of}

@@ -7,7 +7,7 @@ use Rattle.ssh_key.specs.Container.{IsContainer, IsPrivateFault}
 use Rattle.ssh_key.specs.KeyFile.{has_key}
 use Rattle.ssh_key.specs.Lines.{is_newline}
 use Rattle.ssh_key.specs.declared.private_fault.PrivateFault.{PrivateFault}
-use Rattle.krl_spec.specs.Naming.{IsKeyFault, IsSubjectLine}
+use Rattle.krl_spec.specs.Keys.{IsKeyFault, IsSubjectLine}
 use Rattle.spec_fault.specs.declared.spec_cause.KeyCause.{KeyCause}
 use Rattle.spec_fault.specs.declared.spec_cause.KeyCause.TheVariants as keys
 use Rattle.key_files.specs.Keys.{stop_at}

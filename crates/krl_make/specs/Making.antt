@@ -29,7 +29,7 @@ use Rattle.spec_fault.specs.declared.spec_cause.SpecCause.TheVariants as specs
 use Rattle.spec_fault.specs.declared.spec_fault.SpecFault.{SpecFault}
 use Rattle.key_files.specs.Stop.{krl_cause}
 use Rattle.key_files.specs.Keys.{File, Found, stop_at, stop_in, text_keys}
-use Rattle.krl_spec.specs.SpecFile.{lines_of}
+use Rattle.krl_spec.specs.Lines.{lines_of}
 use Rattle.key_files.specs.Stop.{Stop, Ender, ByInput, ByMemory, ByOutput, ender_of, stop_of}
 
 -- ---- faults, as stops of the run

@@ -2,7 +2,7 @@
 
 ghost use Rattle.std.specs.Prelude.{◌≡◌, ◌<◌, Some, IfOk, length};
 ghost use Rattle.krl_make.specs.Making.{IsAuthorityAtHand, IsSigner, Returns, file_key, named_blob, plain_found, signer_authority};
-ghost use Rattle.krl_spec.specs.Entry.{IsUnder, authority_under};
+ghost use Rattle.krl_spec.specs.Under.{IsUnder, authority_under};
 
 use key_files::{Cause, FileFault, FileKey, Named, RunFault, keys_of};
 use krl_spec::Under;

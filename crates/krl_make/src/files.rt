@@ -2,7 +2,7 @@
 
 ghost use Rattle.std.specs.Prelude.{◌≡◌, Ok};
 ghost use Rattle.krl_make.specs.Making.{AddsFiles, IsFileAtHand, cause_stop, file_entries, files_entries, text_entries};
-ghost use Rattle.krl_spec.specs.Entry.{IsUnder, authority_under};
+ghost use Rattle.krl_spec.specs.Under.{IsUnder, authority_under};
 
 use key_files::{Cause, Named, RunFault};
 use krl_core::Revocations;

@@ -10,8 +10,8 @@ use Rattle.ssh_key.specs.declared.line_fault.LineFault.{LineFault}
 use Rattle.ssh_subject.specs.Subject.{Subject}
 use Rattle.ssh_cert.specs.SubjectReading.{IsSubject, IsSubjectFault, subject_of}
 use Rattle.ssh_cert.specs.declared.subject_fault.SubjectFault.{SubjectFault}
-use Rattle.krl_spec.specs.Entry.{line_cause, subject_cause, subject_in}
-use Rattle.krl_spec.specs.Naming.{HasSubjectFault, IsKeyCause, IsSubjectLine}
+use Rattle.krl_spec.specs.Keys.{line_cause, subject_cause, subject_in}
+use Rattle.krl_spec.specs.Keys.{HasSubjectFault, IsKeyCause, IsSubjectLine}
 use Rattle.spec_fault.specs.declared.spec_cause.KeyCause.TheVariants as keys
 use Rattle.spec_fault.specs.declared.spec_cause.SpecCause.{SpecCause}
 

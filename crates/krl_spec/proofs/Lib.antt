@@ -1,4 +1,4 @@
-pub mod Adds
+pub mod KeyRoom
 pub mod Digits
 pub mod Growth
 pub mod ReadLines

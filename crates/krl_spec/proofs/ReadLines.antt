@@ -6,18 +6,18 @@ use Rattle.krl_core.specs.Contents.{Contents, held}
 use Rattle.krl_core.specs.Entry.{Entry}
 use Rattle.krl_core.specs.Changes.{MeansMore}
 use Rattle.krl_spec.specs.Adding.{AddsLine, Reports}
-use Rattle.krl_spec.specs.Entry.{line_entry}
-use Rattle.krl_spec.specs.SpecFile.{Named, ReadsSpec, StarvesAt, StopsAt, before_later, lines_from, lines_of}
+use Rattle.krl_spec.specs.Entries.{line_entry}
+use Rattle.krl_spec.specs.Lines.{LineEntries, ReadsSpec, LacksMemoryAt, StopsAt, before_later, lines_from, lines_of}
 use Rattle.ssh_key.specs.Lines.{is_newline}
 use Rattle.spec_fault.specs.declared.spec_cause.SpecCause.{SpecCause}
 use Rattle.spec_fault.specs.declared.spec_cause.SpecCause.TheVariants as causes
 
 -- entries before what later lines name
-abbrev pub with_entries : List Entry → Named → Named
+abbrev pub with_entries : List Entry → LineEntries → LineEntries
 with_entries entries later =
     record { entries = entries ++ later.entries; fault = later.fault }
 
-later_line : (number : ℕ) (read : Option (Result Entry SpecCause)) (front all back : Named)
+later_line : (number : ℕ) (read : Option (Result Entry SpecCause)) (front all back : LineEntries)
     → (before_later number read front).fault ≡ None
     → (front.fault ≡ None → all ≡ with_entries front.entries back)
     → before_later number read all ≡ with_entries (before_later number read front).entries back
@@ -76,7 +76,7 @@ next_line authority lines passed line rest old mid new at now =
       before = at.before ++ line ∷ [];
       parts = at.parts ∙ sym (append_assoc at.before (line ∷ []) rest);
       counted = omega (arith, at.counted, length-append at.before (line ∷ []));
-      faultless = ap (λ (n : Named). n.fault) is;
+      faultless = ap (λ (n : LineEntries). n.fault) is;
       adds = λ entries means. rw (is, ← append_assoc entries e now.named) (now.adds (entries ++ e) (at.adds entries means));
       few = rw is (omega (arith, at.few, now.few, length-append e now.named));
     }
@@ -122,15 +122,15 @@ unfolding lines_of
 reported authority text passed line rest old new cause at is =
     let e = (lines_from authority 1 at.before).entries in
     let number : 1 + length at.before ≡ passed + 1 = omega (arith, at.counted) in
-    let stop : Named = record { entries = []; fault = Some (record { line = passed + 1; cause = cause }) } in
+    let stop : LineEntries = record { entries = []; fault = Some (record { line = passed + 1; cause = cause }) } in
     let here : lines_from authority (1 + length at.before) (line ∷ rest) ≡ stop = rw (is, number) refl in
     let whole : lines_from authority 1 (slice_split is_newline text) ≡ with_entries e stop =
     ap (lines_from authority 1) at.parts ∙ named_parts authority 1 at.before (line ∷ rest) at.faultless ∙ ap (with_entries e) here in
-    (ap (λ (n : Named). n.fault) whole, λ entries means. rw (whole, append-nil e) (at.adds entries means))
+    (ap (λ (n : LineEntries). n.fault) whole, λ entries means. rw (whole, append-nil e) (at.adds entries means))
 
-starved : (authority : Option (List ℕ)) (lines : List (List ℕ)) (passed : ℕ) (line : List ℕ) (rest : List (List ℕ)) (old new : Contents)
-    → IsAt authority lines passed (line ∷ rest) old new → StarvesAt authority lines (passed + 1) old new
-starved authority lines passed line rest old new at = record {
+lacking : (authority : Option (List ℕ)) (lines : List (List ℕ)) (passed : ℕ) (line : List ℕ) (rest : List (List ℕ)) (old new : Contents)
+    → IsAt authority lines passed (line ∷ rest) old new → LacksMemoryAt authority lines (passed + 1) old new
+lacking authority lines passed line rest old new at = record {
   before = at.before;
   line = line;
   after = rest;
@@ -143,7 +143,7 @@ starved authority lines passed line rest old new at = record {
 stops : (authority : Option (List ℕ)) (text : List ℕ) (passed : ℕ) (line : List ℕ) (rest : List (List ℕ)) (old new : Contents)
     (read : Result Entry SpecCause) (cause : SpecCause) → IsAt authority (slice_split is_newline text) passed (line ∷ rest) old new
     → line_entry authority line ≡ Some read → Reports cause read → StopsAt authority text (passed + 1) cause old new
-stops authority text passed line rest old new read causes.NoMemory at is reports = starved authority _ passed line rest old new at
+stops authority text passed line rest old new read causes.NoMemory at is reports = lacking authority _ passed line rest old new at
 stops authority text passed line rest old new read cause at is reports = reported authority text passed line rest old new cause at (is ∙ ap Some reports)
 
 -- A line stops the reading, or memory runs out there.

@@ -24,13 +24,13 @@ MayHide (causes.Fingerprint fault) = ⊤
 MayHide causes.NoMemory = ⊤
 
 -- Memory may run out before this is found out.
-abbrev pub MayStarve : {A : Type 0} → Result A SpecCause → Type 0
-MayStarve (Ok found) = ⊤
-MayStarve (Err cause) = MayHide cause
+abbrev pub MayLackMemory : {A : Type 0} → Result A SpecCause → Type 0
+MayLackMemory (Ok found) = ⊤
+MayLackMemory (Err cause) = MayHide cause
 
 -- The cause is the one that was read, or memory ran out.
 abbrev pub Reports : {A : Type 0} → SpecCause → Result A SpecCause → Type 0
-Reports causes.NoMemory read = MayStarve read
+Reports causes.NoMemory read = MayLackMemory read
 Reports cause read = read ≡ Err cause
 
 -- What was read is added, which makes at most one interval. Else the cause is reported, and nothing

@@ -1,7 +1,7 @@
--- Texts without what does not count at their ends.
-use Rattle.std.specs.Prelude.{ℕ, ◌-◌, List, length, take, drop}
-use Rattle.std.specs.List.{prefix_len, suffix_len}
-use Rattle.ssh_key.specs.Blanks.{is_blank, is_ending}
+-- What counts of a line.
+use Rattle.std.specs.Prelude.{ℕ, ◌-◌, ◌==◌, Bool, List, length, take, drop}
+use Rattle.std.specs.List.{before_first, prefix_len, suffix_len}
+use Rattle.ssh_key.specs.Blanks.{before_ending, is_blank, is_ending}
 
 -- without the blanks and carriage returns at its start
 unfoldable pub after_endings : List ℕ → List ℕ
@@ -10,3 +10,11 @@ after_endings text = drop (prefix_len is_ending text) text
 -- without the blanks at its end
 unfoldable pub before_blanks : List ℕ → List ℕ
 before_blanks text = take (length text - suffix_len is_blank text) text
+
+abbrev pub is_hash : ℕ → Bool
+is_hash byte = byte == 35
+
+-- What counts of a line: neither a `#` nor what is after it, nor the blanks and carriage
+-- returns at both ends.
+unfoldable pub bare_line : List ℕ → List ℕ
+bare_line line = before_ending (after_endings (before_first is_hash line))

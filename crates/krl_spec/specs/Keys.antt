@@ -1,49 +1,60 @@
--- How many bytes keys have at least, which the crates above cite too.
-use Rattle.std.proofs.Common.{ℕ, ◌+◌, ◌*◌, ◌≤◌, List, [], ◌∷◌, length, ap, arith}
-use Rattle.std.proofs.lemmas.List.{length-append}
-use Rattle.ssh_wire.specs.Fields.{length-string}
-use Rattle.ssh_wire.specs.Wire.{complement, mpint, string}
-use Rattle.ssh_key.specs.Key.{AreValues, IsKey, Key, field_text, fields_text}
-use Rattle.ssh_key.specs.Kind.{Field, Positive, Curve, Point, Sized, Application, fields_of, type_name}
-use Rattle.ssh_key.specs.declared.kind.Kind.{Kind}
-use Rattle.ssh_key.specs.declared.kind.Kind.TheVariants.{Rsa, Dsa, Ecdsa256, Ecdsa384}
-use Rattle.ssh_key.specs.declared.kind.Kind.TheVariants.{Ecdsa521, Ed25519, EcdsaSk, Ed25519Sk}
+-- What the keys of lines ask.
+use Rattle.std.specs.Prelude.{◌≡◌, ℕ, List, Result, Ok}
+use Rattle.ssh_wire.specs.Reading.{◌>>=◌, in_fault}
+use Rattle.ssh_key.specs.KeyLine.{IsKeyLine}
+use Rattle.ssh_key.specs.LineFaults.{IsFirstLineFault}
+use Rattle.ssh_key.specs.LineReading.{line_at}
+use Rattle.ssh_key.specs.declared.line_fault.LineFault.{LineFault}
+use Rattle.ssh_subject.specs.Subject.{Subject}
+use Rattle.ssh_cert.specs.SubjectReading.{IsSubject, IsSubjectFault, subject_of}
+use Rattle.ssh_cert.specs.declared.subject_fault.SubjectFault.{SubjectFault}
+use Rattle.spec_fault.specs.declared.spec_cause.KeyCause.{KeyCause}
+use Rattle.spec_fault.specs.declared.spec_cause.KeyCause.TheVariants as keys
+use Rattle.spec_fault.specs.declared.spec_cause.SpecCause.{SpecCause}
+use Rattle.spec_fault.specs.declared.spec_cause.SpecCause.TheVariants as causes
 
-field_room : (field : Field) (value : List ℕ) → 4 ≤ length (field_text field value)
-unfolding mpint
-field_room Positive value = omega (arith, length-string (complement value))
-field_room (Curve name) value = omega (arith, length-string value)
-field_room (Point size) value = omega (arith, length-string value)
-field_room (Sized size) value = omega (arith, length-string value)
-field_room Application value = omega (arith, length-string value)
+-- the faults of a key line and of what its blob asks, as causes
+abbrev pub line_cause : LineFault → SpecCause
+line_cause fault = causes.Key (keys.Line fault)
 
-fields_room : (fields : List Field) (values : List (List ℕ)) → AreValues fields values
-    → 4 * length fields ≤ length (fields_text fields values)
-fields_room [] values are = omega arith
-fields_room (field ∷ fields) [] are = absurd are
-fields_room (field ∷ fields) (value ∷ values) are =
-    let later = length-append (field_text field value) (fields_text fields values) in
-    omega (arith, field_room field value, fields_room fields values are.2, later)
+abbrev pub subject_cause : SubjectFault → SpecCause
+subject_cause fault = causes.Key (keys.Subject fault)
 
-kind_room : (kind : Kind) → 15 ≤ length (type_name kind) + 4 * length (fields_of kind)
-kind_room Rsa = omega arith
-kind_room Dsa = omega arith
-kind_room Ecdsa256 = omega arith
-kind_room Ecdsa384 = omega arith
-kind_room Ecdsa521 = omega arith
-kind_room Ed25519 = omega arith
-kind_room EcdsaSk = omega arith
-kind_room Ed25519Sk = omega arith
+-- what the key of a key line asks
+unfoldable pub subject_in : List ℕ → Result Subject SpecCause
+subject_in text = do
+  content ← in_fault line_cause (line_at text)
+  in_fault subject_cause (subject_of content.blob)
 
--- the blob of a key
-pub key_room : (blob : List ℕ) (key : Key) → IsKey blob key → 19 ≤ length blob
-key_room blob key is =
-    omega (
-      arith,
-      kind_room key.kind,
-      fields_room (fields_of key.kind) is.values is.allowed,
-      ap length is.fields,
-      ap length is.spelled,
-      length-append (string (type_name key.kind)) key.fields,
-      length-string (type_name key.kind),
-    )
+-- the blob of its plain key
+unfoldable pub plain_in : List ℕ → Result (List ℕ) SpecCause
+plain_in text = do
+  asked ← subject_in text
+  Ok asked.plain
+
+-- ---- what key lines spell
+
+-- a key line with the blob of a plain key or of a certificate, of which this is asked
+pub record IsSubjectLine (text : List ℕ) (asked : Subject) : Type 0 where
+  pub word : List ℕ
+  pub blob : List ℕ
+  pub comment : List ℕ
+  pub line : IsKeyLine text word blob comment
+  pub asks : IsSubject blob asked
+
+-- a key line whose blob has this first fault
+pub record HasSubjectFault (text : List ℕ) (fault : SubjectFault) : Type 0 where
+  pub word : List ℕ
+  pub blob : List ℕ
+  pub comment : List ℕ
+  pub line : IsKeyLine text word blob comment
+  pub is : IsSubjectFault blob fault
+
+-- why a text gives no key: its first fault as a key line, or that of the blob of one
+abbrev pub IsKeyFault : List ℕ → KeyCause → Type 0
+IsKeyFault text (keys.Line fault) = IsFirstLineFault text fault
+IsKeyFault text (keys.Subject fault) = HasSubjectFault text fault
+
+-- the same, as a cause
+abbrev pub IsKeyCause : List ℕ → SpecCause → Type 0
+IsKeyCause text cause = (why : KeyCause) × IsKeyFault text why × (cause ≡ causes.Key why)

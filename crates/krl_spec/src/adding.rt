@@ -4,9 +4,10 @@ ghost use Rattle.std.specs.Prelude.{◌≡◌, ◌+◌, ◌≤◌, ℕ, List, []
 ghost use Rattle.krl_core.specs.Changes.{MeansMore};
 ghost use Rattle.krl_core.specs.Contents.{held};
 ghost use Rattle.krl_spec.specs.Adding.{Adds, AddsLine};
-ghost use Rattle.krl_spec.specs.Entry.{IsUnder, authority_under, bare_entry, line_entry, text_entry};
-ghost use Rattle.krl_spec.specs.Line.{order_in};
-ghost use Rattle.krl_spec.specs.LineEntry.{IsSound, entry_of};
+ghost use Rattle.krl_spec.specs.Under.{IsUnder, authority_under};
+ghost use Rattle.krl_spec.specs.Entries.{bare_entry, line_entry, text_entry};
+ghost use Rattle.krl_spec.specs.Directive.{order_in};
+ghost use Rattle.krl_spec.specs.Entries.{IsSound, entry_of};
 ghost use Rattle.krl_spec.specs.Stored.{Fits, GrowsBy, GrowsUnder};
 
 use crate::blanks::bare_line;
@@ -41,7 +42,7 @@ fn add<S: Spans>(revocations: &mut Revocations<S>, entry: LineEntry) -> Result<(
 }
 
 // Adds what a line without a directive names.
-#[tactic(auto, unfolding(crate::specs::Entry::subject_in))]
+#[tactic(auto, unfolding(crate::specs::Keys::subject_in))]
 fn add_bare<S: Spans>(
     alloc: Global,
     revocations: &mut Revocations<S>,
@@ -79,7 +80,7 @@ fn add_text<S: Spans>(
 }
 
 /// Adds what a line names, if anything counts of it.
-#[tactic(auto, unfolding(crate::specs::Entry::line_entry))]
+#[tactic(auto, unfolding(crate::specs::Entries::line_entry))]
 pub fn add_line<S: Spans>(
     alloc: Global,
     revocations: &mut Revocations<S>,

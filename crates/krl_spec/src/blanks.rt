@@ -4,13 +4,13 @@ ghost use Rattle.std.specs.Prelude.{◌≡◌, ◌==◌, ◌≤◌, length};
 ghost use Rattle.std.specs.List.{position_or_len};
 ghost use Rattle.ssh_key.specs.Blanks.{is_blank};
 ghost use Rattle.krl_spec.specs.Blanks.{after_endings, before_blanks};
-ghost use Rattle.krl_spec.specs.Line.{bare_line};
+ghost use Rattle.krl_spec.specs.Blanks.{bare_line};
 
 use ssh_key::{before_ending, is_blank, is_ending};
 
 /// What counts of a line: neither a `#` nor what is after it, nor the blanks and carriage
 /// returns at both ends.
-#[tactic(auto, unfolding(crate::specs::Line::bare_line))]
+#[tactic(auto, unfolding(crate::specs::Blanks::bare_line))]
 pub fn bare_line(line: &[u8]) -> &[u8]
     ensures { result.now ≡ bare_line line.now }
 {

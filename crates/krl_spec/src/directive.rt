@@ -1,7 +1,7 @@
 //! The directives of specification files (ssh-keygen(1), KEY REVOCATION LISTS).
 
 ghost use Rattle.std.specs.Prelude.{◌≡◌, MatchOption, None, Some};
-ghost use Rattle.krl_spec.specs.Line.{directive_named, is_named, name_of, order, order_in};
+ghost use Rattle.krl_spec.specs.Directive.{directive_named, is_named, name_of, order, order_in};
 
 use crate::blanks::position_of;
 use ssh_key::after_blanks;
@@ -48,7 +48,7 @@ impl Directive {
     }
 
     /// The directive of a name, in either case of letters.
-    #[tactic(auto, unfolding(crate::specs::Line::directive_named))]
+    #[tactic(auto, unfolding(crate::specs::Directive::directive_named))]
     pub fn named(name: &[u8]) -> Option<Directive>
         ensures { result ≡ directive_named name.now }
     {
@@ -68,7 +68,7 @@ impl Directive {
 
 /// The directive whose name stands before the line's first colon, and what it is given: what is
 /// after the colon and blanks.
-#[tactic(auto, unfolding(crate::specs::Line::order_in))]
+#[tactic(auto, unfolding(crate::specs::Directive::order_in))]
 pub fn order_in(line: &[u8]) -> Option<(Directive, &[u8])>
     ensures { MatchOption result (order_in line.now ≡ None)
         (λ found. order_in line.now ≡ Some (order found.1.now found.0)) }

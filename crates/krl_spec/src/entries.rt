@@ -4,9 +4,11 @@ ghost use Rattle.std.specs.Prelude.{◌≡◌, IfOk, MatchResult, None, Some, le
 ghost use Rattle.ssh_wire.specs.Reading.{Answers};
 ghost use Rattle.krl_core.specs.Authority.{IsAuthority, authority_bytes};
 ghost use Rattle.krl_spec.specs.Adding.{Reports};
-ghost use Rattle.krl_spec.specs.Entry.{HasAuthority, IsUnder, authority_under, id_order, names_entry, order_entry, serial_order};
-ghost use Rattle.krl_spec.specs.LineEntry.{IsSound, entry_of};
-ghost use Rattle.krl_spec.specs.Stored.{Fits, bytes_under};
+ghost use Rattle.krl_spec.specs.Entries.{HasAuthority, id_order, names_entry, order_entry, serial_order};
+ghost use Rattle.krl_spec.specs.Under.{IsUnder, authority_under};
+ghost use Rattle.krl_spec.specs.Entries.{IsSound, entry_of};
+ghost use Rattle.krl_spec.specs.Stored.{Fits};
+ghost use Rattle.krl_spec.specs.Under.{bytes_under};
 ghost use Rattle.spec_fault.specs.declared.spec_cause.SpecCause.TheVariants.{NoAuthority};
 
 use crate::directive::Directive;

@@ -7,7 +7,8 @@ ghost use Rattle.ssh_key.specs.LineReading.{content_of, line_at};
 ghost use Rattle.ssh_subject.specs.Subject.{Subject};
 ghost use Rattle.ssh_cert.specs.SubjectReading.{subject_of};
 ghost use Rattle.krl_spec.specs.Adding.{Reports};
-ghost use Rattle.krl_spec.specs.Entry.{HasAuthority, line_cause, plain_in, subject_cause};
+ghost use Rattle.krl_spec.specs.Entries.{HasAuthority};
+ghost use Rattle.krl_spec.specs.Keys.{line_cause, plain_in, subject_cause};
 ghost use Rattle.krl_spec.specs.Stored.{IsWithinBlob};
 ghost use Rattle.spec_fault.specs.declared.spec_cause.SpecCause.TheVariants.{Fingerprint};
 
@@ -44,7 +45,7 @@ pub fn ask<'a>(alloc: Global, blob: &'a [u8]) -> Result<Subject<'a>, SpecCause>
 }
 
 /// The blob of the plain key of a key line.
-#[tactic(auto, unfolding(crate::specs::Entry::subject_in, crate::specs::Entry::plain_in))]
+#[tactic(auto, unfolding(crate::specs::Keys::subject_in, crate::specs::Keys::plain_in))]
 pub fn plain_key(alloc: Global, text: &[u8]) -> Result<Bytes, SpecCause>
     ensures read { Answers Reports (λ plain. plain) result (plain_in text.now) }
     ensures room { IfOk result (λ plain. length plain ≤ length text.now) }

@@ -4,9 +4,10 @@
 ghost use Rattle.std.specs.Prelude.{◌≡◌, ◌↔◌, ℕ, List, Err, Ok, Some};
 ghost use Rattle.ssh_wire.specs.Wire.{IsBytes};
 ghost use Rattle.ssh_subject.specs.Subject.{Subject};
-ghost use Rattle.krl_spec.specs.Entry.{subject_in};
-ghost use Rattle.krl_spec.specs.Line.{bare_line, order, order_in};
-ghost use Rattle.krl_spec.specs.Naming.{IsKeyCause, IsSubjectLine};
+ghost use Rattle.krl_spec.specs.Keys.{subject_in};
+ghost use Rattle.krl_spec.specs.Blanks.{bare_line};
+ghost use Rattle.krl_spec.specs.Directive.{order, order_in};
+ghost use Rattle.krl_spec.specs.Keys.{IsKeyCause, IsSubjectLine};
 ghost use Rattle.krl_spec.specs.Number.{bounds_of_text, number_of_text};
 ghost use Rattle.krl_spec.specs.Spelled.{AreBounds, Counts, IsNumber, IsOrder};
 ghost use Rattle.krl_spec.specs.declared.directive.Directive.{Directive};

@@ -2,9 +2,9 @@
 
 ghost use Rattle.std.specs.Prelude.{◌+◌, ◌≤◌, length};
 ghost use Rattle.krl_core.specs.Contents.{held, stored};
-ghost use Rattle.krl_spec.specs.Entry.{IsUnder, authority_under};
-ghost use Rattle.krl_spec.specs.SpecFile.{ReadsSpec, lines_of};
-ghost use Rattle.krl_spec.specs.Stored.{bytes_under};
+ghost use Rattle.krl_spec.specs.Under.{IsUnder, authority_under};
+ghost use Rattle.krl_spec.specs.Lines.{ReadsSpec, lines_of};
+ghost use Rattle.krl_spec.specs.Under.{bytes_under};
 
 use crate::adding::add_line;
 use crate::under::Under;

@@ -1,7 +1,7 @@
 -- What the files so far name is added.
 use Rattle.std.proofs.Common.{Ok, take}
 use Rattle.krl_make.specs.Making.{AddsFiles, IsFileAtHand, files_entries}
-use Rattle.krl_spec.specs.Entry.{authority_under}
+use Rattle.krl_spec.specs.Under.{authority_under}
 use Rattle.krl_make.proofs.files.add_files.Given as goal
 
 abbrev pub invariant-loop-file : goal.invariant-loop-file

@@ -1,7 +1,7 @@
 -- What the key of the line asks has no more bytes than the line.
 use Rattle.std.proofs.Common.{length, refl}
-use Rattle.krl_spec.specs.Entry.{subject_in}
-use Rattle.krl_spec.proofs.Adds.{one_added}
+use Rattle.krl_spec.specs.Entries.{entry_of}
+use Rattle.krl_spec.specs.Keys.{subject_in}
 use Rattle.krl_spec.proofs.Growth.{subject_fits}
 use Rattle.krl_spec.proofs.adding.add_bare.Goals as goal
 
@@ -9,7 +9,7 @@ pub returns-clause-adds : goal.returns-clause-adds
 unfolding subject_in
 returns-clause-adds g c =
     let asked = rw c.as_slice.ensures at c.in_ok-asked.ensures.asked in
-    one_added _ _ _ _ (rw (c.in_ok-line.ensures.read, asked, c.subject_entry.ensures.named) refl) c.in_ok-add.ensures.means c.in_ok-add.ensures.held
+    (entry_of c.subject_entry.result, rw (c.in_ok-line.ensures.read, asked, c.subject_entry.ensures.named) refl, c.in_ok-add.ensures.means, c.in_ok-add.ensures.held)
 
 pub returns-clause-grows : goal.returns-clause-grows
 returns-clause-grows g c = λ under.

@@ -1,5 +1,5 @@
 -- What a directive is given has no more bytes than the text.
-use Rattle.krl_spec.proofs.Adds.{one_added}
+use Rattle.krl_spec.specs.Entries.{entry_of}
 use Rattle.krl_spec.proofs.Growth.{grows_more}
 use Rattle.krl_spec.proofs.Sizes.{order_room}
 use Rattle.krl_spec.proofs.adding.add_text.Goals as goal
@@ -8,7 +8,7 @@ pub returns-in_default-clause-grows : goal.returns-in_default-clause-grows
 returns-in_default-clause-grows g c = c.add_bare.ensures.grows _
 
 pub returns-clause-adds : goal.returns-clause-adds
-returns-clause-adds g c = one_added _ _ _ _ (rw c.in-Some.ensures c.in_ok-entry.ensures.read) c.in_ok-add.ensures.means c.in_ok-add.ensures.held
+returns-clause-adds g c = (entry_of c.in_ok-entry.entry, rw c.in-Some.ensures c.in_ok-entry.ensures.read, c.in_ok-add.ensures.means, c.in_ok-add.ensures.held)
 
 pub returns-clause-grows : goal.returns-clause-grows
 returns-clause-grows g c = grows_more _ _ _ _ _ (order_room _ _ c.in-Some.ensures) (c.in_ok-add.ensures.grows _ _ c.in_ok-entry.ensures.fits)

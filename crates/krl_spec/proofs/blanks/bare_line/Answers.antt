@@ -1,6 +1,6 @@
 -- What is before the comment counts, without the blanks round it.
 use Rattle.std.proofs.Common.{rules}
-use Rattle.krl_spec.specs.Line.{bare_line}
+use Rattle.krl_spec.specs.Blanks.{bare_line}
 use Rattle.krl_spec.proofs.blanks.bare_line.Goals as goal
 
 pub returns : goal.returns

@@ -1,6 +1,5 @@
 -- What is asked is that of a key or of a certificate.
-use Rattle.krl_spec.proofs.Adds.{has_authority}
-use Rattle.krl_spec.proofs.Sizes.{asked_room}
+use Rattle.krl_spec.proofs.Sizes.{asked_room, has_authority}
 use Rattle.krl_spec.proofs.keys.ask.Goals as goal
 
 pub returns-in-Ok-clause-authority : goal.returns-in-Ok-clause-authority

@@ -1,4 +1,4 @@
-use Rattle.krl_spec.specs.Line.{order}
+use Rattle.krl_spec.specs.Directive.{order}
 use Rattle.krl_spec.proofs.OrderLaws.{order_again, order_found}
 use Rattle.krl_spec.proofs.laws.order_where_spelled.Goals as goal
 

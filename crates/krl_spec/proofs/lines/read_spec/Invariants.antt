@@ -2,8 +2,9 @@
 use Rattle.std.proofs.Common.{◌+◌, ◌-◌, ◌≤◌, length}
 use Rattle.std.specs.List.{slice_split}
 use Rattle.ssh_key.specs.Lines.{is_newline}
-use Rattle.krl_spec.specs.Entry.{authority_under}
-use Rattle.krl_spec.specs.Stored.{GrowsUnder, bytes_under}
+use Rattle.krl_spec.specs.Under.{authority_under}
+use Rattle.krl_spec.specs.Stored.{GrowsUnder}
+use Rattle.krl_spec.specs.Under.{bytes_under}
 use Rattle.krl_spec.proofs.ReadLines.{IsAt}
 use Rattle.krl_spec.proofs.lines.read_spec.Given as goal
 

@@ -1,24 +1,15 @@
--- The lines of specification files (ssh-keygen(1), KEY REVOCATION LISTS).
+-- The directives of specification files (ssh-keygen(1), KEY REVOCATION LISTS).
 use Rattle.std.specs.Prelude.{ℕ, Bool, ◌+◌, ◌==◌, nat_lt, if◌then◌else◌, List, [], ◌∷◌, length}
 use Rattle.std.specs.Prelude.{drop, codes, Option, None, option_map}
 use Rattle.std.specs.List.{before_first, find, position_or_len}
 use Rattle.std.specs.Str.{str_eq_ignore_ascii_case}
-use Rattle.ssh_key.specs.Blanks.{after_blanks, before_ending}
-use Rattle.krl_spec.specs.Blanks.{after_endings}
+use Rattle.ssh_key.specs.Blanks.{after_blanks}
 use Rattle.krl_spec.specs.declared.directive.Directive.{Directive}
 use Rattle.krl_spec.specs.declared.directive.Directive.TheVariants.{Serial, Id, Key, Sha1, Sha256}
 use Rattle.krl_spec.specs.declared.directive.Directive.TheVariants.{Hash}
 
-abbrev pub is_hash : ℕ → Bool
-is_hash byte = byte == 35
-
 abbrev pub is_colon : ℕ → Bool
 is_colon byte = byte == 58
-
--- What counts of a line: neither a `#` nor what is after it, nor the blanks and carriage
--- returns at both ends.
-unfoldable pub bare_line : List ℕ → List ℕ
-bare_line line = before_ending (after_endings (before_first is_hash line))
 
 -- the name of a directive, in lower case
 abbrev pub name_of : Directive → List ℕ

@@ -1,4 +1,4 @@
--- The lines of bytes are bytes, which the crates above cite too.
+-- The lines of bytes are bytes.
 use Rattle.std.proofs.Common.{ℕ, ◌<◌, List, [], ◌∷◌, inl, inr}
 use Rattle.std.specs.List.{All, onto_first, slice_split}
 use Rattle.std.proofs.lemmas.Bool.{cases_Bool}

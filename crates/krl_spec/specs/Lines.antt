@@ -5,19 +5,19 @@ use Rattle.std.specs.List.{slice_split}
 use Rattle.krl_core.specs.Contents.{Contents}
 use Rattle.krl_core.specs.Entry.{Entry}
 use Rattle.krl_core.specs.Changes.{MeansMore}
-use Rattle.krl_spec.specs.Entry.{line_entry}
+use Rattle.krl_spec.specs.Entries.{line_entry}
 use Rattle.ssh_key.specs.Lines.{is_newline}
 use Rattle.spec_fault.specs.declared.spec_cause.SpecCause.{SpecCause}
 use Rattle.spec_fault.specs.declared.spec_cause.SpecCause.TheVariants.{NoMemory}
 use Rattle.spec_fault.specs.declared.spec_fault.SpecFault.{SpecFault}
 
 -- the entries of lines up to the first fault, and that fault
-pub record Named : Type 0 where
+pub record LineEntries : Type 0 where
   pub entries : List Entry
   pub fault : Option SpecFault
 
 -- a line by its number, before what later lines name
-abbrev pub before_later : ℕ → Option (Result Entry SpecCause) → Named → Named
+abbrev pub before_later : ℕ → Option (Result Entry SpecCause) → LineEntries → LineEntries
 before_later number None later = later
 before_later number (Some (Ok entry)) later =
     record { entries = entry ∷ later.entries; fault = later.fault }
@@ -25,17 +25,17 @@ before_later number (Some (Err cause)) later =
     record { entries = []; fault = Some (record { line = number; cause = cause }) }
 
 -- what lines name, of which the first has this number
-abbrev pub lines_from : Option (List ℕ) → ℕ → List (List ℕ) → Named
+abbrev pub lines_from : Option (List ℕ) → ℕ → List (List ℕ) → LineEntries
 lines_from authority number [] = record { entries = []; fault = None }
 lines_from authority number (line ∷ lines) =
     before_later number (line_entry authority line) (lines_from authority (number + 1) lines)
 
 -- what the lines of a file name
-unfoldable pub lines_of : Option (List ℕ) → List ℕ → Named
+unfoldable pub lines_of : Option (List ℕ) → List ℕ → LineEntries
 lines_of authority text = lines_from authority 1 (slice_split is_newline text)
 
 -- Memory ran out at a line: those before it have no fault, and what they name was added.
-pub record StarvesAt (authority : Option (List ℕ)) (lines : List (List ℕ)) (number : ℕ)
+pub record LacksMemoryAt (authority : Option (List ℕ)) (lines : List (List ℕ)) (number : ℕ)
     (old new : Contents) : Type 0 where
   pub before : List (List ℕ)
   pub line : List ℕ
@@ -48,7 +48,7 @@ pub record StarvesAt (authority : Option (List ℕ)) (lines : List (List ℕ)) (
 -- What the lines name up to the first fault was added, and the fault is reported.
 abbrev pub StopsAt : Option (List ℕ) → List ℕ → ℕ → SpecCause → Contents → Contents → Type 0
 StopsAt authority text number NoMemory old new =
-    StarvesAt authority (slice_split is_newline text) number old new
+    LacksMemoryAt authority (slice_split is_newline text) number old new
 StopsAt authority text number cause old new =
     ((lines_of authority text).fault ≡ Some (record { line = number; cause = cause }))
     × MeansMore old new (lines_of authority text).entries

@@ -1,38 +1,24 @@
 -- What the lines of specification files name (ssh-keygen(1), KEY REVOCATION LISTS).
-use Rattle.std.specs.Prelude.{ℕ, ◌<◌, ◌==◌, if◌then◌else◌, List, [], ◌∷◌, length, Option, Some}
+use Rattle.std.specs.Prelude.{ℕ, ◌<◌, ◌≤◌, ◌==◌, if◌then◌else◌, List, [], ◌∷◌, length, Option, Some}
 use Rattle.std.specs.Prelude.{None, Result, Ok, Err, ⊤}
 use Rattle.sha1.specs.Sha1.{sha1}
 use Rattle.sha2.specs.Sha256.{sha256}
 use Rattle.ssh_wire.specs.Reading.{◌>>=◌, in_fault}
 use Rattle.ssh_key.specs.FingerprintReading.{fingerprint_at}
-use Rattle.ssh_key.specs.LineReading.{line_at}
-use Rattle.ssh_key.specs.declared.line_fault.LineFault.{LineFault}
-use Rattle.ssh_subject.specs.Subject.{Names, Subject}
-use Rattle.ssh_cert.specs.SubjectReading.{subject_of}
-use Rattle.ssh_cert.specs.declared.subject_fault.SubjectFault.{SubjectFault}
+use Rattle.ssh_subject.specs.Subject.{Names}
+use Rattle.krl_core.specs.Authority.{IsAuthority, authority_bytes}
 use Rattle.krl_core.specs.Entry.{Entry, RangeEntry, IdEntry, KeyEntry, Sha1Entry, Sha256Entry}
 use Rattle.krl_spec.specs.Number.{serials_of_text}
-use Rattle.krl_spec.specs.Line.{Order, bare_line, order_in}
+use Rattle.krl_spec.specs.Blanks.{bare_line}
+use Rattle.krl_spec.specs.Directive.{Order, order_in}
+use Rattle.krl_spec.specs.Keys.{plain_in, subject_in}
 use Rattle.krl_spec.specs.declared.directive.Directive.{Directive}
 use Rattle.krl_spec.specs.declared.directive.Directive.TheVariants.{Serial, Id, Key, Sha1, Sha256}
 use Rattle.krl_spec.specs.declared.directive.Directive.TheVariants.{Hash}
-use Rattle.spec_fault.specs.declared.spec_cause.KeyCause.TheVariants as keys
 use Rattle.spec_fault.specs.declared.spec_cause.SpecCause.{SpecCause}
 use Rattle.spec_fault.specs.declared.spec_cause.SpecCause.TheVariants as causes
-use Rattle.krl_spec.specs.declared.under.Under.{Under}
-use Rattle.krl_spec.specs.declared.under.Under.TheVariants.{NotGiven, All, Of}
-
--- the authority at hand, which has no bytes for all authorities
-abbrev pub authority_under : Under → Option (List ℕ)
-authority_under NotGiven = None
-authority_under All = Some []
-authority_under (Of bytes) = Some bytes.now
-
--- an authority that is named has some bytes
-abbrev pub IsUnder : Under → Type 0
-IsUnder NotGiven = ⊤
-IsUnder All = ⊤
-IsUnder (Of bytes) = 0 < length bytes.now
+use Rattle.krl_spec.specs.declared.entries.LineEntry.{LineEntry}
+use Rattle.krl_spec.specs.declared.entries.LineEntry.TheVariants as entries
 
 -- ---- serials and key IDs, under the authority at hand
 
@@ -48,25 +34,6 @@ id_order (Some authority) [] = Err causes.EmptyId
 id_order (Some authority) (byte ∷ bytes) = Ok (IdEntry authority (byte ∷ bytes))
 
 -- ---- keys
-
--- the faults of a key line and of what its blob asks, as causes
-abbrev pub line_cause : LineFault → SpecCause
-line_cause fault = causes.Key (keys.Line fault)
-
-abbrev pub subject_cause : SubjectFault → SpecCause
-subject_cause fault = causes.Key (keys.Subject fault)
-
--- what the key of a key line asks
-unfoldable pub subject_in : List ℕ → Result Subject SpecCause
-subject_in text = do
-  content ← in_fault line_cause (line_at text)
-  in_fault subject_cause (subject_of content.blob)
-
--- the blob of its plain key
-unfoldable pub plain_in : List ℕ → Result (List ℕ) SpecCause
-plain_in text = do
-  asked ← subject_in text
-  Ok asked.plain
 
 abbrev pub key_order : List ℕ → Result Entry SpecCause
 key_order text = do
@@ -132,3 +99,23 @@ counted_entry authority (byte ∷ bytes) =
 -- The authority at hand is not given, or stands here by its bytes. All authorities have none.
 unfoldable pub line_entry : Option (List ℕ) → List ℕ → Option (Result Entry SpecCause)
 line_entry authority line = counted_entry authority (bare_line line)
+
+-- ---- what a line was read as
+
+-- the entry that it is
+abbrev pub entry_of : LineEntry → Entry
+entry_of (entries.Serials authority serials) =
+    RangeEntry (authority_bytes authority) serials.lo serials.hi
+entry_of (entries.Id authority id) = IdEntry (authority_bytes authority) id.now
+entry_of (entries.Key blob) = KeyEntry blob
+entry_of (entries.Sha1 hash) = Sha1Entry hash
+entry_of (entries.Sha256 hash) = Sha256Entry hash
+
+-- An authority that is named has some bytes, and serials are a range above 0.
+abbrev pub IsSound : LineEntry → Type 0
+IsSound (entries.Serials authority serials) =
+    IsAuthority authority × (0 < serials.lo) × (serials.lo ≤ serials.hi)
+IsSound (entries.Id authority id) = IsAuthority authority
+IsSound (entries.Key blob) = ⊤
+IsSound (entries.Sha1 hash) = ⊤
+IsSound (entries.Sha256 hash) = ⊤
