@@ -1,10 +1,12 @@
 -- A whole list, read field by field.
-use Rattle.std.proofs.Common.{◌≡◌, ℕ, ◌+◌, ◌-◌, ◌*◌, ◌<◌, true, false, ltb, take, List, [], ◌++◌, length, Option, None, refl, sym, ap, subst, ◌∙◌, append_assoc, arith}
+use Rattle.std.proofs.Common.{◌≡◌, ℕ, ◌+◌, ◌-◌, ◌*◌, ◌<◌, true, false, ltb, take, List, [], ◌++◌, length, Option, Some, None, refl, sym, ap, subst, ◌∙◌, append_assoc, arith}
 use Rattle.std.specs.List.{concat}
 use Rattle.std.specs.Option.{option_to_list}
 use Rattle.std.proofs.lemmas.List.{append-nil, take_all}
 use Rattle.std.proofs.lemmas.Bool.{le-ltb}
 use Rattle.serial_set.specs.declared.span.Span.{Span}
+use Rattle.std.specs.Io.KnownBytes.{IsAtEnd}
+use Rattle.ssh_wire.specs.Pull.{Pulled, left_of}
 use Rattle.ssh_wire.specs.Wire.{IsBytes}
 use Rattle.krl_core.specs.declared.header.Header.{Header}
 use Rattle.krl_core.specs.declared.place.Place.{Place}
@@ -16,7 +18,7 @@ use Rattle.krl_core.specs.Changes.{run_entries}
 use Rattle.krl_core.specs.Keeping.{Keeping, InStep, open_run}
 use Rattle.krl_core.specs.Naming.{NamesSame}
 use Rattle.krl_core.specs.Place.{can_end}
-use Rattle.krl_core.specs.Reading.{Ends, EndsAfter, Position, HasRead, Follows, HoldsWithin, IsReached, IsWholeAs, ReadsMore}
+use Rattle.krl_core.specs.Reading.{Ends, EndsAfter, Position, HasRead, Follows, HoldsWithin, IsBounded, IsReached, IsWholeAs, IsWithinLimit, ReadsMore}
 use Rattle.krl_core.proofs.Exists.{weight, nearer}
 use Rattle.krl_core.proofs.Fronts.{first_fault_is}
 use Rattle.krl_core.proofs.Scoped.{same_within}
@@ -67,9 +69,15 @@ pub none_open : (p : Place) (keeping : Keeping) → can_end p ≡ true → InSte
 none_open (SectionType signed) keeping may step = step
 none_open _ keeping may step = absurd (cc)
 
-pub whole_list : (text : List ℕ) (fields : List (List ℕ)) (p : Position) → IsReached p → HasRead text fields p → text ≡ concat fields
-    → can_end p.place ≡ true → IsWholeAs (HoldsWithin p.keeping.scope) text p.keeping.header p.keeping.contents
-whole_list text fields p sound h all may =
+-- what was read to its end is all of the text
+all_read : (text front rest : List ℕ) (left : Option (List ℕ)) → text ≡ front ++ rest → left ≡ Some rest → IsAtEnd left → text ≡ front
+all_read text front rest left parts is end = parts ∙ ap (λ (x : List ℕ). front ++ x) (subst IsAtEnd is end) ∙ append-nil front
+
+pub whole_list : (text : List ℕ) (fields : List (List ℕ)) (p : Position) → IsReached p → p.ended ≡ true → HasRead text fields p
+    → IsWholeAs (HoldsWithin p.keeping.scope) text p.keeping.header p.keeping.contents
+whole_list text fields p sound off h =
+    let may = (sound.ends off).may_end in
+    let all = all_read text (concat fields) h.rest (left_of p.pull) h.parts h.left_is (sound.ends off).at_end in
     let keeping = p.keeping in
     let kept = h.kept in
     let none = none_open p.place keeping may (sound.in_step h.faultless) in
@@ -92,6 +100,13 @@ whole_list text fields p sound h all may =
         bounds = λ every. let b = sound.bounded.all_is every in (omega (arith, b.0, size), omega (arith, b.1.now, size));
       };
     }
+
+-- what was read is no more than the limit
+pub within_limit : (pull : Pulled) (keeping : Keeping) → IsBounded pull keeping → IsWithinLimit keeping.scope keeping.contents
+within_limit pull keeping h = record {
+  within = h.scope_is;
+  bounds = λ every. let b = h.all_is every in (omega (arith, b.0, h.within), omega (arith, b.1.now, h.within));
+}
 
 -- where what is held is in another way what the fields name
 pub whole_holds : (Holds Other : List ℕ → Contents → List Entry → Type 0) (text : List ℕ) (header : Header) (contents : Contents)

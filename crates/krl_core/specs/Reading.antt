@@ -172,6 +172,12 @@ pub record HoldsWithin (scope : Scope) (text : List ℕ) (r : Contents) (entries
   pub within : WithinScope scope r
   pub bounds : scope ≡ all → (held r ≤ 4 * length text) × (stored r ≤ length text)
 
+-- What is held is within the scope. Where that is all names, it is no more than a list of the most
+-- bytes has room for.
+pub record IsWithinLimit (scope : Scope) (r : Contents) : Type 0 where
+  pub within : WithinScope scope r
+  pub bounds : scope ≡ all → (held r ≤ 4 * limit) × (stored r ≤ limit)
+
 -- All that the entries name is held, and no more than the text has room for.
 pub record HoldsAll (text : List ℕ) (r : Contents) (entries : List Entry) : Type 0 where
   pub means : Means r entries

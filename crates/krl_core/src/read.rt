@@ -1,15 +1,17 @@
 //! Reading a list on, to its end or as far as its front goes.
 
-ghost use Rattle.std.specs.Prelude.{◌≡◌, ◌+◌, ◌<◌, ◌≤◌, ◌⊎◌, length, false, ℕ, List, None, Some};
+ghost use Rattle.std.specs.Prelude.{◌≡◌, ◌+◌, ◌*◌, ◌<◌, ◌≤◌, ◌⊎◌, length, false, true, ℕ, List, None};
+ghost use Rattle.std.specs.Prelude.{Some};
 ghost use Rattle.std.specs.Prelude.{IfErr, IfOk, IsTrue, OnOk};
 ghost use Rattle.ssh_wire.specs.Wire.{IsBytes};
 ghost use Rattle.krl_core.specs.declared.header.Header.{Header as HeaderOf};
 ghost use Rattle.krl_fault.specs.declared.krl_fault.KrlFault.TheVariants.{NoMemory, Read};
+ghost use Rattle.krl_core.specs.Contents.{held, stored};
 ghost use Rattle.krl_core.specs.Front.{IsFirstFault, limit};
 ghost use Rattle.krl_core.specs.Krl.{SpelledSection, Spells};
 ghost use Rattle.krl_core.specs.Place.{expected};
 ghost use Rattle.krl_core.specs.Reading.{EndsAfter, HasRead, HoldsWithin, IsBounded, IsList};
-ghost use Rattle.krl_core.specs.Reading.{IsListAs, ReadsMore, Refused, ReportsFailure, Says};
+ghost use Rattle.krl_core.specs.Reading.{IsListAs, IsWithinLimit, ReadsMore, Refused, ReportsFailure, Says};
 
 use crate::header::Header;
 use crate::reading::{Reading, Walk};
@@ -40,6 +42,8 @@ pub fn read_krl<S: Spans, R: Source + Drop>(
     ensures fault { IfErr result.0 (λ fault. (text : List ℕ) → R.left reader ≡ Some text
         → Says fault text (R.has_failed result.1) (R.left result.1)) }
     ensures failure { ReportsFailure result.0 (R.has_failed result.1) }
+    ensures held { IfOk result.0 (λ list. held list.1 ≤ 4 * limit) }
+    ensures stored { IfOk result.0 (λ list. stored list.1 ≤ limit) }
 {
     Reading::new(alloc, reader).read_on()
 }
@@ -53,6 +57,8 @@ impl<T: Store, R: Source + Drop> Walk<T, R> {
             → HasRead text fields self
             → IsListAs (HoldsWithin (T.scope list.1)) text list.0 (T.contents list.1)) }
         ensures scope { IfOk result.0 (λ list. T.scope list.1 ≡ self.keeping.scope) }
+        ensures within { IfOk result.0
+            (λ list. IsWithinLimit (T.scope list.1) (T.contents list.1)) }
         ensures no_fault { IfOk result.0 (λ _. (text : List ℕ) (fields : List (List ℕ))
             → HasRead text fields self → IsFirstFault text None) }
         ensures fault { IfErr result.0 (λ fault. (text : List ℕ) (fields : List (List ℕ))
@@ -83,6 +89,7 @@ impl<T: Store, R: Source + Drop> Walk<T, R> {
         ensures within { IfOk result (λ more. IsTrue more
             → self.old.pull.taken ≤ most → self.new.pull.taken ≤ most) }
         ensures ends { IfOk result (λ more. more ≡ false → EndsAfter self.old self.new) }
+        ensures ended { IfOk result (λ more. more ≡ false → self.new.ended ≡ true) }
         ensures scope { OnOk result (self.new.keeping.scope ≡ self.old.keeping.scope) }
         ensures fault { IfErr result (λ fault. Refused fault self.old self.new.pull) }
         ensures failure { ReportsFailure result self.new.pull.failed }

@@ -2,19 +2,18 @@
 
 ghost use Rattle.std.specs.Prelude.{◌≡◌, ◌+◌, ◌*◌, ◌<◌, ◌≤◌, ◌⊎◌, ℕ, false, true, None, Some, Ok};
 ghost use Rattle.std.specs.Prelude.{Err, List, [], IfOk, IfErr, IfSome, IsTrue, OnOk, length};
-ghost use Rattle.std.specs.List.{concat};
 ghost use Rattle.ssh_wire.specs.Wire.{IsBytes};
 ghost use Rattle.ssh_wire.specs.Pull.{Refuses, Takes};
 ghost use Rattle.ssh_wire.specs.declared.pull_fault.PullFault.TheVariants as pulls;
 ghost use Rattle.krl_fault.specs.declared.krl_fault.KrlFault.TheVariants.{NoMemory, Read};
-ghost use Rattle.krl_core.specs.Contents.{IsOrderly, nothing};
+ghost use Rattle.krl_core.specs.Contents.{IsOrderly, held, nothing, stored};
 ghost use Rattle.krl_core.specs.Front.{HasRoom, Passes, limit};
 ghost use Rattle.krl_core.specs.Keeping.{GrowsWithin, InStep, KeepsField, StoresWithin, held_with_open};
 ghost use Rattle.krl_core.specs.Place.{can_end, expected};
 ghost use Rattle.krl_core.specs.Questions.{FindsIn, asked_in};
 ghost use Rattle.krl_core.specs.Reading.{Advances, Ends, Follows, HasRead, HoldsWithin, IsBounded, IsReached};
 ghost use Rattle.krl_core.specs.Reading.{ReadsMore};
-ghost use Rattle.krl_core.specs.Reading.{IsList, IsWhole, IsWholeAs, LooksFor, Missed, ReadsOneMore, Refused};
+ghost use Rattle.krl_core.specs.Reading.{IsList, IsWhole, IsWholeAs, IsWithinLimit, LooksFor, Missed, ReadsOneMore, Refused};
 ghost use Rattle.krl_core.specs.Reading.{ReportsFailure, is_fixed, working};
 ghost use Rattle.krl_core.specs.Scope.{WithinScope, all};
 
@@ -98,12 +97,13 @@ impl<S: Spans, R: Source + Drop> Walk<Revocations<S>, R> {
 
     /// What was read, after a step that answered false, and the reader.
     pub fn done(self) -> (Header, Revocations<S>, R)
+        requires { self.ended ≡ true }
         ensures whole { (text : List ℕ) → (fields : List (List ℕ)) → HasRead text fields self
-            → text ≡ concat fields → can_end self.place ≡ true
             → IsWhole text result.0 result.1 }
         ensures list { (text : List ℕ) → (fields : List (List ℕ)) → HasRead text fields self
-            → text ≡ concat fields → can_end self.place ≡ true
             → IsList text result.0 result.1 }
+        ensures held { held result.1 ≤ 4 * limit }
+        ensures stored { stored result.1 ≤ limit }
         ensures orderly { IsOrderly result.1 }
         ensures failed { R.has_failed result.2 ≡ self.pull.failed }
     {
@@ -217,6 +217,7 @@ impl<T: Store, R: Source + Drop> Walk<T, R> {
         ensures more { IfOk result (λ more. IsTrue more → ReadsMore self.old self.new) }
         ensures advances { IfOk result (λ more. IsTrue more → Advances self.old self.new) }
         ensures ends { IfOk result (λ more. more ≡ false → Ends self.old self.new) }
+        ensures ended { IfOk result (λ more. more ≡ false → self.new.ended ≡ true) }
         ensures fault { self.old.fault ≡ None
             → IfErr result (λ fault. Refused fault self.old self.new.pull) }
         ensures failure { self.old.fault ≡ None
@@ -249,9 +250,10 @@ impl<T: Store, R: Source + Drop> Walk<T, R> {
 
     /// What was read, after a step that answered false, and the reader.
     pub fn end(self) -> (Header, T, R)
+        requires { self.ended ≡ true }
         ensures whole { (text : List ℕ) → (fields : List (List ℕ)) → HasRead text fields self
-            → text ≡ concat fields → can_end self.place ≡ true
             → IsWholeAs (HoldsWithin (T.scope result.1)) text result.0 (T.contents result.1) }
+        ensures within { IsWithinLimit (T.scope result.1) (T.contents result.1) }
         ensures scope { T.scope result.1 ≡ self.keeping.scope }
         ensures failed { R.has_failed result.2 ≡ self.pull.failed }
     {

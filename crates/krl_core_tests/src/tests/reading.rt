@@ -150,10 +150,13 @@ fn stays_at_the_end(rt: &impl Abort, reading: &mut OfSlice<'_>) {
     }
 }
 
-// The version of what was read, and how many spans are held of it.
-fn done(reading: OfSlice<'_>) -> (u64, u128) {
+// The version of what was read to its end, and how many spans are held of it.
+fn done(mut reading: OfSlice<'_>) -> Result<(u64, u128), KrlFault> {
+    if reading.step()? {
+        return Ok((0, 0));
+    }
     let (header, held, _) = reading.done();
-    (header.version, held.held())
+    Ok((header.version, held.held()))
 }
 
 #[test]
@@ -162,7 +165,7 @@ fn held_at_each_moment(rt: HostRuntime) {
     let mut reading = OfSlice::new(rt.alloc(), FromRead::new(text.as_slice()));
     hold_at_each_moment(&rt, &mut reading);
     stays_at_the_end(&rt, &mut reading);
-    assert!(rt; done(reading) == (1, 4));
+    assert!(rt; done(reading) == Ok((1, 4)));
 }
 
 // The list with each of its bytes set in turn answers alike in one piece and byte by byte.

@@ -15,8 +15,8 @@ returns-in-Ok-false g c =
     let ends = c.in-Ok-false.ensures.ends c.in-Ok-false.field-0-test in
     let known = known_of c.done-header.result.0 c.done-header.result.1 in
     let answers = held_list (g.R.Source.left c.args.krl) known.contents known.header c.done-header.ensures.orderly
-    (λ text e. let whole = ends.whole text [] (c.new-front.ensures.start text e) in c.done-header.ensures.list text _ whole.1 whole.2 ends.may_end)
-    (λ text e. let whole = ends.whole text [] (c.new-front.ensures.start text e) in whole_unfaulted _ text _ _ (c.done-header.ensures.whole text _ whole.1 whole.2 ends.may_end)) in (
+    (λ text e. let whole = ends.whole text [] (c.new-front.ensures.start text e) in c.done-header.ensures.list text _ whole.1)
+    (λ text e. let whole = ends.whole text [] (c.new-front.ensures.start text e) in whole_unfaulted _ text _ _ (c.done-header.ensures.whole text _ whole.1)) in (
       Ok answers.0,
       record { failure = c.done-header.ensures.failed ∙ c.in-Ok-false.ensures.failure; read = answers.1 },
       rw (← held_run c.args.krl_name.now c.args.files.now known answers.0 answers.2) c.ask_held.ensures,
