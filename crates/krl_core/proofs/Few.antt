@@ -7,14 +7,12 @@ use Rattle.std.proofs.lemmas.List.{append-nil, take-append-drop, take_all}
 use Rattle.std.specs.Global.{Vec}
 use Rattle.krl_core.specs.Changes.{Puts}
 use Rattle.krl_core.specs.Elements.{contains_cases, contains_here, contains_later, contains_none}
-use Rattle.krl_core.specs.Ids.{GoesTo, bytes_of, texts_of}
+use Rattle.krl_core.specs.Ids.{GoesTo}
 use Rattle.krl_core.specs.Inserting.{Inserts}
 use Rattle.krl_core.specs.Rising.{bytes_cmp, AllAbove, AllBelow, RisesBy}
 use Rattle.krl_core.proofs.Ordered.{AllAbove-earlier, before_trans, less_apart}
 use Rattle.krl_core.proofs.Members.{absent_parts}
-use Rattle.krl_core.proofs.Merging.{Entries}
-use Rattle.krl_core.proofs.Parted.{enters_puts}
-use Rattle.krl_core.specs.TextMap.{Enters, names_of}
+use Rattle.krl_core.specs.Texts.{bytes_of, texts_of}
 
 -- ---- where a byte string goes
 
@@ -42,7 +40,7 @@ not_there at bytes texts g there =
 pub inserted : (at : ℕ) (x : Vec ℕ) (texts : List (Vec ℕ)) → GoesTo at x.items texts → Inserts bytes_of texts x (insert texts at x)
 inserted at x texts g = record { front = take at texts; back = drop at texts; before = sym (take-append-drop at texts); after = refl; below = g.below; above = g.above }
 
--- ---- a few put into a map, each after those before it
+-- ---- a few put into a set, each after those before it
 
 below_absent : (old : List (List ℕ)) (k : List ℕ) → AllBelow (λ b. b) k old → Contains old k → ⊥
 below_absent [] k b m = contains_none k m
@@ -86,13 +84,12 @@ take_suc (y ∷ ys) zero x is =
     ap (λ (v : Vec ℕ). bytes_of v ∷ []) same
 take_suc (y ∷ ys) (suc at) x is = ap (λ l. bytes_of y ∷ l) (take_suc ys at x is)
 
--- the next of a few is put into a map of those before it
-pub spread_more : (texts : List (Vec ℕ)) (at : ℕ) (x : Vec ℕ) (old new : Entries (Unit {0})) → slice_get texts at ≡ Some x → RisesBy bytes_of texts → names_of old ≡ texts_of (take at texts) → Enters old x.items (record {}) new
-    → names_of new ≡ texts_of (take (at + 1) texts)
-spread_more texts at x old new is r so_far e =
-    let puts = subst (λ l. Puts l x.items (names_of new)) so_far (enters_puts x.items (record {}) old new e) in
-    put_last (texts_of (take at texts)) x.items (names_of new) puts (rises_take texts at x is r)
+-- the next of a few is put into a set of those before it
+pub spread_more : (texts : List (Vec ℕ)) (at : ℕ) (x : Vec ℕ) (old new : List (List ℕ)) → slice_get texts at ≡ Some x → RisesBy bytes_of texts → old ≡ texts_of (take at texts) → Puts old x.items new
+    → new ≡ texts_of (take (at + 1) texts)
+spread_more texts at x old new is r so_far puts =
+    put_last (texts_of (take at texts)) x.items new (subst (λ l. Puts l x.items new) so_far puts) (rises_take texts at x is r)
     ∙ sym (take_suc texts at x is) ∙ ap (λ n. texts_of (take n texts)) (let next : suc at ≡ at + 1 = omega arith in next)
 
-pub spread_end : (texts : List (Vec ℕ)) (at : ℕ) (old : Entries (Unit {0})) → length texts ≤ at → names_of old ≡ texts_of (take at texts) → names_of old ≡ texts_of texts
+pub spread_end : (texts : List (Vec ℕ)) (at : ℕ) (old : List (List ℕ)) → length texts ≤ at → old ≡ texts_of (take at texts) → old ≡ texts_of texts
 spread_end texts at old h so_far = so_far ∙ ap texts_of (take_all at texts h)

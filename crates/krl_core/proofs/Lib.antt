@@ -29,12 +29,10 @@ pub mod Amounts
 pub mod Entries
 pub mod Few
 pub mod Finding
-pub mod Hashes
+pub mod Sets
 pub mod Keys
 pub mod Members
-pub mod Merging
 pub mod Ordered
-pub mod Parted
 pub mod SameMeaning
 pub mod Scoped
 pub mod Skipping

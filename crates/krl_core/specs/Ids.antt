@@ -1,25 +1,19 @@
--- A few key IDs in order, or a map of more.
-use Rattle.std.specs.Prelude.{ℕ, ◌≤◌, List, length, map, take, drop, ⊤}
+-- A few key IDs in order, or a set of more.
+use Rattle.std.specs.Prelude.{ℕ, ◌≤◌, List, length, take, drop, ⊤}
 use Rattle.std.specs.Global.{Vec}
 use Rattle.krl_core.specs.declared.ids.Kept.{Kept}
 use Rattle.krl_core.specs.declared.ids.Kept.TheVariants.{Few, Many}
 use Rattle.krl_core.specs.Rising.{AllBelow, AllAbove, RisesBy}
-use Rattle.krl_core.specs.TextMap.{names_of}
-
-abbrev pub bytes_of : Vec ℕ → List ℕ
-bytes_of text = text.items
-
-abbrev pub texts_of : List (Vec ℕ) → List (List ℕ)
-texts_of texts = map bytes_of texts
+use Rattle.krl_core.specs.Texts.{bytes_of, texts_of}
 
 abbrev pub ids_of : Kept → List (List ℕ)
 ids_of (Few few) = texts_of few.items
-ids_of (Many map) = names_of map.value
+ids_of (Many set) = texts_of set.keys
 
 -- those that lie in one vector are in order
 abbrev pub FewRise : Kept → Type 0
 FewRise (Few few) = RisesBy bytes_of few.items
-FewRise (Many map) = ⊤
+FewRise (Many set) = ⊤
 
 -- the byte string goes there among others in order
 pub record GoesTo (at : ℕ) (bytes : List ℕ) (texts : List (Vec ℕ)) : Type 0 where

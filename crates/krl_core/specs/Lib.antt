@@ -16,7 +16,6 @@ pub mod Questions
 pub mod NamingTests
 pub mod Rising
 pub mod Shelf
-pub mod TextMap
 pub mod Texts
 pub mod Keeping
 pub mod Crossing

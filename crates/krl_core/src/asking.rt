@@ -11,6 +11,7 @@ ghost use Rattle.krl_core.specs.Questions.{IsFirst};
 use crate::field::u64_of;
 use crate::revocations::Revocations;
 use crate::shelves::Shelves;
+use crate::texts::has_text;
 use serial_set::Spans;
 use sha1::Sha1;
 use sha2::{Digest, Sha256};
@@ -26,18 +27,11 @@ impl<S: Spans> Revocations<S> {
         self
     }
 
-    // Remembers where what is held under an authority stands.
-    pub(crate) fn seek(&mut self, authority: &[u8])
-        ensures { self.new ≡ self.old }
-    {
-        self.shelves.seek(authority);
-    }
-
     // Whether a key is held by its blob.
     pub(crate) fn has_blob(&self, blob: &[u8]) -> bool
         ensures { IsTrue result ↔ Contains self.now.keys blob.now }
     {
-        self.keys.has(blob)
+        has_text(&self.keys, blob)
     }
 
     // Whether the SHA-1 of a key is held.

@@ -1,6 +1,6 @@
 //! What a list that passes says of what is asked.
 
-ghost use Rattle.std.specs.Prelude.{◌≡◌, ◌↔◌, ◌+◌, ◌<◌, ◌≤◌, ◌∷◌, [], ℕ, List, true, Contains, IfOk};
+ghost use Rattle.std.specs.Prelude.{◌≡◌, ◌↔◌, ◌+◌, ◌<◌, ◌≤◌, ◌∷◌, [], ℕ, List, true, IfOk};
 ghost use Rattle.std.specs.Prelude.{IsTrue, OnOk};
 ghost use Rattle.sha1.specs.Sha1.{sha1};
 ghost use Rattle.sha2.specs.Sha256.{sha256};
@@ -194,10 +194,6 @@ impl<S: Spans> Store for Findings<S> {
     ghost contents = { λ findings. findings.found };
 
     ghost scope = { λ findings. asked_in findings };
-
-    fn seek(&mut self, authority: &[u8]) {
-        self.topics.seek(authority);
-    }
 
     fn wants(&self, authority: &[u8], lo: u64, hi: u64) -> bool {
         self.topics.may_have(authority, lo, hi)

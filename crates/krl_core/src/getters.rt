@@ -53,14 +53,14 @@ impl<S: Spans> Revocations<S> {
         requires { index < length self.now.keys }
         ensures { slice_get self.now.keys index ≡ Some result.now }
     {
-        self.keys.at(index).0
+        Texts::many(&self.keys).at(index)
     }
 
     /// A walk over the blobs of the keys, in the order of their bytes.
     pub fn walk_keys(&self) -> Texts<'_>
         ensures { result ≡ self.now.keys }
     {
-        Texts::names(&self.keys)
+        Texts::many(&self.keys)
     }
 
     /// How many SHA-1 hashes there are.
@@ -76,7 +76,7 @@ impl<S: Spans> Revocations<S> {
         requires { index < length self.now.sha1s }
         ensures { slice_get self.now.sha1s index ≡ Some result.now }
     {
-        text_at(Texts::sha1s(&self.sha1s), index)
+        Texts::sha1s(&self.sha1s).at(index)
     }
 
     /// A walk over the SHA-1 hashes, in the order of their bytes.
@@ -99,7 +99,7 @@ impl<S: Spans> Revocations<S> {
         requires { index < length self.now.sha256s }
         ensures { slice_get self.now.sha256s index ≡ Some result.now }
     {
-        text_at(Texts::sha256s(&self.sha256s), index)
+        Texts::sha256s(&self.sha256s).at(index)
     }
 
     /// A walk over the SHA-256 hashes, in the order of their bytes.
@@ -108,21 +108,6 @@ impl<S: Spans> Revocations<S> {
     {
         Texts::sha256s(&self.sha256s)
     }
-}
-
-// The byte string at an index of those that a walk has left.
-fn text_at<'a>(texts: Texts<'a>, index: usize) -> &'a [u8]
-    requires { index < length texts }
-    ensures { slice_get texts.entry index ≡ Some result.now }
-{
-    let mut left = index;
-    for text in texts {
-        if left == 0 {
-            return text;
-        }
-        left -= 1;
-    }
-    unreachable!()
 }
 
 // How many spans all authorities hold together.

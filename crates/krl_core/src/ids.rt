@@ -1,26 +1,25 @@
 //! Key IDs.
-ghost use Rattle.std.specs.Prelude.{◌≡◌, ◌<◌, ◌≤◌, ◌↔◌, [], Contains, IfOk, IsTrue, MatchOption};
+ghost use Rattle.std.specs.Prelude.{◌≡◌, ◌<◌, ◌↔◌, [], Contains, IfOk, IsTrue, MatchOption};
 ghost use Rattle.std.specs.Prelude.{OnErr, OnOk, Some, length, slice_get};
 ghost use Rattle.krl_core.specs.Changes.{Puts};
-ghost use Rattle.krl_core.specs.Ids.{GoesTo, bytes_of, texts_of};
-ghost use Rattle.krl_core.specs.Rising.{RisesBy};
-ghost use Rattle.krl_core.specs.TextMap.{names_of};
+ghost use Rattle.krl_core.specs.Ids.{GoesTo};
+ghost use Rattle.krl_core.specs.Rising.{RisesBy, bytes_cmp};
+ghost use Rattle.krl_core.specs.Texts.{bytes_of, texts_of};
 
-use crate::short::compare;
-use crate::text_map::TextMap;
-use crate::texts::Texts;
+use crate::texts::{Texts, has_text, put_text};
 use std::alloc::{AllocError, Global};
 use std::cmp::Ordering;
+use std::collections::BTreeSet;
 use std::marker::Model;
 
-// The most key IDs that lie in one vector. A map takes more memory for as many.
+// The most key IDs that lie in one vector. A set takes more memory for as many.
 const FEW: usize = 32;
 
-// A few key IDs in order, or a map of more.
+// A few key IDs in order, or a set of more.
 #[derive(Drop)]
 pub(crate) enum Kept {
     Few(Vec<Vec<u8>>),
-    Many(Box<TextMap<()>>),
+    Many(BTreeSet<Vec<u8>>),
 }
 
 /// A set of key IDs. Most authorities have few of them or none. Contracts see the list of the key
@@ -57,7 +56,7 @@ impl Ids {
     {
         match &self.kept {
             Kept::Few(few) => few.len(),
-            Kept::Many(map) => map.len(),
+            Kept::Many(set) => set.len(),
         }
     }
 
@@ -67,7 +66,7 @@ impl Ids {
     {
         match &self.kept {
             Kept::Few(few) => matches!(place_in(few.as_slice(), id), None),
-            Kept::Many(map) => map.has(id),
+            Kept::Many(set) => has_text(set, id),
         }
     }
 
@@ -78,7 +77,7 @@ impl Ids {
     {
         match &self.kept {
             Kept::Few(few) => few[index].as_slice(),
-            Kept::Many(map) => map.at(index).0,
+            Kept::Many(set) => Texts::many(set).at(index),
         }
     }
 
@@ -88,7 +87,7 @@ impl Ids {
     {
         match &self.kept {
             Kept::Few(few) => Texts::few(few.as_slice()),
-            Kept::Many(map) => Texts::names(map),
+            Kept::Many(set) => Texts::many(set),
         }
     }
 
@@ -98,10 +97,7 @@ impl Ids {
         ensures err { OnErr result (self.new ≡ self.old) }
     {
         match &mut self.kept {
-            Kept::Many(map) => {
-                map.put(alloc, id, ())?;
-                Ok(())
-            }
+            Kept::Many(set) => put_text(alloc, set, id),
             Kept::Few(few) => {
                 if few.len() < FEW {
                     return put_few(alloc, few, id);
@@ -144,17 +140,24 @@ fn put_few(alloc: Global, few: &mut Vec<Vec<u8>>, id: &[u8]) -> Result<(), Alloc
     Ok(())
 }
 
-// A map of a few byte strings in order, and of one more.
-fn spread(alloc: Global, few: &[Vec<u8>], id: &[u8]) -> Result<Box<TextMap<()>>, AllocError>
+// A set of a few byte strings in order, and of one more.
+fn spread(alloc: Global, few: &[Vec<u8>], id: &[u8]) -> Result<BTreeSet<Vec<u8>>, AllocError>
     requires { RisesBy bytes_of few.now }
-    ensures { IfOk result (λ map. Puts (texts_of few.now) id.now (names_of map.value)) }
+    ensures { IfOk result (λ set. Puts (texts_of few.now) id.now (texts_of set.keys)) }
 {
-    let mut map = TextMap::new(alloc);
+    let mut set = BTreeSet::new(alloc);
     let mut at = 0;
     while at < few.len() {
-        map.put(alloc, few[at].as_slice(), ())?;
+        put_text(alloc, &mut set, few[at].as_slice())?;
         at += 1;
     }
-    map.put(alloc, id, ())?;
-    Ok(Box::new(alloc, map)?)
+    put_text(alloc, &mut set, id)?;
+    Ok(set)
+}
+
+// Both at one lifetime, as the comparison of slices asks.
+fn compare<'a>(left: &'a [u8], right: &'a [u8]) -> Ordering
+    ensures { result ≡ bytes_cmp left.now right.now }
+{
+    Ord::cmp(&left, &right)
 }

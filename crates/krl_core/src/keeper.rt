@@ -161,7 +161,6 @@ impl<T: Store> Keeper<T> {
         ensures grows { GrowsWithin (length authority.now) self.old self.new }
     {
         self.authority.clear();
-        self.store.seek(authority);
         self.authority.extend_from_slice(authority)
     }
 

@@ -18,14 +18,10 @@ mod query;
 mod questions;
 mod read;
 mod reading;
-mod recent;
 mod revocations;
 mod shelf;
 mod shelves;
-mod short;
 mod store;
-mod text_map;
-mod text_walk;
 mod texts;
 
 pub use findings::Findings;

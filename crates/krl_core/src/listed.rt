@@ -3,10 +3,10 @@ ghost use Rattle.std.specs.Prelude.{◌≡◌, ◌<◌, length, Some, slice_get}
 ghost use Rattle.krl_core.specs.Authority.{authority_bytes, IsAuthority};
 
 use crate::shelf::Shelf;
-use crate::text_map::TextMap;
-use crate::text_walk::TextWalk;
 use crate::texts::Texts;
 use serial_set::Spans;
+use std::collections::BTreeMap;
+use std::collections::btree_map::Iter;
 use std::marker::Model;
 
 /// The serials and key IDs that are revoked under one authority, or under all.
@@ -88,37 +88,28 @@ impl<'a, S: Spans> Listed<'a, S> {
 /// Contracts see it as the list of the sections that are left.
 #[derive(Drop)]
 pub struct Authorities<'a, S: Spans> {
-    places: TextWalk<'a, usize>,
-    shelves: &'a Vec<Shelf<S>>,
+    shelves: Iter<'a, Vec<u8>, Shelf<S>>,
 }
 
 impl<'a, S: Spans> Model for Authorities<'a, S> {
-    ghost use Rattle.std.specs.Prelude.{◌<◌, List, length};
-    ghost use Rattle.std.specs.List.{AllByRecursion};
+    ghost use Rattle.std.specs.Prelude.{List};
     ghost use Rattle.krl_core.specs.Contents.{Section};
-    ghost use Rattle.krl_core.specs.Shelf.{place_of, sections_of};
+    ghost use Rattle.krl_core.specs.Shelf.{sections_of, shelves_of};
 
     ghost Value = { List Section };
 
-    ghost view = { λ a. sections_of S.spans a.shelves.now.items a.places };
-
-    ghost invariant = { λ a. AllByRecursion
-        (λ entry. place_of entry < length a.shelves.now.items) a.places };
+    ghost view = { λ authorities. sections_of S.spans (shelves_of authorities.shelves) };
 }
 
 impl<'a, S: Spans> Authorities<'a, S> {
-    ghost use Rattle.std.specs.Prelude.{◌<◌, length};
-    ghost use Rattle.std.specs.List.{AllByRecursion};
-    ghost use Rattle.krl_core.specs.Shelf.{place_of, sections_of};
+    ghost use Rattle.krl_core.specs.Shelf.{sections_of, shelves_of};
 
-    // A walk over authorities, by where the shelf of each one is.
-    pub(crate) fn over(places: &'a TextMap<usize>, shelves: &'a Vec<Shelf<S>>) -> Authorities<'a, S>
-        requires { AllByRecursion (λ entry. place_of entry < length shelves.now.items) places.now }
-        ensures { result ≡ sections_of S.spans shelves.now.items places.now }
+    // A walk over the authorities whose shelves are in a map.
+    pub(crate) fn over(map: &'a BTreeMap<Vec<u8>, Shelf<S>>) -> Authorities<'a, S>
+        ensures { result ≡ sections_of S.spans (shelves_of map.now.entries) }
     {
         Authorities {
-            places: TextWalk::over(places),
-            shelves,
+            shelves: map.iter(),
         }
     }
 }
@@ -133,9 +124,7 @@ impl<'a, S: Spans> Iterator for Authorities<'a, S> {
     ghost remaining = { item_count (λ authorities. authorities) };
 
     fn next(&mut self) -> Option<Listed<'a, S>> {
-        match self.places.next() {
-            None => None,
-            Some((authority, place)) => Some(Listed::new(authority, &self.shelves[*place])),
-        }
+        let (authority, shelf) = self.shelves.next()?;
+        Some(Listed::new(authority.as_slice(), shelf))
     }
 }

@@ -9,7 +9,7 @@ ghost use Rattle.krl_core.specs.Entry.{RangeEntry, IdEntry, KeyEntry, Sha1Entry,
 
 use crate::addition::Addition;
 use crate::shelves::Shelves;
-use crate::text_map::TextMap;
+use crate::texts::put_text;
 use serial_set::{Span, Spans};
 use std::alloc::{AllocError, Global};
 use std::collections::BTreeSet;
@@ -22,21 +22,21 @@ use std::marker::Model;
 pub struct Revocations<S: Spans> {
     alloc: Global,
     pub(crate) shelves: Shelves<S>,
-    pub(crate) keys: TextMap<()>,
+    pub(crate) keys: BTreeSet<Vec<u8>>,
     pub(crate) sha1s: BTreeSet<[u8; 20]>,
     pub(crate) sha256s: BTreeSet<[u8; 32]>,
 }
 
 impl<S: Spans> Model for Revocations<S> {
     ghost use Rattle.krl_core.specs.Contents.{Contents, contents_of, IsOrderly};
-    ghost use Rattle.krl_core.specs.TextMap.{names_of};
+    ghost use Rattle.krl_core.specs.Texts.{texts_of};
 
     ghost Value = { Contents };
 
-    ghost view = { λ r. contents_of r.shelves (names_of r.keys) r.sha1s.keys r.sha256s.keys };
+    ghost view = { λ r. contents_of r.shelves (texts_of r.keys.keys) r.sha1s.keys r.sha256s.keys };
 
     ghost invariant = { λ r. IsOrderly
-        (contents_of r.shelves (names_of r.keys) r.sha1s.keys r.sha256s.keys) };
+        (contents_of r.shelves (texts_of r.keys.keys) r.sha1s.keys r.sha256s.keys) };
 }
 
 impl<S: Spans> Revocations<S> {
@@ -48,7 +48,7 @@ impl<S: Spans> Revocations<S> {
         Revocations {
             alloc,
             shelves: Shelves::new(alloc),
-            keys: TextMap::new(alloc),
+            keys: BTreeSet::new(alloc),
             sha1s: BTreeSet::new(alloc),
             sha256s: BTreeSet::new(alloc),
         }
@@ -145,7 +145,7 @@ impl<S: Spans> Revocations<S> {
         ensures sections { self.new.sections ≡ self.old.sections }
         ensures keys { length self.new.keys ≤ length self.old.keys + 1 }
     {
-        self.keys.put(self.alloc, blob, ())?;
+        put_text(self.alloc, &mut self.keys, blob)?;
         Ok(())
     }
 

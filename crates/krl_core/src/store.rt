@@ -28,11 +28,6 @@ pub trait Store: Drop {
     // which names it answers for
     ghost scope: { Self → Scope };
 
-    /// Tells that what comes next may be under this authority, empty for all. It changes nothing.
-    fn seek(&mut self, authority: &[u8])
-        ensures contents { contents self.new ≡ contents self.old }
-        ensures scope { scope self.new ≡ scope self.old };
-
     /// Whether some serial from `lo` to `hi` under this authority may be in scope.
     fn wants(&self, authority: &[u8], lo: u64, hi: u64) -> bool
         requires { lo ≤ hi }
@@ -120,8 +115,6 @@ impl<S: Spans> Store for Revocations<S> {
     ghost contents = { λ revocations. revocations };
 
     ghost scope = { λ _. all };
-
-    fn seek(&mut self, _authority: &[u8]) {}
 
     fn wants(&self, _authority: &[u8], _lo: u64, _hi: u64) -> bool {
         true

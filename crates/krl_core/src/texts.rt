@@ -1,19 +1,39 @@
-//! A walk over byte strings, in order.
-ghost use Rattle.std.specs.Prelude.{◌≡◌};
-ghost use Rattle.krl_core.specs.Ids.{texts_of};
-ghost use Rattle.krl_core.specs.TextMap.{names_of};
+//! Sets of byte strings, and a walk over them, in order.
+ghost use Rattle.std.specs.Prelude.{◌≡◌, ◌<◌, ◌↔◌, Contains, IsTrue, OnErr, OnOk, Some, length};
+ghost use Rattle.std.specs.Prelude.{slice_get};
+ghost use Rattle.krl_core.specs.Changes.{Puts};
+ghost use Rattle.krl_core.specs.Texts.{texts_of};
 
-use crate::text_map::TextMap;
-use crate::text_walk::TextWalk;
+use std::alloc::{AllocError, Global};
 use std::collections::BTreeSet;
 use std::collections::btree_set::Iter;
 use std::marker::Model;
+
+// Whether a byte string is in a set.
+pub(crate) fn has_text(set: &BTreeSet<Vec<u8>>, text: &[u8]) -> bool
+    ensures { IsTrue result ↔ Contains (texts_of set.now.keys) text.now }
+{
+    set.contains(text)
+}
+
+// Puts a byte string into a set, if it is not there.
+pub(crate) fn put_text(
+    alloc: Global,
+    set: &mut BTreeSet<Vec<u8>>,
+    text: &[u8],
+) -> Result<(), AllocError>
+    ensures ok { OnOk result (Puts (texts_of set.old.keys) text.now (texts_of set.new.keys)) }
+    ensures err { OnErr result (set.new.keys ≡ set.old.keys) }
+{
+    set.insert(Vec::from_slice(alloc, text)?)?;
+    Ok(())
+}
 
 // Where the byte strings come from.
 #[derive(Drop)]
 pub(crate) enum Left<'a> {
     Few(&'a [Vec<u8>]),
-    Names(TextWalk<'a, ()>),
+    Many(Iter<'a, Vec<u8>>),
     Sha1s(Iter<'a, [u8; 20]>),
     Sha256s(Iter<'a, [u8; 32]>),
 }
@@ -43,12 +63,12 @@ impl<'a> Texts<'a> {
         }
     }
 
-    // A walk over the byte strings of a map.
-    pub(crate) fn names(map: &'a TextMap<()>) -> Texts<'a>
-        ensures { result ≡ names_of map.now }
+    // A walk over the byte strings of a set.
+    pub(crate) fn many(texts: &'a BTreeSet<Vec<u8>>) -> Texts<'a>
+        ensures { result ≡ texts_of texts.now.keys }
     {
         Texts {
-            left: Left::Names(TextWalk::over(map)),
+            left: Left::Many(texts.iter()),
         }
     }
 
@@ -69,6 +89,21 @@ impl<'a> Texts<'a> {
             left: Left::Sha256s(hashes.iter()),
         }
     }
+
+    // The byte string at an index. It goes over those before it.
+    pub(crate) fn at(self, index: usize) -> &'a [u8]
+        requires { index < length self }
+        ensures { slice_get self.entry index ≡ Some result.now }
+    {
+        let mut left = index;
+        for text in self {
+            if left == 0 {
+                return text;
+            }
+            left -= 1;
+        }
+        unreachable!()
+    }
 }
 
 impl<'a> Iterator for Texts<'a> {
@@ -87,9 +122,9 @@ impl<'a> Iterator for Texts<'a> {
                 *texts = rest;
                 Some(first.as_slice())
             }
-            Left::Names(walk) => {
-                let (name, _) = walk.next()?;
-                Some(name)
+            Left::Many(walk) => {
+                let text = walk.next()?;
+                Some(text.as_slice())
             }
             Left::Sha1s(walk) => {
                 let hash = walk.next()?;

@@ -1,5 +1,5 @@
 use Rattle.sha1.specs.Sha1.{sha1}
-use Rattle.krl_core.proofs.Hashes.{hash_puts}
+use Rattle.krl_core.proofs.Sets.{set_puts}
 use Rattle.krl_core.proofs.Hashing.{all_hashed, none_hashed, one_hashed}
 use Rattle.krl_core.proofs.findings.hash_sha1s.Goals as goal
 
@@ -10,7 +10,7 @@ pub loop-key-preserved : goal.loop-key-preserved
 loop-key-preserved c =
     let is = rw c.digest.ensures at c.in_ok-insert.ensures.keys in
     one_hashed sha1 c.args.keys c.loop-key.hashes.keys c.insert.new.self.keys c.loop-key.key-iterator c.next.new.self c.in-Some.key.now c.in-Some.ensures.steps
-    (hash_puts (sha1 c.in-Some.key.now) c.loop-key.hashes.keys c.insert.new.self.keys is c.insert.ensures.ordered) c.loop-key.invariant
+    (set_puts (sha1 c.in-Some.key.now) c.loop-key.hashes.keys c.insert.new.self.keys is c.insert.ensures.ordered) c.loop-key.invariant
 
 pub returns : goal.returns
 returns c = all_hashed sha1 c.args.keys c.loop-key.hashes.keys c.loop-key.key-iterator c.in-None.ensures.steps.0 c.loop-key.invariant

@@ -2,7 +2,7 @@ use Rattle.std.proofs.Common.{length, refl, sym, ap, subst, ◌∙◌}
 use Rattle.std.specs.List.{Contains}
 use Rattle.std.proofs.lemmas.Map.Lookups.{exact_bytes}
 use Rattle.std.proofs.lemmas.Option.{slice_get_read}
-use Rattle.krl_core.specs.Ids.{texts_of}
+use Rattle.krl_core.specs.Texts.{texts_of}
 use Rattle.krl_core.specs.Rising.{bytes_cmp}
 use Rattle.krl_core.proofs.Few.{above_from, contained}
 use Rattle.krl_core.proofs.Ordered.{turned}

@@ -1,5 +1,5 @@
 use Rattle.std.proofs.Common.{◌≤◌, ◌-◌, length, take}
-use Rattle.krl_core.specs.Ids.{bytes_of}
+use Rattle.krl_core.specs.Texts.{bytes_of}
 use Rattle.krl_core.specs.Rising.{AllBelow}
 use Rattle.krl_core.proofs.ids.place_in.Given as goal
 

@@ -1,7 +1,8 @@
 use Rattle.std.proofs.Common.{sym, subst, inr}
 use Rattle.std.specs.Prelude.{insert}
 use Rattle.krl_core.specs.Changes.{Puts}
-use Rattle.krl_core.specs.Ids.{GoesTo, bytes_of, texts_of}
+use Rattle.krl_core.specs.Ids.{GoesTo}
+use Rattle.krl_core.specs.Texts.{bytes_of, texts_of}
 use Rattle.krl_core.specs.Rising.{RisesBy}
 use Rattle.krl_core.proofs.Few.{inserted}
 use Rattle.krl_core.proofs.Ordered.{inserts_map, inserts_rise}

@@ -1,12 +1,11 @@
 use Rattle.std.proofs.Common.{◌≡◌, ◌≤◌, ◌-◌, length, take}
-use Rattle.krl_core.specs.Ids.{texts_of}
-use Rattle.krl_core.specs.TextMap.{names_of}
+use Rattle.krl_core.specs.Texts.{texts_of}
 use Rattle.krl_core.proofs.ids.spread.Given as goal
 
 abbrev pub invariant-loop-at : goal.invariant-loop-at
 invariant-loop-at l = record {
   within : l.at ≤ length l.few;
-  put : names_of l.map ≡ texts_of (take l.at l.few);
+  put : texts_of l.set.keys ≡ texts_of (take l.at l.few);
 }
 
 abbrev pub decreases-loop-at : goal.decreases-loop-at

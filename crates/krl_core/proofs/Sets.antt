@@ -1,7 +1,7 @@
--- Hashes in a set of the standard library.
-use Rattle.std.proofs.Common.{◌≡◌, ℕ, List, [], ◌∷◌, ◌++◌, Bool, refl, sym, ap, subst, inl, inr}
+-- Byte strings in a set of the standard library: as its keys, or read of them.
+use Rattle.std.proofs.Common.{◌≡◌, ℕ, List, [], ◌∷◌, ◌++◌, ◌||◌, map, Bool, refl, sym, ap, subst, ◌∙◌, inl, inr}
 use Rattle.std.specs.Prelude.{◌⊎◌, IsTrue, ◌↔◌}
-use Rattle.std.specs.List.{Contains, list_any}
+use Rattle.std.specs.List.{AllByRecursion, Contains, list_any}
 use Rattle.std.specs.List.Sorted.{IsStrictlySortedBy}
 use Rattle.std.specs.declared.cmp.Ordering.{Ordering}
 use Rattle.std.specs.declared.cmp.Ordering.TheVariants.{Less, Equal, Greater}
@@ -23,7 +23,7 @@ unfolding IsStrictlySortedBy
 rises_sorted [] h = tt
 rises_sorted (k ∷ ks) h = (h.0, rises_sorted ks h.1)
 
--- ---- a hash more
+-- ---- one more
 
 record Splits (k : List ℕ) (old new : List (List ℕ)) : Type 0 where
   front : List (List ℕ)
@@ -48,8 +48,8 @@ entered k (x ∷ ks) = by (bytes_cmp k x) refl (entered k ks)
           | inr s ↦ inr (record { front = x ∷ s.front; back = s.back; before = ap (λ l. x ∷ l) s.before; after = ap (λ l. x ∷ l) s.after })
         ]
 
-pub hash_puts : (k : List ℕ) (old new : List (List ℕ)) → new ≡ insert_key bytes_cmp old k → IsStrictlySortedBy bytes_cmp new → Puts old k new
-hash_puts k old new is sorted =
+pub set_puts : (k : List ℕ) (old new : List (List ℕ)) → new ≡ insert_key bytes_cmp old k → IsStrictlySortedBy bytes_cmp new → Puts old k new
+set_puts k old new is sorted =
     elim (subst (Entered k old) (sym is) (entered k old)) [
       | inl there ↦ inl there
       | inr s ↦ (let rises = subst Rises s.after (rises_sorted new sorted) in
@@ -78,5 +78,41 @@ any_listed k [] = (λ h. absurd (false≢true h), λ m. absurd (contains_none k 
 any_listed k (x ∷ ks) =
     Iff.trans (Decides-or (is_at (bytes_cmp k) x) (list_any (is_at (bytes_cmp k)) ks) (at_decides k x) (any_listed k ks)) (Iff.symm (contains_cons x ks k))
 
-pub hash_listed : (k : List ℕ) (ks : List (List ℕ)) (b : Bool) → b ≡ list_any (is_at (bytes_cmp k)) ks → IsTrue b ↔ Contains ks k
-hash_listed k ks b is = subst (λ (x : Bool). IsTrue x ↔ Contains ks k) (sym is) (any_listed k ks)
+pub set_has : (k : List ℕ) (ks : List (List ℕ)) (b : Bool) → b ≡ list_any (is_at (bytes_cmp k)) ks → IsTrue b ↔ Contains ks k
+set_has k ks b is = subst (λ (x : Bool). IsTrue x ↔ Contains ks k) (sym is) (any_listed k ks)
+
+-- ---- byte strings that are read of the keys
+
+module _ {K : Type 0} (read : K → List ℕ) where
+  abbrev by_read : K → K → Ordering
+  by_read x y = bytes_cmp (read x) (read y)
+
+  all_read : (k : List ℕ) (ks : List K) → AllByRecursion (λ y. bytes_cmp k (read y) ≡ Less) ks → AllByRecursion (λ y. bytes_cmp k y ≡ Less) (map read ks)
+  all_read k [] h = tt
+  all_read k (x ∷ ks) h = (h.0, all_read k ks h.1)
+
+  read_sorted : (ks : List K) → IsStrictlySortedBy by_read ks → IsStrictlySortedBy bytes_cmp (map read ks)
+  unfolding IsStrictlySortedBy
+  read_sorted [] h = tt
+  read_sorted (k ∷ ks) h = (all_read (read k) ks h.0, read_sorted ks h.1)
+
+  read_insert : (ks : List K) (k : K) → map read (insert_key by_read ks k) ≡ insert_key bytes_cmp (map read ks) (read k)
+  read_insert [] k = refl
+  read_insert (x ∷ ks) k = by (bytes_cmp (read k) (read x)) (read_insert ks k)
+    where
+      by : (o : Ordering) → map read (insert_key by_read ks k) ≡ insert_key bytes_cmp (map read ks) (read k)
+          → map read (match_ordering o (k ∷ x ∷ ks) (x ∷ ks) (x ∷ insert_key by_read ks k))
+          ≡ match_ordering o (read k ∷ read x ∷ map read ks) (read x ∷ map read ks) (read x ∷ insert_key bytes_cmp (map read ks) (read k))
+      by Less h = refl
+      by Equal h = refl
+      by Greater h = ap (λ l. read x ∷ l) h
+
+  read_any : (k : List ℕ) (ks : List K) → list_any (is_at (λ x. bytes_cmp k (read x))) ks ≡ list_any (is_at (bytes_cmp k)) (map read ks)
+  read_any k [] = refl
+  read_any k (x ∷ ks) = ap (λ b. is_at (bytes_cmp k) (read x) || b) (read_any k ks)
+
+  pub read_puts : (k : K) (old new : List K) → new ≡ insert_key by_read old k → IsStrictlySortedBy by_read new → Puts (map read old) (read k) (map read new)
+  read_puts k old new is sorted = set_puts (read k) (map read old) (map read new) (ap (map read) is ∙ read_insert old k) (read_sorted new sorted)
+
+  pub read_has : (k : List ℕ) (ks : List K) (b : Bool) → b ≡ list_any (is_at (λ x. bytes_cmp k (read x))) ks → IsTrue b ↔ Contains (map read ks) k
+  read_has k ks b is = set_has k (map read ks) b (is ∙ read_any k ks)
