@@ -7,7 +7,7 @@ use Rattle.krl_core.specs.Changes.{MeansMore}
 use Rattle.krl_core.specs.Contents.{Contents, HoldsName, IsOrderly, Means}
 use Rattle.krl_core.specs.Entry.{Entry}
 use Rattle.krl_core.specs.Naming.{Name, SomeNames}
-use Rattle.krl_core.specs.Scope.{all, InScope, MeansMoreWithin, MeansWithin, Scope}
+use Rattle.krl_core.specs.Scope.{InScope, MeansMoreWithin, Scope}
 use Rattle.krl_core.proofs.BothWays.{iff_or}
 use Rattle.krl_core.proofs.Canonical.{means_itself}
 use Rattle.krl_core.proofs.Same.{some_append, some_first}
@@ -32,9 +32,3 @@ means_more_within scope old new more means entries m =
 pub nothing_more_within : (scope : Scope) (r : Contents) (more : List Entry) → ((name : Name) → InScope scope name → SomeNames more name → ⊥) → MeansMoreWithin scope r r more
 nothing_more_within scope r more none entries m =
     record { orderly = m.orderly; names = λ name within. Iff.trans (m.names name within) (some_first entries more name (none name within)) }
-
-pub within_all : (r : Contents) (entries : List Entry) → Means r entries ↔ MeansWithin all r entries
-within_all r entries = (
-  λ m. record { orderly = m.orderly; names = λ name within. m.names name },
-  λ m. record { orderly = m.orderly; names = λ name. m.names name tt },
-)

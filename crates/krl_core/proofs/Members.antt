@@ -3,10 +3,9 @@ use Rattle.std.proofs.Common.{ℕ, List, [], ◌∷◌, ◌++◌, map, sym, subs
 use Rattle.std.specs.List.{Contains}
 use Rattle.std.proofs.Math.Logic.{⊎_elim}
 use Rattle.std.proofs.lemmas.List.{map-append}
-use Rattle.std.proofs.lemmas.List.Elements.{Contains-append_right, Contains-append_cases}
+use Rattle.std.proofs.lemmas.List.Elements.{Contains-append_cases}
 use Rattle.krl_core.specs.Rising.{AllBelow, AllAbove}
-use Rattle.krl_core.specs.Elements.{contains_cases, contains_here, contains_none}
-use Rattle.krl_core.specs.Asked.{Stands}
+use Rattle.krl_core.specs.Elements.{contains_cases, contains_none}
 use Rattle.krl_core.proofs.Ordered.{less_apart}
 
 module _ {X : Type 0} (key : X → List ℕ) where
@@ -20,15 +19,7 @@ module _ {X : Type 0} (key : X → List ℕ) where
   absent_above bytes (x ∷ xs) b m =
       ⊎_elim (λ here. less_apart bytes (key x) b.0 (sym here)) (absent_above bytes xs b.1) (contains_cases (key x) bytes (map key xs) m)
 
-  pub contains_right : (bytes : List ℕ) (xs ys : List X) → Contains (map key ys) bytes → Contains (map key (xs ++ ys)) bytes
-  contains_right bytes xs ys m = subst (λ l. Contains l bytes) (sym (map-append key xs ys)) (Contains-append_right (map key xs) (map key ys) bytes m)
-
   pub absent_parts : (bytes : List ℕ) (xs ys : List X) → AllBelow key bytes xs → AllAbove key bytes ys → Contains (map key (xs ++ ys)) bytes → ⊥
   absent_parts bytes xs ys b a m =
       ⊎_elim (absent_below bytes xs b) (absent_above bytes ys a)
       (Contains-append_cases (map key xs) (map key ys) bytes (subst (λ l. Contains l bytes) (map-append key xs ys) m))
-
-  pub stands_contained : (xs : List X) (x : X) → Stands key xs x → Contains (map key xs) (key x)
-  stands_contained xs x s =
-      subst (λ l. Contains (map key l) (key x)) (sym s.parts)
-      (contains_right (key x) s.front (x ∷ s.back) (contains_here (key x) (map key s.back)))

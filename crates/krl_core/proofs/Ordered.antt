@@ -20,9 +20,6 @@ tied a b same = ap (bytes_cmp a) same ∙ tied_itself nat_list_cmp_total a
 pub turned : (a b : List ℕ) → bytes_cmp a b ≡ Greater → bytes_cmp b a ≡ Less
 turned a b e = nat_list_cmp_total.antisymm b a ∙ ap ordering_reverse e
 
-pub turned_less : (a b : List ℕ) → bytes_cmp a b ≡ Less → bytes_cmp b a ≡ Greater
-turned_less a b e = nat_list_cmp_total.antisymm b a ∙ ap ordering_reverse e
-
 module _ {X : Type 0} (key : X → List ℕ) where
   pub AllAbove-earlier : (a b : List ℕ) (xs : List X) → bytes_cmp a b ≡ Less → AllAbove key b xs → AllAbove key a xs
   AllAbove-earlier a b [] h r = tt
@@ -43,11 +40,6 @@ module _ {X : Type 0} (key : X → List ℕ) where
   pub above_map : {Y : Type 0} (f : Y → X) (bytes : List ℕ) (ys : List Y) → AllAbove (λ y. key (f y)) bytes ys → AllAbove key bytes (map f ys)
   above_map f bytes [] a = tt
   above_map f bytes (y ∷ ys) a = (a.0, above_map f bytes ys a.1)
-
-  -- a list rises as what it shows does
-  pub rises_map : {Y : Type 0} (f : Y → X) (ys : List Y) → RisesBy (λ y. key (f y)) ys → RisesBy key (map f ys)
-  rises_map f [] r = tt
-  rises_map f (y ∷ ys) r = (above_map f (key (f y)) ys r.0, rises_map f ys r.1)
 
   pub below_map : {Y : Type 0} (f : Y → X) (bytes : List ℕ) (ys : List Y) → AllBelow (λ y. key (f y)) bytes ys → AllBelow key bytes (map f ys)
   below_map f bytes [] a = tt

@@ -157,27 +157,6 @@ skips_run old mid new count run is contents scope authority header at h = record
   bitmap_is = h.rest.bitmap_is ∙ at;
 }
 
-pub skips_none : (old new : Keeping) (count : ℕ) → old.bitmap.pending ≡ None → new ≡ record old { bitmap = record old.bitmap { bytes_left = old.bitmap.bytes_left - count; pending = None } } → Skips count old new
-skips_none old new count is at = record {
-  closes = record {
-    kept = λ entries h. record {
-      closed = h.closed;
-      means = subst (λ (k : Keeping). MeansWithin k.scope k.contents h.closed) (sym at) h.means;
-      same =
-          let shut : h.closed ++ run_entries old.authority (option_to_list old.bitmap.pending) ≡ h.closed ++ run_entries new.authority (option_to_list new.bitmap.pending) = rw (is, at) refl in
-          same_to (sym shut) (append-nil entries) h.same;
-    };
-    authority_is = ap (λ k. k.authority) at;
-    header_is = ap (λ k. k.header) at;
-    scope_is = ap (λ k. k.scope) at;
-    closed = ap (λ k. k.bitmap.pending) at;
-  };
-  bitmap_is = ap (λ k. k.bitmap) at;
-}
-  where
-    same_to : {xs ys zs ws : List Entry} → ys ≡ xs → ws ≡ zs → NamesSame xs zs → NamesSame ys ws
-    same_to e f h = rw (e, f) h
-
 concat_singles : (bytes : List ℕ) → concat (singles bytes) ≡ bytes
 concat_singles [] = refl
 concat_singles (b ∷ bs) = ap (λ (l : List ℕ). b ∷ l) (concat_singles bs)

@@ -1,25 +1,14 @@
 -- What is held stays within some topics where what is added is about them.
-use Rattle.std.proofs.Common.{◌≡◌, ℕ, ◌-◌, ◌<◌, List, [], ◌∷◌, subst, subst₂, inl, inr, arith}
-use Rattle.std.specs.Prelude.{◌⊎◌, ◌↔◌, All, Contains}
-use Rattle.std.proofs.lemmas.List.Elements.{All-head, All-tail}
+use Rattle.std.proofs.Common.{◌≡◌, ◌-◌, ◌<◌, List, [], ◌∷◌, subst, subst₂, inl, inr, arith}
+use Rattle.std.specs.Prelude.{◌⊎◌, ◌↔◌, Contains}
 use Rattle.std.proofs.Math.Logic.{⊎_elim}
 use Rattle.std.proofs.lemmas.Bool.{cases_lt}
 use Rattle.krl_core.specs.Changes.{MeansMore}
-use Rattle.krl_core.specs.Contents.{Contents, HoldsId, HoldsName, HoldsSerial, IsListed, IsOrderly, Section, nothing}
-use Rattle.krl_core.specs.Elements.{contains_none}
+use Rattle.krl_core.specs.Contents.{Contents, HoldsId, HoldsName, HoldsSerial, IsOrderly}
 use Rattle.krl_core.specs.Entry.{Entry, SerialsEntry, RangeEntry, BitmapEntry, IdEntry, KeyEntry, Sha1Entry, Sha256Entry}
 use Rattle.krl_core.specs.Naming.{EntryNames, IdOf, KeyOf, Name, SerialOf, Sha1Of, Sha256Of, SomeNames}
 use Rattle.krl_core.specs.Scope.{IsTopic, IsWithin}
 use Rattle.krl_core.proofs.MeansMore.{means_more_names}
-
-pub within_nothing : (topics : Contents) → IsWithin topics nothing
-within_nothing topics = record {
-  runs = λ a s begins. absurd begins.0;
-  ids = λ a text held. absurd held;
-  keys = λ blob held. absurd (contains_none blob held);
-  sha1s = λ hash held. absurd (contains_none hash held);
-  sha256s = λ hash held. absurd (contains_none hash held);
-}
 
 -- ---- some entries more
 
@@ -48,11 +37,6 @@ within_more topics old new more orderly within means about = record {
     others name was none held = ⊎_elim was (λ named. ⊎_elim (λ topic. topic) (λ on. absurd (none on)) (about name named)) ((now name).0 held)
 
 -- ---- one entry more
-
--- a serial number that is held is not 0
-pub serial_some : (sections : List Section) → All IsListed sections → (a : List ℕ) (s : ℕ) → HoldsSerial sections a s → 0 < s
-serial_some [] listed a s h = absurd h
-serial_some (x ∷ xs) listed a s h = ⊎_elim (λ here. ((All-head IsListed x xs listed).serials s here.1).0) (serial_some xs (All-tail IsListed x xs listed) a s) h
 
 -- the entry names a topic, or a run of serial numbers that begins with one
 abbrev pub IsAbout : (topics : Contents) → Entry → Type 0
