@@ -11,4 +11,4 @@ pub use cause::{Cause, cause_of};
 pub use file_fault::FileFault;
 pub use file_keys::{FileKey, FileKeys, keys_of};
 pub use named::{Named, load};
-pub use run_fault::{RunFault, fault_line};
+pub use run_fault::{RunFault, fault_text};

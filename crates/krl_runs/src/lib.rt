@@ -8,7 +8,7 @@ mod output;
 mod runs;
 
 pub use key_files::{
-    Cause, FileFault, FileKey, FileKeys, Named, RunFault, cause_of, fault_line, keys_of, load,
+    Cause, FileFault, FileKey, FileKeys, Named, RunFault, cause_of, fault_text, keys_of, load,
 };
 pub use output::done::{Done, FAILED};
 pub use runs::listing::{ListMode, list_run};

@@ -3,7 +3,7 @@
 ghost use Rattle.std.specs.Prelude.{◌≡◌, ◌⊎◌, None, Some};
 ghost use Rattle.krl_words.specs.Command.{command_fault_status};
 
-use krl_runs::{Cause, Done, FAILED, RunFault, fault_line};
+use krl_runs::{Cause, Done, FAILED, RunFault, fault_text};
 use krl_words::CommandFault;
 use ssh_wire::{ToWrite, send};
 
@@ -36,7 +36,7 @@ pub fn end(rt: &HostRuntime, done: &Done) -> u8
     ensures { result ≡ done.now.status }
 {
     if let Some(fault) = &done.fault
-        && let Ok(text) = fault_line(rt.alloc(), fault)
+        && let Ok(text) = fault_text(rt.alloc(), fault)
     {
         report(rt, text.as_slice());
     }

@@ -2,7 +2,7 @@
 
 use crate::tests::runs::same;
 use krl_core::KrlFault;
-use krl_runs::{Cause, FileFault, RunFault, fault_line};
+use krl_runs::{Cause, FileFault, RunFault, fault_text};
 use krl_spec::SpecCause;
 use ssh_cert::{CertFault, SubjectFault};
 use ssh_key::{KeyFault, LineFault, PrivateFault};
@@ -104,7 +104,7 @@ fn lines(rt: HostRuntime) {
             line: *line,
             cause: *cause,
         };
-        let text = fault_line(rt.alloc(), &fault).expect(&rt, "there is memory");
+        let text = fault_text(rt.alloc(), &fault).expect(&rt, "there is memory");
         let reported = text.strip_prefix(b"ssh-keygen: ").unwrap_or(b"no name");
         same(&rt, i, reported, want.as_bytes());
     }
@@ -118,7 +118,7 @@ fn a_long_name(rt: HostRuntime) {
         name.push_str("a\x7f").expect(&rt, "there is memory");
     }
     let fault = RunFault::whole(name.as_str(), Cause::NoMemory);
-    let text = fault_line(rt.alloc(), &fault).expect(&rt, "there is memory");
+    let text = fault_text(rt.alloc(), &fault).expect(&rt, "there is memory");
     assert!(rt; text.len() == 12 + 10_000 * 5 + 2 + 14);
     assert!(rt; text.as_slice().ends_with(b"a\\x7f: run 1 NoMemory"));
 }

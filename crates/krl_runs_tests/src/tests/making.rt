@@ -2,7 +2,7 @@
 
 use crate::tests::runs::{CLOSED, File, LONG, all_named, holding, joined, named, repeated, same};
 use krl_make::{Authority, Old, make_run};
-use krl_runs::fault_line;
+use krl_runs::fault_text;
 use parts_for_tests::{
     CERT_LINE, CONTAINER, FIVE, GITHUB, GITHUB_LINE, HEADER, ID_A, KEY_SECTION, OTHER, OTHER_LINE,
     SHA256_SECTION,
@@ -32,7 +32,7 @@ fn made(
     let (made, _) = make_run(alloc, old, authority, version, files.as_slice(), 0);
     match made {
         Ok(list) => list,
-        Err(fault) => fault_line(alloc, &fault).expect(rt, "there is memory"),
+        Err(fault) => fault_text(alloc, &fault).expect(rt, "there is memory"),
     }
 }
 

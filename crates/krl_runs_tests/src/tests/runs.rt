@@ -1,6 +1,6 @@
 //! Runs over files that the tests make, and what they answer.
 
-use krl_runs::{Done, FileFault, ListMode, Named, fault_line, list_run, query_run};
+use krl_runs::{Done, FileFault, ListMode, Named, fault_text, list_run, query_run};
 use parts_for_tests::{GITHUB_LINE, Giver, HEADER, KEY_SECTION, Taker};
 use ssh_key::Hash;
 use ssh_wire::{Bytes, FromRead, ToWrite};
@@ -89,7 +89,7 @@ pub fn all_named<'a>(rt: &impl Abort, alloc: Global, files: &[File<'a>]) -> Vec<
 /// What is said of a run's end.
 pub fn reported(rt: &impl Abort, alloc: Global, text: Vec<u8>, done: &Done) -> Ran {
     let fault = match &done.fault {
-        Some(fault) => fault_line(alloc, fault).expect(rt, "there is memory"),
+        Some(fault) => fault_text(alloc, fault).expect(rt, "there is memory"),
         None => Vec::new(alloc),
     };
     Ran {

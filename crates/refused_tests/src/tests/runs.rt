@@ -5,7 +5,7 @@ use crate::tests::buffer::Buffer;
 use crate::tests::parts::list_of;
 use krl_make::{Authority, Old, make_run};
 use krl_runs::{
-    Cause, Done, FileFault, ListMode, Named, RunFault, fault_line, list_run, load, query_run,
+    Cause, Done, FileFault, ListMode, Named, RunFault, fault_text, list_run, load, query_run,
 };
 use krl_spec::{KeyCause, SpecCause};
 use parts_for_tests::{
@@ -32,7 +32,7 @@ fn a_file_that_is_loaded(rt: HostRuntime) {
 fn the_line_of_a_fault(rt: HostRuntime) {
     let cause = Cause::Spec(SpecCause::Key(KeyCause::Line(LineFault::NoKey)));
     let fault = RunFault::at_line("s\x1b", 1, cause);
-    if let Some(text) = answered(&rt, fault_line(rt.alloc(), &fault), AllocError) {
+    if let Some(text) = answered(&rt, fault_text(rt.alloc(), &fault), AllocError) {
         assert!(rt;
             text.as_slice() == b"ssh-keygen: s\\x1b: line 1: spec 6 Key, line 1 NoKey".as_slice()
         );
