@@ -49,6 +49,7 @@ _krl_keygen_options() {
   for letter in $(_krl_keygen_fitting); do
     [[ $seen == *$letter* ]] || printf '%s\n' -$letter
   done
+  [ -n "$seen" ] || echo --version
 }
 
 _krl_keygen() {

@@ -16,6 +16,7 @@ end
 complete -c ssh-keygen -f
 complete -c ssh-keygen -n '__krl_keygen_has k Q' -F
 complete -c ssh-keygen -n '__krl_keygen_lacks l L k Q E f u s z' -s h -l help -d 'Print the options'
+complete -c ssh-keygen -n '__krl_keygen_lacks l L k Q E f u s z' -l version -d 'Print the name and version'
 complete -c ssh-keygen -n '__krl_keygen_lacks l L k u s z' -s l -d 'List the keys of a file'
 complete -c ssh-keygen -n '__krl_keygen_lacks l L k Q u s z' -s L -d 'Print the certificates of a file'
 complete -c ssh-keygen -n '__krl_keygen_lacks l L k Q E' -s k -d 'Make a revocation list'

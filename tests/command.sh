@@ -98,6 +98,7 @@ Options:
   -u              Add to the list that there is
   -s <ca_public>  The authority's key file, or none for all
   -z <version>    The list's version
+      --version   Print the program's name and version
   -h, --help      Print help
 
 Examples:
@@ -108,8 +109,48 @@ Examples:
 END
 )
 for words in '-h' '--help' '-Q -h' '-h -Z'; do
-  expect "help by $words" 0 "$help"$'\n' '' $words
+  expect "help by $words" 0 "${help//ssh-keygen/${program##*/}}"$'\n' '' $words
 done
+# called NAME: the help names the command so, whatever folder it is in.
+mkdir links
+called() {
+  ln -sf "$binary" "links/$1"
+  judge "help of a command called $1" "$(
+    differs help "${help//ssh-keygen/$1}" "$("links/$1" -h 2>&1)"
+    differs 'help by the PATH' "${help//ssh-keygen/$1}" "$(PATH=$PWD/links:$PATH "$1" -h 2>&1)"
+  )"
+}
+for name in krl-keygen ssh-keygen 'a name' é; do
+  called "$name"
+done
+for name in '' links/; do
+  judge "help of a command called '$name'" "$(
+    differs help "${help//ssh-keygen/krl-keygen}" "$(bash -c 'exec -a "$0" "$1" -h' "$name" "$binary" 2>&1)"
+  )"
+done
+judge 'a command that is called by a name with an escape' "$(
+  differs 'the first form of use' 'Usage: a\x1bb -l [-E hash] -f file' \
+    "$(bash -c 'exec -a "$0" "$1" -h' $'a\eb' "$binary" 2>&1 | grep ^Usage)"
+)"
+judge 'an unknown option of a command called krl-keygen' "$(
+  differs 'the first form of use' 'Usage: krl-keygen -l [-E hash] -f file' \
+    "$(links/krl-keygen -Z 2>&1 | grep ^Usage)"
+)"
+judge 'a fault of a command called krl-keygen' \
+  "$(differs 'standard error' 'ssh-keygen: none: file 1 Open' "$(links/krl-keygen -l -f none 2>&1)")"
+
+version=$("$program" --version 2>/dev/null)
+judge 'the version has three numbers' \
+  "$([[ $version =~ ^krl-keygen\ [0-9]+[.][0-9]+[.][0-9]+$ ]] || echo "  it says $version")"
+for words in '--version' '-Q --version' '--version -Z'; do
+  expect "the version by $words" 0 "$version"$'\n' '' $words
+done
+for name in krl-keygen ssh-keygen; do
+  judge "the version of a command called $name" \
+    "$(differs 'standard output' "$version" "$("links/$name" --version)")"
+done
+expect_text 'a version with a value' 2 error --version=1
+expect_text 'the version by a letter' 2 error -V
 expect_text 'an unknown option' 2 error -Z
 expect_text 'an unknown long option' 2 error --nothing
 expect_text 'an option without its value' 2 error -l -f

@@ -13,8 +13,9 @@ offers() {
   judge "bash is offered $name" "$(differs words "$wanted" "$got")"
 }
 every=$(printf '%s\n' 'a b.pub' one.pub two.krl | sort | paste -sd ,)
-offers 'all options to begin with' -E,-L,-Q,-f,-h,-k,-l,-s,-u,-z -
+offers 'all options to begin with' --version,-E,-L,-Q,-f,-h,-k,-l,-s,-u,-z -
 offers 'no file before the mode is known' '' ''
+offers 'the version that was begun' --version --v
 offers 'the options of a listing' -E,-Q,-f -l -
 offers 'no mode that does not fit a hash' -L,-f,-l -E md5 -
 offers 'the options of certificates' -E,-f -L -

@@ -13,7 +13,8 @@ rendered() {
     awk -v section="$1" '/^[A-Z]/ { on = $0 == section; next } on && NF { sub(/^ +/, ""); print }'
 }
 forms=$("$program" --help |
-  awk '/^Usage:/ { on = 1; sub(/^Usage:/, "") } on && !NF { exit } on { sub(/^ +/, ""); print }')
+  awk '/^Usage:/ { on = 1; sub(/^Usage:/, "") } on && !NF { exit } on { sub(/^ +/, ""); print }' |
+  sed "s/^${program##*/} /ssh-keygen /")
 judge 'the synopsis is what --help says' "$(differs 'forms of use' "$forms" "$(rendered SYNOPSIS)")"
 
 cp -r "$top/demo" demo && cd demo || exit 1

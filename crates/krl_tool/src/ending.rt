@@ -51,8 +51,8 @@ fn report(rt: &HostRuntime, line: &[u8]) {
     }
 }
 
-/// Prints help, or why the words are refused, and gives the status. Help that cannot be printed is
-/// a fault of the output.
+/// Prints help or the version, or why the words are refused, and gives the status. Help that cannot
+/// be printed is a fault of the output.
 pub fn refuse(rt: &HostRuntime, fault: &CommandFault) -> u8
     ensures { (result ≡ command_fault_status fault.now) ⊎ (result ≡ 255) }
 {
@@ -73,7 +73,7 @@ pub fn refuse(rt: &HostRuntime, fault: &CommandFault) -> u8
     }
 }
 
-// Prints the help, and gives the status.
+// Prints the help or the version, and gives the status.
 fn print_help(rt: &HostRuntime, text: &[u8]) -> u8
     ensures { (result ≡ 0) ⊎ (result ≡ 255) }
 {

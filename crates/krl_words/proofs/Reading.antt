@@ -1,5 +1,5 @@
 -- What the words hold, by their matches.
-use Rattle.std.proofs.Common.{◌≡◌, ℕ, true, false, List, [], Option, Result, Ok, Err, refl, sym, ap, ap₂, ◌∙◌, codes, inl, inr}
+use Rattle.std.proofs.Common.{◌≡◌, ℕ, ◌+◌, ◌<◌, true, false, List, [], ◌∷◌, ◌++◌, length, map, take, get_or, Option, Result, Ok, Err, refl, sym, ap, ap₂, ◌∙◌, codes, inl, inr}
 use Rattle.std.specs.Prelude.{unwrap_or, option_map}
 use Rattle.std.specs.Option.{option_map_or}
 use Rattle.std.specs.Str.{bytes_eq}
@@ -15,6 +15,7 @@ use Rattle.clap.specs.declared.builder.command.Command.{Command}
 use Rattle.clap.specs.declared.error.Error.{Error}
 use Rattle.clap.specs.declared.parser.matches.ArgMatches.{ArgMatches}
 use Rattle.clap.specs.declared.parser.matches.Found.{Found}
+use Rattle.std.proofs.lemmas.List.{map-append, take_more}
 use Rattle.clap.proofs.OnLiterals.{clap_on_literals}
 use Rattle.clap.proofs.WalkLemmas.{first_value-rows, raw_values-rows}
 use Rattle.krl_words.specs.declared.command.CommandFault.{CommandFault}
@@ -23,11 +24,22 @@ use Rattle.krl_job.specs.declared.job.Job.{Job}
 use Rattle.krl_words.specs.Command.{AsksFor, IsCommand, ReportsError}
 use Rattle.krl_job.specs.Job.{job_of}
 use Rattle.krl_job.specs.Given.{Given}
-use Rattle.krl_words.specs.Options.{given_in, given_of, is_set, program}
+use Rattle.krl_words.specs.Options.{given_in, given_of, is_set, program, rule_by, with_rules}
+use Rattle.krl_words.specs.declared.options.Argument.{Argument}
 
 -- one more argument
 pub one_more : (old new : Command) (a : Arg) (app : App) (rule : Rule) → app_of old ≡ app → a.global ≡ false → rule_of a ≡ rule → AddsArg old a new → app_of new ≡ with_rule app rule
 one_more old new a app rule is_old local is_rule adds = adds.shape local ∙ ap₂ with_rule is_old is_rule
+
+last_rule : (app : App) (rules : List Rule) (rule : Rule) → with_rules app (rules ++ rule ∷ []) ≡ with_rule (with_rules app rules) rule
+last_rule app [] rule = refl
+last_rule app (first ∷ rules) rule = last_rule (with_rule app first) rules rule
+
+-- the rules of a table to one argument more
+pub one_more_rule : (app : App) (table : List Argument) (i : ℕ) (d : Argument) → i < length table
+    → with_rule (with_rules app (map rule_by (take i table))) (rule_by (get_or table i d)) ≡ with_rules app (map rule_by (take (i + 1) table))
+one_more_rule app table i d lt =
+    rw (take_more table i d lt, map-append rule_by (take i table) (get_or table i d ∷ [])) (sym (last_rule app (map rule_by (take i table)) (rule_by (get_or table i d))))
 
 pub program_is_free : is_simple_and_free program ≡ true
 unfolding clap_on_literals

@@ -1,5 +1,5 @@
 -- The options that the program has (ssh-keygen(1), SYNOPSIS), and what words hold of them.
-use Rattle.std.specs.Prelude.{ℕ, Bool, true, false, List, [], ◌∷◌, ◌++◌, Some, codes, unwrap_or}
+use Rattle.std.specs.Prelude.{ℕ, Bool, true, false, List, [], ◌∷◌, Some, codes, unwrap_or}
 use Rattle.std.specs.Option.{option_map_or}
 use Rattle.std.specs.Str.{bytes_eq}
 use Rattle.clap.specs.Lexer.{usize_max}
@@ -7,6 +7,10 @@ use Rattle.clap.specs.Simple.{App, matches_of, new_rule, new_shape, with_rule}
 use Rattle.clap.specs.Walk.{Row, Rule, all_of, first_of}
 use Rattle.krl_job.specs.Given.{Given}
 use Rattle.clap.specs.declared.builder.action.ArgAction.TheVariants.{Append, Set, SetTrue}
+use Rattle.clap.specs.declared.builder.action.ArgAction.TheVariants.{Version as AskVersion}
+use Rattle.krl_words.specs.declared.options.Argument.{Argument}
+use Rattle.krl_words.specs.declared.options.Form.{Form}
+use Rattle.krl_words.specs.declared.options.Form.TheVariants.{Flag, Value, Version, Words}
 
 -- an option without a value, by its letter
 abbrev pub flag_rule : List ℕ → ℕ → Rule
@@ -17,33 +21,42 @@ abbrev pub value_rule : List ℕ → ℕ → Rule
 value_rule id letter =
     record (new_rule id) { short = Some letter; action = Some Set; value_names = 1 }
 
--- any number of files
-abbrev pub files_rule : Rule
-files_rule = record (new_rule (codes "files")) {
+-- any number of words by themselves
+abbrev pub words_rule : List ℕ → Rule
+words_rule id = record (new_rule id) {
   action = Some Append;
   range = Some (record { start_inclusive = 0; end_inclusive = usize_max });
   value_names = 1;
 }
 
--- -l, -L, -k and -Q
-abbrev pub modes : List Rule
-modes =
+-- a long name that asks for the program's version
+abbrev pub version_rule : List ℕ → List ℕ → Rule
+version_rule id name = record (new_rule id) { long = Some name; action = Some AskVersion }
+
+-- -l, -L, -k and -Q, -f and -E, -u, -s, -z, the files, and --version
+abbrev pub rules : List Rule
+rules =
     flag_rule (codes "list") 108
     ∷ flag_rule (codes "certificates") 76
     ∷ flag_rule (codes "make") 107
-    ∷ flag_rule (codes "query") 81 ∷ []
-
--- -f and -E
-abbrev pub names : List Rule
-names = value_rule (codes "file") 102 ∷ value_rule (codes "hash") 69 ∷ []
-
--- -u, -s, -z and the files
-abbrev pub terms : List Rule
-terms =
-    flag_rule (codes "update") 117
+    ∷ flag_rule (codes "query") 81
+    ∷ value_rule (codes "file") 102
+    ∷ value_rule (codes "hash") 69
+    ∷ flag_rule (codes "update") 117
     ∷ value_rule (codes "authority") 115
     ∷ value_rule (codes "version") 122
-    ∷ files_rule ∷ []
+    ∷ words_rule (codes "files")
+    ∷ version_rule (codes "program_version") (codes "version") ∷ []
+
+-- the rule of an argument, by its form
+abbrev pub form_rule : List ℕ → Form → Rule
+form_rule id (Flag letter) = flag_rule id letter
+form_rule id (Value letter name) = value_rule id letter
+form_rule id (Words name) = words_rule id
+form_rule id (Version name) = version_rule id name.now
+
+abbrev pub rule_by : Argument → Rule
+rule_by argument = form_rule argument.id.now argument.form
 
 abbrev pub with_rules : App → List Rule → App
 with_rules app [] = app
@@ -53,12 +66,16 @@ with_rules app (rule ∷ rules) = with_rules (with_rule app rule) rules
 -- several values the last one counts, and an option without a value counts once.
 abbrev pub bare : App
 bare = record {
-  top = record (new_shape (codes "ssh-keygen")) { args_override_self = true };
+  top = record (new_shape (codes "krl-keygen")) {
+    has_version = true;
+    disable_version_flag = true;
+    args_override_self = true;
+  };
   subs = [];
 }
 
 abbrev pub program : App
-program = with_rules bare (modes ++ (names ++ terms))
+program = with_rules bare rules
 
 abbrev pub is_set : List ℕ → List Row → Bool
 is_set id rows = option_map_or (λ text. bytes_eq text (codes "true")) (first_of id rows) false

@@ -23,7 +23,8 @@ pub enum CommandFault {
     /// The options, or a value of one, are none that the program has together.
     #[error("usage 1 Usage")]
     Usage,
-    /// The words are no options of the program, or ask for its help: the text to print.
+    /// The words are no options of the program, or ask for its help or its version: the text to
+    /// print.
     #[error("usage 2 Words")]
     Words { help: bool, text: String },
     /// There was no memory.
@@ -53,8 +54,9 @@ impl From<AllocError> for CommandFault {
 }
 
 /// The job that the words ask for, the program's name before them (ssh-keygen(1), SYNOPSIS).
-/// `Words` where they are no options of the program or ask for help, `Usage` where the options do
-/// not go together or a value is none of theirs, `NoMemory` where memory runs out.
+/// `Words` where they are no options of the program, or ask for its help or its version, `Usage`
+/// where the options do not go together or a value is none of theirs, `NoMemory` where memory runs
+/// out.
 pub fn command_of<'a, S: AsStr>(alloc: Global, words: &'a [S]) -> Result<Job<'a>, CommandFault>
     ensures { IsCommand (map S.text words.entry.now) result }
 {
@@ -65,7 +67,7 @@ pub fn command_of<'a, S: AsStr>(alloc: Global, words: &'a [S]) -> Result<Job<'a>
     }
 }
 
-// Why the words are not read, or the help that they ask for.
+// Why the words are not read, or the help or the version that they ask for.
 fn words_fault<S: AsStr>(alloc: Global, error: &Error, words: &[S]) -> CommandFault
     ensures { ReportsError error.now result }
 {

@@ -5,5 +5,7 @@ mod command;
 mod given;
 mod options;
 mod shown;
+mod usage;
+mod version;
 
 pub use command::{CommandFault, command_of};

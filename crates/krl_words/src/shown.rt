@@ -1,6 +1,7 @@
 //! What the command line library says of words that it refuses.
 
 use crate::options::program;
+use crate::usage::{command_name, examples_of, usage_of};
 use clap::error::ErrorKind;
 use std::alloc::{AllocError, Global};
 use std::convert::AsStr;
@@ -8,7 +9,7 @@ use std::convert::AsStr;
 // What is said of words that are read once they are escaped.
 const REFUSED: &str = "ssh-keygen: usage 2 Words\n";
 
-/// The library's text for these words, or its help. It repeats words as they are given, so it is
+/// The library's text for these words, its help or the version. It repeats words as they are given, so it is
 /// given them with their control characters escaped: no word moves the terminal or begins a line.
 pub fn text_for<S: AsStr>(alloc: Global, words: &[S]) -> Result<String, AllocError> {
     let mut shown = Vec::new(alloc);
@@ -20,7 +21,12 @@ pub fn text_for<S: AsStr>(alloc: Global, words: &[S]) -> Result<String, AllocErr
 
 // The library's text for words without control characters.
 fn said_of(alloc: Global, words: &[String]) -> Result<String, AllocError> {
-    let program = program(alloc)?;
+    let name = command_name(words);
+    let usage = usage_of(alloc, name)?;
+    let examples = examples_of(alloc, name)?;
+    let program = program(alloc)?
+        .override_usage(usage.as_str())
+        .after_help(examples.as_str());
     match program.try_get_matches_from(words) {
         Ok(_matches) => String::from_str(alloc, REFUSED),
         Err(error) if error.kind() == ErrorKind::OutOfMemory => Err(AllocError),

@@ -1,16 +1,16 @@
--- The options are added group by group.
+-- The table holds the options.
 use Rattle.std.proofs.Common.{◌≡◌, ◌∙◌, ap, codes, true}
 use Rattle.std.proofs.lemmas.Result.{IfOk-weaker}
 use Rattle.clap.specs.Simple.{App, app_of, app_of_fields, new_app, on_top}
-use Rattle.krl_words.specs.Options.{bare, modes, names, terms, with_rules}
+use Rattle.krl_words.specs.Options.{bare, rules, with_rules}
 use Rattle.krl_words.proofs.options.program.Goals as goal
 
 pub returns : goal.returns
 returns c =
-    let plain : app_of c.after_help.result ≡ new_app (codes "ssh-keygen") =
-    ap app_of_fields c.after_help.ensures ∙ (ap app_of_fields c.override_usage.ensures ∙ (ap app_of_fields c.about.ensures ∙ c.new.ensures.app)) in
-    let overriding : app_of c.args_override_self-bare.result ≡ bare =
-    ap app_of_fields c.args_override_self-bare.ensures ∙ ap (on_top (λ s. record s { args_override_self = true })) plain in
-    let with_modes = c.in_ok-with_modes.ensures ∙ ap (λ (app : App). with_rules app modes) overriding in
-    let with_names = c.in_ok-with_names.ensures ∙ ap (λ (app : App). with_rules app names) with_modes in
-    IfOk-weaker c.add_terms.result _ _ (λ command adds. adds ∙ ap (λ (app : App). with_rules app terms) with_names) c.add_terms.ensures
+    let named : app_of c.about.result ≡ new_app (codes "krl-keygen") = ap app_of_fields c.about.ensures ∙ c.new.ensures.app in
+    let versioned : app_of c.version.result ≡ on_top (λ s. record s { has_version = true }) (new_app (codes "krl-keygen")) =
+    ap app_of_fields c.version.ensures ∙ ap (on_top (λ s. record s { has_version = true })) named in
+    let flagless = ap app_of_fields c.disable_version_flag.ensures ∙ ap (on_top (λ s. record s { disable_version_flag = true })) versioned in
+    let whole : app_of c.args_override_self-bare.result ≡ bare =
+    ap app_of_fields c.args_override_self-bare.ensures ∙ ap (on_top (λ s. record s { args_override_self = true })) flagless in
+    IfOk-weaker c.with_arguments.result _ _ (λ command adds. adds ∙ ap (λ (app : App). with_rules app rules) whole) c.with_arguments.ensures
