@@ -30,11 +30,47 @@ holds() {
 }
 holds 'a serial number' 'serial: 5\n' 20000000080000000000000005
 cp made.krl five.krl
-judge 'its time is the present one' "$(
-  moment=$((16#$(od -An -v -tx1 -j20 -N8 five.krl | tr -d ' \n')))
+# The time of the list that was made.
+time_of_list() {
+  od -An -v -tx1 -j20 -N8 made.krl | tr -d ' \n'
+}
+# is_present NAME: the list that was made has the present time.
+is_present() {
+  local moment=$((16#$(time_of_list))) now
   now=$(date +%s)
-  [ $moment -le "$now" ] && [ $moment -gt $((now - 600)) ] || echo "  at $now the list says $moment"
-)"
+  judge "$1" "$([ $moment -le "$now" ] && [ $moment -gt $((now - 600)) ] || echo "  at $now the list says $moment")"
+}
+is_present 'its time is the present one'
+# dated VALUE DIGITS: a list that is made or updated under this value of the environment has this time.
+dated() {
+  local SOURCE_DATE_EPOCH=$1
+  export SOURCE_DATE_EPOCH
+  cp five.krl made.krl
+  expect "an update at the time $1" 0 '' '' -k -u -f made.krl
+  judge "an update at the time $1: its time" "$(differs time "$2" "$(time_of_list)")"
+  expect "a list at the time $1" 0 '' '' -k -f made.krl
+  judge "a list at the time $1: its bytes" "$(
+    differs bytes "${H:0:24}0000000000000000$2${H:56}" "$(od -An -v -tx1 made.krl | tr -d ' \n')"
+  )"
+}
+dated 0 0000000000000000
+dated 1 0000000000000001
+dated 00000000000000000020 0000000000000014
+dated $highest ffffffffffffffff
+for moment in 1600000000 253370764799; do
+  dated $moment "$(printf %016x $moment)"
+  judge "a list at the time $moment: what -Q -l says" "$(
+    differs time "# Generated at $(date -u -d @$moment +%Y-%m-%dT%H:%M:%SZ)" "$("$program" -Q -l -f made.krl | sed -n 2p)"
+  )"
+done
+for moment in '' now ' 5' '5 ' +5 -5 5.0 0x10 5e3 18446744073709551616 000000000000000000005 ٥ $'\xff'; do
+  SOURCE_DATE_EPOCH=$moment expect "a list at no time, '$moment'" 0 '' '' -k -f made.krl
+  is_present "a list at no time, '$moment': its time is the present one"
+done
+line ssh-ed25519-cert-v01@openssh.com "$(certificate "$G" "$A" 0000000000000007 a '' '' 000000005f5e1000)" >past-cert
+SOURCE_DATE_EPOCH=0 run -L -f past-cert
+judge 'whether a certificate is valid is asked of the clock' \
+  "$(differs 'valid now' '        Valid now: no' "$(printf %s "$got_output" | grep 'Valid now')")"
 holds 'all serial numbers' "serial: 1-$highest\n" 21000000100000000000000001ffffffffffffffff
 holds 'each second number' 'serial: 1\nserial: 3\nserial: 5\nserial: 7\n' \
   220000000d00000000000000010000000155

@@ -1,7 +1,7 @@
 -- The job that words ask for by what they hold of the options (ssh-keygen(1), SYNOPSIS).
 use Rattle.std.specs.Prelude.{ℕ, ◌^◌, ◌==◌, ◌&&◌, ◌||◌, not, Bool, true, false, nat_le, nat_lt}
 use Rattle.std.specs.Prelude.{if◌then◌else◌, List, length, map, Option, None, Some, is_some}
-use Rattle.std.specs.Prelude.{option_and_then, codes}
+use Rattle.std.specs.Prelude.{option_and_then, option_map, codes}
 use Rattle.std.specs.Borrow.{Bor}
 use Rattle.std.specs.Char.{is_ascii_digit}
 use Rattle.std.specs.List.{list_all}
@@ -60,16 +60,16 @@ hash_named None = Some Sha256
 hash_named (Some text) = hash_called text
 
 -- from 1 to 20 decimal digits whose number has at most 64 bits
-abbrev pub is_version : List ℕ → Bool
-is_version text = nat_le (length text) 20 && (list_all is_ascii_digit text
+abbrev pub is_number : List ℕ → Bool
+is_number text = nat_le (length text) 20 && (list_all is_ascii_digit text
     && (nat_lt 0 (length text) && nat_lt (digits_value 10 text) (2 ^ 64)))
 
-abbrev pub version_called : List ℕ → Option (Option ℕ)
-version_called text = if is_version text then Some (Some (digits_value 10 text)) else None
+abbrev pub number_of : List ℕ → Option ℕ
+number_of text = if is_number text then Some (digits_value 10 text) else None
 
 abbrev pub version_named : Option (List ℕ) → Option (Option ℕ)
 version_named None = Some None
-version_named (Some text) = version_called text
+version_named (Some text) = option_map (λ version. Some version) (number_of text)
 
 abbrev pub authority_called : List ℕ → Authority (List ℕ)
 authority_called text =

@@ -4,12 +4,12 @@ ghost use Rattle.std.specs.Prelude.{◌≡◌, option_map};
 ghost use Rattle.std.specs.Char.{is_ascii_digit};
 ghost use Rattle.std.specs.List.{list_all};
 ghost use Rattle.krl_job.specs.Given.{given_by};
-ghost use Rattle.krl_job.specs.Job.{asked_of, authority_named, authority_of, fits, hash_called, hash_named, is_for_making, job_of, mode_of, version_called, version_named};
+ghost use Rattle.krl_job.specs.Job.{asked_of, authority_named, authority_of, fits, hash_called, hash_named, is_for_making, job_of, mode_of, number_of, version_named};
 
 use crate::given::Given;
 use ssh_key::Hash;
 
-// How many digits a version has at most.
+// How many digits a number has at most.
 const MOST_DIGITS: usize = 20;
 
 /// What a run of the program does.
@@ -140,19 +140,19 @@ fn version_named(text: Option<&str>) -> Option<Option<u64>>
 {
     match text {
         None => Some(None),
-        Some(text) => version_called(text),
+        Some(text) => Some(Some(number_of(text)?)),
     }
 }
 
-// A version of one to twenty decimal digits, below 2^64.
-fn version_called(text: &str) -> Option<Option<u64>>
-    ensures { result ≡ version_called text.now }
+/// The number that a text of one to twenty decimal digits is, if it is below 2^64.
+pub fn number_of(text: &str) -> Option<u64>
+    ensures { result ≡ number_of text.now }
 {
     if text.len() > MOST_DIGITS || !are_digits(text.as_bytes()) {
         return None;
     }
     match text.parse() {
-        Ok(version) => Some(Some(version)),
+        Ok(number) => Some(number),
         Err(_) => None,
     }
 }

@@ -1,6 +1,25 @@
-//! The present moment.
+//! The present moment, and the date of a list.
 
+use krl_job::number_of;
+use krl_runs::Cause;
+use std::env::{self, VarError};
 use std::time::{SystemTime, UNIX_EPOCH};
+
+// What names the date of what is made, so that it can be made again with the same bytes.
+const DATE: &str = "SOURCE_DATE_EPOCH";
+
+/// The date of a list that is made now: what the environment says, where that is a number, else the
+/// present moment.
+pub fn date(rt: &HostRuntime) -> Result<u64, Cause> {
+    match env::var(rt, DATE) {
+        Ok(text) => match number_of(text.as_str()) {
+            Some(date) => Ok(date),
+            None => Ok(moment(rt)),
+        },
+        Err(VarError::NotPresent | VarError::NotUnicode) => Ok(moment(rt)),
+        Err(VarError::OutOfMemory) => Err(Cause::NoMemory),
+    }
+}
 
 /// The seconds since 1970. A clock that cannot be read, or shows an earlier time, counts as 0.
 pub fn moment(rt: &HostRuntime) -> u64 {

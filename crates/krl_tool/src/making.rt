@@ -3,7 +3,7 @@
 ghost use Rattle.std.specs.Prelude.{◌≡◌, false};
 ghost use Rattle.std.specs.Option.{ForSome};
 
-use crate::clock::moment;
+use crate::clock::date;
 use crate::ending::{end, failed, stopped};
 use crate::files::{buffered, open_authority, open_inputs};
 use crate::holding::{Place, hold};
@@ -158,6 +158,10 @@ fn text_of<'a, R: Source + Drop>(
 ) -> Result<Vec<u8>, RunFault<'a>>
     requires { ForSome list (λ reader. R.has_failed reader ≡ false) }
 {
+    let date = match date(rt) {
+        Ok(date) => date,
+        Err(cause) => return Err(RunFault::whole(wanted.name, cause)),
+    };
     let old = Old {
         name: wanted.name,
         list,
@@ -168,7 +172,7 @@ fn text_of<'a, R: Source + Drop>(
         &wanted.authority,
         wanted.version,
         wanted.files.as_slice(),
-        moment(rt),
+        date,
     );
     made
 }

@@ -1,4 +1,4 @@
--- Texts that are versions, and others.
+-- Texts that are numbers, and others.
 use Rattle.std.proofs.Common.{◌≡◌, ℕ, ◌<◌, ◌≤◌, ◌^◌, ◌==◌, ◌&&◌, Bool, true, false, List, [], ◌∷◌, length, nat_le, nat_lt, Some, None, refl, sym, arith}
 use Rattle.std.specs.Char.{digit_value, is_ascii_digit}
 use Rattle.std.specs.List.{list_all}
@@ -6,18 +6,18 @@ use Rattle.std.specs.Str.Parse.{AllDigits, IsNumeral, digits_value, without_lead
 use Rattle.std.proofs.Math.Bool.{and-false}
 use Rattle.std.proofs.lemmas.Bool.{and_parts}
 use Rattle.std.proofs.lemmas.Bool.Decides.{nat_tests}
-use Rattle.krl_job.specs.Job.{is_version, version_called}
+use Rattle.krl_job.specs.Job.{is_number, number_of}
 
-pub no_version : (text : List ℕ) → is_version text ≡ false → version_called text ≡ None
-no_version text fails = rw fails refl
+pub no_number : (text : List ℕ) → is_number text ≡ false → number_of text ≡ None
+no_number text fails = rw fails refl
 
-pub too_long : (text : List ℕ) → 20 < length text → version_called text ≡ None
+pub too_long : (text : List ℕ) → 20 < length text → number_of text ≡ None
 too_long text long =
     let fails : nat_le (length text) 20 ≡ false = grind (arith, nat_tests) in
-    no_version text (rw fails refl)
+    no_number text (rw fails refl)
 
-pub no_digits : (text : List ℕ) → list_all is_ascii_digit text ≡ false → version_called text ≡ None
-no_digits text fails = no_version text (rw fails (and-false (nat_le (length text) 20)))
+pub no_digits : (text : List ℕ) → list_all is_ascii_digit text ≡ false → number_of text ≡ None
+no_digits text fails = no_number text (rw fails (and-false (nat_le (length text) 20)))
 
 digit_of : (c : ℕ) → is_ascii_digit c ≡ true → (48 ≤ c) × (c ≤ 57)
 digit_of c holds =
@@ -43,10 +43,10 @@ no_plus (c ∷ text) holds =
     let fails : (c == 43) ≡ false = grind (arith, nat_tests) in
     rw fails refl
 
-pub some_version : (text : List ℕ) (version : ℕ) → length text ≤ 20 → list_all is_ascii_digit text ≡ true
-    → (IsNumeral 10 (without_leading_plus text) × (digits_value 10 (without_leading_plus text) < 2 ^ 64)) × (version ≡ digits_value 10 (without_leading_plus text))
-    → version_called text ≡ Some (Some version)
-some_version text version short holds parsed =
+pub is_read : (text : List ℕ) (number : ℕ) → length text ≤ 20 → list_all is_ascii_digit text ≡ true
+    → (IsNumeral 10 (without_leading_plus text) × (digits_value 10 (without_leading_plus text) < 2 ^ 64)) × (number ≡ digits_value 10 (without_leading_plus text))
+    → number_of text ≡ Some number
+is_read text number short holds parsed =
     let p = rw (no_plus text holds) at parsed in
     let some = p.0.0.0 in
     let fits = p.0.1 in
@@ -57,10 +57,10 @@ some_version text version short holds parsed =
 
 pub not_parsed : (text : List ℕ) → list_all is_ascii_digit text ≡ true
     → (IsNumeral 10 (without_leading_plus text) × (digits_value 10 (without_leading_plus text) < 2 ^ 64) → ⊥)
-    → version_called text ≡ None
+    → number_of text ≡ None
 not_parsed text holds refused =
     let fails = rw (no_plus text holds) at refused in
-    no_version text (tests (nat_le (length text) 20) (list_all is_ascii_digit text) (λ some fits. fails ((some, all_digits text holds), fits)))
+    no_number text (tests (nat_le (length text) 20) (list_all is_ascii_digit text) (λ some fits. fails ((some, all_digits text holds), fits)))
   where
     tests : (a b : Bool) → (0 < length text → digits_value 10 text < 2 ^ 64 → ⊥) → a && (b && (nat_lt 0 (length text) && nat_lt (digits_value 10 text) (2 ^ 64))) ≡ false
     tests true true none = none_of (nat_lt 0 (length text)) (nat_lt (digits_value 10 text) (2 ^ 64)) refl refl none

@@ -1,8 +1,8 @@
 -- The text is short and has digits alone, and its number is read, or not.
 use Rattle.std.proofs.Common.{◌∙◌, ◌≤◌, arith, length, sym}
-use Rattle.krl_job.proofs.Versions.{no_digits, not_parsed, some_version, too_long}
-use Rattle.krl_job.proofs.job.version_called.Goals as goal
-use Rattle.krl_job.proofs.job.version_called.Goals.{then-text-gt-MOST_DIGITS-via-then-text-gt-MOST_DIGITS, then-text-gt-MOST_DIGITS-via-else-text-gt-MOST_DIGITS+then-not-are_digits}
+use Rattle.krl_job.proofs.Numbers.{no_digits, not_parsed, is_read, too_long}
+use Rattle.krl_job.proofs.job.number_of.Goals as goal
+use Rattle.krl_job.proofs.job.number_of.Goals.{then-text-gt-MOST_DIGITS-via-then-text-gt-MOST_DIGITS, then-text-gt-MOST_DIGITS-via-else-text-gt-MOST_DIGITS+then-not-are_digits}
 
 pub returns-then-text-gt-MOST_DIGITS : goal.returns-then-text-gt-MOST_DIGITS
 returns-then-text-gt-MOST_DIGITS c =
@@ -15,7 +15,7 @@ pub returns-in-Ok : goal.returns-in-Ok
 returns-in-Ok c =
     let short : length c.args.text.now ≤ 20 = omega (arith, c.if-text-gt-MOST_DIGITS.false) in
     let digits = rw c.as_bytes.ensures.value at (sym c.are_digits.ensures ∙ c.if-not-are_digits.false) in
-    sym (some_version c.args.text.now c.in-Ok.version short digits c.in-Ok.ensures.value.0)
+    sym (is_read c.args.text.now c.in-Ok.number short digits c.in-Ok.ensures.value.0)
 
 pub returns-in-Err : goal.returns-in-Err
 returns-in-Err c =
