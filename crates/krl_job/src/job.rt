@@ -32,7 +32,7 @@ pub enum Authority<T> {
     NotGiven,
     /// All authorities.
     All,
-    /// That of the first key of a file: by the file's name, then by the file, then by the key.
+    /// That of the first key of a file: by the file's name, then by the file.
     File(T),
 }
 

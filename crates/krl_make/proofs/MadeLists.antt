@@ -27,9 +27,10 @@ use Rattle.krl_core.specs.Reading.{IsList}
 use Rattle.krl_core.specs.declared.header.Header.{Header}
 use Rattle.krl_fault.specs.declared.krl_fault.KrlFault.{KrlFault}
 use Rattle.krl_make.specs.declared.base.Base.{Base}
-use Rattle.krl_make.specs.Making.{Added, HasNumbers, IsAtHand, IsAuthorityAtHand, IsFileAtHand, authority_file, lines, new_list, old_list, IsOldList, IsStop, Made, Makes, NamesSame, Returns, WritesList, WritesMade, WritesMore, after_old, base_of, cause_stop, file_entries, file_key, file_stop, files_entries, first_found, first_key_of, header_of, made_of, make_run_of, named_blob, plain_found, text_entries, then_entries, version_of}
+use Rattle.krl_make.specs.Making.{Added, HasNumbers, IsAtHand, IsFileAtHand, authority_file, lines, new_list, old_list, IsOldList, IsStop, Made, Makes, NamesSame, Returns, WritesList, WritesMade, WritesMore, after_old, base_of, cause_stop, file_entries, file_key, file_stop, files_entries, first_found, first_key_of, header_of, made_of, make_run_of, named_blob, plain_found, text_entries, then_entries, version_of}
 use Rattle.key_files.specs.Stop.{krl_cause}
 use Rattle.krl_job.specs.declared.job.Authority.{Authority}
+use Rattle.krl_job.specs.declared.job.Authority.TheVariants.{File as FileOf}
 use Rattle.krl_fault.specs.declared.krl_fault.KrlFault.TheVariants as faults
 use Rattle.key_files.specs.Keys.{File, Found, GivesKey, IsRefused, container_found, content_keys, file_of, key_in, keys_from, keys_of, line_found}
 use Rattle.key_files.specs.declared.file_fault.FileFault.{FileFault}
@@ -260,16 +261,20 @@ base_refused name authority version files moment faults.NoMemory = (name, (old_l
 base_refused name authority version files moment fault = refl
 
 -- The fault of the authority's file stops the run.
-pub signer_stops : (name : List ℕ) (given : Option ℕ) (authority : Authority File) (moment : ℕ) (base : Base) (files : List File) (version : ℕ) (stop : Stop)
-    → version_of given base.version ≡ Some version
-    → IsStop (ender_of stop.cause) (IsAuthorityAtHand authority) (named_blob authority) stop
+pub key_stops : (name : List ℕ) (given : Option ℕ) (authority : Authority File) (file : File) (moment : ℕ) (base : Base) (files : List File) (version : ℕ) (stop : Stop)
+    → version_of given base.version ≡ Some version → authority ≡ FileOf file
+    → IsStop (ender_of stop.cause) (λ at. file.name ≡ at) (file_key file) stop
     → IsStop (ender_of stop.cause) (AtHand name base authority given files (after_old name authority given moment files base)) (after_old name authority given moment files base) stop
-signer_stops name given authority moment base files version stop is stops =
-    let read = after_old name authority given moment files base in
-    stop_of_part (ender_of stop.cause) (IsAuthorityAtHand authority) (AtHand name base authority given files read) (named_blob authority) read stop
+key_stops name given authority file moment base files version stop is names stops =
+    let read = after_old name (FileOf file) given moment files base in
+    rw names (stop_of_part (ender_of stop.cause) (λ at. file.name ≡ at) (AtHand name base (FileOf file) given files read) (file_key file) read stop
     (λ at has. authority_file base version refl is has)
     (λ same. rw (is, same) refl)
-    stops
+    stops)
+
+-- the authority that the first key of a file names
+pub named_by : (authority : Authority File) (file : File) (blob : List ℕ) → authority ≡ FileOf file → file_key file ≡ Ok blob → named_blob authority ≡ Ok (Some blob)
+named_by authority file blob names read = rw (names, read) refl
 
 -- The fault of a file or of a line stops the run.
 files_stop : (name : List ℕ) (given : Option ℕ) (authority : Authority File) (moment : ℕ) (base : Base) (files : List File) (version : ℕ) (signer : Option (List ℕ)) (stop : Stop)

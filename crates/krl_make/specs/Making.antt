@@ -1,5 +1,5 @@
 -- A list that is made or updated (ssh-keygen(1), options -k and -u).
-use Rattle.std.specs.Prelude.{◌≡◌, ◌↔◌, ℕ, ◌+◌, ◌-◌, ◌^◌, ◌<◌, ◌≤◌, ◌==◌, ◌⊎◌, ⊤, Bool}
+use Rattle.std.specs.Prelude.{◌≡◌, ◌↔◌, ℕ, ◌+◌, ◌-◌, ◌^◌, ◌<◌, ◌≤◌, ◌==◌, ◌⊎◌, Bool}
 use Rattle.std.specs.Prelude.{if◌then◌else◌, List, [], ◌∷◌, ◌++◌, length, Option, Some, None}
 use Rattle.std.specs.Prelude.{Result, Ok, Err}
 use Rattle.std.specs.Option.{ok_or}
@@ -81,18 +81,6 @@ named_blob All = Ok (Some [])
 named_blob (FileOf file) = do
   blob ← file_key file
   Ok (Some blob)
-
--- the authority that is named, with the blob of its key
-abbrev pub signer_authority : Authority (List ℕ) → Option (List ℕ)
-signer_authority NotGiven = None
-signer_authority All = Some []
-signer_authority (FileOf blob) = Some blob
-
--- a key has some bytes
-abbrev pub IsSigner : Authority (List ℕ) → Type 0
-IsSigner NotGiven = ⊤
-IsSigner All = ⊤
-IsSigner (FileOf blob) = 0 < length blob
 
 -- ---- the files
 

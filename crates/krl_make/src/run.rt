@@ -7,7 +7,7 @@ ghost use Rattle.krl_make.specs.Making.{HasNumbers, IsBaseRead, IsFileAtHand, Ma
 ghost use Rattle.krl_spec.specs.Under.{IsUnder, authority_under};
 ghost use Rattle.krl_make.specs.declared.base.Base.{Base as BaseOf};
 
-use crate::authority::{Authority, signer_of, under};
+use crate::authority::{Authority, first_key};
 use crate::base::{Base, next_version, read_base};
 use crate::files::add_files;
 use key_files::{Cause, Named, RunFault};
@@ -84,21 +84,23 @@ impl<'a> Wanted<'a> {
             (after_old self.now.name.now self.now.authority.now self.now.version self.now.moment
             self.now.files.now base) result }
     {
-        let Base {
-            version: old_version,
-            comment,
-            revocations,
-        } = base;
-        let Some(version) = next_version(self.version, old_version) else {
+        let Some(version) = next_version(self.version, base.version) else {
             return Err(RunFault::whole(self.name, Cause::VersionFull));
         };
         let header = Header {
             version,
             date: self.moment,
-            comment,
+            comment: base.comment,
         };
-        let signer = signer_of(alloc, self.authority)?;
-        self.add_and_write(alloc, &header, revocations, under(&signer))
+        let held = base.revocations;
+        match self.authority {
+            Authority::NotGiven => self.add_and_write(alloc, &header, held, Under::NotGiven),
+            Authority::All => self.add_and_write(alloc, &header, held, Under::All),
+            Authority::File(file) => {
+                let key = first_key(alloc, file)?;
+                self.add_and_write(alloc, &header, held, Under::Of(key.as_slice()))
+            }
+        }
     }
 
     // Adds what the lines of the files name to what is held, and writes the list.
