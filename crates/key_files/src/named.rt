@@ -12,7 +12,7 @@ use std::marker::Model;
 pub const LIMIT: u64 = 16_777_216;
 
 /// A file's name, and its bytes or why there are none.
-#[derive(Debug, Drop)]
+#[derive(Drop)]
 pub struct Named<'a> {
     /// The name, as the command gives it.
     pub name: &'a str,

@@ -13,7 +13,7 @@ use ssh_key::Hash;
 const MOST_DIGITS: usize = 20;
 
 /// What a run of the program does.
-#[derive(Clone, Copy, Debug, PartialEq, Eq)]
+#[derive(Clone, Copy, PartialEq, Eq)]
 pub enum Mode {
     /// Lists the keys of a file.
     Keys,
@@ -26,7 +26,7 @@ pub enum Mode {
 }
 
 /// What `-s` gives: under which authority a list that is made names serials and key IDs.
-#[derive(Debug, Drop)]
+#[derive(Drop)]
 pub enum Authority<T> {
     /// `-s` is not given.
     NotGiven,
@@ -37,7 +37,7 @@ pub enum Authority<T> {
 }
 
 /// What the words of the command ask for.
-#[derive(Debug, Drop)]
+#[derive(Drop)]
 pub struct Job<'a> {
     /// What the run does.
     pub mode: Mode,

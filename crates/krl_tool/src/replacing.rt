@@ -24,7 +24,7 @@ const PERMISSIONS: u32 = 0o7777;
 const UNWRITTEN: Cause = Cause::Output { count: 0 };
 
 /// What came of writing a list.
-#[derive(Clone, Copy, Debug, PartialEq, Eq)]
+#[derive(Clone, Copy)]
 pub enum Written {
     /// All of it stands under its name.
     Whole,

@@ -6,7 +6,7 @@ use key_files::RunFault;
 pub const FAILED: u8 = 255;
 
 /// The end of a run.
-#[derive(Debug, Drop)]
+#[derive(Drop)]
 pub struct Done<'a> {
     /// The status that the program ends with.
     pub status: u8,

@@ -20,7 +20,7 @@ use ssh_wire::{Bytes, Sink};
 use std::alloc::{AllocError, Global};
 
 /// What is listed of a file.
-#[derive(Clone, Copy, Debug, PartialEq, Eq)]
+#[derive(Clone, Copy)]
 pub enum ListMode {
     /// Each key in a line. Of a certificate, its plain key is described.
     Keys,
