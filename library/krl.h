@@ -111,6 +111,17 @@ int32_t krl_ask_line(krl *handle, const uint8_t *line, size_t line_length);
 /* Gives back the memory of the list. The place is then as krl_init leaves it, or may be freed. */
 void krl_unload(krl *handle);
 
+/* The words for an answer: of a fault those that ssh-keygen of this project prints, such as
+ * "krl 3 EndsEarly", "line 2 Base64" and "subject 1 Key, key 4 Point". Of the others "ok",
+ * "revoked", "no memory" and "no list is loaded", and of a number that no call answers
+ * "unknown answer".
+ *
+ * As snprintf does it: of the words and a zero byte as many bytes are written as the buffer has
+ * room for, the last of them always the zero byte. The result is the length of the words without
+ * the zero byte, whatever the size: they were cut where it is not below the size. It is never
+ * more than 64. The call takes no memory and cannot fail. */
+size_t krl_fault_text(int32_t answer, char *buffer, size_t size);
+
 #ifdef __cplusplus
 }
 #endif

@@ -1,2 +1,4 @@
+pub mod Laying
 pub mod Once
+pub mod Printed
 pub mod Saying

@@ -2,8 +2,18 @@
 
 ghost use Rattle.std.specs.Prelude.{◌≡◌, ◌⊎◌, ℕ, ℤ, List};
 ghost use Rattle.ssh_wire.specs.Wire.{IsBytes};
+ghost use Rattle.ssh_key.specs.LineFault.{fault_text as line_fault_text};
+ghost use Rattle.ssh_key.specs.declared.line_fault.LineFault.{LineFault};
+ghost use Rattle.ssh_key.specs.declared.line_fault.LineFault.TheVariants as lines;
+ghost use Rattle.ssh_cert.specs.SubjectFault.{subject_fault_text};
+ghost use Rattle.ssh_cert.specs.declared.subject_fault.SubjectFault.{SubjectFault};
+ghost use Rattle.ssh_cert.specs.declared.subject_fault.SubjectFault.TheVariants as subjects;
+ghost use Rattle.krl_fault.specs.KrlFault.{fault_text};
+ghost use Rattle.krl_fault.specs.declared.krl_fault.KrlFault.{KrlFault};
+ghost use Rattle.krl_fault.specs.declared.krl_fault.KrlFault.TheVariants as lists;
 ghost use Rattle.krl_c.specs.Answer.{Answers, AnswersOfLine, HasOne};
-ghost use Rattle.krl_c.specs.Number.{no_memory};
+ghost use Rattle.krl_c.specs.Number.{line_number, list_number, no_memory, subject_number};
+ghost use Rattle.krl_c.specs.Words.{words};
 
 use krl_core::laws::{no_fault_where_spelled, one_first_fault, one_spelling};
 use ssh_cert::laws::{asked_where_spelled, not_asked_by_first_fault};
@@ -41,3 +51,13 @@ pub fn one_answer_of_a_line()
     line_read_where_spelled();
     line_refused_by_first_fault();
 }
+
+/// The words for a fault's number are those that the fault prints.
+pub fn words_are_printed()
+    ensures list { (fault : KrlFault) → ¬ (fault ≡ lists.NoMemory)
+        → words (list_number fault) ≡ fault_text fault }
+    ensures line { (fault : LineFault) → ¬ (fault ≡ lines.NoMemory)
+        → words (line_number fault) ≡ line_fault_text fault }
+    ensures subject { (fault : SubjectFault) → ¬ (fault ≡ subjects.NoMemory)
+        → words (subject_number fault) ≡ subject_fault_text fault }
+{}

@@ -1,7 +1,7 @@
 //! The question of whether a key is revoked, for programs in other languages.
 #![tactic(auto)]
 
-ghost use Rattle.std.specs.Prelude.{◌≡◌, List, false};
+ghost use Rattle.std.specs.Prelude.{◌≡◌, List, false, length};
 ghost use denote.Param.{layout};
 ghost use prog.Memory.{capped, size};
 ghost use Rattle.krl_core.specs.Entry.{Entry};
@@ -9,6 +9,8 @@ ghost use Rattle.krl_c.specs.Answer.{Answers, AnswersBlob, AnswersLine, AnswersO
 ghost use Rattle.krl_c.specs.Kept.{Holds, Loads, unloaded};
 ghost use Rattle.krl_c.specs.contracts.kept.Kept.{the_row};
 ghost use Rattle.krl_c.specs.Number.{not_loaded};
+ghost use Rattle.krl_c.specs.Words.{words};
+ghost use Rattle.krl_c.specs.Written.{written};
 
 mod check;
 mod handle;
@@ -18,6 +20,8 @@ mod kept;
 pub mod laws;
 mod lent;
 mod number;
+mod words;
+mod written;
 
 use check::{ask_list, ask_list_of_line};
 use handle::{Krl, swap};
@@ -25,6 +29,8 @@ use held::held_of;
 use kept::{Kept, ask, ask_of_line, empty};
 use number::{FINE, of_list};
 use std::alloc::Global;
+use words::{Words, words_for};
+use written::write;
 
 /// Whether a list revokes the key or the certificate of a blob: 0 where it does not, 1 where it
 /// does, and below zero why that is not known.
@@ -105,4 +111,15 @@ pub extern "C" fn krl_size() -> usize
     ensures { result ≡ capped (size (layout the_row)) }
 {
     std::mem::size_of::<Kept>()
+}
+
+/// The words for an answer, written as snprintf does it. The result is how many bytes they have.
+/// Takes no memory.
+#[unsafe(no_mangle)]
+pub extern "C" fn krl_fault_text(answer: i32, buffer: &mut [u8]) -> usize
+    ensures length { result ≡ length (words answer) }
+    ensures written { buffer.new ≡ written (words answer) buffer.old }
+{
+    let Words { head, tail } = words_for(answer);
+    write(head.as_bytes(), tail.as_bytes(), buffer)
 }

@@ -1,0 +1,6 @@
+-- The text is cut so that the zero byte has room.
+use Rattle.krl_c.proofs.Laying.{ended}
+use Rattle.krl_c.proofs.written.end_with.Goals as goal
+
+pub returns : goal.returns
+returns c = rw c.copy_from_slice.ensures.after (ended c.args.text.now c.args.buffer.now c.min-count.result c.requires c.min-count.ensures)
