@@ -16,7 +16,7 @@
  * handler, nor in the forked child of a process with threads before it calls exec, since they
  * call malloc.
  *
- * No pointer is null. Where a length is 0, any other address does.
+ * A pointer to bytes may be null where its length is 0. No other pointer is null.
  */
 #ifndef KRL_H
 #define KRL_H
@@ -111,15 +111,14 @@ int32_t krl_ask_line(krl *handle, const uint8_t *line, size_t line_length);
 /* Gives back the memory of the list. The place is then as krl_init leaves it, or may be freed. */
 void krl_unload(krl *handle);
 
-/* The words for an answer: of a fault those that ssh-keygen of this project prints, such as
- * "krl 3 EndsEarly", "line 2 Base64" and "subject 1 Key, key 4 Point". Of the others "ok",
- * "revoked", "no memory" and "no list is loaded", and of a number that no call answers
- * "unknown answer".
+/* The words for an answer: of a fault those that krl-keygen prints, such as "krl 3 EndsEarly",
+ * "line 2 Base64" and "subject 1 Key, key 4 Point". Of the others "ok", "revoked", "no memory"
+ * and "no list is loaded", and of a number that no call answers "unknown answer".
  *
- * As snprintf does it: of the words and a zero byte as many bytes are written as the buffer has
- * room for, the last of them always the zero byte. The result is the length of the words without
- * the zero byte, whatever the size: they were cut where it is not below the size. It is never
- * more than 64. The call takes no memory and cannot fail. */
+ * They are written as snprintf does it: as many bytes as leave room for a zero byte, and that
+ * byte; nothing where the size is 0. The result is the length of the words, whatever the size:
+ * they were cut where it is not below the size. No words are longer than 64 bytes. The call takes
+ * no memory and cannot fail. */
 size_t krl_fault_text(int32_t answer, char *buffer, size_t size);
 
 #ifdef __cplusplus

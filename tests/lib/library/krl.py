@@ -32,7 +32,16 @@ def loaded():
     for call in library.krl_check, library.krl_check_line:
         call.argtypes = [ctypes.c_char_p, ctypes.c_size_t] * 2
         call.restype = ctypes.c_int32
+    library.krl_fault_text.argtypes = [ctypes.c_int32, ctypes.c_char_p, ctypes.c_size_t]
+    library.krl_fault_text.restype = ctypes.c_size_t
     return library
+
+
+def text(library, answer):
+    """The library's words for an answer."""
+    room = ctypes.create_string_buffer(library.krl_fault_text(answer, None, 0) + 1)
+    library.krl_fault_text(answer, room, len(room))
+    return room.value.decode()
 
 
 class Handle:
@@ -60,8 +69,17 @@ def of_key(number):
     return "key %d %s" % (number, KEY[number - 1])
 
 
+# The last two digits for a key.
+OF_KEY = (*range(2, 9), *range(11, 14))
+# The numbers of all faults, but that memory ran out.
+FAULTS = [-100 - it for it in range(1, len(LIST) + 1) if LIST[it - 1] != "NoMemory"]
+FAULTS += [-200 - it for it in range(1, len(LINE) + 1)]
+FAULTS += [-sort - it for sort in (300, 500, 600) for it in OF_KEY]
+FAULTS += [-400 - it for it in range(1, len(CERT) + 1) if CERT[it - 1] not in ("Key", "Authority")]
+
+
 def fault_text(answer):
-    """The words for an answer below zero."""
+    """The words that the program prints for a fault."""
     sort, number = divmod(-answer, 100)
     if sort == 1:
         return "krl %d %s" % (number, LIST[number - 1])

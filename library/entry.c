@@ -1,0 +1,46 @@
+/* The calls of krl.h that take bytes, over those that are proved.
+ *
+ * The proved calls are given no null pointer, whatever the length. So where a length is 0 they
+ * get another address, of which nothing is read and nothing written. */
+#include "krl.h"
+
+int32_t proved_krl_check(const uint8_t *, size_t, const uint8_t *, size_t);
+int32_t proved_krl_check_line(const uint8_t *, size_t, const uint8_t *, size_t);
+int32_t proved_krl_load(krl *, const uint8_t *, size_t);
+int32_t proved_krl_ask(krl *, const uint8_t *, size_t);
+int32_t proved_krl_ask_line(krl *, const uint8_t *, size_t);
+size_t proved_krl_fault_text(int32_t, char *, size_t);
+
+static uint8_t nothing[1];
+
+static const uint8_t *bytes(const uint8_t *at, size_t length) {
+    return length ? at : nothing;
+}
+
+int32_t krl_check(const uint8_t *list, size_t list_length,
+                  const uint8_t *blob, size_t blob_length) {
+    return proved_krl_check(bytes(list, list_length), list_length,
+                            bytes(blob, blob_length), blob_length);
+}
+
+int32_t krl_check_line(const uint8_t *list, size_t list_length,
+                       const uint8_t *line, size_t line_length) {
+    return proved_krl_check_line(bytes(list, list_length), list_length,
+                                 bytes(line, line_length), line_length);
+}
+
+int32_t krl_load(krl *handle, const uint8_t *list, size_t list_length) {
+    return proved_krl_load(handle, bytes(list, list_length), list_length);
+}
+
+int32_t krl_ask(krl *handle, const uint8_t *blob, size_t blob_length) {
+    return proved_krl_ask(handle, bytes(blob, blob_length), blob_length);
+}
+
+int32_t krl_ask_line(krl *handle, const uint8_t *line, size_t line_length) {
+    return proved_krl_ask_line(handle, bytes(line, line_length), line_length);
+}
+
+size_t krl_fault_text(int32_t answer, char *buffer, size_t size) {
+    return proved_krl_fault_text(answer, size ? buffer : (char *)nothing, size);
+}
