@@ -1,6 +1,5 @@
 -- The words for the number of each fault are those that it prints.
 use Rattle.std.proofs.Common.{◌≡◌, refl}
-use Rattle.ssh_wire.specs.declared.fault.WireFault.{WireFault}
 use Rattle.ssh_wire.specs.declared.fault.WireFault.TheVariants.{Short, Negative, NotShortest}
 use Rattle.ssh_key.specs.LineFault.{fault_text as line_fault_text}
 use Rattle.ssh_key.specs.declared.fault.KeyFault.{KeyFault}

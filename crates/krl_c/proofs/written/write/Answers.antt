@@ -1,5 +1,5 @@
 -- The first piece lies before what the rest writes.
-use Rattle.std.proofs.Common.{◌≡◌, ◌++◌, ◌<◌, length, drop, sym, ap, ◌∙◌, arith}
+use Rattle.std.proofs.Common.{◌≡◌, ◌++◌, ◌<◌, length, drop, ap, ◌∙◌, arith}
 use Rattle.std.proofs.lemmas.Grind.{common_steps}
 use Rattle.std.proofs.lemmas.List.{length-take-le}
 use Rattle.krl_c.specs.Written.{written}
