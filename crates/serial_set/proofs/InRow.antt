@@ -13,7 +13,7 @@ use Rattle.serial_set.specs.Entries.{stretch, entries_front, entries_back, Repla
 use Rattle.serial_set.specs.Pages.{entries_in, entries_of, IsSplit}
 use Rattle.serial_set.specs.Places.{end_of, IsListFrom, CutTo, WordWidened}
 use Rattle.serial_set.proofs.Placed.{rises_before}
-use Rattle.serial_set.proofs.Flat.{all_left, all_right, flat_cut, flat_drop, flat_at, flat_same, part_at, part_set, first_of}
+use Rattle.serial_set.proofs.Flat.{all_left, all_right, flat_cut, flat_drop, flat_at, part_at, part_set, first_of}
 use Rattle.serial_set.proofs.InEntries.{entries_each, end_most, end_upto, end_back, entries_past}
 
 pub page_some : (p : Page) → 0 < length (entries_in p)

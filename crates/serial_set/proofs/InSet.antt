@@ -1,6 +1,6 @@
 -- Entries of a set: the one in which a number stands, and what a change makes of the set's runs.
 use Rattle.std.proofs.Common.{◌≡◌, ℕ, ◌+◌, ◌-◌, ◌*◌, ◌/◌, ◌%◌, ◌^◌, ◌<◌, ◌≤◌, ◌⊎◌, List, [], ◌∷◌, ◌++◌, length, sym, subst, inl, inr, arith}
-use Rattle.std.specs.Prelude.{Option, Some, None, IfSome, OnOk, Result, Ok, Err, bit_or, ◌↔◌}
+use Rattle.std.specs.Prelude.{Option, Some, None, IfSome, bit_or, ◌↔◌}
 use Rattle.std.specs.List.{All}
 use Rattle.std.proofs.lemmas.Bool.{cases_lt}
 use Rattle.std.proofs.Math.Logic.{⊎_elim, ⊎_map, ⊎_swap}

@@ -1,7 +1,6 @@
 use Rattle.std.proofs.Common.{◌≡◌, ◌+◌, ◌<◌, ◌≤◌, ◌-◌, get_or, drop, ap, sym, subst, arith}
 use Rattle.std.specs.List.{All}
-use Rattle.std.proofs.lemmas.Bool.{ltb-true, ltb-false}
-use Rattle.serial_set.specs.Entry.{lo_of, hi_of}
+use Rattle.serial_set.specs.Entry.{hi_of}
 use Rattle.serial_set.specs.Entries.{stretch}
 use Rattle.serial_set.specs.Pages.{entries_in, entries_of}
 use Rattle.serial_set.specs.Places.{end_of}
