@@ -1,11 +1,14 @@
 PREFIX = /usr/local
+# The folder of libraries below it, as lib/x86_64-linux-gnu below /usr on Debian.
+LIBDIR = lib
 # The name under which the program is installed. Under ssh-keygen it would hide OpenSSH's program where
 # its folder stands first on the PATH.
 NAME = krl-keygen
 # How long make fuzz goes on.
 SECONDS = 60
 
-.PHONY: build test test_library fault_injection fuzz bench install uninstall deb library
+.PHONY: build test test_library fault_injection fuzz bench install uninstall deb library \
+  install-library uninstall-library
 
 # Proves and builds the program.
 build:
@@ -15,17 +18,18 @@ build:
 test:
 	tests/all
 
-# libkrl as programs in C, Rust and Python call it. make test proves it, and does not build it.
-test_library: build
+# libkrl as programs in C, Rust and Python call it: a part of make test.
+test_library: build library
 	tests/run library
 
 # Each allocation, read and write of many runs fails in turn; make test does this for fewer of them.
 fault_injection: build
 	tests/inject_faults
 
-# Files changed at random, beside OpenSSH.
-fuzz: build
+# Files changed at random, beside OpenSSH, and then libkrl beside the program.
+fuzz: build library
 	tests/fuzz --seconds $(SECONDS)
+	tests/library --seconds $(SECONDS)
 
 # Time and memory beside OpenSSH, as ratios.
 bench: build
@@ -43,6 +47,14 @@ uninstall:
 library:
 	library/build
 
-# A Debian package krl-keygen, beside OpenSSH's ssh-keygen.
-deb: build
+# libkrl, its header, its manual page and what pkg-config asks for; ldconfig then makes it known.
+install-library: library
+	packaging/install_library '$(DESTDIR)' '$(PREFIX)' '$(LIBDIR)' '$(FORCE)'
+
+uninstall-library:
+	packaging/uninstall_library '$(DESTDIR)' '$(PREFIX)'
+
+# Debian packages: krl-keygen, which stands beside OpenSSH's ssh-keygen, libkrl1 and libkrl-dev.
+deb: build library
 	packaging/deb
+	packaging/library_debs
