@@ -11,20 +11,34 @@ import sys
 library = ctypes.CDLL("libkrl.so.1")
 library.krl_check_line.argtypes = [ctypes.c_char_p, ctypes.c_size_t] * 2
 library.krl_check_line.restype = ctypes.c_int32
+library.krl_fault_text.argtypes = [ctypes.c_int32, ctypes.c_char_p, ctypes.c_size_t]
+library.krl_fault_text.restype = ctypes.c_size_t
+
+
+def words(answer):
+    buffer = ctypes.create_string_buffer(65)
+    library.krl_fault_text(answer, buffer, len(buffer))
+    return buffer.value.decode()
 
 
 def main(list_name, keys_name):
     with open(list_name, "rb") as file:
         content = file.read()
-    status = 0
     with open(keys_name, "rb") as file:
-        for number, line in enumerate(file.read().splitlines(), 1):
-            if line and not line.startswith(b"#"):
-                answer = library.krl_check_line(content, len(content), line, len(line))
-                print("line %d: %s" % (number, {0: "ok", 1: "REVOKED"}.get(answer, "no answer")))
-                if answer != 0 and status != 255:
-                    status = 1 if answer == 1 else 255
+        lines = file.read().split(b"\n")
+    status = 0
+    for number, line in enumerate(lines, 1):
+        if not line.strip() or line.strip().startswith(b"#"):
+            continue
+        answer = library.krl_check_line(content, len(content), line, len(line))
+        print("line %d: %s" % (number, words(answer)))
+        status = max(status, answer if answer in (0, 1) else 255)
     return status
 
 
-sys.exit(main(*sys.argv[1:]))
+try:
+    status = main(*sys.argv[1:3])
+except (OSError, TypeError) as fault:
+    print(fault, file=sys.stderr)
+    status = 255
+sys.exit(status)
