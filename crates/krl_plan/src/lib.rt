@@ -1,4 +1,5 @@
-//! Which subsections name serial numbers in the fewest bytes, and their bytes (PROTOCOL.krl).
+//! Which lists, ranges and bitmaps name serial numbers in the fewest bytes, and their bytes
+//! (PROTOCOL.krl).
 #![tactic(auto)]
 
 mod bitmap;

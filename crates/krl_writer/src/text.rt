@@ -16,7 +16,7 @@ use std::alloc::Global;
 
 /// The text of a revocation list (PROTOCOL.krl): its header, then what is held, all authorities
 /// first and each authority by its bytes, then keys and hashes. Each authority's serials take the
-/// fewest bytes that lists, ranges and bitmaps can name them in. What would be empty is left out.
+/// fewest bytes of all plans that `krl_plan` has for them. What would be empty is left out.
 ///
 /// `TooLong` where the text would be longer than 67,108,864 bytes, which is what `read_krl` reads,
 /// and `NoMemory` where memory runs out.

@@ -9,7 +9,7 @@ use krl_plan::put_least_plan;
 use serial_set::{Held, Spans};
 use std::alloc::{AllocError, Global};
 
-/// The subsections of a list that name just the serials of a set, in the fewest bytes.
+/// The subsections of a list that name just the serials of a set, by its least plan.
 fn subsections<S: Spans>(alloc: Global, set: &S) -> Result<Vec<u8>, AllocError>
     ensures { IfOk result (λ text. (plan : List Group) × (IsLeastPlan (S.spans set.now) plan
         × (text.items ≡ plan_text (S.spans set.now) plan))) }
