@@ -1,6 +1,6 @@
 # The pages of the crates: each library has one and so has the program, and the map leads to it. The caller
 # that a library's page shows is one that a crate of tests proves and runs, in the same words. What the
-# program's page and the README show is what the program prints.
+# program's page shows is what the program prints. What THEOREMS.md cites stands in the crates.
 
 # shown LANGUAGE PAGE: what the page shows in it.
 shown() {
@@ -31,6 +31,9 @@ use=$(shown console "$top/crates/krl_tool/README.md")
 judge 'the page of the program shows a use' "$([ -n "$use" ] || echo '  it shows none')"
 transcript 'what the page of the program shows' <<<"$use"
 cd ..
+
+judge 'the names that THEOREMS.md and the README cite stand in the crates' \
+  "$(python3 -B "$tests/lib/cited.py" "$top" 2>&1)"
 
 mkdir walk && cp -r "$top/demo" walk && ln -s "$program" walk/ssh-keygen && cd walk || exit 1
 transcript 'the walk of the README' < <(awk '/^```/ { on = !on; next } on' "$top/README.md")
