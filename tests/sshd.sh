@@ -1,17 +1,7 @@
 # A real sshd on the loopback, whose RevokedKeys are lists that the program made: who logs in with a key
 # or a certificate is let in or refused as -Q answers about it.
 
-need sshd openssh-server || judge 'sshd is there' '  install it, on Debian by apt-get install openssh-server'
-daemon=$(command -v sshd || echo /usr/sbin/sshd)
-room=$scratch/sshd
-mkdir -p "$room"
-user=$(id -un)
-
-# made_key NAME TYPE
-made_key() {
-  "$openssh" -q -t "$2" -N '' -C "$1" -f "$room/$1"
-}
-made_key host ed25519
+. "$tests/lib/sshd/serving.sh"
 made_key one ed25519
 made_key two ecdsa
 made_key user ed25519
@@ -26,63 +16,8 @@ done
 cat "$room/ca-a.pub" "$room/ca-b.pub" >"$room/authorities"
 cat "$room/one.pub" "$room/two.pub" >"$room/allowed"
 
-# listen PORT: starts sshd, and reports whether it listens. It ends by itself after ten minutes.
-listen() {
-  cat >"$room/config" <<END
-Port $1
-ListenAddress 127.0.0.1
-HostKey $room/host
-PidFile none
-AuthorizedKeysFile $room/allowed
-TrustedUserCAKeys $room/authorities
-RevokedKeys $room/revoked.krl
-ForceCommand echo let in
-StrictModes no
-UsePAM no
-PermitRootLogin yes
-UseDNS no
-PasswordAuthentication no
-KbdInteractiveAuthentication no
-MaxStartups 100
-END
-  timeout 600 "$daemon" -D -e -f "$room/config" 2>"$room/log" &
-  server=$!
-  for _ in {1..100}; do
-    kill -0 $server 2>/dev/null || return
-    (: >"/dev/tcp/127.0.0.1/$1") 2>/dev/null && return
-    sleep 0.1
-  done
-}
-
-ends() {
-  kill "$server" 2>/dev/null
-  wait "$server" 2>/dev/null
-  [ -z "$made_folder" ] || rmdir /run/sshd 2>/dev/null
-}
-
-# A sshd of root wants an empty folder of its own.
-made_folder=
-if [ "$(id -u)" = 0 ] && [ ! -d /run/sshd ]; then
-  mkdir /run/sshd
-  made_folder=yes
-fi
-trap 'ends; rm -rf "$scratch"' EXIT
-for _ in {1..5}; do
-  port=$((20000 + RANDOM % 10000))
-  listen $port
-  kill -0 "$server" 2>/dev/null && break
-done
-judge 'sshd listens' "$(kill -0 "$server" 2>&1 || cat "$room/log")"
-
-# enters NAME: whether sshd lets in who has this key, or the key user with this certificate.
-enters() {
-  local words=(-i "$room/$1")
-  [ -f "$room/$1" ] || words=(-i "$room/user" -o CertificateFile="$room/$1.pub")
-  timeout 20 ssh -F none -p "$port" -o IdentitiesOnly=yes -o IdentityAgent=none -o BatchMode=yes \
-    -o StrictHostKeyChecking=no -o GSSAPIAuthentication=no -o UserKnownHostsFile=/dev/null -o LogLevel=ERROR \
-    "${words[@]}" "$user@127.0.0.1" true >"$scratch/output" 2>"$scratch/error" </dev/null
-  [ "$(cat "$scratch/output")" = 'let in' ]
-}
+configure "TrustedUserCAKeys $room/authorities" "RevokedKeys $room/revoked.krl"
+serve
 
 # login NAME STATUS KEY: -Q ends with this status about it, and sshd lets in just who has 0 there.
 login() {
@@ -142,4 +77,3 @@ rm "$room/revoked.krl"
 judge 'sshd refuses all keys where the list is missing' "$(enters one && echo '  it lets in')"
 
 ends
-trap 'rm -rf "$scratch"' EXIT
