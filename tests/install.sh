@@ -1,6 +1,8 @@
 # make install, make uninstall and make deb, into folders of the tests' own.
 
 root=$scratch/root
+line ssh-ed25519 "$G" >g.pub
+bytes "$H" "$(section "$G")" >r.krl
 # made NAME STATUS TARGET WORD..: make ends with this status.
 made() {
   local name=$1 wanted=$2 got
@@ -11,7 +13,7 @@ made() {
 }
 # runs NAME PROGRAM: the program that was installed answers.
 runs() {
-  program=$2 expect "$1" 1 "$top/demo/g.pub: REVOKED"$'\n' '' -Q -f "$top/demo/r.krl" "$top/demo/g.pub"
+  program=$2 expect "$1" 1 $'g.pub: REVOKED\n' '' -Q -f r.krl g.pub
 }
 # holds NAME FILE..: just these files are there.
 holds() {
@@ -27,7 +29,7 @@ made 'make install' 0 install
 holds 'what is installed' $(of krl-keygen usr/local)
 runs 'the installed program' "$root/usr/local/bin/krl-keygen"
 judge 'the manual page has the name of the program' \
-  "$(grep -n -e 'Nm ssh-keygen' -e 'SSH-KEYGEN' -e '[$|].* ssh-keygen -' "$root/usr/local/share/man/man1/krl-keygen.1")"
+  "$(grep -n -e 'Nm ssh-keygen' -e 'SSH-KEYGEN' -e 'ssh-keygen -[a-zA-Z]' "$root/usr/local/share/man/man1/krl-keygen.1")"
 for file in bash-completion/completions/krl-keygen zsh/site-functions/_krl-keygen \
   fish/vendor_completions.d/krl-keygen.fish; do
   judge "the name of the program in $file" "$(grep -n ssh-keygen "$root/usr/local/share/$file")"
@@ -64,14 +66,44 @@ rm -r "$root"
 
 need lintian lintian || judge 'lintian is there' '  install it, on Debian by apt-get install lintian'
 need strip binutils || judge 'strip is there' '  install it, on Debian by apt-get install binutils'
-PROGRAM=$binary "$top/packaging/deb" "$scratch" >"$scratch/output" 2>&1
-judge 'a Debian package is made' "$([ $? = 0 ] || cat "$scratch/output")"
-package=$(tail -n 1 "$scratch/output")
-judge 'the name of the package' "$(differs name krl-keygen "$(dpkg-deb --field "$package" Package 2>&1)")"
-judge 'lintian finds no error in the package' \
-  "$(found=$(lintian --allow-root --fail-on error "$package" 2>&1) || printf '%s\n' "$found" failed)"
+need dpkg-shlibdeps dpkg-dev || judge 'dpkg-shlibdeps is there' '  install it, on Debian by apt-get install dpkg-dev'
+# packed: makes the package.
+packed() {
+  PROGRAM=$binary "$top/packaging/deb" "$scratch" >"$scratch/output" 2>&1
+  judge 'a Debian package is made' "$([ $? = 0 ] || cat "$scratch/output")"
+  package=$(tail -n 1 "$scratch/output")
+}
+field() {
+  dpkg-deb --field "$package" "$1" 2>&1
+}
+packed
+judge 'the name of the package' "$(differs name krl-keygen "$(field Package)")"
+number=$("$binary" --version | sed 's/.* //')
+judge 'its version has the number of the program, the time and the commit' "$(
+  commit=$(git -C "$top" rev-parse --short HEAD)
+  [[ "$(field Version)" =~ ^"$number"[+][0-9]{8}[.][0-9]{6}[.]"$commit"([.]changed)?$ ]] || field Version
+)"
+judge 'it needs the C library of a version' "$([[ "$(field Depends)" =~ ^'libc6 (>= '[0-9.]+')'$ ]] || field Depends)"
+# How the kit compiles and links is its own, and some bytes of the code look like misspelt words.
+judge 'lintian finds nothing in the package, but for the code of the program' \
+  "$(lintian --allow-root --display-info "$package" 2>&1 |
+    grep -v -e '^N:' -e '^I: krl-keygen: hardening-no-' -e '^I: krl-keygen: spelling-error-in-binary')"
+judge 'apt would install it' "$(apt-get --simulate install "$package" >"$scratch/output" 2>&1 || cat "$scratch/output")"
 dpkg-deb --extract "$package" "$root"
 runs 'the program of the package' "$root/usr/bin/krl-keygen"
-holds 'what the package holds' $(of krl-keygen usr | grep -v -e sha256 -e /man1/) \
-  ./usr/share/man/man1/krl-keygen.1.gz $(printf './usr/share/doc/krl-keygen/%s\n' README.md changelog.gz copyright)
+holds 'what the package holds' \
+  $(of krl-keygen usr | grep -v -e sha256 -e /man1/ | sed 's|site-functions|vendor-completions|') \
+  ./usr/share/man/man1/krl-keygen.1.gz \
+  $(printf './usr/share/doc/krl-keygen/%s\n' README.md NEWS.gz changelog.gz copyright)
+dpkg-deb --control "$package" "$scratch/control"
+judge 'the package has the sum of each of its files' "$(
+  cd "$root" && md5sum --quiet --check "$scratch/control/md5sums" 2>&1
+  differs files "$(find usr -type f | wc -l)" "$(wc -l <"$scratch/control/md5sums")"
+)"
 rm -r "$root"
+first=$(field Version)
+sleep 1
+packed
+judge 'packages of files that were changed differ' \
+  "$([[ $first != *.changed ]] || [ "$first" != "$(field Version)" ] || echo "  both are $first")"
+judge 'the folder has the last package alone' "$(differs packages "$package" "$(echo "$scratch"/*.deb)")"
