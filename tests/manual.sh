@@ -17,7 +17,7 @@ forms=$("$program" --help |
   sed "s/^${program##*/} /ssh-keygen /")
 judge 'the synopsis is what --help says' "$(differs 'forms of use' "$forms" "$(rendered SYNOPSIS)")"
 
+# Its recipes are followed by readme.sh.
 cp -r "$top/demo" demo && cd demo || exit 1
-transcript 'the examples of the manual page' < <(sed -n '/^\.Sh EXAMPLES/,/^\.Sh DIAGNOSTICS/p' "$page" |
-  awk '/^\.Bd/ { on = 1; next } /^\.Ed/ { on = 0 } on' | sed 's/\\e/\\/g')
+transcript 'the examples of the manual page' < <(manual_blocks | awk 'BEGIN { RS = "\f\n"; ORS = "" } /^\$/')
 cd ..

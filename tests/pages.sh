@@ -34,7 +34,3 @@ cd ..
 
 judge 'the names that THEOREMS.md and the README cite stand in the crates' \
   "$(python3 -B "$tests/lib/cited.py" "$top" 2>&1)"
-
-mkdir walk && cp -r "$top/demo" walk && ln -s "$program" walk/ssh-keygen && cd walk || exit 1
-transcript 'the walk of the README' < <(awk '/^```/ { on = !on; next } on' "$top/README.md")
-cd ..

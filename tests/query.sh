@@ -5,10 +5,6 @@ line ssh-ed25519 "$A" 'x y' >a
 bytes "$H" >h.krl
 bytes "$H" "$(section "$G")" >r.krl
 
-expect 'the demo list names the demo key' 1 "$top/demo/g.pub: REVOKED"$'\n' '' \
-  -Q -f "$top/demo/r.krl" "$top/demo/g.pub"
-expect 'the empty demo list names nothing' 0 "$top/demo/g.pub: ok"$'\n' '' \
-  -Q -f "$top/demo/empty.krl" "$top/demo/g.pub"
 expect 'a list without sections' 0 $'g.pub: ok\n' '' -Q -f h.krl g.pub
 expect 'a key of the list' 1 $'g.pub: REVOKED\n' '' -Q -f r.krl g.pub
 expect 'a key beside the list' 0 $'a (x y): ok\n' '' -Q -f r.krl a
