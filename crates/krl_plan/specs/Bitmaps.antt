@@ -36,4 +36,5 @@ bitmap_mark at runs rests count = record {
 abbrev pub HasBitmaps : Bitmaps → ℕ → List Span → List ℕ → Type 0
 HasBitmaps bitmaps at runs rests =
     (r : ℕ) (d : Window) → r < 8
-    → IsFilled (get_or bitmaps.windows r d).marks.items (IsBitmapOf runs r) (bitmap_mark at runs rests)
+    → IsFilled (get_or bitmaps.windows r d).marks.items (IsBitmapOf runs r)
+    (bitmap_mark at runs rests)

@@ -10,8 +10,8 @@ use std::convert::AsStr;
 const REFUSED: &str = "ssh-keygen: usage 2 Words\n";
 
 /// The library's text for these words, its help or the version. It repeats words as they are given,
-/// so it is given them with their control characters escaped: no word moves the terminal or begins a
-/// line.
+/// so it is given them with their control characters escaped: no word moves the terminal or begins
+/// a line.
 pub fn text_for<S: AsStr>(alloc: Global, words: &[S]) -> Result<String, AllocError> {
     let mut shown = Vec::new(alloc);
     for word in words {

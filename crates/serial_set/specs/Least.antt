@@ -14,7 +14,8 @@ same_span x y p q =
     ap (λ (n : ℕ). record { lo = n; hi = x.hi }) p ∙ ap (λ (n : ℕ). record { lo = y.lo; hi = n }) q
 
 -- the number after the first span is not named
-not_after : (a : ℕ) (x : Span) (xs : List Span) → RunsFrom a (x ∷ xs) → Covers (x ∷ xs) (x.hi + 1) → ⊥
+not_after : (a : ℕ) (x : Span) (xs : List Span) → RunsFrom a (x ∷ xs)
+    → Covers (x ∷ xs) (x.hi + 1) → ⊥
 not_after a x xs r n =
     elim n [
       | inl here ↦ omega (arith, here.1)
