@@ -7,7 +7,7 @@ use Rattle.ssh_key.specs.KeyLine.{IsKeyLine}
 use Rattle.ssh_key.specs.LineFaults.{IsFirstLineFault}
 use Rattle.ssh_key.specs.LineReading.{Content, content}
 use Rattle.ssh_key.specs.declared.line_fault.LineFault.{LineFault}
-use Rattle.krl_core.specs.Entry.{Entry}
+use Rattle.krl_held.specs.Entry.{Entry}
 use Rattle.krl_c.specs.Answer.{AnswersBlob, AnswersBy, AnswersLine, HasOne, Says, names, spares, said, no_blob, starved, answered, no_list, list_starved, of_key, no_line, line_starved}
 use Rattle.krl_c.specs.Number.{list_number, line_number, no_memory, subject_number}
 

@@ -14,8 +14,8 @@ use Rattle.krl_fault.specs.declared.krl_fault.KrlFault.{KrlFault}
 use Rattle.krl_fault.specs.declared.krl_fault.KrlFault.TheVariants as lists
 use Rattle.krl_core.specs.declared.header.Header.{Header}
 use Rattle.krl_core.specs.Entries.{entries_of}
-use Rattle.krl_core.specs.Entry.{Entry}
-use Rattle.krl_core.specs.Contents.{Contents}
+use Rattle.krl_held.specs.Entry.{Entry}
+use Rattle.krl_held.specs.Contents.{Contents}
 use Rattle.krl_core.specs.Front.{IsFirstFault}
 use Rattle.krl_core.specs.Reading.{IsListAs, Says as ListSays, starved as runs_out, failed_read, first}
 use Rattle.krl_c.specs.Answer.{Answers, AnswersBlob, AnswersBy, AnswersLine, AnswersOfLine, IsListOf, answered, of_key, no_list, list_starved, no_blob, starved, no_line, line_starved}

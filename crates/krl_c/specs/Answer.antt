@@ -8,11 +8,11 @@ use Rattle.ssh_cert.specs.SubjectReading.{IsSubject, IsSubjectFault}
 use Rattle.ssh_cert.specs.declared.subject_fault.SubjectFault.{SubjectFault}
 use Rattle.krl_fault.specs.declared.krl_fault.KrlFault.{KrlFault}
 use Rattle.krl_core.specs.declared.header.Header.{Header}
-use Rattle.krl_core.specs.Entry.{Entry}
+use Rattle.krl_held.specs.Entry.{Entry}
 use Rattle.krl_core.specs.Entries.{entries_of}
 use Rattle.krl_core.specs.Front.{IsFirstFault, limit}
 use Rattle.krl_core.specs.Krl.{SpelledSection, Spells}
-use Rattle.krl_core.specs.Revoked.{Revoked}
+use Rattle.krl_held.specs.Revoked.{Revoked}
 use Rattle.krl_c.specs.Number.{fine, revoked, no_memory, list_number, line_number, subject_number}
 
 -- A header and sections spell the list, within the limit.

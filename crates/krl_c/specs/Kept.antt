@@ -1,7 +1,7 @@
 -- What is held of a list, by the entries that it means.
 use Rattle.std.specs.Prelude.{◌≡◌, ℕ, ℤ, Bool, true, false, List, Some}
-use Rattle.krl_core.specs.Contents.{Contents, Means, nothing}
-use Rattle.krl_core.specs.Entry.{Entry}
+use Rattle.krl_held.specs.Contents.{Contents, Means, nothing}
+use Rattle.krl_held.specs.Entry.{Entry}
 use Rattle.krl_core.specs.Front.{IsFirstFault}
 use Rattle.krl_fault.specs.declared.krl_fault.KrlFault.{KrlFault}
 use Rattle.krl_c.specs.Answer.{IsListOf}

@@ -2,9 +2,9 @@
 
 ghost use Rattle.std.specs.Prelude.{◌≡◌, ◌⊎◌, ◌↔◌, List, IfOk, IfErr, IsTrue, OnOk};
 ghost use Rattle.krl_fault.specs.declared.krl_fault.KrlFault.TheVariants.{NoMemory};
-ghost use Rattle.krl_core.specs.Entry.{Entry};
+ghost use Rattle.krl_held.specs.Entry.{Entry};
 ghost use Rattle.krl_core.specs.Front.{IsFirstFault};
-ghost use Rattle.krl_core.specs.Revoked.{Revoked};
+ghost use Rattle.krl_held.specs.Revoked.{Revoked};
 ghost use Rattle.krl_c.specs.Answer.{Answers, AnswersOfLine, IsListOf};
 
 use crate::lent::Lent;

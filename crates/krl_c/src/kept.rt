@@ -1,7 +1,7 @@
 //! What is held of a list, or that none was read.
 
 ghost use Rattle.std.specs.Prelude.{◌≡◌, List, false};
-ghost use Rattle.krl_core.specs.Entry.{Entry};
+ghost use Rattle.krl_held.specs.Entry.{Entry};
 ghost use Rattle.krl_c.specs.Answer.{AnswersBlob, AnswersLine};
 ghost use Rattle.krl_c.specs.Kept.{Holds, unloaded};
 ghost use Rattle.krl_c.specs.Number.{not_loaded};

@@ -4,7 +4,7 @@
 ghost use Rattle.std.specs.Prelude.{◌≡◌, List, false, length};
 ghost use denote.Param.{layout};
 ghost use prog.Memory.{capped, size};
-ghost use Rattle.krl_core.specs.Entry.{Entry};
+ghost use Rattle.krl_held.specs.Entry.{Entry};
 ghost use Rattle.krl_c.specs.Answer.{Answers, AnswersBlob, AnswersLine, AnswersOfLine};
 ghost use Rattle.krl_c.specs.Kept.{Holds, Loads, unloaded};
 ghost use Rattle.krl_c.specs.contracts.kept.Kept.{the_row};

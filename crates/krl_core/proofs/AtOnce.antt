@@ -10,13 +10,14 @@ use Rattle.krl_core.specs.declared.place.Place.{Place}
 use Rattle.krl_core.specs.declared.place.Place.TheVariants as places
 use Rattle.krl_core.specs.declared.place.bitmap.BitmapPlace.TheVariants as bitmaps
 use Rattle.krl_core.specs.declared.place.serials.SerialsPlace.TheVariants as serials
-use Rattle.krl_core.specs.Crossing.{AreUnasked, AreUnwanted, Crosses, CrossesSome, MayPass}
+use Rattle.krl_core.specs.Crossing.{AreUnasked, Crosses, CrossesSome, MayPass}
+use Rattle.krl_held.specs.Scope.{AreUnwanted}
 use Rattle.krl_core.specs.Keeping.{InStep, Keeping, Skips, StaysWithin, held_with_open}
 use Rattle.krl_core.specs.Place.{next_bits, next_serial}
 use Rattle.krl_core.proofs.Eights.{crosses_serials}
 use Rattle.krl_core.proofs.Keeping.{stored_same}
 use Rattle.krl_core.proofs.Skipping.{crosses_bits, stays_grow}
-use Rattle.krl_core.proofs.Unasked.{take_fewer}
+use Rattle.krl_held.proofs.Unasked.{take_fewer}
 
 pub serials_crossed : (bytes : List ℕ) (count : ℕ) (place next : Place) (keeping : Keeping) (left after : ℕ) → place ≡ places.Serials (serials.Serial left after) → next ≡ next_serial (left - count) after
     → count ≤ length bytes → count ≤ left → count % 8 ≡ 0 → (count ≡ 0 → ⊥) → IsBytes bytes → InStep place keeping.bitmap → AreUnwanted keeping.scope keeping.authority bytes count

@@ -9,9 +9,9 @@ use Rattle.serial_set.specs.BitRuns.{big_endian}
 use Rattle.ssh_wire.specs.Magnitudes.{number_of-cons}
 use Rattle.ssh_wire.specs.Wire.{number_of}
 use Rattle.ssh_wire.specs.Digits.{bytes_as_bits}
-use Rattle.krl_core.specs.Entry.{BitmapEntry}
-use Rattle.krl_core.specs.Naming.{NamesSame}
-use Rattle.krl_core.proofs.Same.{same_nothing, same_serials}
+use Rattle.krl_held.specs.Entry.{BitmapEntry}
+use Rattle.krl_held.specs.Naming.{NamesSame}
+use Rattle.krl_held.proofs.Same.{same_nothing, same_serials}
 
 -- the number of a bitmap that is fed byte by byte is the wire's
 pub bitmap_number : (bytes : List ℕ) → big_endian bytes ≡ number_of bytes

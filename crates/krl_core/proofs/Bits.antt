@@ -12,11 +12,11 @@ use Rattle.serial_set.specs.Span.{Covers}
 use Rattle.serial_set.specs.BitRuns.{BitRuns, BitNames, Feeds, HasFault, ShowsFault, lowest}
 use Rattle.krl_fault.specs.declared.krl_fault.KrlFault.TheVariants as faults
 use Rattle.krl_core.specs.declared.place.Place.{Place}
-use Rattle.krl_core.specs.Entry.{Entry, BitmapEntry, RangeEntry}
-use Rattle.krl_core.specs.Naming.{EntryNames, NamesSame, SerialOf, SomeNames}
-use Rattle.krl_core.specs.Contents.{Contents, held}
-use Rattle.krl_core.specs.Scope.{MeansWithin, Scope}
-use Rattle.krl_core.specs.Changes.{run_entries}
+use Rattle.krl_held.specs.Entry.{Entry, BitmapEntry}
+use Rattle.krl_held.specs.Naming.{NamesSame, SerialOf}
+use Rattle.krl_held.specs.Contents.{Contents, held}
+use Rattle.krl_held.specs.Scope.{MeansWithin, Scope}
+use Rattle.krl_held.specs.Changes.{run_entries}
 use Rattle.krl_core.specs.Keeping.{Keeping, IsKept, AddsEntries, Adds, InStep, KeepsBits, KeepsField, Closes, held_with_open, open_run, StaysWithin}
 use Rattle.ssh_wire.specs.Wire.{number_of}
 use Rattle.krl_core.specs.declared.place.Place.TheVariants as places
@@ -24,11 +24,12 @@ use Rattle.krl_core.specs.declared.place.bitmap.BitmapPlace.TheVariants as bitma
 use Rattle.krl_core.specs.Place.{base_of, bits_judged, judge, next_bits, next_subsection, passes_end, highest_bit}
 use Rattle.serial_set.specs.Bits.{bit_below}
 use Rattle.serial_set.specs.Rising.{covers_append}
-use Rattle.krl_core.proofs.Same.{AreSerials, same_serials, same_append, same_refl, same_is, same_then, same_swap, some_append, one_more, IsSerials}
+use Rattle.krl_held.proofs.Same.{same_serials, same_append, same_refl, same_is, same_then, same_swap, some_append, one_more, IsSerials}
+use Rattle.krl_held.proofs.Runs.{run_entries-name, run_entries-serials}
 use Rattle.std.proofs.Math.Logic.Iff as Iff
-use Rattle.krl_core.proofs.BothWays.{iff_both, iff_none, iff_or, iff_swap}
+use Rattle.krl_held.proofs.BothWays.{iff_both, iff_none, iff_or, iff_swap}
 use Rattle.krl_core.proofs.Keeping.{open_entries, stored_same, stored_then}
-use Rattle.krl_core.specs.Elements.{all_append}
+use Rattle.krl_held.specs.Elements.{all_append}
 
 -- ---- runs by the numbers in them
 
@@ -37,18 +38,6 @@ names_reverse [] s = Iff.rfl
 names_reverse (x ∷ xs) s =
     subst (λ (l : List Span). Covers l s ↔ Covers (x ∷ xs) s) (sym (reverse-append (x ∷ []) xs))
     (Iff.trans (covers_append (reverse xs) (x ∷ []) s) (Iff.trans iff_swap (iff_or (Iff.symm (iff_none (λ no. no))) (names_reverse xs s))))
-
--- the entries of runs name the numbers in them
-pub run_entries-name : (a : List ℕ) (runs : List Span) (b : List ℕ) (s : ℕ)
-    → SomeNames (run_entries a runs) (SerialOf b s) ↔ (((a ≡ b) × (0 < s)) × Covers runs s)
-run_entries-name a [] b s = (λ h. absurd h, λ h. absurd h.1)
-run_entries-name a (run ∷ runs) b s =
-    let here : EntryNames (RangeEntry a run.lo run.hi) (SerialOf b s) ↔ (((a ≡ b) × (0 < s)) × ((run.lo ≤ s) × (s ≤ run.hi))) = (λ h. ((h.0, h.1.0), h.1.1), λ h. (h.0.0, (h.0.1, h.1))) in
-    Iff.trans (iff_or here (run_entries-name a runs b s)) iff_both
-
-pub run_entries-serials : (a : List ℕ) (runs : List Span) → AreSerials (run_entries a runs)
-run_entries-serials a [] = tt
-run_entries-serials a (run ∷ runs) = (tt, run_entries-serials a runs)
 
 -- the runs that a byte finished and the one that is open name what was open and the byte's bits
 fed_same : (a : List ℕ) (before : BitRuns) (byte : ℕ) (after : BitRuns) (finished : List Span) → Feeds before byte after finished

@@ -10,14 +10,14 @@ use Rattle.krl_fault.specs.declared.krl_fault.KrlFault.TheVariants as faults
 use Rattle.krl_core.specs.declared.header.Header.{Header}
 use Rattle.krl_core.specs.declared.place.list.ItemKind.{ItemKind}
 use Rattle.krl_core.specs.declared.place.Place.{Place}
-use Rattle.krl_core.specs.Entry.{Entry, SerialsEntry}
+use Rattle.krl_held.specs.Entry.{Entry, SerialsEntry}
 use Rattle.krl_core.specs.Entries.{entries_of, section_entries, subsection_entries}
 use Rattle.krl_core.specs.Krl.{SpelledSection, Certificates, Signature, Extension, Subsection, SpellsEach, SpellsSection, SpellsSubsection, SignaturesLast, IsSignature}
-use Rattle.krl_core.specs.Naming.{NamesSame}
+use Rattle.krl_held.specs.Naming.{NamesSame}
 use Rattle.krl_core.specs.Place.{within, item_entry, next_item, next_subsection, next_serial}
-use Rattle.krl_core.proofs.Numbers.{number_back4, number_back8, number_of-one}
+use Rattle.krl_held.proofs.Numbers.{number_back4, number_back8}
 use Rattle.krl_core.proofs.Rests.{Rest, LastFor, FromSections, FromNumber, FromLength, FromContent, FromItems, FromItem, FromSubsections, FromCertificates, FromExtension, Completes, IsItem, Items, SerialItems}
-use Rattle.krl_core.proofs.Same.{same_refl, same_is, same_then, same_append}
+use Rattle.krl_held.proofs.Same.{same_refl, same_is, same_then, same_append}
 use Rattle.krl_core.proofs.Judged.{held_back, same_place}
 
 -- ---- judgements that passed
@@ -30,10 +30,6 @@ fits_within left next size q e =
 pub chosen : (b : Bool) (p : Place) (x : Result Place KrlFault) (q : Place) → cond b (Ok p) x ≡ Ok q → ((b ≡ true) × (p ≡ q)) ⊎ ((b ≡ false) × (x ≡ Ok q))
 chosen true p x q e = inl (refl, same_place p q e)
 chosen false p x q e = inr (refl, e)
-
-pub one_byte : (field : List ℕ) → length field ≡ 1 → field ≡ number_of field ∷ []
-one_byte (a ∷ []) len = ap (λ (n : ℕ). n ∷ []) (sym (number_of-one a))
-one_byte _ len = absurd (omega arith)
 
 -- ---- one field in front
 

@@ -7,16 +7,16 @@ use Rattle.std.proofs.lemmas.Nat.Bits.{bit_at-zero}
 use Rattle.ssh_wire.specs.Wire.{IsBytes, number_of, string}
 use Rattle.ssh_wire.specs.Fields.{length-string}
 use Rattle.krl_core.specs.declared.header.Header.{Header}
-use Rattle.krl_core.specs.Entry.{Entry, SerialsEntry, BitmapEntry}
+use Rattle.krl_held.specs.Entry.{Entry, SerialsEntry, BitmapEntry}
 use Rattle.krl_core.specs.Entries.{subsection_entries}
 use Rattle.krl_core.specs.Krl.{Subsection, SpellsSubsection, SubsectionContent, subsection_type}
-use Rattle.krl_core.specs.Naming.{EntryNames, NamesSame, SerialOf}
+use Rattle.krl_held.specs.Naming.{EntryNames, NamesSame, SerialOf}
 use Rattle.krl_core.specs.Place.{next_bits, base_of, passes_end}
-use Rattle.krl_core.proofs.Numbers.{number_back4}
+use Rattle.krl_held.proofs.Numbers.{number_back4}
 use Rattle.krl_core.proofs.Rests.{FromSubsections, FromPart, FromBits, Completes}
 use Rattle.krl_core.proofs.Bitmaps.{low_more, low_none, bit_of-byte, same_no_bits, same_bits}
-use Rattle.krl_core.proofs.BothWays.{contains_one}
-use Rattle.krl_core.proofs.Same.{AreSerials, mapped_name, same_serials, same_refl, same_is, same_then, same_append}
+use Rattle.krl_held.proofs.BothWays.{contains_one}
+use Rattle.krl_held.proofs.Same.{AreSerials, mapped_name, same_serials, same_refl, same_is, same_then, same_append}
 use Rattle.krl_core.proofs.Completes.{string_parts, subsections_from}
 use Rattle.krl_core.proofs.Bits.{not_past_at}
 

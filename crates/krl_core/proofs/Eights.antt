@@ -10,14 +10,14 @@ use Rattle.ssh_wire.specs.Wire.{IsBytes, number_of}
 use Rattle.krl_core.specs.declared.place.Place.{Place}
 use Rattle.krl_core.specs.declared.place.Place.TheVariants as places
 use Rattle.krl_core.specs.declared.place.serials.SerialsPlace.TheVariants as serials
-use Rattle.krl_core.specs.Crossing.{AreUnwanted, Crosses, serial_at}
-use Rattle.krl_core.specs.Elements.{contains_cases, contains_none}
-use Rattle.krl_core.specs.Entry.{Entry, SerialsEntry}
+use Rattle.krl_core.specs.Crossing.{Crosses}
+use Rattle.krl_held.specs.Elements.{contains_cases, contains_none}
+use Rattle.krl_held.specs.Entry.{Entry, SerialsEntry}
 use Rattle.krl_core.specs.Front.{Leads, Passes, State, start, state_after}
 use Rattle.krl_core.specs.Keeping.{InStep, IsKept, Keeping}
-use Rattle.krl_core.specs.Naming.{Name, SerialOf, SomeNames}
+use Rattle.krl_held.specs.Naming.{Name, SerialOf, SomeNames}
 use Rattle.krl_core.specs.Place.{authority_after, header_after, names, next_serial}
-use Rattle.krl_core.specs.Scope.{InScope, Scope}
+use Rattle.krl_held.specs.Scope.{AreUnwanted, InScope, Scope, serial_at}
 use Rattle.krl_core.proofs.Skipping.{skipped_kept}
 use Rattle.krl_core.proofs.Walks.{Leads-append}
 

@@ -13,7 +13,7 @@ use Rattle.serial_set.specs.Span.{Covers}
 use Rattle.serial_set.specs.Least.{runs_least}
 use Rattle.serial_set.specs.Rising.{covers_append}
 use Rattle.std.proofs.Math.Logic.Iff as Iff
-use Rattle.krl_core.proofs.BothWays.{iff_or}
+use Rattle.krl_held.proofs.BothWays.{iff_or}
 use Rattle.ssh_wire.specs.Wire.{IsBytes, number_of}
 use Rattle.ssh_wire.specs.Digits.{IsBytes-back, IsBytes-front}
 use Rattle.krl_core.specs.declared.place.Place.{Place}
@@ -22,16 +22,16 @@ use Rattle.krl_core.specs.declared.place.Place.TheVariants as places
 use Rattle.krl_core.specs.declared.place.list.ListPlace.TheVariants as lists
 use Rattle.krl_core.specs.declared.place.serials.SerialsPlace.TheVariants as serials
 use Rattle.krl_core.specs.declared.place.bitmap.BitmapPlace.TheVariants as bitmaps
-use Rattle.krl_core.specs.Contents.{Contents, HoldsSerial, IsListed, Means, Section, SomeSection, held}
-use Rattle.krl_core.specs.Entry.{Entry}
+use Rattle.krl_held.specs.Contents.{Contents, HoldsSerial, IsListed, Means, Section, SomeSection, held}
+use Rattle.krl_held.specs.Entry.{Entry}
 use Rattle.krl_core.specs.Front.{Leads, Passes, State, state_after, start}
-use Rattle.krl_core.specs.Naming.{EntryNames, SerialOf, SomeNames}
+use Rattle.krl_held.specs.Naming.{EntryNames, SerialOf, SomeNames}
 use Rattle.krl_core.specs.Place.{names}
-use Rattle.krl_core.specs.Rising.{AllAbove, RisesBy, bytes_cmp}
-use Rattle.krl_core.proofs.Intervals.{IsByteOnly, entry_authority, interval_names, intervals_of, length-intervals, most}
-use Rattle.krl_core.proofs.Numbers.{number_of-one}
-use Rattle.krl_core.proofs.OneMeaning.{section_authority, held_first, not_before_itself, above_named}
-use Rattle.krl_core.specs.Elements.{all_append}
+use Rattle.krl_held.specs.Rising.{AllAbove, RisesBy, bytes_cmp}
+use Rattle.krl_held.proofs.Intervals.{IsByteOnly, entry_authority, interval_names, intervals_of, length-intervals, most}
+use Rattle.krl_held.proofs.Numbers.{number_of-one}
+use Rattle.krl_held.proofs.OneMeaning.{section_authority, held_first, not_before_itself, above_named}
+use Rattle.krl_held.specs.Elements.{all_append}
 
 -- ---- the intervals of entries under one authority
 

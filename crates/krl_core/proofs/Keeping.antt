@@ -4,13 +4,14 @@ use Rattle.std.specs.Option.{option_to_list}
 use Rattle.std.proofs.lemmas.List.{append-nil, length-take-le}
 use Rattle.std.proofs.Math.Seq.{take-add}
 use Rattle.serial_set.specs.declared.span.Span.{Span}
-use Rattle.krl_core.specs.Contents.{Contents}
-use Rattle.krl_core.specs.Entry.{Entry, RangeEntry, SerialsEntry}
-use Rattle.krl_core.specs.Naming.{NamesSame}
-use Rattle.krl_core.specs.Changes.{run_entries}
+use Rattle.krl_held.specs.Contents.{Contents}
+use Rattle.krl_held.specs.Entry.{Entry, RangeEntry, SerialsEntry}
+use Rattle.krl_held.specs.Naming.{NamesSame}
+use Rattle.krl_held.specs.Changes.{run_entries}
 use Rattle.krl_core.specs.Keeping.{Keeping, IsKept, Adds, KeepsRest, Closes, StaysWithin, GrowsWithin, StoresWithin, held_with_open, open_run}
-use Rattle.krl_core.specs.Scope.{MeansMoreWithin, MeansWithin, Scope}
-use Rattle.krl_core.proofs.Same.{same_refl, same_is, same_then, same_append, same_between, same_zero, same_none}
+use Rattle.krl_held.specs.Scope.{MeansMoreWithin, MeansWithin, Scope}
+use Rattle.krl_held.proofs.Runs.{run_entries-append}
+use Rattle.krl_held.proofs.Same.{same_refl, same_is, same_then, same_append, same_between, same_zero, same_none}
 
 abbrev pub open_entries : Keeping → List Entry
 open_entries keeping = run_entries keeping.authority (open_run keeping)
@@ -102,10 +103,6 @@ pub stored_then : (a b c : Keeping) → StaysWithin a b → StaysWithin b c → 
 stored_then a b c h k = record { stored_is = λ m s. k.stored_is m (h.stored_is m s); scope_is = λ s. k.scope_is (h.scope_is s); same_scope = k.same_scope ∙ h.same_scope }
 
 -- ---- runs
-
-pub run_entries-append : (a : List ℕ) (xs ys : List Span) → run_entries a (xs ++ ys) ≡ run_entries a xs ++ run_entries a ys
-run_entries-append a [] ys = refl
-run_entries-append a (x ∷ xs) ys = ap (λ (es : List Entry). RangeEntry a x.lo x.hi ∷ es) (run_entries-append a xs ys)
 
 pub adds_runs : (old mid new : Keeping) (runs more : List Span) → Adds old (run_entries old.authority runs) mid
     → Adds mid (run_entries mid.authority more) new → Adds old (run_entries old.authority (runs ++ more)) new

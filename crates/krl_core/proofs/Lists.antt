@@ -4,8 +4,8 @@ use Rattle.std.specs.List.{concat}
 use Rattle.std.specs.Prelude.{Result, Ok, Err, IfOk, IfErr}
 use Rattle.ssh_wire.specs.Wire.{IsBytes, number, string}
 use Rattle.krl_core.specs.declared.header.Header.{Header}
-use Rattle.krl_core.specs.Contents.{Contents}
-use Rattle.krl_core.specs.Entry.{Entry}
+use Rattle.krl_held.specs.Contents.{Contents}
+use Rattle.krl_held.specs.Entry.{Entry}
 use Rattle.krl_core.specs.Entries.{entries_of}
 use Rattle.std.proofs.lemmas.Bool.{ltb-false}
 use Rattle.std.proofs.lemmas.List.{append-nil, take_all}
@@ -13,13 +13,13 @@ use Rattle.krl_fault.specs.declared.krl_fault.KrlFault.{KrlFault}
 use Rattle.krl_core.specs.declared.place.Place.{Place}
 use Rattle.krl_core.specs.Front.{State, start, Leads, limit, IsEnd, IsFirstFault, Reported, ended, no_room, refused, too_long, ends_early}
 use Rattle.krl_core.specs.Krl.{SpelledSection, Spells, header_text, magic}
-use Rattle.krl_core.specs.Naming.{NamesSame}
+use Rattle.krl_held.specs.Naming.{NamesSame}
 use Rattle.krl_core.specs.Place.{can_end}
 use Rattle.krl_core.specs.Reading.{HasRead, HoldsAll, HoldsWithin, IsList, IsListAs, IsWholeAs, Position}
-use Rattle.krl_core.specs.Scope.{Scope, all as every_name}
+use Rattle.krl_held.specs.Scope.{Scope, all as every_name}
 use Rattle.krl_core.proofs.Fields.{completes}
 use Rattle.krl_core.proofs.Rests.{FromText, FromFormat}
-use Rattle.krl_core.proofs.Scoped.{means_all_within, same_within}
+use Rattle.krl_held.proofs.Scoped.{means_all_within, same_within}
 use Rattle.krl_core.proofs.Completes.{whole_string}
 
 -- the fields of a header and what follows it, one after the other

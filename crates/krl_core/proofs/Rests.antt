@@ -15,10 +15,10 @@ use Rattle.krl_core.specs.declared.place.certificates.CertificatesPlace.TheVaria
 use Rattle.krl_core.specs.declared.place.serials.SerialsPlace.TheVariants as serials
 use Rattle.krl_core.specs.declared.place.bitmap.BitmapPlace.TheVariants as bitmaps
 use Rattle.krl_core.specs.declared.place.extension.ExtensionPlace.TheVariants as extensions
-use Rattle.krl_core.specs.Entry.{Entry, SerialsEntry, RangeEntry, BitmapEntry}
+use Rattle.krl_held.specs.Entry.{Entry, SerialsEntry, RangeEntry, BitmapEntry}
 use Rattle.krl_core.specs.Entries.{entries_of, subsection_entries}
 use Rattle.krl_core.specs.Krl.{SpelledSection, Subsection, SpellsEach, SpellsSection, SpellsSubsection, SubsectionContent, SpellsExtension, SpellsBitmap, SignaturesLast, IsSignature, IsPositive, subsection_type, magic}
-use Rattle.krl_core.specs.Naming.{NamesSame}
+use Rattle.krl_held.specs.Naming.{NamesSame}
 use Rattle.krl_core.specs.Place.{item_entry, item_size}
 
 -- what holds of the bytes that are left and of what their fields name

@@ -15,18 +15,18 @@ use Rattle.krl_fault.specs.declared.krl_fault.KrlFault.TheVariants as faults
 use Rattle.krl_core.specs.declared.place.Place.{Place}
 use Rattle.krl_core.specs.declared.place.Place.TheVariants as places
 use Rattle.krl_core.specs.declared.place.bitmap.BitmapPlace.TheVariants as bitmaps
-use Rattle.krl_core.specs.Entry.{BitmapEntry, Entry, RangeEntry}
+use Rattle.krl_held.specs.Entry.{BitmapEntry, Entry, RangeEntry}
 use Rattle.krl_core.specs.Crossing.{AreUnasked, Crosses}
 use Rattle.krl_core.specs.Front.{Leads, Passes, State, start, state_after}
 use Rattle.std.specs.List.{concat}
-use Rattle.krl_core.specs.Changes.{run_entries}
-use Rattle.krl_core.specs.Contents.{Contents}
+use Rattle.krl_held.specs.Changes.{run_entries}
+use Rattle.krl_held.specs.Contents.{Contents}
 use Rattle.krl_core.specs.Keeping.{Adds, GrowsWithin, InStep, IsKept, Keeping, Skips, StaysWithin, held_with_open}
-use Rattle.krl_core.specs.Naming.{Name, NamesSame, SerialOf, SomeNames}
-use Rattle.krl_core.specs.Scope.{InScope, MeansWithin, Scope}
-use Rattle.krl_core.proofs.Numbers.{number_of-one}
-use Rattle.krl_core.proofs.Same.{same_append, same_refl}
-use Rattle.krl_core.proofs.MeansMore.{nothing_more_within}
+use Rattle.krl_held.specs.Naming.{Name, NamesSame, SerialOf, SomeNames}
+use Rattle.krl_held.specs.Scope.{InScope, MeansWithin, Scope}
+use Rattle.krl_held.proofs.Numbers.{number_of-one}
+use Rattle.krl_held.proofs.Same.{same_append, same_refl}
+use Rattle.krl_held.proofs.MeansMore.{nothing_more_within}
 use Rattle.krl_core.proofs.Keeping.{closes_run, stored_wider}
 use Rattle.krl_core.proofs.Walks.{Leads-append}
 use Rattle.krl_core.specs.Place.{next_subsection, authority_after, base_of, bits_judged, bits_within, header_after, highest_bit, judge, names, next_bits, passes_end}

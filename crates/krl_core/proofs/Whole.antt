@@ -11,17 +11,17 @@ use Rattle.ssh_wire.specs.Wire.{IsBytes}
 use Rattle.krl_core.specs.declared.header.Header.{Header}
 use Rattle.krl_core.specs.declared.place.Place.{Place}
 use Rattle.krl_core.specs.declared.place.Place.TheVariants.{SectionType}
-use Rattle.krl_core.specs.Contents.{Contents}
-use Rattle.krl_core.specs.Entry.{Entry}
+use Rattle.krl_held.specs.Contents.{Contents}
+use Rattle.krl_held.specs.Entry.{Entry}
 use Rattle.krl_core.specs.Front.{limit, IsFirstFault, ended}
-use Rattle.krl_core.specs.Changes.{run_entries}
+use Rattle.krl_held.specs.Changes.{run_entries}
 use Rattle.krl_core.specs.Keeping.{Keeping, InStep, open_run}
-use Rattle.krl_core.specs.Naming.{NamesSame}
+use Rattle.krl_held.specs.Naming.{NamesSame}
 use Rattle.krl_core.specs.Place.{can_end}
 use Rattle.krl_core.specs.Reading.{Ends, EndsAfter, Position, HasRead, Follows, HoldsWithin, IsBounded, IsReached, IsWholeAs, IsWithinLimit, ReadsMore}
 use Rattle.krl_core.proofs.Exists.{weight, nearer}
 use Rattle.krl_core.proofs.Fronts.{first_fault_is}
-use Rattle.krl_core.proofs.Scoped.{same_within}
+use Rattle.krl_held.proofs.Scoped.{same_within}
 
 -- some fields more were read, without a fault
 pub record LeadsOn (old new : Position) : Type 0 where

@@ -1,5 +1,5 @@
 -- Fields that stand in a reader's buffer, and are read without it.
-use Rattle.std.specs.Prelude.{◌≡◌, ℕ, ◌+◌, ◌-◌, ◌*◌, ◌≤◌, ◌<◌, List, ◌++◌, length, take, drop, Result}
+use Rattle.std.specs.Prelude.{◌≡◌, ℕ, ◌+◌, ◌-◌, ◌*◌, ◌≤◌, ◌<◌, List, ◌++◌, length, take, Result}
 use Rattle.std.specs.Prelude.{OnOk}
 use Rattle.std.specs.List.{concat}
 use Rattle.std.specs.declared.alloc.AllocError.{AllocError}
@@ -7,8 +7,8 @@ use Rattle.ssh_wire.specs.Wire.{IsBytes, number_of}
 use Rattle.krl_core.specs.declared.place.Place.{Place}
 use Rattle.krl_core.specs.Front.{Leads, State, start}
 use Rattle.krl_core.specs.Keeping.{GrowsWithin, InStep, IsKept, Keeping}
-use Rattle.krl_core.specs.Naming.{SerialOf}
-use Rattle.krl_core.specs.Scope.{InScope, Scope}
+use Rattle.krl_held.specs.Naming.{SerialOf}
+use Rattle.krl_held.specs.Scope.{InScope}
 
 -- These fields lead from a list's first byte to a place, and what is kept means what they name.
 pub record HasKept (fields : List (List ℕ)) (place : Place) (keeping : Keeping) : Type 0 where
@@ -37,19 +37,6 @@ pub record CrossesSome (bytes : List ℕ) (count : ℕ) (result : Result (Unit {
   pub none : count ≡ 0 → (next ≡ place) × (new ≡ old)
 
 -- ---- fields that name nothing in scope
-
--- the serial number that stands after so many others
-abbrev pub serial_at : List ℕ → ℕ → ℕ
-serial_at bytes count = number_of (take 8 (drop (8 * count) bytes))
-
--- something holds of none of the serial numbers in the first bytes
-abbrev pub NoneHolds : (ℕ → Type 0) → (bytes : List ℕ) → (count : ℕ) → Type 0
-NoneHolds Holds bytes count = (k : ℕ) → 8 * k + 8 ≤ count → Holds (serial_at bytes k) → ⊥
-
--- none of the serial numbers in the first bytes is in scope under the authority
-abbrev pub AreUnwanted : Scope → (authority bytes : List ℕ) → (count : ℕ) → Type 0
-AreUnwanted scope authority bytes count =
-    NoneHolds (λ s. InScope scope (SerialOf authority s)) bytes count
 
 -- no serial number of the `count` highest of the `left` last bytes of a bitmap is in scope
 abbrev pub AreUnasked : Keeping → (offset left count : ℕ) → Type 0

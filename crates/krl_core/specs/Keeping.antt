@@ -9,12 +9,12 @@ use Rattle.krl_core.specs.declared.header.Header.{Header}
 use Rattle.krl_core.specs.declared.place.Place.{Place}
 use Rattle.krl_core.specs.declared.place.Place.TheVariants as places
 use Rattle.krl_core.specs.declared.place.bitmap.BitmapPlace.TheVariants as bitmaps
-use Rattle.krl_core.specs.Changes.{run_entries}
-use Rattle.krl_core.specs.Contents.{Contents, IsStoredWithin, held}
-use Rattle.krl_core.specs.Entry.{Entry, BitmapEntry}
-use Rattle.krl_core.specs.Naming.{NamesSame}
+use Rattle.krl_held.specs.Changes.{run_entries}
+use Rattle.krl_held.specs.Contents.{Contents, IsStoredWithin, held}
+use Rattle.krl_held.specs.Entry.{Entry, BitmapEntry}
+use Rattle.krl_held.specs.Naming.{NamesSame}
 use Rattle.krl_core.specs.Place.{names, authority_after, header_after, base_of}
-use Rattle.krl_core.specs.Scope.{MeansWithin, Scope, WithinScope}
+use Rattle.krl_held.specs.Scope.{MeansWithin, Scope, WithinScope}
 
 -- What is known of the header, the authority in force, what is held, which names it answers for,
 -- and how far the bitmap at hand is read.

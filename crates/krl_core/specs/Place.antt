@@ -26,8 +26,8 @@ use Rattle.krl_core.specs.declared.place.serials.SerialsPlace.{SerialsPlace}
 use Rattle.krl_core.specs.declared.place.serials.SerialsPlace.TheVariants as serials
 use Rattle.krl_core.specs.declared.place.signature.SignaturePlace.{SignaturePlace}
 use Rattle.krl_core.specs.declared.place.signature.SignaturePlace.TheVariants as signatures
-use Rattle.krl_core.specs.Entry.{Entry, SerialsEntry, RangeEntry, BitmapEntry, IdEntry, KeyEntry}
-use Rattle.krl_core.specs.Entry.{Sha1Entry, Sha256Entry}
+use Rattle.krl_held.specs.Entry.{Entry, SerialsEntry, RangeEntry, BitmapEntry, IdEntry, KeyEntry}
+use Rattle.krl_held.specs.Entry.{Sha1Entry, Sha256Entry}
 use Rattle.krl_core.specs.Krl.{magic}
 
 -- A field that is expected: how many bytes it has; how many bytes what it is part of has left for

@@ -14,15 +14,15 @@ use Rattle.krl_core.specs.declared.place.Place.{Place}
 use Rattle.krl_core.specs.declared.place.Place.TheVariants as places
 use Rattle.krl_core.specs.declared.place.header.HeaderPlace.TheVariants as headers
 use Rattle.krl_core.specs.declared.header.Header.{Header}
-use Rattle.krl_core.specs.Contents.{Contents, Means, held, stored}
+use Rattle.krl_held.specs.Contents.{Contents, Means, held, stored}
 use Rattle.krl_core.specs.Entries.{entries_of}
 use Rattle.krl_core.specs.Krl.{SpelledSection, Spells}
 use Rattle.krl_core.specs.Front.{State, start, Leads, Passes, HasRoom, IsFirstFault, limit}
 use Rattle.krl_core.specs.Keeping.{InStep, IsKept, Keeping, KeepsWithin, StoresWithin}
 use Rattle.krl_core.specs.Keeping.{held_with_open}
 use Rattle.krl_core.specs.Place.{can_end, expected}
-use Rattle.krl_core.specs.Entry.{Entry}
-use Rattle.krl_core.specs.Scope.{MeansWithin, Scope, WithinScope, all}
+use Rattle.krl_held.specs.Entry.{Entry}
+use Rattle.krl_held.specs.Scope.{MeansWithin, Scope, WithinScope, all}
 
 -- the reader, the place where the next field is expected, what is kept, whether the list's end was
 -- found, and the fault that was met

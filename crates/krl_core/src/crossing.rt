@@ -2,14 +2,15 @@
 
 ghost use Rattle.std.specs.Prelude.{◌≡◌, ◌+◌, ◌*◌, ◌%◌, ◌^◌, ◌≤◌, ◌<◌, IsTrue, IfSome, false, length};
 ghost use Rattle.std.specs.Prelude.{take};
-ghost use Rattle.krl_core.specs.Crossing.{AreUnasked, AreUnwanted, CrossesSome, MayPass};
+ghost use Rattle.krl_core.specs.Crossing.{AreUnasked, CrossesSome, MayPass};
+ghost use Rattle.krl_held.specs.Scope.{AreUnwanted};
 ghost use Rattle.krl_core.specs.Front.{Passes};
 ghost use Rattle.krl_core.specs.Keeping.{InStep};
 
 use crate::judging::{next_bits, next_serial};
 use crate::keeper::Keeper;
 use crate::place::{BitmapPlace, Place, SerialsPlace};
-use crate::store::Store;
+use krl_held::Store;
 use std::alloc::AllocError;
 
 // At most so many bytes of serial numbers or of a bitmap are crossed at once.

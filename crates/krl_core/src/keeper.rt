@@ -6,29 +6,25 @@ ghost use Rattle.std.specs.Prelude.{length, All};
 ghost use Rattle.serial_set.specs.BitRuns.{Feeds, IsInterval};
 ghost use Rattle.serial_set.specs.Finished.{finished_of};
 ghost use Rattle.serial_set.specs.Near.{AreNear};
-ghost use Rattle.krl_core.specs.Contents.{nothing};
-ghost use Rattle.krl_core.specs.Authority.{IsAuthority, authority_bytes};
-ghost use Rattle.krl_core.specs.Entry.{Entry, SerialsEntry, RangeEntry};
-ghost use Rattle.krl_core.specs.Naming.{SerialOf};
-ghost use Rattle.krl_core.specs.Questions.{FindsIn, asked_in};
-ghost use Rattle.krl_core.specs.Scope.{InScope, WithinScope, all};
+ghost use Rattle.krl_held.specs.Contents.{nothing};
+ghost use Rattle.krl_held.specs.Authority.{IsAuthority, authority_bytes};
+ghost use Rattle.krl_held.specs.Entry.{Entry, SerialsEntry, RangeEntry};
+ghost use Rattle.krl_held.specs.Naming.{SerialOf};
+ghost use Rattle.krl_held.specs.Questions.{FindsIn, asked_in};
+ghost use Rattle.krl_held.specs.Scope.{AreUnwanted, InScope, WithinScope, all};
 ghost use Rattle.krl_core.specs.Front.{Passes, start};
 ghost use Rattle.krl_core.specs.Keeping.{Adds, Closes, GrowsWithin, InStep, IsKept, StoresWithin};
 ghost use Rattle.krl_core.specs.Keeping.{KeepsBits, KeepsField, KeepsRest, KeepsWithin, Skips, StaysWithin, TakesByte};
-ghost use Rattle.krl_core.specs.Changes.{run_entries};
-ghost use Rattle.krl_core.specs.Crossing.{AreUnwanted};
+ghost use Rattle.krl_held.specs.Changes.{run_entries};
 ghost use Rattle.krl_core.specs.Keeping.{held_with_open};
 ghost use Rattle.krl_core.specs.Place.{item_entry, item_size};
 ghost use Rattle.krl_core.specs.Reading.{is_fixed};
 
-use crate::field::{byte_of, u64_of};
-use crate::findings::Findings;
 use crate::header::Header;
 use crate::place::{
     BitmapPlace, CertificatesPlace, HeaderPlace, ItemKind, ListPlace, Place, SerialsPlace,
 };
-use crate::revocations::Revocations;
-use crate::store::Store;
+use krl_held::{Findings, Revocations, Store, byte_of, u64_of};
 use serial_set::{BitRuns, Finished, Span, Spans, count_near};
 use ssh_wire::Bytes;
 use std::alloc::{AllocError, Global};

@@ -12,13 +12,13 @@ mod list;
 mod serials;
 mod signature;
 
-use crate::field::byte_of;
 use crate::judging::section_of_type;
 pub use bitmap::BitmapPlace;
 pub use certificates::CertificatesPlace;
 pub use extension::ExtensionPlace;
 pub use header::HeaderPlace;
 use krl_fault::KrlFault;
+use krl_held::byte_of;
 pub use list::{ItemKind, ListPlace};
 pub use serials::SerialsPlace;
 pub use signature::SignaturePlace;

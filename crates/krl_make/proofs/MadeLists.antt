@@ -17,10 +17,10 @@ use Rattle.ssh_cert.specs.AnyKey.{Spells, plain_of}
 use Rattle.ssh_cert.specs.declared.any_key.AnyKey.{AnyKey}
 use Rattle.ssh_cert.specs.declared.any_key.AnyKey.TheVariants.{Plain, Certified}
 use Rattle.krl_writer.proofs.ReadBack.{written_spelled}
-use Rattle.krl_core.proofs.Tested.{revokes_meant}
-use Rattle.krl_core.specs.Contents.{Contents, Means}
+use Rattle.krl_held.proofs.Tested.{revokes_meant}
+use Rattle.krl_held.specs.Contents.{Contents, Means}
 use Rattle.krl_core.specs.Entries.{entries_of}
-use Rattle.krl_core.specs.Entry.{Entry}
+use Rattle.krl_held.specs.Entry.{Entry}
 use Rattle.krl_core.specs.Front.{IsFirstFault, limit}
 use Rattle.krl_writer.specs.KrlText.{IsKrlText}
 use Rattle.krl_core.specs.Reading.{IsList}
@@ -35,7 +35,7 @@ use Rattle.krl_fault.specs.declared.krl_fault.KrlFault.TheVariants as faults
 use Rattle.key_files.specs.Keys.{File, Found, GivesKey, IsRefused, container_found, content_keys, file_of, key_in, keys_from, keys_of, line_found}
 use Rattle.key_files.specs.declared.file_fault.FileFault.{FileFault}
 use Rattle.key_files.specs.declared.file_fault.FileFault.TheVariants as files
-use Rattle.krl_core.specs.Changes.{MeansMore}
+use Rattle.krl_held.specs.Changes.{MeansMore}
 use Rattle.krl_spec.proofs.KeyRoom.{key_room}
 use Rattle.krl_spec.specs.Lines.{ReadsSpec, StopsAt, lines_of}
 use Rattle.spec_fault.specs.declared.spec_cause.SpecCause.{SpecCause}

@@ -4,14 +4,14 @@ use Rattle.std.specs.Prelude.{if◌then◌else◌, List, [], ◌∷◌, ◌++◌
 use Rattle.std.specs.Prelude.{Result, Ok, Err}
 use Rattle.std.specs.Option.{ok_or}
 use Rattle.ssh_wire.specs.Reading.{◌>>=◌, in_fault}
-use Rattle.krl_core.specs.Contents.{Contents, Means, nothing}
+use Rattle.krl_held.specs.Contents.{Contents, Means, nothing}
 use Rattle.krl_core.specs.Entries.{entries_of}
-use Rattle.krl_core.specs.Entry.{Entry}
+use Rattle.krl_held.specs.Entry.{Entry}
 use Rattle.krl_core.specs.Front.{IsFirstFault, limit}
 use Rattle.krl_core.specs.Krl.{SpelledSection, Spells}
 use Rattle.krl_writer.specs.KrlText.{IsKrlText}
 use Rattle.krl_core.specs.Reading.{IsList, IsReadingOf}
-use Rattle.krl_core.specs.Revoked.{Revoked}
+use Rattle.krl_held.specs.Revoked.{Revoked}
 use Rattle.krl_core.specs.declared.header.Header.{Header}
 use Rattle.krl_fault.specs.declared.krl_fault.KrlFault.{KrlFault}
 use Rattle.krl_fault.specs.declared.krl_fault.KrlFault.TheVariants as faults
@@ -23,7 +23,7 @@ use Rattle.krl_make.specs.declared.base.Base.{Base}
 use Rattle.key_files.specs.declared.file_fault.FileFault.{FileFault}
 use Rattle.key_files.specs.declared.file_fault.FileFault.TheVariants as files
 use Rattle.key_files.specs.declared.cause.Cause.TheVariants as causes
-use Rattle.krl_core.specs.Changes.{MeansMore}
+use Rattle.krl_held.specs.Changes.{MeansMore}
 use Rattle.spec_fault.specs.declared.spec_cause.SpecCause.{SpecCause}
 use Rattle.spec_fault.specs.declared.spec_cause.SpecCause.TheVariants as specs
 use Rattle.spec_fault.specs.declared.spec_fault.SpecFault.{SpecFault}

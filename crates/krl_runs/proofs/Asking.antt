@@ -1,21 +1,21 @@
 -- A run by what is held of a list, or by why the list is refused.
 use Rattle.std.proofs.Common.{◌≡◌, ℕ, true, false, List, [], ◌∷◌, ◌++◌, Bool, Option, Some, None, Result, Ok, Err, refl, sym, ap, subst, ◌∙◌, append_assoc}
 use Rattle.std.specs.List.{concat}
-use Rattle.krl_core.proofs.Tested.{revokes_meant}
-use Rattle.krl_core.specs.Canonical.{entries_in}
-use Rattle.krl_core.specs.Contents.{Contents, IsOrderly}
-use Rattle.krl_core.specs.Entry.{Entry}
+use Rattle.krl_held.proofs.Tested.{revokes_meant}
+use Rattle.krl_held.specs.Canonical.{entries_in}
+use Rattle.krl_held.specs.Contents.{Contents, IsOrderly}
+use Rattle.krl_held.specs.Entry.{Entry}
 use Rattle.key_files.specs.declared.cause.Cause.TheVariants as causes
-use Rattle.krl_core.proofs.Canonical.{means_itself}
-use Rattle.krl_core.proofs.Scoped.{means_within}
+use Rattle.krl_held.proofs.Canonical.{means_itself}
+use Rattle.krl_held.proofs.Scoped.{means_within}
 use Rattle.krl_core.specs.Entries.{entries_of}
 use Rattle.krl_core.specs.Front.{IsFirstFault}
-use Rattle.krl_core.specs.NamingTests.{is_revoked as is_named}
-use Rattle.krl_core.specs.Questions.{Asks}
+use Rattle.krl_held.specs.NamingTests.{is_revoked as is_named}
+use Rattle.krl_held.specs.Questions.{Asks}
 use Rattle.krl_core.specs.Reading.{HoldsWithin, IsList, IsListAs}
-use Rattle.krl_core.specs.Tested.{revokes}
+use Rattle.krl_held.specs.Tested.{revokes}
 use Rattle.ssh_subject.specs.Subject.{Subject}
-use Rattle.krl_core.proofs.NamingTests.{found_tested, meant_tested}
+use Rattle.krl_held.proofs.NamingTests.{found_tested, meant_tested}
 use Rattle.krl_core.specs.declared.header.Header.{Header}
 use Rattle.krl_fault.specs.declared.krl_fault.KrlFault.{KrlFault}
 use Rattle.krl_fault.specs.declared.krl_fault.KrlFault.TheVariants as faults

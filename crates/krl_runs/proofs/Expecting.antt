@@ -11,10 +11,10 @@ use Rattle.key_files.specs.Keys.{File, Found, GivesKey, IsRefused, keys_of}
 use Rattle.key_files.specs.Stop.{Stop, ender_of}
 use Rattle.key_files.specs.declared.cause.Cause.{Cause}
 use Rattle.key_files.specs.declared.cause.Cause.TheVariants as causes
-use Rattle.krl_core.specs.Contents.{Contents}
-use Rattle.krl_core.specs.Naming.{KeyOf}
-use Rattle.krl_core.specs.Questions.{Asks, AsksMore, HasCert}
-use Rattle.krl_core.proofs.AskedMore.{under_stays}
+use Rattle.krl_held.specs.Contents.{Contents}
+use Rattle.krl_held.specs.Naming.{KeyOf}
+use Rattle.krl_held.specs.Questions.{Asks, AsksMore, HasCert}
+use Rattle.krl_held.proofs.AskedMore.{under_stays}
 use Rattle.krl_runs.specs.Expected.{AreExpected}
 
 -- where everything is expected, each key is

@@ -9,7 +9,7 @@ use Rattle.serial_set.specs.declared.span.Span.{Span}
 use Rattle.serial_set.specs.Span.{IsRuns, AreSerials}
 use Rattle.serial_set.specs.Walk.{IsPiece, left, next_of, since, walk_on}
 use Rattle.krl_runs.specs.Carries.{Carries}
-use Rattle.krl_core.specs.Contents.{Contents, Section}
+use Rattle.krl_held.specs.Contents.{Contents, Section}
 use Rattle.krl_core.specs.declared.header.Header.{Header}
 use Rattle.krl_runs.specs.Contents.{Known, all_said, authority_line, comment_line, comment_lines, contents_items, contents_lines, date_line, fact_line, header_lines, said_of, section_lines, serials_line, version_line}
 use Rattle.krl_runs.specs.declared.runs.contents.fact.Fact.TheVariants.{Id, Key, Sha1, Hash}

@@ -10,7 +10,7 @@ use Rattle.ssh_key.specs.declared.hash.Hash.TheVariants.{Sha256}
 use Rattle.ssh_key.specs.Fingerprints.{fingerprint_text, unpadded}
 use Rattle.ssh_cert.specs.Escape.{escaped}
 use Rattle.ssh_cert.specs.Time.{instant_text}
-use Rattle.krl_core.specs.Contents.{Contents, Section}
+use Rattle.krl_held.specs.Contents.{Contents, Section}
 use Rattle.krl_core.specs.declared.header.Header.{Header}
 use Rattle.krl_runs.specs.declared.runs.contents.fact.Fact.{Fact}
 use Rattle.krl_runs.specs.declared.runs.contents.fact.Fact.TheVariants.{Id, Key, Sha1, Hash}

@@ -1,18 +1,18 @@
 -- Asking a list about keys (ssh-keygen(1), KEY REVOCATION LISTS).
 use Rattle.std.specs.Prelude.{◌≡◌, ◌↔◌, ◌≤◌, length, ℕ, Bool, true, false, List, [], ◌∷◌, ◌++◌}
 use Rattle.std.specs.Prelude.{Option, None, Some, Result, Ok, Err, IsTrue, codes}
-use Rattle.krl_core.specs.Contents.{Contents}
+use Rattle.krl_held.specs.Contents.{Contents}
 use Rattle.krl_core.specs.Entries.{entries_of}
 use Rattle.krl_core.specs.Front.{IsFirstFault, limit}
 use Rattle.krl_core.specs.Krl.{SpelledSection, Spells}
-use Rattle.krl_core.specs.Questions.{Asks}
-use Rattle.krl_core.specs.Entry.{Entry}
-use Rattle.krl_core.specs.NamingTests.{is_revoked}
+use Rattle.krl_held.specs.Questions.{Asks}
+use Rattle.krl_held.specs.Entry.{Entry}
+use Rattle.krl_held.specs.NamingTests.{is_revoked}
 use Rattle.krl_core.specs.declared.header.Header.{Header}
 use Rattle.ssh_key.specs.Key.{Key}
 use Rattle.krl_core.specs.Reading.{IsList, IsReadAs, IsReadingOf}
-use Rattle.krl_core.specs.Revoked.{Revoked}
-use Rattle.krl_core.specs.Tested.{revokes}
+use Rattle.krl_held.specs.Revoked.{Revoked}
+use Rattle.krl_held.specs.Tested.{revokes}
 use Rattle.krl_fault.specs.declared.krl_fault.KrlFault.{KrlFault}
 use Rattle.ssh_subject.specs.Subject.{Subject}
 use Rattle.ssh_key.specs.LineReading.{Content}

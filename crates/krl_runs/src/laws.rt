@@ -16,8 +16,8 @@ ghost use Rattle.ssh_key.specs.declared.line_fault.LineFault.{LineFault};
 ghost use Rattle.ssh_key.specs.declared.private_fault.PrivateFault.{PrivateFault};
 ghost use Rattle.ssh_cert.specs.SubjectReading.{IsSubject, IsSubjectFault};
 ghost use Rattle.ssh_cert.specs.declared.subject_fault.SubjectFault.{SubjectFault};
-ghost use Rattle.krl_core.specs.Entry.{Entry};
-ghost use Rattle.krl_core.specs.NamingTests.{is_revoked};
+ghost use Rattle.krl_held.specs.Entry.{Entry};
+ghost use Rattle.krl_held.specs.NamingTests.{is_revoked};
 ghost use Rattle.krl_fault.specs.declared.krl_fault.KrlFault.{KrlFault};
 ghost use Rattle.krl_fault.specs.declared.krl_fault.KrlFault.TheVariants.{NoMemory};
 ghost use Rattle.krl_runs.specs.declared.output.answer.Answer.{Answer};
@@ -30,7 +30,8 @@ ghost use Rattle.key_files.specs.Keys.{File, stop_at};
 ghost use Rattle.krl_runs.specs.Run.{Answered, Answering, Stopped, before, container_item, files_items, item_of, outcome_of, said};
 ghost use Rattle.key_files.specs.Stop.{stop_of};
 
-use krl_core::laws::{entries_decide_what_is_held, one_first_fault, one_spelling};
+use krl_core::laws::{one_first_fault, one_spelling};
+use krl_held::laws::entries_decide_what_is_held;
 use ssh_cert::laws::{asked_where_spelled, not_asked_by_first_fault, read_where_spelled};
 use ssh_key::laws::{
     blob_read_back, line_read_where_spelled, line_refused_by_first_fault,

@@ -3,9 +3,9 @@ use Rattle.std.specs.Prelude.{◌≡◌, ◌+◌, ◌≤◌, [], ◌∷◌, Opti
 use Rattle.std.specs.Prelude.{Err, ⊤}
 use Rattle.ssh_key.specs.declared.fingerprint_fault.FingerprintFault.TheVariants as fingerprints
 use Rattle.ssh_key.specs.declared.line_fault.LineFault.TheVariants as lines
-use Rattle.krl_core.specs.Changes.{MeansMore}
-use Rattle.krl_core.specs.Contents.{Contents, held}
-use Rattle.krl_core.specs.Entry.{Entry}
+use Rattle.krl_held.specs.Changes.{MeansMore}
+use Rattle.krl_held.specs.Contents.{Contents, held}
+use Rattle.krl_held.specs.Entry.{Entry}
 use Rattle.spec_fault.specs.declared.spec_cause.KeyCause.TheVariants as keys
 use Rattle.spec_fault.specs.declared.spec_cause.SpecCause.{SpecCause}
 use Rattle.spec_fault.specs.declared.spec_cause.SpecCause.TheVariants as causes

@@ -6,8 +6,8 @@ use Rattle.sha2.specs.Sha256.{sha256}
 use Rattle.ssh_wire.specs.Reading.{◌>>=◌, in_fault}
 use Rattle.ssh_key.specs.FingerprintReading.{fingerprint_at}
 use Rattle.ssh_subject.specs.Subject.{Names}
-use Rattle.krl_core.specs.Authority.{IsAuthority, authority_bytes}
-use Rattle.krl_core.specs.Entry.{Entry, RangeEntry, IdEntry, KeyEntry, Sha1Entry, Sha256Entry}
+use Rattle.krl_held.specs.Authority.{IsAuthority, authority_bytes}
+use Rattle.krl_held.specs.Entry.{Entry, RangeEntry, IdEntry, KeyEntry, Sha1Entry, Sha256Entry}
 use Rattle.krl_spec.specs.Number.{serials_of_text}
 use Rattle.krl_spec.specs.Blanks.{bare_line}
 use Rattle.krl_spec.specs.Directive.{Order, order_in}

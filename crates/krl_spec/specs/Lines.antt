@@ -2,9 +2,9 @@
 use Rattle.std.specs.Prelude.{◌≡◌, ℕ, ◌+◌, List, [], ◌∷◌, ◌++◌, length, Option, Some, None, Result}
 use Rattle.std.specs.Prelude.{Ok, Err}
 use Rattle.std.specs.List.{slice_split}
-use Rattle.krl_core.specs.Contents.{Contents}
-use Rattle.krl_core.specs.Entry.{Entry}
-use Rattle.krl_core.specs.Changes.{MeansMore}
+use Rattle.krl_held.specs.Contents.{Contents}
+use Rattle.krl_held.specs.Entry.{Entry}
+use Rattle.krl_held.specs.Changes.{MeansMore}
 use Rattle.krl_spec.specs.Entries.{line_entry}
 use Rattle.ssh_key.specs.Lines.{is_newline}
 use Rattle.spec_fault.specs.declared.spec_cause.SpecCause.{SpecCause}

@@ -1,10 +1,10 @@
 -- How much more is stored by reading what a specification file names.
 use Rattle.std.specs.Prelude.{◌≡◌, ℕ, ◌+◌, ◌≤◌, ◌⊎◌, List, length, Option, Some, None}
 use Rattle.ssh_subject.specs.Subject.{Names, Subject}
-use Rattle.krl_core.specs.Contents.{Contents, IsStoredWithin}
+use Rattle.krl_held.specs.Contents.{Contents, IsStoredWithin}
 use Rattle.krl_spec.specs.Under.{bytes_under}
-use Rattle.krl_core.specs.Entry.{Entry, RangeEntry, IdEntry, KeyEntry, Sha1Entry}
-use Rattle.krl_core.specs.Entry.{Sha256Entry}
+use Rattle.krl_held.specs.Entry.{Entry, RangeEntry, IdEntry, KeyEntry, Sha1Entry}
+use Rattle.krl_held.specs.Entry.{Sha256Entry}
 
 -- At most this many bytes more are stored, the authority at hand counted once.
 abbrev pub GrowsUnder : List ℕ → ℕ → Contents → Contents → Type 0

@@ -1,8 +1,8 @@
 //! Adding what a line of a specification file names.
 
 ghost use Rattle.std.specs.Prelude.{◌≡◌, ◌+◌, ◌≤◌, ℕ, List, [], ◌∷◌, OnErr, OnOk, length};
-ghost use Rattle.krl_core.specs.Changes.{MeansMore};
-ghost use Rattle.krl_core.specs.Contents.{held};
+ghost use Rattle.krl_held.specs.Changes.{MeansMore};
+ghost use Rattle.krl_held.specs.Contents.{held};
 ghost use Rattle.krl_spec.specs.Adding.{Adds, AddsLine};
 ghost use Rattle.krl_spec.specs.Under.{IsUnder, authority_under};
 ghost use Rattle.krl_spec.specs.Entries.{bare_entry, line_entry, text_entry};
@@ -15,7 +15,7 @@ use crate::directive::order_in;
 use crate::entries::{LineEntry, read_order, subject_entry};
 use crate::keys::{ask, key_line};
 use crate::under::Under;
-use krl_core::Revocations;
+use krl_held::Revocations;
 use serial_set::Spans;
 use spec_fault::SpecCause;
 use std::alloc::{AllocError, Global};

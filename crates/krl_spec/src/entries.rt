@@ -2,7 +2,7 @@
 
 ghost use Rattle.std.specs.Prelude.{◌≡◌, IfOk, MatchResult, None, Some, length};
 ghost use Rattle.ssh_wire.specs.Reading.{Answers};
-ghost use Rattle.krl_core.specs.Authority.{IsAuthority, authority_bytes};
+ghost use Rattle.krl_held.specs.Authority.{IsAuthority, authority_bytes};
 ghost use Rattle.krl_spec.specs.Adding.{Reports};
 ghost use Rattle.krl_spec.specs.Entries.{HasAuthority, id_order, names_entry, order_entry, serial_order};
 ghost use Rattle.krl_spec.specs.Under.{IsUnder, authority_under};

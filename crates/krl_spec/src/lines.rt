@@ -1,14 +1,14 @@
 //! Reading specification files (ssh-keygen(1), KEY REVOCATION LISTS).
 
 ghost use Rattle.std.specs.Prelude.{◌+◌, ◌≤◌, length};
-ghost use Rattle.krl_core.specs.Contents.{held, stored};
+ghost use Rattle.krl_held.specs.Contents.{held, stored};
 ghost use Rattle.krl_spec.specs.Under.{IsUnder, authority_under};
 ghost use Rattle.krl_spec.specs.Lines.{ReadsSpec, lines_of};
 ghost use Rattle.krl_spec.specs.Under.{bytes_under};
 
 use crate::adding::add_line;
 use crate::under::Under;
-use krl_core::Revocations;
+use krl_held::Revocations;
 use serial_set::Spans;
 use spec_fault::SpecFault;
 use ssh_key::split_line;

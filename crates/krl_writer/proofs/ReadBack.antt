@@ -2,7 +2,7 @@
 use Rattle.std.proofs.Common.{◌≡◌, ℕ, ◌<◌, ◌≤◌, ◌^◌, List, [], ◌∷◌, length, sym, subst}
 use Rattle.krl_core.specs.declared.header.Header.{Header}
 use Rattle.krl_plan.specs.declared.group.Group.{Group}
-use Rattle.krl_core.specs.Contents.{Contents, IsOrderly, Means, Section}
+use Rattle.krl_held.specs.Contents.{Contents, IsOrderly, Means, Section}
 use Rattle.krl_core.specs.Entries.{entries_of}
 use Rattle.krl_core.specs.Front.{limit}
 use Rattle.krl_core.specs.Krl.{SpelledSection, Spells}
@@ -10,7 +10,7 @@ use Rattle.krl_writer.specs.KrlText.{EachPlan, IsKrlText, sections_of}
 use Rattle.krl_plan.specs.Plan.{IsLeastPlan, IsPlan}
 use Rattle.krl_core.specs.Reading.{IsList}
 use Rattle.krl_writer.proofs.Meant.{sections_mean}
-use Rattle.krl_core.proofs.OneMeaning.{one_meaning}
+use Rattle.krl_held.proofs.OneMeaning.{one_meaning}
 use Rattle.krl_core.proofs.OneSpelling.{spelled_once}
 use Rattle.krl_writer.proofs.Sections.{text_spelled}
 

@@ -11,7 +11,7 @@ use Rattle.krl_writer.specs.declared.text_fault.TextFault.{TextFault}
 use Rattle.krl_writer.specs.declared.text_fault.TextFault.TheVariants.{NoMemory, TooLong}
 use Rattle.krl_plan.specs.declared.group.Group.{Group}
 use Rattle.krl_core.specs.declared.header.Header.{Header}
-use Rattle.krl_core.specs.Contents.{Contents, Section}
+use Rattle.krl_held.specs.Contents.{Contents, Section}
 use Rattle.krl_writer.specs.KrlText.{EachPlan, IsKrlText, authorities_text, authority_text}
 use Rattle.krl_plan.specs.Plan.{IsLeastPlan}
 

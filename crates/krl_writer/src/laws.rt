@@ -4,7 +4,7 @@ ghost use Rattle.std.specs.Prelude.{◌≡◌, ◌≤◌, ◌<◌, ◌^◌, ◌�
 ghost use Rattle.ssh_wire.specs.Wire.{IsBytes};
 ghost use Rattle.krl_core.specs.Front.{IsFirstFault, limit};
 ghost use Rattle.krl_plan.specs.declared.group.Group.{Group};
-ghost use Rattle.krl_core.specs.Contents.{Contents, IsOrderly, Means};
+ghost use Rattle.krl_held.specs.Contents.{Contents, IsOrderly, Means};
 ghost use Rattle.krl_core.specs.declared.header.Header.{Header};
 ghost use Rattle.krl_core.specs.Krl.{SpelledSection, Spells};
 ghost use Rattle.krl_writer.specs.KrlText.{EachPlan, IsKrlText, sections_of, text_of};

@@ -4,10 +4,10 @@ ghost use Rattle.std.specs.Prelude.{◌≡◌, length};
 ghost use Rattle.krl_core.specs.Front.{HasRoom};
 ghost use Rattle.krl_core.specs.Place.{bitmap_expected};
 
-use crate::field::{byte_of, u32_of, u64_of};
 use crate::judging::{bits_judged, judge, next_bits, rest, within};
 use crate::place::Place;
 use krl_fault::KrlFault;
+use krl_held::{byte_of, u32_of, u64_of};
 
 /// A subsection of a bitmap.
 #[derive(Clone, Copy)]

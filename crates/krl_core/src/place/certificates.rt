@@ -4,10 +4,10 @@ ghost use Rattle.std.specs.Prelude.{◌≡◌, length};
 ghost use Rattle.krl_core.specs.Front.{HasRoom};
 ghost use Rattle.krl_core.specs.Place.{certificates_expected};
 
-use crate::field::{byte_of, u32_of};
 use crate::judging::{next_subsection, rest, subsection_of_type, within};
 use crate::place::Place;
 use krl_fault::KrlFault;
+use krl_held::{byte_of, u32_of};
 
 /// A section of certificates, but for its subsections.
 #[derive(Clone, Copy)]

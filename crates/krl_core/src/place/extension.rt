@@ -4,10 +4,10 @@ ghost use Rattle.std.specs.Prelude.{◌≡◌, length};
 ghost use Rattle.krl_core.specs.Front.{HasRoom};
 ghost use Rattle.krl_core.specs.Place.{extension_expected};
 
-use crate::field::{byte_of, u32_of};
 use crate::judging::{judge, next_subsection, rest, within};
 use crate::place::Place;
 use krl_fault::KrlFault;
+use krl_held::{byte_of, u32_of};
 
 /// An extension, as a section or a subsection.
 #[derive(Clone, Copy)]

@@ -3,11 +3,11 @@
 ghost use Rattle.std.specs.Prelude.{◌≡◌, length};
 ghost use Rattle.krl_core.specs.Place.{header_expected};
 
-use crate::field::u32_of;
 use crate::header::MAGIC;
 use crate::judging::judge;
 use crate::place::Place;
 use krl_fault::KrlFault;
+use krl_held::u32_of;
 
 /// All before the first section.
 #[derive(Clone, Copy)]

@@ -4,10 +4,10 @@ ghost use Rattle.std.specs.Prelude.{◌≡◌, length};
 ghost use Rattle.krl_core.specs.Front.{HasRoom};
 ghost use Rattle.krl_core.specs.Place.{item_size, list_expected};
 
-use crate::field::u32_of;
 use crate::judging::{judge, next_item, rest, within};
 use crate::place::Place;
 use krl_fault::KrlFault;
+use krl_held::u32_of;
 
 /// What the items of a list of strings are.
 #[derive(Clone, Copy)]

@@ -4,10 +4,10 @@ ghost use Rattle.std.specs.Prelude.{◌≡◌, length};
 ghost use Rattle.krl_core.specs.Front.{HasRoom};
 ghost use Rattle.krl_core.specs.Place.{serials_expected};
 
-use crate::field::{u32_of, u64_of};
 use crate::judging::{judge, next_serial, next_subsection, rest, within};
 use crate::place::Place;
 use krl_fault::KrlFault;
+use krl_held::{u32_of, u64_of};
 
 /// A subsection of serials, or of a range.
 #[derive(Clone, Copy)]

@@ -3,8 +3,8 @@
 ghost use Rattle.std.specs.Prelude.{◌≡◌, length, Ok};
 ghost use Rattle.krl_core.specs.Place.{signature_expected};
 
-use crate::field::u32_of;
 use crate::place::Place;
+use krl_held::u32_of;
 
 /// A signature, after its type byte.
 #[derive(Clone, Copy)]

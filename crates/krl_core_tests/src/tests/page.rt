@@ -1,13 +1,29 @@
-//! The callers of the pages of `krl_core`, `krl_fault` and `krl_writer`.
+//! The callers of the pages of `krl_held`, `krl_core`, `krl_fault` and `krl_writer`.
 
 use krl_core::{Header, Revocations, read_krl};
 use krl_fault::KrlFault;
 use krl_writer::{TextFault, krl_text};
 use parts_for_tests::{HEADER, PUBLISHED, joined, strings};
 use serial_set::Held;
-use ssh_cert::subject;
+use ssh_cert::{Subject, subject};
 use ssh_wire::{Bytes, FromRead};
-use std::alloc::Global;
+use std::alloc::{AllocError, Global};
+
+/// Whether one revoked key is what is asked about, or its certificate's authority.
+fn is_revoked_by(alloc: Global, blob: &[u8], asked: &Subject) -> Result<bool, AllocError> {
+    let mut held: Revocations<Held> = Revocations::new(alloc);
+    held.add_key(blob)?;
+    Ok(held.query(asked))
+}
+
+#[test]
+fn what_is_held_is_asked(rt: HostRuntime) {
+    let key = strings(rt.alloc(), &[b"ssh-ed25519", &PUBLISHED]).expect(&rt, "there is memory");
+    let other = strings(rt.alloc(), &[b"ssh-ed25519", &[7; 32]]).expect(&rt, "there is memory");
+    let asked = subject(rt.alloc(), &key).expect(&rt, "a key is asked about");
+    assert!(rt; matches!(is_revoked_by(rt.alloc(), &key, &asked), Ok(true)));
+    assert!(rt; matches!(is_revoked_by(rt.alloc(), &other, &asked), Ok(false)));
+}
 
 /// Whether a list revokes the key or the certificate of a blob, where both are read.
 fn is_revoked(alloc: Global, list: &[u8], blob: &[u8]) -> Option<bool> {

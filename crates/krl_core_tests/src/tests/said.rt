@@ -1,7 +1,7 @@
 //! What is said to be revoked, and what is asked about then.
 
 ghost use Rattle.std.specs.Prelude.{◌≡◌, ◌<◌, ◌≤◌};
-ghost use Rattle.krl_core.specs.Authority.{IsAuthority};
+ghost use Rattle.krl_held.specs.Authority.{IsAuthority};
 
 use krl_core::Revocations;
 use serial_set::{Held, Spans};

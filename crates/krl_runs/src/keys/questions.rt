@@ -5,7 +5,7 @@ ghost use Rattle.std.specs.Result.{IsErr};
 ghost use Rattle.ssh_cert.specs.SubjectReading.{subject_of};
 ghost use Rattle.key_files.specs.Keys.{keys_of};
 ghost use Rattle.key_files.specs.declared.cause.Cause.TheVariants.{NoMemory};
-ghost use Rattle.krl_core.specs.Questions.{Asks, AsksMore, FindsIn};
+ghost use Rattle.krl_held.specs.Questions.{Asks, AsksMore, FindsIn};
 ghost use Rattle.krl_runs.specs.Expected.{AllExpected, AreExpected};
 
 use key_files::{Cause, FileKey, Named, keys_of};

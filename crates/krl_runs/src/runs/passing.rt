@@ -2,8 +2,8 @@
 
 ghost use Rattle.std.specs.Prelude.{◌≡◌, ◌≤◌, ℕ, IfSome, List, None, Option, Result, false};
 ghost use Rattle.key_files.specs.Keys.{File as FileOf};
-ghost use Rattle.krl_core.specs.Entry.{Entry as EntryOf};
-ghost use Rattle.krl_core.specs.Questions.{Asks};
+ghost use Rattle.krl_held.specs.Entry.{Entry as EntryOf};
+ghost use Rattle.krl_held.specs.Questions.{Asks};
 ghost use Rattle.krl_core.specs.Reading.{HasReadOf, IsReadingOf};
 ghost use Rattle.krl_fault.specs.declared.krl_fault.KrlFault.{KrlFault as FaultOf};
 ghost use Rattle.krl_runs.specs.Carries.{Carries};

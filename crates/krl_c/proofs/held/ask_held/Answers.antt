@@ -2,7 +2,7 @@
 use Rattle.std.proofs.Common.{refl, rules, arith, ◌∙◌}
 use mir.Syntax.{w32}
 use mir.Val.{SFits}
-use Rattle.krl_core.specs.Revoked.{Revoked}
+use Rattle.krl_held.specs.Revoked.{Revoked}
 use Rattle.krl_c.specs.Answer.{said, names, spares}
 use Rattle.krl_c.proofs.Saying.{refused, same}
 use Rattle.krl_c.proofs.held.ask_held.Goals as goal

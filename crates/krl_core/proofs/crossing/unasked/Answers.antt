@@ -1,5 +1,5 @@
 use Rattle.std.proofs.Common.{arith}
-use Rattle.krl_core.proofs.Unasked.{first_byte}
+use Rattle.krl_held.proofs.Unasked.{first_byte}
 use Rattle.krl_core.proofs.crossing.unasked.Goals as goal
 
 pub returns-then-is_unasked : goal.returns-then-is_unasked

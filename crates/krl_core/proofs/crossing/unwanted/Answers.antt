@@ -1,8 +1,8 @@
 use Rattle.std.proofs.Common.{ℕ, ◌+◌, ◌*◌, ◌≤◌, arith, subst}
 use Rattle.std.proofs.lemmas.List.{length-take}
-use Rattle.krl_core.specs.Naming.{SerialOf}
-use Rattle.krl_core.specs.Scope.{InScope}
-use Rattle.krl_core.proofs.Unasked.{serial_within}
+use Rattle.krl_held.specs.Naming.{SerialOf}
+use Rattle.krl_held.specs.Scope.{InScope}
+use Rattle.krl_held.proofs.Unasked.{serial_within}
 use Rattle.krl_core.proofs.crossing.unwanted.Goals as goal
 
 pub returns-clause-unwanted : goal.returns-clause-unwanted

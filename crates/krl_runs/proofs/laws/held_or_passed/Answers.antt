@@ -1,9 +1,9 @@
 -- Both say what the one spelling of the list names.
 use Rattle.std.proofs.Common.{sym, ap, ◌∙◌}
 use Rattle.krl_core.specs.Entries.{entries_of}
-use Rattle.krl_core.specs.NamingTests.{is_revoked}
-use Rattle.krl_core.specs.Tested.{revokes}
-use Rattle.krl_core.proofs.NamingTests.{meant_tested}
+use Rattle.krl_held.specs.NamingTests.{is_revoked}
+use Rattle.krl_held.specs.Tested.{revokes}
+use Rattle.krl_held.proofs.NamingTests.{meant_tested}
 use Rattle.krl_runs.proofs.Agreeing.{files_same}
 use Rattle.krl_runs.proofs.laws.held_or_passed.Goals as goal
 

@@ -1,6 +1,6 @@
 -- One reading of a text, by one spelling and one first fault.
 use Rattle.std.proofs.Common.{◌≡◌, ◌⊎◌, ℕ, false, List, Result, Ok, Err, Option, Some, None, sym, ap, subst, ◌∙◌, inl, inr}
-use Rattle.krl_core.specs.Contents.{Contents, Means}
+use Rattle.krl_held.specs.Contents.{Contents, Means}
 use Rattle.krl_core.specs.Entries.{entries_of}
 use Rattle.krl_core.specs.Front.{IsFirstFault}
 use Rattle.krl_core.specs.Krl.{SpelledSection}

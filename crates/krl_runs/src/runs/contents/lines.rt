@@ -1,7 +1,7 @@
 //! The lines in which a list's header and serials are printed.
 
 ghost use Rattle.std.specs.Prelude.{◌≡◌, ◌++◌, OnOk, decimal};
-ghost use Rattle.krl_core.specs.Authority.{authority_bytes, IsAuthority};
+ghost use Rattle.krl_held.specs.Authority.{authority_bytes, IsAuthority};
 ghost use Rattle.krl_runs.specs.Contents.{authority_line, authority_text, comment_line, date_line, serials_line, serials_text, version_line};
 
 use itoa::Buffer;

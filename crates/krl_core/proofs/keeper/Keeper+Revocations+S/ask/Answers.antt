@@ -1,5 +1,5 @@
 use Rattle.std.proofs.Common.{refl, sym, ap}
-use Rattle.krl_core.proofs.Scoped.{found_kept}
+use Rattle.krl_core.proofs.Switching.{found_kept}
 use Rattle.krl_core.proofs.keeper.Keeper+Revocations+S.ask.Goals as goal
 
 pub returns-clause-kept : goal.returns-clause-kept

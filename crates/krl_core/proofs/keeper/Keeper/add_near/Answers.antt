@@ -1,6 +1,6 @@
 use Rattle.std.proofs.Common.{refl}
 use Rattle.std.proofs.lemmas.Result.{on_ok_weaker}
-use Rattle.krl_core.specs.Changes.{run_entries}
+use Rattle.krl_held.specs.Changes.{run_entries}
 use Rattle.krl_core.proofs.Keeping.{adds_all}
 use Rattle.krl_core.proofs.keeper.Keeper.add_near.Goals as goal
 

@@ -1,8 +1,8 @@
 use Rattle.std.proofs.Common.{[], ◌∷◌, arith, rules}
 use Rattle.std.proofs.lemmas.Result.{on_ok_weaker}
-use Rattle.krl_core.specs.Entry.{RangeEntry}
+use Rattle.krl_held.specs.Entry.{RangeEntry}
 use Rattle.krl_core.proofs.Keeping.{adds_same, adds_to_zero, grows_one}
-use Rattle.krl_core.proofs.Same.{same_from_one}
+use Rattle.krl_held.proofs.Same.{same_from_one}
 use Rattle.krl_core.proofs.keeper.Keeper.add_range.Goals as goal
 
 pub returns-then-max-eq0-clause-adds : goal.returns-then-max-eq0-clause-adds

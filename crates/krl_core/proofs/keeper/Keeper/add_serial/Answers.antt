@@ -1,8 +1,8 @@
 use Rattle.std.proofs.Common.{[], ◌∷◌}
 use Rattle.std.proofs.lemmas.Result.{on_ok_weaker}
-use Rattle.krl_core.specs.Entry.{RangeEntry, SerialsEntry}
+use Rattle.krl_held.specs.Entry.{RangeEntry, SerialsEntry}
 use Rattle.krl_core.proofs.Keeping.{adds_same, adds_zero}
-use Rattle.krl_core.proofs.Same.{same_serial}
+use Rattle.krl_held.proofs.Same.{same_serial}
 use Rattle.krl_core.proofs.keeper.Keeper.add_serial.Goals as goal
 
 pub returns-then-serial-eq0-clause-adds : goal.returns-then-serial-eq0-clause-adds

@@ -1,11 +1,11 @@
 use Rattle.std.proofs.Common.{[], sym, subst, ap}
 use Rattle.std.specs.Option.{option_to_list}
 use Rattle.serial_set.specs.BitRuns.{BitRuns}
-use Rattle.krl_core.specs.Changes.{run_entries}
-use Rattle.krl_core.specs.Contents.{Contents}
-use Rattle.krl_core.specs.Scope.{MeansWithin, WithinScope}
-use Rattle.krl_core.proofs.Same.{same_is}
-use Rattle.krl_core.proofs.Scoped.{nothing_within}
+use Rattle.krl_held.specs.Changes.{run_entries}
+use Rattle.krl_held.specs.Contents.{Contents}
+use Rattle.krl_held.specs.Scope.{MeansWithin, WithinScope}
+use Rattle.krl_held.proofs.Same.{same_is}
+use Rattle.krl_held.proofs.Scoped.{nothing_within}
 use Rattle.krl_core.proofs.keeper.Keeper.new.Goals as goal
 
 pub returns-clause-kept : goal.returns-clause-kept

@@ -1,5 +1,5 @@
 use Rattle.std.proofs.Common.{ap}
-use Rattle.krl_core.proofs.Scoped.{found_read}
+use Rattle.krl_core.proofs.Switching.{found_read}
 use Rattle.krl_core.proofs.reading.Walk+Revocations+S+R.ask.Goals as goal
 
 pub returns-clause-reads : goal.returns-clause-reads

@@ -1,5 +1,5 @@
 use Rattle.krl_core.specs.Reading.{HoldsAll, HoldsWithin}
-use Rattle.krl_core.specs.Scope.{all}
+use Rattle.krl_held.specs.Scope.{all}
 use Rattle.krl_core.proofs.Lists.{holds_all, list_of_all, list_of_whole, same_holds_within}
 use Rattle.krl_core.proofs.Whole.{whole_holds}
 use Rattle.krl_core.proofs.reading.Walk+Revocations+S+R.done.Goals as goal

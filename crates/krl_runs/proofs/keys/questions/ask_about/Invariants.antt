@@ -1,7 +1,7 @@
 -- The keys of the files so far are asked about.
 use Rattle.std.proofs.Common.{ℕ, ◌<◌}
 use Rattle.key_files.specs.Keys.{File, keys_of}
-use Rattle.krl_core.specs.Questions.{Asks, FindsIn}
+use Rattle.krl_held.specs.Questions.{Asks, FindsIn}
 use Rattle.std.specs.List.{slice_index_or}
 use Rattle.krl_runs.specs.Expected.{AreExpected}
 use Rattle.krl_runs.proofs.keys.questions.ask_about.Given as goal

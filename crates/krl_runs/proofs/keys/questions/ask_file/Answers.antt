@@ -4,8 +4,8 @@ use Rattle.std.specs.Prelude.{◌≢◌}
 use Rattle.key_files.specs.Keys.{Found, keys_of}
 use Rattle.key_files.specs.Stop.{Stop}
 use Rattle.key_files.specs.declared.cause.Cause.TheVariants.{NoMemory}
-use Rattle.krl_core.specs.Questions.{Asks}
-use Rattle.krl_core.proofs.AskedMore.{on_ok_with}
+use Rattle.krl_held.specs.Questions.{Asks}
+use Rattle.krl_held.proofs.AskedMore.{on_ok_with}
 use Rattle.krl_runs.specs.Expected.{AreExpected}
 use Rattle.krl_runs.proofs.Expecting.{fault_expected, key_expected}
 use Rattle.krl_runs.proofs.keys.questions.ask_file.Goals as goal

@@ -1,7 +1,7 @@
 -- Where all keys that are left are asked about, all of the file are.
 use Rattle.key_files.specs.Keys.{keys_of}
-use Rattle.krl_core.specs.Contents.{Contents}
-use Rattle.krl_core.specs.Questions.{Asks, AsksMore, FindsIn}
+use Rattle.krl_held.specs.Contents.{Contents}
+use Rattle.krl_held.specs.Questions.{Asks, AsksMore, FindsIn}
 use Rattle.krl_runs.specs.Expected.{AreExpected}
 use Rattle.krl_runs.proofs.keys.questions.ask_file.Given as goal
 

@@ -1,6 +1,6 @@
 -- The list passed, or was refused.
 use Rattle.std.proofs.Common.{Ok, Err}
-use Rattle.krl_core.specs.NamingTests.{is_revoked}
+use Rattle.krl_held.specs.NamingTests.{is_revoked}
 use Rattle.krl_runs.specs.Query.{ask_by}
 use Rattle.krl_runs.proofs.Asking.{asked_run, asked_refused, passed_answers, passed_list}
 use Rattle.krl_runs.proofs.runs.passing.pass.Goals as goal

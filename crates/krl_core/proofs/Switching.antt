@@ -1,0 +1,50 @@
+-- Where a list is read on with what is asked about alone.
+use Rattle.std.proofs.Common.{◌≡◌, ℕ, ◌∙◌, sym, List, ◌++◌, subst}
+use Rattle.std.proofs.Math.Logic.Iff as Iff
+use Rattle.std.specs.Option.{option_to_list}
+use Rattle.serial_set.specs.BitRuns.{BitRuns}
+use Rattle.krl_held.specs.Changes.{run_entries}
+use Rattle.krl_held.specs.Contents.{Contents}
+use Rattle.krl_held.specs.Entry.{Entry}
+use Rattle.krl_held.specs.Naming.{NamesSame}
+use Rattle.krl_held.specs.Questions.{Asked, FindsIn, asked_in}
+use Rattle.krl_held.specs.Scope.{all, MeansWithin, Scope}
+use Rattle.krl_core.specs.Keeping.{IsKept, Keeping}
+use Rattle.krl_core.specs.Reading.{HasRead, Position}
+
+-- what is found of what is held means the same, of what is asked about
+found_within : (front : Contents) (asked : Asked) (entries : List Entry) → FindsIn front asked → MeansWithin all front entries → MeansWithin (asked_in asked) asked.found entries
+found_within front asked entries finds m = record {
+  orderly = finds.orderly;
+  names = λ name is. Iff.trans (finds.held name, finds.all name is) (m.names name tt);
+}
+
+pub found_kept : (old new : Keeping) (asked : Asked) (entries : List Entry) → old.scope ≡ all → FindsIn old.contents asked → new.contents ≡ asked.found → new.scope ≡ asked_in asked
+    → new.authority ≡ old.authority → new.bitmap ≡ old.bitmap → IsKept old entries → IsKept new entries
+found_kept old new asked entries every finds contents scope authority bitmap h = record {
+  closed = h.closed;
+  means = subst (λ (s : Scope). MeansWithin s new.contents h.closed) (sym scope) (subst (λ (r : Contents). MeansWithin (asked_in asked) r h.closed) (sym contents)
+      (found_within old.contents asked h.closed finds (subst (λ (s : Scope). MeansWithin s old.contents h.closed) every h.means)));
+  same = subst (λ (b : BitRuns). NamesSame (h.closed ++ run_entries new.authority (option_to_list b.pending)) entries) (sym bitmap)
+      (subst (λ (a : List ℕ). NamesSame (h.closed ++ run_entries a (option_to_list old.bitmap.pending)) entries) (sym authority) h.same);
+}
+
+-- what was read stays read where all that was kept stays kept
+pub found_read : (text : List ℕ) (fields : List (List ℕ)) (old : Position) (keeping : Keeping) → HasRead text fields old
+    → ((entries : List Entry) → IsKept old.keeping entries → IsKept keeping entries) → keeping.authority ≡ old.keeping.authority → keeping.header ≡ old.keeping.header
+    → HasRead text fields (record old { keeping = keeping })
+found_read text fields old keeping h kept authority header = record {
+  state = h.state;
+  leads = h.leads;
+  place_is = h.place_is;
+  authority_is = authority ∙ h.authority_is;
+  header_is = header ∙ h.header_is;
+  kept = kept h.state.entries h.kept;
+  are_bytes = h.are_bytes;
+  rest = h.rest;
+  left_is = h.left_is;
+  parts = h.parts;
+  taken_is = h.taken_is;
+  works = h.works;
+  faultless = h.faultless;
+}

@@ -1,4 +1,0 @@
-use Rattle.krl_core.proofs.revocations.Revocations.first_serial.Goals as goal
-
-pub returns : goal.returns
-returns g c = rw (← c.self.view_is) c.first_serial.ensures

@@ -1,4 +1,0 @@
-use Rattle.krl_core.proofs.revocations.Revocations.unheld.Goals as goal
-
-pub returns-clause-none : goal.returns-clause-none
-returns-clause-none g c = rw (← c.self.view_is) c.unheld.ensures.none

@@ -1,0 +1,52 @@
+-- The hashes of the keys that are asked about.
+use Rattle.std.proofs.Common.{◌≡◌, ℕ, ◌⊎◌, List, [], ◌∷◌, sym, ap, subst, inl, inr}
+use Rattle.std.specs.List.{Contains}
+use Rattle.krl_held.specs.Changes.{Puts}
+use Rattle.krl_held.specs.Elements.{contains_cases, contains_here, contains_later, contains_none}
+use Rattle.krl_held.specs.Questions.{HashesOf}
+use Rattle.krl_held.proofs.AddedSections.{put_held}
+
+-- the keys so far are hashed, and the others are left
+pub record AreHashedSoFar (hash : List ℕ → List ℕ) (keys hashes left : List (List ℕ)) : Type 0 where
+  pub all : (blob : List ℕ) → Contains keys blob → Contains hashes (hash blob) ⊎ Contains left blob
+  pub only : (text : List ℕ) → Contains hashes text → (key : List ℕ) × (Contains keys key × (hash key ≡ text))
+  pub left_in : (blob : List ℕ) → Contains left blob → Contains keys blob
+
+pub none_hashed : (hash : List ℕ → List ℕ) (keys hashes left : List (List ℕ)) → left ≡ keys → hashes ≡ [] → AreHashedSoFar hash keys hashes left
+none_hashed hash keys hashes left is none = record {
+  all = λ blob h. inr (subst (λ (xs : List (List ℕ)). Contains xs blob) (sym is) h);
+  only = λ text h. absurd (contains_none text (subst (λ (xs : List (List ℕ)). Contains xs text) none h));
+  left_in = λ blob h. subst (λ (xs : List (List ℕ)). Contains xs blob) is h;
+}
+
+pub one_hashed : (hash : List ℕ → List ℕ) (keys old new left rest : List (List ℕ)) (key : List ℕ) → left ≡ key ∷ rest → Puts old (hash key) new → AreHashedSoFar hash keys old left
+    → AreHashedSoFar hash keys new rest
+one_hashed hash keys old new left rest key is put before =
+    let held = λ (text : List ℕ). put_held old (hash key) new put text in
+    let later = λ (blob : List ℕ) (h : Contains (key ∷ rest) blob). before.left_in blob (subst (λ (xs : List (List ℕ)). Contains xs blob) (sym is) h) in
+    record {
+      all = λ blob h.
+          elim (before.all blob h) [
+            | inl done ↦ inl ((held (hash blob)).1 (inl done))
+            | inr left ↦ elim (contains_cases key blob rest (subst (λ (xs : List (List ℕ)). Contains xs blob) is left)) [
+              | inl now ↦ inl ((held (hash blob)).1 (inr (ap hash now)))
+              | inr then ↦ inr then
+            ]
+          ];
+      only = λ text h.
+          elim ((held text).0 h) [
+            | inl was ↦ before.only text was
+            | inr now ↦ (key, (later key (contains_here key rest), now))
+          ];
+      left_in = λ blob h. later blob (contains_later key blob rest h);
+    }
+
+pub all_hashed : (hash : List ℕ → List ℕ) (keys hashes left : List (List ℕ)) → left ≡ [] → AreHashedSoFar hash keys hashes left → HashesOf hash keys hashes
+all_hashed hash keys hashes left is h = record {
+  all = λ blob c.
+      elim (h.all blob c) [
+        | inl done ↦ done
+        | inr more ↦ absurd (contains_none blob (subst (λ (xs : List (List ℕ)). Contains xs blob) is more))
+      ];
+  only = h.only;
+}

@@ -1,0 +1,66 @@
+-- What is held stays within some topics where what is added is about them.
+use Rattle.std.proofs.Common.{◌≡◌, ◌-◌, ◌<◌, List, [], ◌∷◌, subst, subst₂, inl, inr, arith}
+use Rattle.std.specs.Prelude.{◌⊎◌, ◌↔◌, Contains}
+use Rattle.std.proofs.Math.Logic.{⊎_elim}
+use Rattle.std.proofs.lemmas.Bool.{cases_lt}
+use Rattle.krl_held.specs.Changes.{MeansMore}
+use Rattle.krl_held.specs.Contents.{Contents, HoldsId, HoldsName, HoldsSerial, IsOrderly}
+use Rattle.krl_held.specs.Entry.{Entry, SerialsEntry, RangeEntry, BitmapEntry, IdEntry, KeyEntry, Sha1Entry, Sha256Entry}
+use Rattle.krl_held.specs.Naming.{EntryNames, IdOf, KeyOf, Name, SerialOf, Sha1Of, Sha256Of, SomeNames}
+use Rattle.krl_held.specs.Scope.{IsTopic, IsWithin}
+use Rattle.krl_held.proofs.MeansMore.{means_more_names}
+
+-- ---- some entries more
+
+-- the serial number goes on from the one before it
+abbrev pub GoesOn : List Entry → Name → Type 0
+GoesOn entries (SerialOf a s) = SomeNames entries (SerialOf a (s - 1))
+GoesOn entries name = ⊥
+
+pub within_more : (topics old new : Contents) (more : List Entry) → IsOrderly old → IsWithin topics old → MeansMore old new more
+    → ((name : Name) → SomeNames more name → IsTopic topics name ⊎ GoesOn more name) → IsWithin topics new
+within_more topics old new more orderly within means about = record {
+  runs = λ a s begins. elim ((now (SerialOf a s)).0 begins.0) [
+    | inl was ↦ within.runs a s (was, λ before. begins.1 ((now (SerialOf a (s - 1))).1 (inl before)))
+    | inr named ↦ ⊎_elim (λ topic. topic) (λ before. absurd (begins.1 ((now (SerialOf a (s - 1))).1 (inr before)))) (about (SerialOf a s) named)
+  ];
+  ids = λ a text. others (IdOf a text) (within.ids a text) (λ no. no);
+  keys = λ blob. others (KeyOf blob) (within.keys blob) (λ no. no);
+  sha1s = λ hash. others (Sha1Of hash) (within.sha1s hash) (λ no. no);
+  sha256s = λ hash. others (Sha256Of hash) (within.sha256s hash) (λ no. no);
+}
+  where
+    now : (name : Name) → HoldsName new name ↔ (HoldsName old name ⊎ SomeNames more name)
+    now = (means_more_names old new more orderly means).1
+
+    others : (name : Name) → (HoldsName old name → IsTopic topics name) → (GoesOn more name → ⊥) → HoldsName new name → IsTopic topics name
+    others name was none held = ⊎_elim was (λ named. ⊎_elim (λ topic. topic) (λ on. absurd (none on)) (about name named)) ((now name).0 held)
+
+-- ---- one entry more
+
+-- the entry names a topic, or a run of serial numbers that begins with one
+abbrev pub IsAbout : (topics : Contents) → Entry → Type 0
+IsAbout topics (RangeEntry a lo hi) = (0 < lo) × HoldsSerial topics.sections a lo
+IsAbout topics (IdEntry a text) = HoldsId topics.sections a text
+IsAbout topics (KeyEntry blob) = Contains topics.keys blob
+IsAbout topics (Sha1Entry hash) = IsTopic topics (Sha1Of hash)
+IsAbout topics (Sha256Entry hash) = IsTopic topics (Sha256Of hash)
+IsAbout topics _ = ⊥
+
+about_topics : (topics : Contents) (entry : Entry) (name : Name) → IsAbout topics entry → EntryNames entry name → IsTopic topics name ⊎ GoesOn (entry ∷ []) name
+about_topics topics (RangeEntry b lo hi) (SerialOf a s) is h =
+    elim (cases_lt lo s) [
+      | inl above ↦ inr (inl (h.0, (omega (arith, is.0), (omega (arith, above), omega (arith, h.1)))))
+      | inr at ↦ (let first : lo ≡ s = omega (arith, at, h.1) in inl (subst₂ (HoldsSerial topics.sections) h.0 first is.1))
+    ]
+about_topics topics (IdEntry b t) (IdOf a text) is h = inl (subst₂ (HoldsId topics.sections) h.0 h.1 is)
+about_topics topics (KeyEntry key) (KeyOf blob) is h = inl (subst (Contains topics.keys) h is)
+about_topics topics (Sha1Entry of_key) (Sha1Of hash) is h = inl (subst (λ x. IsTopic topics (Sha1Of x)) h is)
+about_topics topics (Sha256Entry of_key) (Sha256Of hash) is h = inl (subst (λ x. IsTopic topics (Sha256Of x)) h is)
+about_topics topics (SerialsEntry b numbers) name is h = absurd is
+about_topics topics (BitmapEntry b offset number) name is h = absurd is
+about_topics topics entry name is h = absurd h
+
+pub within_with : (topics old new : Contents) (entry : Entry) → IsOrderly old → IsWithin topics old → MeansMore old new (entry ∷ []) → IsAbout topics entry → IsWithin topics new
+within_with topics old new entry orderly within means is =
+    within_more topics old new (entry ∷ []) orderly within means (λ name h. ⊎_elim (about_topics topics entry name is) (λ no. absurd no) h)

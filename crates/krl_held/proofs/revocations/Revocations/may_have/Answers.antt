@@ -1,0 +1,4 @@
+use Rattle.krl_held.proofs.revocations.Revocations.may_have.Goals as goal
+
+pub returns : goal.returns
+returns g c = rw (← c.self.view_is) c.may_have.ensures

@@ -1,0 +1,75 @@
+-- What an addition changes.
+use Rattle.std.specs.Prelude.{◌≡◌, ℕ, ◌+◌, ◌<◌, ◌≤◌, ◌⊎◌, List, [], ◌∷◌, ◌++◌, length, All, Contains, ⊤}
+use Rattle.serial_set.specs.declared.span.Span.{Span}
+use Rattle.serial_set.specs.BitRuns.{IsInterval}
+use Rattle.serial_set.specs.Near.{AddsSpans, AreNear}
+use Rattle.serial_set.specs.Span.{AreSerials}
+use Rattle.krl_held.specs.declared.addition.Addition.{Addition}
+use Rattle.krl_held.specs.declared.addition.Addition.TheVariants.{Serials, Id}
+use Rattle.krl_held.specs.Contents.{Contents, Means, Section, section_with}
+use Rattle.krl_held.specs.Entry.{Entry, RangeEntry}
+use Rattle.krl_held.specs.Inserting.{Inserts}
+
+-- the list with the bytes, which stay where they were or are put in
+abbrev pub Puts : (old : List (List ℕ)) (text : List ℕ) (new : List (List ℕ)) → Type 0
+Puts old text new = ((new ≡ old) × Contains old text) ⊎ Inserts (λ bytes. bytes) old text new
+
+-- the section with the serials of some spans
+pub record TakesSerials (more : List Span) (from to : Section) : Type 0 where
+  pub same : to ≡ record from { spans = to.spans }
+  pub runs : AddsSpans from.spans more to.spans
+  pub serials : AreSerials to.spans
+  pub as_many_more : length to.spans ≤ length from.spans + length more
+
+-- the section with the key ID
+pub record TakesId (text : List ℕ) (from to : Section) : Type 0 where
+  pub same : to ≡ record from { ids = to.ids }
+  pub put : Puts from.ids text to.ids
+
+-- the section with what is added
+abbrev pub Takes : Addition → Section → Section → Type 0
+Takes (Serials near) from to = TakesSerials near.now from to
+Takes (Id text) from to = TakesId text.now from to
+
+-- one change makes the addition: there are spans, and they lie near each other
+abbrev pub IsOneChange : Addition → Type 0
+IsOneChange (Serials near) =
+    (0 < length near.now) × (All IsInterval near.now × AreNear near.now)
+IsOneChange (Id text) = ⊤
+
+-- a section without anything
+abbrev pub empty_section : List ℕ → Section
+empty_section authority = section_with authority [] []
+
+-- one section under the authority is changed, and the others stay
+pub record ChangesOne (Change : Section → Section → Type 0) (authority : List ℕ)
+    (old new : List Section) : Type 0 where
+  pub front : List Section
+  pub back : List Section
+  pub from : Section
+  pub to : Section
+  pub before : old ≡ front ++ from ∷ back
+  pub after : new ≡ front ++ to ∷ back
+  pub under : from.authority ≡ authority
+  pub changed : Change from to
+
+-- a section that holds just the addition is put in
+pub record Starts (addition : Addition) (authority : List ℕ) (old new : List Section) : Type 0 where
+  pub section : Section
+  pub takes : Takes addition (empty_section authority) section
+  pub put : Inserts (λ section. section.authority) old section new
+
+-- what is added stands under the authority, in the section that there was or in a new one
+abbrev pub AddsTo : Addition → List ℕ → (old new : List Section) → Type 0
+AddsTo addition authority old new =
+    ChangesOne (Takes addition) authority old new ⊎ Starts addition authority old new
+
+-- the serials of some spans, as entries
+abbrev pub run_entries : List ℕ → List Span → List Entry
+run_entries authority [] = []
+run_entries authority (run ∷ runs) =
+    RangeEntry authority run.lo run.hi ∷ run_entries authority runs
+
+-- What is held means these entries more.
+abbrev pub MeansMore : (old new : Contents) (more : List Entry) → Type 0
+MeansMore old new more = (entries : List Entry) → Means old entries → Means new (entries ++ more)

@@ -1,0 +1,120 @@
+-- What revocations hold, as lists, and which entries they mean.
+use Rattle.std.specs.Prelude.{◌≡◌, ℕ, ◌+◌, ◌-◌, ◌<◌, ◌≤◌, ◌⊎◌, ◌↔◌, List, [], ◌∷◌, length, sum_by, All}
+use Rattle.std.specs.Prelude.{Contains}
+use Rattle.serial_set.specs.declared.span.Span.{Span}
+use Rattle.serial_set.specs.Span.{Covers, IsRuns, AreSerials}
+use Rattle.krl_held.specs.Entry.{Entry}
+use Rattle.krl_held.specs.Naming.{IdOf, KeyOf, Name, SerialOf, Sha1Of, Sha256Of, SomeNames}
+use Rattle.krl_held.specs.Rising.{Rises, RisesBy}
+
+-- what is held under one authority, by its bytes, or under all where there are none
+pub record Section : Type 0 where
+  pub authority : List ℕ
+  pub spans : List Span
+  pub ids : List (List ℕ)
+
+abbrev pub section_with : (authority : List ℕ) → List Span → (ids : List (List ℕ)) → Section
+section_with authority spans ids = record { authority = authority; spans = spans; ids = ids }
+
+-- all that is held
+pub record Contents : Type 0 where
+  pub sections : List Section
+  pub keys : List (List ℕ)
+  pub sha1s : List (List ℕ)
+  pub sha256s : List (List ℕ)
+
+abbrev pub contents_of : List Section → (keys sha1s sha256s : List (List ℕ)) → Contents
+contents_of sections keys sha1s sha256s =
+    record { sections = sections; keys = keys; sha1s = sha1s; sha256s = sha256s }
+
+-- nothing is held
+abbrev pub nothing : Contents
+nothing = contents_of [] [] [] []
+
+-- ---- what is held under an authority
+
+-- something holds of some section
+abbrev pub SomeSection : (Section → Type 0) → List Section → Type 0
+SomeSection P [] = ⊥
+SomeSection P (section ∷ sections) = P section ⊎ SomeSection P sections
+
+-- the spans under just this authority have the number s in them
+abbrev pub HoldsSerial : List Section → List ℕ → ℕ → Type 0
+HoldsSerial sections a s =
+    SomeSection (λ section. (section.authority ≡ a) × Covers section.spans s) sections
+
+-- the text is a key ID under just this authority
+abbrev pub HoldsId : List Section → List ℕ → List ℕ → Type 0
+HoldsId sections a text =
+    SomeSection (λ section. (section.authority ≡ a) × Contains section.ids text) sections
+
+-- some section stands under just this authority
+abbrev pub IsNamed : Contents → List ℕ → Type 0
+IsNamed r a = SomeSection (λ section. section.authority ≡ a) r.sections
+
+-- ---- the order of what is held
+
+-- the spans are the runs of their serials, the IDs are in order, and there is a span or an ID
+pub record IsListed (section : Section) : Type 0 where
+  pub runs : IsRuns section.spans
+  pub serials : AreSerials section.spans
+  pub ids_rise : Rises section.ids
+  pub some : (0 < length section.spans) ⊎ (0 < length section.ids)
+
+-- Each authority stands once and by its bytes, so that all authorities come first. Keys and hashes
+-- stand by their bytes, each once.
+pub record IsOrderly (r : Contents) : Type 0 where
+  pub authorities_rise : RisesBy (λ section. section.authority) r.sections
+  pub listed : All IsListed r.sections
+  pub keys_rise : Rises r.keys
+  pub sha1s_rise : Rises r.sha1s
+  pub sha256s_rise : Rises r.sha256s
+  pub sha1_size : All (λ hash. length hash ≡ 20) r.sha1s
+  pub sha256_size : All (λ hash. length hash ≡ 32) r.sha256s
+
+-- ---- what it means
+
+-- it is held
+abbrev pub HoldsName : Contents → Name → Type 0
+HoldsName r (SerialOf a s) = HoldsSerial r.sections a s
+HoldsName r (IdOf a text) = HoldsId r.sections a text
+HoldsName r (KeyOf blob) = Contains r.keys blob
+HoldsName r (Sha1Of hash) = Contains r.sha1s hash
+HoldsName r (Sha256Of hash) = Contains r.sha256s hash
+
+-- just what the entries name is held, in order
+pub record Means (r : Contents) (entries : List Entry) : Type 0 where
+  pub orderly : IsOrderly r
+  pub names : (name : Name) → HoldsName r name ↔ SomeNames entries name
+
+-- ---- how much it is
+
+-- how many spans are held
+abbrev pub held : Contents → ℕ
+held r = sum_by (λ section. length section.spans) r.sections
+
+-- how many numbers a span has
+abbrev pub span_size : Span → ℕ
+span_size span = span.hi - span.lo + 1
+
+-- how many serial numbers are held, each under its authority
+abbrev pub serials_in : List Section → ℕ
+serials_in sections = sum_by (λ section. sum_by span_size section.spans) sections
+
+-- how many bytes some texts have
+abbrev pub size_of : List (List ℕ) → ℕ
+size_of texts = sum_by (λ text. length text) texts
+
+-- how many bytes the authority and the key IDs of a section have
+abbrev pub section_size : Section → ℕ
+section_size section = length section.authority + size_of section.ids
+
+-- how many bytes the named authorities, key IDs, keys and hashes have, each counted once
+abbrev pub stored : Contents → ℕ
+stored r =
+    sum_by section_size r.sections + size_of r.keys + size_of r.sha1s + size_of r.sha256s
+
+-- What is stored has at most n bytes, and so it has where the authority at hand is counted too.
+pub record IsStoredWithin (authority : List ℕ) (r : Contents) (n : ℕ) : Type 0 where
+  pub now : stored r ≤ n
+  pub next : IsNamed r authority ⊎ (stored r + length authority ≤ n)

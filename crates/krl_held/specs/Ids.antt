@@ -1,0 +1,22 @@
+-- A few key IDs in order, or a set of more.
+use Rattle.std.specs.Prelude.{ℕ, ◌≤◌, List, length, take, drop, ⊤}
+use Rattle.std.specs.Global.{Vec}
+use Rattle.krl_held.specs.declared.ids.Kept.{Kept}
+use Rattle.krl_held.specs.declared.ids.Kept.TheVariants.{Few, Many}
+use Rattle.krl_held.specs.Rising.{AllBelow, AllAbove, RisesBy}
+use Rattle.krl_held.specs.Texts.{bytes_of, texts_of}
+
+abbrev pub ids_of : Kept → List (List ℕ)
+ids_of (Few few) = texts_of few.items
+ids_of (Many set) = texts_of set.keys
+
+-- those that lie in one vector are in order
+abbrev pub FewRise : Kept → Type 0
+FewRise (Few few) = RisesBy bytes_of few.items
+FewRise (Many set) = ⊤
+
+-- the byte string goes there among others in order
+pub record GoesTo (at : ℕ) (bytes : List ℕ) (texts : List (Vec ℕ)) : Type 0 where
+  pub within : at ≤ length texts
+  pub below : AllBelow bytes_of bytes (take at texts)
+  pub above : AllAbove bytes_of bytes (drop at texts)

@@ -1,0 +1,92 @@
+-- What is asked of a list while it is read.
+use Rattle.std.specs.Prelude.{◌≡◌, ℕ, ◌+◌, ◌*◌, ◌<◌, ◌≤◌, ◌⊎◌, ◌↔◌, Bool, true, List, []}
+use Rattle.std.specs.Prelude.{length, Option, Some, None, Contains, ⊤}
+use Rattle.sha1.specs.Sha1.{sha1}
+use Rattle.sha2.specs.Sha256.{sha256}
+use Rattle.ssh_subject.specs.Subject.{Names, Subject}
+use Rattle.krl_held.specs.Contents.{Contents, HoldsId, HoldsName, HoldsSerial, IsOrderly}
+use Rattle.krl_held.specs.Naming.{KeyOf, Name, Sha1Of, Sha256Of}
+use Rattle.krl_held.specs.Scope.{IsTopic, IsWithin, Scope}
+
+-- what is asked about, and what was found of it
+pub record Asked : Type 0 where
+  pub topics : Contents
+  pub found : Contents
+
+-- the names that are asked about
+abbrev pub asked_in : Asked → Scope
+asked_in asked = Some asked.topics
+
+-- Of what the front of a list holds, just what is asked about is found.
+pub record FindsIn (front : Contents) (asked : Asked) : Type 0 where
+  pub orderly : IsOrderly asked.found
+  pub held : (name : Name) → HoldsName asked.found name → HoldsName front name
+  pub all : (name : Name) → IsTopic asked.topics name → HoldsName front name
+      → HoldsName asked.found name
+  pub within : IsWithin asked.topics asked.found
+
+-- what is asked about stays so
+abbrev pub AsksMore : (old new : Contents) → Type 0
+AsksMore old new = (name : Name) → IsTopic old name → IsTopic new name
+
+-- a name of a key: its blob, or a hash of it
+abbrev pub IsOfKey : (blob : List ℕ) → Name → Type 0
+IsOfKey blob name =
+    (name ≡ KeyOf blob) ⊎ ((name ≡ Sha1Of (sha1 blob)) ⊎ (name ≡ Sha256Of (sha256 blob)))
+
+-- What the front holds of some names is found too, in order where what was found was so.
+pub record Finds (front : Contents) (Sought : Name → Type 0) (old new : Contents) : Type 0 where
+  pub orderly : IsOrderly old → IsOrderly new
+  pub names : (name : Name)
+      → HoldsName new name ↔ (HoldsName old name ⊎ (HoldsName front name × Sought name))
+
+-- the hashes are just those of the keys
+pub record HashesOf (hash : List ℕ → List ℕ) (keys hashes : List (List ℕ)) : Type 0 where
+  pub all : (key : List ℕ) → Contains keys key → Contains hashes (hash key)
+  pub only : (text : List ℕ) → Contains hashes text
+      → (key : List ℕ) × (Contains keys key × (hash key ≡ text))
+
+-- once they are made
+abbrev pub AreHashed : Bool → (List ℕ → List ℕ) → (keys hashes : List (List ℕ)) → Type 0
+AreHashed made hash keys hashes = made ≡ true → HashesOf hash keys hashes
+
+-- a key ID and a serial number are topics under an authority; 0 is no serial
+abbrev pub HasUnder : Contents → (authority id : List ℕ) (serial : ℕ) → Type 0
+HasUnder topics authority id serial =
+    HoldsId topics.sections authority id
+    × ((serial ≡ 0) ⊎ HoldsSerial topics.sections authority serial)
+
+-- all names of a certificate are topics
+abbrev pub HasAll : Contents → Names → Type 0
+HasAll topics cert =
+    Contains topics.keys cert.authority
+    × (HasUnder topics [] cert.key_id cert.serial
+    × HasUnder topics cert.authority cert.key_id cert.serial)
+
+abbrev pub HasCert : Contents → Option Names → Type 0
+HasCert topics None = ⊤
+HasCert topics (Some cert) = HasAll topics cert
+
+-- the key or the certificate is asked about
+abbrev pub Asks : Contents → Subject → Type 0
+Asks topics subject = Contains topics.keys subject.plain × HasCert topics subject.cert
+
+-- ---- how much is asked
+
+-- how many bytes a certificate's names have, under all authorities and under its own
+abbrev pub names_size : Option Names → ℕ
+names_size None = 0
+names_size (Some cert) = 2 * (length cert.authority + length cert.key_id)
+
+-- how many bytes a key or a certificate asks about
+abbrev pub subject_size : Subject → ℕ
+subject_size subject = length subject.plain + names_size subject.cert
+
+-- ---- looking for what is asked about
+
+-- the first number from `lo` to `hi` of which something holds, where there is one
+abbrev pub IsFirst : (ℕ → Type 0) → (lo hi : ℕ) → Option ℕ → Type 0
+IsFirst Member lo hi None = (s : ℕ) → lo ≤ s → s ≤ hi → Member s → ⊥
+IsFirst Member lo hi (Some first) =
+    (lo ≤ first) × (first ≤ hi) × Member first
+    × ((s : ℕ) → lo ≤ s → s < first → Member s → ⊥)

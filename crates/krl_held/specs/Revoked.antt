@@ -1,0 +1,18 @@
+-- What a list revokes (ssh-keygen(1), KEY REVOCATION LISTS).
+use Rattle.std.specs.Prelude.{◌⊎◌, List, Option, Some, None}
+use Rattle.ssh_subject.specs.Subject.{Subject, Names}
+use Rattle.krl_held.specs.Entry.{Entry}
+use Rattle.krl_held.specs.Naming.{KeyNamed, SomeNamesId, SomeNamesSerial}
+
+-- A certificate is revoked by its authority's key, or by an entry under its authority or under all
+-- that is its key ID or names its serial number.
+abbrev pub CertRevoked : List Entry → Option Names → Type 0
+CertRevoked entries None = ⊥
+CertRevoked entries (Some cert) =
+    KeyNamed entries cert.authority
+    ⊎ (SomeNamesId entries cert.authority cert.key_id
+    ⊎ SomeNamesSerial entries cert.authority cert.serial)
+
+-- a key is revoked by its plain blob, and a certificate also by its names
+abbrev pub Revoked : List Entry → Subject → Type 0
+Revoked entries subject = KeyNamed entries subject.plain ⊎ CertRevoked entries subject.cert

@@ -1,0 +1,195 @@
+//! Whether single names are held.
+
+ghost use Rattle.std.specs.Prelude.{◌≡◌, ◌↔◌, ◌%◌, ◌<◌, ◌≤◌, ℕ, Contains, IsTrue, false, length};
+ghost use Rattle.sha1.specs.Sha1.{sha1};
+ghost use Rattle.sha2.specs.Sha256.{sha256};
+ghost use Rattle.serial_set.specs.Span.{Covers};
+ghost use Rattle.krl_held.specs.Contents.{HoldsId, HoldsSerial, IsOrderly};
+ghost use Rattle.krl_held.specs.Scope.{NoneHolds};
+ghost use Rattle.krl_held.specs.Questions.{IsFirst};
+
+use crate::field::u64_of;
+use crate::revocations::Revocations;
+use crate::shelves::Shelves;
+use crate::texts::has_text;
+use serial_set::Spans;
+use sha1::Sha1;
+use sha2::{Digest, Sha256};
+use std::collections::BTreeSet;
+
+impl<S: Spans> Revocations<S> {
+    /// All that is held, which is in order.
+    pub fn in_order(&self) -> &Self
+        ensures same { result.now ≡ self.now }
+        ensures orderly { IsOrderly self.now }
+    {
+        let _keys = &self.keys;
+        self
+    }
+
+    // Whether a key is held by its blob.
+    pub(crate) fn has_blob(&self, blob: &[u8]) -> bool
+        ensures { IsTrue result ↔ Contains self.now.keys blob.now }
+    {
+        has_text(&self.keys, blob)
+    }
+
+    // Whether the SHA-1 of a key is held.
+    pub(crate) fn has_sha1(&self, blob: &[u8]) -> bool
+        ensures { IsTrue result ↔ Contains self.now.sha1s (sha1 blob.now) }
+    {
+        has_sha1(&self.sha1s, blob)
+    }
+
+    // Whether the SHA-256 of a key is held.
+    pub(crate) fn has_sha256(&self, blob: &[u8]) -> bool
+        ensures { IsTrue result ↔ Contains self.now.sha256s (sha256 blob.now) }
+    {
+        has_sha256(&self.sha256s, blob)
+    }
+
+    // Whether a key ID is held under just this authority.
+    pub(crate) fn has_id(&self, authority: &[u8], id: &[u8]) -> bool
+        ensures { IsTrue result ↔ HoldsId self.now.sections authority.now id.now }
+    {
+        has_id(&self.shelves, authority, id)
+    }
+
+    // Whether a serial number is held under just this authority.
+    pub(crate) fn has_serial(&self, authority: &[u8], serial: u64) -> bool
+        ensures { IsTrue result ↔ HoldsSerial self.now.sections authority.now serial }
+    {
+        has_serial(&self.shelves, authority, serial)
+    }
+
+    // Whether some serial number from `lo` to `hi` may be held under just this authority.
+    pub(crate) fn may_have(&self, authority: &[u8], lo: u64, hi: u64) -> bool
+        ensures { result ≡ false → (s : ℕ) → lo ≤ s → s ≤ hi
+            → HoldsSerial self.now.sections authority.now s → ⊥ }
+    {
+        may_have(&self.shelves, authority, lo, hi)
+    }
+
+    // The first serial number from `lo` to `hi` that is held under just this authority.
+    pub(crate) fn first_serial(&self, authority: &[u8], lo: u64, hi: u64) -> Option<u64>
+        ensures { IsFirst (HoldsSerial self.now.sections authority.now) lo hi result }
+    {
+        first_serial(&self.shelves, authority, lo, hi)
+    }
+
+    // How many bytes at the front of some serial numbers, of eight bytes each, are of those that
+    // are not held under just this authority.
+    pub(crate) fn unheld(&self, authority: &[u8], serials: &[u8]) -> usize
+        ensures within { result ≤ length serials.now }
+        ensures whole { result % 8 ≡ 0 }
+        ensures none { NoneHolds (HoldsSerial self.now.sections authority.now) serials.now result }
+    {
+        unheld(&self.shelves, authority, serials)
+    }
+}
+
+// Whether the SHA-1 of the bytes is among the hashes. It is not computed where there are none.
+fn has_sha1(hashes: &BTreeSet<[u8; 20]>, bytes: &[u8]) -> bool
+    ensures { IsTrue result ↔ Contains hashes.now.keys (sha1 bytes.now) }
+{
+    if hashes.is_empty() {
+        return false;
+    }
+    hashes.contains(&Sha1::digest(bytes))
+}
+
+// Whether the SHA-256 of the bytes is among the hashes. It is not computed where there are none.
+fn has_sha256(hashes: &BTreeSet<[u8; 32]>, bytes: &[u8]) -> bool
+    ensures { IsTrue result ↔ Contains hashes.now.keys (sha256 bytes.now) }
+{
+    if hashes.is_empty() {
+        return false;
+    }
+    hashes.contains(&Sha256::digest(bytes))
+}
+
+// Whether a key ID is held under just this authority.
+fn has_id<S: Spans>(shelves: &Shelves<S>, authority: &[u8], id: &[u8]) -> bool
+    ensures { IsTrue result ↔ HoldsId shelves.now authority.now id.now }
+{
+    match shelves.find(authority) {
+        None => false,
+        Some(shelf) => shelf.ids.has(id),
+    }
+}
+
+// Whether a serial number is held under just this authority.
+fn has_serial<S: Spans>(shelves: &Shelves<S>, authority: &[u8], serial: u64) -> bool
+    ensures { IsTrue result ↔ HoldsSerial shelves.now authority.now serial }
+{
+    match shelves.find(authority) {
+        None => false,
+        Some(shelf) => shelf.spans.has(serial),
+    }
+}
+
+// Whether some serial number from `lo` to `hi` may be held under just this authority.
+fn may_have<S: Spans>(shelves: &Shelves<S>, authority: &[u8], lo: u64, hi: u64) -> bool
+    ensures { result ≡ false → (s : ℕ) → lo ≤ s → s ≤ hi
+        → HoldsSerial shelves.now authority.now s → ⊥ }
+{
+    match shelves.find(authority) {
+        None => false,
+        Some(shelf) => shelf.spans.meets(lo, hi),
+    }
+}
+
+// The first serial number from `lo` to `hi` that is held under just this authority.
+fn first_serial<S: Spans>(shelves: &Shelves<S>, authority: &[u8], lo: u64, hi: u64) -> Option<u64>
+    ensures { IsFirst (HoldsSerial shelves.now authority.now) lo hi result }
+{
+    match shelves.find(authority) {
+        None => None,
+        Some(shelf) => first_from(&shelf.spans, lo, hi),
+    }
+}
+
+// The first number from `lo` to `hi` that is a member of a set.
+fn first_from<S: Spans>(set: &S, lo: u64, hi: u64) -> Option<u64>
+    ensures { IsFirst (Covers (S.spans set.now)) lo hi result }
+{
+    if !set.meets(lo, hi) {
+        return None;
+    }
+    let piece = set.piece_from(lo);
+    let runs = piece.as_slice();
+    if runs.is_empty() {
+        return None;
+    }
+    let first = runs[0].lo;
+    if hi < first { None } else { Some(first) }
+}
+
+// How many bytes at the front of some serial numbers are of those that are not held under just this
+// authority.
+fn unheld<S: Spans>(shelves: &Shelves<S>, authority: &[u8], serials: &[u8]) -> usize
+    ensures within { result ≤ length serials.now }
+    ensures whole { result % 8 ≡ 0 }
+    ensures none { NoneHolds (HoldsSerial shelves.now authority.now) serials.now result }
+{
+    match shelves.find(authority) {
+        None => serials.len() / 8 * 8,
+        Some(shelf) => count_others(&shelf.spans, serials),
+    }
+}
+
+// How many bytes at the front of some serial numbers are of those that are no members of a set.
+fn count_others<S: Spans>(set: &S, serials: &[u8]) -> usize
+    ensures within { result ≤ length serials.now }
+    ensures whole { result % 8 ≡ 0 }
+    ensures none { NoneHolds (Covers (S.spans set.now)) serials.now result }
+{
+    let mut at = 0;
+    while serials.len() - at >= 8 {
+        if set.has(u64_of(&serials[at..at + 8])) {
+            break;
+        }
+        at += 8;
+    }
+    at
+}

@@ -1,0 +1,242 @@
+//! What a list that passes says of what is asked.
+
+ghost use Rattle.std.specs.Prelude.{◌≡◌, ◌↔◌, ◌+◌, ◌<◌, ◌≤◌, ◌∷◌, [], ℕ, List, true, IfOk};
+ghost use Rattle.std.specs.Prelude.{IsTrue, OnOk};
+ghost use Rattle.sha1.specs.Sha1.{sha1};
+ghost use Rattle.sha2.specs.Sha256.{sha256};
+ghost use Rattle.serial_set.specs.BitRuns.{IsInterval};
+ghost use Rattle.krl_held.specs.Authority.{authority_bytes, IsAuthority};
+ghost use Rattle.krl_held.specs.Contents.{IsOrderly, IsStoredWithin, held};
+ghost use Rattle.krl_held.specs.Entry.{Entry, RangeEntry};
+ghost use Rattle.krl_held.specs.Naming.{Sha1Of, Sha256Of};
+ghost use Rattle.krl_held.specs.Revoked.{Revoked};
+ghost use Rattle.krl_held.specs.Questions.{AreHashed, Asks, HashesOf, asked_in};
+ghost use Rattle.krl_held.specs.Scope.{IsTopic, IsWithin, MeansMoreWithin, MeansWithin};
+ghost use Rattle.krl_held.specs.Tested.{revokes};
+
+use crate::questions::Questions;
+use crate::revocations::{Revocations, bytes_or_none};
+use crate::store::Store;
+use crate::texts::Texts;
+use serial_set::{Span, Spans};
+use sha1::Sha1;
+use sha2::{Digest, Sha256};
+use ssh_subject::Subject;
+use std::alloc::{AllocError, Global};
+use std::collections::BTreeSet;
+use std::marker::Model;
+
+/// What is asked of a list, and what its entries named of that so far. Contracts see both.
+#[derive(Drop)]
+pub struct Findings<S: Spans> {
+    topics: Revocations<S>,
+    found: Revocations<S>,
+    // the hashes of the keys that are asked about, once one was looked for
+    has_sha1s: bool,
+    has_sha256s: bool,
+    sha1s: BTreeSet<[u8; 20]>,
+    sha256s: BTreeSet<[u8; 32]>,
+}
+
+impl<S: Spans> Model for Findings<S> {
+    ghost use Rattle.krl_held.specs.Questions.{AreHashed, Asked};
+    ghost use Rattle.sha1.specs.Sha1.{sha1};
+    ghost use Rattle.sha2.specs.Sha256.{sha256};
+
+    ghost Value = { Asked };
+
+    ghost view = { λ f. record { topics = f.topics; found = f.found } };
+
+    ghost invariant = { λ f. AreHashed f.has_sha1s sha1 f.topics.keys f.sha1s.keys
+        × AreHashed f.has_sha256s sha256 f.topics.keys f.sha256s.keys };
+}
+
+impl<S: Spans> Findings<S> {
+    /// What is asked, of a list that goes on. Takes no memory.
+    pub fn of(alloc: Global, questions: Questions<S>) -> Findings<S>
+        ensures { result ≡ questions }
+    {
+        let Questions { topics, found } = questions;
+        Findings {
+            topics,
+            found,
+            has_sha1s: false,
+            has_sha256s: false,
+            sha1s: BTreeSet::new(alloc),
+            sha256s: BTreeSet::new(alloc),
+        }
+    }
+
+    /// Whether a key or a certificate that is asked about is revoked. Takes no memory.
+    pub fn answer(&self, subject: &Subject) -> bool
+        requires { Asks self.now.topics subject.now }
+        ensures meant { (entries : List Entry)
+            → MeansWithin (asked_in self.now) self.now.found entries
+            → (IsTrue result ↔ Revoked entries subject.now) }
+        ensures tested { result ≡ revokes self.now.found subject.now }
+    {
+        self.found.query(subject)
+    }
+
+    /// What was found of what is asked.
+    pub fn found(&self) -> &Revocations<S>
+        ensures value { result.now ≡ self.now.found }
+        ensures orderly { IsOrderly self.now.found }
+    {
+        self.found.in_order()
+    }
+
+    // Whether a key that is asked about has this SHA-1. All are hashed once one is looked for.
+    fn asks_sha1(&mut self, hash: &[u8; 20]) -> Result<bool, AllocError>
+        ensures same { self.new ≡ self.old }
+        ensures asked { IfOk result (λ asked. IsTrue asked
+            ↔ IsTopic self.old.topics (Sha1Of hash.now)) }
+    {
+        make_sha1s(&self.topics, &mut self.has_sha1s, &mut self.sha1s)?;
+        Ok(self.sha1s.contains(hash))
+    }
+
+    // Whether a key that is asked about has this SHA-256, the same way.
+    fn asks_sha256(&mut self, hash: &[u8; 32]) -> Result<bool, AllocError>
+        ensures same { self.new ≡ self.old }
+        ensures asked { IfOk result (λ asked. IsTrue asked
+            ↔ IsTopic self.old.topics (Sha256Of hash.now)) }
+    {
+        make_sha256s(&self.topics, &mut self.has_sha256s, &mut self.sha256s)?;
+        Ok(self.sha256s.contains(hash))
+    }
+
+    // Takes the serials of a span from the first that is asked about on.
+    fn put_span(&mut self, authority: Option<&[u8]>, span: Span) -> Result<(), AllocError>
+        requires interval { IsInterval span }
+        requires authority { IsAuthority authority }
+        ensures means { OnOk result (MeansMoreWithin (asked_in self.old) self.old.found
+            self.new.found (RangeEntry (authority_bytes authority.entry) span.lo span.hi ∷ [])) }
+        ensures topics { self.new.topics ≡ self.old.topics }
+        ensures within { IsWithin self.old.topics self.old.found
+            → IsWithin self.new.topics self.new.found }
+        ensures held { held self.new.found ≤ held self.old.found + 1 }
+        ensures stored { (n : ℕ)
+            → IsStoredWithin (authority_bytes authority.entry) self.old.found n
+            → IsStoredWithin (authority_bytes authority.entry) self.new.found n }
+    {
+        let bytes = bytes_or_none(authority);
+        match self.topics.first_serial(bytes, span.lo, span.hi) {
+            None => Ok(()),
+            Some(first) => self.found.add_serials(authority, first, span.hi),
+        }
+    }
+}
+
+// Adds the SHA-1 of each key that is asked about, unless they are there.
+fn make_sha1s<S: Spans>(
+    topics: &Revocations<S>,
+    has: &mut bool,
+    hashes: &mut BTreeSet<[u8; 20]>,
+) -> Result<(), AllocError>
+    requires { AreHashed has.old sha1 topics.now.keys hashes.old.keys }
+    ensures hashed { AreHashed has.new sha1 topics.now.keys hashes.new.keys }
+    ensures made { OnOk result (has.new ≡ true) }
+{
+    if *has {
+        return Ok(());
+    }
+    hashes.clear();
+    hash_sha1s(topics.walk_keys(), hashes)?;
+    *has = true;
+    Ok(())
+}
+
+// Adds the SHA-1 of each key.
+fn hash_sha1s(keys: Texts<'_>, hashes: &mut BTreeSet<[u8; 20]>) -> Result<(), AllocError>
+    requires { hashes.old.keys ≡ [] }
+    ensures { OnOk result (HashesOf sha1 keys.entry hashes.new.keys) }
+{
+    for key in keys {
+        hashes.insert(Sha1::digest(key))?;
+    }
+    Ok(())
+}
+
+// Adds the SHA-256 of each key that is asked about, unless they are there.
+fn make_sha256s<S: Spans>(
+    topics: &Revocations<S>,
+    has: &mut bool,
+    hashes: &mut BTreeSet<[u8; 32]>,
+) -> Result<(), AllocError>
+    requires { AreHashed has.old sha256 topics.now.keys hashes.old.keys }
+    ensures hashed { AreHashed has.new sha256 topics.now.keys hashes.new.keys }
+    ensures made { OnOk result (has.new ≡ true) }
+{
+    if *has {
+        return Ok(());
+    }
+    hashes.clear();
+    hash_sha256s(topics.walk_keys(), hashes)?;
+    *has = true;
+    Ok(())
+}
+
+// Adds the SHA-256 of each key.
+fn hash_sha256s(keys: Texts<'_>, hashes: &mut BTreeSet<[u8; 32]>) -> Result<(), AllocError>
+    requires { hashes.old.keys ≡ [] }
+    ensures { OnOk result (HashesOf sha256 keys.entry hashes.new.keys) }
+{
+    for key in keys {
+        hashes.insert(Sha256::digest(key))?;
+    }
+    Ok(())
+}
+
+impl<S: Spans> Store for Findings<S> {
+    ghost use Rattle.krl_held.specs.Questions.{asked_in};
+
+    ghost contents = { λ findings. findings.found };
+
+    ghost scope = { λ findings. asked_in findings };
+
+    fn wants(&self, authority: &[u8], lo: u64, hi: u64) -> bool {
+        self.topics.may_have(authority, lo, hi)
+    }
+
+    fn unwanted(&self, authority: &[u8], serials: &[u8]) -> usize {
+        self.topics.unheld(authority, serials)
+    }
+
+    fn put_serials(&mut self, authority: Option<&[u8]>, near: &[Span]) -> Result<(), AllocError> {
+        for span in near {
+            self.put_span(authority, *span)?;
+        }
+        Ok(())
+    }
+
+    fn put_id(&mut self, authority: Option<&[u8]>, id: &[u8]) -> Result<(), AllocError> {
+        if !self.topics.has_id(bytes_or_none(authority), id) {
+            return Ok(());
+        }
+        self.found.add_id(authority, id)
+    }
+
+    fn put_key(&mut self, blob: &[u8]) -> Result<(), AllocError> {
+        if !self.topics.has_blob(blob) {
+            return Ok(());
+        }
+        self.found.add_key(blob)
+    }
+
+    fn put_sha1(&mut self, hash: &[u8; 20]) -> Result<(), AllocError> {
+        let asked = self.asks_sha1(hash)?;
+        if !asked {
+            return Ok(());
+        }
+        self.found.add_sha1(hash)
+    }
+
+    fn put_sha256(&mut self, hash: &[u8; 32]) -> Result<(), AllocError> {
+        let asked = self.asks_sha256(hash)?;
+        if !asked {
+            return Ok(());
+        }
+        self.found.add_sha256(hash)
+    }
+}

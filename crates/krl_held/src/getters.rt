@@ -1,0 +1,128 @@
+//! What is held, in order.
+ghost use Rattle.std.specs.Prelude.{◌≡◌, ◌<◌, length, Some, slice_get, sum_by};
+ghost use Rattle.krl_held.specs.Contents.{IsOrderly, held};
+
+use crate::listed::{Authorities, Listed};
+use crate::revocations::Revocations;
+use crate::shelves::Shelves;
+use crate::texts::Texts;
+use serial_set::Spans;
+
+impl<S: Spans> Revocations<S> {
+    /// How many authorities have a serial or a key ID, all authorities counted as one.
+    pub fn authorities(&self) -> usize
+        ensures count { result ≡ length self.now.sections }
+        ensures orderly { IsOrderly self.now }
+    {
+        self.shelves.len()
+    }
+
+    /// What is held under the authority at an index below `authorities()`: all authorities first,
+    /// and then by their bytes. A loop over all of them takes `walk_authorities`.
+    pub fn authority_at(&self, index: usize) -> Listed<'_, S>
+        requires { index < length self.now.sections }
+        ensures { slice_get self.now.sections index ≡ Some result }
+    {
+        self.shelves.at(index)
+    }
+
+    /// A walk over the authorities, all authorities first and then by their bytes.
+    pub fn walk_authorities(&self) -> Authorities<'_, S>
+        ensures { result ≡ self.now.sections }
+    {
+        self.shelves.walk()
+    }
+
+    /// How many spans of serials are held, over all authorities. It goes over the authorities.
+    pub fn held(&self) -> u128
+        ensures { result ≡ held self.now }
+    {
+        held_in(&self.shelves)
+    }
+
+    /// How many keys there are.
+    pub fn keys(&self) -> usize
+        ensures { result ≡ length self.now.keys }
+    {
+        self.keys.len()
+    }
+
+    /// The blob of the key at an index below `keys()`, in the order of their bytes. It goes over
+    /// those before it; a loop over all takes `walk_keys`.
+    pub fn key_at(&self, index: usize) -> &[u8]
+        requires { index < length self.now.keys }
+        ensures { slice_get self.now.keys index ≡ Some result.now }
+    {
+        Texts::many(&self.keys).at(index)
+    }
+
+    /// A walk over the blobs of the keys, in the order of their bytes.
+    pub fn walk_keys(&self) -> Texts<'_>
+        ensures { result ≡ self.now.keys }
+    {
+        Texts::many(&self.keys)
+    }
+
+    /// How many SHA-1 hashes there are.
+    pub fn sha1s(&self) -> usize
+        ensures { result ≡ length self.now.sha1s }
+    {
+        self.sha1s.len()
+    }
+
+    /// The SHA-1 hash, of 20 bytes, at an index below `sha1s()`, in the order of their bytes. It
+    /// goes over those before it; a loop over all takes `walk_sha1s`.
+    pub fn sha1_at(&self, index: usize) -> &[u8]
+        requires { index < length self.now.sha1s }
+        ensures { slice_get self.now.sha1s index ≡ Some result.now }
+    {
+        Texts::sha1s(&self.sha1s).at(index)
+    }
+
+    /// A walk over the SHA-1 hashes, in the order of their bytes.
+    pub fn walk_sha1s(&self) -> Texts<'_>
+        ensures { result ≡ self.now.sha1s }
+    {
+        Texts::sha1s(&self.sha1s)
+    }
+
+    /// How many SHA-256 hashes there are.
+    pub fn sha256s(&self) -> usize
+        ensures { result ≡ length self.now.sha256s }
+    {
+        self.sha256s.len()
+    }
+
+    /// The SHA-256 hash, of 32 bytes, at an index below `sha256s()`, in the order of their bytes.
+    /// It goes over those before it; a loop over all takes `walk_sha256s`.
+    pub fn sha256_at(&self, index: usize) -> &[u8]
+        requires { index < length self.now.sha256s }
+        ensures { slice_get self.now.sha256s index ≡ Some result.now }
+    {
+        Texts::sha256s(&self.sha256s).at(index)
+    }
+
+    /// A walk over the SHA-256 hashes, in the order of their bytes.
+    pub fn walk_sha256s(&self) -> Texts<'_>
+        ensures { result ≡ self.now.sha256s }
+    {
+        Texts::sha256s(&self.sha256s)
+    }
+}
+
+// How many spans all authorities hold together.
+fn held_in<S: Spans>(shelves: &Shelves<S>) -> u128
+    ensures { result ≡ sum_by (λ section. length section.spans) shelves.now }
+{
+    let mut walk = shelves.walk();
+    let mut left = shelves.len();
+    let mut total: u128 = 0;
+    while left > 0 {
+        let Some(listed) = walk.next() else {
+            unreachable!();
+        };
+        total += listed.spans().len() as u128;
+        left -= 1;
+    }
+    total
+}

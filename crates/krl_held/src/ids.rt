@@ -1,0 +1,163 @@
+//! Key IDs.
+ghost use Rattle.std.specs.Prelude.{◌≡◌, ◌<◌, ◌↔◌, [], Contains, IfOk, IsTrue, MatchOption};
+ghost use Rattle.std.specs.Prelude.{OnErr, OnOk, Some, length, slice_get};
+ghost use Rattle.krl_held.specs.Changes.{Puts};
+ghost use Rattle.krl_held.specs.Ids.{GoesTo};
+ghost use Rattle.krl_held.specs.Rising.{RisesBy, bytes_cmp};
+ghost use Rattle.krl_held.specs.Texts.{bytes_of, texts_of};
+
+use crate::texts::{Texts, has_text, put_text};
+use std::alloc::{AllocError, Global};
+use std::cmp::Ordering;
+use std::collections::BTreeSet;
+use std::marker::Model;
+
+// The most key IDs that lie in one vector. A set takes more memory for as many.
+const FEW: usize = 32;
+
+// A few key IDs in order, or a set of more.
+#[derive(Drop)]
+pub(crate) enum Kept {
+    Few(Vec<Vec<u8>>),
+    Many(BTreeSet<Vec<u8>>),
+}
+
+/// A set of key IDs. Most authorities have few of them or none. Contracts see the list of the key
+/// IDs, in order.
+#[derive(Drop)]
+pub struct Ids {
+    kept: Kept,
+}
+
+impl Model for Ids {
+    ghost use Rattle.std.specs.Prelude.{ℕ, List};
+    ghost use Rattle.krl_held.specs.Ids.{FewRise, ids_of};
+
+    ghost Value = { List (List ℕ) };
+
+    ghost view = { λ ids. ids_of ids.kept };
+
+    ghost invariant = { λ ids. FewRise ids.kept };
+}
+
+impl Ids {
+    // No key IDs. Takes no memory.
+    pub(crate) fn new(alloc: Global) -> Ids
+        ensures { result ≡ [] }
+    {
+        Ids {
+            kept: Kept::Few(Vec::new(alloc)),
+        }
+    }
+
+    // How many key IDs there are.
+    pub(crate) fn len(&self) -> usize
+        ensures { result ≡ length self.now }
+    {
+        match &self.kept {
+            Kept::Few(few) => few.len(),
+            Kept::Many(set) => set.len(),
+        }
+    }
+
+    // Whether the key ID is there.
+    pub(crate) fn has(&self, id: &[u8]) -> bool
+        ensures { IsTrue result ↔ Contains self.now id.now }
+    {
+        match &self.kept {
+            Kept::Few(few) => matches!(place_in(few.as_slice(), id), None),
+            Kept::Many(set) => has_text(set, id),
+        }
+    }
+
+    // The key ID at an index. It goes over those before it.
+    pub(crate) fn at(&self, index: usize) -> &[u8]
+        requires { index < length self.now }
+        ensures { slice_get self.now index ≡ Some result.now }
+    {
+        match &self.kept {
+            Kept::Few(few) => few[index].as_slice(),
+            Kept::Many(set) => Texts::many(set).at(index),
+        }
+    }
+
+    // The key IDs, in the order of their bytes.
+    pub(crate) fn walk(&self) -> Texts<'_>
+        ensures { result ≡ self.now }
+    {
+        match &self.kept {
+            Kept::Few(few) => Texts::few(few.as_slice()),
+            Kept::Many(set) => Texts::many(set),
+        }
+    }
+
+    // Adds a key ID, if it is not there.
+    pub(crate) fn put(&mut self, alloc: Global, id: &[u8]) -> Result<(), AllocError>
+        ensures ok { OnOk result (Puts self.old id.now self.new) }
+        ensures err { OnErr result (self.new ≡ self.old) }
+    {
+        match &mut self.kept {
+            Kept::Many(set) => put_text(alloc, set, id),
+            Kept::Few(few) => {
+                if few.len() < FEW {
+                    return put_few(alloc, few, id);
+                }
+                self.kept = Kept::Many(spread(alloc, few.as_slice(), id)?);
+                Ok(())
+            }
+        }
+    }
+}
+
+// Where a byte string goes among a few in order, if it is not there.
+fn place_in(few: &[Vec<u8>], id: &[u8]) -> Option<usize>
+    requires { RisesBy bytes_of few.now }
+    ensures { MatchOption result (Contains (texts_of few.now) id.now)
+        (λ at. GoesTo at id.now few.now) }
+{
+    let mut at = 0;
+    while at < few.len() {
+        match compare(few[at].as_slice(), id) {
+            Ordering::Less => at += 1,
+            Ordering::Equal => return None,
+            Ordering::Greater => return Some(at),
+        }
+    }
+    Some(at)
+}
+
+// Puts a key ID into the vector at its place, if it is not there.
+fn put_few(alloc: Global, few: &mut Vec<Vec<u8>>, id: &[u8]) -> Result<(), AllocError>
+    requires { RisesBy bytes_of few.old.items }
+    ensures rise { RisesBy bytes_of few.new.items }
+    ensures ok { OnOk result (Puts (texts_of few.old.items) id.now (texts_of few.new.items)) }
+    ensures err { OnErr result (few.new.items ≡ few.old.items) }
+{
+    let Some(at) = place_in(few.as_slice(), id) else {
+        return Ok(());
+    };
+    few.insert(at, Vec::from_slice(alloc, id)?)?;
+    Ok(())
+}
+
+// A set of a few byte strings in order, and of one more.
+fn spread(alloc: Global, few: &[Vec<u8>], id: &[u8]) -> Result<BTreeSet<Vec<u8>>, AllocError>
+    requires { RisesBy bytes_of few.now }
+    ensures { IfOk result (λ set. Puts (texts_of few.now) id.now (texts_of set.keys)) }
+{
+    let mut set = BTreeSet::new(alloc);
+    let mut at = 0;
+    while at < few.len() {
+        put_text(alloc, &mut set, few[at].as_slice())?;
+        at += 1;
+    }
+    put_text(alloc, &mut set, id)?;
+    Ok(set)
+}
+
+// Both at one lifetime, as the comparison of slices asks.
+fn compare<'a>(left: &'a [u8], right: &'a [u8]) -> Ordering
+    ensures { result ≡ bytes_cmp left.now right.now }
+{
+    Ord::cmp(&left, &right)
+}

@@ -1,0 +1,26 @@
+//! What key revocation lists name: held, or asked about.
+#![tactic(auto)]
+
+mod addition;
+mod asking;
+mod field;
+mod findings;
+mod getters;
+mod ids;
+pub mod laws;
+mod listed;
+mod query;
+mod questions;
+mod revocations;
+mod shelf;
+mod shelves;
+mod store;
+mod texts;
+
+pub use field::{byte_of, u32_of, u64_of};
+pub use findings::Findings;
+pub use listed::{Authorities, Listed};
+pub use questions::Questions;
+pub use revocations::Revocations;
+pub use store::Store;
+pub use texts::Texts;

@@ -1,0 +1,130 @@
+//! What is held under one authority, lent.
+ghost use Rattle.std.specs.Prelude.{◌≡◌, ◌<◌, length, Some, slice_get};
+ghost use Rattle.krl_held.specs.Authority.{authority_bytes, IsAuthority};
+
+use crate::shelf::Shelf;
+use crate::texts::Texts;
+use serial_set::Spans;
+use std::collections::BTreeMap;
+use std::collections::btree_map::Iter;
+use std::marker::Model;
+
+/// The serials and key IDs that are revoked under one authority, or under all.
+#[derive(Drop)]
+pub struct Listed<'a, S: Spans> {
+    authority: &'a [u8],
+    shelf: &'a Shelf<S>,
+}
+
+impl<'a, S: Spans> Model for Listed<'a, S> {
+    ghost use Rattle.krl_held.specs.Contents.{Section};
+    ghost use Rattle.krl_held.specs.Shelf.{section_of};
+
+    ghost Value = { Section };
+
+    ghost view = { λ listed. section_of S.spans (listed.authority.now, listed.shelf.now) };
+}
+
+impl<'a, S: Spans> Listed<'a, S> {
+    ghost use Rattle.krl_held.specs.Shelf.{section_of};
+
+    // What is held under an authority, lent.
+    pub(crate) fn new(authority: &'a [u8], shelf: &'a Shelf<S>) -> Listed<'a, S>
+        ensures { result ≡ section_of S.spans (authority.now, shelf.now) }
+    {
+        Listed { authority, shelf }
+    }
+
+    /// The bytes of the authority, or none for all authorities.
+    pub fn authority(&self) -> Option<&'a [u8]>
+        ensures bytes { authority_bytes result ≡ self.now.authority }
+        ensures some { IsAuthority result }
+    {
+        if self.authority.len() == 0 {
+            return None;
+        }
+        Some(self.authority)
+    }
+
+    /// The bytes of the authority, without any for all authorities: as a list has them.
+    pub fn bytes(&self) -> &'a [u8]
+        ensures { result.now ≡ self.now.authority }
+    {
+        self.authority
+    }
+
+    /// The serials, as a set.
+    pub fn spans(&self) -> &'a S
+        ensures { S.spans result.now ≡ self.now.spans }
+    {
+        &self.shelf.spans
+    }
+
+    /// How many key IDs there are.
+    pub fn ids(&self) -> usize
+        ensures { result ≡ length self.now.ids }
+    {
+        self.shelf.ids.len()
+    }
+
+    /// The key ID at an index below `ids()`, in the order of their bytes. A loop over all of them
+    /// takes `walk_ids`.
+    pub fn id_at(&self, index: usize) -> &'a [u8]
+        requires { index < length self.now.ids }
+        ensures { slice_get self.now.ids index ≡ Some result.now }
+    {
+        self.shelf.ids.at(index)
+    }
+
+    /// A walk over the key IDs, in the order of their bytes.
+    pub fn walk_ids(&self) -> Texts<'a>
+        ensures { result ≡ self.now.ids }
+    {
+        self.shelf.ids.walk()
+    }
+}
+
+/// What is held under each authority, all authorities first and then by their bytes: an iterator.
+/// Contracts see it as the list of the sections that are left.
+#[derive(Drop)]
+pub struct Authorities<'a, S: Spans> {
+    shelves: Iter<'a, Vec<u8>, Shelf<S>>,
+}
+
+impl<'a, S: Spans> Model for Authorities<'a, S> {
+    ghost use Rattle.std.specs.Prelude.{List};
+    ghost use Rattle.krl_held.specs.Contents.{Section};
+    ghost use Rattle.krl_held.specs.Shelf.{sections_of, shelves_of};
+
+    ghost Value = { List Section };
+
+    ghost view = { λ authorities. sections_of S.spans (shelves_of authorities.shelves) };
+}
+
+impl<'a, S: Spans> Authorities<'a, S> {
+    ghost use Rattle.krl_held.specs.Shelf.{sections_of, shelves_of};
+
+    // A walk over the authorities whose shelves are in a map.
+    pub(crate) fn over(map: &'a BTreeMap<Vec<u8>, Shelf<S>>) -> Authorities<'a, S>
+        ensures { result ≡ sections_of S.spans (shelves_of map.now.entries) }
+    {
+        Authorities {
+            shelves: map.iter(),
+        }
+    }
+}
+
+impl<'a, S: Spans> Iterator for Authorities<'a, S> {
+    ghost use Rattle.std.specs.Iterator.{YieldsFirst, item_count};
+
+    type Item = Listed<'a, S>;
+
+    ghost next_gives = { YieldsFirst (λ authorities. authorities) };
+
+    ghost remaining = { item_count (λ authorities. authorities) };
+
+    fn next(&mut self) -> Option<Listed<'a, S>> {
+        let (authority, shelf) = self.shelves.next()?;
+        Some(Listed::new(authority.as_slice(), shelf))
+    }
+}

@@ -1,0 +1,71 @@
+//! The question of whether a key or a certificate is revoked.
+ghost use Rattle.std.specs.Prelude.{◌≡◌, ◌↔◌, IsTrue, List};
+ghost use Rattle.krl_held.specs.Asked.{HoldsKey, HoldsUnder, HoldsCert};
+ghost use Rattle.krl_held.specs.Contents.{Means};
+ghost use Rattle.krl_held.specs.Entry.{Entry};
+ghost use Rattle.krl_held.specs.Revoked.{Revoked};
+ghost use Rattle.krl_held.specs.Tested.{revokes};
+
+use crate::revocations::Revocations;
+use crate::shelves::Shelves;
+use serial_set::Spans;
+use ssh_subject::{CertNames, Subject};
+
+impl<S: Spans> Revocations<S> {
+    /// Whether a plain key or a certificate is revoked (ssh-keygen(1), KEY REVOCATION LISTS). Takes
+    /// no memory. A hash is computed only where there are hashes of its kind.
+    pub fn query(&self, subject: &Subject) -> bool
+        ensures revoked { (entries : List Entry) → Means self.now entries
+            → (IsTrue result ↔ Revoked entries subject.now) }
+        ensures tested { result ≡ revokes self.now subject.now }
+    {
+        if self.has_key(subject.plain.as_slice()) {
+            return true;
+        }
+        match &subject.cert {
+            None => false,
+            Some(cert) => self.has_cert(cert),
+        }
+    }
+
+    // Whether a certificate is revoked by its authority, or by its key ID or serial under all
+    // authorities or its own.
+    fn has_cert(&self, cert: &CertNames) -> bool
+        ensures { IsTrue result ↔ HoldsCert self.now cert.now }
+    {
+        if self.has_key(cert.authority) {
+            return true;
+        }
+        if has_under(&self.shelves, &[], cert.key_id, cert.serial) {
+            return true;
+        }
+        has_under(&self.shelves, cert.authority, cert.key_id, cert.serial)
+    }
+
+    // Whether a plain key is revoked by its blob or a hash of it.
+    fn has_key(&self, blob: &[u8]) -> bool
+        ensures { IsTrue result ↔ HoldsKey self.now blob.now }
+    {
+        if self.has_blob(blob) {
+            return true;
+        }
+        if self.has_sha1(blob) {
+            return true;
+        }
+        self.has_sha256(blob)
+    }
+}
+
+// Whether a key ID or a serial number is held under just this authority.
+fn has_under<S: Spans>(shelves: &Shelves<S>, authority: &[u8], id: &[u8], serial: u64) -> bool
+    ensures { IsTrue result
+        ↔ HoldsUnder shelves.now authority.now id.now serial }
+{
+    let Some(shelf) = shelves.find(authority) else {
+        return false;
+    };
+    if shelf.ids.has(id) {
+        return true;
+    }
+    shelf.spans.has(serial)
+}

@@ -1,0 +1,227 @@
+//! What is asked of a list.
+
+ghost use Rattle.std.specs.Prelude.{◌≡◌, ◌+◌, ◌<◌, ◌≤◌, Contains, OnOk, Some, length};
+ghost use Rattle.sha1.specs.Sha1.{sha1};
+ghost use Rattle.sha2.specs.Sha256.{sha256};
+ghost use Rattle.krl_held.specs.Authority.{authority_bytes, IsAuthority};
+ghost use Rattle.krl_held.specs.Contents.{Contents, nothing, serials_in, stored};
+ghost use Rattle.krl_held.specs.Naming.{IdOf, KeyOf, SerialOf, Sha1Of, Sha256Of};
+ghost use Rattle.krl_held.specs.Questions.{Asks, AsksMore, Finds, FindsIn, HasAll, HasUnder};
+ghost use Rattle.krl_held.specs.Questions.{IsOfKey, names_size, subject_size};
+
+use crate::revocations::{Revocations, bytes_or_none};
+use serial_set::Spans;
+use sha1::Sha1;
+use sha2::{Digest, Sha256};
+use ssh_subject::{CertNames, Subject};
+use std::alloc::{AllocError, Global};
+use std::marker::Model;
+
+/// What is asked of a list that is read on after its front, and what the front holds of it.
+/// Contracts see the topics, which are keys, and serial numbers and key IDs under authorities, and
+/// what is found of them.
+#[derive(Drop)]
+pub struct Questions<S: Spans> {
+    pub(crate) topics: Revocations<S>,
+    pub(crate) found: Revocations<S>,
+}
+
+impl<S: Spans> Model for Questions<S> {
+    ghost use Rattle.krl_held.specs.Questions.{Asked};
+
+    ghost Value = { Asked };
+
+    ghost view = { λ q. record { topics = q.topics; found = q.found } };
+}
+
+impl<S: Spans> Questions<S> {
+    /// Nothing is asked. Takes no memory.
+    pub fn new(alloc: Global) -> Questions<S>
+        ensures topics { result.topics ≡ nothing }
+        ensures found { result.found ≡ nothing }
+        ensures of_any { (front : Contents) → FindsIn front result }
+    {
+        Questions {
+            topics: Revocations::new(alloc),
+            found: Revocations::new(alloc),
+        }
+    }
+
+    /// Asks about a key or a certificate too, of a list whose front holds this. Fails only where
+    /// memory runs out.
+    pub fn ask(&mut self, front: &Revocations<S>, subject: &Subject) -> Result<(), AllocError>
+        requires { FindsIn front.now self.old }
+        ensures asked { OnOk result (Asks self.new.topics subject.now) }
+        ensures more { OnOk result (AsksMore self.old.topics self.new.topics) }
+        ensures found { OnOk result (FindsIn front.now self.new) }
+        ensures serials { serials_in self.new.topics.sections
+            ≤ serials_in self.old.topics.sections + 2 }
+        ensures stored { stored self.new.topics
+            ≤ stored self.old.topics + subject_size subject.now }
+        ensures keys { length self.new.topics.keys ≤ length self.old.topics.keys + 2 }
+    {
+        self.ask_key(front, subject.plain.as_slice())?;
+        match &subject.cert {
+            None => Ok(()),
+            Some(cert) => self.ask_cert(front, cert),
+        }
+    }
+}
+
+impl<S: Spans> Questions<S> {
+    // Asks about a key by its blob and its hashes.
+    fn ask_key(&mut self, front: &Revocations<S>, blob: &[u8]) -> Result<(), AllocError>
+        requires { FindsIn front.now self.old }
+        ensures asked { OnOk result (Contains self.new.topics.keys blob.now) }
+        ensures more { OnOk result (AsksMore self.old.topics self.new.topics) }
+        ensures found { OnOk result (FindsIn front.now self.new) }
+        ensures serials { self.new.topics.sections ≡ self.old.topics.sections }
+        ensures stored { stored self.new.topics ≤ stored self.old.topics + length blob.now }
+        ensures keys { length self.new.topics.keys ≤ length self.old.topics.keys + 1 }
+    {
+        self.topics.add_key(blob)?;
+        find_key(front, &mut self.found, blob)
+    }
+
+    // Asks about the names of a certificate.
+    fn ask_cert(&mut self, front: &Revocations<S>, cert: &CertNames) -> Result<(), AllocError>
+        requires { FindsIn front.now self.old }
+        ensures asked { OnOk result (HasAll self.new.topics cert.now) }
+        ensures more { OnOk result (AsksMore self.old.topics self.new.topics) }
+        ensures found { OnOk result (FindsIn front.now self.new) }
+        ensures serials { serials_in self.new.topics.sections
+            ≤ serials_in self.old.topics.sections + 2 }
+        ensures stored { stored self.new.topics
+            ≤ stored self.old.topics + names_size (Some cert.now) }
+        ensures keys { length self.new.topics.keys ≤ length self.old.topics.keys + 1 }
+    {
+        self.ask_key(front, cert.authority)?;
+        self.ask_under(front, None, cert)?;
+        if cert.authority.is_empty() {
+            return Ok(());
+        }
+        self.ask_under(front, Some(cert.authority), cert)
+    }
+
+    // Asks about a certificate's key ID and serial number under an authority, or under all.
+    fn ask_under(
+        &mut self,
+        front: &Revocations<S>,
+        authority: Option<&[u8]>,
+        cert: &CertNames,
+    ) -> Result<(), AllocError>
+        requires authority { IsAuthority authority }
+        requires found { FindsIn front.now self.old }
+        ensures asked { OnOk result (HasUnder self.new.topics
+            (authority_bytes authority.entry) cert.now.key_id cert.now.serial) }
+        ensures more { OnOk result (AsksMore self.old.topics self.new.topics) }
+        ensures found { OnOk result (FindsIn front.now self.new) }
+        ensures serials { serials_in self.new.topics.sections
+            ≤ serials_in self.old.topics.sections + 1 }
+        ensures stored { stored self.new.topics ≤ stored self.old.topics
+            + length (authority_bytes authority.entry) + length cert.now.key_id }
+        ensures keys { self.new.topics.keys ≡ self.old.topics.keys }
+    {
+        self.topics.add_id(authority, cert.key_id)?;
+        find_id(front, &mut self.found, authority, cert.key_id)?;
+        if cert.serial == 0 {
+            return Ok(());
+        }
+        self.topics
+            .add_serials(authority, cert.serial, cert.serial)?;
+        find_serial(front, &mut self.found, authority, cert.serial)
+    }
+}
+
+// Finds a key by its blob and its hashes in what a front holds.
+fn find_key<S: Spans>(
+    front: &Revocations<S>,
+    found: &mut Revocations<S>,
+    blob: &[u8],
+) -> Result<(), AllocError>
+    ensures { OnOk result (Finds front.now (IsOfKey blob.now) found.old found.new) }
+{
+    find_blob(front, found, blob)?;
+    find_sha1(front, found, blob)?;
+    find_sha256(front, found, blob)
+}
+
+// Finds a key by its blob.
+fn find_blob<S: Spans>(
+    front: &Revocations<S>,
+    found: &mut Revocations<S>,
+    blob: &[u8],
+) -> Result<(), AllocError>
+    ensures { OnOk result
+        (Finds front.now (λ name. name ≡ KeyOf blob.now) found.old found.new) }
+{
+    if !front.has_blob(blob) {
+        return Ok(());
+    }
+    found.add_key(blob)
+}
+
+// Finds a key by its SHA-1.
+fn find_sha1<S: Spans>(
+    front: &Revocations<S>,
+    found: &mut Revocations<S>,
+    blob: &[u8],
+) -> Result<(), AllocError>
+    ensures { OnOk result
+        (Finds front.now (λ name. name ≡ Sha1Of (sha1 blob.now)) found.old found.new) }
+{
+    if !front.has_sha1(blob) {
+        return Ok(());
+    }
+    found.add_sha1(&Sha1::digest(blob))
+}
+
+// Finds a key by its SHA-256.
+fn find_sha256<S: Spans>(
+    front: &Revocations<S>,
+    found: &mut Revocations<S>,
+    blob: &[u8],
+) -> Result<(), AllocError>
+    ensures { OnOk result
+        (Finds front.now (λ name. name ≡ Sha256Of (sha256 blob.now)) found.old found.new) }
+{
+    if !front.has_sha256(blob) {
+        return Ok(());
+    }
+    found.add_sha256(&Sha256::digest(blob))
+}
+
+// Finds a key ID under an authority.
+fn find_id<S: Spans>(
+    front: &Revocations<S>,
+    found: &mut Revocations<S>,
+    authority: Option<&[u8]>,
+    id: &[u8],
+) -> Result<(), AllocError>
+    requires { IsAuthority authority }
+    ensures { OnOk result (Finds front.now
+        (λ name. name ≡ IdOf (authority_bytes authority.entry) id.now) found.old found.new) }
+{
+    if !front.has_id(bytes_or_none(authority), id) {
+        return Ok(());
+    }
+    found.add_id(authority, id)
+}
+
+// Finds a serial number under an authority.
+fn find_serial<S: Spans>(
+    front: &Revocations<S>,
+    found: &mut Revocations<S>,
+    authority: Option<&[u8]>,
+    serial: u64,
+) -> Result<(), AllocError>
+    requires some { 0 < serial }
+    requires authority { IsAuthority authority }
+    ensures { OnOk result (Finds front.now
+        (λ name. name ≡ SerialOf (authority_bytes authority.entry) serial) found.old found.new) }
+{
+    if !front.has_serial(bytes_or_none(authority), serial) {
+        return Ok(());
+    }
+    found.add_serials(authority, serial, serial)
+}

@@ -1,0 +1,189 @@
+//! What is revoked.
+ghost use Rattle.std.specs.Prelude.{◌≡◌, ◌+◌, ◌<◌, ◌≤◌, ◌∷◌, [], ℕ, List, length, All, OnOk, OnErr};
+ghost use Rattle.serial_set.specs.BitRuns.{IsInterval};
+ghost use Rattle.serial_set.specs.Near.{AreNear};
+ghost use Rattle.krl_held.specs.Authority.{authority_bytes, IsAuthority};
+ghost use Rattle.krl_held.specs.Changes.{MeansMore, run_entries};
+ghost use Rattle.krl_held.specs.Contents.{IsNamed, IsOrderly, Means, nothing, held, stored};
+ghost use Rattle.krl_held.specs.Entry.{RangeEntry, IdEntry, KeyEntry, Sha1Entry, Sha256Entry};
+
+use crate::addition::Addition;
+use crate::shelves::Shelves;
+use crate::texts::put_text;
+use serial_set::{Span, Spans};
+use std::alloc::{AllocError, Global};
+use std::collections::BTreeSet;
+use std::marker::Model;
+
+/// What is revoked: serial numbers and key IDs under an authority or under all, and keys by their
+/// blobs or hashes. Contracts see the sections of the authorities and the lists of keys and hashes,
+/// each in the order of their bytes.
+#[derive(Drop)]
+pub struct Revocations<S: Spans> {
+    alloc: Global,
+    pub(crate) shelves: Shelves<S>,
+    pub(crate) keys: BTreeSet<Vec<u8>>,
+    pub(crate) sha1s: BTreeSet<[u8; 20]>,
+    pub(crate) sha256s: BTreeSet<[u8; 32]>,
+}
+
+impl<S: Spans> Model for Revocations<S> {
+    ghost use Rattle.krl_held.specs.Contents.{Contents, contents_of, IsOrderly};
+    ghost use Rattle.krl_held.specs.Texts.{texts_of};
+
+    ghost Value = { Contents };
+
+    ghost view = { λ r. contents_of r.shelves (texts_of r.keys.keys) r.sha1s.keys r.sha256s.keys };
+
+    ghost invariant = { λ r. IsOrderly
+        (contents_of r.shelves (texts_of r.keys.keys) r.sha1s.keys r.sha256s.keys) };
+}
+
+impl<S: Spans> Revocations<S> {
+    /// No revocations. Takes no memory.
+    pub fn new(alloc: Global) -> Revocations<S>
+        ensures nothing { result ≡ nothing }
+        ensures means { Means result [] }
+    {
+        Revocations {
+            alloc,
+            shelves: Shelves::new(alloc),
+            keys: BTreeSet::new(alloc),
+            sha1s: BTreeSet::new(alloc),
+            sha256s: BTreeSet::new(alloc),
+        }
+    }
+
+    /// Revokes the serials from `lo` to `hi` of an authority, or of all authorities where there is
+    /// none. `lo` is above 0 and at most `hi`, and an authority has a byte. Fails only where memory
+    /// runs out, and changes nothing then.
+    pub fn add_serials(
+        &mut self,
+        authority: Option<&[u8]>,
+        lo: u64,
+        hi: u64,
+    ) -> Result<(), AllocError>
+        requires from_one { 0 < lo }
+        requires ordered { lo ≤ hi }
+        requires authority { IsAuthority authority }
+        ensures means { OnOk result (MeansMore self.old self.new
+            (RangeEntry (authority_bytes authority.entry) lo hi ∷ [])) }
+        ensures orderly { IsOrderly self.old }
+        ensures refused { OnErr result (self.new ≡ self.old) }
+        ensures held { held self.new ≤ held self.old + 1 }
+        ensures stored { stored self.new
+            ≤ stored self.old + length (authority_bytes authority.entry) }
+        ensures known { IsNamed self.old (authority_bytes authority.entry)
+            → stored self.new ≤ stored self.old }
+        ensures named { OnOk result (IsNamed self.new (authority_bytes authority.entry)) }
+        ensures stays { (other : List ℕ) → IsNamed self.old other → IsNamed self.new other }
+        ensures keys { self.new.keys ≡ self.old.keys }
+    {
+        self.add_near(authority, &[Span { lo, hi }])
+    }
+
+    // Revokes the serials of some spans, which lie near each other, with one search for the
+    // authority. Fails only where memory runs out, and changes nothing then.
+    pub(crate) fn add_near(
+        &mut self,
+        authority: Option<&[u8]>,
+        near: &[Span],
+    ) -> Result<(), AllocError>
+        requires some { 0 < length near.now }
+        requires intervals { All IsInterval near.now }
+        requires near { AreNear near.now }
+        requires authority { IsAuthority authority }
+        ensures means { OnOk result (MeansMore self.old self.new
+            (run_entries (authority_bytes authority.entry) near.now)) }
+        ensures orderly { IsOrderly self.old }
+        ensures refused { OnErr result (self.new ≡ self.old) }
+        ensures held { held self.new ≤ held self.old + length near.now }
+        ensures stored { stored self.new
+            ≤ stored self.old + length (authority_bytes authority.entry) }
+        ensures known { IsNamed self.old (authority_bytes authority.entry)
+            → stored self.new ≤ stored self.old }
+        ensures named { OnOk result (IsNamed self.new (authority_bytes authority.entry)) }
+        ensures stays { (other : List ℕ) → IsNamed self.old other → IsNamed self.new other }
+        ensures keys { self.new.keys ≡ self.old.keys }
+    {
+        let bytes = bytes_or_none(authority);
+        let addition = Addition::Serials(near);
+        self.shelves.add(bytes, addition)?;
+        Ok(())
+    }
+
+    /// Revokes the certificates with a key ID of an authority, or of all authorities where there is
+    /// none. An authority has a byte. Fails only where memory runs out, and changes nothing then.
+    pub fn add_id(&mut self, authority: Option<&[u8]>, id: &[u8]) -> Result<(), AllocError>
+        requires { IsAuthority authority }
+        ensures means { OnOk result (MeansMore self.old self.new
+            (IdEntry (authority_bytes authority.entry) id.now ∷ [])) }
+        ensures orderly { IsOrderly self.old }
+        ensures refused { OnErr result (self.new ≡ self.old) }
+        ensures held { held self.new ≡ held self.old }
+        ensures stored { stored self.new
+            ≤ stored self.old + length (authority_bytes authority.entry) + length id.now }
+        ensures known { IsNamed self.old (authority_bytes authority.entry)
+            → stored self.new ≤ stored self.old + length id.now }
+        ensures named { OnOk result (IsNamed self.new (authority_bytes authority.entry)) }
+        ensures stays { (other : List ℕ) → IsNamed self.old other → IsNamed self.new other }
+        ensures keys { self.new.keys ≡ self.old.keys }
+    {
+        let bytes = bytes_or_none(authority);
+        let addition = Addition::Id(id);
+        self.shelves.add(bytes, addition)?;
+        Ok(())
+    }
+
+    /// Revokes a key by its blob. Fails only where memory runs out, and changes nothing then.
+    pub fn add_key(&mut self, blob: &[u8]) -> Result<(), AllocError>
+        ensures means { OnOk result (MeansMore self.old self.new (KeyEntry blob.now ∷ [])) }
+        ensures orderly { IsOrderly self.old }
+        ensures refused { OnErr result (self.new ≡ self.old) }
+        ensures held { held self.new ≡ held self.old }
+        ensures stored { stored self.new ≤ stored self.old + length blob.now }
+        ensures sections { self.new.sections ≡ self.old.sections }
+        ensures keys { length self.new.keys ≤ length self.old.keys + 1 }
+    {
+        put_text(self.alloc, &mut self.keys, blob)?;
+        Ok(())
+    }
+
+    /// Revokes a key by the SHA-1 of its blob. Fails only where memory runs out, and changes
+    /// nothing then.
+    pub fn add_sha1(&mut self, hash: &[u8; 20]) -> Result<(), AllocError>
+        ensures means { OnOk result (MeansMore self.old self.new (Sha1Entry hash.now ∷ [])) }
+        ensures orderly { IsOrderly self.old }
+        ensures refused { OnErr result (self.new ≡ self.old) }
+        ensures held { held self.new ≡ held self.old }
+        ensures stored { stored self.new ≤ stored self.old + 20 }
+        ensures sections { self.new.sections ≡ self.old.sections }
+    {
+        self.sha1s.insert(*hash)?;
+        Ok(())
+    }
+
+    /// Revokes a key by the SHA-256 of its blob. Fails only where memory runs out, and changes
+    /// nothing then.
+    pub fn add_sha256(&mut self, hash: &[u8; 32]) -> Result<(), AllocError>
+        ensures means { OnOk result (MeansMore self.old self.new (Sha256Entry hash.now ∷ [])) }
+        ensures orderly { IsOrderly self.old }
+        ensures refused { OnErr result (self.new ≡ self.old) }
+        ensures held { held self.new ≡ held self.old }
+        ensures stored { stored self.new ≤ stored self.old + 32 }
+        ensures sections { self.new.sections ≡ self.old.sections }
+    {
+        self.sha256s.insert(*hash)?;
+        Ok(())
+    }
+}
+
+// The bytes of an authority, and none for all authorities.
+pub(crate) fn bytes_or_none<'a>(authority: Option<&'a [u8]>) -> &'a [u8]
+    ensures { result.now ≡ authority_bytes authority.entry }
+{
+    match authority {
+        None => &[],
+        Some(bytes) => bytes,
+    }
+}

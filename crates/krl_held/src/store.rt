@@ -1,0 +1,145 @@
+//! What takes the entries of a list while it is read.
+
+ghost use Rattle.std.specs.Prelude.{◌≡◌, ◌+◌, ◌%◌, ◌<◌, ◌≤◌, ◌∷◌, [], ℕ, List, length, All};
+ghost use Rattle.std.specs.Prelude.{OnOk, false};
+ghost use Rattle.serial_set.specs.BitRuns.{IsInterval};
+ghost use Rattle.serial_set.specs.Near.{AreNear};
+ghost use Rattle.krl_held.specs.Authority.{authority_bytes, IsAuthority};
+ghost use Rattle.krl_held.specs.Changes.{run_entries};
+ghost use Rattle.krl_held.specs.Contents.{IsStoredWithin, held};
+ghost use Rattle.krl_held.specs.Entry.{IdEntry, KeyEntry, Sha1Entry, Sha256Entry};
+ghost use Rattle.krl_held.specs.Naming.{SerialOf};
+ghost use Rattle.krl_held.specs.Scope.{AreUnwanted, InScope, MeansMoreWithin, WithinScope};
+
+use crate::revocations::Revocations;
+use serial_set::{Span, Spans};
+use std::alloc::AllocError;
+
+/// What takes the entries of a list while it is read. Of the names in its scope it holds just those
+/// that some entry names. An addition fails only where memory runs out.
+pub trait Store: Drop {
+    ghost use Rattle.krl_held.specs.Contents.{Contents};
+    ghost use Rattle.krl_held.specs.Scope.{Scope};
+
+    // what is held
+    ghost contents: { Self → Contents };
+
+    // which names it answers for
+    ghost scope: { Self → Scope };
+
+    /// Whether some serial from `lo` to `hi` under this authority may be in scope.
+    fn wants(&self, authority: &[u8], lo: u64, hi: u64) -> bool
+        requires { lo ≤ hi }
+        ensures { result ≡ false → (s : ℕ) → lo ≤ s → s ≤ hi
+            → InScope (scope self.now) (SerialOf authority.now s) → ⊥ };
+
+    /// How many bytes at the front of some serial numbers, of eight bytes each, are of those that
+    /// are not in scope under this authority.
+    fn unwanted(&self, authority: &[u8], serials: &[u8]) -> usize
+        ensures within { result ≤ length serials.now }
+        ensures whole { result % 8 ≡ 0 }
+        ensures unwanted { AreUnwanted (scope self.now) authority.now serials.now result };
+
+    /// Takes serials under an authority, or under all where there is none: spans that lie near each
+    /// other.
+    fn put_serials(&mut self, authority: Option<&[u8]>, near: &[Span]) -> Result<(), AllocError>
+        requires some { 0 < length near.now }
+        requires intervals { All IsInterval near.now }
+        requires near { AreNear near.now }
+        requires authority { IsAuthority authority }
+        ensures means { OnOk result (MeansMoreWithin (scope self.old) (contents self.old)
+            (contents self.new) (run_entries (authority_bytes authority.entry) near.now)) }
+        ensures scope { scope self.new ≡ scope self.old }
+        ensures within { WithinScope (scope self.old) (contents self.old)
+            → WithinScope (scope self.new) (contents self.new) }
+        ensures held { held (contents self.new) ≤ held (contents self.old) + length near.now }
+        ensures stored { (n : ℕ)
+            → IsStoredWithin (authority_bytes authority.entry) (contents self.old) n
+            → IsStoredWithin (authority_bytes authority.entry) (contents self.new) n };
+
+    /// Takes a key ID under an authority, or under all where there is none.
+    fn put_id(&mut self, authority: Option<&[u8]>, id: &[u8]) -> Result<(), AllocError>
+        requires { IsAuthority authority }
+        ensures means { OnOk result (MeansMoreWithin (scope self.old) (contents self.old)
+            (contents self.new) (IdEntry (authority_bytes authority.entry) id.now ∷ [])) }
+        ensures scope { scope self.new ≡ scope self.old }
+        ensures within { WithinScope (scope self.old) (contents self.old)
+            → WithinScope (scope self.new) (contents self.new) }
+        ensures held { held (contents self.new) ≡ held (contents self.old) }
+        ensures stored { (n : ℕ)
+            → IsStoredWithin (authority_bytes authority.entry) (contents self.old) n
+            → IsStoredWithin (authority_bytes authority.entry) (contents self.new)
+            (n + length id.now) };
+
+    /// Takes a key by its blob.
+    fn put_key(&mut self, blob: &[u8]) -> Result<(), AllocError>
+        ensures means { OnOk result (MeansMoreWithin (scope self.old) (contents self.old)
+            (contents self.new) (KeyEntry blob.now ∷ [])) }
+        ensures scope { scope self.new ≡ scope self.old }
+        ensures within { WithinScope (scope self.old) (contents self.old)
+            → WithinScope (scope self.new) (contents self.new) }
+        ensures held { held (contents self.new) ≡ held (contents self.old) }
+        ensures stored { (authority : List ℕ) (n : ℕ)
+            → IsStoredWithin authority (contents self.old) n
+            → IsStoredWithin authority (contents self.new) (n + length blob.now) };
+
+    /// Takes a key by the SHA-1 of its blob.
+    fn put_sha1(&mut self, hash: &[u8; 20]) -> Result<(), AllocError>
+        ensures means { OnOk result (MeansMoreWithin (scope self.old) (contents self.old)
+            (contents self.new) (Sha1Entry hash.now ∷ [])) }
+        ensures scope { scope self.new ≡ scope self.old }
+        ensures within { WithinScope (scope self.old) (contents self.old)
+            → WithinScope (scope self.new) (contents self.new) }
+        ensures held { held (contents self.new) ≡ held (contents self.old) }
+        ensures stored { (authority : List ℕ) (n : ℕ)
+            → IsStoredWithin authority (contents self.old) n
+            → IsStoredWithin authority (contents self.new) (n + 20) };
+
+    /// Takes a key by the SHA-256 of its blob.
+    fn put_sha256(&mut self, hash: &[u8; 32]) -> Result<(), AllocError>
+        ensures means { OnOk result (MeansMoreWithin (scope self.old) (contents self.old)
+            (contents self.new) (Sha256Entry hash.now ∷ [])) }
+        ensures scope { scope self.new ≡ scope self.old }
+        ensures within { WithinScope (scope self.old) (contents self.old)
+            → WithinScope (scope self.new) (contents self.new) }
+        ensures held { held (contents self.new) ≡ held (contents self.old) }
+        ensures stored { (authority : List ℕ) (n : ℕ)
+            → IsStoredWithin authority (contents self.old) n
+            → IsStoredWithin authority (contents self.new) (n + 32) };
+}
+
+impl<S: Spans> Store for Revocations<S> {
+    ghost use Rattle.krl_held.specs.Scope.{all};
+
+    ghost contents = { λ revocations. revocations };
+
+    ghost scope = { λ _. all };
+
+    fn wants(&self, _authority: &[u8], _lo: u64, _hi: u64) -> bool {
+        true
+    }
+
+    fn unwanted(&self, _authority: &[u8], _serials: &[u8]) -> usize {
+        0
+    }
+
+    fn put_serials(&mut self, authority: Option<&[u8]>, near: &[Span]) -> Result<(), AllocError> {
+        self.add_near(authority, near)
+    }
+
+    fn put_id(&mut self, authority: Option<&[u8]>, id: &[u8]) -> Result<(), AllocError> {
+        self.add_id(authority, id)
+    }
+
+    fn put_key(&mut self, blob: &[u8]) -> Result<(), AllocError> {
+        self.add_key(blob)
+    }
+
+    fn put_sha1(&mut self, hash: &[u8; 20]) -> Result<(), AllocError> {
+        self.add_sha1(hash)
+    }
+
+    fn put_sha256(&mut self, hash: &[u8; 32]) -> Result<(), AllocError> {
+        self.add_sha256(hash)
+    }
+}
