@@ -17,8 +17,8 @@ fi
 export SOURCE_DATE_EPOCH
 version=$number+$(date -u -d "@$SOURCE_DATE_EPOCH" +%Y%m%d.%H%M%S).$commit
 
-# package ROOT SECTION DEPENDS: makes a package of the name of the folder ROOT, in the place of the one that was
-# there, and says where it is. Standard input is its description.
+# package ROOT SECTION DEPENDS FIELD: makes a package of the name of the folder ROOT, with one field more, in the
+# place of the one that was there, and says where it is. Standard input is its description.
 package() {
   name=$(basename "$1")
   documents=$1/usr/share/doc/$name
@@ -40,11 +40,11 @@ END
 Package: $name
 Version: $version
 Architecture: $architecture
-Multi-Arch: same
 Maintainer: $maintainer
 Section: $2
 Priority: optional
 Depends: $3
+$4
 Installed-Size: $(du -sk "$1/usr" | cut -f1)
 END
     printf 'Description: ' && cat
