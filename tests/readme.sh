@@ -22,7 +22,7 @@ ln -s "$program" tools/krl-keygen
 followed=0
 follows() {
   local got status text
-  text=$(recipe "$2" | sed -e "s|/etc/ssh|$room|g" -e "s|/root/|$PWD/root/|g" -e "s|/home/|$PWD/home/|g")
+  text=$(recipe "$2" | sed -e "s|/etc/ssh|$room|g" -e "s|~root/|$PWD/of_root/|g" -e "s|/home/|$PWD/home/|g")
   got=$(PATH=$PWD/tools:$PATH bash -c "$text" 2>&1; echo "status $?")
   judge "$1" "$(
     [ -n "$text" ] || echo '  the manual page has no such recipe'
@@ -150,14 +150,14 @@ judge 'git shows what changed' "$(differs 'the change' '+serial: 9' "$got")"
 # ---- all keys of a host, and the line of one
 
 "$program" -k -f revoked.krl alice.pub
-mkdir -p root/.ssh home/{a,b,c,d}/.ssh
-cat user-ca.pub >root/.ssh/authorized_keys
+mkdir -p of_root/.ssh home/{a,b,c,d}/.ssh
+cat user-ca.pub >of_root/.ssh/authorized_keys
 { printf '# mine\n\n' && cat host-ca.pub && printf '  \t\n# hers\n' && sed 's/^/no-pty /' alice.pub; } \
   >home/a/.ssh/authorized_keys
 { cat host-ca.pub && echo 'ssh-mldsa65 AAAA' && cat alice.pub; } >home/b/.ssh/authorized_keys
 cat alice.pub >home/d/.ssh/authorized_keys
 at=$PWD/home
-follows 'all keys of a host' 'for file in' 0 "$PWD/root/.ssh/authorized_keys (user-ca): ok
+follows 'all keys of a host' 'for file in' 0 "$PWD/of_root/.ssh/authorized_keys (user-ca): ok
 $at/a/.ssh/authorized_keys (host-ca): ok
 $at/a/.ssh/authorized_keys (alice): REVOKED
 $at/a/.ssh/authorized_keys: status 1
