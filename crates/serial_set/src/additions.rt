@@ -5,6 +5,7 @@ ghost use Rattle.serial_set.specs.BitRuns.{IsInterval};
 ghost use Rattle.serial_set.specs.Entry.{lo_of, hi_of, members_of, runs_of};
 ghost use Rattle.serial_set.specs.Near.{AddsSpans, AreNear};
 ghost use Rattle.serial_set.specs.News.{lo_or, hi_or, Has};
+ghost use Rattle.serial_set.specs.Places.{IsEntryFrom};
 ghost use Rattle.serial_set.specs.Span.{AddsSpan, Covers, IsRunsOf};
 ghost use Rattle.serial_set.specs.SpanPages.{entries_held};
 ghost use Rattle.serial_set.specs.Words.{BitCovers};
@@ -65,28 +66,14 @@ impl SpanPages {
             ⊎ BitCovers 64 (64 * window) bits s)) }
         ensures refused { OnErr result (entries_held self.new ≡ entries_held self.old) }
     {
-        if self.set_bits(window, bits) {
-            return Ok(());
-        }
-        self.join_bits(window, bits)
-    }
-
-    // The same, where the window has no word.
-    fn join_bits(&mut self, window: u64, bits: u64) -> Result<(), AllocError>
-        requires window { window < 2 ^ 58 }
-        requires serials { (s : ℕ) → BitCovers 64 (64 * window) bits s → 0 < s }
-        ensures runs { OnOk result (IsRunsOf (runs_of (entries_held self.new))
-            (λ s. Covers (runs_of (entries_held self.old)) s
-            ⊎ BitCovers 64 (64 * window) bits s)) }
-        ensures refused { OnErr result (entries_held self.new ≡ entries_held self.old) }
-    {
         let first = 64 * window;
-        let head = self.entry_at(first);
+        let met = self.entry_from(first);
+        let head = self.at(met, first);
         if holds(head, first + 63) {
             return Ok(());
         }
-        let tail = self.entry_at(first + 63);
-        let bits = bits | self.bits_in(window);
+        let tail = self.at(self.entry_on(met, first + 63), first + 63);
+        let bits = bits | self.bits_from(met, window);
         let news = news_of_bits(window, bits, head, tail);
         self.put(&news.few, news.lo, news.hi)
     }
@@ -99,40 +86,56 @@ impl SpanPages {
             (runs_of (entries_held self.new))) }
         ensures refused { OnErr result (entries_held self.new ≡ entries_held self.old) }
     {
-        let head = self.entry_at(lo);
+        let met = self.entry_from(lo);
+        let head = self.at(met, lo);
         if holds(head, hi) {
             return Ok(());
         }
-        let tail = self.entry_at(hi);
+        let tail = self.at(self.entry_on(met, hi), hi);
         let news = news_of_run(lo, hi, head, tail);
         self.put(&news.few, news.lo, news.hi)
     }
 
-    // The entry that has a number in its stretch.
-    fn entry_at(&self, number: u64) -> Option<Entry>
+    // The entry that has a number in its stretch. `met` is the first that ends there or past it.
+    fn at(&self, met: Option<Entry>, number: u64) -> Option<Entry>
+        requires { IsEntryFrom (entries_held self.now) number met }
         ensures { IsAt (entries_held self.now) number result }
     {
-        match self.entry_from(number) {
+        match met {
             Some(entry) if entry.lo() <= number => Some(entry),
             _ => None,
         }
     }
 
-    // The members in a window, as its bits.
-    fn bits_in(&self, window: u64) -> u64
-        requires { window < 2 ^ 58 }
+    // The first entry that ends at a number or past it. `met` is that of a lower number, and mostly
+    // of this one too.
+    fn entry_on(&self, met: Option<Entry>, number: u64) -> Option<Entry>
+        requires { (lower : ℕ) × ((lower ≤ number) × IsEntryFrom (entries_held self.now) lower met) }
+        ensures { IsEntryFrom (entries_held self.now) number result }
+    {
+        match met {
+            Some(entry) if entry.hi() < number => self.entry_from(number),
+            _ => met,
+        }
+    }
+
+    // The members in a window, as its bits. `met` is the first entry that ends in it or past it.
+    fn bits_from(&self, met: Option<Entry>, window: u64) -> u64
+        requires window { window < 2 ^ 58 }
+        requires met { IsEntryFrom (entries_held self.now) (64 * window) met }
         ensures { (s : ℕ) → 64 * window ≤ s → s < 64 * window + 64
             → BitCovers 64 (64 * window) result s
             ↔ Covers (members_of (entries_held self.now)) s }
     {
-        let mut bits = 0;
-        let mut at = 0;
-        while at < 64 {
-            let part = part_in(self.entry_from(64 * window + at), window, at);
-            bits |= part.bits;
-            at = part.at;
+        let mut found = part_in(met, window, 0);
+        while found.at < 64 {
+            let part = part_in(self.entry_from(64 * window + found.at), window, found.at);
+            found = WindowBits {
+                bits: found.bits | part.bits,
+                at: part.at,
+            };
         }
-        bits
+        found.bits
     }
 }
 

@@ -18,7 +18,6 @@ pub struct Entry {
 impl Entry {
     ghost use Rattle.serial_set.specs.Entry.{is_run, window_of, bits_of, members_in, lo_of, hi_of};
     ghost use Rattle.serial_set.specs.Members.{GoesOn, IsFirst};
-    ghost use Rattle.serial_set.specs.Places.{Widened};
     ghost use Rattle.serial_set.specs.Words.{singles};
     ghost use Rattle.serial_set.specs.Span.{Covers};
 
@@ -108,27 +107,6 @@ impl Entry {
             return self.a <= serial && serial <= self.b;
         }
         serial / 64 == self.window() && has_bit(self.bits(), serial % 64)
-    }
-
-    /// The word with more bits, if it is that of their window.
-    pub fn widened(self, window: u64, bits: u64) -> Option<Entry>
-        ensures { IfSome result (λ is. Widened self window bits is) }
-    {
-        if self.is_run() || self.window() != window {
-            return None;
-        }
-        Some(self.with(bits))
-    }
-
-    // A word with more bits of its window.
-    fn with(self, bits: u64) -> Entry
-        requires { self.b < self.a }
-        ensures more { (s : ℕ) → Covers (members_in result) s ↔ (Covers (members_in self) s
-            ⊎ BitCovers 64 (64 * window_of self) bits s) }
-        ensures lo { lo_of result ≡ lo_of self }
-        ensures hi { hi_of result ≡ hi_of self }
-    {
-        Entry::word(self.window(), self.bits() | bits)
     }
 
     /// The first member from a number on.
