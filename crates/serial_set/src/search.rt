@@ -25,16 +25,16 @@ pub fn count_ending_below<T: HasEnd>(items: &[T], number: u64) -> usize
     )
 }
 
-/// How many of them end at a number or below it.
+/// How many of them end at a number or below it. It goes over these, which a caller then takes out.
 pub fn count_ending_upto<T: HasEnd>(items: &[T], number: u64) -> usize
     requires { IsNonDecreasingBy T.end items.now }
     ensures within { result ≤ length items.now }
     ensures upto { All (λ t. T.end t ≤ number) (take result items.now) }
     ensures past { All (λ t. number < T.end t) (drop result items.now) }
 {
-    items.partition_point(
-        |item: &T| -> bool
-            ensures { result ≡ nat_le (T.end item.now) number }
-        { item.end() <= number },
-    )
+    let mut count = 0;
+    while count < items.len() && items[count].end() <= number {
+        count += 1;
+    }
+    count
 }

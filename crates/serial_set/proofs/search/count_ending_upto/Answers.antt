@@ -1,11 +1,13 @@
-use Rattle.std.proofs.Common.{rules}
-use Rattle.serial_set.proofs.Placed.{upto_parts}
+use Rattle.std.proofs.Common.{◌≡◌, ◌+◌, ◌<◌, get_or, length-drop, subst, sym, ap, arith, ◌∙◌}
+use Rattle.std.proofs.lemmas.List.{get_or-drop, get_or_default}
 use Rattle.serial_set.proofs.search.count_ending_upto.Goals as goal
 
-pub returns-clause-upto : goal.returns-clause-upto
-returns-clause-upto g c =
-    (upto_parts g.T.HasEnd.end c.args.number c.args.items.now c.partition_point.result c.partition_point.ensures.partitioned c.requires (λ a r f k. search rules)).0
-
-pub returns-clause-past : goal.returns-clause-past
-returns-clause-past g c =
-    (upto_parts g.T.HasEnd.end c.args.number c.args.items.now c.partition_point.result c.partition_point.ensures.partitioned c.requires (λ a r f k. search rules)).1
+pub returns-else-end-number-clause-past : goal.returns-else-end-number-clause-past
+returns-else-end-number-clause-past g c k d h =
+    let items = c.args.items.now in
+    let count = c.loop-count.count in
+    let long = length-drop count items in
+    let test = c.loop-count-test.true in
+    let here : c.index-items-count.result ≡ get_or items count d = c.index-items-count.is ∙ get_or_default items count c.index-items-count.result d test in
+    subst (λ x. c.args.number < g.T.HasEnd.end x) (sym (get_or-drop count items k d))
+    (omega (arith, c.requires count (count + k) d (omega arith) (omega arith), ap g.T.HasEnd.end here, c.end.ensures, c.if-end-number.false))
