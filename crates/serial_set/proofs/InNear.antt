@@ -1,7 +1,10 @@
 -- Spans that lie near each other, and the bits that they are.
-use Rattle.std.proofs.Common.{◌≡◌, ℕ, ◌+◌, ◌-◌, ◌*◌, ◌%◌, ◌^◌, ◌<◌, ◌≤◌, ◌⊎◌, List, [], ◌∷◌, ◌++◌, length, length-append, get_or, take, sym, subst, inl, inr, arith}
+use Rattle.std.proofs.Common.{◌≡◌, ℕ, ◌+◌, ◌-◌, ◌*◌, ◌%◌, ◌^◌, ◌<◌, ◌≤◌, ◌⊎◌, List, [], ◌∷◌, ◌++◌, length, length-append, get_or, take, ap, sym, subst, inl, inr, arith}
 use Rattle.std.specs.Prelude.{◌↔◌, bit_or}
+use Rattle.std.specs.Int.{bit_at}
 use Rattle.std.specs.List.{All}
+use Rattle.std.proofs.lemmas.Bool.{cases_lt}
+use Rattle.std.proofs.lemmas.Nat.Bits.{bit_at-zero}
 use Rattle.std.proofs.lemmas.List.{take_more}
 use Rattle.std.proofs.lemmas.List.Elements.{All-head, All-tail}
 use Rattle.serial_set.specs.declared.span.Span.{Span}
@@ -89,3 +92,16 @@ adds_next old mid new spans i d h before adds = (
         ]),
       ),
 )
+
+-- where there is a span, there is a number in it
+pub some_covered : (spans : List Span) → 0 < length spans → All IsInterval spans → (s : ℕ) × Covers spans s
+some_covered [] some h = absurd (omega arith)
+some_covered (x ∷ xs) some h = let first = All-head IsInterval x xs h in (x.lo, inl (omega arith, first.1))
+
+-- and a bit that stands for it
+pub bits_some : (base bits s : ℕ) → BitCovers 64 base bits s → 0 < bits
+bits_some base bits s n =
+    elim (cases_lt 0 bits) [
+      | inl some ↦ some
+      | inr none ↦ absurd (let zero : bits ≡ 0 = omega arith in omega (arith, n.2, ap (λ b. bit_at b (s - base)) zero, bit_at-zero (s - base)))
+    ]

@@ -1,18 +1,21 @@
 -- What entries have that an addition puts in place of others.
-use Rattle.std.proofs.Common.{◌≡◌, ℕ, ◌+◌, ◌-◌, ◌*◌, ◌/◌, ◌%◌, ◌^◌, ◌<◌, ◌≤◌, ◌⊎◌, List, [], ◌++◌, length, sym, subst, ap, inl, inr, arith, length-append}
-use Rattle.std.specs.Prelude.{false, Option, Some, None, IfSome, bit_or, ◌↔◌}
+use Rattle.std.proofs.Common.{◌≡◌, ℕ, ◌+◌, ◌-◌, ◌*◌, ◌%◌, ◌^◌, ◌<◌, ◌≤◌, ◌⊎◌, List, [], ◌++◌, length, sym, subst, ap, ◌∙◌, inl, inr, arith, length-append, w64}
+use Rattle.std.specs.Prelude.{true, false, Option, Some, None, IfSome, bit_or, ◌↔◌}
+use Rattle.std.specs.Int.{bit_at, trailing_zeros, trailing_ones}
 use Rattle.std.specs.List.{All}
 use Rattle.std.specs.Option.{option_to_list}
-use Rattle.std.proofs.lemmas.Bool.{cases_lt}
+use Rattle.std.proofs.lemmas.Bool.{le-leb}
 use Rattle.std.proofs.Math.Logic.{⊎_elim, ⊎_map}
 use Rattle.std.proofs.lemmas.List.Elements.{All-nil, All-cons, All-append}
+use Rattle.std.proofs.lemmas.Nat.Bits.{bit_at_ones, bit_at-trailing_ones, bit_at-trailing_zeros}
 use Rattle.serial_set.specs.declared.entry.Entry.{Entry}
 use Rattle.serial_set.specs.Span.{Covers}
 use Rattle.serial_set.specs.Words.{BitCovers, singles, singles_to, singles_from}
 use Rattle.serial_set.specs.Entry.{is_run, window_of, bits_of, members_in, lo_of, lo_by, hi_of, hi_by, EntriesFrom, members_of}
-use Rattle.serial_set.specs.Entries.{in_stretch, entries_join, has_append, has_left, has_right}
-use Rattle.serial_set.specs.News.{hi_or, Has, IsNews}
-use Rattle.serial_set.proofs.InEntry.{in_mask, in_or, in_word}
+use Rattle.serial_set.specs.Entries.{stretch, entries_join, has_append, has_left, has_right}
+use Rattle.serial_set.specs.News.{lo_or, hi_or, Has, IsNews}
+use Rattle.serial_set.specs.Tight.{IsFull, IsTight}
+use Rattle.serial_set.proofs.InEntry.{in_mask, in_or, in_run, in_word, word_ends}
 use Rattle.serial_set.proofs.InWords.{one_has}
 
 -- ---- words
@@ -108,49 +111,6 @@ three_lie few a b c lo at past hi e ha hb hc p q r between some =
       between = between;
     }
 
-pub opt_in : (o : Option Entry) (from to s : ℕ) → IfSome o (λ e. (from ≤ lo_of e) × (hi_of e < to)) → Has o s → (from ≤ s) × (s < to)
-opt_in None from to s h n = absurd n
-opt_in (Some e) from to s h n = let at = in_stretch e s n in (omega arith, omega arith)
-
--- ---- a run over several windows
-
-pub run_has : {A B C H T : Type 0} (lo hi at to s : ℕ) → (s < at → A ↔ (H ⊎ (lo ≤ s))) → (A → s < at) → B ↔ ((at ≤ s) × (s ≤ to)) → (to < s → C ↔ (T ⊎ (s ≤ hi))) → (C → to < s)
-    → (at ≤ s → s < lo → H) → (hi < s → s ≤ to → T) → (H → s < hi) → (T → lo < s) → at ≤ hi → lo ≤ to → (A ⊎ (B ⊎ C)) ↔ (H ⊎ (T ⊎ ((lo ≤ s) × (s ≤ hi))))
-run_has lo hi at to s fa a_at fb fc c_to front back h_hi t_lo at_hi lo_to = (
-  λ n. elim n [
-    | inl a ↦ (let below = a_at a in elim ((fa below).0 a) [
-      | inl h ↦ inl h
-      | inr k ↦ inr (inr (k, omega arith))
-    ])
-    | inr rest ↦ elim rest [
-      | inl b ↦ (let in_run = fb.0 b in elim (cases_lt s lo) [
-        | inl k ↦ inl (front in_run.0 k)
-        | inr from ↦ elim (cases_lt hi s) [
-          | inl k ↦ inr (inl (back k in_run.1))
-          | inr upto ↦ inr (inr (from, upto))
-        ]
-      ])
-      | inr c ↦ (let above = c_to c in elim ((fc above).0 c) [
-        | inl t ↦ inr (inl t)
-        | inr k ↦ inr (inr (omega arith, k))
-      ])
-    ]
-  ],
-  λ n. elim (cases_lt s at) [
-    | inl below ↦ inl ((fa below).1 (elim n [
-      | inl h ↦ inl h
-      | inr rest ↦ elim rest [ inl t ↦ inr (let k = t_lo t in omega arith) | inr mid ↦ inr mid.0 ]
-    ]))
-    | inr from ↦ elim (cases_lt to s) [
-      | inl above ↦ inr (inr ((fc above).1 (elim n [
-        | inl h ↦ inr (let k = h_hi h in omega arith)
-        | inr rest ↦ elim rest [ inl t ↦ inl t | inr mid ↦ inr mid.1 ]
-      ])))
-      | inr upto ↦ inr (inl (fb.1 (from, upto)))
-    ]
-  ],
-)
-
 -- one of three, each of them said in another way
 pub either_of : {X A B C P Q R : Type 0} → X ↔ (A ⊎ (B ⊎ C)) → A ↔ P → B ↔ Q → C ↔ R → X ↔ (P ⊎ (Q ⊎ R))
 either_of x a b c = (
@@ -158,40 +118,87 @@ either_of x a b c = (
   λ n. x.1 (⊎_map a.1 (⊎_map b.1 c.1) n),
 )
 
-pub same_as : {X Y Z : Type 0} → X ↔ Y → Y ↔ Z → X ↔ Z
-same_as p q = (λ x. q.0 (p.0 x), λ z. p.1 (q.1 z))
-
--- the rest of a run meets its word, or reaches it
-pub rests_meet : (lo hi at to : ℕ) (word : List Entry) → lo / 64 < hi / 64 → lo ≤ to → at ≤ hi → (at ≤ lo) ⊎ ((0 < length word) × (at ≡ 64 * (lo / 64) + 64)) → (hi ≤ to) ⊎ (to + 1 ≡ 64 * (hi / 64)) → at ≤ to + 1
-rests_meet lo hi at to word w a b front back =
-    elim front [
-      | inl k ↦ omega arith
-      | inr k ↦ elim back [ inl j ↦ omega arith | inr j ↦ (let e = k.1 in omega arith) ]
-    ]
-
-pub rest_some : (lo at to : ℕ) (few : List Entry) (a b c : Option Entry) → few ≡ option_to_list a ++ (option_to_list b ++ option_to_list c) → (at ≤ lo) ⊎ ((0 < length (option_to_list a)) × (at ≡ 64 * (lo / 64) + 64)) → lo ≤ to
-    → (at ≤ to → 0 < length (option_to_list b)) → 0 < length few
-rest_some lo at to few a b c e front upto some =
-    let sum = length-append (option_to_list a) (option_to_list b ++ option_to_list c) in
-    let rest = length-append (option_to_list b) (option_to_list c) in
-    let all = ap length e in
-    elim front [
-      | inl k ↦ (let one = some (omega arith) in omega arith)
-      | inr k ↦ (let one = k.0 in omega arith)
-    ]
-
 pub some_weaker : (o : Option Entry) (P Q : Entry → Type 0) → ((e : Entry) → P e → Q e) → IfSome o P → IfSome o Q
 some_weaker None P Q f h = tt
 some_weaker (Some e) P Q f h = f e h
 
-pub head_has : (o : Option Entry) (lo hi s : ℕ) → IfSome o (λ e. (lo_of e ≤ lo) × (lo ≤ hi_of e) × (hi_of e < hi)) → Has o s → s < hi
-head_has None lo hi s h n = absurd n
-head_has (Some e) lo hi s h n = let at = in_stretch e s n in let end = h.2 in omega (arith, at.1)
+-- ---- entries that are neither empty nor, as words, full
 
-pub tail_has : (o : Option Entry) (lo hi s : ℕ) → IfSome o (λ e. (lo < lo_of e) × (lo_of e ≤ hi) × (hi ≤ hi_of e)) → Has o s → lo < s
-tail_has None lo hi s h n = absurd n
-tail_has (Some e) lo hi s h n = let at = in_stretch e s n in let from = h.0 in omega (arith, at.0)
+-- a word with some of its bits set, and not all
+pub word_gap : (w : Entry) (base bits : ℕ) → members_in w ≡ singles 64 base bits → lo_of w ≡ base → hi_of w ≡ base + 63 → bits + 1 < 2 ^ 64 → IsFull w → ⊥
+word_gap w base bits is lo hi less full =
+    let i = trailing_ones w64 bits in
+    let gap = bit_at-trailing_ones w64 bits less in
+    let at = (in_singles w base bits (base + i) is).0 (full (base + i) (omega arith) (omega (arith, gap.0))) in
+    let place : base + i - base ≡ i = omega arith in
+    omega (arith, gap.1, at.2, ap (λ k. bit_at bits k) place)
 
-pub tail_end : (o : Option Entry) (lo hi : ℕ) → IfSome o (λ e. (lo < lo_of e) × (lo_of e ≤ hi) × (hi ≤ hi_of e)) → hi ≤ hi_or o hi
-tail_end None lo hi h = omega arith
-tail_end (Some e) lo hi h = h.2
+pub word_some : (base bits : ℕ) → 0 < bits → bits < 2 ^ 64 → (s : ℕ) × BitCovers 64 base bits s
+word_some base bits some fits =
+    let i = trailing_zeros w64 bits in
+    let set = bit_at-trailing_zeros w64 bits some fits in
+    let place : base + i - base ≡ i = omega arith in
+    (base + i, (omega arith, omega (arith, set.0), ap (λ k. bit_at bits k) place ∙ set.1))
+
+pub word_tight : (w : Entry) (base bits : ℕ) → members_in w ≡ singles 64 base bits → lo_of w ≡ base → hi_of w ≡ base + 63 → 0 < bits → bits + 1 < 2 ^ 64 → IsTight w
+word_tight w base bits is lo hi some less =
+    let bit = word_some base bits some (omega arith) in
+    (λ empty. empty bit.0 ((in_singles w base bits bit.0 is).1 bit.1), λ word full. word_gap w base bits is lo hi less full)
+
+pub run_tight : (e : Entry) → e.a ≤ e.b → IsTight e
+run_tight e h =
+    let run : is_run e ≡ true = le-leb e.a e.b h in
+    (λ empty. empty e.a ((in_run e e.a run).1 (omega arith, h)), λ word full. absurd cc)
+
+-- where all bits are set, all numbers are
+pub all_set : (base bits s : ℕ) → bits ≡ 2 ^ 64 - 1 → base ≤ s → s < base + 64 → BitCovers 64 base bits s
+all_set base bits s all from to = (from, to, ap (λ n. bit_at n (s - base)) all ∙ bit_at_ones 64 (s - base) (omega arith))
+
+opt_all : (P : Entry → Type 0) (o : Option Entry) → IfSome o P → All P (option_to_list o)
+opt_all P None h = All-nil P
+opt_all P (Some e) h = All-cons P e [] h (All-nil P)
+
+-- what holds of each of up to three entries holds of all
+pub three_all : (P : Entry → Type 0) (few : List Entry) (a b c : Option Entry) → few ≡ option_to_list a ++ (option_to_list b ++ option_to_list c)
+    → IfSome a P → IfSome b P → IfSome c P → All P few
+three_all P few a b c e ha hb hc =
+    subst (All P) (sym e)
+    (All-append P (option_to_list a) (option_to_list b ++ option_to_list c) (opt_all P a ha) (All-append P (option_to_list b) (option_to_list c) (opt_all P b hb) (opt_all P c hc)))
+
+-- the words at a run's ends lie beside the rest of the run
+pub front_lies : (w : Option Entry) (at : ℕ) → IfSome w (λ e. (hi_of e + 1 ≡ at) × (is_run e ≡ false) × IsTight e)
+    → IfSome w (λ e. (lo_or w at ≤ lo_of e) × (hi_of e < at)) × (lo_or w at ≤ at)
+front_lies None at h = (tt, omega arith)
+front_lies (Some e) at h = let whole = stretch e in let end = h.0 in ((omega arith, omega arith), omega arith)
+
+pub back_lies : (w : Option Entry) (at : ℕ) → IfSome w (λ e. (at + 1 ≡ lo_of e) × (is_run e ≡ false) × IsTight e)
+    → IfSome w (λ e. (at + 1 ≤ lo_of e) × (hi_of e < hi_or w at + 1)) × (at ≤ hi_or w at)
+back_lies None at h = (tt, omega arith)
+back_lies (Some e) at h = let whole = stretch e in let end = h.0 in ((omega arith, omega arith), omega arith)
+
+some_of : (a b c : Option Entry) (at to : ℕ) → lo_or a at ≤ hi_or c to → (at ≤ to → 0 < length (option_to_list b))
+    → 0 < length (option_to_list a) + (length (option_to_list b) + length (option_to_list c))
+some_of None b None at to h some = let one = some h in omega arith
+some_of (Some x) b c at to h some = omega arith
+some_of None b (Some y) at to h some = omega arith
+
+-- there is a word, or the rest has a number
+pub some_rest : (few : List Entry) (a b c : Option Entry) (at to : ℕ) → few ≡ option_to_list a ++ (option_to_list b ++ option_to_list c) → lo_or a at ≤ hi_or c to
+    → (at ≤ to → 0 < length (option_to_list b)) → 0 < length few
+some_rest few a b c at to e h some =
+    let sum = length-append (option_to_list a) (option_to_list b ++ option_to_list c) in
+    let rest = length-append (option_to_list b) (option_to_list c) in
+    let all = ap length e in
+    let one : 0 < length (option_to_list a) + (length (option_to_list b) + length (option_to_list c)) = some_of a b c at to h some in
+    omega arith
+
+-- a word that has all bits with some more
+pub all_with : (e : Entry) (bits more s : ℕ) → is_run e ≡ false → bits ≡ bits_of e → bit_or bits more ≡ 2 ^ 64 - 1 → lo_of e ≤ s → s ≤ hi_of e
+    → Covers (members_in e) s ⊎ BitCovers 64 (64 * window_of e) more s
+all_with e bits more s word b all from to =
+    let base = 64 * window_of e in
+    let ends = word_ends e word in
+    let begins = ends.0 in
+    let last = ends.1 in
+    ⊎_map (λ n. (in_word e s word).1 (subst (λ (k : ℕ). BitCovers 64 base k s) b n)) (λ n. n)
+    ((in_or base bits more s).0 (all_set base (bit_or bits more) s all (omega arith) (omega arith)))

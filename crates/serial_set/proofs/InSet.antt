@@ -12,13 +12,14 @@ use Rattle.serial_set.specs.Rising.{names_append}
 use Rattle.serial_set.specs.Least.{runs_least}
 use Rattle.serial_set.specs.Words.{BitCovers}
 use Rattle.serial_set.specs.Entry.{members_in, lo_of, hi_of, EntriesFrom, members_of, runs_of}
-use Rattle.serial_set.specs.Entries.{in_stretch, stretch, entries_back, has_append, has_left, has_right, none_below, has_from, Replaces, Keeps, replaced_order, replaced_runs}
+use Rattle.serial_set.specs.Entries.{in_stretch, stretch, entries_back, has_append, has_left, has_right, none_below, has_from, Replaces, Keeps, replaced_order, replaced_runs, runs_of_entries}
 use Rattle.serial_set.specs.News.{lo_or, hi_or, Has, IsNews}
 use Rattle.serial_set.specs.Additions.{IsAt}
 use Rattle.serial_set.specs.Places.{IsEntryFrom}
 use Rattle.serial_set.proofs.Flat.{all_left, all_right}
 use Rattle.serial_set.proofs.InEntries.{entries_each}
 use Rattle.serial_set.proofs.InEntry.{in_mask, in_or}
+use Rattle.serial_set.proofs.InNews.{all_set}
 use Rattle.serial_set.proofs.InWords.{members_part, members_own}
 
 -- ---- the entry at a number
@@ -27,7 +28,7 @@ begins_past : (a : ℕ) (xs : List Entry) (e : Entry) (ys : List Entry) → Entr
 begins_past a [] e ys r = r.0
 begins_past a (x ∷ xs) e ys r = let whole = stretch x in omega (arith, begins_past (hi_of x + 1) xs e ys r.1, r.0)
 
-ends_before : (a : ℕ) (xs : List Entry) (e : Entry) (ys : List Entry) → EntriesFrom a (xs ++ e ∷ ys) → All (λ x. hi_of x < lo_of e) xs
+pub ends_before : (a : ℕ) (xs : List Entry) (e : Entry) (ys : List Entry) → EntriesFrom a (xs ++ e ∷ ys) → All (λ x. hi_of x < lo_of e) xs
 ends_before a [] e ys r = All-nil (λ x. hi_of x < lo_of e)
 ends_before a (x ∷ xs) e ys r =
     All-cons (λ t. hi_of t < lo_of e) x xs (omega (arith, begins_past (hi_of x + 1) xs e ys r.1)) (ends_before (hi_of x + 1) xs e ys r.1)
@@ -144,6 +145,14 @@ fills_runs old from to news new Added order n f r =
     let after = replaced_order old from to news new r n.between order n.order (λ k d h. (let end = n.ends k d h in omega arith)) in
     replaced_runs old from to news new Added r (fills_keeps old from to news new Added r n f) order after
 
+-- where what is added are serials, so are the members of the news
+pub fills_serials : (old : List Entry) (from to : ℕ) (news : List Entry) (Added : ℕ → Type 0) → IsNews news from to → Fills old from to news Added → AreSerials (members_of old)
+    → ((s : ℕ) → Added s → (0 < s) × (s < 2 ^ 64)) → AreSerials (members_of news)
+fills_serials old from to news Added n f serials added = λ s m.
+    let a = has_from from news s n.order m in
+    let b = members_each (λ e. hi_of e ≤ to) (s ≤ to) news s (λ e h k. let at = in_stretch e s k in omega arith) n.ends m in
+    elim ((f.all s a b).0 m) [ inl o ↦ serials s o | inr k ↦ added s k ]
+
 -- ---- what is added fills
 
 low_of : (entries : List Entry) (n : ℕ) (o : Option Entry) → IsAt entries n o → All (λ e. (hi_of e < lo_or o n) ⊎ (lo_or o n ≤ lo_of e)) entries
@@ -151,35 +160,6 @@ low_of entries n o at = λ k d h. ⊎_map (λ x. x) (⊎_elim (λ y. y.0) (λ z.
 
 high_of : (entries : List Entry) (n : ℕ) (o : Option Entry) → IsAt entries n o → All (λ e. (hi_of e ≤ hi_or o n) ⊎ (hi_or o n < lo_of e)) entries
 high_of entries n o at = λ k d h. elim (at.apart k d h) [ inl x ↦ inl (let a = at.from in let b = at.to in omega arith) | inr rest ↦ ⊎_map (λ y. y.1) (λ z. z) rest ]
-
-pub run_fills : (old news : List Entry) (lo hi from to : ℕ) (head tail : Option Entry) → IsAt old lo head → IsAt old hi tail → lo ≤ hi → from ≡ lo_or head lo → to ≡ hi_or tail hi
-    → ((s : ℕ) → Covers (members_of news) s ↔ (Has head s ⊎ (Has tail s ⊎ ((lo ≤ s) × (s ≤ hi))))) → Fills old from to news (λ s. (lo ≤ s) × (s ≤ hi))
-run_fills old news lo hi from to head tail at end order e f m =
-    let begins = at.from in
-    let reach = at.to in
-    let starts = end.from in
-    let ends = end.to in
-    record {
-      low = subst (λ n. All (λ e. (hi_of e < n) ⊎ (n ≤ lo_of e)) old) (sym e) (low_of old lo head at);
-      high = subst (λ n. All (λ e. (hi_of e ≤ n) ⊎ (n < lo_of e)) old) (sym f) (high_of old hi tail end);
-      all = λ s a b. (
-        λ n. elim ((m s).0 n) [
-          | inl h ↦ inl (at.has s h)
-          | inr rest ↦ elim rest [ inl t ↦ inl (end.has s t) | inr k ↦ inr k ]
-        ],
-        λ n. (m s).1 (elim n [
-          | inl o ↦ elim (cases_lt s lo) [
-            | inl below ↦ inl (at.owns s (omega arith) (omega arith) o)
-            | inr since ↦ elim (cases_lt hi s) [
-              | inl above ↦ inr (inl (end.owns s (omega arith) (omega arith) o))
-              | inr upto ↦ inr (inr (since, upto))
-            ]
-          ]
-          | inr k ↦ inr (inr k)
-        ]),
-      );
-      inside = λ s k. (let a = k.0 in omega arith, let b = k.1 in omega arith);
-    }
 
 pub bits_fill : (old news : List Entry) (first from to bits more : ℕ) (head tail : Option Entry) → IsAt old first head → IsAt old (first + 63) tail → from ≡ lo_or head first → to ≡ hi_or tail (first + 63)
     → ((s : ℕ) → first ≤ s → s < first + 64 → BitCovers 64 first bits s ↔ (BitCovers 64 first more s ⊎ Covers (members_of old) s))
@@ -226,51 +206,12 @@ one_more old new lo hi adds =
 
 -- ---- what the calls ask
 
-at_member : (P : Entry → Type 0) (entries front : List Entry) (e : Entry) (back : List Entry) → entries ≡ front ++ e ∷ back → All P entries → P e
+pub at_member : (P : Entry → Type 0) (entries front : List Entry) (e : Entry) (back : List Entry) → entries ≡ front ++ e ∷ back → All P entries → P e
 at_member P entries front e back parts h = All-head P e back (all_right P front (e ∷ back) (subst (All P) parts h))
-
-pub head_ends : (lo hi : ℕ) (head : Option Entry) → lo / 64 < hi / 64 → lo ≤ hi_or head lo → lo_or head lo ≤ lo → IfSome head (λ e. (hi_of e < hi) ⊎ (hi_of e ≡ 64 * (lo_of e / 64) + 63)) → hi_or head lo < hi
-head_ends lo hi None w a b h = omega arith
-head_ends lo hi (Some e) w a b h = elim h [ inl x ↦ x | inr y ↦ omega arith ]
-
-pub tail_starts : (entries : List Entry) (lo hi : ℕ) (head tail : Option Entry) → IsAt entries lo head → IsAt entries hi tail → hi_or head lo < hi → IfSome tail (λ e. (lo < lo_of e) × (lo_of e ≤ hi) × (hi ≤ hi_of e))
-tail_starts entries lo hi head None at end h = tt
-tail_starts entries lo hi head (Some t) at end h =
-    let from = at.from in
-    let to = at.to in
-    let starts = end.from in
-    let ends = end.to in
-    let P : Entry → Type 0 = λ e. (hi_of e < lo_or head lo) ⊎ (((lo_or head lo ≤ lo_of e) × (hi_of e ≤ hi_or head lo)) ⊎ (hi_or head lo < lo_of e)) in
-    elim (at_member P entries end.stands.0 t end.stands.1.0 end.stands.1.1 at.apart) [
-      | inl x ↦ absurd (omega arith)
-      | inr rest ↦ elim rest [
-        | inl y ↦ absurd (omega (arith, y.1))
-        | inr z ↦ (omega arith, starts, ends)
-      ]
-    ]
 
 pub tail_reaches : (entries : List Entry) (hi : ℕ) (tail : Option Entry) → IsAt entries hi tail → IfSome tail (λ e. (lo_of e ≤ hi) × (hi ≤ hi_of e))
 tail_reaches entries hi None at = tt
 tail_reaches entries hi (Some t) at = (at.from, at.to)
-
-pub run_serials : (old : List Entry) (few : List Entry) (lo hi : ℕ) (head tail : Option Entry) → AreSerials (members_of old) → IsAt old lo head → IsAt old hi tail → 0 < lo → hi < 2 ^ 64
-    → ((s : ℕ) → Covers (members_of few) s ↔ (Has head s ⊎ (Has tail s ⊎ ((lo ≤ s) × (s ≤ hi))))) → AreSerials (members_of few)
-run_serials old few lo hi head tail serials at end some fits m = λ s n. elim ((m s).0 n) [
-  | inl h ↦ serials s (at.has s h)
-  | inr rest ↦ elim rest [ inl t ↦ serials s (end.has s t) | inr k ↦ (let a = k.0 in omega arith, let b = k.1 in omega arith) ]
-]
-
-pub bits_serials : (old : List Entry) (few : List Entry) (first bits more : ℕ) (head tail : Option Entry) → AreSerials (members_of old) → IsAt old first head → IsAt old (first + 63) tail → first + 63 < 2 ^ 64
-    → ((s : ℕ) → BitCovers 64 first more s → 0 < s)
-    → ((s : ℕ) → first ≤ s → s < first + 64 → BitCovers 64 first bits s ↔ (BitCovers 64 first more s ⊎ Covers (members_of old) s))
-    → ((s : ℕ) → Covers (members_of few) s ↔ ((Has head s × (s < first)) ⊎ (BitCovers 64 first bits s ⊎ (Has tail s × (first + 63 < s))))) → AreSerials (members_of few)
-bits_serials old few first bits more head tail serials at end fits some b m = λ s n. elim ((m s).0 n) [
-  | inl h ↦ serials s (at.has s h.0)
-  | inr rest ↦ elim rest [
-    | inl k ↦ elim ((b s k.0 k.1).0 k) [ inl new ↦ (some s new, omega (arith, new.1)) | inr o ↦ serials s o ]
-    | inr t ↦ serials s (end.has s t.0)
-  ]
-]
 
 -- bits that a window had, and more
 pub bits_both : (old : List Entry) (first was more s : ℕ) → BitCovers 64 first was s ↔ Covers (members_of old) s → BitCovers 64 first (bit_or more was) s ↔ (BitCovers 64 first more s ⊎ Covers (members_of old) s)
@@ -296,5 +237,24 @@ adds_mask old new lo hi mask w h e is = (
   λ s. (
     λ n. ⊎_map (λ o. o) (mask_has lo hi mask s w h e).0 ((is.1 s).0 n),
     λ n. (is.1 s).1 (⊎_map (λ o. o) (mask_has lo hi mask s w h e).1 n),
+  ),
+)
+
+-- where a window gets full, what is added is all of it that the set has not
+pub fills_window : (old : List Entry) (first was more s : ℕ) → bit_or more was ≡ 2 ^ 64 - 1 → ((t : ℕ) → first ≤ t → t < first + 64 → BitCovers 64 first was t ↔ Covers (members_of old) t)
+    → first ≤ s → s < first + 64 → BitCovers 64 first more s ⊎ Covers (members_of old) s
+fills_window old first was more s all has from to =
+    (bits_both old first was more s (has s from to)).0 (all_set first (bit_or more was) s all from to)
+
+pub adds_window : (old : List Entry) (new : List Span) (first was more : ℕ) → EntriesFrom 0 old → bit_or more was ≡ 2 ^ 64 - 1 → ((t : ℕ) → first ≤ t → t < first + 64 → BitCovers 64 first was t ↔ Covers (members_of old) t)
+    → AddsSpan (runs_of old) first (first + 63) new → IsRunsOf new (λ s. Covers (runs_of old) s ⊎ BitCovers 64 first more s)
+adds_window old new first was more order all has adds = (
+  adds.0,
+  λ s. (
+    λ n. elim ((adds.1 s).0 n) [
+      | inl o ↦ inl o
+      | inr k ↦ elim (fills_window old first was more s all has k.0 (let b = k.1 in omega arith)) [ inl y ↦ inr y | inr x ↦ inl (((runs_of_entries old order).1 s).1 x) ]
+    ],
+    λ n. (adds.1 s).1 (⊎_map (λ o. o) (λ k. (k.0, let b = k.1 in omega arith)) n),
   ),
 )

@@ -16,7 +16,9 @@ pub mod News
 pub mod Pages
 pub mod Places
 pub mod Rising
+pub mod Sides
 pub mod Span
 pub mod SpanPages
+pub mod Tight
 pub mod Walk
 pub mod Words

@@ -1,5 +1,5 @@
 //! Additions to a set of entries.
-ghost use Rattle.std.specs.Prelude.{◌≡◌, ◌+◌, ◌*◌, ◌/◌, ◌^◌, ◌<◌, ◌≤◌, ◌⊎◌, ◌↔◌, ℕ, false, All, IsTrue, IfSome, OnOk, OnErr};
+ghost use Rattle.std.specs.Prelude.{◌≡◌, ◌+◌, ◌*◌, ◌/◌, ◌%◌, ◌^◌, ◌<◌, ◌≤◌, ◌⊎◌, ◌↔◌, ℕ, false, All, IsTrue, IfSome, OnOk, OnErr};
 ghost use Rattle.serial_set.specs.Additions.{IsAt};
 ghost use Rattle.serial_set.specs.BitRuns.{IsInterval};
 ghost use Rattle.serial_set.specs.Entry.{lo_of, hi_of, members_of, runs_of};
@@ -60,6 +60,7 @@ impl SpanPages {
     // Adds the numbers of a window whose bits are set.
     fn add_bits(&mut self, window: u64, bits: u64) -> Result<(), AllocError>
         requires window { window < 2 ^ 58 }
+        requires some { 0 < bits }
         requires serials { (s : ℕ) → BitCovers 64 (64 * window) bits s → 0 < s }
         ensures runs { OnOk result (IsRunsOf (runs_of (entries_held self.new))
             (λ s. Covers (runs_of (entries_held self.old)) s
@@ -68,31 +69,36 @@ impl SpanPages {
     {
         let first = 64 * window;
         let met = self.entry_from(first);
-        let head = self.at(met, first);
-        if holds(head, first + 63) {
+        if holds(met, first, first + 63) {
             return Ok(());
         }
-        let tail = self.at(self.entry_on(met, first + 63), first + 63);
         let bits = bits | self.bits_from(met, window);
+        if bits == u64::MAX {
+            return self.add_run(first, first + 63);
+        }
+        let head = self.at(met, first);
+        let tail = self.at(self.entry_on(met, first + 63), first + 63);
         let news = news_of_bits(window, bits, head, tail);
         self.put(&news.few, news.lo, news.hi)
     }
 
-    // Adds the numbers from `lo` to `hi`, which lie in several windows.
+    // Adds the numbers from `lo` to `hi`, which are those of a window or lie in several.
     fn add_run(&mut self, lo: u64, hi: u64) -> Result<(), AllocError>
         requires from_one { 0 < lo }
-        requires windows { lo / 64 < hi / 64 }
+        requires ordered { lo ≤ hi }
+        requires windows { (lo / 64 < hi / 64) ⊎ ((lo % 64 ≡ 0) × (hi % 64 ≡ 63)) }
         ensures runs { OnOk result (AddsSpan (runs_of (entries_held self.old)) lo hi
             (runs_of (entries_held self.new))) }
         ensures refused { OnErr result (entries_held self.new ≡ entries_held self.old) }
     {
-        let met = self.entry_from(lo);
-        let head = self.at(met, lo);
-        if holds(head, hi) {
+        let met = self.entry_from(lo - 1);
+        if holds(met, lo, hi) {
             return Ok(());
         }
-        let tail = self.at(self.entry_on(met, hi), hi);
-        let news = news_of_run(lo, hi, head, tail);
+        let next = hi.saturating_add(1);
+        let front = self.front_of(met, lo);
+        let back = self.back_of(self.entry_on(met, next), hi);
+        let news = news_of_run(front, back);
         self.put(&news.few, news.lo, news.hi)
     }
 
@@ -139,14 +145,12 @@ impl SpanPages {
     }
 }
 
-// Whether an entry is a run that ends at a number or past it.
-fn holds(head: Option<Entry>, hi: u64) -> bool
-    ensures all { (from s : ℕ) → IsTrue result → lo_or head from ≤ s → s ≤ hi → Has head s }
-    ensures none { result ≡ false
-        → IfSome head (λ e. (hi_of e < hi) ⊎ (hi_of e ≡ 64 * (lo_of e / 64) + 63)) }
+// Whether an entry is a run that has all from one number to another.
+fn holds(entry: Option<Entry>, lo: u64, hi: u64) -> bool
+    ensures { IsTrue result → (s : ℕ) → lo ≤ s → s ≤ hi → Has entry s }
 {
-    match head {
-        Some(entry) => entry.is_run() && hi <= entry.hi(),
+    match entry {
+        Some(entry) => entry.is_run() && entry.lo() <= lo && hi <= entry.hi(),
         None => false,
     }
 }

@@ -1,5 +1,5 @@
 //! What a page holds: a run, or the members in one window of 64 serials.
-ghost use Rattle.std.specs.Prelude.{◌≡◌, ◌+◌, ◌-◌, ◌*◌, ◌^◌, ◌<◌, ◌≤◌, ◌∷◌, [], ℕ, ◌↔◌, ◌⊎◌, IfSome, IsTrue};
+ghost use Rattle.std.specs.Prelude.{◌≡◌, ◌+◌, ◌-◌, ◌*◌, ◌^◌, ◌<◌, ◌≤◌, ◌∷◌, [], ℕ, ◌↔◌, ◌⊎◌, IfSome, IsTrue, None, false};
 ghost use Rattle.std.specs.Int.{bit_at};
 ghost use Rattle.serial_set.specs.Words.{BitCovers};
 
@@ -18,6 +18,7 @@ pub struct Entry {
 impl Entry {
     ghost use Rattle.serial_set.specs.Entry.{is_run, window_of, bits_of, members_in, lo_of, hi_of};
     ghost use Rattle.serial_set.specs.Members.{GoesOn, IsFirst};
+    ghost use Rattle.serial_set.specs.Tight.{HasBits, IsTight};
     ghost use Rattle.serial_set.specs.Words.{singles};
     ghost use Rattle.serial_set.specs.Span.{Covers};
 
@@ -27,6 +28,7 @@ impl Entry {
         ensures members { members_in result ≡ record { lo = lo; hi = hi } ∷ [] }
         ensures lo { lo_of result ≡ lo }
         ensures hi { hi_of result ≡ hi }
+        ensures tight { IsTight result }
     {
         Entry { a: lo, b: hi }
     }
@@ -37,6 +39,7 @@ impl Entry {
         ensures members { members_in result ≡ singles 64 (64 * window) bits }
         ensures lo { lo_of result ≡ 64 * window }
         ensures hi { hi_of result ≡ 64 * window + 63 }
+        ensures word { is_run result ≡ false }
     {
         if bits < 1 << 63 {
             Entry {
@@ -107,6 +110,20 @@ impl Entry {
             return self.a <= serial && serial <= self.b;
         }
         serial / 64 == self.window() && has_bit(self.bits(), serial % 64)
+    }
+
+    /// The word with more bits of its window, unless that has all of them then.
+    pub fn with(self, bits: u64) -> Option<Entry>
+        requires { self.b < self.a }
+        ensures with { IfSome result (λ is. HasBits self bits is) }
+        ensures full { result ≡ None → (s : ℕ) → lo_of self ≤ s → s ≤ hi_of self
+            → (Covers (members_in self) s ⊎ BitCovers 64 (64 * window_of self) bits s) }
+    {
+        let bits = self.bits() | bits;
+        if bits == u64::MAX {
+            return None;
+        }
+        Some(Entry::word(self.window(), bits))
     }
 
     /// The first member from a number on.

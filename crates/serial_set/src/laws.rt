@@ -4,10 +4,12 @@ ghost use Rattle.serial_set.specs.declared.span.Span.{Span};
 ghost use Rattle.serial_set.specs.Span.{Covers, IsRuns, IsRunsOf, AreSerials};
 ghost use Rattle.serial_set.specs.BitRuns.{BitRuns, start, lowest, BitNames, big_endian, Feeds, FeedsAll, runs_after};
 ghost use Rattle.serial_set.specs.declared.entry.Entry.{Entry};
+ghost use Rattle.serial_set.specs.declared.span_pages.SpanPages.{SpanPages};
 ghost use Rattle.serial_set.specs.Entry.{EntriesFrom, hi_of, runs_of};
 ghost use Rattle.serial_set.specs.Entries.{Keeps, Replaces};
 ghost use Rattle.serial_set.specs.Joined.{Rises, joined};
 ghost use Rattle.serial_set.specs.Laws.{AfterFeeding};
+ghost use Rattle.serial_set.specs.SpanPages.{entries_held};
 
 /// A set has one list of runs.
 pub fn runs_are_unique()
@@ -34,6 +36,13 @@ pub fn replaced_adds()
         (r : Replaces old lo hi news new) → Keeps r.middle news (λ s. Covers more s) → lo ≤ hi
         → EntriesFrom 0 old → EntriesFrom lo news → All (λ e. hi_of e < hi + 1) news
         → IsRunsOf (runs_of new) (λ s. Covers (runs_of old) s ⊎ Covers more s) }
+{}
+
+/// A set holds at most three entries for each of its runs, whatever was added to it and in which
+/// order: so what it takes is bounded by its intervals.
+pub fn three_entries_a_run()
+    ensures { (set : SpanPages)
+        → length (entries_held set) ≤ 3 * length (runs_of (entries_held set)) }
 {}
 
 /// At each moment the pending run and all that were finished are the runs of the bits that are fed.

@@ -22,6 +22,7 @@ mod place;
 mod row;
 mod runs;
 mod search;
+mod sides;
 mod span;
 mod span_pages;
 mod span_vec;

@@ -6,6 +6,7 @@ ghost use Rattle.serial_set.specs.Few.{few_of};
 ghost use Rattle.serial_set.specs.Kept.{entries_kept};
 ghost use Rattle.serial_set.specs.Places.{IsEntryFrom, IsListFrom, order_prop};
 ghost use Rattle.serial_set.specs.Span.{AreSerials, Covers, IsRunsOf};
+ghost use Rattle.serial_set.specs.Tight.{AreTight, KeepsTight};
 ghost use Rattle.serial_set.specs.Words.{BitCovers};
 
 use crate::entry::Entry;
@@ -25,6 +26,7 @@ pub struct SpanPages {
     kept: Kept,
     ghost order: { EntriesFrom 0 (entries_kept kept) } by { order_prop 0 _ },
     ghost serials: { AreSerials (members_of (entries_kept kept)) },
+    ghost tight: { AreTight (entries_kept kept) },
 }
 
 // A list may have millions of sets.
@@ -76,6 +78,7 @@ impl SpanPages {
         requires ends { All (λ e. hi_of e ≤ hi) (few_of few.now) }
         requires serials { AreSerials (members_of (few_of few.now)) }
         requires whole { All (λ e. (hi_of e ≤ hi) ⊎ (hi < lo_of e)) (entries_held self.old) }
+        requires tight { KeepsTight (entries_held self.old) lo hi (few_of few.now) }
         ensures put { OnOk result
             (Replaces (entries_held self.old) lo hi (few_of few.now) (entries_held self.new)) }
         ensures refused { OnErr result (entries_held self.new ≡ entries_held self.old) }

@@ -1,9 +1,13 @@
 use Rattle.std.proofs.Common.{◌+◌, ◌*◌, arith, refl, bit_or}
+use Rattle.std.proofs.Common.{inl, inr}
+use Rattle.std.proofs.lemmas.Nat.{le_or_l, or_lt}
+use Rattle.serial_set.specs.Entry.{runs_of}
 use Rattle.serial_set.specs.Few.{few_of}
 use Rattle.serial_set.specs.Entries.{runs_of_entries}
 use Rattle.serial_set.specs.SpanPages.{entries_held}
 use Rattle.serial_set.specs.Words.{BitCovers}
-use Rattle.serial_set.proofs.InSet.{Fills, adds_none, bits_both, bits_fill, bits_serials, fills_runs, tail_reaches}
+use Rattle.serial_set.proofs.InSet.{Fills, adds_none, bits_both, bits_fill, fills_runs, fills_serials, fills_window, adds_window, from_has, tail_reaches}
+use Rattle.serial_set.proofs.InSides.{bits_keep_tight}
 use Rattle.serial_set.proofs.Refused.{on_ok}
 use Rattle.serial_set.proofs.span_pages.SpanPages.add_bits.Goals as goal
 
@@ -12,11 +16,10 @@ entry_on-requires c = (64 * c.args.window, (omega arith, c.entry_from-met.ensure
 
 pub returns-then-holds-clause-runs : goal.returns-then-holds-clause-runs
 returns-then-holds-clause-runs c =
-    let at = c.at-head.ensures in
-    let from = at.from in
+    let old = entries_held c.args.self.now in
     let first = 64 * c.args.window in
-    adds_none (entries_held c.args.self.now) (λ s. BitCovers 64 first c.args.bits s) (runs_of_entries _ c.args.self.now.order)
-    (λ s k. at.has s (c.if-holds.ensures.all first s refl (let a = k.0 in omega arith) (let b = k.1 in omega arith)))
+    adds_none old (λ s. BitCovers 64 first c.args.bits s) (runs_of_entries old c.args.self.now.order)
+    (λ s k. from_has old first s c.entry_from-met.result c.entry_from-met.ensures (c.if-holds.ensures refl s k.0 (let b = k.1 in omega arith)))
 
 pub news_of_bits-news-requires-clause-head : goal.news_of_bits-news-requires-clause-head
 news_of_bits-news-requires-clause-head c = tail_reaches (entries_held c.args.self.now) (64 * c.args.window) c.at-head.result c.at-head.ensures
@@ -31,8 +34,10 @@ put-requires-clause-serials c =
     let news = c.news_of_bits-news in
     let more = c.args.bits in
     let small = c.requires.window in
-    bits_serials old (few_of news.result.few) first (bit_or more c.bits_from.result) more c.at-head.result c.at-tail.result c.args.self.now.serials c.at-head.ensures c.at-tail.ensures (omega arith) c.requires.serials
-    (λ s a b. bits_both old first c.bits_from.result more s (c.bits_from.ensures s a b)) news.ensures.members
+    let fills = bits_fill old (few_of news.result.few) first news.result.lo news.result.hi (bit_or more c.bits_from.result) more c.at-head.result c.at-tail.result c.at-head.ensures c.at-tail.ensures news.ensures.lo news.ensures.hi
+    (λ s a b. bits_both old first c.bits_from.result more s (c.bits_from.ensures s a b)) news.ensures.members in
+    fills_serials old news.result.lo news.result.hi (few_of news.result.few) (λ s. BitCovers 64 first more s) news.ensures.lies fills c.args.self.now.serials
+    (λ s k. (c.requires.serials s k, omega (arith, k.1)))
 
 pub put-requires-clause-whole : goal.put-requires-clause-whole
 put-requires-clause-whole c =
@@ -52,3 +57,33 @@ returns-clause-runs c =
     let fills = bits_fill old (few_of news.result.few) first news.result.lo news.result.hi (bit_or more c.bits_from.result) more c.at-head.result c.at-tail.result c.at-head.ensures c.at-tail.ensures news.ensures.lo news.ensures.hi
     (λ s a b. bits_both old first c.bits_from.result more s (c.bits_from.ensures s a b)) news.ensures.members in
     on_ok c.put.result _ _ (λ r. fills_runs old news.result.lo news.result.hi (few_of news.result.few) (entries_held c.put.new.self) (λ s. BitCovers 64 first more s) c.args.self.now.order news.ensures.lies fills r) c.put.ensures.put
+
+pub add_run-requires-clause-from_one : goal.add_run-requires-clause-from_one
+add_run-requires-clause-from_one c =
+    let old = entries_held c.args.self.now in
+    let first = 64 * c.args.window in
+    elim (fills_window old first c.bits_from.result c.args.bits first c.if-bits.true c.bits_from.ensures (omega arith) (omega arith)) [
+      | inl new ↦ c.requires.serials first new
+      | inr was ↦ (c.args.self.now.serials first was).0
+    ]
+
+pub returns-then-bits-clause-runs : goal.returns-then-bits-clause-runs
+returns-then-bits-clause-runs c =
+    let old = entries_held c.args.self.now in
+    on_ok c.add_run.result _ _ (λ r. adds_window old (runs_of (entries_held c.add_run.new.self)) (64 * c.args.window) c.bits_from.result c.args.bits c.args.self.now.order c.if-bits.true c.bits_from.ensures r) c.add_run.ensures.runs
+
+pub news_of_bits-news-requires-clause-some : goal.news_of_bits-news-requires-clause-some
+news_of_bits-news-requires-clause-some c = let more = le_or_l c.args.bits c.bits_from.result in let some = c.requires.some in omega arith
+
+pub news_of_bits-news-requires-clause-gap : goal.news_of_bits-news-requires-clause-gap
+news_of_bits-news-requires-clause-gap c =
+    let fits = or_lt 64 c.args.bits c.bits_from.result (omega arith) (omega arith) in
+    let not_all = c.if-bits.false in
+    omega arith
+
+pub put-requires-clause-tight : goal.put-requires-clause-tight
+put-requires-clause-tight c =
+    let old = entries_held c.args.self.now in
+    let news = c.news_of_bits-news in
+    let keeps = bits_keep_tight old (few_of news.result.few) (64 * c.args.window) c.at-head.result c.at-tail.result c.args.self.now.tight c.at-head.ensures c.at-tail.ensures (omega arith) news.ensures.tight news.ensures.runs in
+    rw (news.ensures.lo, news.ensures.hi) keeps

@@ -2,7 +2,7 @@ use Rattle.std.proofs.Common.{arith}
 use Rattle.serial_set.specs.Entries.{runs_of_entries}
 use Rattle.serial_set.specs.Entry.{runs_of}
 use Rattle.serial_set.specs.SpanPages.{entries_held}
-use Rattle.serial_set.proofs.InNear.{adds_none, adds_only, covered_is_serial}
+use Rattle.serial_set.proofs.InNear.{adds_none, adds_only, bits_some, covered_is_serial, some_covered}
 use Rattle.serial_set.proofs.Refused.{on_ok}
 use Rattle.serial_set.proofs.span_pages.SpanPages.add_spans.Goals as goal
 
@@ -18,3 +18,9 @@ returns-in-empty-clause-runs c =
 pub returns-in-len1-clause-runs : goal.returns-in-len1-clause-runs
 returns-in-len1-clause-runs c =
     on_ok c.add_numbers.result _ _ (adds_only (runs_of (entries_held c.args.self.now)) c.args.near.now (runs_of (entries_held c.add_numbers.new.self)) (record { lo = 0; hi = 0 }) (omega arith)) c.add_numbers.ensures.runs
+
+pub add_bits-requires-clause-some : goal.add_bits-requires-clause-some
+add_bits-requires-clause-some c =
+    let long = c.in-len1-up.len_at_least in
+    let at = some_covered c.args.near.now (omega arith) c.requires.intervals in
+    bits_some _ c.bits_of.result at.0 ((c.bits_of.ensures at.0).1 at.1)

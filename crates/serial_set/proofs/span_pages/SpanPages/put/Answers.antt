@@ -5,6 +5,8 @@ use Rattle.serial_set.specs.Entries.{Replaces}
 use Rattle.serial_set.specs.Kept.{entries_kept}
 use Rattle.serial_set.specs.Few.{few_of}
 use Rattle.serial_set.proofs.InWords.{ok_or_err, replaced_rise, replaced_serials}
+use Rattle.serial_set.specs.Tight.{AreTight}
+use Rattle.serial_set.proofs.InTight.{replaced_tight}
 use Rattle.serial_set.proofs.span_pages.SpanPages.put.Goals as goal
 
 pub invariant_of-self : goal.invariant_of-self
@@ -21,9 +23,11 @@ invariant_of-self c =
           record {
             order = replaced_rise old few new lo hi r c.requires.order.0 set.order c.requires.order.1 c.requires.ends;
             serials = replaced_serials old few new lo hi r set.serials c.requires.serials;
+            tight = replaced_tight old few new lo hi r c.requires.order.1 c.requires.ends set.tight c.requires.tight;
           }
       | inr same ↦ record {
         order = subst (EntriesFrom 0) (sym same) set.order;
         serials = subst (λ l. AreSerials (members_of l)) (sym same) set.serials;
+        tight = subst AreTight (sym same) set.tight;
       }
     ]
