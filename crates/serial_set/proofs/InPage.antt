@@ -1,12 +1,12 @@
 -- A page: what one change puts in place of others.
-use Rattle.std.proofs.Common.{◌≡◌, ℕ, ◌+◌, ◌<◌, ◌≤◌, ◌⊎◌, List, ◌++◌, get_or, take, drop, sym, ap, subst, inl, inr, arith, ◌∙◌}
+use Rattle.std.proofs.Common.{◌≡◌, ℕ, ◌+◌, ◌<◌, ◌≤◌, ◌⊎◌, List, ◌∷◌, ◌++◌, length, get_or, set, suc, take, drop, sym, ap, subst, inl, inr, arith, ◌∙◌}
 use Rattle.std.specs.List.{All}
-use Rattle.std.proofs.lemmas.List.{take-append-drop, drop-drop}
+use Rattle.std.proofs.lemmas.List.{take-append-drop, drop-drop, drop_more, set_split}
 use Rattle.std.proofs.lemmas.List.Elements.{All-take, All-drop}
 use Rattle.serial_set.specs.declared.entry.Entry.{Entry}
 use Rattle.serial_set.specs.Entry.{lo_of, hi_of}
 use Rattle.serial_set.specs.Entries.{stretch, Replaces}
-use Rattle.serial_set.specs.Places.{CutTo}
+use Rattle.serial_set.specs.Places.{CutTo, Widened, WordWidened}
 
 -- of entries that a number does not cut, those that end past it begin past it
 past_whole : (number n : ℕ) (es : List Entry) → All (λ e. (hi_of e ≤ number) ⊎ (number < lo_of e)) es → All (λ e. number < hi_of e) (drop n es) → All (λ e. number < lo_of e) (drop n es)
@@ -42,3 +42,20 @@ cut_page es new number count whole upto past is = record {
   inside = λ k d q. let begin = stretch (get_or (take count es) k d) in let end = upto k d q in omega arith;
   above = subst (All (λ e. number < lo_of e)) (sym is) (past_whole number count es whole past);
 }
+
+-- one word in place of what it was
+pub widened_at : (xs : List Entry) (place window bits : ℕ) (was is : Entry) → place < length xs → was ≡ get_or xs place was → Widened was window bits is
+    → WordWidened xs window bits (set xs place is)
+widened_at xs place window bits was is within read word =
+    let front = take place xs in
+    let back = drop (place + 1) xs in
+    let one : suc place ≡ place + 1 = omega arith in
+    record {
+      front = front;
+      back = back;
+      was = was;
+      is = is;
+      were = sym (take-append-drop place xs) ∙ ap (λ l. front ++ l) (drop_more xs place was within ∙ ap (λ x. x ∷ back) (sym read));
+      are = set_split xs place is within ∙ ap (λ n. front ++ is ∷ drop n xs) one;
+      word = word;
+    }

@@ -11,9 +11,9 @@ use Rattle.serial_set.specs.declared.page.Page.{Page}
 use Rattle.serial_set.specs.Entry.{lo_of, hi_of, EntriesFrom}
 use Rattle.serial_set.specs.Entries.{stretch, entries_front, entries_back, Replaces}
 use Rattle.serial_set.specs.Pages.{entries_in, entries_of, IsSplit}
-use Rattle.serial_set.specs.Places.{end_of, IsListFrom, CutTo}
+use Rattle.serial_set.specs.Places.{end_of, IsListFrom, CutTo, WordWidened}
 use Rattle.serial_set.proofs.Placed.{rises_before}
-use Rattle.serial_set.proofs.Flat.{all_left, all_right, flat_cut, flat_drop, flat_at, part_at, first_of}
+use Rattle.serial_set.proofs.Flat.{all_left, all_right, flat_cut, flat_drop, flat_at, part_at, part_set, first_of}
 use Rattle.serial_set.proofs.InEntries.{entries_each, end_most, end_upto, end_back, entries_past}
 
 pub page_some : (p : Page) → 0 < length (entries_in p)
@@ -245,6 +245,21 @@ put_whole xs zs at new d few lo hi h order before after r kept k =
     flat_cut entries_in zs (at + 1) ∙ ap (λ l. l ++ left) here ∙ append_assoc front (entries_in new) left in
     let all = put_pages front page rest few (entries_in new) left lo hi (subst (EntriesFrom 0) was order) before after r k in
     subst (λ l. Replaces (entries_of xs) lo hi few l) (sym is) (subst (λ l. Replaces l lo hi few (front ++ (entries_in new ++ left))) (sym was) all)
+
+-- a word of one page that gets more bits
+pub widened_pages : (xs : List Page) (at window bits : ℕ) (x y : Page) → at < length xs → x ≡ get_or xs at x → WordWidened (entries_in x) window bits (entries_in y) → WordWidened (entries_of xs) window bits (entries_of (set xs at y))
+widened_pages xs at window bits x y h read k =
+    let front = entries_of (take at xs) in
+    let back = entries_of (drop (at + 1) xs) in
+    record {
+      front = front ++ k.front;
+      back = k.back ++ back;
+      was = k.was;
+      is = k.is;
+      were = part_at entries_in xs at x k.front (k.was ∷ k.back) h (ap entries_in (sym read) ∙ k.were);
+      are = part_set entries_in xs at y k.front (k.is ∷ k.back) h k.are;
+      word = k.word;
+    }
 
 -- ---- a page that is split
 

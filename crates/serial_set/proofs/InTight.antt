@@ -1,10 +1,10 @@
 -- Tight entries: at most three for each of their runs.
-use Rattle.std.proofs.Common.{◌≡◌, ℕ, ◌+◌, ◌-◌, ◌*◌, ◌<◌, ◌≤◌, ◌⊎◌, List, [], ◌∷◌, ◌++◌, length, get_or, sym, subst, inl, inr, arith, zero, suc}
+use Rattle.std.proofs.Common.{◌≡◌, ℕ, ◌+◌, ◌-◌, ◌*◌, ◌<◌, ◌≤◌, ◌⊎◌, List, [], ◌∷◌, ◌++◌, length, get_or, sym, subst, inl, inr, arith, zero, suc, ◌∙◌}
 use Rattle.std.specs.Prelude.{Bool, true}
 use Rattle.std.specs.List.{All}
-use Rattle.std.proofs.lemmas.Bool.{cases_lt}
+use Rattle.std.proofs.lemmas.Bool.{cases_lt, false≢true}
 use Rattle.std.proofs.lemmas.Bool.Decides.{eqb_tells, leb_tells}
-use Rattle.std.proofs.lemmas.List.Elements.{All-head, All-tail, All-append}
+use Rattle.std.proofs.lemmas.List.Elements.{All-head, All-tail, All-cons, All-append, All-weaker}
 use Rattle.serial_set.specs.declared.span.Span.{Span}
 use Rattle.serial_set.specs.declared.entry.Entry.{Entry}
 use Rattle.serial_set.specs.Span.{Covers, IsRuns}
@@ -13,6 +13,7 @@ use Rattle.serial_set.specs.Joined.{Rises, glued, glued_by, joined, joined_of}
 use Rattle.serial_set.specs.Words.{Rises-weaker}
 use Rattle.serial_set.specs.Entry.{is_run, members_in, lo_of, hi_of, EntriesFrom, members_of, runs_of}
 use Rattle.serial_set.specs.Entries.{in_stretch, stretch, entries_rise, has_from, Replaces}
+use Rattle.serial_set.specs.Places.{WordWidened}
 use Rattle.serial_set.specs.Tight.{IsFull, IsTight, Apart, AreTight, KeepsTight}
 use Rattle.serial_set.proofs.Flat.{all_left, all_right}
 use Rattle.serial_set.proofs.InEntries.{entries_each}
@@ -230,3 +231,22 @@ replaced_tight old news new lo hi r order ends t k =
     (λ i d h. in_back (Apart (get_or back i d)) (of_back i d h)) in
     let each = All-append IsTight front (news ++ back) (in_front IsTight t.0) (All-append IsTight news back k.tight.0 (in_back IsTight t.0)) in
     subst AreTight (sym r.are) (each, pairs)
+
+-- ---- a word with more bits
+
+swapped_all : (P : Entry → Type 0) (front back : List Entry) (was is : Entry) → P is → All P (front ++ was ∷ back) → All P (front ++ is ∷ back)
+swapped_all P front back was is p h =
+    All-append P front (is ∷ back) (all_left P front (was ∷ back) h) (All-cons P is back p (All-tail P was back (all_right P front (was ∷ back) h)))
+
+pub widened_tight : (old new : List Entry) (window bits : ℕ) → WordWidened old window bits new → AreTight old → AreTight new
+widened_tight old new window bits k tight =
+    let was = k.was in
+    let is = k.is in
+    let is_word = k.word.word in
+    let swapped : (P : Entry → Type 0) → P is → All P old → All P new =
+    λ P p h. subst (All P) (sym k.are) (swapped_all P k.front k.back was is p (subst (All P) k.were h)) in
+    let here : IsTight was = All-head IsTight was k.back (all_right IsTight k.front (was ∷ k.back) (subst (All IsTight) k.were tight.0)) in (
+      swapped IsTight (λ empty. here.0 (λ s m. empty s ((k.word.more s).1 (inl m))), λ word. k.word.gap) tight.0,
+      swapped (λ e. All (Apart e) new) (λ i d h run. absurd (false≢true (sym is_word ∙ run)))
+      (All-weaker (λ e. All (Apart e) old) (λ e. All (Apart e) new) (λ e. swapped (Apart e) (λ first run. absurd (false≢true (sym is_word ∙ run)))) old tight.1),
+    )

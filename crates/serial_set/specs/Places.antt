@@ -1,9 +1,12 @@
 -- Places in a list of entries: where a number stands, where the list ends, what is cut off.
-use Rattle.std.specs.Prelude.{◌≡◌, ℕ, ◌+◌, ◌≤◌, ◌<◌, List, [], ◌∷◌, ◌++◌}
-use Rattle.std.specs.Prelude.{Option, Some, None, All}
+use Rattle.std.specs.Prelude.{◌≡◌, ℕ, ◌+◌, ◌*◌, ◌≤◌, ◌<◌, ◌⊎◌, ◌↔◌, List, [], ◌∷◌, ◌++◌}
+use Rattle.std.specs.Prelude.{Option, Some, None, All, false}
 use Rattle.serial_set.specs.declared.entry.Entry.{Entry}
 use Rattle.std.specs.Coded.{Unit-prop, le_prop}
-use Rattle.serial_set.specs.Entry.{lo_of, hi_of, EntriesFrom}
+use Rattle.serial_set.specs.Entry.{is_run, members_in, lo_of, hi_of, EntriesFrom}
+use Rattle.serial_set.specs.Span.{Covers}
+use Rattle.serial_set.specs.Tight.{IsFull}
+use Rattle.serial_set.specs.Words.{BitCovers}
 
 -- where the last entry ends, and 0 where there is none
 abbrev pub end_of : List Entry → ℕ
@@ -41,3 +44,22 @@ order_prop least [] = Unit-prop
 order_prop least (e ∷ entries) =
     let rest : IsProp (EntriesFrom (hi_of e + 1) entries) = order_prop (hi_of e + 1) entries in
     hlevel (le_prop, rest)
+
+-- the word of a window gets more bits, and not all
+pub record Widened (was : Entry) (window bits : ℕ) (is : Entry) : Type 0 where
+  pub word : is_run is ≡ false
+  pub lo : (lo_of was ≡ 64 * window) × (lo_of is ≡ 64 * window)
+  pub hi : (hi_of was ≡ 64 * window + 63) × (hi_of is ≡ 64 * window + 63)
+  pub more : (s : ℕ) → Covers (members_in is) s
+      ↔ (Covers (members_in was) s ⊎ BitCovers 64 (64 * window) bits s)
+  pub gap : IsFull is → ⊥
+
+-- the word of a window gets more bits, and nothing else changes
+pub record WordWidened (old : List Entry) (window bits : ℕ) (new : List Entry) : Type 0 where
+  pub front : List Entry
+  pub back : List Entry
+  pub was : Entry
+  pub is : Entry
+  pub were : old ≡ front ++ was ∷ back
+  pub are : new ≡ front ++ is ∷ back
+  pub word : Widened was window bits is

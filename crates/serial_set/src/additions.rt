@@ -67,6 +67,22 @@ impl SpanPages {
             ⊎ BitCovers 64 (64 * window) bits s)) }
         ensures refused { OnErr result (entries_held self.new ≡ entries_held self.old) }
     {
+        if self.set_bits(window, bits) {
+            return Ok(());
+        }
+        self.join_bits(window, bits)
+    }
+
+    // The same, where the window has no word, or one that gets full.
+    fn join_bits(&mut self, window: u64, bits: u64) -> Result<(), AllocError>
+        requires window { window < 2 ^ 58 }
+        requires some { 0 < bits }
+        requires serials { (s : ℕ) → BitCovers 64 (64 * window) bits s → 0 < s }
+        ensures runs { OnOk result (IsRunsOf (runs_of (entries_held self.new))
+            (λ s. Covers (runs_of (entries_held self.old)) s
+            ⊎ BitCovers 64 (64 * window) bits s)) }
+        ensures refused { OnErr result (entries_held self.new ≡ entries_held self.old) }
+    {
         let first = 64 * window;
         let met = self.entry_from(first);
         if holds(met, first, first + 63) {

@@ -17,6 +17,7 @@ pub struct Entry {
 
 impl Entry {
     ghost use Rattle.serial_set.specs.Entry.{is_run, window_of, bits_of, members_in, lo_of, hi_of};
+    ghost use Rattle.serial_set.specs.Places.{Widened};
     ghost use Rattle.serial_set.specs.Members.{GoesOn, IsFirst};
     ghost use Rattle.serial_set.specs.Tight.{HasBits, IsTight};
     ghost use Rattle.serial_set.specs.Words.{singles};
@@ -110,6 +111,16 @@ impl Entry {
             return self.a <= serial && serial <= self.b;
         }
         serial / 64 == self.window() && has_bit(self.bits(), serial % 64)
+    }
+
+    /// The word with more bits, if it is that of their window and does not get full.
+    pub fn widened(self, window: u64, bits: u64) -> Option<Entry>
+        ensures { IfSome result (λ is. Widened self window bits is) }
+    {
+        if self.is_run() || self.window() != window {
+            return None;
+        }
+        self.with(bits)
     }
 
     /// The word with more bits of its window, unless that has all of them then.

@@ -5,11 +5,11 @@ ghost use Rattle.serial_set.specs.Entry.{lo_of, hi_of, EntriesFrom};
 ghost use Rattle.serial_set.specs.Entries.{Replaces};
 ghost use Rattle.serial_set.specs.Kept.{entries_kept};
 ghost use Rattle.serial_set.specs.Pages.{entries_of};
-ghost use Rattle.serial_set.specs.Places.{IsListFrom};
+ghost use Rattle.serial_set.specs.Places.{IsListFrom, WordWidened};
 
 use crate::entry::Entry;
 use crate::page::Page;
-use crate::pages::{list_in, put_entries, put_first};
+use crate::pages::{list_in, put_entries, put_first, set_bits_in};
 use std::alloc::{AllocError, Global};
 use std::slice;
 
@@ -51,6 +51,21 @@ impl Kept {
             Kept::Pages(pages) => put_entries(pages, few, lo, hi),
         }
     }
+
+    /// Sets bits in the word of their window, if there is one that does not get full. Else nothing
+    /// changes.
+    pub fn set_bits(&mut self, window: u64, bits: u64) -> bool
+        requires order { EntriesFrom 0 (entries_kept self.old) }
+        requires window { window < 2 ^ 58 }
+        ensures set { IsTrue result
+            → WordWidened (entries_kept self.old) window bits (entries_kept self.new) }
+        ensures same { result ≡ false → entries_kept self.new ≡ entries_kept self.old }
+    {
+        match self {
+            Kept::Only(only) => set_bits_of(only, window, bits),
+            Kept::Pages(pages) => set_bits_in(pages, window, bits),
+        }
+    }
 }
 
 // The only entry, if there is one and it ends at a number or past it.
@@ -64,6 +79,23 @@ fn list_of(only: &Option<Entry>, number: u64) -> &[Entry]
         return &[];
     }
     slice::from_ref(entry)
+}
+
+// Sets bits in the only entry, if there is one, and it is the word of their window and does not
+// get full.
+fn set_bits_of(only: &mut Option<Entry>, window: u64, bits: u64) -> bool
+    ensures set { IsTrue result
+        → WordWidened (option_to_list only.old) window bits (option_to_list only.new) }
+    ensures same { result ≡ false → only.new ≡ only.old }
+{
+    let Some(entry) = *only else {
+        return false;
+    };
+    let Some(wider) = entry.widened(window, bits) else {
+        return false;
+    };
+    *only = Some(wider);
+    true
 }
 
 // Puts entries that rise in place of the only one where that reaches into the numbers from `lo` to

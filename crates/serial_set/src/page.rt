@@ -3,7 +3,7 @@ ghost use Rattle.std.specs.Prelude.{◌≡◌, ◌+◌, ◌*◌, ◌^◌, ◌<�
 ghost use Rattle.std.specs.Vec.{vec_len};
 ghost use Rattle.serial_set.specs.Entry.{lo_of, hi_of, EntriesFrom};
 ghost use Rattle.serial_set.specs.Entries.{Replaces};
-ghost use Rattle.serial_set.specs.Places.{end_of, CutTo};
+ghost use Rattle.serial_set.specs.Places.{end_of, CutTo, WordWidened};
 
 use crate::entry::Entry;
 use crate::row::{insert_at, remove};
@@ -82,14 +82,8 @@ impl Page {
             ≡ take from (entries_in self.old) ++ (few.now ++ drop to (entries_in self.old))) }
         ensures refused { OnErr result (entries_in self.new ≡ entries_in self.old) }
     {
-        if few.len() == 1 {
-            if from == to {
-                return self.put_between(from, few[0]);
-            }
-            if from + 1 == to {
-                self.put_over(from, few[0]);
-                return Ok(());
-            }
+        if from == to && few.len() == 1 {
+            return self.put_between(from, few[0]);
         }
         self.put_more(from, to, few)
     }
@@ -106,16 +100,6 @@ impl Page {
         insert_at(&mut self.items, at, new)?;
         self.end = last_end(&self.items);
         Ok(())
-    }
-
-    // Puts one entry in place of another.
-    fn put_over(&mut self, at: usize, new: Entry)
-        requires place { at < length (entries_in self.old) }
-        ensures { entries_in self.new
-            ≡ take at (entries_in self.old) ++ new ∷ drop (at + 1) (entries_in self.old) }
-    {
-        self.items[at] = new;
-        self.end = last_end(&self.items);
     }
 
     // The same of any entries, in a vector of their own.
@@ -136,6 +120,26 @@ impl Page {
         let end = last_end(&items);
         *self = Page { items, end };
         Ok(())
+    }
+
+    /// Sets bits in the word of their window, if there is one that does not get full. Else nothing
+    /// changes.
+    pub fn set_bits(&mut self, window: u64, bits: u64) -> bool
+        requires order { EntriesFrom 0 (entries_in self.old) }
+        requires window { window < 2 ^ 58 }
+        ensures set { IsTrue result
+            → WordWidened (entries_in self.old) window bits (entries_in self.new) }
+        ensures same { result ≡ false → entries_in self.new ≡ entries_in self.old }
+    {
+        let at = count_ending_below(self.as_slice(), 64 * window);
+        if at >= self.items.len() {
+            return false;
+        }
+        let Some(wider) = self.items[at].widened(window, bits) else {
+            return false;
+        };
+        self.items[at] = wider;
+        true
     }
 
     /// Gives the back as a page of its own. Near an end it is cut where an entry at `lo` would

@@ -5,7 +5,7 @@ ghost use Rattle.serial_set.specs.declared.page.Page.{Page};
 ghost use Rattle.serial_set.specs.Entry.{lo_of, hi_of, EntriesFrom};
 ghost use Rattle.serial_set.specs.Entries.{Replaces};
 ghost use Rattle.serial_set.specs.Pages.{entries_in, entries_of, IsPlace, IsSplit};
-ghost use Rattle.serial_set.specs.Places.{end_of, CutTo, IsListFrom};
+ghost use Rattle.serial_set.specs.Places.{end_of, CutTo, IsListFrom, WordWidened};
 
 use crate::entry::Entry;
 use crate::page::Page;
@@ -198,4 +198,21 @@ fn side_for(pages: &[Page], at: usize, lo: u64) -> usize
     ensures { IsPlace pages.now lo result }
 {
     if pages[at].end() < lo { at + 1 } else { at }
+}
+
+/// Sets bits in the word of their window, if there is one that does not get full. Else nothing
+/// changes.
+pub fn set_bits_in(pages: &mut Vec<Page>, window: u64, bits: u64) -> bool
+    requires order { EntriesFrom 0 (entries_of pages.old.items) }
+    requires window { window < 2 ^ 58 }
+    ensures set { IsTrue result
+        → WordWidened (entries_of pages.old.items) window bits (entries_of pages.new.items) }
+    ensures same { result ≡ false
+        → entries_of pages.new.items ≡ entries_of pages.old.items }
+{
+    let at = pages_ending_below(pages, 64 * window);
+    if at >= pages.len() {
+        return false;
+    }
+    pages[at].set_bits(window, bits)
 }

@@ -85,6 +85,19 @@ impl SpanPages {
     {
         self.kept.put(self.alloc, few.as_slice(), lo, hi)
     }
+
+    // Sets bits in the word of their window, if there is one that does not get full. Else nothing
+    // changes.
+    pub(crate) fn set_bits(&mut self, window: u64, bits: u64) -> bool
+        requires window { window < 2 ^ 58 }
+        requires serials { (s : ℕ) → BitCovers 64 (64 * window) bits s → 0 < s }
+        ensures runs { IsTrue result → IsRunsOf (runs_of (entries_held self.new))
+            (λ s. Covers (runs_of (entries_held self.old)) s
+            ⊎ BitCovers 64 (64 * window) bits s) }
+        ensures same { result ≡ false → entries_held self.new ≡ entries_held self.old }
+    {
+        self.kept.set_bits(window, bits)
+    }
 }
 
 impl Spans for SpanPages {

@@ -9,7 +9,7 @@ use Rattle.serial_set.specs.Words.{BitCovers}
 use Rattle.serial_set.proofs.InSet.{Fills, adds_none, bits_both, bits_fill, fills_runs, fills_serials, fills_window, adds_window, from_has, tail_reaches}
 use Rattle.serial_set.proofs.InSides.{bits_keep_tight}
 use Rattle.serial_set.proofs.Refused.{on_ok}
-use Rattle.serial_set.proofs.span_pages.SpanPages.add_bits.Goals as goal
+use Rattle.serial_set.proofs.span_pages.SpanPages.join_bits.Goals as goal
 
 pub entry_on-requires : goal.entry_on-requires
 entry_on-requires c = (64 * c.args.window, (omega arith, c.entry_from-met.ensures))

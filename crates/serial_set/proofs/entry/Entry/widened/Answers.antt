@@ -1,0 +1,29 @@
+use Rattle.std.proofs.Common.{◌≡◌, ◌+◌, ◌*◌, refl, sym, ap, subst, ◌∙◌}
+use Rattle.std.specs.Prelude.{false, ◌↔◌, ◌⊎◌, ℕ}
+use Rattle.std.proofs.lemmas.Option.{IfSome_then}
+use Rattle.serial_set.specs.Span.{Covers}
+use Rattle.serial_set.specs.Words.{BitCovers}
+use Rattle.serial_set.specs.Entry.{is_run, window_of, lo_of, hi_of, members_in}
+use Rattle.serial_set.specs.Places.{Widened}
+use Rattle.serial_set.specs.Tight.{HasBits}
+use Rattle.serial_set.proofs.InEntry.{word_ends}
+use Rattle.serial_set.proofs.InNews.{with_bits}
+use Rattle.serial_set.proofs.entry.Entry.widened.Goals as goal
+
+pub returns : goal.returns
+returns c =
+    let entry = c.args.self in
+    let window = c.args.window in
+    let word : is_run entry ≡ false = sym c.is_run.ensures ∙ c.if-is_run.false in
+    let same : window_of entry ≡ window = sym c.window.ensures ∙ c.if-window.false in
+    let ends = word_ends entry word in
+    let lo : lo_of entry ≡ 64 * window = ends.0 ∙ ap (λ w. 64 * w) same in
+    let hi : hi_of entry ≡ 64 * window + 63 = ends.1 ∙ ap (λ w. 64 * w + 63) same in
+    IfSome_then c.with.result c.with.ensures.with (λ is has. record {
+      word = has.word;
+      lo = (lo, has.lo ∙ lo);
+      hi = (hi, has.hi ∙ hi);
+      more = subst (λ w. (s : ℕ) → Covers (members_in is) s ↔ (Covers (members_in entry) s ⊎ BitCovers 64 (64 * w) c.args.bits s)) same
+          (λ s. with_bits entry is _ c.args.bits s word has.members refl);
+      gap = has.gap;
+    })
