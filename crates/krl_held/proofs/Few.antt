@@ -1,8 +1,14 @@
 -- A few byte strings in order.
-use Rattle.std.proofs.Common.{◌≡◌, ℕ, zero, suc, ◌+◌, ◌≤◌, List, [], ◌∷◌, ◌++◌, length, take, drop, refl, sym, ap, subst, ◌∙◌, inl, inr, arith}
-use Rattle.std.specs.Prelude.{Some, insert}
-use Rattle.std.specs.List.{Contains, slice_get}
+use Rattle.std.proofs.Common.{◌≡◌, false, get_or, ℕ, zero, suc, ◌+◌, ◌<◌, ◌≤◌, List, [], ◌∷◌, ◌++◌, length, take, drop, refl, sym, ap, subst, ◌∙◌, inl, inr, arith}
+use Rattle.std.specs.Prelude.{Some, Result, Ok, Err, MatchOption, insert}
+use Rattle.std.specs.List.{AllByRecursion, AllWithin, Contains, HoldsAt, slice_get}
+use Rattle.std.specs.List.Sorted.{IsBinarySearchResult, IsSearchInRange, IsSortedBy}
+use Rattle.std.specs.Ordering.{is_lt, ordering_reverse}
+use Rattle.std.specs.Result.{result_err}
 use Rattle.std.specs.declared.cmp.Ordering.TheVariants.{Less}
+use Rattle.std.proofs.lemmas.Cmp.{nat_list_cmp_total}
+use Rattle.std.proofs.lemmas.List.Sorted.{searchable_from_sorted}
+use Rattle.std.proofs.lemmas.Map.Lookups.{exact_bytes}
 use Rattle.std.proofs.lemmas.List.{append-nil, take-append-drop, take_all}
 use Rattle.std.specs.Global.{Vec}
 use Rattle.krl_held.specs.Changes.{Puts}
@@ -10,26 +16,47 @@ use Rattle.krl_held.specs.Elements.{contains_cases, contains_here, contains_late
 use Rattle.krl_held.specs.Ids.{GoesTo}
 use Rattle.krl_held.specs.Inserting.{Inserts}
 use Rattle.krl_held.specs.Rising.{bytes_cmp, AllAbove, AllBelow, RisesBy}
-use Rattle.krl_held.proofs.Ordered.{AllAbove-earlier, before_trans, less_apart}
+use Rattle.krl_held.proofs.Ordered.{before_trans, less_apart, turned}
 use Rattle.krl_held.proofs.Members.{absent_parts}
 use Rattle.krl_held.specs.Texts.{bytes_of, texts_of}
 
 -- ---- where a byte string goes
 
-pub above_from : (texts : List (Vec ℕ)) (at : ℕ) (x : Vec ℕ) (bytes : List ℕ) → slice_get texts at ≡ Some x → bytes_cmp bytes x.items ≡ Less → RisesBy bytes_of texts → AllAbove bytes_of bytes (drop at texts)
-above_from [] at x bytes is less r = absurd (cc is)
-above_from (y ∷ ys) zero x bytes is less r =
-    let same : x ≡ y = cc is in
-    let first = subst (λ v. bytes_cmp bytes (bytes_of v) ≡ Less) same less in
-    (first, AllAbove-earlier bytes_of bytes (bytes_of y) ys first r.0)
-above_from (y ∷ ys) (suc at) x bytes is less r = above_from ys at x bytes is less r.1
+sorted : (texts : List (Vec ℕ)) → RisesBy bytes_of texts → IsSortedBy (λ a b. is_lt (bytes_cmp (bytes_of a) (bytes_of b))) texts
+sorted [] r k d low h = absurd (omega arith)
+sorted (x ∷ []) r k d low h = absurd (omega arith)
+sorted (x ∷ (y ∷ ys)) r zero d low h = ap is_lt (nat_list_cmp_total.antisymm (bytes_of y) (bytes_of x) ∙ ap ordering_reverse r.0.0)
+sorted (x ∷ (y ∷ ys)) r (suc k) d low h =
+    subst (λ n. is_lt (bytes_cmp (bytes_of (get_or (x ∷ (y ∷ ys)) n d)) (bytes_of (get_or (y ∷ ys) k d))) ≡ false) {x = suc (k + 1)} (omega arith) (sorted (y ∷ ys) r.1 k d (omega arith) (omega arith))
 
-pub contained : (texts : List (Vec ℕ)) (at : ℕ) (x : Vec ℕ) → slice_get texts at ≡ Some x → Contains (texts_of texts) x.items
-contained [] at x is = absurd (cc is)
-contained (y ∷ ys) zero x is =
-    let same : y ≡ x = cc is in
-    subst (λ v. Contains (bytes_of y ∷ texts_of ys) (bytes_of v)) same (contains_here (bytes_of y) (texts_of ys))
-contained (y ∷ ys) (suc at) x is = contains_later (bytes_of y) x.items (texts_of ys) (contained ys at x is)
+contained : (texts : List (Vec ℕ)) (at : ℕ) (id : List ℕ) → at < length texts → HoldsAt (λ t. bytes_of t ≡ id) texts at → Contains (texts_of texts) id
+contained [] at id h same = absurd (omega arith)
+contained (x ∷ xs) zero id h same = subst (Contains (bytes_of x ∷ texts_of xs)) (same x) (contains_here (bytes_of x) (texts_of xs))
+contained (x ∷ xs) (suc at) id h same = contains_later (bytes_of x) id (texts_of xs) (contained xs at id (omega arith) same)
+
+module _ {X : Type 0} (P : X → Type 0) where
+  all_before : (xs : List X) (at : ℕ) → at ≤ length xs → AllWithin P xs 0 at → AllByRecursion P (take at xs)
+  all_before xs zero h all = tt
+  all_before [] (suc at) h all = absurd (omega arith)
+  all_before (x ∷ xs) (suc at) h all = (all 0 x (omega arith) (omega arith), all_before xs at (omega arith) (λ k d low lt. all (suc k) d (omega arith) (omega arith)))
+
+  all_after : (xs : List X) (at : ℕ) → AllWithin P xs at (length xs) → AllByRecursion P (drop at xs)
+  all_after [] zero all = tt
+  all_after [] (suc at) all = tt
+  all_after (x ∷ xs) zero all = (all 0 x (omega arith) (omega arith), all_after xs zero (λ k d low lt. all (suc k) d (omega arith) (omega arith)))
+  all_after (x ∷ xs) (suc at) all = all_after xs at (λ k d low lt. all (suc k) d (omega arith) (omega arith))
+
+-- a binary search ends at the byte string, or where it goes
+pub searched : (texts : List (Vec ℕ)) (id : List ℕ) (r : Result ℕ ℕ) → RisesBy bytes_of texts → IsSearchInRange r (length texts) → IsBinarySearchResult (λ t. bytes_cmp (bytes_of t) id) texts r
+    → MatchOption (result_err r) (Contains (texts_of texts) id) (λ at. GoesTo at id texts)
+searched texts id (Ok at) rise within equal = contained texts at id within (λ d. exact_bytes _ id (equal d))
+searched texts id (Err at) rise within parted =
+    let parts = parted (searchable_from_sorted nat_list_cmp_total bytes_of texts id (sorted texts rise)) in
+    record {
+      within = within;
+      below = all_before (λ t. bytes_cmp (bytes_of t) id ≡ Less) texts at within parts.0;
+      above = all_after (λ t. bytes_cmp id (bytes_of t) ≡ Less) texts at (λ k d low lt. turned _ id (parts.1 k d low lt));
+    }
 
 pub not_there : (at : ℕ) (bytes : List ℕ) (texts : List (Vec ℕ)) → GoesTo at bytes texts → Contains (texts_of texts) bytes → ⊥
 not_there at bytes texts g there =

@@ -13,7 +13,7 @@ use std::collections::BTreeSet;
 use std::marker::Model;
 
 // The most key IDs that lie in one vector. A set takes more memory for as many.
-const FEW: usize = 32;
+const FEW: usize = 256;
 
 // A few key IDs in order, or a set of more.
 #[derive(Drop)]
@@ -115,15 +115,12 @@ fn place_in(few: &[Vec<u8>], id: &[u8]) -> Option<usize>
     ensures { MatchOption result (Contains (texts_of few.now) id.now)
         (λ at. GoesTo at id.now few.now) }
 {
-    let mut at = 0;
-    while at < few.len() {
-        match compare(few[at].as_slice(), id) {
-            Ordering::Less => at += 1,
-            Ordering::Equal => return None,
-            Ordering::Greater => return Some(at),
-        }
-    }
-    Some(at)
+    few.binary_search_by(
+        |text: &Vec<u8>| -> Ordering
+            ensures { result ≡ bytes_cmp text.now.items id.entry.now }
+        { compare(text.as_slice(), id) },
+    )
+    .err()
 }
 
 // Puts a key ID into the vector at its place, if it is not there.
@@ -136,7 +133,19 @@ fn put_few(alloc: Global, few: &mut Vec<Vec<u8>>, id: &[u8]) -> Result<(), Alloc
     let Some(at) = place_in(few.as_slice(), id) else {
         return Ok(());
     };
+    grow(few)?;
     few.insert(at, Vec::from_slice(alloc, id)?)?;
+    Ok(())
+}
+
+// Makes room for some more where there is none, a quarter of what there is: such vectors are many,
+// and room in each of them is memory.
+fn grow(few: &mut Vec<Vec<u8>>) -> Result<(), AllocError>
+    ensures { few.new.items ≡ few.old.items }
+{
+    if few.len() == few.capacity() {
+        few.reserve_exact((few.len() / 4).max(4))?;
+    }
     Ok(())
 }
 

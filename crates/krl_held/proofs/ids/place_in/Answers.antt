@@ -1,25 +1,12 @@
-use Rattle.std.proofs.Common.{length, refl, sym, ap, subst, ◌∙◌}
-use Rattle.std.specs.List.{Contains}
-use Rattle.std.proofs.lemmas.Map.Lookups.{exact_bytes}
-use Rattle.std.proofs.lemmas.Option.{slice_get_read}
-use Rattle.krl_held.specs.Texts.{texts_of}
+use Rattle.std.proofs.Common.{rules}
+use Rattle.std.proofs.lemmas.Fn.{always_returns_same}
 use Rattle.krl_held.specs.Rising.{bytes_cmp}
-use Rattle.krl_held.proofs.Few.{above_from, contained}
-use Rattle.krl_held.proofs.Ordered.{turned}
+use Rattle.krl_held.specs.Texts.{bytes_of}
+use Rattle.krl_held.proofs.Few.{searched}
 use Rattle.krl_held.proofs.ids.place_in.Goals as goal
 
-pub returns-in-Equal : goal.returns-in-Equal
-returns-in-Equal c =
-    let few = c.args.few.now in
-    let x = c.index-few-at.result in
-    let is = slice_get_read few (length few) c.loop-at.at x refl c.loop-at-test.true c.index-few-at.is in
-    let same = exact_bytes x.items c.args.id.now (ap (λ b. bytes_cmp b c.args.id.now) (sym c.as_slice.ensures.value) ∙ sym c.compare.ensures ∙ c.in-Equal.is) in
-    subst (Contains (texts_of few)) same (contained few c.loop-at.at x is)
-
-pub returns-in-Greater : goal.returns-in-Greater
-returns-in-Greater c =
-    let few = c.args.few.now in
-    let x = c.index-few-at.result in
-    let is = slice_get_read few (length few) c.loop-at.at x refl c.loop-at-test.true c.index-few-at.is in
-    let after = turned x.items c.args.id.now (ap (λ b. bytes_cmp b c.args.id.now) (sym c.as_slice.ensures.value) ∙ sym c.compare.ensures ∙ c.in-Greater.is) in
-    record { within = c.loop-at.invariant.within; below = c.loop-at.invariant.below; above = above_from few c.loop-at.at x c.args.id.now is after c.requires }
+pub returns : goal.returns
+returns c =
+    let ends = c.binary_search_by.ensures in
+    rw c.err.ensures.value (searched c.args.few.now c.args.id.now c.binary_search_by.result c.requires ends.bound
+    (ends.position (λ text. bytes_cmp (bytes_of text) c.args.id.now) (always_returns_same _ _ _ (λ a r f k. search rules))))

@@ -1,4 +1,4 @@
-use Rattle.std.proofs.Common.{sym, subst, inr}
+use Rattle.std.proofs.Common.{ap, sym, subst, inr, ◌∙◌}
 use Rattle.std.specs.Prelude.{insert}
 use Rattle.krl_held.specs.Changes.{Puts}
 use Rattle.krl_held.specs.Ids.{GoesTo}
@@ -13,7 +13,8 @@ returns-clause-rise c =
     let few = c.args.few.now.items in
     let x = c.in_ok-from_slice.field-0 in
     let goes = subst (λ b. GoesTo c.in-Some.at b few) (sym c.in_ok-from_slice.ensures.items) (subst (GoesTo c.in-Some.at c.args.id.now) c.as_slice.ensures.value c.in-Some.ensures) in
-    subst (RisesBy bytes_of) (sym c.in_ok-insert.ensures.items) (inserts_rise bytes_of few x (insert few c.in-Some.at x) c.requires (inserted c.in-Some.at x few goes))
+    let made = c.in_ok-insert.ensures.items ∙ ap (λ l. insert l c.in-Some.at x) c.grow.ensures in
+    subst (RisesBy bytes_of) (sym made) (inserts_rise bytes_of few x (insert few c.in-Some.at x) c.requires (inserted c.in-Some.at x few goes))
 
 pub returns-clause-ok : goal.returns-clause-ok
 returns-clause-ok c =
@@ -21,5 +22,6 @@ returns-clause-ok c =
     let x = c.in_ok-from_slice.field-0 in
     let goes = subst (λ b. GoesTo c.in-Some.at b few) (sym c.in_ok-from_slice.ensures.items) (subst (GoesTo c.in-Some.at c.args.id.now) c.as_slice.ensures.value c.in-Some.ensures) in
     let new = insert few c.in-Some.at x in
-    subst (λ l. Puts (texts_of few) c.args.id.now (texts_of l)) (sym c.in_ok-insert.ensures.items)
+    let made = c.in_ok-insert.ensures.items ∙ ap (λ l. insert l c.in-Some.at x) c.grow.ensures in
+    subst (λ l. Puts (texts_of few) c.args.id.now (texts_of l)) (sym made)
     (subst (λ b. Puts (texts_of few) b (texts_of new)) c.in_ok-from_slice.ensures.items (inr (inserts_map (λ b. b) bytes_of few x new (inserted c.in-Some.at x few goes))))
