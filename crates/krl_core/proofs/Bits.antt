@@ -17,7 +17,7 @@ use Rattle.krl_held.specs.Naming.{NamesSame, SerialOf}
 use Rattle.krl_held.specs.Contents.{Contents, held}
 use Rattle.krl_held.specs.Scope.{MeansWithin, Scope}
 use Rattle.krl_held.specs.Changes.{run_entries}
-use Rattle.krl_core.specs.Keeping.{Keeping, IsKept, AddsEntries, Adds, InStep, KeepsBits, KeepsField, Closes, held_with_open, open_run, StaysWithin}
+use Rattle.krl_core.specs.Keeping.{Keeping, IsKept, AddsEntries, Adds, InStep, KeepsBits, KeepsField, Closes, held_with_open, open_run, GrowsWithin, StaysWithin}
 use Rattle.ssh_wire.specs.Wire.{number_of}
 use Rattle.krl_core.specs.declared.place.Place.TheVariants as places
 use Rattle.krl_core.specs.declared.place.bitmap.BitmapPlace.TheVariants as bitmaps
@@ -28,7 +28,7 @@ use Rattle.krl_held.proofs.Same.{same_serials, same_append, same_refl, same_is, 
 use Rattle.krl_held.proofs.Runs.{run_entries-name, run_entries-serials}
 use Rattle.std.proofs.Math.Logic.Iff as Iff
 use Rattle.krl_held.proofs.BothWays.{iff_both, iff_none, iff_or, iff_swap}
-use Rattle.krl_core.proofs.Keeping.{open_entries, stored_same, stored_then}
+use Rattle.krl_core.proofs.Keeping.{grows_one, open_entries, stored_same, stored_then}
 use Rattle.krl_held.specs.Elements.{all_append}
 
 -- ---- runs by the numbers in them
@@ -134,16 +134,18 @@ bits_close old mid new last_one byte last finished on fed contents scope authori
       goes_on = λ off. absurd (cc (on, off));
     }
 
--- A byte was fed (which makes at most four runs more), and of the runs that it finished some were added.
-pub fed_few : (old mid new : Keeping) (byte : ℕ) (finished : List Span) → Feeds old.bitmap byte mid.bitmap finished
+-- A byte was fed (which makes at most four runs more), and of the runs that it finished some were added. What came
+-- after that added none.
+pub fed_grows : (old mid new last : Keeping) (byte : ℕ) (finished : List Span) → Feeds old.bitmap byte mid.bitmap finished
     → mid ≡ record old { bitmap = mid.bitmap } → held_with_open new ≤ held_with_open mid + length finished → StaysWithin mid new
-    → (held_with_open new ≤ held_with_open old + 4) × StaysWithin old new
-fed_few old mid new byte finished fed rest more stored =
+    → held_with_open last ≤ held_with_open new → StaysWithin new last → GrowsWithin 1 old last
+fed_grows old mid new last byte finished fed rest more stored less after =
     let contents = ap (λ (k : Keeping). k.contents) rest in
-    let authority = ap (λ (k : Keeping). k.authority) rest in
-    let scope = ap (λ (k : Keeping). k.scope) rest in
     let same : held mid.contents ≡ held old.contents = ap held contents in
-    (omega (arith, fed.four_more, more, same, length-append (option_to_list mid.bitmap.pending) (reverse finished), length-reverse finished), stored_then old mid new (stored_same old mid contents authority scope) stored)
+    let small : held_with_open last ≤ held_with_open old + 4 =
+    omega (arith, fed.four_more, more, less, same, length-append (option_to_list mid.bitmap.pending) (reverse finished), length-reverse finished) in
+    let all = stored_then mid new last stored after in
+    grows_one old last 4 small (omega arith) (stored_then old mid last (stored_same old mid contents (ap (λ (k : Keeping). k.authority) rest) (ap (λ (k : Keeping). k.scope) rest)) all)
 
 -- ---- a byte that passes its judgement shows no fault
 

@@ -3,8 +3,7 @@
 ghost use Rattle.std.specs.Prelude.{◌≡◌, ◌+◌, ◌%◌, ◌^◌, ◌<◌, ◌≤◌, ◌∷◌, [], ℕ, List, None, OnErr};
 ghost use Rattle.std.specs.Prelude.{OnOk, false};
 ghost use Rattle.std.specs.Prelude.{length, All};
-ghost use Rattle.serial_set.specs.BitRuns.{Feeds, IsInterval};
-ghost use Rattle.serial_set.specs.Finished.{finished_of};
+ghost use Rattle.serial_set.specs.BitRuns.{IsInterval};
 ghost use Rattle.serial_set.specs.Near.{AreNear};
 ghost use Rattle.krl_held.specs.Contents.{nothing};
 ghost use Rattle.krl_held.specs.Authority.{IsAuthority, authority_bytes};
@@ -25,7 +24,7 @@ use crate::place::{
     BitmapPlace, CertificatesPlace, HeaderPlace, ItemKind, ListPlace, Place, SerialsPlace,
 };
 use krl_held::{Findings, Revocations, Store, byte_of, u64_of};
-use serial_set::{BitRuns, Finished, Span, Spans, count_near};
+use serial_set::{BitRuns, Span, Spans, count_near};
 use ssh_wire::Bytes;
 use std::alloc::{AllocError, Global};
 use std::marker::Model;
@@ -236,22 +235,9 @@ impl<T: Store> Keeper<T> {
         ensures kept { OnOk result (KeepsBits byte last self.old self.new) }
         ensures grows { GrowsWithin 1 self.old self.new }
     {
-        let finished = self.feed(byte);
+        let finished = self.bitmap.take(byte);
         self.add_spans(finished.as_slice())?;
         if last { self.close() } else { Ok(()) }
-    }
-
-    // Feeds the bitmap a byte that it does not refuse.
-    fn feed(&mut self, byte: u8) -> Finished
-        requires { TakesByte self.old.bitmap byte }
-        ensures fed { Feeds self.old.bitmap byte self.new.bitmap (finished_of result) }
-        ensures runs { All IsInterval (finished_of result) }
-        ensures rest { self.new ≡ record self.old { bitmap = self.new.bitmap } }
-    {
-        match self.bitmap.feed(byte) {
-            Ok(finished) => finished,
-            Err(_) => unreachable!(),
-        }
     }
 
     // Most bytes finish spans in one window alone, which one change adds.

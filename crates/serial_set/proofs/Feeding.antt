@@ -129,6 +129,13 @@ no_past before None byte e free passes =
     free Wraps (rw e ((rw e at negative), passes))
 no_past before (Some old) byte e free passes = free old (rw e refl)
 
+-- the serials of a byte without a fault
+pub byte_fits : (before : BitRuns) (byte : ℕ) → ((e : BitFault) → HasFault before byte e → ⊥) → (s : ℕ) → BitNames (before.offset + 8 * (before.bytes_left - 1)) byte s → s < 2 ^ 64
+byte_fits before byte free s n = elim (cases_lt s (2 ^ 64)) [
+  | inl below ↦ below
+  | inr past ↦ absurd (no_past before before.fault byte refl free (s, (past, n)))
+]
+
 fed_same : (n m a b i j : ℕ) (p : Option Span) (y z : List Span) → n ≡ m → a ≡ b → i ≡ j → y ≡ z → Fed n a i p y → Fed m b j p z
 fed_same n m a b i j p y z e f g h fed =
     subst (λ l. Fed m b j p l) h (subst (λ k. Fed m b k p y) g (subst (λ k. Fed m k i p y) f (subst (λ k. Fed k a i p y) e fed)))
@@ -140,10 +147,7 @@ fed_step before byte after finished number count z h step fed =
     let bytes_left = step.one_less in
     let low : lowest before ≡ lowest after + 8 = omega arith in
     let base : lowest after ≡ before.offset + 8 * (before.bytes_left - 1) = omega arith in
-    let fits : (s : ℕ) → BitNames (lowest after) byte s → s < 2 ^ 64 = λ s n. elim (cases_lt s (2 ^ 64)) [
-      | inl below ↦ below
-      | inr past ↦ absurd (no_past before before.fault byte refl step.no_fault (s, (past, subst (λ k. BitNames k byte s) base n)))
-    ] in
+    let fits : (s : ℕ) → BitNames (lowest after) byte s → s < 2 ^ 64 = λ s n. byte_fits before byte step.no_fault s (subst (λ k. BitNames k byte s) base n) in
     (fed_more (lowest after) number count byte before.pending after.pending finished z h (subst (λ k. Fed k number count before.pending z) low fed) step.runs step.goes_on step.ends fits step.four_more, same)
 
 fed_all : (before : BitRuns) (bytes : List ℕ) (after : BitRuns) (finished : List Span) (number count : ℕ) (z : List Span) → All (λ b. b < 256) bytes → FeedsAll before bytes after finished → Fed (lowest before) number count before.pending z
