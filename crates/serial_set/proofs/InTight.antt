@@ -248,5 +248,5 @@ widened_tight old new window bits k tight =
     let here : IsTight was = All-head IsTight was k.back (all_right IsTight k.front (was ∷ k.back) (subst (All IsTight) k.were tight.0)) in (
       swapped IsTight (λ empty. here.0 (λ s m. empty s ((k.word.more s).1 (inl m))), λ word. k.word.gap) tight.0,
       swapped (λ e. All (Apart e) new) (λ i d h run. absurd (false≢true (sym is_word ∙ run)))
-      (All-weaker (λ e. All (Apart e) old) (λ e. All (Apart e) new) (λ e. swapped (Apart e) (λ first run. absurd (false≢true (sym is_word ∙ run)))) old tight.1),
+          (All-weaker (λ e. All (Apart e) old) (λ e. All (Apart e) new) (λ e. swapped (Apart e) (λ first run. absurd (false≢true (sym is_word ∙ run)))) old tight.1),
     )

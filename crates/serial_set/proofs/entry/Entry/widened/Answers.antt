@@ -4,8 +4,6 @@ use Rattle.std.proofs.lemmas.Option.{IfSome_then}
 use Rattle.serial_set.specs.Span.{Covers}
 use Rattle.serial_set.specs.Words.{BitCovers}
 use Rattle.serial_set.specs.Entry.{is_run, window_of, lo_of, hi_of, members_in}
-use Rattle.serial_set.specs.Places.{Widened}
-use Rattle.serial_set.specs.Tight.{HasBits}
 use Rattle.serial_set.proofs.InEntry.{word_ends}
 use Rattle.serial_set.proofs.InNews.{with_bits}
 use Rattle.serial_set.proofs.entry.Entry.widened.Goals as goal
