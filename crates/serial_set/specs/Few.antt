@@ -1,8 +1,7 @@
 -- At most three entries.
-use Rattle.std.specs.Prelude.{List, take}
+use Rattle.std.specs.Prelude.{List}
+use Rattle.arrayvec.specs.ArrayVec.{ArrayVec}
 use Rattle.serial_set.specs.declared.entry.Entry.{Entry}
-use Rattle.serial_set.specs.declared.few.Few.{Few}
 
--- the first `count` of the three entries
-abbrev pub few_of : Few → List Entry
-few_of f = take f.count f.entries
+abbrev pub few_of : ArrayVec Entry → List Entry
+few_of few = few.items

@@ -221,3 +221,9 @@ fn run_in(window: u64, lo: u64, hi: u64) -> u64
     }
     mask(lo.saturating_sub(first), (hi - first).min(63))
 }
+
+impl Default for Entry {
+    fn default() -> Entry {
+        Entry::run(0, 0)
+    }
+}

@@ -9,10 +9,10 @@ ghost use Rattle.serial_set.specs.Tight.{IsTight};
 ghost use Rattle.serial_set.specs.Words.{BitCovers};
 
 use crate::entry::Entry;
-use crate::few::Few;
+use crate::few::{Few, few_entries};
 
 /// Entries that rise, and the numbers from `lo` to `hi`, in which they lie.
-#[derive(Clone, Copy)]
+#[derive(Drop)]
 pub struct News {
     pub few: Few,
     pub lo: u64,
@@ -46,7 +46,7 @@ pub fn news_of_run(front: Side, back: Side) -> News
 {
     let run = run_between(front.at, back.at);
     News {
-        few: Few::of(front.word, run, back.word),
+        few: few_entries(front.word, run, back.word),
         lo: lo_or(front.word, front.at),
         hi: hi_or(back.word, back.at),
     }
@@ -77,7 +77,7 @@ pub fn news_of_bits(window: u64, bits: u64, head: Option<Entry>, tail: Option<En
     let first = 64 * window;
     let word = Entry::word(window, bits);
     News {
-        few: Few::of(before(head, first), Some(word), after(tail, first + 63)),
+        few: few_entries(before(head, first), Some(word), after(tail, first + 63)),
         lo: lo_or(head, first),
         hi: hi_or(tail, first + 63),
     }

@@ -19,7 +19,7 @@ invariant_of-self c =
     let hi = c.args.hi in
     elim (ok_or_err c.put.result _ _ c.put.ensures.put c.put.ensures.refused) [
       | inl put ↦
-          let r = subst (λ l. Replaces old lo hi l new) c.as_slice.ensures.entries put in
+          let r = subst (λ l. Replaces old lo hi l new) c.as_slice.ensures.value put in
           record {
             order = replaced_rise old few new lo hi r c.requires.order.0 set.order c.requires.order.1 c.requires.ends;
             serials = replaced_serials old few new lo hi r set.serials c.requires.serials;
