@@ -1,4 +1,5 @@
 pub mod FileFault
+pub mod SpecCause
 pub mod Named
 pub mod Stop
 pub mod Keys

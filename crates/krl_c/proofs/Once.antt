@@ -1,6 +1,6 @@
 -- One answer for one question, but for want of memory.
 use Rattle.std.proofs.Common.{◌≡◌, ◌⊎◌, inl, inr, ℕ, ℤ, List, Result, Ok, Err, sym, ap, subst, ◌∙◌}
-use Rattle.ssh_subject.specs.Subject.{Subject}
+use Rattle.krl_types.specs.Subject.{Subject}
 use Rattle.ssh_cert.specs.declared.subject_fault.SubjectFault.{SubjectFault}
 use Rattle.ssh_cert.specs.SubjectReading.{IsSubject, IsSubjectFault}
 use Rattle.ssh_key.specs.KeyLine.{IsKeyLine}

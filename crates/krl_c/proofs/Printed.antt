@@ -11,9 +11,9 @@ use Rattle.ssh_cert.specs.declared.fault.CertFault.{CertFault}
 use Rattle.ssh_cert.specs.declared.fault.CertFault.TheVariants as certs
 use Rattle.ssh_cert.specs.declared.subject_fault.SubjectFault.{SubjectFault}
 use Rattle.ssh_cert.specs.declared.subject_fault.SubjectFault.TheVariants as subjects
-use Rattle.krl_fault.specs.KrlFault.{fault_text}
-use Rattle.krl_fault.specs.declared.krl_fault.KrlFault.{KrlFault}
-use Rattle.krl_fault.specs.declared.krl_fault.KrlFault.TheVariants as lists
+use Rattle.krl_types.specs.KrlFault.{fault_text}
+use Rattle.krl_types.specs.declared.krl_fault.KrlFault.{KrlFault}
+use Rattle.krl_types.specs.declared.krl_fault.KrlFault.TheVariants as lists
 use Rattle.krl_c.specs.Number.{line_number, list_number, subject_number}
 use Rattle.krl_c.specs.Words.{words}
 

@@ -3,7 +3,7 @@ use Rattle.std.specs.Prelude.{◌≡◌, ℕ, ℤ, Bool, true, false, List, Some
 use Rattle.krl_held.specs.Contents.{Contents, Means, nothing}
 use Rattle.krl_held.specs.Entry.{Entry}
 use Rattle.krl_core.specs.Front.{IsFirstFault}
-use Rattle.krl_fault.specs.declared.krl_fault.KrlFault.{KrlFault}
+use Rattle.krl_types.specs.declared.krl_fault.KrlFault.{KrlFault}
 use Rattle.krl_c.specs.Answer.{IsListOf}
 use Rattle.krl_c.specs.Number.{fine, list_number, no_memory}
 use Rattle.krl_c.specs.declared.kept.Kept.{Kept}

@@ -8,8 +8,8 @@ use Rattle.ssh_key.specs.declared.fault.KeyFault.TheVariants as keys
 use Rattle.ssh_key.specs.declared.line_fault.LineFault.TheVariants as lines
 use Rattle.ssh_cert.specs.CertFault.{cert_fault_text}
 use Rattle.ssh_cert.specs.declared.fault.CertFault.TheVariants as certs
-use Rattle.krl_fault.specs.KrlFault.{fault_text}
-use Rattle.krl_fault.specs.declared.krl_fault.KrlFault.TheVariants as lists
+use Rattle.krl_types.specs.KrlFault.{fault_text}
+use Rattle.krl_types.specs.declared.krl_fault.KrlFault.TheVariants as lists
 
 -- by the number of a list's fault
 abbrev pub list_words : ℕ → Option (List ℕ)

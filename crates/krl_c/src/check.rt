@@ -1,7 +1,7 @@
 //! Asking a list about a blob while it passes: no more of it is held than was asked.
 
 ghost use Rattle.std.specs.Prelude.{◌≡◌, ◌⊎◌, ◌↔◌, List, IfOk, IfErr, IsTrue, OnOk};
-ghost use Rattle.krl_fault.specs.declared.krl_fault.KrlFault.TheVariants.{NoMemory};
+ghost use Rattle.krl_types.specs.declared.krl_fault.KrlFault.TheVariants.{NoMemory};
 ghost use Rattle.krl_held.specs.Entry.{Entry};
 ghost use Rattle.krl_core.specs.Front.{IsFirstFault};
 ghost use Rattle.krl_held.specs.Revoked.{Revoked};

@@ -1,7 +1,7 @@
 //! Asking about a blob what is held of a list.
 
 ghost use Rattle.std.specs.Prelude.{◌≡◌, ◌⊎◌, List, IfOk, IfErr};
-ghost use Rattle.krl_fault.specs.declared.krl_fault.KrlFault.TheVariants.{NoMemory};
+ghost use Rattle.krl_types.specs.declared.krl_fault.KrlFault.TheVariants.{NoMemory};
 ghost use Rattle.krl_held.specs.Contents.{Means};
 ghost use Rattle.krl_held.specs.Entry.{Entry};
 ghost use Rattle.krl_core.specs.Front.{IsFirstFault};

@@ -8,9 +8,9 @@ ghost use Rattle.ssh_key.specs.declared.line_fault.LineFault.TheVariants as line
 ghost use Rattle.ssh_cert.specs.SubjectFault.{subject_fault_text};
 ghost use Rattle.ssh_cert.specs.declared.subject_fault.SubjectFault.{SubjectFault};
 ghost use Rattle.ssh_cert.specs.declared.subject_fault.SubjectFault.TheVariants as subjects;
-ghost use Rattle.krl_fault.specs.KrlFault.{fault_text};
-ghost use Rattle.krl_fault.specs.declared.krl_fault.KrlFault.{KrlFault};
-ghost use Rattle.krl_fault.specs.declared.krl_fault.KrlFault.TheVariants as lists;
+ghost use Rattle.krl_types.specs.KrlFault.{fault_text};
+ghost use Rattle.krl_types.specs.declared.krl_fault.KrlFault.{KrlFault};
+ghost use Rattle.krl_types.specs.declared.krl_fault.KrlFault.TheVariants as lists;
 ghost use Rattle.krl_c.specs.Answer.{Answers, AnswersOfLine, HasOne};
 ghost use Rattle.krl_c.specs.Number.{line_number, list_number, no_memory, subject_number};
 ghost use Rattle.krl_c.specs.Words.{words};

@@ -1,7 +1,7 @@
 -- The way on: each step takes a field, or several.
 use Rattle.std.proofs.Common.{◌≡◌, ◌+◌, ◌-◌, ◌*◌, ◌<◌, [], ◌∷◌, Bool, Result, Ok, Err, false, refl, inl, inr, arith}
 use Rattle.std.specs.Prelude.{IfOk, IsTrue}
-use Rattle.krl_fault.specs.declared.krl_fault.KrlFault.{KrlFault}
+use Rattle.krl_types.specs.declared.krl_fault.KrlFault.{KrlFault}
 use Rattle.krl_core.specs.Front.{limit}
 use Rattle.krl_core.specs.Reading.{Advances, Follows, Position, ReadsMore, ReadsOneMore, is_fixed}
 use Rattle.krl_core.specs.declared.place.Place.{Place}

@@ -10,7 +10,7 @@ use Rattle.serial_set.specs.declared.bit_fault.BitFault.{BitFault}
 use Rattle.serial_set.specs.declared.bit_fault.BitFault.TheVariants.{Negative, Wraps}
 use Rattle.serial_set.specs.Span.{Covers}
 use Rattle.serial_set.specs.BitRuns.{BitRuns, BitNames, Feeds, HasFault, ShowsFault, lowest}
-use Rattle.krl_fault.specs.declared.krl_fault.KrlFault.TheVariants as faults
+use Rattle.krl_types.specs.declared.krl_fault.KrlFault.TheVariants as faults
 use Rattle.krl_core.specs.declared.place.Place.{Place}
 use Rattle.krl_held.specs.Entry.{Entry, BitmapEntry}
 use Rattle.krl_held.specs.Naming.{NamesSame, SerialOf}

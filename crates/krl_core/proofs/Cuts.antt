@@ -7,8 +7,8 @@ use Rattle.std.proofs.lemmas.List.Folds.{concat-append}
 use Rattle.ssh_wire.specs.Wire.{IsBytes}
 use Rattle.ssh_wire.specs.Steps.{never_err}
 use Rattle.krl_core.specs.declared.header.Header.{Header}
-use Rattle.krl_fault.specs.declared.krl_fault.KrlFault.{KrlFault}
-use Rattle.krl_fault.specs.declared.krl_fault.KrlFault.TheVariants as faults
+use Rattle.krl_types.specs.declared.krl_fault.KrlFault.{KrlFault}
+use Rattle.krl_types.specs.declared.krl_fault.KrlFault.TheVariants as faults
 use Rattle.krl_core.specs.declared.place.Place.{Place}
 use Rattle.krl_core.specs.Front.{State, start, limit, Passes, Leads, IsFirstFault, Reported, ended, no_room, refused, too_long, ends_early}
 use Rattle.krl_core.specs.Krl.{SpelledSection, Spells}

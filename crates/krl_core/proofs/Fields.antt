@@ -9,7 +9,7 @@ use Rattle.ssh_wire.specs.Wire.{IsBytes, number, number_of, string, strings}
 use Rattle.ssh_wire.specs.Fields.{length-string, length-number}
 use Rattle.ssh_wire.specs.Steps.{passed_ok}
 use Rattle.ssh_wire.specs.Digits.{IsBytes-back, IsBytes-front}
-use Rattle.krl_fault.specs.declared.krl_fault.KrlFault.TheVariants as faults
+use Rattle.krl_types.specs.declared.krl_fault.KrlFault.TheVariants as faults
 use Rattle.krl_core.specs.declared.header.Header.{Header}
 use Rattle.krl_core.specs.declared.place.list.ItemKind.TheVariants as kinds
 use Rattle.krl_core.specs.declared.place.Place.{Place}

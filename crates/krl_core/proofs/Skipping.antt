@@ -10,8 +10,8 @@ use Rattle.serial_set.specs.BitRuns.{BitNames, BitRuns}
 use Rattle.serial_set.specs.Bits.{bit_below}
 use Rattle.ssh_wire.specs.Digits.{IsBytes-tail}
 use Rattle.ssh_wire.specs.Wire.{IsBytes, number_of}
-use Rattle.krl_fault.specs.declared.krl_fault.KrlFault.{KrlFault}
-use Rattle.krl_fault.specs.declared.krl_fault.KrlFault.TheVariants as faults
+use Rattle.krl_types.specs.declared.krl_fault.KrlFault.{KrlFault}
+use Rattle.krl_types.specs.declared.krl_fault.KrlFault.TheVariants as faults
 use Rattle.krl_core.specs.declared.place.Place.{Place}
 use Rattle.krl_core.specs.declared.place.Place.TheVariants as places
 use Rattle.krl_core.specs.declared.place.bitmap.BitmapPlace.TheVariants as bitmaps

@@ -7,8 +7,8 @@ use Rattle.std.proofs.lemmas.List.{length-append}
 use Rattle.ssh_wire.specs.Wire.{IsBytes, number, number_of, string, strings}
 use Rattle.ssh_wire.specs.Digits.{IsBytes-back, IsBytes-front}
 use Rattle.ssh_wire.specs.Fields.{IsBytes-in_string, length-string, length-number, length-numbers}
-use Rattle.krl_fault.specs.declared.krl_fault.KrlFault.{KrlFault}
-use Rattle.krl_fault.specs.declared.krl_fault.KrlFault.TheVariants as faults
+use Rattle.krl_types.specs.declared.krl_fault.KrlFault.{KrlFault}
+use Rattle.krl_types.specs.declared.krl_fault.KrlFault.TheVariants as faults
 use Rattle.krl_core.specs.declared.header.Header.{Header}
 use Rattle.krl_core.specs.declared.place.list.ItemKind.{ItemKind}
 use Rattle.krl_core.specs.declared.place.list.ItemKind.TheVariants as kinds

@@ -12,14 +12,14 @@ use Rattle.ssh_wire.specs.declared.pull_fault.PullFault.{PullFault}
 use Rattle.ssh_wire.specs.declared.pull_fault.PullFault.TheVariants as pulls
 use Rattle.ssh_wire.specs.Cut.{take-after}
 use Rattle.ssh_wire.specs.Digits.{IsBytes-append}
-use Rattle.krl_fault.specs.declared.krl_fault.KrlFault.{KrlFault}
-use Rattle.krl_fault.specs.declared.krl_fault.KrlFault.TheVariants as faults
+use Rattle.krl_types.specs.declared.krl_fault.KrlFault.{KrlFault}
+use Rattle.krl_types.specs.declared.krl_fault.KrlFault.TheVariants as faults
 use Rattle.krl_core.specs.declared.place.Place.{Place}
 use Rattle.krl_core.specs.Front.{State, start, state_after, Leads, Passes, HasRoom, Reported, no_room, refused, too_long, ends_early, IsFirstFault, limit}
 use Rattle.krl_core.specs.Keeping.{GrowsWithin, IsKept, Keeping, KeepsField, StoresWithin}
 use Rattle.krl_core.specs.Place.{can_end, expected, names, authority_after, header_after}
 use Rattle.krl_core.specs.Reading.{Position, working, HasRead, IsBounded, LooksFor, Missed, no_room as room_missed, cut, Says, starved, failed_read, first, Refused, is_fixed}
-use Rattle.krl_fault.specs.KrlFault.{reported_as}
+use Rattle.krl_types.specs.KrlFault.{reported_as}
 use Rattle.krl_core.proofs.Fixed.{late_enough}
 use Rattle.krl_core.proofs.Fronts.{first_fault_is, end_size, end_room}
 use Rattle.krl_core.proofs.Walks.{Leads-push}

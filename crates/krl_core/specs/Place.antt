@@ -5,8 +5,8 @@ use Rattle.std.specs.Prelude.{Bool, true, false, not, List, [], ◌∷◌, Optio
 use Rattle.std.specs.Prelude.{Err}
 use Rattle.std.specs.Str.{bytes_eq}
 use Rattle.ssh_wire.specs.Wire.{number_of}
-use Rattle.krl_fault.specs.declared.krl_fault.KrlFault.{KrlFault}
-use Rattle.krl_fault.specs.declared.krl_fault.KrlFault.TheVariants as faults
+use Rattle.krl_types.specs.declared.krl_fault.KrlFault.{KrlFault}
+use Rattle.krl_types.specs.declared.krl_fault.KrlFault.TheVariants as faults
 use Rattle.krl_core.specs.declared.header.Header.{Header}
 use Rattle.krl_core.specs.declared.place.Place.{Place}
 use Rattle.krl_core.specs.declared.place.Place.TheVariants as places

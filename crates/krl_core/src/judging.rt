@@ -15,7 +15,7 @@ use crate::place::{
     BitmapPlace, CertificatesPlace, ExtensionPlace, ItemKind, ListPlace, Place, SerialsPlace,
     SignaturePlace,
 };
-use krl_fault::KrlFault;
+use krl_types::KrlFault;
 
 // The next place where a field is good, else its fault.
 pub(crate) fn judge(good: bool, fault: KrlFault, next: Place) -> Result<Place, KrlFault>

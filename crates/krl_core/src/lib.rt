@@ -11,8 +11,8 @@ mod read;
 mod reading;
 
 pub use header::{Header, MAGIC};
-pub use krl_fault::KrlFault;
 pub use krl_held::{Authorities, Findings, Listed, Questions, Revocations, Store, Texts};
+pub use krl_types::KrlFault;
 pub use place::Place;
 pub use read::read_krl;
 pub use reading::{LIMIT, Reading, Walk};

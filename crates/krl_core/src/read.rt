@@ -5,7 +5,7 @@ ghost use Rattle.std.specs.Prelude.{Some};
 ghost use Rattle.std.specs.Prelude.{IfErr, IfOk, IsTrue, OnOk};
 ghost use Rattle.ssh_wire.specs.Wire.{IsBytes};
 ghost use Rattle.krl_core.specs.declared.header.Header.{Header as HeaderOf};
-ghost use Rattle.krl_fault.specs.declared.krl_fault.KrlFault.TheVariants.{NoMemory, Read};
+ghost use Rattle.krl_types.specs.declared.krl_fault.KrlFault.TheVariants.{NoMemory, Read};
 ghost use Rattle.krl_held.specs.Contents.{held, stored};
 ghost use Rattle.krl_core.specs.Front.{IsFirstFault, limit};
 ghost use Rattle.krl_core.specs.Krl.{SpelledSection, Spells};
@@ -15,8 +15,8 @@ ghost use Rattle.krl_core.specs.Reading.{IsListAs, IsWithinLimit, ReadsMore, Ref
 
 use crate::header::Header;
 use crate::reading::{Reading, Walk};
-use krl_fault::KrlFault;
 use krl_held::{Revocations, Store};
+use krl_types::KrlFault;
 use serial_set::Spans;
 use ssh_wire::Source;
 use std::alloc::Global;

@@ -5,7 +5,7 @@ ghost use Rattle.std.specs.Prelude.{Err, List, [], IfOk, IfErr, IfSome, IsTrue, 
 ghost use Rattle.ssh_wire.specs.Wire.{IsBytes};
 ghost use Rattle.ssh_wire.specs.Pull.{Refuses, Takes};
 ghost use Rattle.ssh_wire.specs.declared.pull_fault.PullFault.TheVariants as pulls;
-ghost use Rattle.krl_fault.specs.declared.krl_fault.KrlFault.TheVariants.{NoMemory, Read};
+ghost use Rattle.krl_types.specs.declared.krl_fault.KrlFault.TheVariants.{NoMemory, Read};
 ghost use Rattle.krl_held.specs.Contents.{IsOrderly, held, nothing, stored};
 ghost use Rattle.krl_core.specs.Front.{HasRoom, Passes, limit};
 ghost use Rattle.krl_core.specs.Keeping.{GrowsWithin, InStep, KeepsField, StoresWithin, held_with_open};
@@ -21,8 +21,8 @@ use crate::crossing::cross;
 use crate::header::Header;
 use crate::keeper::Keeper;
 use crate::place::{HeaderPlace, Place};
-use krl_fault::KrlFault;
 use krl_held::{Findings, Revocations, Store};
+use krl_types::KrlFault;
 use serial_set::Spans;
 use ssh_wire::{Pull, Source};
 use std::alloc::Global;

@@ -10,7 +10,7 @@ use Rattle.std.proofs.lemmas.Slice.Eq.{bytes_eq-Decides}
 use Rattle.std.proofs.Math.Logic.Iff as Iff
 use Rattle.sha1.specs.Sha1.{sha1}
 use Rattle.sha2.specs.Sha256.{sha256}
-use Rattle.ssh_subject.specs.Subject.{Names, Subject}
+use Rattle.krl_types.specs.Subject.{Names, Subject}
 use Rattle.krl_held.specs.Contents.{Contents, Means}
 use Rattle.krl_held.specs.Elements.{contains_none}
 use Rattle.krl_held.specs.Entry.{BitmapEntry, Entry, IdEntry, KeyEntry, RangeEntry, SerialsEntry, Sha1Entry, Sha256Entry}

@@ -11,7 +11,7 @@ use Rattle.sha1.specs.Sha1.{sha1}
 use Rattle.sha2.specs.Sha256.{sha256}
 use Rattle.serial_set.specs.Rising.{has_names}
 use Rattle.serial_set.specs.Span.{Covers, has}
-use Rattle.ssh_subject.specs.Subject.{Subject, Names}
+use Rattle.krl_types.specs.Subject.{Subject, Names}
 use Rattle.krl_held.specs.Asked.{HoldsKey, HoldsUnder, HoldsCert}
 use Rattle.krl_held.specs.Contents.{Contents, Section, Means}
 use Rattle.krl_held.specs.Entry.{Entry}

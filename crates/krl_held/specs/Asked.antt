@@ -2,7 +2,7 @@
 use Rattle.std.specs.Prelude.{◌≡◌, ℕ, ◌⊎◌, List, [], ◌∷◌, ◌++◌, Contains}
 use Rattle.sha1.specs.Sha1.{sha1}
 use Rattle.sha2.specs.Sha256.{sha256}
-use Rattle.ssh_subject.specs.Subject.{Names}
+use Rattle.krl_types.specs.Subject.{Names}
 use Rattle.krl_held.specs.Contents.{Contents, Section, HoldsSerial, HoldsId}
 use Rattle.krl_held.specs.Rising.{AllBelow, AllAbove}
 

@@ -3,7 +3,7 @@ use Rattle.std.specs.Prelude.{◌≡◌, ℕ, ◌+◌, ◌*◌, ◌<◌, ◌≤�
 use Rattle.std.specs.Prelude.{length, Option, Some, None, Contains, ⊤}
 use Rattle.sha1.specs.Sha1.{sha1}
 use Rattle.sha2.specs.Sha256.{sha256}
-use Rattle.ssh_subject.specs.Subject.{Names, Subject}
+use Rattle.krl_types.specs.Subject.{Names, Subject}
 use Rattle.krl_held.specs.Contents.{Contents, HoldsId, HoldsName, HoldsSerial, IsOrderly}
 use Rattle.krl_held.specs.Naming.{KeyOf, Name, Sha1Of, Sha256Of}
 use Rattle.krl_held.specs.Scope.{IsTopic, IsWithin, Scope}

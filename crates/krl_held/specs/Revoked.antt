@@ -1,6 +1,6 @@
 -- What a list revokes (ssh-keygen(1), KEY REVOCATION LISTS).
 use Rattle.std.specs.Prelude.{◌⊎◌, List, Option, Some, None}
-use Rattle.ssh_subject.specs.Subject.{Subject, Names}
+use Rattle.krl_types.specs.Subject.{Subject, Names}
 use Rattle.krl_held.specs.Entry.{Entry}
 use Rattle.krl_held.specs.Naming.{KeyNamed, SomeNamesId, SomeNamesSerial}
 

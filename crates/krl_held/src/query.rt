@@ -8,8 +8,8 @@ ghost use Rattle.krl_held.specs.Tested.{revokes};
 
 use crate::revocations::Revocations;
 use crate::shelves::Shelves;
+use krl_types::{CertNames, Subject};
 use serial_set::Spans;
-use ssh_subject::{CertNames, Subject};
 
 impl<S: Spans> Revocations<S> {
     /// Whether a plain key or a certificate is revoked (ssh-keygen(1), KEY REVOCATION LISTS). Takes

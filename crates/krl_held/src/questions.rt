@@ -10,10 +10,10 @@ ghost use Rattle.krl_held.specs.Questions.{Asks, AsksMore, Finds, FindsIn, HasAl
 ghost use Rattle.krl_held.specs.Questions.{IsOfKey, names_size, subject_size};
 
 use crate::revocations::{Revocations, bytes_or_none};
+use krl_types::{CertNames, Subject};
 use serial_set::Spans;
 use sha1::Sha1;
 use sha2::{Digest, Sha256};
-use ssh_subject::{CertNames, Subject};
 use std::alloc::{AllocError, Global};
 use std::marker::Model;
 

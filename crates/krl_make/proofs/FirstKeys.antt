@@ -20,14 +20,14 @@ use Rattle.ssh_key.specs.Lines.{is_newline}
 use Rattle.ssh_key.specs.declared.kind.Kind.{Kind}
 use Rattle.ssh_key.specs.declared.kind.Kind.TheVariants.{Rsa, Dsa, Ecdsa256, Ecdsa384, Ecdsa521, Ed25519, EcdsaSk, Ed25519Sk}
 use Rattle.ssh_key.specs.declared.private_fault.PrivateFault.{PrivateFault}
-use Rattle.ssh_subject.specs.Subject.{Subject}
+use Rattle.krl_types.specs.Subject.{Subject}
 use Rattle.ssh_cert.specs.SubjectReading.{is_certificate, of_key, subject_of}
 use Rattle.krl_make.proofs.LineBytes.{lines_bytes}
 use Rattle.krl_spec.specs.Keys.{IsKeyCause, IsKeyFault, IsSubjectLine, subject_in}
-use Rattle.spec_fault.specs.declared.spec_cause.KeyCause.{KeyCause}
-use Rattle.spec_fault.specs.declared.spec_cause.KeyCause.TheVariants as keys
-use Rattle.spec_fault.specs.declared.spec_cause.SpecCause.{SpecCause}
-use Rattle.spec_fault.specs.declared.spec_cause.SpecCause.TheVariants as causes
+use Rattle.key_files.specs.declared.spec_cause.KeyCause.{KeyCause}
+use Rattle.key_files.specs.declared.spec_cause.KeyCause.TheVariants as keys
+use Rattle.key_files.specs.declared.spec_cause.SpecCause.{SpecCause}
+use Rattle.key_files.specs.declared.spec_cause.SpecCause.TheVariants as causes
 use Rattle.key_files.specs.Keys.{container_found, key_in, keys_from, line_found}
 use Rattle.key_files.specs.Stop.{Stop, stop_of}
 use Rattle.key_files.specs.declared.file_fault.FileFault.TheVariants as files

@@ -25,21 +25,21 @@ use Rattle.krl_core.specs.Front.{IsFirstFault, limit}
 use Rattle.krl_writer.specs.KrlText.{IsKrlText}
 use Rattle.krl_core.specs.Reading.{IsList}
 use Rattle.krl_core.specs.declared.header.Header.{Header}
-use Rattle.krl_fault.specs.declared.krl_fault.KrlFault.{KrlFault}
+use Rattle.krl_types.specs.declared.krl_fault.KrlFault.{KrlFault}
 use Rattle.krl_make.specs.declared.base.Base.{Base}
 use Rattle.krl_make.specs.Making.{Added, HasNumbers, IsAtHand, IsFileAtHand, authority_file, lines, new_list, old_list, IsOldList, IsStop, Made, Makes, NamesSame, Returns, WritesList, WritesMade, WritesMore, after_old, base_of, cause_stop, file_entries, file_key, file_stop, files_entries, first_found, first_key_of, header_of, made_of, make_run_of, named_blob, plain_found, text_entries, then_entries, version_of}
 use Rattle.key_files.specs.Stop.{krl_cause}
 use Rattle.krl_job.specs.declared.job.Authority.{Authority}
 use Rattle.krl_job.specs.declared.job.Authority.TheVariants.{File as FileOf}
-use Rattle.krl_fault.specs.declared.krl_fault.KrlFault.TheVariants as faults
+use Rattle.krl_types.specs.declared.krl_fault.KrlFault.TheVariants as faults
 use Rattle.key_files.specs.Keys.{File, Found, GivesKey, IsRefused, container_found, content_keys, file_of, key_in, keys_from, keys_of, line_found}
 use Rattle.key_files.specs.declared.file_fault.FileFault.{FileFault}
 use Rattle.key_files.specs.declared.file_fault.FileFault.TheVariants as files
 use Rattle.krl_held.specs.Changes.{MeansMore}
 use Rattle.krl_spec.proofs.KeyRoom.{key_room}
 use Rattle.krl_spec.specs.Lines.{ReadsSpec, StopsAt, lines_of}
-use Rattle.spec_fault.specs.declared.spec_cause.SpecCause.{SpecCause}
-use Rattle.spec_fault.specs.declared.spec_cause.SpecCause.TheVariants as specs
+use Rattle.key_files.specs.declared.spec_cause.SpecCause.{SpecCause}
+use Rattle.key_files.specs.declared.spec_cause.SpecCause.TheVariants as specs
 use Rattle.key_files.specs.Stop.{Stop, Ender, ByInput, ByMemory, ByOutput, ender_of, stop_of}
 
 -- ---- the old list

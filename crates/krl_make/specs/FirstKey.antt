@@ -1,15 +1,15 @@
 -- The first key of a file, which names an authority (ssh-keygen(1), option -s).
 use Rattle.std.specs.Prelude.{◌≡◌, ℕ, ◌+◌, true, false, List, ◌∷◌, ◌++◌, length}
 use Rattle.std.specs.List.{All, slice_split}
-use Rattle.ssh_subject.specs.Subject.{Subject}
+use Rattle.krl_types.specs.Subject.{Subject}
 use Rattle.ssh_key.specs.Armour.{begins_container}
 use Rattle.ssh_key.specs.Container.{IsContainer, IsPrivateFault}
 use Rattle.ssh_key.specs.KeyFile.{has_key}
 use Rattle.ssh_key.specs.Lines.{is_newline}
 use Rattle.ssh_key.specs.declared.private_fault.PrivateFault.{PrivateFault}
 use Rattle.krl_spec.specs.Keys.{IsKeyFault, IsSubjectLine}
-use Rattle.spec_fault.specs.declared.spec_cause.KeyCause.{KeyCause}
-use Rattle.spec_fault.specs.declared.spec_cause.KeyCause.TheVariants as keys
+use Rattle.key_files.specs.declared.spec_cause.KeyCause.{KeyCause}
+use Rattle.key_files.specs.declared.spec_cause.KeyCause.TheVariants as keys
 use Rattle.key_files.specs.Keys.{stop_at}
 use Rattle.key_files.specs.Stop.{Stop, stop_of}
 use Rattle.key_files.specs.declared.file_fault.FileFault.TheVariants as files

@@ -13,9 +13,9 @@ use Rattle.krl_writer.specs.KrlText.{IsKrlText}
 use Rattle.krl_core.specs.Reading.{IsList, IsReadingOf}
 use Rattle.krl_held.specs.Revoked.{Revoked}
 use Rattle.krl_core.specs.declared.header.Header.{Header}
-use Rattle.krl_fault.specs.declared.krl_fault.KrlFault.{KrlFault}
-use Rattle.krl_fault.specs.declared.krl_fault.KrlFault.TheVariants as faults
-use Rattle.ssh_subject.specs.Subject.{Subject}
+use Rattle.krl_types.specs.declared.krl_fault.KrlFault.{KrlFault}
+use Rattle.krl_types.specs.declared.krl_fault.KrlFault.TheVariants as faults
+use Rattle.krl_types.specs.Subject.{Subject}
 use Rattle.ssh_cert.specs.SubjectReading.{subject_of}
 use Rattle.krl_job.specs.declared.job.Authority.{Authority}
 use Rattle.krl_job.specs.declared.job.Authority.TheVariants.{NotGiven, All, File as FileOf}
@@ -24,9 +24,9 @@ use Rattle.key_files.specs.declared.file_fault.FileFault.{FileFault}
 use Rattle.key_files.specs.declared.file_fault.FileFault.TheVariants as files
 use Rattle.key_files.specs.declared.cause.Cause.TheVariants as causes
 use Rattle.krl_held.specs.Changes.{MeansMore}
-use Rattle.spec_fault.specs.declared.spec_cause.SpecCause.{SpecCause}
-use Rattle.spec_fault.specs.declared.spec_cause.SpecCause.TheVariants as specs
-use Rattle.spec_fault.specs.declared.spec_fault.SpecFault.{SpecFault}
+use Rattle.key_files.specs.declared.spec_cause.SpecCause.{SpecCause}
+use Rattle.key_files.specs.declared.spec_cause.SpecCause.TheVariants as specs
+use Rattle.key_files.specs.declared.spec_fault.SpecFault.{SpecFault}
 use Rattle.key_files.specs.Stop.{krl_cause}
 use Rattle.key_files.specs.Keys.{File, Found, stop_at, stop_in, text_keys}
 use Rattle.krl_spec.specs.Lines.{lines_of}

@@ -2,7 +2,7 @@
 
 ghost use Rattle.std.specs.Prelude.{◌≡◌, Ok, Result, false};
 ghost use Rattle.std.specs.Option.{ForSome};
-ghost use Rattle.krl_fault.specs.declared.krl_fault.KrlFault.{KrlFault as FaultOf};
+ghost use Rattle.krl_types.specs.declared.krl_fault.KrlFault.{KrlFault as FaultOf};
 ghost use Rattle.krl_make.specs.Making.{HasNumbers, IsBaseRead, IsFileAtHand, Makes, WritesList, WritesMore, after_old, files_entries, make_run_of};
 ghost use Rattle.krl_spec.specs.Under.{IsUnder, authority_under};
 ghost use Rattle.krl_make.specs.declared.base.Base.{Base as BaseOf};

@@ -5,7 +5,7 @@ use Rattle.ssh_cert.specs.declared.subject_fault.SubjectFault.{SubjectFault}
 use Rattle.ssh_key.specs.Key.{Key}
 use Rattle.ssh_key.specs.KeyReading.{key_at}
 use Rattle.ssh_key.specs.declared.fault.KeyFault.{KeyFault}
-use Rattle.ssh_subject.specs.Subject.{Subject}
+use Rattle.krl_types.specs.Subject.{Subject}
 use Rattle.key_files.specs.Keys.{File, Found, keys_of}
 use Rattle.key_files.specs.Stop.{Stop}
 use Rattle.krl_runs.specs.Query.{answer_of, ask_by}

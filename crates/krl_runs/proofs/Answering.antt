@@ -3,7 +3,7 @@ use Rattle.std.proofs.Common.{◌≡◌, ℕ, ◌+◌, ◌<◌, ◌||◌, Bool, 
 use Rattle.std.proofs.lemmas.List.{append-nil, take_more, take-append-drop}
 use Rattle.std.proofs.lemmas.List.Concat.{flat_map-append}
 use Rattle.key_files.specs.declared.cause.Cause.TheVariants.{File, NoMemory}
-use Rattle.ssh_subject.specs.Subject.{Subject}
+use Rattle.krl_types.specs.Subject.{Subject}
 use Rattle.ssh_cert.specs.SubjectReading.{subject_of}
 use Rattle.ssh_cert.specs.declared.subject_fault.SubjectFault.{SubjectFault}
 use Rattle.ssh_key.specs.Key.{Key}

@@ -14,11 +14,11 @@ use Rattle.krl_held.specs.NamingTests.{is_revoked as is_named}
 use Rattle.krl_held.specs.Questions.{Asks}
 use Rattle.krl_core.specs.Reading.{HoldsWithin, IsList, IsListAs}
 use Rattle.krl_held.specs.Tested.{revokes}
-use Rattle.ssh_subject.specs.Subject.{Subject}
+use Rattle.krl_types.specs.Subject.{Subject}
 use Rattle.krl_held.proofs.NamingTests.{found_tested, meant_tested}
 use Rattle.krl_core.specs.declared.header.Header.{Header}
-use Rattle.krl_fault.specs.declared.krl_fault.KrlFault.{KrlFault}
-use Rattle.krl_fault.specs.declared.krl_fault.KrlFault.TheVariants as faults
+use Rattle.krl_types.specs.declared.krl_fault.KrlFault.{KrlFault}
+use Rattle.krl_types.specs.declared.krl_fault.KrlFault.TheVariants as faults
 use Rattle.krl_runs.specs.Carries.{Carries}
 use Rattle.krl_runs.specs.Printer.{Printed}
 use Rattle.krl_runs.specs.Contents.{Known, all_said, contents_items, dump_text, known_lines, known_of}

@@ -4,7 +4,7 @@ use Rattle.std.proofs.lemmas.Bool.{cases_lt}
 use Rattle.std.proofs.lemmas.List.{get_or_default}
 use Rattle.std.specs.Prelude.{◌≢◌, IfOk}
 use Rattle.std.specs.Result.{IsOk, IsErr}
-use Rattle.ssh_subject.specs.Subject.{Names, Subject}
+use Rattle.krl_types.specs.Subject.{Names, Subject}
 use Rattle.ssh_cert.specs.SubjectReading.{subject_of}
 use Rattle.ssh_cert.specs.declared.subject_fault.SubjectFault.{SubjectFault}
 use Rattle.key_files.specs.Keys.{File, Found, GivesKey, IsRefused, keys_of}

@@ -15,7 +15,7 @@ use Rattle.ssh_cert.specs.Certificate.{Certificate}
 use Rattle.ssh_cert.specs.declared.fault.CertFault.{CertFault}
 use Rattle.ssh_key.specs.declared.hash.Hash.{Hash}
 use Rattle.krl_runs.specs.Listing.{certificate_answer, listed_certificate}
-use Rattle.ssh_subject.specs.Subject.{Subject}
+use Rattle.krl_types.specs.Subject.{Subject}
 use Rattle.ssh_cert.specs.SubjectReading.{IsSubject, subject_of}
 use Rattle.ssh_cert.specs.declared.subject_fault.SubjectFault.{SubjectFault}
 use Rattle.ssh_cert.specs.SubjectReading.{plain_is_key}

@@ -1,7 +1,7 @@
 -- Keys of files that are expected where they are answered for.
 use Rattle.std.specs.Prelude.{List, [], ◌∷◌, Result, Ok, Err, IfOk, All, ⊤}
 use Rattle.ssh_cert.specs.SubjectReading.{subject_of}
-use Rattle.ssh_subject.specs.Subject.{Subject}
+use Rattle.krl_types.specs.Subject.{Subject}
 use Rattle.key_files.specs.Keys.{File, Found, keys_of}
 use Rattle.key_files.specs.Stop.{Stop}
 

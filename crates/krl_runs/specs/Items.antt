@@ -3,7 +3,7 @@ use Rattle.std.specs.Prelude.{ℕ, List}
 use Rattle.ssh_key.specs.Key.{IsKey, Key}
 use Rattle.ssh_key.specs.KeyLine.{IsKeyLine}
 use Rattle.ssh_key.specs.LineReading.{Content}
-use Rattle.ssh_subject.specs.Subject.{Subject}
+use Rattle.krl_types.specs.Subject.{Subject}
 use Rattle.ssh_cert.specs.SubjectReading.{IsSubject}
 
 -- The line of a key file is a key line with the blob of a plain key or of a certificate, this is

@@ -5,7 +5,7 @@ use Rattle.std.specs.Result.{result_ok}
 use Rattle.ssh_cert.specs.CertReading.{certificate_at}
 use Rattle.ssh_cert.specs.Certificate.{Certificate}
 use Rattle.ssh_cert.specs.Listing.{listing_of}
-use Rattle.ssh_subject.specs.Subject.{Names, Subject}
+use Rattle.krl_types.specs.Subject.{Names, Subject}
 use Rattle.ssh_key.specs.declared.hash.Hash.{Hash}
 use Rattle.ssh_key.specs.Fingerprints.{fingerprint_text}
 use Rattle.ssh_key.specs.Key.{Key}

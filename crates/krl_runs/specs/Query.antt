@@ -13,8 +13,8 @@ use Rattle.ssh_key.specs.Key.{Key}
 use Rattle.krl_core.specs.Reading.{IsList, IsReadAs, IsReadingOf}
 use Rattle.krl_held.specs.Revoked.{Revoked}
 use Rattle.krl_held.specs.Tested.{revokes}
-use Rattle.krl_fault.specs.declared.krl_fault.KrlFault.{KrlFault}
-use Rattle.ssh_subject.specs.Subject.{Subject}
+use Rattle.krl_types.specs.declared.krl_fault.KrlFault.{KrlFault}
+use Rattle.krl_types.specs.Subject.{Subject}
 use Rattle.ssh_key.specs.LineReading.{Content}
 use Rattle.krl_runs.specs.declared.output.answer.Answer.{Answer}
 use Rattle.key_files.specs.declared.file_fault.FileFault.TheVariants as files

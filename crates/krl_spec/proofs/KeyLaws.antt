@@ -7,13 +7,13 @@ use Rattle.ssh_key.specs.KeyLine.{IsKeyLine}
 use Rattle.ssh_key.specs.LineFaults.{IsFirstLineFault}
 use Rattle.ssh_key.specs.LineReading.{Content, content, line_at}
 use Rattle.ssh_key.specs.declared.line_fault.LineFault.{LineFault}
-use Rattle.ssh_subject.specs.Subject.{Subject}
+use Rattle.krl_types.specs.Subject.{Subject}
 use Rattle.ssh_cert.specs.SubjectReading.{IsSubject, IsSubjectFault, subject_of}
 use Rattle.ssh_cert.specs.declared.subject_fault.SubjectFault.{SubjectFault}
 use Rattle.krl_spec.specs.Keys.{line_cause, subject_cause, subject_in}
 use Rattle.krl_spec.specs.Keys.{HasSubjectFault, IsKeyCause, IsSubjectLine}
-use Rattle.spec_fault.specs.declared.spec_cause.KeyCause.TheVariants as keys
-use Rattle.spec_fault.specs.declared.spec_cause.SpecCause.{SpecCause}
+use Rattle.key_files.specs.declared.spec_cause.KeyCause.TheVariants as keys
+use Rattle.key_files.specs.declared.spec_cause.SpecCause.{SpecCause}
 
 -- the laws of key lines and of what blobs ask
 pub record KeyLaws : Type 0 where

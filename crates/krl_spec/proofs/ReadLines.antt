@@ -9,8 +9,8 @@ use Rattle.krl_spec.specs.Adding.{AddsLine, Reports}
 use Rattle.krl_spec.specs.Entries.{line_entry}
 use Rattle.krl_spec.specs.Lines.{LineEntries, ReadsSpec, LacksMemoryAt, StopsAt, before_later, lines_from, lines_of}
 use Rattle.ssh_key.specs.Lines.{is_newline}
-use Rattle.spec_fault.specs.declared.spec_cause.SpecCause.{SpecCause}
-use Rattle.spec_fault.specs.declared.spec_cause.SpecCause.TheVariants as causes
+use Rattle.key_files.specs.declared.spec_cause.SpecCause.{SpecCause}
+use Rattle.key_files.specs.declared.spec_cause.SpecCause.TheVariants as causes
 
 -- entries before what later lines name
 abbrev pub with_entries : List Entry → LineEntries → LineEntries

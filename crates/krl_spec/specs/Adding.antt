@@ -6,9 +6,9 @@ use Rattle.ssh_key.specs.declared.line_fault.LineFault.TheVariants as lines
 use Rattle.krl_held.specs.Changes.{MeansMore}
 use Rattle.krl_held.specs.Contents.{Contents, held}
 use Rattle.krl_held.specs.Entry.{Entry}
-use Rattle.spec_fault.specs.declared.spec_cause.KeyCause.TheVariants as keys
-use Rattle.spec_fault.specs.declared.spec_cause.SpecCause.{SpecCause}
-use Rattle.spec_fault.specs.declared.spec_cause.SpecCause.TheVariants as causes
+use Rattle.key_files.specs.declared.spec_cause.KeyCause.TheVariants as keys
+use Rattle.key_files.specs.declared.spec_cause.SpecCause.{SpecCause}
+use Rattle.key_files.specs.declared.spec_cause.SpecCause.TheVariants as causes
 
 -- A fault that is found out only after memory was asked for.
 abbrev pub MayHide : SpecCause → Type 0

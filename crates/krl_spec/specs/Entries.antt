@@ -5,7 +5,7 @@ use Rattle.sha1.specs.Sha1.{sha1}
 use Rattle.sha2.specs.Sha256.{sha256}
 use Rattle.ssh_wire.specs.Reading.{◌>>=◌, in_fault}
 use Rattle.ssh_key.specs.FingerprintReading.{fingerprint_at}
-use Rattle.ssh_subject.specs.Subject.{Names}
+use Rattle.krl_types.specs.Subject.{Names}
 use Rattle.krl_held.specs.Authority.{IsAuthority, authority_bytes}
 use Rattle.krl_held.specs.Entry.{Entry, RangeEntry, IdEntry, KeyEntry, Sha1Entry, Sha256Entry}
 use Rattle.krl_spec.specs.Number.{serials_of_text}
@@ -15,8 +15,8 @@ use Rattle.krl_spec.specs.Keys.{plain_in, subject_in}
 use Rattle.krl_spec.specs.declared.directive.Directive.{Directive}
 use Rattle.krl_spec.specs.declared.directive.Directive.TheVariants.{Serial, Id, Key, Sha1, Sha256}
 use Rattle.krl_spec.specs.declared.directive.Directive.TheVariants.{Hash}
-use Rattle.spec_fault.specs.declared.spec_cause.SpecCause.{SpecCause}
-use Rattle.spec_fault.specs.declared.spec_cause.SpecCause.TheVariants as causes
+use Rattle.key_files.specs.declared.spec_cause.SpecCause.{SpecCause}
+use Rattle.key_files.specs.declared.spec_cause.SpecCause.TheVariants as causes
 use Rattle.krl_spec.specs.declared.entries.LineEntry.{LineEntry}
 use Rattle.krl_spec.specs.declared.entries.LineEntry.TheVariants as entries
 

@@ -5,13 +5,13 @@ use Rattle.ssh_key.specs.KeyLine.{IsKeyLine}
 use Rattle.ssh_key.specs.LineFaults.{IsFirstLineFault}
 use Rattle.ssh_key.specs.LineReading.{line_at}
 use Rattle.ssh_key.specs.declared.line_fault.LineFault.{LineFault}
-use Rattle.ssh_subject.specs.Subject.{Subject}
+use Rattle.krl_types.specs.Subject.{Subject}
 use Rattle.ssh_cert.specs.SubjectReading.{IsSubject, IsSubjectFault, subject_of}
 use Rattle.ssh_cert.specs.declared.subject_fault.SubjectFault.{SubjectFault}
-use Rattle.spec_fault.specs.declared.spec_cause.KeyCause.{KeyCause}
-use Rattle.spec_fault.specs.declared.spec_cause.KeyCause.TheVariants as keys
-use Rattle.spec_fault.specs.declared.spec_cause.SpecCause.{SpecCause}
-use Rattle.spec_fault.specs.declared.spec_cause.SpecCause.TheVariants as causes
+use Rattle.key_files.specs.declared.spec_cause.KeyCause.{KeyCause}
+use Rattle.key_files.specs.declared.spec_cause.KeyCause.TheVariants as keys
+use Rattle.key_files.specs.declared.spec_cause.SpecCause.{SpecCause}
+use Rattle.key_files.specs.declared.spec_cause.SpecCause.TheVariants as causes
 
 -- the faults of a key line and of what its blob asks, as causes
 abbrev pub line_cause : LineFault → SpecCause

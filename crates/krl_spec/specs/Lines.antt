@@ -7,9 +7,9 @@ use Rattle.krl_held.specs.Entry.{Entry}
 use Rattle.krl_held.specs.Changes.{MeansMore}
 use Rattle.krl_spec.specs.Entries.{line_entry}
 use Rattle.ssh_key.specs.Lines.{is_newline}
-use Rattle.spec_fault.specs.declared.spec_cause.SpecCause.{SpecCause}
-use Rattle.spec_fault.specs.declared.spec_cause.SpecCause.TheVariants.{NoMemory}
-use Rattle.spec_fault.specs.declared.spec_fault.SpecFault.{SpecFault}
+use Rattle.key_files.specs.declared.spec_cause.SpecCause.{SpecCause}
+use Rattle.key_files.specs.declared.spec_cause.SpecCause.TheVariants.{NoMemory}
+use Rattle.key_files.specs.declared.spec_fault.SpecFault.{SpecFault}
 
 -- the entries of lines up to the first fault, and that fault
 pub record LineEntries : Type 0 where

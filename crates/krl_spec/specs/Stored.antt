@@ -1,6 +1,6 @@
 -- How much more is stored by reading what a specification file names.
 use Rattle.std.specs.Prelude.{◌≡◌, ℕ, ◌+◌, ◌≤◌, ◌⊎◌, List, length, Option, Some, None}
-use Rattle.ssh_subject.specs.Subject.{Names, Subject}
+use Rattle.krl_types.specs.Subject.{Names, Subject}
 use Rattle.krl_held.specs.Contents.{Contents, IsStoredWithin}
 use Rattle.krl_spec.specs.Under.{bytes_under}
 use Rattle.krl_held.specs.Entry.{Entry, RangeEntry, IdEntry, KeyEntry, Sha1Entry}

@@ -15,9 +15,9 @@ use crate::directive::order_in;
 use crate::entries::{LineEntry, read_order, subject_entry};
 use crate::keys::{ask, key_line};
 use crate::under::Under;
+use key_files::SpecCause;
 use krl_held::Revocations;
 use serial_set::Spans;
-use spec_fault::SpecCause;
 use std::alloc::{AllocError, Global};
 
 // Adds an entry.

@@ -9,13 +9,13 @@ ghost use Rattle.krl_spec.specs.Under.{IsUnder, authority_under};
 ghost use Rattle.krl_spec.specs.Entries.{IsSound, entry_of};
 ghost use Rattle.krl_spec.specs.Stored.{Fits};
 ghost use Rattle.krl_spec.specs.Under.{bytes_under};
-ghost use Rattle.spec_fault.specs.declared.spec_cause.SpecCause.TheVariants.{NoAuthority};
+ghost use Rattle.key_files.specs.declared.spec_cause.SpecCause.TheVariants.{NoAuthority};
 
 use crate::directive::Directive;
 use crate::keys::{plain_key, read_hash};
 use crate::number::{Bounds, read_serials};
 use crate::under::Under;
-use spec_fault::SpecCause;
+use key_files::SpecCause;
 use ssh_cert::Subject;
 use ssh_key::{sha1_of, sha256_of};
 use ssh_wire::Bytes;

@@ -3,7 +3,7 @@
 
 ghost use Rattle.std.specs.Prelude.{◌≡◌, ◌↔◌, ℕ, List, Err, Ok, Some};
 ghost use Rattle.ssh_wire.specs.Wire.{IsBytes};
-ghost use Rattle.ssh_subject.specs.Subject.{Subject};
+ghost use Rattle.krl_types.specs.Subject.{Subject};
 ghost use Rattle.krl_spec.specs.Keys.{subject_in};
 ghost use Rattle.krl_spec.specs.Blanks.{bare_line};
 ghost use Rattle.krl_spec.specs.Directive.{order, order_in};
@@ -12,7 +12,7 @@ ghost use Rattle.krl_spec.specs.Number.{bounds_of_text, number_of_text};
 ghost use Rattle.krl_spec.specs.Spelled.{AreBounds, Counts, IsNumber, IsOrder};
 ghost use Rattle.krl_spec.specs.declared.directive.Directive.{Directive};
 ghost use Rattle.krl_spec.specs.declared.number.Bounds.{Bounds};
-ghost use Rattle.spec_fault.specs.declared.spec_cause.SpecCause.{SpecCause};
+ghost use Rattle.key_files.specs.declared.spec_cause.SpecCause.{SpecCause};
 
 use ssh_cert::laws::{asked_where_spelled, not_asked_by_first_fault};
 use ssh_key::laws::{line_read_where_spelled, line_refused_by_first_fault};

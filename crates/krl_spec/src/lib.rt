@@ -11,6 +11,6 @@ mod lines;
 mod number;
 mod under;
 
+pub use key_files::{KeyCause, SpecCause, SpecFault};
 pub use lines::read_spec;
-pub use spec_fault::{KeyCause, SpecCause, SpecFault};
 pub use under::Under;

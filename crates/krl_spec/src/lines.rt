@@ -8,9 +8,9 @@ ghost use Rattle.krl_spec.specs.Under.{bytes_under};
 
 use crate::adding::add_line;
 use crate::under::Under;
+use key_files::SpecFault;
 use krl_held::Revocations;
 use serial_set::Spans;
-use spec_fault::SpecFault;
 use ssh_key::split_line;
 use std::alloc::Global;
 

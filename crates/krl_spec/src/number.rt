@@ -5,7 +5,7 @@ ghost use Rattle.std.specs.Str.Parse.{IsNumeral, digits_value};
 ghost use Rattle.krl_spec.specs.Number.{bounds_of_text, number_in, number_of_text, serials_of_text};
 
 use crate::blanks::{before_blanks, position_of};
-use spec_fault::SpecCause;
+use key_files::SpecCause;
 use ssh_key::after_blanks;
 use std::str;
 

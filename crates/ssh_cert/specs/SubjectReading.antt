@@ -15,7 +15,7 @@ use Rattle.ssh_cert.specs.declared.subject_fault.SubjectFault.TheVariants as fau
 use Rattle.ssh_cert.specs.CertReading.{certificate_at}
 use Rattle.ssh_cert.specs.Certificate.{Certificate, IsCertificate}
 use Rattle.ssh_cert.specs.FirstFault.{IsFirstFault}
-use Rattle.ssh_subject.specs.Subject.{Names, Subject}
+use Rattle.krl_types.specs.Subject.{Names, Subject}
 
 abbrev pub names_of : Certificate → Names
 names_of certificate = record {

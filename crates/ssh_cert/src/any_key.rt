@@ -7,8 +7,8 @@ ghost use Rattle.ssh_cert.specs.SubjectReading.{IsSubjectFault, is_certificate, 
 use crate::cert::Cert;
 use crate::reading::read_cert;
 use crate::subject_fault::SubjectFault;
+use krl_types::{CertNames, Subject};
 use ssh_key::{Kind, PublicKey, plain_blob, read_key};
-use ssh_subject::{CertNames, Subject};
 use ssh_wire::{Bytes, Cursor};
 use std::alloc::{AllocError, Global};
 

@@ -8,7 +8,7 @@ ghost use Rattle.ssh_cert.specs.Certificate.{Certificate, IsCertificate};
 ghost use Rattle.ssh_cert.specs.FirstFault.{IsFirstFault};
 ghost use Rattle.ssh_cert.specs.Laws.{HasCutFault, IsCut};
 ghost use Rattle.ssh_cert.specs.Listing.{IsListing, listing_of};
-ghost use Rattle.ssh_subject.specs.Subject.{Subject};
+ghost use Rattle.krl_types.specs.Subject.{Subject};
 ghost use Rattle.ssh_cert.specs.SubjectReading.{IsSubject, IsSubjectFault, subject_of};
 ghost use Rattle.ssh_cert.specs.Time.{IsTimeText, instant_text};
 ghost use Rattle.ssh_cert.specs.declared.fault.CertFault.{CertFault};

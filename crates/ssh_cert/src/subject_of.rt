@@ -1,12 +1,12 @@
 //! What is asked about a blob.
 
 ghost use Rattle.std.specs.Prelude.{◌≡◌, IfErr, IfOk, Ok};
-ghost use Rattle.ssh_subject.specs.Subject.{Subject};
+ghost use Rattle.krl_types.specs.Subject.{Subject};
 ghost use Rattle.ssh_cert.specs.SubjectReading.{AnswersSubject, IsSubject, IsReportedFault, subject_of};
 
 use crate::any_key::read_any;
 use crate::subject_fault::SubjectFault;
-use ssh_subject::Subject;
+use krl_types::Subject;
 use std::alloc::Global;
 
 /// What a revocation list is asked about a blob (ssh-keygen(1), KEY REVOCATION LISTS): of a plain

@@ -2,14 +2,14 @@
 //! nothing: its contract is the law.
 
 ghost use Rattle.std.specs.Prelude.{◌≡◌, ◌≤◌, ◌*◌, ◌⊎◌, ◌++◌, ℕ, List, None, Some, Option, length};
-ghost use Rattle.krl_fault.specs.declared.krl_fault.KrlFault.TheVariants.{EndsEarly};
+ghost use Rattle.krl_types.specs.declared.krl_fault.KrlFault.TheVariants.{EndsEarly};
 ghost use Rattle.serial_set.specs.BitRuns.{big_endian};
 ghost use Rattle.ssh_wire.specs.Wire.{IsBytes, number_of};
 ghost use Rattle.krl_core.specs.declared.header.Header.{Header};
 ghost use Rattle.std.specs.List.{concat};
 ghost use Rattle.krl_held.specs.Contents.{Contents, Means, held};
 ghost use Rattle.krl_core.specs.Krl.{SpelledSection, Spells};
-ghost use Rattle.krl_fault.specs.declared.krl_fault.KrlFault.{KrlFault};
+ghost use Rattle.krl_types.specs.declared.krl_fault.KrlFault.{KrlFault};
 ghost use Rattle.krl_core.specs.Front.{State, IsFirstFault, IsFront, limit};
 
 /// Of two fronts of a text one is the beginning of the other.

@@ -6,8 +6,8 @@ ghost use Rattle.krl_core.specs.Place.{certificates_expected};
 
 use crate::judging::{next_subsection, rest, subsection_of_type, within};
 use crate::place::Place;
-use krl_fault::KrlFault;
 use krl_held::{byte_of, u32_of};
+use krl_types::KrlFault;
 
 /// A section of certificates, but for its subsections.
 #[derive(Clone, Copy)]

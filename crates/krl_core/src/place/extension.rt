@@ -6,8 +6,8 @@ ghost use Rattle.krl_core.specs.Place.{extension_expected};
 
 use crate::judging::{judge, next_subsection, rest, within};
 use crate::place::Place;
-use krl_fault::KrlFault;
 use krl_held::{byte_of, u32_of};
+use krl_types::KrlFault;
 
 /// An extension, as a section or a subsection.
 #[derive(Clone, Copy)]

@@ -6,8 +6,8 @@ ghost use Rattle.krl_core.specs.Place.{header_expected};
 use crate::header::MAGIC;
 use crate::judging::judge;
 use crate::place::Place;
-use krl_fault::KrlFault;
 use krl_held::u32_of;
+use krl_types::KrlFault;
 
 /// All before the first section.
 #[derive(Clone, Copy)]

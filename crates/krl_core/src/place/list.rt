@@ -6,8 +6,8 @@ ghost use Rattle.krl_core.specs.Place.{item_size, list_expected};
 
 use crate::judging::{judge, next_item, rest, within};
 use crate::place::Place;
-use krl_fault::KrlFault;
 use krl_held::u32_of;
+use krl_types::KrlFault;
 
 /// What the items of a list of strings are.
 #[derive(Clone, Copy)]

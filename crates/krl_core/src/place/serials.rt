@@ -6,8 +6,8 @@ ghost use Rattle.krl_core.specs.Place.{serials_expected};
 
 use crate::judging::{judge, next_serial, next_subsection, rest, within};
 use crate::place::Place;
-use krl_fault::KrlFault;
 use krl_held::{u32_of, u64_of};
+use krl_types::KrlFault;
 
 /// A subsection of serials, or of a range.
 #[derive(Clone, Copy)]

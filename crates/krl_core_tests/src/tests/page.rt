@@ -1,7 +1,7 @@
-//! The callers of the pages of `krl_held`, `krl_core`, `krl_fault` and `krl_writer`.
+//! The callers of the pages of `krl_held`, `krl_core`, `krl_types` and `krl_writer`.
 
 use krl_core::{Header, Revocations, read_krl};
-use krl_fault::KrlFault;
+use krl_types::KrlFault;
 use krl_writer::{TextFault, krl_text};
 use parts_for_tests::{HEADER, PUBLISHED, joined, strings};
 use serial_set::Held;

@@ -1,7 +1,7 @@
 //! Laws of what is asked. Each function does nothing: its contract is the law.
 
 ghost use Rattle.std.specs.Prelude.{◌≡◌, ◌+◌, ◌*◌, ◌≤◌, ◌↔◌, IsTrue, List, Some, length};
-ghost use Rattle.ssh_subject.specs.Subject.{Subject};
+ghost use Rattle.krl_types.specs.Subject.{Subject};
 ghost use Rattle.krl_held.specs.Contents.{Contents, IsOrderly, Means, held, serials_in, stored};
 ghost use Rattle.krl_held.specs.Entry.{Entry};
 ghost use Rattle.krl_held.specs.NamingTests.{is_revoked};

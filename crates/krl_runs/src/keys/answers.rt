@@ -11,7 +11,7 @@ use std::alloc::{AllocError, Global};
 /// How a run answers for each key of its files.
 pub trait Answers {
     ghost use Rattle.krl_runs.specs.Run.{Answering};
-    ghost use Rattle.ssh_subject.specs.Subject.{Subject};
+    ghost use Rattle.krl_types.specs.Subject.{Subject};
 
     // It answers as such a run does.
     ghost answers_as: { Self → Answering → Type 0 };

@@ -5,7 +5,7 @@ ghost use Rattle.key_files.specs.Keys.{File as FileOf};
 ghost use Rattle.krl_held.specs.Entry.{Entry as EntryOf};
 ghost use Rattle.krl_held.specs.Questions.{Asks};
 ghost use Rattle.krl_core.specs.Reading.{HasReadOf, IsReadingOf};
-ghost use Rattle.krl_fault.specs.declared.krl_fault.KrlFault.{KrlFault as FaultOf};
+ghost use Rattle.krl_types.specs.declared.krl_fault.KrlFault.{KrlFault as FaultOf};
 ghost use Rattle.krl_runs.specs.Carries.{Carries};
 ghost use Rattle.krl_runs.specs.Expected.{AllExpected};
 ghost use Rattle.krl_runs.specs.Query.{AnswersAbout, HasEntries, asked_run_of};

@@ -1,4 +1,4 @@
-//! The callers of the pages of `spec_fault`, `krl_spec`, `key_files`, `krl_make` and `krl_runs`.
+//! The callers of the pages of `krl_spec`, `key_files`, `krl_make` and `krl_runs`.
 
 use crate::tests::runs::holding;
 use key_files::{Named, RunFault, keys_of};
@@ -11,11 +11,6 @@ use serial_set::Held;
 use ssh_cert::subject;
 use ssh_wire::{FromRead, ToWrite};
 use std::alloc::Global;
-
-/// The line of a fault, and the fault's number.
-fn place_of(fault: SpecFault) -> (u64, u8) {
-    (fault.line, fault.cause.number())
-}
 
 /// What the lines of a specification file revoke, under all authorities.
 fn revoked_by(alloc: Global, lines: &[u8]) -> Result<Revocations<Held>, SpecFault> {
@@ -72,8 +67,7 @@ fn lines_revoke(rt: HostRuntime) {
     let fault = revoked_by(rt.alloc(), b"serial: 9-7")
         .err()
         .expect(&rt, "the line is refused");
-    let (line, number) = place_of(fault);
-    assert!(rt; line == 1 && number == 3);
+    assert!(rt; fault.line == 1 && fault.cause.number() == 3);
 }
 
 #[test]

@@ -1,4 +1,4 @@
-//! The callers of the pages of `ssh_cert` and `ssh_subject`.
+//! The caller of the page of `ssh_cert`, and what a certificate is asked about.
 
 ghost use Rattle.std.specs.Prelude.{IsTrue};
 ghost use Rattle.ssh_cert.specs.Certificate.{Certificate, IsCertificate};

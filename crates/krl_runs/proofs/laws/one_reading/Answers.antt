@@ -6,8 +6,8 @@ use Rattle.krl_core.specs.Front.{IsFirstFault}
 use Rattle.krl_core.specs.Krl.{SpelledSection}
 use Rattle.krl_core.specs.Reading.{Says, starved, failed_read, first}
 use Rattle.krl_core.specs.declared.header.Header.{Header}
-use Rattle.krl_fault.specs.declared.krl_fault.KrlFault.{KrlFault}
-use Rattle.krl_fault.specs.declared.krl_fault.KrlFault.TheVariants.{NoMemory}
+use Rattle.krl_types.specs.declared.krl_fault.KrlFault.{KrlFault}
+use Rattle.krl_types.specs.declared.krl_fault.KrlFault.TheVariants.{NoMemory}
 use Rattle.krl_runs.specs.Contents.{Known}
 use Rattle.krl_runs.specs.Query.{IsHeld, IsRead}
 use Rattle.krl_runs.proofs.laws.one_reading.Goals as goal

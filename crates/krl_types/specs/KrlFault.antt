@@ -3,14 +3,14 @@
 use Rattle.std.specs.Prelude.{ℕ, List, codes}
 use Rattle.ssh_wire.specs.declared.pull_fault.PullFault.{PullFault}
 use Rattle.ssh_wire.specs.declared.pull_fault.PullFault.TheVariants as pulls
-use Rattle.krl_fault.specs.declared.krl_fault.KrlFault.{KrlFault}
-use Rattle.krl_fault.specs.declared.krl_fault.KrlFault.TheVariants.{Magic, FormatVersion, EndsEarly}
-use Rattle.krl_fault.specs.declared.krl_fault.KrlFault.TheVariants.{UnknownSection}
-use Rattle.krl_fault.specs.declared.krl_fault.KrlFault.TheVariants.{UnknownCertSection, Length}
-use Rattle.krl_fault.specs.declared.krl_fault.KrlFault.TheVariants.{RangeReversed, BitmapNegative}
-use Rattle.krl_fault.specs.declared.krl_fault.KrlFault.TheVariants.{BitmapWraps, HashLength}
-use Rattle.krl_fault.specs.declared.krl_fault.KrlFault.TheVariants.{AfterSignature, TooLong, Read}
-use Rattle.krl_fault.specs.declared.krl_fault.KrlFault.TheVariants.{NoMemory, CriticalExtension}
+use Rattle.krl_types.specs.declared.krl_fault.KrlFault.{KrlFault}
+use Rattle.krl_types.specs.declared.krl_fault.KrlFault.TheVariants.{Magic, FormatVersion, EndsEarly}
+use Rattle.krl_types.specs.declared.krl_fault.KrlFault.TheVariants.{UnknownSection}
+use Rattle.krl_types.specs.declared.krl_fault.KrlFault.TheVariants.{UnknownCertSection, Length}
+use Rattle.krl_types.specs.declared.krl_fault.KrlFault.TheVariants.{RangeReversed, BitmapNegative}
+use Rattle.krl_types.specs.declared.krl_fault.KrlFault.TheVariants.{BitmapWraps, HashLength}
+use Rattle.krl_types.specs.declared.krl_fault.KrlFault.TheVariants.{AfterSignature, TooLong, Read}
+use Rattle.krl_types.specs.declared.krl_fault.KrlFault.TheVariants.{NoMemory, CriticalExtension}
 
 abbrev pub fault_number : KrlFault → ℕ
 fault_number Magic = 1

@@ -1,8 +1,8 @@
 //! Why a revocation list is refused.
 
 ghost use Rattle.std.specs.Prelude.{◌≡◌, Some};
-ghost use Rattle.krl_fault.specs.KrlFault.{fault_number, fault_text, reported_as};
-ghost use Rattle.krl_fault.specs.declared.krl_fault.KrlFault.TheVariants.{NoMemory};
+ghost use Rattle.krl_types.specs.KrlFault.{fault_number, fault_text, reported_as};
+ghost use Rattle.krl_types.specs.declared.krl_fault.KrlFault.TheVariants.{NoMemory};
 
 use ssh_wire::PullFault;
 use std::alloc::{AllocError, AllocFailed};

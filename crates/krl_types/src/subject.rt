@@ -15,7 +15,7 @@ pub struct CertNames<'a> {
 }
 
 impl<'a> Model for CertNames<'a> {
-    ghost use Rattle.ssh_subject.specs.Subject.{Names};
+    ghost use Rattle.krl_types.specs.Subject.{Names};
 
     ghost Value = { Names };
 
@@ -36,7 +36,7 @@ pub struct Subject<'a> {
 }
 
 impl<'a> Model for Subject<'a> {
-    ghost use Rattle.ssh_subject.specs.Subject.{Subject};
+    ghost use Rattle.krl_types.specs.Subject.{Subject};
 
     ghost Value = { Subject };
 

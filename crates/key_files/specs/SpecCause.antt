@@ -3,12 +3,12 @@ use Rattle.std.specs.Prelude.{ℕ, List, ◌++◌, codes}
 use Rattle.ssh_key.specs.FingerprintFault.{fingerprint_fault_text}
 use Rattle.ssh_key.specs.LineFault.{fault_text}
 use Rattle.ssh_cert.specs.SubjectFault.{subject_fault_text}
-use Rattle.spec_fault.specs.declared.spec_cause.KeyCause.{KeyCause}
-use Rattle.spec_fault.specs.declared.spec_cause.KeyCause.TheVariants.{Line, Subject}
-use Rattle.spec_fault.specs.declared.spec_cause.SpecCause.{SpecCause}
-use Rattle.spec_fault.specs.declared.spec_cause.SpecCause.TheVariants.{Number, Zero, Reversed}
-use Rattle.spec_fault.specs.declared.spec_cause.SpecCause.TheVariants.{NoAuthority, EmptyId, Key}
-use Rattle.spec_fault.specs.declared.spec_cause.SpecCause.TheVariants.{Fingerprint, NoMemory}
+use Rattle.key_files.specs.declared.spec_cause.KeyCause.{KeyCause}
+use Rattle.key_files.specs.declared.spec_cause.KeyCause.TheVariants.{Line, Subject}
+use Rattle.key_files.specs.declared.spec_cause.SpecCause.{SpecCause}
+use Rattle.key_files.specs.declared.spec_cause.SpecCause.TheVariants.{Number, Zero, Reversed}
+use Rattle.key_files.specs.declared.spec_cause.SpecCause.TheVariants.{NoAuthority, EmptyId, Key}
+use Rattle.key_files.specs.declared.spec_cause.SpecCause.TheVariants.{Fingerprint, NoMemory}
 
 abbrev pub spec_cause_number : SpecCause → ℕ
 spec_cause_number Number = 1

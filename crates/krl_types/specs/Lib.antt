@@ -1,1 +1,2 @@
 pub mod KrlFault
+pub mod Subject

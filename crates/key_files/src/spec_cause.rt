@@ -1,8 +1,8 @@
 //! Why a line of a specification file is refused.
 
 ghost use Rattle.std.specs.Prelude.{◌≡◌, Some};
-ghost use Rattle.spec_fault.specs.SpecCause.{key_cause_text, spec_cause_number, spec_cause_text};
-ghost use Rattle.spec_fault.specs.declared.spec_cause.SpecCause.TheVariants.{NoMemory};
+ghost use Rattle.key_files.specs.SpecCause.{key_cause_text, spec_cause_number, spec_cause_text};
+ghost use Rattle.key_files.specs.declared.spec_cause.SpecCause.TheVariants.{NoMemory};
 
 use ssh_cert::SubjectFault;
 use ssh_key::{FingerprintFault, LineFault};
