@@ -4,7 +4,7 @@ use Rattle.std.specs.Io.KnownBytes.{Consumes, prepend_known}
 use Rattle.std.proofs.KnownBytes.{Consumes-trans}
 use Rattle.ssh_wire.specs.declared.pull_fault.PullFault.{PullFault}
 use Rattle.ssh_wire.specs.declared.pull_fault.PullFault.TheVariants.{EndsEarly, TooLong, Read, NoMemory}
-use Rattle.ssh_wire.specs.Pull.{Consumes-ahead, Pulled, TakesRest, RefusesRest, after_ahead, untaken}
+use Rattle.ssh_wire.specs.Pull.{Consumes-ahead, Pull, TakesRest, RefusesRest, after_ahead, untaken}
 use Rattle.key_files.specs.Named.{file_limit, IsLoaded, file_fault}
 
 -- no byte stands ahead
@@ -12,7 +12,7 @@ none_ahead : (before source : Option (List ℕ)) (ahead : Option ℕ) (came : Li
 none_ahead before source ahead came none bytes = subst (λ (a : Option ℕ). Consumes before (after_ahead a source) came) none bytes
 
 -- all that was left came
-pub loads_all : (before : Option (List ℕ)) (buffered bytes : List ℕ) (new : Pulled) → TakesRest (untaken before buffered file_limit) bytes new → IsLoaded before new.source new.failed (Ok bytes)
+pub loads_all : (before : Option (List ℕ)) (buffered bytes : List ℕ) (new : Pull) → TakesRest (untaken before buffered file_limit) bytes new → IsLoaded before new.source new.failed (Ok bytes)
 loads_all before buffered bytes new takes = record {
   taken = bytes;
   consumed = none_ahead before new.source new.ahead bytes takes.none_ahead takes.takes.bytes;
@@ -29,7 +29,7 @@ passes_limit before source (Some byte) came failed bytes some full working = rec
 }
 
 -- not all that was left came
-pub loads_none : (before : Option (List ℕ)) (buffered : List ℕ) (fault : PullFault) (new : Pulled) → RefusesRest (untaken before buffered file_limit) fault new → IsLoaded before new.source new.failed (Err (file_fault fault))
+pub loads_none : (before : Option (List ℕ)) (buffered : List ℕ) (fault : PullFault) (new : Pull) → RefusesRest (untaken before buffered file_limit) fault new → IsLoaded before new.source new.failed (Err (file_fault fault))
 loads_none before buffered EndsEarly new refuses = absurd refuses.misses.reports
 loads_none before buffered TooLong new refuses =
     let misses = refuses.misses in

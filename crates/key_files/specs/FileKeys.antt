@@ -11,18 +11,18 @@ use Rattle.key_files.specs.declared.file_keys.Left.{Left}
 use Rattle.key_files.specs.declared.file_keys.Left.TheVariants as lefts
 use Rattle.key_files.specs.declared.file_keys.Lines.{Lines}
 use Rattle.key_files.specs.declared.cause.Cause.TheVariants.{File}
-use Rattle.key_files.specs.Keys.{Found, container_found, held_by, keys_from, line_found}
-use Rattle.key_files.specs.Stop.{Stop, stop_of}
+use Rattle.key_files.specs.Keys.{FileKey, container_found, held_by, keys_from, line_found}
+use Rattle.key_files.specs.RunFault.{RunFault, stop_of}
 
 -- what the line or the container of a key holds
 abbrev pub content_in : KeyText → Content
 content_in (Line line) = content_of line
 content_in (Container private) = held_by (record { blob = private.blob; comment = private.comment })
 
-abbrev pub lines_keys : List ℕ → Lines → List (Result Found Stop)
+abbrev pub lines_keys : List ℕ → Lines → List (Result FileKey RunFault)
 lines_keys name lines = keys_from name (lines.passed + 1) (lines_left lines.rest)
 
-abbrev pub keys_left : List ℕ → Left → List (Result Found Stop)
+abbrev pub keys_left : List ℕ → Left → List (Result FileKey RunFault)
 keys_left name (lefts.Fault fault) = Err (stop_of name (File fault)) ∷ []
 keys_left name (lefts.Container text) = container_found name (private_at text.now) ∷ []
 keys_left name (lefts.Lines lines) = lines_keys name lines

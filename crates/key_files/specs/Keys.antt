@@ -14,25 +14,25 @@ use Rattle.key_files.specs.declared.cause.Cause.{Cause}
 use Rattle.key_files.specs.declared.cause.Cause.TheVariants as causes
 use Rattle.key_files.specs.declared.file_fault.FileFault.{FileFault}
 use Rattle.ssh_key.specs.Lines.{is_newline}
-use Rattle.key_files.specs.Stop.{Stop, Ender, ByOutput, ByMemory, ByInput, ender_of, stop_of}
+use Rattle.key_files.specs.RunFault.{RunFault, EndedBy, ByOutput, ByMemory, ByInput, ended_by, stop_of}
 
 -- a file's name, and its bytes or why there are none
-pub record File : Type 0 where
+pub record Named : Type 0 where
   pub name : List ℕ
   pub content : Result (List ℕ) FileFault
 
 -- a fault of a line
-abbrev pub stop_at : List ℕ → ℕ → Cause → Stop
+abbrev pub stop_at : List ℕ → ℕ → Cause → RunFault
 stop_at name number cause = record { name = name; line = Some number; cause = cause }
 
 -- A key that a file has: the file's name, the number of the line (a container has none), and what
 -- the line or the container holds.
-pub record Found : Type 0 where
+pub record FileKey : Type 0 where
   pub name : List ℕ
   pub number : Option ℕ
   pub line : Content
 
-abbrev pub found : List ℕ → Option ℕ → Content → Found
+abbrev pub found : List ℕ → Option ℕ → Content → FileKey
 found name number line = record { name = name; number = number; line = line }
 
 -- what a container holds, as a line would: there is no type word
@@ -40,62 +40,62 @@ abbrev pub held_by : Opened → Content
 held_by opened = content [] opened.blob opened.comment
 
 -- the key of a line that has one, or why the file stops there
-abbrev pub line_found : List ℕ → ℕ → Result Content LineFault → Result Found Stop
+abbrev pub line_found : List ℕ → ℕ → Result Content LineFault → Result FileKey RunFault
 line_found name number (Err fault) = Err (stop_at name number (causes.Line fault))
 line_found name number (Ok line) = Ok (found name (Some number) line)
 
-abbrev pub container_found : List ℕ → Result Opened PrivateFault → Result Found Stop
+abbrev pub container_found : List ℕ → Result Opened PrivateFault → Result FileKey RunFault
 container_found name (Err fault) = Err (stop_of name (causes.Private fault))
 container_found name (Ok opened) = Ok (found name None (held_by opened))
 
 -- the key of a line by its number, where the line has one
-unfoldable pub key_in : List ℕ → ℕ → List ℕ → Option (Result Found Stop)
+unfoldable pub key_in : List ℕ → ℕ → List ℕ → Option (Result FileKey RunFault)
 key_in name number line =
     if has_key line then Some (line_found name number (line_at line)) else None
 
 -- the keys of lines, of which the first has this number
-abbrev pub keys_from : List ℕ → ℕ → List (List ℕ) → List (Result Found Stop)
+abbrev pub keys_from : List ℕ → ℕ → List (List ℕ) → List (Result FileKey RunFault)
 keys_from name number [] = []
 keys_from name number (line ∷ lines) =
     option_to_list (key_in name number line) ++ keys_from name (number + 1) lines
 
 -- the keys of a file's text
-abbrev pub text_keys : List ℕ → List ℕ → List (Result Found Stop)
+abbrev pub text_keys : List ℕ → List ℕ → List (Result FileKey RunFault)
 text_keys name text =
     if begins_container text then container_found name (private_at text) ∷ []
     else keys_from name 1 (slice_split is_newline text)
 
-abbrev pub content_keys : List ℕ → Result (List ℕ) FileFault → List (Result Found Stop)
+abbrev pub content_keys : List ℕ → Result (List ℕ) FileFault → List (Result FileKey RunFault)
 content_keys name (Err fault) = Err (stop_of name (causes.File fault)) ∷ []
 content_keys name (Ok text) = text_keys name text
 
 -- The keys of a file in order. What is after a fault does not count.
-unfoldable pub keys_of : File → List (Result Found Stop)
+unfoldable pub keys_of : Named → List (Result FileKey RunFault)
 keys_of file = content_keys file.name file.content
 
 -- the name of the file
-abbrev pub file_of : Result Found Stop → List ℕ
+abbrev pub file_of : Result FileKey RunFault → List ℕ
 file_of (Ok found) = found.name
 file_of (Err stop) = stop.name
 
 -- The next key was not given: a fault stops the file there, or memory ran out.
-abbrev pub IsRefused : Ender → Result Found Stop → Stop → Type 0
+abbrev pub IsRefused : EndedBy → Result FileKey RunFault → RunFault → Type 0
 IsRefused ByInput next stop = next ≡ Err stop
 IsRefused ByMemory next stop = stop ≡ stop_of (file_of next) causes.NoMemory
 IsRefused (ByOutput count) next stop = ⊥
 
-abbrev pub GivesKey : Result Found Stop → Result Found Stop → Type 0
+abbrev pub GivesKey : Result FileKey RunFault → Result FileKey RunFault → Type 0
 GivesKey next (Ok key) = next ≡ Ok key
-GivesKey next (Err stop) = IsRefused (ender_of stop.cause) next stop
+GivesKey next (Err stop) = IsRefused (ended_by stop.cause) next stop
 
 -- Of the keys that were left the next one was given or refused, or none was left.
-abbrev pub GivesNext : List (Result Found Stop) → Option (Result Found Stop)
-    → List (Result Found Stop) → Type 0
+abbrev pub GivesNext : List (Result FileKey RunFault) → Option (Result FileKey RunFault)
+    → List (Result FileKey RunFault) → Type 0
 GivesNext left None later = (left ≡ []) × (later ≡ [])
 GivesNext left (Some given) later =
-    (next : Result Found Stop) × ((left ≡ next ∷ later) × GivesKey next given)
+    (next : Result FileKey RunFault) × ((left ≡ next ∷ later) × GivesKey next given)
 
 -- a fault of a key's blob
-abbrev pub stop_in : Found → SubjectFault → Stop
+abbrev pub stop_in : FileKey → SubjectFault → RunFault
 stop_in key fault =
     record { name = key.name; line = key.number; cause = causes.Subject fault }

@@ -1,6 +1,6 @@
 pub mod FileFault
 pub mod SpecCause
 pub mod Named
-pub mod Stop
+pub mod RunFault
 pub mod Keys
 pub mod FileKeys

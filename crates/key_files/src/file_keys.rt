@@ -42,9 +42,9 @@ pub struct FileKey<'a> {
 
 impl<'a> Model for FileKey<'a> {
     ghost use Rattle.key_files.specs.FileKeys.{content_in};
-    ghost use Rattle.key_files.specs.Keys.{Found};
+    ghost use Rattle.key_files.specs.Keys.{FileKey};
 
-    ghost Value = { Found };
+    ghost Value = { FileKey };
 
     ghost view = { λ key. record {
       name = key.name.now;
@@ -143,10 +143,10 @@ pub struct FileKeys<'a> {
 impl<'a> Model for FileKeys<'a> {
     ghost use Rattle.std.specs.Prelude.{List, Result};
     ghost use Rattle.key_files.specs.FileKeys.{HasRoom, keys_left};
-    ghost use Rattle.key_files.specs.Keys.{Found};
-    ghost use Rattle.key_files.specs.Stop.{Stop};
+    ghost use Rattle.key_files.specs.Keys.{FileKey};
+    ghost use Rattle.key_files.specs.RunFault.{RunFault};
 
-    ghost Value = { List (Result Found Stop) };
+    ghost Value = { List (Result FileKey RunFault) };
 
     ghost view = { λ keys. keys_left keys.name.now keys.left };
 

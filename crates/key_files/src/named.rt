@@ -21,9 +21,9 @@ pub struct Named<'a> {
 }
 
 impl<'a> Model for Named<'a> {
-    ghost use Rattle.key_files.specs.Keys.{File};
+    ghost use Rattle.key_files.specs.Keys.{Named};
 
-    ghost Value = { File };
+    ghost Value = { Named };
 
     ghost view = { λ file. record { name = file.name.now; content = file.content } };
 }

@@ -2,7 +2,7 @@
 
 ghost use Rattle.std.specs.Prelude.{◌≡◌, ◌++◌, IfOk, OnOk};
 ghost use Rattle.key_files.specs.Keys.{stop_at};
-ghost use Rattle.key_files.specs.Stop.{fault_text, line_part, stop_of};
+ghost use Rattle.key_files.specs.RunFault.{fault_text, line_part, stop_of};
 
 use crate::cause::Cause;
 use ssh_cert::push_escaped;
@@ -21,9 +21,9 @@ pub struct RunFault<'a> {
 }
 
 impl<'a> Model for RunFault<'a> {
-    ghost use Rattle.key_files.specs.Stop.{Stop};
+    ghost use Rattle.key_files.specs.RunFault.{RunFault};
 
-    ghost Value = { Stop };
+    ghost Value = { RunFault };
 
     ghost view = { λ fault. record {
       name = fault.name.now;
@@ -58,7 +58,7 @@ impl<'a> RunFault<'a> {
 
 /// The line for standard error, without its line feed: the program, the name with its control bytes
 /// escaped, the line of the file, and the fault. Fails only where memory runs out.
-#[tactic(auto, unfolding(crate::specs::Stop::fault_text))]
+#[tactic(auto, unfolding(crate::specs::RunFault::fault_text))]
 pub fn fault_text(alloc: Global, fault: &RunFault) -> Result<Vec<u8>, AllocError>
     ensures { IfOk result (λ text. text.items ≡ fault_text fault.now) }
 {

@@ -8,7 +8,7 @@ use Rattle.ssh_key.specs.LineFaults.{IsFirstLineFault}
 use Rattle.ssh_key.specs.LineReading.{Content, content}
 use Rattle.ssh_key.specs.declared.line_fault.LineFault.{LineFault}
 use Rattle.krl_held.specs.Entry.{Entry}
-use Rattle.krl_c.specs.Answer.{AnswersBlob, AnswersBy, AnswersLine, HasOne, Says, names, spares, said, no_blob, starved, answered, no_list, list_starved, of_key, no_line, line_starved}
+use Rattle.krl_c.specs.Answer.{AnswersBlob, AnswersBy, AnswersLine, HasOne, Says, names, spares, said, no_blob, ran_out, answered, no_list, list_ran_out, of_key, no_line, line_ran_out}
 use Rattle.krl_c.specs.Number.{list_number, line_number, no_memory, subject_number}
 
 -- the two are one, or memory ran out for one of them
@@ -40,8 +40,8 @@ blob_once blob read of_subject of_fault entries one other (no_blob fault first e
     let right = of_fault fault' first' in
     let same : fault ≡ fault' = cc in
     numbers_same subject_number one other fault fault' same e f
-blob_once blob read of_subject of_fault entries one other (starved e) tells = inr (inl e)
-blob_once blob read of_subject of_fault entries one other says (starved f) = inr (inr f)
+blob_once blob read of_subject of_fault entries one other (ran_out e) tells = inr (inl e)
+blob_once blob read of_subject of_fault entries one other says (ran_out f) = inr (inr f)
 
 -- of a line, by a reading of it
 pub line_once : (text : List ℕ) (read : Result Content LineFault) → ((word blob comment : List ℕ) → IsKeyLine text word blob comment → read ≡ Ok (content word blob comment))
@@ -62,8 +62,8 @@ line_once text read of_line of_fault entries once one other (no_line fault first
     let right = of_fault fault' first' in
     let same : fault ≡ fault' = cc in
     numbers_same line_number one other fault fault' same e f
-line_once text read of_line of_fault entries once one other (line_starved e) tells = inr (inl e)
-line_once text read of_line of_fault entries once one other says (line_starved f) = inr (inr f)
+line_once text read of_line of_fault entries once one other (line_ran_out e) tells = inr (inl e)
+line_once text read of_line of_fault entries once one other says (line_ran_out f) = inr (inr f)
 
 -- ---- of a list
 
@@ -74,5 +74,5 @@ list_once {Tells} list has once one other (answered these is says) (answered oth
 list_once list has once one other (answered these is says) (no_list fault first e) = absurd (has.none these fault is first)
 list_once list has once one other (no_list fault first e) (answered these is says) = absurd (has.none these fault is first)
 list_once list has once one other (no_list fault first e) (no_list fault' first' f) = numbers_same list_number one other fault fault' (has.fault fault fault' first first') e f
-list_once list has once one other (list_starved e) tells = inr (inl e)
-list_once list has once one other says (list_starved f) = inr (inr f)
+list_once list has once one other (list_ran_out e) tells = inr (inl e)
+list_once list has once one other says (list_ran_out f) = inr (inr f)

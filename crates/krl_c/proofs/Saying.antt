@@ -15,11 +15,11 @@ use Rattle.krl_types.specs.declared.krl_fault.KrlFault.TheVariants as lists
 use Rattle.krl_core.specs.declared.header.Header.{Header}
 use Rattle.krl_core.specs.Entries.{entries_of}
 use Rattle.krl_held.specs.Entry.{Entry}
-use Rattle.krl_held.specs.Contents.{Contents}
+use Rattle.krl_held.specs.Revocations.{Revocations}
 use Rattle.krl_core.specs.Front.{IsFirstFault}
-use Rattle.krl_core.specs.Reading.{IsListAs, Says as ListSays, starved as runs_out, failed_read, first}
-use Rattle.krl_c.specs.Answer.{Answers, AnswersBlob, AnswersBy, AnswersLine, AnswersOfLine, IsListOf, answered, of_key, no_list, list_starved, no_blob, starved, no_line, line_starved}
-use Rattle.krl_c.specs.Kept.{Loads, load_starved, not_loaded_for}
+use Rattle.krl_core.specs.Reading.{IsListAs, Says as ListSays, ran_out as runs_out, failed_read, first}
+use Rattle.krl_c.specs.Answer.{Answers, AnswersBlob, AnswersBy, AnswersLine, AnswersOfLine, IsListOf, answered, of_key, no_list, list_ran_out, no_blob, ran_out, no_line, line_ran_out}
+use Rattle.krl_c.specs.Kept.{Loads, load_ran_out, not_loaded_for}
 use Rattle.krl_c.specs.declared.kept.Kept.{Kept}
 use Rattle.krl_c.specs.Number.{list_number, line_number, subject_number}
 
@@ -32,7 +32,7 @@ pub refused : (entries : List Entry) (blob : List ℕ) (fault : SubjectFault) (n
     → IsReportedFault blob fault → number ≡ subject_number fault → AnswersBlob entries blob number
 refused entries blob (subjects.Key why) number reported e = no_blob (subjects.Key why) reported e
 refused entries blob (subjects.Cert why) number reported e = no_blob (subjects.Cert why) reported e
-refused entries blob subjects.NoMemory number reported e = starved e
+refused entries blob subjects.NoMemory number reported e = ran_out e
 
 -- a line's fault is answered by its number
 pub line_refused : (entries : List Entry) (text : List ℕ) (fault : LineFault) (number : ℤ)
@@ -40,10 +40,10 @@ pub line_refused : (entries : List Entry) (text : List ℕ) (fault : LineFault) 
 line_refused entries text lines.NoKey number reported e = no_line lines.NoKey reported e
 line_refused entries text lines.Base64 number reported e = no_line lines.Base64 reported e
 line_refused entries text lines.WordDiffers number reported e = no_line lines.WordDiffers reported e
-line_refused entries text lines.NoMemory number reported e = line_starved e
+line_refused entries text lines.NoMemory number reported e = line_ran_out e
 
 -- what was read of a list is that of its sections
-pub of_list : {Holds : List ℕ → Contents → List Entry → Type 0} (text : List ℕ) (header : Header) (contents : Contents)
+pub of_list : {Holds : List ℕ → Revocations → List Entry → Type 0} (text : List ℕ) (header : Header) (contents : Revocations)
     (list : IsListAs Holds text header contents) → IsListOf text (entries_of list.sections)
 of_list text header contents list = record {
   header = header;
@@ -64,7 +64,7 @@ first_of text fault left (first is works) = inr is
 pub list_refused : {Says : List Entry → ℤ → Type 0} (text : List ℕ) (fault : KrlFault) (number : ℤ)
     → (fault ≡ lists.NoMemory) ⊎ IsFirstFault text (Some fault)
     → number ≡ list_number fault → AnswersBy Says text number
-list_refused text fault number (inl is) e = list_starved (e ∙ (rw is refl))
+list_refused text fault number (inl is) e = list_ran_out (e ∙ (rw is refl))
 list_refused text fault number (inr is) e = no_list fault is e
 
 -- what a list answers about the key of a line is what it answers about that key's blob
@@ -72,11 +72,11 @@ pub of_its_blob : (list text word blob comment : List ℕ) (number : ℤ) → Is
     → Answers list blob number → AnswersOfLine list text number
 of_its_blob list text word blob comment number line (answered entries is says) = answered entries is (of_key word blob comment line says)
 of_its_blob list text word blob comment number line (no_list fault is_first is) = no_list fault is_first is
-of_its_blob list text word blob comment number line (list_starved is) = list_starved is
+of_its_blob list text word blob comment number line (list_ran_out is) = list_ran_out is
 
 -- a list that is refused is not held, and what was held stays
 pub kept_where_refused : (list : List ℕ) (held : Kept) (fault : KrlFault) (number : ℤ)
     → (fault ≡ lists.NoMemory) ⊎ IsFirstFault list (Some fault)
     → number ≡ list_number fault → Loads list held held number
-kept_where_refused list held fault number (inl is) e = load_starved (e ∙ (rw is refl)) refl
+kept_where_refused list held fault number (inl is) e = load_ran_out (e ∙ (rw is refl)) refl
 kept_where_refused list held fault number (inr is) e = not_loaded_for fault is e refl

@@ -43,7 +43,7 @@ pub data AnswersBlob (entries : List Entry) (blob : List ℕ) (number : ℤ) : T
       → AnswersBlob entries blob number
   no_blob : (fault : SubjectFault) → IsSubjectFault blob fault → number ≡ subject_number fault
       → AnswersBlob entries blob number
-  starved : number ≡ no_memory → AnswersBlob entries blob number
+  ran_out : number ≡ no_memory → AnswersBlob entries blob number
 
 -- What entries answer about the key of a line, as one of an authorized keys file.
 pub data AnswersLine (entries : List Entry) (text : List ℕ) (number : ℤ) : Type 0 where
@@ -51,7 +51,7 @@ pub data AnswersLine (entries : List Entry) (text : List ℕ) (number : ℤ) : T
       → AnswersBlob entries blob number → AnswersLine entries text number
   no_line : (fault : LineFault) → IsFirstLineFault text fault → number ≡ line_number fault
       → AnswersLine entries text number
-  line_starved : number ≡ no_memory → AnswersLine entries text number
+  line_ran_out : number ≡ no_memory → AnswersLine entries text number
 
 -- What a list answers, by what its entries answer. Of a list that is refused the first fault is
 -- answered.
@@ -60,7 +60,7 @@ pub data AnswersBy (Says : List Entry → ℤ → Type 0) (list : List ℕ) (num
       → AnswersBy Says list number
   no_list : (fault : KrlFault) → IsFirstFault list (Some fault) → number ≡ list_number fault
       → AnswersBy Says list number
-  list_starved : number ≡ no_memory → AnswersBy Says list number
+  list_ran_out : number ≡ no_memory → AnswersBy Says list number
 
 -- about a blob
 abbrev pub Answers : (list blob : List ℕ) → ℤ → Type 0

@@ -1,6 +1,6 @@
 -- What is held of a list, by the entries that it means.
 use Rattle.std.specs.Prelude.{◌≡◌, ℕ, ℤ, Bool, true, false, List, Some}
-use Rattle.krl_held.specs.Contents.{Contents, Means, nothing}
+use Rattle.krl_held.specs.Revocations.{Revocations, Means, nothing}
 use Rattle.krl_held.specs.Entry.{Entry}
 use Rattle.krl_core.specs.Front.{IsFirstFault}
 use Rattle.krl_types.specs.declared.krl_fault.KrlFault.{KrlFault}
@@ -9,7 +9,7 @@ use Rattle.krl_c.specs.Number.{fine, list_number, no_memory}
 use Rattle.krl_c.specs.declared.kept.Kept.{Kept}
 
 -- a list was read, and what is held means these entries
-pub record Holds (loaded : Bool) (contents : Contents) (entries : List Entry) : Type 0 where
+pub record Holds (loaded : Bool) (contents : Revocations) (entries : List Entry) : Type 0 where
   pub is_loaded : loaded ≡ true
   pub means : Means contents entries
 
@@ -24,4 +24,4 @@ pub data Loads (list : List ℕ) (old new : Kept) (number : ℤ) : Type 0 where
       → number ≡ fine → Loads list old new number
   not_loaded_for : (fault : KrlFault) → IsFirstFault list (Some fault) → number ≡ list_number fault
       → new ≡ old → Loads list old new number
-  load_starved : number ≡ no_memory → new ≡ old → Loads list old new number
+  load_ran_out : number ≡ no_memory → new ≡ old → Loads list old new number

@@ -2,7 +2,7 @@
 
 ghost use Rattle.std.specs.Prelude.{◌≡◌, ◌⊎◌, List, IfOk, IfErr};
 ghost use Rattle.krl_types.specs.declared.krl_fault.KrlFault.TheVariants.{NoMemory};
-ghost use Rattle.krl_held.specs.Contents.{Means};
+ghost use Rattle.krl_held.specs.Revocations.{Means};
 ghost use Rattle.krl_held.specs.Entry.{Entry};
 ghost use Rattle.krl_core.specs.Front.{IsFirstFault};
 ghost use Rattle.krl_c.specs.Answer.{AnswersBlob, AnswersLine, IsListOf};

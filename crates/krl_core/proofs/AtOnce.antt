@@ -12,31 +12,31 @@ use Rattle.krl_core.specs.declared.place.bitmap.BitmapPlace.TheVariants as bitma
 use Rattle.krl_core.specs.declared.place.serials.SerialsPlace.TheVariants as serials
 use Rattle.krl_core.specs.Crossing.{AreUnasked, Crosses, CrossesSome, MayPass}
 use Rattle.krl_held.specs.Scope.{AreUnwanted}
-use Rattle.krl_core.specs.Keeping.{InStep, Keeping, Skips, StaysWithin, held_with_open}
+use Rattle.krl_core.specs.Keeper.{InStep, Keeper, Skips, StaysWithin, held_with_open}
 use Rattle.krl_core.specs.Place.{next_bits, next_serial}
 use Rattle.krl_core.proofs.Eights.{crosses_serials}
 use Rattle.krl_core.proofs.Keeping.{stored_same}
 use Rattle.krl_core.proofs.Skipping.{crosses_bits, stays_grow}
 use Rattle.krl_held.proofs.Unasked.{take_fewer}
 
-pub serials_crossed : (bytes : List ℕ) (count : ℕ) (place next : Place) (keeping : Keeping) (left after : ℕ) → place ≡ places.Serials (serials.Serial left after) → next ≡ next_serial (left - count) after
-    → count ≤ length bytes → count ≤ left → count % 8 ≡ 0 → (count ≡ 0 → ⊥) → IsBytes bytes → InStep place keeping.bitmap → AreUnwanted keeping.scope keeping.authority bytes count
-    → CrossesSome bytes count (Ok (tt {0})) place keeping next keeping
-serials_crossed bytes count place next keeping left after at to there within whole some are step unwanted =
+pub serials_crossed : (bytes : List ℕ) (count : ℕ) (place next : Place) (keeper : Keeper) (left after : ℕ) → place ≡ places.Serials (serials.Serial left after) → next ≡ next_serial (left - count) after
+    → count ≤ length bytes → count ≤ left → count % 8 ≡ 0 → (count ≡ 0 → ⊥) → IsBytes bytes → InStep place keeper.bitmap → AreUnwanted keeper.scope keeper.authority bytes count
+    → CrossesSome bytes count (Ok (tt {0})) place keeper next keeper
+serials_crossed bytes count place next keeper left after at to there within whole some are step unwanted =
     let eights : 8 * (count / 8) ≡ count = omega arith in
-    let none : keeping.bitmap.pending ≡ None = subst (λ (p : Place). InStep p keeping.bitmap) at step in
-    let all : Crosses (take (8 * (count / 8)) bytes) (places.Serials (serials.Serial left after)) keeping (next_serial (left - 8 * (count / 8)) after) keeping =
-    crosses_serials (count / 8) keeping left after bytes (omega (arith, some)) none are (omega (arith, eights)) (omega (arith, eights)) (subst (AreUnwanted keeping.scope keeping.authority bytes) (sym eights) unwanted) in
-    let counted : Crosses (take count bytes) (places.Serials (serials.Serial left after)) keeping (next_serial (left - count) after) keeping =
-    subst (λ (n : ℕ). Crosses (take n bytes) (places.Serials (serials.Serial left after)) keeping (next_serial (left - n) after) keeping) eights all in
+    let none : keeper.bitmap.pending ≡ None = subst (λ (p : Place). InStep p keeper.bitmap) at step in
+    let all : Crosses (take (8 * (count / 8)) bytes) (places.Serials (serials.Serial left after)) keeper (next_serial (left - 8 * (count / 8)) after) keeper =
+    crosses_serials (count / 8) keeper left after bytes (omega (arith, some)) none are (omega (arith, eights)) (omega (arith, eights)) (subst (AreUnwanted keeper.scope keeper.authority bytes) (sym eights) unwanted) in
+    let counted : Crosses (take count bytes) (places.Serials (serials.Serial left after)) keeper (next_serial (left - count) after) keeper =
+    subst (λ (n : ℕ). Crosses (take n bytes) (places.Serials (serials.Serial left after)) keeper (next_serial (left - n) after) keeper) eights all in
     record {
       within = there;
-      ok = subst (λ (p : Place). Crosses (take count bytes) p keeping next keeping) (sym at) (subst (λ (p : Place). Crosses (take count bytes) (places.Serials (serials.Serial left after)) keeping p keeping) (sym to) counted);
-      grows = stays_grow count keeping keeping (omega arith) (stored_same keeping keeping refl refl refl);
+      ok = subst (λ (p : Place). Crosses (take count bytes) p keeper next keeper) (sym at) (subst (λ (p : Place). Crosses (take count bytes) (places.Serials (serials.Serial left after)) keeper p keeper) (sym to) counted);
+      grows = stays_grow count keeper keeper (omega arith) (stored_same keeper keeper refl refl refl);
       none = λ z. absurd (some z);
     }
 
-pub bits_crossed : (bytes : List ℕ) (count : ℕ) (result : Result (Unit {0}) AllocError) (place next : Place) (old new : Keeping) (offset size left after : ℕ)
+pub bits_crossed : (bytes : List ℕ) (count : ℕ) (result : Result (Unit {0}) AllocError) (place next : Place) (old new : Keeper) (offset size left after : ℕ)
     → place ≡ places.Bitmap (bitmaps.Byte offset size left after) → next ≡ next_bits offset size (left - count) after → MayPass old offset size left bytes count → (count ≡ 0 → ⊥) → IsBytes bytes
     → InStep place old.bitmap → OnOk result (Skips count old new) → held_with_open new ≤ held_with_open old → StaysWithin old new → CrossesSome bytes count result place old next new
 bits_crossed bytes count result place next old new offset size left after at to may some are step skips held stays =

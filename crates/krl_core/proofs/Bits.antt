@@ -14,10 +14,10 @@ use Rattle.krl_types.specs.declared.krl_fault.KrlFault.TheVariants as faults
 use Rattle.krl_core.specs.declared.place.Place.{Place}
 use Rattle.krl_held.specs.Entry.{Entry, BitmapEntry}
 use Rattle.krl_held.specs.Naming.{NamesSame, SerialOf}
-use Rattle.krl_held.specs.Contents.{Contents, held}
+use Rattle.krl_held.specs.Revocations.{Revocations, held}
 use Rattle.krl_held.specs.Scope.{MeansWithin, Scope}
 use Rattle.krl_held.specs.Changes.{run_entries}
-use Rattle.krl_core.specs.Keeping.{Keeping, IsKept, AddsEntries, Adds, InStep, KeepsBits, KeepsField, Closes, held_with_open, open_run, GrowsWithin, StaysWithin}
+use Rattle.krl_core.specs.Keeper.{Keeper, IsKept, AddsEntries, Adds, InStep, KeepsBits, KeepsField, Closes, held_with_open, open_run, GrowsWithin, StaysWithin}
 use Rattle.ssh_wire.specs.Wire.{number_of}
 use Rattle.krl_core.specs.declared.place.Place.TheVariants as places
 use Rattle.krl_core.specs.declared.place.bitmap.BitmapPlace.TheVariants as bitmaps
@@ -60,7 +60,7 @@ fed_same a before byte after finished fed =
     Iff.trans left (Iff.trans (Iff.and Iff.rfl runs) (Iff.symm right)))
 
 -- A byte was fed, and the runs that it finished were added.
-pub bits_kept : (old mid new : Keeping) (byte : ℕ) (finished : List Span) → Feeds old.bitmap byte mid.bitmap finished
+pub bits_kept : (old mid new : Keeper) (byte : ℕ) (finished : List Span) → Feeds old.bitmap byte mid.bitmap finished
     → mid.contents ≡ old.contents → mid.scope ≡ old.scope → mid.authority ≡ old.authority → Adds mid (run_entries mid.authority finished) new
     → AddsEntries old (BitmapEntry old.authority (lowest mid.bitmap) byte ∷ []) new
 bits_kept old mid new byte finished fed contents scope authority h entries k =
@@ -69,7 +69,7 @@ bits_kept old mid new byte finished fed contents scope authority h entries k =
     let E : List Entry = BitmapEntry old.authority (lowest mid.bitmap) byte ∷ [] in
     let before : IsKept mid (k.closed ++ O) = record {
       closed = k.closed;
-      means = subst (λ (r : Contents). MeansWithin mid.scope r k.closed) (sym contents) (subst (λ (s : Scope). MeansWithin s old.contents k.closed) (sym scope) k.means);
+      means = subst (λ (r : Revocations). MeansWithin mid.scope r k.closed) (sym contents) (subst (λ (s : Scope). MeansWithin s old.contents k.closed) (sym scope) k.means);
       same = same_refl (k.closed ++ O);
     } in
     let here = h.kept (k.closed ++ O) before in
@@ -92,14 +92,14 @@ bits_kept old mid new byte finished fed contents scope authority h entries k =
       same = same_then (here.closed ++ open_entries new) ((C ++ O) ++ F) (entries ++ E) here.same all;
     }
 
-entry_is : (old mid : Keeping) (byte : ℕ) (finished : List Span) → Feeds old.bitmap byte mid.bitmap finished
+entry_is : (old mid : Keeper) (byte : ℕ) (finished : List Span) → Feeds old.bitmap byte mid.bitmap finished
     → BitmapEntry old.authority (lowest mid.bitmap) byte ∷ [] ≡ BitmapEntry old.authority (base_of old.bitmap.offset old.bitmap.bytes_left) byte ∷ []
 entry_is old mid byte finished fed =
     let offset : mid.bitmap.offset ≡ old.bitmap.offset = ap (λ p. p.offset) fed.same_bitmap in
     let low : lowest mid.bitmap ≡ base_of old.bitmap.offset old.bitmap.bytes_left = omega (arith, offset, fed.one_less) in
     ap (λ (n : ℕ). BitmapEntry old.authority n byte ∷ []) low
 
-pub bits_go_on : (old mid new : Keeping) (byte : ℕ) (last : Bool) (finished : List Span) → last ≡ false → Feeds old.bitmap byte mid.bitmap finished
+pub bits_go_on : (old mid new : Keeper) (byte : ℕ) (last : Bool) (finished : List Span) → last ≡ false → Feeds old.bitmap byte mid.bitmap finished
     → mid.contents ≡ old.contents → mid.scope ≡ old.scope → mid.authority ≡ old.authority → mid.header ≡ old.header
     → Adds mid (run_entries mid.authority finished) new → KeepsBits byte last old new
 bits_go_on old mid new byte last finished off fed contents scope authority header h = record {
@@ -117,7 +117,7 @@ bits_go_on old mid new byte last finished off fed contents scope authority heade
       ∙ ap (λ (p : Option Span). record old.bitmap { bytes_left = old.bitmap.bytes_left - 1; pending = p }) pending;
 }
 
-pub bits_close : (old mid new last_one : Keeping) (byte : ℕ) (last : Bool) (finished : List Span) → last ≡ true → Feeds old.bitmap byte mid.bitmap finished
+pub bits_close : (old mid new last_one : Keeper) (byte : ℕ) (last : Bool) (finished : List Span) → last ≡ true → Feeds old.bitmap byte mid.bitmap finished
     → mid.contents ≡ old.contents → mid.scope ≡ old.scope → mid.authority ≡ old.authority → mid.header ≡ old.header
     → Adds mid (run_entries mid.authority finished) new → Closes new last_one → KeepsBits byte last old last_one
 bits_close old mid new last_one byte last finished on fed contents scope authority header h c =
@@ -136,16 +136,16 @@ bits_close old mid new last_one byte last finished on fed contents scope authori
 
 -- A byte was fed (which makes at most four runs more), and of the runs that it finished some were added. What came
 -- after that added none.
-pub fed_grows : (old mid new last : Keeping) (byte : ℕ) (finished : List Span) → Feeds old.bitmap byte mid.bitmap finished
+pub fed_grows : (old mid new last : Keeper) (byte : ℕ) (finished : List Span) → Feeds old.bitmap byte mid.bitmap finished
     → mid ≡ record old { bitmap = mid.bitmap } → held_with_open new ≤ held_with_open mid + length finished → StaysWithin mid new
     → held_with_open last ≤ held_with_open new → StaysWithin new last → GrowsWithin 1 old last
 fed_grows old mid new last byte finished fed rest more stored less after =
-    let contents = ap (λ (k : Keeping). k.contents) rest in
+    let contents = ap (λ (k : Keeper). k.contents) rest in
     let same : held mid.contents ≡ held old.contents = ap held contents in
     let small : held_with_open last ≤ held_with_open old + 4 =
     omega (arith, fed.four_more, more, less, same, length-append (option_to_list mid.bitmap.pending) (reverse finished), length-reverse finished) in
     let all = stored_then mid new last stored after in
-    grows_one old last 4 small (omega arith) (stored_then old mid last (stored_same old mid contents (ap (λ (k : Keeping). k.authority) rest) (ap (λ (k : Keeping). k.scope) rest)) all)
+    grows_one old last 4 small (omega arith) (stored_then old mid last (stored_same old mid contents (ap (λ (k : Keeper). k.authority) rest) (ap (λ (k : Keeper). k.scope) rest)) all)
 
 -- ---- a byte that passes its judgement shows no fault
 
@@ -240,7 +240,7 @@ bits_in_step before fed offset size (suc (suc left)) after is closed opened pos 
     let left_is : suc (suc left) - 1 ≡ suc left = omega arith in
     subst (λ (n : ℕ). InStep (next_bits offset size n after) fed) (sym left_is) (omega arith, more ∙ all)
 
-pub keeps_bits : (old new : Keeping) (offset size left after byte : ℕ) (field : List ℕ) (next : Place)
+pub keeps_bits : (old new : Keeper) (offset size left after byte : ℕ) (field : List ℕ) (next : Place)
     → InStep (places.Bitmap (bitmaps.Byte offset size left after)) old.bitmap → byte ≡ number_of field
     → bits_judged offset size left after byte ≡ Ok next
     → KeepsBits byte (eqb left 1) old new → KeepsField (places.Bitmap (bitmaps.Byte offset size left after)) field next old new

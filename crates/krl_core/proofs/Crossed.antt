@@ -9,13 +9,13 @@ use Rattle.std.proofs.lemmas.Result.{on_ok_weaker}
 use Rattle.std.proofs.Math.Seq.{take-add}
 use Rattle.ssh_wire.specs.Digits.{IsBytes-append, IsBytes-drop, IsBytes-nil, IsBytes-take}
 use Rattle.ssh_wire.specs.Wire.{IsBytes}
-use Rattle.ssh_wire.specs.Pull.{Pulled, Takes, left_of}
+use Rattle.ssh_wire.specs.Pull.{Pull, Takes, left_of}
 use Rattle.krl_core.specs.declared.place.Place.{Place}
 use Rattle.krl_core.specs.Crossing.{Crosses, CrossesSome, HasKept}
 use Rattle.krl_core.specs.Front.{Passes, start, state_after}
-use Rattle.krl_core.specs.Keeping.{GrowsWithin, InStep, IsKept, Keeping, KeepsField, StoresWithin}
+use Rattle.krl_core.specs.Keeper.{GrowsWithin, InStep, IsKept, Keeper, KeepsField, StoresWithin}
 use Rattle.krl_core.specs.Place.{authority_after, header_after, names}
-use Rattle.krl_core.specs.Reading.{HasRead, IsBounded, Leaps, Position, ReadsMore, working}
+use Rattle.krl_core.specs.Reading.{HasRead, IsBounded, Leaps, Walk, ReadsMore, working}
 use Rattle.krl_core.proofs.Exists.{nearer, weight}
 use Rattle.krl_core.proofs.Keeping.{grows_then}
 use Rattle.krl_core.proofs.Stepping.{consumes_some}
@@ -23,10 +23,10 @@ use Rattle.krl_core.proofs.Walks.{Leads-push}
 
 -- ---- rows of fields
 
-kept_of : (text : List ℕ) (fields : List (List ℕ)) (p : Position) → HasRead text fields p → HasKept fields p.place p.keeping
+kept_of : (text : List ℕ) (fields : List (List ℕ)) (p : Walk) → HasRead text fields p → HasKept fields p.place p.keeper
 kept_of text fields p h = record { state = h.state; leads = h.leads; place_is = h.place_is; authority_is = h.authority_is; header_is = h.header_is; kept = h.kept }
 
-crosses_none : (place : Place) (k : Keeping) → InStep place k.bitmap → Crosses [] place k place k
+crosses_none : (place : Place) (k : Keeper) → InStep place k.bitmap → Crosses [] place k place k
 crosses_none place k step = record {
   kept = λ fields h. ([], (subst (λ (fs : List (List ℕ)). HasKept fs place k) (sym (append-nil fields)) h, refl));
   are_bytes = IsBytes-nil;
@@ -34,7 +34,7 @@ crosses_none place k step = record {
   scope_is = refl;
 }
 
-crosses_then : (xs ys : List ℕ) (p q r : Place) (a b c : Keeping) → Crosses xs p a q b → Crosses ys q b r c → Crosses (xs ++ ys) p a r c
+crosses_then : (xs ys : List ℕ) (p q r : Place) (a b c : Keeper) → Crosses xs p a q b → Crosses ys q b r c → Crosses (xs ++ ys) p a r c
 crosses_then xs ys p q r a b c h k = record {
   kept = λ fields was.
       let one = h.kept fields was in
@@ -51,7 +51,7 @@ crosses_then xs ys p q r a b c h k = record {
 }
 
 -- a field that passes its judgement, and is kept
-pub crosses_field : (place next : Place) (old new : Keeping) (field : List ℕ) → Passes place field next → KeepsField place field next old new → IsBytes field
+pub crosses_field : (place next : Place) (old new : Keeper) (field : List ℕ) → Passes place field next → KeepsField place field next old new → IsBytes field
     → Crosses field place old next new
 crosses_field place next old new field passes keeps bytes = record {
   kept = λ fields h.
@@ -82,7 +82,7 @@ crosses_field place next old new field passes keeps bytes = record {
 
 -- ---- some of the bytes
 
-pub some_none : (bytes : List ℕ) (place : Place) (k : Keeping) → InStep place k.bitmap → CrossesSome bytes 0 (Ok (tt {0})) place k place k
+pub some_none : (bytes : List ℕ) (place : Place) (k : Keeper) → InStep place k.bitmap → CrossesSome bytes 0 (Ok (tt {0})) place k place k
 some_none bytes place k step = record {
   within = omega arith;
   ok = crosses_none place k step;
@@ -91,7 +91,7 @@ some_none bytes place k step = record {
 }
 
 -- some bytes more
-pub some_more : (bytes : List ℕ) (at n : ℕ) (result : Result (Unit {0}) AllocError) (p q r : Place) (a b c : Keeping) → CrossesSome bytes at (Ok (tt {0})) p a q b
+pub some_more : (bytes : List ℕ) (at n : ℕ) (result : Result (Unit {0}) AllocError) (p q r : Place) (a b c : Keeper) → CrossesSome bytes at (Ok (tt {0})) p a q b
     → n ≤ length (drop at bytes) → OnOk result (Crosses (take n (drop at bytes)) q b r c) → GrowsWithin n b c → (at + n ≡ 0 → (r ≡ p) × (c ≡ a))
     → CrossesSome bytes (at + n) result p a r c
 some_more bytes at n result p q r a b c h within ok grows none = record {
@@ -101,19 +101,19 @@ some_more bytes at n result p q r a b c h within ok grows none = record {
   none = none;
 }
 
-pub some_then : (bytes : List ℕ) (at n : ℕ) (result : Result (Unit {0}) AllocError) (p q r : Place) (a b c : Keeping) → CrossesSome bytes at (Ok (tt {0})) p a q b
+pub some_then : (bytes : List ℕ) (at n : ℕ) (result : Result (Unit {0}) AllocError) (p q r : Place) (a b c : Keeper) → CrossesSome bytes at (Ok (tt {0})) p a q b
     → CrossesSome (drop at bytes) n result q b r c → CrossesSome bytes (at + n) result p a r c
 some_then bytes at n result p q r a b c h k =
     some_more bytes at n result p q r a b c h k.within k.ok k.grows
     (λ at_none. let one = h.none (omega arith) in let two = k.none (omega arith) in (two.0 ∙ one.0, two.1 ∙ one.1))
 
 -- the rest of the bytes
-pub some_after : (bytes : List ℕ) (at n : ℕ) (result : Result (Unit {0}) AllocError) (p q r : Place) (a b c : Keeping) → CrossesSome bytes at (Ok (tt {0})) p a q b
+pub some_after : (bytes : List ℕ) (at n : ℕ) (result : Result (Unit {0}) AllocError) (p q r : Place) (a b c : Keeper) → CrossesSome bytes at (Ok (tt {0})) p a q b
     → CrossesSome (take (length bytes - at) (drop at bytes)) n result q b r c → CrossesSome bytes (at + n) result p a r c
 some_after bytes at n result p q r a b c h k =
     some_then bytes at n result p q r a b c h (subst (λ (xs : List ℕ). CrossesSome xs n result q b r c) (take_rest bytes at) k)
 
-pub some_ok : (bytes : List ℕ) (n : ℕ) (result : Result (Unit {0}) AllocError) (p q : Place) (a b : Keeping) → is_err result ≡ false → CrossesSome bytes n result p a q b
+pub some_ok : (bytes : List ℕ) (n : ℕ) (result : Result (Unit {0}) AllocError) (p q : Place) (a b : Keeper) → is_err result ≡ false → CrossesSome bytes n result p a q b
     → CrossesSome bytes n (Ok (tt {0})) p a q b
 some_ok bytes n (Ok done) p q a b off h = record { within = h.within; ok = h.ok; grows = h.grows; none = h.none }
 some_ok bytes n (Err fault) p q a b off h = absurd (cc)
@@ -133,7 +133,7 @@ crossed_nearer bytes at size p q there h within =
     let near = nearer p q _ h.judged in
     omega (arith, near, h.whole, length-take-le size _ there, within)
 
-some_field : (bytes : List ℕ) (at size : ℕ) (result : Result (Unit {0}) AllocError) (p q r : Place) (a b c : Keeping) → CrossesSome bytes at (Ok (tt {0})) p a q b
+some_field : (bytes : List ℕ) (at size : ℕ) (result : Result (Unit {0}) AllocError) (p q r : Place) (a b c : Keeper) → CrossesSome bytes at (Ok (tt {0})) p a q b
     → size ≤ length (take (length bytes - at) (drop at bytes)) → OnOk result (Crosses (take size (drop at bytes)) q b r c)
     → GrowsWithin (length (take (at + size - at) (drop at bytes))) b c → (at + size ≡ 0 → ⊥) → CrossesSome bytes (at + size) result p a r c
 some_field bytes at size result p q r a b c h there ok grows some =
@@ -142,7 +142,7 @@ some_field bytes at size result p q r a b c h there ok grows some =
     let long : length (take (at + size - at) (drop at bytes)) ≡ size = ap (λ (n : ℕ). length (take n (drop at bytes))) same ∙ length-take-le size (drop at bytes) within in
     some_more bytes at size result p q r a b c h within ok (subst (λ (n : ℕ). GrowsWithin n b c) long grows) (λ none. absurd (some none))
 
-pub field_crossed : (bytes : List ℕ) (at size : ℕ) (result : Result (Unit {0}) AllocError) (p q next : Place) (a b c : Keeping) → IsBytes bytes → CrossesSome bytes at (Ok (tt {0})) p a q b
+pub field_crossed : (bytes : List ℕ) (at size : ℕ) (result : Result (Unit {0}) AllocError) (p q next : Place) (a b c : Keeper) → IsBytes bytes → CrossesSome bytes at (Ok (tt {0})) p a q b
     → size ≤ length (take (length bytes - at) (drop at bytes)) → Passes q (take size (take (length bytes - at) (drop at bytes))) next
     → OnOk result (KeepsField q (take (at + size - at) (drop at bytes)) next b c)
     → GrowsWithin (length (take (at + size - at) (drop at bytes))) b c → (at + size ≡ 0 → ⊥) → CrossesSome bytes (at + size) result p a next c
@@ -154,16 +154,16 @@ field_crossed bytes at size result p q next a b c are h there passes kept grows 
     (on_ok_weaker result (λ keeps. crosses_field q next b c field passed (subst (λ (n : ℕ). KeepsField q (take n (drop at bytes)) next b c) same keeps) (IsBytes-take size (drop at bytes) (IsBytes-drop at bytes are))) kept)
     grows some
 
-pub field_refused : (bytes : List ℕ) (at size : ℕ) (result : Result (Unit {0}) AllocError) (p q : Place) (a b c : Keeping) → is_err result ≡ true → CrossesSome bytes at (Ok (tt {0})) p a q b
+pub field_refused : (bytes : List ℕ) (at size : ℕ) (result : Result (Unit {0}) AllocError) (p q : Place) (a b c : Keeper) → is_err result ≡ true → CrossesSome bytes at (Ok (tt {0})) p a q b
     → size ≤ length (take (length bytes - at) (drop at bytes)) → GrowsWithin (length (take (at + size - at) (drop at bytes))) b c → (at + size ≡ 0 → ⊥) → CrossesSome bytes (at + size) result p a q c
 field_refused bytes at size (Ok done) p q a b c on h there grows some = absurd (cc)
 field_refused bytes at size (Err fault) p q a b c on h there grows some = some_field bytes at size (Err fault) p q q a b c h there tt grows some
 
 -- ---- a reading
 
-pub reads_crossed : (old : Position) (new : Pulled) (place : Place) (keeping : Keeping) (bytes : List ℕ) → Takes old.pull bytes new
-    → Crosses bytes old.place old.keeping place keeping → ReadsMore old (working new place keeping)
-reads_crossed old new place keeping bytes takes crosses text fields h =
+pub reads_crossed : (old : Walk) (new : Pull) (place : Place) (keeper : Keeper) (bytes : List ℕ) → Takes old.pull bytes new
+    → Crosses bytes old.place old.keeper place keeper → ReadsMore old (working new place keeper)
+reads_crossed old new place keeper bytes takes crosses text fields h =
     let more = crosses.kept fields (kept_of text fields old h) in
     let now = more.1.0 in
     let after = consumes_some (left_of old.pull) (left_of new) h.rest bytes h.left_is takes.bytes in
@@ -186,20 +186,20 @@ reads_crossed old new place keeping bytes takes crosses text fields h =
       },
     )
 
-pub bounded_crossed : (old : Position) (new : Pulled) (keeping : Keeping) (bytes : List ℕ) → IsBounded old.pull old.keeping → Takes old.pull bytes new
-    → GrowsWithin (length bytes) old.keeping keeping → IsBounded new keeping
-bounded_crossed old new keeping bytes b takes grows = record {
+pub bounded_crossed : (old : Walk) (new : Pull) (keeper : Keeper) (bytes : List ℕ) → IsBounded old.pull old.keeper → Takes old.pull bytes new
+    → GrowsWithin (length bytes) old.keeper keeper → IsBounded new keeper
+bounded_crossed old new keeper bytes b takes grows = record {
   limit_is = takes.limit ∙ b.limit_is;
   within = omega (arith, takes.within, takes.taken, b.limit_is);
   all_is = λ every.
       let was = b.all_is (sym grows.same_scope ∙ every) in
-      (omega (arith, grows.held_is, was.0, takes.taken), subst (λ (n : ℕ). StoresWithin keeping n) (sym takes.taken) (grows.stored_is old.pull.taken was.1));
+      (omega (arith, grows.held_is, was.0, takes.taken), subst (λ (n : ℕ). StoresWithin keeper n) (sym takes.taken) (grows.stored_is old.pull.taken was.1));
   scope_is = grows.scope_is b.scope_is;
 }
 
-pub leaps_crossed : (old : Position) (new : Pulled) (place : Place) (keeping : Keeping) (bytes : List ℕ) → IsBounded old.pull old.keeping → Takes old.pull bytes new
-    → Crosses bytes old.place old.keeping place keeping → 0 < length bytes → Leaps old (working new place keeping)
-leaps_crossed old new place keeping bytes b takes crosses some = record {
+pub leaps_crossed : (old : Walk) (new : Pull) (place : Place) (keeper : Keeper) (bytes : List ℕ) → IsBounded old.pull old.keeper → Takes old.pull bytes new
+    → Crosses bytes old.place old.keeper place keeper → 0 < length bytes → Leaps old (working new place keeper)
+leaps_crossed old new place keeper bytes b takes crosses some = record {
   taken = omega (arith, takes.taken);
   within = omega (arith, takes.within, takes.taken, b.limit_is);
   scope_is = crosses.scope_is;

@@ -14,7 +14,7 @@ use Rattle.krl_core.specs.Crossing.{Crosses}
 use Rattle.krl_held.specs.Elements.{contains_cases, contains_none}
 use Rattle.krl_held.specs.Entry.{Entry, SerialsEntry}
 use Rattle.krl_core.specs.Front.{Leads, Passes, State, start, state_after}
-use Rattle.krl_core.specs.Keeping.{InStep, IsKept, Keeping}
+use Rattle.krl_core.specs.Keeper.{InStep, IsKept, Keeper}
 use Rattle.krl_held.specs.Naming.{Name, SerialOf, SomeNames}
 use Rattle.krl_core.specs.Place.{authority_after, header_after, names, next_serial}
 use Rattle.krl_held.specs.Scope.{AreUnwanted, InScope, Scope, serial_at}
@@ -115,14 +115,14 @@ still zero (suc after) bitmap none = none
 still (suc left) after bitmap none = none
 
 -- the serial numbers are crossed, since none of them is in scope
-pub crosses_serials : (count : ℕ) (keeping : Keeping) (left after : ℕ) (bytes : List ℕ) → 0 < left → keeping.bitmap.pending ≡ None → IsBytes bytes → 8 * count ≤ length bytes
-    → 8 * count ≤ left → AreUnwanted keeping.scope keeping.authority bytes (8 * count)
-    → Crosses (take (8 * count) bytes) (places.Serials (serials.Serial left after)) keeping (next_serial (left - 8 * count) after) keeping
-crosses_serials count keeping left after bytes pos none are there within unwanted = record {
+pub crosses_serials : (count : ℕ) (keeper : Keeper) (left after : ℕ) (bytes : List ℕ) → 0 < left → keeper.bitmap.pending ≡ None → IsBytes bytes → 8 * count ≤ length bytes
+    → 8 * count ≤ left → AreUnwanted keeper.scope keeper.authority bytes (8 * count)
+    → Crosses (take (8 * count) bytes) (places.Serials (serials.Serial left after)) keeper (next_serial (left - 8 * count) after) keeper
+crosses_serials count keeper left after bytes pos none are there within unwanted = record {
   kept = λ fields h.
       let here : h.state.place ≡ next_serial left after = sym h.place_is ∙ at_serial left after pos in
       let more = leads_serials count h.state left after bytes here there within in
-      let kept = skipped_kept keeping keeping h.state.entries (serial_entries keeping.authority count bytes) (serials_unwanted count keeping.scope keeping.authority bytes unwanted) refl refl none none h.kept in (
+      let kept = skipped_kept keeper keeper h.state.entries (serial_entries keeper.authority count bytes) (serials_unwanted count keeper.scope keeper.authority bytes unwanted) refl refl none none h.kept in (
         eights count bytes,
         (
           record {
@@ -131,12 +131,12 @@ crosses_serials count keeping left after bytes pos none are there within unwante
             place_is = sym more.place_is;
             authority_is = h.authority_is ∙ sym more.authority_is;
             header_is = h.header_is ∙ sym more.header_is;
-            kept = subst (IsKept keeping) (ap (λ (a : List ℕ). h.state.entries ++ serial_entries a count bytes) h.authority_is ∙ sym more.entries_are) kept;
+            kept = subst (IsKept keeper) (ap (λ (a : List ℕ). h.state.entries ++ serial_entries a count bytes) h.authority_is ∙ sym more.entries_are) kept;
           },
           concat_eights count bytes,
         ),
       );
   are_bytes = IsBytes-take (8 * count) bytes are;
-  in_step = still (left - 8 * count) after keeping.bitmap none;
+  in_step = still (left - 8 * count) after keeper.bitmap none;
   scope_is = refl;
 }

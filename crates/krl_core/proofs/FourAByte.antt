@@ -22,7 +22,7 @@ use Rattle.krl_core.specs.declared.place.Place.TheVariants as places
 use Rattle.krl_core.specs.declared.place.list.ListPlace.TheVariants as lists
 use Rattle.krl_core.specs.declared.place.serials.SerialsPlace.TheVariants as serials
 use Rattle.krl_core.specs.declared.place.bitmap.BitmapPlace.TheVariants as bitmaps
-use Rattle.krl_held.specs.Contents.{Contents, HoldsSerial, IsListed, Means, Section, SomeSection, held}
+use Rattle.krl_held.specs.Revocations.{Revocations, HoldsSerial, IsListed, Means, Section, SomeSection, held}
 use Rattle.krl_held.specs.Entry.{Entry}
 use Rattle.krl_core.specs.Front.{Leads, Passes, State, state_after, start}
 use Rattle.krl_held.specs.Naming.{EntryNames, SerialOf, SomeNames}
@@ -193,7 +193,7 @@ fields_bytes (field ∷ fields) state last leads fits all =
     let here = field_bytes state.place leads.0 state.authority field leads.1.0 (IsBytes-front field (concat fields) fits) in
     fields_bytes fields (state_after state field leads.0) last leads.1.1 (IsBytes-back field (concat fields) fits) (all_append IsByteOnly state.entries named all here)
 
-pub four_a_byte : (fields : List (List ℕ)) (state : State) (r : Contents) → Leads start fields state → IsBytes (concat fields) → Means r state.entries → held r ≤ 4 * length (concat fields)
+pub four_a_byte : (fields : List (List ℕ)) (state : State) (r : Revocations) → Leads start fields state → IsBytes (concat fields) → Means r state.entries → held r ≤ 4 * length (concat fields)
 four_a_byte fields state r leads fits means =
     let small = fields_bytes fields start state leads fits tt in
     let few = held_few r.sections state.entries small means.orderly.authorities_rise means.orderly.listed (λ a s some. means.names (SerialOf a s)) in

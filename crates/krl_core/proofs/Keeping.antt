@@ -4,26 +4,26 @@ use Rattle.std.specs.Option.{option_to_list}
 use Rattle.std.proofs.lemmas.List.{append-nil, length-take-le}
 use Rattle.std.proofs.Math.Seq.{take-add}
 use Rattle.serial_set.specs.declared.span.Span.{Span}
-use Rattle.krl_held.specs.Contents.{Contents}
+use Rattle.krl_held.specs.Revocations.{Revocations}
 use Rattle.krl_held.specs.Entry.{Entry, RangeEntry, SerialsEntry}
 use Rattle.krl_held.specs.Naming.{NamesSame}
 use Rattle.krl_held.specs.Changes.{run_entries}
-use Rattle.krl_core.specs.Keeping.{Keeping, IsKept, Adds, KeepsRest, Closes, StaysWithin, GrowsWithin, StoresWithin, held_with_open, open_run}
+use Rattle.krl_core.specs.Keeper.{Keeper, IsKept, Adds, KeepsRest, Closes, StaysWithin, GrowsWithin, StoresWithin, held_with_open, open_run}
 use Rattle.krl_held.specs.Scope.{MeansMoreWithin, MeansWithin, Scope}
 use Rattle.krl_held.proofs.Runs.{run_entries-append}
 use Rattle.krl_held.proofs.Same.{same_refl, same_is, same_then, same_append, same_between, same_zero, same_none}
 
-abbrev pub open_entries : Keeping → List Entry
-open_entries keeping = run_entries keeping.authority (open_run keeping)
+abbrev pub open_entries : Keeper → List Entry
+open_entries keeper = run_entries keeper.authority (open_run keeper)
 
 -- nothing changed but what is held, so the open run is the same
-open_same : (old new : Keeping) → KeepsRest old new → open_entries new ≡ open_entries old
+open_same : (old new : Keeper) → KeepsRest old new → open_entries new ≡ open_entries old
 open_same old new rest =
     ap (λ (a : List ℕ). run_entries a (open_run new)) rest.authority_is
     ∙ ap (λ (p : Option Span). run_entries old.authority (option_to_list p)) (ap (λ b. b.pending) rest.bitmap_is)
 
 -- what is held means some entries more
-pub adds_all : (old new : Keeping) (more : List Entry) → KeepsRest old new
+pub adds_all : (old new : Keeper) (more : List Entry) → KeepsRest old new
     → MeansMoreWithin old.scope old.contents new.contents more → Adds old more new
 adds_all old new more rest means = record {
   kept = λ entries k. record {
@@ -36,7 +36,7 @@ adds_all old new more rest means = record {
 }
 
 -- other entries that name the same were added
-pub adds_same : (old new : Keeping) (xs ys : List Entry) → NamesSame xs ys → Adds old xs new → Adds old ys new
+pub adds_same : (old new : Keeper) (xs ys : List Entry) → NamesSame xs ys → Adds old xs new → Adds old ys new
 adds_same old new xs ys same h = record {
   kept = λ entries k.
       let here = h.kept entries k in record {
@@ -48,7 +48,7 @@ adds_same old new xs ys same h = record {
   rest = h.rest;
 }
 
-pub rest_then : (a b c : Keeping) → KeepsRest a b → KeepsRest b c → KeepsRest a c
+pub rest_then : (a b c : Keeper) → KeepsRest a b → KeepsRest b c → KeepsRest a c
 rest_then a b c h k = record {
   authority_is = k.authority_is ∙ h.authority_is;
   header_is = k.header_is ∙ h.header_is;
@@ -56,35 +56,35 @@ rest_then a b c h k = record {
   scope_is = k.scope_is ∙ h.scope_is;
 }
 
-pub adds_none : (k : Keeping) → Adds k [] k
+pub adds_none : (k : Keeper) → Adds k [] k
 adds_none k = record {
   kept = λ entries h. subst (IsKept k) (sym (append-nil entries)) h;
   rest = record { authority_is = refl; header_is = refl; bitmap_is = refl; scope_is = refl };
 }
 
-pub adds_then : (a b c : Keeping) (xs ys : List Entry) → Adds a xs b → Adds b ys c → Adds a (xs ++ ys) c
+pub adds_then : (a b c : Keeper) (xs ys : List Entry) → Adds a xs b → Adds b ys c → Adds a (xs ++ ys) c
 adds_then a b c xs ys h k = record {
   kept = λ entries kept. subst (IsKept c) (append_assoc entries xs ys) (k.kept (entries ++ xs) (h.kept entries kept));
   rest = rest_then a b c h.rest k.rest;
 }
 
 -- a serial 0 adds nothing
-pub adds_zero : (k : Keeping) (n : ℕ) → n ≡ 0 → Adds k (SerialsEntry k.authority (n ∷ []) ∷ []) k
+pub adds_zero : (k : Keeper) (n : ℕ) → n ≡ 0 → Adds k (SerialsEntry k.authority (n ∷ []) ∷ []) k
 adds_zero k n e = subst (λ (x : ℕ). Adds k (SerialsEntry k.authority (x ∷ []) ∷ []) k) (sym e)
     (adds_same k k [] (SerialsEntry k.authority (0 ∷ []) ∷ []) (same_zero k.authority) (adds_none k))
 
-pub adds_to_zero : (k : Keeping) (min max : ℕ) → max ≡ 0 → Adds k (RangeEntry k.authority min max ∷ []) k
+pub adds_to_zero : (k : Keeper) (min max : ℕ) → max ≡ 0 → Adds k (RangeEntry k.authority min max ∷ []) k
 adds_to_zero k min max e = subst (λ (x : ℕ). Adds k (RangeEntry k.authority min x ∷ []) k) (sym e)
     (adds_same k k [] (RangeEntry k.authority min 0 ∷ []) (same_none k.authority min) (adds_none k))
 
 -- what is within a number is within any larger one
-pub stored_wider : (k : Keeping) (n m : ℕ) → n ≤ m → StoresWithin k n → StoresWithin k m
+pub stored_wider : (k : Keeper) (n m : ℕ) → n ≤ m → StoresWithin k n → StoresWithin k m
 stored_wider k n m le h = record {
   now = omega (arith, h.now);
   next = elim h.next [ inl named ↦ inl named | inr fits ↦ inr (omega (arith, fits)) ];
 }
 
-pub grows_one : (old new : Keeping) (n : ℕ) → held_with_open new ≤ held_with_open old + n → n ≤ 4 → StaysWithin old new → GrowsWithin 1 old new
+pub grows_one : (old new : Keeper) (n : ℕ) → held_with_open new ≤ held_with_open old + n → n ≤ 4 → StaysWithin old new → GrowsWithin 1 old new
 grows_one old new n held le stored = record {
   held_is = omega arith;
   stored_is = λ m h. stored_wider new m (m + 1) (omega arith) (stored.stored_is m h);
@@ -92,19 +92,19 @@ grows_one old new n held le stored = record {
   same_scope = stored.same_scope;
 }
 
-pub stored_same : (old new : Keeping) → new.contents ≡ old.contents → new.authority ≡ old.authority → new.scope ≡ old.scope → StaysWithin old new
+pub stored_same : (old new : Keeper) → new.contents ≡ old.contents → new.authority ≡ old.authority → new.scope ≡ old.scope → StaysWithin old new
 stored_same old new e a s = record {
   stored_is = λ m h. record { now = rw e h.now; next = rw (e, a) h.next };
   scope_is = λ h. rw (e, s) h;
   same_scope = s;
 }
 
-pub stored_then : (a b c : Keeping) → StaysWithin a b → StaysWithin b c → StaysWithin a c
+pub stored_then : (a b c : Keeper) → StaysWithin a b → StaysWithin b c → StaysWithin a c
 stored_then a b c h k = record { stored_is = λ m s. k.stored_is m (h.stored_is m s); scope_is = λ s. k.scope_is (h.scope_is s); same_scope = k.same_scope ∙ h.same_scope }
 
 -- ---- runs
 
-pub adds_runs : (old mid new : Keeping) (runs more : List Span) → Adds old (run_entries old.authority runs) mid
+pub adds_runs : (old mid new : Keeper) (runs more : List Span) → Adds old (run_entries old.authority runs) mid
     → Adds mid (run_entries mid.authority more) new → Adds old (run_entries old.authority (runs ++ more)) new
 adds_runs old mid new runs more h k =
     let next : Adds mid (run_entries old.authority more) new = subst (λ (a : List ℕ). Adds mid (run_entries a more) new) h.rest.authority_is k in
@@ -112,13 +112,13 @@ adds_runs old mid new runs more h k =
     (adds_then old mid new (run_entries old.authority runs) (run_entries old.authority more) h next)
 
 -- the open run becomes one that is held
-pub closes_run : (old mid new : Keeping) (run : Span) → old.bitmap.pending ≡ Some run → mid.contents ≡ old.contents → mid.scope ≡ old.scope → mid.authority ≡ old.authority
+pub closes_run : (old mid new : Keeper) (run : Span) → old.bitmap.pending ≡ Some run → mid.contents ≡ old.contents → mid.scope ≡ old.scope → mid.authority ≡ old.authority
     → mid.header ≡ old.header → mid.bitmap.pending ≡ None → Adds mid (RangeEntry mid.authority run.lo run.hi ∷ []) new → Closes old new
 closes_run old mid new run is contents scope authority header none h = record {
   kept = λ entries k.
       let before : IsKept mid k.closed = record {
         closed = k.closed;
-        means = subst (λ (r : Contents). MeansWithin mid.scope r k.closed) (sym contents) (subst (λ (s : Scope). MeansWithin s old.contents k.closed) (sym scope) k.means);
+        means = subst (λ (r : Revocations). MeansWithin mid.scope r k.closed) (sym contents) (subst (λ (s : Scope). MeansWithin s old.contents k.closed) (sym scope) k.means);
         same = same_is (k.closed ++ open_entries mid) k.closed
             (ap (λ (p : Option Span). k.closed ++ run_entries mid.authority (option_to_list p)) none ∙ append-nil k.closed);
       } in
@@ -138,12 +138,12 @@ closes_run old mid new run is contents scope authority header none h = record {
 }
 
 -- the first spans were added
-pub record AddsFirst (old : Keeping) (spans : List Span) (count : ℕ) (new : Keeping) : Type 0 where
+pub record AddsFirst (old : Keeper) (spans : List Span) (count : ℕ) (new : Keeper) : Type 0 where
   pub adds : Adds old (run_entries old.authority (take count spans)) new
   pub held_is : held_with_open new ≤ held_with_open old + count
   pub stored_is : StaysWithin old new
 
-pub adds_first_more : (old mid new : Keeping) (spans : List Span) (count n : ℕ) → n ≤ length (drop count spans) → AddsFirst old spans count mid
+pub adds_first_more : (old mid new : Keeper) (spans : List Span) (count n : ℕ) → n ≤ length (drop count spans) → AddsFirst old spans count mid
     → Adds mid (run_entries mid.authority (take n (drop count spans))) new → held_with_open new ≤ held_with_open mid + length (take n (drop count spans)) → StaysWithin mid new → AddsFirst old spans (count + n) new
 adds_first_more old mid new spans count n within h k held stored = record {
   adds = subst (λ (xs : List Span). Adds old (run_entries old.authority xs) new) (sym (take-add count n spans))
@@ -152,7 +152,7 @@ adds_first_more old mid new spans count n within h k held stored = record {
   stored_is = stored_then old mid new h.stored_is stored;
 }
 
-pub grows_more : (old new : Keeping) (n m : ℕ) → n ≤ m → GrowsWithin n old new → GrowsWithin m old new
+pub grows_more : (old new : Keeper) (n m : ℕ) → n ≤ m → GrowsWithin n old new → GrowsWithin m old new
 grows_more old new n m le h = record {
   held_is = omega (arith, h.held_is);
   stored_is = λ k s. stored_wider new (k + n) (k + m) (omega arith) (h.stored_is k s);
@@ -160,7 +160,7 @@ grows_more old new n m le h = record {
   same_scope = h.same_scope;
 }
 
-pub grows_then : (a b c : Keeping) (n m : ℕ) → GrowsWithin n a b → GrowsWithin m b c → GrowsWithin (n + m) a c
+pub grows_then : (a b c : Keeper) (n m : ℕ) → GrowsWithin n a b → GrowsWithin m b c → GrowsWithin (n + m) a c
 grows_then a b c n m h k = record {
   held_is = omega (arith, h.held_is, k.held_is);
   stored_is = λ x s. subst (λ (y : ℕ). StoresWithin c y) (omega arith) (k.stored_is (x + n) (h.stored_is x s));

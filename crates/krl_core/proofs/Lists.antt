@@ -4,7 +4,7 @@ use Rattle.std.specs.List.{concat}
 use Rattle.std.specs.Prelude.{Result, Ok, Err, IfOk, IfErr}
 use Rattle.ssh_wire.specs.Wire.{IsBytes, number, string}
 use Rattle.krl_core.specs.declared.header.Header.{Header}
-use Rattle.krl_held.specs.Contents.{Contents}
+use Rattle.krl_held.specs.Revocations.{Revocations}
 use Rattle.krl_held.specs.Entry.{Entry}
 use Rattle.krl_core.specs.Entries.{entries_of}
 use Rattle.std.proofs.lemmas.Bool.{ltb-false}
@@ -15,7 +15,7 @@ use Rattle.krl_core.specs.Front.{State, start, Leads, limit, IsEnd, IsFirstFault
 use Rattle.krl_core.specs.Krl.{SpelledSection, Spells, header_text, magic}
 use Rattle.krl_held.specs.Naming.{NamesSame}
 use Rattle.krl_core.specs.Place.{can_end}
-use Rattle.krl_core.specs.Reading.{HasRead, HoldsAll, HoldsWithin, IsList, IsListAs, IsWholeAs, Position}
+use Rattle.krl_core.specs.Reading.{HasRead, HoldsAll, HoldsWithin, IsList, IsListAs, IsWholeAs, Walk}
 use Rattle.krl_held.specs.Scope.{Scope, all as every_name}
 use Rattle.krl_core.proofs.Fields.{completes}
 use Rattle.krl_core.proofs.Rests.{FromText, FromFormat}
@@ -82,7 +82,7 @@ row_spelled fields last leads may fits =
     }
 
 -- a whole list is one that sections spell, where what is held is what anything names that names the same
-pub list_of_whole : (Holds : List ℕ → Contents → List Entry → Type 0) (text : List ℕ) (header : Header) (contents : Contents)
+pub list_of_whole : (Holds : List ℕ → Revocations → List Entry → Type 0) (text : List ℕ) (header : Header) (contents : Revocations)
     → ((entries others : List Entry) → Holds text contents entries → NamesSame entries others → Holds text contents others) → IsWholeAs Holds text header contents
     → IsListAs Holds text header contents
 list_of_whole Holds text header contents same h =
@@ -95,23 +95,23 @@ list_of_whole Holds text header contents same h =
       holds = same h.state.entries (entries_of k.sections) h.holds k.named;
     }
 
-pub same_holds_within : (scope : Scope) (text : List ℕ) (contents : Contents) (entries others : List Entry) → HoldsWithin scope text contents entries → NamesSame entries others
+pub same_holds_within : (scope : Scope) (text : List ℕ) (contents : Revocations) (entries others : List Entry) → HoldsWithin scope text contents entries → NamesSame entries others
     → HoldsWithin scope text contents others
 same_holds_within scope text contents entries others h same =
     record { means = same_within scope contents entries others h.means same; within = h.within; bounds = h.bounds }
 
 -- where all names are in scope
-pub holds_all : (text : List ℕ) (contents : Contents) (entries : List Entry) → HoldsWithin every_name text contents entries → HoldsAll text contents entries
+pub holds_all : (text : List ℕ) (contents : Revocations) (entries : List Entry) → HoldsWithin every_name text contents entries → HoldsAll text contents entries
 holds_all text contents entries h = let b = h.bounds refl in record { means = means_all_within contents entries h.means; held_is = b.0; stored_is = b.1 }
 
-pub list_of_all : (text : List ℕ) (header : Header) (contents : Contents) → IsListAs (HoldsWithin every_name) text header contents → IsList text header contents
+pub list_of_all : (text : List ℕ) (header : Header) (contents : Revocations) → IsListAs (HoldsWithin every_name) text header contents → IsList text header contents
 list_of_all text header contents h =
     record { sections = h.sections; spelled = h.spelled; within = h.within; holds = holds_all text contents (entries_of h.sections) h.holds }
 
 -- ---- from the first field on
 
 -- what is known of each text of which fields were read is known of the one that is read
-pub known_from : {A : Type 0} {Knows Other : A → List ℕ → Type 0} (left : Option (List ℕ)) (begun : Position) (read : Result A KrlFault)
+pub known_from : {A : Type 0} {Knows Other : A → List ℕ → Type 0} (left : Option (List ℕ)) (begun : Walk) (read : Result A KrlFault)
     → ((text : List ℕ) → left ≡ Some text → HasRead text [] begun) → ((a : A) (text : List ℕ) → Knows a text → Other a text)
     → IfOk read (λ a. (text : List ℕ) (fields : List (List ℕ)) → HasRead text fields begun → Knows a text)
     → IfOk read (λ a. (text : List ℕ) → left ≡ Some text → Other a text)
@@ -119,7 +119,7 @@ known_from left begun (Ok a) starts other h = λ text e. other a text (h text []
 known_from left begun (Err fault) starts other h = tt
 
 -- so it is of a fault
-pub said_from : {A : Type 0} {Said Other : KrlFault → List ℕ → Type 0} (left : Option (List ℕ)) (begun : Position) (read : Result A KrlFault)
+pub said_from : {A : Type 0} {Said Other : KrlFault → List ℕ → Type 0} (left : Option (List ℕ)) (begun : Walk) (read : Result A KrlFault)
     → ((text : List ℕ) → left ≡ Some text → HasRead text [] begun) → ((fault : KrlFault) (text : List ℕ) → Said fault text → Other fault text)
     → IfErr read (λ fault. (text : List ℕ) (fields : List (List ℕ)) → HasRead text fields begun → Said fault text)
     → IfErr read (λ fault. (text : List ℕ) → left ≡ Some text → Other fault text)

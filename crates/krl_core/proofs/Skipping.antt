@@ -20,8 +20,8 @@ use Rattle.krl_core.specs.Crossing.{AreUnasked, Crosses}
 use Rattle.krl_core.specs.Front.{Leads, Passes, State, start, state_after}
 use Rattle.std.specs.List.{concat}
 use Rattle.krl_held.specs.Changes.{run_entries}
-use Rattle.krl_held.specs.Contents.{Contents}
-use Rattle.krl_core.specs.Keeping.{Adds, GrowsWithin, InStep, IsKept, Keeping, Skips, StaysWithin, held_with_open}
+use Rattle.krl_held.specs.Revocations.{Revocations}
+use Rattle.krl_core.specs.Keeper.{Adds, GrowsWithin, InStep, IsKept, Keeper, Skips, StaysWithin, held_with_open}
 use Rattle.krl_held.specs.Naming.{Name, NamesSame, SerialOf, SomeNames}
 use Rattle.krl_held.specs.Scope.{InScope, MeansWithin, Scope}
 use Rattle.krl_held.proofs.Numbers.{number_of-one}
@@ -132,7 +132,7 @@ bits_unasked scope a offset left (b ∷ bs) are le none name is (inr h) =
     bits_unasked scope a offset (left - 1) bs (IsBytes-tail b bs are) (omega arith) (λ s low high. none s (omega (arith, low)) (omega (arith, high))) name is h
 
 -- What is kept stays kept where the bytes name nothing that is asked about and no run is open.
-pub skipped_kept : (old new : Keeping) (entries : List Entry) (more : List Entry) → ((name : Name) → InScope old.scope name → SomeNames more name → ⊥)
+pub skipped_kept : (old new : Keeper) (entries : List Entry) (more : List Entry) → ((name : Name) → InScope old.scope name → SomeNames more name → ⊥)
     → new.contents ≡ old.contents → new.scope ≡ old.scope → old.bitmap.pending ≡ None → new.bitmap.pending ≡ None → IsKept old entries → IsKept new (entries ++ more)
 skipped_kept old new entries more none contents scope shut still h =
     let opened : h.closed ++ run_entries old.authority (option_to_list old.bitmap.pending) ≡ h.closed =
@@ -142,14 +142,14 @@ skipped_kept old new entries more none contents scope shut still h =
     let before : NamesSame h.closed entries = subst (λ (xs : List Entry). NamesSame xs entries) opened h.same in
     record {
       closed = h.closed ++ more;
-      means = subst (λ (r : Contents). MeansWithin new.scope r (h.closed ++ more)) (sym contents)
+      means = subst (λ (r : Revocations). MeansWithin new.scope r (h.closed ++ more)) (sym contents)
           (subst (λ (s : Scope). MeansWithin s old.contents (h.closed ++ more)) (sym scope) (nothing_more_within old.scope old.contents more none h.closed h.means));
       same = subst (λ (xs : List Entry). NamesSame xs (entries ++ more)) (sym open_now) (same_append h.closed more entries more before (same_refl more));
     }
 
 -- ---- the bytes at once
 
-pub skips_run : (old mid new : Keeping) (count : ℕ) (run : Span) → old.bitmap.pending ≡ Some run → mid.contents ≡ old.contents → mid.scope ≡ old.scope → mid.authority ≡ old.authority → mid.header ≡ old.header
+pub skips_run : (old mid new : Keeper) (count : ℕ) (run : Span) → old.bitmap.pending ≡ Some run → mid.contents ≡ old.contents → mid.scope ≡ old.scope → mid.authority ≡ old.authority → mid.header ≡ old.header
     → mid.bitmap ≡ record old.bitmap { bytes_left = old.bitmap.bytes_left - count; pending = None }
     → Adds mid (RangeEntry mid.authority run.lo run.hi ∷ []) new → Skips count old new
 skips_run old mid new count run is contents scope authority header at h = record {
@@ -166,24 +166,24 @@ at_byte offset size zero after pos = absurd (omega arith)
 at_byte offset size (suc left) after pos = refl
 
 -- at the next byte the bitmap is in step
-bits_in_step : (old keeping : Keeping) (offset size left after count : ℕ) → InStep (places.Bitmap (bitmaps.Byte offset size left after)) old.bitmap → Skips count old keeping → InStep (next_bits offset size (left - count) after) keeping.bitmap
-bits_in_step old keeping offset size left after count step skips =
+bits_in_step : (old keeper : Keeper) (offset size left after count : ℕ) → InStep (places.Bitmap (bitmaps.Byte offset size left after)) old.bitmap → Skips count old keeper → InStep (next_bits offset size (left - count) after) keeper.bitmap
+bits_in_step old keeper offset size left after count step skips =
     let was = step.1 in
     let is = skips.bitmap_is in
-    let all : keeping.bitmap ≡ record { offset = offset; len = size; bytes_left = left - count; pending = None; fault = None } =
+    let all : keeper.bitmap ≡ record { offset = offset; len = size; bytes_left = left - count; pending = None; fault = None } =
     is ∙ ap (λ (b : BitRuns). record b { bytes_left = b.bytes_left - count; pending = None }) was in
     in_step (left - count) refl all skips.closes.closed
   where
-    none_in : (n : ℕ) → keeping.bitmap.pending ≡ None → InStep (next_subsection n) keeping.bitmap
+    none_in : (n : ℕ) → keeper.bitmap.pending ≡ None → InStep (next_subsection n) keeper.bitmap
     none_in zero none = none
     none_in (suc n) none = none
 
-    in_step : (n : ℕ) → n ≡ left - count → keeping.bitmap ≡ record { offset = offset; len = size; bytes_left = left - count; pending = None; fault = None } → keeping.bitmap.pending ≡ None → InStep (next_bits offset size n after) keeping.bitmap
+    in_step : (n : ℕ) → n ≡ left - count → keeper.bitmap ≡ record { offset = offset; len = size; bytes_left = left - count; pending = None; fault = None } → keeper.bitmap.pending ≡ None → InStep (next_bits offset size n after) keeper.bitmap
     in_step zero at all none = none_in after none
     in_step (suc n) at all none = (omega arith, all ∙ ap (λ (m : ℕ). record { offset = offset; len = size; bytes_left = m; pending = None; fault = None }) (sym at) ∙ ap (λ (o : Option Span). record { offset = offset; len = size; bytes_left = suc n; pending = o; fault = None }) (sym none))
 
 -- the bytes are crossed, since none of their numbers is in scope
-pub crosses_bits : (old new : Keeping) (offset size left after : ℕ) (bytes : List ℕ) → InStep (places.Bitmap (bitmaps.Byte offset size left after)) old.bitmap → IsBytes bytes
+pub crosses_bits : (old new : Keeper) (offset size left after : ℕ) (bytes : List ℕ) → InStep (places.Bitmap (bitmaps.Byte offset size left after)) old.bitmap → IsBytes bytes
     → length bytes ≤ left → left ≤ size → (left ≡ size → number_of (take 1 bytes) < 128) → offset + 8 * left ≤ 2 ^ 64 → AreUnasked old offset left (length bytes)
     → Skips (length bytes) old new → Crosses bytes (places.Bitmap (bitmaps.Byte offset size left after)) old (next_bits offset size (left - length bytes) after) new
 crosses_bits old new offset size left after bytes step are le within sign_free fits unasked skips = record {
@@ -213,7 +213,7 @@ crosses_bits old new offset size left after bytes step are le within sign_free f
   scope_is = skips.closes.scope_is;
 }
 
-pub stays_grow : (n : ℕ) (old new : Keeping) → held_with_open new ≤ held_with_open old → StaysWithin old new → GrowsWithin n old new
+pub stays_grow : (n : ℕ) (old new : Keeper) → held_with_open new ≤ held_with_open old → StaysWithin old new → GrowsWithin n old new
 stays_grow n old new held stays = record {
   held_is = omega (arith, held);
   stored_is = λ m s. stored_wider new m (m + n) (omega arith) (stays.stored_is m s);

@@ -21,7 +21,7 @@ use Rattle.krl_core.specs.declared.place.extension.ExtensionPlace.TheVariants as
 use Rattle.krl_core.specs.Front.{start, limit, IsFirstFault, Reported, ended}
 use Rattle.krl_core.specs.Krl.{SpelledSection, Certificates, Keys, Sha1s, Sha256s, Signature, Extension, Spells, SpellsEach, SpellsSection, header_text}
 use Rattle.krl_core.specs.Place.{expected, next_item, next_subsection}
-use Rattle.krl_core.specs.Reading.{HasRead, Position, Says, starved, failed_read, first}
+use Rattle.krl_core.specs.Reading.{HasRead, Walk, Says, ran_out, failed_read, first}
 use Rattle.std.specs.Prelude.{Result, Err, IfErr}
 use Rattle.krl_core.proofs.Fronts.{first_fault_is, one_reported}
 use Rattle.krl_core.proofs.Goes.{Goes, goes_none, goes_one, goes_then, goes_from, arrives}
@@ -142,22 +142,22 @@ spelled_unfaulted text header sections fits h le =
 -- of a list that is spelled nothing else is said than that memory ran out or that the reader failed
 pub only_broken_off : (fault : KrlFault) (failed : Bool) (left : Option (List ℕ)) (text : List ℕ) (header : Header) (sections : List SpelledSection) → Says fault text failed left → IsBytes text → Spells text header sections → length text ≤ limit
     → (fault ≡ faults.NoMemory) ⊎ ((fault ≡ faults.Read) × (failed ≡ true))
-only_broken_off fault failed left text header sections (starved is some works) fits h le = inl is
+only_broken_off fault failed left text header sections (ran_out is some works) fits h le = inl is
 only_broken_off fault failed left text header sections (failed_read is given) fits h le = inr (is, given.failed_is)
 only_broken_off fault failed left text header sections (first reported works) fits h le =
     let e = one_reported text (Some fault) None reported (spelled_unfaulted text header sections fits h le) in
     absurd (cc (e))
 
-pub only_starved : (fault : KrlFault) (failed : Bool) (left : Option (List ℕ)) (text : List ℕ) (header : Header) (sections : List SpelledSection) → Says fault text failed left → IsBytes text → Spells text header sections → length text ≤ limit
+pub only_ran_out : (fault : KrlFault) (failed : Bool) (left : Option (List ℕ)) (text : List ℕ) (header : Header) (sections : List SpelledSection) → Says fault text failed left → IsBytes text → Spells text header sections → length text ≤ limit
     → (fault ≡ faults.NoMemory) ⊎ (fault ≡ faults.Read)
-only_starved fault failed left text header sections says fits h le =
+only_ran_out fault failed left text header sections says fits h le =
     elim (only_broken_off fault failed left text header sections says fits h le) [ inl memory ↦ inl memory | inr read ↦ inr read.0 ]
 
 -- so it is where a text is read from its first field on
-pub only_starved_from : {A : Type 0} (left : Option (List ℕ)) (begun : Position) (read : Result A KrlFault) (failed : Bool) (later : Option (List ℕ))
+pub only_ran_out_from : {A : Type 0} (left : Option (List ℕ)) (begun : Walk) (read : Result A KrlFault) (failed : Bool) (later : Option (List ℕ))
     → ((text : List ℕ) → left ≡ Some text → HasRead text [] begun)
     → IfErr read (λ fault. (text : List ℕ) (fields : List (List ℕ)) → HasRead text fields begun → Says fault text failed later)
     → IfErr read (λ fault. (text : List ℕ) → (header : Header) → (sections : List SpelledSection) → left ≡ Some text → IsBytes text → Spells text header sections → length text ≤ limit
     → (fault ≡ faults.NoMemory) ⊎ (fault ≡ faults.Read))
-only_starved_from left begun (Ok a) failed later starts says = tt
-only_starved_from left begun (Err fault) failed later starts says = λ text header sections e. only_starved fault failed later text header sections (says text [] (starts text e))
+only_ran_out_from left begun (Ok a) failed later starts says = tt
+only_ran_out_from left begun (Err fault) failed later starts says = λ text header sections e. only_ran_out fault failed later text header sections (says text [] (starts text e))

@@ -7,7 +7,7 @@ use Rattle.std.proofs.lemmas.List.{append-nil, length-append, take_all}
 use Rattle.std.proofs.lemmas.List.Folds.{concat-append}
 use Rattle.std.proofs.Math.Seq.{take-append_seam}
 use Rattle.ssh_wire.specs.Wire.{IsBytes}
-use Rattle.ssh_wire.specs.Pull.{Pulled, Takes, Refuses, after_ahead, left_of}
+use Rattle.ssh_wire.specs.Pull.{Pull, Takes, Refuses, after_ahead, left_of}
 use Rattle.ssh_wire.specs.declared.pull_fault.PullFault.{PullFault}
 use Rattle.ssh_wire.specs.declared.pull_fault.PullFault.TheVariants as pulls
 use Rattle.ssh_wire.specs.Cut.{take-after}
@@ -16,9 +16,9 @@ use Rattle.krl_types.specs.declared.krl_fault.KrlFault.{KrlFault}
 use Rattle.krl_types.specs.declared.krl_fault.KrlFault.TheVariants as faults
 use Rattle.krl_core.specs.declared.place.Place.{Place}
 use Rattle.krl_core.specs.Front.{State, start, state_after, Leads, Passes, HasRoom, Reported, no_room, refused, too_long, ends_early, IsFirstFault, limit}
-use Rattle.krl_core.specs.Keeping.{GrowsWithin, IsKept, Keeping, KeepsField, StoresWithin}
+use Rattle.krl_core.specs.Keeper.{GrowsWithin, IsKept, Keeper, KeepsField, StoresWithin}
 use Rattle.krl_core.specs.Place.{can_end, expected, names, authority_after, header_after}
-use Rattle.krl_core.specs.Reading.{Position, working, HasRead, IsBounded, LooksFor, Missed, no_room as room_missed, cut, Says, starved, failed_read, first, Refused, is_fixed}
+use Rattle.krl_core.specs.Reading.{Walk, working, HasRead, IsBounded, LooksFor, Missed, no_room as room_missed, cut, Says, ran_out, failed_read, first, Refused, is_fixed}
 use Rattle.krl_types.specs.KrlFault.{reported_as}
 use Rattle.krl_core.proofs.Fixed.{late_enough}
 use Rattle.krl_core.proofs.Fronts.{first_fault_is, end_size, end_room}
@@ -42,33 +42,33 @@ pub at_end_none : (a : Option (List ℕ)) (rest : List ℕ) → a ≡ Some rest 
 at_end_none None rest e h = absurd (cc)
 at_end_none (Some xs) rest e h = let same : xs ≡ rest = cc in sym same ∙ h
 
-ahead_left : (ahead : Option ℕ) (source : Option (List ℕ)) (rest : List ℕ) (p : Pulled) → p.ahead ≡ ahead → p.source ≡ source
+ahead_left : (ahead : Option ℕ) (source : Option (List ℕ)) (rest : List ℕ) (p : Pull) → p.ahead ≡ ahead → p.source ≡ source
     → left_of p ≡ Some rest → IsSome p.ahead → rest ≡ [] → ⊥
 ahead_left None source rest p e f left some none = let s = rw e at some in absurd (cc)
 ahead_left (Some byte) None rest p e f left some none = let l = rw (e, f) at left in absurd (cc)
 ahead_left (Some byte) (Some xs) rest p e f left some none = let l = rw (e, f) at left in absurd (cc)
 
 -- a byte that was looked at is left
-pub ahead_some : (p : Pulled) (rest : List ℕ) → left_of p ≡ Some rest → IsSome p.ahead → rest ≡ [] → ⊥
+pub ahead_some : (p : Pull) (rest : List ℕ) → left_of p ≡ Some rest → IsSome p.ahead → rest ≡ [] → ⊥
 ahead_some p rest left some none = ahead_left p.ahead p.source rest p refl refl left some none
 
 -- Fields of the text lead to a place, and the reader has the rest of the text left.
-pub record HasCome (text : List ℕ) (fields : List (List ℕ)) (position : Position) : Type 0 where
+pub record HasCome (text : List ℕ) (fields : List (List ℕ)) (reading : Walk) : Type 0 where
   pub state : State
   pub leads : Leads start fields state
-  pub place_is : position.place ≡ state.place
+  pub place_is : reading.place ≡ state.place
   pub rest : List ℕ
-  pub left_is : left_of position.pull ≡ Some rest
+  pub left_is : left_of reading.pull ≡ Some rest
   pub parts : text ≡ concat fields ++ rest
-  pub taken_is : position.pull.taken ≡ length (concat fields)
+  pub taken_is : reading.pull.taken ≡ length (concat fields)
 
-abbrev pub come : {text : List ℕ} {fields : List (List ℕ)} {p : Position} → HasRead text fields p → HasCome text fields p
+abbrev pub come : {text : List ℕ} {fields : List (List ℕ)} {p : Walk} → HasRead text fields p → HasCome text fields p
 come h = record { state = h.state; leads = h.leads; place_is = h.place_is; rest = h.rest; left_is = h.left_is; parts = h.parts; taken_is = h.taken_is }
 
 -- ---- the front that was read
 
 -- what is reported at the place that was reached is the first fault
-pub reported_there : (text : List ℕ) (fields : List (List ℕ)) (p : Position) (h : HasCome text fields p) (fault : Option KrlFault)
+pub reported_there : (text : List ℕ) (fields : List (List ℕ)) (p : Walk) (h : HasCome text fields p) (fault : Option KrlFault)
     → length (concat fields) ≤ limit
     → Reported p.place (take (limit - length (concat fields)) h.rest) (ltb limit (length text)) fault → IsFirstFault text fault
 reported_there text fields p h fault le reported =
@@ -98,7 +98,7 @@ reported_given fields state came fault leads le reported =
 -- ---- faults
 
 -- the reader failed in a field, or where the end was looked for
-pub says_read : (old : Position) (mid new : Pulled) (text : List ℕ) (fields : List (List ℕ)) → IsBounded old.pull old.keeping
+pub says_read : (old : Walk) (mid new : Pull) (text : List ℕ) (fields : List (List ℕ)) → IsBounded old.pull old.keeper
     → HasCome text fields old → Keeps (left_of old.pull) (left_of mid) → mid.taken ≡ old.pull.taken → mid.limit ≡ old.pull.limit
     → HasRoom (expected old.place) → Refuses mid (expected old.place).size pulls.Read new → Says faults.Read text new.failed new.source
 says_read old mid new text fields bounded h keeps taken limit_is room r =
@@ -120,7 +120,7 @@ says_read old mid new text fields bounded h keeps taken limit_is room r =
       ];
     })
 
-says_early : (old : Position) (mid new : Pulled) (text : List ℕ) (fields : List (List ℕ)) → IsBounded old.pull old.keeping
+says_early : (old : Walk) (mid new : Pull) (text : List ℕ) (fields : List (List ℕ)) → IsBounded old.pull old.keeper
     → HasCome text fields old → LooksFor old.place old.pull false mid
     → HasRoom (expected old.place) → Refuses mid (expected old.place).size pulls.EndsEarly new → Says faults.EndsEarly text new.failed new.source
 says_early old mid new text fields bounded h looks room r =
@@ -139,7 +139,7 @@ says_early old mid new text fields bounded h looks room r =
     first (reported_there text fields old h (Some faults.EndsEarly) (omega arith)
     (rw (whole, off) reported)) m.reports.1
 
-says_long : (old : Position) (mid new : Pulled) (text : List ℕ) (fields : List (List ℕ)) → IsBounded old.pull old.keeping
+says_long : (old : Walk) (mid new : Pull) (text : List ℕ) (fields : List (List ℕ)) → IsBounded old.pull old.keeper
     → HasCome text fields old → LooksFor old.place old.pull false mid
     → HasRoom (expected old.place) → Refuses mid (expected old.place).size pulls.TooLong new → Says faults.TooLong text new.failed new.source
 says_long old mid new text fields bounded h looks room r =
@@ -162,23 +162,23 @@ says_long old mid new text fields bounded h looks room r =
     not_empty (x ∷ l) h = omega arith
 
 -- after the first fields a text has 40 bytes
-pub says_starved : (old : Position) (new : Pulled) (text : List ℕ) (fields : List (List ℕ)) (fault : KrlFault) → HasCome text fields old
+pub says_ran_out : (old : Walk) (new : Pull) (text : List ℕ) (fields : List (List ℕ)) (fault : KrlFault) → HasCome text fields old
     → is_fixed old.place ≡ false → fault ≡ faults.NoMemory → new.failed ≡ false → Says fault text new.failed new.source
-says_starved old new text fields fault h late is works =
+says_ran_out old new text fields fault h late is works =
     let some = late_enough fields h.state h.leads (subst (λ (p : Place). is_fixed p ≡ false) h.place_is late) in
-    starved is (omega (arith, some, ap length h.parts, length-append (concat fields) h.rest)) works
+    ran_out is (omega (arith, some, ap length h.parts, length-append (concat fields) h.rest)) works
 
-pub says_cut : (old : Position) (mid new : Pulled) (text : List ℕ) (fields : List (List ℕ)) (why : PullFault) → IsBounded old.pull old.keeping
+pub says_cut : (old : Walk) (mid new : Pull) (text : List ℕ) (fields : List (List ℕ)) (why : PullFault) → IsBounded old.pull old.keeper
     → HasCome text fields old → LooksFor old.place old.pull false mid
     → HasRoom (expected old.place) → Refuses mid (expected old.place).size why new → (reported_as why ≡ faults.NoMemory → is_fixed old.place ≡ false) → Says (reported_as why) text new.failed new.source
 says_cut old mid new text fields pulls.EndsEarly bounded h looks room r late = says_early old mid new text fields bounded h looks room r
 says_cut old mid new text fields pulls.TooLong bounded h looks room r late = says_long old mid new text fields bounded h looks room r
 says_cut old mid new text fields pulls.Read bounded h looks room r late =
     says_read old mid new text fields bounded h looks.bytes looks.taken looks.limit_is room r
-says_cut old mid new text fields pulls.NoMemory bounded h looks room r late = says_starved old new text fields faults.NoMemory h (late refl) refl r.misses.reports
+says_cut old mid new text fields pulls.NoMemory bounded h looks room r late = says_ran_out old new text fields faults.NoMemory h (late refl) refl r.misses.reports
 
 -- a field that was not taken
-pub missed_says : (old : Position) (mid new : Pulled) (fault : KrlFault) → IsBounded old.pull old.keeping
+pub missed_says : (old : Walk) (mid new : Pull) (fault : KrlFault) → IsBounded old.pull old.keeper
     → LooksFor old.place old.pull false mid → Missed old.place mid fault new → (fault ≡ faults.NoMemory → is_fixed old.place ≡ false) → Refused fault old new
 missed_says old mid new fault bounded looks (room_missed full is same) late text fields h =
     let le : length (concat fields) ≤ limit = omega (arith, bounded.within, h.taken_is) in
@@ -188,10 +188,10 @@ missed_says old mid new fault bounded looks (cut why room r is) late text fields
     subst (λ (f : KrlFault). Says f text new.failed new.source) (sym is) (says_cut old mid new text fields why bounded (come h) looks room r (λ e. late (is ∙ e)))
 
 -- a field that was refused
-pub refused_says : (old : Position) (mid new : Pulled) (field : List ℕ) (fault : KrlFault) → IsBounded old.pull old.keeping
+pub refused_says : (old : Walk) (mid new : Pull) (field : List ℕ) (fault : KrlFault) → IsBounded old.pull old.keeper
     → LooksFor old.place old.pull false mid → Takes mid field new → HasRoom (expected old.place) → length field ≡ (expected old.place).size
     → ((fault ≡ faults.NoMemory) × (is_fixed old.place ≡ false)) ⊎ ((expected old.place).judged field ≡ Err fault) → Refused fault old new
-refused_says old mid new field fault bounded looks takes room size (inl none) text fields h = says_starved old new text fields fault (come h) none.1 none.0 takes.working
+refused_says old mid new field fault bounded looks takes room size (inl none) text fields h = says_ran_out old new text fields fault (come h) none.1 none.0 takes.working
 refused_says old mid new field fault bounded looks takes room size (inr judged) text fields h =
     let left = keeps_some (left_of old.pull) (left_of mid) h.rest h.left_is looks.bytes in
     let after = consumes_some (left_of mid) (left_of new) h.rest field left takes.bytes in
@@ -203,11 +203,11 @@ refused_says old mid new field fault bounded looks takes room size (inr judged) 
 
 -- ---- one field more
 
-pub one_more : (old : Position) (mid new : Pulled) (place : Place) (keeping : Keeping) (field : List ℕ) → old.fault ≡ None
+pub one_more : (old : Walk) (mid new : Pull) (place : Place) (keeper : Keeper) (field : List ℕ) → old.fault ≡ None
     → LooksFor old.place old.pull false mid → Takes mid field new → Passes old.place field place → IsBytes field
-    → KeepsField old.place field place old.keeping keeping → (text : List ℕ) (fields : List (List ℕ)) → HasRead text fields old
-    → (f : List ℕ) × HasRead text (fields ++ f ∷ []) (working new place keeping)
-one_more old mid new place keeping field faultless looks takes passes bytes keeps text fields h =
+    → KeepsField old.place field place old.keeper keeper → (text : List ℕ) (fields : List (List ℕ)) → HasRead text fields old
+    → (f : List ℕ) × HasRead text (fields ++ f ∷ []) (working new place keeper)
+one_more old mid new place keeper field faultless looks takes passes bytes keeps text fields h =
     let left = keeps_some (left_of old.pull) (left_of mid) h.rest h.left_is looks.bytes in
     let after = consumes_some (left_of mid) (left_of new) h.rest field left takes.bytes in
     let pass : Passes h.state.place field place = subst (λ (p : Place). Passes p field place) h.place_is passes in
@@ -215,9 +215,9 @@ one_more old mid new place keeping field faultless looks takes passes bytes keep
     let place_is = h.place_is in
     let authority_is = h.authority_is in
     let header_is = h.header_is in
-    let named : names old.place old.keeping.authority field ≡ names h.state.place h.state.authority field = cc in
-    let authority : authority_after old.place old.keeping.authority field ≡ authority_after h.state.place h.state.authority field = cc in
-    let header : header_after old.place old.keeping.header field ≡ header_after h.state.place h.state.header field = cc in (
+    let named : names old.place old.keeper.authority field ≡ names h.state.place h.state.authority field = cc in
+    let authority : authority_after old.place old.keeper.authority field ≡ authority_after h.state.place h.state.authority field = cc in
+    let header : header_after old.place old.keeper.header field ≡ header_after h.state.place h.state.header field = cc in (
       field,
       record {
         state = state_after h.state field place;
@@ -225,7 +225,7 @@ one_more old mid new place keeping field faultless looks takes passes bytes keep
         place_is = refl;
         authority_is = keeps.authority_is ∙ authority;
         header_is = keeps.header_is ∙ header;
-        kept = subst (λ n. IsKept keeping (h.state.entries ++ n)) named (keeps.kept h.state.entries h.kept);
+        kept = subst (λ n. IsKept keeper (h.state.entries ++ n)) named (keeps.kept h.state.entries h.kept);
         are_bytes = subst IsBytes (sym joined) (IsBytes-append (concat fields) field h.are_bytes bytes);
         rest = after.0;
         left_is = after.1;
@@ -236,16 +236,16 @@ one_more old mid new place keeping field faultless looks takes passes bytes keep
       },
     )
 
-pub bounded_more : (old : Position) (mid new : Pulled) (keeping : Keeping) (field : List ℕ) → IsBounded old.pull old.keeping
-    → LooksFor old.place old.pull false mid → Takes mid field new → GrowsWithin (length field) old.keeping keeping → IsBounded new keeping
-bounded_more old mid new keeping field b looks takes grows =
+pub bounded_more : (old : Walk) (mid new : Pull) (keeper : Keeper) (field : List ℕ) → IsBounded old.pull old.keeper
+    → LooksFor old.place old.pull false mid → Takes mid field new → GrowsWithin (length field) old.keeper keeper → IsBounded new keeper
+bounded_more old mid new keeper field b looks takes grows =
     let taken : new.taken ≡ old.pull.taken + length field = omega (arith, takes.taken, looks.taken) in
     record {
       limit_is = takes.limit ∙ looks.limit_is ∙ b.limit_is;
       within = omega (arith, takes.within, takes.taken, looks.limit_is, b.limit_is);
       all_is = λ every.
           let was = b.all_is (sym grows.same_scope ∙ every) in
-          (omega (arith, grows.held_is, was.0, taken), subst (λ (n : ℕ). StoresWithin keeping n) (sym taken) (grows.stored_is old.pull.taken was.1));
+          (omega (arith, grows.held_is, was.0, taken), subst (λ (n : ℕ). StoresWithin keeper n) (sym taken) (grows.stored_is old.pull.taken was.1));
       scope_is = grows.scope_is b.scope_is;
     }
 
@@ -256,7 +256,7 @@ keeps_refl None = tt
 keeps_refl (Some xs) = refl
 
 -- the reader failed where the end was looked for
-pub end_refused : (old : Position) (new : Pulled) (fault : KrlFault) → IsBounded old.pull old.keeping → fault ≡ faults.Read
+pub end_refused : (old : Walk) (new : Pull) (fault : KrlFault) → IsBounded old.pull old.keeper → fault ≡ faults.Read
     → can_end old.place ≡ true → Refuses old.pull 1 pulls.Read new → Refused fault old new
 end_refused old new fault bounded is may r text fields h =
     let one : (expected old.place).size ≡ 1 = end_size old.place may in

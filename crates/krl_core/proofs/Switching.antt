@@ -4,36 +4,36 @@ use Rattle.std.proofs.Math.Logic.Iff as Iff
 use Rattle.std.specs.Option.{option_to_list}
 use Rattle.serial_set.specs.BitRuns.{BitRuns}
 use Rattle.krl_held.specs.Changes.{run_entries}
-use Rattle.krl_held.specs.Contents.{Contents}
+use Rattle.krl_held.specs.Revocations.{Revocations}
 use Rattle.krl_held.specs.Entry.{Entry}
 use Rattle.krl_held.specs.Naming.{NamesSame}
 use Rattle.krl_held.specs.Questions.{Asked, FindsIn, asked_in}
 use Rattle.krl_held.specs.Scope.{all, MeansWithin, Scope}
-use Rattle.krl_core.specs.Keeping.{IsKept, Keeping}
-use Rattle.krl_core.specs.Reading.{HasRead, Position}
+use Rattle.krl_core.specs.Keeper.{IsKept, Keeper}
+use Rattle.krl_core.specs.Reading.{HasRead, Walk}
 
 -- what is found of what is held means the same, of what is asked about
-found_within : (front : Contents) (asked : Asked) (entries : List Entry) → FindsIn front asked → MeansWithin all front entries → MeansWithin (asked_in asked) asked.found entries
+found_within : (front : Revocations) (asked : Asked) (entries : List Entry) → FindsIn front asked → MeansWithin all front entries → MeansWithin (asked_in asked) asked.found entries
 found_within front asked entries finds m = record {
   orderly = finds.orderly;
   names = λ name is. Iff.trans (finds.held name, finds.all name is) (m.names name tt);
 }
 
-pub found_kept : (old new : Keeping) (asked : Asked) (entries : List Entry) → old.scope ≡ all → FindsIn old.contents asked → new.contents ≡ asked.found → new.scope ≡ asked_in asked
+pub found_kept : (old new : Keeper) (asked : Asked) (entries : List Entry) → old.scope ≡ all → FindsIn old.contents asked → new.contents ≡ asked.found → new.scope ≡ asked_in asked
     → new.authority ≡ old.authority → new.bitmap ≡ old.bitmap → IsKept old entries → IsKept new entries
 found_kept old new asked entries every finds contents scope authority bitmap h = record {
   closed = h.closed;
-  means = subst (λ (s : Scope). MeansWithin s new.contents h.closed) (sym scope) (subst (λ (r : Contents). MeansWithin (asked_in asked) r h.closed) (sym contents)
+  means = subst (λ (s : Scope). MeansWithin s new.contents h.closed) (sym scope) (subst (λ (r : Revocations). MeansWithin (asked_in asked) r h.closed) (sym contents)
       (found_within old.contents asked h.closed finds (subst (λ (s : Scope). MeansWithin s old.contents h.closed) every h.means)));
   same = subst (λ (b : BitRuns). NamesSame (h.closed ++ run_entries new.authority (option_to_list b.pending)) entries) (sym bitmap)
       (subst (λ (a : List ℕ). NamesSame (h.closed ++ run_entries a (option_to_list old.bitmap.pending)) entries) (sym authority) h.same);
 }
 
 -- what was read stays read where all that was kept stays kept
-pub found_read : (text : List ℕ) (fields : List (List ℕ)) (old : Position) (keeping : Keeping) → HasRead text fields old
-    → ((entries : List Entry) → IsKept old.keeping entries → IsKept keeping entries) → keeping.authority ≡ old.keeping.authority → keeping.header ≡ old.keeping.header
-    → HasRead text fields (record old { keeping = keeping })
-found_read text fields old keeping h kept authority header = record {
+pub found_read : (text : List ℕ) (fields : List (List ℕ)) (old : Walk) (keeper : Keeper) → HasRead text fields old
+    → ((entries : List Entry) → IsKept old.keeper entries → IsKept keeper entries) → keeper.authority ≡ old.keeper.authority → keeper.header ≡ old.keeper.header
+    → HasRead text fields (record old { keeper = keeper })
+found_read text fields old keeper h kept authority header = record {
   state = h.state;
   leads = h.leads;
   place_is = h.place_is;

@@ -6,38 +6,38 @@ use Rattle.std.proofs.lemmas.List.{append-nil, take_all}
 use Rattle.std.proofs.lemmas.Bool.{le-ltb}
 use Rattle.serial_set.specs.declared.span.Span.{Span}
 use Rattle.std.specs.Io.KnownBytes.{IsAtEnd}
-use Rattle.ssh_wire.specs.Pull.{Pulled, left_of}
+use Rattle.ssh_wire.specs.Pull.{Pull, left_of}
 use Rattle.ssh_wire.specs.Wire.{IsBytes}
 use Rattle.krl_core.specs.declared.header.Header.{Header}
 use Rattle.krl_core.specs.declared.place.Place.{Place}
 use Rattle.krl_core.specs.declared.place.Place.TheVariants.{SectionType}
-use Rattle.krl_held.specs.Contents.{Contents}
+use Rattle.krl_held.specs.Revocations.{Revocations}
 use Rattle.krl_held.specs.Entry.{Entry}
 use Rattle.krl_core.specs.Front.{limit, IsFirstFault, ended}
 use Rattle.krl_held.specs.Changes.{run_entries}
-use Rattle.krl_core.specs.Keeping.{Keeping, InStep, open_run}
+use Rattle.krl_core.specs.Keeper.{Keeper, InStep, open_run}
 use Rattle.krl_held.specs.Naming.{NamesSame}
 use Rattle.krl_core.specs.Place.{can_end}
-use Rattle.krl_core.specs.Reading.{Ends, EndsAfter, Position, HasRead, Follows, HoldsWithin, IsBounded, IsReached, IsWholeAs, IsWithinLimit, ReadsMore}
+use Rattle.krl_core.specs.Reading.{Ends, EndsAfter, Walk, HasRead, Follows, HoldsWithin, IsBounded, IsReached, IsWholeAs, IsWithinLimit, ReadsMore}
 use Rattle.krl_core.proofs.Exists.{weight, nearer}
 use Rattle.krl_core.proofs.Fronts.{first_fault_is}
 use Rattle.krl_held.proofs.Scoped.{same_within}
 
 -- some fields more were read, without a fault
-pub record LeadsOn (old new : Position) : Type 0 where
+pub record LeadsOn (old new : Walk) : Type 0 where
   pub reads : ReadsMore old new
   pub faultless : new.fault ≡ None
-  pub scope_is : new.keeping.scope ≡ old.keeping.scope
+  pub scope_is : new.keeper.scope ≡ old.keeper.scope
 
 -- none was read yet
-pub leads_on : (p : Position) → p.fault ≡ None → LeadsOn p p
+pub leads_on : (p : Walk) → p.fault ≡ None → LeadsOn p p
 leads_on p faultless = record {
   reads = λ text fields h. ([], subst (λ (row : List (List ℕ)). HasRead text row p) (sym (append-nil fields)) h);
   faultless = faultless;
   scope_is = refl;
 }
 
-pub leads_further : (old mid new : Position) → LeadsOn old mid → ReadsMore mid new → new.fault ≡ None → new.keeping.scope ≡ mid.keeping.scope → LeadsOn old new
+pub leads_further : (old mid new : Walk) → LeadsOn old mid → ReadsMore mid new → new.fault ≡ None → new.keeper.scope ≡ mid.keeper.scope → LeadsOn old new
 leads_further old mid new first then faultless scope = record {
   reads = λ text fields h.
       let one = first.reads text fields h in
@@ -48,7 +48,7 @@ leads_further old mid new first then faultless scope = record {
 }
 
 -- the fields that were read are all of the text
-pub ends_after : (old mid new : Position) → LeadsOn old mid → Ends mid new → EndsAfter old new
+pub ends_after : (old mid new : Walk) → LeadsOn old mid → Ends mid new → EndsAfter old new
 ends_after old mid new first ends = record {
   may_end = ends.may_end;
   whole = λ text fields h.
@@ -58,32 +58,32 @@ ends_after old mid new first ends = record {
 }
 
 -- each step brings the end nearer
-pub step_nearer : (old new : Position) → Follows old new
+pub step_nearer : (old new : Walk) → Follows old new
     → 2 * (limit - new.pull.taken) + weight new.place < 2 * (limit - old.pull.taken) + weight old.place
 step_nearer old new h =
     let near = nearer old.place new.place h.field h.passes.judged in
     omega (arith, near, h.taken, h.within, h.passes.whole)
 
 -- where the list may end no run is open
-pub none_open : (p : Place) (keeping : Keeping) → can_end p ≡ true → InStep p keeping.bitmap → keeping.bitmap.pending ≡ None
-none_open (SectionType signed) keeping may step = step
-none_open _ keeping may step = absurd (cc)
+pub none_open : (p : Place) (keeper : Keeper) → can_end p ≡ true → InStep p keeper.bitmap → keeper.bitmap.pending ≡ None
+none_open (SectionType signed) keeper may step = step
+none_open _ keeper may step = absurd (cc)
 
 -- what was read to its end is all of the text
 all_read : (text front rest : List ℕ) (left : Option (List ℕ)) → text ≡ front ++ rest → left ≡ Some rest → IsAtEnd left → text ≡ front
 all_read text front rest left parts is end = parts ∙ ap (λ (x : List ℕ). front ++ x) (subst IsAtEnd is end) ∙ append-nil front
 
-pub whole_list : (text : List ℕ) (fields : List (List ℕ)) (p : Position) → IsReached p → p.ended ≡ true → HasRead text fields p
-    → IsWholeAs (HoldsWithin p.keeping.scope) text p.keeping.header p.keeping.contents
+pub whole_list : (text : List ℕ) (fields : List (List ℕ)) (p : Walk) → IsReached p → p.ended ≡ true → HasRead text fields p
+    → IsWholeAs (HoldsWithin p.keeper.scope) text p.keeper.header p.keeper.contents
 whole_list text fields p sound off h =
     let may = (sound.ends off).may_end in
     let all = all_read text (concat fields) h.rest (left_of p.pull) h.parts h.left_is (sound.ends off).at_end in
-    let keeping = p.keeping in
+    let keeper = p.keeper in
     let kept = h.kept in
-    let none = none_open p.place keeping may (sound.in_step h.faultless) in
+    let none = none_open p.place keeper may (sound.in_step h.faultless) in
     let size : p.pull.taken ≡ length text = h.taken_is ∙ sym (ap length all) in
-    let open_none : kept.closed ++ run_entries keeping.authority (open_run keeping) ≡ kept.closed =
-    ap (λ (o : Option Span). kept.closed ++ run_entries keeping.authority (option_to_list o)) none ∙ append-nil kept.closed in
+    let open_none : kept.closed ++ run_entries keeper.authority (open_run keeper) ≡ kept.closed =
+    ap (λ (o : Option Span). kept.closed ++ run_entries keeper.authority (option_to_list o)) none ∙ append-nil kept.closed in
     let same : NamesSame kept.closed h.state.entries = subst (λ (xs : List Entry). NamesSame xs h.state.entries) open_none kept.same in
     record {
       fields = fields;
@@ -95,21 +95,21 @@ whole_list text fields p sound off h =
       may_end = subst (λ (q : Place). can_end q ≡ true) h.place_is may;
       header_is = h.header_is;
       holds = record {
-        means = same_within keeping.scope keeping.contents kept.closed h.state.entries kept.means same;
+        means = same_within keeper.scope keeper.contents kept.closed h.state.entries kept.means same;
         within = sound.bounded.scope_is;
         bounds = λ every. let b = sound.bounded.all_is every in (omega (arith, b.0, size), omega (arith, b.1.now, size));
       };
     }
 
 -- what was read is no more than the limit
-pub within_limit : (pull : Pulled) (keeping : Keeping) → IsBounded pull keeping → IsWithinLimit keeping.scope keeping.contents
-within_limit pull keeping h = record {
+pub within_limit : (pull : Pull) (keeper : Keeper) → IsBounded pull keeper → IsWithinLimit keeper.scope keeper.contents
+within_limit pull keeper h = record {
   within = h.scope_is;
   bounds = λ every. let b = h.all_is every in (omega (arith, b.0, h.within), omega (arith, b.1.now, h.within));
 }
 
 -- where what is held is in another way what the fields name
-pub whole_holds : (Holds Other : List ℕ → Contents → List Entry → Type 0) (text : List ℕ) (header : Header) (contents : Contents)
+pub whole_holds : (Holds Other : List ℕ → Revocations → List Entry → Type 0) (text : List ℕ) (header : Header) (contents : Revocations)
     → ((entries : List Entry) → Holds text contents entries → Other text contents entries) → IsWholeAs Holds text header contents → IsWholeAs Other text header contents
 whole_holds Holds Other text header contents other h = record {
   fields = h.fields;
@@ -124,7 +124,7 @@ whole_holds Holds Other text header contents other h = record {
 }
 
 -- what leads to the end of a list has no fault
-pub whole_unfaulted : (Holds : List ℕ → Contents → List Entry → Type 0) (text : List ℕ) (header : Header) (contents : Contents) → IsWholeAs Holds text header contents → IsFirstFault text None
+pub whole_unfaulted : (Holds : List ℕ → Revocations → List Entry → Type 0) (text : List ℕ) (header : Header) (contents : Revocations) → IsWholeAs Holds text header contents → IsFirstFault text None
 whole_unfaulted Holds text header contents h =
     let all : take limit text ≡ text = take_all limit text h.within in
     let off : ltb limit (length text) ≡ false = le-ltb limit (length text) h.within in

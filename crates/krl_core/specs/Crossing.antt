@@ -6,21 +6,21 @@ use Rattle.std.specs.declared.alloc.AllocError.{AllocError}
 use Rattle.ssh_wire.specs.Wire.{IsBytes, number_of}
 use Rattle.krl_core.specs.declared.place.Place.{Place}
 use Rattle.krl_core.specs.Front.{Leads, State, start}
-use Rattle.krl_core.specs.Keeping.{GrowsWithin, InStep, IsKept, Keeping}
+use Rattle.krl_core.specs.Keeper.{GrowsWithin, InStep, IsKept, Keeper}
 use Rattle.krl_held.specs.Naming.{SerialOf}
 use Rattle.krl_held.specs.Scope.{InScope}
 
 -- These fields lead from a list's first byte to a place, and what is kept means what they name.
-pub record HasKept (fields : List (List ℕ)) (place : Place) (keeping : Keeping) : Type 0 where
+pub record HasKept (fields : List (List ℕ)) (place : Place) (keeper : Keeper) : Type 0 where
   pub state : State
   pub leads : Leads start fields state
   pub place_is : place ≡ state.place
-  pub authority_is : keeping.authority ≡ state.authority
-  pub header_is : keeping.header ≡ state.header
-  pub kept : IsKept keeping state.entries
+  pub authority_is : keeper.authority ≡ state.authority
+  pub header_is : keeper.header ≡ state.header
+  pub kept : IsKept keeper state.entries
 
 -- The bytes are whole fields, which lead from one place to another, and what they name is kept too.
-pub record Crosses (bytes : List ℕ) (place : Place) (old : Keeping) (next : Place) (new : Keeping)
+pub record Crosses (bytes : List ℕ) (place : Place) (old : Keeper) (next : Place) (new : Keeper)
     : Type 0 where
   pub kept : (fields : List (List ℕ)) → HasKept fields place old
       → (more : List (List ℕ)) × (HasKept (fields ++ more) next new × (concat more ≡ bytes))
@@ -30,7 +30,7 @@ pub record Crosses (bytes : List ℕ) (place : Place) (old : Keeping) (next : Pl
 
 -- So many of the bytes were crossed, or memory ran out at the last of them.
 pub record CrossesSome (bytes : List ℕ) (count : ℕ) (result : Result (Unit {0}) AllocError)
-    (place : Place) (old : Keeping) (next : Place) (new : Keeping) : Type 0 where
+    (place : Place) (old : Keeper) (next : Place) (new : Keeper) : Type 0 where
   pub within : count ≤ length bytes
   pub ok : OnOk result (Crosses (take count bytes) place old next new)
   pub grows : GrowsWithin count old new
@@ -39,18 +39,18 @@ pub record CrossesSome (bytes : List ℕ) (count : ℕ) (result : Result (Unit {
 -- ---- fields that name nothing in scope
 
 -- no serial number of the `count` highest of the `left` last bytes of a bitmap is in scope
-abbrev pub AreUnasked : Keeping → (offset left count : ℕ) → Type 0
-AreUnasked keeping offset left count =
+abbrev pub AreUnasked : Keeper → (offset left count : ℕ) → Type 0
+AreUnasked keeper offset left count =
     (s : ℕ) → offset + 8 * (left - count) ≤ s → s < offset + 8 * left
-    → InScope keeping.scope (SerialOf keeping.authority s) → ⊥
+    → InScope keeper.scope (SerialOf keeper.authority s) → ⊥
 
 -- The bytes are left of a bitmap, the first of all is not negative, none can pass 2^64-1, and
 -- nothing in scope is among their numbers.
-pub record MayPass (keeping : Keeping) (offset size left : ℕ) (bytes : List ℕ) (count : ℕ)
+pub record MayPass (keeper : Keeper) (offset size left : ℕ) (bytes : List ℕ) (count : ℕ)
     : Type 0 where
   pub there : count ≤ length bytes
   pub within : count ≤ left
   pub sign_free : left ≡ size → number_of (take 1 bytes) < 128
   pub left_is : left ≤ size
   pub fits : offset + 8 * left ≤ 18446744073709551616
-  pub unasked : AreUnasked keeping offset left count
+  pub unasked : AreUnasked keeper offset left count

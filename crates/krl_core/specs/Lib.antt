@@ -1,7 +1,7 @@
 pub mod Krl
 pub mod Place
 pub mod Front
-pub mod Keeping
+pub mod Keeper
 pub mod Crossing
 pub mod Reading
 pub mod Entries

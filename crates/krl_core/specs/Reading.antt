@@ -4,7 +4,7 @@ use Rattle.std.specs.Prelude.{◌∷◌, ◌++◌, length, Option, Some, None, I
 use Rattle.std.specs.List.{concat}
 use Rattle.std.specs.Io.KnownBytes.{IsAtEnd, Keeps}
 use Rattle.ssh_wire.specs.Wire.{IsBytes}
-use Rattle.ssh_wire.specs.Pull.{Pulled, Refuses, left_of}
+use Rattle.ssh_wire.specs.Pull.{Pull, Refuses, left_of}
 use Rattle.ssh_wire.specs.declared.pull_fault.PullFault.{PullFault}
 use Rattle.krl_types.specs.KrlFault.{reported_as}
 use Rattle.krl_types.specs.declared.krl_fault.KrlFault.{KrlFault}
@@ -14,73 +14,73 @@ use Rattle.krl_core.specs.declared.place.Place.{Place}
 use Rattle.krl_core.specs.declared.place.Place.TheVariants as places
 use Rattle.krl_core.specs.declared.place.header.HeaderPlace.TheVariants as headers
 use Rattle.krl_core.specs.declared.header.Header.{Header}
-use Rattle.krl_held.specs.Contents.{Contents, Means, held, stored}
+use Rattle.krl_held.specs.Revocations.{Revocations, Means, held, stored}
 use Rattle.krl_core.specs.Entries.{entries_of}
 use Rattle.krl_core.specs.Krl.{SpelledSection, Spells}
 use Rattle.krl_core.specs.Front.{State, start, Leads, Passes, HasRoom, IsFirstFault, limit}
-use Rattle.krl_core.specs.Keeping.{InStep, IsKept, Keeping, KeepsWithin, StoresWithin}
-use Rattle.krl_core.specs.Keeping.{held_with_open}
+use Rattle.krl_core.specs.Keeper.{InStep, IsKept, Keeper, KeepsWithin, StoresWithin}
+use Rattle.krl_core.specs.Keeper.{held_with_open}
 use Rattle.krl_core.specs.Place.{can_end, expected}
 use Rattle.krl_held.specs.Entry.{Entry}
 use Rattle.krl_held.specs.Scope.{MeansWithin, Scope, WithinScope, all}
 
 -- the reader, the place where the next field is expected, what is kept, whether the list's end was
 -- found, and the fault that was met
-pub record Position : Type 0 where
-  pub pull : Pulled
+pub record Walk : Type 0 where
+  pub pull : Pull
   pub place : Place
-  pub keeping : Keeping
+  pub keeper : Keeper
   pub ended : Bool
   pub fault : Option KrlFault
 
--- a position before the list's end, without a fault
-abbrev pub working : Pulled → Place → Keeping → Position
-working pull place keeping =
-    record { pull = pull; place = place; keeping = keeping; ended = false; fault = None }
+-- a reading before the list's end, without a fault
+abbrev pub working : Pull → Place → Keeper → Walk
+working pull place keeper =
+    record { pull = pull; place = place; keeper = keeper; ended = false; fault = None }
 
--- These fields of the text were read and no others: they lead to this position, what is kept means
+-- These fields of the text were read and no others: they lead to this reading, what is kept means
 -- what they name, and the reader has the rest of the text left.
-pub record HasRead (text : List ℕ) (fields : List (List ℕ)) (position : Position) : Type 0 where
+pub record HasRead (text : List ℕ) (fields : List (List ℕ)) (reading : Walk) : Type 0 where
   pub state : State
   pub leads : Leads start fields state
-  pub place_is : position.place ≡ state.place
-  pub authority_is : position.keeping.authority ≡ state.authority
-  pub header_is : position.keeping.header ≡ state.header
-  pub kept : IsKept position.keeping state.entries
+  pub place_is : reading.place ≡ state.place
+  pub authority_is : reading.keeper.authority ≡ state.authority
+  pub header_is : reading.keeper.header ≡ state.header
+  pub kept : IsKept reading.keeper state.entries
   pub are_bytes : IsBytes (concat fields)
   pub rest : List ℕ
-  pub left_is : left_of position.pull ≡ Some rest
+  pub left_is : left_of reading.pull ≡ Some rest
   pub parts : text ≡ concat fields ++ rest
-  pub taken_is : position.pull.taken ≡ length (concat fields)
-  pub works : position.pull.failed ≡ false
-  pub faultless : position.fault ≡ None
+  pub taken_is : reading.pull.taken ≡ length (concat fields)
+  pub works : reading.pull.failed ≡ false
+  pub faultless : reading.fault ≡ None
 
 -- Of the bytes that the reader had left before, some fields were read.
-abbrev pub HasReadOf : (before : Option (List ℕ)) → Position → Type 0
-HasReadOf before position =
-    (text : List ℕ) → before ≡ Some text → (fields : List (List ℕ)) × HasRead text fields position
+abbrev pub HasReadOf : (before : Option (List ℕ)) → Walk → Type 0
+HasReadOf before reading =
+    (text : List ℕ) → before ≡ Some text → (fields : List (List ℕ)) × HasRead text fields reading
 
 -- For each row of fields that was read before, it is read now with one field more.
-abbrev pub ReadsOneMore : Position → Position → Type 0
+abbrev pub ReadsOneMore : Walk → Walk → Type 0
 ReadsOneMore old new =
     (text : List ℕ) (fields : List (List ℕ)) → HasRead text fields old
     → (field : List ℕ) × HasRead text (fields ++ field ∷ []) new
 
--- One whole field that passes leads from one position to another.
-pub record Follows (old new : Position) : Type 0 where
+-- One whole field that passes leads from one reading to another.
+pub record Follows (old new : Walk) : Type 0 where
   pub field : List ℕ
   pub passes : Passes old.place field new.place
   pub taken : new.pull.taken ≡ old.pull.taken + length field
   pub within : new.pull.taken ≤ limit
-  pub scope_is : new.keeping.scope ≡ old.keeping.scope
+  pub scope_is : new.keeper.scope ≡ old.keeper.scope
 
 -- The list is at its end: the end is expected, and no byte is left.
-pub record Ends (old new : Position) : Type 0 where
+pub record Ends (old new : Walk) : Type 0 where
   pub may_end : can_end new.place ≡ true
   pub at_end : IsAtEnd (left_of new.pull)
   pub still : (text : List ℕ) (fields : List (List ℕ)) → HasRead text fields old
       → HasRead text fields new × (text ≡ concat fields)
-  pub scope_is : new.keeping.scope ≡ old.keeping.scope
+  pub scope_is : new.keeper.scope ≡ old.keeper.scope
 
 -- The reader failed when it had given the first bytes of the text and had these left. The bytes
 -- that it gave end where a field or the end is expected.
@@ -111,12 +111,12 @@ is_fixed _ = false
 -- runs out only after the first fields.
 pub data Says (fault : KrlFault) (text : List ℕ) (failed : Bool) (left : Option (List ℕ))
     : Type 0 where
-  starved : fault ≡ NoMemory → 40 ≤ length text → failed ≡ false → Says fault text failed left
+  ran_out : fault ≡ NoMemory → 40 ≤ length text → failed ≡ false → Says fault text failed left
   failed_read : fault ≡ Read → FailsAfter text failed left → Says fault text failed left
   first : IsFirstFault text (Some fault) → failed ≡ false → Says fault text failed left
 
 -- Whatever fields of a text were read before, the fault says that of the text.
-abbrev pub Refused : KrlFault → Position → Pulled → Type 0
+abbrev pub Refused : KrlFault → Walk → Pull → Type 0
 Refused fault old new =
     (text : List ℕ) (fields : List (List ℕ)) → HasRead text fields old
     → Says fault text new.failed new.source
@@ -124,7 +124,7 @@ Refused fault old new =
 -- ---- the parts of a step
 
 -- whether the list ends at a place was found out, and no byte was taken
-pub record LooksFor (place : Place) (old : Pulled) (ended : Bool) (new : Pulled) : Type 0 where
+pub record LooksFor (place : Place) (old : Pull) (ended : Bool) (new : Pull) : Type 0 where
   pub bytes : Keeps (left_of old) (left_of new)
   pub taken : new.taken ≡ old.taken
   pub limit_is : new.limit ≡ old.limit
@@ -134,7 +134,7 @@ pub record LooksFor (place : Place) (old : Pulled) (ended : Bool) (new : Pulled)
   pub goes_on : ended ≡ false → can_end place ≡ true → IsSome new.ahead
 
 -- why a field that was expected was not taken
-pub data Missed (place : Place) (old : Pulled) (fault : KrlFault) (new : Pulled) : Type 0 where
+pub data Missed (place : Place) (old : Pull) (fault : KrlFault) (new : Pull) : Type 0 where
   -- what it is part of has not as many bytes left
   no_room : (HasRoom (expected place) → ⊥) → fault ≡ Length → new ≡ old → Missed place old fault new
   -- the reader gave less
@@ -143,30 +143,30 @@ pub data Missed (place : Place) (old : Pulled) (fault : KrlFault) (new : Pulled)
 
 -- What was taken is within the limit, and what is held within the scope. Where all names are in
 -- scope, what is held and stored is within what was taken.
-pub record IsBounded (pull : Pulled) (keeping : Keeping) : Type 0 where
+pub record IsBounded (pull : Pull) (keeper : Keeper) : Type 0 where
   pub limit_is : pull.limit ≡ limit
   pub within : pull.taken ≤ limit
-  pub all_is : keeping.scope ≡ all
-      → (held_with_open keeping ≤ 4 * pull.taken) × StoresWithin keeping pull.taken
-  pub scope_is : KeepsWithin keeping
+  pub all_is : keeper.scope ≡ all
+      → (held_with_open keeper ≤ 4 * pull.taken) × StoresWithin keeper pull.taken
+  pub scope_is : KeepsWithin keeper
 
 -- The end of the list was found: it is expected, no byte is left, and no fault was met.
-pub record IsEnded (position : Position) : Type 0 where
-  pub may_end : can_end position.place ≡ true
-  pub at_end : IsAtEnd (left_of position.pull)
-  pub faultless : position.fault ≡ None
+pub record IsEnded (reading : Walk) : Type 0 where
+  pub may_end : can_end reading.place ≡ true
+  pub at_end : IsAtEnd (left_of reading.pull)
+  pub faultless : reading.fault ≡ None
 
--- The position is one that a reading reaches.
-pub record IsReached (position : Position) : Type 0 where
-  pub in_step : position.fault ≡ None → InStep position.place position.keeping.bitmap
-  pub pull_faultless : position.fault ≡ None → position.pull.fault ≡ None
-  pub works : position.fault ≡ None → position.pull.failed ≡ false
-  pub ends : position.ended ≡ true → IsEnded position
-  pub bounded : IsBounded position.pull position.keeping
+-- The reading is one that the code reaches.
+pub record IsReached (reading : Walk) : Type 0 where
+  pub in_step : reading.fault ≡ None → InStep reading.place reading.keeper.bitmap
+  pub pull_faultless : reading.fault ≡ None → reading.pull.fault ≡ None
+  pub works : reading.fault ≡ None → reading.pull.failed ≡ false
+  pub ends : reading.ended ≡ true → IsEnded reading
+  pub bounded : IsBounded reading.pull reading.keeper
 
 -- Of the names in scope just what the entries name is held, and nothing that is not within it.
 -- Where all are in scope, it is no more than the text has room for.
-pub record HoldsWithin (scope : Scope) (text : List ℕ) (r : Contents) (entries : List Entry)
+pub record HoldsWithin (scope : Scope) (text : List ℕ) (r : Revocations) (entries : List Entry)
     : Type 0 where
   pub means : MeansWithin scope r entries
   pub within : WithinScope scope r
@@ -174,20 +174,20 @@ pub record HoldsWithin (scope : Scope) (text : List ℕ) (r : Contents) (entries
 
 -- What is held is within the scope. Where that is all names, it is no more than a list of the most
 -- bytes has room for.
-pub record IsWithinLimit (scope : Scope) (r : Contents) : Type 0 where
+pub record IsWithinLimit (scope : Scope) (r : Revocations) : Type 0 where
   pub within : WithinScope scope r
   pub bounds : scope ≡ all → (held r ≤ 4 * limit) × (stored r ≤ limit)
 
 -- All that the entries name is held, and no more than the text has room for.
-pub record HoldsAll (text : List ℕ) (r : Contents) (entries : List Entry) : Type 0 where
+pub record HoldsAll (text : List ℕ) (r : Revocations) (entries : List Entry) : Type 0 where
   pub means : Means r entries
   pub held_is : held r ≤ 4 * length text
   pub stored_is : stored r ≤ length text
 
 -- A whole list was read: its fields lead from the first byte to its end, and the header and what is
 -- held are what they say.
-pub record IsWholeAs (Holds : List ℕ → Contents → List Entry → Type 0) (text : List ℕ)
-    (header : Header) (contents : Contents) : Type 0 where
+pub record IsWholeAs (Holds : List ℕ → Revocations → List Entry → Type 0) (text : List ℕ)
+    (header : Header) (contents : Revocations) : Type 0 where
   pub fields : List (List ℕ)
   pub state : State
   pub leads : Leads start fields state
@@ -198,18 +198,18 @@ pub record IsWholeAs (Holds : List ℕ → Contents → List Entry → Type 0) (
   pub header_is : header ≡ state.header
   pub holds : Holds text contents state.entries
 
-abbrev pub IsWhole : List ℕ → Header → Contents → Type 0
+abbrev pub IsWhole : List ℕ → Header → Revocations → Type 0
 IsWhole = IsWholeAs HoldsAll
 
 -- A list was read: a header and sections spell the text, and what the sections name is held.
-pub record IsListAs (Holds : List ℕ → Contents → List Entry → Type 0) (text : List ℕ)
-    (header : Header) (contents : Contents) : Type 0 where
+pub record IsListAs (Holds : List ℕ → Revocations → List Entry → Type 0) (text : List ℕ)
+    (header : Header) (contents : Revocations) : Type 0 where
   pub sections : List SpelledSection
   pub spelled : Spells text header sections
   pub within : length text ≤ limit
   pub holds : Holds text contents (entries_of sections)
 
-abbrev pub IsList : List ℕ → Header → Contents → Type 0
+abbrev pub IsList : List ℕ → Header → Revocations → Type 0
 IsList = IsListAs HoldsAll
 
 -- What reading a text gives: what is known of it, or its fault, by whether the reader failed and
@@ -227,23 +227,23 @@ pub record IsReadingOf {K : Type 0} (Knows : List ℕ → K → Type 0) (before 
   pub read : (text : List ℕ) → before ≡ Some text → IsReadAs Knows text reading failed left
 
 -- For each row of fields that was read before, it is read now with some fields more.
-abbrev pub ReadsMore : Position → Position → Type 0
+abbrev pub ReadsMore : Walk → Walk → Type 0
 ReadsMore old new =
     (text : List ℕ) (fields : List (List ℕ)) → HasRead text fields old
     → (more : List (List ℕ)) × HasRead text (fields ++ more) new
 
 -- Some bytes were taken.
-pub record Leaps (old new : Position) : Type 0 where
+pub record Leaps (old new : Walk) : Type 0 where
   pub taken : old.pull.taken < new.pull.taken
   pub within : new.pull.taken ≤ limit
-  pub scope_is : new.keeping.scope ≡ old.keeping.scope
+  pub scope_is : new.keeper.scope ≡ old.keeper.scope
 
 -- A field or some bytes more were taken.
-abbrev pub Advances : Position → Position → Type 0
+abbrev pub Advances : Walk → Walk → Type 0
 Advances old new = Follows old new ⊎ Leaps old new
 
 -- Reading went on to the list's end.
-pub record EndsAfter (old new : Position) : Type 0 where
+pub record EndsAfter (old new : Walk) : Type 0 where
   pub may_end : can_end new.place ≡ true
   pub whole : (text : List ℕ) (fields : List (List ℕ)) → HasRead text fields old
       → (more : List (List ℕ)) × HasRead text (fields ++ more) new

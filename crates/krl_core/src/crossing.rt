@@ -5,7 +5,7 @@ ghost use Rattle.std.specs.Prelude.{take};
 ghost use Rattle.krl_core.specs.Crossing.{AreUnasked, CrossesSome, MayPass};
 ghost use Rattle.krl_held.specs.Scope.{AreUnwanted};
 ghost use Rattle.krl_core.specs.Front.{Passes};
-ghost use Rattle.krl_core.specs.Keeping.{InStep};
+ghost use Rattle.krl_core.specs.Keeper.{InStep};
 
 use crate::judging::{next_bits, next_serial};
 use crate::keeper::Keeper;

@@ -5,17 +5,17 @@ ghost use Rattle.std.specs.Prelude.{OnOk, false};
 ghost use Rattle.std.specs.Prelude.{length, All};
 ghost use Rattle.serial_set.specs.BitRuns.{IsInterval};
 ghost use Rattle.serial_set.specs.Near.{AreNear};
-ghost use Rattle.krl_held.specs.Contents.{nothing};
+ghost use Rattle.krl_held.specs.Revocations.{nothing};
 ghost use Rattle.krl_held.specs.Authority.{IsAuthority, authority_bytes};
 ghost use Rattle.krl_held.specs.Entry.{Entry, SerialsEntry, RangeEntry};
 ghost use Rattle.krl_held.specs.Naming.{SerialOf};
 ghost use Rattle.krl_held.specs.Questions.{FindsIn, asked_in};
 ghost use Rattle.krl_held.specs.Scope.{AreUnwanted, InScope, WithinScope, all};
 ghost use Rattle.krl_core.specs.Front.{Passes, start};
-ghost use Rattle.krl_core.specs.Keeping.{Adds, Closes, GrowsWithin, InStep, IsKept, StoresWithin};
-ghost use Rattle.krl_core.specs.Keeping.{KeepsBits, KeepsField, KeepsRest, KeepsWithin, Skips, StaysWithin, TakesByte};
+ghost use Rattle.krl_core.specs.Keeper.{Adds, Closes, GrowsWithin, InStep, IsKept, StoresWithin};
+ghost use Rattle.krl_core.specs.Keeper.{KeepsBits, KeepsField, KeepsRest, KeepsWithin, Skips, StaysWithin, TakesByte};
 ghost use Rattle.krl_held.specs.Changes.{run_entries};
-ghost use Rattle.krl_core.specs.Keeping.{held_with_open};
+ghost use Rattle.krl_core.specs.Keeper.{held_with_open};
 ghost use Rattle.krl_core.specs.Place.{item_entry, item_size};
 ghost use Rattle.krl_core.specs.Reading.{is_fixed};
 
@@ -42,9 +42,9 @@ pub struct Keeper<T: Store> {
 }
 
 impl<T: Store> Model for Keeper<T> {
-    ghost use Rattle.krl_core.specs.Keeping.{Keeping};
+    ghost use Rattle.krl_core.specs.Keeper.{Keeper};
 
-    ghost Value = { Keeping };
+    ghost Value = { Keeper };
 
     ghost view = { λ keeper. record {
       header = record {
@@ -210,7 +210,7 @@ impl<T: Store> Keeper<T> {
         ensures rest { KeepsRest self.old self.new }
     {
         self.store
-            .put_serials(under(self.authority.as_slice()), near)
+            .put_serials(authority_of(self.authority.as_slice()), near)
     }
 
     // Adds a key, a hash, or a key ID under the authority in force.
@@ -224,7 +224,9 @@ impl<T: Store> Keeper<T> {
             ItemKind::Key => self.store.put_key(item),
             ItemKind::Sha1 => self.store.put_sha1(&array_of(item)),
             ItemKind::Sha256 => self.store.put_sha256(&array_of(item)),
-            ItemKind::Id => self.store.put_id(under(self.authority.as_slice()), item),
+            ItemKind::Id => self
+                .store
+                .put_id(authority_of(self.authority.as_slice()), item),
         }
     }
 
@@ -357,7 +359,7 @@ impl<S: Spans> Keeper<Revocations<S>> {
 }
 
 // The authority that some bytes name: none name all authorities.
-fn under(authority: &[u8]) -> Option<&[u8]>
+fn authority_of(authority: &[u8]) -> Option<&[u8]>
     ensures bytes { authority_bytes result ≡ authority.now }
     ensures authority { IsAuthority result }
 {

@@ -6,7 +6,7 @@ ghost use Rattle.std.specs.Prelude.{IfErr, IfOk, IsTrue, OnOk};
 ghost use Rattle.ssh_wire.specs.Wire.{IsBytes};
 ghost use Rattle.krl_core.specs.declared.header.Header.{Header as HeaderOf};
 ghost use Rattle.krl_types.specs.declared.krl_fault.KrlFault.TheVariants.{NoMemory, Read};
-ghost use Rattle.krl_held.specs.Contents.{held, stored};
+ghost use Rattle.krl_held.specs.Revocations.{held, stored};
 ghost use Rattle.krl_core.specs.Front.{IsFirstFault, limit};
 ghost use Rattle.krl_core.specs.Krl.{SpelledSection, Spells};
 ghost use Rattle.krl_core.specs.Place.{expected};
@@ -55,7 +55,7 @@ impl<T: Store, R: Source + Drop> Walk<T, R> {
         ensures found { IfOk result.0 (λ list. (text : List ℕ) (fields : List (List ℕ))
             → HasRead text fields self
             → IsListAs (HoldsWithin (T.scope list.1)) text list.0 (T.contents list.1)) }
-        ensures scope { IfOk result.0 (λ list. T.scope list.1 ≡ self.keeping.scope) }
+        ensures scope { IfOk result.0 (λ list. T.scope list.1 ≡ self.keeper.scope) }
         ensures within { IfOk result.0
             (λ list. IsWithinLimit (T.scope list.1) (T.contents list.1)) }
         ensures no_fault { IfOk result.0 (λ _. (text : List ℕ) (fields : List (List ℕ))
@@ -89,11 +89,11 @@ impl<T: Store, R: Source + Drop> Walk<T, R> {
             → self.old.pull.taken ≤ most → self.new.pull.taken ≤ most) }
         ensures ends { IfOk result (λ more. more ≡ false → EndsAfter self.old self.new) }
         ensures ended { IfOk result (λ more. more ≡ false → self.new.ended ≡ true) }
-        ensures scope { OnOk result (self.new.keeping.scope ≡ self.old.keeping.scope) }
+        ensures scope { OnOk result (self.new.keeper.scope ≡ self.old.keeper.scope) }
         ensures fault { IfErr result (λ fault. Refused fault self.old self.new.pull) }
         ensures failure { ReportsFailure result self.new.pull.failed }
         ensures working { OnOk result (self.new.fault ≡ None) }
-        ensures bounds { IsBounded self.new.pull self.new.keeping }
+        ensures bounds { IsBounded self.new.pull self.new.keeper }
     {
         let _pull = &self.pull;
         'fields: while self.taken_with_next() <= most {

@@ -6,9 +6,9 @@ ghost use Rattle.ssh_wire.specs.Wire.{IsBytes};
 ghost use Rattle.ssh_wire.specs.Pull.{Refuses, Takes};
 ghost use Rattle.ssh_wire.specs.declared.pull_fault.PullFault.TheVariants as pulls;
 ghost use Rattle.krl_types.specs.declared.krl_fault.KrlFault.TheVariants.{NoMemory, Read};
-ghost use Rattle.krl_held.specs.Contents.{IsOrderly, held, nothing, stored};
+ghost use Rattle.krl_held.specs.Revocations.{IsOrderly, held, nothing, stored};
 ghost use Rattle.krl_core.specs.Front.{HasRoom, Passes, limit};
-ghost use Rattle.krl_core.specs.Keeping.{GrowsWithin, InStep, KeepsField, StoresWithin, held_with_open};
+ghost use Rattle.krl_core.specs.Keeper.{GrowsWithin, InStep, KeepsField, StoresWithin, held_with_open};
 ghost use Rattle.krl_core.specs.Place.{can_end, expected};
 ghost use Rattle.krl_held.specs.Questions.{FindsIn, asked_in};
 ghost use Rattle.krl_core.specs.Reading.{Advances, Ends, Follows, HasRead, HoldsWithin, IsBounded, IsReached};
@@ -48,14 +48,14 @@ pub struct Walk<T: Store, R: Source + Drop> {
 }
 
 impl<T: Store, R: Source + Drop> Model for Walk<T, R> {
-    ghost use Rattle.krl_core.specs.Reading.{Position, IsReached as Reached};
+    ghost use Rattle.krl_core.specs.Reading.{Walk, IsReached as Reached};
 
-    ghost Value = { Position };
+    ghost Value = { Walk };
 
     ghost view = { λ reading. record {
       pull = reading.pull;
       place = reading.place;
-      keeping = reading.keeper;
+      keeper = reading.keeper;
       ended = reading.ended;
       fault = reading.fault;
     } };
@@ -63,7 +63,7 @@ impl<T: Store, R: Source + Drop> Model for Walk<T, R> {
     ghost invariant = { λ reading. Reached (record {
       pull = reading.pull;
       place = reading.place;
-      keeping = reading.keeper;
+      keeper = reading.keeper;
       ended = reading.ended;
       fault = reading.fault;
     }) };
@@ -77,18 +77,18 @@ impl<S: Spans, R: Source + Drop> Walk<Revocations<S>, R> {
     pub fn new(alloc: Global, reader: R) -> Self
         requires { R.has_failed reader ≡ false }
         ensures start { (text : List ℕ) → R.left reader ≡ Some text → HasRead text [] result }
-        ensures bounds { IsBounded result.pull result.keeping }
+        ensures bounds { IsBounded result.pull result.keeper }
         ensures faultless { result.fault ≡ None }
-        ensures all { result.keeping.scope ≡ all }
+        ensures all { result.keeper.scope ≡ all }
     {
         Walk::over(alloc, Revocations::new(alloc), reader)
     }
 
     /// How many spans are held of the list so far, with the run of a bitmap that may still grow.
     pub fn held(&self) -> u128
-        ensures value { result ≡ held_with_open self.now.keeping }
+        ensures value { result ≡ held_with_open self.now.keeper }
         ensures four_a_byte { result ≤ 4 * self.now.pull.taken }
-        ensures stored { StoresWithin self.now.keeping self.now.pull.taken }
+        ensures stored { StoresWithin self.now.keeper self.now.pull.taken }
     {
         self.keeper.held()
     }
@@ -114,19 +114,19 @@ impl<S: Spans, R: Source + Drop> Walk<Revocations<S>, R> {
 impl<S: Spans, R: Source + Drop> Walk<Revocations<S>, R> {
     /// What is held of the fields so far.
     pub fn held_so_far(&self) -> &Revocations<S>
-        ensures { result.now ≡ self.now.keeping.contents }
+        ensures { result.now ≡ self.now.keeper.contents }
     {
         self.keeper.held_so_far()
     }
 
     /// Goes on with what is asked alone, of which just what is held so far is found.
     pub fn ask(self, findings: Findings<S>) -> Walk<Findings<S>, R>
-        requires { FindsIn self.keeping.contents findings }
+        requires { FindsIn self.keeper.contents findings }
         ensures reads { (text : List ℕ) (fields : List (List ℕ)) → HasRead text fields self
             → HasRead text fields result }
-        ensures scope { result.keeping.scope ≡ asked_in findings }
+        ensures scope { result.keeper.scope ≡ asked_in findings }
         ensures fault { result.fault ≡ self.fault }
-        ensures bounds { IsBounded result.pull result.keeping }
+        ensures bounds { IsBounded result.pull result.keeper }
     {
         let Walk {
             pull,
@@ -154,9 +154,9 @@ impl<T: Store, R: Source + Drop> Walk<T, R> {
         requires within { WithinScope (T.scope store) nothing }
         requires fresh { R.has_failed reader ≡ false }
         ensures start { (text : List ℕ) → R.left reader ≡ Some text → HasRead text [] result }
-        ensures bounds { IsBounded result.pull result.keeping }
+        ensures bounds { IsBounded result.pull result.keeper }
         ensures faultless { result.fault ≡ None }
-        ensures scope { result.keeping.scope ≡ T.scope store }
+        ensures scope { result.keeper.scope ≡ T.scope store }
     {
         Walk {
             pull: Pull::new(reader, LIMIT),
@@ -185,7 +185,7 @@ impl<T: Store, R: Source + Drop> Walk<T, R> {
         ensures again { IfSome self.old.fault (λ fault.
             (result ≡ Err fault) × (self.new ≡ self.old)) }
         ensures working { OnOk result (self.new.fault ≡ None) }
-        ensures bounds { IsBounded self.new.pull self.new.keeping }
+        ensures bounds { IsBounded self.new.pull self.new.keeper }
     {
         if let Some(fault) = self.fault {
             return Err(fault);
@@ -221,7 +221,7 @@ impl<T: Store, R: Source + Drop> Walk<T, R> {
         ensures failure { self.old.fault ≡ None
             → ReportsFailure result self.new.pull.failed }
         ensures working { OnOk result (self.new.fault ≡ None) }
-        ensures bounds { IsBounded self.new.pull self.new.keeping }
+        ensures bounds { IsBounded self.new.pull self.new.keeper }
     {
         if let Some(fault) = self.fault {
             return Err(fault);
@@ -252,7 +252,7 @@ impl<T: Store, R: Source + Drop> Walk<T, R> {
         ensures whole { (text : List ℕ) → (fields : List (List ℕ)) → HasRead text fields self
             → IsWholeAs (HoldsWithin (T.scope result.1)) text result.0 (T.contents result.1) }
         ensures within { IsWithinLimit (T.scope result.1) (T.contents result.1) }
-        ensures scope { T.scope result.1 ≡ self.keeping.scope }
+        ensures scope { T.scope result.1 ≡ self.keeper.scope }
         ensures failed { R.has_failed result.2 ≡ self.pull.failed }
     {
         let (header, store) = self.keeper.done();

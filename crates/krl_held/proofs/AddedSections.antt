@@ -8,8 +8,8 @@ use Rattle.serial_set.specs.BitRuns.{IsInterval}
 use Rattle.serial_set.specs.Span.{Covers, IsRuns, AreSerials}
 use Rattle.krl_held.specs.declared.addition.Addition.{Addition}
 use Rattle.krl_held.specs.Rising.{RisesBy, Rises}
-use Rattle.krl_held.specs.Changes.{Takes, TakesSerials, TakesId, AddsTo, Puts, empty_section}
-use Rattle.krl_held.specs.Contents.{Section, IsListed, size_of}
+use Rattle.krl_held.specs.Changes.{TakesAddition, TakesSerials, TakesId, AddsTo, Puts, empty_section}
+use Rattle.krl_held.specs.Revocations.{Section, IsListed, size_of}
 use Rattle.krl_held.proofs.Ordered.{inserts_rise}
 use Rattle.krl_held.proofs.Shelving.{changes_rise}
 use Rattle.std.proofs.Math.Logic.Iff as Iff
@@ -91,7 +91,7 @@ all_middle P (y ∷ front) x back =
       λ h. All-cons P y (front ++ x ∷ back) (All-head P y (front ++ back) h.1) (rest.1 (h.0, All-tail P y (front ++ back) h.1)),
     )
 
-pub adds_listed : (addition : Addition) (authority : List ℕ) (old new : List Section) → ((from to : Section) → InOrder from → Takes addition from to → IsListed to) → AddsTo addition authority old new → All IsListed old → All IsListed new
+pub adds_listed : (addition : Addition) (authority : List ℕ) (old new : List Section) → ((from to : Section) → InOrder from → TakesAddition addition from to → IsListed to) → AddsTo addition authority old new → All IsListed old → All IsListed new
 adds_listed addition authority old new lists adds a =
     elim adds [
       | inl c ↦

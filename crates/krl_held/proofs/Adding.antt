@@ -7,7 +7,7 @@ use Rattle.serial_set.specs.BitRuns.{IsInterval}
 use Rattle.krl_held.specs.declared.addition.Addition.TheVariants.{Serials, Id}
 use Rattle.krl_held.specs.Rising.{RisesBy}
 use Rattle.krl_held.specs.Changes.{AddsTo, run_entries}
-use Rattle.krl_held.specs.Contents.{HoldsName, Section, SomeSection, contents_of, IsListed, IsOrderly, Means}
+use Rattle.krl_held.specs.Revocations.{HoldsName, Section, SomeSection, contents_of, IsListed, IsOrderly, Means}
 use Rattle.krl_held.specs.Entry.{Entry, IdEntry}
 use Rattle.krl_held.specs.Naming.{EntryNames, IdOf, Name, SerialOf, SomeNames}
 use Rattle.krl_held.proofs.AddedSections.{adds_rise, adds_listed, takes_serials_listed, takes_id_listed}

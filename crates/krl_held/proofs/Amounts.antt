@@ -6,8 +6,8 @@ use Rattle.std.proofs.Math.Logic.{⊎_map}
 use Rattle.serial_set.specs.declared.span.Span.{Span}
 use Rattle.krl_held.specs.declared.addition.Addition.{Addition}
 use Rattle.krl_held.specs.declared.addition.Addition.TheVariants.{Serials, Id}
-use Rattle.krl_held.specs.Changes.{Takes, AddsTo, empty_section}
-use Rattle.krl_held.specs.Contents.{Section, SomeSection, section_size}
+use Rattle.krl_held.specs.Changes.{TakesAddition, AddsTo, empty_section}
+use Rattle.krl_held.specs.Revocations.{Section, SomeSection, section_size}
 use Rattle.krl_held.proofs.Members.{absent_parts}
 use Rattle.krl_held.proofs.Shelving.{takes_authority}
 use Rattle.krl_held.proofs.AddedSections.{put_size}
@@ -15,18 +15,18 @@ use Rattle.krl_held.proofs.SomeSections.{some_middle, sum_middle}
 use Rattle.krl_held.specs.Elements.{contains_here, contains_later}
 
 -- a change of each section that keeps a number keeps the sum
-pub sum_stays : (addition : Addition) (b : List ℕ) (old new : List Section) (f : Section → ℕ) → ((from to : Section) → Takes addition from to → f to ≡ f from) → f (empty_section b) ≡ 0 → AddsTo addition b old new → sum_by f new ≡ sum_by f old
+pub sum_stays : (addition : Addition) (b : List ℕ) (old new : List Section) (f : Section → ℕ) → ((from to : Section) → TakesAddition addition from to → f to ≡ f from) → f (empty_section b) ≡ 0 → AddsTo addition b old new → sum_by f new ≡ sum_by f old
 sum_stays addition b old new f step none adds =
     elim adds [
       | inl c ↦ omega (arith, ap (sum_by f) c.before, ap (sum_by f) c.after, sum_middle f c.front c.from c.back, sum_middle f c.front c.to c.back, step c.from c.to c.changed)
       | inr n ↦ omega (arith, ap (sum_by f) n.put.before, ap (sum_by f) n.put.after, sum_middle f n.put.front n.section n.put.back, step (empty_section b) n.section n.takes)
     ]
 
-pub serials_size : (near : Bor (List Span)) (from to : Section) → Takes (Serials near) from to → section_size to ≤ section_size from + 0
+pub serials_size : (near : Bor (List Span)) (from to : Section) → TakesAddition (Serials near) from to → section_size to ≤ section_size from + 0
 serials_size near from to t =
     let same : section_size to ≡ section_size from = ap section_size t.same in omega arith
 
-pub id_size : (id : Bor (List ℕ)) (from to : Section) → Takes (Id id) from to → section_size to ≤ section_size from + length id.now
+pub id_size : (id : Bor (List ℕ)) (from to : Section) → TakesAddition (Id id) from to → section_size to ≤ section_size from + length id.now
 id_size id from to t =
     let same : length to.authority ≡ length from.authority = ap (λ (x : Section). length x.authority) t.same in
     omega (arith, put_size from.ids id.now to.ids t.put)
@@ -44,7 +44,7 @@ some_contains b (x ∷ xs) h =
       | inr later ↦ contains_later x.authority b (map (λ section. section.authority) xs) (some_contains b xs later)
     ]
 
-pub sum_named : (addition : Addition) (b : List ℕ) (old new : List Section) (f : Section → ℕ) (more : ℕ) → ((from to : Section) → Takes addition from to → f to ≤ f from + more) → SomeSection (λ section. section.authority ≡ b) old → AddsTo addition b old new → sum_by f new ≤ sum_by f old + more
+pub sum_named : (addition : Addition) (b : List ℕ) (old new : List Section) (f : Section → ℕ) (more : ℕ) → ((from to : Section) → TakesAddition addition from to → f to ≤ f from + more) → SomeSection (λ section. section.authority ≡ b) old → AddsTo addition b old new → sum_by f new ≤ sum_by f old + more
 sum_named addition b old new f more step named adds =
     elim adds [
       | inl c ↦ omega (arith, ap (sum_by f) c.before, ap (sum_by f) c.after, sum_middle f c.front c.from c.back, sum_middle f c.front c.to c.back, step c.from c.to c.changed)

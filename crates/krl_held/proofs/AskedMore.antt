@@ -6,7 +6,7 @@ use Rattle.std.proofs.Math.Logic.Iff as Iff
 use Rattle.sha1.specs.Sha1.{sha1}
 use Rattle.sha2.specs.Sha256.{sha256}
 use Rattle.krl_held.specs.Changes.{MeansMore}
-use Rattle.krl_held.specs.Contents.{Contents, HoldsName, IsOrderly, serials_in}
+use Rattle.krl_held.specs.Revocations.{Revocations, HoldsName, IsOrderly, serials_in}
 use Rattle.krl_held.specs.Entry.{Entry, RangeEntry, IdEntry, KeyEntry, Sha1Entry, Sha256Entry}
 use Rattle.krl_held.specs.Naming.{EntryNames, IdOf, KeyOf, Name, SerialOf, Sha1Of, Sha256Of}
 use Rattle.krl_held.specs.Questions.{Asked, AsksMore, Finds, FindsIn, HasUnder, IsOfKey}
@@ -65,19 +65,19 @@ just_serial a serial some = names_just (RangeEntry a serial serial) (SerialOf a 
     each name h = absurd h
 
 -- what is held beside what was held is what the entry names
-pub one_name : (old new : Contents) (entry : Entry) → IsOrderly old → MeansMore old new (entry ∷ []) → (name : Name) → HoldsName new name ↔ (HoldsName old name ⊎ EntryNames entry name)
+pub one_name : (old new : Revocations) (entry : Entry) → IsOrderly old → MeansMore old new (entry ∷ []) → (name : Name) → HoldsName new name ↔ (HoldsName old name ⊎ EntryNames entry name)
 one_name old new entry orderly means name =
     Iff.trans ((means_more_names old new (entry ∷ []) orderly means).1 name) (iff_or Iff.rfl (Iff.symm (iff_none (λ h. h))))
 
 -- ---- what is found
 
 -- the front does not hold the name that is sought
-pub finds_none : (front old : Contents) (sought : Name) → (HoldsName front sought → ⊥) → Finds front (λ name. name ≡ sought) old old
+pub finds_none : (front old : Revocations) (sought : Name) → (HoldsName front sought → ⊥) → Finds front (λ name. name ≡ sought) old old
 finds_none front old sought none =
     record { orderly = λ was. was; names = λ name. iff_none (λ h. none (subst (HoldsName front) h.1 h.0)) }
 
 -- it does, and the name is added
-pub finds_one : (front old new : Contents) (entry : Entry) (sought : Name) → NamesJust entry sought → HoldsName front sought → IsOrderly old → MeansMore old new (entry ∷ []) → Finds front (λ name. name ≡ sought) old new
+pub finds_one : (front old new : Revocations) (entry : Entry) (sought : Name) → NamesJust entry sought → HoldsName front sought → IsOrderly old → MeansMore old new (entry ∷ []) → Finds front (λ name. name ≡ sought) old new
 finds_one front old new entry sought just held orderly means = record {
   orderly = λ was. (means_more_names old new (entry ∷ []) was means).0;
   names = λ name. Iff.trans (one_name old new entry orderly means name) (iff_or Iff.rfl (
@@ -87,7 +87,7 @@ finds_one front old new entry sought just held orderly means = record {
 }
 
 -- some names and then others
-pub finds_both : (front old between new : Contents) (Some Other : Name → Type 0) → Finds front Some old between → Finds front Other between new → Finds front (λ name. Some name ⊎ Other name) old new
+pub finds_both : (front old between new : Revocations) (Some Other : Name → Type 0) → Finds front Some old between → Finds front Other between new → Finds front (λ name. Some name ⊎ Other name) old new
 finds_both front old between new Some Other first then = record {
   orderly = λ was. then.orderly (first.orderly was);
   names = λ name. Iff.trans (then.names name) (Iff.trans (iff_or (first.names name) Iff.rfl) (
@@ -103,7 +103,7 @@ finds_both front old between new Some Other first then = record {
 }
 
 -- more is asked about, and what the front holds of that is found
-pub finds_more : (front : Contents) (Sought : Name → Type 0) (old new : Asked) → FindsIn front old → Finds front Sought old.found new.found → AsksMore old.topics new.topics
+pub finds_more : (front : Revocations) (Sought : Name → Type 0) (old new : Asked) → FindsIn front old → Finds front Sought old.found new.found → AsksMore old.topics new.topics
     → ((name : Name) → IsTopic new.topics name → IsTopic old.topics name ⊎ Sought name) → ((name : Name) → Sought name → IsTopic new.topics name) → FindsIn front new
 finds_more front Sought old new was finds more only sought = record {
   orderly = finds.orderly was.orderly;
@@ -127,7 +127,7 @@ finds_more front Sought old new was finds more only sought = record {
 -- ---- what is asked about
 
 -- what is held is a topic still
-pub asks_more : (old new : Contents) → ((name : Name) → HoldsName old name → HoldsName new name) → AsksMore old new
+pub asks_more : (old new : Revocations) → ((name : Name) → HoldsName old name → HoldsName new name) → AsksMore old new
 asks_more old new stays (SerialOf a s) h = stays (SerialOf a s) h
 asks_more old new stays (IdOf a text) h = stays (IdOf a text) h
 asks_more old new stays (KeyOf blob) h = stays (KeyOf blob) h
@@ -135,11 +135,11 @@ asks_more old new stays (Sha1Of hash) h = (h.0, (stays (KeyOf h.0) h.1.0, h.1.1)
 asks_more old new stays (Sha256Of hash) h = (h.0, (stays (KeyOf h.0) h.1.0, h.1.1))
 
 -- an entry more is asked about
-pub asks_entry : (old new : Contents) (entry : Entry) → IsOrderly old → MeansMore old new (entry ∷ []) → AsksMore old new
+pub asks_entry : (old new : Revocations) (entry : Entry) → IsOrderly old → MeansMore old new (entry ∷ []) → AsksMore old new
 asks_entry old new entry orderly means = asks_more old new (λ name h. (one_name old new entry orderly means name).1 (inl h))
 
 -- where no key is added, just what the entry names is asked about beside what was
-pub only_entry : (old new : Contents) (entry : Entry) → IsOrderly old → MeansMore old new (entry ∷ []) → new.keys ≡ old.keys → (name : Name) → IsTopic new name → IsTopic old name ⊎ EntryNames entry name
+pub only_entry : (old new : Revocations) (entry : Entry) → IsOrderly old → MeansMore old new (entry ∷ []) → new.keys ≡ old.keys → (name : Name) → IsTopic new name → IsTopic old name ⊎ EntryNames entry name
 only_entry old new entry orderly means keys (SerialOf a s) h = (one_name old new entry orderly means (SerialOf a s)).0 h
 only_entry old new entry orderly means keys (IdOf a text) h = (one_name old new entry orderly means (IdOf a text)).0 h
 only_entry old new entry orderly means keys (KeyOf blob) h = (one_name old new entry orderly means (KeyOf blob)).0 h
@@ -147,7 +147,7 @@ only_entry old new entry orderly means keys (Sha1Of hash) h = inl (h.0, (subst (
 only_entry old new entry orderly means keys (Sha256Of hash) h = inl (h.0, (subst (λ l. Contains l h.0) keys h.1.0, h.1.1))
 
 -- just a key's names are
-only_key : (old new : Contents) (blob : List ℕ) → IsOrderly old → MeansMore old new (KeyEntry blob ∷ []) → (name : Name) → IsTopic new name → IsTopic old name ⊎ IsOfKey blob name
+only_key : (old new : Revocations) (blob : List ℕ) → IsOrderly old → MeansMore old new (KeyEntry blob ∷ []) → (name : Name) → IsTopic new name → IsTopic old name ⊎ IsOfKey blob name
 only_key old new blob orderly means name h = by name h
   where
     now : (name : Name) → HoldsName new name → HoldsName old name ⊎ (name ≡ KeyOf blob)
@@ -163,7 +163,7 @@ only_key old new blob orderly means name h = by name h
         ⊎_map (λ was. (key, (was, is))) (λ (same : blob ≡ key). inr (inr (ap Sha256Of (subst (λ x. hash ≡ sha256 x) (sym same) (sym is))))) ((one_name old new (KeyEntry blob) orderly means (KeyOf key)).0 held)
 
 -- a key that is asked about is so by each of its names
-key_topics : (topics : Contents) (blob : List ℕ) → Contains topics.keys blob → (name : Name) → IsOfKey blob name → IsTopic topics name
+key_topics : (topics : Revocations) (blob : List ℕ) → Contains topics.keys blob → (name : Name) → IsOfKey blob name → IsTopic topics name
 key_topics topics blob is name h =
     elim h [
       | inl key ↦ subst (IsTopic topics) (sym key) is
@@ -174,23 +174,23 @@ key_topics topics blob is name h =
     ]
 
 -- what is asked of an authority is so still
-pub under_stays : (old new : Contents) (a id : List ℕ) (serial : ℕ) → AsksMore old new → HasUnder old a id serial → HasUnder new a id serial
+pub under_stays : (old new : Revocations) (a id : List ℕ) (serial : ℕ) → AsksMore old new → HasUnder old a id serial → HasUnder new a id serial
 under_stays old new a id serial more h = (more (IdOf a id) h.0, ⊎_map (λ none. none) (more (SerialOf a serial)) h.1)
 
 -- ---- both
 
 -- what an entry names is held
-pub now_held : (old new : Contents) (entry : Entry) (name : Name) → EntryNames entry name → IsOrderly old → MeansMore old new (entry ∷ []) → HoldsName new name
+pub now_held : (old new : Revocations) (entry : Entry) (name : Name) → EntryNames entry name → IsOrderly old → MeansMore old new (entry ∷ []) → HoldsName new name
 now_held old new entry name is orderly means = (one_name old new entry orderly means name).1 (inr is)
 
 -- a key is asked about
-pub finds_key : (front : Contents) (old new : Asked) (blob : List ℕ) → IsOrderly old.topics → MeansMore old.topics new.topics (KeyEntry blob ∷ []) → FindsIn front old → Finds front (IsOfKey blob) old.found new.found → FindsIn front new
+pub finds_key : (front : Revocations) (old new : Asked) (blob : List ℕ) → IsOrderly old.topics → MeansMore old.topics new.topics (KeyEntry blob ∷ []) → FindsIn front old → Finds front (IsOfKey blob) old.found new.found → FindsIn front new
 finds_key front old new blob orderly means was finds =
     finds_more front (IsOfKey blob) old new was finds (asks_entry old.topics new.topics (KeyEntry blob) orderly means) (only_key old.topics new.topics blob orderly means)
     (key_topics new.topics blob (now_held old.topics new.topics (KeyEntry blob) (KeyOf blob) refl orderly means))
 
 -- a key ID is, or a serial number, which is a topic just where it is held
-pub finds_name : (front : Contents) (old new : Asked) (entry : Entry) (sought : Name) → NamesJust entry sought → (HoldsName new.topics sought → IsTopic new.topics sought) → IsOrderly old.topics → MeansMore old.topics new.topics (entry ∷ []) → new.topics.keys ≡ old.topics.keys
+pub finds_name : (front : Revocations) (old new : Asked) (entry : Entry) (sought : Name) → NamesJust entry sought → (HoldsName new.topics sought → IsTopic new.topics sought) → IsOrderly old.topics → MeansMore old.topics new.topics (entry ∷ []) → new.topics.keys ≡ old.topics.keys
     → FindsIn front old → Finds front (λ name. name ≡ sought) old.found new.found → FindsIn front new
 finds_name front old new entry sought just is orderly means keys was finds =
     finds_more front (λ name. name ≡ sought) old new was finds (asks_entry old.topics new.topics entry orderly means)
@@ -200,13 +200,13 @@ finds_name front old new entry sought just is orderly means keys was finds =
 -- ---- how many serial numbers are asked about
 
 -- a key ID adds none
-pub serials_with_id : (old new : Contents) (a text : List ℕ) → IsOrderly old → MeansMore old new (IdEntry a text ∷ []) → serials_in new.sections ≤ serials_in old.sections
+pub serials_with_id : (old new : Revocations) (a text : List ℕ) → IsOrderly old → MeansMore old new (IdEntry a text ∷ []) → serials_in new.sections ≤ serials_in old.sections
 serials_with_id old new a text orderly means =
     serials_stay old new orderly (means_more_names old new (IdEntry a text ∷ []) orderly means).0
     (λ b s h. ⊎_elim (λ was. was) (λ no. absurd no) ((one_name old new (IdEntry a text) orderly means (SerialOf b s)).0 h))
 
 -- a serial number adds at most one
-pub serials_with_one : (old new : Contents) (a : List ℕ) (serial : ℕ) → IsOrderly old → MeansMore old new (RangeEntry a serial serial ∷ []) → serials_in new.sections ≤ serials_in old.sections + 1
+pub serials_with_one : (old new : Revocations) (a : List ℕ) (serial : ℕ) → IsOrderly old → MeansMore old new (RangeEntry a serial serial ∷ []) → serials_in new.sections ≤ serials_in old.sections + 1
 serials_with_one old new a serial orderly means =
     serials_grow old new a serial orderly (means_more_names old new (RangeEntry a serial serial ∷ []) orderly means).0
     (λ b s h. ⊎_map (λ was. was) (λ is. (sym is.0, (let same : s ≡ serial = omega (arith, is.1.1.0, is.1.1.1) in same))) ((one_name old new (RangeEntry a serial serial) orderly means (SerialOf b s)).0 h))

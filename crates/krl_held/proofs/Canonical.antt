@@ -8,7 +8,7 @@ use Rattle.std.proofs.lemmas.List.Elements.{All-head, All-tail}
 use Rattle.serial_set.specs.Span.{AreSerials}
 use Rattle.krl_held.specs.Canonical.{entries_in, section_entries}
 use Rattle.krl_held.specs.Changes.{run_entries}
-use Rattle.krl_held.specs.Contents.{Contents, HoldsName, IsListed, IsOrderly, Means, Section, SomeSection}
+use Rattle.krl_held.specs.Revocations.{Revocations, HoldsName, IsListed, IsOrderly, Means, Section, SomeSection}
 use Rattle.krl_held.specs.Elements.{contains_none, some_cases}
 use Rattle.krl_held.specs.Entry.{Entry, RangeEntry, IdEntry, KeyEntry, Sha1Entry, Sha256Entry}
 use Rattle.krl_held.specs.Naming.{EntryNames, IdOf, KeyOf, Name, SerialOf, Sha1Of, Sha256Of, SomeNames}
@@ -64,7 +64,7 @@ sections_named (x ∷ xs) listed name =
 
 -- ---- all that is held
 
-module _ (r : Contents) (o : IsOrderly r) where
+module _ (r : Revocations) (o : IsOrderly r) where
   abbrev sections : List Entry
   sections = flat_map section_entries r.sections
 

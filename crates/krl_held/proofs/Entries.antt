@@ -6,8 +6,8 @@ use Rattle.serial_set.specs.declared.span.Span.{Span}
 use Rattle.serial_set.specs.Span.{Covers}
 use Rattle.krl_held.specs.declared.addition.Addition.{Addition}
 use Rattle.krl_held.specs.declared.addition.Addition.TheVariants.{Serials, Id}
-use Rattle.krl_held.specs.Changes.{Takes, empty_section, run_entries}
-use Rattle.krl_held.specs.Contents.{Section}
+use Rattle.krl_held.specs.Changes.{TakesAddition, empty_section, run_entries}
+use Rattle.krl_held.specs.Revocations.{Section}
 use Rattle.krl_held.specs.Entry.{RangeEntry, IdEntry}
 use Rattle.krl_held.specs.Naming.{EntryNames, IdOf, Name, SerialOf, SomeNames}
 use Rattle.krl_held.proofs.AddedSections.{put_held}
@@ -18,7 +18,7 @@ use Rattle.krl_held.proofs.SomeSections.{HeldIn, Step}
 use Rattle.krl_held.specs.Elements.{contains_none}
 
 -- what an addition leaves as it was is held as before
-stays : (addition : Addition) (b a : List ℕ) (Q : Section → Type 0) → ((from to : Section) → Takes addition from to → (to.authority ≡ from.authority) × (Q to ↔ Q from)) → (Q (empty_section b) → ⊥)
+stays : (addition : Addition) (b a : List ℕ) (Q : Section → Type 0) → ((from to : Section) → TakesAddition addition from to → (to.authority ≡ from.authority) × (Q to ↔ Q from)) → (Q (empty_section b) → ⊥)
     → Step addition b (λ section. (section.authority ≡ a) × Q section) ⊥
 stays addition b a Q same none = record {
   one = λ from to under t. let k = same from to t in Iff.trans (λ h. (sym k.0 ∙ h.0, k.1.0 h.1), λ h. (k.0 ∙ h.0, k.1.1 h.1)) (iff_none (λ no. no));

@@ -5,7 +5,7 @@ use Rattle.std.specs.List.{Contains}
 use Rattle.std.proofs.Math.Logic.{⊎_elim, ⊎_map}
 use Rattle.serial_set.specs.Span.{Covers}
 use Rattle.krl_held.specs.Asked.{Stands, HoldsUnder}
-use Rattle.krl_held.specs.Contents.{HoldsId, HoldsSerial, Section, SomeSection}
+use Rattle.krl_held.specs.Revocations.{HoldsId, HoldsSerial, Section, SomeSection}
 use Rattle.krl_held.specs.Elements.{some_weaker}
 use Rattle.krl_held.specs.Rising.{AllAbove, AllBelow}
 use Rattle.krl_held.proofs.Ordered.{less_apart}

@@ -9,7 +9,7 @@ use Rattle.std.proofs.lemmas.List.Folds.{fold-map}
 use Rattle.std.proofs.lemmas.List.Sums.{sum_by-cons, sum_by-le}
 use Rattle.sha1.specs.Sha1.{sha1}
 use Rattle.sha2.specs.Sha256.{sha256}
-use Rattle.krl_held.specs.Contents.{Contents, HoldsId, IsListed, IsNamed, IsOrderly, Section, SomeSection, held, section_size, serials_in, size_of, stored}
+use Rattle.krl_held.specs.Revocations.{Revocations, HoldsId, IsListed, IsNamed, IsOrderly, Section, SomeSection, held, section_size, serials_in, size_of, stored}
 use Rattle.krl_held.specs.Elements.{contains_cases, contains_none, some_text, some_weaker}
 use Rattle.krl_held.specs.Rising.{Rises}
 use Rattle.krl_held.specs.Scope.{IsWithin}
@@ -22,7 +22,7 @@ use Rattle.krl_held.proofs.Starts.{count_starts, in_starts, once_starts_of, star
 use Rattle.krl_held.proofs.Under.{in_under, once_under, sum_under, under}
 
 -- each run begins with a serial number that is asked about
-pub held_small : (topics found : Contents) → IsOrderly topics → IsOrderly found → IsWithin topics found → held found ≤ serials_in topics.sections
+pub held_small : (topics found : Revocations) → IsOrderly topics → IsOrderly found → IsWithin topics found → held found ≤ serials_in topics.sections
 held_small topics found t f within =
     let least = sum_within (λ p. 1) (starts_of found.sections) (serials_of topics.sections) (once_starts_of found f)
     (λ p h. (in_serials topics t p.0 p.1).1 (within.runs p.0 p.1 (in_starts found f p.0 p.1 h))) in
@@ -41,7 +41,7 @@ by_item (x ∷ xs) b C listed (inl here) run id =
     ]
 by_item (x ∷ xs) b C listed (inr later) run id = by_item xs b C (All-tail IsListed x xs listed) later (λ s h. run s (inr h)) (λ text h. id text (inr h))
 
-named_within : (topics found : Contents) → IsOrderly found → IsWithin topics found → (b : List ℕ) → IsNamed found b → IsNamed topics b
+named_within : (topics found : Revocations) → IsOrderly found → IsWithin topics found → (b : List ℕ) → IsNamed found b → IsNamed topics b
 named_within topics found f within b named =
     by_item found.sections b (IsNamed topics b) f.listed named
     (λ s h. some_weaker (λ section both. both.0) topics.sections (within.runs b s (in_starts found f b s ((in_under (λ section. starts section.spans) found.sections b s).1 h))))
@@ -51,7 +51,7 @@ contained_named : (sections : List Section) (b : List ℕ) → Contains (map sec
 contained_named [] b h = absurd (contains_none b h)
 contained_named (x ∷ xs) b h = ⊎_map (λ here. here) (contained_named xs b) (contains_cases x.authority b (map section_authority xs) h)
 
-authorities_small : (topics found : Contents) → IsOrderly found → IsWithin topics found → sum_by (λ section. length section.authority) found.sections ≤ sum_by (λ section. length section.authority) topics.sections
+authorities_small : (topics found : Revocations) → IsOrderly found → IsWithin topics found → sum_by (λ section. length section.authority) found.sections ≤ sum_by (λ section. length section.authority) topics.sections
 authorities_small topics found f within =
     let least = sum_within length (map section_authority found.sections) (map section_authority topics.sections) (once_rising section_authority found.sections f.authorities_rise)
     (λ b h. some_contains b topics.sections (named_within topics found f within b (contained_named found.sections b h))) in
@@ -60,7 +60,7 @@ authorities_small topics found f within =
 
 -- ---- key IDs and hashes
 
-ids_small : (topics found : Contents) → IsOrderly found → IsWithin topics found → sum_by (λ section. size_of section.ids) found.sections ≤ sum_by (λ section. size_of section.ids) topics.sections
+ids_small : (topics found : Revocations) → IsOrderly found → IsWithin topics found → sum_by (λ section. size_of section.ids) found.sections ≤ sum_by (λ section. size_of section.ids) topics.sections
 ids_small topics found f within =
     let once = once_under (λ section. section.ids) found.sections f.authorities_rise (All-weaker IsListed (λ section. Once section.ids) (λ section is. once_texts section.ids is.ids_rise) found.sections f.listed) in
     let least = sum_within (λ p. length p.1) (under (λ section. section.ids) found.sections) (under (λ section. section.ids) topics.sections) once
@@ -85,7 +85,7 @@ sections_size [] = refl
 sections_size (x ∷ xs) =
     omega (arith, sections_size xs, sum_by-cons section_size x xs, sum_by-cons (λ (section : Section). length section.authority) x xs, sum_by-cons (λ (section : Section). size_of section.ids) x xs)
 
-pub stored_small : (topics found : Contents) → IsOrderly found → IsWithin topics found → stored found ≤ stored topics + 52 * length topics.keys
+pub stored_small : (topics found : Revocations) → IsOrderly found → IsWithin topics found → stored found ≤ stored topics + 52 * length topics.keys
 stored_small topics found f within =
     omega (
       arith,

@@ -3,7 +3,7 @@ use Rattle.std.proofs.Common.{◌≡◌, ℕ, ◌⊎◌, List, [], ◌∷◌, �
 use Rattle.std.specs.Prelude.{◌↔◌}
 use Rattle.std.specs.List.{All}
 use Rattle.krl_held.specs.Changes.{Puts}
-use Rattle.krl_held.specs.Contents.{HoldsName, Section, contents_of, IsOrderly, Means}
+use Rattle.krl_held.specs.Revocations.{HoldsName, Section, contents_of, IsOrderly, Means}
 use Rattle.krl_held.specs.Entry.{Entry, KeyEntry, Sha1Entry, Sha256Entry}
 use Rattle.krl_held.specs.Naming.{EntryNames, KeyOf, Name, Sha1Of, Sha256Of}
 use Rattle.krl_held.proofs.AddedSections.{all_middle, put_held, put_rises}

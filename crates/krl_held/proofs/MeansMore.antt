@@ -4,7 +4,7 @@ use Rattle.std.specs.Prelude.{◌⊎◌, ◌↔◌}
 use Rattle.std.proofs.Math.Logic.Iff as Iff
 use Rattle.krl_held.specs.Canonical.{entries_in}
 use Rattle.krl_held.specs.Changes.{MeansMore}
-use Rattle.krl_held.specs.Contents.{Contents, HoldsName, IsOrderly}
+use Rattle.krl_held.specs.Revocations.{Revocations, HoldsName, IsOrderly}
 use Rattle.krl_held.specs.Entry.{Entry}
 use Rattle.krl_held.specs.Naming.{Name, SomeNames}
 use Rattle.krl_held.specs.Scope.{InScope, MeansMoreWithin, Scope}
@@ -13,14 +13,14 @@ use Rattle.krl_held.proofs.Canonical.{means_itself}
 use Rattle.krl_held.proofs.Same.{some_append, some_first}
 
 -- it is in order, and holds just what the entries name beside what was held
-pub means_more_names : (old new : Contents) (more : List Entry) → IsOrderly old → MeansMore old new more
+pub means_more_names : (old new : Revocations) (more : List Entry) → IsOrderly old → MeansMore old new more
     → IsOrderly new × ((name : Name) → HoldsName new name ↔ (HoldsName old name ⊎ SomeNames more name))
 means_more_names old new more orderly means =
     let before = means_itself old orderly in
     let after = means (entries_in old) before in
     (after.orderly, λ name. Iff.trans (after.names name) (Iff.trans (some_append (entries_in old) more name) (iff_or (Iff.symm (before.names name)) Iff.rfl)))
 
-pub means_more_within : (scope : Scope) (old new : Contents) (more : List Entry) → MeansMore old new more → MeansMoreWithin scope old new more
+pub means_more_within : (scope : Scope) (old new : Revocations) (more : List Entry) → MeansMore old new more → MeansMoreWithin scope old new more
 means_more_within scope old new more means entries m =
     let now = means_more_names old new more m.orderly means in
     record {
@@ -29,6 +29,6 @@ means_more_within scope old new more means entries m =
     }
 
 -- entries that name nothing in scope
-pub nothing_more_within : (scope : Scope) (r : Contents) (more : List Entry) → ((name : Name) → InScope scope name → SomeNames more name → ⊥) → MeansMoreWithin scope r r more
+pub nothing_more_within : (scope : Scope) (r : Revocations) (more : List Entry) → ((name : Name) → InScope scope name → SomeNames more name → ⊥) → MeansMoreWithin scope r r more
 nothing_more_within scope r more none entries m =
     record { orderly = m.orderly; names = λ name within. Iff.trans (m.names name within) (some_first entries more name (none name within)) }

@@ -10,8 +10,8 @@ use Rattle.std.proofs.lemmas.Slice.Eq.{bytes_eq-Decides}
 use Rattle.std.proofs.Math.Logic.Iff as Iff
 use Rattle.sha1.specs.Sha1.{sha1}
 use Rattle.sha2.specs.Sha256.{sha256}
-use Rattle.krl_types.specs.Subject.{Names, Subject}
-use Rattle.krl_held.specs.Contents.{Contents, Means}
+use Rattle.krl_types.specs.Subject.{CertNames, Subject}
+use Rattle.krl_held.specs.Revocations.{Revocations, Means}
 use Rattle.krl_held.specs.Elements.{contains_none}
 use Rattle.krl_held.specs.Entry.{BitmapEntry, Entry, IdEntry, KeyEntry, RangeEntry, SerialsEntry, Sha1Entry, Sha256Entry}
 use Rattle.krl_held.specs.Naming.{EntryNames, IdOf, KeyNamed, KeyOf, Name, SerialOf, Sha1Of, Sha256Of, SomeNames}
@@ -64,7 +64,7 @@ key_tested entries blob =
     Decides-or (some_names entries (KeyOf blob)) (some_names entries (Sha1Of (sha1 blob)) || some_names entries (Sha256Of (sha256 blob))) (some_tested entries (KeyOf blob))
     (Decides-or (some_names entries (Sha1Of (sha1 blob))) (some_names entries (Sha256Of (sha256 blob))) (some_tested entries (Sha1Of (sha1 blob))) (some_tested entries (Sha256Of (sha256 blob))))
 
-cert_tested : (entries : List Entry) (cert : Option Names) → IsTrue (cert_named entries cert) ↔ CertRevoked entries cert
+cert_tested : (entries : List Entry) (cert : Option CertNames) → IsTrue (cert_named entries cert) ↔ CertRevoked entries cert
 cert_tested entries None = none_tested
 cert_tested entries (Some cert) =
     let i = some_names entries (IdOf cert.authority cert.key_id) in
@@ -82,7 +82,7 @@ revoked_tested entries subject =
     Decides-or (key_named entries subject.plain) (cert_named entries subject.cert) (key_tested entries subject.plain) (cert_tested entries subject.cert)
 
 -- of what was asked about, what was found revokes just what the entries do
-pub found_tested : (topics found : Contents) (entries : List Entry) → MeansWithin (Some topics) found entries → (subject : Subject) → Asks topics subject
+pub found_tested : (topics found : Revocations) (entries : List Entry) → MeansWithin (Some topics) found entries → (subject : Subject) → Asks topics subject
     → revokes found subject ≡ is_revoked entries subject
 found_tested topics found entries m subject asks =
     let found_is = answer_within topics found subject (revokes found subject) asks (λ others n. revokes_meant found others n subject) entries m in
@@ -90,7 +90,7 @@ found_tested topics found entries m subject asks =
     both_ways (revokes found subject) (is_revoked entries subject) same.0 same.1
 
 -- what is held revokes just what the entries do that it means
-pub meant_tested : (r : Contents) (entries : List Entry) → Means r entries → (subject : Subject) → revokes r subject ≡ is_revoked entries subject
+pub meant_tested : (r : Revocations) (entries : List Entry) → Means r entries → (subject : Subject) → revokes r subject ≡ is_revoked entries subject
 meant_tested r entries m subject =
     let same = Iff.trans (revokes_meant r entries m subject) (Iff.symm (revoked_tested entries subject)) in
     both_ways (revokes r subject) (is_revoked entries subject) same.0 same.1

@@ -12,7 +12,7 @@ use Rattle.std.proofs.lemmas.List.Elements.{All-tail}
 use Rattle.serial_set.specs.declared.span.Span.{Span}
 use Rattle.serial_set.specs.Span.{Covers}
 use Rattle.serial_set.specs.Least.{runs_unique}
-use Rattle.krl_held.specs.Contents.{Contents, HoldsName, IsListed, Means, Section, SomeSection, contents_of, section_with}
+use Rattle.krl_held.specs.Revocations.{Revocations, HoldsName, IsListed, Means, Section, SomeSection, contents_of, section_with}
 use Rattle.krl_held.specs.Entry.{Entry}
 use Rattle.krl_held.specs.Naming.{IdOf, KeyOf, Name, SerialOf, Sha1Of, Sha256Of}
 use Rattle.std.proofs.Math.Logic.Iff as Iff
@@ -163,7 +163,7 @@ same_sections (x ∷ xs) (y ∷ ys) r t p q alike =
 
 -- ---- all that is held
 
-pub one_meaning : (r other : Contents) (entries : List Entry) → Means r entries → Means other entries → r ≡ other
+pub one_meaning : (r other : Revocations) (entries : List Entry) → Means r entries → Means other entries → r ≡ other
 one_meaning r other entries m n =
     let o = m.orderly in
     let p = n.orderly in

@@ -8,7 +8,7 @@ use Rattle.std.proofs.lemmas.List.{append-nil}
 use Rattle.krl_held.proofs.Runs.{run_entries-append}
 use Rattle.serial_set.specs.declared.span.Span.{Span}
 use Rattle.krl_held.specs.Changes.{MeansMore, run_entries}
-use Rattle.krl_held.specs.Contents.{Contents, HoldsSerial, IsOrderly, IsStoredWithin, held}
+use Rattle.krl_held.specs.Revocations.{Revocations, HoldsSerial, IsOrderly, IsStoredWithin, held}
 use Rattle.krl_held.specs.Entry.{Entry, RangeEntry}
 use Rattle.krl_held.specs.Naming.{Name, SerialOf, SomeNames}
 use Rattle.krl_held.specs.Questions.{Asked}
@@ -19,13 +19,13 @@ use Rattle.krl_held.proofs.Same.{some_append}
 use Rattle.krl_held.proofs.Within.{IsAbout, within_with}
 
 -- an entry that is about a topic was added, or nothing was
-pub within_or_same : (result : Result (Unit {0}) AllocError) (topics old new : Contents) (entry : Entry) → OnOk result (MeansMore old new (entry ∷ [])) → OnErr result (new ≡ old)
+pub within_or_same : (result : Result (Unit {0}) AllocError) (topics old new : Revocations) (entry : Entry) → OnOk result (MeansMore old new (entry ∷ [])) → OnErr result (new ≡ old)
     → IsOrderly old → IsAbout topics entry → IsWithin topics old → IsWithin topics new
 within_or_same (Ok done) topics old new entry means same orderly about within = within_with topics old new entry orderly within means about
 within_or_same (Err fault) topics old new entry means same orderly about within = subst (IsWithin topics) (sym same) within
 
 -- entries that name the same of what is in scope were added
-more_as : (scope : Scope) (old new : Contents) (more other : List Entry) → ((name : Name) → InScope scope name → SomeNames more name ↔ SomeNames other name)
+more_as : (scope : Scope) (old new : Revocations) (more other : List Entry) → ((name : Name) → InScope scope name → SomeNames more name ↔ SomeNames other name)
     → MeansMoreWithin scope old new more → MeansMoreWithin scope old new other
 more_as scope old new more other same means entries m =
     let now = means entries m in
@@ -35,7 +35,7 @@ more_as scope old new more other same means entries m =
     }
 
 -- the numbers before the first that is asked about are not asked about
-same_from : (topics : Contents) (a : List ℕ) (lo first hi : ℕ) → lo ≤ first → ((s : ℕ) → lo ≤ s → s < first → HoldsSerial topics.sections a s → ⊥)
+same_from : (topics : Revocations) (a : List ℕ) (lo first hi : ℕ) → lo ≤ first → ((s : ℕ) → lo ≤ s → s < first → HoldsSerial topics.sections a s → ⊥)
     → (name : Name) → InScope (Some topics) name → SomeNames (RangeEntry a first hi ∷ []) name ↔ SomeNames (RangeEntry a lo hi ∷ []) name
 same_from topics a lo first hi le none (SerialOf b s) is = (
   λ h. elim h [ inl n ↦ inl (n.0, (n.1.0, (omega (arith, n.1.1.0), n.1.1.1))) | inr later ↦ inr later ],
@@ -49,7 +49,7 @@ same_from topics a lo first hi le none (SerialOf b s) is = (
 )
 same_from topics a lo first hi le none name is = Iff.rfl
 
-pub more_from : (topics old new : Contents) (a : List ℕ) (lo first hi : ℕ) → lo ≤ first → ((s : ℕ) → lo ≤ s → s < first → HoldsSerial topics.sections a s → ⊥)
+pub more_from : (topics old new : Revocations) (a : List ℕ) (lo first hi : ℕ) → lo ≤ first → ((s : ℕ) → lo ≤ s → s < first → HoldsSerial topics.sections a s → ⊥)
     → MeansMore old new (RangeEntry a first hi ∷ []) → MeansMoreWithin (Some topics) old new (RangeEntry a lo hi ∷ [])
 more_from topics old new a lo first hi le none means =
     more_as (Some topics) old new (RangeEntry a first hi ∷ []) (RangeEntry a lo hi ∷ []) (same_from topics a lo first hi le none)
@@ -80,10 +80,10 @@ pub puts_more : (a : List ℕ) (old mid new : Asked) (near : List Span) (count :
 puts_more a old mid new near count span h next means topics within more stored = record {
   means = λ entries m.
       let one = h.means entries m in
-      let two = means (entries ++ run_entries a (take count near)) (subst (λ (t : Contents). MeansWithin (Some t) mid.found (entries ++ run_entries a (take count near))) (sym h.topics_is) one) in
+      let two = means (entries ++ run_entries a (take count near)) (subst (λ (t : Revocations). MeansWithin (Some t) mid.found (entries ++ run_entries a (take count near))) (sym h.topics_is) one) in
       let all : (entries ++ run_entries a (take count near)) ++ RangeEntry a span.lo span.hi ∷ [] ≡ entries ++ run_entries a (take (count + 1) near) =
       append_assoc entries (run_entries a (take count near)) (RangeEntry a span.lo span.hi ∷ []) ∙ ap (λ (l : List Entry). entries ++ l) (sym (ap (run_entries a) next ∙ run_entries-append a (take count near) (span ∷ []))) in
-      subst (MeansWithin (Some old.topics) new.found) all (subst (λ (t : Contents). MeansWithin (Some t) new.found ((entries ++ run_entries a (take count near)) ++ RangeEntry a span.lo span.hi ∷ [])) h.topics_is two);
+      subst (MeansWithin (Some old.topics) new.found) all (subst (λ (t : Revocations). MeansWithin (Some t) new.found ((entries ++ run_entries a (take count near)) ++ RangeEntry a span.lo span.hi ∷ [])) h.topics_is two);
   topics_is = topics ∙ h.topics_is;
   within = λ w. within (h.within w);
   held_is = omega (arith, h.held_is, more);

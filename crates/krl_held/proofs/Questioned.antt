@@ -5,8 +5,8 @@ use Rattle.std.specs.List.{Contains}
 use Rattle.std.proofs.Math.Logic.Iff as Iff
 use Rattle.sha1.specs.Sha1.{sha1}
 use Rattle.sha2.specs.Sha256.{sha256}
-use Rattle.krl_types.specs.Subject.{Names, Subject}
-use Rattle.krl_held.specs.Contents.{Contents, HoldsId, HoldsSerial, Means}
+use Rattle.krl_types.specs.Subject.{CertNames, Subject}
+use Rattle.krl_held.specs.Revocations.{Revocations, HoldsId, HoldsSerial, Means}
 use Rattle.krl_held.specs.Entry.{BitmapEntry, Entry, IdEntry, KeyEntry, RangeEntry, SerialsEntry, Sha1Entry, Sha256Entry}
 use Rattle.krl_held.specs.Naming.{EntryNames, IdOf, KeyNamed, KeyOf, Name, SerialOf, Sha1Of, Sha256Of, SomeNames}
 use Rattle.krl_held.specs.Questions.{Asks, HasCert}
@@ -19,31 +19,31 @@ use Rattle.krl_held.proofs.BothWays.{iff_or}
 -- ---- entries that name none of the topics
 
 -- no serial from `lo` to `hi` is a topic
-pub no_serial : (topics : Contents) (a : List ℕ) (lo hi : ℕ) → ((s : ℕ) → lo ≤ s → s ≤ hi → HoldsSerial topics.sections a s → ⊥) → (name : Name) → InScope (Some topics) name → SomeNames (RangeEntry a lo hi ∷ []) name → ⊥
+pub no_serial : (topics : Revocations) (a : List ℕ) (lo hi : ℕ) → ((s : ℕ) → lo ≤ s → s ≤ hi → HoldsSerial topics.sections a s → ⊥) → (name : Name) → InScope (Some topics) name → SomeNames (RangeEntry a lo hi ∷ []) name → ⊥
 no_serial topics a lo hi none (SerialOf b s) is (inl h) = none s h.1.1.0 h.1.1.1 (subst (λ (c : List ℕ). HoldsSerial topics.sections c s) (sym h.0) is)
 no_serial topics a lo hi none name is (inl h) = h
 no_serial topics a lo hi none name is (inr h) = h
 
 -- the key ID is no topic
-pub no_id : (topics : Contents) (a text : List ℕ) → (HoldsId topics.sections a text → ⊥) → (name : Name) → InScope (Some topics) name → SomeNames (IdEntry a text ∷ []) name → ⊥
+pub no_id : (topics : Revocations) (a text : List ℕ) → (HoldsId topics.sections a text → ⊥) → (name : Name) → InScope (Some topics) name → SomeNames (IdEntry a text ∷ []) name → ⊥
 no_id topics a text none (IdOf b t) is (inl h) =
     none (subst (λ (c : List ℕ). HoldsId topics.sections c text) (sym h.0) (subst (λ (c : List ℕ). HoldsId topics.sections b c) (sym h.1) is))
 no_id topics a text none name is (inl h) = h
 no_id topics a text none name is (inr h) = h
 
 -- the key is no topic
-pub no_key : (topics : Contents) (key : List ℕ) → (Contains topics.keys key → ⊥) → (name : Name) → InScope (Some topics) name → SomeNames (KeyEntry key ∷ []) name → ⊥
+pub no_key : (topics : Revocations) (key : List ℕ) → (Contains topics.keys key → ⊥) → (name : Name) → InScope (Some topics) name → SomeNames (KeyEntry key ∷ []) name → ⊥
 no_key topics key none (KeyOf blob) is (inl h) = none (subst (Contains topics.keys) (sym h) is)
 no_key topics key none name is (inl h) = h
 no_key topics key none name is (inr h) = h
 
 -- no key that is a topic has the hash
-pub no_sha1 : (topics : Contents) (hash : List ℕ) → ((blob : List ℕ) → Contains topics.keys blob → sha1 blob ≡ hash → ⊥) → (name : Name) → InScope (Some topics) name → SomeNames (Sha1Entry hash ∷ []) name → ⊥
+pub no_sha1 : (topics : Revocations) (hash : List ℕ) → ((blob : List ℕ) → Contains topics.keys blob → sha1 blob ≡ hash → ⊥) → (name : Name) → InScope (Some topics) name → SomeNames (Sha1Entry hash ∷ []) name → ⊥
 no_sha1 topics hash none (Sha1Of other) is (inl h) = none is.0 is.1.0 (is.1.1 ∙ sym h)
 no_sha1 topics hash none name is (inl h) = h
 no_sha1 topics hash none name is (inr h) = h
 
-pub no_sha256 : (topics : Contents) (hash : List ℕ) → ((blob : List ℕ) → Contains topics.keys blob → sha256 blob ≡ hash → ⊥) → (name : Name) → InScope (Some topics) name → SomeNames (Sha256Entry hash ∷ []) name → ⊥
+pub no_sha256 : (topics : Revocations) (hash : List ℕ) → ((blob : List ℕ) → Contains topics.keys blob → sha256 blob ≡ hash → ⊥) → (name : Name) → InScope (Some topics) name → SomeNames (Sha256Entry hash ∷ []) name → ⊥
 no_sha256 topics hash none (Sha256Of other) is (inl h) = none is.0 is.1.0 (is.1.1 ∙ sym h)
 no_sha256 topics hash none name is (inl h) = h
 no_sha256 topics hash none name is (inr h) = h
@@ -63,21 +63,21 @@ never_zero (entry ∷ entries) a s z (inl h) = not_zero entry a s z h
 never_zero (entry ∷ entries) a s z (inr h) = never_zero entries a s z h
 
 -- two lists of entries name the same topics
-NamesSameTopics : Contents → (entries others : List Entry) → Type 0
+NamesSameTopics : Revocations → (entries others : List Entry) → Type 0
 NamesSameTopics topics entries others = (name : Name) → IsTopic topics name → SomeNames entries name ↔ SomeNames others name
 
-same_serials : (topics : Contents) (kept entries : List Entry) → NamesSameTopics topics kept entries → (a : List ℕ) (s : ℕ) → (s ≡ 0) ⊎ HoldsSerial topics.sections a s
+same_serials : (topics : Revocations) (kept entries : List Entry) → NamesSameTopics topics kept entries → (a : List ℕ) (s : ℕ) → (s ≡ 0) ⊎ HoldsSerial topics.sections a s
     → SomeNames kept (SerialOf a s) ↔ SomeNames entries (SerialOf a s)
 unfolding NamesSameTopics
 same_serials topics kept entries same a s (inl z) = (λ h. absurd (never_zero kept a s z h), λ h. absurd (never_zero entries a s z h))
 same_serials topics kept entries same a s (inr is) = same (SerialOf a s) is
 
-same_key : (topics : Contents) (kept entries : List Entry) → NamesSameTopics topics kept entries → (blob : List ℕ) → Contains topics.keys blob → KeyNamed kept blob ↔ KeyNamed entries blob
+same_key : (topics : Revocations) (kept entries : List Entry) → NamesSameTopics topics kept entries → (blob : List ℕ) → Contains topics.keys blob → KeyNamed kept blob ↔ KeyNamed entries blob
 unfolding NamesSameTopics
 same_key topics kept entries same blob is =
     iff_or (same (KeyOf blob) is) (iff_or (same (Sha1Of (sha1 blob)) (blob, (is, refl))) (same (Sha256Of (sha256 blob)) (blob, (is, refl))))
 
-same_cert : (topics : Contents) (kept entries : List Entry) → NamesSameTopics topics kept entries → (cert : Option Names) → HasCert topics cert → CertRevoked kept cert ↔ CertRevoked entries cert
+same_cert : (topics : Revocations) (kept entries : List Entry) → NamesSameTopics topics kept entries → (cert : Option CertNames) → HasCert topics cert → CertRevoked kept cert ↔ CertRevoked entries cert
 unfolding NamesSameTopics
 same_cert topics kept entries same None is = Iff.rfl
 same_cert topics kept entries same (Some cert) is =
@@ -86,7 +86,7 @@ same_cert topics kept entries same (Some cert) is =
     (iff_or (same_serials topics kept entries same cert.authority cert.serial is.1.1.1) (same_serials topics kept entries same [] cert.serial is.1.0.1)))
 
 -- what is found revokes what was asked about exactly where the entries do
-pub answer_within : (topics found : Contents) (subject : Subject) (answer : Bool) → Asks topics subject
+pub answer_within : (topics found : Revocations) (subject : Subject) (answer : Bool) → Asks topics subject
     → ((entries : List Entry) → Means found entries → IsTrue answer ↔ Revoked entries subject)
     → (entries : List Entry) → MeansWithin (Some topics) found entries → IsTrue answer ↔ Revoked entries subject
 unfolding NamesSameTopics

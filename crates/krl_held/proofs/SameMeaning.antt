@@ -2,28 +2,28 @@
 use Rattle.std.proofs.Common.{List, ◌++◌, ◌∷◌, [], rules}
 use Rattle.std.specs.Prelude.{◌↔◌, ◌⊎◌}
 use Rattle.std.proofs.Math.Logic.Iff as Iff
-use Rattle.krl_held.specs.Contents.{Contents, HoldsName, IsOrderly, Means, nothing}
+use Rattle.krl_held.specs.Revocations.{Revocations, HoldsName, IsOrderly, Means, nothing}
 use Rattle.krl_held.specs.Entry.{Entry}
 use Rattle.krl_held.specs.Naming.{EntryNames, IdOf, KeyOf, Name, NamesSame, SerialOf, Sha1Of, Sha256Of, SomeNames}
 use Rattle.krl_held.specs.Elements.{contains_none}
 use Rattle.krl_held.proofs.BothWays.{iff_none, iff_or}
 use Rattle.krl_held.proofs.Same.{some_append}
 
-pub same_meaning : (r : Contents) (entries others : List Entry) → Means r entries → NamesSame entries others → Means r others
+pub same_meaning : (r : Revocations) (entries others : List Entry) → Means r entries → NamesSame entries others → Means r others
 same_meaning r entries others m same = record { orderly = m.orderly; names = λ name. Iff.trans (m.names name) (same name) }
 
-pub same_naming : (r : Contents) (entries others : List Entry) → Means r entries → Means r others → NamesSame entries others
+pub same_naming : (r : Revocations) (entries others : List Entry) → Means r entries → Means r others → NamesSame entries others
 same_naming r entries others m n name = Iff.trans (Iff.symm (m.names name)) (n.names name)
 
 -- what is held means some entries more where just what they name is held beside it
-pub means_all : (old new : Contents) (entries more : List Entry) → IsOrderly new → ((name : Name) → HoldsName new name ↔ (HoldsName old name ⊎ SomeNames more name)) → Means old entries → Means new (entries ++ more)
+pub means_all : (old new : Revocations) (entries more : List Entry) → IsOrderly new → ((name : Name) → HoldsName new name ↔ (HoldsName old name ⊎ SomeNames more name)) → Means old entries → Means new (entries ++ more)
 means_all old new entries more orderly gains m = record {
   orderly = orderly;
   names = λ name. Iff.trans (gains name) (Iff.trans (iff_or (m.names name) Iff.rfl) (Iff.symm (some_append entries more name)));
 }
 
 -- what is held means one entry more where just what that one names is held beside it
-pub means_more : (old new : Contents) (entries : List Entry) (entry : Entry) → IsOrderly new → ((name : Name) → HoldsName new name ↔ (HoldsName old name ⊎ EntryNames entry name)) → Means old entries → Means new (entries ++ entry ∷ [])
+pub means_more : (old new : Revocations) (entries : List Entry) (entry : Entry) → IsOrderly new → ((name : Name) → HoldsName new name ↔ (HoldsName old name ⊎ EntryNames entry name)) → Means old entries → Means new (entries ++ entry ∷ [])
 means_more old new entries entry orderly gains m =
     means_all old new entries (entry ∷ []) orderly (λ name. Iff.trans (gains name) (iff_or Iff.rfl (iff_none (λ none. none)))) m
 

@@ -9,7 +9,7 @@ use Rattle.std.proofs.lemmas.List.FromFn.{get_or-range_with_len, length-range_wi
 use Rattle.serial_set.specs.declared.span.Span.{Span}
 use Rattle.serial_set.specs.Span.{Covers, RunsFrom}
 use Rattle.serial_set.specs.Rising.{names_from}
-use Rattle.krl_held.specs.Contents.{Contents, HoldsSerial, IsListed, IsOrderly, Section, serials_in, span_size}
+use Rattle.krl_held.specs.Revocations.{Revocations, HoldsSerial, IsListed, IsOrderly, Section, serials_in, span_size}
 use Rattle.krl_held.specs.Elements.{contains_none}
 use Rattle.krl_held.proofs.BothWays.{contains_append, iff_or}
 use Rattle.krl_held.proofs.Once.{Once, once_append, sum_ones}
@@ -56,13 +56,13 @@ count_numbers spans = sum_ones (numbers spans) ∙ length-flat_map row spans ∙
 abbrev pub serials_of : List Section → List (List ℕ × ℕ)
 serials_of sections = under (λ section. numbers section.spans) sections
 
-pub in_serials : (r : Contents) → IsOrderly r → (a : List ℕ) (s : ℕ) → Contains (serials_of r.sections) (a, s) ↔ HoldsSerial r.sections a s
+pub in_serials : (r : Revocations) → IsOrderly r → (a : List ℕ) (s : ℕ) → Contains (serials_of r.sections) (a, s) ↔ HoldsSerial r.sections a s
 in_serials r o a s =
     let same = λ (section : Section) (is : IsListed section). in_numbers 0 section.spans is.runs s in
     Iff.trans (in_under (λ section. numbers section.spans) r.sections a s)
     (some_listed (λ section is h. (h.0, (same section is).0 h.1)) r.sections o.listed, some_listed (λ section is h. (h.0, (same section is).1 h.1)) r.sections o.listed)
 
-pub once_serials : (r : Contents) → IsOrderly r → Once (serials_of r.sections)
+pub once_serials : (r : Revocations) → IsOrderly r → Once (serials_of r.sections)
 once_serials r o = once_under (λ section. numbers section.spans) r.sections o.authorities_rise (All-weaker IsListed (λ section. Once (numbers section.spans)) (λ section is. once_numbers 0 section.spans is.runs) r.sections o.listed)
 
 pub count_serials : (sections : List Section) → sum_by (λ p. 1) (serials_of sections) ≡ serials_in sections

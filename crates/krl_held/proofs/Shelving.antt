@@ -20,16 +20,16 @@ use Rattle.krl_held.specs.declared.addition.Addition.TheVariants.{Serials, Id}
 use Rattle.krl_held.specs.declared.shelf.Shelf.{Shelf}
 use Rattle.krl_held.specs.Asked.{Stands}
 use Rattle.krl_held.specs.Rising.{bytes_cmp, AllAbove, RisesBy}
-use Rattle.krl_held.specs.Changes.{Takes, AddsTo, ChangesOne, empty_section}
-use Rattle.krl_held.specs.Contents.{Section, SomeSection}
+use Rattle.krl_held.specs.Changes.{TakesAddition, AddsTo, ChangesOne, empty_section}
+use Rattle.krl_held.specs.Revocations.{Section, SomeSection}
 use Rattle.krl_held.specs.Shelf.{name_of, section_of, sections_of, shelves_of}
 use Rattle.krl_held.proofs.Ordered.{above_map, back_above, below_map, front_below, inserts_map, rises_changed, tied}
 
-pub takes_authority : (addition : Addition) (from to : Section) → Takes addition from to → to.authority ≡ from.authority
+pub takes_authority : (addition : Addition) (from to : Section) → TakesAddition addition from to → to.authority ≡ from.authority
 takes_authority (Serials near) from to t = ap (λ (s : Section). s.authority) t.same
 takes_authority (Id text) from to t = ap (λ (s : Section). s.authority) t.same
 
-pub changes_rise : (addition : Addition) (authority : List ℕ) (old new : List Section) → ChangesOne (Takes addition) authority old new → RisesBy (λ section. section.authority) old → RisesBy (λ section. section.authority) new
+pub changes_rise : (addition : Addition) (authority : List ℕ) (old new : List Section) → ChangesOne (TakesAddition addition) authority old new → RisesBy (λ section. section.authority) old → RisesBy (λ section. section.authority) new
 changes_rise addition authority old new c r =
     let key : Section → List ℕ = λ section. section.authority in
     subst (RisesBy key) (sym c.after)
@@ -188,15 +188,15 @@ module _ {S : Type 0} where
 
     -- the shelf that there is takes the addition, or was refused it and holds what it did
     pub adds : (addition : Addition) (k : List ℕ) (result : Result (Unit {0}) AllocError) (from to : Shelf S) (old new : Mapped S) → lookup (is_at (at_name k)) old ≡ Some from → new ≡ set_value (is_at (at_name k)) old to
-        → MatchResult result (λ _. Takes addition (section_of spans (k, from)) (section_of spans (k, to))) (λ _. section_of spans (k, to) ≡ section_of spans (k, from))
+        → MatchResult result (λ _. TakesAddition addition (section_of spans (k, from)) (section_of spans (k, to))) (λ _. section_of spans (k, to) ≡ section_of spans (k, from))
         → OnOk result (AddsTo addition k (sections_of spans (shelves_of old)) (sections_of spans (shelves_of new))) × OnErr result (sections_of spans (shelves_of new) ≡ sections_of spans (shelves_of old))
-    adds addition k (Ok done) from to old new was is changed = (inl (changes_one (Takes addition) k from to old new was is changed), tt)
+    adds addition k (Ok done) from to old new was is changed = (inl (changes_one (TakesAddition addition) k from to old new was is changed), tt)
     adds addition k (Err fault) from to old new was is same =
         (tt, changes_none k (sections_of spans (shelves_of old)) (sections_of spans (shelves_of new)) (changes_one (λ from to. to ≡ from) k from to old new was is same))
 
     -- a section that was not there
     pub starts : (addition : Addition) (k : Vec ℕ) (shelf : Shelf S) (old new : Mapped S) → lookup (is_at (at_name k.items)) old ≡ None → new ≡ insert_entry by_bytes old k shelf → RisesBy name_of (shelves_of new)
-        → Takes addition (empty_section k.items) (section_of spans (k.items, shelf)) → AddsTo addition k.items (sections_of spans (shelves_of old)) (sections_of spans (shelves_of new))
+        → TakesAddition addition (empty_section k.items) (section_of spans (k.items, shelf)) → AddsTo addition k.items (sections_of spans (shelves_of old)) (sections_of spans (shelves_of new))
     starts addition k shelf old new none is r takes =
         let s = splits k.items shelf (shelves_of old) (none_found k.items (shelves_of old) (sym (shelves_lookup k.items old) ∙ none)) in
         let after = ap shelves_of is ∙ shelves_insert old k shelf ∙ s.after in

@@ -3,10 +3,10 @@ use Rattle.std.proofs.Common.{◌≡◌, ℕ, ◌+◌, ◌≤◌, ◌⊎◌, Lis
 use Rattle.std.specs.Prelude.{◌↔◌, sum_by}
 use Rattle.std.proofs.lemmas.List.Sums.{sum_by-cons, sum_by-append}
 use Rattle.krl_held.specs.declared.addition.Addition.{Addition}
-use Rattle.krl_held.specs.Changes.{Takes, AddsTo, empty_section}
+use Rattle.krl_held.specs.Changes.{TakesAddition, AddsTo, empty_section}
 use Rattle.std.specs.List.{Contains}
 use Rattle.serial_set.specs.Span.{Covers}
-use Rattle.krl_held.specs.Contents.{Section, SomeSection}
+use Rattle.krl_held.specs.Revocations.{Section, SomeSection}
 use Rattle.krl_held.specs.Naming.{IdOf, Name, SerialOf}
 use Rattle.std.proofs.Math.Logic.Iff as Iff
 use Rattle.krl_held.proofs.BothWays.{iff_across, iff_front, iff_none, iff_or, iff_swap}
@@ -29,7 +29,7 @@ some_middle P (x ∷ front) section back = Iff.trans (iff_or Iff.rfl (some_middl
 
 -- what an addition makes of a section decides what it makes of all
 pub record Step (addition : Addition) (authority : List ℕ) (P : Section → Type 0) (Q : Type 0) : Type 0 where
-  pub one : (from to : Section) → from.authority ≡ authority → Takes addition from to → P to ↔ (P from ⊎ Q)
+  pub one : (from to : Section) → from.authority ≡ authority → TakesAddition addition from to → P to ↔ (P from ⊎ Q)
   pub none : P (empty_section authority) → ⊥
 
 some_changed : (P : Section → Type 0) (Q : Type 0) (front back new : List Section) (from to : Section) → new ≡ front ++ to ∷ back → P to ↔ (P from ⊎ Q) → SomeSection P new ↔ ((P from ⊎ SomeSection P (front ++ back)) ⊎ Q)
@@ -53,7 +53,7 @@ sum_middle f front section back =
     omega (arith, sum_by-append f front (section ∷ back), sum_by-cons f section back, sum_by-append f front back)
 
 -- an addition that makes a section larger by at most so much makes all so much larger
-pub sum_adds : (addition : Addition) (authority : List ℕ) (old new : List Section) (f : Section → ℕ) (more : ℕ) → ((from to : Section) → Takes addition from to → f to ≤ f from + more) → AddsTo addition authority old new → sum_by f new ≤ sum_by f old + f (empty_section authority) + more
+pub sum_adds : (addition : Addition) (authority : List ℕ) (old new : List Section) (f : Section → ℕ) (more : ℕ) → ((from to : Section) → TakesAddition addition from to → f to ≤ f from + more) → AddsTo addition authority old new → sum_by f new ≤ sum_by f old + f (empty_section authority) + more
 sum_adds addition authority old new f more step adds =
     elim adds [
       | inl c ↦ omega (arith, ap (sum_by f) c.before, ap (sum_by f) c.after, sum_middle f c.front c.from c.back, sum_middle f c.front c.to c.back, step c.from c.to c.changed)

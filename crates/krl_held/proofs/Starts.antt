@@ -8,7 +8,7 @@ use Rattle.std.proofs.lemmas.List.Elements.{All-head, All-tail, All-weaker}
 use Rattle.serial_set.specs.declared.span.Span.{Span}
 use Rattle.serial_set.specs.Rising.{names_from}
 use Rattle.serial_set.specs.Span.{Covers, RunsFrom}
-use Rattle.krl_held.specs.Contents.{Contents, HoldsSerial, IsListed, IsOrderly, Section, SomeSection, held}
+use Rattle.krl_held.specs.Revocations.{Revocations, HoldsSerial, IsListed, IsOrderly, Section, SomeSection, held}
 use Rattle.krl_held.specs.Elements.{contains_cases, contains_none}
 use Rattle.krl_held.specs.Rising.{RisesBy}
 use Rattle.krl_held.specs.Scope.{BeginsRun}
@@ -59,13 +59,13 @@ begins (x ∷ xs) rises listed a s h before =
 abbrev pub starts_of : List Section → List (List ℕ × ℕ)
 starts_of sections = under (λ section. starts section.spans) sections
 
-pub in_starts : (r : Contents) → IsOrderly r → (a : List ℕ) (s : ℕ) → Contains (starts_of r.sections) (a, s) → BeginsRun r a s
+pub in_starts : (r : Revocations) → IsOrderly r → (a : List ℕ) (s : ℕ) → Contains (starts_of r.sections) (a, s) → BeginsRun r a s
 in_starts r o a s h =
     let some = (in_under (λ section. starts section.spans) r.sections a s).0 h in
     (some_listed (λ section is k. (k.0, start_covered 0 section.spans is.runs s k.1)) r.sections o.listed some, begins r.sections o.authorities_rise o.listed a s some)
 
-pub once_starts_of : (r : Contents) → IsOrderly r → Once (starts_of r.sections)
+pub once_starts_of : (r : Revocations) → IsOrderly r → Once (starts_of r.sections)
 once_starts_of r o = once_under (λ section. starts section.spans) r.sections o.authorities_rise (All-weaker IsListed (λ section. Once (starts section.spans)) (λ section is. once_starts 0 section.spans is.runs) r.sections o.listed)
 
-pub count_starts : (r : Contents) → sum_by (λ p. 1) (starts_of r.sections) ≡ held r
+pub count_starts : (r : Revocations) → sum_by (λ p. 1) (starts_of r.sections) ≡ held r
 count_starts r = sum_under (λ section. starts section.spans) (λ s. 1) (λ section. length section.spans) (λ section. sum_ones (starts section.spans) ∙ length-map section.spans (λ span. span.lo)) r.sections

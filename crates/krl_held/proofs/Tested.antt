@@ -11,9 +11,9 @@ use Rattle.sha1.specs.Sha1.{sha1}
 use Rattle.sha2.specs.Sha256.{sha256}
 use Rattle.serial_set.specs.Rising.{has_names}
 use Rattle.serial_set.specs.Span.{Covers, has}
-use Rattle.krl_types.specs.Subject.{Subject, Names}
+use Rattle.krl_types.specs.Subject.{Subject, CertNames}
 use Rattle.krl_held.specs.Asked.{HoldsKey, HoldsUnder, HoldsCert}
-use Rattle.krl_held.specs.Contents.{Contents, Section, Means}
+use Rattle.krl_held.specs.Revocations.{Revocations, Section, Means}
 use Rattle.krl_held.specs.Entry.{Entry}
 use Rattle.krl_held.specs.Naming.{IdOf, KeyNamed, KeyOf, SerialOf, Sha1Of, Sha256Of, SomeNames}
 use Rattle.krl_held.specs.Revoked.{Revoked, CertRevoked}
@@ -30,7 +30,7 @@ among_tested (first ∷ texts) text =
 
 -- ---- what is held
 
-key_tested : (r : Contents) (blob : List ℕ) → IsTrue (holds_key r blob) ↔ HoldsKey r blob
+key_tested : (r : Revocations) (blob : List ℕ) → IsTrue (holds_key r blob) ↔ HoldsKey r blob
 key_tested r blob =
     Decides-or (is_among r.keys blob) (is_among r.sha1s (sha1 blob) || is_among r.sha256s (sha256 blob)) (among_tested r.keys blob)
     (Decides-or (is_among r.sha1s (sha1 blob)) (is_among r.sha256s (sha256 blob)) (among_tested r.sha1s (sha1 blob)) (among_tested r.sha256s (sha256 blob)))
@@ -46,7 +46,7 @@ under_tested (section ∷ sections) a id s =
     Iff.trans (Decides-or (section_holds a id s section) (holds_under sections a id s) (section_tested a id s section) (under_tested sections a id s))
     (Iff.trans (iff_or (Iff.symm iff_both) Iff.rfl) iff_across)
 
-cert_tested : (r : Contents) (cert : Names) → IsTrue (holds_cert r (Some cert)) ↔ HoldsCert r cert
+cert_tested : (r : Revocations) (cert : CertNames) → IsTrue (holds_cert r (Some cert)) ↔ HoldsCert r cert
 cert_tested r cert =
     let all = holds_under r.sections [] cert.key_id cert.serial in
     let own = holds_under r.sections cert.authority cert.key_id cert.serial in
@@ -55,32 +55,32 @@ cert_tested r cert =
 
 -- ---- the answer
 
-key_same : (r : Contents) (blob : List ℕ) (answer : Bool) → (IsTrue answer ↔ HoldsKey r blob) → answer ≡ holds_key r blob
+key_same : (r : Revocations) (blob : List ℕ) (answer : Bool) → (IsTrue answer ↔ HoldsKey r blob) → answer ≡ holds_key r blob
 key_same r blob answer asked =
     let tested = Iff.trans asked (Iff.symm (key_tested r blob)) in both_ways answer (holds_key r blob) tested.0 tested.1
 
-pub tested_key : (r : Contents) (plain : List ℕ) (cert : Option Names) (key : Bool) → (IsTrue key ↔ HoldsKey r plain) → key ≡ true → true ≡ revokes r (record { plain = plain; cert = cert })
+pub tested_key : (r : Revocations) (plain : List ℕ) (cert : Option CertNames) (key : Bool) → (IsTrue key ↔ HoldsKey r plain) → key ≡ true → true ≡ revokes r (record { plain = plain; cert = cert })
 unfolding revokes
 tested_key r plain cert key asked is = sym (ap (λ (b : Bool). b || holds_cert r cert) (sym (key_same r plain key asked) ∙ is))
 
-pub tested_cert : (r : Contents) (plain : List ℕ) (cert : Option Names) (key answer : Bool) → (IsTrue key ↔ HoldsKey r plain) → key ≡ false → answer ≡ holds_cert r cert → answer ≡ revokes r (record { plain = plain; cert = cert })
+pub tested_cert : (r : Revocations) (plain : List ℕ) (cert : Option CertNames) (key answer : Bool) → (IsTrue key ↔ HoldsKey r plain) → key ≡ false → answer ≡ holds_cert r cert → answer ≡ revokes r (record { plain = plain; cert = cert })
 unfolding revokes
 tested_cert r plain cert key answer asked is same = same ∙ sym (ap (λ (b : Bool). b || holds_cert r cert) (sym (key_same r plain key asked) ∙ is))
 
-pub tested_none : (r : Contents) (cert : Option Names) → cert ≡ None → false ≡ holds_cert r cert
+pub tested_none : (r : Revocations) (cert : Option CertNames) → cert ≡ None → false ≡ holds_cert r cert
 tested_none r cert none = ap (holds_cert r) (sym none)
 
-pub tested_some : (r : Contents) (cert : Option Names) (names : Names) (answer : Bool) → cert ≡ Some names → (IsTrue answer ↔ HoldsCert r names) → answer ≡ holds_cert r cert
+pub tested_some : (r : Revocations) (cert : Option CertNames) (names : CertNames) (answer : Bool) → cert ≡ Some names → (IsTrue answer ↔ HoldsCert r names) → answer ≡ holds_cert r cert
 tested_some r cert names answer some asked =
     let tested = Iff.trans asked (Iff.symm (cert_tested r names)) in both_ways answer (holds_cert r (Some names)) tested.0 tested.1 ∙ ap (holds_cert r) (sym some)
 
 -- ---- what is named
 
-key_meant : (r : Contents) (entries : List Entry) → Means r entries → (blob : List ℕ) → IsTrue (holds_key r blob) ↔ KeyNamed entries blob
+key_meant : (r : Revocations) (entries : List Entry) → Means r entries → (blob : List ℕ) → IsTrue (holds_key r blob) ↔ KeyNamed entries blob
 key_meant r entries m blob =
     Iff.trans (key_tested r blob) (iff_or (m.names (KeyOf blob)) (iff_or (m.names (Sha1Of (sha1 blob))) (m.names (Sha256Of (sha256 blob)))))
 
-cert_meant : (r : Contents) (entries : List Entry) → Means r entries → (cert : Option Names) → IsTrue (holds_cert r cert) ↔ CertRevoked entries cert
+cert_meant : (r : Revocations) (entries : List Entry) → Means r entries → (cert : Option CertNames) → IsTrue (holds_cert r cert) ↔ CertRevoked entries cert
 cert_meant r entries m None = (λ yes. absurd cc, λ named. absurd named)
 cert_meant r entries m (Some cert) =
     let all = holds_under r.sections [] cert.key_id cert.serial in
@@ -90,10 +90,10 @@ cert_meant r entries m (Some cert) =
     Decides-or (holds_key r cert.authority) (all || own) (key_meant r entries m cert.authority)
     (Iff.trans (Decides-or all own (under []) (under cert.authority)) (Iff.trans iff_swap iff_across))
 
-pub revokes_meant : (r : Contents) (entries : List Entry) → Means r entries → (subject : Subject) → IsTrue (revokes r subject) ↔ Revoked entries subject
+pub revokes_meant : (r : Revocations) (entries : List Entry) → Means r entries → (subject : Subject) → IsTrue (revokes r subject) ↔ Revoked entries subject
 unfolding revokes
 revokes_meant r entries m subject = Decides-or (holds_key r subject.plain) (holds_cert r subject.cert) (key_meant r entries m subject.plain) (cert_meant r entries m subject.cert)
 
 -- the test's answer says what is revoked
-pub answer_meant : (r : Contents) (entries : List Entry) → Means r entries → (subject : Subject) (answer : Bool) → answer ≡ revokes r subject → IsTrue answer ↔ Revoked entries subject
+pub answer_meant : (r : Revocations) (entries : List Entry) → Means r entries → (subject : Subject) (answer : Bool) → answer ≡ revokes r subject → IsTrue answer ↔ Revoked entries subject
 answer_meant r entries m subject answer is = subst (λ (b : Bool). IsTrue b ↔ Revoked entries subject) (sym is) (revokes_meant r entries m subject)

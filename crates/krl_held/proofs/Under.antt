@@ -7,7 +7,7 @@ use Rattle.std.proofs.Math.Logic.Iff as Iff
 use Rattle.std.proofs.lemmas.List.Elements.{All-head, All-tail}
 use Rattle.std.proofs.lemmas.List.Folds.{fold-map}
 use Rattle.std.proofs.lemmas.List.Sums.{sum_by-append, sum_by-cons}
-use Rattle.krl_held.specs.Contents.{IsListed, Section, SomeSection}
+use Rattle.krl_held.specs.Revocations.{IsListed, Section, SomeSection}
 use Rattle.krl_held.specs.Elements.{contains_none}
 use Rattle.krl_held.specs.Rising.{RisesBy}
 use Rattle.krl_held.proofs.BothWays.{contains_append, contains_cons, iff_both, iff_or}

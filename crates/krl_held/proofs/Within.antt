@@ -4,7 +4,7 @@ use Rattle.std.specs.Prelude.{◌⊎◌, ◌↔◌, Contains}
 use Rattle.std.proofs.Math.Logic.{⊎_elim}
 use Rattle.std.proofs.lemmas.Bool.{cases_lt}
 use Rattle.krl_held.specs.Changes.{MeansMore}
-use Rattle.krl_held.specs.Contents.{Contents, HoldsId, HoldsName, HoldsSerial, IsOrderly}
+use Rattle.krl_held.specs.Revocations.{Revocations, HoldsId, HoldsName, HoldsSerial, IsOrderly}
 use Rattle.krl_held.specs.Entry.{Entry, SerialsEntry, RangeEntry, BitmapEntry, IdEntry, KeyEntry, Sha1Entry, Sha256Entry}
 use Rattle.krl_held.specs.Naming.{EntryNames, IdOf, KeyOf, Name, SerialOf, Sha1Of, Sha256Of, SomeNames}
 use Rattle.krl_held.specs.Scope.{IsTopic, IsWithin}
@@ -17,7 +17,7 @@ abbrev pub GoesOn : List Entry → Name → Type 0
 GoesOn entries (SerialOf a s) = SomeNames entries (SerialOf a (s - 1))
 GoesOn entries name = ⊥
 
-pub within_more : (topics old new : Contents) (more : List Entry) → IsOrderly old → IsWithin topics old → MeansMore old new more
+pub within_more : (topics old new : Revocations) (more : List Entry) → IsOrderly old → IsWithin topics old → MeansMore old new more
     → ((name : Name) → SomeNames more name → IsTopic topics name ⊎ GoesOn more name) → IsWithin topics new
 within_more topics old new more orderly within means about = record {
   runs = λ a s begins. elim ((now (SerialOf a s)).0 begins.0) [
@@ -39,7 +39,7 @@ within_more topics old new more orderly within means about = record {
 -- ---- one entry more
 
 -- the entry names a topic, or a run of serial numbers that begins with one
-abbrev pub IsAbout : (topics : Contents) → Entry → Type 0
+abbrev pub IsAbout : (topics : Revocations) → Entry → Type 0
 IsAbout topics (RangeEntry a lo hi) = (0 < lo) × HoldsSerial topics.sections a lo
 IsAbout topics (IdEntry a text) = HoldsId topics.sections a text
 IsAbout topics (KeyEntry blob) = Contains topics.keys blob
@@ -47,7 +47,7 @@ IsAbout topics (Sha1Entry hash) = IsTopic topics (Sha1Of hash)
 IsAbout topics (Sha256Entry hash) = IsTopic topics (Sha256Of hash)
 IsAbout topics _ = ⊥
 
-about_topics : (topics : Contents) (entry : Entry) (name : Name) → IsAbout topics entry → EntryNames entry name → IsTopic topics name ⊎ GoesOn (entry ∷ []) name
+about_topics : (topics : Revocations) (entry : Entry) (name : Name) → IsAbout topics entry → EntryNames entry name → IsTopic topics name ⊎ GoesOn (entry ∷ []) name
 about_topics topics (RangeEntry b lo hi) (SerialOf a s) is h =
     elim (cases_lt lo s) [
       | inl above ↦ inr (inl (h.0, (omega (arith, is.0), (omega (arith, above), omega (arith, h.1)))))
@@ -61,6 +61,6 @@ about_topics topics (SerialsEntry b numbers) name is h = absurd is
 about_topics topics (BitmapEntry b offset number) name is h = absurd is
 about_topics topics entry name is h = absurd h
 
-pub within_with : (topics old new : Contents) (entry : Entry) → IsOrderly old → IsWithin topics old → MeansMore old new (entry ∷ []) → IsAbout topics entry → IsWithin topics new
+pub within_with : (topics old new : Revocations) (entry : Entry) → IsOrderly old → IsWithin topics old → MeansMore old new (entry ∷ []) → IsAbout topics entry → IsWithin topics new
 within_with topics old new entry orderly within means is =
     within_more topics old new (entry ∷ []) orderly within means (λ name h. ⊎_elim (about_topics topics entry name is) (λ no. absurd no) h)

@@ -2,12 +2,12 @@
 use Rattle.std.specs.Prelude.{◌≡◌, ℕ, ◌⊎◌, List, [], ◌∷◌, ◌++◌, Contains}
 use Rattle.sha1.specs.Sha1.{sha1}
 use Rattle.sha2.specs.Sha256.{sha256}
-use Rattle.krl_types.specs.Subject.{Names}
-use Rattle.krl_held.specs.Contents.{Contents, Section, HoldsSerial, HoldsId}
+use Rattle.krl_types.specs.Subject.{CertNames}
+use Rattle.krl_held.specs.Revocations.{Revocations, Section, HoldsSerial, HoldsId}
 use Rattle.krl_held.specs.Rising.{AllBelow, AllAbove}
 
 -- the key is held, by its blob or by a hash of it
-abbrev pub HoldsKey : Contents → (blob : List ℕ) → Type 0
+abbrev pub HoldsKey : Revocations → (blob : List ℕ) → Type 0
 HoldsKey r blob =
     Contains r.keys blob ⊎ (Contains r.sha1s (sha1 blob) ⊎ Contains r.sha256s (sha256 blob))
 
@@ -17,7 +17,7 @@ HoldsUnder sections authority id serial =
     HoldsId sections authority id ⊎ HoldsSerial sections authority serial
 
 -- the certificate is held by its authority's key, or under all authorities or its own
-abbrev pub HoldsCert : Contents → Names → Type 0
+abbrev pub HoldsCert : Revocations → CertNames → Type 0
 HoldsCert r cert =
     HoldsKey r cert.authority
     ⊎ (HoldsUnder r.sections [] cert.key_id cert.serial

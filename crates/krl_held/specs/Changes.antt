@@ -6,7 +6,7 @@ use Rattle.serial_set.specs.Near.{AddsSpans, AreNear}
 use Rattle.serial_set.specs.Span.{AreSerials}
 use Rattle.krl_held.specs.declared.addition.Addition.{Addition}
 use Rattle.krl_held.specs.declared.addition.Addition.TheVariants.{Serials, Id}
-use Rattle.krl_held.specs.Contents.{Contents, Means, Section, section_with}
+use Rattle.krl_held.specs.Revocations.{Revocations, Means, Section, section_with}
 use Rattle.krl_held.specs.Entry.{Entry, RangeEntry}
 use Rattle.krl_held.specs.Inserting.{Inserts}
 
@@ -27,9 +27,9 @@ pub record TakesId (text : List ℕ) (from to : Section) : Type 0 where
   pub put : Puts from.ids text to.ids
 
 -- the section with what is added
-abbrev pub Takes : Addition → Section → Section → Type 0
-Takes (Serials near) from to = TakesSerials near.now from to
-Takes (Id text) from to = TakesId text.now from to
+abbrev pub TakesAddition : Addition → Section → Section → Type 0
+TakesAddition (Serials near) from to = TakesSerials near.now from to
+TakesAddition (Id text) from to = TakesId text.now from to
 
 -- one change makes the addition: there are spans, and they lie near each other
 abbrev pub IsOneChange : Addition → Type 0
@@ -56,13 +56,13 @@ pub record ChangesOne (Change : Section → Section → Type 0) (authority : Lis
 -- a section that holds just the addition is put in
 pub record Starts (addition : Addition) (authority : List ℕ) (old new : List Section) : Type 0 where
   pub section : Section
-  pub takes : Takes addition (empty_section authority) section
+  pub takes : TakesAddition addition (empty_section authority) section
   pub put : Inserts (λ section. section.authority) old section new
 
 -- what is added stands under the authority, in the section that there was or in a new one
 abbrev pub AddsTo : Addition → List ℕ → (old new : List Section) → Type 0
 AddsTo addition authority old new =
-    ChangesOne (Takes addition) authority old new ⊎ Starts addition authority old new
+    ChangesOne (TakesAddition addition) authority old new ⊎ Starts addition authority old new
 
 -- the serials of some spans, as entries
 abbrev pub run_entries : List ℕ → List Span → List Entry
@@ -71,5 +71,5 @@ run_entries authority (run ∷ runs) =
     RangeEntry authority run.lo run.hi ∷ run_entries authority runs
 
 -- What is held means these entries more.
-abbrev pub MeansMore : (old new : Contents) (more : List Entry) → Type 0
+abbrev pub MeansMore : (old new : Revocations) (more : List Entry) → Type 0
 MeansMore old new more = (entries : List Entry) → Means old entries → Means new (entries ++ more)

@@ -5,7 +5,7 @@ use Rattle.std.proofs.Common.{arith}
 use Rattle.std.specs.List.{AllByRecursion, Contains}
 use Rattle.serial_set.specs.declared.span.Span.{Span}
 use Rattle.serial_set.specs.Span.{Covers, IsRuns}
-use Rattle.krl_held.specs.Contents.{Section, SomeSection}
+use Rattle.krl_held.specs.Revocations.{Section, SomeSection}
 use Rattle.krl_held.specs.Entry.{Entry}
 use Rattle.krl_held.specs.Naming.{Name, SomeNames}
 

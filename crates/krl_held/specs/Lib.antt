@@ -1,7 +1,7 @@
 pub mod Asked
 pub mod Authority
 pub mod Changes
-pub mod Contents
+pub mod Revocations
 pub mod Entry
 pub mod Ids
 pub mod Inserting

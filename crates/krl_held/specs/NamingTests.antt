@@ -5,7 +5,7 @@ use Rattle.std.specs.List.{list_any}
 use Rattle.std.specs.Str.{bytes_eq}
 use Rattle.sha1.specs.Sha1.{sha1}
 use Rattle.sha2.specs.Sha256.{sha256}
-use Rattle.krl_types.specs.Subject.{Names, Subject}
+use Rattle.krl_types.specs.Subject.{CertNames, Subject}
 use Rattle.krl_held.specs.Entry.{Entry, SerialsEntry, RangeEntry, BitmapEntry, IdEntry, KeyEntry}
 use Rattle.krl_held.specs.Entry.{Sha1Entry, Sha256Entry}
 use Rattle.krl_held.specs.Naming.{IdOf, KeyOf, Name, SerialOf, Sha1Of, Sha256Of}
@@ -33,7 +33,7 @@ key_named entries blob =
     some_names entries (KeyOf blob)
     || (some_names entries (Sha1Of (sha1 blob)) || some_names entries (Sha256Of (sha256 blob)))
 
-abbrev pub cert_named : List Entry → Option Names → Bool
+abbrev pub cert_named : List Entry → Option CertNames → Bool
 cert_named entries None = false
 cert_named entries (Some cert) =
     key_named entries cert.authority

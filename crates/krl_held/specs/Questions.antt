@@ -3,22 +3,22 @@ use Rattle.std.specs.Prelude.{◌≡◌, ℕ, ◌+◌, ◌*◌, ◌<◌, ◌≤�
 use Rattle.std.specs.Prelude.{length, Option, Some, None, Contains, ⊤}
 use Rattle.sha1.specs.Sha1.{sha1}
 use Rattle.sha2.specs.Sha256.{sha256}
-use Rattle.krl_types.specs.Subject.{Names, Subject}
-use Rattle.krl_held.specs.Contents.{Contents, HoldsId, HoldsName, HoldsSerial, IsOrderly}
+use Rattle.krl_types.specs.Subject.{CertNames, Subject}
+use Rattle.krl_held.specs.Revocations.{Revocations, HoldsId, HoldsName, HoldsSerial, IsOrderly}
 use Rattle.krl_held.specs.Naming.{KeyOf, Name, Sha1Of, Sha256Of}
 use Rattle.krl_held.specs.Scope.{IsTopic, IsWithin, Scope}
 
 -- what is asked about, and what was found of it
 pub record Asked : Type 0 where
-  pub topics : Contents
-  pub found : Contents
+  pub topics : Revocations
+  pub found : Revocations
 
 -- the names that are asked about
 abbrev pub asked_in : Asked → Scope
 asked_in asked = Some asked.topics
 
 -- Of what the front of a list holds, just what is asked about is found.
-pub record FindsIn (front : Contents) (asked : Asked) : Type 0 where
+pub record FindsIn (front : Revocations) (asked : Asked) : Type 0 where
   pub orderly : IsOrderly asked.found
   pub held : (name : Name) → HoldsName asked.found name → HoldsName front name
   pub all : (name : Name) → IsTopic asked.topics name → HoldsName front name
@@ -26,7 +26,7 @@ pub record FindsIn (front : Contents) (asked : Asked) : Type 0 where
   pub within : IsWithin asked.topics asked.found
 
 -- what is asked about stays so
-abbrev pub AsksMore : (old new : Contents) → Type 0
+abbrev pub AsksMore : (old new : Revocations) → Type 0
 AsksMore old new = (name : Name) → IsTopic old name → IsTopic new name
 
 -- a name of a key: its blob, or a hash of it
@@ -35,7 +35,8 @@ IsOfKey blob name =
     (name ≡ KeyOf blob) ⊎ ((name ≡ Sha1Of (sha1 blob)) ⊎ (name ≡ Sha256Of (sha256 blob)))
 
 -- What the front holds of some names is found too, in order where what was found was so.
-pub record Finds (front : Contents) (Sought : Name → Type 0) (old new : Contents) : Type 0 where
+pub record Finds (front : Revocations) (Sought : Name → Type 0) (old new : Revocations)
+    : Type 0 where
   pub orderly : IsOrderly old → IsOrderly new
   pub names : (name : Name)
       → HoldsName new name ↔ (HoldsName old name ⊎ (HoldsName front name × Sought name))
@@ -51,30 +52,30 @@ abbrev pub AreHashed : Bool → (List ℕ → List ℕ) → (keys hashes : List 
 AreHashed made hash keys hashes = made ≡ true → HashesOf hash keys hashes
 
 -- a key ID and a serial number are topics under an authority; 0 is no serial
-abbrev pub HasUnder : Contents → (authority id : List ℕ) (serial : ℕ) → Type 0
+abbrev pub HasUnder : Revocations → (authority id : List ℕ) (serial : ℕ) → Type 0
 HasUnder topics authority id serial =
     HoldsId topics.sections authority id
     × ((serial ≡ 0) ⊎ HoldsSerial topics.sections authority serial)
 
 -- all names of a certificate are topics
-abbrev pub HasAll : Contents → Names → Type 0
+abbrev pub HasAll : Revocations → CertNames → Type 0
 HasAll topics cert =
     Contains topics.keys cert.authority
     × (HasUnder topics [] cert.key_id cert.serial
     × HasUnder topics cert.authority cert.key_id cert.serial)
 
-abbrev pub HasCert : Contents → Option Names → Type 0
+abbrev pub HasCert : Revocations → Option CertNames → Type 0
 HasCert topics None = ⊤
 HasCert topics (Some cert) = HasAll topics cert
 
 -- the key or the certificate is asked about
-abbrev pub Asks : Contents → Subject → Type 0
+abbrev pub Asks : Revocations → Subject → Type 0
 Asks topics subject = Contains topics.keys subject.plain × HasCert topics subject.cert
 
 -- ---- how much is asked
 
 -- how many bytes a certificate's names have, under all authorities and under its own
-abbrev pub names_size : Option Names → ℕ
+abbrev pub names_size : Option CertNames → ℕ
 names_size None = 0
 names_size (Some cert) = 2 * (length cert.authority + length cert.key_id)
 

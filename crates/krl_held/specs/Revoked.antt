@@ -1,12 +1,12 @@
 -- What a list revokes (ssh-keygen(1), KEY REVOCATION LISTS).
 use Rattle.std.specs.Prelude.{◌⊎◌, List, Option, Some, None}
-use Rattle.krl_types.specs.Subject.{Subject, Names}
+use Rattle.krl_types.specs.Subject.{Subject, CertNames}
 use Rattle.krl_held.specs.Entry.{Entry}
 use Rattle.krl_held.specs.Naming.{KeyNamed, SomeNamesId, SomeNamesSerial}
 
 -- A certificate is revoked by its authority's key, or by an entry under its authority or under all
 -- that is its key ID or names its serial number.
-abbrev pub CertRevoked : List Entry → Option Names → Type 0
+abbrev pub CertRevoked : List Entry → Option CertNames → Type 0
 CertRevoked entries None = ⊥
 CertRevoked entries (Some cert) =
     KeyNamed entries cert.authority

@@ -4,12 +4,12 @@ use Rattle.std.specs.Prelude.{Contains, ⊤}
 use Rattle.sha1.specs.Sha1.{sha1}
 use Rattle.sha2.specs.Sha256.{sha256}
 use Rattle.ssh_wire.specs.Wire.{number_of}
-use Rattle.krl_held.specs.Contents.{Contents, HoldsId, HoldsName, HoldsSerial, IsOrderly}
+use Rattle.krl_held.specs.Revocations.{Revocations, HoldsId, HoldsName, HoldsSerial, IsOrderly}
 use Rattle.krl_held.specs.Entry.{Entry}
 use Rattle.krl_held.specs.Naming.{IdOf, KeyOf, Name, SerialOf, Sha1Of, Sha256Of, SomeNames}
 
 -- the name is one of the topics, or the hash of a key that is one
-abbrev pub IsTopic : (topics : Contents) → Name → Type 0
+abbrev pub IsTopic : (topics : Revocations) → Name → Type 0
 IsTopic topics (SerialOf a s) = HoldsSerial topics.sections a s
 IsTopic topics (IdOf a text) = HoldsId topics.sections a text
 IsTopic topics (KeyOf blob) = Contains topics.keys blob
@@ -19,7 +19,7 @@ IsTopic topics (Sha256Of hash) =
 
 -- all names, or those of some topics
 abbrev pub Scope : Type 0
-Scope = Option Contents
+Scope = Option Revocations
 
 abbrev pub all : Scope
 all = None
@@ -29,24 +29,24 @@ InScope None name = ⊤
 InScope (Some topics) name = IsTopic topics name
 
 -- Of the names in scope, just what the entries name is held, in order.
-pub record MeansWithin (scope : Scope) (r : Contents) (entries : List Entry) : Type 0 where
+pub record MeansWithin (scope : Scope) (r : Revocations) (entries : List Entry) : Type 0 where
   pub orderly : IsOrderly r
   pub names : (name : Name) → InScope scope name → HoldsName r name ↔ SomeNames entries name
 
 -- What is held means these entries more, of the names in scope.
-abbrev pub MeansMoreWithin : Scope → (old new : Contents) (more : List Entry) → Type 0
+abbrev pub MeansMoreWithin : Scope → (old new : Revocations) (more : List Entry) → Type 0
 MeansMoreWithin scope old new more =
     (entries : List Entry) → MeansWithin scope old entries → MeansWithin scope new (entries ++ more)
 
 -- ---- how much is held
 
 -- a run of the serial numbers held under just this authority begins with the number
-abbrev pub BeginsRun : Contents → (authority : List ℕ) (serial : ℕ) → Type 0
+abbrev pub BeginsRun : Revocations → (authority : List ℕ) (serial : ℕ) → Type 0
 BeginsRun r a s = HoldsSerial r.sections a s × (HoldsSerial r.sections a (s - 1) → ⊥)
 
 -- Nothing is held but what is asked about. A run of serial numbers may go on past the one that is
 -- asked about, with which it begins.
-pub record IsWithin (topics r : Contents) : Type 0 where
+pub record IsWithin (topics r : Revocations) : Type 0 where
   pub runs : (a : List ℕ) (s : ℕ) → BeginsRun r a s → HoldsSerial topics.sections a s
   pub ids : (a text : List ℕ) → HoldsId r.sections a text → HoldsId topics.sections a text
   pub keys : (blob : List ℕ) → Contains r.keys blob → Contains topics.keys blob
@@ -54,7 +54,7 @@ pub record IsWithin (topics r : Contents) : Type 0 where
   pub sha256s : (hash : List ℕ) → Contains r.sha256s hash → IsTopic topics (Sha256Of hash)
 
 -- what is held is within the scope
-abbrev pub WithinScope : Scope → Contents → Type 0
+abbrev pub WithinScope : Scope → Revocations → Type 0
 WithinScope None r = ⊤
 WithinScope (Some topics) r = IsWithin topics r
 

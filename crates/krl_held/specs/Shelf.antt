@@ -3,7 +3,7 @@ use Rattle.std.specs.Prelude.{ℕ, List, map}
 use Rattle.std.specs.Global.{Vec}
 use Rattle.serial_set.specs.declared.span.Span.{Span}
 use Rattle.krl_held.specs.declared.shelf.Shelf.{Shelf}
-use Rattle.krl_held.specs.Contents.{Section}
+use Rattle.krl_held.specs.Revocations.{Section}
 
 module _ {S : Type 0} where
   -- the bytes of the authority that a shelf is of

@@ -4,7 +4,7 @@ ghost use Rattle.std.specs.Prelude.{◌≡◌, ◌↔◌, ◌%◌, ◌<◌, ◌�
 ghost use Rattle.sha1.specs.Sha1.{sha1};
 ghost use Rattle.sha2.specs.Sha256.{sha256};
 ghost use Rattle.serial_set.specs.Span.{Covers};
-ghost use Rattle.krl_held.specs.Contents.{HoldsId, HoldsSerial, IsOrderly};
+ghost use Rattle.krl_held.specs.Revocations.{HoldsId, HoldsSerial, IsOrderly};
 ghost use Rattle.krl_held.specs.Scope.{NoneHolds};
 ghost use Rattle.krl_held.specs.Questions.{IsFirst};
 

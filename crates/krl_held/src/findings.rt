@@ -6,7 +6,7 @@ ghost use Rattle.sha1.specs.Sha1.{sha1};
 ghost use Rattle.sha2.specs.Sha256.{sha256};
 ghost use Rattle.serial_set.specs.BitRuns.{IsInterval};
 ghost use Rattle.krl_held.specs.Authority.{authority_bytes, IsAuthority};
-ghost use Rattle.krl_held.specs.Contents.{IsOrderly, IsStoredWithin, held};
+ghost use Rattle.krl_held.specs.Revocations.{IsOrderly, IsStoredWithin, held};
 ghost use Rattle.krl_held.specs.Entry.{Entry, RangeEntry};
 ghost use Rattle.krl_held.specs.Naming.{Sha1Of, Sha256Of};
 ghost use Rattle.krl_held.specs.Revoked.{Revoked};

@@ -1,6 +1,6 @@
 //! What is held, in order.
 ghost use Rattle.std.specs.Prelude.{◌≡◌, ◌<◌, length, Some, slice_get, sum_by};
-ghost use Rattle.krl_held.specs.Contents.{IsOrderly, held};
+ghost use Rattle.krl_held.specs.Revocations.{IsOrderly, held};
 
 use crate::listed::{Authorities, Listed};
 use crate::revocations::Revocations;

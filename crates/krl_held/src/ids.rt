@@ -94,7 +94,7 @@ impl Ids {
     // Adds a key ID, if it is not there.
     pub(crate) fn put(&mut self, alloc: Global, id: &[u8]) -> Result<(), AllocError>
         ensures ok { OnOk result (Puts self.old id.now self.new) }
-        ensures err { OnErr result (self.new ≡ self.old) }
+        ensures refused { OnErr result (self.new ≡ self.old) }
     {
         match &mut self.kept {
             Kept::Many(set) => put_text(alloc, set, id),
@@ -128,7 +128,7 @@ fn put_few(alloc: Global, few: &mut Vec<Vec<u8>>, id: &[u8]) -> Result<(), Alloc
     requires { RisesBy bytes_of few.old.items }
     ensures rise { RisesBy bytes_of few.new.items }
     ensures ok { OnOk result (Puts (texts_of few.old.items) id.now (texts_of few.new.items)) }
-    ensures err { OnErr result (few.new.items ≡ few.old.items) }
+    ensures refused { OnErr result (few.new.items ≡ few.old.items) }
 {
     let Some(at) = place_in(few.as_slice(), id) else {
         return Ok(());

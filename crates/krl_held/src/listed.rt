@@ -17,7 +17,7 @@ pub struct Listed<'a, S: Spans> {
 }
 
 impl<'a, S: Spans> Model for Listed<'a, S> {
-    ghost use Rattle.krl_held.specs.Contents.{Section};
+    ghost use Rattle.krl_held.specs.Revocations.{Section};
     ghost use Rattle.krl_held.specs.Shelf.{section_of};
 
     ghost Value = { Section };
@@ -93,7 +93,7 @@ pub struct Authorities<'a, S: Spans> {
 
 impl<'a, S: Spans> Model for Authorities<'a, S> {
     ghost use Rattle.std.specs.Prelude.{List};
-    ghost use Rattle.krl_held.specs.Contents.{Section};
+    ghost use Rattle.krl_held.specs.Revocations.{Section};
     ghost use Rattle.krl_held.specs.Shelf.{sections_of, shelves_of};
 
     ghost Value = { List Section };

@@ -1,7 +1,7 @@
 //! The question of whether a key or a certificate is revoked.
 ghost use Rattle.std.specs.Prelude.{◌≡◌, ◌↔◌, IsTrue, List};
 ghost use Rattle.krl_held.specs.Asked.{HoldsKey, HoldsUnder, HoldsCert};
-ghost use Rattle.krl_held.specs.Contents.{Means};
+ghost use Rattle.krl_held.specs.Revocations.{Means};
 ghost use Rattle.krl_held.specs.Entry.{Entry};
 ghost use Rattle.krl_held.specs.Revoked.{Revoked};
 ghost use Rattle.krl_held.specs.Tested.{revokes};

@@ -4,7 +4,7 @@ ghost use Rattle.std.specs.Prelude.{◌≡◌, ◌+◌, ◌<◌, ◌≤◌, Cont
 ghost use Rattle.sha1.specs.Sha1.{sha1};
 ghost use Rattle.sha2.specs.Sha256.{sha256};
 ghost use Rattle.krl_held.specs.Authority.{authority_bytes, IsAuthority};
-ghost use Rattle.krl_held.specs.Contents.{Contents, nothing, serials_in, stored};
+ghost use Rattle.krl_held.specs.Revocations.{Revocations as RevocationsOf, nothing, serials_in, stored};
 ghost use Rattle.krl_held.specs.Naming.{IdOf, KeyOf, SerialOf, Sha1Of, Sha256Of};
 ghost use Rattle.krl_held.specs.Questions.{Asks, AsksMore, Finds, FindsIn, HasAll, HasUnder};
 ghost use Rattle.krl_held.specs.Questions.{IsOfKey, names_size, subject_size};
@@ -39,7 +39,7 @@ impl<S: Spans> Questions<S> {
     pub fn new(alloc: Global) -> Questions<S>
         ensures topics { result.topics ≡ nothing }
         ensures found { result.found ≡ nothing }
-        ensures of_any { (front : Contents) → FindsIn front result }
+        ensures of_any { (front : RevocationsOf) → FindsIn front result }
     {
         Questions {
             topics: Revocations::new(alloc),

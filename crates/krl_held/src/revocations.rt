@@ -4,7 +4,7 @@ ghost use Rattle.serial_set.specs.BitRuns.{IsInterval};
 ghost use Rattle.serial_set.specs.Near.{AreNear};
 ghost use Rattle.krl_held.specs.Authority.{authority_bytes, IsAuthority};
 ghost use Rattle.krl_held.specs.Changes.{MeansMore, run_entries};
-ghost use Rattle.krl_held.specs.Contents.{IsNamed, IsOrderly, Means, nothing, held, stored};
+ghost use Rattle.krl_held.specs.Revocations.{IsNamed, IsOrderly, Means, nothing, held, stored};
 ghost use Rattle.krl_held.specs.Entry.{RangeEntry, IdEntry, KeyEntry, Sha1Entry, Sha256Entry};
 
 use crate::addition::Addition;
@@ -28,10 +28,10 @@ pub struct Revocations<S: Spans> {
 }
 
 impl<S: Spans> Model for Revocations<S> {
-    ghost use Rattle.krl_held.specs.Contents.{Contents, contents_of, IsOrderly};
+    ghost use Rattle.krl_held.specs.Revocations.{Revocations, contents_of, IsOrderly};
     ghost use Rattle.krl_held.specs.Texts.{texts_of};
 
-    ghost Value = { Contents };
+    ghost Value = { Revocations };
 
     ghost view = { λ r. contents_of r.shelves (texts_of r.keys.keys) r.sha1s.keys r.sha256s.keys };
 

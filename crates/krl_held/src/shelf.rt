@@ -1,6 +1,6 @@
 //! What is held under one authority.
 ghost use Rattle.std.specs.Prelude.{◌≡◌, ℕ, List, MatchResult, IfOk};
-ghost use Rattle.krl_held.specs.Changes.{Takes, IsOneChange, empty_section};
+ghost use Rattle.krl_held.specs.Changes.{TakesAddition, IsOneChange, empty_section};
 
 use crate::addition::Addition;
 use crate::ids::Ids;
@@ -20,7 +20,7 @@ impl<S: Spans> Shelf<S> {
     // A shelf that holds what is added and no more.
     pub(crate) fn with(alloc: Global, addition: Addition<'_>) -> Result<Shelf<S>, AllocError>
         requires { IsOneChange addition }
-        ensures { (authority : List ℕ) → IfOk result (λ shelf. Takes addition.entry
+        ensures { (authority : List ℕ) → IfOk result (λ shelf. TakesAddition addition.entry
             (empty_section authority) (section_of S.spans (authority, shelf))) }
     {
         let mut shelf = Shelf {
@@ -35,7 +35,7 @@ impl<S: Spans> Shelf<S> {
     pub(crate) fn add(&mut self, alloc: Global, addition: Addition<'_>) -> Result<(), AllocError>
         requires { IsOneChange addition }
         ensures { (authority : List ℕ) → MatchResult result
-            (λ _. Takes addition.entry (section_of S.spans (authority, self.old))
+            (λ _. TakesAddition addition.entry (section_of S.spans (authority, self.old))
             (section_of S.spans (authority, self.new)))
             (λ _. section_of S.spans (authority, self.new)
             ≡ section_of S.spans (authority, self.old)) }

@@ -3,7 +3,7 @@ ghost use Rattle.std.specs.Prelude.{◌≡◌, ◌<◌, [], MatchOption, OnErr, 
 ghost use Rattle.std.specs.Prelude.{length, slice_get};
 ghost use Rattle.krl_held.specs.Asked.{Stands};
 ghost use Rattle.krl_held.specs.Changes.{IsOneChange, AddsTo};
-ghost use Rattle.krl_held.specs.Contents.{SomeSection};
+ghost use Rattle.krl_held.specs.Revocations.{SomeSection};
 ghost use Rattle.krl_held.specs.Shelf.{section_of};
 
 use crate::addition::Addition;
@@ -23,7 +23,7 @@ pub struct Shelves<S: Spans> {
 
 impl<S: Spans> Model for Shelves<S> {
     ghost use Rattle.std.specs.Prelude.{List};
-    ghost use Rattle.krl_held.specs.Contents.{Section};
+    ghost use Rattle.krl_held.specs.Revocations.{Section};
     ghost use Rattle.krl_held.specs.Rising.{RisesBy};
     ghost use Rattle.krl_held.specs.Shelf.{name_of, sections_of, shelves_of};
 
@@ -89,7 +89,7 @@ impl<S: Spans> Shelves<S> {
     pub(crate) fn add(&mut self, authority: &[u8], addition: Addition<'_>) -> Result<(), AllocError>
         requires { IsOneChange addition }
         ensures ok { OnOk result (AddsTo addition.entry authority.now self.old self.new) }
-        ensures err { OnErr result (self.new ≡ self.old) }
+        ensures refused { OnErr result (self.new ≡ self.old) }
     {
         if let Some(shelf) = self.map.get_mut(authority) {
             return shelf.add(self.alloc, addition);

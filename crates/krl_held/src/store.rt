@@ -6,7 +6,7 @@ ghost use Rattle.serial_set.specs.BitRuns.{IsInterval};
 ghost use Rattle.serial_set.specs.Near.{AreNear};
 ghost use Rattle.krl_held.specs.Authority.{authority_bytes, IsAuthority};
 ghost use Rattle.krl_held.specs.Changes.{run_entries};
-ghost use Rattle.krl_held.specs.Contents.{IsStoredWithin, held};
+ghost use Rattle.krl_held.specs.Revocations.{IsStoredWithin, held};
 ghost use Rattle.krl_held.specs.Entry.{IdEntry, KeyEntry, Sha1Entry, Sha256Entry};
 ghost use Rattle.krl_held.specs.Naming.{SerialOf};
 ghost use Rattle.krl_held.specs.Scope.{AreUnwanted, InScope, MeansMoreWithin, WithinScope};
@@ -18,11 +18,11 @@ use std::alloc::AllocError;
 /// What takes the entries of a list while it is read. Of the names in its scope it holds just those
 /// that some entry names. An addition fails only where memory runs out.
 pub trait Store: Drop {
-    ghost use Rattle.krl_held.specs.Contents.{Contents};
+    ghost use Rattle.krl_held.specs.Revocations.{Revocations};
     ghost use Rattle.krl_held.specs.Scope.{Scope};
 
     // what is held
-    ghost contents: { Self → Contents };
+    ghost contents: { Self → Revocations };
 
     // which names it answers for
     ghost scope: { Self → Scope };

@@ -23,7 +23,7 @@ pub(crate) fn put_text(
     text: &[u8],
 ) -> Result<(), AllocError>
     ensures ok { OnOk result (Puts (texts_of set.old.keys) text.now (texts_of set.new.keys)) }
-    ensures err { OnErr result (set.new.keys ≡ set.old.keys) }
+    ensures refused { OnErr result (set.new.keys ≡ set.old.keys) }
 {
     set.insert(Vec::from_slice(alloc, text)?)?;
     Ok(())

@@ -11,7 +11,7 @@ use Rattle.ssh_wire.specs.Wire.{IsBytes}
 use Rattle.ssh_key.specs.Armour.{begins_container}
 use Rattle.ssh_key.specs.Container.{IsContainer, IsPrivateFault}
 use Rattle.ssh_key.specs.ContainerReading.{private_at}
-use Rattle.ssh_key.specs.Key.{IsKey, Key, blob_of}
+use Rattle.ssh_key.specs.Key.{IsKey, PublicKey, blob_of}
 use Rattle.ssh_key.specs.KeyFile.{has_key}
 use Rattle.ssh_key.specs.KeyReading.{key_at}
 use Rattle.ssh_key.specs.Kind.{kind_certified, type_name}
@@ -29,7 +29,7 @@ use Rattle.key_files.specs.declared.spec_cause.KeyCause.TheVariants as keys
 use Rattle.key_files.specs.declared.spec_cause.SpecCause.{SpecCause}
 use Rattle.key_files.specs.declared.spec_cause.SpecCause.TheVariants as causes
 use Rattle.key_files.specs.Keys.{container_found, key_in, keys_from, line_found}
-use Rattle.key_files.specs.Stop.{Stop, stop_of}
+use Rattle.key_files.specs.RunFault.{RunFault, stop_of}
 use Rattle.key_files.specs.declared.file_fault.FileFault.TheVariants as files
 use Rattle.key_files.specs.declared.cause.Cause.TheVariants as stops
 use Rattle.krl_make.specs.FirstKey.{HaveNoKey, IsFirstKey, IsFirstKeyFault, IsFirstKeyLine, in_container, in_line, key_stop, of_container, of_line, without_key}
@@ -46,12 +46,12 @@ pub record KeyLaws : Type 0 where
       ↔ IsContainer text blob comment
   pub not_opened : (text : List ℕ) (fault : PrivateFault) → IsBytes text
       → (private_at text ≡ Err fault) ↔ IsPrivateFault text fault
-  pub read_back : (blob : List ℕ) (key : Key) → IsKey blob key
+  pub read_back : (blob : List ℕ) (key : PublicKey) → IsKey blob key
       → (blob_of key ≡ blob) × (key_at (blob_of key) ≡ Ok key)
 
 -- ---- the key of a line
 
-abbrev line_key : List ℕ → ℕ → List ℕ → Result (List ℕ) Stop
+abbrev line_key : List ℕ → ℕ → List ℕ → Result (List ℕ) RunFault
 line_key name number line = line_found name number (line_at line) >>= plain_found
 
 -- what is read of a line, here and of a line of a specification file
@@ -90,7 +90,7 @@ line_fault_met laws name number line fault fits first =
 
 -- ---- the key of a container
 
-abbrev inside_key : List ℕ → List ℕ → Result (List ℕ) Stop
+abbrev inside_key : List ℕ → List ℕ → Result (List ℕ) RunFault
 inside_key name text = container_found name (private_at text) >>= plain_found
 
 -- the type name of a plain key is short, and none of a certificate
@@ -106,7 +106,7 @@ plain_name EcdsaSk = (omega arith, refl)
 plain_name Ed25519Sk = (omega arith, refl)
 
 -- the blob of a plain key is asked about itself
-plain_asked : KeyLaws → (blob : List ℕ) (key : Key) → IsKey blob key → subject_of blob ≡ Ok (of_key blob)
+plain_asked : KeyLaws → (blob : List ℕ) (key : PublicKey) → IsKey blob key → subject_of blob ≡ Ok (of_key blob)
 unfolding subject_of is_certificate
 plain_asked laws blob key is =
     let back = laws.read_back blob key is in
@@ -150,7 +150,7 @@ none_or_first (line ∷ lines) = elim (cases_Bool (has_key line)) [
 ]
 
 -- the first of the keys of lines
-abbrev first_key_from : List ℕ → ℕ → List (List ℕ) → Result (List ℕ) Stop
+abbrev first_key_from : List ℕ → ℕ → List (List ℕ) → Result (List ℕ) RunFault
 first_key_from name number lines = first_found name (keys_from name number lines)
 
 no_key_from : (name : List ℕ) (number : ℕ) (lines : List (List ℕ)) → HaveNoKey lines → first_key_from name number lines ≡ Err (file_stop name files.NoKeys)
@@ -196,7 +196,7 @@ by_lines name text none = rw none refl
 -- what is read of a file's text
 data ReadKey (name text : List ℕ) : Type 0 where
   gives : (blob : List ℕ) → IsFirstKey text blob → first_key_of name text ≡ Ok blob → ReadKey name text
-  stops_at : (stop : Stop) → IsFirstKeyFault name text stop → first_key_of name text ≡ Err stop → ReadKey name text
+  stops_at : (stop : RunFault) → IsFirstKeyFault name text stop → first_key_of name text ≡ Err stop → ReadKey name text
 
 read_inside : KeyLaws → (name text : List ℕ) → IsBytes text → begins_container text ≡ true → ReadKey name text
 read_inside laws name text fits begins = elim (ok_or_not (private_at text)) [
@@ -240,16 +240,16 @@ first_key_again laws name text blob fits (of_container comment begins is) = by_c
 first_key_again laws name text blob fits (of_line number line asked plain is is_line same) =
     by_lines name text plain ∙ first_line name text number line is ∙ line_key_again laws name number line asked (line_bytes text number line is fits) is_line ∙ ap (λ (xs : List ℕ). Ok xs) (sym same)
 
-pub first_key_refused : KeyLaws → (name text : List ℕ) (stop : Stop) → IsBytes text → first_key_of name text ≡ Err stop → IsFirstKeyFault name text stop
+pub first_key_refused : KeyLaws → (name text : List ℕ) (stop : RunFault) → IsBytes text → first_key_of name text ≡ Err stop → IsFirstKeyFault name text stop
 first_key_refused laws name text stop fits e = elim (read_key laws name text fits) [
   | gives blob is read ↦ absurd (ok_or_err blob stop (first_key_of name text) read e)
   | stops_at other is read ↦ subst (IsFirstKeyFault name text) (err_is other stop (first_key_of name text) read e) is
 ]
 
-pub first_key_fault_met : KeyLaws → (name text : List ℕ) (stop : Stop) → IsBytes text → IsFirstKeyFault name text stop → first_key_of name text ≡ Err stop
+pub first_key_fault_met : KeyLaws → (name text : List ℕ) (stop : RunFault) → IsBytes text → IsFirstKeyFault name text stop → first_key_of name text ≡ Err stop
 first_key_fault_met laws name text stop fits (in_container fault begins first is) =
-    by_container name text begins ∙ inside_fault_met laws name text fault fits first ∙ ap (λ (s : Stop). Err s) (sym is)
+    by_container name text begins ∙ inside_fault_met laws name text fault fits first ∙ ap (λ (s : RunFault). Err s) (sym is)
 first_key_fault_met laws name text stop fits (without_key plain none is) =
-    by_lines name text plain ∙ no_key_from name 1 (slice_split is_newline text) none ∙ ap (λ (s : Stop). Err s) (sym is)
+    by_lines name text plain ∙ no_key_from name 1 (slice_split is_newline text) none ∙ ap (λ (s : RunFault). Err s) (sym is)
 first_key_fault_met laws name text stop fits (in_line number line fault plain first has is) =
-    by_lines name text plain ∙ first_line name text number line first ∙ line_fault_met laws name number line fault (line_bytes text number line first fits) has ∙ ap (λ (s : Stop). Err s) (sym is)
+    by_lines name text plain ∙ first_line name text number line first ∙ line_fault_met laws name number line fault (line_bytes text number line first fits) has ∙ ap (λ (s : RunFault). Err s) (sym is)

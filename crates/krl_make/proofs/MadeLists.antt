@@ -18,7 +18,7 @@ use Rattle.ssh_cert.specs.declared.any_key.AnyKey.{AnyKey}
 use Rattle.ssh_cert.specs.declared.any_key.AnyKey.TheVariants.{Plain, Certified}
 use Rattle.krl_writer.proofs.ReadBack.{written_spelled}
 use Rattle.krl_held.proofs.Tested.{revokes_meant}
-use Rattle.krl_held.specs.Contents.{Contents, Means}
+use Rattle.krl_held.specs.Revocations.{Revocations, Means}
 use Rattle.krl_core.specs.Entries.{entries_of}
 use Rattle.krl_held.specs.Entry.{Entry}
 use Rattle.krl_core.specs.Front.{IsFirstFault, limit}
@@ -28,11 +28,11 @@ use Rattle.krl_core.specs.declared.header.Header.{Header}
 use Rattle.krl_types.specs.declared.krl_fault.KrlFault.{KrlFault}
 use Rattle.krl_make.specs.declared.base.Base.{Base}
 use Rattle.krl_make.specs.Making.{Added, HasNumbers, IsAtHand, IsFileAtHand, authority_file, lines, new_list, old_list, IsOldList, IsStop, Made, Makes, NamesSame, Returns, WritesList, WritesMade, WritesMore, after_old, base_of, cause_stop, file_entries, file_key, file_stop, files_entries, first_found, first_key_of, header_of, made_of, make_run_of, named_blob, plain_found, text_entries, then_entries, version_of}
-use Rattle.key_files.specs.Stop.{krl_cause}
+use Rattle.key_files.specs.RunFault.{krl_cause}
 use Rattle.krl_job.specs.declared.job.Authority.{Authority}
 use Rattle.krl_job.specs.declared.job.Authority.TheVariants.{File as FileOf}
 use Rattle.krl_types.specs.declared.krl_fault.KrlFault.TheVariants as faults
-use Rattle.key_files.specs.Keys.{File, Found, GivesKey, IsRefused, container_found, content_keys, file_of, key_in, keys_from, keys_of, line_found}
+use Rattle.key_files.specs.Keys.{Named, FileKey, GivesKey, IsRefused, container_found, content_keys, file_of, key_in, keys_from, keys_of, line_found}
 use Rattle.key_files.specs.declared.file_fault.FileFault.{FileFault}
 use Rattle.key_files.specs.declared.file_fault.FileFault.TheVariants as files
 use Rattle.krl_held.specs.Changes.{MeansMore}
@@ -40,11 +40,11 @@ use Rattle.krl_spec.proofs.KeyRoom.{key_room}
 use Rattle.krl_spec.specs.Lines.{ReadsSpec, StopsAt, lines_of}
 use Rattle.key_files.specs.declared.spec_cause.SpecCause.{SpecCause}
 use Rattle.key_files.specs.declared.spec_cause.SpecCause.TheVariants as specs
-use Rattle.key_files.specs.Stop.{Stop, Ender, ByInput, ByMemory, ByOutput, ender_of, stop_of}
+use Rattle.key_files.specs.RunFault.{RunFault, EndedBy, ByInput, ByMemory, ByOutput, ended_by, stop_of}
 
 -- ---- the old list
 
-pub old_read : (text : List ℕ) (header : Header) (contents : Contents) → IsList text header contents → IsFirstFault text None
+pub old_read : (text : List ℕ) (header : Header) (contents : Revocations) → IsList text header contents → IsFirstFault text None
     → IsOldList text (base_of header contents)
 old_read text header contents list none = record {
   header = header;
@@ -67,11 +67,11 @@ content_first name (Ok text) = refl
 content_first name (Err fault) = refl
 
 -- the first key of a file is the first of its keys
-file_first : (file : File) (keys : List (Result Found Stop)) → keys_of file ≡ keys → file_key file ≡ first_found file.name keys
+file_first : (file : Named) (keys : List (Result FileKey RunFault)) → keys_of file ≡ keys → file_key file ≡ first_found file.name keys
 unfolding keys_of
 file_first file keys is = content_first file.name file.content ∙ ap (first_found file.name) is
 
-pub no_key_first : (file : File) → keys_of file ≡ [] → file_key file ≡ Err (file_stop file.name files.NoKeys)
+pub no_key_first : (file : Named) → keys_of file ≡ [] → file_key file ≡ Err (file_stop file.name files.NoKeys)
 no_key_first file none = file_first file [] none
 
 line_named : (name : List ℕ) (number : ℕ) (line : Result Content LineFault) → file_of (line_found name number line) ≡ name
@@ -83,7 +83,7 @@ container_named name (Ok opened) = refl
 container_named name (Err fault) = refl
 
 -- the first of keys is one of the file of this name
-abbrev FirstNamed : List ℕ → List (Result Found Stop) → Type 0
+abbrev FirstNamed : List ℕ → List (Result FileKey RunFault) → Type 0
 FirstNamed name [] = Unit {0}
 FirstNamed name (next ∷ later) = file_of next ≡ name
 
@@ -103,73 +103,73 @@ content_named name (Ok text) = elim (cases_Bool (begins_container text)) [
 ]
 
 -- the first key of a file is about the file
-first_named : (file : File) (next : Result Found Stop) (later : List (Result Found Stop)) → keys_of file ≡ next ∷ later → file_of next ≡ file.name
+first_named : (file : Named) (next : Result FileKey RunFault) (later : List (Result FileKey RunFault)) → keys_of file ≡ next ∷ later → file_of next ≡ file.name
 unfolding keys_of
 first_named file next later is = subst (FirstNamed file.name) is (content_named file.name file.content)
 
 -- The first key was given, and its plain key is what is made of it.
-pub first_given : {X : Type 0} (view : X → List ℕ) (file : File) (key : Found) (later : List (Result Found Stop)) (result : Result X Stop) → keys_of file ≡ Ok key ∷ later
+pub first_given : {X : Type 0} (view : X → List ℕ) (file : Named) (key : FileKey) (later : List (Result FileKey RunFault)) (result : Result X RunFault) → keys_of file ≡ Ok key ∷ later
     → Returns view (λ at. key.name ≡ at) (plain_found key) result → Returns view (λ at. file.name ≡ at) (file_key file) result
 first_given view file key later result is returned =
     rw (file_first file (Ok key ∷ later) is, ← first_named file (Ok key) later is) returned
 
 -- or the file stopped the run, or memory ran out
-pub first_refused : (file : File) (next : Result Found Stop) (later : List (Result Found Stop)) (stop : Stop) → keys_of file ≡ next ∷ later → GivesKey next (Err stop)
-    → IsStop (ender_of stop.cause) (λ at. file.name ≡ at) (file_key file) stop
-first_refused file next later stop is refused = rw (file_first file (next ∷ later) is, ← first_named file next later is) (key_stops (ender_of stop.cause) file.name next later stop refused)
+pub first_refused : (file : Named) (next : Result FileKey RunFault) (later : List (Result FileKey RunFault)) (stop : RunFault) → keys_of file ≡ next ∷ later → GivesKey next (Err stop)
+    → IsStop (ended_by stop.cause) (λ at. file.name ≡ at) (file_key file) stop
+first_refused file next later stop is refused = rw (file_first file (next ∷ later) is, ← first_named file next later is) (key_stops (ended_by stop.cause) file.name next later stop refused)
   where
-    key_stops : (ender : Ender) (name : List ℕ) (next : Result Found Stop) (later : List (Result Found Stop)) (stop : Stop) → IsRefused ender next stop
-        → IsStop ender (λ at. file_of next ≡ at) (first_found name (next ∷ later)) stop
+    key_stops : (ended : EndedBy) (name : List ℕ) (next : Result FileKey RunFault) (later : List (Result FileKey RunFault)) (stop : RunFault) → IsRefused ended next stop
+        → IsStop ended (λ at. file_of next ≡ at) (first_found name (next ∷ later)) stop
     key_stops ByInput name next later stop given = rw given refl
     key_stops ByMemory name next later stop given = (file_of next, (refl, given))
     key_stops (ByOutput count) name next later stop given = absurd given
 
 -- ---- the files
 
-pub text_added : (authority : Option (List ℕ)) (name text : List ℕ) (old new : Contents)
+pub text_added : (authority : Option (List ℕ)) (name text : List ℕ) (old new : Revocations)
     → ReadsSpec authority text (Ok (tt {0})) old new
     → Added (text_entries authority name text) old new
 text_added authority name text old new reads =
     ((lines_of authority text).entries, (rw reads.0 refl, reads.1))
 
 -- Where the lines of a text stop, the run stops.
-pub text_stops : (authority : Option (List ℕ)) (name text : List ℕ) (number : ℕ) (cause : SpecCause) (old new : Contents)
+pub text_stops : (authority : Option (List ℕ)) (name text : List ℕ) (number : ℕ) (cause : SpecCause) (old new : Revocations)
     → StopsAt authority text number cause old new
-    → IsStop (ender_of (cause_stop name number cause).cause) (λ at. name ≡ at) (text_entries authority name text) (cause_stop name number cause)
+    → IsStop (ended_by (cause_stop name number cause).cause) (λ at. name ≡ at) (text_entries authority name text) (cause_stop name number cause)
 text_stops authority name text number specs.NoMemory old new stops = (name, (refl, refl))
 text_stops authority name text number cause old new (reported, adds) = rw reported refl
 
-nothing_before : (read : Result (List Entry) Stop) → read ≡ then_entries (Ok []) read
+nothing_before : (read : Result (List Entry) RunFault) → read ≡ then_entries (Ok []) read
 nothing_before (Ok entries) = refl
 nothing_before (Err stop) = refl
 
-regrouped : (a b c : Result (List Entry) Stop)
+regrouped : (a b c : Result (List Entry) RunFault)
     → then_entries a (then_entries b c) ≡ then_entries (then_entries a b) c
 regrouped (Ok a) (Ok b) (Ok c) = ap (λ (x : List Entry). Ok x) (sym (append_assoc a b c))
 regrouped (Ok a) (Ok b) (Err c) = refl
 regrouped (Ok a) (Err b) c = refl
 regrouped (Err a) b c = refl
 
-files_parts : (authority : Option (List ℕ)) (front back : List File)
+files_parts : (authority : Option (List ℕ)) (front back : List Named)
     → files_entries authority (front ++ back) ≡ then_entries (files_entries authority front) (files_entries authority back)
 files_parts authority [] back = nothing_before (files_entries authority back)
 files_parts authority (file ∷ front) back =
     ap (then_entries (file_entries authority file)) (files_parts authority front back) ∙ regrouped (file_entries authority file) (files_entries authority front) (files_entries authority back)
 
-one_file : (authority : Option (List ℕ)) (file : File) (read : Result (List Entry) Stop) → then_entries read (Ok []) ≡ read
+one_file : (authority : Option (List ℕ)) (file : Named) (read : Result (List Entry) RunFault) → then_entries read (Ok []) ≡ read
 one_file authority file (Ok entries) = ap (λ (x : List Entry). Ok x) (append-nil entries)
 one_file authority file (Err stop) = refl
 
-files_take : (authority : Option (List ℕ)) (files : List File) (i : ℕ) (file : File) → i < length files → file ≡ get_or files i file
+files_take : (authority : Option (List ℕ)) (files : List Named) (i : ℕ) (file : Named) → i < length files → file ≡ get_or files i file
     → files_entries authority (take (i + 1) files) ≡ then_entries (files_entries authority (take i files)) (file_entries authority file)
 files_take authority files i file lt item =
-    let more : take (i + 1) files ≡ take i files ++ file ∷ [] = take_more files i file lt ∙ ap (λ (x : File). take i files ++ x ∷ []) (sym item) in
+    let more : take (i + 1) files ≡ take i files ++ file ∷ [] = take_more files i file lt ∙ ap (λ (x : Named). take i files ++ x ∷ []) (sym item) in
     rw more (files_parts authority (take i files) (file ∷ []) ∙ ap (then_entries (files_entries authority (take i files))) (one_file authority file (file_entries authority file)))
 
-pub no_files : (r : Contents) → Added (Ok []) r r
+pub no_files : (r : Revocations) → Added (Ok []) r r
 no_files r = ([], (refl, λ entries means. rw (append-nil entries) means))
 
-pub file_added : (authority : Option (List ℕ)) (files : List File) (i : ℕ) (file : File) (old mid new : Contents)
+pub file_added : (authority : Option (List ℕ)) (files : List Named) (i : ℕ) (file : Named) (old mid new : Revocations)
     → i < length files → file ≡ get_or files i file
     → Added (files_entries authority (take i files)) old mid
     → Added (file_entries authority file) mid new
@@ -185,45 +185,45 @@ file_added authority files i file old mid new lt item (front, (read, adds)) (nam
 -- ---- what stopped the run
 
 -- A stop of a part is one of the whole, where what the part has at hand the whole has.
-pub stop_of_part : {X Y : Type 0} (ender : Ender) (Part Whole : List ℕ → Type 0) (read : Result X Stop) (whole : Result Y Stop) (stop : Stop)
+pub stop_of_part : {X Y : Type 0} (ended : EndedBy) (Part Whole : List ℕ → Type 0) (read : Result X RunFault) (whole : Result Y RunFault) (stop : RunFault)
     → ((at : List ℕ) → Part at → Whole at)
-    → (read ≡ Err stop → whole ≡ Err stop) → IsStop ender Part read stop → IsStop ender Whole whole stop
+    → (read ≡ Err stop → whole ≡ Err stop) → IsStop ended Part read stop → IsStop ended Whole whole stop
 stop_of_part ByInput Part Whole read whole stop more same is = same is
 stop_of_part ByMemory Part Whole read whole stop more same (at, (has, is)) = (at, (more at has, is))
 stop_of_part (ByOutput count) Part Whole read whole stop more same is = absurd is
 
-stopped_at : (authority : Option (List ℕ)) (files : List File) (i : ℕ) (file : File) (front : List Entry) (stop : Stop) → i < length files → file ≡ get_or files i file
+stopped_at : (authority : Option (List ℕ)) (files : List Named) (i : ℕ) (file : Named) (front : List Entry) (stop : RunFault) → i < length files → file ≡ get_or files i file
     → files_entries authority (take i files) ≡ Ok front → file_entries authority file ≡ Err stop → files_entries authority files ≡ Err stop
 stopped_at authority files i file front stop lt item read read' =
     let first : files_entries authority (take (i + 1) files) ≡ Err stop = rw (files_take authority files i file lt item, read, read') refl in
-    ap (files_entries authority) (sym (take-append-drop (i + 1) files)) ∙ files_parts authority (take (i + 1) files) (drop (i + 1) files) ∙ ap (λ (x : Result (List Entry) Stop). then_entries x (files_entries authority (drop (i + 1) files))) first
+    ap (files_entries authority) (sym (take-append-drop (i + 1) files)) ∙ files_parts authority (take (i + 1) files) (drop (i + 1) files) ∙ ap (λ (x : Result (List Entry) RunFault). then_entries x (files_entries authority (drop (i + 1) files))) first
 
-file_at_hand : (authority : Option (List ℕ)) (files : List File) (i : ℕ) (file : File) (front : List Entry) (at : List ℕ) → i < length files → file ≡ get_or files i file
+file_at_hand : (authority : Option (List ℕ)) (files : List Named) (i : ℕ) (file : Named) (front : List Entry) (at : List ℕ) → i < length files → file ≡ get_or files i file
     → files_entries authority (take i files) ≡ Ok front → file.name ≡ at → IsFileAtHand authority files at
 file_at_hand authority files i file front at lt item read named = record {
   front = take i files;
   file = file;
   back = drop (i + 1) files;
-  parts = sym (take-append-drop (i + 1) files) ∙ ap (λ (x : List File). x ++ drop (i + 1) files) (take_more files i file lt ∙ ap (λ (x : File). take i files ++ x ∷ []) (sym item)) ∙ append_assoc (take i files) (file ∷ []) (drop (i + 1) files);
+  parts = sym (take-append-drop (i + 1) files) ∙ ap (λ (x : List Named). x ++ drop (i + 1) files) (take_more files i file lt ∙ ap (λ (x : Named). take i files ++ x ∷ []) (sym item)) ∙ append_assoc (take i files) (file ∷ []) (drop (i + 1) files);
   entries = front;
   faultless = read;
   named = named;
 }
 
-pub file_stops : (authority : Option (List ℕ)) (files : List File) (i : ℕ) (file : File) (stop : Stop) (old mid : Contents)
+pub file_stops : (authority : Option (List ℕ)) (files : List Named) (i : ℕ) (file : Named) (stop : RunFault) (old mid : Revocations)
     → i < length files → file ≡ get_or files i file
     → Added (files_entries authority (take i files)) old mid
-    → IsStop (ender_of stop.cause) (λ at. file.name ≡ at) (file_entries authority file) stop
-    → IsStop (ender_of stop.cause) (IsFileAtHand authority files) (files_entries authority files) stop
+    → IsStop (ended_by stop.cause) (λ at. file.name ≡ at) (file_entries authority file) stop
+    → IsStop (ended_by stop.cause) (IsFileAtHand authority files) (files_entries authority files) stop
 file_stops authority files i file stop old mid lt item (front, (read, adds)) is =
-    stop_of_part (ender_of stop.cause) (λ at. file.name ≡ at) (IsFileAtHand authority files) (file_entries authority file) (files_entries authority files) stop
+    stop_of_part (ended_by stop.cause) (λ at. file.name ≡ at) (IsFileAtHand authority files) (file_entries authority file) (files_entries authority files) stop
     (λ at named. file_at_hand authority files i file front at lt item read named)
     (λ same. stopped_at authority files i file front stop lt item read same)
     is
 
 -- ---- the list that is written
 
-pub names_same : (header : Header) (contents : Contents) (text : List ℕ) → IsKrlText header contents text
+pub names_same : (header : Header) (contents : Revocations) (text : List ℕ) → IsKrlText header contents text
     → length text ≤ limit → HasNumbers header → (entries : List Entry) → Means contents entries → NamesSame header text entries
 names_same header contents text written within numbers entries means =
     let w = written_spelled header contents text written within numbers.0 numbers.1 means.orderly in
@@ -233,7 +233,7 @@ names_same header contents text written within numbers entries means =
       same = λ asked. Iff.trans (Iff.symm (revokes_meant contents (entries_of w.sections) w.means asked)) (revokes_meant contents entries means asked);
     }
 
-pub made_written : {X : Type 0} (view : X → List ℕ) (name : List ℕ) (made : Made) (contents : Contents) (result : Result X Stop)
+pub made_written : {X : Type 0} (view : X → List ℕ) (name : List ℕ) (made : Made) (contents : Revocations) (result : Result X RunFault)
     → MeansMore made.old contents made.entries → WritesList view name made.header contents result → WritesMade view name made result
 made_written view name made contents (Ok text) adds (written, within, names) =
     record {
@@ -243,62 +243,62 @@ made_written view name made contents (Ok text) adds (written, within, names) =
       within = within;
       names = λ olds means. names (olds ++ made.entries) (adds olds means);
     }
-made_written view name made contents (Err stop) adds (inl starved) = inl starved
+made_written view name made contents (Err stop) adds (inl ran_out) = inl ran_out
 made_written view name made contents (Err stop) adds (inr (reported, long)) =
     inr (reported, record { contents = contents; adds = adds; long = long })
 
 -- ---- the run
 
 -- what the run has at hand, by what reading gives
-abbrev AtHand : List ℕ → Base → Authority File → Option ℕ → List File → Result Made Stop → List ℕ → Type 0
+abbrev AtHand : List ℕ → Base → Authority Named → Option ℕ → List Named → Result Made RunFault → List ℕ → Type 0
 AtHand name base authority given files read = IsAtHand name (Ok base) authority given files read
 
 -- The fault of the old list stops the run.
-pub base_refused : (name : List ℕ) (authority : Authority File) (version : Option ℕ) (files : List File) (moment : ℕ) (fault : KrlFault)
-    → IsStop (ender_of (krl_cause fault)) (IsAtHand name (Err fault) authority version files (make_run_of name (Err fault) authority version files moment)) (make_run_of name (Err fault) authority version files moment) (stop_of name (krl_cause fault))
+pub base_refused : (name : List ℕ) (authority : Authority Named) (version : Option ℕ) (files : List Named) (moment : ℕ) (fault : KrlFault)
+    → IsStop (ended_by (krl_cause fault)) (IsAtHand name (Err fault) authority version files (make_run_of name (Err fault) authority version files moment)) (make_run_of name (Err fault) authority version files moment) (stop_of name (krl_cause fault))
 unfolding make_run_of
 base_refused name authority version files moment faults.NoMemory = (name, (old_list refl refl, refl))
 base_refused name authority version files moment fault = refl
 
 -- The fault of the authority's file stops the run.
-pub key_stops : (name : List ℕ) (given : Option ℕ) (authority : Authority File) (file : File) (moment : ℕ) (base : Base) (files : List File) (version : ℕ) (stop : Stop)
+pub key_stops : (name : List ℕ) (given : Option ℕ) (authority : Authority Named) (file : Named) (moment : ℕ) (base : Base) (files : List Named) (version : ℕ) (stop : RunFault)
     → version_of given base.version ≡ Some version → authority ≡ FileOf file
-    → IsStop (ender_of stop.cause) (λ at. file.name ≡ at) (file_key file) stop
-    → IsStop (ender_of stop.cause) (AtHand name base authority given files (after_old name authority given moment files base)) (after_old name authority given moment files base) stop
+    → IsStop (ended_by stop.cause) (λ at. file.name ≡ at) (file_key file) stop
+    → IsStop (ended_by stop.cause) (AtHand name base authority given files (after_old name authority given moment files base)) (after_old name authority given moment files base) stop
 key_stops name given authority file moment base files version stop is names stops =
     let read = after_old name (FileOf file) given moment files base in
-    rw names (stop_of_part (ender_of stop.cause) (λ at. file.name ≡ at) (AtHand name base (FileOf file) given files read) (file_key file) read stop
+    rw names (stop_of_part (ended_by stop.cause) (λ at. file.name ≡ at) (AtHand name base (FileOf file) given files read) (file_key file) read stop
     (λ at has. authority_file base version refl is has)
     (λ same. rw (is, same) refl)
     stops)
 
 -- the authority that the first key of a file names
-pub named_by : (authority : Authority File) (file : File) (blob : List ℕ) → authority ≡ FileOf file → file_key file ≡ Ok blob → named_blob authority ≡ Ok (Some blob)
+pub named_by : (authority : Authority Named) (file : Named) (blob : List ℕ) → authority ≡ FileOf file → file_key file ≡ Ok blob → named_blob authority ≡ Ok (Some blob)
 named_by authority file blob names read = rw (names, read) refl
 
 -- The fault of a file or of a line stops the run.
-files_stop : (name : List ℕ) (given : Option ℕ) (authority : Authority File) (moment : ℕ) (base : Base) (files : List File) (version : ℕ) (signer : Option (List ℕ)) (stop : Stop)
+files_stop : (name : List ℕ) (given : Option ℕ) (authority : Authority Named) (moment : ℕ) (base : Base) (files : List Named) (version : ℕ) (signer : Option (List ℕ)) (stop : RunFault)
     → version_of given base.version ≡ Some version → named_blob authority ≡ Ok signer
-    → IsStop (ender_of stop.cause) (IsFileAtHand signer files) (files_entries signer files) stop
-    → IsStop (ender_of stop.cause) (AtHand name base authority given files (after_old name authority given moment files base)) (after_old name authority given moment files base) stop
+    → IsStop (ended_by stop.cause) (IsFileAtHand signer files) (files_entries signer files) stop
+    → IsStop (ended_by stop.cause) (AtHand name base authority given files (after_old name authority given moment files base)) (after_old name authority given moment files base) stop
 files_stop name given authority moment base files version signer stop is signed stops =
     let read = after_old name authority given moment files base in
-    stop_of_part (ender_of stop.cause) (IsFileAtHand signer files) (AtHand name base authority given files read) (files_entries signer files) read stop
+    stop_of_part (ended_by stop.cause) (IsFileAtHand signer files) (AtHand name base authority given files read) (files_entries signer files) read stop
     (λ at has. lines base version signer refl is signed has)
     (λ same. rw (is, signed, same) refl)
     stops
 
 -- What is read gives the list that is made, or its text stops the run.
-made_read : {X : Type 0} (view : X → List ℕ) (name : List ℕ) (given : Option ℕ) (authority : Authority File) (base : Base) (files : List File) (read : Result Made Stop) (made : Made) (result : Result X Stop)
+made_read : {X : Type 0} (view : X → List ℕ) (name : List ℕ) (given : Option ℕ) (authority : Authority Named) (base : Base) (files : List Named) (read : Result Made RunFault) (made : Made) (result : Result X RunFault)
     → read ≡ Ok made → WritesMade view name made result → Makes view name (Ok base) authority given files read result
 made_read view name given authority base files read made (Ok text) whole is = (made, (whole, is))
-made_read view name given authority base files read made (Err stop) whole (inl starved) =
-    inl (rw starved (name, (new_list made whole refl, refl)))
+made_read view name given authority base files read made (Err stop) whole (inl ran_out) =
+    inl (rw ran_out (name, (new_list made whole refl, refl)))
 made_read view name given authority base files read made (Err stop) whole (inr (reported, long)) =
     inr (record { made = made; read_as = whole; long = long; stop_is = reported })
 
 -- The list is written of what was held and of the files, or the run stops there.
-pub list_written : {X : Type 0} (view : X → List ℕ) (name : List ℕ) (given : Option ℕ) (authority : Authority File) (moment : ℕ) (base : Base) (files : List File) (version : ℕ) (signer : Option (List ℕ)) (result : Result X Stop)
+pub list_written : {X : Type 0} (view : X → List ℕ) (name : List ℕ) (given : Option ℕ) (authority : Authority Named) (moment : ℕ) (base : Base) (files : List Named) (version : ℕ) (signer : Option (List ℕ)) (result : Result X RunFault)
     → version_of given base.version ≡ Some version → named_blob authority ≡ Ok signer
     → WritesMore view name (header_of version moment base) base.revocations (IsFileAtHand signer files) (files_entries signer files) result
     → Makes view name (Ok base) authority given files (after_old name authority given moment files base) result

@@ -4,7 +4,7 @@ use Rattle.std.specs.Prelude.{if◌then◌else◌, List, [], ◌∷◌, ◌++◌
 use Rattle.std.specs.Prelude.{Result, Ok, Err}
 use Rattle.std.specs.Option.{ok_or}
 use Rattle.ssh_wire.specs.Reading.{◌>>=◌, in_fault}
-use Rattle.krl_held.specs.Contents.{Contents, Means, nothing}
+use Rattle.krl_held.specs.Revocations.{Revocations, Means, nothing}
 use Rattle.krl_core.specs.Entries.{entries_of}
 use Rattle.krl_held.specs.Entry.{Entry}
 use Rattle.krl_core.specs.Front.{IsFirstFault, limit}
@@ -27,55 +27,55 @@ use Rattle.krl_held.specs.Changes.{MeansMore}
 use Rattle.key_files.specs.declared.spec_cause.SpecCause.{SpecCause}
 use Rattle.key_files.specs.declared.spec_cause.SpecCause.TheVariants as specs
 use Rattle.key_files.specs.declared.spec_fault.SpecFault.{SpecFault}
-use Rattle.key_files.specs.Stop.{krl_cause}
-use Rattle.key_files.specs.Keys.{File, Found, stop_at, stop_in, text_keys}
+use Rattle.key_files.specs.RunFault.{krl_cause}
+use Rattle.key_files.specs.Keys.{Named, FileKey, stop_at, stop_in, text_keys}
 use Rattle.krl_spec.specs.Lines.{lines_of}
-use Rattle.key_files.specs.Stop.{Stop, Ender, ByInput, ByMemory, ByOutput, ender_of, stop_of}
+use Rattle.key_files.specs.RunFault.{RunFault, EndedBy, ByInput, ByMemory, ByOutput, ended_by, stop_of}
 
 -- ---- faults, as stops of the run
 
-abbrev pub list_stop : List ℕ → KrlFault → Stop
+abbrev pub list_stop : List ℕ → KrlFault → RunFault
 list_stop name fault = stop_of name (krl_cause fault)
 
-abbrev pub file_stop : List ℕ → FileFault → Stop
+abbrev pub file_stop : List ℕ → FileFault → RunFault
 file_stop name fault = stop_of name (causes.File fault)
 
 -- a fault of a line; memory runs out for the run itself, and at no line
-abbrev pub cause_stop : List ℕ → ℕ → SpecCause → Stop
+abbrev pub cause_stop : List ℕ → ℕ → SpecCause → RunFault
 cause_stop name number specs.NoMemory = stop_of name causes.NoMemory
 cause_stop name number cause = stop_at name number (causes.Spec cause)
 
-abbrev pub line_stop : List ℕ → SpecFault → Stop
+abbrev pub line_stop : List ℕ → SpecFault → RunFault
 line_stop name fault = stop_at name fault.line (causes.Spec fault.cause)
 
 -- ---- the authority
 
 -- the blob of the plain key of a key of a file
-abbrev pub plain_found : Found → Result (List ℕ) Stop
+abbrev pub plain_found : FileKey → Result (List ℕ) RunFault
 plain_found key = do
   asked ← in_fault (stop_in key) (subject_of key.line.blob)
   Ok asked.plain
 
 -- the first of the keys of a file of this name
-abbrev pub first_found : List ℕ → List (Result Found Stop) → Result (List ℕ) Stop
+abbrev pub first_found : List ℕ → List (Result FileKey RunFault) → Result (List ℕ) RunFault
 first_found name [] = Err (file_stop name files.NoKeys)
 first_found name (next ∷ later) = do
   key ← next
   plain_found key
 
 -- the first key of a file's text
-unfoldable pub first_key_of : List ℕ → List ℕ → Result (List ℕ) Stop
+unfoldable pub first_key_of : List ℕ → List ℕ → Result (List ℕ) RunFault
 first_key_of name text = first_found name (text_keys name text)
 
 -- the first key of a file
-abbrev pub file_key : File → Result (List ℕ) Stop
+abbrev pub file_key : Named → Result (List ℕ) RunFault
 file_key file = do
   text ← in_fault (file_stop file.name) file.content
   first_key_of file.name text
 
 -- Where one is given, all authorities have no bytes, and a file names the authority by its first
 -- key.
-abbrev pub named_blob : Authority File → Result (Option (List ℕ)) Stop
+abbrev pub named_blob : Authority Named → Result (Option (List ℕ)) RunFault
 named_blob NotGiven = Ok None
 named_blob All = Ok (Some [])
 named_blob (FileOf file) = do
@@ -84,29 +84,29 @@ named_blob (FileOf file) = do
 
 -- ---- the files
 
-abbrev pub unless_fault : List ℕ → List Entry → Option SpecFault → Result (List Entry) Stop
+abbrev pub unless_fault : List ℕ → List Entry → Option SpecFault → Result (List Entry) RunFault
 unless_fault name entries None = Ok entries
 unless_fault name entries (Some fault) = Err (line_stop name fault)
 
-abbrev pub text_entries : Option (List ℕ) → List ℕ → List ℕ → Result (List Entry) Stop
+abbrev pub text_entries : Option (List ℕ) → List ℕ → List ℕ → Result (List Entry) RunFault
 text_entries authority name text =
     unless_fault name (lines_of authority text).entries (lines_of authority text).fault
 
 -- what the lines of a file name, or where it stops the run
-unfoldable pub file_entries : Option (List ℕ) → File → Result (List Entry) Stop
+unfoldable pub file_entries : Option (List ℕ) → Named → Result (List Entry) RunFault
 file_entries authority file = do
   text ← in_fault (file_stop file.name) file.content
   text_entries authority file.name text
 
-abbrev pub then_entries : Result (List Entry) Stop → Result (List Entry) Stop
-    → Result (List Entry) Stop
+abbrev pub then_entries : Result (List Entry) RunFault → Result (List Entry) RunFault
+    → Result (List Entry) RunFault
 then_entries first second = do
   entries ← first
   later ← second
   Ok (entries ++ later)
 
 -- what the lines of all files name, or the first stop
-abbrev pub files_entries : Option (List ℕ) → List File → Result (List Entry) Stop
+abbrev pub files_entries : Option (List ℕ) → List Named → Result (List Entry) RunFault
 files_entries authority [] = Ok []
 files_entries authority (file ∷ files) =
     then_entries (file_entries authority file) (files_entries authority files)
@@ -123,10 +123,10 @@ version_of None (Some old) = if old == 2 ^ 64 - 1 then None else Some (old + 1)
 -- what a list is made of: its header, what the old list holds, and what the lines name
 pub record Made : Type 0 where
   pub header : Header
-  pub old : Contents
+  pub old : Revocations
   pub entries : List Entry
 
-abbrev pub made_of : Header → Contents → List Entry → Made
+abbrev pub made_of : Header → Revocations → List Entry → Made
 made_of header old entries = record { header = header; old = old; entries = entries }
 
 -- the header of the list that is made
@@ -140,8 +140,8 @@ HasNumbers header = (header.version < 2 ^ 64) × (header.date < 2 ^ 64)
 
 -- What a list of this name is made of after an old one: that its version is the greatest, then the
 -- fault of the authority's file, then those of the files and lines in order stop the run.
-abbrev pub after_old : List ℕ → Authority File → Option ℕ → ℕ → List File → Base
-    → Result Made Stop
+abbrev pub after_old : List ℕ → Authority Named → Option ℕ → ℕ → List Named → Base
+    → Result Made RunFault
 after_old name authority given moment files base = do
   version ← ok_or (version_of given base.version) (stop_of name causes.VersionFull)
   signer ← named_blob authority
@@ -149,8 +149,8 @@ after_old name authority given moment files base = do
   Ok (made_of (header_of version moment base) base.revocations entries)
 
 -- The same by what reading the old list gave, whose fault is the first.
-unfoldable pub make_run_of : List ℕ → Result Base KrlFault → Authority File → Option ℕ
-    → List File → ℕ → Result Made Stop
+unfoldable pub make_run_of : List ℕ → Result Base KrlFault → Authority Named → Option ℕ
+    → List Named → ℕ → Result Made RunFault
 make_run_of name reading authority version files moment = do
   base ← in_fault (list_stop name) reading
   after_old name authority version moment files base
@@ -158,17 +158,17 @@ make_run_of name reading authority version files moment = do
 -- ---- what the run gives
 
 -- The authority's file is at hand, where one is given.
-abbrev pub IsAuthorityAtHand : Authority File → List ℕ → Type 0
+abbrev pub IsAuthorityAtHand : Authority Named → List ℕ → Type 0
 IsAuthorityAtHand NotGiven at = ⊥
 IsAuthorityAtHand All at = ⊥
 IsAuthorityAtHand (FileOf file) at = file.name ≡ at
 
 -- A file is at hand whose lines are read: the files before it have no fault.
-pub record IsFileAtHand (authority : Option (List ℕ)) (files : List File) (at : List ℕ)
+pub record IsFileAtHand (authority : Option (List ℕ)) (files : List Named) (at : List ℕ)
     : Type 0 where
-  pub front : List File
-  pub file : File
-  pub back : List File
+  pub front : List Named
+  pub file : Named
+  pub back : List Named
   pub parts : files ≡ front ++ file ∷ back
   pub entries : List Entry
   pub faultless : files_entries authority front ≡ Ok entries
@@ -176,8 +176,9 @@ pub record IsFileAtHand (authority : Option (List ℕ)) (files : List File) (at 
 
 -- What a run that makes a list has at hand, by its name: the list while the old one is read, then
 -- the authority's file, then the files in order, and the list again while it is written.
-pub data IsAtHand (name : List ℕ) (reading : Result Base KrlFault) (authority : Authority File)
-    (given : Option ℕ) (files : List File) (read : Result Made Stop) (at : List ℕ) : Type 0 where
+pub data IsAtHand (name : List ℕ) (reading : Result Base KrlFault) (authority : Authority Named)
+    (given : Option ℕ) (files : List Named) (read : Result Made RunFault) (at : List ℕ)
+    : Type 0 where
   old_list : reading ≡ Err faults.NoMemory → name ≡ at
       → IsAtHand name reading authority given files read at
   authority_file : (base : Base) (version : ℕ) → reading ≡ Ok base
@@ -190,27 +191,30 @@ pub data IsAtHand (name : List ℕ) (reading : Result Base KrlFault) (authority 
       → IsAtHand name reading authority given files read at
 
 -- What stopped a run is what reading gives, or memory ran out, and what was at hand is named.
-abbrev pub IsStop : {X : Type 0} → Ender → (List ℕ → Type 0) → Result X Stop → Stop → Type 0
+abbrev pub IsStop : {X : Type 0} → EndedBy → (List ℕ → Type 0) → Result X RunFault → RunFault
+    → Type 0
 IsStop ByInput AtHand read stop = read ≡ Err stop
 IsStop ByMemory AtHand read stop =
     (at : List ℕ) × (AtHand at × (stop ≡ stop_of at causes.NoMemory))
 IsStop (ByOutput count) AtHand read stop = ⊥
 
 -- A function returned what reading gives, seen by a view, or memory ran out.
-abbrev pub Returns : {X Y : Type 0} → (X → Y) → (List ℕ → Type 0) → Result Y Stop → Result X Stop
+abbrev pub Returns : {X Y : Type 0} → (X → Y) → (List ℕ → Type 0) → Result Y RunFault
+    → Result X RunFault
     → Type 0
 Returns view AtHand read (Ok x) = read ≡ Ok (view x)
-Returns view AtHand read (Err stop) = IsStop (ender_of stop.cause) AtHand read stop
+Returns view AtHand read (Err stop) = IsStop (ended_by stop.cause) AtHand read stop
 
 -- what was read of files was added
-abbrev pub Added : Result (List Entry) Stop → Contents → Contents → Type 0
+abbrev pub Added : Result (List Entry) RunFault → Revocations → Revocations → Type 0
 Added read old new = (entries : List Entry) × ((read ≡ Ok entries) × MeansMore old new entries)
 
 -- What the files name was added, or the run stopped.
-abbrev pub AddsFiles : {A : Type 0} → (List ℕ → Type 0) → Result (List Entry) Stop → Result A Stop
-    → Contents → Contents → Type 0
+abbrev pub AddsFiles : {A : Type 0} → (List ℕ → Type 0) → Result (List Entry) RunFault
+    → Result A RunFault
+    → Revocations → Revocations → Type 0
 AddsFiles AtHand read (Ok done) old new = Added read old new
-AddsFiles AtHand read (Err stop) old new = IsStop (ender_of stop.cause) AtHand read stop
+AddsFiles AtHand read (Err stop) old new = IsStop (ended_by stop.cause) AtHand read stop
 
 -- The text is a list that names just what some entries name.
 pub record NamesSame (header : Header) (text : List ℕ) (entries : List Entry) : Type 0 where
@@ -221,7 +225,7 @@ pub record NamesSame (header : Header) (text : List ℕ) (entries : List Entry) 
 -- The text is the list that is written of what the old list holds and the lines name. It revokes
 -- just what any entries that the old list means and those of the lines revoke.
 pub record IsMade (made : Made) (text : List ℕ) : Type 0 where
-  pub contents : Contents
+  pub contents : Revocations
   pub adds : MeansMore made.old contents made.entries
   pub written : IsKrlText made.header contents text
   pub within : length text ≤ limit
@@ -230,29 +234,31 @@ pub record IsMade (made : Made) (text : List ℕ) : Type 0 where
 
 -- The list that would be written is longer than one that can be read.
 pub record IsTooLong (made : Made) : Type 0 where
-  pub contents : Contents
+  pub contents : Revocations
   pub adds : MeansMore made.old contents made.entries
   pub long : (text : List ℕ) → IsKrlText made.header contents text → limit < length text
 
 -- the text of a list was too long
-pub record StopsAtText (name : List ℕ) (read : Result Made Stop) (stop : Stop) : Type 0 where
+pub record StopsAtText (name : List ℕ) (read : Result Made RunFault) (stop : RunFault)
+    : Type 0 where
   pub made : Made
   pub read_as : read ≡ Ok made
   pub long : IsTooLong made
   pub stop_is : stop ≡ stop_of name causes.TextTooLong
 
 -- The run gives the list, or what stopped it.
-abbrev pub Makes : {X : Type 0} → (X → List ℕ) → List ℕ → Result Base KrlFault → Authority File
-    → Option ℕ → List File → Result Made Stop → Result X Stop → Type 0
+abbrev pub Makes : {X : Type 0} → (X → List ℕ) → List ℕ → Result Base KrlFault → Authority Named
+    → Option ℕ → List Named → Result Made RunFault → Result X RunFault → Type 0
 Makes view name reading authority given files read (Ok text) =
     (made : Made) × ((read ≡ Ok made) × IsMade made (view text))
 Makes view name reading authority given files read (Err stop) =
-    IsStop (ender_of stop.cause) (IsAtHand name reading authority given files read) read stop
+    IsStop (ended_by stop.cause) (IsAtHand name reading authority given files read) read stop
     ⊎ StopsAtText name read stop
 
 -- The text is that of the header and of what is held, and names just what that means. Else it is
 -- too long, or memory ran out.
-abbrev pub WritesList : {X : Type 0} → (X → List ℕ) → List ℕ → Header → Contents → Result X Stop
+abbrev pub WritesList : {X : Type 0} → (X → List ℕ) → List ℕ → Header → Revocations
+    → Result X RunFault
     → Type 0
 WritesList view name header contents (Ok text) =
     IsKrlText header contents (view text) × (length (view text) ≤ limit)
@@ -263,19 +269,19 @@ WritesList view name header contents (Err stop) =
     × ((text : List ℕ) → IsKrlText header contents text → limit < length text))
 
 -- The list is made. Else its text is too long, or memory ran out.
-abbrev pub WritesMade : {X : Type 0} → (X → List ℕ) → List ℕ → Made → Result X Stop → Type 0
+abbrev pub WritesMade : {X : Type 0} → (X → List ℕ) → List ℕ → Made → Result X RunFault → Type 0
 WritesMade view name made (Ok text) = IsMade made (view text)
 WritesMade view name made (Err stop) =
     (stop ≡ stop_of name causes.NoMemory)
     ⊎ ((stop ≡ stop_of name causes.TextTooLong) × IsTooLong made)
 
 -- The list is made of what was held and of what is read of the files, or these stop the run.
-abbrev pub WritesMore : {X : Type 0} → (X → List ℕ) → List ℕ → Header → Contents
-    → (List ℕ → Type 0) → Result (List Entry) Stop → Result X Stop → Type 0
+abbrev pub WritesMore : {X : Type 0} → (X → List ℕ) → List ℕ → Header → Revocations
+    → (List ℕ → Type 0) → Result (List Entry) RunFault → Result X RunFault → Type 0
 WritesMore view name header old AtHand read result =
     ((entries : List Entry) × ((read ≡ Ok entries)
     × WritesMade view name (made_of header old entries) result))
-    ⊎ ((stop : Stop) × ((result ≡ Err stop) × IsStop (ender_of stop.cause) AtHand read stop))
+    ⊎ ((stop : RunFault) × ((result ≡ Err stop) × IsStop (ended_by stop.cause) AtHand read stop))
 
 -- ---- the old list
 
@@ -284,7 +290,7 @@ abbrev pub new_base : Base
 new_base = record { version = None; comment = []; revocations = nothing }
 
 -- what is held of a list
-abbrev pub base_of : Header → Contents → Base
+abbrev pub base_of : Header → Revocations → Base
 base_of header contents =
     record { version = Some header.version; comment = header.comment; revocations = contents }
 

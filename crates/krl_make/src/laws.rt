@@ -4,7 +4,7 @@
 ghost use Rattle.std.specs.Prelude.{◌≡◌, ◌↔◌, ℕ, List, Err, Ok};
 ghost use Rattle.krl_make.specs.FirstKey.{IsFirstKey, IsFirstKeyFault};
 ghost use Rattle.krl_make.specs.Making.{first_key_of};
-ghost use Rattle.key_files.specs.Stop.{Stop};
+ghost use Rattle.key_files.specs.RunFault.{RunFault};
 ghost use Rattle.ssh_wire.specs.Wire.{IsBytes};
 
 use krl_spec::laws::key_where_spelled;
@@ -15,7 +15,7 @@ use ssh_key::laws::{blob_read_back, private_read_where_spelled, private_refused_
 pub fn first_key_where_spelled()
     ensures read { (name text blob : List ℕ) → IsBytes text
         → (first_key_of name text ≡ Ok blob) ↔ IsFirstKey text blob }
-    ensures refused { (name text : List ℕ) (stop : Stop) → IsBytes text
+    ensures refused { (name text : List ℕ) (stop : RunFault) → IsBytes text
         → (first_key_of name text ≡ Err stop) ↔ IsFirstKeyFault name text stop }
 {
     key_where_spelled();

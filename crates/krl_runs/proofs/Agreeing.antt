@@ -2,21 +2,21 @@
 use Rattle.std.proofs.Common.{◌≡◌, ◌++◌, Bool, true, false, List, [], ◌∷◌, map, Some, Result, Ok, Err, refl, ap, ap₂, ◌∙◌}
 use Rattle.ssh_cert.specs.SubjectReading.{subject_of}
 use Rattle.ssh_cert.specs.declared.subject_fault.SubjectFault.{SubjectFault}
-use Rattle.ssh_key.specs.Key.{Key}
+use Rattle.ssh_key.specs.Key.{PublicKey}
 use Rattle.ssh_key.specs.KeyReading.{key_at}
 use Rattle.ssh_key.specs.declared.fault.KeyFault.{KeyFault}
 use Rattle.krl_types.specs.Subject.{Subject}
-use Rattle.key_files.specs.Keys.{File, Found, keys_of}
-use Rattle.key_files.specs.Stop.{Stop}
+use Rattle.key_files.specs.Keys.{Named, FileKey, keys_of}
+use Rattle.key_files.specs.RunFault.{RunFault}
 use Rattle.krl_runs.specs.Query.{answer_of, ask_by}
 use Rattle.krl_runs.specs.Run.{Item, file_items, files_items, found_item, is_answered, key_item, said, subject_item, unanswered_of}
 
 -- of a key
-next_same : (one other : Subject → Bool) → ((asked : Subject) → one asked ≡ other asked) → (next : Result Found Stop) → found_item (ask_by one) next ≡ found_item (ask_by other) next
+next_same : (one other : Subject → Bool) → ((asked : Subject) → one asked ≡ other asked) → (next : Result FileKey RunFault) → found_item (ask_by one) next ≡ found_item (ask_by other) next
 next_same one other same (Err stop) = refl
 next_same one other same (Ok key) = by (subject_of key.line.blob)
   where
-    by_key : (asked : Subject) (read : Result Key KeyFault) → key_item (ask_by one) key asked read ≡ key_item (ask_by other) key asked read
+    by_key : (asked : Subject) (read : Result PublicKey KeyFault) → key_item (ask_by one) key asked read ≡ key_item (ask_by other) key asked read
     by_key asked (Err fault) = refl
     by_key asked (Ok plain) = ap (λ (b : Bool). said key.name (Some (answer_of key.name key.line b))) (same asked)
 
@@ -25,7 +25,7 @@ next_same one other same (Ok key) = by (subject_of key.line.blob)
     by (Ok asked) = by_key asked (key_at asked.plain)
 
 -- of the keys of a file
-keys_same : (one other : Subject → Bool) → ((asked : Subject) → one asked ≡ other asked) → (keys : List (Result Found Stop)) → map (found_item (ask_by one)) keys ≡ map (found_item (ask_by other)) keys
+keys_same : (one other : Subject → Bool) → ((asked : Subject) → one asked ≡ other asked) → (keys : List (Result FileKey RunFault)) → map (found_item (ask_by one)) keys ≡ map (found_item (ask_by other)) keys
 keys_same one other same [] = refl
 keys_same one other same (next ∷ keys) = ap₂ (λ x xs. x ∷ xs) (next_same one other same next) (keys_same one other same keys)
 
@@ -34,14 +34,14 @@ ends_same one other name true = refl
 ends_same one other name false = refl
 
 -- of a file
-file_same : (one other : Subject → Bool) → ((asked : Subject) → one asked ≡ other asked) → (file : File) → file_items (ask_by one) file ≡ file_items (ask_by other) file
+file_same : (one other : Subject → Bool) → ((asked : Subject) → one asked ≡ other asked) → (file : Named) → file_items (ask_by one) file ≡ file_items (ask_by other) file
 unfolding file_items
 file_same one other same file =
     ap (λ (items : List Item). items ++ unanswered_of (ask_by one) file.name (is_answered items)) (keys_same one other same (keys_of file))
     ∙ ap (λ (items : List Item). map (found_item (ask_by other)) (keys_of file) ++ items) (ends_same one other file.name (is_answered (map (found_item (ask_by other)) (keys_of file))))
 
 -- of files
-pub files_same : (one other : Subject → Bool) → ((asked : Subject) → one asked ≡ other asked) → (files : List File) → files_items (ask_by one) files ≡ files_items (ask_by other) files
+pub files_same : (one other : Subject → Bool) → ((asked : Subject) → one asked ≡ other asked) → (files : List Named) → files_items (ask_by one) files ≡ files_items (ask_by other) files
 unfolding files_items
 files_same one other same [] = refl
 files_same one other same (file ∷ files) = ap₂ (λ xs ys. xs ++ ys) (file_same one other same file) (files_same one other same files)

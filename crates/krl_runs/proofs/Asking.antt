@@ -3,7 +3,7 @@ use Rattle.std.proofs.Common.{◌≡◌, ℕ, true, false, List, [], ◌∷◌, 
 use Rattle.std.specs.List.{concat}
 use Rattle.krl_held.proofs.Tested.{revokes_meant}
 use Rattle.krl_held.specs.Canonical.{entries_in}
-use Rattle.krl_held.specs.Contents.{Contents, IsOrderly}
+use Rattle.krl_held.specs.Revocations.{Revocations, IsOrderly}
 use Rattle.krl_held.specs.Entry.{Entry}
 use Rattle.key_files.specs.declared.cause.Cause.TheVariants as causes
 use Rattle.krl_held.proofs.Canonical.{means_itself}
@@ -20,18 +20,18 @@ use Rattle.krl_core.specs.declared.header.Header.{Header}
 use Rattle.krl_types.specs.declared.krl_fault.KrlFault.{KrlFault}
 use Rattle.krl_types.specs.declared.krl_fault.KrlFault.TheVariants as faults
 use Rattle.krl_runs.specs.Carries.{Carries}
-use Rattle.krl_runs.specs.Printer.{Printed}
+use Rattle.krl_runs.specs.Printer.{Printer}
 use Rattle.krl_runs.specs.Contents.{Known, all_said, contents_items, dump_text, known_lines, known_of}
-use Rattle.key_files.specs.Stop.{krl_cause}
+use Rattle.key_files.specs.RunFault.{krl_cause}
 use Rattle.krl_runs.specs.Query.{AnswersAbout, HasEntries, IsHeld, answer_of, ask, ask_by, asked_run_of, query_run_of}
-use Rattle.key_files.specs.Keys.{File}
+use Rattle.key_files.specs.Keys.{Named}
 use Rattle.krl_runs.specs.Run.{Item, Outcome, Passed, Stopped, before, files_items, outcome_of}
-use Rattle.key_files.specs.Stop.{Stop, stop_of}
+use Rattle.key_files.specs.RunFault.{RunFault, stop_of}
 use Rattle.krl_runs.proofs.Agreeing.{files_same}
 use Rattle.krl_runs.proofs.Carrying.{carries_more, carries_passed, carries_then, carries_withheld}
 
 -- A list that was read is held.
-pub held : (text : List ℕ) (header : Header) (contents : Contents)
+pub held : (text : List ℕ) (header : Header) (contents : Revocations)
     → IsList text header contents → IsFirstFault text None → IsHeld text (known_of header contents)
 held text header contents list none = record {
   list = list;
@@ -40,7 +40,7 @@ held text header contents list none = record {
 }
 
 -- The contents are said where they are asked for, and the files are asked about by what is held.
-pub read_run : {A : Type 0} (name : List ℕ) (dump : Bool) (files : List File) (known : Known) (result : Result A Stop) (old mid new : Printed)
+pub read_run : {A : Type 0} (name : List ℕ) (dump : Bool) (files : List Named) (known : Known) (result : Result A RunFault) (old mid new : Printer)
     → Carries (contents_items name dump known) (Ok (tt {0})) old mid → Carries (files_items (ask known.contents) files) result mid new
     → Carries (query_run_of name (Ok known) dump files) result old new
 unfolding query_run_of
@@ -49,7 +49,7 @@ read_run name dump files known result old mid new first second =
     (carries_then (contents_items name dump known) (files_items (ask known.contents) files) tt result old mid new first second)
 
 -- The run ended within the contents.
-pub dump_stops : {A B : Type 0} (name : List ℕ) (dump : Bool) (files : List File) (known : Known) (stop : Stop) (old new : Printed)
+pub dump_stops : {A B : Type 0} (name : List ℕ) (dump : Bool) (files : List Named) (known : Known) (stop : RunFault) (old new : Printer)
     → Carries {A = A} (contents_items name dump known) (Err stop) old new → Carries {A = B} (query_run_of name (Ok known) dump files) (Err stop) old new
 unfolding query_run_of
 dump_stops {A} {B} name dump files known stop old new first =
@@ -57,7 +57,7 @@ dump_stops {A} {B} name dump files known stop old new first =
     (carries_more {A = A} {B = B} (contents_items name dump known) (files_items (ask known.contents) files) stop old new first)
 
 -- The run ended before anything was said: the list had a fault, or memory ran out.
-pub refused_run : (name : List ℕ) (dump : Bool) (files : List File) (fault : KrlFault) (now : Printed)
+pub refused_run : (name : List ℕ) (dump : Bool) (files : List Named) (fault : KrlFault) (now : Printer)
     → Carries {A = Unit {0}} (query_run_of name (Err fault) dump files) (Err (stop_of name (krl_cause fault))) now now
 unfolding query_run_of
 refused_run name dump files faults.NoMemory now = carries_withheld (Stopped (stop_of name (krl_cause faults.NoMemory))) (stop_of name (krl_cause faults.NoMemory)) now refl
@@ -73,12 +73,12 @@ lines_first name (line ∷ lines) items =
     ap (before (record { text = line; revoked = false })) (lines_first name lines items)
     ∙ ap (λ (t : List ℕ). let o : Outcome = record { text = t; revoked = rest.revoked; stop = rest.stop } in o) text
 
-pub dump_first : (name : List ℕ) (known : Known) (files : List File)
+pub dump_first : (name : List ℕ) (known : Known) (files : List Named)
     → outcome_of (query_run_of name (Ok known) true files) ≡ before (record { text = dump_text known; revoked = false }) (outcome_of (files_items (ask known.contents) files))
 unfolding query_run_of contents_items
 dump_first name known files = lines_first name (known_lines known) (files_items (ask known.contents) files)
 
-pub nothing_first : (name : List ℕ) (known : Known) (files : List File)
+pub nothing_first : (name : List ℕ) (known : Known) (files : List Named)
     → outcome_of (query_run_of name (Ok known) false files) ≡ outcome_of (files_items (ask known.contents) files)
 unfolding query_run_of contents_items
 nothing_first name known files = refl
@@ -86,7 +86,7 @@ nothing_first name known files = refl
 -- ---- a list that passed
 
 -- the entries that answer for a list: those of its sections, or of what is held of it
-pub list_entries : {Holds : List ℕ → Contents → List Entry → Type 0} {Agrees : List Entry → Type 0} (left : Option (List ℕ)) (held : Contents) (header : Header)
+pub list_entries : {Holds : List ℕ → Revocations → List Entry → Type 0} {Agrees : List Entry → Type 0} (left : Option (List ℕ)) (held : Revocations) (header : Header)
     → ((text : List ℕ) → left ≡ Some text → IsListAs Holds text header held) → ((text : List ℕ) → left ≡ Some text → IsFirstFault text None)
     → Agrees (entries_in held) → ((text : List ℕ) (entries : List Entry) → Holds text held entries → Agrees entries)
     → (entries : List Entry) × ((text : List ℕ) → left ≡ Some text → HasEntries text entries) × Agrees entries
@@ -107,14 +107,14 @@ list_entries (Some text) held header list none own agree =
 -- ---- of which all is held
 
 -- what is held answers for each key
-pub held_list : (left : Option (List ℕ)) (held : Contents) (header : Header) → IsOrderly held
+pub held_list : (left : Option (List ℕ)) (held : Revocations) (header : Header) → IsOrderly held
     → ((text : List ℕ) → left ≡ Some text → IsList text header held) → ((text : List ℕ) → left ≡ Some text → IsFirstFault text None)
     → (entries : List Entry) × ((text : List ℕ) → left ≡ Some text → HasEntries text entries) × ((asked : Subject) → revokes held asked ≡ is_named entries asked)
 held_list left held header orderly list none =
     list_entries left held header list none (meant_tested held (entries_in held) (means_itself held orderly)) (λ text entries holds. meant_tested held entries holds.means)
 
 -- and its run is that of the entries
-pub held_run : (name : List ℕ) (files : List File) (known : Known) (entries : List Entry) → ((asked : Subject) → revokes known.contents asked ≡ is_named entries asked)
+pub held_run : (name : List ℕ) (files : List Named) (known : Known) (entries : List Entry) → ((asked : Subject) → revokes known.contents asked ≡ is_named entries asked)
     → query_run_of name (Ok known) false files ≡ asked_run_of name (Ok entries) files
 unfolding query_run_of contents_items asked_run_of
 held_run name files known entries same = ap (λ (items : List Item). Passed name ∷ items) (files_same (revokes known.contents) (is_named entries) same files)
@@ -122,7 +122,7 @@ held_run name files known entries same = ap (λ (items : List Item). Passed name
 -- ---- of which what was asked about is found
 
 -- what was found answers for what was asked about
-pub passed_list : (left : Option (List ℕ)) (topics found : Contents) (header : Header) → IsOrderly found
+pub passed_list : (left : Option (List ℕ)) (topics found : Revocations) (header : Header) → IsOrderly found
     → ((text : List ℕ) → left ≡ Some text → IsListAs (HoldsWithin (Some topics)) text header found) → ((text : List ℕ) → left ≡ Some text → IsFirstFault text None)
     → (entries : List Entry) × ((text : List ℕ) → left ≡ Some text → HasEntries text entries) × ((asked : Subject) → Asks topics asked → revokes found asked ≡ is_named entries asked)
 passed_list left topics found header orderly list none =
@@ -131,29 +131,29 @@ passed_list left topics found header orderly list none =
     (λ text entries holds. found_tested topics found entries holds.means)
 
 -- what was found of it answers for what was asked about
-pub passed_answers : (topics found : Contents) (entries : List Entry) → ((asked : Subject) → Asks topics asked → revokes found asked ≡ is_named entries asked)
+pub passed_answers : (topics found : Revocations) (entries : List Entry) → ((asked : Subject) → Asks topics asked → revokes found asked ≡ is_named entries asked)
     → AnswersAbout topics found (ask_by (is_named entries))
 passed_answers topics found entries same = record {
   say = λ name number line asked key asks. ap (λ (b : Bool). Some (answer_of name line b)) (sym (same asked asks));
   unanswered = refl;
 }
 
-pub asked_run : {A : Type 0} (name : List ℕ) (files : List File) (entries : List Entry) (result : Result A Stop) (old new : Printed)
+pub asked_run : {A : Type 0} (name : List ℕ) (files : List Named) (entries : List Entry) (result : Result A RunFault) (old new : Printer)
     → Carries (files_items (ask_by (is_named entries)) files) result old new → Carries (asked_run_of name (Ok entries) files) result old new
 unfolding asked_run_of
 asked_run name files entries result old new rest =
     carries_then (Passed name ∷ []) (files_items (ask_by (is_named entries)) files) tt result old old new (carries_passed (tt {0}) name old) rest
 
-pub asked_refused : (name : List ℕ) (files : List File) (fault : KrlFault) (now : Printed)
+pub asked_refused : (name : List ℕ) (files : List Named) (fault : KrlFault) (now : Printer)
     → Carries {A = Unit {0}} (asked_run_of name (Err fault) files) (Err (stop_of name (krl_cause fault))) now now
 unfolding asked_run_of
 asked_refused name files faults.NoMemory now = carries_withheld (Stopped (stop_of name (krl_cause faults.NoMemory))) (stop_of name (krl_cause faults.NoMemory)) now refl
 asked_refused name files fault now = carries_withheld (Stopped (stop_of name (krl_cause fault))) (stop_of name (krl_cause fault)) now refl
 
 -- memory ran out before the first key was answered for
-pub asked_starved : (name : List ℕ) (files : List File) (entries : List Entry) (now : Printed)
+pub asked_ran_out : (name : List ℕ) (files : List Named) (entries : List Entry) (now : Printer)
     → Carries {A = Unit {0}} (asked_run_of name (Ok entries) files) (Err (stop_of name causes.NoMemory)) now now
 unfolding asked_run_of
-asked_starved name files entries now =
+asked_ran_out name files entries now =
     carries_more {A = Unit {0}} {B = Unit {0}} (Passed name ∷ []) (files_items (ask_by (is_named entries)) files) (stop_of name causes.NoMemory) now now
     (carries_withheld (Passed name) (stop_of name causes.NoMemory) now refl)

@@ -5,9 +5,9 @@ use Rattle.std.proofs.KnownBytes.{Appends-nil}
 use Rattle.std.proofs.lemmas.List.{append-nil}
 use Rattle.krl_runs.specs.declared.output.answer.Answer.{Answer}
 use Rattle.krl_runs.specs.Carries.{Carries, IsEnded, Reaches}
-use Rattle.krl_runs.specs.Printer.{Printed, HasSaid, Sends, and_answer, chunk, nothing_printed}
+use Rattle.krl_runs.specs.Printer.{Printer, HasSaid, Sends, and_answer, chunk, nothing_printed}
 use Rattle.krl_runs.specs.Run.{Item, Answered, Passed, Stopped, IsWithheld}
-use Rattle.key_files.specs.Stop.{Stop, Ender, ByOutput, ByMemory, ByInput, ender_of}
+use Rattle.key_files.specs.RunFault.{RunFault, EndedBy, ByOutput, ByMemory, ByInput, ended_by}
 use Rattle.krl_runs.proofs.Saying.{added, passed, sent_all, sent_part}
 
 -- nothing was said yet
@@ -18,11 +18,11 @@ begun taken writer =
       short = lit< tt;
     }
 
-pub carries_none : {A : Type 0} (value : A) (now : Printed) → Carries [] (Ok value) now now
+pub carries_none : {A : Type 0} (value : A) (now : Printer) → Carries [] (Ok value) now now
 carries_none value now = record { says = λ before said has. subst (λ (items : List Item). HasSaid before items now) (sym (append-nil said)) has; writer = refl }
 
 -- one part after another
-pub carries_then : {A B : Type 0} (xs ys : List Item) (value : A) (result : Result B Stop) (old mid new : Printed)
+pub carries_then : {A B : Type 0} (xs ys : List Item) (value : A) (result : Result B RunFault) (old mid new : Printer)
     → Carries xs (Ok value) old mid → Carries ys result mid new → Carries (xs ++ ys) result old new
 carries_then xs ys value result old mid new first second = record {
   says = λ before said has.
@@ -31,7 +31,7 @@ carries_then xs ys value result old mid new first second = record {
 }
 
 -- What is after an end does not count.
-ended_more : (ender : Ender) (before : Option (List ℕ)) (items more : List Item) (stop : Stop) (now : Printed) → IsEnded ender before items stop now → IsEnded ender before (items ++ more) stop now
+ended_more : (ended : EndedBy) (before : Option (List ℕ)) (items more : List Item) (stop : RunFault) (now : Printer) → IsEnded ended before items stop now → IsEnded ended before (items ++ more) stop now
 ended_more (ByOutput count) before items more stop now p =
     record { said = p.said; later = p.later ++ more; parts = ap (λ (xs : List Item). xs ++ more) p.parts ∙ append_assoc p.said p.later more; unstopped = p.unstopped; cut_off = p.cut_off }
 ended_more ByMemory before items more stop now p =
@@ -41,40 +41,40 @@ ended_more ByMemory before items more stop now p =
 ended_more ByInput before items more stop now p =
     record { said = p.said; later = p.later ++ more; parts = ap (λ (xs : List Item). xs ++ more) p.parts ∙ append_assoc p.said (Stopped stop ∷ p.later) more; has_said = p.has_said }
 
-pub carries_more : {A B : Type 0} (xs ys : List Item) (stop : Stop) (old new : Printed) → Carries {A = A} xs (Err stop) old new → Carries {A = B} (xs ++ ys) (Err stop) old new
+pub carries_more : {A B : Type 0} (xs ys : List Item) (stop : RunFault) (old new : Printer) → Carries {A = A} xs (Err stop) old new → Carries {A = B} (xs ++ ys) (Err stop) old new
 carries_more xs ys stop old new first = record {
   says = λ before said has.
-      subst (λ (items : List Item). IsEnded (ender_of stop.cause) before items stop new) (append_assoc said xs ys) (ended_more (ender_of stop.cause) before (said ++ xs) ys stop new (first.says before said has));
+      subst (λ (items : List Item). IsEnded (ended_by stop.cause) before items stop new) (append_assoc said xs ys) (ended_more (ended_by stop.cause) before (said ++ xs) ys stop new (first.says before said has));
   writer = first.writer;
 }
 
 -- the item at hand ends the run
-ends_here : (ender : Ender) (item : Item) (stop : Stop) (now : Printed) (before : Option (List ℕ)) (said : List Item) → IsWithheld ender item stop → HasSaid before said now → IsEnded ender before (said ++ item ∷ []) stop now
+ends_here : (ended : EndedBy) (item : Item) (stop : RunFault) (now : Printer) (before : Option (List ℕ)) (said : List Item) → IsWithheld ended item stop → HasSaid before said now → IsEnded ended before (said ++ item ∷ []) stop now
 ends_here (ByOutput count) item stop now before said withheld has = absurd withheld
 ends_here ByMemory item stop now before said withheld has = record { said = said; starves = record { next = item; later = []; parts = refl; named = withheld }; has_said = has }
 ends_here ByInput item stop now before said withheld has = record { said = said; later = []; parts = ap (λ (i : Item). said ++ i ∷ []) withheld; has_said = has }
 
 -- an item that was not given
-pub carries_withheld : {A : Type 0} (item : Item) (stop : Stop) (now : Printed) → IsWithheld (ender_of stop.cause) item stop → Carries {A = A} (item ∷ []) (Err stop) now now
-carries_withheld item stop now withheld = record { says = λ before said has. ends_here (ender_of stop.cause) item stop now before said withheld has; writer = refl }
+pub carries_withheld : {A : Type 0} (item : Item) (stop : RunFault) (now : Printer) → IsWithheld (ended_by stop.cause) item stop → Carries {A = A} (item ∷ []) (Err stop) now now
+carries_withheld item stop now withheld = record { says = λ before said has. ends_here (ended_by stop.cause) item stop now before said withheld has; writer = refl }
 
 -- something of which nothing is said
-pub carries_passed : {A : Type 0} (value : A) (name : List ℕ) (now : Printed) → Carries (Passed name ∷ []) (Ok value) now now
+pub carries_passed : {A : Type 0} (value : A) (name : List ℕ) (now : Printer) → Carries (Passed name ∷ []) (Ok value) now now
 carries_passed value name now = record { says = λ before said has. record { added = passed before said name now has.added; short = has.short }; writer = refl }
 
 -- What a part gives beside its end does not count.
-pub carries_as : {A B : Type 0} (items : List Item) (first : Result A Stop) (second : Result B Stop) (old new : Printed) → result_err first ≡ result_err second → Carries items first old new → Carries items second old new
+pub carries_as : {A B : Type 0} (items : List Item) (first : Result A RunFault) (second : Result B RunFault) (old new : Printer) → result_err first ≡ result_err second → Carries items first old new → Carries items second old new
 carries_as items first second old new same carries = record {
-  says = λ before said has. subst (λ (stop : Option Stop). Reaches before (said ++ items) stop new) same (carries.says before said has);
+  says = λ before said has. subst (λ (stop : Option RunFault). Reaches before (said ++ items) stop new) same (carries.says before said has);
   writer = carries.writer;
 }
 
 -- a printer that has failed says nothing
-pub carries_lost : {A : Type 0} (items : List Item) (result : Result A Stop) (now : Printed) → now.failed ≡ true → Carries items result now now
+pub carries_lost : {A : Type 0} (items : List Item) (result : Result A RunFault) (now : Printer) → now.failed ≡ true → Carries items result now now
 carries_lost items result now failed = record { says = λ before said has. let working = has.added.working in absurd cc; writer = refl }
 
 -- an answer that waits
-pub carries_added : {A : Type 0} (value : A) (name : List ℕ) (answer : Answer) (old : Printed) → length (and_answer old answer).waiting < chunk
+pub carries_added : {A : Type 0} (value : A) (name : List ℕ) (answer : Answer) (old : Printer) → length (and_answer old answer).waiting < chunk
     → Carries (Answered name answer ∷ []) (Ok value) old (and_answer old answer)
 carries_added value name answer old short = record {
   says = λ before said has. record { added = added before said name answer old has.added; short = short };
@@ -82,7 +82,7 @@ carries_added value name answer old short = record {
 }
 
 -- an answer that fills a chunk
-pub carries_sent : {A : Type 0} (result : Result A Stop) (name : List ℕ) (answer : Answer) (old new : Printed) → Sends result (and_answer old answer) new → new.writer ≡ old.writer
+pub carries_sent : {A : Type 0} (result : Result A RunFault) (name : List ℕ) (answer : Answer) (old new : Printer) → Sends result (and_answer old answer) new → new.writer ≡ old.writer
     → Carries (Answered name answer ∷ []) result old new
 carries_sent (Ok value) name answer old new sends writer = record {
   says = λ before said has. sent_all before (said ++ Answered name answer ∷ []) (and_answer old answer) new (added before said name answer old has.added) sends;

@@ -4,21 +4,21 @@ use Rattle.std.proofs.lemmas.Bool.{cases_lt}
 use Rattle.std.proofs.lemmas.List.{get_or_default}
 use Rattle.std.specs.Prelude.{◌≢◌, IfOk}
 use Rattle.std.specs.Result.{IsOk, IsErr}
-use Rattle.krl_types.specs.Subject.{Names, Subject}
+use Rattle.krl_types.specs.Subject.{CertNames, Subject}
 use Rattle.ssh_cert.specs.SubjectReading.{subject_of}
 use Rattle.ssh_cert.specs.declared.subject_fault.SubjectFault.{SubjectFault}
-use Rattle.key_files.specs.Keys.{File, Found, GivesKey, IsRefused, keys_of}
-use Rattle.key_files.specs.Stop.{Stop, ender_of}
+use Rattle.key_files.specs.Keys.{Named, FileKey, GivesKey, IsRefused, keys_of}
+use Rattle.key_files.specs.RunFault.{RunFault, ended_by}
 use Rattle.key_files.specs.declared.cause.Cause.{Cause}
 use Rattle.key_files.specs.declared.cause.Cause.TheVariants as causes
-use Rattle.krl_held.specs.Contents.{Contents}
+use Rattle.krl_held.specs.Revocations.{Revocations}
 use Rattle.krl_held.specs.Naming.{KeyOf}
 use Rattle.krl_held.specs.Questions.{Asks, AsksMore, HasCert}
 use Rattle.krl_held.proofs.AskedMore.{under_stays}
 use Rattle.krl_runs.specs.Expected.{AreExpected}
 
 -- where everything is expected, each key is
-pub all_expected : (Expected : Subject → Type 0) → ((asked : Subject) → Expected asked) → (keys : List (Result Found Stop)) → AreExpected Expected keys
+pub all_expected : (Expected : Subject → Type 0) → ((asked : Subject) → Expected asked) → (keys : List (Result FileKey RunFault)) → AreExpected Expected keys
 all_expected Expected all [] = tt
 all_expected Expected all (Err stop ∷ keys) = tt
 all_expected Expected all (Ok key ∷ keys) = by (subject_of key.line.blob) (all_expected Expected all keys)
@@ -28,7 +28,7 @@ all_expected Expected all (Ok key ∷ keys) = by (subject_of key.line.blob) (all
     by (Err fault) rest = tt
 
 -- the first of the keys is expected
-pub first_expected : (Expected : Subject → Type 0) (key : Found) (keys : List (Result Found Stop)) → AreExpected Expected (Ok key ∷ keys) → IfOk (subject_of key.line.blob) Expected
+pub first_expected : (Expected : Subject → Type 0) (key : FileKey) (keys : List (Result FileKey RunFault)) → AreExpected Expected (Ok key ∷ keys) → IfOk (subject_of key.line.blob) Expected
 first_expected Expected key keys h = by (subject_of key.line.blob) h
   where
     by : (read : Result Subject SubjectFault) → IfOk read (λ asked. Expected asked × AreExpected Expected keys) → IfOk read Expected
@@ -36,7 +36,7 @@ first_expected Expected key keys h = by (subject_of key.line.blob) h
     by (Err fault) h = tt
 
 -- and where it can be read, the others are
-pub rest_expected : (Expected : Subject → Type 0) (key : Found) (keys : List (Result Found Stop)) → IsOk (subject_of key.line.blob) → AreExpected Expected (Ok key ∷ keys) → AreExpected Expected keys
+pub rest_expected : (Expected : Subject → Type 0) (key : FileKey) (keys : List (Result FileKey RunFault)) → IsOk (subject_of key.line.blob) → AreExpected Expected (Ok key ∷ keys) → AreExpected Expected keys
 rest_expected Expected key keys ok h = by (subject_of key.line.blob) ok h
   where
     by : (read : Result Subject SubjectFault) → IsOk read → IfOk read (λ asked. Expected asked × AreExpected Expected keys) → AreExpected Expected keys
@@ -44,7 +44,7 @@ rest_expected Expected key keys ok h = by (subject_of key.line.blob) ok h
     by (Err fault) ok h = absurd (cc)
 
 -- a key whose blob cannot be read is the last that counts
-pub unread_expected : (Expected : Subject → Type 0) (key : Found) (keys : List (Result Found Stop)) → IsErr (subject_of key.line.blob) → AreExpected Expected (Ok key ∷ keys)
+pub unread_expected : (Expected : Subject → Type 0) (key : FileKey) (keys : List (Result FileKey RunFault)) → IsErr (subject_of key.line.blob) → AreExpected Expected (Ok key ∷ keys)
 unread_expected Expected key keys err = by (subject_of key.line.blob) err
   where
     by : (read : Result Subject SubjectFault) → IsErr read → IfOk read (λ asked. Expected asked × AreExpected Expected keys)
@@ -52,25 +52,25 @@ unread_expected Expected key keys err = by (subject_of key.line.blob) err
     by (Err fault) err = tt
 
 -- so is a fault of the file
-pub fault_expected : (Expected : Subject → Type 0) (next : Result Found Stop) (stop : Stop) (keys : List (Result Found Stop)) → GivesKey next (Err stop) → stop.cause ≢ causes.NoMemory → AreExpected Expected (next ∷ keys)
+pub fault_expected : (Expected : Subject → Type 0) (next : Result FileKey RunFault) (stop : RunFault) (keys : List (Result FileKey RunFault)) → GivesKey next (Err stop) → stop.cause ≢ causes.NoMemory → AreExpected Expected (next ∷ keys)
 fault_expected Expected next stop keys is known = by stop.cause is known
   where
-    by : (cause : Cause) → IsRefused (ender_of cause) next stop → cause ≢ causes.NoMemory → AreExpected Expected (next ∷ keys)
+    by : (cause : Cause) → IsRefused (ended_by cause) next stop → cause ≢ causes.NoMemory → AreExpected Expected (next ∷ keys)
     by causes.NoMemory is known = absurd (known refl)
     by (causes.Output count) is known = absurd is
-    by cause is known = subst (λ (n : Result Found Stop). AreExpected Expected (n ∷ keys)) (sym is) tt
+    by cause is known = subst (λ (n : Result FileKey RunFault). AreExpected Expected (n ∷ keys)) (sym is) tt
 
 -- ---- where more is asked about
 
-asked_more : (old new : Contents) (asked : Subject) → AsksMore old new → Asks old asked → Asks new asked
+asked_more : (old new : Revocations) (asked : Subject) → AsksMore old new → Asks old asked → Asks new asked
 asked_more old new asked more h = (more (KeyOf asked.plain) h.0, by asked.cert h.1)
   where
-    by : (cert : Option Names) → HasCert old cert → HasCert new cert
+    by : (cert : Option CertNames) → HasCert old cert → HasCert new cert
     by None h = tt
     by (Some cert) h = (more (KeyOf cert.authority) h.0, (under_stays old new [] cert.key_id cert.serial more h.1.0, under_stays old new cert.authority cert.key_id cert.serial more h.1.1))
 
 -- keys that were expected are so still
-pub keys_more : (old new : Contents) (keys : List (Result Found Stop)) → AsksMore old new → AreExpected (Asks old) keys → AreExpected (Asks new) keys
+pub keys_more : (old new : Revocations) (keys : List (Result FileKey RunFault)) → AsksMore old new → AreExpected (Asks old) keys → AreExpected (Asks new) keys
 keys_more old new [] more h = tt
 keys_more old new (Err stop ∷ keys) more h = tt
 keys_more old new (Ok key ∷ keys) more h = by (subject_of key.line.blob) (keys_more old new keys more) h
@@ -80,7 +80,7 @@ keys_more old new (Ok key ∷ keys) more h = by (subject_of key.line.blob) (keys
     by (Err fault) rest h = tt
 
 -- a key that was asked about, before keys that are expected
-pub key_expected : (old new : Contents) (key : Found) (keys : List (Result Found Stop)) → AsksMore old new → IfOk (subject_of key.line.blob) (Asks old) → AreExpected (Asks new) keys → AreExpected (Asks new) (Ok key ∷ keys)
+pub key_expected : (old new : Revocations) (key : FileKey) (keys : List (Result FileKey RunFault)) → AsksMore old new → IfOk (subject_of key.line.blob) (Asks old) → AreExpected (Asks new) keys → AreExpected (Asks new) (Ok key ∷ keys)
 key_expected old new key keys more h rest = by (subject_of key.line.blob) h
   where
     by : (read : Result Subject SubjectFault) → IfOk read (Asks old) → IfOk read (λ asked. Asks new asked × AreExpected (Asks new) keys)
@@ -88,13 +88,13 @@ key_expected old new key keys more h rest = by (subject_of key.line.blob) h
     by (Err fault) h = tt
 
 -- Where the files so far were expected and the next one is, all of them are.
-pub files_more : (old new : Contents) (files : List File) (i : ℕ) (file : File) → AsksMore old new → ((k : ℕ) (d : File) → k < i → AreExpected (Asks old) (keys_of (get_or files k d)))
-    → i < length files → file ≡ get_or files i file → AreExpected (Asks new) (keys_of file) → (k : ℕ) (d : File) → k < i + 1 → AreExpected (Asks new) (keys_of (get_or files k d))
+pub files_more : (old new : Revocations) (files : List Named) (i : ℕ) (file : Named) → AsksMore old new → ((k : ℕ) (d : Named) → k < i → AreExpected (Asks old) (keys_of (get_or files k d)))
+    → i < length files → file ≡ get_or files i file → AreExpected (Asks new) (keys_of file) → (k : ℕ) (d : Named) → k < i + 1 → AreExpected (Asks new) (keys_of (get_or files k d))
 files_more old new files i file more before lt is now k d next =
     elim (cases_lt k i) [
       | inl less ↦ keys_more old new (keys_of (get_or files k d)) more (before k d less)
       | inr over ↦ (
           let same : i ≡ k = omega (arith, next, over) in
-          subst (λ (n : ℕ). AreExpected (Asks new) (keys_of (get_or files n d))) same (subst (λ (f : File). AreExpected (Asks new) (keys_of f)) (is ∙ get_or_default files i file d lt) now)
+          subst (λ (n : ℕ). AreExpected (Asks new) (keys_of (get_or files n d))) same (subst (λ (f : Named). AreExpected (Asks new) (keys_of f)) (is ∙ get_or_default files i file d lt) now)
           )
     ]

@@ -4,14 +4,14 @@ use Rattle.std.specs.Result.{result_ok}
 use Rattle.std.proofs.lemmas.Bool.{cases_Bool}
 use Rattle.std.proofs.lemmas.Option.{same_Some}
 use Rattle.ssh_wire.specs.Steps.{ok_is}
-use Rattle.ssh_key.specs.Key.{IsKey, Key}
+use Rattle.ssh_key.specs.Key.{IsKey, PublicKey}
 use Rattle.ssh_key.specs.KeyFile.{has_key}
 use Rattle.ssh_key.specs.KeyLine.{IsKeyLine}
 use Rattle.ssh_key.specs.KeyReading.{key_at}
 use Rattle.ssh_key.specs.LineReading.{Content, line_at}
 use Rattle.ssh_key.specs.declared.fault.KeyFault.{KeyFault}
 use Rattle.ssh_key.specs.declared.line_fault.LineFault.{LineFault}
-use Rattle.ssh_cert.specs.Certificate.{Certificate}
+use Rattle.ssh_cert.specs.Cert.{Cert}
 use Rattle.ssh_cert.specs.declared.fault.CertFault.{CertFault}
 use Rattle.ssh_key.specs.declared.hash.Hash.{Hash}
 use Rattle.krl_runs.specs.Listing.{certificate_answer, listed_certificate}
@@ -47,7 +47,7 @@ line_item answer name number text line has is_line = line_read answer name numbe
 pub record FromLine (answer : Answering) (name : List ℕ) (number : ℕ) (text : List ℕ) (reply : Answer) : Type 0 where
   pub line : Content
   pub asked : Subject
-  pub key : Key
+  pub key : PublicKey
   pub is_line : line_at text ≡ Ok line
   pub is_asked : subject_of line.blob ≡ Ok asked
   pub is_key : key_at asked.plain ≡ Ok key
@@ -60,7 +60,7 @@ same_reply name other (Some a) b e = cc
 from_line : (answer : Answering) (name : List ℕ) (number : ℕ) (text other : List ℕ) (reply : Answer) → found_item answer (line_found name number (line_at text)) ≡ Answered other reply → FromLine answer name number text reply
 from_line answer name number text other reply item = of_line (line_at text) refl item
   where
-    of_key : (line : Content) (asked : Subject) (read : Result Key KeyFault) → line_at text ≡ Ok line → subject_of line.blob ≡ Ok asked → key_at asked.plain ≡ read → key_item answer (found name (Some number) line) asked read ≡ Answered other reply → FromLine answer name number text reply
+    of_key : (line : Content) (asked : Subject) (read : Result PublicKey KeyFault) → line_at text ≡ Ok line → subject_of line.blob ≡ Ok asked → key_at asked.plain ≡ read → key_item answer (found name (Some number) line) asked read ≡ Answered other reply → FromLine answer name number text reply
     of_key line asked (Ok key) is_line is_asked is_key e =
         record { line = line; asked = asked; key = key; is_line = is_line; is_asked = is_asked; is_key = is_key; is_reply = same_reply name other (answer.say name (Some number) line asked key) reply e }
     of_key line asked (Err fault) is_line is_asked is_key e = absurd cc
@@ -81,14 +81,14 @@ answered_line answer name number text other reply item = elim (cases_Bool (has_k
 
 -- and so the line spells it
 pub spelled_line : (answer : Answering) (name : List ℕ) (number : ℕ) (text : List ℕ) (reply : Answer) → (from : FromLine answer name number text reply) → IsKeyLine text from.line.word from.line.blob from.line.comment → IsSubject from.line.blob from.asked
-    → ((key : Key) → IsKey from.asked.plain key → key_at from.asked.plain ≡ Ok key) → (line : Content) × (asked : Subject) × (key : Key) × SpellsKey text line asked key × (Some reply ≡ answer.say name (Some number) line asked key)
+    → ((key : PublicKey) → IsKey from.asked.plain key → key_at from.asked.plain ≡ Ok key) → (line : Content) × (asked : Subject) × (key : PublicKey) × SpellsKey text line asked key × (Some reply ≡ answer.say name (Some number) line asked key)
 spelled_line answer name number text reply from is_line is_asked reads =
     let plain = plain_is_key from.line.blob from.asked is_asked in
     let same : plain.0 ≡ from.key = ok_is plain.0 from.key (key_at from.asked.plain) (reads plain.0 plain.1) from.is_key in
-    (from.line, from.asked, from.key, record { is_line = is_line; is_asked = is_asked; is_key = subst (λ (key : Key). IsKey from.asked.plain key) same plain.1 }, from.is_reply)
+    (from.line, from.asked, from.key, record { is_line = is_line; is_asked = is_asked; is_key = subst (λ (key : PublicKey). IsKey from.asked.plain key) same plain.1 }, from.is_reply)
 
 -- what is answered in a run over certificates lists one
-pub certificate_answered : (hash : Hash) (moment : ℕ) (name : List ℕ) (number : ℕ) (reply : Answer) (read : Result Certificate CertFault) → Some reply ≡ certificate_answer hash moment name (Some number) (result_ok read)
-    → (certificate : Certificate) × (read ≡ Ok certificate) × (reply ≡ listed_certificate hash moment name number certificate)
+pub certificate_answered : (hash : Hash) (moment : ℕ) (name : List ℕ) (number : ℕ) (reply : Answer) (read : Result Cert CertFault) → Some reply ≡ certificate_answer hash moment name (Some number) (result_ok read)
+    → (certificate : Cert) × (read ≡ Ok certificate) × (reply ≡ listed_certificate hash moment name number certificate)
 certificate_answered hash moment name number reply (Ok certificate) e = (certificate, refl, same_Some reply (listed_certificate hash moment name number certificate) e)
 certificate_answered hash moment name number reply (Err fault) e = absurd cc

@@ -6,9 +6,9 @@ use Rattle.std.proofs.Math.Bool.{or-false, or_assoc}
 use Rattle.std.proofs.Math.Seq.{take-append-add}
 use Rattle.std.specs.Io.KnownBytes.{Appends}
 use Rattle.krl_runs.specs.declared.output.answer.Answer.{Answer}
-use Rattle.krl_runs.specs.Printer.{Printed, HasAdded, HasSaid, IsCut, IsSent, IsPartSent, and_answer, reported_count}
+use Rattle.krl_runs.specs.Printer.{Printer, HasAdded, HasSaid, IsCut, IsSent, IsPartSent, and_answer, reported_count}
 use Rattle.krl_runs.specs.Run.{Item, Outcome, Answered, Passed, Stopped, before, outcome_of}
-use Rattle.key_files.specs.Stop.{Stop}
+use Rattle.key_files.specs.RunFault.{RunFault}
 
 -- two parts, of which the first did not stop
 abbrev pub followed_by : Outcome → Outcome → Outcome
@@ -45,7 +45,7 @@ reported_count-more : (a b : ℕ) → reported_count (reported_count a + b) ≡ 
 reported_count-more a b = omega arith
 
 -- An answer waits after what was said.
-pub added : (before : Option (List ℕ)) (said : List Item) (name : List ℕ) (answer : Answer) (old : Printed)
+pub added : (before : Option (List ℕ)) (said : List Item) (name : List ℕ) (answer : Answer) (old : Printer)
     → HasAdded before said old → HasAdded before (said ++ Answered name answer ∷ []) (and_answer old answer)
 added before said name answer old has =
     let whole = outcome_of-append said (Answered name answer ∷ []) has.unstopped in
@@ -62,7 +62,7 @@ added before said name answer old has =
     }
 
 -- nothing is said of what was read
-pub passed : (before : Option (List ℕ)) (said : List Item) (name : List ℕ) (now : Printed) → HasAdded before said now → HasAdded before (said ++ Passed name ∷ []) now
+pub passed : (before : Option (List ℕ)) (said : List Item) (name : List ℕ) (now : Printer) → HasAdded before said now → HasAdded before (said ++ Passed name ∷ []) now
 passed before said name now has =
     let whole = outcome_of-append said (Passed name ∷ []) has.unstopped in
     record {
@@ -76,7 +76,7 @@ passed before said name now has =
     }
 
 -- all was sent
-pub sent_all : (before : Option (List ℕ)) (items : List Item) (old new : Printed) → HasAdded before items old → IsSent old new → HasSaid before items new
+pub sent_all : (before : Option (List ℕ)) (items : List Item) (old new : Printer) → HasAdded before items old → IsSent old new → HasSaid before items new
 sent_all before items old new has sent =
     let none = sent.none_waits in
     record {
@@ -93,12 +93,12 @@ sent_all before items old new has sent =
     }
 
 -- what was said was all taken
-pub taken_all : (before : Option (List ℕ)) (items : List Item) (old new : Printed) → HasAdded before items old → IsSent old new → Appends before new.taken (outcome_of items).text
+pub taken_all : (before : Option (List ℕ)) (items : List Item) (old new : Printer) → HasAdded before items old → IsSent old new → Appends before new.taken (outcome_of items).text
 taken_all before items old new has sent =
     subst (λ (t : List ℕ). Appends before new.taken t) (sym has.parts) (Appends-trans before old.taken new.taken has.gone old.waiting has.taken sent.taken)
 
 -- a part was sent
-pub sent_part : (before : Option (List ℕ)) (items : List Item) (stop : Stop) (old new : Printed) → HasAdded before items old → (part : IsPartSent stop old new)
+pub sent_part : (before : Option (List ℕ)) (items : List Item) (stop : RunFault) (old new : Printer) → HasAdded before items old → (part : IsPartSent stop old new)
     → IsCut (outcome_of items).text before new.taken new.sent
 sent_part before items stop old new has part =
     let short = part.short in

@@ -10,7 +10,7 @@ use Rattle.ssh_key.specs.declared.hash.Hash.TheVariants.{Sha256}
 use Rattle.ssh_key.specs.Fingerprints.{fingerprint_text, unpadded}
 use Rattle.ssh_cert.specs.Escape.{escaped}
 use Rattle.ssh_cert.specs.Time.{instant_text}
-use Rattle.krl_held.specs.Contents.{Contents, Section}
+use Rattle.krl_held.specs.Revocations.{Revocations, Section}
 use Rattle.krl_core.specs.declared.header.Header.{Header}
 use Rattle.krl_runs.specs.declared.runs.contents.fact.Fact.{Fact}
 use Rattle.krl_runs.specs.declared.runs.contents.fact.Fact.TheVariants.{Id, Key, Sha1, Hash}
@@ -19,9 +19,9 @@ use Rattle.krl_runs.specs.Run.{Item, Answered}
 -- What was read of a list: its header, and what is held of it.
 pub record Known : Type 0 where
   pub header : Header
-  pub contents : Contents
+  pub contents : Revocations
 
-abbrev pub known_of : Header → Contents → Known
+abbrev pub known_of : Header → Revocations → Known
 known_of header contents = record { header = header; contents = contents }
 
 -- a label and its text
@@ -87,7 +87,7 @@ section_lines section =
     ∷ (map serials_line section.spans ++ map (fact_line Id) section.ids)
 
 -- all authorities, keys and hashes
-unfoldable pub contents_lines : Contents → List (List ℕ)
+unfoldable pub contents_lines : Revocations → List (List ℕ)
 contents_lines contents =
     flat_map section_lines contents.sections
     ++ (map (fact_line Key) contents.keys

@@ -4,25 +4,25 @@ use Rattle.std.specs.Io.KnownBytes.{Appends}
 use Rattle.key_files.specs.declared.cause.Cause.TheVariants.{NoMemory}
 use Rattle.krl_runs.specs.Printer.{IsCut}
 use Rattle.krl_runs.specs.Run.{Item, name_of, outcome_of, status_of}
-use Rattle.key_files.specs.Stop.{Stop, Ender, ByOutput, ByMemory, ByInput, ender_of, output_stop}
-use Rattle.key_files.specs.Stop.{stop_of}
+use Rattle.key_files.specs.RunFault.{RunFault, EndedBy, ByOutput, ByMemory, ByInput, ended_by, output_stop}
+use Rattle.key_files.specs.RunFault.{stop_of}
 
 -- All of the run's text was taken, and the run's own end is reported.
 pub record IsWhole (run : List Item) (before after : Option (List ℕ)) (failed : Bool)
-    (stop : Option Stop) : Type 0 where
+    (stop : Option RunFault) : Type 0 where
   pub reported : (outcome_of run).stop ≡ stop
   pub taken : Appends before after (outcome_of run).text
   pub working : failed ≡ false
 
 -- The writer failed after this many bytes of the run's text.
 pub record IsCutOff (run : List Item) (before after : Option (List ℕ)) (failed : Bool)
-    (stop : Stop) (count : ℕ) : Type 0 where
+    (stop : RunFault) (count : ℕ) : Type 0 where
   pub named : stop ≡ output_stop count
   pub cut : IsCut (outcome_of run).text before after count
   pub broken : failed ≡ true
 
 -- Memory ran out at the next item of a run after these. What is at hand is named, and no line.
-pub record StarvesAfter (said run : List Item) (stop : Stop) : Type 0 where
+pub record StarvesAfter (said run : List Item) (stop : RunFault) : Type 0 where
   pub next : Item
   pub later : List Item
   pub parts : run ≡ said ++ next ∷ later
@@ -30,22 +30,24 @@ pub record StarvesAfter (said run : List Item) (stop : Stop) : Type 0 where
 
 -- Memory ran out. The whole lines of the run's first answers were taken.
 pub record IsBrokenOff (run : List Item) (before after : Option (List ℕ)) (failed : Bool)
-    (stop : Stop) : Type 0 where
+    (stop : RunFault) : Type 0 where
   pub done : List Item
   pub starves : StarvesAfter done run stop
   pub unstopped : (outcome_of done).stop ≡ None
   pub taken : Appends before after (outcome_of done).text
   pub working : failed ≡ false
 
-abbrev pub EndsBy : Ender → List Item → Option (List ℕ) → Option (List ℕ) → Bool → Stop → Type 0
+abbrev pub EndsBy : EndedBy → List Item → Option (List ℕ) → Option (List ℕ) → Bool → RunFault
+    → Type 0
 EndsBy (ByOutput count) run before after failed stop = IsCutOff run before after failed stop count
 EndsBy ByMemory run before after failed stop = IsBrokenOff run before after failed stop
 EndsBy ByInput run before after failed stop = IsWhole run before after failed (Some stop)
 
 -- A run ended with a status and a fault. Its writer had taken some bytes before, then others, and
 -- failed or not.
-abbrev pub Ends : List Item → Option (List ℕ) → Option (List ℕ) → Bool → ℕ → Option Stop → Type 0
+abbrev pub Ends : List Item → Option (List ℕ) → Option (List ℕ) → Bool → ℕ → Option RunFault
+    → Type 0
 Ends run before after failed status None =
     IsWhole run before after failed None × (status ≡ status_of false (outcome_of run).revoked)
 Ends run before after failed status (Some stop) =
-    EndsBy (ender_of stop.cause) run before after failed stop × (status ≡ 255)
+    EndsBy (ended_by stop.cause) run before after failed stop × (status ≡ 255)

@@ -2,16 +2,16 @@
 use Rattle.std.specs.Prelude.{List, [], ◌∷◌, Result, Ok, Err, IfOk, All, ⊤}
 use Rattle.ssh_cert.specs.SubjectReading.{subject_of}
 use Rattle.krl_types.specs.Subject.{Subject}
-use Rattle.key_files.specs.Keys.{File, Found, keys_of}
-use Rattle.key_files.specs.Stop.{Stop}
+use Rattle.key_files.specs.Keys.{Named, FileKey, keys_of}
+use Rattle.key_files.specs.RunFault.{RunFault}
 
 -- Each key is expected, up to the first fault.
-abbrev pub AreExpected : (Subject → Type 0) → List (Result Found Stop) → Type 0
+abbrev pub AreExpected : (Subject → Type 0) → List (Result FileKey RunFault) → Type 0
 AreExpected Expected [] = ⊤
 AreExpected Expected (Err stop ∷ keys) = ⊤
 AreExpected Expected (Ok key ∷ keys) =
     IfOk (subject_of key.line.blob) (λ asked. Expected asked × AreExpected Expected keys)
 
 -- so it is in each file
-abbrev pub AllExpected : (Subject → Type 0) → List File → Type 0
+abbrev pub AllExpected : (Subject → Type 0) → List Named → Type 0
 AllExpected Expected files = All (λ file. AreExpected Expected (keys_of file)) files

@@ -1,6 +1,6 @@
 -- When a line is answered, by what it spells.
 use Rattle.std.specs.Prelude.{ℕ, List}
-use Rattle.ssh_key.specs.Key.{IsKey, Key}
+use Rattle.ssh_key.specs.Key.{IsKey, PublicKey}
 use Rattle.ssh_key.specs.KeyLine.{IsKeyLine}
 use Rattle.ssh_key.specs.LineReading.{Content}
 use Rattle.krl_types.specs.Subject.{Subject}
@@ -8,7 +8,8 @@ use Rattle.ssh_cert.specs.SubjectReading.{IsSubject}
 
 -- The line of a key file is a key line with the blob of a plain key or of a certificate, this is
 -- asked of it, and this is its plain key.
-pub record SpellsKey (text : List ℕ) (line : Content) (asked : Subject) (key : Key) : Type 0 where
+pub record SpellsKey (text : List ℕ) (line : Content) (asked : Subject) (key : PublicKey)
+    : Type 0 where
   pub is_line : IsKeyLine text line.word line.blob line.comment
   pub is_asked : IsSubject line.blob asked
   pub is_key : IsKey asked.plain key

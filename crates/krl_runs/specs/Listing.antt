@@ -3,12 +3,12 @@ use Rattle.std.specs.Prelude.{ℕ, false, List, [], ◌∷◌, ◌++◌, Option,
 use Rattle.std.specs.Prelude.{codes, decimal}
 use Rattle.std.specs.Result.{result_ok}
 use Rattle.ssh_cert.specs.CertReading.{certificate_at}
-use Rattle.ssh_cert.specs.Certificate.{Certificate}
+use Rattle.ssh_cert.specs.Cert.{Cert}
 use Rattle.ssh_cert.specs.Listing.{listing_of}
-use Rattle.krl_types.specs.Subject.{Names, Subject}
+use Rattle.krl_types.specs.Subject.{CertNames, Subject}
 use Rattle.ssh_key.specs.declared.hash.Hash.{Hash}
 use Rattle.ssh_key.specs.Fingerprints.{fingerprint_text}
-use Rattle.ssh_key.specs.Key.{Key}
+use Rattle.ssh_key.specs.Key.{PublicKey}
 use Rattle.ssh_key.specs.Kind.{short_name_of}
 use Rattle.ssh_key.specs.LineReading.{Content}
 use Rattle.ssh_cert.specs.Escape.{escaped}
@@ -16,7 +16,7 @@ use Rattle.key_files.specs.declared.file_fault.FileFault.TheVariants as files
 use Rattle.krl_runs.specs.declared.output.answer.Answer.{Answer}
 use Rattle.krl_runs.specs.declared.runs.listing.ListMode.{ListMode}
 use Rattle.krl_runs.specs.declared.runs.listing.ListMode.TheVariants.{Keys, Certs}
-use Rattle.key_files.specs.Keys.{File}
+use Rattle.key_files.specs.Keys.{Named}
 use Rattle.krl_runs.specs.Run.{Answering, Item, file_items}
 
 abbrev pub comment_or_none : List ℕ → List ℕ
@@ -34,12 +34,12 @@ list_line bits print comment kind =
     ++ (codes " " ++ (print ++ (codes " " ++ (comment_or_none comment ++ kind_part kind))))
 
 -- what is after the kind of a certificate
-abbrev pub certificate_mark : Option Names → List ℕ
+abbrev pub certificate_mark : Option CertNames → List ℕ
 certificate_mark None = []
 certificate_mark (Some names) = codes "-CERT"
 
 -- the answer for a key, or for a certificate by its plain key
-abbrev pub description : Hash → Content → Subject → Key → Answer
+abbrev pub description : Hash → Content → Subject → PublicKey → Answer
 description hash line asked key =
     let print = fingerprint_text hash asked.plain in
     let kind = short_name_of key.kind ++ certificate_mark asked.cert in
@@ -58,17 +58,17 @@ place_part name number =
     escaped name ++ (codes ":" ++ (decimal number ++ (codes ":" ++ 10 ∷ [])))
 
 -- the file and the line of a certificate, and its listing
-abbrev pub certificate_text : Hash → ℕ → List ℕ → ℕ → Certificate → List ℕ
+abbrev pub certificate_text : Hash → ℕ → List ℕ → ℕ → Cert → List ℕ
 certificate_text hash moment name number certificate =
     place_part name number ++ listing_of hash certificate moment
 
-abbrev pub listed_certificate : Hash → ℕ → List ℕ → ℕ → Certificate → Answer
+abbrev pub listed_certificate : Hash → ℕ → List ℕ → ℕ → Cert → Answer
 listed_certificate hash moment name number certificate =
     record { text = certificate_text hash moment name number certificate; revoked = false }
 
 -- the answer for the certificate of a line; what holds no certificate is passed over, and so is a
 -- container
-abbrev pub certificate_answer : Hash → ℕ → List ℕ → Option ℕ → Option Certificate → Option Answer
+abbrev pub certificate_answer : Hash → ℕ → List ℕ → Option ℕ → Option Cert → Option Answer
 certificate_answer hash moment name (Some number) (Some certificate) =
     Some (listed_certificate hash moment name number certificate)
 certificate_answer hash moment name number other = None
@@ -87,5 +87,5 @@ listing Keys hash moment = describe hash
 listing Certs hash moment = certify hash moment
 
 -- Each key or certificate of the file is listed, up to the first fault.
-unfoldable pub list_run_of : ListMode → Hash → ℕ → File → List Item
+unfoldable pub list_run_of : ListMode → Hash → ℕ → Named → List Item
 list_run_of mode hash moment file = file_items (listing mode hash moment) file

@@ -5,11 +5,11 @@ use Rattle.std.specs.Io.KnownBytes.{Appends}
 use Rattle.std.specs.Result.{result_err}
 use Rattle.krl_runs.specs.declared.output.answer.Answer.{Answer}
 use Rattle.krl_runs.specs.Run.{Item, outcome_of}
-use Rattle.key_files.specs.Stop.{Stop, output_stop}
+use Rattle.key_files.specs.RunFault.{RunFault, output_stop}
 
 -- The end of the text, which waits to be sent; the count of the bytes that were sent; whether some
 -- line says REVOKED; and of the writer what it has taken, whether it has failed, and which it is.
-pub record Printed : Type 0 where
+pub record Printer : Type 0 where
   pub waiting : List ℕ
   pub sent : ℕ
   pub revoked : Bool
@@ -17,7 +17,7 @@ pub record Printed : Type 0 where
   pub failed : Bool
   pub writer : ℕ
 
-abbrev pub nothing_printed : Option (List ℕ) → Bool → ℕ → Printed
+abbrev pub nothing_printed : Option (List ℕ) → Bool → ℕ → Printer
 nothing_printed taken failed writer =
     record {
       waiting = [];
@@ -28,7 +28,7 @@ nothing_printed taken failed writer =
       writer = writer;
     }
 
-abbrev pub and_answer : Printed → Answer → Printed
+abbrev pub and_answer : Printer → Answer → Printer
 and_answer old answer =
     record old { waiting = old.waiting ++ answer.text; revoked = old.revoked || answer.revoked }
 
@@ -41,7 +41,7 @@ abbrev pub reported_count : ℕ → ℕ
 reported_count count = min count (2 ^ 64 - 1)
 
 -- All that waited was sent.
-pub record IsSent (old new : Printed) : Type 0 where
+pub record IsSent (old new : Printer) : Type 0 where
   pub none_waits : new.waiting ≡ []
   pub counted : new.sent ≡ reported_count (old.sent + length old.waiting)
   pub revoked : new.revoked ≡ old.revoked
@@ -49,7 +49,7 @@ pub record IsSent (old new : Printed) : Type 0 where
   pub working : new.failed ≡ false
 
 -- The writer failed after some of the bytes that waited.
-pub record IsPartSent (stop : Stop) (old new : Printed) : Type 0 where
+pub record IsPartSent (stop : RunFault) (old new : Printer) : Type 0 where
   pub count : ℕ
   pub short : count < length old.waiting
   pub counted : new.sent ≡ reported_count (old.sent + count)
@@ -57,18 +57,18 @@ pub record IsPartSent (stop : Stop) (old new : Printed) : Type 0 where
   pub taken : Appends old.taken new.taken (take count old.waiting)
   pub broken : new.failed ≡ true
 
-abbrev pub Sends : {A : Type 0} → Result A Stop → Printed → Printed → Type 0
+abbrev pub Sends : {A : Type 0} → Result A RunFault → Printer → Printer → Type 0
 Sends (Ok value) old new = IsSent old new
 Sends (Err stop) old new = IsPartSent stop old new
 
 -- What has failed answers its fault again, and nothing changes.
-abbrev pub FailsAgain : {A : Type 0} → Result A Stop → Printed → Printed → Type 0
+abbrev pub FailsAgain : {A : Type 0} → Result A RunFault → Printer → Printer → Type 0
 FailsAgain result old new = old.failed ≡ true
     → (result_err result ≡ Some (output_stop old.sent)) × (new ≡ old)
 
 -- A printer was given just these items, over a writer that had taken some bytes before: the writer
 -- has taken the front of their text, and the rest waits.
-pub record HasAdded (before : Option (List ℕ)) (items : List Item) (now : Printed) : Type 0 where
+pub record HasAdded (before : Option (List ℕ)) (items : List Item) (now : Printer) : Type 0 where
   pub unstopped : (outcome_of items).stop ≡ None
   pub gone : List ℕ
   pub parts : (outcome_of items).text ≡ gone ++ now.waiting
@@ -78,7 +78,7 @@ pub record HasAdded (before : Option (List ℕ)) (items : List Item) (now : Prin
   pub working : now.failed ≡ false
 
 -- It has said them: less than a chunk waits.
-pub record HasSaid (before : Option (List ℕ)) (items : List Item) (now : Printed) : Type 0 where
+pub record HasSaid (before : Option (List ℕ)) (items : List Item) (now : Printer) : Type 0 where
   pub added : HasAdded before items now
   pub short : length now.waiting < chunk
 

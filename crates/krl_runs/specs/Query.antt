@@ -1,7 +1,7 @@
 -- Asking a list about keys (ssh-keygen(1), KEY REVOCATION LISTS).
 use Rattle.std.specs.Prelude.{◌≡◌, ◌↔◌, ◌≤◌, length, ℕ, Bool, true, false, List, [], ◌∷◌, ◌++◌}
 use Rattle.std.specs.Prelude.{Option, None, Some, Result, Ok, Err, IsTrue, codes}
-use Rattle.krl_held.specs.Contents.{Contents}
+use Rattle.krl_held.specs.Revocations.{Revocations}
 use Rattle.krl_core.specs.Entries.{entries_of}
 use Rattle.krl_core.specs.Front.{IsFirstFault, limit}
 use Rattle.krl_core.specs.Krl.{SpelledSection, Spells}
@@ -9,7 +9,7 @@ use Rattle.krl_held.specs.Questions.{Asks}
 use Rattle.krl_held.specs.Entry.{Entry}
 use Rattle.krl_held.specs.NamingTests.{is_revoked}
 use Rattle.krl_core.specs.declared.header.Header.{Header}
-use Rattle.ssh_key.specs.Key.{Key}
+use Rattle.ssh_key.specs.Key.{PublicKey}
 use Rattle.krl_core.specs.Reading.{IsList, IsReadAs, IsReadingOf}
 use Rattle.krl_held.specs.Revoked.{Revoked}
 use Rattle.krl_held.specs.Tested.{revokes}
@@ -20,9 +20,9 @@ use Rattle.krl_runs.specs.declared.output.answer.Answer.{Answer}
 use Rattle.key_files.specs.declared.file_fault.FileFault.TheVariants as files
 use Rattle.ssh_cert.specs.Escape.{escaped}
 use Rattle.krl_runs.specs.Contents.{Known, contents_items}
-use Rattle.key_files.specs.Keys.{File}
+use Rattle.key_files.specs.Keys.{Named}
 use Rattle.krl_runs.specs.Run.{Answering, Item, Passed, Stopped, files_items}
-use Rattle.key_files.specs.Stop.{krl_cause, stop_of}
+use Rattle.key_files.specs.RunFault.{krl_cause, stop_of}
 
 -- a comment after a file's name, where there is one
 abbrev pub comment_part : List ℕ → List ℕ
@@ -50,12 +50,12 @@ ask_by test = record {
 }
 
 -- by what is held of a list
-abbrev pub ask : Contents → Answering
+abbrev pub ask : Revocations → Answering
 ask contents = ask_by (revokes contents)
 
 -- What was asked about is answered for by what was found of it.
-pub record AnswersAbout (topics found : Contents) (answering : Answering) : Type 0 where
-  pub say : (name : List ℕ) (number : Option ℕ) (line : Content) (asked : Subject) (key : Key)
+pub record AnswersAbout (topics found : Revocations) (answering : Answering) : Type 0 where
+  pub say : (name : List ℕ) (number : Option ℕ) (line : Content) (asked : Subject) (key : PublicKey)
       → Asks topics asked
       → answering.say name number line asked key ≡ Some (answer_of name line (revokes found asked))
   pub unanswered : answering.unanswered ≡ files.NoKeys
@@ -87,21 +87,21 @@ IsListRead = IsReadingOf IsHeld
 
 -- The list's first fault ends the run at once. Else its contents are printed where they are asked
 -- for, and then each key of each file gives one line, up to the first fault.
-unfoldable pub query_run_of : List ℕ → Result Known KrlFault → Bool → List File → List Item
+unfoldable pub query_run_of : List ℕ → Result Known KrlFault → Bool → List Named → List Item
 query_run_of name (Err fault) dump files = Stopped (stop_of name (krl_cause fault)) ∷ []
 query_run_of name (Ok known) dump files =
     Passed name ∷ (contents_items name dump known ++ files_items (ask known.contents) files)
 
 -- The list's first fault ends the run at once. Else each key of each file gives one line, up to the
 -- first fault.
-unfoldable pub asked_run_of : List ℕ → Result (List Entry) KrlFault → List File → List Item
+unfoldable pub asked_run_of : List ℕ → Result (List Entry) KrlFault → List Named → List Item
 asked_run_of name (Err fault) files = Stopped (stop_of name (krl_cause fault)) ∷ []
 asked_run_of name (Ok entries) files =
     Passed name ∷ files_items (ask_by (is_revoked entries)) files
 
 -- What the run says and where it stops: by the list's contents where these are printed, else by the
 -- answers alone.
-pub data IsRun (name : List ℕ) (files : List File) (before : Option (List ℕ)) (dump failed : Bool)
+pub data IsRun (name : List ℕ) (files : List Named) (before : Option (List ℕ)) (dump failed : Bool)
     (left : Option (List ℕ)) (items : List Item) : Type 0 where
   dumped : (reading : Result Known KrlFault) → dump ≡ true
       → IsListRead before reading failed left → items ≡ query_run_of name reading true files

@@ -2,7 +2,7 @@
 use Rattle.std.specs.Prelude.{◌≡◌, ℕ, ◌||◌, Bool, true, false, List, [], ◌∷◌}
 use Rattle.std.specs.Prelude.{◌++◌, Option, Some, None, Result, Ok, Err, map, option_map}
 use Rattle.std.specs.List.{flat_map}
-use Rattle.ssh_key.specs.Key.{Key}
+use Rattle.ssh_key.specs.Key.{PublicKey}
 use Rattle.ssh_key.specs.KeyReading.{key_at}
 use Rattle.ssh_key.specs.ContainerReading.{Opened}
 use Rattle.ssh_key.specs.LineReading.{Content}
@@ -15,8 +15,8 @@ use Rattle.ssh_cert.specs.declared.subject_fault.SubjectFault.TheVariants as sub
 use Rattle.krl_runs.specs.declared.output.answer.Answer.{Answer}
 use Rattle.key_files.specs.declared.cause.Cause.TheVariants as causes
 use Rattle.key_files.specs.declared.file_fault.FileFault.{FileFault}
-use Rattle.key_files.specs.Keys.{File, Found, container_found, key_in, keys_of, stop_in}
-use Rattle.key_files.specs.Stop.{Stop, Ender, ByOutput, ByMemory, ByInput, ender_of, stop_of}
+use Rattle.key_files.specs.Keys.{Named, FileKey, container_found, key_in, keys_of, stop_in}
+use Rattle.key_files.specs.RunFault.{RunFault, EndedBy, ByOutput, ByMemory, ByInput, ended_by, stop_of}
 
 -- A step of a run. What it is about has a name: that of a file, or of the list.
 pub data Item : Type 0 where
@@ -25,7 +25,7 @@ pub data Item : Type 0 where
   -- this was read, and nothing is said of it
   Passed : List ℕ → Item
   -- the run ends here
-  Stopped : Stop → Item
+  Stopped : RunFault → Item
 
 -- the name of what is at hand
 abbrev pub name_of : Item → List ℕ
@@ -37,7 +37,7 @@ name_of (Stopped stop) = stop.name
 pub record Answering : Type 0 where
   -- What is said of a key, or nothing: by the name of the file, the number of the line (a container
   -- has none), what the line holds, what its blob asks of a list, and the plain key.
-  pub say : List ℕ → Option ℕ → Content → Subject → Key → Option Answer
+  pub say : List ℕ → Option ℕ → Content → Subject → PublicKey → Option Answer
   -- the fault of a file of which nothing is said
   pub unanswered : FileFault
 
@@ -46,16 +46,16 @@ said name None = Passed name
 said name (Some answer) = Answered name answer
 
 -- The plain key of what is asked is always read.
-abbrev pub key_item : Answering → Found → Subject → Result Key KeyFault → Item
+abbrev pub key_item : Answering → FileKey → Subject → Result PublicKey KeyFault → Item
 key_item answer key asked (Err fault) = Stopped (stop_in key (subjects.Key fault))
 key_item answer key asked (Ok plain) =
     said key.name (answer.say key.name key.number key.line asked plain)
 
-abbrev pub subject_item : Answering → Found → Result Subject SubjectFault → Item
+abbrev pub subject_item : Answering → FileKey → Result Subject SubjectFault → Item
 subject_item answer key (Err fault) = Stopped (stop_in key fault)
 subject_item answer key (Ok asked) = key_item answer key asked (key_at asked.plain)
 
-abbrev pub found_item : Answering → Result Found Stop → Item
+abbrev pub found_item : Answering → Result FileKey RunFault → Item
 found_item answer (Err stop) = Stopped stop
 found_item answer (Ok key) = subject_item answer key (subject_of key.line.blob)
 
@@ -83,10 +83,10 @@ abbrev pub or_unanswered : Answering → List ℕ → List Item → List Item
 or_unanswered answer name items = items ++ unanswered_of answer name (is_answered items)
 
 -- each key of a file is answered
-unfoldable pub file_items : Answering → File → List Item
+unfoldable pub file_items : Answering → Named → List Item
 file_items answer file = or_unanswered answer file.name (map (found_item answer) (keys_of file))
 
-unfoldable pub files_items : Answering → List File → List Item
+unfoldable pub files_items : Answering → List Named → List Item
 files_items answer files = flat_map (file_items answer) files
 
 -- What a run says in all: its text, whether some line says REVOKED, and why it stopped before its
@@ -94,7 +94,7 @@ files_items answer files = flat_map (file_items answer) files
 pub record Outcome : Type 0 where
   pub text : List ℕ
   pub revoked : Bool
-  pub stop : Option Stop
+  pub stop : Option RunFault
 
 -- an answer before the rest of a run
 abbrev pub before : Answer → Outcome → Outcome
@@ -119,12 +119,12 @@ status_of false true = 1
 status_of false false = 0
 
 -- The item of a key was not given: it stops the run, or memory ran out.
-abbrev pub IsWithheld : Ender → Item → Stop → Type 0
+abbrev pub IsWithheld : EndedBy → Item → RunFault → Type 0
 IsWithheld ByInput item stop = item ≡ Stopped stop
 IsWithheld ByMemory item stop = stop ≡ stop_of (name_of item) causes.NoMemory
 IsWithheld (ByOutput count) item stop = ⊥
 
 -- What was found out of a key of a file of this name is its item, unless memory ran out.
-abbrev pub GivesAnswer : Item → List ℕ → Result (Option Answer) Stop → Type 0
+abbrev pub GivesAnswer : Item → List ℕ → Result (Option Answer) RunFault → Type 0
 GivesAnswer item name (Ok answer) = item ≡ said name answer
-GivesAnswer item name (Err stop) = IsWithheld (ender_of stop.cause) item stop
+GivesAnswer item name (Err stop) = IsWithheld (ended_by stop.cause) item stop

@@ -2,11 +2,11 @@
 
 ghost use Rattle.std.specs.Prelude.{◌≡◌, ◌⊎◌, ℕ, [], true, false, List, Result, Ok, Err, Some, None, Option};
 ghost use Rattle.ssh_wire.specs.Wire.{IsBytes};
-ghost use Rattle.ssh_cert.specs.Certificate.{Certificate, IsCertificate};
+ghost use Rattle.ssh_cert.specs.Cert.{Cert, IsCertificate};
 ghost use Rattle.krl_types.specs.Subject.{Subject};
 ghost use Rattle.ssh_key.specs.Container.{IsContainer, IsPrivateFault};
 ghost use Rattle.ssh_key.specs.ContainerReading.{private_at};
-ghost use Rattle.ssh_key.specs.Key.{IsKey, Key};
+ghost use Rattle.ssh_key.specs.Key.{IsKey, PublicKey};
 ghost use Rattle.ssh_key.specs.declared.hash.Hash.{Hash};
 ghost use Rattle.ssh_key.specs.KeyFile.{has_key};
 ghost use Rattle.ssh_key.specs.KeyLine.{IsKeyLine};
@@ -26,9 +26,9 @@ ghost use Rattle.krl_runs.specs.Contents.{Known, dump_text};
 ghost use Rattle.krl_runs.specs.Items.{SpellsKey};
 ghost use Rattle.krl_runs.specs.Listing.{certify, listed_certificate};
 ghost use Rattle.krl_runs.specs.Query.{HasEntries, IsHeld, IsRead, ask, ask_by, query_run_of};
-ghost use Rattle.key_files.specs.Keys.{File, stop_at};
+ghost use Rattle.key_files.specs.Keys.{Named, stop_at};
 ghost use Rattle.krl_runs.specs.Run.{Answered, Answering, Stopped, before, container_item, files_items, item_of, outcome_of, said};
-ghost use Rattle.key_files.specs.Stop.{stop_of};
+ghost use Rattle.key_files.specs.RunFault.{stop_of};
 
 use krl_core::laws::{one_first_fault, one_spelling};
 use krl_held::laws::entries_decide_what_is_held;
@@ -45,14 +45,14 @@ pub fn items_by_what_is_spelled()
     ensures none { (answer : Answering) (name : List ℕ) (number : ℕ) (text : List ℕ)
         → has_key text ≡ false → item_of answer name number text ≡ None }
     ensures answered { (answer : Answering) (name : List ℕ) (number : ℕ) (text : List ℕ)
-        (line : Content) (asked : Subject) (key : Key)
+        (line : Content) (asked : Subject) (key : PublicKey)
         → has_key text ≡ true → SpellsKey text line asked key
         → item_of answer name number text
         ≡ Some (said name (answer.say name (Some number) line asked key)) }
     ensures only { (answer : Answering) (name : List ℕ) (number : ℕ) (text : List ℕ)
         (other : List ℕ) (reply : Answer) → IsBytes text
         → item_of answer name number text ≡ Some (Answered other reply)
-        → (line : Content) × (asked : Subject) × (key : Key) × SpellsKey text line asked key
+        → (line : Content) × (asked : Subject) × (key : PublicKey) × SpellsKey text line asked key
         × (Some reply ≡ answer.say name (Some number) line asked key) }
     ensures line_fault { (answer : Answering) (name : List ℕ) (number : ℕ) (text : List ℕ)
         (fault : LineFault) → IsBytes text → has_key text ≡ true → IsFirstLineFault text fault
@@ -72,7 +72,7 @@ pub fn items_by_what_is_spelled()
 /// A container is answered by its public key and its comment; else its first fault ends the run.
 pub fn containers_by_what_is_spelled()
     ensures answered { (answer : Answering) (name text blob comment : List ℕ) (asked : Subject)
-        (key : Key) → IsBytes text → IsBytes blob → IsContainer text blob comment
+        (key : PublicKey) → IsBytes text → IsBytes blob → IsContainer text blob comment
         → IsSubject blob asked → IsKey asked.plain key
         → container_item answer name (private_at text)
         ≡ said name (answer.say name None (content [] blob comment) asked key) }
@@ -91,14 +91,14 @@ pub fn containers_by_what_is_spelled()
 /// line's number, and nothing else is answered.
 pub fn certificates_by_what_is_spelled()
     ensures listed { (hash : Hash) (moment : ℕ) (name : List ℕ) (number : ℕ)
-        (text word blob comment : List ℕ) (certificate : Certificate)
+        (text word blob comment : List ℕ) (certificate : Cert)
         → has_key text ≡ true → IsKeyLine text word blob comment → IsCertificate blob certificate
         → item_of (certify hash moment) name number text
         ≡ Some (Answered name (listed_certificate hash moment name number certificate)) }
     ensures only { (hash : Hash) (moment : ℕ) (name : List ℕ) (number : ℕ) (text : List ℕ)
         (other : List ℕ) (reply : Answer) → IsBytes text
         → item_of (certify hash moment) name number text ≡ Some (Answered other reply)
-        → (line : Content) × (certificate : Certificate)
+        → (line : Content) × (certificate : Cert)
         × IsKeyLine text line.word line.blob line.comment × IsCertificate line.blob certificate
         × (reply ≡ listed_certificate hash moment name number certificate) }
 {
@@ -109,18 +109,18 @@ pub fn certificates_by_what_is_spelled()
 /// Where a list's contents are asked for, their text stands before all that is said of files; else
 /// nothing is said of the list.
 pub fn contents_stand_first()
-    ensures asked { (name : List ℕ) (known : Known) (files : List File)
+    ensures asked { (name : List ℕ) (known : Known) (files : List Named)
         → outcome_of (query_run_of name (Ok known) true files)
         ≡ before (record { text = dump_text known; revoked = false })
         (outcome_of (files_items (ask known.contents) files)) }
-    ensures unasked { (name : List ℕ) (known : Known) (files : List File)
+    ensures unasked { (name : List ℕ) (known : Known) (files : List Named)
         → outcome_of (query_run_of name (Ok known) false files)
         ≡ outcome_of (files_items (ask known.contents) files) }
 {}
 
 /// A list that is held and a list that is asked while it passes give the same lines of each file.
 pub fn held_or_passed()
-    ensures { (text : List ℕ) (known : Known) (entries : List Entry) (files : List File)
+    ensures { (text : List ℕ) (known : Known) (entries : List Entry) (files : List Named)
         → IsHeld text known → HasEntries text entries
         → files_items (ask known.contents) files ≡ files_items (ask_by (is_revoked entries)) files }
 {

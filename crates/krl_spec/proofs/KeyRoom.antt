@@ -3,7 +3,7 @@ use Rattle.std.proofs.Common.{ℕ, ◌+◌, ◌*◌, ◌≤◌, List, [], ◌∷
 use Rattle.std.proofs.lemmas.List.{length-append}
 use Rattle.ssh_wire.specs.Fields.{length-string}
 use Rattle.ssh_wire.specs.Wire.{complement, mpint, string}
-use Rattle.ssh_key.specs.Key.{AreValues, IsKey, Key, field_text, fields_text}
+use Rattle.ssh_key.specs.Key.{AreValues, IsKey, PublicKey, field_text, fields_text}
 use Rattle.ssh_key.specs.Kind.{Field, Positive, Curve, Point, Sized, Application, fields_of, type_name}
 use Rattle.ssh_key.specs.declared.kind.Kind.{Kind}
 use Rattle.ssh_key.specs.declared.kind.Kind.TheVariants.{Rsa, Dsa, Ecdsa256, Ecdsa384}
@@ -36,7 +36,7 @@ kind_room EcdsaSk = omega arith
 kind_room Ed25519Sk = omega arith
 
 -- the blob of a key
-pub key_room : (blob : List ℕ) (key : Key) → IsKey blob key → 19 ≤ length blob
+pub key_room : (blob : List ℕ) (key : PublicKey) → IsKey blob key → 19 ≤ length blob
 key_room blob key is =
     omega (
       arith,

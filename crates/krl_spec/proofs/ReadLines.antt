@@ -2,7 +2,7 @@
 use Rattle.std.proofs.Common.{◌≡◌, ℕ, ◌+◌, ◌≤◌, List, [], ◌∷◌, ◌++◌, length, Option, Some, None, Result, Ok, Err, refl, sym, ap, ◌∙◌, arith, append_assoc}
 use Rattle.std.proofs.lemmas.List.{length-append, append-nil}
 use Rattle.std.specs.List.{slice_split}
-use Rattle.krl_held.specs.Contents.{Contents, held}
+use Rattle.krl_held.specs.Revocations.{Revocations, held}
 use Rattle.krl_held.specs.Entry.{Entry}
 use Rattle.krl_held.specs.Changes.{MeansMore}
 use Rattle.krl_spec.specs.Adding.{AddsLine, Reports}
@@ -39,7 +39,7 @@ named_parts authority number (line ∷ front) back none =
     (λ later. named_parts authority (number + 1) front back later ∙ ap (λ (n : ℕ). with_entries (lines_from authority (number + 1) front).entries (lines_from authority n back)) same)
 
 -- The lines before are read: they have no fault, and what they name was added.
-pub record IsAt (authority : Option (List ℕ)) (lines : List (List ℕ)) (passed : ℕ) (rest : List (List ℕ)) (old new : Contents) : Type 0 where
+pub record IsAt (authority : Option (List ℕ)) (lines : List (List ℕ)) (passed : ℕ) (rest : List (List ℕ)) (old new : Revocations) : Type 0 where
   pub before : List (List ℕ)
   pub parts : lines ≡ before ++ rest
   pub counted : length before ≡ passed
@@ -47,7 +47,7 @@ pub record IsAt (authority : Option (List ℕ)) (lines : List (List ℕ)) (passe
   pub adds : MeansMore old new (lines_from authority 1 before).entries
   pub few : held new ≤ held old + length (lines_from authority 1 before).entries
 
-pub none_read : (authority : Option (List ℕ)) (lines : List (List ℕ)) (r : Contents) → IsAt authority lines 0 lines r r
+pub none_read : (authority : Option (List ℕ)) (lines : List (List ℕ)) (r : Revocations) → IsAt authority lines 0 lines r r
 none_read authority lines r = record {
   before = [];
   parts = refl;
@@ -58,7 +58,7 @@ none_read authority lines r = record {
 }
 
 -- A line has no fault, and what it names, if anything, was added.
-record LineAdds (authority : Option (List ℕ)) (number : ℕ) (line : List ℕ) (old new : Contents) : Type 0 where
+record LineAdds (authority : Option (List ℕ)) (number : ℕ) (line : List ℕ) (old new : Revocations) : Type 0 where
   named : List Entry
   is : lines_from authority number (line ∷ []) ≡ record { entries = named; fault = None }
   adds : MeansMore old new named
@@ -66,7 +66,7 @@ record LineAdds (authority : Option (List ℕ)) (number : ℕ) (line : List ℕ)
 
 -- the next line is read
 next_line : (authority : Option (List ℕ)) (lines : List (List ℕ)) (passed : ℕ) (line : List ℕ) (rest : List (List ℕ))
-    (old mid new : Contents) → (at : IsAt authority lines passed (line ∷ rest) old mid)
+    (old mid new : Revocations) → (at : IsAt authority lines passed (line ∷ rest) old mid)
     → LineAdds authority (1 + length at.before) line mid new → IsAt authority lines (passed + 1) rest old new
 next_line authority lines passed line rest old mid new at now =
     let e = (lines_from authority 1 at.before).entries in
@@ -81,7 +81,7 @@ next_line authority lines passed line rest old mid new at now =
       few = rw is (omega (arith, at.few, now.few, length-append e now.named));
     }
 
-pub line_read : (authority : Option (List ℕ)) (lines : List (List ℕ)) (passed : ℕ) (line : List ℕ) (rest : List (List ℕ)) (old mid new : Contents)
+pub line_read : (authority : Option (List ℕ)) (lines : List (List ℕ)) (passed : ℕ) (line : List ℕ) (rest : List (List ℕ)) (old mid new : Revocations)
     (read : Option (Result Entry SpecCause)) → line_entry authority line ≡ read → IsAt authority lines passed (line ∷ rest) old mid
     → AddsLine read (Ok (tt {0})) mid new → IsAt authority lines (passed + 1) rest old new
 line_read authority lines passed line rest old mid new None is at same =
@@ -97,7 +97,7 @@ line_read authority lines passed line rest old mid new (Some (Ok entry)) is at (
 line_read authority lines passed line rest old mid new (Some (Err cause)) is at (other, same, adds, few) = absurd (cc)
 
 -- All lines are read.
-pub all_read : (authority : Option (List ℕ)) (text : List ℕ) (passed : ℕ) (old new : Contents)
+pub all_read : (authority : Option (List ℕ)) (text : List ℕ) (passed : ℕ) (old new : Revocations)
     → IsAt authority (slice_split is_newline text) passed [] old new
     → ReadsSpec authority text (Ok (tt {0})) old new × (held new ≤ held old + length (lines_of authority text).entries)
 unfolding lines_of
@@ -106,7 +106,7 @@ all_read authority text passed old new at =
     rw whole ((at.faultless, at.adds), at.few)
 
 -- What the front of the lines names comes first.
-front_is_few : (authority : Option (List ℕ)) (lines : List (List ℕ)) (passed : ℕ) (rest : List (List ℕ)) (old new : Contents)
+front_is_few : (authority : Option (List ℕ)) (lines : List (List ℕ)) (passed : ℕ) (rest : List (List ℕ)) (old new : Revocations)
     → IsAt authority lines passed rest old new → held new ≤ held old + length (lines_from authority 1 lines).entries
 front_is_few authority lines passed rest old new at =
     let e = (lines_from authority 1 at.before).entries in
@@ -115,7 +115,7 @@ front_is_few authority lines passed rest old new at =
     rw is (omega (arith, at.few, length-append e later.entries))
 
 -- The fault of a line is the first one.
-reported : (authority : Option (List ℕ)) (text : List ℕ) (passed : ℕ) (line : List ℕ) (rest : List (List ℕ)) (old new : Contents) (cause : SpecCause)
+reported : (authority : Option (List ℕ)) (text : List ℕ) (passed : ℕ) (line : List ℕ) (rest : List (List ℕ)) (old new : Revocations) (cause : SpecCause)
     → IsAt authority (slice_split is_newline text) passed (line ∷ rest) old new → line_entry authority line ≡ Some (Err cause)
     → ((lines_of authority text).fault ≡ Some (record { line = passed + 1; cause = cause })) × MeansMore old new (lines_of authority text).entries
 unfolding lines_of
@@ -128,7 +128,7 @@ reported authority text passed line rest old new cause at is =
     ap (lines_from authority 1) at.parts ∙ named_parts authority 1 at.before (line ∷ rest) at.faultless ∙ ap (with_entries e) here in
     (ap (λ (n : LineEntries). n.fault) whole, λ entries means. rw (whole, append-nil e) (at.adds entries means))
 
-lacking : (authority : Option (List ℕ)) (lines : List (List ℕ)) (passed : ℕ) (line : List ℕ) (rest : List (List ℕ)) (old new : Contents)
+lacking : (authority : Option (List ℕ)) (lines : List (List ℕ)) (passed : ℕ) (line : List ℕ) (rest : List (List ℕ)) (old new : Revocations)
     → IsAt authority lines passed (line ∷ rest) old new → LacksMemoryAt authority lines (passed + 1) old new
 lacking authority lines passed line rest old new at = record {
   before = at.before;
@@ -140,14 +140,14 @@ lacking authority lines passed line rest old new at = record {
   adds = at.adds;
 }
 
-stops : (authority : Option (List ℕ)) (text : List ℕ) (passed : ℕ) (line : List ℕ) (rest : List (List ℕ)) (old new : Contents)
+stops : (authority : Option (List ℕ)) (text : List ℕ) (passed : ℕ) (line : List ℕ) (rest : List (List ℕ)) (old new : Revocations)
     (read : Result Entry SpecCause) (cause : SpecCause) → IsAt authority (slice_split is_newline text) passed (line ∷ rest) old new
     → line_entry authority line ≡ Some read → Reports cause read → StopsAt authority text (passed + 1) cause old new
 stops authority text passed line rest old new read causes.NoMemory at is reports = lacking authority _ passed line rest old new at
 stops authority text passed line rest old new read cause at is reports = reported authority text passed line rest old new cause at (is ∙ ap Some reports)
 
 -- A line stops the reading, or memory runs out there.
-pub line_stops : (authority : Option (List ℕ)) (text : List ℕ) (passed : ℕ) (line : List ℕ) (rest : List (List ℕ)) (old mid new : Contents) (cause : SpecCause)
+pub line_stops : (authority : Option (List ℕ)) (text : List ℕ) (passed : ℕ) (line : List ℕ) (rest : List (List ℕ)) (old mid new : Revocations) (cause : SpecCause)
     (read : Option (Result Entry SpecCause)) → line_entry authority line ≡ read → IsAt authority (slice_split is_newline text) passed (line ∷ rest) old mid
     → AddsLine {A = Unit {0}} read (Err cause) mid new
     → StopsAt authority text (passed + 1) cause old new × (held new ≤ held old + length (lines_of authority text).entries)

@@ -4,7 +4,7 @@ use Rattle.std.specs.Prelude.{Err, ⊤}
 use Rattle.ssh_key.specs.declared.fingerprint_fault.FingerprintFault.TheVariants as fingerprints
 use Rattle.ssh_key.specs.declared.line_fault.LineFault.TheVariants as lines
 use Rattle.krl_held.specs.Changes.{MeansMore}
-use Rattle.krl_held.specs.Contents.{Contents, held}
+use Rattle.krl_held.specs.Revocations.{Revocations, held}
 use Rattle.krl_held.specs.Entry.{Entry}
 use Rattle.key_files.specs.declared.spec_cause.KeyCause.TheVariants as keys
 use Rattle.key_files.specs.declared.spec_cause.SpecCause.{SpecCause}
@@ -35,15 +35,15 @@ Reports cause read = read ≡ Err cause
 
 -- What was read is added, which makes at most one interval. Else the cause is reported, and nothing
 -- changed.
-abbrev pub Adds : {A : Type 0} → Result Entry SpecCause → Result A SpecCause
-    → Contents → Contents → Type 0
-Adds read (Ok done) old new =
+abbrev pub AddsEntry : {A : Type 0} → Result Entry SpecCause → Result A SpecCause
+    → Revocations → Revocations → Type 0
+AddsEntry read (Ok done) old new =
     (entry : Entry) × (read ≡ Ok entry) × MeansMore old new (entry ∷ []) × (held new ≤ held old + 1)
-Adds read (Err cause) old new = Reports cause read × (new ≡ old)
+AddsEntry read (Err cause) old new = Reports cause read × (new ≡ old)
 
 -- The same of a line, of which nothing need count.
 abbrev pub AddsLine : {A : Type 0} → Option (Result Entry SpecCause) → Result A SpecCause
-    → Contents → Contents → Type 0
+    → Revocations → Revocations → Type 0
 AddsLine None (Ok done) old new = new ≡ old
 AddsLine None (Err cause) old new = ⊥
-AddsLine (Some read) result old new = Adds read result old new
+AddsLine (Some read) result old new = AddsEntry read result old new

@@ -5,7 +5,7 @@ use Rattle.sha1.specs.Sha1.{sha1}
 use Rattle.sha2.specs.Sha256.{sha256}
 use Rattle.ssh_wire.specs.Reading.{◌>>=◌, in_fault}
 use Rattle.ssh_key.specs.FingerprintReading.{fingerprint_at}
-use Rattle.krl_types.specs.Subject.{Names}
+use Rattle.krl_types.specs.Subject.{CertNames}
 use Rattle.krl_held.specs.Authority.{IsAuthority, authority_bytes}
 use Rattle.krl_held.specs.Entry.{Entry, RangeEntry, IdEntry, KeyEntry, Sha1Entry, Sha256Entry}
 use Rattle.krl_spec.specs.Number.{serials_of_text}
@@ -56,17 +56,17 @@ hash_order text = do
   Ok (Sha256Entry digest)
 
 -- the authority of a certificate has some bytes
-abbrev pub HasAuthority : Option Names → Type 0
+abbrev pub HasAuthority : Option CertNames → Type 0
 HasAuthority None = ⊤
 HasAuthority (Some names) = 0 < length names.authority
 
 -- A certificate is named by its serial, or by its key ID where the serial is 0.
-abbrev pub certificate_entry : Names → Entry
+abbrev pub certificate_entry : CertNames → Entry
 certificate_entry names =
     if names.serial == 0 then IdEntry names.authority names.key_id
     else RangeEntry names.authority names.serial names.serial
 
-abbrev pub names_entry : List ℕ → Option Names → Entry
+abbrev pub names_entry : List ℕ → Option CertNames → Entry
 names_entry plain None = KeyEntry plain
 names_entry plain (Some names) = certificate_entry names
 

@@ -2,7 +2,7 @@
 use Rattle.std.specs.Prelude.{◌≡◌, ℕ, ◌+◌, List, [], ◌∷◌, ◌++◌, length, Option, Some, None, Result}
 use Rattle.std.specs.Prelude.{Ok, Err}
 use Rattle.std.specs.List.{slice_split}
-use Rattle.krl_held.specs.Contents.{Contents}
+use Rattle.krl_held.specs.Revocations.{Revocations}
 use Rattle.krl_held.specs.Entry.{Entry}
 use Rattle.krl_held.specs.Changes.{MeansMore}
 use Rattle.krl_spec.specs.Entries.{line_entry}
@@ -36,7 +36,7 @@ lines_of authority text = lines_from authority 1 (slice_split is_newline text)
 
 -- Memory ran out at a line: those before it have no fault, and what they name was added.
 pub record LacksMemoryAt (authority : Option (List ℕ)) (lines : List (List ℕ)) (number : ℕ)
-    (old new : Contents) : Type 0 where
+    (old new : Revocations) : Type 0 where
   pub before : List (List ℕ)
   pub line : List ℕ
   pub after : List (List ℕ)
@@ -46,7 +46,7 @@ pub record LacksMemoryAt (authority : Option (List ℕ)) (lines : List (List ℕ
   pub adds : MeansMore old new (lines_from authority 1 before).entries
 
 -- What the lines name up to the first fault was added, and the fault is reported.
-abbrev pub StopsAt : Option (List ℕ) → List ℕ → ℕ → SpecCause → Contents → Contents → Type 0
+abbrev pub StopsAt : Option (List ℕ) → List ℕ → ℕ → SpecCause → Revocations → Revocations → Type 0
 StopsAt authority text number NoMemory old new =
     LacksMemoryAt authority (slice_split is_newline text) number old new
 StopsAt authority text number cause old new =
@@ -55,7 +55,7 @@ StopsAt authority text number cause old new =
 
 -- All that the lines name was added, and they have no fault; or reading stopped at one.
 abbrev pub ReadsSpec : {A : Type 0} → Option (List ℕ) → List ℕ → Result A SpecFault
-    → Contents → Contents → Type 0
+    → Revocations → Revocations → Type 0
 ReadsSpec authority text (Ok done) old new =
     ((lines_of authority text).fault ≡ None) × MeansMore old new (lines_of authority text).entries
 ReadsSpec authority text (Err fault) old new = StopsAt authority text fault.line fault.cause old new

@@ -1,18 +1,18 @@
 -- How much more is stored by reading what a specification file names.
 use Rattle.std.specs.Prelude.{◌≡◌, ℕ, ◌+◌, ◌≤◌, ◌⊎◌, List, length, Option, Some, None}
-use Rattle.krl_types.specs.Subject.{Names, Subject}
-use Rattle.krl_held.specs.Contents.{Contents, IsStoredWithin}
+use Rattle.krl_types.specs.Subject.{CertNames, Subject}
+use Rattle.krl_held.specs.Revocations.{Revocations, IsStoredWithin}
 use Rattle.krl_spec.specs.Under.{bytes_under}
 use Rattle.krl_held.specs.Entry.{Entry, RangeEntry, IdEntry, KeyEntry, Sha1Entry}
 use Rattle.krl_held.specs.Entry.{Sha256Entry}
 
 -- At most this many bytes more are stored, the authority at hand counted once.
-abbrev pub GrowsUnder : List ℕ → ℕ → Contents → Contents → Type 0
+abbrev pub GrowsUnder : List ℕ → ℕ → Revocations → Revocations → Type 0
 GrowsUnder authority size old new =
     (n : ℕ) → IsStoredWithin authority old n → IsStoredWithin authority new (n + size)
 
 -- The same for the bytes of a text, where some authority is at hand or none.
-abbrev pub GrowsBy : Option (List ℕ) → List ℕ → Contents → Contents → Type 0
+abbrev pub GrowsBy : Option (List ℕ) → List ℕ → Revocations → Revocations → Type 0
 GrowsBy authority text = GrowsUnder (bytes_under authority) (length text)
 
 -- The same number of bytes is enough for what stands under another authority, whose bytes are
@@ -31,7 +31,7 @@ Fits under size (Sha256Entry hash) = 32 ≤ size
 Fits under size entry = ⊥
 
 -- how many bytes what is asked can store: those of a plain key, or of what names a certificate
-abbrev pub asked_size : List ℕ → Option Names → ℕ
+abbrev pub asked_size : List ℕ → Option CertNames → ℕ
 asked_size plain None = length plain
 asked_size plain (Some names) = length names.authority + length names.key_id
 

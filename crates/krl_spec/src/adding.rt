@@ -2,8 +2,8 @@
 
 ghost use Rattle.std.specs.Prelude.{◌≡◌, ◌+◌, ◌≤◌, ℕ, List, [], ◌∷◌, OnErr, OnOk, length};
 ghost use Rattle.krl_held.specs.Changes.{MeansMore};
-ghost use Rattle.krl_held.specs.Contents.{held};
-ghost use Rattle.krl_spec.specs.Adding.{Adds, AddsLine};
+ghost use Rattle.krl_held.specs.Revocations.{held};
+ghost use Rattle.krl_spec.specs.Adding.{AddsEntry, AddsLine};
 ghost use Rattle.krl_spec.specs.Under.{IsUnder, authority_under};
 ghost use Rattle.krl_spec.specs.Entries.{bare_entry, line_entry, text_entry};
 ghost use Rattle.krl_spec.specs.Directive.{order_in};
@@ -48,7 +48,7 @@ fn add_bare<S: Spans>(
     revocations: &mut Revocations<S>,
     text: &[u8],
 ) -> Result<(), SpecCause>
-    ensures adds { Adds (bare_entry text.now) result revocations.old revocations.new }
+    ensures adds { AddsEntry (bare_entry text.now) result revocations.old revocations.new }
     ensures grows { (under : List ℕ)
         → GrowsUnder under (length text.now) revocations.old revocations.new }
 {
@@ -66,7 +66,7 @@ fn add_text<S: Spans>(
     text: &[u8],
 ) -> Result<(), SpecCause>
     requires { IsUnder under }
-    ensures adds { Adds (text_entry (authority_under under.entry) text.now (order_in text.now))
+    ensures adds { AddsEntry (text_entry (authority_under under.entry) text.now (order_in text.now))
         result revocations.old revocations.new }
     ensures grows { GrowsBy (authority_under under.entry) text.now
         revocations.old revocations.new }

@@ -1,7 +1,7 @@
 //! Reading specification files (ssh-keygen(1), KEY REVOCATION LISTS).
 
 ghost use Rattle.std.specs.Prelude.{◌+◌, ◌≤◌, length};
-ghost use Rattle.krl_held.specs.Contents.{held, stored};
+ghost use Rattle.krl_held.specs.Revocations.{held, stored};
 ghost use Rattle.krl_spec.specs.Under.{IsUnder, authority_under};
 ghost use Rattle.krl_spec.specs.Lines.{ReadsSpec, lines_of};
 ghost use Rattle.krl_spec.specs.Under.{bytes_under};

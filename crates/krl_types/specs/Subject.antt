@@ -2,7 +2,7 @@
 use Rattle.std.specs.Prelude.{ℕ, List, Option}
 
 -- what a list can name of a certificate, beside its plain key
-pub record Names : Type 0 where
+pub record CertNames : Type 0 where
   pub serial : ℕ
   pub key_id : List ℕ
   pub authority : List ℕ
@@ -10,4 +10,4 @@ pub record Names : Type 0 where
 -- a plain key by its blob, and for a certificate its names
 pub record Subject : Type 0 where
   pub plain : List ℕ
-  pub cert : Option Names
+  pub cert : Option CertNames

@@ -15,9 +15,9 @@ pub struct CertNames<'a> {
 }
 
 impl<'a> Model for CertNames<'a> {
-    ghost use Rattle.krl_types.specs.Subject.{Names};
+    ghost use Rattle.krl_types.specs.Subject.{CertNames};
 
-    ghost Value = { Names };
+    ghost Value = { CertNames };
 
     ghost view = { λ names. record {
       serial = names.serial;

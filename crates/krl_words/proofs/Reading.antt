@@ -86,5 +86,5 @@ not_read words e NoMemory kind reports = tt
 not_read words e (Words help text) kind reports = (kind_of e, among kind, reports.1)
   where
     among : HasKind (fault_of program words) e → IsAmong (kind_of e) (fault_of program words)
-    among (inl starved) = absurd (reports.0 starved)
+    among (inl ran_out) = absurd (reports.0 ran_out)
     among (inr is) = is

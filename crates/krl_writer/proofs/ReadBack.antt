@@ -2,7 +2,7 @@
 use Rattle.std.proofs.Common.{◌≡◌, ℕ, ◌<◌, ◌≤◌, ◌^◌, List, [], ◌∷◌, length, sym, subst}
 use Rattle.krl_core.specs.declared.header.Header.{Header}
 use Rattle.krl_plan.specs.declared.group.Group.{Group}
-use Rattle.krl_held.specs.Contents.{Contents, IsOrderly, Means, Section}
+use Rattle.krl_held.specs.Revocations.{Revocations, IsOrderly, Means, Section}
 use Rattle.krl_core.specs.Entries.{entries_of}
 use Rattle.krl_core.specs.Front.{limit}
 use Rattle.krl_core.specs.Krl.{SpelledSection, Spells}
@@ -22,12 +22,12 @@ are_plans (plan ∷ plans) [] each = absurd each
 are_plans (plan ∷ plans) (first ∷ listed) each = (each.0.is_cheapest.is_plan, are_plans plans listed each.1)
 
 -- a list that was written: the sections that it spells, which mean what is held
-pub record SpelledOf (header : Header) (r : Contents) (text : List ℕ) : Type 0 where
+pub record SpelledOf (header : Header) (r : Revocations) (text : List ℕ) : Type 0 where
   pub sections : List SpelledSection
   pub spelled : Spells text header sections
   pub means : Means r (entries_of sections)
 
-pub written_spelled : (header : Header) (r : Contents) (text : List ℕ) → IsKrlText header r text → length text ≤ limit → header.version < 2 ^ 64 → header.date < 2 ^ 64 → IsOrderly r → SpelledOf header r text
+pub written_spelled : (header : Header) (r : Revocations) (text : List ℕ) → IsKrlText header r text → length text ≤ limit → header.version < 2 ^ 64 → header.date < 2 ^ 64 → IsOrderly r → SpelledOf header r text
 written_spelled header r text is short version date orderly =
     let each = are_plans is.plans r.sections is.least in
     let same = is.text_is in
@@ -39,7 +39,7 @@ written_spelled header r text is short version date orderly =
       means = sections_mean is.plans r orderly each;
     }
 
-pub read_back : (header read : Header) (r held : Contents) (text : List ℕ) → SpelledOf header r text → IsList text read held → (read ≡ header) × (held ≡ r)
+pub read_back : (header read : Header) (r held : Revocations) (text : List ℕ) → SpelledOf header r text → IsList text read held → (read ≡ header) × (held ≡ r)
 read_back header read r held text w h =
     let one = spelled_once text read header h.sections w.sections h.spelled w.spelled in
     let means : Means held (entries_of w.sections) = subst (λ (sections : List SpelledSection). Means held (entries_of sections)) one.1 h.holds.means in

@@ -7,7 +7,7 @@ use Rattle.ssh_wire.specs.Fields.{length-number, length-string}
 use Rattle.krl_core.specs.Front.{limit}
 use Rattle.krl_plan.specs.declared.group.Group.{Group}
 use Rattle.krl_core.specs.declared.header.Header.{Header}
-use Rattle.krl_held.specs.Contents.{Contents, IsListed, IsOrderly, Section}
+use Rattle.krl_held.specs.Revocations.{Revocations, IsListed, IsOrderly, Section}
 use Rattle.krl_core.specs.Krl.{Certificates, Ids, Keys, SpelledSection, Sha1s, Sha256s, SignaturesLast, Spells, SpellsEach, SpellsHashes, SpellsSection, SpellsSubsection, header_text}
 use Rattle.krl_writer.specs.KrlText.{EachPlan, authorities_text, authority_content, authority_sections, authority_text, listed_as, listed_text, plan_subsections, sections_of, sections_text, text_of}
 use Rattle.krl_plan.specs.Plan.{IsPlan}
@@ -86,7 +86,7 @@ keys_unsigned : (blobs : List (List ℕ)) (rest : List SpelledSection) → Signa
 keys_unsigned [] rest h = h
 keys_unsigned (blob ∷ blobs) rest h = h
 
-rest_unsigned : (r : Contents) → SignaturesLast (listed_as Keys r.keys ++ (listed_as Sha1s r.sha1s ++ listed_as Sha256s r.sha256s))
+rest_unsigned : (r : Revocations) → SignaturesLast (listed_as Keys r.keys ++ (listed_as Sha1s r.sha1s ++ listed_as Sha256s r.sha256s))
 rest_unsigned r = keys_unsigned r.keys _ (sha1s_unsigned r.sha1s _ (sha256s_unsigned r.sha256s))
 
 unsigned : (plans : List (List Group)) (listed : List Section) (rest : List SpelledSection) → SignaturesLast rest → SignaturesLast (authority_sections plans listed ++ rest)
@@ -117,7 +117,7 @@ length-header header =
       length-number 8 0,
     )
 
-pub text_spelled : (header : Header) (plans : List (List Group)) (r : Contents) → header.version < 2 ^ 64 → header.date < 2 ^ 64 → IsOrderly r
+pub text_spelled : (header : Header) (plans : List (List Group)) (r : Revocations) → header.version < 2 ^ 64 → header.date < 2 ^ 64 → IsOrderly r
     → EachPlan IsPlan plans r.sections → length (text_of header plans r) ≤ limit → Spells (text_of header plans r) header (sections_of plans r)
 text_spelled header plans r version date orderly each short =
     let head : List ℕ = header_text header 0 [] in

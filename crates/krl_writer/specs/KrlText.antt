@@ -6,7 +6,7 @@ use Rattle.krl_core.specs.declared.header.Header.{Header}
 use Rattle.krl_plan.specs.declared.group.Sort.{Sort}
 use Rattle.krl_plan.specs.declared.group.Sort.TheVariants as sorts
 use Rattle.krl_plan.specs.declared.group.Group.{Group}
-use Rattle.krl_held.specs.Contents.{Contents, Section}
+use Rattle.krl_held.specs.Revocations.{Revocations, Section}
 use Rattle.krl_core.specs.Krl.{SpelledSection, Certificates, Keys, Sha1s, Sha256s, Subsection}
 use Rattle.krl_core.specs.Krl.{Serials, Range, Bitmap, Ids, header_text}
 use Rattle.krl_plan.specs.Plan.{IsLeastPlan, reach}
@@ -37,15 +37,15 @@ authorities_text (plan ∷ plans) (first ∷ listed) =
     authority_text plan first ++ authorities_text plans listed
 
 -- the sections of keys and hashes
-abbrev pub texts_text : Contents → List ℕ
+abbrev pub texts_text : Revocations → List ℕ
 texts_text r = listed_text 2 r.keys ++ (listed_text 3 r.sha1s ++ listed_text 5 r.sha256s)
 
 -- all sections
-abbrev pub sections_text : List (List Group) → Contents → List ℕ
+abbrev pub sections_text : List (List Group) → Revocations → List ℕ
 sections_text plans r = authorities_text plans r.sections ++ texts_text r
 
 -- the list of a header and of what is held, with a plan for each authority
-abbrev pub text_of : Header → List (List Group) → Contents → List ℕ
+abbrev pub text_of : Header → List (List Group) → Revocations → List ℕ
 text_of header plans r = header_text header 0 [] ++ sections_text plans r
 
 -- there is a plan of each authority's runs
@@ -57,7 +57,7 @@ EachPlan Holds (plan ∷ plans) (first ∷ listed) =
     Holds first.spans plan × EachPlan Holds plans listed
 
 -- The text is the list that is written: each authority's serials by the least plan of its runs.
-pub record IsKrlText (header : Header) (r : Contents) (text : List ℕ) : Type 0 where
+pub record IsKrlText (header : Header) (r : Revocations) (text : List ℕ) : Type 0 where
   pub plans : List (List Group)
   pub least : EachPlan IsLeastPlan plans r.sections
   pub text_is : text ≡ text_of header plans r
@@ -90,7 +90,7 @@ authority_sections (plan ∷ plans) (first ∷ listed) =
     ∷ authority_sections plans listed
 
 -- the sections that the text spells
-abbrev pub sections_of : List (List Group) → Contents → List SpelledSection
+abbrev pub sections_of : List (List Group) → Revocations → List SpelledSection
 sections_of plans r =
     authority_sections plans r.sections
     ++ (listed_as Keys r.keys ++ (listed_as Sha1s r.sha1s ++ listed_as Sha256s r.sha256s))

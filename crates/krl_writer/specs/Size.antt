@@ -2,7 +2,7 @@
 use Rattle.std.specs.Prelude.{ℕ, ◌+◌, ◌*◌, List, [], ◌∷◌, length}
 use Rattle.krl_core.specs.declared.header.Header.{Header}
 use Rattle.krl_plan.specs.declared.group.Group.{Group}
-use Rattle.krl_held.specs.Contents.{Contents, Section}
+use Rattle.krl_held.specs.Revocations.{Revocations, Section}
 use Rattle.krl_plan.specs.Plan.{cost}
 
 -- strings one after the other, each with four bytes of length
@@ -33,7 +33,7 @@ authorities_size (plan ∷ plans) (first ∷ listed) =
     authority_size plan first + authorities_size plans listed
 
 -- the whole list
-abbrev pub text_size : Header → List (List Group) → Contents → ℕ
+abbrev pub text_size : Header → List (List Group) → Revocations → ℕ
 text_size header plans r =
     44 + length header.comment + authorities_size plans r.sections
     + listed_size r.keys + hashes_size 24 r.sha1s + hashes_size 36 r.sha256s

@@ -11,7 +11,7 @@ use Rattle.krl_writer.specs.declared.text_fault.TextFault.{TextFault}
 use Rattle.krl_writer.specs.declared.text_fault.TextFault.TheVariants.{NoMemory, TooLong}
 use Rattle.krl_plan.specs.declared.group.Group.{Group}
 use Rattle.krl_core.specs.declared.header.Header.{Header}
-use Rattle.krl_held.specs.Contents.{Contents, Section}
+use Rattle.krl_held.specs.Revocations.{Revocations, Section}
 use Rattle.krl_writer.specs.KrlText.{EachPlan, IsKrlText, authorities_text, authority_text}
 use Rattle.krl_plan.specs.Plan.{IsLeastPlan}
 
@@ -49,11 +49,12 @@ AddsAuthorities (Err fault) old new listed =
     → Refuses fault (old ++ authorities_text plans listed)
 
 -- the text is the list that is written, and within the limit
-abbrev pub IsTextWithin : Header → Contents → List ℕ → Type 0
+abbrev pub IsTextWithin : Header → Revocations → List ℕ → Type 0
 IsTextWithin header r text = IsKrlText header r text × (length text ≤ limit)
 
 -- The bytes are those of the list that is written, and within the limit, or the list is too long.
-abbrev pub IsWritten : {A : Type 0} → (A → List ℕ) → Result A TextFault → Header → Contents → Type 0
+abbrev pub IsWritten : {A : Type 0} → (A → List ℕ) → Result A TextFault → Header → Revocations
+    → Type 0
 IsWritten bytes (Ok made) header r = IsTextWithin header r (bytes made)
 IsWritten bytes (Err NoMemory) header r = ⊤
 IsWritten bytes (Err TooLong) header r =
@@ -67,7 +68,7 @@ write_fault_number TooLong' = 3
 -- The list went out, or on a fault of the writer its first bytes and no others, and it is within
 -- the limit. Or it has no text, and nothing went out. The writer has failed just where it is at
 -- fault.
-abbrev pub Writes : {A : Type 0} → Result A WriteFault → Header → Contents
+abbrev pub Writes : {A : Type 0} → Result A WriteFault → Header → Revocations
     → Option (List ℕ) → Option (List ℕ) → Bool → Type 0
 Writes (Ok done) header r old new failed =
     (text : List ℕ) × (IsTextWithin header r text × (Appends old new text × (failed ≡ false)))

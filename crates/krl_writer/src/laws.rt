@@ -4,7 +4,7 @@ ghost use Rattle.std.specs.Prelude.{◌≡◌, ◌≤◌, ◌<◌, ◌^◌, ◌�
 ghost use Rattle.ssh_wire.specs.Wire.{IsBytes};
 ghost use Rattle.krl_core.specs.Front.{IsFirstFault, limit};
 ghost use Rattle.krl_plan.specs.declared.group.Group.{Group};
-ghost use Rattle.krl_held.specs.Contents.{Contents, IsOrderly, Means};
+ghost use Rattle.krl_held.specs.Revocations.{Revocations, IsOrderly, Means};
 ghost use Rattle.krl_core.specs.declared.header.Header.{Header};
 ghost use Rattle.krl_core.specs.Krl.{SpelledSection, Spells};
 ghost use Rattle.krl_writer.specs.KrlText.{EachPlan, IsKrlText, sections_of, text_of};
@@ -17,7 +17,7 @@ ghost use Rattle.krl_writer.specs.Size.{text_size};
 
 /// The text of a list within the limit is spelled, whatever plans its serials are written by.
 pub fn text_is_spelled()
-    ensures { (header : Header) (plans : List (List Group)) (r : Contents)
+    ensures { (header : Header) (plans : List (List Group)) (r : Revocations)
         → header.version < 2 ^ 64 → header.date < 2 ^ 64 → IsOrderly r
         → EachPlan IsPlan plans r.sections → length (text_of header plans r) ≤ limit
         → Spells (text_of header plans r) header (sections_of plans r) }
@@ -26,14 +26,14 @@ pub fn text_is_spelled()
 /// What the sections of a written list name is what is held, whatever plans its serials are written
 /// by.
 pub fn sections_mean_what_is_held()
-    ensures { (plans : List (List Group)) (r : Contents) → IsOrderly r
+    ensures { (plans : List (List Group)) (r : Revocations) → IsOrderly r
         → EachPlan IsPlan plans r.sections → Means r (entries_of (sections_of plans r)) }
 {}
 
 /// The list that is written of what is held is spelled, where it is within the limit, and what its
 /// sections name is what is held.
 pub fn written_list_names_what_is_held()
-    ensures { (header : Header) (r : Contents) (text : List ℕ) → IsKrlText header r text
+    ensures { (header : Header) (r : Revocations) (text : List ℕ) → IsKrlText header r text
         → length text ≤ limit → header.version < 2 ^ 64 → header.date < 2 ^ 64 → IsOrderly r
         → (sections : List SpelledSection) × (Spells text header sections
         × Means r (entries_of sections)) }
@@ -41,7 +41,8 @@ pub fn written_list_names_what_is_held()
 
 /// Whatever is read of a list that was written is its header and just what was held.
 pub fn written_list_is_read_back()
-    ensures { (header read : Header) (r held : Contents) (text : List ℕ) → IsKrlText header r text
+    ensures { (header read : Header) (r held : Revocations) (text : List ℕ)
+        → IsKrlText header r text
         → length text ≤ limit → header.version < 2 ^ 64 → header.date < 2 ^ 64 → IsOrderly r
         → IsList text read held → (read ≡ header) × (held ≡ r) }
 {}
@@ -49,11 +50,11 @@ pub fn written_list_is_read_back()
 /// A list that was written has no fault. What is said of it where it is not read is that memory ran
 /// out, or that the reader failed.
 pub fn written_list_has_no_fault()
-    ensures unfaulted { (header : Header) (r : Contents) (text : List ℕ)
+    ensures unfaulted { (header : Header) (r : Revocations) (text : List ℕ)
         → IsKrlText header r text → length text ≤ limit
         → header.version < 2 ^ 64 → header.date < 2 ^ 64 → IsOrderly r
         → IsBytes text → IsFirstFault text None }
-    ensures refused { (header : Header) (r : Contents) (text : List ℕ)
+    ensures refused { (header : Header) (r : Revocations) (text : List ℕ)
         → IsKrlText header r text → length text ≤ limit
         → header.version < 2 ^ 64 → header.date < 2 ^ 64 → IsOrderly r
         → IsBytes text → (fault : KrlFault) (failed : Bool) (left : Option (List ℕ))
@@ -63,7 +64,7 @@ pub fn written_list_has_no_fault()
 
 /// The exact length of a list that is written: its parts and what its plans cost.
 pub fn text_has_its_size()
-    ensures { (header : Header) (plans : List (List Group)) (r : Contents) → IsOrderly r
+    ensures { (header : Header) (plans : List (List Group)) (r : Revocations) → IsOrderly r
         → EachPlan IsPlan plans r.sections
         → length (text_of header plans r) ≡ text_size header plans r }
 {}

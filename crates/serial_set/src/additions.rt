@@ -132,7 +132,8 @@ impl SpanPages {
     // The first entry that ends at a number or past it. `met` is that of a lower number, and mostly
     // of this one too.
     fn entry_on(&self, met: Option<Entry>, number: u64) -> Option<Entry>
-        requires { (lower : ℕ) × ((lower ≤ number) × IsEntryFrom (entries_held self.now) lower met) }
+        requires { (lower : ℕ) × ((lower ≤ number)
+            × IsEntryFrom (entries_held self.now) lower met) }
         ensures { IsEntryFrom (entries_held self.now) number result }
     {
         match met {

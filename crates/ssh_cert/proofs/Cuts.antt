@@ -8,14 +8,14 @@ use Rattle.ssh_wire.specs.Cut.{number-cut, string-cut}
 use Rattle.ssh_wire.specs.Reading.{in_fault}
 use Rattle.ssh_key.specs.declared.fault.KeyFault.{KeyFault}
 use Rattle.ssh_key.specs.declared.kind.Kind.{Kind}
-use Rattle.ssh_key.specs.Key.{IsKey, Key, blob_of}
+use Rattle.ssh_key.specs.Key.{IsKey, PublicKey, blob_of}
 use Rattle.ssh_key.specs.KeyReading.{public_at}
 use Rattle.ssh_key.specs.Kind.{certificate_name}
 use Rattle.ssh_key.proofs.Keys.{public_again, public_found}
 use Rattle.ssh_wire.specs.Steps.{ok_is}
 use Rattle.ssh_cert.specs.declared.fault.CertFault.{CertFault}
 use Rattle.ssh_cert.specs.declared.fault.CertFault.TheVariants as faults
-use Rattle.ssh_cert.specs.Certificate.{Certificate, IsCertificate, role_number}
+use Rattle.ssh_cert.specs.Cert.{Cert, IsCertificate, role_number}
 use Rattle.ssh_cert.specs.CertReading.{body_at, certificate_at, field_at, fields_at, kind_at}
 use Rattle.ssh_cert.specs.Field.{Field, TextField, PublicField, NumberField, RoleField, PrincipalsField, OptionsField, AuthorityField, SignatureField, IsValue, AreValues, ValueOf, ValuesOf, field_text, fields_of, fields_text}
 use Rattle.ssh_cert.specs.Laws.{IsCut, IsCutFault}
@@ -49,21 +49,21 @@ pub record Cut {A : Type 0} (read : Result A CertFault) : Type 0 where
   pub refused : read ≡ Err fault
   pub cut : IsCutFault fault
 
-public_cut : (kind : Kind) (key : Key) (front missing : List ℕ) → IsBytes front → key.kind ≡ kind → IsKey (blob_of key) key → key.fields ≡ front ++ missing → 0 < length missing → Cut (field_at (PublicField kind) front)
+public_cut : (kind : Kind) (key : PublicKey) (front missing : List ℕ) → IsBytes front → key.kind ≡ kind → IsKey (blob_of key) key → key.fields ≡ front ++ missing → 0 < length missing → Cut (field_at (PublicField kind) front)
 unfolding field_at
 public_cut kind key front missing fits same is e some = by_read (public_at kind front) refl
   where
     whole : public_at kind key.fields ≡ Ok (key, [])
     whole = public_again kind key.fields [] key same (record { is_key = is; spelled = sym (append-nil key.fields) })
 
-    by_read : (read : Result (Key × List ℕ) KeyFault) → public_at kind front ≡ read → Cut (in_fault faults.Key read)
+    by_read : (read : Result (PublicKey × List ℕ) KeyFault) → public_at kind front ≡ read → Cut (in_fault faults.Key read)
     by_read (Err why) f = record { fault = faults.Key why; refused = refl; cut = tt }
     by_read (Ok other) f =
         let found = public_found kind front other fits f in
         let parts : key.fields ≡ other.0.fields ++ (other.1 ++ missing) = e ∙ ap (λ (x : List ℕ). x ++ missing) found.1.spelled ∙ append_assoc other.0.fields other.1 missing in
         let again : public_at kind key.fields ≡ Ok (other.0, other.1 ++ missing) = public_again kind key.fields (other.1 ++ missing) other.0 found.0 (record { is_key = found.1.is_key; spelled = parts }) in
         let pair = ok_is (key, []) (other.0, other.1 ++ missing) (public_at kind key.fields) whole again in
-        absurd (none_after other.1 missing (ap (λ (x : Key × List ℕ). x.1) pair) some)
+        absurd (none_after other.1 missing (ap (λ (x : PublicKey × List ℕ). x.1) pair) some)
 
 wire : (field : Field) (front : List ℕ) → field_at field front ≡ Err faults.Wire → Cut (field_at field front)
 wire field front e = record { fault = faults.Wire; refused = e; cut = tt }
@@ -112,7 +112,7 @@ kind_short : (kind : Kind) (front missing : List ℕ) → string (certificate_na
 unfolding kind_at
 kind_short kind front missing e some = rw (string-cut (certificate_name kind) (length-certificate_name kind) front missing e some) refl
 
-pub certificate_cut : (blob front : List ℕ) (c : Certificate) → IsBytes blob → IsCertificate blob c → IsCut front blob → Cut (certificate_at front)
+pub certificate_cut : (blob front : List ℕ) (c : Cert) → IsBytes blob → IsCertificate blob c → IsCut front blob → Cut (certificate_at front)
 unfolding certificate_at body_at
 certificate_cut blob front c fits is cut =
     by_end (ends (string (certificate_name c.key.kind)) text front cut.missing (sym is.spelled ∙ cut.parts))

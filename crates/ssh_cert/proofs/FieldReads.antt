@@ -11,7 +11,7 @@ use Rattle.ssh_key.proofs.Refusals.{string_read}
 use Rattle.ssh_key.proofs.Wire.{content_taken}
 use Rattle.ssh_wire.specs.Steps.{bind_ok, in_fault_ok, some_ok}
 use Rattle.ssh_cert.specs.declared.fault.CertFault.TheVariants as faults
-use Rattle.ssh_cert.specs.Certificate.{role_number}
+use Rattle.ssh_cert.specs.Cert.{role_number}
 use Rattle.ssh_cert.specs.CertReading.{authority_of, cut_short, field_at, named, options_of, role_of, signature_of}
 use Rattle.ssh_cert.specs.Field.{Field, TextField, PublicField, NumberField, RoleField, PrincipalsField, OptionsField, AuthorityField, Signature, SignatureField, IsValue, ValueOf, field_text}
 use Rattle.ssh_cert.specs.Options.{options_text}

@@ -1,21 +1,21 @@
 -- A blob that was read: of a plain key, or of a certificate.
 use Rattle.std.specs.Prelude.{◌≡◌, ℕ, List, Option, Some, None, Ok, option_map}
 use Rattle.std.specs.Result.{result_ok}
-use Rattle.ssh_key.specs.Key.{IsKey, Key, blob_of}
+use Rattle.ssh_key.specs.Key.{IsKey, PublicKey, blob_of}
 use Rattle.ssh_key.specs.KeyReading.{key_at}
 use Rattle.ssh_cert.specs.declared.any_key.AnyKey.{AnyKey}
 use Rattle.ssh_cert.specs.declared.any_key.AnyKey.TheVariants.{Plain, Certified}
 use Rattle.ssh_cert.specs.CertReading.{certificate_at}
-use Rattle.ssh_cert.specs.Certificate.{Certificate, IsCertificate}
+use Rattle.ssh_cert.specs.Cert.{Cert, IsCertificate}
 use Rattle.krl_types.specs.Subject.{Subject}
 use Rattle.ssh_cert.specs.SubjectReading.{names_of, subject_of}
 
 -- the plain key, or that of the certificate
-abbrev pub plain_of : AnyKey → Key
+abbrev pub plain_of : AnyKey → PublicKey
 plain_of (Plain key) = key
 plain_of (Certified certificate) = certificate.key
 
-abbrev pub certificate_in : AnyKey → Option Certificate
+abbrev pub certificate_in : AnyKey → Option Cert
 certificate_in (Plain key) = None
 certificate_in (Certified certificate) = Some certificate
 

@@ -4,16 +4,16 @@ use Rattle.std.specs.Option.{ok_or, option_and_then}
 use Rattle.ssh_wire.specs.Reading.{◌>>=◌, in_fault, number_at, string_at}
 use Rattle.ssh_wire.specs.declared.fault.WireFault.{WireFault}
 use Rattle.ssh_key.specs.declared.kind.Kind.{Kind}
-use Rattle.ssh_key.specs.Key.{Key}
+use Rattle.ssh_key.specs.Key.{PublicKey}
 use Rattle.ssh_key.specs.KeyReading.{key_at, public_at}
 use Rattle.ssh_key.specs.Kind.{kind_certified}
 use Rattle.ssh_cert.specs.declared.fault.CertFault.{CertFault}
 use Rattle.ssh_cert.specs.declared.fault.CertFault.TheVariants as faults
 use Rattle.ssh_cert.specs.declared.role.Role.{Role}
 use Rattle.ssh_cert.specs.declared.role.Role.TheVariants.{User, Host}
-use Rattle.ssh_cert.specs.Certificate.{Certificate}
+use Rattle.ssh_cert.specs.Cert.{Cert}
 use Rattle.ssh_cert.specs.Field.{Field, TextField, PublicField, NumberField, RoleField, PrincipalsField, OptionsField, AuthorityField, SignatureField, Authority, Signature, ValueOf, ValuesOf, fields_of}
-use Rattle.ssh_cert.specs.Options.{NamedData, pairs_of}
+use Rattle.ssh_cert.specs.Options.{CertOption, pairs_of}
 use Rattle.ssh_cert.specs.Strings.{strings_of}
 
 -- a field that is cut short, whatever the fault of the wire
@@ -23,10 +23,10 @@ cut_short fault = faults.Wire
 abbrev pub role_of : ℕ → Option Role
 role_of n = if n == 1 then Some User else if n == 2 then Some Host else None
 
-abbrev pub options_of : List ℕ → Option (List NamedData)
+abbrev pub options_of : List ℕ → Option (List CertOption)
 options_of bytes = option_and_then pairs_of (strings_of bytes)
 
-abbrev pub authority_of : List ℕ → Key → Authority
+abbrev pub authority_of : List ℕ → PublicKey → Authority
 authority_of blob key = record { blob = blob; key = key }
 
 abbrev pub signature_of : List ℕ → List ℕ × List ℕ → Signature
@@ -80,7 +80,7 @@ kind_at bytes = do
   Ok (kind, name.1)
 
 -- the certificate of the values, without those of the reserved field and the signature
-abbrev pub certificate_of : (kind : Kind) → ValuesOf (fields_of kind) → Certificate
+abbrev pub certificate_of : (kind : Kind) → ValuesOf (fields_of kind) → Cert
 certificate_of kind (
   nonce,
   (
@@ -125,13 +125,13 @@ certificate_of kind (
 }
 
 -- the certificate whose fields after the type name stand at the front, and the bytes after them
-unfoldable pub body_at : Kind → List ℕ → Result (Certificate × List ℕ) CertFault
+unfoldable pub body_at : Kind → List ℕ → Result (Cert × List ℕ) CertFault
 body_at kind bytes = do
   values ← fields_at (fields_of kind) bytes
   Ok (certificate_of kind values.0, values.1)
 
 -- all of the bytes
-unfoldable pub certificate_at : List ℕ → Result Certificate CertFault
+unfoldable pub certificate_at : List ℕ → Result Cert CertFault
 certificate_at blob = do
   kind ← kind_at blob
   body ← body_at kind.0 kind.1

@@ -1,11 +1,11 @@
 -- The fields of a certificate after its type name: what is in each, and how it is spelled.
 use Rattle.std.specs.Prelude.{◌≡◌, ℕ, ◌<◌, ◌^◌, List, [], ◌∷◌, ◌++◌, length}
 use Rattle.ssh_wire.specs.Wire.{BeginsWith, number, string, strings}
-use Rattle.ssh_key.specs.Key.{IsKey, Key, blob_of}
+use Rattle.ssh_key.specs.Key.{IsKey, PublicKey, blob_of}
 use Rattle.ssh_key.specs.declared.kind.Kind.{Kind}
 use Rattle.ssh_cert.specs.declared.role.Role.{Role}
-use Rattle.ssh_cert.specs.Certificate.{role_number}
-use Rattle.ssh_cert.specs.Options.{NamedData, options_text}
+use Rattle.ssh_cert.specs.Cert.{role_number}
+use Rattle.ssh_cert.specs.Options.{CertOption, options_text}
 
 -- a string; the public fields of a key of the kind; a number of eight bytes; what the certificate
 -- is for; the principals; options or extensions; the signature key; the signature
@@ -34,7 +34,7 @@ fields_of kind = TextField ∷ PublicField kind ∷ NumberField ∷ RoleField �
 -- the signature key, and its blob
 pub record Authority : Type 0 where
   pub blob : List ℕ
-  pub key : Key
+  pub key : PublicKey
 
 -- the signature, and the name of its algorithm
 pub record Signature : Type 0 where
@@ -43,11 +43,11 @@ pub record Signature : Type 0 where
 
 abbrev pub ValueOf : Field → Type 0
 ValueOf TextField = List ℕ
-ValueOf (PublicField kind) = Key
+ValueOf (PublicField kind) = PublicKey
 ValueOf NumberField = ℕ
 ValueOf RoleField = Role
 ValueOf PrincipalsField = List (List ℕ)
-ValueOf OptionsField = List NamedData
+ValueOf OptionsField = List CertOption
 ValueOf AuthorityField = Authority
 ValueOf SignatureField = Signature
 

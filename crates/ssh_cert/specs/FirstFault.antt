@@ -9,7 +9,7 @@ use Rattle.ssh_key.specs.Kind.{certificate_name}
 use Rattle.ssh_cert.specs.declared.fault.CertFault.{CertFault}
 use Rattle.ssh_cert.specs.declared.fault.CertFault.TheVariants as faults
 use Rattle.ssh_cert.specs.Field.{Field, PublicField, NumberField, RoleField, PrincipalsField, OptionsField, AuthorityField, SignatureField, ValuesOf, AreValues, fields_of, fields_text}
-use Rattle.ssh_cert.specs.Options.{NamedData, options_text}
+use Rattle.ssh_cert.specs.Options.{CertOption, options_text}
 
 -- a number of four bytes at the front, which is neither a user's nor a host's
 pub record HasOtherRole (bytes : List ℕ) : Type 0 where
@@ -36,7 +36,7 @@ Refuses PrincipalsField bytes faults.Principals =
     × ((principals : List (List ℕ)) → content ≢ strings principals)
 Refuses OptionsField bytes faults.Options =
     (content : List ℕ) × BeginsWith bytes content
-    × ((options : List NamedData) → content ≢ options_text options)
+    × ((options : List CertOption) → content ≢ options_text options)
 Refuses AuthorityField bytes (faults.Authority fault) =
     (blob : List ℕ) × BeginsWith bytes blob × IsKeyFault blob fault
 Refuses SignatureField bytes faults.Signature =

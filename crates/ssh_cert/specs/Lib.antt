@@ -2,7 +2,7 @@ pub mod Strings
 pub mod Options
 pub mod CertFault
 pub mod SubjectFault
-pub mod Certificate
+pub mod Cert
 pub mod Field
 pub mod CertReading
 pub mod FirstFault

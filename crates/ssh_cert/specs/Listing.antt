@@ -7,13 +7,13 @@ use Rattle.ssh_wire.specs.Reading.{string_at}
 use Rattle.ssh_wire.specs.declared.fault.WireFault.{WireFault}
 use Rattle.ssh_key.specs.declared.hash.Hash.{Hash}
 use Rattle.ssh_key.specs.Fingerprints.{fingerprint_text}
-use Rattle.ssh_key.specs.Key.{Key, blob_of}
+use Rattle.ssh_key.specs.Key.{PublicKey, blob_of}
 use Rattle.ssh_key.specs.Kind.{certificate_name, short_name_of}
 use Rattle.ssh_cert.specs.declared.role.Role.{Role}
 use Rattle.ssh_cert.specs.declared.role.Role.TheVariants.{User, Host}
-use Rattle.ssh_cert.specs.Certificate.{Certificate}
+use Rattle.ssh_cert.specs.Cert.{Cert}
 use Rattle.ssh_cert.specs.Escape.{escaped}
-use Rattle.ssh_cert.specs.Options.{NamedData}
+use Rattle.ssh_cert.specs.Options.{CertOption}
 use Rattle.ssh_cert.specs.Time.{instant_text, IsTimeText}
 
 -- a label and its value
@@ -34,14 +34,14 @@ abbrev pub role_text : Role → List ℕ
 role_text User = codes " user certificate"
 role_text Host = codes " host certificate"
 
-abbrev pub type_value : Certificate → List ℕ
+abbrev pub type_value : Cert → List ℕ
 type_value certificate = certificate_name certificate.key.kind ++ role_text certificate.role
 
-abbrev pub key_value : Hash → Key → List ℕ
+abbrev pub key_value : Hash → PublicKey → List ℕ
 key_value hash key =
     short_name_of key.kind ++ (codes "-CERT " ++ fingerprint_text hash (blob_of key))
 
-abbrev pub authority_value : Hash → Certificate → List ℕ
+abbrev pub authority_value : Hash → Cert → List ℕ
 authority_value hash certificate =
     short_name_of certificate.authority_key.kind
     ++ (codes " " ++ (fingerprint_text hash certificate.authority
@@ -62,7 +62,7 @@ period_of after before after_text before_text =
     else if before == endless then codes "after " ++ after_text
     else codes "from " ++ (after_text ++ (codes " to " ++ before_text))
 
-abbrev pub valid_value : Certificate → ℕ → List ℕ
+abbrev pub valid_value : Cert → ℕ → List ℕ
 valid_value certificate moment =
     if nat_le certificate.after moment && nat_lt moment certificate.before
     then codes "yes" else codes "no"
@@ -83,17 +83,17 @@ data_text name (byte ∷ bytes) =
     if has_text name then string_or_hex (byte ∷ bytes) (string_at (byte ∷ bytes))
     else codes " hex:" ++ encode_lower (byte ∷ bytes)
 
-abbrev pub option_item : NamedData → List ℕ
+abbrev pub option_item : CertOption → List ℕ
 option_item option = escaped option.name ++ data_text option.name option.content
 
 -- the time in which the certificate is valid
-abbrev pub valid_period : Certificate → List ℕ
+abbrev pub valid_period : Cert → List ℕ
 valid_period certificate =
     period_of certificate.after certificate.before
     (instant_text certificate.after) (instant_text certificate.before)
 
 -- The text is the time in which the certificate is valid, by some texts of its two instants.
-pub record IsPeriod (certificate : Certificate) (text : List ℕ) : Type 0 where
+pub record IsPeriod (certificate : Cert) (text : List ℕ) : Type 0 where
   pub after : List ℕ
   pub before : List ℕ
   pub after_is : IsTimeText certificate.after after
@@ -101,37 +101,37 @@ pub record IsPeriod (certificate : Certificate) (text : List ℕ) : Type 0 where
   pub period : text ≡ period_of certificate.after certificate.before after before
 
 -- the lines in their order, in three parts
-unfoldable pub identity_text : Hash → Certificate → List ℕ
+unfoldable pub identity_text : Hash → Cert → List ℕ
 identity_text hash certificate =
     line (codes "Type") (type_value certificate)
     ++ (line (codes "Public key") (key_value hash certificate.key)
     ++ line (codes "Signing CA") (authority_value hash certificate))
 
-unfoldable pub terms_text : Certificate → ℕ → List ℕ → List ℕ
+unfoldable pub terms_text : Cert → ℕ → List ℕ → List ℕ
 terms_text certificate moment period =
     line (codes "Key ID") (id_value certificate.key_id)
     ++ (line (codes "Serial") (decimal certificate.serial)
     ++ (line (codes "Valid") period
     ++ line (codes "Valid now") (valid_value certificate moment)))
 
-unfoldable pub lists_text : Certificate → List ℕ
+unfoldable pub lists_text : Cert → List ℕ
 lists_text certificate =
     lines (codes "Principals") (map escaped certificate.principals)
     ++ (lines (codes "Critical Options") (map option_item certificate.critical)
     ++ lines (codes "Extensions") (map option_item certificate.extensions))
 
-abbrev pub listing_text : Hash → Certificate → ℕ → List ℕ → List ℕ
+abbrev pub listing_text : Hash → Cert → ℕ → List ℕ → List ℕ
 listing_text hash certificate moment period =
     identity_text hash certificate
     ++ (terms_text certificate moment period ++ lists_text certificate)
 
 -- The listing of the certificate at the moment, with the fingerprints by the hash.
-unfoldable pub listing_of : Hash → Certificate → ℕ → List ℕ
+unfoldable pub listing_of : Hash → Cert → ℕ → List ℕ
 listing_of hash certificate moment =
     listing_text hash certificate moment (valid_period certificate)
 
 -- The text lists the certificate at the moment, with the fingerprints by the hash.
-pub record IsListing (hash : Hash) (certificate : Certificate) (moment : ℕ) (text : List ℕ)
+pub record IsListing (hash : Hash) (certificate : Cert) (moment : ℕ) (text : List ℕ)
     : Type 0 where
   pub period : List ℕ
   pub is_period : IsPeriod certificate period

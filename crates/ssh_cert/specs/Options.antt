@@ -6,26 +6,26 @@ use Rattle.std.specs.Option.{option_map}
 use Rattle.ssh_wire.specs.Wire.{strings}
 
 -- the name of an option or an extension, and its data
-pub record NamedData : Type 0 where
+pub record CertOption : Type 0 where
   pub name : List ℕ
   pub content : List ℕ
 
 -- the names and the data, in order
-abbrev pub parts_of : List NamedData → List (List ℕ)
+abbrev pub parts_of : List CertOption → List (List ℕ)
 parts_of options = flat_map (λ option. option.name ∷ option.content ∷ []) options
 
 -- the strings of the names and of the data, one after the other
-abbrev pub options_text : List NamedData → List ℕ
+abbrev pub options_text : List CertOption → List ℕ
 options_text options = strings (parts_of options)
 
 -- strings by two, where none is left over
-abbrev pub pairs_of : List (List ℕ) → Option (List NamedData)
+abbrev pub pairs_of : List (List ℕ) → Option (List CertOption)
 pairs_of [] = Some []
 pairs_of (name ∷ []) = None
 pairs_of (name ∷ content ∷ rest) =
     option_map (λ options. record { name = name; content = content } ∷ options) (pairs_of rest)
 
-abbrev pub pairs_in : List (List ℕ) → List NamedData
+abbrev pub pairs_in : List (List ℕ) → List CertOption
 pairs_in parts = unwrap_or (pairs_of parts) []
 
 -- Nothing is left over.

@@ -3,8 +3,8 @@ use Rattle.ssh_cert.specs.declared.reading.Closing.{Closing}
 use Rattle.std.specs.Prelude.{ℕ, List, ◌∷◌}
 use Rattle.ssh_cert.specs.declared.reading.Naming.{Naming}
 use Rattle.ssh_cert.specs.declared.reading.Numbered.{Numbered}
-use Rattle.ssh_key.specs.Key.{Key}
-use Rattle.ssh_cert.specs.Certificate.{Certificate}
+use Rattle.ssh_key.specs.Key.{PublicKey}
+use Rattle.ssh_cert.specs.Cert.{Cert}
 use Rattle.ssh_cert.specs.Field.{Field, NumberField, RoleField, ValuesOf, closing_fields, naming_fields}
 
 -- the serial number and the role, and what follows them
@@ -23,7 +23,7 @@ abbrev pub numbered_values : Numbered → ValuesOf numbered_fields
 numbered_values part = (part.serial, (part.role, naming_values part.naming))
 
 -- the certificate of its nonce, its key and what follows them
-abbrev pub of_fields : List ℕ → Key → Numbered → Certificate
+abbrev pub of_fields : List ℕ → PublicKey → Numbered → Cert
 of_fields nonce key part = record {
   nonce = nonce;
   key = key;

@@ -6,18 +6,18 @@ use Rattle.ssh_wire.specs.Wire.{BeginsWith}
 use Rattle.ssh_key.specs.declared.fault.KeyFault.{KeyFault}
 use Rattle.ssh_key.specs.declared.kind.Kind.{Kind}
 use Rattle.ssh_key.specs.FirstFault.{IsFirstFault as IsKeyFault}
-use Rattle.ssh_key.specs.Key.{IsKey, Key, blob_of}
+use Rattle.ssh_key.specs.Key.{IsKey, PublicKey, blob_of}
 use Rattle.ssh_key.specs.KeyReading.{key_at}
 use Rattle.ssh_key.specs.Kind.{certificate_name, kind_certified}
 use Rattle.ssh_cert.specs.declared.fault.CertFault.{CertFault}
 use Rattle.ssh_cert.specs.declared.subject_fault.SubjectFault.{SubjectFault}
 use Rattle.ssh_cert.specs.declared.subject_fault.SubjectFault.TheVariants as faults
 use Rattle.ssh_cert.specs.CertReading.{certificate_at}
-use Rattle.ssh_cert.specs.Certificate.{Certificate, IsCertificate}
+use Rattle.ssh_cert.specs.Cert.{Cert, IsCertificate}
 use Rattle.ssh_cert.specs.FirstFault.{IsFirstFault}
-use Rattle.krl_types.specs.Subject.{Names, Subject}
+use Rattle.krl_types.specs.Subject.{CertNames, Subject}
 
-abbrev pub names_of : Certificate → Names
+abbrev pub names_of : Cert → CertNames
 names_of certificate = record {
   serial = certificate.serial;
   key_id = certificate.key_id;
@@ -25,7 +25,7 @@ names_of certificate = record {
 }
 
 -- a certificate is asked about by its plain key, never by its own blob
-abbrev pub of_certificate : Certificate → Subject
+abbrev pub of_certificate : Cert → Subject
 of_certificate certificate =
     record { plain = blob_of certificate.key; cert = Some (names_of certificate) }
 
@@ -34,8 +34,8 @@ of_key blob = record { plain = blob; cert = None }
 
 -- The blob is that of a plain key or of a certificate, and this is asked of it.
 pub data IsSubject (blob : List ℕ) (subject : Subject) : Type 0 where
-  plain_key : (key : Key) → IsKey blob key → subject ≡ of_key blob → IsSubject blob subject
-  certified : (certificate : Certificate) → IsCertificate blob certificate
+  plain_key : (key : PublicKey) → IsKey blob key → subject ≡ of_key blob → IsSubject blob subject
+  certified : (certificate : Cert) → IsCertificate blob certificate
       → subject ≡ of_certificate certificate → IsSubject blob subject
 
 -- the first string is the type name of a certificate
@@ -65,11 +65,11 @@ abbrev pub is_certified : Result (List ℕ × List ℕ) WireFault → Bool
 is_certified (Ok (name, rest)) = is_some (kind_certified name)
 is_certified (Err fault) = false
 
-abbrev pub key_subject : List ℕ → Result Key KeyFault → Result Subject SubjectFault
+abbrev pub key_subject : List ℕ → Result PublicKey KeyFault → Result Subject SubjectFault
 key_subject blob (Ok key) = Ok (of_key blob)
 key_subject blob (Err fault) = Err (faults.Key fault)
 
-abbrev pub certificate_subject : Result Certificate CertFault → Result Subject SubjectFault
+abbrev pub certificate_subject : Result Cert CertFault → Result Subject SubjectFault
 certificate_subject (Ok certificate) = Ok (of_certificate certificate)
 certificate_subject (Err fault) = Err (faults.Cert fault)
 
@@ -97,7 +97,7 @@ AnswersSubject result read = Answers ReportsFault (λ subject. subject) result r
 
 -- what is asked has a plain key
 pub plain_is_key : (blob : List ℕ) (asked : Subject) → IsSubject blob asked
-    → (key : Key) × IsKey asked.plain key
+    → (key : PublicKey) × IsKey asked.plain key
 plain_is_key blob asked (plain_key key is_key same) = (key, rw same is_key)
 plain_is_key blob asked (certified certificate is_certificate same) =
     (certificate.key, rw same is_certificate.key)

@@ -27,9 +27,9 @@ pub struct Cert<'a> {
 }
 
 impl<'a> Model for Cert<'a> {
-    ghost use Rattle.ssh_cert.specs.Certificate.{Certificate};
+    ghost use Rattle.ssh_cert.specs.Cert.{Cert};
 
-    ghost Value = { Certificate };
+    ghost Value = { Cert };
 
     ghost view = { λ cert. record {
       nonce = cert.nonce.now;

@@ -4,7 +4,7 @@
 
 ghost use Rattle.std.specs.Prelude.{◌≡◌, ◌↔◌, ℕ, List, Err, Ok};
 ghost use Rattle.ssh_cert.specs.CertReading.{certificate_at};
-ghost use Rattle.ssh_cert.specs.Certificate.{Certificate, IsCertificate};
+ghost use Rattle.ssh_cert.specs.Cert.{Cert, IsCertificate};
 ghost use Rattle.ssh_cert.specs.FirstFault.{IsFirstFault};
 ghost use Rattle.ssh_cert.specs.Laws.{HasCutFault, IsCut};
 ghost use Rattle.ssh_cert.specs.Listing.{IsListing, listing_of};
@@ -18,7 +18,7 @@ ghost use Rattle.ssh_wire.specs.Wire.{IsBytes};
 
 /// Reading gives a certificate exactly where the bytes are its blob.
 pub fn read_where_spelled()
-    ensures { (blob : List ℕ) (certificate : Certificate) → IsBytes blob
+    ensures { (blob : List ℕ) (certificate : Cert) → IsBytes blob
         → (certificate_at blob ≡ Ok certificate) ↔ IsCertificate blob certificate }
 {}
 
@@ -32,19 +32,19 @@ pub fn refused_by_first_fault()
 pub fn one_first_fault()
     ensures one { (blob : List ℕ) (a b : CertFault) → IsBytes blob
         → IsFirstFault blob a → IsFirstFault blob b → a ≡ b }
-    ensures none { (blob : List ℕ) (certificate : Certificate) (fault : CertFault) → IsBytes blob
+    ensures none { (blob : List ℕ) (certificate : Cert) (fault : CertFault) → IsBytes blob
         → IsCertificate blob certificate → IsFirstFault blob fault → ⊥ }
 {}
 
 /// A blob is that of one certificate.
 pub fn one_certificate()
-    ensures { (blob : List ℕ) (a b : Certificate)
+    ensures { (blob : List ℕ) (a b : Cert)
         → IsCertificate blob a → IsCertificate blob b → a ≡ b }
 {}
 
 /// A blob of a certificate that is cut anywhere has the fault that a field is cut short.
 pub fn cut_certificate()
-    ensures { (blob front : List ℕ) (certificate : Certificate) → IsBytes blob
+    ensures { (blob front : List ℕ) (certificate : Cert) → IsBytes blob
         → IsCertificate blob certificate → IsCut front blob → HasCutFault front }
 {}
 
@@ -76,6 +76,6 @@ pub fn text_of_instant()
 /// A text lists a certificate at a moment exactly where it is its listing, with such texts of the
 /// instants.
 pub fn one_listing()
-    ensures { (hash : Hash) (certificate : Certificate) (moment : ℕ) (text : List ℕ)
+    ensures { (hash : Hash) (certificate : Cert) (moment : ℕ) (text : List ℕ)
         → (text ≡ listing_of hash certificate moment) ↔ IsListing hash certificate moment text }
 {}

@@ -17,9 +17,9 @@ pub struct CertOption<'a> {
 }
 
 impl<'a> Model for CertOption<'a> {
-    ghost use Rattle.ssh_cert.specs.Options.{NamedData};
+    ghost use Rattle.ssh_cert.specs.Options.{CertOption};
 
-    ghost Value = { NamedData };
+    ghost Value = { CertOption };
 
     ghost view = { λ option. record { name = option.name.now; content = option.data.now } };
 }
@@ -33,9 +33,9 @@ pub struct Options<'a> {
 
 impl<'a> Model for Options<'a> {
     ghost use Rattle.std.specs.Prelude.{List};
-    ghost use Rattle.ssh_cert.specs.Options.{NamedData, ArePairs, pairs_in};
+    ghost use Rattle.ssh_cert.specs.Options.{CertOption, ArePairs, pairs_in};
 
-    ghost Value = { List NamedData };
+    ghost Value = { List CertOption };
 
     ghost view = { λ options. pairs_in options.parts };
 

@@ -11,7 +11,7 @@ use Rattle.ssh_wire.specs.Fields.{length-mpint, length-string}
 use Rattle.ssh_wire.specs.Laws.{IsShortWhereCut}
 use Rattle.ssh_key.specs.declared.fault.KeyFault.TheVariants.{Wire}
 use Rattle.ssh_key.specs.Kind.{Field, Positive, type_name, fields_of}
-use Rattle.ssh_key.specs.Key.{AreValues, HasLength, IsKey, Key, blob_of, field_text, fields_text}
+use Rattle.ssh_key.specs.Key.{AreValues, HasLength, IsKey, PublicKey, blob_of, field_text, fields_text}
 use Rattle.ssh_key.specs.FirstFault.{IsFieldsFault, IsFirstFault, Refuses, in_fields, no_name, not_long}
 use Rattle.ssh_key.proofs.FirstFaults.{refused_in_field}
 use Rattle.ssh_key.proofs.Keys.{length-type_name}
@@ -47,14 +47,14 @@ fields_cut (field ∷ fields) (value ∷ values) n allowed lt =
           (fields_cut fields values (n - length text) allowed.2 (omega arith))
     ]
 
-pub public_cut : (key : Key) (n : ℕ) → IsKey (blob_of key) key → n < length key.fields → IsFieldsFault key.kind (take n key.fields) (Wire Short)
+pub public_cut : (key : PublicKey) (n : ℕ) → IsKey (blob_of key) key → n < length key.fields → IsFieldsFault key.kind (take n key.fields) (Wire Short)
 public_cut key n is lt =
     let lengths : length key.fields ≡ length (fields_text (fields_of key.kind) is.values) = ap length is.fields in
     rw (is.fields) (refused_in_field key.kind (take n (fields_text (fields_of key.kind) is.values)) (Wire Short) (fields_cut (fields_of key.kind) is.values n is.allowed (omega arith)))
 
 -- ---- the blob
 
-pub key_cut : (blob : List ℕ) (key : Key) (n : ℕ) → IsKey blob key → n < length blob → IsFirstFault (take n blob) (Wire Short)
+pub key_cut : (blob : List ℕ) (key : PublicKey) (n : ℕ) → IsKey blob key → n < length blob → IsFirstFault (take n blob) (Wire Short)
 key_cut blob key n is lt =
     let name : List ℕ = string (type_name key.kind) in
     let text : List ℕ = fields_text (fields_of key.kind) is.values in

@@ -4,7 +4,7 @@ use Rattle.ssh_wire.specs.Wire.{IsBytes}
 use Rattle.ssh_wire.specs.Reading.{in_fault, mpint_at, number_at, string_at}
 use Rattle.ssh_wire.specs.declared.fault.WireFault.{WireFault}
 use Rattle.ssh_wire.specs.Fields.{mpint_again, mpint_takes, number_again, number_takes, string_again, string_takes}
-use Rattle.ssh_key.specs.Rows.{Fails, Leads, Magnitude, Number, Part, Stands, Step, Text, alone, part_at, row_at, unless_judged}
+use Rattle.ssh_key.specs.Rows.{Fails, Leads, Magnitude, Number, Part, BeginsWithPart, Step, Text, alone, part_at, row_at, unless_judged}
 use Rattle.ssh_key.specs.declared.private_fault.PrivateFault.{PrivateFault}
 use Rattle.ssh_key.specs.declared.private_fault.PrivateFault.TheVariants.{Wire}
 use Rattle.ssh_wire.specs.Steps.{bind_err, bind_ok, in_fault_err, in_fault_ok}
@@ -13,7 +13,7 @@ use Rattle.ssh_wire.specs.Steps.{bind_err, bind_ok, in_fault_err, in_fault_ok}
 
 -- a value at the front, and bytes after it
 pub record Taken (part : Part) (bytes value rest : List ℕ) : Type 0 where
-  pub stands : Stands part bytes value rest
+  pub stands : BeginsWithPart part bytes value rest
   pub rest_fits : IsBytes rest
 
 alone_ok : (read : Result (ℕ × List ℕ) WireFault) (value rest : List ℕ) → alone read ≡ Ok (value, rest) → (n : ℕ) × (read ≡ Ok (n, rest)) × (value ≡ n ∷ [])
@@ -39,7 +39,7 @@ part_takes Text bytes value rest fits e =
     let t = string_takes bytes value rest fits e in
     record { stands = record { is_part = t.1; spelled = t.0.parts }; rest_fits = t.0.rest_fits }
 
-pub part_again : (part : Part) (bytes value rest : List ℕ) → Stands part bytes value rest → part_at part bytes ≡ Ok (value, rest)
+pub part_again : (part : Part) (bytes value rest : List ℕ) → BeginsWithPart part bytes value rest → part_at part bytes ≡ Ok (value, rest)
 part_again (Number size) bytes value rest s =
     rw (s.spelled, number_again size (slice_index value 0) rest s.is_part.1) (ap (λ (v : List ℕ). Ok (v, rest)) (sym s.is_part.0))
 part_again Magnitude bytes value rest s = ap mpint_at s.spelled ∙ mpint_again value rest s.is_part.0 s.is_part.1

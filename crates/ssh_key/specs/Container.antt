@@ -6,11 +6,11 @@ use Rattle.ssh_wire.specs.Wire.{IsBytes}
 use Rattle.ssh_wire.specs.Reading.{string_at}
 use Rattle.ssh_wire.specs.declared.fault.WireFault.{WireFault}
 use Rattle.ssh_key.specs.Armour.{IsArmour}
-use Rattle.ssh_key.specs.Key.{IsKey, Key, fields_text}
+use Rattle.ssh_key.specs.Key.{IsKey, PublicKey, fields_text}
 use Rattle.ssh_key.specs.KeyLine.{base64}
 use Rattle.ssh_key.specs.KeyReading.{key_at}
 use Rattle.ssh_key.specs.Kind.{fields_of, type_name}
-use Rattle.ssh_key.specs.Rows.{Fails, Leads, Magnitude, Number, Stands, Step, Text, passes, step}
+use Rattle.ssh_key.specs.Rows.{Fails, Leads, Magnitude, Number, BeginsWithPart, Step, Text, passes, step}
 use Rattle.ssh_key.specs.declared.fault.KeyFault.{KeyFault}
 use Rattle.ssh_key.specs.declared.fault.KeyFault.TheVariants as keys
 use Rattle.ssh_key.specs.declared.kind.Kind.{Kind}
@@ -43,7 +43,7 @@ one_key (cipher ∷ kdf ∷ options ∷ count ∷ []) =
     fault_unless faults.KeyCount (slice_index count 0 == 1)
 one_key values = Some faults.KeyCount
 
-abbrev pub why_no_key : Result Key KeyFault → Option PrivateFault
+abbrev pub why_no_key : Result PublicKey KeyFault → Option PrivateFault
 why_no_key (Ok key) = None
 why_no_key (Err fault) = Some (faults.Key fault)
 
@@ -127,7 +127,7 @@ pub record Holds (text bytes : List ℕ) : Type 0 where
   pub are_bytes : IsBytes bytes
 
 -- The list's check words and type, and the fields of the kind. What follows is left.
-pub record Opens (key : Key) (list : List ℕ) (values : List (List ℕ)) (rest : List ℕ) : Type 0
+pub record Opens (key : PublicKey) (list : List ℕ) (values : List (List ℕ)) (rest : List ℕ) : Type 0
   where
     pub head : List (List ℕ)
     pub fields : List ℕ
@@ -136,12 +136,12 @@ pub record Opens (key : Key) (list : List ℕ) (values : List (List ℕ)) (rest 
 
 -- The private list of the key: its fields have the public ones of the key, and after the comment
 -- stands the padding, a front of the bytes 1, 2, 3 and so on up to 254.
-pub record IsPrivateList (key : Key) (list comment : List ℕ) : Type 0 where
+pub record IsPrivateList (key : PublicKey) (list comment : List ℕ) : Type 0 where
   pub values : List (List ℕ)
   pub rest : List ℕ
   pub opens : Opens key list values rest
   pub padding : List ℕ
-  pub ended : Stands Text rest comment padding
+  pub ended : BeginsWithPart Text rest comment padding
   pub same : public_text key.kind values ≡ key.fields
   pub unused : List ℕ
   pub padded : all_padding ≡ padding ++ unused
@@ -158,13 +158,13 @@ pub record IsContainer (text blob comment : List ℕ) : Type 0 where
   pub holds : Holds text (magic ++ inside)
   pub list : List ℕ
   pub parts : HasParts inside blob list
-  pub key : Key
+  pub key : PublicKey
   pub is_key : IsKey blob key
   pub secret : IsPrivateList key list comment
 
 -- ---- the first fault
 
-pub data IsListFault (key : Key) (list : List ℕ) (fault : PrivateFault) : Type 0 where
+pub data IsListFault (key : PublicKey) (list : List ℕ) (fault : PrivateFault) : Type 0 where
   in_beginning : Fails (beginning key.kind) [] list fault → IsListFault key list fault
   in_secrets : (head : List (List ℕ)) (fields : List ℕ)
       → Leads (beginning key.kind) [] list head fields → Fails (secrets key.kind) [] fields fault
@@ -173,11 +173,11 @@ pub data IsListFault (key : Key) (list : List ℕ) (fault : PrivateFault) : Type
       → Opens key list values rest → string_at rest ≡ Err why → fault ≡ faults.Wire why
       → IsListFault key list fault
   other_public : (values : List (List ℕ)) (rest comment padding : List ℕ)
-      → Opens key list values rest → Stands Text rest comment padding
+      → Opens key list values rest → BeginsWithPart Text rest comment padding
       → public_text key.kind values ≢ key.fields → fault ≡ faults.PublicDiffers
       → IsListFault key list fault
   other_padding : (values : List (List ℕ)) (rest comment padding : List ℕ)
-      → Opens key list values rest → Stands Text rest comment padding
+      → Opens key list values rest → BeginsWithPart Text rest comment padding
       → public_text key.kind values ≡ key.fields
       → ((unused : List ℕ) → all_padding ≢ padding ++ unused) → fault ≡ faults.Padding
       → IsListFault key list fault
@@ -196,7 +196,7 @@ pub data IsPrivateFault (text : List ℕ) (fault : PrivateFault) : Type 0 where
   after_parts : (inside rest : List ℕ) (values : List (List ℕ)) → Holds text (magic ++ inside)
       → Leads outer [] inside values rest → 0 < length rest → fault ≡ faults.Trailing
       → IsPrivateFault text fault
-  in_list : (inside blob list : List ℕ) (key : Key) → Holds text (magic ++ inside)
+  in_list : (inside blob list : List ℕ) (key : PublicKey) → Holds text (magic ++ inside)
       → HasParts inside blob list → IsKey blob key → IsListFault key list fault
       → IsPrivateFault text fault
 

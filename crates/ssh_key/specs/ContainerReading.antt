@@ -7,7 +7,7 @@ use Rattle.base64.specs.GeneralPurpose.{decode_of}
 use Rattle.ssh_wire.specs.Reading.{in_fault, string_at, ◌>>=◌}
 use Rattle.ssh_key.specs.Armour.{armour_at}
 use Rattle.ssh_key.specs.Container.{all_padding, beginning, magic, outer, public_text, secrets}
-use Rattle.ssh_key.specs.Key.{Key}
+use Rattle.ssh_key.specs.Key.{PublicKey}
 use Rattle.ssh_key.specs.KeyReading.{key_at}
 use Rattle.ssh_key.specs.Rows.{row_at}
 use Rattle.ssh_key.specs.declared.container.Private.{Private}
@@ -35,7 +35,7 @@ same_at kind fields bytes = do
   secret ← row_at (secrets kind) [] bytes
   Ok (bytes_eq (public_text kind secret.0) fields, secret.1)
 
-unfoldable pub list_at : Key → List ℕ → Result (List ℕ) PrivateFault
+unfoldable pub list_at : PublicKey → List ℕ → Result (List ℕ) PrivateFault
 list_at key list = do
   head ← row_at (beginning key.kind) [] list
   same ← same_at key.kind key.fields head.1

@@ -6,7 +6,7 @@ use Rattle.ssh_key.specs.declared.kind.Kind.{Kind}
 use Rattle.ssh_key.specs.Kind.{Field, Positive, Curve, Point, Sized, Application, type_name, fields_of, bits_of}
 
 -- a key: its kind, the bytes of its public fields, and its size in bits
-pub record Key : Type 0 where
+pub record PublicKey : Type 0 where
   pub kind : Kind
   pub fields : List ℕ
   pub bits : ℕ
@@ -16,7 +16,7 @@ abbrev pub longest_blob : ℕ
 longest_blob = 65536
 
 -- the type name, and the public fields
-abbrev pub blob_of : Key → List ℕ
+abbrev pub blob_of : PublicKey → List ℕ
 blob_of key = string (type_name key.kind) ++ key.fields
 
 -- a magnitude above zero, without a leading zero byte
@@ -67,7 +67,7 @@ fields_text (field ∷ fields) [] = []
 fields_text (field ∷ fields) (value ∷ values) = field_text field value ++ fields_text fields values
 
 -- The blob is that of the key: its type name and its public fields, and nothing more.
-pub record IsKey (blob : List ℕ) (key : Key) : Type 0 where
+pub record IsKey (blob : List ℕ) (key : PublicKey) : Type 0 where
   pub values : List (List ℕ)
   pub allowed : AreValues (fields_of key.kind) values
   pub fields : key.fields ≡ fields_text (fields_of key.kind) values
@@ -76,6 +76,6 @@ pub record IsKey (blob : List ℕ) (key : Key) : Type 0 where
   pub short : length blob ≤ longest_blob
 
 -- The bytes are the public fields of the key, and then the rest.
-pub record BeginsWithFields (bytes : List ℕ) (key : Key) (rest : List ℕ) : Type 0 where
+pub record BeginsWithFields (bytes : List ℕ) (key : PublicKey) (rest : List ℕ) : Type 0 where
   pub is_key : IsKey (blob_of key) key
   pub spelled : bytes ≡ key.fields ++ rest

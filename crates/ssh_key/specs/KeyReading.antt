@@ -8,7 +8,7 @@ use Rattle.ssh_key.specs.declared.fault.KeyFault.{KeyFault}
 use Rattle.ssh_key.specs.declared.fault.KeyFault.TheVariants as faults
 use Rattle.ssh_key.specs.declared.kind.Kind.{Kind}
 use Rattle.ssh_key.specs.Kind.{Field, Positive, Curve, Point, Sized, Application, fields_of, bits_of, kind_named}
-use Rattle.ssh_key.specs.Key.{Key, blob_of, longest_blob}
+use Rattle.ssh_key.specs.Key.{PublicKey, blob_of, longest_blob}
 
 -- the value at the front, whether or not it may stand there, and the bytes after it
 abbrev pub value_at : Field → List ℕ → Result (List ℕ × List ℕ) KeyFault
@@ -64,28 +64,28 @@ bits_at kind bytes = do
 abbrev pub before_rest : List ℕ → List ℕ → List ℕ
 before_rest bytes rest = take (length bytes - length rest) bytes
 
-abbrev pub of_size : Kind → List ℕ → ℕ × List ℕ → Key
+abbrev pub of_size : Kind → List ℕ → ℕ × List ℕ → PublicKey
 of_size kind bytes (bits, rest) =
     record { kind = kind; fields = before_rest bytes rest; bits = bits }
 
 -- unless its blob is too long
-abbrev pub not_too_long : Key → List ℕ → Result (Key × List ℕ) KeyFault
+abbrev pub not_too_long : PublicKey → List ℕ → Result (PublicKey × List ℕ) KeyFault
 not_too_long key rest =
     if nat_lt longest_blob (length (blob_of key)) then Err faults.TooLong else Ok (key, rest)
 
 -- the key whose public fields stand at the front, and the bytes after them
-unfoldable pub public_at : Kind → List ℕ → Result (Key × List ℕ) KeyFault
+unfoldable pub public_at : Kind → List ℕ → Result (PublicKey × List ℕ) KeyFault
 public_at kind bytes = do
   size ← bits_at kind bytes
   not_too_long (of_size kind bytes size) size.1
 
 -- all of the bytes
-unfoldable pub key_at : List ℕ → Result Key KeyFault
+unfoldable pub key_at : List ℕ → Result PublicKey KeyFault
 key_at blob = if nat_lt longest_blob (length blob) then Err faults.TooLong else do
   kind ← kind_at blob
   key ← public_at kind.0 kind.1
   if length key.1 == 0 then Ok key.0 else Err faults.Trailing
 
 -- Reading the key's blob gives the key.
-abbrev pub IsRead : Key → Type 0
+abbrev pub IsRead : PublicKey → Type 0
 IsRead key = key_at (blob_of key) ≡ Ok key

@@ -47,7 +47,7 @@ abbrev pub step : Part → (List (List ℕ) → Option PrivateFault) → Step
 step part judged = record { part = part; judged = judged }
 
 -- A value of the part stands at the front of the bytes, before the rest.
-pub record Stands (part : Part) (bytes value rest : List ℕ) : Type 0 where
+pub record BeginsWithPart (part : Part) (bytes value rest : List ℕ) : Type 0 where
   pub is_part : IsPart part value
   pub spelled : bytes ≡ part_text part value ++ rest
 
@@ -56,7 +56,7 @@ pub record Stands (part : Part) (bytes value rest : List ℕ) : Type 0 where
 abbrev pub Leads : List Step → List (List ℕ) → List ℕ → List (List ℕ) → List ℕ → Type 0
 Leads [] values bytes after rest = (values ≡ after) × (bytes ≡ rest)
 Leads (expected ∷ steps) values bytes after rest =
-    (value : List ℕ) × (left : List ℕ) × Stands expected.part bytes value left
+    (value : List ℕ) × (left : List ℕ) × BeginsWithPart expected.part bytes value left
     × (expected.judged (values ++ value ∷ []) ≡ None)
     × Leads steps (values ++ value ∷ []) left after rest
 
@@ -66,7 +66,7 @@ abbrev pub Fails : List Step → List (List ℕ) → List ℕ → PrivateFault �
 Fails [] values bytes fault = ⊥
 Fails (expected ∷ steps) values bytes fault =
     ((why : WireFault) × (part_at expected.part bytes ≡ Err why) × (fault ≡ Wire why))
-    ⊎ ((value : List ℕ) × (left : List ℕ) × Stands expected.part bytes value left
+    ⊎ ((value : List ℕ) × (left : List ℕ) × BeginsWithPart expected.part bytes value left
     × ((expected.judged (values ++ value ∷ []) ≡ Some fault)
     ⊎ ((expected.judged (values ++ value ∷ []) ≡ None)
     × Fails steps (values ++ value ∷ []) left fault)))

@@ -28,10 +28,10 @@ pub struct PublicKey<'a> {
 
 impl<'a> Model for PublicKey<'a> {
     ghost use Rattle.std.specs.Prelude.{◌≡◌, Ok};
-    ghost use Rattle.ssh_key.specs.Key.{Key, blob_of};
+    ghost use Rattle.ssh_key.specs.Key.{PublicKey, blob_of};
     ghost use Rattle.ssh_key.specs.KeyReading.{IsRead};
 
-    ghost Value = { Key };
+    ghost Value = { PublicKey };
 
     ghost view = { λ key. record { kind = key.kind; fields = key.fields.now; bits = key.bits } };
 

@@ -9,7 +9,7 @@ ghost use Rattle.ssh_key.specs.ContainerReading.{private_at};
 ghost use Rattle.ssh_key.specs.FingerprintReading.{IsFingerprint, IsFingerprintFault, fingerprint_at};
 ghost use Rattle.ssh_key.specs.Fingerprints.{fingerprint_text};
 ghost use Rattle.ssh_key.specs.FirstFault.{IsFieldsFault, IsFirstFault};
-ghost use Rattle.ssh_key.specs.Key.{BeginsWithFields, IsKey, IsPositive, Key, blob_of};
+ghost use Rattle.ssh_key.specs.Key.{BeginsWithFields, IsKey, IsPositive, PublicKey, blob_of};
 ghost use Rattle.ssh_key.specs.KeyLine.{IsKeyLine, base64};
 ghost use Rattle.ssh_key.specs.KeyReading.{key_at, public_at};
 ghost use Rattle.ssh_key.specs.Kind.{bit_count, certificate_name, fields_of, type_name};
@@ -36,7 +36,8 @@ pub fn names_differ()
 
 /// Reading gives a key exactly where the bytes are its blob.
 pub fn read_where_spelled()
-    ensures { (blob : List ℕ) (key : Key) → IsBytes blob → (key_at blob ≡ Ok key) ↔ IsKey blob key }
+    ensures { (blob : List ℕ) (key : PublicKey) → IsBytes blob → (key_at blob ≡ Ok key)
+        ↔ IsKey blob key }
 {}
 
 /// Reading meets a fault exactly where it is the first fault of the bytes.
@@ -49,14 +50,14 @@ pub fn refused_by_first_fault()
 pub fn one_first_fault()
     ensures one { (blob : List ℕ) (a b : KeyFault) → IsFirstFault blob a → IsFirstFault blob b
         → a ≡ b }
-    ensures none { (blob : List ℕ) (key : Key) (fault : KeyFault) → IsKey blob key
+    ensures none { (blob : List ℕ) (key : PublicKey) (fault : KeyFault) → IsKey blob key
         → IsFirstFault blob fault → ⊥ }
 {}
 
 /// Reading public fields gives a key and the rest exactly where the bytes are its public fields and
 /// the rest.
 pub fn fields_read_where_spelled()
-    ensures { (kind : Kind) (bytes rest : List ℕ) (key : Key) → IsBytes bytes
+    ensures { (kind : Kind) (bytes rest : List ℕ) (key : PublicKey) → IsBytes bytes
         → (public_at kind bytes ≡ Ok (key, rest))
         ↔ ((key.kind ≡ kind) × BeginsWithFields bytes key rest) }
 {}
@@ -71,28 +72,29 @@ pub fn fields_refused_by_first_fault()
 pub fn one_fields_fault()
     ensures one { (kind : Kind) (bytes : List ℕ) (a b : KeyFault)
         → IsFieldsFault kind bytes a → IsFieldsFault kind bytes b → a ≡ b }
-    ensures none { (key : Key) (bytes rest : List ℕ) (fault : KeyFault)
+    ensures none { (key : PublicKey) (bytes rest : List ℕ) (fault : KeyFault)
         → BeginsWithFields bytes key rest → IsFieldsFault key.kind bytes fault → ⊥ }
 {}
 
 /// A blob that is cut short, at whatever byte, is refused as such: its fault is that of a field
 /// that ends too early, and no other. So are public fields alone.
 pub fn cut_key_is_short()
-    ensures blob { (blob : List ℕ) (key : Key) (n : ℕ) → IsKey blob key → n < length blob
+    ensures blob { (blob : List ℕ) (key : PublicKey) (n : ℕ) → IsKey blob key → n < length blob
         → IsFirstFault (take n blob) (Wire Short) }
-    ensures fields { (key : Key) (n : ℕ) → IsKey (blob_of key) key → n < length key.fields
+    ensures fields { (key : PublicKey) (n : ℕ) → IsKey (blob_of key) key → n < length key.fields
         → IsFieldsFault key.kind (take n key.fields) (Wire Short) }
 {}
 
 /// A blob is that of one key.
 pub fn one_key()
-    ensures { (blob : List ℕ) (a b : Key) → IsKey blob a → IsKey blob b → a ≡ b }
+    ensures { (blob : List ℕ) (a b : PublicKey) → IsKey blob a → IsKey blob b → a ≡ b }
 {}
 
 /// A key has one blob: where the kind is the same, and the numbers and strings of the public fields
 /// are, so is the blob.
 pub fn one_blob()
-    ensures { (a b : List ℕ) (k l : Key) → IsBytes a → IsBytes b → (p : IsKey a k) (q : IsKey b l)
+    ensures { (a b : List ℕ) (k l : PublicKey) → IsBytes a → IsBytes b
+        → (p : IsKey a k) (q : IsKey b l)
         → k.kind ≡ l.kind → SameValues (fields_of k.kind) p.values q.values → a ≡ b }
 {}
 
@@ -105,7 +107,7 @@ pub fn bits_hold_number()
 
 /// The blob that is made of a key is the one that it was read from, and is read as that key.
 pub fn blob_read_back()
-    ensures { (blob : List ℕ) (key : Key) → IsKey blob key
+    ensures { (blob : List ℕ) (key : PublicKey) → IsKey blob key
         → (blob_of key ≡ blob) × (key_at (blob_of key) ≡ Ok key) }
 {}
 

@@ -7,7 +7,7 @@ use Rattle.std.proofs.KnownBytes.{Consumes-kept, Consumes-trans}
 use Rattle.ssh_wire.specs.declared.pull_fault.PullFault.{PullFault}
 use Rattle.ssh_wire.specs.declared.pull_fault.PullFault.TheVariants.{EndsEarly, TooLong, Read, NoMemory}
 use Rattle.ssh_wire.specs.Filling.{Fills, FallsShort, ReportsEnd, pulled}
-use Rattle.ssh_wire.specs.Pull.{Misses, MissesRest, Consumes-ahead, Pulled, Refuses, RefusesRest, Reports, ReportsRest, after_ahead, left_of}
+use Rattle.ssh_wire.specs.Pull.{Misses, MissesRest, Consumes-ahead, Pull, Refuses, RefusesRest, Reports, ReportsRest, after_ahead, left_of}
 use borrow.Rule.Slice.PartMut.{put_mid, post_of}
 use lib.Seq.{take-add, take-append-le}
 
@@ -56,14 +56,14 @@ Comes-more before mid after start now slice part comes more size = record {
   count = omega (arith, length-append comes.came slice, comes.count, size);
 }
 
-Reports-end : (fault : PullFault) (pull : Pulled) (came : ℕ) → ReportsEnd fault (left_of pull) pull.failed → pull.ahead ≡ None → Reports fault pull came
+Reports-end : (fault : PullFault) (pull : Pull) (came : ℕ) → ReportsEnd fault (left_of pull) pull.failed → pull.ahead ≡ None → Reports fault pull came
 Reports-end EndsEarly pull came reports none_ahead = reports
 Reports-end TooLong pull came reports none_ahead = absurd reports
 Reports-end Read pull came reports none_ahead = (none_ahead, reports)
 Reports-end NoMemory pull came reports none_ahead = absurd reports
 
 -- what came is less than a field that has room
-pub Misses-short : (old new : Pulled) (fault : PullFault) (room size : ℕ) → FallsShort fault (left_of old) (left_of new) new.failed room → new.ahead ≡ None → room ≤ size → old.taken + room ≤ old.limit → Misses old size fault new
+pub Misses-short : (old new : Pull) (fault : PullFault) (room size : ℕ) → FallsShort fault (left_of old) (left_of new) new.failed room → new.ahead ≡ None → room ≤ size → old.taken + room ≤ old.limit → Misses old size fault new
 Misses-short old new fault room size stops none_ahead fits within = record {
   came = stops.came;
   bytes = stops.bytes;
@@ -73,7 +73,7 @@ Misses-short old new fault room size stops none_ahead fits within = record {
 }
 
 -- bytes came, and then there was no memory for the rest of the field
-pub Misses-memory : (old new : Pulled) (size : ℕ) (front : List ℕ) → Consumes (left_of old) (left_of new) front → length front < size → old.taken + size ≤ old.limit → new.failed ≡ false → Misses old size NoMemory new
+pub Misses-memory : (old new : Pull) (size : ℕ) (front : List ℕ) → Consumes (left_of old) (left_of new) front → length front < size → old.taken + size ≤ old.limit → new.failed ≡ false → Misses old size NoMemory new
 Misses-memory old new size front before part fits working = record {
   came = front;
   bytes = before;
@@ -82,14 +82,14 @@ Misses-memory old new size front before part fits working = record {
   reports = working;
 }
 
-Reports-kept : (fault : PullFault) (new : Pulled) (taken limit came : ℕ) → new.taken ≡ taken → new.limit ≡ limit → Reports fault (pulled new.source new.failed new.ahead taken limit) came → Reports fault new came
+Reports-kept : (fault : PullFault) (new : Pull) (taken limit came : ℕ) → new.taken ≡ taken → new.limit ≡ limit → Reports fault (pulled new.source new.failed new.ahead taken limit) came → Reports fault new came
 Reports-kept EndsEarly new taken limit came taken_is limit_is reports = reports
 Reports-kept TooLong new taken limit came taken_is limit_is reports = (omega (arith, reports.0), reports.1, reports.2)
 Reports-kept Read new taken limit came taken_is limit_is reports = reports
 Reports-kept NoMemory new taken limit came taken_is limit_is reports = reports
 
 -- the fault that was found is kept
-pub Refuses-misses : (old new : Pulled) (size : ℕ) (fault : PullFault) → Misses (pulled old.source false old.ahead old.taken old.limit) size fault (pulled new.source new.failed new.ahead old.taken old.limit) → new.taken ≡ old.taken → new.limit ≡ old.limit → new.fault ≡ Some fault → Refuses old size fault new
+pub Refuses-misses : (old new : Pull) (size : ℕ) (fault : PullFault) → Misses (pulled old.source false old.ahead old.taken old.limit) size fault (pulled new.source new.failed new.ahead old.taken old.limit) → new.taken ≡ old.taken → new.limit ≡ old.limit → new.fault ≡ Some fault → Refuses old size fault new
 Refuses-misses old new size fault misses taken_is limit_is fault_is = record {
   misses = record {
     came = misses.came;
@@ -106,7 +106,7 @@ Refuses-misses old new size fault misses taken_is limit_is fault_is = record {
 -- ---- all that is left
 
 -- bytes came, and then some more, for which there is no memory
-pub MissesRest-memory : (old new : Pulled) (mid : Option (List ℕ)) (front piece : List ℕ) (count : ℕ) → Consumes (left_of old) mid front → Consumes mid new.source (take count piece) → new.ahead ≡ None → 0 < count → count ≤ length piece → old.taken + (length front + count) ≤ old.limit → new.failed ≡ false → MissesRest old NoMemory new
+pub MissesRest-memory : (old new : Pull) (mid : Option (List ℕ)) (front piece : List ℕ) (count : ℕ) → Consumes (left_of old) mid front → Consumes mid new.source (take count piece) → new.ahead ≡ None → 0 < count → count ≤ length piece → old.taken + (length front + count) ≤ old.limit → new.failed ≡ false → MissesRest old NoMemory new
 MissesRest-memory old new mid front piece count before after none_ahead some part within working =
     let size = length-take-le count piece part in
     let all = length-append front (take count piece) in
@@ -118,7 +118,7 @@ MissesRest-memory old new mid front piece count before after none_ahead some par
     }
 
 -- bytes came, and then the reader failed
-pub MissesRest-read : (old new : Pulled) (mid : Option (List ℕ)) (front : List ℕ) → Consumes (left_of old) mid front → Keeps mid new.source → new.ahead ≡ None → old.taken + length front ≤ old.limit → new.failed ≡ true → MissesRest old Read new
+pub MissesRest-read : (old new : Pull) (mid : Option (List ℕ)) (front : List ℕ) → Consumes (left_of old) mid front → Keeps mid new.source → new.ahead ≡ None → old.taken + length front ≤ old.limit → new.failed ≡ true → MissesRest old Read new
 MissesRest-read old new mid front before kept none_ahead within failed = record {
   came = front;
   bytes = subst (λ (ahead : Option ℕ). Consumes (left_of old) (after_ahead ahead new.source) front) (sym none_ahead) (Consumes-kept (left_of old) mid new.source front before kept);
@@ -127,7 +127,7 @@ MissesRest-read old new mid front before kept none_ahead within failed = record 
 }
 
 -- bytes came, and then a look at the next one met the fault
-pub MissesRest-look : (old new : Pulled) (mid : Option (List ℕ)) (front : List ℕ) (fault : PullFault) → Consumes (left_of old) mid front → Keeps mid (left_of new) → old.taken + length front ≤ old.limit → ReportsRest fault new (length front) → MissesRest old fault new
+pub MissesRest-look : (old new : Pull) (mid : Option (List ℕ)) (front : List ℕ) (fault : PullFault) → Consumes (left_of old) mid front → Keeps mid (left_of new) → old.taken + length front ≤ old.limit → ReportsRest fault new (length front) → MissesRest old fault new
 MissesRest-look old new mid front fault before kept within reports = record {
   came = front;
   bytes = Consumes-kept (left_of old) mid (left_of new) front before kept;
@@ -136,18 +136,18 @@ MissesRest-look old new mid front fault before kept within reports = record {
 }
 
 -- the look met that the reader failed
-pub MissesRest-failed : (old new : Pulled) (mid : Option (List ℕ)) (front : List ℕ) (fault : PullFault) → Consumes (left_of old) mid front → Keeps mid (left_of new) → old.taken + length front ≤ old.limit → fault ≡ Read → new.ahead ≡ None → new.failed ≡ true → MissesRest old fault new
+pub MissesRest-failed : (old new : Pull) (mid : Option (List ℕ)) (front : List ℕ) (fault : PullFault) → Consumes (left_of old) mid front → Keeps mid (left_of new) → old.taken + length front ≤ old.limit → fault ≡ Read → new.ahead ≡ None → new.failed ≡ true → MissesRest old fault new
 MissesRest-failed old new mid front fault before kept within is_read none_ahead failed =
     subst (λ (met : PullFault). MissesRest old met new) (sym is_read) (MissesRest-look old new mid front Read before kept within (none_ahead, failed))
 
-ReportsRest-kept : (fault : PullFault) (new : Pulled) (taken limit came : ℕ) → new.taken ≡ taken → new.limit ≡ limit → ReportsRest fault (pulled new.source new.failed new.ahead taken limit) came → ReportsRest fault new came
+ReportsRest-kept : (fault : PullFault) (new : Pull) (taken limit came : ℕ) → new.taken ≡ taken → new.limit ≡ limit → ReportsRest fault (pulled new.source new.failed new.ahead taken limit) came → ReportsRest fault new came
 ReportsRest-kept EndsEarly new taken limit came taken_is limit_is reports = reports
 ReportsRest-kept TooLong new taken limit came taken_is limit_is reports = (omega (arith, reports.0), reports.1, reports.2)
 ReportsRest-kept Read new taken limit came taken_is limit_is reports = reports
 ReportsRest-kept NoMemory new taken limit came taken_is limit_is reports = reports
 
 -- the fault that was found is kept
-pub RefusesRest-misses : (old new : Pulled) (fault : PullFault) → MissesRest (pulled old.source false old.ahead old.taken old.limit) fault (pulled new.source new.failed new.ahead old.taken old.limit) → new.taken ≡ old.taken → new.limit ≡ old.limit → new.fault ≡ Some fault → RefusesRest old fault new
+pub RefusesRest-misses : (old new : Pull) (fault : PullFault) → MissesRest (pulled old.source false old.ahead old.taken old.limit) fault (pulled new.source new.failed new.ahead old.taken old.limit) → new.taken ≡ old.taken → new.limit ≡ old.limit → new.fault ≡ Some fault → RefusesRest old fault new
 RefusesRest-misses old new fault misses taken_is limit_is fault_is = record {
   misses = record {
     came = misses.came;

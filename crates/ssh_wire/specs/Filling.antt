@@ -5,7 +5,7 @@ use Rattle.std.specs.Io.KnownBytes.{Consumes, IsAtEnd}
 use Rattle.ssh_wire.specs.declared.pull_fault.PullFault.{PullFault}
 use Rattle.ssh_wire.specs.declared.pull_fault.PullFault.TheVariants.{EndsEarly, TooLong, Read}
 use Rattle.ssh_wire.specs.declared.pull_fault.PullFault.TheVariants.{NoMemory}
-use Rattle.ssh_wire.specs.Pull.{Pulled}
+use Rattle.ssh_wire.specs.Pull.{Pull}
 
 -- what always holds of the fields of a `Pull`
 pub record IsSound (failed : Bool) (taken limit : ℕ) (fault : Option PullFault) : Type 0 where
@@ -13,7 +13,7 @@ pub record IsSound (failed : Bool) (taken limit : ℕ) (fault : Option PullFault
   pub working : fault ≡ None → failed ≡ false
 
 -- a reader with these bytes left, which failed or not, of which this many bytes were taken
-abbrev pub pulled : Option (List ℕ) → Bool → Option ℕ → ℕ → ℕ → Pulled
+abbrev pub pulled : Option (List ℕ) → Bool → Option ℕ → ℕ → ℕ → Pull
 pulled source failed ahead taken limit =
     record {
       source = source;

@@ -10,7 +10,7 @@ use Rattle.ssh_wire.specs.declared.pull_fault.PullFault.TheVariants.{NoMemory}
 -- What the reader has left, where it knows that, whether it failed, and what stands in its buffer;
 -- the byte that was looked at and not taken; how many bytes were taken, and how many may be; the
 -- fault that was met.
-pub record Pulled : Type 0 where
+pub record Pull : Type 0 where
   pub source : Option (List ℕ)
   pub failed : Bool
   pub buffered : List ℕ
@@ -31,11 +31,11 @@ Consumes-ahead byte None = tt
 Consumes-ahead byte (Some xs) = refl
 
 -- The bytes that were not taken yet. The reader gave at most one of them: the one looked at.
-abbrev pub left_of : Pulled → Option (List ℕ)
+abbrev pub left_of : Pull → Option (List ℕ)
 left_of pull = after_ahead pull.ahead pull.source
 
 -- nothing was taken of a reader that has these bytes left, and these in its buffer
-abbrev pub untaken : Option (List ℕ) → (buffered : List ℕ) → ℕ → Pulled
+abbrev pub untaken : Option (List ℕ) → (buffered : List ℕ) → ℕ → Pull
 untaken source buffered limit =
     record {
       source = source;
@@ -53,11 +53,11 @@ front_of None buffered room = take room buffered
 front_of (Some byte) buffered room = []
 
 -- the bytes that can be taken now, within the limit
-abbrev pub at_hand : Pulled → List ℕ
+abbrev pub at_hand : Pull → List ℕ
 at_hand pull = front_of pull.ahead pull.buffered (pull.limit - pull.taken)
 
 -- The field was taken: it is the next bytes, within the limit.
-pub record Takes (old : Pulled) (field : List ℕ) (new : Pulled) : Type 0 where
+pub record Takes (old : Pull) (field : List ℕ) (new : Pull) : Type 0 where
   pub bytes : Consumes (left_of old) (left_of new) field
   pub within : old.taken + length field ≤ old.limit
   pub taken : new.taken ≡ old.taken + length field
@@ -69,7 +69,7 @@ pub record Takes (old : Pulled) (field : List ℕ) (new : Pulled) : Type 0 where
 -- What a fault says, where this many bytes of a field came. EndsEarly: no byte is left. TooLong:
 -- the limit is reached, and a byte stands past it. Read: the reader failed, and no byte stands
 -- ahead.
-abbrev pub Reports : PullFault → Pulled → ℕ → Type 0
+abbrev pub Reports : PullFault → Pull → ℕ → Type 0
 Reports EndsEarly pull came = IsAtEnd (left_of pull) × (pull.failed ≡ false)
 Reports TooLong pull came =
     (pull.taken + came ≡ pull.limit) × IsSome pull.ahead × (pull.failed ≡ false)
@@ -77,7 +77,7 @@ Reports Read pull came = (pull.ahead ≡ None) × (pull.failed ≡ true)
 Reports NoMemory pull came = pull.failed ≡ false
 
 -- Of a field of this many bytes not all came, within the limit, and the fault says why.
-pub record Misses (old : Pulled) (size : ℕ) (fault : PullFault) (new : Pulled) : Type 0 where
+pub record Misses (old : Pull) (size : ℕ) (fault : PullFault) (new : Pull) : Type 0 where
   pub came : List ℕ
   pub bytes : Consumes (left_of old) (left_of new) came
   pub part : length came < size
@@ -85,25 +85,25 @@ pub record Misses (old : Pulled) (size : ℕ) (fault : PullFault) (new : Pulled)
   pub reports : Reports fault new (length came)
 
 -- A field of this many bytes was refused. What came of it does not count as taken.
-pub record Refuses (old : Pulled) (size : ℕ) (fault : PullFault) (new : Pulled) : Type 0 where
+pub record Refuses (old : Pull) (size : ℕ) (fault : PullFault) (new : Pull) : Type 0 where
   pub misses : Misses old size fault new
   pub taken : new.taken ≡ old.taken
   pub limit : new.limit ≡ old.limit
   pub fault_is : new.fault ≡ Some fault
 
 -- After a fault nothing is taken, and the same fault is reported again.
-abbrev pub RefusesAgain : {A : Type 0} → Result A PullFault → Pulled → Pulled → Type 0
+abbrev pub RefusesAgain : {A : Type 0} → Result A PullFault → Pull → Pull → Type 0
 RefusesAgain result old new = IfSome old.fault (λ fault. (result ≡ Err fault) × (new ≡ old))
 
 -- All that was left was taken, within the limit.
-pub record TakesRest (old : Pulled) (rest : List ℕ) (new : Pulled) : Type 0 where
+pub record TakesRest (old : Pull) (rest : List ℕ) (new : Pull) : Type 0 where
   pub takes : Takes old rest new
   pub none_ahead : new.ahead ≡ None
   pub ends : IsAtEnd new.source
 
 -- What a fault says, where this many of the bytes to the reader's end came. Each byte that came is
 -- among them, but for one that stands past the limit. Memory is not refused before a byte came.
-abbrev pub ReportsRest : PullFault → Pulled → ℕ → Type 0
+abbrev pub ReportsRest : PullFault → Pull → ℕ → Type 0
 ReportsRest EndsEarly pull came = ⊥
 ReportsRest TooLong pull came =
     (pull.taken + came ≡ pull.limit) × IsSome pull.ahead × (pull.failed ≡ false)
@@ -111,21 +111,21 @@ ReportsRest Read pull came = (pull.ahead ≡ None) × (pull.failed ≡ true)
 ReportsRest NoMemory pull came = (0 < came) × (pull.ahead ≡ None) × (pull.failed ≡ false)
 
 -- Of the bytes to the reader's end these came, within the limit, and the fault says why not all.
-pub record MissesRest (old : Pulled) (fault : PullFault) (new : Pulled) : Type 0 where
+pub record MissesRest (old : Pull) (fault : PullFault) (new : Pull) : Type 0 where
   pub came : List ℕ
   pub bytes : Consumes (left_of old) (left_of new) came
   pub within : old.taken + length came ≤ old.limit
   pub reports : ReportsRest fault new (length came)
 
 -- What was left was refused. What came of it does not count as taken.
-pub record RefusesRest (old : Pulled) (fault : PullFault) (new : Pulled) : Type 0 where
+pub record RefusesRest (old : Pull) (fault : PullFault) (new : Pull) : Type 0 where
   pub misses : MissesRest old fault new
   pub taken : new.taken ≡ old.taken
   pub limit : new.limit ≡ old.limit
   pub fault_is : new.fault ≡ Some fault
 
 -- Whether the end is reached was found out, and no byte was taken.
-pub record Looks (old : Pulled) (ended : Bool) (new : Pulled) : Type 0 where
+pub record Looks (old : Pull) (ended : Bool) (new : Pull) : Type 0 where
   pub bytes : Keeps (left_of old) (left_of new)
   pub answer : MatchBool ended (IsAtEnd (left_of new)) (IsSome new.ahead)
   pub taken : new.taken ≡ old.taken

@@ -27,9 +27,9 @@ pub struct Pull<R: Source + Drop> {
 
 impl<R: Source + Drop> Model for Pull<R> {
     ghost use Rattle.ssh_wire.specs.Filling.{IsSound};
-    ghost use Rattle.ssh_wire.specs.Pull.{Pulled};
+    ghost use Rattle.ssh_wire.specs.Pull.{Pull};
 
-    ghost Value = { Pulled };
+    ghost Value = { Pull };
 
     ghost view = { λ pull. record {
       source = R.left pull.reader;

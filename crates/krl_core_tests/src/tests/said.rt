@@ -33,7 +33,7 @@ pub enum Said<'a> {
 }
 
 // The authority that some bytes name.
-fn under(authority: &[u8]) -> Option<&[u8]>
+fn authority_of(authority: &[u8]) -> Option<&[u8]>
     ensures { IsAuthority result }
 {
     if authority.is_empty() {
@@ -58,11 +58,11 @@ fn add<S: Spans>(r: &mut Revocations<S>, said: Said<'_>) -> Result<(), AllocErro
         Said::Serials(authority, lo, hi) => {
             let lo = lo.max(1);
             if lo <= hi {
-                r.add_serials(under(authority), lo, hi)?;
+                r.add_serials(authority_of(authority), lo, hi)?;
             }
             Ok(())
         }
-        Said::Id(authority, id) => r.add_id(under(authority), id),
+        Said::Id(authority, id) => r.add_id(authority_of(authority), id),
         Said::Key(blob) => r.add_key(blob),
         Said::Sha1(hash) => r.add_sha1(&array_of(hash)),
         Said::Sha256(hash) => r.add_sha256(&array_of(hash)),

@@ -2,7 +2,7 @@
 
 ghost use Rattle.std.specs.Prelude.{◌≡◌, ◌+◌, ◌*◌, ◌≤◌, ◌↔◌, IsTrue, List, Some, length};
 ghost use Rattle.krl_types.specs.Subject.{Subject};
-ghost use Rattle.krl_held.specs.Contents.{Contents, IsOrderly, Means, held, serials_in, stored};
+ghost use Rattle.krl_held.specs.Revocations.{Revocations, IsOrderly, Means, held, serials_in, stored};
 ghost use Rattle.krl_held.specs.Entry.{Entry};
 ghost use Rattle.krl_held.specs.NamingTests.{is_revoked};
 ghost use Rattle.krl_held.specs.Questions.{Asks};
@@ -12,7 +12,7 @@ ghost use Rattle.krl_held.specs.Tested.{revokes};
 
 /// The test of what is held says what is revoked by any entries that it means.
 pub fn revokes_what_is_meant()
-    ensures { (r : Contents) (entries : List Entry) (subject : Subject) → Means r entries
+    ensures { (r : Revocations) (entries : List Entry) (subject : Subject) → Means r entries
         → (IsTrue (revokes r subject) ↔ Revoked entries subject) }
 {}
 
@@ -24,7 +24,7 @@ pub fn revokes_what_is_named()
 
 /// What was found of the topics revokes what was asked about just where the entries do.
 pub fn revokes_what_was_found()
-    ensures { (topics found : Contents) (entries : List Entry) (subject : Subject)
+    ensures { (topics found : Revocations) (entries : List Entry) (subject : Subject)
         → MeansWithin (Some topics) found entries → Asks topics subject
         → revokes found subject ≡ is_revoked entries subject }
 {}
@@ -32,7 +32,7 @@ pub fn revokes_what_was_found()
 /// What is found of some topics is small: at most a run for each serial number that is a topic, and
 /// no more bytes than the topics have and, for each key, its two hashes.
 pub fn what_is_found_is_small()
-    ensures { (topics found : Contents) → IsOrderly topics → IsOrderly found
+    ensures { (topics found : Revocations) → IsOrderly topics → IsOrderly found
         → IsWithin topics found → (held found ≤ serials_in topics.sections)
         × (stored found ≤ stored topics + 52 * length topics.keys) }
 {}

@@ -5,7 +5,7 @@ ghost use Rattle.krl_runs.specs.Carries.{Carries, Reaches};
 ghost use Rattle.krl_runs.specs.Done.{Ends};
 ghost use Rattle.krl_runs.specs.Printer.{FailsAgain, Sends, and_answer, chunk, nothing_printed};
 ghost use Rattle.krl_runs.specs.Run.{Answered, Item, status_of};
-ghost use Rattle.key_files.specs.Stop.{is_lost, output_stop};
+ghost use Rattle.key_files.specs.RunFault.{is_lost, output_stop};
 
 use crate::output::done::{Done, FAILED};
 use key_files::{Cause, RunFault};
@@ -28,9 +28,9 @@ pub struct Printer<'w, W: Sink> {
 }
 
 impl<'w, W: Sink> Model for Printer<'w, W> {
-    ghost use Rattle.krl_runs.specs.Printer.{Printed};
+    ghost use Rattle.krl_runs.specs.Printer.{Printer};
 
-    ghost Value = { Printed };
+    ghost Value = { Printer };
 
     ghost view = { λ printer. record {
       waiting = printer.buffer.now.items;
@@ -108,7 +108,7 @@ impl<'w, W: Sink> Printer<'w, W> {
     fn add(&mut self, lines: &[u8], revoked: bool) -> Result<(), AllocError>
         ensures ok { OnOk result (self.new
             ≡ and_answer self.old (record { text = lines.now; revoked = revoked })) }
-        ensures err { OnErr result (self.new ≡ self.old) }
+        ensures refused { OnErr result (self.new ≡ self.old) }
     {
         self.buffer.extend_from_slice(lines)?;
         self.revoked |= revoked;

@@ -1,7 +1,7 @@
 //! Asking a list about the keys of files: past its front, no more of it is held than was asked.
 
 ghost use Rattle.std.specs.Prelude.{◌≡◌, ◌≤◌, ℕ, IfSome, List, None, Option, Result, false};
-ghost use Rattle.key_files.specs.Keys.{File as FileOf};
+ghost use Rattle.key_files.specs.Keys.{Named as NamedOf};
 ghost use Rattle.krl_held.specs.Entry.{Entry as EntryOf};
 ghost use Rattle.krl_held.specs.Questions.{Asks};
 ghost use Rattle.krl_core.specs.Reading.{HasReadOf, IsReadingOf};
@@ -136,7 +136,7 @@ fn pass<'a, R: Source + Drop, W: Sink>(
     files: &'a [Named<'a>],
 ) -> (Result<(), RunFault<'a>>, R)
     requires working { walk.fault ≡ None }
-    requires asked { IfSome walk.keeping.scope (λ topics. AllExpected (Asks topics) files.now) }
+    requires asked { IfSome walk.keeper.scope (λ topics. AllExpected (Asks topics) files.now) }
     ensures { (before : Option (List ℕ)) → HasReadOf before walk
         → (reading : Result (List EntryOf) FaultOf)
         × IsReadingOf HasEntries before reading (R.has_failed result.1) (R.left result.1)
@@ -164,7 +164,7 @@ fn pass_unasked<'a, R: Source + Drop, W: Sink>(
     walk: Walk<Findings<Held>, R>,
 ) -> (Result<(), RunFault<'a>>, R)
     requires { walk.fault ≡ None }
-    ensures { (files : List FileOf) (before : Option (List ℕ)) → HasReadOf before walk
+    ensures { (files : List NamedOf) (before : Option (List ℕ)) → HasReadOf before walk
         → (reading : Result (List EntryOf) FaultOf)
         × IsReadingOf HasEntries before reading (R.has_failed result.1) (R.left result.1)
         × Carries (asked_run_of krl_name.now reading files) result.0

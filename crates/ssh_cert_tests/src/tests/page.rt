@@ -1,7 +1,7 @@
 //! The caller of the page of `ssh_cert`, and what a certificate is asked about.
 
 ghost use Rattle.std.specs.Prelude.{IsTrue};
-ghost use Rattle.ssh_cert.specs.Certificate.{Certificate, IsCertificate};
+ghost use Rattle.ssh_cert.specs.Cert.{Cert, IsCertificate};
 ghost use Rattle.ssh_cert.specs.Time.{IsValidAt};
 
 use crate::tests::parts::{Part, changed};
@@ -10,7 +10,7 @@ use ssh_cert::{Subject, read_cert, subject, valid_at};
 
 /// Whether a blob is a certificate that is valid at a moment, in seconds from 1970 on.
 fn is_valid_cert(blob: &[u8], moment: u64) -> bool
-    ensures { IsTrue result → (certificate : Certificate)
+    ensures { IsTrue result → (certificate : Cert)
         × (IsCertificate blob.now certificate × IsValidAt certificate moment) }
 {
     read_where_spelled();

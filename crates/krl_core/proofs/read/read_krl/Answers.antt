@@ -1,6 +1,6 @@
 -- A list is read from its first field on.
 use Rattle.krl_core.proofs.Lists.{known_from, list_of_all, said_from}
-use Rattle.krl_core.proofs.SpelledLists.{only_starved_from}
+use Rattle.krl_core.proofs.SpelledLists.{only_ran_out_from}
 use Rattle.krl_core.proofs.read.read_krl.Goals as goal
 
 pub returns-clause-found : goal.returns-clause-found
@@ -14,4 +14,4 @@ returns-clause-fault g c = said_from _ c.new.result c.read_on.result.0 c.new.ens
 
 pub returns-clause-only : goal.returns-clause-only
 returns-clause-only g c =
-    only_starved_from _ c.new.result c.read_on.result.0 _ _ c.new.ensures.start c.read_on.ensures.fault
+    only_ran_out_from _ c.new.result c.read_on.result.0 _ _ c.new.ensures.start c.read_on.ensures.fault

@@ -16,7 +16,7 @@ pub returns-in_err-field-clause-fault : goal.returns-in_err-field-clause-fault
 returns-in_err-field-clause-fault g c =
     let p = err_from_is_err_and c.from_residual-in_err-field.result c.from_residual-in_err-field.ensures.1 in
     rw (p.1, p.2) (missed_says (working c.args.pull.now c.args.place.now c.args.keeper.now) c.ends.new.pull c.take.new.pull c.in_err-field.field-0.0 c.requires.bounded
-    (rw c.if-branch.false at c.in_ok-ends.ensures.ok) c.in_err-field.ensures.err (λ starved. late_where_large c.args.place.now (c.in_err-field.ensures.memory starved)))
+    (rw c.if-branch.false at c.in_ok-ends.ensures.ok) c.in_err-field.ensures.err (λ ran_out. late_where_large c.args.place.now (c.in_err-field.ensures.memory ran_out)))
 
 pub returns-in_err-place-clause-fault : goal.returns-in_err-place-clause-fault
 returns-in_err-place-clause-fault g c =

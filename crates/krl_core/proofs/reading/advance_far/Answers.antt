@@ -2,11 +2,11 @@ use Rattle.std.proofs.Common.{◌≡◌, ℕ, List, length, take, inr, refl, sym
 use Rattle.std.proofs.lemmas.Bool.{false≢true}
 use Rattle.std.proofs.lemmas.List.{length-take-le}
 use Rattle.ssh_wire.specs.Pull.{at_hand}
-use Rattle.krl_core.specs.Keeping.{GrowsWithin}
+use Rattle.krl_core.specs.Keeper.{GrowsWithin}
 use Rattle.krl_core.specs.Reading.{working}
 use Rattle.krl_core.proofs.Advancing.{advances_of, late_past_header, more_of}
 use Rattle.krl_core.proofs.Crossed.{bounded_crossed, leaps_crossed, reads_crossed}
-use Rattle.krl_core.proofs.Stepping.{come, says_starved}
+use Rattle.krl_core.proofs.Stepping.{come, says_ran_out}
 use Rattle.krl_core.proofs.reading.advance_far.Goals as goal
 
 pub returns-in-Header-clause-more : goal.returns-in-Header-clause-more
@@ -63,7 +63,7 @@ returns-in-Err g c =
       more = tt;
       advances = tt;
       ends = tt;
-      fault = λ text fields h. says_starved old c.consume.new.self text fields _ (come h) (late_past_header c.args.place.now c.in_default.not-Header) refl t.working;
+      fault = λ text fields h. says_ran_out old c.consume.new.self text fields _ (come h) (late_past_header c.args.place.now c.in_default.not-Header) refl t.working;
       sound = tt;
       failure = (λ e. absurd (cc), λ e. absurd (false≢true (sym t.working ∙ e)));
       bounds = bounded_crossed old c.consume.new.self c.cross-count.new.keeper bytes c.requires.bounded t (subst (λ (n : ℕ). GrowsWithin n c.args.keeper.now c.cross-count.new.keeper) (sym long) crossed.grows);

@@ -1,6 +1,6 @@
 use Rattle.std.proofs.Common.{refl}
 use Rattle.krl_held.specs.Shelf.{section_of}
-use Rattle.krl_held.specs.Contents.{HoldsSerial}
+use Rattle.krl_held.specs.Revocations.{HoldsSerial}
 use Rattle.serial_set.specs.Span.{Covers}
 use Rattle.krl_held.proofs.Finding.{no_serial_under, serial_under}
 use Rattle.krl_held.proofs.Firsts.{first_as}

@@ -1,7 +1,7 @@
 -- The first key is given or not, or there is none.
 use Rattle.std.proofs.Common.{ap, sym, ◌∙◌}
 use Rattle.std.proofs.lemmas.Result.{err_from_is_err_and}
-use Rattle.key_files.specs.Keys.{File}
+use Rattle.key_files.specs.Keys.{Named}
 use Rattle.krl_make.proofs.MadeLists.{first_given, first_refused, no_key_first}
 use Rattle.krl_make.proofs.authority.first_key.Goals as goal
 
@@ -19,4 +19,4 @@ returns-in_ok-key-in-Some-clause-read c =
 
 pub returns-in-None-clause-read : goal.returns-in-None-clause-read
 returns-in-None-clause-read c =
-    rw (c.whole.ensures, ap (λ (file : File). file.name) c.file.view_is) (no_key_first c.args.file.now (sym c.keys_of-keys.ensures ∙ c.in-None.ensures.steps.0))
+    rw (c.whole.ensures, ap (λ (file : Named). file.name) c.file.view_is) (no_key_first c.args.file.now (sym c.keys_of-keys.ensures ∙ c.in-None.ensures.steps.0))

@@ -1,6 +1,6 @@
 -- The old list is read, or refused.
 use Rattle.std.proofs.Common.{Ok, Err, refl, ap, ◌∙◌}
-use Rattle.key_files.specs.Stop.{stop_of}
+use Rattle.key_files.specs.RunFault.{stop_of}
 use Rattle.krl_make.proofs.MadeLists.{old_read}
 use Rattle.krl_make.proofs.base.read_base.Goals as goal
 

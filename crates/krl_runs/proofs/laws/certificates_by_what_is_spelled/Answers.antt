@@ -1,7 +1,7 @@
 -- What is said of lines, with the certificate that is read.
 use Rattle.std.proofs.Common.{Some, Result, ap, refl, ◌∙◌}
 use Rattle.std.specs.Result.{result_ok}
-use Rattle.ssh_cert.specs.Certificate.{Certificate}
+use Rattle.ssh_cert.specs.Cert.{Cert}
 use Rattle.ssh_cert.specs.CertReading.{certificate_at}
 use Rattle.ssh_cert.specs.SubjectReading.{certified, of_certificate}
 use Rattle.ssh_cert.specs.declared.fault.CertFault.{CertFault}
@@ -19,7 +19,7 @@ returns-clause-listed c = λ hash moment name number text word blob comment cert
     let spells : SpellsKey text line asked certificate.key = record { is_line = is_line; is_asked = certified certificate is refl; is_key = is.key } in
     let read = (c.read_where_spelled.ensures blob certificate is_line.bytes).1 is in
     c.items_by_what_is_spelled.ensures.answered (certify hash moment) name number text line asked certificate.key has spells
-    ∙ ap (λ (r : Result Certificate CertFault). Some (said name (certificate_answer hash moment name (Some number) (result_ok r)))) read
+    ∙ ap (λ (r : Result Cert CertFault). Some (said name (certificate_answer hash moment name (Some number) (result_ok r)))) read
 
 pub returns-clause-only : goal.returns-clause-only
 returns-clause-only c = λ hash moment name number text other reply bytes item.

@@ -1,10 +1,10 @@
 -- One reading of a text, by one spelling and one first fault.
 use Rattle.std.proofs.Common.{◌≡◌, ◌⊎◌, ℕ, false, List, Result, Ok, Err, Option, Some, None, sym, ap, subst, ◌∙◌, inl, inr}
-use Rattle.krl_held.specs.Contents.{Contents, Means}
+use Rattle.krl_held.specs.Revocations.{Revocations, Means}
 use Rattle.krl_core.specs.Entries.{entries_of}
 use Rattle.krl_core.specs.Front.{IsFirstFault}
 use Rattle.krl_core.specs.Krl.{SpelledSection}
-use Rattle.krl_core.specs.Reading.{Says, starved, failed_read, first}
+use Rattle.krl_core.specs.Reading.{Says, ran_out, failed_read, first}
 use Rattle.krl_core.specs.declared.header.Header.{Header}
 use Rattle.krl_types.specs.declared.krl_fault.KrlFault.{KrlFault}
 use Rattle.krl_types.specs.declared.krl_fault.KrlFault.TheVariants.{NoMemory}
@@ -14,7 +14,7 @@ use Rattle.krl_runs.proofs.laws.one_reading.Goals as goal
 
 -- the fault of a reader that did not fail
 said_by : (fault : KrlFault) (text : List ℕ) (left : Option (List ℕ)) → Says fault text false left → (fault ≡ NoMemory) ⊎ IsFirstFault text (Some fault)
-said_by fault text left (starved is some works) = inl is
+said_by fault text left (ran_out is some works) = inl is
 said_by fault text left (failed_read is fails) = let failed = fails.failed_is in absurd (cc)
 said_by fault text left (first is works) = inr is
 
@@ -27,7 +27,7 @@ returns c = one_way
         let means = subst (λ (sections : List SpelledSection). Means other.contents (entries_of sections)) (sym spelled.1) k.list.holds.means in
         let contents = c.entries_decide_what_is_held.ensures one.contents other.contents (entries_of h.list.sections) h.list.holds.means means in
         ap (λ (header : Header). record { header = header; contents = one.contents }) spelled.0
-        ∙ ap (λ (contents : Contents). record { header = other.header; contents = contents }) contents
+        ∙ ap (λ (contents : Revocations). record { header = other.header; contents = contents }) contents
 
     not_refused : (text : List ℕ) (known : Known) (fault : KrlFault) (left : Option (List ℕ)) → IsHeld text known → Says fault text false left → fault ≡ NoMemory
     not_refused text known fault left h said =

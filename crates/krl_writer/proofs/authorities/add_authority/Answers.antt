@@ -1,7 +1,7 @@
 use Rattle.std.proofs.Common.{◌<◌, ◌++◌, List, ℕ, ap, arith, length, length-append, refl, subst, ◌∙◌}
 use Rattle.std.proofs.lemmas.Result.{err_from_is_err_and}
 use Rattle.ssh_wire.specs.Wire.{string}
-use Rattle.krl_held.specs.Contents.{Section, section_with}
+use Rattle.krl_held.specs.Revocations.{Section, section_with}
 use Rattle.krl_core.specs.Front.{limit}
 use Rattle.krl_plan.proofs.ListTexts.{length-begun}
 use Rattle.krl_writer.specs.declared.text_fault.TextFault.TheVariants.{TooLong}

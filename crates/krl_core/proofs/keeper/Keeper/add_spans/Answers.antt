@@ -4,7 +4,7 @@ use Rattle.serial_set.specs.declared.span.Span.{Span}
 use Rattle.serial_set.specs.Near.{AreNear}
 use Rattle.krl_core.proofs.Keeping.{stored_then, adds_first_more}
 use Rattle.krl_held.specs.Changes.{run_entries}
-use Rattle.krl_core.specs.Keeping.{Adds, held_with_open}
+use Rattle.krl_core.specs.Keeper.{Adds, held_with_open}
 use Rattle.krl_core.proofs.keeper.Keeper.add_spans.Goals as goal
 
 -- the spans from a place on

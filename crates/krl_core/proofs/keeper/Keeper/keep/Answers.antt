@@ -5,7 +5,7 @@ use Rattle.krl_core.specs.declared.place.Place.TheVariants as places
 use Rattle.krl_core.specs.declared.place.bitmap.BitmapPlace.{BitmapPlace}
 use Rattle.krl_core.specs.declared.place.bitmap.BitmapPlace.TheVariants as bitmaps
 use Rattle.krl_core.specs.declared.place.serials.SerialsPlace.TheVariants as serials
-use Rattle.krl_core.specs.Keeping.{InStep}
+use Rattle.krl_core.specs.Keeper.{InStep}
 use Rattle.krl_core.proofs.Bits.{good_bits, keeps_bits}
 use Rattle.krl_core.proofs.Keeping.{grows_more, grows_one}
 use Rattle.krl_core.proofs.keeper.Keeper.keep.Goals as goal

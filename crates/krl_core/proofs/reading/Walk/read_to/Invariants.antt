@@ -8,7 +8,7 @@ use Rattle.krl_core.proofs.reading.Walk.read_to.Given as goal
 -- some fields more were read, as far as the bytes that are allowed
 abbrev pub invariant-fields : goal.invariant-fields
 invariant-fields g l =
-    LeadsOn l.initial.self l.self × (l.self.pull.failed ≡ false) × IsBounded l.self.pull l.self.keeping
+    LeadsOn l.initial.self l.self × (l.self.pull.failed ≡ false) × IsBounded l.self.pull l.self.keeper
     × (l.initial.self.pull.taken ≤ l.most → l.self.pull.taken ≤ l.most)
 
 abbrev pub decreases-fields : goal.decreases-fields

@@ -2,7 +2,7 @@
 use Rattle.std.proofs.Common.{◌≤◌, ◌<◌, refl, inl, inr, arith}
 use Rattle.std.proofs.lemmas.Result.{on_ok_weaker}
 use Rattle.krl_held.specs.Authority.{authority_bytes}
-use Rattle.krl_held.specs.Contents.{HoldsId, serials_in}
+use Rattle.krl_held.specs.Revocations.{HoldsId, serials_in}
 use Rattle.krl_held.specs.Entry.{IdEntry, RangeEntry}
 use Rattle.krl_held.specs.Naming.{IdOf, SerialOf}
 use Rattle.krl_held.specs.Questions.{Asked, AsksMore, FindsIn}

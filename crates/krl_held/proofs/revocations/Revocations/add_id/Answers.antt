@@ -2,7 +2,7 @@ use Rattle.std.proofs.Common.{◌≡◌, ◌≤◌, ◌+◌, length, refl, sym, 
 use Rattle.krl_held.specs.declared.addition.Addition.TheVariants.{Id}
 use Rattle.krl_held.specs.Authority.{authority_bytes}
 use Rattle.krl_held.specs.Changes.{AddsTo}
-use Rattle.krl_held.specs.Contents.{Section, contents_of, IsNamed, Means, held, section_size, stored}
+use Rattle.krl_held.specs.Revocations.{Section, contents_of, IsNamed, Means, held, section_size, stored}
 use Rattle.krl_held.specs.Texts.{texts_of}
 use Rattle.krl_held.proofs.Adding.{id_orderly, id_mean}
 use Rattle.krl_held.proofs.Amounts.{empty_size, id_size, sum_named, sum_stays, adds_named, adds_stays}

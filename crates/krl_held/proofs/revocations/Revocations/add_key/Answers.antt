@@ -1,5 +1,5 @@
 use Rattle.std.proofs.Common.{sym, subst}
-use Rattle.krl_held.specs.Contents.{Means}
+use Rattle.krl_held.specs.Revocations.{Means}
 use Rattle.krl_held.specs.Texts.{texts_of}
 use Rattle.krl_held.proofs.Keys.{key_orderly, key_mean}
 use Rattle.krl_held.proofs.revocations.Revocations.add_key.Goals as goal

@@ -2,7 +2,7 @@ use Rattle.std.proofs.Common.{◌≤◌, ◌+◌, length, sym, subst, arith}
 use Rattle.krl_held.specs.declared.addition.Addition.TheVariants.{Serials}
 use Rattle.krl_held.specs.Authority.{authority_bytes}
 use Rattle.krl_held.specs.Changes.{AddsTo}
-use Rattle.krl_held.specs.Contents.{contents_of, IsNamed, Means, held, section_size, stored}
+use Rattle.krl_held.specs.Revocations.{contents_of, IsNamed, Means, held, section_size, stored}
 use Rattle.krl_held.specs.Texts.{texts_of}
 use Rattle.krl_held.proofs.Adding.{serials_orderly, serials_mean}
 use Rattle.krl_held.proofs.Amounts.{empty_size, serials_size, sum_named, adds_named, adds_stays}

@@ -1,5 +1,5 @@
 use Rattle.std.proofs.Common.{◌≡◌, ◌≤◌, ◌+◌, length, sym, subst, arith, rules}
-use Rattle.krl_held.specs.Contents.{Means, contents_of, stored}
+use Rattle.krl_held.specs.Revocations.{Means, contents_of, stored}
 use Rattle.krl_held.specs.Texts.{texts_of}
 use Rattle.krl_held.proofs.AddedSections.{put_size}
 use Rattle.krl_held.proofs.Sets.{set_puts}

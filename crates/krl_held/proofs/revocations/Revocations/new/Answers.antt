@@ -1,5 +1,5 @@
 use Rattle.std.proofs.Common.{[], rules, subst, sym}
-use Rattle.krl_held.specs.Contents.{Contents, Means}
+use Rattle.krl_held.specs.Revocations.{Revocations, Means}
 use Rattle.krl_held.proofs.SameMeaning.{nothing_meant}
 use Rattle.krl_held.proofs.revocations.Revocations.new.Goals as goal
 
@@ -7,4 +7,4 @@ pub returns-clause-nothing : goal.returns-clause-nothing
 returns-clause-nothing g c = search rules
 
 pub returns-clause-means : goal.returns-clause-means
-returns-clause-means g c = subst (λ (r : Contents). Means r []) (sym (returns-clause-nothing g c)) nothing_meant
+returns-clause-means g c = subst (λ (r : Revocations). Means r []) (sym (returns-clause-nothing g c)) nothing_meant

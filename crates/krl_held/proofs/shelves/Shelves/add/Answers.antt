@@ -12,7 +12,7 @@ returns-in-Some g c =
     let a = c.args.authority.now in
     let is = (c.get_mut.follows.holds c.add.new.self).0 in
     let both = adds g.S.Spans.spans c.args.addition a c.add.result c.in-Some.shelf.now c.add.new.self c.self.inside.map.entries (c.get_mut.follows.lender c.add.new.self).entries (sym c.in-Some.ensures.value) is (c.add.ensures a) in
-    rw (← c.self.view_is) (record { ok = both.0; err = both.1 })
+    rw (← c.self.view_is) (record { ok = both.0; refused = both.1 })
 
 pub invariant_of-self-2 : goal.invariant_of-self-2
 invariant_of-self-2 g c = sorted_rises c.insert.new.self.entries c.insert.ensures.ordered

@@ -1,7 +1,7 @@
 -- Nothing is said of the key, or its answer.
 use Rattle.std.proofs.Common.{Bool, true, false, [], ◌∷◌, Ok, ap, refl, subst, sym}
 use Rattle.krl_runs.specs.Carries.{Carries}
-use Rattle.key_files.specs.Keys.{Found}
+use Rattle.key_files.specs.Keys.{FileKey}
 use Rattle.krl_runs.specs.Run.{Answered, Item}
 use Rattle.krl_runs.proofs.Carrying.{carries_as, carries_passed}
 use Rattle.krl_runs.proofs.keys.walk.print_key.Goals as goal
@@ -16,5 +16,5 @@ pub returns-clause-carries : goal.returns-clause-carries
 returns-clause-carries g c =
     λ answering is.
     let item = rw c.in-Some.is at (c.in_ok-answer.ensures.gives answering is) in
-    let said = rw (c.as_slice.ensures, ap (λ (key : Found). key.name) c.key.view_is) at c.in_ok-say.ensures.carries in
+    let said = rw (c.as_slice.ensures, ap (λ (key : FileKey). key.name) c.key.view_is) at c.in_ok-say.ensures.carries in
     subst (λ (i : Item). Carries {A = Bool} (i ∷ []) (Ok true) c.args.run.now.printer c.say.new.self) (sym item) (carries_as (Answered c.args.key.now.name c.in-Some.answer ∷ []) (Ok c.in_ok-say.field-0) (Ok true) c.args.run.now.printer c.say.new.self refl said)

@@ -1,6 +1,6 @@
 -- The list is refused, or memory ran out first.
 use Rattle.std.proofs.Common.{Ok, Err}
-use Rattle.krl_runs.proofs.Asking.{asked_refused, asked_starved, list_entries}
+use Rattle.krl_runs.proofs.Asking.{asked_refused, asked_ran_out, list_entries}
 use Rattle.krl_runs.proofs.runs.passing.pass_unasked.Goals as goal
 use Rattle.krl_runs.proofs.runs.passing.pass_unasked.Goals.{in-Ok, in-Err}
 
@@ -13,7 +13,7 @@ returns g c =
           (λ text e. let h = begun text e in read.found text h.0 h.1) (λ text e. let h = begun text e in read.no_fault text h.0 h.1) tt (λ text entries holds. tt) in (
             Ok passed.0,
             record { failure = read.failure; read = passed.1 },
-            rw (c.whole.ensures, w.cause-is) (asked_starved c.args.krl_name.now files passed.0 c.args.run.now.printer),
+            rw (c.whole.ensures, w.cause-is) (asked_ran_out c.args.krl_name.now files passed.0 c.args.run.now.printer),
           )
           )
       | in-Err w ↦ (λ files before begun.

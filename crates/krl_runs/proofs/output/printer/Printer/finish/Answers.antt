@@ -1,6 +1,6 @@
 -- What waits is sent, unless the output has failed.
 use Rattle.std.proofs.Common.{sym, ap, ◌∙◌}
-use Rattle.krl_runs.specs.Printer.{Printed}
+use Rattle.krl_runs.specs.Printer.{Printer}
 use Rattle.krl_runs.proofs.Ending.{ends_lost, ends_sent}
 use Rattle.krl_runs.proofs.output.printer.Printer.finish.Goals as goal
 
@@ -12,4 +12,4 @@ pub returns-clause-ends : goal.returns-clause-ends
 returns-clause-ends g c = λ before run reaches.
     rw (c.status.ensures, c.is_some.ensures, c.or-fault.ensures, c.err.ensures.value)
     (ends_sent c.send.result run before c.args.stop c.args.self.now c.send.new.self c.self.inside.revoked
-    (sym c.is_lost.ensures ∙ c.if-is_lost.false) reaches c.send.ensures.sends (ap (λ (now : Printed). now.revoked) c.self.view_is))
+    (sym c.is_lost.ensures ∙ c.if-is_lost.false) reaches c.send.ensures.sends (ap (λ (now : Printer). now.revoked) c.self.view_is))

@@ -1,6 +1,6 @@
 -- The answer waits, or is sent.
 use Rattle.std.proofs.Common.{ap, ◌∙◌}
-use Rattle.krl_runs.specs.Printer.{Printed}
+use Rattle.krl_runs.specs.Printer.{Printer}
 use Rattle.krl_runs.proofs.Carrying.{carries_added, carries_lost, carries_sent}
 use Rattle.krl_runs.proofs.output.printer.Printer.say.Goals as goal
 
@@ -14,5 +14,5 @@ returns-then-is_short-clause-carries g c =
 
 pub returns-clause-carries : goal.returns-clause-carries
 returns-clause-carries g c =
-    let sends = rw c.in-Ok.ensures.ok at (c.send.ensures.sends (ap (λ (now : Printed). now.failed) c.in-Ok.ensures.ok ∙ c.in_ok-check.ensures)) in
-    carries_sent _ _ _ _ _ sends (c.send.ensures.writer ∙ ap (λ (now : Printed). now.writer) c.in-Ok.ensures.ok)
+    let sends = rw c.in-Ok.ensures.ok at (c.send.ensures.sends (ap (λ (now : Printer). now.failed) c.in-Ok.ensures.ok ∙ c.in_ok-check.ensures)) in
+    carries_sent _ _ _ _ _ sends (c.send.ensures.writer ∙ ap (λ (now : Printer). now.writer) c.in-Ok.ensures.ok)

@@ -2,27 +2,27 @@
 use Rattle.std.specs.Prelude.{◌≡◌, ℕ, ◌<◌, ◌^◌, List, [], ◌∷◌, length}
 use Rattle.std.specs.List.{concat}
 use Rattle.ssh_wire.specs.Wire.{BeginsWith, number, string, strings}
-use Rattle.ssh_key.specs.Key.{IsKey, Key, blob_of}
+use Rattle.ssh_key.specs.Key.{IsKey, PublicKey, blob_of}
 use Rattle.ssh_key.specs.Kind.{certificate_name}
 use Rattle.ssh_cert.specs.declared.role.Role.{Role}
 use Rattle.ssh_cert.specs.declared.role.Role.TheVariants.{User, Host}
-use Rattle.ssh_cert.specs.Options.{NamedData, options_text}
+use Rattle.ssh_cert.specs.Options.{CertOption, options_text}
 
 -- A certificate's fields, without the reserved one; of the signature only the name of its
 -- algorithm.
-pub record Certificate : Type 0 where
+pub record Cert : Type 0 where
   pub nonce : List ℕ
-  pub key : Key
+  pub key : PublicKey
   pub serial : ℕ
   pub role : Role
   pub key_id : List ℕ
   pub principals : List (List ℕ)
   pub after : ℕ
   pub before : ℕ
-  pub critical : List NamedData
-  pub extensions : List NamedData
+  pub critical : List CertOption
+  pub extensions : List CertOption
   pub authority : List ℕ
-  pub authority_key : Key
+  pub authority_key : PublicKey
   pub algorithm : List ℕ
 
 -- SSH_CERT_TYPE_USER and SSH_CERT_TYPE_HOST
@@ -31,7 +31,7 @@ role_number User = 1
 role_number Host = 2
 
 -- the fields in their order: the type name first, the signature last
-abbrev pub certificate_parts : Certificate → List ℕ → List ℕ → List (List ℕ)
+abbrev pub certificate_parts : Cert → List ℕ → List ℕ → List (List ℕ)
 certificate_parts certificate reserved signature =
     string (certificate_name certificate.key.kind)
     ∷ string certificate.nonce
@@ -49,12 +49,12 @@ certificate_parts certificate reserved signature =
     ∷ string signature
     ∷ []
 
-abbrev pub certificate_text : Certificate → List ℕ → List ℕ → List ℕ
+abbrev pub certificate_text : Cert → List ℕ → List ℕ → List ℕ
 certificate_text certificate reserved signature =
     concat (certificate_parts certificate reserved signature)
 
 -- Four bytes hold the length of each string, and eight bytes each number.
-pub record HasLengths (certificate : Certificate) (reserved signature : List ℕ) : Type 0 where
+pub record HasLengths (certificate : Cert) (reserved signature : List ℕ) : Type 0 where
   pub nonce_fits : length certificate.nonce < 2 ^ 32
   pub serial_fits : certificate.serial < 2 ^ 64
   pub key_id_fits : length certificate.key_id < 2 ^ 32
@@ -68,7 +68,7 @@ pub record HasLengths (certificate : Certificate) (reserved signature : List ℕ
 
 -- The blob is that of the certificate: its fields in their order, and nothing more. The plain key
 -- and the signature key are keys, and the signature begins with the name of its algorithm.
-pub record IsCertificate (blob : List ℕ) (certificate : Certificate) : Type 0 where
+pub record IsCertificate (blob : List ℕ) (certificate : Cert) : Type 0 where
   pub reserved : List ℕ
   pub signature : List ℕ
   pub spelled : blob ≡ certificate_text certificate reserved signature

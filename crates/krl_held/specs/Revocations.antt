@@ -17,18 +17,18 @@ abbrev pub section_with : (authority : List ℕ) → List Span → (ids : List (
 section_with authority spans ids = record { authority = authority; spans = spans; ids = ids }
 
 -- all that is held
-pub record Contents : Type 0 where
+pub record Revocations : Type 0 where
   pub sections : List Section
   pub keys : List (List ℕ)
   pub sha1s : List (List ℕ)
   pub sha256s : List (List ℕ)
 
-abbrev pub contents_of : List Section → (keys sha1s sha256s : List (List ℕ)) → Contents
+abbrev pub contents_of : List Section → (keys sha1s sha256s : List (List ℕ)) → Revocations
 contents_of sections keys sha1s sha256s =
     record { sections = sections; keys = keys; sha1s = sha1s; sha256s = sha256s }
 
 -- nothing is held
-abbrev pub nothing : Contents
+abbrev pub nothing : Revocations
 nothing = contents_of [] [] [] []
 
 -- ---- what is held under an authority
@@ -49,7 +49,7 @@ HoldsId sections a text =
     SomeSection (λ section. (section.authority ≡ a) × Contains section.ids text) sections
 
 -- some section stands under just this authority
-abbrev pub IsNamed : Contents → List ℕ → Type 0
+abbrev pub IsNamed : Revocations → List ℕ → Type 0
 IsNamed r a = SomeSection (λ section. section.authority ≡ a) r.sections
 
 -- ---- the order of what is held
@@ -63,7 +63,7 @@ pub record IsListed (section : Section) : Type 0 where
 
 -- Each authority stands once and by its bytes, so that all authorities come first. Keys and hashes
 -- stand by their bytes, each once.
-pub record IsOrderly (r : Contents) : Type 0 where
+pub record IsOrderly (r : Revocations) : Type 0 where
   pub authorities_rise : RisesBy (λ section. section.authority) r.sections
   pub listed : All IsListed r.sections
   pub keys_rise : Rises r.keys
@@ -75,7 +75,7 @@ pub record IsOrderly (r : Contents) : Type 0 where
 -- ---- what it means
 
 -- it is held
-abbrev pub HoldsName : Contents → Name → Type 0
+abbrev pub HoldsName : Revocations → Name → Type 0
 HoldsName r (SerialOf a s) = HoldsSerial r.sections a s
 HoldsName r (IdOf a text) = HoldsId r.sections a text
 HoldsName r (KeyOf blob) = Contains r.keys blob
@@ -83,14 +83,14 @@ HoldsName r (Sha1Of hash) = Contains r.sha1s hash
 HoldsName r (Sha256Of hash) = Contains r.sha256s hash
 
 -- just what the entries name is held, in order
-pub record Means (r : Contents) (entries : List Entry) : Type 0 where
+pub record Means (r : Revocations) (entries : List Entry) : Type 0 where
   pub orderly : IsOrderly r
   pub names : (name : Name) → HoldsName r name ↔ SomeNames entries name
 
 -- ---- how much it is
 
 -- how many spans are held
-abbrev pub held : Contents → ℕ
+abbrev pub held : Revocations → ℕ
 held r = sum_by (λ section. length section.spans) r.sections
 
 -- how many numbers a span has
@@ -110,11 +110,11 @@ abbrev pub section_size : Section → ℕ
 section_size section = length section.authority + size_of section.ids
 
 -- how many bytes the named authorities, key IDs, keys and hashes have, each counted once
-abbrev pub stored : Contents → ℕ
+abbrev pub stored : Revocations → ℕ
 stored r =
     sum_by section_size r.sections + size_of r.keys + size_of r.sha1s + size_of r.sha256s
 
 -- What is stored has at most n bytes, and so it has where the authority at hand is counted too.
-pub record IsStoredWithin (authority : List ℕ) (r : Contents) (n : ℕ) : Type 0 where
+pub record IsStoredWithin (authority : List ℕ) (r : Revocations) (n : ℕ) : Type 0 where
   pub now : stored r ≤ n
   pub next : IsNamed r authority ⊎ (stored r + length authority ≤ n)

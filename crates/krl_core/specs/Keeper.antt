@@ -10,7 +10,7 @@ use Rattle.krl_core.specs.declared.place.Place.{Place}
 use Rattle.krl_core.specs.declared.place.Place.TheVariants as places
 use Rattle.krl_core.specs.declared.place.bitmap.BitmapPlace.TheVariants as bitmaps
 use Rattle.krl_held.specs.Changes.{run_entries}
-use Rattle.krl_held.specs.Contents.{Contents, IsStoredWithin, held}
+use Rattle.krl_held.specs.Revocations.{Revocations, IsStoredWithin, held}
 use Rattle.krl_held.specs.Entry.{Entry, BitmapEntry}
 use Rattle.krl_held.specs.Naming.{NamesSame}
 use Rattle.krl_core.specs.Place.{names, authority_after, header_after, base_of}
@@ -18,22 +18,22 @@ use Rattle.krl_held.specs.Scope.{MeansWithin, Scope, WithinScope}
 
 -- What is known of the header, the authority in force, what is held, which names it answers for,
 -- and how far the bitmap at hand is read.
-pub record Keeping : Type 0 where
+pub record Keeper : Type 0 where
   pub header : Header
   pub authority : List ℕ
-  pub contents : Contents
+  pub contents : Revocations
   pub scope : Scope
   pub bitmap : BitRuns
 
 -- the run of the bitmap at hand with which its next byte may go on
-abbrev pub open_run : Keeping → List Span
-open_run keeping = option_to_list keeping.bitmap.pending
+abbrev pub open_run : Keeper → List Span
+open_run keeper = option_to_list keeper.bitmap.pending
 
 -- What is held means, in its scope, some entries, which with the open run name the same as these.
-pub record IsKept (keeping : Keeping) (entries : List Entry) : Type 0 where
+pub record IsKept (keeper : Keeper) (entries : List Entry) : Type 0 where
   pub closed : List Entry
-  pub means : MeansWithin keeping.scope keeping.contents closed
-  pub same : NamesSame (closed ++ run_entries keeping.authority (open_run keeping)) entries
+  pub means : MeansWithin keeper.scope keeper.contents closed
+  pub same : NamesSame (closed ++ run_entries keeper.authority (open_run keeper)) entries
 
 -- at a byte of a bitmap the bytes before it are fed, and elsewhere no run is open
 abbrev pub InStep : Place → BitRuns → Type 0
@@ -49,32 +49,32 @@ InStep (places.Bitmap (bitmaps.Byte offset size left after)) bitmap =
 InStep _ bitmap = bitmap.pending ≡ None
 
 -- how many spans are held, the open run as one more
-abbrev pub held_with_open : Keeping → ℕ
-held_with_open keeping = held keeping.contents + length (open_run keeping)
+abbrev pub held_with_open : Keeper → ℕ
+held_with_open keeper = held keeper.contents + length (open_run keeper)
 
 -- what is held is stored within n bytes, and so it is with the authority in force
-abbrev pub StoresWithin : Keeping → ℕ → Type 0
-StoresWithin keeping n = IsStoredWithin keeping.authority keeping.contents n
+abbrev pub StoresWithin : Keeper → ℕ → Type 0
+StoresWithin keeper n = IsStoredWithin keeper.authority keeper.contents n
 
 -- nothing changed but what is held
-pub record KeepsRest (old new : Keeping) : Type 0 where
+pub record KeepsRest (old new : Keeper) : Type 0 where
   pub authority_is : new.authority ≡ old.authority
   pub header_is : new.header ≡ old.header
   pub bitmap_is : new.bitmap ≡ old.bitmap
   pub scope_is : new.scope ≡ old.scope
 
 -- These entries are kept too.
-abbrev pub AddsEntries : Keeping → List Entry → Keeping → Type 0
+abbrev pub AddsEntries : Keeper → List Entry → Keeper → Type 0
 AddsEntries old named new =
     (entries : List Entry) → IsKept old entries → IsKept new (entries ++ named)
 
 -- these entries were added, and nothing else changed
-pub record Adds (old : Keeping) (named : List Entry) (new : Keeping) : Type 0 where
+pub record Adds (old : Keeper) (named : List Entry) (new : Keeper) : Type 0 where
   pub kept : AddsEntries old named new
   pub rest : KeepsRest old new
 
 -- What a field names was added, and the authority, the header and the bitmap are as after it.
-pub record KeepsField (place : Place) (field : List ℕ) (next : Place) (old new : Keeping)
+pub record KeepsField (place : Place) (field : List ℕ) (next : Place) (old new : Keeper)
     : Type 0 where
   pub kept : AddsEntries old (names place old.authority field) new
   pub authority_is : new.authority ≡ authority_after place old.authority field
@@ -88,7 +88,7 @@ pub record TakesByte (bitmap : BitRuns) (byte : ℕ) : Type 0 where
   pub good : (fault : BitFault) → HasFault bitmap byte fault → ⊥
 
 -- What a byte of the bitmap at hand names was added. After the last one no run is open.
-pub record KeepsBits (byte : ℕ) (last : Bool) (old new : Keeping) : Type 0 where
+pub record KeepsBits (byte : ℕ) (last : Bool) (old new : Keeper) : Type 0 where
   pub kept : AddsEntries old
       (BitmapEntry old.authority (base_of old.bitmap.offset old.bitmap.bytes_left) byte ∷ []) new
   pub authority_is : new.authority ≡ old.authority
@@ -99,7 +99,7 @@ pub record KeepsBits (byte : ℕ) (last : Bool) (old new : Keeping) : Type 0 whe
       ≡ record old.bitmap { bytes_left = old.bitmap.bytes_left - 1; pending = new.bitmap.pending }
 
 -- The same is kept, and no run is open.
-pub record Closes (old new : Keeping) : Type 0 where
+pub record Closes (old new : Keeper) : Type 0 where
   pub kept : AddsEntries old [] new
   pub authority_is : new.authority ≡ old.authority
   pub header_is : new.header ≡ old.header
@@ -107,24 +107,24 @@ pub record Closes (old new : Keeping) : Type 0 where
   pub closed : new.bitmap.pending ≡ None
 
 -- what is held is within the scope
-abbrev pub KeepsWithin : Keeping → Type 0
-KeepsWithin keeping = WithinScope keeping.scope keeping.contents
+abbrev pub KeepsWithin : Keeper → Type 0
+KeepsWithin keeper = WithinScope keeper.scope keeper.contents
 
 -- What is stored stays within any number that it is within, and what is held within the scope.
-pub record StaysWithin (old new : Keeping) : Type 0 where
+pub record StaysWithin (old new : Keeper) : Type 0 where
   pub stored_is : (m : ℕ) → StoresWithin old m → StoresWithin new m
   pub scope_is : KeepsWithin old → KeepsWithin new
   pub same_scope : new.scope ≡ old.scope
 
 -- At most n bytes of the list made it grow, also where memory ran out in between.
-pub record GrowsWithin (n : ℕ) (old new : Keeping) : Type 0 where
+pub record GrowsWithin (n : ℕ) (old new : Keeper) : Type 0 where
   pub held_is : held_with_open new ≤ held_with_open old + 4 * n
   pub stored_is : (m : ℕ) → StoresWithin old m → StoresWithin new (m + n)
   pub scope_is : KeepsWithin old → KeepsWithin new
   pub same_scope : new.scope ≡ old.scope
 
 -- The same is kept, no run is open, and this many bytes of the bitmap at hand were passed over.
-pub record Skips (count : ℕ) (old new : Keeping) : Type 0 where
+pub record Skips (count : ℕ) (old new : Keeper) : Type 0 where
   pub closes : Closes old new
   pub bitmap_is : new.bitmap
       ≡ record old.bitmap { bytes_left = old.bitmap.bytes_left - count; pending = None }
