@@ -22,3 +22,4 @@ pub mod ArmourLaws
 pub mod PrivateLaws
 pub mod LineSplits
 pub mod ContainerReads
+pub mod SecretRows

@@ -1,5 +1,5 @@
 -- Reading a private container from left to right, with the first fault that is met.
-use Rattle.std.specs.Prelude.{◌≡◌, ℕ, ◌==◌, Bool, List, [], ◌∷◌, codes, length, drop, nat_eq, Option, Some, None, Result, Ok, Err, if◌then◌else◌}
+use Rattle.std.specs.Prelude.{◌≡◌, ℕ, ◌==◌, Bool, List, [], ◌∷◌, ◌++◌, codes, length, drop, nat_eq, Option, Some, None, Result, Ok, Err, if◌then◌else◌}
 use Rattle.std.specs.List.{starts_with}
 use Rattle.std.specs.Str.{bytes_eq}
 use Rattle.base64.specs.Engines.{standard}
@@ -9,8 +9,10 @@ use Rattle.ssh_key.specs.Armour.{armour_at}
 use Rattle.ssh_key.specs.Container.{all_padding, beginning, magic, outer, public_text, secrets}
 use Rattle.ssh_key.specs.Key.{PublicKey}
 use Rattle.ssh_key.specs.KeyReading.{key_at}
-use Rattle.ssh_key.specs.Rows.{row_at}
+use Rattle.ssh_key.specs.Rows.{Magnitude, Number, Part, Step, Text, part_at, part_text, passes, row_at, step}
 use Rattle.ssh_key.specs.declared.container.Private.{Private}
+use Rattle.ssh_key.specs.declared.container.secrets.Spelling.{Spelling}
+use Rattle.ssh_key.specs.declared.container.secrets.Spelling.TheVariants as spellings
 use Rattle.ssh_key.specs.declared.kind.Kind.{Kind}
 use Rattle.ssh_key.specs.declared.private_fault.PrivateFault.{PrivateFault}
 use Rattle.ssh_key.specs.declared.private_fault.PrivateFault.TheVariants as faults
@@ -34,6 +36,43 @@ unfoldable pub same_at : Kind → List ℕ → List ℕ → Result (Bool × List
 same_at kind fields bytes = do
   secret ← row_at (secrets kind) [] bytes
   Ok (bytes_eq (public_text kind secret.0) fields, secret.1)
+
+-- ---- fields that pass whatever they are
+
+abbrev pub part_of : Spelling → Part
+part_of spellings.Number = Magnitude
+part_of spellings.Text = Text
+part_of spellings.Byte = Number 1
+
+abbrev pub row_of : List Spelling → List Step
+row_of [] = []
+row_of (spelling ∷ row) = step (part_of spelling) passes ∷ row_of row
+
+-- A part was passed over, or why not.
+abbrev pub Skips : {A : Type 0} → Part → Result A PrivateFault → List ℕ → List ℕ → Type 0
+Skips part (Ok done) bytes rest = (value : List ℕ) × (part_at part bytes ≡ Ok (value, rest))
+Skips part (Err fault) bytes rest = in_fault faults.Wire (part_at part bytes) ≡ Err fault
+
+-- the bytes of a row, and those after it
+unfoldable pub passed_at : List Spelling → List ℕ → Result (List ℕ × List ℕ) PrivateFault
+passed_at [] bytes = Ok ([], bytes)
+passed_at (spelling ∷ row) bytes = do
+  read ← in_fault faults.Wire (part_at (part_of spelling) bytes)
+  others ← passed_at row read.1
+  Ok (part_text (part_of spelling) read.0 ++ others.0, others.1)
+
+-- The bytes spell the values.
+abbrev pub Spells : List Spelling → List (List ℕ) → List ℕ → Type 0
+Spells [] values bytes = (values ≡ []) × (bytes ≡ [])
+Spells (spelling ∷ row) values bytes =
+    (value : List ℕ) × (others : List (List ℕ)) × (rest : List ℕ) × (values ≡ value ∷ others)
+    × (bytes ≡ part_text (part_of spelling) value ++ rest) × Spells row others rest
+
+-- The fields of a kind are those of these rows, and those of the first are the public ones.
+pub record HasRows (kind : Kind) (first others : List Spelling) : Type 0 where
+  pub rows : secrets kind ≡ row_of first ++ row_of others
+  pub public : (values more : List (List ℕ)) (bytes : List ℕ) → Spells first values bytes
+      → public_text kind (values ++ more) ≡ bytes
 
 unfoldable pub list_at : PublicKey → List ℕ → Result (List ℕ) PrivateFault
 list_at key list = do

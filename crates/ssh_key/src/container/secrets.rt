@@ -4,7 +4,8 @@
 ghost use Rattle.std.specs.Prelude.{◌≡◌, ◌++◌, ◌≤◌, ℕ, List, length};
 ghost use Rattle.std.specs.Str.{bytes_eq};
 ghost use Rattle.ssh_wire.specs.Reading.{Gives};
-ghost use Rattle.ssh_key.specs.ContainerReading.{same_at};
+ghost use Rattle.ssh_key.specs.ContainerReading.{HasRows, Skips, part_of, passed_at, same_at};
+ghost use Rattle.ssh_key.specs.declared.kind.Kind.{Kind as TheKind};
 
 use crate::fault::KeyFault;
 use crate::key::PublicKey;
@@ -15,83 +16,53 @@ use ssh_wire::Cursor;
 // The bytes of the private part of an Ed25519 key.
 const ED25519_SECRET_SIZE: usize = 64;
 
+// How a field is spelled.
+#[derive(Clone, Copy)]
+enum Spelling {
+    // A multiple precision integer.
+    Number,
+    // A string.
+    Text,
+    // A byte.
+    Byte,
+}
+
 /// Reads the fields of a key of this kind, and whether the public ones among them are the key's.
 pub fn read_secrets(key: &PublicKey, cursor: &mut Cursor) -> Result<bool, PrivateFault>
     ensures { Gives (λ same. same) result cursor.new
         (same_at key.now.kind key.now.fields cursor.old) }
 {
+    use Spelling::{Byte, Number, Text};
     let public = key.public_fields();
     match key.kind() {
         Kind::Rsa => read_rsa(public, cursor),
-        Kind::Dsa => read_dsa(public, cursor),
-        Kind::Ecdsa256 => read_ecdsa(public, cursor),
-        Kind::Ecdsa384 => read_ecdsa(public, cursor),
-        Kind::Ecdsa521 => read_ecdsa(public, cursor),
+        Kind::Dsa => read_rows(public, cursor, &[Number, Number, Number, Number], &[Number]),
+        Kind::Ecdsa256 => read_rows(public, cursor, &[Text, Text], &[Number]),
+        Kind::Ecdsa384 => read_rows(public, cursor, &[Text, Text], &[Number]),
+        Kind::Ecdsa521 => read_rows(public, cursor, &[Text, Text], &[Number]),
         Kind::Ed25519 => read_ed25519(public, cursor),
-        Kind::EcdsaSk => read_ecdsa_device(public, cursor),
-        Kind::Ed25519Sk => read_ed25519_device(public, cursor),
+        Kind::EcdsaSk => read_rows(public, cursor, &[Text, Text, Text], &[Byte, Text, Text]),
+        Kind::Ed25519Sk => read_rows(public, cursor, &[Text, Text], &[Byte, Text, Text]),
     }
 }
 
 // The modulus, the exponent, and four private numbers. The blob has the exponent first.
-#[tactic(auto, unfolding(crate::specs::Rows::row_at, crate::specs::ContainerReading::same_at))]
+#[tactic(auto, unfolding(crate::specs::Rows::row_at, crate::specs::ContainerReading::passed_at, crate::specs::ContainerReading::same_at))]
 fn read_rsa(public: &[u8], cursor: &mut Cursor) -> Result<bool, PrivateFault>
     ensures { Gives (λ same. same) result cursor.new (same_at Kind.Rsa public.now cursor.old) }
 {
-    let bytes = cursor.rest();
-    let _modulus = cursor.mpint()?;
-    let modulus = read_part(bytes, cursor.rest());
-    let bytes = cursor.rest();
-    let _exponent = cursor.mpint()?;
-    let exponent = read_part(bytes, cursor.rest());
-    let _private = cursor.mpint()?;
-    let _coefficient = cursor.mpint()?;
-    let _first_prime = cursor.mpint()?;
-    let _second_prime = cursor.mpint()?;
+    let modulus = pass_over(&[Spelling::Number], cursor)?;
+    let exponent = pass_over(&[Spelling::Number], cursor)?;
+    let _private = pass_over(&[Spelling::Number; 4], cursor)?;
     Ok(is_joined(public, exponent, modulus))
 }
 
-// The four public numbers, and a private one.
-#[tactic(auto, unfolding(crate::specs::Rows::row_at, crate::specs::ContainerReading::same_at))]
-fn read_dsa(public: &[u8], cursor: &mut Cursor) -> Result<bool, PrivateFault>
-    ensures { Gives (λ same. same) result cursor.new (same_at Kind.Dsa public.now cursor.old) }
-{
-    let bytes = cursor.rest();
-    let _prime = cursor.mpint()?;
-    let _subprime = cursor.mpint()?;
-    let _generator = cursor.mpint()?;
-    let _number = cursor.mpint()?;
-    let among = read_part(bytes, cursor.rest());
-    let _private = cursor.mpint()?;
-    Ok(among == public)
-}
-
-// The curve, the point, and a private number.
-#[tactic(auto, unfolding(crate::specs::Rows::row_at, crate::specs::ContainerReading::same_at))]
-fn read_ecdsa(public: &[u8], cursor: &mut Cursor) -> Result<bool, PrivateFault>
-    ensures of_256 { Gives (λ same. same) result cursor.new
-        (same_at Kind.Ecdsa256 public.now cursor.old) }
-    ensures of_384 { Gives (λ same. same) result cursor.new
-        (same_at Kind.Ecdsa384 public.now cursor.old) }
-    ensures of_521 { Gives (λ same. same) result cursor.new
-        (same_at Kind.Ecdsa521 public.now cursor.old) }
-{
-    let bytes = cursor.rest();
-    let _curve = cursor.string()?;
-    let _point = cursor.string()?;
-    let among = read_part(bytes, cursor.rest());
-    let _private = cursor.mpint()?;
-    Ok(among == public)
-}
-
 // The public bytes, and 64 private ones.
-#[tactic(auto, unfolding(crate::specs::Rows::row_at, crate::specs::ContainerReading::same_at))]
+#[tactic(auto, unfolding(crate::specs::Rows::row_at, crate::specs::ContainerReading::passed_at, crate::specs::ContainerReading::same_at))]
 fn read_ed25519(public: &[u8], cursor: &mut Cursor) -> Result<bool, PrivateFault>
     ensures { Gives (λ same. same) result cursor.new (same_at Kind.Ed25519 public.now cursor.old) }
 {
-    let bytes = cursor.rest();
-    let _public = cursor.string()?;
-    let among = read_part(bytes, cursor.rest());
+    let among = pass_over(&[Spelling::Text], cursor)?;
     let private = cursor.string()?;
     if private.len() != ED25519_SECRET_SIZE {
         return Err(PrivateFault::Key(KeyFault::Length));
@@ -99,36 +70,48 @@ fn read_ed25519(public: &[u8], cursor: &mut Cursor) -> Result<bool, PrivateFault
     Ok(among == public)
 }
 
-// The curve, the point, the application, and what the device needs.
-#[tactic(auto, unfolding(crate::specs::Rows::row_at, crate::specs::ContainerReading::same_at))]
-fn read_ecdsa_device(public: &[u8], cursor: &mut Cursor) -> Result<bool, PrivateFault>
-    ensures { Gives (λ same. same) result cursor.new (same_at Kind.EcdsaSk public.now cursor.old) }
+// The public fields, in the order of the blob, and then the private ones.
+fn read_rows(
+    public: &[u8],
+    cursor: &mut Cursor,
+    first: &[Spelling],
+    others: &[Spelling],
+) -> Result<bool, PrivateFault>
+    ensures { (kind : TheKind) → HasRows kind first.now others.now
+        → Gives (λ same. same) result cursor.new (same_at kind public.now cursor.old) }
 {
-    let bytes = cursor.rest();
-    let _curve = cursor.string()?;
-    let _point = cursor.string()?;
-    let _application = cursor.string()?;
-    let among = read_part(bytes, cursor.rest());
-    let _flags = cursor.byte()?;
-    let _handle = cursor.string()?;
-    let _reserved = cursor.string()?;
+    let among = pass_over(first, cursor)?;
+    let _private = pass_over(others, cursor)?;
     Ok(among == public)
 }
 
-// The public bytes, the application, and what the device needs.
-#[tactic(auto, unfolding(crate::specs::Rows::row_at, crate::specs::ContainerReading::same_at))]
-fn read_ed25519_device(public: &[u8], cursor: &mut Cursor) -> Result<bool, PrivateFault>
-    ensures { Gives (λ same. same) result cursor.new
-        (same_at Kind.Ed25519Sk public.now cursor.old) }
+// The bytes of fields that are spelled so.
+fn pass_over<'a>(row: &[Spelling], cursor: &mut Cursor<'a>) -> Result<&'a [u8], PrivateFault>
+    ensures { Gives (λ read. read.now) result cursor.new (passed_at row.now cursor.old) }
 {
     let bytes = cursor.rest();
-    let _public = cursor.string()?;
-    let _application = cursor.string()?;
-    let among = read_part(bytes, cursor.rest());
-    let _flags = cursor.byte()?;
-    let _handle = cursor.string()?;
-    let _reserved = cursor.string()?;
-    Ok(among == public)
+    for spelling in row {
+        pass(*spelling, cursor)?;
+    }
+    Ok(read_part(bytes, cursor.rest()))
+}
+
+// Passes over a field that is spelled so.
+fn pass(spelling: Spelling, cursor: &mut Cursor) -> Result<(), PrivateFault>
+    ensures { Skips (part_of spelling) result cursor.old cursor.new }
+{
+    match spelling {
+        Spelling::Number => {
+            cursor.mpint()?;
+        }
+        Spelling::Text => {
+            cursor.string()?;
+        }
+        Spelling::Byte => {
+            cursor.byte()?;
+        }
+    }
+    Ok(())
 }
 
 // What was read of the bytes, of which the rest is left.
