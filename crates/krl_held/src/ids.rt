@@ -12,8 +12,9 @@ use std::cmp::Ordering;
 use std::collections::BTreeSet;
 use std::marker::Model;
 
-// The most key IDs that lie in one vector. A set takes more memory for as many.
-const FEW: usize = 256;
+// The most key IDs that lie in one vector. A set takes nearly twice as much memory for as many. Of
+// more than these nearly all have two bytes, so that a list has fewer of them.
+const FEW: usize = 2560;
 
 // A few key IDs in order, or a set of more.
 #[derive(Drop)]
