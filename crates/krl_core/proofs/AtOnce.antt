@@ -4,8 +4,8 @@ use Rattle.std.specs.Prelude.{None, OnOk}
 use Rattle.std.specs.declared.alloc.AllocError.{AllocError}
 use Rattle.std.proofs.lemmas.List.{length-take-le}
 use Rattle.std.proofs.lemmas.Result.{on_ok_weaker}
-use Rattle.ssh_wire.specs.Digits.{IsBytes-take}
 use Rattle.ssh_wire.specs.Wire.{IsBytes, number_of}
+use Rattle.ssh_wire.proofs.Digits.{IsBytes-take}
 use Rattle.krl_core.specs.declared.place.Place.{Place}
 use Rattle.krl_core.specs.declared.place.Place.TheVariants as places
 use Rattle.krl_core.specs.declared.place.bitmap.BitmapPlace.TheVariants as bitmaps

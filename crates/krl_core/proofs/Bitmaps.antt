@@ -6,9 +6,9 @@ use Rattle.std.proofs.lemmas.Nat.Bits.{bit_at-zero, bit_at_above, bit_at_cat_low
 use Rattle.std.proofs.Math.Nat.{mul-le-mul_right}
 use Rattle.std.proofs.lemmas.Nat.{pow-add}
 use Rattle.serial_set.specs.BitRuns.{big_endian}
-use Rattle.ssh_wire.specs.Magnitudes.{number_of-cons}
 use Rattle.ssh_wire.specs.Wire.{number_of}
-use Rattle.ssh_wire.specs.Digits.{bytes_as_bits}
+use Rattle.ssh_wire.proofs.Magnitudes.{number_of-cons}
+use Rattle.ssh_wire.proofs.Digits.{bytes_as_bits}
 use Rattle.krl_held.specs.Entry.{BitmapEntry}
 use Rattle.krl_held.specs.Naming.{NamesSame}
 use Rattle.krl_held.proofs.Same.{same_nothing, same_serials}

@@ -22,14 +22,14 @@ use Rattle.ssh_wire.specs.Wire.{number_of}
 use Rattle.krl_core.specs.declared.place.Place.TheVariants as places
 use Rattle.krl_core.specs.declared.place.bitmap.BitmapPlace.TheVariants as bitmaps
 use Rattle.krl_core.specs.Place.{base_of, bits_judged, judge, next_bits, next_subsection, passes_end, highest_bit}
-use Rattle.serial_set.specs.Bits.{bit_below}
-use Rattle.serial_set.specs.Rising.{covers_append}
+use Rattle.serial_set.proofs.Bits.{bit_below}
+use Rattle.serial_set.proofs.Rising.{covers_append}
 use Rattle.krl_held.proofs.Same.{same_serials, same_append, same_refl, same_is, same_then, same_swap, some_append, one_more, IsSerials}
 use Rattle.krl_held.proofs.Runs.{run_entries-name, run_entries-serials}
 use Rattle.std.proofs.Math.Logic.Iff as Iff
 use Rattle.krl_held.proofs.BothWays.{iff_both, iff_none, iff_or, iff_swap}
+use Rattle.krl_held.proofs.Elements.{all_append}
 use Rattle.krl_core.proofs.Keeping.{grows_one, open_entries, stored_same, stored_then}
-use Rattle.krl_held.specs.Elements.{all_append}
 
 -- ---- runs by the numbers in them
 

@@ -5,7 +5,7 @@ use Rattle.std.specs.List.{flat_map}
 use Rattle.std.proofs.lemmas.List.{length-append}
 use Rattle.std.proofs.lemmas.Nat.Bits.{bit_at-zero}
 use Rattle.ssh_wire.specs.Wire.{IsBytes, number_of, string}
-use Rattle.ssh_wire.specs.Fields.{length-string}
+use Rattle.ssh_wire.proofs.Fields.{length-string}
 use Rattle.krl_core.specs.declared.header.Header.{Header}
 use Rattle.krl_held.specs.Entry.{Entry, SerialsEntry, BitmapEntry}
 use Rattle.krl_core.specs.Entries.{subsection_entries}

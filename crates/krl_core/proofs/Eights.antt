@@ -5,19 +5,19 @@ use Rattle.std.specs.List.{concat}
 use Rattle.std.proofs.lemmas.List.{append-nil, length-take-le}
 use Rattle.std.proofs.Math.Seq.{drop-nil, take-add}
 use Rattle.serial_set.specs.BitRuns.{BitRuns}
-use Rattle.ssh_wire.specs.Digits.{IsBytes-take}
 use Rattle.ssh_wire.specs.Wire.{IsBytes, number_of}
+use Rattle.ssh_wire.proofs.Digits.{IsBytes-take}
 use Rattle.krl_core.specs.declared.place.Place.{Place}
 use Rattle.krl_core.specs.declared.place.Place.TheVariants as places
 use Rattle.krl_core.specs.declared.place.serials.SerialsPlace.TheVariants as serials
 use Rattle.krl_core.specs.Crossing.{Crosses}
-use Rattle.krl_held.specs.Elements.{contains_cases, contains_none}
 use Rattle.krl_held.specs.Entry.{Entry, SerialsEntry}
 use Rattle.krl_core.specs.Front.{Leads, Passes, State, start, state_after}
 use Rattle.krl_core.specs.Keeper.{InStep, IsKept, Keeper}
 use Rattle.krl_held.specs.Naming.{Name, SerialOf, SomeNames}
 use Rattle.krl_core.specs.Place.{authority_after, header_after, names, next_serial}
 use Rattle.krl_held.specs.Scope.{AreUnwanted, InScope, Scope, serial_at}
+use Rattle.krl_held.proofs.Elements.{contains_cases, contains_none}
 use Rattle.krl_core.proofs.Skipping.{skipped_kept}
 use Rattle.krl_core.proofs.Walks.{Leads-append}
 

@@ -6,9 +6,9 @@ use Rattle.std.proofs.lemmas.Bool.{eqb-true, ltb-true}
 use Rattle.std.proofs.lemmas.List.{append-nil, length-append}
 use Rattle.std.proofs.lemmas.Slice.Eq.{bytes_eq-Decides}
 use Rattle.ssh_wire.specs.Wire.{IsBytes, number, number_of, string, strings}
-use Rattle.ssh_wire.specs.Fields.{length-string, length-number}
-use Rattle.ssh_wire.specs.Steps.{passed_ok}
-use Rattle.ssh_wire.specs.Digits.{IsBytes-back, IsBytes-front}
+use Rattle.ssh_wire.proofs.Fields.{length-string, length-number}
+use Rattle.ssh_wire.proofs.Steps.{passed_ok}
+use Rattle.ssh_wire.proofs.Digits.{IsBytes-back, IsBytes-front}
 use Rattle.krl_types.specs.declared.krl_fault.KrlFault.TheVariants as faults
 use Rattle.krl_core.specs.declared.header.Header.{Header}
 use Rattle.krl_core.specs.declared.place.list.ItemKind.TheVariants as kinds

@@ -10,7 +10,7 @@ use Rattle.krl_core.specs.Front.{Leads, Passes, State, state_after, start}
 use Rattle.krl_core.specs.Place.{expected}
 use Rattle.krl_core.specs.Reading.{is_fixed}
 use Rattle.krl_core.proofs.Judged.{done, same_place}
-use Rattle.ssh_wire.specs.Steps.{passed_ok}
+use Rattle.ssh_wire.proofs.Steps.{passed_ok}
 
 -- from a place on, the fields that lead past the first ones have at least this many bytes
 abbrev pub Needs : Place → ℕ → Type 0

@@ -10,12 +10,12 @@ use Rattle.std.proofs.lemmas.Slice.Eq.{bytes_eq-Decides}
 use Rattle.std.proofs.lemmas.List.Elements.{All-tail}
 use Rattle.serial_set.specs.declared.span.Span.{Span}
 use Rattle.serial_set.specs.Span.{Covers}
-use Rattle.serial_set.specs.Least.{runs_least}
-use Rattle.serial_set.specs.Rising.{covers_append}
+use Rattle.serial_set.proofs.Least.{runs_least}
+use Rattle.serial_set.proofs.Rising.{covers_append}
 use Rattle.std.proofs.Math.Logic.Iff as Iff
 use Rattle.krl_held.proofs.BothWays.{iff_or}
 use Rattle.ssh_wire.specs.Wire.{IsBytes, number_of}
-use Rattle.ssh_wire.specs.Digits.{IsBytes-back, IsBytes-front}
+use Rattle.ssh_wire.proofs.Digits.{IsBytes-back, IsBytes-front}
 use Rattle.krl_core.specs.declared.place.Place.{Place}
 use Rattle.krl_core.specs.declared.place.list.ItemKind.TheVariants as kinds
 use Rattle.krl_core.specs.declared.place.Place.TheVariants as places
@@ -31,7 +31,7 @@ use Rattle.krl_held.specs.Rising.{AllAbove, RisesBy, bytes_cmp}
 use Rattle.krl_held.proofs.Intervals.{IsByteOnly, entry_authority, interval_names, intervals_of, length-intervals, most}
 use Rattle.krl_held.proofs.Numbers.{number_of-one}
 use Rattle.krl_held.proofs.OneMeaning.{section_authority, held_first, not_before_itself, above_named}
-use Rattle.krl_held.specs.Elements.{all_append}
+use Rattle.krl_held.proofs.Elements.{all_append}
 
 -- ---- the intervals of entries under one authority
 

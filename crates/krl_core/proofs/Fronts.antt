@@ -12,7 +12,7 @@ use Rattle.krl_core.specs.Place.{can_end, expected}
 use Rattle.krl_core.specs.Front.{State, start, state_after, HasRoom, Leads, IsEnd, Reported, ended, no_room, refused, too_long, ends_early, IsFront, IsLongestFront, IsFirstFault, limit}
 use Rattle.krl_core.proofs.Walks.{EndsReported}
 use Rattle.krl_core.proofs.Judged.{same_place}
-use Rattle.ssh_wire.specs.Steps.{never_err}
+use Rattle.ssh_wire.proofs.Steps.{never_err}
 
 -- fronts of one list that are as long are the same
 pub append_same : (a b x y : List ℕ) → length a ≡ length b → a ++ x ≡ b ++ y → (a ≡ b) × (x ≡ y)

@@ -1,6 +1,6 @@
 -- Judgements that passed: where they lead.
 use Rattle.std.proofs.Common.{◌≡◌, Bool, true, false, cond, Result, Ok, Err, refl}
-use Rattle.ssh_wire.specs.Steps.{ok_is}
+use Rattle.ssh_wire.proofs.Steps.{ok_is}
 use Rattle.krl_types.specs.declared.krl_fault.KrlFault.{KrlFault}
 use Rattle.krl_core.specs.declared.place.Place.{Place}
 

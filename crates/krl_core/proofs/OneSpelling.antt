@@ -3,7 +3,7 @@ use Rattle.std.proofs.Common.{◌≡◌, ℕ, ◌+◌, ◌<◌, ◌^◌, List, [
 use Rattle.std.specs.List.{AllByRecursion}
 use Rattle.std.proofs.lemmas.List.{append-nil, append_cancel_left, length-append}
 use Rattle.ssh_wire.specs.Wire.{number, number_of, string, strings}
-use Rattle.ssh_wire.specs.Fields.{length-number, length-string, length-numbers}
+use Rattle.ssh_wire.proofs.Fields.{length-number, length-string, length-numbers}
 use Rattle.krl_core.specs.declared.header.Header.{Header}
 use Rattle.krl_core.specs.Krl.{SpelledSection, Certificates, Keys, Sha1s, Sha256s, Signature, Extension, Subsection, Serials, Range, Bitmap, Ids, SubsectionExtension, Spells, SpellsEach, SpellsSection, SpellsSubsection, SpellsContent, SpellsCertificates, SubsectionContent, SpellsBitmap, header_text, numbers_text, magic, subsection_type}
 use Rattle.krl_core.proofs.Fronts.{append_same}

@@ -7,9 +7,9 @@ use Rattle.std.proofs.lemmas.List.{append-nil}
 use Rattle.std.specs.Option.{option_to_list}
 use Rattle.serial_set.specs.declared.span.Span.{Span}
 use Rattle.serial_set.specs.BitRuns.{BitNames, BitRuns}
-use Rattle.serial_set.specs.Bits.{bit_below}
-use Rattle.ssh_wire.specs.Digits.{IsBytes-tail}
+use Rattle.serial_set.proofs.Bits.{bit_below}
 use Rattle.ssh_wire.specs.Wire.{IsBytes, number_of}
+use Rattle.ssh_wire.proofs.Digits.{IsBytes-tail}
 use Rattle.krl_types.specs.declared.krl_fault.KrlFault.{KrlFault}
 use Rattle.krl_types.specs.declared.krl_fault.KrlFault.TheVariants as faults
 use Rattle.krl_core.specs.declared.place.Place.{Place}

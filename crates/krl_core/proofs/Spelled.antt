@@ -5,8 +5,8 @@ use Rattle.std.specs.Int.{bit_at}
 use Rattle.std.proofs.lemmas.Bool.{cases_lt, cases_Bool, ne_eqb, le-ltb, lt-ltb, le-leb, lt-leb, eqb-true}
 use Rattle.std.proofs.lemmas.List.{length-append}
 use Rattle.ssh_wire.specs.Wire.{IsBytes, number, number_of, string, strings}
-use Rattle.ssh_wire.specs.Digits.{IsBytes-back, IsBytes-front}
-use Rattle.ssh_wire.specs.Fields.{IsBytes-in_string, length-string, length-number, length-numbers}
+use Rattle.ssh_wire.proofs.Digits.{IsBytes-back, IsBytes-front}
+use Rattle.ssh_wire.proofs.Fields.{IsBytes-in_string, length-string, length-number, length-numbers}
 use Rattle.krl_types.specs.declared.krl_fault.KrlFault.{KrlFault}
 use Rattle.krl_types.specs.declared.krl_fault.KrlFault.TheVariants as faults
 use Rattle.krl_core.specs.declared.header.Header.{Header}

@@ -10,8 +10,8 @@ use Rattle.ssh_wire.specs.Wire.{IsBytes}
 use Rattle.ssh_wire.specs.Pull.{Pull, Takes, Refuses, after_ahead, left_of}
 use Rattle.ssh_wire.specs.declared.pull_fault.PullFault.{PullFault}
 use Rattle.ssh_wire.specs.declared.pull_fault.PullFault.TheVariants as pulls
-use Rattle.ssh_wire.specs.Cut.{take-after}
-use Rattle.ssh_wire.specs.Digits.{IsBytes-append}
+use Rattle.ssh_wire.proofs.Cut.{take-after}
+use Rattle.ssh_wire.proofs.Digits.{IsBytes-append}
 use Rattle.krl_types.specs.declared.krl_fault.KrlFault.{KrlFault}
 use Rattle.krl_types.specs.declared.krl_fault.KrlFault.TheVariants as faults
 use Rattle.krl_core.specs.declared.place.Place.{Place}

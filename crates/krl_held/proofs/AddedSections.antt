@@ -14,7 +14,7 @@ use Rattle.krl_held.proofs.Ordered.{inserts_rise}
 use Rattle.krl_held.proofs.Shelving.{changes_rise}
 use Rattle.std.proofs.Math.Logic.Iff as Iff
 use Rattle.krl_held.proofs.BothWays.{contains_middle, iff_or, iff_swap}
-use Rattle.krl_held.specs.Elements.{contains_none}
+use Rattle.krl_held.proofs.Elements.{contains_none}
 
 -- ---- byte strings that are put in
 

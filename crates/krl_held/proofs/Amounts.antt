@@ -12,7 +12,7 @@ use Rattle.krl_held.proofs.Members.{absent_parts}
 use Rattle.krl_held.proofs.Shelving.{takes_authority}
 use Rattle.krl_held.proofs.AddedSections.{put_size}
 use Rattle.krl_held.proofs.SomeSections.{some_middle, sum_middle}
-use Rattle.krl_held.specs.Elements.{contains_here, contains_later}
+use Rattle.krl_held.proofs.Elements.{contains_here, contains_later}
 
 -- a change of each section that keeps a number keeps the sum
 pub sum_stays : (addition : Addition) (b : List ℕ) (old new : List Section) (f : Section → ℕ) → ((from to : Section) → TakesAddition addition from to → f to ≡ f from) → f (empty_section b) ≡ 0 → AddsTo addition b old new → sum_by f new ≡ sum_by f old

@@ -4,7 +4,7 @@ use Rattle.std.specs.List.{Contains}
 use Rattle.std.proofs.Math.Logic.{⊎_elim, ⊎_map, ⊎_swap}
 use Rattle.std.proofs.Math.Logic.Iff as Iff
 use Rattle.std.proofs.lemmas.List.Elements.{Contains-append_cases, Contains-append_left, Contains-append_right}
-use Rattle.krl_held.specs.Elements.{contains_cases, contains_here, contains_later, contains_none}
+use Rattle.krl_held.proofs.Elements.{contains_cases, contains_here, contains_later, contains_none}
 
 pub iff_or : {A B C D : Type 0} → (A ↔ B) → (C ↔ D) → ((A ⊎ C) ↔ (B ⊎ D))
 iff_or h k = (⊎_map h.0 k.0, ⊎_map h.1 k.1)

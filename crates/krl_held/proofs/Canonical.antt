@@ -9,7 +9,6 @@ use Rattle.serial_set.specs.Span.{AreSerials}
 use Rattle.krl_held.specs.Canonical.{entries_in, section_entries}
 use Rattle.krl_held.specs.Changes.{run_entries}
 use Rattle.krl_held.specs.Revocations.{Revocations, HoldsName, IsListed, IsOrderly, Means, Section, SomeSection}
-use Rattle.krl_held.specs.Elements.{contains_none, some_cases}
 use Rattle.krl_held.specs.Entry.{Entry, RangeEntry, IdEntry, KeyEntry, Sha1Entry, Sha256Entry}
 use Rattle.krl_held.specs.Naming.{EntryNames, IdOf, KeyOf, Name, SerialOf, Sha1Of, Sha256Of, SomeNames}
 use Rattle.krl_held.proofs.Runs.{run_entries-name}
@@ -17,6 +16,7 @@ use Rattle.krl_held.proofs.BothWays.{contains_cons, iff_or}
 use Rattle.krl_held.proofs.Entries.{runs_name_none}
 use Rattle.krl_held.proofs.Same.{mapped_name, some_append, some_first, some_last}
 use Rattle.krl_held.proofs.SomeSections.{HeldIn, no_section}
+use Rattle.krl_held.proofs.Elements.{contains_none, some_cases}
 
 -- ---- texts of one kind
 

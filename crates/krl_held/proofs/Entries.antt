@@ -15,7 +15,7 @@ use Rattle.krl_held.proofs.Runs.{run_entries-name}
 use Rattle.krl_held.proofs.BothWays.{iff_none}
 use Rattle.std.proofs.Math.Logic.Iff as Iff
 use Rattle.krl_held.proofs.SomeSections.{HeldIn, Step}
-use Rattle.krl_held.specs.Elements.{contains_none}
+use Rattle.krl_held.proofs.Elements.{contains_none}
 
 -- what an addition leaves as it was is held as before
 stays : (addition : Addition) (b a : List ℕ) (Q : Section → Type 0) → ((from to : Section) → TakesAddition addition from to → (to.authority ≡ from.authority) × (Q to ↔ Q from)) → (Q (empty_section b) → ⊥)

@@ -12,12 +12,12 @@ use Rattle.std.proofs.lemmas.Map.Lookups.{exact_bytes}
 use Rattle.std.proofs.lemmas.List.{append-nil, take-append-drop, take_all}
 use Rattle.std.specs.Global.{Vec}
 use Rattle.krl_held.specs.Changes.{Puts}
-use Rattle.krl_held.specs.Elements.{contains_cases, contains_here, contains_later, contains_none}
 use Rattle.krl_held.specs.Ids.{GoesTo}
 use Rattle.krl_held.specs.Inserting.{Inserts}
 use Rattle.krl_held.specs.Rising.{bytes_cmp, AllAbove, AllBelow, RisesBy}
 use Rattle.krl_held.proofs.Ordered.{before_trans, less_apart, turned}
 use Rattle.krl_held.proofs.Members.{absent_parts}
+use Rattle.krl_held.proofs.Elements.{contains_cases, contains_here, contains_later, contains_none}
 use Rattle.krl_held.specs.Texts.{bytes_of, texts_of}
 
 -- ---- where a byte string goes

@@ -6,10 +6,10 @@ use Rattle.std.proofs.Math.Logic.{⊎_elim, ⊎_map}
 use Rattle.serial_set.specs.Span.{Covers}
 use Rattle.krl_held.specs.Asked.{Stands, HoldsUnder}
 use Rattle.krl_held.specs.Revocations.{HoldsId, HoldsSerial, Section, SomeSection}
-use Rattle.krl_held.specs.Elements.{some_weaker}
 use Rattle.krl_held.specs.Rising.{AllAbove, AllBelow}
 use Rattle.krl_held.proofs.Ordered.{less_apart}
 use Rattle.krl_held.proofs.SomeSections.{some_middle}
+use Rattle.krl_held.proofs.Elements.{some_weaker}
 
 abbrev key : Section → List ℕ
 key section = section.authority

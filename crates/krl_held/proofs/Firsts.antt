@@ -3,8 +3,9 @@ use Rattle.std.proofs.Common.{◌≡◌, ℕ, ◌+◌, ◌<◌, ◌≤◌, List,
 use Rattle.std.specs.Prelude.{◌↔◌}
 use Rattle.serial_set.specs.declared.span.Span.{Span}
 use Rattle.serial_set.specs.Span.{Covers, IsRuns, RunsFrom}
-use Rattle.serial_set.specs.Rising.{names_from}
-use Rattle.serial_set.specs.Walk.{IsPiece, since, since_from, since_runs, since_to}
+use Rattle.serial_set.specs.Walk.{IsPiece, since}
+use Rattle.serial_set.proofs.Rising.{names_from}
+use Rattle.serial_set.proofs.Walking.{since_from, since_runs, since_to}
 use Rattle.krl_held.specs.Questions.{IsFirst}
 
 -- the first of the same numbers

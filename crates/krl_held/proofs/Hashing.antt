@@ -2,9 +2,9 @@
 use Rattle.std.proofs.Common.{◌≡◌, ℕ, ◌⊎◌, List, [], ◌∷◌, sym, ap, subst, inl, inr}
 use Rattle.std.specs.List.{Contains}
 use Rattle.krl_held.specs.Changes.{Puts}
-use Rattle.krl_held.specs.Elements.{contains_cases, contains_here, contains_later, contains_none}
 use Rattle.krl_held.specs.Questions.{HashesOf}
 use Rattle.krl_held.proofs.AddedSections.{put_held}
+use Rattle.krl_held.proofs.Elements.{contains_cases, contains_here, contains_later, contains_none}
 
 -- the keys so far are hashed, and the others are left
 pub record AreHashedSoFar (hash : List ℕ → List ℕ) (keys hashes left : List (List ℕ)) : Type 0 where

@@ -10,7 +10,6 @@ use Rattle.std.proofs.lemmas.List.Sums.{sum_by-cons, sum_by-le}
 use Rattle.sha1.specs.Sha1.{sha1}
 use Rattle.sha2.specs.Sha256.{sha256}
 use Rattle.krl_held.specs.Revocations.{Revocations, HoldsId, IsListed, IsNamed, IsOrderly, Section, SomeSection, held, section_size, serials_in, size_of, stored}
-use Rattle.krl_held.specs.Elements.{contains_cases, contains_none, some_text, some_weaker}
 use Rattle.krl_held.specs.Rising.{Rises}
 use Rattle.krl_held.specs.Scope.{IsWithin}
 use Rattle.krl_held.proofs.Amounts.{some_contains}
@@ -20,6 +19,7 @@ use Rattle.krl_held.proofs.OneMeaning.{section_authority}
 use Rattle.krl_held.proofs.Serials.{count_serials, in_serials, serials_of}
 use Rattle.krl_held.proofs.Starts.{count_starts, in_starts, once_starts_of, starts, starts_of}
 use Rattle.krl_held.proofs.Under.{in_under, once_under, sum_under, under}
+use Rattle.krl_held.proofs.Elements.{contains_cases, contains_none, some_text, some_weaker}
 
 -- each run begins with a serial number that is asked about
 pub held_small : (topics found : Revocations) → IsOrderly topics → IsOrderly found → IsWithin topics found → held found ≤ serials_in topics.sections

@@ -7,14 +7,14 @@ use Rattle.std.proofs.lemmas.Nat.Bits.{bit_at-lt}
 use Rattle.serial_set.specs.declared.span.Span.{Span}
 use Rattle.serial_set.specs.Span.{Covers}
 use Rattle.serial_set.specs.BitRuns.{BitNames}
-use Rattle.serial_set.specs.Bits.{bit_below}
-use Rattle.serial_set.specs.Rising.{covers_append}
+use Rattle.serial_set.proofs.Bits.{bit_below}
+use Rattle.serial_set.proofs.Rising.{covers_append}
 use Rattle.std.proofs.Math.Logic.{⊎_map}
 use Rattle.std.proofs.Math.Logic.Iff as Iff
 use Rattle.krl_held.proofs.BothWays.{contains_cons, iff_both, iff_or}
+use Rattle.krl_held.proofs.Elements.{contains_none}
 use Rattle.krl_held.specs.Entry.{Entry, SerialsEntry, RangeEntry, BitmapEntry}
 use Rattle.krl_held.specs.Naming.{EntryNames, SerialOf}
-use Rattle.krl_held.specs.Elements.{contains_none}
 
 -- ---- numbers in a row
 

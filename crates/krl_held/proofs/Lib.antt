@@ -1,3 +1,4 @@
+pub mod Elements
 pub mod Numbers
 pub mod BothWays
 pub mod Same

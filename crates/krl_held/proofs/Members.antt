@@ -5,8 +5,8 @@ use Rattle.std.proofs.Math.Logic.{⊎_elim}
 use Rattle.std.proofs.lemmas.List.{map-append}
 use Rattle.std.proofs.lemmas.List.Elements.{Contains-append_cases}
 use Rattle.krl_held.specs.Rising.{AllBelow, AllAbove}
-use Rattle.krl_held.specs.Elements.{contains_cases, contains_none}
 use Rattle.krl_held.proofs.Ordered.{less_apart}
+use Rattle.krl_held.proofs.Elements.{contains_cases, contains_none}
 
 module _ {X : Type 0} (key : X → List ℕ) where
   pub absent_below : (bytes : List ℕ) (xs : List X) → AllBelow key bytes xs → Contains (map key xs) bytes → ⊥

@@ -12,7 +12,6 @@ use Rattle.sha1.specs.Sha1.{sha1}
 use Rattle.sha2.specs.Sha256.{sha256}
 use Rattle.krl_types.specs.Subject.{CertNames, Subject}
 use Rattle.krl_held.specs.Revocations.{Revocations, Means}
-use Rattle.krl_held.specs.Elements.{contains_none}
 use Rattle.krl_held.specs.Entry.{BitmapEntry, Entry, IdEntry, KeyEntry, RangeEntry, SerialsEntry, Sha1Entry, Sha256Entry}
 use Rattle.krl_held.specs.Naming.{EntryNames, IdOf, KeyNamed, KeyOf, Name, SerialOf, Sha1Of, Sha256Of, SomeNames}
 use Rattle.krl_held.specs.NamingTests.{cert_named, entry_names, is_revoked, key_named, some_names}
@@ -23,6 +22,7 @@ use Rattle.krl_held.specs.Tested.{revokes}
 use Rattle.krl_held.proofs.BothWays.{contains_cons}
 use Rattle.krl_held.proofs.Questioned.{answer_within}
 use Rattle.krl_held.proofs.Tested.{revokes_meant}
+use Rattle.krl_held.proofs.Elements.{contains_none}
 
 number_tested : (numbers : List ℕ) (s : ℕ) → IsTrue (list_any (λ n. n == s) numbers) ↔ Contains numbers s
 number_tested [] s = (λ yes. absurd cc, λ found. absurd (contains_none s found))

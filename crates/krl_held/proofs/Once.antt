@@ -6,10 +6,10 @@ use Rattle.std.specs.List.{Contains}
 use Rattle.std.proofs.Math.Logic.{⊎_elim}
 use Rattle.std.proofs.lemmas.List.Elements.{Contains-append_cases}
 use Rattle.std.proofs.lemmas.List.Sums.{sum_by-append, sum_by-cons}
-use Rattle.krl_held.specs.Elements.{contains_cases, contains_here, contains_later, contains_none}
 use Rattle.krl_held.specs.Rising.{Rises, RisesBy}
 use Rattle.krl_held.proofs.BothWays.{contains_middle}
 use Rattle.krl_held.proofs.Members.{absent_above}
+use Rattle.krl_held.proofs.Elements.{contains_cases, contains_here, contains_later, contains_none}
 
 -- each element stands once
 abbrev pub Once : {X : Type 0} → List X → Type 0

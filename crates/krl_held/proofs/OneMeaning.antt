@@ -11,7 +11,7 @@ use Rattle.std.proofs.lemmas.Map.Lookups.{exact_bytes}
 use Rattle.std.proofs.lemmas.List.Elements.{All-tail}
 use Rattle.serial_set.specs.declared.span.Span.{Span}
 use Rattle.serial_set.specs.Span.{Covers}
-use Rattle.serial_set.specs.Least.{runs_unique}
+use Rattle.serial_set.proofs.Least.{runs_unique}
 use Rattle.krl_held.specs.Revocations.{Revocations, HoldsName, IsListed, Means, Section, SomeSection, contents_of, section_with}
 use Rattle.krl_held.specs.Entry.{Entry}
 use Rattle.krl_held.specs.Naming.{IdOf, KeyOf, Name, SerialOf, Sha1Of, Sha256Of}
@@ -19,7 +19,7 @@ use Rattle.std.proofs.Math.Logic.Iff as Iff
 use Rattle.krl_held.proofs.SomeSections.{HeldIn, no_section}
 use Rattle.krl_held.specs.Rising.{bytes_cmp, AllAbove, Rises, RisesBy}
 use Rattle.krl_held.proofs.Ordered.{AllAbove-earlier, before_trans, less_apart}
-use Rattle.krl_held.specs.Elements.{contains_cases, contains_here, contains_later, contains_none, some_serial, some_text, some_weaker}
+use Rattle.krl_held.proofs.Elements.{contains_cases, contains_here, contains_later, contains_none, some_serial, some_text, some_weaker}
 
 -- ---- the order of two byte strings
 

@@ -5,8 +5,8 @@ use Rattle.std.proofs.Math.Logic.{⊎_elim}
 use Rattle.std.proofs.Math.Logic.Iff as Iff
 use Rattle.krl_held.specs.Entry.{Entry, SerialsEntry, RangeEntry, BitmapEntry}
 use Rattle.krl_held.specs.Naming.{EntryNames, Name, NamesSame, SerialOf, SomeNames}
-use Rattle.krl_held.specs.Elements.{contains_none, some_left, some_right, some_cases}
 use Rattle.krl_held.proofs.BothWays.{contains_cons, contains_one, iff_both, iff_none, iff_or, iff_swap}
+use Rattle.krl_held.proofs.Elements.{contains_none, some_left, some_right, some_cases}
 
 -- ---- joined lists
 

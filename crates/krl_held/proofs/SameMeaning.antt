@@ -5,9 +5,9 @@ use Rattle.std.proofs.Math.Logic.Iff as Iff
 use Rattle.krl_held.specs.Revocations.{Revocations, HoldsName, IsOrderly, Means, nothing}
 use Rattle.krl_held.specs.Entry.{Entry}
 use Rattle.krl_held.specs.Naming.{EntryNames, IdOf, KeyOf, Name, NamesSame, SerialOf, Sha1Of, Sha256Of, SomeNames}
-use Rattle.krl_held.specs.Elements.{contains_none}
 use Rattle.krl_held.proofs.BothWays.{iff_none, iff_or}
 use Rattle.krl_held.proofs.Same.{some_append}
+use Rattle.krl_held.proofs.Elements.{contains_none}
 
 pub same_meaning : (r : Revocations) (entries others : List Entry) → Means r entries → NamesSame entries others → Means r others
 same_meaning r entries others m same = record { orderly = m.orderly; names = λ name. Iff.trans (m.names name) (same name) }

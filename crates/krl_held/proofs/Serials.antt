@@ -8,12 +8,12 @@ use Rattle.std.proofs.lemmas.List.Elements.{All-weaker}
 use Rattle.std.proofs.lemmas.List.FromFn.{get_or-range_with_len, length-range_with_len}
 use Rattle.serial_set.specs.declared.span.Span.{Span}
 use Rattle.serial_set.specs.Span.{Covers, RunsFrom}
-use Rattle.serial_set.specs.Rising.{names_from}
+use Rattle.serial_set.proofs.Rising.{names_from}
 use Rattle.krl_held.specs.Revocations.{Revocations, HoldsSerial, IsListed, IsOrderly, Section, serials_in, span_size}
-use Rattle.krl_held.specs.Elements.{contains_none}
 use Rattle.krl_held.proofs.BothWays.{contains_append, iff_or}
 use Rattle.krl_held.proofs.Once.{Once, once_append, sum_ones}
 use Rattle.krl_held.proofs.Under.{in_under, once_under, some_listed, sum_under, under}
+use Rattle.krl_held.proofs.Elements.{contains_none}
 
 -- ---- numbers in a row
 

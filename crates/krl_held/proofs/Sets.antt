@@ -15,8 +15,8 @@ use Rattle.krl_held.proofs.BothWays.{contains_cons}
 use Rattle.std.proofs.lemmas.Map.Lookups.{exact_bytes}
 use Rattle.krl_held.specs.Changes.{Puts}
 use Rattle.krl_held.specs.Rising.{bytes_cmp, Rises}
-use Rattle.krl_held.specs.Elements.{contains_here, contains_later, contains_none}
 use Rattle.krl_held.proofs.Ordered.{back_above, front_below, tied}
+use Rattle.krl_held.proofs.Elements.{contains_here, contains_later, contains_none}
 
 rises_sorted : (ks : List (List ℕ)) → IsStrictlySortedBy bytes_cmp ks → Rises ks
 unfolding IsStrictlySortedBy

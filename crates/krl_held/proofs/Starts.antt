@@ -6,15 +6,15 @@ use Rattle.std.proofs.Math.Logic.{⊎_elim}
 use Rattle.std.proofs.lemmas.List.{length-map}
 use Rattle.std.proofs.lemmas.List.Elements.{All-head, All-tail, All-weaker}
 use Rattle.serial_set.specs.declared.span.Span.{Span}
-use Rattle.serial_set.specs.Rising.{names_from}
 use Rattle.serial_set.specs.Span.{Covers, RunsFrom}
+use Rattle.serial_set.proofs.Rising.{names_from}
 use Rattle.krl_held.specs.Revocations.{Revocations, HoldsSerial, IsListed, IsOrderly, Section, SomeSection, held}
-use Rattle.krl_held.specs.Elements.{contains_cases, contains_none}
 use Rattle.krl_held.specs.Rising.{RisesBy}
 use Rattle.krl_held.specs.Scope.{BeginsRun}
 use Rattle.krl_held.proofs.Once.{Once, sum_ones}
 use Rattle.krl_held.proofs.OneMeaning.{held_first, section_authority}
 use Rattle.krl_held.proofs.Under.{in_under, once_under, some_listed, sum_under, under}
+use Rattle.krl_held.proofs.Elements.{contains_cases, contains_none}
 
 -- ---- the numbers with which spans begin
 

@@ -9,8 +9,8 @@ use Rattle.std.specs.Cmp.{both_ways}
 use Rattle.std.proofs.Math.Logic.Iff as Iff
 use Rattle.sha1.specs.Sha1.{sha1}
 use Rattle.sha2.specs.Sha256.{sha256}
-use Rattle.serial_set.specs.Rising.{has_names}
 use Rattle.serial_set.specs.Span.{Covers, has}
+use Rattle.serial_set.proofs.Rising.{has_names}
 use Rattle.krl_types.specs.Subject.{Subject, CertNames}
 use Rattle.krl_held.specs.Asked.{HoldsKey, HoldsUnder, HoldsCert}
 use Rattle.krl_held.specs.Revocations.{Revocations, Section, Means}
@@ -19,7 +19,7 @@ use Rattle.krl_held.specs.Naming.{IdOf, KeyNamed, KeyOf, SerialOf, Sha1Of, Sha25
 use Rattle.krl_held.specs.Revoked.{Revoked, CertRevoked}
 use Rattle.krl_held.specs.Tested.{holds_cert, holds_key, holds_under, is_among, revokes, section_holds}
 use Rattle.krl_held.proofs.BothWays.{contains_cons, iff_across, iff_both, iff_or, iff_swap}
-use Rattle.krl_held.specs.Elements.{contains_none}
+use Rattle.krl_held.proofs.Elements.{contains_none}
 
 -- ---- texts
 

@@ -8,12 +8,12 @@ use Rattle.std.proofs.lemmas.List.Elements.{All-head, All-tail}
 use Rattle.std.proofs.lemmas.List.Folds.{fold-map}
 use Rattle.std.proofs.lemmas.List.Sums.{sum_by-append, sum_by-cons}
 use Rattle.krl_held.specs.Revocations.{IsListed, Section, SomeSection}
-use Rattle.krl_held.specs.Elements.{contains_none}
 use Rattle.krl_held.specs.Rising.{RisesBy}
 use Rattle.krl_held.proofs.BothWays.{contains_append, contains_cons, iff_both, iff_or}
 use Rattle.krl_held.proofs.Once.{Once, once_append}
 use Rattle.krl_held.proofs.OneMeaning.{above_held, section_authority}
 use Rattle.krl_held.proofs.Ordered.{less_apart}
+use Rattle.krl_held.proofs.Elements.{contains_none}
 
 module _ {Y : Type 0} where
   abbrev under_one : (a : List ℕ) → List Y → List (List ℕ × Y)

@@ -6,7 +6,6 @@ pub mod Entry
 pub mod Ids
 pub mod Inserting
 pub mod Naming
-pub mod Elements
 pub mod Revoked
 pub mod Scope
 pub mod Questions

@@ -4,10 +4,10 @@ use Rattle.std.specs.List.{All, slice_split}
 use Rattle.std.proofs.lemmas.Bool.{cases_Bool}
 use Rattle.std.proofs.lemmas.List.{get_or_at, length-append}
 use Rattle.std.proofs.lemmas.List.Elements.{All-cons, All-head, All-nil, All-tail}
-use Rattle.ssh_wire.specs.Fields.{string_again}
 use Rattle.ssh_wire.specs.Reading.{◌>>=◌}
-use Rattle.ssh_wire.specs.Steps.{err_is, ok_is, ok_or_err, ok_or_not}
 use Rattle.ssh_wire.specs.Wire.{IsBytes}
+use Rattle.ssh_wire.proofs.Fields.{string_again}
+use Rattle.ssh_wire.proofs.Steps.{err_is, ok_is, ok_or_err, ok_or_not}
 use Rattle.ssh_key.specs.Armour.{begins_container}
 use Rattle.ssh_key.specs.Container.{IsContainer, IsPrivateFault}
 use Rattle.ssh_key.specs.ContainerReading.{private_at}

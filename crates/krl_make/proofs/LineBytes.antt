@@ -4,8 +4,8 @@ use Rattle.std.specs.List.{All, onto_first, slice_split}
 use Rattle.std.proofs.lemmas.Bool.{cases_Bool}
 use Rattle.std.proofs.lemmas.List.Elements.{All-cons, All-head, All-nil, All-tail}
 use Rattle.ssh_key.specs.Lines.{is_newline}
-use Rattle.ssh_wire.specs.Digits.{IsBytes-cons, IsBytes-nil, IsBytes-tail}
 use Rattle.ssh_wire.specs.Wire.{IsBytes}
+use Rattle.ssh_wire.proofs.Digits.{IsBytes-cons, IsBytes-nil, IsBytes-tail}
 
 onto_bytes : (byte : ℕ) (lines : List (List ℕ)) → byte < 256 → All IsBytes lines
     → All IsBytes (onto_first byte lines)

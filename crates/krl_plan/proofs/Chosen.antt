@@ -5,7 +5,7 @@ use Rattle.std.proofs.lemmas.Bool.{cases_lt}
 use Rattle.std.proofs.lemmas.List.{length-take-le}
 use Rattle.serial_set.specs.declared.span.Span.{Span}
 use Rattle.serial_set.specs.Span.{IsRuns, RunsFrom}
-use Rattle.serial_set.specs.Rising.{RunsFrom-weaker}
+use Rattle.serial_set.proofs.Rising.{RunsFrom-weaker}
 use Rattle.krl_plan.specs.declared.group.Sort.{Sort}
 use Rattle.krl_plan.specs.declared.group.Sort.TheVariants.{Serials, Range, Bitmap}
 use Rattle.krl_plan.specs.declared.group.Group.{Group}

@@ -6,7 +6,8 @@ use Rattle.std.proofs.lemmas.Bool.{cases_lt}
 use Rattle.std.proofs.lemmas.List.{append-nil, drop-append-le, drop-drop, drop_all, get_or_append_left, get_or_push, length_push, take-append-drop, take-append-le, take_all}
 use Rattle.serial_set.specs.declared.span.Span.{Span}
 use Rattle.serial_set.specs.Span.{IsRuns, AreSerials}
-use Rattle.serial_set.specs.Walk.{IsPiece, left, next_of, since, walk_ends, walk_on, steps}
+use Rattle.serial_set.specs.Walk.{IsPiece, left, next_of, since, steps}
+use Rattle.serial_set.proofs.Walking.{walk_ends, walk_on}
 use Rattle.krl_plan.proofs.Chosen.{IsRuns-drop}
 use Rattle.krl_plan.specs.Copies.{BeginChunks, Copies}
 

@@ -4,7 +4,7 @@ use Rattle.std.proofs.Common.{get_or, refl, sym, ap, ◌∙◌, arith, append_as
 use Rattle.std.proofs.lemmas.List.{take_all}
 use Rattle.serial_set.specs.declared.span.Span.{Span}
 use Rattle.ssh_wire.specs.Wire.{number, string}
-use Rattle.ssh_wire.specs.Fields.{length-number, length-string}
+use Rattle.ssh_wire.proofs.Fields.{length-number, length-string}
 use Rattle.krl_plan.specs.Plan.{reach}
 use Rattle.krl_plan.specs.Written.{bitmap_of, first_of}
 use Rattle.krl_plan.proofs.Reach.{reach-take}

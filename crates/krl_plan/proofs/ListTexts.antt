@@ -6,7 +6,7 @@ use Rattle.std.proofs.lemmas.List.{drop_at, take_all, take_at}
 use Rattle.std.proofs.lemmas.Grind.{flat_map-append}
 use Rattle.serial_set.specs.declared.span.Span.{Span}
 use Rattle.ssh_wire.specs.Wire.{number, string}
-use Rattle.ssh_wire.specs.Fields.{length-number, length-numbers}
+use Rattle.ssh_wire.proofs.Fields.{length-number, length-numbers}
 use Rattle.krl_plan.specs.Plan.{IsSmall, serial_count}
 use Rattle.krl_plan.specs.Written.{serials_from, serials_of}
 

@@ -11,10 +11,10 @@ use Rattle.std.proofs.lemmas.List.{take-append-drop}
 use Rattle.std.proofs.lemmas.Nat.Bits.{bit_at-suc, bit_at-zero, bit_at_lowest}
 use Rattle.serial_set.specs.declared.span.Span.{Span}
 use Rattle.serial_set.specs.Span.{AreSerials, Covers, IsRuns, RunsFrom, has}
-use Rattle.serial_set.specs.Rising.{covers_append, has_names}
+use Rattle.serial_set.proofs.Rising.{covers_append, has_names}
 use Rattle.ssh_wire.specs.Wire.{number_of}
-use Rattle.ssh_wire.specs.Magnitudes.{number_of-cons}
-use Rattle.ssh_wire.specs.Digits.{bytes_as_bits}
+use Rattle.ssh_wire.proofs.Magnitudes.{number_of-cons}
+use Rattle.ssh_wire.proofs.Digits.{bytes_as_bits}
 use Rattle.krl_plan.specs.Plan.{end_of, reach}
 use Rattle.krl_plan.specs.Written.{bitmap_of, bits_of, first_of}
 use Rattle.krl_plan.proofs.BitmapBits.{bits_of_lt}

@@ -3,7 +3,7 @@ use Rattle.std.proofs.Common.{◌≡◌, ℕ, true, false, List, Option, None, S
 use Rattle.std.specs.Result.{result_ok}
 use Rattle.std.proofs.lemmas.Bool.{cases_Bool}
 use Rattle.std.proofs.lemmas.Option.{same_Some}
-use Rattle.ssh_wire.specs.Steps.{ok_is}
+use Rattle.ssh_wire.proofs.Steps.{ok_is}
 use Rattle.ssh_key.specs.Key.{IsKey, PublicKey}
 use Rattle.ssh_key.specs.KeyFile.{has_key}
 use Rattle.ssh_key.specs.KeyLine.{IsKeyLine}
@@ -18,7 +18,7 @@ use Rattle.krl_runs.specs.Listing.{certificate_answer, listed_certificate}
 use Rattle.krl_types.specs.Subject.{Subject}
 use Rattle.ssh_cert.specs.SubjectReading.{IsSubject, subject_of}
 use Rattle.ssh_cert.specs.declared.subject_fault.SubjectFault.{SubjectFault}
-use Rattle.ssh_cert.specs.SubjectReading.{plain_is_key}
+use Rattle.ssh_cert.proofs.Asked.{plain_is_key}
 use Rattle.krl_runs.specs.declared.output.answer.Answer.{Answer}
 use Rattle.key_files.specs.declared.cause.Cause.TheVariants.{Line}
 use Rattle.krl_runs.specs.Items.{SpellsKey}

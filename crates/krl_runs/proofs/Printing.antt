@@ -7,7 +7,8 @@ use Rattle.std.proofs.Math.Seq.{drop-cons}
 use Rattle.std.proofs.lemmas.Bool.Decides.{nat_tests}
 use Rattle.serial_set.specs.declared.span.Span.{Span}
 use Rattle.serial_set.specs.Span.{IsRuns, AreSerials}
-use Rattle.serial_set.specs.Walk.{IsPiece, left, next_of, since, walk_on}
+use Rattle.serial_set.specs.Walk.{IsPiece, left, next_of, since}
+use Rattle.serial_set.proofs.Walking.{walk_on}
 use Rattle.krl_runs.specs.Carries.{Carries}
 use Rattle.krl_held.specs.Revocations.{Revocations, Section}
 use Rattle.krl_core.specs.declared.header.Header.{Header}

@@ -1,8 +1,8 @@
 -- How many bytes keys have at least.
 use Rattle.std.proofs.Common.{ℕ, ◌+◌, ◌*◌, ◌≤◌, List, [], ◌∷◌, length, ap, arith}
 use Rattle.std.proofs.lemmas.List.{length-append}
-use Rattle.ssh_wire.specs.Fields.{length-string}
 use Rattle.ssh_wire.specs.Wire.{complement, mpint, string}
+use Rattle.ssh_wire.proofs.Fields.{length-string}
 use Rattle.ssh_key.specs.Key.{AreValues, IsKey, PublicKey, field_text, fields_text}
 use Rattle.ssh_key.specs.Kind.{Field, Positive, Curve, Point, Sized, Application, fields_of, type_name}
 use Rattle.ssh_key.specs.declared.kind.Kind.{Kind}

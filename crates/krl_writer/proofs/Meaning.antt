@@ -12,12 +12,12 @@ use Rattle.krl_held.specs.Naming.{SerialOf, SomeNames}
 use Rattle.std.proofs.Math.Logic.Iff as Iff
 use Rattle.krl_held.proofs.BothWays.{iff_both, iff_none, iff_or}
 use Rattle.krl_held.proofs.Same.{IsSerials, AreSerials as AreSerialEntries, some_append}
+use Rattle.krl_held.proofs.Elements.{all_append}
 use Rattle.krl_plan.specs.Plan.{Allows, IsGroup, IsPlan}
 use Rattle.krl_plan.specs.Written.{bitmap_size, first_of}
 use Rattle.krl_plan.proofs.Named.{AreSerials-drop, AreSerials-take, bits_name, names_parts, names_within}
 use Rattle.krl_plan.proofs.Chosen.{IsRuns-drop, RunsFrom-take}
 use Rattle.krl_writer.proofs.Spelling.{serials_name}
-use Rattle.krl_held.specs.Elements.{all_append}
 
 -- ---- a group
 

@@ -3,7 +3,7 @@ use Rattle.std.proofs.Common.{◌≡◌, ℕ, ◌+◌, ◌^◌, ◌<◌, ◌≤�
 use Rattle.std.specs.List.{All}
 use Rattle.std.proofs.lemmas.List.Elements.{All-tail, recursion_from_All}
 use Rattle.ssh_wire.specs.Wire.{number, string, strings}
-use Rattle.ssh_wire.specs.Fields.{length-number, length-string}
+use Rattle.ssh_wire.proofs.Fields.{length-number, length-string}
 use Rattle.krl_core.specs.Front.{limit}
 use Rattle.krl_plan.specs.declared.group.Group.{Group}
 use Rattle.krl_core.specs.declared.header.Header.{Header}

@@ -8,7 +8,7 @@ use Rattle.std.proofs.Math.Logic.Iff as Iff
 use Rattle.serial_set.specs.declared.span.Span.{Span}
 use Rattle.serial_set.specs.Span.{AreSerials, IsRuns, Covers as Names, RunsFrom}
 use Rattle.ssh_wire.specs.Wire.{string, strings}
-use Rattle.ssh_wire.specs.Fields.{length-string}
+use Rattle.ssh_wire.proofs.Fields.{length-string}
 use Rattle.krl_plan.specs.declared.group.Sort.{Sort}
 use Rattle.krl_plan.specs.declared.group.Sort.TheVariants as sorts
 use Rattle.krl_plan.specs.declared.group.Group.{Group}
@@ -17,9 +17,9 @@ use Rattle.krl_plan.proofs.Named.{AreSerials-drop, AreSerials-take, bits_name, l
 use Rattle.krl_plan.proofs.OnePlan.{content_few}
 use Rattle.krl_plan.specs.Plan.{Allows, IsGroup, IsPlan, reach}
 use Rattle.krl_plan.specs.Written.{bitmap_of, bitmap_size, bits_of, content_of, first_of, group_text, plan_text, serials_from, serials_of}
-use Rattle.krl_held.specs.Elements.{contains_none}
 use Rattle.krl_core.specs.Krl.{IsPositive, SpellsBitmap, SpellsEach, SpellsSubsection}
 use Rattle.krl_held.proofs.BothWays.{contains_append, contains_cons, iff_or}
+use Rattle.krl_held.proofs.Elements.{contains_none}
 use Rattle.krl_writer.specs.KrlText.{group_subsection, listed_as, listed_text, plan_subsections}
 
 -- ---- lists of serials

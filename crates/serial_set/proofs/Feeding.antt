@@ -13,9 +13,9 @@ use Rattle.serial_set.specs.declared.bit_fault.BitFault.{BitFault}
 use Rattle.serial_set.specs.declared.bit_fault.BitFault.TheVariants.{Negative, Wraps}
 use Rattle.serial_set.specs.Span.{SpanCovers, Covers, RunsFrom, IsRunsOf, AreSerials}
 use Rattle.serial_set.specs.BitRuns.{BitRuns, start, lowest, BitNames, big_endian, HasFault, PassesEnd, Feeds, FeedsAll, runs_after}
-use Rattle.serial_set.specs.Rising.{RunsFrom-weaker, names_append, names_left, names_right, runs_join}
-use Rattle.serial_set.specs.Bits.{bit_below, BitNames-split, BitNames-join}
 use Rattle.serial_set.proofs.InByte.{OnFrom, OnFrom-runs}
+use Rattle.serial_set.proofs.Rising.{RunsFrom-weaker, names_append, names_left, names_right, runs_join}
+use Rattle.serial_set.proofs.Bits.{bit_below, BitNames-split, BitNames-join}
 
 -- ---- lists
 

@@ -7,8 +7,8 @@ use Rattle.std.proofs.lemmas.List.{append-nil, reverse-append, get_or-reverse, l
 use Rattle.serial_set.specs.declared.span.Span.{Span}
 use Rattle.serial_set.specs.Span.{SpanCovers, Covers, RunsFrom, IsRuns, IsRunsOf}
 use Rattle.serial_set.specs.BitRuns.{BitNames, IsInterval, IsInStep}
-use Rattle.serial_set.specs.Rising.{RunsFrom-weaker, runs_at, names_at}
-use Rattle.serial_set.specs.Bits.{bit_below}
+use Rattle.serial_set.proofs.Rising.{RunsFrom-weaker, runs_at, names_at}
+use Rattle.serial_set.proofs.Bits.{bit_below}
 
 -- the pending run begins at n and the others rise after it; with none pending they rise from past n
 abbrev pub OnFrom : ℕ → Option Span → List Span → Type 0

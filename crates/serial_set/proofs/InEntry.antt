@@ -1,15 +1,40 @@
 -- Members of one entry, and masks of bits.
-use Rattle.std.proofs.Common.{◌≡◌, ℕ, ◌+◌, ◌-◌, ◌*◌, ◌/◌, ◌%◌, ◌^◌, ◌<◌, ◌≤◌, min, refl, sym, subst, ap, ◌∙◌, inl, inr, arith}
+use Rattle.std.proofs.Common.{◌≡◌, ℕ, ◌+◌, ◌-◌, ◌*◌, ◌/◌, ◌%◌, ◌^◌, ◌<◌, ◌≤◌, min, refl, sym, subst, ap, ◌∙◌, inl, inr, arith, zero, suc}
 use Rattle.std.specs.Prelude.{Bool, true, false, ◌↔◌, ◌⊎◌, bit_or}
 use Rattle.std.specs.Int.{bit_at}
 use Rattle.std.proofs.lemmas.Bool.{cases_lt}
 use Rattle.std.proofs.lemmas.Nat.{one_shl, pow_pos}
 use Rattle.std.proofs.Math.Pow.{pow_mono}
 use Rattle.std.proofs.lemmas.Nat.Bits.{ones_shr, bit_at_or, bit_at-lt, bit_at_mask_inside, bit_at_mask_below, bit_at_mask_above}
+use Rattle.std.proofs.lemmas.Bool.Decides.{eqb_tells}
 use Rattle.serial_set.specs.declared.entry.Entry.{Entry}
 use Rattle.serial_set.specs.Span.{Covers}
-use Rattle.serial_set.specs.Words.{singles_to, singles_from, BitCovers}
+use Rattle.serial_set.specs.Words.{BitCovers, single_by, singles}
 use Rattle.serial_set.specs.Entry.{is_run, window_of, bits_of, members_in, members_by, lo_of, lo_by, hi_of, hi_by}
+use Rattle.serial_set.specs.Lawful.{next_bit, this_bit, singles_to}
+
+pub singles_from : (count base bits s : ℕ) → BitCovers count base bits s
+    → Covers (singles count base bits) s
+unfolding singles
+singles_from zero base bits s n = absurd (omega arith)
+singles_from (suc count) base bits s n =
+    let later : base + 1 ≤ s → Covers (singles count (base + 1) (bits / 2)) s =
+    λ h. singles_from count (base + 1) (bits / 2) s
+    (h, omega arith, sym (next_bit base bits s h) ∙ n.2) in
+    let P : Bool → Type 0 =
+    λ v. Covers (single_by v base (singles count (base + 1) (bits / 2))) s in
+    elim (cases_lt base s) [
+      | inl past ↦ elim (eqb_tells (bits % 2) 1) [
+        | inl set ↦ subst P (sym set.0) (inr (later (omega arith)))
+        | inr not ↦ subst P (sym not.0) (later (omega arith))
+      ]
+      | inr upto ↦
+          let same : s ≡ base = omega arith in
+          elim (eqb_tells (bits % 2) 1) [
+            | inl set ↦ subst P (sym set.0) (inl (omega arith, omega arith))
+            | inr not ↦ absurd (not.1 (sym (this_bit base bits s same) ∙ n.2))
+          ]
+    ]
 
 -- the members of a word are its set bits
 pub in_word : (e : Entry) (s : ℕ) → is_run e ≡ false → Covers (members_in e) s ↔ BitCovers 64 (64 * window_of e) (bits_of e) s
@@ -65,7 +90,7 @@ in_or base a b s =
     let i = s - base in
     let one = bit_at_or a b i in (
       λ n. elim (cases_lt (bit_at a i) 1) [
-        | inl zero ↦ inr (n.0, n.1, omega (arith, n.2, one, bit_at-lt b i))
+        | inl none ↦ inr (n.0, n.1, omega (arith, n.2, one, bit_at-lt b i))
         | inr some ↦ inl (n.0, n.1, omega (arith, bit_at-lt a i))
       ],
       λ m. elim m [

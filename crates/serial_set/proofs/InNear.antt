@@ -11,11 +11,11 @@ use Rattle.serial_set.specs.declared.span.Span.{Span}
 use Rattle.serial_set.proofs.InEntry.{in_or}
 use Rattle.serial_set.specs.Span.{SpanCovers, Covers, AddsSpan, IsRuns}
 use Rattle.serial_set.specs.BitRuns.{IsInterval}
-use Rattle.serial_set.specs.Least.{runs_least}
 use Rattle.serial_set.specs.Near.{AddsSpans, LiesIn}
-use Rattle.serial_set.specs.Rising.{names_append, names_left, names_right}
 use Rattle.serial_set.specs.Words.{BitCovers}
 use Rattle.serial_set.proofs.InSet.{mask_has}
+use Rattle.serial_set.proofs.Least.{runs_least}
+use Rattle.serial_set.proofs.Rising.{names_append, names_left, names_right}
 
 -- one span more
 pub covers_more : (spans : List Span) (i : ℕ) (d : Span) (s : ℕ) → i < length spans → Covers (take (i + 1) spans) s ↔ (Covers (take i spans) s ⊎ SpanCovers (get_or spans i d) s)

@@ -10,13 +10,14 @@ use Rattle.std.proofs.lemmas.List.Elements.{All-nil, All-cons, All-append}
 use Rattle.std.proofs.lemmas.Nat.Bits.{bit_at_ones, bit_at-trailing_ones, bit_at-trailing_zeros}
 use Rattle.serial_set.specs.declared.entry.Entry.{Entry}
 use Rattle.serial_set.specs.Span.{Covers}
-use Rattle.serial_set.specs.Words.{BitCovers, singles, singles_to, singles_from}
+use Rattle.serial_set.specs.Words.{BitCovers, singles}
 use Rattle.serial_set.specs.Entry.{is_run, window_of, bits_of, members_in, lo_of, lo_by, hi_of, hi_by, EntriesFrom, members_of}
-use Rattle.serial_set.specs.Entries.{stretch, entries_join, has_append, has_left, has_right}
 use Rattle.serial_set.specs.News.{lo_or, hi_or, Has, IsNews}
 use Rattle.serial_set.specs.Tight.{IsFull, IsTight}
-use Rattle.serial_set.proofs.InEntry.{in_mask, in_or, in_run, in_word, word_ends}
+use Rattle.serial_set.specs.Lawful.{singles_to, stretch}
+use Rattle.serial_set.proofs.InEntry.{in_mask, in_or, in_run, in_word, word_ends, singles_from}
 use Rattle.serial_set.proofs.InWords.{one_has}
+use Rattle.serial_set.proofs.Ordered.{entries_join, has_append, has_left, has_right}
 
 -- ---- words
 

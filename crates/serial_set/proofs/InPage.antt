@@ -5,8 +5,9 @@ use Rattle.std.proofs.lemmas.List.{take-append-drop, drop-drop, drop_more, set_s
 use Rattle.std.proofs.lemmas.List.Elements.{All-take, All-drop}
 use Rattle.serial_set.specs.declared.entry.Entry.{Entry}
 use Rattle.serial_set.specs.Entry.{lo_of, hi_of}
-use Rattle.serial_set.specs.Entries.{stretch, Replaces}
+use Rattle.serial_set.specs.Entries.{Replaces}
 use Rattle.serial_set.specs.Places.{CutTo, Widened, WordWidened}
+use Rattle.serial_set.specs.Lawful.{stretch}
 
 -- of entries that a number does not cut, those that end past it begin past it
 past_whole : (number n : ℕ) (es : List Entry) → All (λ e. (hi_of e ≤ number) ⊎ (number < lo_of e)) es → All (λ e. number < hi_of e) (drop n es) → All (λ e. number < lo_of e) (drop n es)

@@ -9,12 +9,14 @@ use Rattle.std.proofs.lemmas.List.Elements.{All-nil, All-head, All-tail, All-app
 use Rattle.serial_set.specs.declared.entry.Entry.{Entry}
 use Rattle.serial_set.specs.declared.page.Page.{Page}
 use Rattle.serial_set.specs.Entry.{lo_of, hi_of, EntriesFrom}
-use Rattle.serial_set.specs.Entries.{stretch, entries_front, entries_back, Replaces}
+use Rattle.serial_set.specs.Entries.{Replaces}
 use Rattle.serial_set.specs.Pages.{entries_in, entries_of, IsSplit}
 use Rattle.serial_set.specs.Places.{end_of, IsListFrom, CutTo, WordWidened}
+use Rattle.serial_set.specs.Lawful.{stretch}
 use Rattle.serial_set.proofs.Placed.{rises_before}
 use Rattle.serial_set.proofs.Flat.{all_left, all_right, flat_cut, flat_drop, flat_at, part_at, part_set, first_of}
 use Rattle.serial_set.proofs.InEntries.{entries_each, end_most, end_upto, end_back, entries_past}
+use Rattle.serial_set.proofs.Ordered.{entries_front, entries_back}
 
 pub page_some : (p : Page) → 0 < length (entries_in p)
 page_some p = p.some

@@ -8,19 +8,22 @@ use Rattle.std.proofs.lemmas.List.Elements.{All-nil, All-cons, All-head, All-tai
 use Rattle.serial_set.specs.declared.span.Span.{Span}
 use Rattle.serial_set.specs.declared.entry.Entry.{Entry}
 use Rattle.serial_set.specs.Span.{Covers, IsRunsOf, AreSerials, AddsSpan}
-use Rattle.serial_set.specs.Rising.{names_append}
-use Rattle.serial_set.specs.Least.{runs_least}
 use Rattle.serial_set.specs.Words.{BitCovers}
 use Rattle.serial_set.specs.Entry.{members_in, lo_of, hi_of, EntriesFrom, members_of, runs_of}
-use Rattle.serial_set.specs.Entries.{in_stretch, stretch, entries_back, has_append, has_left, has_right, none_below, has_from, Replaces, Keeps, replaced_order, replaced_runs, runs_of_entries}
+use Rattle.serial_set.specs.Entries.{Replaces, Keeps}
 use Rattle.serial_set.specs.News.{lo_or, hi_or, Has, IsNews}
 use Rattle.serial_set.specs.Additions.{IsAt}
 use Rattle.serial_set.specs.Places.{IsEntryFrom}
+use Rattle.serial_set.specs.Lawful.{in_stretch, stretch, runs_of_entries}
 use Rattle.serial_set.proofs.Flat.{all_left, all_right}
 use Rattle.serial_set.proofs.InEntries.{entries_each}
 use Rattle.serial_set.proofs.InEntry.{in_mask, in_or}
 use Rattle.serial_set.proofs.InNews.{all_set}
 use Rattle.serial_set.proofs.InWords.{members_part, members_own}
+use Rattle.serial_set.proofs.Rising.{names_append}
+use Rattle.serial_set.proofs.Least.{runs_least}
+use Rattle.serial_set.proofs.Ordered.{entries_back, has_append, has_left, has_right, none_below, has_from}
+use Rattle.serial_set.proofs.Replaced.{replaced_order, replaced_runs}
 
 -- ---- the entry at a number
 

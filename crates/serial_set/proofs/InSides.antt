@@ -8,19 +8,20 @@ use Rattle.std.proofs.Math.Logic.{⊎_map}
 use Rattle.std.proofs.lemmas.List.Elements.{All-nil, All-cons, All-append}
 use Rattle.serial_set.specs.declared.entry.Entry.{Entry}
 use Rattle.serial_set.specs.Span.{Covers, AreSerials}
-use Rattle.serial_set.specs.Rising.{names_left, names_right}
 use Rattle.serial_set.specs.Entry.{is_run, members_in, members_by, lo_of, lo_by, hi_of, hi_by, EntriesFrom, members_of}
-use Rattle.serial_set.specs.Entries.{in_stretch, stretch, entries_back}
 use Rattle.serial_set.specs.News.{lo_or, hi_or, Has}
 use Rattle.serial_set.specs.Additions.{IsAt}
 use Rattle.serial_set.specs.Sides.{IsFront, IsBack}
 use Rattle.serial_set.specs.Places.{IsEntryFrom}
 use Rattle.serial_set.specs.Words.{BitCovers}
 use Rattle.serial_set.specs.Tight.{IsFull, IsTight, Apart, AreTight, KeepsTight}
+use Rattle.serial_set.specs.Lawful.{in_stretch, stretch}
 use Rattle.serial_set.proofs.InEntries.{entries_each}
 use Rattle.serial_set.proofs.InEntry.{in_mask, word_ends}
 use Rattle.serial_set.proofs.InSet.{Fills, at_member, ends_before}
 use Rattle.serial_set.proofs.InWords.{members_part, members_own}
+use Rattle.serial_set.proofs.Rising.{names_left, names_right}
+use Rattle.serial_set.proofs.Ordered.{entries_back}
 
 run_is_full : (e : Entry) → is_run e ≡ true → IsFull e
 run_is_full e run s a b =

@@ -8,15 +8,16 @@ use Rattle.std.proofs.lemmas.List.Elements.{All-head, All-tail, All-cons, All-ap
 use Rattle.serial_set.specs.declared.span.Span.{Span}
 use Rattle.serial_set.specs.declared.entry.Entry.{Entry}
 use Rattle.serial_set.specs.Span.{Covers, IsRuns}
-use Rattle.serial_set.specs.Rising.{names_append}
-use Rattle.serial_set.specs.Joined.{Rises, glued, glued_by, joined, joined_of}
-use Rattle.serial_set.specs.Words.{Rises-weaker}
+use Rattle.serial_set.specs.Joined.{Rises, glued, glued_by, joined}
 use Rattle.serial_set.specs.Entry.{is_run, members_in, lo_of, hi_of, EntriesFrom, members_of, runs_of}
-use Rattle.serial_set.specs.Entries.{in_stretch, stretch, entries_rise, has_from, Replaces}
+use Rattle.serial_set.specs.Entries.{Replaces}
 use Rattle.serial_set.specs.Places.{WordWidened}
 use Rattle.serial_set.specs.Tight.{IsFull, IsTight, Apart, AreTight, KeepsTight}
+use Rattle.serial_set.specs.Lawful.{joined_of, Rises-weaker, in_stretch, stretch, entries_rise}
 use Rattle.serial_set.proofs.Flat.{all_left, all_right}
 use Rattle.serial_set.proofs.InEntries.{entries_each}
+use Rattle.serial_set.proofs.Rising.{names_append}
+use Rattle.serial_set.proofs.Ordered.{has_from}
 
 -- ---- spans
 

@@ -3,10 +3,11 @@ use Rattle.std.proofs.Common.{ℕ, ◌≤◌, List, Some, None, arith}
 use Rattle.serial_set.specs.declared.entry.Entry.{Entry}
 use Rattle.serial_set.specs.Span.{AreSerials, Covers}
 use Rattle.serial_set.specs.Entry.{members_in, hi_of, EntriesFrom, members_of, runs_of}
-use Rattle.serial_set.specs.Entries.{none_below, runs_of_entries}
 use Rattle.serial_set.specs.Places.{IsEntryFrom}
 use Rattle.serial_set.specs.Members.{IsFirst, GoesOn}
+use Rattle.serial_set.specs.Lawful.{runs_of_entries}
 use Rattle.serial_set.proofs.InWords.{asked}
+use Rattle.serial_set.proofs.Ordered.{none_below}
 
 -- the entry that is first from a number on is so from each further one that it reaches
 pub from_on : (es : List Entry) (e : Entry) (n s : ℕ) → IsEntryFrom es n (Some e) → n ≤ s → s ≤ hi_of e → IsEntryFrom es s (Some e)

@@ -6,15 +6,17 @@ use Rattle.std.proofs.lemmas.Bool.{cases_lt}
 use Rattle.std.proofs.lemmas.List.Elements.{All-append, All-cons, All-head, All-nil, All-tail, All-weaker}
 use Rattle.serial_set.specs.declared.entry.Entry.{Entry}
 use Rattle.serial_set.specs.declared.span.Span.{Span}
-use Rattle.serial_set.specs.Entries.{entries_back, entries_front, in_stretch, runs_of_entries, stretch}
 use Rattle.serial_set.specs.Entry.{hi_of, lo_of, members_of, members_in, runs_of, EntriesFrom}
-use Rattle.serial_set.specs.Least.{runs_first}
 use Rattle.serial_set.specs.Members.{GoesOn, IsFirst, Reads, Taken}
 use Rattle.serial_set.specs.Places.{IsEntryFrom}
-use Rattle.serial_set.specs.Rising.{names_append, names_at, names_left, names_right, runs_apart, runs_front, runs_join, runs_middle, runs_reach}
 use Rattle.serial_set.specs.Span.{AddsSpan, Covers, IsRuns, RunsFrom}
-use Rattle.serial_set.specs.Walk.{IsPiece, since, since_from, since_runs, since_to}
+use Rattle.serial_set.specs.Walk.{IsPiece, since}
+use Rattle.serial_set.specs.Lawful.{in_stretch, runs_of_entries, stretch}
 use Rattle.serial_set.proofs.InWords.{asked}
+use Rattle.serial_set.proofs.Ordered.{entries_back, entries_front}
+use Rattle.serial_set.proofs.Least.{runs_first}
+use Rattle.serial_set.proofs.Rising.{names_append, names_at, names_left, names_right, runs_apart, runs_front, runs_join, runs_middle, runs_reach}
+use Rattle.serial_set.proofs.Walking.{since_from, since_runs, since_to}
 
 -- ---- a span after others
 

@@ -2,8 +2,7 @@
 use Rattle.std.specs.Prelude.{◌≡◌, ℕ, ◌+◌, ◌*◌, ◌≤◌, ◌<◌, ◌⊎◌, ◌↔◌, List, [], ◌∷◌, ◌++◌}
 use Rattle.std.specs.Prelude.{Option, Some, None, All, false}
 use Rattle.serial_set.specs.declared.entry.Entry.{Entry}
-use Rattle.std.specs.Coded.{Unit-prop, le_prop}
-use Rattle.serial_set.specs.Entry.{is_run, members_in, lo_of, hi_of, EntriesFrom}
+use Rattle.serial_set.specs.Entry.{is_run, members_in, lo_of, hi_of}
 use Rattle.serial_set.specs.Span.{Covers}
 use Rattle.serial_set.specs.Tight.{IsFull}
 use Rattle.serial_set.specs.Words.{BitCovers}
@@ -37,13 +36,6 @@ pub record CutTo (old : List Entry) (number : ℕ) (new : List Entry) : Type 0 w
   pub were : old ≡ gone ++ new
   pub inside : All (λ e. lo_of e ≤ number) gone
   pub above : All (λ e. number < lo_of e) new
-
--- entries are in order in one way only, as a ghost field asks of its fact
-pub order_prop : (least : ℕ) (entries : List Entry) → IsProp (EntriesFrom least entries)
-order_prop least [] = Unit-prop
-order_prop least (e ∷ entries) =
-    let rest : IsProp (EntriesFrom (hi_of e + 1) entries) = order_prop (hi_of e + 1) entries in
-    hlevel (le_prop, rest)
 
 -- the word of a window gets more bits, and not all
 pub record Widened (was : Entry) (window bits : ℕ) (is : Entry) : Type 0 where

@@ -1,7 +1,6 @@
 -- Intervals of serials, and the one rising list of them that stands for a set.
 use Rattle.std.specs.Prelude.{ℕ, ◌+◌, ◌^◌, ◌≤◌, ◌<◌, ◌⊎◌, ◌↔◌, List, [], ◌∷◌, ⊤}
 use Rattle.std.specs.Prelude.{nat_le, Bool, false, ◌&&◌, ◌||◌}
-use Rattle.std.specs.Coded.{Unit-prop, le_prop}
 use Rattle.serial_set.specs.declared.span.Span.{Span}
 
 -- the span has the number s in it
@@ -39,10 +38,3 @@ AddsSpan old lo hi new = IsRunsOf new (λ s. Covers old s ⊎ ((lo ≤ s) × (s 
 -- the numbers are serials: a serial is from 1 to 2^64-1
 abbrev pub AreSerials : List Span → Type 0
 AreSerials spans = (s : ℕ) → Covers spans s → (0 < s) × (s < 2 ^ 64)
-
--- a list rises in one way only, as a ghost field asks of its fact
-pub RunsFrom-prop : (least : ℕ) (spans : List Span) → IsProp (RunsFrom least spans)
-RunsFrom-prop least [] = Unit-prop
-RunsFrom-prop least (span ∷ spans) =
-    let rest : IsProp (RunsFrom (span.hi + 2) spans) = RunsFrom-prop (span.hi + 2) spans in
-    hlevel (le_prop, rest)

@@ -1,10 +1,12 @@
 //! A set of serials as pages of runs and words of bits.
 ghost use Rattle.std.specs.Prelude.{◌≡◌, ◌*◌, ◌^◌, ◌<◌, ◌≤◌, ◌⊎◌, ◌↔◌, ℕ, [], length, false, All, IsTrue, IfOk, OnOk, OnErr};
 ghost use Rattle.serial_set.specs.Entry.{lo_of, hi_of, EntriesFrom, members_of, runs_of};
-ghost use Rattle.serial_set.specs.Entries.{Replaces, runs_of_entries, serials_of_runs};
+ghost use Rattle.serial_set.specs.Entries.{Replaces};
 ghost use Rattle.serial_set.specs.Few.{few_of};
 ghost use Rattle.serial_set.specs.Kept.{entries_kept};
-ghost use Rattle.serial_set.specs.Places.{IsEntryFrom, IsListFrom, order_prop};
+ghost use Rattle.serial_set.specs.Lawful.{runs_of_entries, serials_of_runs};
+ghost use Rattle.serial_set.specs.OneWay.{order_prop};
+ghost use Rattle.serial_set.specs.Places.{IsEntryFrom, IsListFrom};
 ghost use Rattle.serial_set.specs.Span.{AreSerials, Covers, IsRunsOf};
 ghost use Rattle.serial_set.specs.Tight.{AreTight, KeepsTight};
 ghost use Rattle.serial_set.specs.Words.{BitCovers};

@@ -3,8 +3,6 @@ use Rattle.std.proofs.Common.{◌≡◌, ℕ, ◌+◌, ◌^◌, ◌<◌, ◌≤�
 use Rattle.std.proofs.lemmas.Bool.{cases_lt}
 use Rattle.std.proofs.lemmas.List.{append-nil, length-append}
 use Rattle.ssh_wire.specs.Wire.{IsBytes, string, strings}
-use Rattle.ssh_wire.specs.Digits.{IsBytes-back, IsBytes-front}
-use Rattle.ssh_wire.specs.Cut.{number-cut, string-cut}
 use Rattle.ssh_wire.specs.Reading.{in_fault}
 use Rattle.ssh_key.specs.declared.fault.KeyFault.{KeyFault}
 use Rattle.ssh_key.specs.declared.kind.Kind.{Kind}
@@ -12,7 +10,9 @@ use Rattle.ssh_key.specs.Key.{IsKey, PublicKey, blob_of}
 use Rattle.ssh_key.specs.KeyReading.{public_at}
 use Rattle.ssh_key.specs.Kind.{certificate_name}
 use Rattle.ssh_key.proofs.Keys.{public_again, public_found}
-use Rattle.ssh_wire.specs.Steps.{ok_is}
+use Rattle.ssh_wire.proofs.Digits.{IsBytes-back, IsBytes-front}
+use Rattle.ssh_wire.proofs.Cut.{number-cut, string-cut}
+use Rattle.ssh_wire.proofs.Steps.{ok_is}
 use Rattle.ssh_cert.specs.declared.fault.CertFault.{CertFault}
 use Rattle.ssh_cert.specs.declared.fault.CertFault.TheVariants as faults
 use Rattle.ssh_cert.specs.Cert.{Cert, IsCertificate, role_number}

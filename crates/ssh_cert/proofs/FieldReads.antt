@@ -2,14 +2,14 @@
 use Rattle.std.proofs.Common.{◌≡◌, ℕ, ◌^◌, ◌<◌, List, ◌++◌, length, Ok, refl, ap, subst, ◌∙◌, arith}
 use Rattle.std.specs.Option.{ok_or}
 use Rattle.ssh_wire.specs.Wire.{IsBytes, number, string, strings}
-use Rattle.ssh_wire.specs.Digits.{IsBytes-back}
 use Rattle.ssh_wire.specs.Reading.{◌>>=◌, in_fault, number_at, string_at}
-use Rattle.ssh_wire.specs.Fields.{HasFront, number_again, number_takes, string_again, string_takes}
 use Rattle.ssh_key.specs.KeyReading.{key_at, public_at}
 use Rattle.ssh_key.proofs.Keys.{key_again, key_found, public_again, public_found}
 use Rattle.ssh_key.proofs.Refusals.{string_read}
 use Rattle.ssh_key.proofs.Wire.{content_taken}
-use Rattle.ssh_wire.specs.Steps.{bind_ok, in_fault_ok, some_ok}
+use Rattle.ssh_wire.proofs.Digits.{IsBytes-back}
+use Rattle.ssh_wire.proofs.Fields.{HasFront, number_again, number_takes, string_again, string_takes}
+use Rattle.ssh_wire.proofs.Steps.{bind_ok, in_fault_ok, some_ok}
 use Rattle.ssh_cert.specs.declared.fault.CertFault.TheVariants as faults
 use Rattle.ssh_cert.specs.Cert.{role_number}
 use Rattle.ssh_cert.specs.CertReading.{authority_of, cut_short, field_at, named, options_of, role_of, signature_of}

@@ -2,9 +2,9 @@
 -- refused is the fault.
 use Rattle.std.proofs.Common.{◌≡◌, ℕ, List, [], ◌∷◌, ◌++◌, Ok, Err, refl, sym, ap, subst, ◌∙◌, append_assoc, inl, inr}
 use Rattle.ssh_wire.specs.Wire.{IsBytes}
-use Rattle.ssh_wire.specs.Fields.{HasFront, HasFront-then}
 use Rattle.ssh_wire.specs.Reading.{◌>>=◌}
-use Rattle.ssh_wire.specs.Steps.{bind_err, bind_ok, never_err}
+use Rattle.ssh_wire.proofs.Fields.{HasFront, HasFront-then}
+use Rattle.ssh_wire.proofs.Steps.{bind_err, bind_ok, never_err}
 use Rattle.ssh_cert.specs.declared.fault.CertFault.{CertFault}
 use Rattle.ssh_cert.specs.CertReading.{field_at, fields_at}
 use Rattle.ssh_cert.specs.Field.{Field, IsValue, AreValues, ValueOf, ValuesOf, field_text, fields_text}

@@ -94,10 +94,3 @@ ReportsFault fault read = read ≡ Err fault
 
 abbrev pub AnswersSubject : Result Subject SubjectFault → Result Subject SubjectFault → Type 0
 AnswersSubject result read = Answers ReportsFault (λ subject. subject) result read
-
--- what is asked has a plain key
-pub plain_is_key : (blob : List ℕ) (asked : Subject) → IsSubject blob asked
-    → (key : PublicKey) × IsKey asked.plain key
-plain_is_key blob asked (plain_key key is_key same) = (key, rw same is_key)
-plain_is_key blob asked (certified certificate is_certificate same) =
-    (certificate.key, rw same is_certificate.key)

@@ -6,9 +6,9 @@ use Rattle.ssh_wire.specs.declared.fault.WireFault.{WireFault}
 use Rattle.ssh_wire.specs.declared.fault.WireFault.TheVariants.{Short}
 use Rattle.ssh_wire.specs.Wire.{mpint, string}
 use Rattle.ssh_wire.specs.Reading.{mpint_at, string_at}
-use Rattle.ssh_wire.specs.Cut.{mpint-cut, string-cut, take-after}
-use Rattle.ssh_wire.specs.Fields.{length-mpint, length-string}
 use Rattle.ssh_wire.specs.Laws.{IsShortWhereCut}
+use Rattle.ssh_wire.proofs.Cut.{mpint-cut, string-cut, take-after}
+use Rattle.ssh_wire.proofs.Fields.{length-mpint, length-string}
 use Rattle.ssh_key.specs.declared.fault.KeyFault.TheVariants.{Wire}
 use Rattle.ssh_key.specs.Kind.{Field, Positive, type_name, fields_of}
 use Rattle.ssh_key.specs.Key.{AreValues, HasLength, IsKey, PublicKey, blob_of, field_text, fields_text}

@@ -1,3 +1,4 @@
+pub mod Trimmed
 pub mod Names
 pub mod Wire
 pub mod Public

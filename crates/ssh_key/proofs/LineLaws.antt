@@ -1,10 +1,8 @@
 -- Reading a key line and the relation: what is read is a key line, and each key line is read.
 use Rattle.std.proofs.Common.{◌≡◌, ℕ, true, List, Result, Ok, Err, refl, sym, ap, subst, ◌∙◌, inl, inr}
 use Rattle.std.proofs.lemmas.Slice.Eq.{bytes_eq-Decides}
-use Rattle.ssh_wire.specs.Steps.{ok_or_err, passed_ok}
 use Rattle.ssh_wire.specs.Reading.{string_at}
 use Rattle.ssh_wire.specs.declared.fault.WireFault.{WireFault}
-use Rattle.ssh_wire.specs.Fields.{string_takes}
 use Rattle.ssh_key.specs.declared.line_fault.LineFault.{LineFault}
 use Rattle.ssh_key.specs.declared.line_fault.LineFault.TheVariants.{WordDiffers}
 use Rattle.ssh_key.specs.KeyLine.{HasWords, IsKeyLine, base64}
@@ -13,6 +11,8 @@ use Rattle.ssh_key.proofs.LineBase64.{decoded_again, decoded_takes}
 use Rattle.ssh_key.proofs.Refusals.{string_read}
 use Rattle.ssh_key.proofs.TextWords.{IsBytes-words, none_or_words, words_read}
 use Rattle.ssh_wire.specs.Wire.{BeginsWith, IsBytes}
+use Rattle.ssh_wire.proofs.Steps.{ok_or_err, passed_ok}
+use Rattle.ssh_wire.proofs.Fields.{string_takes}
 
 -- ---- the first string of a key
 

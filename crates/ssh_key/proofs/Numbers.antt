@@ -3,9 +3,9 @@ use Rattle.std.proofs.Common.{◌≡◌, ℕ, suc, ◌+◌, ◌*◌, ◌^◌, �
 use Rattle.std.proofs.lemmas.Nat.{pow-add, leading_top}
 use Rattle.std.proofs.Math.Nat.{pow-suc, mul-le-mul_left}
 use Rattle.ssh_wire.specs.Wire.{IsBytes, complement, mpint, number_of}
-use Rattle.ssh_wire.specs.Digits.{IsBytes-back, IsBytes-front, IsBytes-tail, bytes_as_bits}
-use Rattle.ssh_wire.specs.Fields.{IsBytes-in_string}
-use Rattle.ssh_wire.specs.Magnitudes.{IsBytes-complement, number_of-cons, number_of-lt, same_magnitude}
+use Rattle.ssh_wire.proofs.Digits.{IsBytes-back, IsBytes-front, IsBytes-tail, bytes_as_bits}
+use Rattle.ssh_wire.proofs.Fields.{IsBytes-in_string}
+use Rattle.ssh_wire.proofs.Magnitudes.{IsBytes-complement, number_of-cons, number_of-lt, same_magnitude}
 use Rattle.ssh_key.specs.Kind.{Field, Positive, bit_count}
 use Rattle.ssh_key.specs.Key.{IsPositive, IsValue, AreValues, field_text, fields_text}
 use Rattle.ssh_key.specs.Value.{SameValue, SameValues}

@@ -3,11 +3,11 @@ use Rattle.std.proofs.Common.{◌≡◌, ℕ, List, [], ◌∷◌, ◌++◌, sli
 use Rattle.ssh_wire.specs.Wire.{IsBytes}
 use Rattle.ssh_wire.specs.Reading.{in_fault, mpint_at, number_at, string_at}
 use Rattle.ssh_wire.specs.declared.fault.WireFault.{WireFault}
-use Rattle.ssh_wire.specs.Fields.{mpint_again, mpint_takes, number_again, number_takes, string_again, string_takes}
 use Rattle.ssh_key.specs.Rows.{Fails, Leads, Magnitude, Number, Part, BeginsWithPart, Step, Text, alone, part_at, row_at, unless_judged}
 use Rattle.ssh_key.specs.declared.private_fault.PrivateFault.{PrivateFault}
 use Rattle.ssh_key.specs.declared.private_fault.PrivateFault.TheVariants.{Wire}
-use Rattle.ssh_wire.specs.Steps.{bind_err, bind_ok, in_fault_err, in_fault_ok}
+use Rattle.ssh_wire.proofs.Fields.{mpint_again, mpint_takes, number_again, number_takes, string_again, string_takes}
+use Rattle.ssh_wire.proofs.Steps.{bind_err, bind_ok, in_fault_err, in_fault_ok}
 
 -- ---- one part
 

@@ -3,7 +3,7 @@ use Rattle.std.proofs.Common.{◌≡◌, ℕ, ◌+◌, ◌<◌, ◌≤◌, List,
 use Rattle.std.specs.Str.{bytes_eq}
 use Rattle.std.proofs.lemmas.List.{append-nil, drop_all, drop_more}
 use Rattle.ssh_wire.specs.Reading.{in_fault, ◌>>=◌}
-use Rattle.ssh_wire.specs.Steps.{bind_err, bind_ok}
+use Rattle.ssh_wire.proofs.Steps.{bind_err, bind_ok}
 use Rattle.ssh_key.specs.Container.{public_text, secrets}
 use Rattle.ssh_key.specs.ContainerReading.{HasRows, Spells, part_of, passed_at, row_of, same_at}
 use Rattle.ssh_key.specs.Rows.{Step, part_at, part_text, row_at}

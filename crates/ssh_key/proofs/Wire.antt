@@ -8,9 +8,9 @@ use Rattle.std.proofs.lemmas.List.{length-append}
 use Rattle.ssh_wire.specs.declared.fault.WireFault.{WireFault}
 use Rattle.ssh_wire.specs.Wire.{BeginsWith, IsBytes, IsMagnitude, complement, mpint, string}
 use Rattle.ssh_wire.specs.Reading.{◌>>=◌, in_fault, mpint_at, string_at}
-use Rattle.ssh_wire.specs.Steps.{bind_err, bind_ok, in_fault_err, in_fault_ok, never_err}
-use Rattle.ssh_wire.specs.Digits.{IsBytes-cons, IsBytes-nil}
-use Rattle.ssh_wire.specs.Fields.{HasFront, IsBytes-content, length-mpint, mpint_again, string_takes}
+use Rattle.ssh_wire.proofs.Steps.{bind_err, bind_ok, in_fault_err, in_fault_ok, never_err}
+use Rattle.ssh_wire.proofs.Digits.{IsBytes-cons, IsBytes-nil}
+use Rattle.ssh_wire.proofs.Fields.{HasFront, IsBytes-content, length-mpint, mpint_again, string_takes}
 use Rattle.ssh_key.specs.Key.{HasLength, IsPositive}
 
 pub IsBytes-test : (xs : List ℕ) → list_all (λ byte. nat_lt byte 256) xs ≡ true → IsBytes xs

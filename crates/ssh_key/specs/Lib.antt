@@ -8,7 +8,6 @@ pub mod Fields
 pub mod TypeName
 pub mod LineFault
 pub mod Blanks
-pub mod Trimmed
 pub mod KeyLine
 pub mod LineReading
 pub mod LineFaults

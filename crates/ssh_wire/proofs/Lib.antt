@@ -1,3 +1,8 @@
+pub mod Digits
+pub mod Steps
+pub mod Fields
+pub mod Magnitudes
+pub mod Cut
 pub mod Pieces
 pub mod Pulling
 pub mod Buffered

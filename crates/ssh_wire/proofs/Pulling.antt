@@ -7,9 +7,15 @@ use Rattle.std.proofs.KnownBytes.{Consumes-kept, Consumes-trans}
 use Rattle.ssh_wire.specs.declared.pull_fault.PullFault.{PullFault}
 use Rattle.ssh_wire.specs.declared.pull_fault.PullFault.TheVariants.{EndsEarly, TooLong, Read, NoMemory}
 use Rattle.ssh_wire.specs.Filling.{Fills, FallsShort, ReportsEnd, pulled}
-use Rattle.ssh_wire.specs.Pull.{Misses, MissesRest, Consumes-ahead, Pull, Refuses, RefusesRest, Reports, ReportsRest, after_ahead, left_of}
+use Rattle.ssh_wire.specs.Pull.{Misses, MissesRest, Pull, Refuses, RefusesRest, Reports, ReportsRest, after_ahead, left_of}
 use borrow.Rule.Slice.PartMut.{put_mid, post_of}
 use lib.Seq.{take-add, take-append-le}
+
+-- the byte ahead is the first
+pub Consumes-ahead : (byte : ℕ) (source : Option (List ℕ))
+    → Consumes (prepend_known (byte ∷ []) source) source (byte ∷ [])
+Consumes-ahead byte None = tt
+Consumes-ahead byte (Some xs) = refl
 
 -- the front of a slice whose part from a place on was written to
 pub take-put_mid-part : (a k n : ℕ) (xs ys : List ℕ) → a ≤ length xs → n ≤ length ys → take (a + n) (put_mid a k xs ys) ≡ take a xs ++ take n ys

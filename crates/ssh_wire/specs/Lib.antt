@@ -7,8 +7,3 @@ pub mod Laws
 pub mod PullFault
 pub mod Pull
 pub mod Filling
-pub mod Digits
-pub mod Steps
-pub mod Fields
-pub mod Magnitudes
-pub mod Cut

@@ -1,7 +1,6 @@
 -- How far a reader was pulled, and what taking a field from it does.
 use Rattle.std.specs.Prelude.{◌≡◌, ℕ, ◌+◌, ◌-◌, ◌≤◌, ◌<◌, Bool, true, false, List, [], ◌∷◌}
 use Rattle.std.specs.Prelude.{length, take, Option, Some, None, Result, Err, IfSome, IsSome, MatchBool}
-use Rattle.std.proofs.Common.{refl}
 use Rattle.std.specs.Io.KnownBytes.{Consumes, IsAtEnd, Keeps, prepend_known}
 use Rattle.ssh_wire.specs.declared.pull_fault.PullFault.{PullFault}
 use Rattle.ssh_wire.specs.declared.pull_fault.PullFault.TheVariants.{EndsEarly, TooLong, Read}
@@ -23,12 +22,6 @@ pub record Pull : Type 0 where
 abbrev pub after_ahead : Option ℕ → Option (List ℕ) → Option (List ℕ)
 after_ahead None source = source
 after_ahead (Some byte) source = prepend_known (byte ∷ []) source
-
--- the byte ahead is the first
-pub Consumes-ahead : (byte : ℕ) (source : Option (List ℕ))
-    → Consumes (prepend_known (byte ∷ []) source) source (byte ∷ [])
-Consumes-ahead byte None = tt
-Consumes-ahead byte (Some xs) = refl
 
 -- The bytes that were not taken yet. The reader gave at most one of them: the one looked at.
 abbrev pub left_of : Pull → Option (List ℕ)

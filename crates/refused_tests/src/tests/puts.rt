@@ -6,7 +6,7 @@ use std::alloc::AllocError;
 use std::test::*;
 
 // Puts one of each sort.
-#[tactic(auto, using(ssh_wire::specs::Magnitudes::complement_fits))]
+#[tactic(auto, using(ssh_wire::proofs::Magnitudes::complement_fits))]
 fn put(out: &mut Vec<u8>, sort: u32) -> Result<(), AllocError> {
     match sort % 5 {
         0 => put_byte(out, 7),

@@ -46,7 +46,7 @@ fn puts_append_to_what_stands(rt: HostRuntime) {
 }
 
 #[test]
-#[tactic(auto, using(ssh_wire::specs::Magnitudes::complement_fits))]
+#[tactic(auto, using(ssh_wire::proofs::Magnitudes::complement_fits))]
 fn a_zero_byte_leads_where_the_top_bit_is_set(rt: HostRuntime) {
     let rows: [(&[u8], &[u8]); 4] = [
         (b"", b"\0\0\0\0"),
@@ -84,7 +84,7 @@ fn long_vectors_grow(rt: HostRuntime) {
 }
 
 // Puts a string of this many bytes, and one byte more for a number of as many.
-#[tactic(auto, using(ssh_wire::specs::Magnitudes::complement_fits))]
+#[tactic(auto, using(ssh_wire::proofs::Magnitudes::complement_fits))]
 fn put_long(out: &mut Vec<u8>, bytes: &[u8]) -> Result<(), AllocError> {
     let [1..=255, ..] = bytes else {
         return Ok(());

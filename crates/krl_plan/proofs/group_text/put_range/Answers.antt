@@ -1,5 +1,5 @@
 use Rattle.std.proofs.Common.{◌≡◌, ◌+◌, ◌-◌, ◌++◌, ◌∷◌, ℕ, arith, get_or, length, sym, ap, ◌∙◌}
-use Rattle.serial_set.specs.Rising.{runs_at}
+use Rattle.serial_set.proofs.Rising.{runs_at}
 use Rattle.ssh_wire.specs.Wire.{number, string}
 use Rattle.krl_plan.specs.Plan.{reach}
 use Rattle.krl_plan.specs.Written.{first_of}

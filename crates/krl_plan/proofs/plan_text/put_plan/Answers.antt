@@ -1,7 +1,8 @@
 use Rattle.std.proofs.Common.{◌≡◌, ◌+◌, ◌++◌, ℕ, List, ap, drop, get_or, refl, subst, sym, take, ◌∙◌}
 use Rattle.serial_set.specs.declared.span.Span.{Span}
 use Rattle.serial_set.specs.Span.{IsRuns}
-use Rattle.serial_set.specs.Walk.{left, since, since_same}
+use Rattle.serial_set.specs.Walk.{left, since}
+use Rattle.serial_set.proofs.Walking.{since_same}
 use Rattle.krl_plan.specs.declared.group.Sort.TheVariants.{Serials}
 use Rattle.krl_plan.specs.declared.group.Group.{Group}
 use Rattle.krl_plan.specs.Plan.{IsGroup}

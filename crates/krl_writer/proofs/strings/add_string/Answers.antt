@@ -1,6 +1,6 @@
 use Rattle.std.proofs.Common.{arith, length-append}
 use Rattle.ssh_wire.specs.Wire.{string}
-use Rattle.ssh_wire.specs.Fields.{length-string}
+use Rattle.ssh_wire.proofs.Fields.{length-string}
 use Rattle.krl_writer.proofs.strings.add_string.Goals as goal
 
 pub returns-then-text-gt-LIMIT : goal.returns-then-text-gt-LIMIT

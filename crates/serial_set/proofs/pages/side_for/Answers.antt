@@ -1,9 +1,9 @@
 use Rattle.std.proofs.Common.{◌≡◌, ◌+◌, ◌<◌, ◌≤◌, ◌-◌, get_or, drop, ap, sym, subst, arith}
 use Rattle.std.specs.List.{All}
 use Rattle.serial_set.specs.Entry.{hi_of}
-use Rattle.serial_set.specs.Entries.{stretch}
 use Rattle.serial_set.specs.Pages.{entries_in, entries_of}
 use Rattle.serial_set.specs.Places.{end_of}
+use Rattle.serial_set.specs.Lawful.{stretch}
 use Rattle.serial_set.proofs.InRow.{all_before, past_page}
 use Rattle.serial_set.proofs.pages.side_for.Goals as goal
 

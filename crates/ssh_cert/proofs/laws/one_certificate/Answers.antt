@@ -1,6 +1,6 @@
 use Rattle.ssh_cert.specs.CertReading.{certificate_at}
 use Rattle.ssh_cert.proofs.Certs.{certificate_again}
-use Rattle.ssh_wire.specs.Steps.{ok_is}
+use Rattle.ssh_wire.proofs.Steps.{ok_is}
 use Rattle.ssh_cert.proofs.laws.one_certificate.Goals as goal
 
 pub returns : goal.returns

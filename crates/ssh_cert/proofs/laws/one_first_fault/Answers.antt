@@ -1,6 +1,6 @@
 use Rattle.ssh_cert.specs.CertReading.{certificate_at}
 use Rattle.ssh_cert.proofs.Certs.{certificate_again, first_fault_read}
-use Rattle.ssh_wire.specs.Steps.{err_is, ok_or_err}
+use Rattle.ssh_wire.proofs.Steps.{err_is, ok_or_err}
 use Rattle.ssh_cert.proofs.laws.one_first_fault.Goals as goal
 
 pub returns-clause-one : goal.returns-clause-one

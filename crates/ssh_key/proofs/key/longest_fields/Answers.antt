@@ -1,7 +1,7 @@
 use Rattle.std.proofs.Common.{ap, length, arith}
 use Rattle.ssh_key.specs.Kind.{type_name}
 use Rattle.ssh_key.proofs.Keys.{length-type_name}
-use Rattle.ssh_wire.specs.Fields.{length-string}
+use Rattle.ssh_wire.proofs.Fields.{length-string}
 use Rattle.ssh_key.proofs.key.longest_fields.Goals as goal
 
 pub returns : goal.returns

@@ -1,6 +1,6 @@
 use Rattle.std.proofs.Common.{length, ap, arith, rules}
-use Rattle.ssh_key.specs.Trimmed.{length-trimmed}
 use Rattle.ssh_key.specs.KeyFile.{has_key}
+use Rattle.ssh_key.proofs.Trimmed.{length-trimmed}
 use Rattle.ssh_key.proofs.key_file.has_key.Goals as goal
 
 pub returns-in_default-clause-some : goal.returns-in_default-clause-some

@@ -2,7 +2,7 @@ use Rattle.std.proofs.Common.{refl}
 use Rattle.ssh_key.specs.KeyReading.{public_at}
 use Rattle.ssh_key.proofs.FirstFaults.{fields_fault_read}
 use Rattle.ssh_key.proofs.Keys.{public_again}
-use Rattle.ssh_wire.specs.Steps.{err_is, ok_or_err}
+use Rattle.ssh_wire.proofs.Steps.{err_is, ok_or_err}
 use Rattle.ssh_key.proofs.laws.one_fields_fault.Goals as goal
 
 pub returns-clause-one : goal.returns-clause-one

@@ -1,5 +1,5 @@
 use Rattle.ssh_key.specs.KeyReading.{key_at}
-use Rattle.ssh_wire.specs.Steps.{err_is, ok_or_err}
+use Rattle.ssh_wire.proofs.Steps.{err_is, ok_or_err}
 use Rattle.ssh_key.proofs.Keys.{key_again}
 use Rattle.ssh_key.proofs.FirstFaults.{first_fault_read}
 use Rattle.ssh_key.proofs.laws.one_first_fault.Goals as goal

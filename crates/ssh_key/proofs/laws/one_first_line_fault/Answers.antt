@@ -1,7 +1,7 @@
 use Rattle.ssh_key.specs.LineReading.{content, line_at}
 use Rattle.ssh_key.proofs.LineFaults.{first_line_fault_met}
 use Rattle.ssh_key.proofs.LineLaws.{line_again}
-use Rattle.ssh_wire.specs.Steps.{err_is, ok_or_err}
+use Rattle.ssh_wire.proofs.Steps.{err_is, ok_or_err}
 use Rattle.ssh_key.proofs.laws.one_first_line_fault.Goals as goal
 
 pub returns-clause-one : goal.returns-clause-one

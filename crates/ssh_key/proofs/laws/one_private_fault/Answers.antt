@@ -1,6 +1,6 @@
 use Rattle.ssh_key.specs.ContainerReading.{private_at}
 use Rattle.ssh_key.proofs.PrivateLaws.{private_again, private_met}
-use Rattle.ssh_wire.specs.Steps.{err_is, ok_or_err}
+use Rattle.ssh_wire.proofs.Steps.{err_is, ok_or_err}
 use Rattle.ssh_key.proofs.laws.one_private_fault.Goals as goal
 
 pub returns-clause-one : goal.returns-clause-one

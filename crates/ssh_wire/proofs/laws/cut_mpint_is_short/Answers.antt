@@ -1,5 +1,5 @@
 -- A front of its string is short.
-use Rattle.ssh_wire.specs.Cut.{mpint-cut}
+use Rattle.ssh_wire.proofs.Cut.{mpint-cut}
 use Rattle.ssh_wire.proofs.laws.cut_mpint_is_short.Goals as goal
 
 pub returns : goal.returns

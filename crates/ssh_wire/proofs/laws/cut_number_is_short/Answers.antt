@@ -1,5 +1,5 @@
 -- A front is shorter than the number.
-use Rattle.ssh_wire.specs.Cut.{number-cut}
+use Rattle.ssh_wire.proofs.Cut.{number-cut}
 use Rattle.ssh_wire.proofs.laws.cut_number_is_short.Goals as goal
 
 pub returns : goal.returns

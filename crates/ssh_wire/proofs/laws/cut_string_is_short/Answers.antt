@@ -1,5 +1,5 @@
 -- A front is cut within the length, or after it.
-use Rattle.ssh_wire.specs.Cut.{string-cut}
+use Rattle.ssh_wire.proofs.Cut.{string-cut}
 use Rattle.ssh_wire.proofs.laws.cut_string_is_short.Goals as goal
 
 pub returns : goal.returns

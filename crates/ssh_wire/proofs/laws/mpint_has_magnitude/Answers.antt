@@ -1,5 +1,5 @@
 -- The bytes without the zero byte that may lead them.
-use Rattle.ssh_wire.specs.Magnitudes.{mpint-has}
+use Rattle.ssh_wire.proofs.Magnitudes.{mpint-has}
 use Rattle.ssh_wire.proofs.laws.mpint_has_magnitude.Goals as goal
 
 pub returns : goal.returns

@@ -1,7 +1,7 @@
 -- What was taken is spelled so, and what is spelled so is read again.
 use Rattle.std.proofs.Common.{ap, ◌∙◌}
 use Rattle.ssh_wire.specs.Reading.{mpint_at}
-use Rattle.ssh_wire.specs.Fields.{mpint_takes, mpint_again}
+use Rattle.ssh_wire.proofs.Fields.{mpint_takes, mpint_again}
 use Rattle.ssh_wire.proofs.laws.mpint_is_read_back.Goals as goal
 
 pub returns : goal.returns

@@ -1,7 +1,7 @@
 -- A magnitude is determined by its number.
 use Rattle.std.proofs.Common.{List, ℕ, sym, subst}
 use Rattle.ssh_wire.specs.Wire.{IsMpint, number_of}
-use Rattle.ssh_wire.specs.Magnitudes.{mpint-is, mpint-only}
+use Rattle.ssh_wire.proofs.Magnitudes.{mpint-is, mpint-only}
 use Rattle.ssh_wire.proofs.laws.mpint_is_shortest.Goals as goal
 
 pub returns : goal.returns

@@ -1,7 +1,7 @@
 -- The first byte counts as often as the others have values.
 use Rattle.std.proofs.Common.{refl}
 use Rattle.ssh_wire.specs.Wire.{number_of}
-use Rattle.ssh_wire.specs.Magnitudes.{number_of-cons}
+use Rattle.ssh_wire.proofs.Magnitudes.{number_of-cons}
 use Rattle.ssh_wire.proofs.laws.number_by_bytes.Goals as goal
 
 pub returns : goal.returns

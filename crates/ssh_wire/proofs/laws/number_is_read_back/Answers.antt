@@ -1,7 +1,7 @@
 -- What was taken is spelled so, and what is spelled so is read again.
 use Rattle.std.proofs.Common.{ap, ◌∙◌}
 use Rattle.ssh_wire.specs.Reading.{number_at}
-use Rattle.ssh_wire.specs.Fields.{number_takes, number_again}
+use Rattle.ssh_wire.proofs.Fields.{number_takes, number_again}
 use Rattle.ssh_wire.proofs.laws.number_is_read_back.Goals as goal
 
 pub returns : goal.returns

@@ -1,7 +1,7 @@
 -- What was taken is spelled so, and what is spelled so is read again.
 use Rattle.std.proofs.Common.{ap, ◌∙◌}
 use Rattle.ssh_wire.specs.Reading.{string_at}
-use Rattle.ssh_wire.specs.Fields.{string_takes, string_again}
+use Rattle.ssh_wire.proofs.Fields.{string_takes, string_again}
 use Rattle.ssh_wire.proofs.laws.string_is_read_back.Goals as goal
 
 pub returns : goal.returns

@@ -1,8 +1,7 @@
 -- The byte ahead is the first of what is left.
 use Rattle.std.proofs.Common.{sym, subst, arith}
 use Rattle.std.specs.Io.KnownBytes.{Consumes}
-use Rattle.ssh_wire.specs.Pull.{Consumes-ahead}
-use Rattle.ssh_wire.proofs.Pulling.{take-set_first}
+use Rattle.ssh_wire.proofs.Pulling.{take-set_first, Consumes-ahead}
 use Rattle.ssh_wire.proofs.rest.read_on.Goals as goal
 
 pub returns-in-Some-clause-bytes : goal.returns-in-Some-clause-bytes

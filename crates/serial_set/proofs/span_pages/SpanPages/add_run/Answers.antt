@@ -1,7 +1,7 @@
 use Rattle.std.proofs.Common.{◌-◌, ◌≤◌, arith, refl}
 use Rattle.serial_set.specs.Few.{few_of}
-use Rattle.serial_set.specs.Entries.{runs_of_entries}
 use Rattle.serial_set.specs.SpanPages.{entries_held}
+use Rattle.serial_set.specs.Lawful.{runs_of_entries}
 use Rattle.serial_set.proofs.InSet.{adds_none, fills_runs, fills_serials, from_has}
 use Rattle.serial_set.proofs.InSides.{ends_fill_at, ends_keep_tight}
 use Rattle.serial_set.proofs.Refused.{on_ok}

@@ -1,7 +1,7 @@
 use Rattle.std.proofs.Common.{arith}
-use Rattle.serial_set.specs.Entries.{runs_of_entries}
 use Rattle.serial_set.specs.Entry.{runs_of}
 use Rattle.serial_set.specs.SpanPages.{entries_held}
+use Rattle.serial_set.specs.Lawful.{runs_of_entries}
 use Rattle.serial_set.proofs.InNear.{adds_none, adds_only, bits_some, covered_is_serial, some_covered}
 use Rattle.serial_set.proofs.Refused.{on_ok}
 use Rattle.serial_set.proofs.span_pages.SpanPages.add_spans.Goals as goal

@@ -1,9 +1,10 @@
 use Rattle.std.proofs.Common.{◌≡◌, ◌<◌, Some, length, drop, sym, ap, subst, ◌∙◌, arith, length-drop, length-take}
 use Rattle.serial_set.specs.Entry.{runs_of}
-use Rattle.serial_set.specs.Entries.{runs_of_entries}
 use Rattle.serial_set.specs.SpanPages.{entries_held}
-use Rattle.serial_set.specs.Walk.{left, piece_of, since, since_same, runs_few, steps, walk_on, walk_ends}
+use Rattle.serial_set.specs.Walk.{left, piece_of, since, steps}
+use Rattle.serial_set.specs.Lawful.{runs_of_entries}
 use Rattle.serial_set.proofs.InWalk.{serials_of}
+use Rattle.serial_set.proofs.Walking.{since_same, runs_few, walk_on, walk_ends}
 use Rattle.serial_set.proofs.span_pages.SpanPages.count_runs.Goals as goal
 
 pub loop-next-init : goal.loop-next-init

@@ -1,6 +1,6 @@
 use Rattle.std.proofs.Common.{arith}
-use Rattle.serial_set.specs.Entries.{in_stretch}
 use Rattle.serial_set.specs.SpanPages.{entries_held}
+use Rattle.serial_set.specs.Lawful.{in_stretch}
 use Rattle.serial_set.proofs.InWalk.{no_entry, first_in, none_in}
 use Rattle.serial_set.proofs.span_pages.SpanPages.first_or_next.Goals as goal
 

@@ -1,6 +1,6 @@
-use Rattle.serial_set.specs.Entries.{none_below}
 use Rattle.serial_set.specs.SpanPages.{entries_held}
 use Rattle.serial_set.proofs.InWords.{asked}
+use Rattle.serial_set.proofs.Ordered.{none_below}
 use Rattle.serial_set.proofs.span_pages.SpanPages.has_number.Goals as goal
 
 pub returns-in-Some : goal.returns-in-Some

@@ -3,9 +3,9 @@ use Rattle.std.proofs.Common.{inl, inr}
 use Rattle.std.proofs.lemmas.Nat.{le_or_l, or_lt}
 use Rattle.serial_set.specs.Entry.{runs_of}
 use Rattle.serial_set.specs.Few.{few_of}
-use Rattle.serial_set.specs.Entries.{runs_of_entries}
 use Rattle.serial_set.specs.SpanPages.{entries_held}
 use Rattle.serial_set.specs.Words.{BitCovers}
+use Rattle.serial_set.specs.Lawful.{runs_of_entries}
 use Rattle.serial_set.proofs.InSet.{Fills, adds_none, bits_both, bits_fill, fills_runs, fills_serials, fills_window, adds_window, from_has, tail_reaches}
 use Rattle.serial_set.proofs.InSides.{bits_keep_tight}
 use Rattle.serial_set.proofs.Refused.{on_ok}

@@ -1,8 +1,9 @@
 use Rattle.std.proofs.Common.{arith}
-use Rattle.serial_set.specs.Entries.{in_stretch, none_below}
 use Rattle.serial_set.specs.SpanPages.{entries_held}
+use Rattle.serial_set.specs.Lawful.{in_stretch}
 use Rattle.serial_set.proofs.InWords.{asked}
 use Rattle.serial_set.proofs.InWalk.{goes_in}
+use Rattle.serial_set.proofs.Ordered.{none_below}
 use Rattle.serial_set.proofs.span_pages.SpanPages.last_in_entry.Goals as goal
 
 pub last_from-requires : goal.last_from-requires

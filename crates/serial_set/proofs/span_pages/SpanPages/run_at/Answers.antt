@@ -3,10 +3,11 @@ use Rattle.std.proofs.lemmas.List.{drop-drop, get_or-take, get_or-drop}
 use Rattle.std.proofs.lemmas.Option.{slice_get-get_or}
 use Rattle.serial_set.specs.declared.span.Span.{Span}
 use Rattle.serial_set.specs.Entry.{runs_of}
-use Rattle.serial_set.specs.Entries.{runs_of_entries}
 use Rattle.serial_set.specs.SpanPages.{entries_held}
-use Rattle.serial_set.specs.Walk.{left, piece_of, since, since_same, steps, walk_on, walk_ends}
+use Rattle.serial_set.specs.Walk.{left, piece_of, since, steps}
+use Rattle.serial_set.specs.Lawful.{runs_of_entries}
 use Rattle.serial_set.proofs.InWalk.{serials_of}
+use Rattle.serial_set.proofs.Walking.{since_same, walk_on, walk_ends}
 use Rattle.serial_set.proofs.span_pages.SpanPages.run_at.Goals as goal
 
 pub loop-next-init : goal.loop-next-init

@@ -1,5 +1,5 @@
-use Rattle.serial_set.specs.Entries.{runs_of_entries}
 use Rattle.serial_set.specs.SpanPages.{entries_held}
+use Rattle.serial_set.specs.Lawful.{runs_of_entries}
 use Rattle.serial_set.proofs.span_pages.SpanPagesSpans.has.Goals as goal
 
 pub returns : goal.returns

@@ -1,5 +1,5 @@
 -- The magnitude's string is spelled at the front.
-use Rattle.ssh_wire.specs.Fields.{mpint_front}
+use Rattle.ssh_wire.proofs.Fields.{mpint_front}
 use Rattle.ssh_wire.proofs.cursor.Cursor.mpint.Goals as goal
 
 pub returns-else-is_err-clause-found : goal.returns-else-is_err-clause-found

@@ -1,8 +1,8 @@
 -- The string is spelled at the front, and what is left are bytes.
 use Rattle.std.proofs.Common.{sym, subst, ◌∙◌}
 use Rattle.ssh_wire.specs.Wire.{IsBytes}
-use Rattle.ssh_wire.specs.Digits.{IsBytes-after, IsBytes-drop}
-use Rattle.ssh_wire.specs.Fields.{string_front}
+use Rattle.ssh_wire.proofs.Digits.{IsBytes-after, IsBytes-drop}
+use Rattle.ssh_wire.proofs.Fields.{string_front}
 use Rattle.ssh_wire.proofs.cursor.Cursor.string.Goals as goal
 
 pub invariant_of-self : goal.invariant_of-self

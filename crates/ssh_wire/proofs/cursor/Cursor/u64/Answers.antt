@@ -1,7 +1,7 @@
 -- The number is spelled at the front, and what is left are bytes.
 use Rattle.std.proofs.Common.{sym, ◌∙◌}
-use Rattle.ssh_wire.specs.Digits.{IsBytes-after}
-use Rattle.ssh_wire.specs.Fields.{number_front}
+use Rattle.ssh_wire.proofs.Digits.{IsBytes-after}
+use Rattle.ssh_wire.proofs.Fields.{number_front}
 use Rattle.ssh_wire.proofs.cursor.Cursor.u64.Goals as goal
 
 pub invariant_of-self : goal.invariant_of-self

@@ -17,9 +17,9 @@ use Rattle.ssh_wire.specs.declared.fault.WireFault.TheVariants.{Short}
 use Rattle.ssh_wire.specs.Wire.{IsBytes, IsMagnitude, complement, mpint, number, string}
 use Rattle.ssh_wire.specs.Reading.{Lends, content_at, front_at, magnitude_at, magnitude_before}
 use Rattle.ssh_wire.specs.Reading.{magnitude_of, mpint_at, number_at, string_at}
-use Rattle.ssh_wire.specs.Digits.{IsBytes-append, IsBytes-back, IsBytes-big, IsBytes-drop}
-use Rattle.ssh_wire.specs.Digits.{IsBytes-front, big_bytes-number}
-use Rattle.ssh_wire.specs.Steps.{guard_ok, ok_is}
+use Rattle.ssh_wire.proofs.Digits.{IsBytes-append, IsBytes-back, IsBytes-big, IsBytes-drop}
+use Rattle.ssh_wire.proofs.Digits.{IsBytes-front, big_bytes-number}
+use Rattle.ssh_wire.proofs.Steps.{guard_ok, ok_is}
 
 -- The bytes are the text and then the rest.
 pub record HasFront (bytes text rest : List ℕ) : Type 0 where

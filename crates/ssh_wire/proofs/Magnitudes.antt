@@ -8,8 +8,8 @@ use Rattle.byteorder.specs.Numbers.{big_from-cons, big_from-lt}
 use Rattle.ssh_wire.specs.Wire.{IsBytes, IsMagnitude, IsMpint, IsShortest, complement, mpint}
 use Rattle.ssh_wire.specs.Wire.{number_of, string}
 use Rattle.ssh_wire.specs.Laws.{HasMpint}
-use Rattle.ssh_wire.specs.Digits.{IsBytes-tail, same_bytes}
-use Rattle.ssh_wire.specs.Fields.{IsBytes-in_string}
+use Rattle.ssh_wire.proofs.Digits.{IsBytes-tail, same_bytes}
+use Rattle.ssh_wire.proofs.Fields.{IsBytes-in_string}
 
 -- the number of a first byte and the bytes after it
 pub number_of-cons : (byte : ℕ) (bytes : List ℕ)

@@ -5,7 +5,7 @@ use Rattle.std.specs.Prelude.{◌↔◌}
 use Rattle.std.proofs.lemmas.Bool.{cases_lt}
 use Rattle.serial_set.specs.declared.span.Span.{Span}
 use Rattle.serial_set.specs.Span.{SpanCovers, Covers, RunsFrom, IsRuns}
-use Rattle.serial_set.specs.Rising.{names_append, names_left, names_right, names_from}
+use Rattle.serial_set.proofs.Rising.{names_append, names_left, names_right, names_from}
 
 -- ---- one list
 

@@ -10,7 +10,7 @@ use Rattle.ssh_wire.specs.Laws.{IsShortWhereCut}
 use Rattle.ssh_wire.specs.Wire.{complement, mpint, number, string}
 use Rattle.ssh_wire.specs.Reading.{content_at, front_at, magnitude_at, mpint_at, number_at}
 use Rattle.ssh_wire.specs.Reading.{string_at}
-use Rattle.ssh_wire.specs.Fields.{length-number, number_again}
+use Rattle.ssh_wire.proofs.Fields.{length-number, number_again}
 
 -- fewer than k bytes
 pub number-short : (k : ℕ) (front : List ℕ) → length front < k → number_at k front ≡ Err Short
