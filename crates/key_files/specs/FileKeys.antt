@@ -11,8 +11,8 @@ use Rattle.key_files.specs.declared.file_keys.Left.{Left}
 use Rattle.key_files.specs.declared.file_keys.Left.TheVariants as lefts
 use Rattle.key_files.specs.declared.file_keys.Lines.{Lines}
 use Rattle.key_files.specs.declared.cause.Cause.TheVariants.{File}
-use Rattle.key_files.specs.Keys.{FileKey, container_found, held_by, keys_from, line_found}
-use Rattle.key_files.specs.RunFault.{RunFault, stop_of}
+use Rattle.key_files.specs.Keys.{FileKey, key_of_container, held_by, keys_from, key_of_line}
+use Rattle.key_files.specs.RunFault.{RunFault, run_fault_of}
 
 -- what the line or the container of a key holds
 abbrev pub content_in : KeyText → Content
@@ -23,8 +23,8 @@ abbrev pub lines_keys : List ℕ → Lines → List (Result FileKey RunFault)
 lines_keys name lines = keys_from name (lines.passed + 1) (lines_left lines.rest)
 
 abbrev pub keys_left : List ℕ → Left → List (Result FileKey RunFault)
-keys_left name (lefts.Fault fault) = Err (stop_of name (File fault)) ∷ []
-keys_left name (lefts.Container text) = container_found name (private_at text.now) ∷ []
+keys_left name (lefts.Fault fault) = Err (run_fault_of name (File fault)) ∷ []
+keys_left name (lefts.Container text) = key_of_container name (private_at text.now) ∷ []
 keys_left name (lefts.Lines lines) = lines_keys name lines
 
 -- how many lines may be left, at most
@@ -42,4 +42,4 @@ abbrev pub IsNextLine : Lines → Lines → Option (Bor (List ℕ)) → Type 0
 IsNextLine old new None =
     (name : List ℕ) → (lines_keys name old ≡ []) × (lines_keys name new ≡ [])
 IsNextLine old new (Some line) = (name : List ℕ)
-    → lines_keys name old ≡ line_found name new.passed (line_at line.now) ∷ lines_keys name new
+    → lines_keys name old ≡ key_of_line name new.passed (line_at line.now) ∷ lines_keys name new

@@ -14,7 +14,7 @@ use Rattle.key_files.specs.declared.cause.Cause.{Cause}
 use Rattle.key_files.specs.declared.cause.Cause.TheVariants as causes
 use Rattle.key_files.specs.declared.file_fault.FileFault.{FileFault}
 use Rattle.ssh_key.specs.Lines.{is_newline}
-use Rattle.key_files.specs.RunFault.{RunFault, EndedBy, ByOutput, ByMemory, ByInput, ended_by, stop_of}
+use Rattle.key_files.specs.RunFault.{RunFault, EndedBy, ByOutput, ByMemory, ByInput, ended_by, run_fault_of}
 
 -- a file's name, and its bytes or why there are none
 pub record Named : Type 0 where
@@ -22,8 +22,8 @@ pub record Named : Type 0 where
   pub content : Result (List ℕ) FileFault
 
 -- a fault of a line
-abbrev pub stop_at : List ℕ → ℕ → Cause → RunFault
-stop_at name number cause = record { name = name; line = Some number; cause = cause }
+abbrev pub run_fault_at : List ℕ → ℕ → Cause → RunFault
+run_fault_at name number cause = record { name = name; line = Some number; cause = cause }
 
 -- A key that a file has: the file's name, the number of the line (a container has none), and what
 -- the line or the container holds.
@@ -32,26 +32,26 @@ pub record FileKey : Type 0 where
   pub number : Option ℕ
   pub line : Content
 
-abbrev pub found : List ℕ → Option ℕ → Content → FileKey
-found name number line = record { name = name; number = number; line = line }
+abbrev pub file_key_of : List ℕ → Option ℕ → Content → FileKey
+file_key_of name number line = record { name = name; number = number; line = line }
 
 -- what a container holds, as a line would: there is no type word
 abbrev pub held_by : Opened → Content
 held_by opened = content [] opened.blob opened.comment
 
 -- the key of a line that has one, or why the file stops there
-abbrev pub line_found : List ℕ → ℕ → Result Content LineFault → Result FileKey RunFault
-line_found name number (Err fault) = Err (stop_at name number (causes.Line fault))
-line_found name number (Ok line) = Ok (found name (Some number) line)
+abbrev pub key_of_line : List ℕ → ℕ → Result Content LineFault → Result FileKey RunFault
+key_of_line name number (Err fault) = Err (run_fault_at name number (causes.Line fault))
+key_of_line name number (Ok line) = Ok (file_key_of name (Some number) line)
 
-abbrev pub container_found : List ℕ → Result Opened PrivateFault → Result FileKey RunFault
-container_found name (Err fault) = Err (stop_of name (causes.Private fault))
-container_found name (Ok opened) = Ok (found name None (held_by opened))
+abbrev pub key_of_container : List ℕ → Result Opened PrivateFault → Result FileKey RunFault
+key_of_container name (Err fault) = Err (run_fault_of name (causes.Private fault))
+key_of_container name (Ok opened) = Ok (file_key_of name None (held_by opened))
 
 -- the key of a line by its number, where the line has one
 unfoldable pub key_in : List ℕ → ℕ → List ℕ → Option (Result FileKey RunFault)
 key_in name number line =
-    if has_key line then Some (line_found name number (line_at line)) else None
+    if has_key line then Some (key_of_line name number (line_at line)) else None
 
 -- the keys of lines, of which the first has this number
 abbrev pub keys_from : List ℕ → ℕ → List (List ℕ) → List (Result FileKey RunFault)
@@ -62,11 +62,11 @@ keys_from name number (line ∷ lines) =
 -- the keys of a file's text
 abbrev pub text_keys : List ℕ → List ℕ → List (Result FileKey RunFault)
 text_keys name text =
-    if begins_container text then container_found name (private_at text) ∷ []
+    if begins_container text then key_of_container name (private_at text) ∷ []
     else keys_from name 1 (slice_split is_newline text)
 
 abbrev pub content_keys : List ℕ → Result (List ℕ) FileFault → List (Result FileKey RunFault)
-content_keys name (Err fault) = Err (stop_of name (causes.File fault)) ∷ []
+content_keys name (Err fault) = Err (run_fault_of name (causes.File fault)) ∷ []
 content_keys name (Ok text) = text_keys name text
 
 -- The keys of a file in order. What is after a fault does not count.
@@ -74,14 +74,14 @@ unfoldable pub keys_of : Named → List (Result FileKey RunFault)
 keys_of file = content_keys file.name file.content
 
 -- the name of the file
-abbrev pub file_of : Result FileKey RunFault → List ℕ
-file_of (Ok found) = found.name
-file_of (Err stop) = stop.name
+abbrev pub file_name : Result FileKey RunFault → List ℕ
+file_name (Ok key) = key.name
+file_name (Err stop) = stop.name
 
 -- The next key was not given: a fault stops the file there, or memory ran out.
 abbrev pub IsRefused : EndedBy → Result FileKey RunFault → RunFault → Type 0
 IsRefused ByInput next stop = next ≡ Err stop
-IsRefused ByMemory next stop = stop ≡ stop_of (file_of next) causes.NoMemory
+IsRefused ByMemory next stop = stop ≡ run_fault_of (file_name next) causes.NoMemory
 IsRefused (ByOutput count) next stop = ⊥
 
 abbrev pub GivesKey : Result FileKey RunFault → Result FileKey RunFault → Type 0
@@ -96,6 +96,6 @@ GivesNext left (Some given) later =
     (next : Result FileKey RunFault) × ((left ≡ next ∷ later) × GivesKey next given)
 
 -- a fault of a key's blob
-abbrev pub stop_in : FileKey → SubjectFault → RunFault
-stop_in key fault =
+abbrev pub run_fault_in : FileKey → SubjectFault → RunFault
+run_fault_in key fault =
     record { name = key.name; line = key.number; cause = causes.Subject fault }

@@ -7,7 +7,7 @@ ghost use Rattle.ssh_cert.specs.declared.subject_fault.SubjectFault.{SubjectFaul
 ghost use Rattle.ssh_key.specs.ContainerReading.{private_at};
 ghost use Rattle.ssh_key.specs.LineReading.{line_at};
 ghost use Rattle.key_files.specs.FileKeys.{HasRoom, IsNextLine, keys_left, line_room};
-ghost use Rattle.key_files.specs.Keys.{GivesKey, GivesNext, container_found, keys_of, line_found, stop_in, text_keys};
+ghost use Rattle.key_files.specs.Keys.{GivesKey, GivesNext, key_of_container, keys_of, key_of_line, run_fault_in, text_keys};
 
 use crate::cause::Cause;
 use crate::file_fault::FileFault;
@@ -78,7 +78,8 @@ impl<'a> FileKey<'a> {
     pub fn read(&self) -> Result<AnyKey<'_>, RunFault<'a>>
         ensures found { IfOk result (λ any. IsReadAs self.now.line.blob any) }
         ensures fault { IfErr result (λ stop. (fault : FaultOf)
-            × ((subject_of self.now.line.blob ≡ Err fault) × (stop ≡ stop_in self.now fault))) }
+            × ((subject_of self.now.line.blob ≡ Err fault)
+            × (stop ≡ run_fault_in self.now fault))) }
     {
         match read_any(self.blob()) {
             Ok(any) => Ok(any),
@@ -218,7 +219,7 @@ fn key_of_container<'a>(
     name: &'a str,
     text: &[u8],
 ) -> Result<FileKey<'a>, RunFault<'a>>
-    ensures { GivesKey (container_found name.now (private_at text.now)) result }
+    ensures { GivesKey (key_of_container name.now (private_at text.now)) result }
 {
     match read_private(alloc, text) {
         Ok(private) => Ok(FileKey {
@@ -238,7 +239,7 @@ fn key_of_line<'a>(
     number: u64,
     text: &'a [u8],
 ) -> Result<FileKey<'a>, RunFault<'a>>
-    ensures { GivesKey (line_found name.now number (line_at text.now)) result }
+    ensures { GivesKey (key_of_line name.now number (line_at text.now)) result }
 {
     match read_line(alloc, text) {
         Ok(line) => Ok(FileKey {

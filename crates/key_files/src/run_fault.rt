@@ -1,8 +1,8 @@
 //! Where and why a run stopped, and the line that reports it.
 
 ghost use Rattle.std.specs.Prelude.{◌≡◌, ◌++◌, IfOk, OnOk};
-ghost use Rattle.key_files.specs.Keys.{stop_at};
-ghost use Rattle.key_files.specs.RunFault.{fault_text, line_part, stop_of};
+ghost use Rattle.key_files.specs.Keys.{run_fault_at};
+ghost use Rattle.key_files.specs.RunFault.{fault_text, line_part, run_fault_of};
 
 use crate::cause::Cause;
 use ssh_cert::push_escaped;
@@ -35,7 +35,7 @@ impl<'a> Model for RunFault<'a> {
 impl<'a> RunFault<'a> {
     /// Of a file as a whole, or of the output.
     pub fn whole(name: &'a str, cause: Cause) -> RunFault<'a>
-        ensures { result ≡ stop_of name.now cause }
+        ensures { result ≡ run_fault_of name.now cause }
     {
         RunFault {
             name,
@@ -46,7 +46,7 @@ impl<'a> RunFault<'a> {
 
     /// Of a line of a file.
     pub fn at_line(name: &'a str, number: u64, cause: Cause) -> RunFault<'a>
-        ensures { result ≡ stop_at name.now number cause }
+        ensures { result ≡ run_fault_at name.now number cause }
     {
         RunFault {
             name,

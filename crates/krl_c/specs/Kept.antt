@@ -17,7 +17,7 @@ pub record Holds (loaded : Bool) (contents : Revocations) (entries : List Entry)
 abbrev pub unloaded : Kept
 unloaded = record { loaded = false; list = nothing }
 
--- What reading a list into a place does: what is held is then what the list names. Where it is
+-- What reading a list into a handle does: what is held is then what the list names. Where it is
 -- refused, by its first fault or for want of memory, what was there stays.
 pub data Loads (list : List ℕ) (old new : Kept) (number : ℤ) : Type 0 where
   loaded : (entries : List Entry) → IsListOf list entries → Holds new.loaded new.list entries

@@ -49,7 +49,7 @@ pub extern "C" fn krl_check_line(alloc: Global, list: &[u8], line: &[u8]) -> i32
     ask_list_of_line(alloc, list, line)
 }
 
-/// Reads a list into a place, for many questions. Where it is refused, what was there stays.
+/// Reads a list into a handle, for many questions. Where it is refused, what was there stays.
 #[unsafe(no_mangle)]
 pub extern "C" fn krl_load(alloc: Global, krl: &mut Krl, list: &[u8]) -> i32
     ensures { Loads list.now krl.old.held krl.new.held result }
@@ -69,7 +69,7 @@ pub extern "C" fn krl_load(alloc: Global, krl: &mut Krl, list: &[u8]) -> i32
     }
 }
 
-/// Asks the list that was read into a place about the key or the certificate of a blob.
+/// Asks the list that was read into a handle about the key or the certificate of a blob.
 #[unsafe(no_mangle)]
 pub extern "C" fn krl_ask(alloc: Global, krl: &mut Krl, blob: &[u8]) -> i32
     ensures answer { (entries : List Entry) → Holds krl.old.held.loaded krl.old.held.list entries
@@ -97,7 +97,7 @@ pub extern "C" fn krl_ask_line(alloc: Global, krl: &mut Krl, line: &[u8]) -> i32
     answer
 }
 
-/// Gives back the memory of what is held in a place. The place stays ready for another list.
+/// Gives back the memory of what a handle holds. The handle stays ready for another list.
 #[unsafe(no_mangle)]
 pub extern "C" fn krl_unload(alloc: Global, krl: &mut Krl)
     ensures { krl.new.held ≡ unloaded }
@@ -105,7 +105,7 @@ pub extern "C" fn krl_unload(alloc: Global, krl: &mut Krl)
     let _old = swap(krl, empty(alloc));
 }
 
-/// How many bytes a place has.
+/// How many bytes a handle has.
 #[unsafe(no_mangle)]
 pub extern "C" fn krl_size() -> usize
     ensures { result ≡ capped (size (layout the_row)) }

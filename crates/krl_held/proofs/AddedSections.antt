@@ -11,7 +11,7 @@ use Rattle.krl_held.specs.Rising.{RisesBy, Rises}
 use Rattle.krl_held.specs.Changes.{TakesAddition, TakesSerials, TakesId, AddsTo, Puts, empty_section}
 use Rattle.krl_held.specs.Revocations.{Section, IsListed, size_of}
 use Rattle.krl_held.proofs.Ordered.{inserts_rise}
-use Rattle.krl_held.proofs.Shelving.{changes_rise}
+use Rattle.krl_held.proofs.HeldSections.{changes_rise}
 use Rattle.std.proofs.Math.Logic.Iff as Iff
 use Rattle.krl_held.proofs.BothWays.{contains_middle, iff_or, iff_swap}
 use Rattle.krl_held.proofs.Elements.{contains_none}

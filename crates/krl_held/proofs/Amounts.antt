@@ -9,7 +9,7 @@ use Rattle.krl_held.specs.declared.addition.Addition.TheVariants.{Serials, Id}
 use Rattle.krl_held.specs.Changes.{TakesAddition, AddsTo, empty_section}
 use Rattle.krl_held.specs.Revocations.{Section, SomeSection, section_size}
 use Rattle.krl_held.proofs.Members.{absent_parts}
-use Rattle.krl_held.proofs.Shelving.{takes_authority}
+use Rattle.krl_held.proofs.HeldSections.{takes_authority}
 use Rattle.krl_held.proofs.AddedSections.{put_size}
 use Rattle.krl_held.proofs.SomeSections.{some_middle, sum_middle}
 use Rattle.krl_held.proofs.Elements.{contains_here, contains_later}

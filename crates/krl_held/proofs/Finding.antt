@@ -4,7 +4,8 @@ use Rattle.std.specs.Prelude.{◌↔◌}
 use Rattle.std.specs.List.{Contains}
 use Rattle.std.proofs.Math.Logic.{⊎_elim, ⊎_map}
 use Rattle.serial_set.specs.Span.{Covers}
-use Rattle.krl_held.specs.Asked.{Stands, HoldsUnder}
+use Rattle.krl_held.specs.Query.{HoldsUnder}
+use Rattle.krl_held.specs.Inserting.{Stands}
 use Rattle.krl_held.specs.Revocations.{HoldsId, HoldsSerial, Section, SomeSection}
 use Rattle.krl_held.specs.Rising.{AllAbove, AllBelow}
 use Rattle.krl_held.proofs.Ordered.{less_apart}

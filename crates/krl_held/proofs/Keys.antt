@@ -3,7 +3,7 @@ use Rattle.std.proofs.Common.{◌≡◌, ℕ, ◌⊎◌, List, [], ◌∷◌, �
 use Rattle.std.specs.Prelude.{◌↔◌}
 use Rattle.std.specs.List.{All}
 use Rattle.krl_held.specs.Changes.{Puts}
-use Rattle.krl_held.specs.Revocations.{HoldsName, Section, contents_of, IsOrderly, Means}
+use Rattle.krl_held.specs.Revocations.{HoldsName, Section, revocations_of, IsOrderly, Means}
 use Rattle.krl_held.specs.Entry.{Entry, KeyEntry, Sha1Entry, Sha256Entry}
 use Rattle.krl_held.specs.Naming.{EntryNames, KeyOf, Name, Sha1Of, Sha256Of}
 use Rattle.krl_held.proofs.AddedSections.{all_middle, put_held, put_rises}
@@ -18,7 +18,7 @@ put_all P old text new put h a =
       | inr i ↦ subst (All P) (sym i.after) ((all_middle P i.front text i.back).1 (h, subst (All P) i.before a))
     ]
 
-pub key_orderly : (text : List ℕ) (sections : List Section) (old new sha1s sha256s : List (List ℕ)) → Puts old text new → IsOrderly (contents_of sections old sha1s sha256s) → IsOrderly (contents_of sections new sha1s sha256s)
+pub key_orderly : (text : List ℕ) (sections : List Section) (old new sha1s sha256s : List (List ℕ)) → Puts old text new → IsOrderly (revocations_of sections old sha1s sha256s) → IsOrderly (revocations_of sections new sha1s sha256s)
 key_orderly text sections old new sha1s sha256s put o =
     record {
       authorities_rise = o.authorities_rise;
@@ -30,15 +30,15 @@ key_orderly text sections old new sha1s sha256s put o =
       sha256_size = o.sha256_size;
     }
 
-pub key_mean : (text : List ℕ) (sections : List Section) (old new sha1s sha256s : List (List ℕ)) (entries : List Entry) → Puts old text new → Means (contents_of sections old sha1s sha256s) entries → Means (contents_of sections new sha1s sha256s) (entries ++ KeyEntry text ∷ [])
+pub key_mean : (text : List ℕ) (sections : List Section) (old new sha1s sha256s : List (List ℕ)) (entries : List Entry) → Puts old text new → Means (revocations_of sections old sha1s sha256s) entries → Means (revocations_of sections new sha1s sha256s) (entries ++ KeyEntry text ∷ [])
 key_mean text sections old new sha1s sha256s entries put m =
     means_more _ _ entries (KeyEntry text) (key_orderly text sections old new sha1s sha256s put m.orderly) gains m
   where
-    gains : (name : Name) → HoldsName (contents_of sections new sha1s sha256s) name ↔ (HoldsName (contents_of sections old sha1s sha256s) name ⊎ EntryNames (KeyEntry text) name)
+    gains : (name : Name) → HoldsName (revocations_of sections new sha1s sha256s) name ↔ (HoldsName (revocations_of sections old sha1s sha256s) name ⊎ EntryNames (KeyEntry text) name)
     gains (KeyOf t) = put_held old text new put t
     gains name = iff_none (λ no. no)
 
-pub sha1_orderly : (text : List ℕ) (sections : List Section) (keys old new sha256s : List (List ℕ)) → Puts old text new → length text ≡ 20 → IsOrderly (contents_of sections keys old sha256s) → IsOrderly (contents_of sections keys new sha256s)
+pub sha1_orderly : (text : List ℕ) (sections : List Section) (keys old new sha256s : List (List ℕ)) → Puts old text new → length text ≡ 20 → IsOrderly (revocations_of sections keys old sha256s) → IsOrderly (revocations_of sections keys new sha256s)
 sha1_orderly text sections keys old new sha256s put size o =
     record {
       authorities_rise = o.authorities_rise;
@@ -50,15 +50,15 @@ sha1_orderly text sections keys old new sha256s put size o =
       sha256_size = o.sha256_size;
     }
 
-pub sha1_mean : (text : List ℕ) (sections : List Section) (keys old new sha256s : List (List ℕ)) (entries : List Entry) → Puts old text new → length text ≡ 20 → Means (contents_of sections keys old sha256s) entries → Means (contents_of sections keys new sha256s) (entries ++ Sha1Entry text ∷ [])
+pub sha1_mean : (text : List ℕ) (sections : List Section) (keys old new sha256s : List (List ℕ)) (entries : List Entry) → Puts old text new → length text ≡ 20 → Means (revocations_of sections keys old sha256s) entries → Means (revocations_of sections keys new sha256s) (entries ++ Sha1Entry text ∷ [])
 sha1_mean text sections keys old new sha256s entries put size m =
     means_more _ _ entries (Sha1Entry text) (sha1_orderly text sections keys old new sha256s put size m.orderly) gains m
   where
-    gains : (name : Name) → HoldsName (contents_of sections keys new sha256s) name ↔ (HoldsName (contents_of sections keys old sha256s) name ⊎ EntryNames (Sha1Entry text) name)
+    gains : (name : Name) → HoldsName (revocations_of sections keys new sha256s) name ↔ (HoldsName (revocations_of sections keys old sha256s) name ⊎ EntryNames (Sha1Entry text) name)
     gains (Sha1Of t) = put_held old text new put t
     gains name = iff_none (λ no. no)
 
-pub sha256_orderly : (text : List ℕ) (sections : List Section) (keys sha1s old new : List (List ℕ)) → Puts old text new → length text ≡ 32 → IsOrderly (contents_of sections keys sha1s old) → IsOrderly (contents_of sections keys sha1s new)
+pub sha256_orderly : (text : List ℕ) (sections : List Section) (keys sha1s old new : List (List ℕ)) → Puts old text new → length text ≡ 32 → IsOrderly (revocations_of sections keys sha1s old) → IsOrderly (revocations_of sections keys sha1s new)
 sha256_orderly text sections keys sha1s old new put size o =
     record {
       authorities_rise = o.authorities_rise;
@@ -70,10 +70,10 @@ sha256_orderly text sections keys sha1s old new put size o =
       sha256_size = put_all (λ hash. length hash ≡ 32) old text new put size o.sha256_size;
     }
 
-pub sha256_mean : (text : List ℕ) (sections : List Section) (keys sha1s old new : List (List ℕ)) (entries : List Entry) → Puts old text new → length text ≡ 32 → Means (contents_of sections keys sha1s old) entries → Means (contents_of sections keys sha1s new) (entries ++ Sha256Entry text ∷ [])
+pub sha256_mean : (text : List ℕ) (sections : List Section) (keys sha1s old new : List (List ℕ)) (entries : List Entry) → Puts old text new → length text ≡ 32 → Means (revocations_of sections keys sha1s old) entries → Means (revocations_of sections keys sha1s new) (entries ++ Sha256Entry text ∷ [])
 sha256_mean text sections keys sha1s old new entries put size m =
     means_more _ _ entries (Sha256Entry text) (sha256_orderly text sections keys sha1s old new put size m.orderly) gains m
   where
-    gains : (name : Name) → HoldsName (contents_of sections keys sha1s new) name ↔ (HoldsName (contents_of sections keys sha1s old) name ⊎ EntryNames (Sha256Entry text) name)
+    gains : (name : Name) → HoldsName (revocations_of sections keys sha1s new) name ↔ (HoldsName (revocations_of sections keys sha1s old) name ⊎ EntryNames (Sha256Entry text) name)
     gains (Sha256Of t) = put_held old text new put t
     gains name = iff_none (λ no. no)

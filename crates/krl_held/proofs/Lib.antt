@@ -17,7 +17,7 @@ pub mod SameMeaning
 pub mod Scoped
 pub mod Questioned
 pub mod NamingTests
-pub mod Shelving
+pub mod HeldSections
 pub mod SomeSections
 pub mod Tested
 pub mod OneMeaning

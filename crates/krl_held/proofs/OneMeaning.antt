@@ -12,7 +12,7 @@ use Rattle.std.proofs.lemmas.List.Elements.{All-tail}
 use Rattle.serial_set.specs.declared.span.Span.{Span}
 use Rattle.serial_set.specs.Span.{Covers}
 use Rattle.serial_set.proofs.Least.{runs_unique}
-use Rattle.krl_held.specs.Revocations.{Revocations, HoldsName, IsListed, Means, Section, SomeSection, contents_of, section_with}
+use Rattle.krl_held.specs.Revocations.{Revocations, HoldsName, IsListed, Means, Section, SomeSection, revocations_of, section_with}
 use Rattle.krl_held.specs.Entry.{Entry}
 use Rattle.krl_held.specs.Naming.{IdOf, KeyOf, Name, SerialOf, Sha1Of, Sha256Of}
 use Rattle.std.proofs.Math.Logic.Iff as Iff
@@ -171,8 +171,8 @@ one_meaning r other entries m n =
     let keys = same_texts r.keys other.keys o.keys_rise p.keys_rise (λ t. held (KeyOf t)) in
     let sha1s = same_texts r.sha1s other.sha1s o.sha1s_rise p.sha1s_rise (λ t. held (Sha1Of t)) in
     let sha256s = same_texts r.sha256s other.sha256s o.sha256s_rise p.sha256s_rise (λ t. held (Sha256Of t)) in
-    ap (λ (z : List Section). contents_of z r.keys r.sha1s r.sha256s) sections ∙ ap (λ (z : List (List ℕ)). contents_of other.sections z r.sha1s r.sha256s) keys
-    ∙ ap (λ (z : List (List ℕ)). contents_of other.sections other.keys z r.sha256s) sha1s ∙ ap (λ (z : List (List ℕ)). contents_of other.sections other.keys other.sha1s z) sha256s
+    ap (λ (z : List Section). revocations_of z r.keys r.sha1s r.sha256s) sections ∙ ap (λ (z : List (List ℕ)). revocations_of other.sections z r.sha1s r.sha256s) keys
+    ∙ ap (λ (z : List (List ℕ)). revocations_of other.sections other.keys z r.sha256s) sha1s ∙ ap (λ (z : List (List ℕ)). revocations_of other.sections other.keys other.sha1s z) sha256s
   where
     held : (name : Name) → HoldsName r name ↔ HoldsName other name
     held name = Iff.trans (m.names name) (Iff.symm (n.names name))

@@ -12,7 +12,7 @@ use Rattle.sha2.specs.Sha256.{sha256}
 use Rattle.serial_set.specs.Span.{Covers, has}
 use Rattle.serial_set.proofs.Rising.{has_names}
 use Rattle.krl_types.specs.Subject.{Subject, CertNames}
-use Rattle.krl_held.specs.Asked.{HoldsKey, HoldsUnder, HoldsCert}
+use Rattle.krl_held.specs.Query.{HoldsKey, HoldsUnder, HoldsCert}
 use Rattle.krl_held.specs.Revocations.{Revocations, Section, Means}
 use Rattle.krl_held.specs.Entry.{Entry}
 use Rattle.krl_held.specs.Naming.{IdOf, KeyNamed, KeyOf, SerialOf, Sha1Of, Sha256Of, SomeNames}

@@ -1,17 +1,17 @@
 -- A few key IDs in order, or a set of more.
 use Rattle.std.specs.Prelude.{ℕ, ◌≤◌, List, length, take, drop, ⊤}
 use Rattle.std.specs.Global.{Vec}
-use Rattle.krl_held.specs.declared.ids.Kept.{Kept}
-use Rattle.krl_held.specs.declared.ids.Kept.TheVariants.{Few, Many}
+use Rattle.krl_held.specs.declared.ids.Representation.{Representation}
+use Rattle.krl_held.specs.declared.ids.Representation.TheVariants.{Few, Many}
 use Rattle.krl_held.specs.Rising.{AllBelow, AllAbove, RisesBy}
 use Rattle.krl_held.specs.Texts.{bytes_of, texts_of}
 
-abbrev pub ids_of : Kept → List (List ℕ)
+abbrev pub ids_of : Representation → List (List ℕ)
 ids_of (Few few) = texts_of few.items
 ids_of (Many set) = texts_of set.keys
 
 -- those that lie in one vector are in order
-abbrev pub FewRise : Kept → Type 0
+abbrev pub FewRise : Representation → Type 0
 FewRise (Few few) = RisesBy bytes_of few.items
 FewRise (Many set) = ⊤
 

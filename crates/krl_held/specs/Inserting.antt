@@ -1,4 +1,4 @@
--- What is put into a list.
+-- Where a value is in a list, and what is put into one.
 use Rattle.std.specs.Prelude.{◌≡◌, ℕ, List, ◌∷◌, ◌++◌}
 use Rattle.krl_held.specs.Rising.{AllBelow, AllAbove}
 
@@ -11,3 +11,11 @@ pub record Inserts {X : Type 0} (key : X → List ℕ) (old : List X) (value : X
   pub after : new ≡ front ++ value ∷ back
   pub below : AllBelow key (key value) front
   pub above : AllAbove key (key value) back
+
+-- the value is in the list between those whose bytes come before and after its own
+pub record Stands {X : Type 0} (key : X → List ℕ) (xs : List X) (x : X) : Type 0 where
+  pub front : List X
+  pub back : List X
+  pub parts : xs ≡ front ++ x ∷ back
+  pub below : AllBelow key (key x) front
+  pub above : AllAbove key (key x) back

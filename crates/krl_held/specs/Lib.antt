@@ -1,4 +1,4 @@
-pub mod Asked
+pub mod Query
 pub mod Authority
 pub mod Changes
 pub mod Revocations
@@ -11,7 +11,7 @@ pub mod Scope
 pub mod Questions
 pub mod NamingTests
 pub mod Rising
-pub mod Shelf
+pub mod HeldSection
 pub mod Texts
 pub mod Tested
 pub mod Canonical

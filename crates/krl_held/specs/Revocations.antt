@@ -23,13 +23,13 @@ pub record Revocations : Type 0 where
   pub sha1s : List (List ℕ)
   pub sha256s : List (List ℕ)
 
-abbrev pub contents_of : List Section → (keys sha1s sha256s : List (List ℕ)) → Revocations
-contents_of sections keys sha1s sha256s =
+abbrev pub revocations_of : List Section → (keys sha1s sha256s : List (List ℕ)) → Revocations
+revocations_of sections keys sha1s sha256s =
     record { sections = sections; keys = keys; sha1s = sha1s; sha256s = sha256s }
 
 -- nothing is held
 abbrev pub nothing : Revocations
-nothing = contents_of [] [] [] []
+nothing = revocations_of [] [] [] []
 
 -- ---- what is held under an authority
 

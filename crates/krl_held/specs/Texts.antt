@@ -1,8 +1,8 @@
 -- Byte strings that are held, and what a walk over them has left.
 use Rattle.std.specs.Prelude.{ℕ, List, map}
 use Rattle.std.specs.Global.{Vec}
-use Rattle.krl_held.specs.declared.texts.Left.{Left}
-use Rattle.krl_held.specs.declared.texts.Left.TheVariants.{Few, Many, Sha1s, Sha256s}
+use Rattle.krl_held.specs.declared.texts.Origin.{Origin}
+use Rattle.krl_held.specs.declared.texts.Origin.TheVariants.{Few, Many, Sha1s, Sha256s}
 
 abbrev pub bytes_of : Vec ℕ → List ℕ
 bytes_of text = text.items
@@ -10,7 +10,7 @@ bytes_of text = text.items
 abbrev pub texts_of : List (Vec ℕ) → List (List ℕ)
 texts_of texts = map bytes_of texts
 
-abbrev pub texts_left : Left → List (List ℕ)
+abbrev pub texts_left : Origin → List (List ℕ)
 texts_left (Few texts) = texts_of texts.now
 texts_left (Many walk) = texts_of walk
 texts_left (Sha1s walk) = walk

@@ -9,8 +9,8 @@ ghost use Rattle.krl_held.specs.Scope.{NoneHolds};
 ghost use Rattle.krl_held.specs.Questions.{IsFirst};
 
 use crate::field::u64_of;
+use crate::held_sections::HeldSections;
 use crate::revocations::Revocations;
-use crate::shelves::Shelves;
 use crate::texts::has_text;
 use serial_set::Spans;
 use sha1::Sha1;
@@ -52,14 +52,14 @@ impl<S: Spans> Revocations<S> {
     pub(crate) fn has_id(&self, authority: &[u8], id: &[u8]) -> bool
         ensures { IsTrue result ↔ HoldsId self.now.sections authority.now id.now }
     {
-        has_id(&self.shelves, authority, id)
+        has_id(&self.sections, authority, id)
     }
 
     // Whether a serial number is held under just this authority.
     pub(crate) fn has_serial(&self, authority: &[u8], serial: u64) -> bool
         ensures { IsTrue result ↔ HoldsSerial self.now.sections authority.now serial }
     {
-        has_serial(&self.shelves, authority, serial)
+        has_serial(&self.sections, authority, serial)
     }
 
     // Whether some serial number from `lo` to `hi` may be held under just this authority.
@@ -67,14 +67,14 @@ impl<S: Spans> Revocations<S> {
         ensures { result ≡ false → (s : ℕ) → lo ≤ s → s ≤ hi
             → HoldsSerial self.now.sections authority.now s → ⊥ }
     {
-        may_have(&self.shelves, authority, lo, hi)
+        may_have(&self.sections, authority, lo, hi)
     }
 
     // The first serial number from `lo` to `hi` that is held under just this authority.
     pub(crate) fn first_serial(&self, authority: &[u8], lo: u64, hi: u64) -> Option<u64>
         ensures { IsFirst (HoldsSerial self.now.sections authority.now) lo hi result }
     {
-        first_serial(&self.shelves, authority, lo, hi)
+        first_serial(&self.sections, authority, lo, hi)
     }
 
     // How many bytes at the front of some serial numbers, of eight bytes each, are of those that
@@ -84,7 +84,7 @@ impl<S: Spans> Revocations<S> {
         ensures whole { result % 8 ≡ 0 }
         ensures none { NoneHolds (HoldsSerial self.now.sections authority.now) serials.now result }
     {
-        unheld(&self.shelves, authority, serials)
+        unheld(&self.sections, authority, serials)
     }
 }
 
@@ -109,43 +109,48 @@ fn has_sha256(hashes: &BTreeSet<[u8; 32]>, bytes: &[u8]) -> bool
 }
 
 // Whether a key ID is held under just this authority.
-fn has_id<S: Spans>(shelves: &Shelves<S>, authority: &[u8], id: &[u8]) -> bool
-    ensures { IsTrue result ↔ HoldsId shelves.now authority.now id.now }
+fn has_id<S: Spans>(sections: &HeldSections<S>, authority: &[u8], id: &[u8]) -> bool
+    ensures { IsTrue result ↔ HoldsId sections.now authority.now id.now }
 {
-    match shelves.find(authority) {
+    match sections.find(authority) {
         None => false,
-        Some(shelf) => shelf.ids.has(id),
+        Some(section) => section.ids.has(id),
     }
 }
 
 // Whether a serial number is held under just this authority.
-fn has_serial<S: Spans>(shelves: &Shelves<S>, authority: &[u8], serial: u64) -> bool
-    ensures { IsTrue result ↔ HoldsSerial shelves.now authority.now serial }
+fn has_serial<S: Spans>(sections: &HeldSections<S>, authority: &[u8], serial: u64) -> bool
+    ensures { IsTrue result ↔ HoldsSerial sections.now authority.now serial }
 {
-    match shelves.find(authority) {
+    match sections.find(authority) {
         None => false,
-        Some(shelf) => shelf.spans.has(serial),
+        Some(section) => section.spans.has(serial),
     }
 }
 
 // Whether some serial number from `lo` to `hi` may be held under just this authority.
-fn may_have<S: Spans>(shelves: &Shelves<S>, authority: &[u8], lo: u64, hi: u64) -> bool
+fn may_have<S: Spans>(sections: &HeldSections<S>, authority: &[u8], lo: u64, hi: u64) -> bool
     ensures { result ≡ false → (s : ℕ) → lo ≤ s → s ≤ hi
-        → HoldsSerial shelves.now authority.now s → ⊥ }
+        → HoldsSerial sections.now authority.now s → ⊥ }
 {
-    match shelves.find(authority) {
+    match sections.find(authority) {
         None => false,
-        Some(shelf) => shelf.spans.meets(lo, hi),
+        Some(section) => section.spans.meets(lo, hi),
     }
 }
 
 // The first serial number from `lo` to `hi` that is held under just this authority.
-fn first_serial<S: Spans>(shelves: &Shelves<S>, authority: &[u8], lo: u64, hi: u64) -> Option<u64>
-    ensures { IsFirst (HoldsSerial shelves.now authority.now) lo hi result }
+fn first_serial<S: Spans>(
+    sections: &HeldSections<S>,
+    authority: &[u8],
+    lo: u64,
+    hi: u64,
+) -> Option<u64>
+    ensures { IsFirst (HoldsSerial sections.now authority.now) lo hi result }
 {
-    match shelves.find(authority) {
+    match sections.find(authority) {
         None => None,
-        Some(shelf) => first_from(&shelf.spans, lo, hi),
+        Some(section) => first_from(&section.spans, lo, hi),
     }
 }
 
@@ -167,14 +172,14 @@ fn first_from<S: Spans>(set: &S, lo: u64, hi: u64) -> Option<u64>
 
 // How many bytes at the front of some serial numbers are of those that are not held under just this
 // authority.
-fn unheld<S: Spans>(shelves: &Shelves<S>, authority: &[u8], serials: &[u8]) -> usize
+fn unheld<S: Spans>(sections: &HeldSections<S>, authority: &[u8], serials: &[u8]) -> usize
     ensures within { result ≤ length serials.now }
     ensures whole { result % 8 ≡ 0 }
-    ensures none { NoneHolds (HoldsSerial shelves.now authority.now) serials.now result }
+    ensures none { NoneHolds (HoldsSerial sections.now authority.now) serials.now result }
 {
-    match shelves.find(authority) {
+    match sections.find(authority) {
         None => serials.len() / 8 * 8,
-        Some(shelf) => count_others(&shelf.spans, serials),
+        Some(section) => count_others(&section.spans, serials),
     }
 }
 

@@ -2,9 +2,9 @@
 ghost use Rattle.std.specs.Prelude.{◌≡◌, ◌<◌, length, Some, slice_get, sum_by};
 ghost use Rattle.krl_held.specs.Revocations.{IsOrderly, held};
 
+use crate::held_sections::HeldSections;
 use crate::listed::{Authorities, Listed};
 use crate::revocations::Revocations;
-use crate::shelves::Shelves;
 use crate::texts::Texts;
 use serial_set::Spans;
 
@@ -14,7 +14,7 @@ impl<S: Spans> Revocations<S> {
         ensures count { result ≡ length self.now.sections }
         ensures orderly { IsOrderly self.now }
     {
-        self.shelves.len()
+        self.sections.len()
     }
 
     /// What is held under the authority at an index below `authorities()`: all authorities first,
@@ -23,21 +23,21 @@ impl<S: Spans> Revocations<S> {
         requires { index < length self.now.sections }
         ensures { slice_get self.now.sections index ≡ Some result }
     {
-        self.shelves.at(index)
+        self.sections.at(index)
     }
 
     /// A walk over the authorities, all authorities first and then by their bytes.
     pub fn walk_authorities(&self) -> Authorities<'_, S>
         ensures { result ≡ self.now.sections }
     {
-        self.shelves.walk()
+        self.sections.walk()
     }
 
     /// How many spans of serials are held, over all authorities. It goes over the authorities.
     pub fn held(&self) -> u128
         ensures { result ≡ held self.now }
     {
-        held_in(&self.shelves)
+        held_in(&self.sections)
     }
 
     /// How many keys there are.
@@ -111,11 +111,11 @@ impl<S: Spans> Revocations<S> {
 }
 
 // How many spans all authorities hold together.
-fn held_in<S: Spans>(shelves: &Shelves<S>) -> u128
-    ensures { result ≡ sum_by (λ section. length section.spans) shelves.now }
+fn held_in<S: Spans>(sections: &HeldSections<S>) -> u128
+    ensures { result ≡ sum_by (λ section. length section.spans) sections.now }
 {
-    let mut walk = shelves.walk();
-    let mut left = shelves.len();
+    let mut walk = sections.walk();
+    let mut left = sections.len();
     let mut total: u128 = 0;
     while left > 0 {
         let Some(listed) = walk.next() else {

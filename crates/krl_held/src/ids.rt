@@ -18,7 +18,7 @@ const FEW: usize = 2560;
 
 // A few key IDs in order, or a set of more.
 #[derive(Drop)]
-pub(crate) enum Kept {
+pub(crate) enum Representation {
     Few(Vec<Vec<u8>>),
     Many(BTreeSet<Vec<u8>>),
 }
@@ -27,7 +27,7 @@ pub(crate) enum Kept {
 /// IDs, in order.
 #[derive(Drop)]
 pub struct Ids {
-    kept: Kept,
+    representation: Representation,
 }
 
 impl Model for Ids {
@@ -36,9 +36,9 @@ impl Model for Ids {
 
     ghost Value = { List (List ℕ) };
 
-    ghost view = { λ ids. ids_of ids.kept };
+    ghost view = { λ ids. ids_of ids.representation };
 
-    ghost invariant = { λ ids. FewRise ids.kept };
+    ghost invariant = { λ ids. FewRise ids.representation };
 }
 
 impl Ids {
@@ -47,7 +47,7 @@ impl Ids {
         ensures { result ≡ [] }
     {
         Ids {
-            kept: Kept::Few(Vec::new(alloc)),
+            representation: Representation::Few(Vec::new(alloc)),
         }
     }
 
@@ -55,9 +55,9 @@ impl Ids {
     pub(crate) fn len(&self) -> usize
         ensures { result ≡ length self.now }
     {
-        match &self.kept {
-            Kept::Few(few) => few.len(),
-            Kept::Many(set) => set.len(),
+        match &self.representation {
+            Representation::Few(few) => few.len(),
+            Representation::Many(set) => set.len(),
         }
     }
 
@@ -65,9 +65,9 @@ impl Ids {
     pub(crate) fn has(&self, id: &[u8]) -> bool
         ensures { IsTrue result ↔ Contains self.now id.now }
     {
-        match &self.kept {
-            Kept::Few(few) => matches!(place_in(few.as_slice(), id), None),
-            Kept::Many(set) => has_text(set, id),
+        match &self.representation {
+            Representation::Few(few) => matches!(place_in(few.as_slice(), id), None),
+            Representation::Many(set) => has_text(set, id),
         }
     }
 
@@ -76,9 +76,9 @@ impl Ids {
         requires { index < length self.now }
         ensures { slice_get self.now index ≡ Some result.now }
     {
-        match &self.kept {
-            Kept::Few(few) => few[index].as_slice(),
-            Kept::Many(set) => Texts::many(set).at(index),
+        match &self.representation {
+            Representation::Few(few) => few[index].as_slice(),
+            Representation::Many(set) => Texts::many(set).at(index),
         }
     }
 
@@ -86,9 +86,9 @@ impl Ids {
     pub(crate) fn walk(&self) -> Texts<'_>
         ensures { result ≡ self.now }
     {
-        match &self.kept {
-            Kept::Few(few) => Texts::few(few.as_slice()),
-            Kept::Many(set) => Texts::many(set),
+        match &self.representation {
+            Representation::Few(few) => Texts::few(few.as_slice()),
+            Representation::Many(set) => Texts::many(set),
         }
     }
 
@@ -97,13 +97,13 @@ impl Ids {
         ensures ok { OnOk result (Puts self.old id.now self.new) }
         ensures refused { OnErr result (self.new ≡ self.old) }
     {
-        match &mut self.kept {
-            Kept::Many(set) => put_text(alloc, set, id),
-            Kept::Few(few) => {
+        match &mut self.representation {
+            Representation::Many(set) => put_text(alloc, set, id),
+            Representation::Few(few) => {
                 if few.len() < FEW {
                     return put_few(alloc, few, id);
                 }
-                self.kept = Kept::Many(spread(alloc, few.as_slice(), id)?);
+                self.representation = Representation::Many(spread(alloc, few.as_slice(), id)?);
                 Ok(())
             }
         }

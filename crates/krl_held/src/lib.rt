@@ -6,14 +6,14 @@ mod asking;
 mod field;
 mod findings;
 mod getters;
+mod held_section;
+mod held_sections;
 mod ids;
 pub mod laws;
 mod listed;
 mod query;
 mod questions;
 mod revocations;
-mod shelf;
-mod shelves;
 mod store;
 mod texts;
 

@@ -2,7 +2,7 @@
 ghost use Rattle.std.specs.Prelude.{◌≡◌, ◌<◌, length, Some, slice_get};
 ghost use Rattle.krl_held.specs.Authority.{authority_bytes, IsAuthority};
 
-use crate::shelf::Shelf;
+use crate::held_section::HeldSection;
 use crate::texts::Texts;
 use serial_set::Spans;
 use std::collections::BTreeMap;
@@ -13,26 +13,26 @@ use std::marker::Model;
 #[derive(Drop)]
 pub struct Listed<'a, S: Spans> {
     authority: &'a [u8],
-    shelf: &'a Shelf<S>,
+    section: &'a HeldSection<S>,
 }
 
 impl<'a, S: Spans> Model for Listed<'a, S> {
     ghost use Rattle.krl_held.specs.Revocations.{Section};
-    ghost use Rattle.krl_held.specs.Shelf.{section_of};
+    ghost use Rattle.krl_held.specs.HeldSection.{section_of};
 
     ghost Value = { Section };
 
-    ghost view = { λ listed. section_of S.spans (listed.authority.now, listed.shelf.now) };
+    ghost view = { λ listed. section_of S.spans (listed.authority.now, listed.section.now) };
 }
 
 impl<'a, S: Spans> Listed<'a, S> {
-    ghost use Rattle.krl_held.specs.Shelf.{section_of};
+    ghost use Rattle.krl_held.specs.HeldSection.{section_of};
 
     // What is held under an authority, lent.
-    pub(crate) fn new(authority: &'a [u8], shelf: &'a Shelf<S>) -> Listed<'a, S>
-        ensures { result ≡ section_of S.spans (authority.now, shelf.now) }
+    pub(crate) fn new(authority: &'a [u8], section: &'a HeldSection<S>) -> Listed<'a, S>
+        ensures { result ≡ section_of S.spans (authority.now, section.now) }
     {
-        Listed { authority, shelf }
+        Listed { authority, section }
     }
 
     /// The bytes of the authority, or none for all authorities.
@@ -57,14 +57,14 @@ impl<'a, S: Spans> Listed<'a, S> {
     pub fn spans(&self) -> &'a S
         ensures { S.spans result.now ≡ self.now.spans }
     {
-        &self.shelf.spans
+        &self.section.spans
     }
 
     /// How many key IDs there are.
     pub fn ids(&self) -> usize
         ensures { result ≡ length self.now.ids }
     {
-        self.shelf.ids.len()
+        self.section.ids.len()
     }
 
     /// The key ID at an index below `ids()`, in the order of their bytes. A loop over all of them
@@ -73,14 +73,14 @@ impl<'a, S: Spans> Listed<'a, S> {
         requires { index < length self.now.ids }
         ensures { slice_get self.now.ids index ≡ Some result.now }
     {
-        self.shelf.ids.at(index)
+        self.section.ids.at(index)
     }
 
     /// A walk over the key IDs, in the order of their bytes.
     pub fn walk_ids(&self) -> Texts<'a>
         ensures { result ≡ self.now.ids }
     {
-        self.shelf.ids.walk()
+        self.section.ids.walk()
     }
 }
 
@@ -88,28 +88,28 @@ impl<'a, S: Spans> Listed<'a, S> {
 /// Contracts see it as the list of the sections that are left.
 #[derive(Drop)]
 pub struct Authorities<'a, S: Spans> {
-    shelves: Iter<'a, Vec<u8>, Shelf<S>>,
+    sections: Iter<'a, Vec<u8>, HeldSection<S>>,
 }
 
 impl<'a, S: Spans> Model for Authorities<'a, S> {
     ghost use Rattle.std.specs.Prelude.{List};
     ghost use Rattle.krl_held.specs.Revocations.{Section};
-    ghost use Rattle.krl_held.specs.Shelf.{sections_of, shelves_of};
+    ghost use Rattle.krl_held.specs.HeldSection.{sections_of, named_sections};
 
     ghost Value = { List Section };
 
-    ghost view = { λ authorities. sections_of S.spans (shelves_of authorities.shelves) };
+    ghost view = { λ authorities. sections_of S.spans (named_sections authorities.sections) };
 }
 
 impl<'a, S: Spans> Authorities<'a, S> {
-    ghost use Rattle.krl_held.specs.Shelf.{sections_of, shelves_of};
+    ghost use Rattle.krl_held.specs.HeldSection.{sections_of, named_sections};
 
-    // A walk over the authorities whose shelves are in a map.
-    pub(crate) fn over(map: &'a BTreeMap<Vec<u8>, Shelf<S>>) -> Authorities<'a, S>
-        ensures { result ≡ sections_of S.spans (shelves_of map.now.entries) }
+    // A walk over the authorities whose sections are in a map.
+    pub(crate) fn over(map: &'a BTreeMap<Vec<u8>, HeldSection<S>>) -> Authorities<'a, S>
+        ensures { result ≡ sections_of S.spans (named_sections map.now.entries) }
     {
         Authorities {
-            shelves: map.iter(),
+            sections: map.iter(),
         }
     }
 }
@@ -124,7 +124,7 @@ impl<'a, S: Spans> Iterator for Authorities<'a, S> {
     ghost remaining = { item_count (λ authorities. authorities) };
 
     fn next(&mut self) -> Option<Listed<'a, S>> {
-        let (authority, shelf) = self.shelves.next()?;
-        Some(Listed::new(authority.as_slice(), shelf))
+        let (authority, section) = self.sections.next()?;
+        Some(Listed::new(authority.as_slice(), section))
     }
 }

@@ -1,13 +1,13 @@
 //! The question of whether a key or a certificate is revoked.
 ghost use Rattle.std.specs.Prelude.{◌≡◌, ◌↔◌, IsTrue, List};
-ghost use Rattle.krl_held.specs.Asked.{HoldsKey, HoldsUnder, HoldsCert};
+ghost use Rattle.krl_held.specs.Query.{HoldsKey, HoldsUnder, HoldsCert};
 ghost use Rattle.krl_held.specs.Revocations.{Means};
 ghost use Rattle.krl_held.specs.Entry.{Entry};
 ghost use Rattle.krl_held.specs.Revoked.{Revoked};
 ghost use Rattle.krl_held.specs.Tested.{revokes};
 
+use crate::held_sections::HeldSections;
 use crate::revocations::Revocations;
-use crate::shelves::Shelves;
 use krl_types::{CertNames, Subject};
 use serial_set::Spans;
 
@@ -36,10 +36,10 @@ impl<S: Spans> Revocations<S> {
         if self.has_key(cert.authority) {
             return true;
         }
-        if has_under(&self.shelves, &[], cert.key_id, cert.serial) {
+        if has_under(&self.sections, &[], cert.key_id, cert.serial) {
             return true;
         }
-        has_under(&self.shelves, cert.authority, cert.key_id, cert.serial)
+        has_under(&self.sections, cert.authority, cert.key_id, cert.serial)
     }
 
     // Whether a plain key is revoked by its blob or a hash of it.
@@ -57,15 +57,15 @@ impl<S: Spans> Revocations<S> {
 }
 
 // Whether a key ID or a serial number is held under just this authority.
-fn has_under<S: Spans>(shelves: &Shelves<S>, authority: &[u8], id: &[u8], serial: u64) -> bool
+fn has_under<S: Spans>(sections: &HeldSections<S>, authority: &[u8], id: &[u8], serial: u64) -> bool
     ensures { IsTrue result
-        ↔ HoldsUnder shelves.now authority.now id.now serial }
+        ↔ HoldsUnder sections.now authority.now id.now serial }
 {
-    let Some(shelf) = shelves.find(authority) else {
+    let Some(section) = sections.find(authority) else {
         return false;
     };
-    if shelf.ids.has(id) {
+    if section.ids.has(id) {
         return true;
     }
-    shelf.spans.has(serial)
+    section.spans.has(serial)
 }

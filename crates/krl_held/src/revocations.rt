@@ -8,7 +8,7 @@ ghost use Rattle.krl_held.specs.Revocations.{IsNamed, IsOrderly, Means, nothing,
 ghost use Rattle.krl_held.specs.Entry.{RangeEntry, IdEntry, KeyEntry, Sha1Entry, Sha256Entry};
 
 use crate::addition::Addition;
-use crate::shelves::Shelves;
+use crate::held_sections::HeldSections;
 use crate::texts::put_text;
 use serial_set::{Span, Spans};
 use std::alloc::{AllocError, Global};
@@ -21,22 +21,23 @@ use std::marker::Model;
 #[derive(Drop)]
 pub struct Revocations<S: Spans> {
     alloc: Global,
-    pub(crate) shelves: Shelves<S>,
+    pub(crate) sections: HeldSections<S>,
     pub(crate) keys: BTreeSet<Vec<u8>>,
     pub(crate) sha1s: BTreeSet<[u8; 20]>,
     pub(crate) sha256s: BTreeSet<[u8; 32]>,
 }
 
 impl<S: Spans> Model for Revocations<S> {
-    ghost use Rattle.krl_held.specs.Revocations.{Revocations, contents_of, IsOrderly};
+    ghost use Rattle.krl_held.specs.Revocations.{Revocations, revocations_of, IsOrderly};
     ghost use Rattle.krl_held.specs.Texts.{texts_of};
 
     ghost Value = { Revocations };
 
-    ghost view = { λ r. contents_of r.shelves (texts_of r.keys.keys) r.sha1s.keys r.sha256s.keys };
+    ghost view = { λ r.
+        revocations_of r.sections (texts_of r.keys.keys) r.sha1s.keys r.sha256s.keys };
 
     ghost invariant = { λ r. IsOrderly
-        (contents_of r.shelves (texts_of r.keys.keys) r.sha1s.keys r.sha256s.keys) };
+        (revocations_of r.sections (texts_of r.keys.keys) r.sha1s.keys r.sha256s.keys) };
 }
 
 impl<S: Spans> Revocations<S> {
@@ -47,7 +48,7 @@ impl<S: Spans> Revocations<S> {
     {
         Revocations {
             alloc,
-            shelves: Shelves::new(alloc),
+            sections: HeldSections::new(alloc),
             keys: BTreeSet::new(alloc),
             sha1s: BTreeSet::new(alloc),
             sha256s: BTreeSet::new(alloc),
@@ -108,7 +109,7 @@ impl<S: Spans> Revocations<S> {
     {
         let bytes = bytes_or_none(authority);
         let addition = Addition::Serials(near);
-        self.shelves.add(bytes, addition)?;
+        self.sections.add(bytes, addition)?;
         Ok(())
     }
 
@@ -131,7 +132,7 @@ impl<S: Spans> Revocations<S> {
     {
         let bytes = bytes_or_none(authority);
         let addition = Addition::Id(id);
-        self.shelves.add(bytes, addition)?;
+        self.sections.add(bytes, addition)?;
         Ok(())
     }
 

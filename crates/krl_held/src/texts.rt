@@ -31,7 +31,7 @@ pub(crate) fn put_text(
 
 // Where the byte strings come from.
 #[derive(Drop)]
-pub(crate) enum Left<'a> {
+pub(crate) enum Origin<'a> {
     Few(&'a [Vec<u8>]),
     Many(Iter<'a, Vec<u8>>),
     Sha1s(Iter<'a, [u8; 20]>),
@@ -41,7 +41,7 @@ pub(crate) enum Left<'a> {
 /// Byte strings, in order: an iterator. Contracts see it as the list of those that are left.
 #[derive(Drop)]
 pub struct Texts<'a> {
-    left: Left<'a>,
+    origin: Origin<'a>,
 }
 
 impl<'a> Model for Texts<'a> {
@@ -50,7 +50,7 @@ impl<'a> Model for Texts<'a> {
 
     ghost Value = { List (List ℕ) };
 
-    ghost view = { λ texts. texts_left texts.left };
+    ghost view = { λ texts. texts_left texts.origin };
 }
 
 impl<'a> Texts<'a> {
@@ -59,7 +59,7 @@ impl<'a> Texts<'a> {
         ensures { result ≡ texts_of texts.now }
     {
         Texts {
-            left: Left::Few(texts),
+            origin: Origin::Few(texts),
         }
     }
 
@@ -68,7 +68,7 @@ impl<'a> Texts<'a> {
         ensures { result ≡ texts_of texts.now.keys }
     {
         Texts {
-            left: Left::Many(texts.iter()),
+            origin: Origin::Many(texts.iter()),
         }
     }
 
@@ -77,7 +77,7 @@ impl<'a> Texts<'a> {
         ensures { result ≡ hashes.now.keys }
     {
         Texts {
-            left: Left::Sha1s(hashes.iter()),
+            origin: Origin::Sha1s(hashes.iter()),
         }
     }
 
@@ -86,7 +86,7 @@ impl<'a> Texts<'a> {
         ensures { result ≡ hashes.now.keys }
     {
         Texts {
-            left: Left::Sha256s(hashes.iter()),
+            origin: Origin::Sha256s(hashes.iter()),
         }
     }
 
@@ -116,21 +116,21 @@ impl<'a> Iterator for Texts<'a> {
     ghost remaining = { item_count (λ texts. texts) };
 
     fn next(&mut self) -> Option<&'a [u8]> {
-        match &mut self.left {
-            Left::Few(texts) => {
+        match &mut self.origin {
+            Origin::Few(texts) => {
                 let (first, rest) = texts.split_first()?;
                 *texts = rest;
                 Some(first.as_slice())
             }
-            Left::Many(walk) => {
+            Origin::Many(walk) => {
                 let text = walk.next()?;
                 Some(text.as_slice())
             }
-            Left::Sha1s(walk) => {
+            Origin::Sha1s(walk) => {
                 let hash = walk.next()?;
                 Some(hash.as_slice())
             }
-            Left::Sha256s(walk) => {
+            Origin::Sha256s(walk) => {
                 let hash = walk.next()?;
                 Some(hash.as_slice())
             }

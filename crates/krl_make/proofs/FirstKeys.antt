@@ -27,13 +27,13 @@ use Rattle.krl_spec.specs.Keys.{IsKeyCause, IsKeyFault, IsSubjectLine, subject_i
 use Rattle.key_files.specs.declared.spec_cause.KeyCause.{KeyCause}
 use Rattle.key_files.specs.declared.spec_cause.KeyCause.TheVariants as keys
 use Rattle.key_files.specs.declared.spec_cause.SpecCause.{SpecCause}
-use Rattle.key_files.specs.declared.spec_cause.SpecCause.TheVariants as causes
-use Rattle.key_files.specs.Keys.{container_found, key_in, keys_from, line_found}
-use Rattle.key_files.specs.RunFault.{RunFault, stop_of}
+use Rattle.key_files.specs.declared.spec_cause.SpecCause.TheVariants as specs
+use Rattle.key_files.specs.Keys.{key_of_container, key_in, keys_from, key_of_line}
+use Rattle.key_files.specs.RunFault.{RunFault, run_fault_of}
 use Rattle.key_files.specs.declared.file_fault.FileFault.TheVariants as files
-use Rattle.key_files.specs.declared.cause.Cause.TheVariants as stops
-use Rattle.krl_make.specs.FirstKey.{HaveNoKey, IsFirstKey, IsFirstKeyFault, IsFirstKeyLine, in_container, in_line, key_stop, of_container, of_line, without_key}
-use Rattle.krl_make.specs.Making.{file_stop, first_found, first_key_of, plain_found}
+use Rattle.key_files.specs.declared.cause.Cause.TheVariants as causes
+use Rattle.krl_make.specs.FirstKey.{HaveNoKey, IsFirstKey, IsFirstKeyFault, IsFirstKeyLine, in_container, in_line, key_run_fault, of_container, of_line, without_key}
+use Rattle.krl_make.specs.Making.{file_run_fault, first_blob, first_key_of, key_blob}
 
 -- the laws of key lines and of containers
 pub record KeyLaws : Type 0 where
@@ -52,12 +52,12 @@ pub record KeyLaws : Type 0 where
 -- ---- the key of a line
 
 abbrev line_key : List ℕ → ℕ → List ℕ → Result (List ℕ) RunFault
-line_key name number line = line_found name number (line_at line) >>= plain_found
+line_key name number line = key_of_line name number (line_at line) >>= key_blob
 
 -- what is read of a line, here and of a line of a specification file
 data ReadLine (name : List ℕ) (number : ℕ) (line : List ℕ) : Type 0 where
   asks : (asked : Subject) → subject_in line ≡ Ok asked → line_key name number line ≡ Ok asked.plain → ReadLine name number line
-  asks_nothing : (fault : KeyCause) → subject_in line ≡ Err (causes.Key fault) → line_key name number line ≡ Err (key_stop name number fault) → ReadLine name number line
+  asks_nothing : (fault : KeyCause) → subject_in line ≡ Err (specs.Key fault) → line_key name number line ≡ Err (key_run_fault name number fault) → ReadLine name number line
 
 read_line : (name : List ℕ) (number : ℕ) (line : List ℕ) → ReadLine name number line
 unfolding subject_in
@@ -74,24 +74,24 @@ line_key_again laws name number line asked fits is =
     let given = (laws.keys line asked fits).1 is in
     elim (read_line name number line) [
       | asks other read key ↦ key ∙ ap (λ (s : Subject). Ok s.plain) (ok_is other asked (subject_in line) read given)
-      | asks_nothing fault read stop ↦ absurd (ok_or_err asked (causes.Key fault) (subject_in line) given read)
+      | asks_nothing fault read stop ↦ absurd (ok_or_err asked (specs.Key fault) (subject_in line) given read)
     ]
 
-line_fault_met : KeyLaws → (name : List ℕ) (number : ℕ) (line : List ℕ) (fault : KeyCause) → IsBytes line → IsKeyFault line fault → line_key name number line ≡ Err (key_stop name number fault)
+line_fault_met : KeyLaws → (name : List ℕ) (number : ℕ) (line : List ℕ) (fault : KeyCause) → IsBytes line → IsKeyFault line fault → line_key name number line ≡ Err (key_run_fault name number fault)
 line_fault_met laws name number line fault fits first =
-    let given = (laws.no_keys line (causes.Key fault) fits).1 (fault, first, refl) in
+    let given = (laws.no_keys line (specs.Key fault) fits).1 (fault, first, refl) in
     elim (read_line name number line) [
-      | asks asked read key ↦ absurd (ok_or_err asked (causes.Key fault) (subject_in line) read given)
+      | asks asked read key ↦ absurd (ok_or_err asked (specs.Key fault) (subject_in line) read given)
       | asks_nothing other read stop ↦
-          let causes_same = err_is (causes.Key other) (causes.Key fault) (subject_in line) read given in
+          let causes_same = err_is (specs.Key other) (specs.Key fault) (subject_in line) read given in
           let same : other ≡ fault = cc in
-          stop ∙ ap (λ (f : KeyCause). Err (key_stop name number f)) same
+          stop ∙ ap (λ (f : KeyCause). Err (key_run_fault name number f)) same
     ]
 
 -- ---- the key of a container
 
 abbrev inside_key : List ℕ → List ℕ → Result (List ℕ) RunFault
-inside_key name text = container_found name (private_at text) >>= plain_found
+inside_key name text = key_of_container name (private_at text) >>= key_blob
 
 -- the type name of a plain key is short, and none of a certificate
 plain_name : (kind : Kind) → (length (type_name kind) < 2 ^ 32) × (is_some (kind_certified (type_name kind)) ≡ false)
@@ -118,7 +118,7 @@ plain_asked laws blob key is =
 inside_again : KeyLaws → (name text blob comment : List ℕ) → IsBytes text → IsContainer text blob comment → inside_key name text ≡ Ok blob
 inside_again laws name text blob comment fits is = rw ((laws.opened text blob comment fits).1 is, plain_asked laws blob is.key is.is_key) refl
 
-inside_fault_met : KeyLaws → (name text : List ℕ) (fault : PrivateFault) → IsBytes text → IsPrivateFault text fault → inside_key name text ≡ Err (stop_of name (stops.Private fault))
+inside_fault_met : KeyLaws → (name text : List ℕ) (fault : PrivateFault) → IsBytes text → IsPrivateFault text fault → inside_key name text ≡ Err (run_fault_of name (causes.Private fault))
 inside_fault_met laws name text fault fits is = rw ((laws.not_opened text fault fits).1 is) refl
 
 -- ---- the first line with a key
@@ -151,9 +151,9 @@ none_or_first (line ∷ lines) = elim (cases_Bool (has_key line)) [
 
 -- the first of the keys of lines
 abbrev first_key_from : List ℕ → ℕ → List (List ℕ) → Result (List ℕ) RunFault
-first_key_from name number lines = first_found name (keys_from name number lines)
+first_key_from name number lines = first_blob name (keys_from name number lines)
 
-no_key_from : (name : List ℕ) (number : ℕ) (lines : List (List ℕ)) → HaveNoKey lines → first_key_from name number lines ≡ Err (file_stop name files.NoKeys)
+no_key_from : (name : List ℕ) (number : ℕ) (lines : List (List ℕ)) → HaveNoKey lines → first_key_from name number lines ≡ Err (file_run_fault name files.NoKeys)
 unfolding key_in
 no_key_from name number [] none = refl
 no_key_from name number (line ∷ lines) none =
@@ -205,7 +205,7 @@ read_inside laws name text fits begins = elim (ok_or_not (private_at text)) [
       gives read.0.blob (of_container read.0.comment begins is) (by_container name text begins ∙ inside_again laws name text read.0.blob read.0.comment fits is)
   | inr shut ↦
       let is = (laws.not_opened text shut.0 fits).0 shut.1 in
-      stops_at (stop_of name (stops.Private shut.0)) (in_container shut.0 begins is refl) (by_container name text begins ∙ inside_fault_met laws name text shut.0 fits is)
+      stops_at (run_fault_of name (causes.Private shut.0)) (in_container shut.0 begins is refl) (by_container name text begins ∙ inside_fault_met laws name text shut.0 fits is)
 ]
 
 read_first_line : KeyLaws → (name text : List ℕ) (number : ℕ) (line : List ℕ) → IsBytes text → begins_container text ≡ false → IsFirstKeyLine text number line → ReadKey name text
@@ -215,16 +215,16 @@ read_first_line laws name text number line fits plain first =
     elim (read_line name number line) [
       | asks asked read key ↦ gives asked.plain (of_line number line asked plain first ((laws.keys line asked bytes).0 read) refl) (same ∙ key)
       | asks_nothing fault read stop ↦
-          let why = (laws.no_keys line (causes.Key fault) bytes).0 read in
+          let why = (laws.no_keys line (specs.Key fault) bytes).0 read in
           let is : why.0 ≡ fault = let h = why.2 in cc in
-          stops_at (key_stop name number fault) (in_line number line fault plain first (subst (IsKeyFault line) is why.1) refl) (same ∙ stop)
+          stops_at (key_run_fault name number fault) (in_line number line fault plain first (subst (IsKeyFault line) is why.1) refl) (same ∙ stop)
     ]
 
 read_key : KeyLaws → (name text : List ℕ) → IsBytes text → ReadKey name text
 read_key laws name text fits = elim (cases_Bool (begins_container text)) [
   | inl begins ↦ read_inside laws name text fits begins
   | inr plain ↦ elim (none_or_first (slice_split is_newline text)) [
-    | inl none ↦ stops_at (file_stop name files.NoKeys) (without_key plain none refl) (by_lines name text plain ∙ no_key_from name 1 (slice_split is_newline text) none)
+    | inl none ↦ stops_at (file_run_fault name files.NoKeys) (without_key plain none refl) (by_lines name text plain ∙ no_key_from name 1 (slice_split is_newline text) none)
     | inr first ↦ read_first_line laws name text (1 + length first.before) first.line fits plain (numbered text first)
   ]
 ]

@@ -27,12 +27,12 @@ use Rattle.krl_core.specs.Reading.{IsList}
 use Rattle.krl_core.specs.declared.header.Header.{Header}
 use Rattle.krl_types.specs.declared.krl_fault.KrlFault.{KrlFault}
 use Rattle.krl_make.specs.declared.base.Base.{Base}
-use Rattle.krl_make.specs.Making.{Added, HasNumbers, IsAtHand, IsFileAtHand, authority_file, lines, new_list, old_list, IsOldList, IsStop, Made, Makes, NamesSame, Returns, WritesList, WritesMade, WritesMore, after_old, base_of, cause_stop, file_entries, file_key, file_stop, files_entries, first_found, first_key_of, header_of, made_of, make_run_of, named_blob, plain_found, text_entries, then_entries, version_of}
+use Rattle.krl_make.specs.Making.{Added, HasNumbers, IsAtHand, IsFileAtHand, authority_file, lines, new_list, old_list, IsOldList, IsRunFault, Made, Makes, NamesSame, Returns, WritesList, WritesMade, WritesMore, after_old, base_of, cause_run_fault, file_entries, file_key, file_run_fault, files_entries, first_blob, first_key_of, header_of, made_of, make_run_of, named_blob, key_blob, text_entries, then_entries, version_of}
 use Rattle.key_files.specs.RunFault.{krl_cause}
 use Rattle.krl_job.specs.declared.job.Authority.{Authority}
 use Rattle.krl_job.specs.declared.job.Authority.TheVariants.{File as FileOf}
 use Rattle.krl_types.specs.declared.krl_fault.KrlFault.TheVariants as faults
-use Rattle.key_files.specs.Keys.{Named, FileKey, GivesKey, IsRefused, container_found, content_keys, file_of, key_in, keys_from, keys_of, line_found}
+use Rattle.key_files.specs.Keys.{Named, FileKey, GivesKey, IsRefused, key_of_container, content_keys, file_name, key_in, keys_from, keys_of, key_of_line}
 use Rattle.key_files.specs.declared.file_fault.FileFault.{FileFault}
 use Rattle.key_files.specs.declared.file_fault.FileFault.TheVariants as files
 use Rattle.krl_held.specs.Changes.{MeansMore}
@@ -40,7 +40,7 @@ use Rattle.krl_spec.proofs.KeyRoom.{key_room}
 use Rattle.krl_spec.specs.Lines.{ReadsSpec, StopsAt, lines_of}
 use Rattle.key_files.specs.declared.spec_cause.SpecCause.{SpecCause}
 use Rattle.key_files.specs.declared.spec_cause.SpecCause.TheVariants as specs
-use Rattle.key_files.specs.RunFault.{RunFault, EndedBy, ByInput, ByMemory, ByOutput, ended_by, stop_of}
+use Rattle.key_files.specs.RunFault.{RunFault, EndedBy, ByInput, ByMemory, ByOutput, ended_by, run_fault_of}
 
 -- ---- the old list
 
@@ -61,31 +61,31 @@ pub plain_has_bytes : (blob : List ℕ) (any : AnyKey) → Spells blob any → 0
 plain_has_bytes blob (Plain key) is = omega (arith, key_room blob key is, ap length is.spelled)
 plain_has_bytes blob (Certified certificate) is = omega (arith, key_room (blob_of certificate.key) certificate.key is.key)
 
-content_first : (name : List ℕ) (content : Result (List ℕ) FileFault) → (in_fault (file_stop name) content >>= first_key_of name) ≡ first_found name (content_keys name content)
+content_first : (name : List ℕ) (content : Result (List ℕ) FileFault) → (in_fault (file_run_fault name) content >>= first_key_of name) ≡ first_blob name (content_keys name content)
 unfolding first_key_of
 content_first name (Ok text) = refl
 content_first name (Err fault) = refl
 
 -- the first key of a file is the first of its keys
-file_first : (file : Named) (keys : List (Result FileKey RunFault)) → keys_of file ≡ keys → file_key file ≡ first_found file.name keys
+file_first : (file : Named) (keys : List (Result FileKey RunFault)) → keys_of file ≡ keys → file_key file ≡ first_blob file.name keys
 unfolding keys_of
-file_first file keys is = content_first file.name file.content ∙ ap (first_found file.name) is
+file_first file keys is = content_first file.name file.content ∙ ap (first_blob file.name) is
 
-pub no_key_first : (file : Named) → keys_of file ≡ [] → file_key file ≡ Err (file_stop file.name files.NoKeys)
+pub no_key_first : (file : Named) → keys_of file ≡ [] → file_key file ≡ Err (file_run_fault file.name files.NoKeys)
 no_key_first file none = file_first file [] none
 
-line_named : (name : List ℕ) (number : ℕ) (line : Result Content LineFault) → file_of (line_found name number line) ≡ name
+line_named : (name : List ℕ) (number : ℕ) (line : Result Content LineFault) → file_name (key_of_line name number line) ≡ name
 line_named name number (Ok line) = refl
 line_named name number (Err fault) = refl
 
-container_named : (name : List ℕ) (read : Result Opened PrivateFault) → file_of (container_found name read) ≡ name
+container_named : (name : List ℕ) (read : Result Opened PrivateFault) → file_name (key_of_container name read) ≡ name
 container_named name (Ok opened) = refl
 container_named name (Err fault) = refl
 
 -- the first of keys is one of the file of this name
 abbrev FirstNamed : List ℕ → List (Result FileKey RunFault) → Type 0
 FirstNamed name [] = Unit {0}
-FirstNamed name (next ∷ later) = file_of next ≡ name
+FirstNamed name (next ∷ later) = file_name next ≡ name
 
 lines_named : (name : List ℕ) (number : ℕ) (texts : List (List ℕ)) → FirstNamed name (keys_from name number texts)
 unfolding key_in
@@ -103,25 +103,25 @@ content_named name (Ok text) = elim (cases_Bool (begins_container text)) [
 ]
 
 -- the first key of a file is about the file
-first_named : (file : Named) (next : Result FileKey RunFault) (later : List (Result FileKey RunFault)) → keys_of file ≡ next ∷ later → file_of next ≡ file.name
+first_named : (file : Named) (next : Result FileKey RunFault) (later : List (Result FileKey RunFault)) → keys_of file ≡ next ∷ later → file_name next ≡ file.name
 unfolding keys_of
 first_named file next later is = subst (FirstNamed file.name) is (content_named file.name file.content)
 
 -- The first key was given, and its plain key is what is made of it.
 pub first_given : {X : Type 0} (view : X → List ℕ) (file : Named) (key : FileKey) (later : List (Result FileKey RunFault)) (result : Result X RunFault) → keys_of file ≡ Ok key ∷ later
-    → Returns view (λ at. key.name ≡ at) (plain_found key) result → Returns view (λ at. file.name ≡ at) (file_key file) result
+    → Returns view (λ at. key.name ≡ at) (key_blob key) result → Returns view (λ at. file.name ≡ at) (file_key file) result
 first_given view file key later result is returned =
     rw (file_first file (Ok key ∷ later) is, ← first_named file (Ok key) later is) returned
 
 -- or the file stopped the run, or memory ran out
 pub first_refused : (file : Named) (next : Result FileKey RunFault) (later : List (Result FileKey RunFault)) (stop : RunFault) → keys_of file ≡ next ∷ later → GivesKey next (Err stop)
-    → IsStop (ended_by stop.cause) (λ at. file.name ≡ at) (file_key file) stop
+    → IsRunFault (ended_by stop.cause) (λ at. file.name ≡ at) (file_key file) stop
 first_refused file next later stop is refused = rw (file_first file (next ∷ later) is, ← first_named file next later is) (key_stops (ended_by stop.cause) file.name next later stop refused)
   where
     key_stops : (ended : EndedBy) (name : List ℕ) (next : Result FileKey RunFault) (later : List (Result FileKey RunFault)) (stop : RunFault) → IsRefused ended next stop
-        → IsStop ended (λ at. file_of next ≡ at) (first_found name (next ∷ later)) stop
+        → IsRunFault ended (λ at. file_name next ≡ at) (first_blob name (next ∷ later)) stop
     key_stops ByInput name next later stop given = rw given refl
-    key_stops ByMemory name next later stop given = (file_of next, (refl, given))
+    key_stops ByMemory name next later stop given = (file_name next, (refl, given))
     key_stops (ByOutput count) name next later stop given = absurd given
 
 -- ---- the files
@@ -135,7 +135,7 @@ text_added authority name text old new reads =
 -- Where the lines of a text stop, the run stops.
 pub text_stops : (authority : Option (List ℕ)) (name text : List ℕ) (number : ℕ) (cause : SpecCause) (old new : Revocations)
     → StopsAt authority text number cause old new
-    → IsStop (ended_by (cause_stop name number cause).cause) (λ at. name ≡ at) (text_entries authority name text) (cause_stop name number cause)
+    → IsRunFault (ended_by (cause_run_fault name number cause).cause) (λ at. name ≡ at) (text_entries authority name text) (cause_run_fault name number cause)
 text_stops authority name text number specs.NoMemory old new stops = (name, (refl, refl))
 text_stops authority name text number cause old new (reported, adds) = rw reported refl
 
@@ -185,12 +185,12 @@ file_added authority files i file old mid new lt item (front, (read, adds)) (nam
 -- ---- what stopped the run
 
 -- A stop of a part is one of the whole, where what the part has at hand the whole has.
-pub stop_of_part : {X Y : Type 0} (ended : EndedBy) (Part Whole : List ℕ → Type 0) (read : Result X RunFault) (whole : Result Y RunFault) (stop : RunFault)
+pub run_fault_of_part : {X Y : Type 0} (ended : EndedBy) (Part Whole : List ℕ → Type 0) (read : Result X RunFault) (whole : Result Y RunFault) (stop : RunFault)
     → ((at : List ℕ) → Part at → Whole at)
-    → (read ≡ Err stop → whole ≡ Err stop) → IsStop ended Part read stop → IsStop ended Whole whole stop
-stop_of_part ByInput Part Whole read whole stop more same is = same is
-stop_of_part ByMemory Part Whole read whole stop more same (at, (has, is)) = (at, (more at has, is))
-stop_of_part (ByOutput count) Part Whole read whole stop more same is = absurd is
+    → (read ≡ Err stop → whole ≡ Err stop) → IsRunFault ended Part read stop → IsRunFault ended Whole whole stop
+run_fault_of_part ByInput Part Whole read whole stop more same is = same is
+run_fault_of_part ByMemory Part Whole read whole stop more same (at, (has, is)) = (at, (more at has, is))
+run_fault_of_part (ByOutput count) Part Whole read whole stop more same is = absurd is
 
 stopped_at : (authority : Option (List ℕ)) (files : List Named) (i : ℕ) (file : Named) (front : List Entry) (stop : RunFault) → i < length files → file ≡ get_or files i file
     → files_entries authority (take i files) ≡ Ok front → file_entries authority file ≡ Err stop → files_entries authority files ≡ Err stop
@@ -213,10 +213,10 @@ file_at_hand authority files i file front at lt item read named = record {
 pub file_stops : (authority : Option (List ℕ)) (files : List Named) (i : ℕ) (file : Named) (stop : RunFault) (old mid : Revocations)
     → i < length files → file ≡ get_or files i file
     → Added (files_entries authority (take i files)) old mid
-    → IsStop (ended_by stop.cause) (λ at. file.name ≡ at) (file_entries authority file) stop
-    → IsStop (ended_by stop.cause) (IsFileAtHand authority files) (files_entries authority files) stop
+    → IsRunFault (ended_by stop.cause) (λ at. file.name ≡ at) (file_entries authority file) stop
+    → IsRunFault (ended_by stop.cause) (IsFileAtHand authority files) (files_entries authority files) stop
 file_stops authority files i file stop old mid lt item (front, (read, adds)) is =
-    stop_of_part (ended_by stop.cause) (λ at. file.name ≡ at) (IsFileAtHand authority files) (file_entries authority file) (files_entries authority files) stop
+    run_fault_of_part (ended_by stop.cause) (λ at. file.name ≡ at) (IsFileAtHand authority files) (file_entries authority file) (files_entries authority files) stop
     (λ at named. file_at_hand authority files i file front at lt item read named)
     (λ same. stopped_at authority files i file front stop lt item read same)
     is
@@ -255,7 +255,7 @@ AtHand name base authority given files read = IsAtHand name (Ok base) authority 
 
 -- The fault of the old list stops the run.
 pub base_refused : (name : List ℕ) (authority : Authority Named) (version : Option ℕ) (files : List Named) (moment : ℕ) (fault : KrlFault)
-    → IsStop (ended_by (krl_cause fault)) (IsAtHand name (Err fault) authority version files (make_run_of name (Err fault) authority version files moment)) (make_run_of name (Err fault) authority version files moment) (stop_of name (krl_cause fault))
+    → IsRunFault (ended_by (krl_cause fault)) (IsAtHand name (Err fault) authority version files (make_run_of name (Err fault) authority version files moment)) (make_run_of name (Err fault) authority version files moment) (run_fault_of name (krl_cause fault))
 unfolding make_run_of
 base_refused name authority version files moment faults.NoMemory = (name, (old_list refl refl, refl))
 base_refused name authority version files moment fault = refl
@@ -263,11 +263,11 @@ base_refused name authority version files moment fault = refl
 -- The fault of the authority's file stops the run.
 pub key_stops : (name : List ℕ) (given : Option ℕ) (authority : Authority Named) (file : Named) (moment : ℕ) (base : Base) (files : List Named) (version : ℕ) (stop : RunFault)
     → version_of given base.version ≡ Some version → authority ≡ FileOf file
-    → IsStop (ended_by stop.cause) (λ at. file.name ≡ at) (file_key file) stop
-    → IsStop (ended_by stop.cause) (AtHand name base authority given files (after_old name authority given moment files base)) (after_old name authority given moment files base) stop
+    → IsRunFault (ended_by stop.cause) (λ at. file.name ≡ at) (file_key file) stop
+    → IsRunFault (ended_by stop.cause) (AtHand name base authority given files (after_old name authority given moment files base)) (after_old name authority given moment files base) stop
 key_stops name given authority file moment base files version stop is names stops =
     let read = after_old name (FileOf file) given moment files base in
-    rw names (stop_of_part (ended_by stop.cause) (λ at. file.name ≡ at) (AtHand name base (FileOf file) given files read) (file_key file) read stop
+    rw names (run_fault_of_part (ended_by stop.cause) (λ at. file.name ≡ at) (AtHand name base (FileOf file) given files read) (file_key file) read stop
     (λ at has. authority_file base version refl is has)
     (λ same. rw (is, same) refl)
     stops)
@@ -279,11 +279,11 @@ named_by authority file blob names read = rw (names, read) refl
 -- The fault of a file or of a line stops the run.
 files_stop : (name : List ℕ) (given : Option ℕ) (authority : Authority Named) (moment : ℕ) (base : Base) (files : List Named) (version : ℕ) (signer : Option (List ℕ)) (stop : RunFault)
     → version_of given base.version ≡ Some version → named_blob authority ≡ Ok signer
-    → IsStop (ended_by stop.cause) (IsFileAtHand signer files) (files_entries signer files) stop
-    → IsStop (ended_by stop.cause) (AtHand name base authority given files (after_old name authority given moment files base)) (after_old name authority given moment files base) stop
+    → IsRunFault (ended_by stop.cause) (IsFileAtHand signer files) (files_entries signer files) stop
+    → IsRunFault (ended_by stop.cause) (AtHand name base authority given files (after_old name authority given moment files base)) (after_old name authority given moment files base) stop
 files_stop name given authority moment base files version signer stop is signed stops =
     let read = after_old name authority given moment files base in
-    stop_of_part (ended_by stop.cause) (IsFileAtHand signer files) (AtHand name base authority given files read) (files_entries signer files) read stop
+    run_fault_of_part (ended_by stop.cause) (IsFileAtHand signer files) (AtHand name base authority given files read) (files_entries signer files) read stop
     (λ at has. lines base version signer refl is signed has)
     (λ same. rw (is, signed, same) refl)
     stops

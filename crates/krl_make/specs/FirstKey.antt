@@ -10,8 +10,8 @@ use Rattle.ssh_key.specs.declared.private_fault.PrivateFault.{PrivateFault}
 use Rattle.krl_spec.specs.Keys.{IsKeyFault, IsSubjectLine}
 use Rattle.key_files.specs.declared.spec_cause.KeyCause.{KeyCause}
 use Rattle.key_files.specs.declared.spec_cause.KeyCause.TheVariants as keys
-use Rattle.key_files.specs.Keys.{stop_at}
-use Rattle.key_files.specs.RunFault.{RunFault, stop_of}
+use Rattle.key_files.specs.Keys.{run_fault_at}
+use Rattle.key_files.specs.RunFault.{RunFault, run_fault_of}
 use Rattle.key_files.specs.declared.file_fault.FileFault.TheVariants as files
 use Rattle.key_files.specs.declared.cause.Cause.TheVariants as causes
 
@@ -37,17 +37,17 @@ pub data IsFirstKey (text blob : List ℕ) : Type 0 where
       → IsFirstKey text blob
 
 -- the stop of a run by a line that gives no key
-abbrev pub key_stop : List ℕ → ℕ → KeyCause → RunFault
-key_stop name number (keys.Line fault) = stop_at name number (causes.Line fault)
-key_stop name number (keys.Subject fault) = stop_at name number (causes.Subject fault)
+abbrev pub key_run_fault : List ℕ → ℕ → KeyCause → RunFault
+key_run_fault name number (keys.Line fault) = run_fault_at name number (causes.Line fault)
+key_run_fault name number (keys.Subject fault) = run_fault_at name number (causes.Subject fault)
 
 -- Why a file of this name has no first key: the fault of a container, which has no line, no line
 -- with a key, or the fault of the first line that has one.
 pub data IsFirstKeyFault (name text : List ℕ) (stop : RunFault) : Type 0 where
   in_container : (fault : PrivateFault) → begins_container text ≡ true → IsPrivateFault text fault
-      → stop ≡ stop_of name (causes.Private fault) → IsFirstKeyFault name text stop
+      → stop ≡ run_fault_of name (causes.Private fault) → IsFirstKeyFault name text stop
   without_key : begins_container text ≡ false → HaveNoKey (slice_split is_newline text)
-      → stop ≡ stop_of name (causes.File files.NoKeys) → IsFirstKeyFault name text stop
+      → stop ≡ run_fault_of name (causes.File files.NoKeys) → IsFirstKeyFault name text stop
   in_line : (number : ℕ) (line : List ℕ) (fault : KeyCause) → begins_container text ≡ false
       → IsFirstKeyLine text number line → IsKeyFault line fault
-      → stop ≡ key_stop name number fault → IsFirstKeyFault name text stop
+      → stop ≡ key_run_fault name number fault → IsFirstKeyFault name text stop

@@ -28,49 +28,49 @@ use Rattle.key_files.specs.declared.spec_cause.SpecCause.{SpecCause}
 use Rattle.key_files.specs.declared.spec_cause.SpecCause.TheVariants as specs
 use Rattle.key_files.specs.declared.spec_fault.SpecFault.{SpecFault}
 use Rattle.key_files.specs.RunFault.{krl_cause}
-use Rattle.key_files.specs.Keys.{Named, FileKey, stop_at, stop_in, text_keys}
+use Rattle.key_files.specs.Keys.{Named, FileKey, run_fault_at, run_fault_in, text_keys}
 use Rattle.krl_spec.specs.Lines.{lines_of}
-use Rattle.key_files.specs.RunFault.{RunFault, EndedBy, ByInput, ByMemory, ByOutput, ended_by, stop_of}
+use Rattle.key_files.specs.RunFault.{RunFault, EndedBy, ByInput, ByMemory, ByOutput, ended_by, run_fault_of}
 
--- ---- faults, as stops of the run
+-- ---- faults of the run
 
-abbrev pub list_stop : List ℕ → KrlFault → RunFault
-list_stop name fault = stop_of name (krl_cause fault)
+abbrev pub list_run_fault : List ℕ → KrlFault → RunFault
+list_run_fault name fault = run_fault_of name (krl_cause fault)
 
-abbrev pub file_stop : List ℕ → FileFault → RunFault
-file_stop name fault = stop_of name (causes.File fault)
+abbrev pub file_run_fault : List ℕ → FileFault → RunFault
+file_run_fault name fault = run_fault_of name (causes.File fault)
 
 -- a fault of a line; memory runs out for the run itself, and at no line
-abbrev pub cause_stop : List ℕ → ℕ → SpecCause → RunFault
-cause_stop name number specs.NoMemory = stop_of name causes.NoMemory
-cause_stop name number cause = stop_at name number (causes.Spec cause)
+abbrev pub cause_run_fault : List ℕ → ℕ → SpecCause → RunFault
+cause_run_fault name number specs.NoMemory = run_fault_of name causes.NoMemory
+cause_run_fault name number cause = run_fault_at name number (causes.Spec cause)
 
-abbrev pub line_stop : List ℕ → SpecFault → RunFault
-line_stop name fault = stop_at name fault.line (causes.Spec fault.cause)
+abbrev pub line_run_fault : List ℕ → SpecFault → RunFault
+line_run_fault name fault = run_fault_at name fault.line (causes.Spec fault.cause)
 
 -- ---- the authority
 
 -- the blob of the plain key of a key of a file
-abbrev pub plain_found : FileKey → Result (List ℕ) RunFault
-plain_found key = do
-  asked ← in_fault (stop_in key) (subject_of key.line.blob)
+abbrev pub key_blob : FileKey → Result (List ℕ) RunFault
+key_blob key = do
+  asked ← in_fault (run_fault_in key) (subject_of key.line.blob)
   Ok asked.plain
 
 -- the first of the keys of a file of this name
-abbrev pub first_found : List ℕ → List (Result FileKey RunFault) → Result (List ℕ) RunFault
-first_found name [] = Err (file_stop name files.NoKeys)
-first_found name (next ∷ later) = do
+abbrev pub first_blob : List ℕ → List (Result FileKey RunFault) → Result (List ℕ) RunFault
+first_blob name [] = Err (file_run_fault name files.NoKeys)
+first_blob name (next ∷ later) = do
   key ← next
-  plain_found key
+  key_blob key
 
 -- the first key of a file's text
 unfoldable pub first_key_of : List ℕ → List ℕ → Result (List ℕ) RunFault
-first_key_of name text = first_found name (text_keys name text)
+first_key_of name text = first_blob name (text_keys name text)
 
 -- the first key of a file
 abbrev pub file_key : Named → Result (List ℕ) RunFault
 file_key file = do
-  text ← in_fault (file_stop file.name) file.content
+  text ← in_fault (file_run_fault file.name) file.content
   first_key_of file.name text
 
 -- Where one is given, all authorities have no bytes, and a file names the authority by its first
@@ -86,7 +86,7 @@ named_blob (FileOf file) = do
 
 abbrev pub unless_fault : List ℕ → List Entry → Option SpecFault → Result (List Entry) RunFault
 unless_fault name entries None = Ok entries
-unless_fault name entries (Some fault) = Err (line_stop name fault)
+unless_fault name entries (Some fault) = Err (line_run_fault name fault)
 
 abbrev pub text_entries : Option (List ℕ) → List ℕ → List ℕ → Result (List Entry) RunFault
 text_entries authority name text =
@@ -95,7 +95,7 @@ text_entries authority name text =
 -- what the lines of a file name, or where it stops the run
 unfoldable pub file_entries : Option (List ℕ) → Named → Result (List Entry) RunFault
 file_entries authority file = do
-  text ← in_fault (file_stop file.name) file.content
+  text ← in_fault (file_run_fault file.name) file.content
   text_entries authority file.name text
 
 abbrev pub then_entries : Result (List Entry) RunFault → Result (List Entry) RunFault
@@ -105,7 +105,7 @@ then_entries first second = do
   later ← second
   Ok (entries ++ later)
 
--- what the lines of all files name, or the first stop
+-- what the lines of all files name, or the first fault
 abbrev pub files_entries : Option (List ℕ) → List Named → Result (List Entry) RunFault
 files_entries authority [] = Ok []
 files_entries authority (file ∷ files) =
@@ -143,7 +143,7 @@ HasNumbers header = (header.version < 2 ^ 64) × (header.date < 2 ^ 64)
 abbrev pub after_old : List ℕ → Authority Named → Option ℕ → ℕ → List Named → Base
     → Result Made RunFault
 after_old name authority given moment files base = do
-  version ← ok_or (version_of given base.version) (stop_of name causes.VersionFull)
+  version ← ok_or (version_of given base.version) (run_fault_of name causes.VersionFull)
   signer ← named_blob authority
   entries ← files_entries signer files
   Ok (made_of (header_of version moment base) base.revocations entries)
@@ -152,7 +152,7 @@ after_old name authority given moment files base = do
 unfoldable pub make_run_of : List ℕ → Result Base KrlFault → Authority Named → Option ℕ
     → List Named → ℕ → Result Made RunFault
 make_run_of name reading authority version files moment = do
-  base ← in_fault (list_stop name) reading
+  base ← in_fault (list_run_fault name) reading
   after_old name authority version moment files base
 
 -- ---- what the run gives
@@ -191,19 +191,19 @@ pub data IsAtHand (name : List ℕ) (reading : Result Base KrlFault) (authority 
       → IsAtHand name reading authority given files read at
 
 -- What stopped a run is what reading gives, or memory ran out, and what was at hand is named.
-abbrev pub IsStop : {X : Type 0} → EndedBy → (List ℕ → Type 0) → Result X RunFault → RunFault
+abbrev pub IsRunFault : {X : Type 0} → EndedBy → (List ℕ → Type 0) → Result X RunFault → RunFault
     → Type 0
-IsStop ByInput AtHand read stop = read ≡ Err stop
-IsStop ByMemory AtHand read stop =
-    (at : List ℕ) × (AtHand at × (stop ≡ stop_of at causes.NoMemory))
-IsStop (ByOutput count) AtHand read stop = ⊥
+IsRunFault ByInput AtHand read stop = read ≡ Err stop
+IsRunFault ByMemory AtHand read stop =
+    (at : List ℕ) × (AtHand at × (stop ≡ run_fault_of at causes.NoMemory))
+IsRunFault (ByOutput count) AtHand read stop = ⊥
 
 -- A function returned what reading gives, seen by a view, or memory ran out.
 abbrev pub Returns : {X Y : Type 0} → (X → Y) → (List ℕ → Type 0) → Result Y RunFault
     → Result X RunFault
     → Type 0
 Returns view AtHand read (Ok x) = read ≡ Ok (view x)
-Returns view AtHand read (Err stop) = IsStop (ended_by stop.cause) AtHand read stop
+Returns view AtHand read (Err stop) = IsRunFault (ended_by stop.cause) AtHand read stop
 
 -- what was read of files was added
 abbrev pub Added : Result (List Entry) RunFault → Revocations → Revocations → Type 0
@@ -214,7 +214,7 @@ abbrev pub AddsFiles : {A : Type 0} → (List ℕ → Type 0) → Result (List E
     → Result A RunFault
     → Revocations → Revocations → Type 0
 AddsFiles AtHand read (Ok done) old new = Added read old new
-AddsFiles AtHand read (Err stop) old new = IsStop (ended_by stop.cause) AtHand read stop
+AddsFiles AtHand read (Err stop) old new = IsRunFault (ended_by stop.cause) AtHand read stop
 
 -- The text is a list that names just what some entries name.
 pub record NamesSame (header : Header) (text : List ℕ) (entries : List Entry) : Type 0 where
@@ -244,7 +244,7 @@ pub record StopsAtText (name : List ℕ) (read : Result Made RunFault) (stop : R
   pub made : Made
   pub read_as : read ≡ Ok made
   pub long : IsTooLong made
-  pub stop_is : stop ≡ stop_of name causes.TextTooLong
+  pub stop_is : stop ≡ run_fault_of name causes.TextTooLong
 
 -- The run gives the list, or what stopped it.
 abbrev pub Makes : {X : Type 0} → (X → List ℕ) → List ℕ → Result Base KrlFault → Authority Named
@@ -252,7 +252,7 @@ abbrev pub Makes : {X : Type 0} → (X → List ℕ) → List ℕ → Result Bas
 Makes view name reading authority given files read (Ok text) =
     (made : Made) × ((read ≡ Ok made) × IsMade made (view text))
 Makes view name reading authority given files read (Err stop) =
-    IsStop (ended_by stop.cause) (IsAtHand name reading authority given files read) read stop
+    IsRunFault (ended_by stop.cause) (IsAtHand name reading authority given files read) read stop
     ⊎ StopsAtText name read stop
 
 -- The text is that of the header and of what is held, and names just what that means. Else it is
@@ -264,16 +264,16 @@ WritesList view name header contents (Ok text) =
     IsKrlText header contents (view text) × (length (view text) ≤ limit)
     × ((entries : List Entry) → Means contents entries → NamesSame header (view text) entries)
 WritesList view name header contents (Err stop) =
-    (stop ≡ stop_of name causes.NoMemory)
-    ⊎ ((stop ≡ stop_of name causes.TextTooLong)
+    (stop ≡ run_fault_of name causes.NoMemory)
+    ⊎ ((stop ≡ run_fault_of name causes.TextTooLong)
     × ((text : List ℕ) → IsKrlText header contents text → limit < length text))
 
 -- The list is made. Else its text is too long, or memory ran out.
 abbrev pub WritesMade : {X : Type 0} → (X → List ℕ) → List ℕ → Made → Result X RunFault → Type 0
 WritesMade view name made (Ok text) = IsMade made (view text)
 WritesMade view name made (Err stop) =
-    (stop ≡ stop_of name causes.NoMemory)
-    ⊎ ((stop ≡ stop_of name causes.TextTooLong) × IsTooLong made)
+    (stop ≡ run_fault_of name causes.NoMemory)
+    ⊎ ((stop ≡ run_fault_of name causes.TextTooLong) × IsTooLong made)
 
 -- The list is made of what was held and of what is read of the files, or these stop the run.
 abbrev pub WritesMore : {X : Type 0} → (X → List ℕ) → List ℕ → Header → Revocations
@@ -281,7 +281,8 @@ abbrev pub WritesMore : {X : Type 0} → (X → List ℕ) → List ℕ → Heade
 WritesMore view name header old AtHand read result =
     ((entries : List Entry) × ((read ≡ Ok entries)
     × WritesMade view name (made_of header old entries) result))
-    ⊎ ((stop : RunFault) × ((result ≡ Err stop) × IsStop (ended_by stop.cause) AtHand read stop))
+    ⊎ ((stop : RunFault)
+    × ((result ≡ Err stop) × IsRunFault (ended_by stop.cause) AtHand read stop))
 
 -- ---- the old list
 

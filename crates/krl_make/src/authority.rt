@@ -1,7 +1,7 @@
 //! The authority of serials and key IDs that name none themselves.
 
 ghost use Rattle.std.specs.Prelude.{◌≡◌, ◌<◌, IfOk, length};
-ghost use Rattle.krl_make.specs.Making.{Returns, file_key, plain_found};
+ghost use Rattle.krl_make.specs.Making.{Returns, file_key, key_blob};
 
 use key_files::{Cause, FileFault, FileKey, Named, RunFault, keys_of};
 use ssh_key::plain_blob;
@@ -25,7 +25,7 @@ pub fn first_key<'a>(alloc: Global, file: &'a Named<'a>) -> Result<Bytes, RunFau
 
 // The blob of a key, or of the plain key of a certificate.
 fn key_blob<'a>(alloc: Global, key: &FileKey<'a>) -> Result<Bytes, RunFault<'a>>
-    ensures read { Returns (λ blob. blob) (λ at. key.now.name ≡ at) (plain_found key.now) result }
+    ensures read { Returns (λ blob. blob) (λ at. key.now.name ≡ at) (key_blob key.now) result }
     ensures some { IfOk result (λ blob. 0 < length blob) }
 {
     let any = key.read()?;

@@ -6,7 +6,7 @@ ghost use Rattle.krl_types.specs.declared.krl_fault.KrlFault.{KrlFault as FaultO
 ghost use Rattle.krl_held.specs.Revocations.{Means, nothing};
 ghost use Rattle.krl_make.specs.Making.{IsBaseRead, base_of, new_base, version_of};
 ghost use Rattle.key_files.specs.RunFault.{krl_cause};
-ghost use Rattle.key_files.specs.RunFault.{stop_of};
+ghost use Rattle.key_files.specs.RunFault.{run_fault_of};
 ghost use Rattle.krl_make.specs.declared.base.Base.{Base as BaseOf};
 
 use key_files::{RunFault, cause_of};
@@ -37,7 +37,7 @@ pub fn read_base<'a, R: Source + Drop>(
         × IsBaseRead R.left R.has_failed list reading result.1
         × MatchResult result.0 (λ base. reading ≡ Ok base)
         (λ stop. (fault : FaultOf) × ((reading ≡ Err fault)
-        × (stop ≡ stop_of name.now (krl_cause fault)))) }
+        × (stop ≡ run_fault_of name.now (krl_cause fault)))) }
 {
     let Some(reader) = list else {
         return (Ok(new_base(alloc)), None);

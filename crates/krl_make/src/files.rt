@@ -1,7 +1,7 @@
 //! What specification files add to a list.
 
 ghost use Rattle.std.specs.Prelude.{◌≡◌, Ok};
-ghost use Rattle.krl_make.specs.Making.{AddsFiles, IsFileAtHand, cause_stop, file_entries, files_entries, text_entries};
+ghost use Rattle.krl_make.specs.Making.{AddsFiles, IsFileAtHand, cause_run_fault, file_entries, files_entries, text_entries};
 ghost use Rattle.krl_spec.specs.Under.{IsUnder, authority_under};
 
 use key_files::{Cause, Named, RunFault};
@@ -62,13 +62,13 @@ fn add_text<'a, S: Spans>(
 {
     match read_spec(alloc, revocations, under, text) {
         Ok(()) => Ok(()),
-        Err(fault) => Err(cause_stop(name, fault)),
+        Err(fault) => Err(cause_run_fault(name, fault)),
     }
 }
 
 // Where memory runs out, it is for the run itself, and no line is named.
-fn cause_stop<'a>(name: &'a str, fault: SpecFault) -> RunFault<'a>
-    ensures { result ≡ cause_stop name.now fault.line fault.cause }
+fn cause_run_fault<'a>(name: &'a str, fault: SpecFault) -> RunFault<'a>
+    ensures { result ≡ cause_run_fault name.now fault.line fault.cause }
 {
     if fault.cause == SpecCause::NoMemory {
         RunFault::whole(name, Cause::NoMemory)

@@ -9,7 +9,7 @@ use Rattle.krl_plan.specs.declared.cell.Cell.{Cell}
 use Rattle.krl_plan.specs.Plan.{IsGroup}
 use Rattle.krl_plan.specs.Bitmaps.{IsBitmap}
 use Rattle.krl_plan.specs.Lists.{IsList}
-use Rattle.krl_plan.specs.Search.{IsBest, IsBestOf, IsCandidate, Wins, cell_with, rest_cost}
+use Rattle.krl_plan.specs.Search.{IsBest, IsBestOf, IsCell, Wins, cell_with, rest_cost}
 
 abbrev pub group_of : Sort → ℕ → Group
 group_of sort count = record { sort = sort; count = count }
@@ -23,28 +23,28 @@ same_cell a b cost group =
     ap (λ (c : ℕ). made c a.group) cost ∙ ap (made b.cost) group
 
 -- one cell more, which wins against all that it stands for
-pub one_better : (rests : List ℕ) (runs : List Span) (sort : Sort) (Is : ℕ → Type 0) (old cell best : Cell) (count : ℕ) → IsCandidate rests runs old → IsGroup runs (group_of sort count)
+pub one_better : (rests : List ℕ) (runs : List Span) (sort : Sort) (Is : ℕ → Type 0) (old cell best : Cell) (count : ℕ) → IsCell rests runs old → IsGroup runs (group_of sort count)
     → cell ≡ cell_with rests runs (group_of sort count) → ((other : ℕ) → Is other → Wins (cell_with rests runs (group_of sort count)) (cell_with rests runs (group_of sort other)))
     → (best ≡ old) ⊎ (best ≡ cell) → ((other : Cell) → Wins old other → Wins best other) → ((other : Cell) → Wins cell other → Wins best other) → IsBestOf rests runs sort Is old best
 one_better rests runs sort Is old cell best count c g is wins one first second =
-    let fresh : IsCandidate rests runs cell = subst (λ (x : Cell). IsCandidate rests runs x) (sym is) (record { is_group = g; cost_is = refl }) in
+    let fresh : IsCell rests runs cell = subst (λ (x : Cell). IsCell rests runs x) (sym is) (record { is_group = g; cost_is = refl }) in
     record {
-      candidate = elim one [
-        | inl e ↦ subst (λ (x : Cell). IsCandidate rests runs x) (sym e) c
-        | inr e ↦ subst (λ (x : Cell). IsCandidate rests runs x) (sym e) fresh
+      is_cell = elim one [
+        | inl e ↦ subst (λ (x : Cell). IsCell rests runs x) (sym e) c
+        | inr e ↦ subst (λ (x : Cell). IsCell rests runs x) (sym e) fresh
       ];
       kept = first;
       beats = λ other it. second (cell_with rests runs (group_of sort other)) (subst (λ (x : Cell). Wins x (cell_with rests runs (group_of sort other))) (sym is) (wins other it));
     }
 
 pub best_of_all : (rests : List ℕ) (runs : List Span) (start listed best : Cell) → 0 < length runs → start ≡ cell_with rests runs (group_of Range 1)
-    → (IsCandidate rests runs start → IsBestOf rests runs Serials (IsList runs) start listed) → (IsCandidate rests runs listed → IsBestOf rests runs Bitmap (IsBitmap runs) listed best) → IsBest rests runs best
+    → (IsCell rests runs start → IsBestOf rests runs Serials (IsList runs) start listed) → (IsCell rests runs listed → IsBestOf rests runs Bitmap (IsBitmap runs) listed best) → IsBest rests runs best
 best_of_all rests runs start listed best some is lists bitmaps =
     let range : Cell = cell_with rests runs (group_of Range 1) in
     let group : IsGroup runs (group_of Range 1) = record { some = omega arith; within = omega arith; allowed = length-take-le 1 runs (omega arith) } in
-    let ranged : IsCandidate rests runs start = subst (λ (x : Cell). IsCandidate rests runs x) (sym is) (record { is_group = group; cost_is = refl }) in
+    let ranged : IsCell rests runs start = subst (λ (x : Cell). IsCell rests runs x) (sym is) (record { is_group = group; cost_is = refl }) in
     let by_lists = lists ranged in
-    let by_bitmaps = bitmaps by_lists.candidate in
+    let by_bitmaps = bitmaps by_lists.is_cell in
     let ranges : Wins best range = by_bitmaps.kept range (by_lists.kept range (subst (λ (x : Cell). Wins start x) is (wins_itself start))) in
     let one : (sort : Sort) (count : ℕ) → IsGroup runs (group_of sort count) → Wins best (cell_with rests runs (group_of sort count)) =
     λ sort. elim sort as (λ s. (count : ℕ) → IsGroup runs (group_of s count) → Wins best (cell_with rests runs (group_of s count))) [
@@ -56,7 +56,7 @@ best_of_all rests runs start listed best some is lists bitmaps =
           subst (λ (n : ℕ). Wins best (cell_with rests runs (group_of Range n))) (sym e) ranges
       | Bitmap ↦ λ count g. by_bitmaps.beats count g
     ] in
-    record { is_candidate = by_bitmaps.candidate; wins = λ g is. one g.sort g.count is }
+    record { is_cell = by_bitmaps.is_cell; wins = λ g is. one g.sort g.count is }
 
 -- the best costs no more than a range before the rest
 pub best_bounded : (rests : List ℕ) (runs : List Span) (best : Cell) → 0 < length runs → IsBest rests runs best → best.cost ≤ 21 + rest_cost rests 1

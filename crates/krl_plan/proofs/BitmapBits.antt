@@ -24,9 +24,9 @@ pub has_before : (run : Span) (runs : List Span) (serial : ℕ) → serial < run
 has_before run runs serial lt =
     ap (λ (b : Bool). (b && leb serial run.hi) || has runs serial) (lt-leb run.lo serial lt)
 
-Above-tail : (run : Span) (runs : List Span) (left bound : ℕ) → Above (run ∷ runs) (suc left) bound
-    → Above runs left bound
-Above-tail run runs left bound a = record {
+Above-tail : (run : Span) (runs : List Span) (count bound : ℕ) → Above (run ∷ runs) (suc count) bound
+    → Above runs count bound
+Above-tail run runs count bound a = record {
   within = let w = a.within in omega arith;
   above = λ k d le lt. a.above (suc k) d (omega arith) (omega arith);
 }
@@ -40,30 +40,30 @@ has_none (run ∷ runs) serial h =
     has_before run runs serial (omega arith)
     ∙ has_none runs serial (λ k d lt. h (suc k) d (omega arith))
 
-pub no_run_left : (runs : List Span) (serial : ℕ) → Above runs 0 (serial + 1)
+pub no_run_has : (runs : List Span) (serial : ℕ) → Above runs 0 (serial + 1)
     → has runs serial ≡ false
-no_run_left runs serial a = has_none runs serial (λ k d lt. a.above k d (omega arith) lt)
+no_run_has runs serial a = has_none runs serial (λ k d lt. a.above k d (omega arith) lt)
 
 -- the last run that begins at the serial or below decides
-pub last_run_left : (a : ℕ) (runs : List Span) (left serial : ℕ) (d : Span) → RunsFrom a runs
-    → Above runs (suc left) (serial + 1)
-    → (get_or runs left d).lo ≤ serial → has runs serial ≡ leb serial (get_or runs left d).hi
-last_run_left a [] left serial d r above le = let w = above.within in absurd (omega arith)
-last_run_left a (run ∷ runs) zero serial d r above le =
+pub last_run_decides : (a : ℕ) (runs : List Span) (count serial : ℕ) (d : Span) → RunsFrom a runs
+    → Above runs (suc count) (serial + 1)
+    → (get_or runs count d).lo ≤ serial → has runs serial ≡ leb serial (get_or runs count d).hi
+last_run_decides a [] count serial d r above le = let w = above.within in absurd (omega arith)
+last_run_decides a (run ∷ runs) zero serial d r above le =
     ap (λ (b : Bool). (b && leb serial run.hi) || has runs serial) (le-leb run.lo serial le)
     ∙ ap (λ (b : Bool). leb serial run.hi || b)
     (has_none runs serial (λ k e lt. above.above (suc k) e (omega arith) (omega arith)))
     ∙ or-false (leb serial run.hi)
-last_run_left a (run ∷ runs) (suc left) serial d r above le =
-    let tail = Above-tail run runs (suc left) (serial + 1) above in
+last_run_decides a (run ∷ runs) (suc count) serial d r above le =
+    let tail = Above-tail run runs (suc count) (serial + 1) above in
     let w = tail.within in
-    let far = (runs_at (run.hi + 2) runs left d r.2 (omega arith)).0 in
+    let far = (runs_at (run.hi + 2) runs count d r.2 (omega arith)).0 in
     has_past run runs serial (omega arith)
-    ∙ last_run_left (run.hi + 2) runs left serial d r.2 tail le
+    ∙ last_run_decides (run.hi + 2) runs count serial d r.2 tail le
 
-pub Above-less : (runs : List Span) (left more less : ℕ) → less ≤ more → Above runs left more
-    → Above runs left less
-Above-less runs left more less le a = record {
+pub Above-less : (runs : List Span) (count more less : ℕ) → less ≤ more → Above runs count more
+    → Above runs count less
+Above-less runs count more less le a = record {
   within = a.within;
   above = λ k d from lt. let h = a.above k d from lt in omega arith;
 }

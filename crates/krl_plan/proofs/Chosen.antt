@@ -77,8 +77,8 @@ cost_least runs plan least c l =
 best_below : (costs : List ℕ) (runs : List Span) (cell : Cell) → IsRuns runs → Rests costs runs
     → IsBest costs runs cell → (plan : List Group) → IsPlan runs plan → cell.cost ≤ cost runs plan
 best_below costs runs cell r rests b [] p =
-    let some = b.is_candidate.is_group.some in
-    let within = b.is_candidate.is_group.within in
+    let some = b.is_cell.is_group.some in
+    let within = b.is_cell.is_group.within in
     absurd (omega arith)
 best_below costs runs cell r rests b (group ∷ groups) p =
     let after = IsLeastCost.below (rest_of costs runs group r rests p.0) groups p.1 in
@@ -88,10 +88,10 @@ best_below costs runs cell r rests b (group ∷ groups) p =
 pub best_least : (costs : List ℕ) (runs : List Span) (cell : Cell) → IsRuns runs → Rests costs runs
     → IsBest costs runs cell → IsLeastCost runs cell.cost
 best_least costs runs cell r rests b =
-    let group = b.is_candidate.is_group in
+    let group = b.is_cell.is_group in
     let rest = rest_of costs runs cell.group r rests group in
     let same = rest.reached.1.1 in
-    let is = b.is_candidate.cost_is in
+    let is = b.is_cell.cost_is in
     record {
       below = best_below costs runs cell r rests b;
       reached = (cell.group ∷ rest.reached.0, ((group, rest.reached.1.0), omega arith));
@@ -128,14 +128,14 @@ prefers : (costs : List ℕ) (runs : List Span) (cell : Cell) (rest : List Group
     → IsLeastPlan (drop cell.group.count runs) rest → cost runs (cell.group ∷ rest) ≡ cell.cost
     → (other : List Group) → IsCheapest runs other → Prefers (cell.group ∷ rest) other
 prefers costs runs cell rest r rests b chosen whole [] c =
-    let some = b.is_candidate.is_group.some in
-    let within = b.is_candidate.is_group.within in
+    let some = b.is_cell.is_group.some in
+    let within = b.is_cell.is_group.within in
     let none : length runs ≡ 0 = c.is_plan in
     absurd (omega arith)
 prefers costs runs cell rest r rests b chosen whole (group ∷ groups) c =
     let after = IsLeastCost.below (rest_of costs runs group r rests c.is_plan.0)
     groups c.is_plan.1 in
-    let most = c.least (cell.group ∷ rest) (b.is_candidate.is_group, chosen.is_cheapest.is_plan) in
+    let most = c.least (cell.group ∷ rest) (b.is_cell.is_group, chosen.is_cheapest.is_plan) in
     elim (b.wins group c.is_plan.0) [
       | inl lt ↦ absurd (omega arith)
       | inr tie ↦ elim tie.1 [
@@ -158,8 +158,8 @@ prefers costs runs cell rest r rests b chosen whole (group ∷ groups) c =
 pub best_first : (costs : List ℕ) (runs : List Span) (cell : Cell) → IsRuns runs → Rests costs runs
     → IsBest costs runs cell → IsFirst runs cell.group
 best_first costs runs cell r rests b rest chosen =
-    let group = b.is_candidate.is_group in
-    let is = b.is_candidate.cost_is in
+    let group = b.is_cell.is_group in
+    let is = b.is_cell.cost_is in
     let same = cost_least (drop cell.group.count runs) rest (rest_cost costs cell.group.count)
     chosen.is_cheapest (rest_of costs runs cell.group r rests group) in
     let whole : cost runs (cell.group ∷ rest) ≡ cell.cost = omega arith in

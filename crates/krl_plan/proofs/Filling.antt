@@ -65,7 +65,7 @@ pub choices_more : (choices : List Group) (run : Span) (runs : List Span) (costs
     → AreChoices runs choices → AreChoices (run ∷ runs) (choices ++ cell.group ∷ [])
 choices_more choices run runs costs cell rises all best c = record {
   one_each = omega (arith, length_push choices cell.group, c.one_each);
-  each = each_more choices cell.group run runs c (best.is_candidate.is_group, best_first costs (run ∷ runs) cell rises (rests_of run runs costs all) best);
+  each = each_more choices cell.group run runs c (best.is_cell.is_group, best_first costs (run ∷ runs) cell rises (rests_of run runs costs all) best);
 }
 
 chosen_at : (choices : List Group) (runs : List Span) (left : ℕ) (group : Group) → AreChoices runs choices → group ≡ get_or choices (left - 1) group → 0 < left → left ≤ length choices

@@ -1,10 +1,10 @@
 pub mod Zero
 pub mod PlanTexts
-pub mod Marks
+pub mod Candidates
 pub mod Best
-pub mod ListMarks
-pub mod BitmapMarks
-pub mod EightWindows
+pub mod ListCandidates
+pub mod BitmapCandidates
+pub mod EightQueues
 pub mod Filling
 pub mod CopiedRuns
 pub mod BitmapBits

@@ -1,4 +1,4 @@
--- How far runs reach, by their places.
+-- How far runs reach, by their indexes.
 use Rattle.std.proofs.Common.{◌≡◌, ℕ, zero, suc, ◌+◌, ◌-◌, ◌<◌, ◌≤◌, List, [], ◌∷◌, length, take}
 use Rattle.std.proofs.Common.{get_or, refl, ap, arith, add-one}
 use Rattle.serial_set.specs.declared.span.Span.{Span}

@@ -1,4 +1,4 @@
--- The span that stands for the places that a list does not have.
+-- The span that stands for the items that a list does not have.
 use Rattle.serial_set.specs.declared.span.Span.{Span}
 
 abbrev pub zero_span : Span

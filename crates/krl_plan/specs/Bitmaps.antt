@@ -4,11 +4,11 @@ use Rattle.std.specs.Prelude.{slice_index_or as get_or}
 use Rattle.serial_set.specs.declared.span.Span.{Span}
 use Rattle.krl_plan.specs.declared.bitmaps.Bitmaps.{Bitmaps}
 use Rattle.krl_plan.specs.declared.group.Sort.TheVariants.{Bitmap}
-use Rattle.krl_plan.specs.declared.window.Mark.{Mark}
-use Rattle.krl_plan.specs.declared.window.Window.{Window}
+use Rattle.krl_plan.specs.declared.monotonic_queue.Candidate.{Candidate}
+use Rattle.krl_plan.specs.declared.monotonic_queue.MonotonicQueue.{MonotonicQueue}
 use Rattle.krl_plan.specs.Plan.{IsGroup, end_of}
 use Rattle.krl_plan.specs.Search.{rest_cost}
-use Rattle.krl_plan.specs.Window.{IsFilled}
+use Rattle.krl_plan.specs.MonotonicQueue.{IsFilled}
 
 -- the last serial of some runs
 abbrev pub last_of : List Span → ℕ
@@ -24,17 +24,17 @@ pub record IsBitmapOf (runs : List Span) (remainder count : ℕ) : Type 0 where
   pub is_bitmap : IsBitmap runs count
   pub leaves : (last_of (take count runs) + 1) % 8 ≡ remainder
 
--- the mark of that bitmap, where the first run is at an index of the set
-abbrev pub bitmap_mark : ℕ → List Span → List ℕ → ℕ → Mark
-bitmap_mark at runs rests count = record {
-  place = last_of (take count runs);
+-- that bitmap as a candidate, where the first run is at an index of the set
+abbrev pub bitmap_candidate : ℕ → List Span → List ℕ → ℕ → Candidate
+bitmap_candidate at runs rests count = record {
+  position = last_of (take count runs);
   value = (last_of (take count runs) + 1) / 8 + rest_cost rests count;
   end = at + count;
 }
 
--- the bitmaps of the runs from an index on, a window for each remainder
+-- the bitmaps of the runs from an index on, a queue for each remainder
 abbrev pub HasBitmaps : Bitmaps → ℕ → List Span → List ℕ → Type 0
 HasBitmaps bitmaps at runs rests =
-    (r : ℕ) (d : Window) → r < 8
-    → IsFilled (get_or bitmaps.windows r d).marks.items (IsBitmapOf runs r)
-    (bitmap_mark at runs rests)
+    (r : ℕ) (d : MonotonicQueue) → r < 8
+    → IsFilled (get_or bitmaps.queues r d).candidates.items (IsBitmapOf runs r)
+    (bitmap_candidate at runs rests)

@@ -11,7 +11,7 @@ pub record Copies (spans : List Span) (count : ℕ) (from : Option ℕ) (old new
   pub same : new ++ left next spans ≡ old ++ left from spans
   pub enough : (count ≤ length new) ⊎ (left next spans ≡ [])
 
--- from each number on a chunk of 1,024 runs is left, and those after it
+-- the runs from each number on are those of a chunk of 1,024, and those after it
 abbrev pub BeginChunks : List Span → List ℕ → Type 0
 BeginChunks spans starts =
     (i : ℕ) → i < length starts → since (get_or starts i 0) spans ≡ drop (1024 * i) spans

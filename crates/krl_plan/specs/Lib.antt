@@ -2,7 +2,7 @@ pub mod Sorts
 pub mod Plan
 pub mod Search
 pub mod Copies
-pub mod Window
+pub mod MonotonicQueue
 pub mod Lists
 pub mod Bitmaps
 pub mod Table

@@ -3,19 +3,19 @@ use Rattle.std.specs.Prelude.{ℕ, ◌+◌, ◌*◌, ◌^◌, ◌<◌, ◌≤◌
 use Rattle.serial_set.specs.declared.span.Span.{Span}
 use Rattle.krl_plan.specs.declared.group.Sort.TheVariants.{Serials}
 use Rattle.krl_plan.specs.declared.lists.Lists.{Lists}
-use Rattle.krl_plan.specs.declared.window.Mark.{Mark}
+use Rattle.krl_plan.specs.declared.monotonic_queue.Candidate.{Candidate}
 use Rattle.krl_plan.specs.Plan.{IsGroup, serial_count}
 use Rattle.krl_plan.specs.Search.{rest_cost}
-use Rattle.krl_plan.specs.Window.{IsFilled}
+use Rattle.krl_plan.specs.MonotonicQueue.{IsFilled}
 
 -- this many runs at the front may be a list
 abbrev pub IsList : List Span → ℕ → Type 0
 IsList runs count = IsGroup runs (record { sort = Serials; count = count })
 
--- the mark of that list, where the first run is at an index of the set
-abbrev pub list_mark : ℕ → ℕ → List Span → List ℕ → ℕ → Mark
-list_mark base at runs rests count = record {
-  place = at + count;
+-- that list as a candidate, where the first run is at an index of the set
+abbrev pub list_candidate : ℕ → ℕ → List Span → List ℕ → ℕ → Candidate
+list_candidate base at runs rests count = record {
+  position = at + count;
   value = base + 8 * serial_count (take count runs) + rest_cost rests count;
   end = at + count;
 }
@@ -24,4 +24,5 @@ list_mark base at runs rests count = record {
 pub record HasLists (lists : Lists) (at : ℕ) (runs : List Span) (rests : List ℕ) : Type 0 where
   pub room : 16 * at ≤ lists.base
   pub bounded : lists.base < 2 ^ 100
-  pub filled : IsFilled lists.window.marks.items (IsList runs) (list_mark lists.base at runs rests)
+  pub filled : IsFilled lists.queue.candidates.items (IsList runs)
+      (list_candidate lists.base at runs rests)

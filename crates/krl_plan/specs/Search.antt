@@ -30,19 +30,19 @@ abbrev pub cell_with : List ℕ → List Span → Group → Cell
 cell_with rests runs group = record { cost = cost_with rests runs group; group = group }
 
 -- the cell is that of a group at the front of the runs
-pub record IsCandidate (rests : List ℕ) (runs : List Span) (cell : Cell) : Type 0 where
+pub record IsCell (rests : List ℕ) (runs : List Span) (cell : Cell) : Type 0 where
   pub is_group : IsGroup runs cell.group
   pub cost_is : cell.cost ≡ cost_with rests runs cell.group
 
 -- the cell wins against every group at the front of the runs
 pub record IsBest (rests : List ℕ) (runs : List Span) (cell : Cell) : Type 0 where
-  pub is_candidate : IsCandidate rests runs cell
+  pub is_cell : IsCell rests runs cell
   pub wins : (group : Group) → IsGroup runs group → Wins cell (cell_with rests runs group)
 
 -- the best of a cell and of the groups of a sort with the counts for which something holds
 pub record IsBestOf (rests : List ℕ) (runs : List Span) (sort : Sort) (Is : ℕ → Type 0)
     (old best : Cell) : Type 0 where
-  pub candidate : IsCandidate rests runs best
+  pub is_cell : IsCell rests runs best
   pub kept : (other : Cell) → Wins old other → Wins best other
   pub beats : (count : ℕ) → Is count
       → Wins best (cell_with rests runs (record { sort = sort; count = count }))

@@ -67,8 +67,8 @@ plan_text runs [] = []
 plan_text runs (group ∷ groups) =
     group_text group.sort (take group.count runs) ++ plan_text (drop group.count runs) groups
 
--- All but the first `left` of the runs begin at the serial or above.
-pub record Above (runs : List Span) (left serial : ℕ) : Type 0 where
-  pub within : left ≤ length runs
-  pub above : (k : ℕ) (d : Span) → left ≤ k → k < length runs
+-- All but the first `count` of the runs begin at the serial or above.
+pub record Above (runs : List Span) (count serial : ℕ) : Type 0 where
+  pub within : count ≤ length runs
+  pub above : (k : ℕ) (d : Span) → count ≤ k → k < length runs
       → serial ≤ (slice_index_or runs k d).lo

@@ -16,43 +16,43 @@ pub(crate) fn put_bits(out: &mut Vec<u8>, runs: &[Span], size: u32) -> Result<()
         (out.new.items ≡ out.old.items ++ bitmap_of runs.now (first_of runs.now) size) }
 {
     let first = u128::from(runs[0].lo);
-    let mut left = runs.len();
+    let mut count = runs.len();
     for index in (0..size).rev() {
-        let byte = byte_at(runs, &mut left, first + 8 * u128::from(index));
+        let byte = byte_at(runs, &mut count, first + 8 * u128::from(index));
         put_byte(out, byte)?;
     }
     Ok(())
 }
 
-// The bits of the eight serials from one on. All but the first `left` runs begin above them.
-fn byte_at(runs: &[Span], left: &mut usize, base: u128) -> u8
+// The bits of the eight serials from one on. All but the first `count` runs begin above them.
+fn byte_at(runs: &[Span], count: &mut usize, base: u128) -> u8
     requires rising { IsRuns runs.now }
     requires base { base < 2 ^ 100 }
-    requires above { Above runs.now left.old (base + 8) }
+    requires above { Above runs.now count.old (base + 8) }
     ensures bits { result ≡ bits_of runs.now base 8 }
-    ensures above { Above runs.now left.new base }
+    ensures above { Above runs.now count.new base }
 {
     let mut byte = 0;
     for bit in (0..8u8).rev() {
-        let set = has_serial(runs, left, base + u128::from(bit));
+        let set = has_serial(runs, count, base + u128::from(bit));
         byte = 2 * byte + u8::from(set);
     }
     byte
 }
 
-// Whether the runs have a serial. All but the first `left` of them begin above it.
-fn has_serial(runs: &[Span], left: &mut usize, serial: u128) -> bool
+// Whether the runs have a serial. All but the first `count` of them begin above it.
+fn has_serial(runs: &[Span], count: &mut usize, serial: u128) -> bool
     requires rising { IsRuns runs.now }
-    requires above { Above runs.now left.old (serial + 1) }
+    requires above { Above runs.now count.old (serial + 1) }
     ensures has { result ≡ has runs.now serial }
-    ensures above { Above runs.now left.new (serial + 1) }
+    ensures above { Above runs.now count.new (serial + 1) }
 {
-    while *left > 0 {
-        let run = runs[*left - 1];
+    while *count > 0 {
+        let run = runs[*count - 1];
         if u128::from(run.lo) <= serial {
             return serial <= u128::from(run.hi);
         }
-        *left -= 1;
+        *count -= 1;
     }
     false
 }

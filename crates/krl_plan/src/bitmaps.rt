@@ -6,25 +6,26 @@ ghost use Rattle.std.specs.Prelude.{slice_index_or as get_or};
 ghost use Rattle.serial_set.specs.declared.span.Span.{Span};
 ghost use Rattle.serial_set.specs.Span.{IsRuns};
 ghost use Rattle.krl_plan.specs.declared.group.Sort.TheVariants.{Bitmap};
-ghost use Rattle.krl_plan.specs.declared.window.Window.{Window};
-ghost use Rattle.krl_plan.specs.Window.{Forgets};
-ghost use Rattle.krl_plan.specs.Search.{IsBestOf, IsCandidate};
+ghost use Rattle.krl_plan.specs.declared.monotonic_queue.MonotonicQueue.{MonotonicQueue};
+ghost use Rattle.krl_plan.specs.MonotonicQueue.{Forgets};
+ghost use Rattle.krl_plan.specs.Search.{IsBestOf, IsCell};
 
 use crate::cell::{Cell, winner};
 use crate::group::{Group, Sort};
-use crate::window::{Mark, Window};
+use crate::monotonic_queue::{Candidate, MonotonicQueue};
 use serial_set::Span;
 use std::alloc::{AllocError, Global};
 
 // How far the bitmap's last serial may be from the first.
 const FARTHEST: u128 = 2047;
 
-// The bitmaps that the first of the known runs may begin. The bytes of the bits from one serial up
-// to another are an eighth of the one less an eighth of the other, and one less where the
-// remainder of the one is the smaller: so those with the same remainder are compared by themselves.
+// The bitmaps that the first of the known runs may begin. A bitmap costs 18 and the whole bytes
+// from its first serial to its last. With `after` the serial after these, they are `after / 8` less
+// `first / 8`, and one less where `after` leaves the smaller remainder. So bitmaps whose `after`
+// leaves the same remainder are compared by themselves.
 #[derive(Drop)]
 pub(crate) struct Bitmaps {
-    windows: [Window; 8],
+    queues: [MonotonicQueue; 8],
 }
 
 impl Bitmaps {
@@ -35,15 +36,15 @@ impl Bitmaps {
         ensures { (at : ℕ) → HasBitmaps result at [] [] }
     {
         Bitmaps {
-            windows: [
-                Window::new(alloc),
-                Window::new(alloc),
-                Window::new(alloc),
-                Window::new(alloc),
-                Window::new(alloc),
-                Window::new(alloc),
-                Window::new(alloc),
-                Window::new(alloc),
+            queues: [
+                MonotonicQueue::new(alloc),
+                MonotonicQueue::new(alloc),
+                MonotonicQueue::new(alloc),
+                MonotonicQueue::new(alloc),
+                MonotonicQueue::new(alloc),
+                MonotonicQueue::new(alloc),
+                MonotonicQueue::new(alloc),
+                MonotonicQueue::new(alloc),
             ],
         }
     }
@@ -59,12 +60,12 @@ impl Bitmaps {
             → OnOk result (HasBitmaps self.new at (run ∷ runs) (rest ∷ rests)) }
     {
         let after = run.hi as u128 + 1;
-        self.windows[(after % 8) as usize].push(Mark {
-            place: run.hi,
+        self.queues[(after % 8) as usize].push(Candidate {
+            position: run.hi,
             value: after / 8 + rest,
             end: at + 1,
         })?;
-        forget_past(&mut self.windows, run.lo as u128 + FARTHEST);
+        forget_past(&mut self.queues, run.lo as u128 + FARTHEST);
         Ok(())
     }
 
@@ -73,7 +74,7 @@ impl Bitmaps {
         requires bitmaps { (runs : List Span) × ((rests : List ℕ)
             × (IsRuns (run ∷ runs) × HasBitmaps self.now at (run ∷ runs) rests)) }
         ensures { (runs : List Span) (rests : List ℕ) → IsRuns (run ∷ runs)
-            → HasBitmaps self.now at (run ∷ runs) rests → IsCandidate rests (run ∷ runs) best
+            → HasBitmaps self.now at (run ∷ runs) rests → IsCell rests (run ∷ runs) best
             → IsBestOf rests (run ∷ runs) Bitmap (IsBitmap (run ∷ runs)) best result }
     {
         let mut best = best;
@@ -89,22 +90,22 @@ impl Bitmaps {
         requires bitmaps { (runs : List Span) × ((rests : List ℕ)
             × (IsRuns (run ∷ runs) × HasBitmaps self.now at (run ∷ runs) rests)) }
         ensures { (runs : List Span) (rests : List ℕ) → IsRuns (run ∷ runs)
-            → HasBitmaps self.now at (run ∷ runs) rests → IsCandidate rests (run ∷ runs) best
+            → HasBitmaps self.now at (run ∷ runs) rests → IsCell rests (run ∷ runs) best
             → IsBestOf rests (run ∷ runs) Bitmap (IsBitmapOf (run ∷ runs) remainder) best result }
     {
-        let Some(mark) = self.windows[remainder].least() else {
+        let Some(candidate) = self.queues[remainder].least() else {
             return best
         };
         let group = Group {
             sort: Sort::Bitmap,
-            count: (mark.end - at) as u16,
+            count: (candidate.end - at) as u16,
         };
-        let cost = 18 + (mark.value - bytes_before(run.lo, remainder as u64) as u128);
+        let cost = 18 + (candidate.value - bytes_before(run.lo, remainder as u64) as u128);
         winner(best, Cell { cost, group })
     }
 }
 
-// An eighth of the first serial, as a mark of this remainder counts it.
+// An eighth of the first serial, and one more where `after` leaves the smaller remainder.
 fn bytes_before(first: u64, remainder: u64) -> u64
     ensures less { remainder < first % 8 → result ≡ first / 8 + 1 }
     ensures more { first % 8 ≤ remainder → result ≡ first / 8 }
@@ -116,12 +117,13 @@ fn bytes_before(first: u64, remainder: u64) -> u64
     }
 }
 
-// Forgets in each window the marks past a limit.
-fn forget_past(windows: &mut [Window], limit: u128)
-    ensures { (k : ℕ) (d : Window) → k < length windows.old
-        → Forgets limit (get_or windows.old k d).marks.items (get_or windows.new k d).marks.items }
+// Forgets the candidates of each queue that lie past a limit.
+fn forget_past(queues: &mut [MonotonicQueue], limit: u128)
+    ensures { (k : ℕ) (d : MonotonicQueue) → k < length queues.old
+        → Forgets limit (get_or queues.old k d).candidates.items
+        (get_or queues.new k d).candidates.items }
 {
-    for i in 0..windows.len() {
-        windows[i].forget_past(limit);
+    for i in 0..queues.len() {
+        queues[i].forget_past(limit);
     }
 }

@@ -13,7 +13,7 @@ pub enum Sort {
     Bitmap,
 }
 
-/// Some runs that one subsection names: those at the front of what is left of a list.
+/// Some runs that one subsection names: the first of those that no group before it has.
 #[derive(Clone, Copy, Debug, PartialEq, Eq)]
 pub struct Group {
     /// The sort of the subsection.

@@ -10,11 +10,11 @@ mod group;
 mod group_text;
 pub mod laws;
 mod lists;
+mod monotonic_queue;
 mod plan_text;
 mod planner;
 mod string;
 mod table;
-mod window;
 
 pub use group::{Group, Sort};
 pub use plan_text::put_least_plan;

@@ -3,22 +3,23 @@
 ghost use Rattle.std.specs.Prelude.{◌≡◌, ℕ, ◌+◌, ◌^◌, ◌<◌, ◌≤◌, List, [], ◌∷◌, OnOk};
 ghost use Rattle.serial_set.specs.declared.span.Span.{Span};
 ghost use Rattle.krl_plan.specs.declared.group.Sort.TheVariants.{Serials};
-ghost use Rattle.krl_plan.specs.Search.{IsBestOf, IsCandidate};
+ghost use Rattle.krl_plan.specs.Search.{IsBestOf, IsCell};
 
 use crate::cell::{Cell, winner};
 use crate::group::{Group, Sort};
-use crate::window::{Mark, Window};
+use crate::monotonic_queue::{Candidate, MonotonicQueue};
 use serial_set::Span;
 use std::alloc::{AllocError, Global};
 
 // The runs that a list may have (any more go into another).
 pub(crate) const MOST: usize = 1024;
 
-// The lists that the first of the known runs may begin. What such a list costs with what follows
-// it is 5 and what its mark's value is above the base: the base falls by the bytes of each serial.
+// The lists that the first of the known runs may begin. With what follows it, a list costs 5 and by
+// how much its candidate's value is above the base. The base falls by the bytes of each serial that
+// is taken, so that values stay as they are.
 #[derive(Drop)]
 pub(crate) struct Lists {
-    window: Window,
+    queue: MonotonicQueue,
     base: u128,
 }
 
@@ -30,7 +31,7 @@ impl Lists {
         ensures { HasLists result runs [] [] }
     {
         Lists {
-            window: Window::new(alloc),
+            queue: MonotonicQueue::new(alloc),
             base: 16 * runs as u128,
         }
     }
@@ -45,14 +46,15 @@ impl Lists {
         ensures { (runs : List Span) (rests : List ℕ) → HasLists self.old (at + 1) runs rests
             → OnOk result (HasLists self.new at (run ∷ runs) (rest ∷ rests)) }
     {
+        // No list has a run of more than two serials.
         let more = run.hi - run.lo;
         if more > 1 {
-            self.window.clear();
+            self.queue.clear();
             return Ok(());
         }
-        self.window.forget_past(at as u128 + 1024);
-        self.window.push(Mark {
-            place: at as u64 + 1,
+        self.queue.forget_past(at as u128 + 1024);
+        self.queue.push(Candidate {
+            position: at as u64 + 1,
             value: self.base + rest,
             end: at + 1,
         })?;
@@ -65,16 +67,16 @@ impl Lists {
         requires lists { (runs : List Span)
             × ((rests : List ℕ) × HasLists self.now at runs rests) }
         ensures { (runs : List Span) (rests : List ℕ) → HasLists self.now at runs rests
-            → IsCandidate rests runs best → IsBestOf rests runs Serials (IsList runs) best result }
+            → IsCell rests runs best → IsBestOf rests runs Serials (IsList runs) best result }
     {
-        let Some(mark) = self.window.least() else {
+        let Some(candidate) = self.queue.least() else {
             return best
         };
         let group = Group {
             sort: Sort::Serials,
-            count: (mark.end - at) as u16,
+            count: (candidate.end - at) as u16,
         };
-        let cost = 5 + (mark.value - self.base);
+        let cost = 5 + (candidate.value - self.base);
         winner(best, Cell { cost, group })
     }
 }

@@ -32,7 +32,7 @@ pub fn least_plan<S: Spans>(alloc: Global, set: &S) -> Result<Vec<Group>, AllocE
     table.plan(alloc)
 }
 
-// The number from which each chunk of a set's runs is left, the first chunk's first.
+// The number from which on a set gives the runs of each chunk, the first chunk's first.
 fn chunk_starts<S: Spans>(alloc: Global, set: &S) -> Result<Vec<u64>, AllocError>
     ensures { IfOk result (λ starts. AreStarts (S.spans set.now) starts.items) }
 {

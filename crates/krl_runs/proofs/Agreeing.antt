@@ -9,10 +9,10 @@ use Rattle.krl_types.specs.Subject.{Subject}
 use Rattle.key_files.specs.Keys.{Named, FileKey, keys_of}
 use Rattle.key_files.specs.RunFault.{RunFault}
 use Rattle.krl_runs.specs.Query.{answer_of, ask_by}
-use Rattle.krl_runs.specs.Run.{Item, file_items, files_items, found_item, is_answered, key_item, said, subject_item, unanswered_of}
+use Rattle.krl_runs.specs.Run.{Item, file_items, files_items, file_key_item, is_answered, key_item, said, subject_item, unanswered_of}
 
 -- of a key
-next_same : (one other : Subject → Bool) → ((asked : Subject) → one asked ≡ other asked) → (next : Result FileKey RunFault) → found_item (ask_by one) next ≡ found_item (ask_by other) next
+next_same : (one other : Subject → Bool) → ((asked : Subject) → one asked ≡ other asked) → (next : Result FileKey RunFault) → file_key_item (ask_by one) next ≡ file_key_item (ask_by other) next
 next_same one other same (Err stop) = refl
 next_same one other same (Ok key) = by (subject_of key.line.blob)
   where
@@ -25,7 +25,7 @@ next_same one other same (Ok key) = by (subject_of key.line.blob)
     by (Ok asked) = by_key asked (key_at asked.plain)
 
 -- of the keys of a file
-keys_same : (one other : Subject → Bool) → ((asked : Subject) → one asked ≡ other asked) → (keys : List (Result FileKey RunFault)) → map (found_item (ask_by one)) keys ≡ map (found_item (ask_by other)) keys
+keys_same : (one other : Subject → Bool) → ((asked : Subject) → one asked ≡ other asked) → (keys : List (Result FileKey RunFault)) → map (file_key_item (ask_by one)) keys ≡ map (file_key_item (ask_by other)) keys
 keys_same one other same [] = refl
 keys_same one other same (next ∷ keys) = ap₂ (λ x xs. x ∷ xs) (next_same one other same next) (keys_same one other same keys)
 
@@ -38,7 +38,7 @@ file_same : (one other : Subject → Bool) → ((asked : Subject) → one asked 
 unfolding file_items
 file_same one other same file =
     ap (λ (items : List Item). items ++ unanswered_of (ask_by one) file.name (is_answered items)) (keys_same one other same (keys_of file))
-    ∙ ap (λ (items : List Item). map (found_item (ask_by other)) (keys_of file) ++ items) (ends_same one other file.name (is_answered (map (found_item (ask_by other)) (keys_of file))))
+    ∙ ap (λ (items : List Item). map (file_key_item (ask_by other)) (keys_of file) ++ items) (ends_same one other file.name (is_answered (map (file_key_item (ask_by other)) (keys_of file))))
 
 -- of files
 pub files_same : (one other : Subject → Bool) → ((asked : Subject) → one asked ≡ other asked) → (files : List Named) → files_items (ask_by one) files ≡ files_items (ask_by other) files

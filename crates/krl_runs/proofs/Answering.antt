@@ -12,9 +12,9 @@ use Rattle.ssh_key.specs.declared.fault.KeyFault.{KeyFault}
 use Rattle.krl_runs.specs.Carries.{Carries}
 use Rattle.krl_runs.specs.declared.output.answer.Answer.{Answer}
 use Rattle.krl_runs.specs.Printer.{Printer}
-use Rattle.key_files.specs.Keys.{Named as NamedOf, FileKey, GivesKey, IsRefused, file_of, keys_of, stop_in}
-use Rattle.krl_runs.specs.Run.{IsWithheld, Item, Answered, Answering, Passed, Stopped, file_items, files_items, found_item, key_item, name_of, said, unanswered_of, subject_item, is_answered}
-use Rattle.key_files.specs.RunFault.{RunFault, EndedBy, ByInput, ByMemory, ByOutput, ended_by, stop_of}
+use Rattle.key_files.specs.Keys.{Named as NamedOf, FileKey, GivesKey, IsRefused, file_name, keys_of, run_fault_in}
+use Rattle.krl_runs.specs.Run.{IsWithheld, Item, Answered, Answering, Passed, Stopped, file_items, files_items, file_key_item, key_item, name_of, said, unanswered_of, subject_item, is_answered}
+use Rattle.key_files.specs.RunFault.{RunFault, EndedBy, ByInput, ByMemory, ByOutput, ended_by, run_fault_of}
 use Rattle.krl_runs.proofs.Carrying.{carries_as, carries_more, carries_none, carries_then, carries_withheld}
 
 -- ---- a key
@@ -32,21 +32,21 @@ subject_item-name answer key (Ok asked) = key_item-name answer key asked (key_at
 subject_item-name answer key (Err fault) = refl
 
 -- what is said of a key is about its file
-found_item-name : (answer : Answering) (next : Result FileKey RunFault) → name_of (found_item answer next) ≡ file_of next
-found_item-name answer (Ok key) = subject_item-name answer key (subject_of key.line.blob)
-found_item-name answer (Err stop) = refl
+file_key_item-name : (answer : Answering) (next : Result FileKey RunFault) → name_of (file_key_item answer next) ≡ file_name next
+file_key_item-name answer (Ok key) = subject_item-name answer key (subject_of key.line.blob)
+file_key_item-name answer (Err stop) = refl
 
 -- memory ran out before a key was answered
-pub ran_out : (answer : Answering) (key : FileKey) → IsWithheld ByMemory (found_item answer (Ok key)) (stop_of key.name NoMemory)
-ran_out answer key = ap (λ (name : List ℕ). stop_of name NoMemory) (sym (found_item-name answer (Ok key)))
+pub ran_out : (answer : Answering) (key : FileKey) → IsWithheld ByMemory (file_key_item answer (Ok key)) (run_fault_of key.name NoMemory)
+ran_out answer key = ap (λ (name : List ℕ). run_fault_of name NoMemory) (sym (file_key_item-name answer (Ok key)))
 
 -- a blob was answered
 pub blob_answered : (answer : Answering) (key : FileKey) (asked : Subject) (plain : PublicKey) → subject_of key.line.blob ≡ Ok asked → key_at asked.plain ≡ Ok plain
-    → found_item answer (Ok key) ≡ said key.name (answer.say key.name key.number key.line asked plain)
+    → file_key_item answer (Ok key) ≡ said key.name (answer.say key.name key.number key.line asked plain)
 blob_answered answer key asked plain is_asked is_plain = ap (subject_item answer key) is_asked ∙ ap (key_item answer key asked) is_plain
 
 -- a blob has a first fault
-pub blob_refused : (answer : Answering) (key : FileKey) (fault : SubjectFault) → subject_of key.line.blob ≡ Err fault → found_item answer (Ok key) ≡ Stopped (stop_in key fault)
+pub blob_refused : (answer : Answering) (key : FileKey) (fault : SubjectFault) → subject_of key.line.blob ≡ Err fault → file_key_item answer (Ok key) ≡ Stopped (run_fault_in key fault)
 blob_refused answer key fault is_fault = ap (subject_item answer key) is_fault
 
 -- ---- the keys of a file
@@ -60,51 +60,51 @@ is_answered-append (Stopped stop ∷ items) more = refl
 -- All the items are those that were said so far and those of the keys that are left.
 pub record IsReached (answer : Answering) (items : List Item) (left : List (Result FileKey RunFault)) (reported : Bool) (old now : Printer) : Type 0 where
   pub done : List Item
-  pub parts : items ≡ done ++ map (found_item answer) left
+  pub parts : items ≡ done ++ map (file_key_item answer) left
   pub carried : Carries done (Ok (tt {0})) old now
   pub any : reported ≡ is_answered done
 
 -- the items of a file are those of its keys, and its end
 abbrev pub key_items : Answering → NamedOf → List Item
-key_items answer file = map (found_item answer) (keys_of file)
+key_items answer file = map (file_key_item answer) (keys_of file)
 
 pub none_reached : (answer : Answering) (file : NamedOf) (now : Printer) → IsReached answer (key_items answer file) (keys_of file) false now now
 none_reached answer file now = record { done = []; parts = refl; carried = carries_none tt now; any = refl }
 
 -- the item of the next key is said
 pub key_said : {A : Type 0} (answer : Answering) (items : List Item) (next : Result FileKey RunFault) (left : List (Result FileKey RunFault)) (reported : Bool) (value : A) (old now new : Printer)
-    → IsReached answer items (next ∷ left) reported old now → Carries (found_item answer next ∷ []) (Ok value) now new
-    → IsReached answer items left (reported || is_answered (found_item answer next ∷ [])) old new
+    → IsReached answer items (next ∷ left) reported old now → Carries (file_key_item answer next ∷ []) (Ok value) now new
+    → IsReached answer items left (reported || is_answered (file_key_item answer next ∷ [])) old new
 key_said answer items next left reported value old now new reached carries =
-    let item = found_item answer next in
+    let item = file_key_item answer next in
     record {
       done = reached.done ++ item ∷ [];
-      parts = reached.parts ∙ sym (append_assoc reached.done (item ∷ []) (map (found_item answer) left));
+      parts = reached.parts ∙ sym (append_assoc reached.done (item ∷ []) (map (file_key_item answer) left));
       carried = carries_then reached.done (item ∷ []) tt (Ok tt) old now new reached.carried (carries_as (item ∷ []) (Ok value) (Ok tt) now new refl carries);
       any = ap (λ (b : Bool). b || is_answered (item ∷ [])) reached.any ∙ is_answered-append reached.done (item ∷ []);
     }
 
 -- or ends the run
 pub key_stops : {A B : Type 0} (answer : Answering) (items : List Item) (next : Result FileKey RunFault) (left : List (Result FileKey RunFault)) (reported : Bool) (stop : RunFault) (old now new : Printer)
-    → IsReached answer items (next ∷ left) reported old now → Carries {A = A} (found_item answer next ∷ []) (Err stop) now new
+    → IsReached answer items (next ∷ left) reported old now → Carries {A = A} (file_key_item answer next ∷ []) (Err stop) now new
     → Carries {A = B} items (Err stop) old new
 key_stops {A} {B} answer items next left reported stop old now new reached carries =
-    let item = found_item answer next in
-    let later = map (found_item answer) left in
+    let item = file_key_item answer next in
+    let later = map (file_key_item answer) left in
     let front = carries_then {B = A} reached.done (item ∷ []) tt (Err stop) old now new reached.carried carries in
     subst (λ (xs : List Item). Carries {A = B} xs (Err stop) old new) (append_assoc reached.done (item ∷ []) later ∙ sym reached.parts) (carries_more {A = A} {B = B} (reached.done ++ item ∷ []) later stop old new front)
 
 -- a key that was not given has no item
-refused_item : (answer : Answering) (ended : EndedBy) (next : Result FileKey RunFault) (stop : RunFault) → IsRefused ended next stop → IsWithheld ended (found_item answer next) stop
-refused_item answer ByInput next stop is = ap (found_item answer) is
-refused_item answer ByMemory next stop is = is ∙ ap (λ (name : List ℕ). stop_of name NoMemory) (sym (found_item-name answer next))
+refused_item : (answer : Answering) (ended : EndedBy) (next : Result FileKey RunFault) (stop : RunFault) → IsRefused ended next stop → IsWithheld ended (file_key_item answer next) stop
+refused_item answer ByInput next stop is = ap (file_key_item answer) is
+refused_item answer ByMemory next stop is = is ∙ ap (λ (name : List ℕ). run_fault_of name NoMemory) (sym (file_key_item-name answer next))
 refused_item answer (ByOutput count) next stop is = absurd is
 
 pub key_refused : {B : Type 0} (answer : Answering) (items : List Item) (next : Result FileKey RunFault) (left : List (Result FileKey RunFault)) (reported : Bool) (stop : RunFault) (old now : Printer)
     → IsReached answer items (next ∷ left) reported old now → GivesKey next (Err stop) → Carries {A = B} items (Err stop) old now
 key_refused {B} answer items next left reported stop old now reached is =
     key_stops {A = B} {B = B} answer items next left reported stop old now now reached
-    (carries_withheld (found_item answer next) stop now (refused_item answer (ended_by stop.cause) next stop is))
+    (carries_withheld (file_key_item answer next) stop now (refused_item answer (ended_by stop.cause) next stop is))
 
 -- ---- a file
 
@@ -132,11 +132,11 @@ file_ends answer file old now reached =
 
 -- or nothing
 pub file_is_unanswered : {A : Type 0} (answer : Answering) (file : NamedOf) (old now : Printer) → IsReached answer (key_items answer file) [] false old now
-    → Carries {A = A} (file_items answer file) (Err (stop_of file.name (File answer.unanswered))) old now
+    → Carries {A = A} (file_items answer file) (Err (run_fault_of file.name (File answer.unanswered))) old now
 unfolding file_items
 file_is_unanswered {A} answer file old now reached =
     let items = key_items answer file in
-    let stop = stop_of file.name (File answer.unanswered) in
+    let stop = run_fault_of file.name (File answer.unanswered) in
     let whole = all_said answer items false old now reached in
     let unanswered : Carries {A = A} (unanswered_of answer file.name (is_answered items)) (Err stop) now now = rw (sym whole.1) (carries_withheld (Stopped stop) stop now refl) in
     carries_then items (unanswered_of answer file.name (is_answered items)) tt (Err stop) old now now whole.0 unanswered

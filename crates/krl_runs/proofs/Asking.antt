@@ -26,7 +26,7 @@ use Rattle.key_files.specs.RunFault.{krl_cause}
 use Rattle.krl_runs.specs.Query.{AnswersAbout, HasEntries, IsHeld, answer_of, ask, ask_by, asked_run_of, query_run_of}
 use Rattle.key_files.specs.Keys.{Named}
 use Rattle.krl_runs.specs.Run.{Item, Outcome, Passed, Stopped, before, files_items, outcome_of}
-use Rattle.key_files.specs.RunFault.{RunFault, stop_of}
+use Rattle.key_files.specs.RunFault.{RunFault, run_fault_of}
 use Rattle.krl_runs.proofs.Agreeing.{files_same}
 use Rattle.krl_runs.proofs.Carrying.{carries_more, carries_passed, carries_then, carries_withheld}
 
@@ -58,10 +58,10 @@ dump_stops {A} {B} name dump files known stop old new first =
 
 -- The run ended before anything was said: the list had a fault, or memory ran out.
 pub refused_run : (name : List ℕ) (dump : Bool) (files : List Named) (fault : KrlFault) (now : Printer)
-    → Carries {A = Unit {0}} (query_run_of name (Err fault) dump files) (Err (stop_of name (krl_cause fault))) now now
+    → Carries {A = Unit {0}} (query_run_of name (Err fault) dump files) (Err (run_fault_of name (krl_cause fault))) now now
 unfolding query_run_of
-refused_run name dump files faults.NoMemory now = carries_withheld (Stopped (stop_of name (krl_cause faults.NoMemory))) (stop_of name (krl_cause faults.NoMemory)) now refl
-refused_run name dump files fault now = carries_withheld (Stopped (stop_of name (krl_cause fault))) (stop_of name (krl_cause fault)) now refl
+refused_run name dump files faults.NoMemory now = carries_withheld (Stopped (run_fault_of name (krl_cause faults.NoMemory))) (run_fault_of name (krl_cause faults.NoMemory)) now refl
+refused_run name dump files fault now = carries_withheld (Stopped (run_fault_of name (krl_cause fault))) (run_fault_of name (krl_cause fault)) now refl
 
 -- Lines that are said of a list make one text, before what follows.
 lines_first : (name : List ℕ) (lines : List (List ℕ)) (items : List Item)
@@ -145,15 +145,15 @@ asked_run name files entries result old new rest =
     carries_then (Passed name ∷ []) (files_items (ask_by (is_named entries)) files) tt result old old new (carries_passed (tt {0}) name old) rest
 
 pub asked_refused : (name : List ℕ) (files : List Named) (fault : KrlFault) (now : Printer)
-    → Carries {A = Unit {0}} (asked_run_of name (Err fault) files) (Err (stop_of name (krl_cause fault))) now now
+    → Carries {A = Unit {0}} (asked_run_of name (Err fault) files) (Err (run_fault_of name (krl_cause fault))) now now
 unfolding asked_run_of
-asked_refused name files faults.NoMemory now = carries_withheld (Stopped (stop_of name (krl_cause faults.NoMemory))) (stop_of name (krl_cause faults.NoMemory)) now refl
-asked_refused name files fault now = carries_withheld (Stopped (stop_of name (krl_cause fault))) (stop_of name (krl_cause fault)) now refl
+asked_refused name files faults.NoMemory now = carries_withheld (Stopped (run_fault_of name (krl_cause faults.NoMemory))) (run_fault_of name (krl_cause faults.NoMemory)) now refl
+asked_refused name files fault now = carries_withheld (Stopped (run_fault_of name (krl_cause fault))) (run_fault_of name (krl_cause fault)) now refl
 
 -- memory ran out before the first key was answered for
 pub asked_ran_out : (name : List ℕ) (files : List Named) (entries : List Entry) (now : Printer)
-    → Carries {A = Unit {0}} (asked_run_of name (Ok entries) files) (Err (stop_of name causes.NoMemory)) now now
+    → Carries {A = Unit {0}} (asked_run_of name (Ok entries) files) (Err (run_fault_of name causes.NoMemory)) now now
 unfolding asked_run_of
 asked_ran_out name files entries now =
-    carries_more {A = Unit {0}} {B = Unit {0}} (Passed name ∷ []) (files_items (ask_by (is_named entries)) files) (stop_of name causes.NoMemory) now now
-    (carries_withheld (Passed name) (stop_of name causes.NoMemory) now refl)
+    carries_more {A = Unit {0}} {B = Unit {0}} (Passed name ∷ []) (files_items (ask_by (is_named entries)) files) (run_fault_of name causes.NoMemory) now now
+    (carries_withheld (Passed name) (run_fault_of name causes.NoMemory) now refl)

@@ -35,9 +35,9 @@ ended_more : (ended : EndedBy) (before : Option (List ℕ)) (items more : List I
 ended_more (ByOutput count) before items more stop now p =
     record { said = p.said; later = p.later ++ more; parts = ap (λ (xs : List Item). xs ++ more) p.parts ∙ append_assoc p.said p.later more; unstopped = p.unstopped; cut_off = p.cut_off }
 ended_more ByMemory before items more stop now p =
-    let s = p.starves in
+    let s = p.runs_out in
     let parts = ap (λ (xs : List Item). xs ++ more) s.parts ∙ append_assoc p.said (s.next ∷ s.later) more in
-    record { said = p.said; starves = record { next = s.next; later = s.later ++ more; parts = parts; named = s.named }; has_said = p.has_said }
+    record { said = p.said; runs_out = record { next = s.next; later = s.later ++ more; parts = parts; named = s.named }; has_said = p.has_said }
 ended_more ByInput before items more stop now p =
     record { said = p.said; later = p.later ++ more; parts = ap (λ (xs : List Item). xs ++ more) p.parts ∙ append_assoc p.said (Stopped stop ∷ p.later) more; has_said = p.has_said }
 
@@ -51,7 +51,7 @@ carries_more xs ys stop old new first = record {
 -- the item at hand ends the run
 ends_here : (ended : EndedBy) (item : Item) (stop : RunFault) (now : Printer) (before : Option (List ℕ)) (said : List Item) → IsWithheld ended item stop → HasSaid before said now → IsEnded ended before (said ++ item ∷ []) stop now
 ends_here (ByOutput count) item stop now before said withheld has = absurd withheld
-ends_here ByMemory item stop now before said withheld has = record { said = said; starves = record { next = item; later = []; parts = refl; named = withheld }; has_said = has }
+ends_here ByMemory item stop now before said withheld has = record { said = said; runs_out = record { next = item; later = []; parts = refl; named = withheld }; has_said = has }
 ends_here ByInput item stop now before said withheld has = record { said = said; later = []; parts = ap (λ (i : Item). said ++ i ∷ []) withheld; has_said = has }
 
 -- an item that was not given

@@ -34,7 +34,7 @@ record IsFront (before : Option (List ℕ)) (run : List Item) (now : Printer) : 
 
 front_by : (ended : EndedBy) (before : Option (List ℕ)) (run : List Item) (stop : RunFault) (now : Printer) → is_by_output ended ≡ false → IsEnded ended before run stop now → IsFront before run now
 front_by (ByOutput count) before run stop now kept p = absurd cc
-front_by ByMemory before run stop now kept p = record { said = p.said; later = p.starves.next ∷ p.starves.later; parts = p.starves.parts; has_said = p.has_said }
+front_by ByMemory before run stop now kept p = record { said = p.said; later = p.runs_out.next ∷ p.runs_out.later; parts = p.runs_out.parts; has_said = p.has_said }
 front_by ByInput before run stop now kept p = record { said = p.said; later = Stopped stop ∷ p.later; parts = p.parts; has_said = p.has_said }
 
 front_of : (before : Option (List ℕ)) (run : List Item) (stop : Option RunFault) (now : Printer) → is_lost stop ≡ false → Reaches before run stop now → IsFront before run now
@@ -51,7 +51,7 @@ ends_cut run before fault old new front part =
 whole_by : (ended : EndedBy) (run : List Item) (before : Option (List ℕ)) (stop : RunFault) (old new : Printer) → is_by_output ended ≡ false → IsEnded ended before run stop old → IsSent old new → EndsBy ended run before new.taken new.failed stop
 whole_by (ByOutput count) run before stop old new kept p sent = absurd cc
 whole_by ByMemory run before stop old new kept p sent =
-    record { done = p.said; starves = p.starves; unstopped = p.has_said.added.unstopped; taken = taken_all before p.said old new p.has_said.added sent; working = sent.working }
+    record { done = p.said; runs_out = p.runs_out; unstopped = p.has_said.added.unstopped; taken = taken_all before p.said old new p.has_said.added sent; working = sent.working }
 whole_by ByInput run before stop old new kept p sent =
     let whole = ap outcome_of p.parts ∙ outcome_of-append p.said (Stopped stop ∷ p.later) p.has_said.added.unstopped in
     let text : (outcome_of run).text ≡ (outcome_of p.said).text = ap (λ (o : Outcome). o.text) whole ∙ append-nil (outcome_of p.said).text in

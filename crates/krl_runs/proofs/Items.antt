@@ -22,8 +22,8 @@ use Rattle.ssh_cert.proofs.Asked.{plain_is_key}
 use Rattle.krl_runs.specs.declared.output.answer.Answer.{Answer}
 use Rattle.key_files.specs.declared.cause.Cause.TheVariants.{Line}
 use Rattle.krl_runs.specs.Items.{SpellsKey}
-use Rattle.key_files.specs.Keys.{found, key_in, line_found, stop_at}
-use Rattle.krl_runs.specs.Run.{Answered, Answering, Stopped, found_item, item_of, key_item, said, subject_item}
+use Rattle.key_files.specs.Keys.{file_key_of, key_in, key_of_line, run_fault_at}
+use Rattle.krl_runs.specs.Run.{Answered, Answering, Stopped, file_key_item, item_of, key_item, said, subject_item}
 
 pub no_item_of : (answer : Answering) (name : List ℕ) (number : ℕ) (text : List ℕ) → has_key text ≡ false → item_of answer name number text ≡ None
 unfolding item_of key_in
@@ -31,16 +31,16 @@ no_item_of answer name number text has = rw has refl
 
 -- the item of a line, by what reading the line gives
 line_read : (answer : Answering) (name : List ℕ) (number : ℕ) (text : List ℕ) (read : Result Content LineFault) → has_key text ≡ true → line_at text ≡ read
-    → item_of answer name number text ≡ Some (found_item answer (line_found name number read))
+    → item_of answer name number text ≡ Some (file_key_item answer (key_of_line name number read))
 unfolding item_of key_in
-line_read answer name number text read has is = rw has (ap (λ (r : Result Content LineFault). Some (found_item answer (line_found name number r))) is)
+line_read answer name number text read has is = rw has (ap (λ (r : Result Content LineFault). Some (file_key_item answer (key_of_line name number r))) is)
 
 pub faulty_line : (answer : Answering) (name : List ℕ) (number : ℕ) (text : List ℕ) (fault : LineFault) → has_key text ≡ true → line_at text ≡ Err fault
-    → item_of answer name number text ≡ Some (Stopped (stop_at name number (Line fault)))
+    → item_of answer name number text ≡ Some (Stopped (run_fault_at name number (Line fault)))
 faulty_line answer name number text fault has is_fault = line_read answer name number text (Err fault) has is_fault
 
 pub line_item : (answer : Answering) (name : List ℕ) (number : ℕ) (text : List ℕ) (line : Content) → has_key text ≡ true → line_at text ≡ Ok line
-    → item_of answer name number text ≡ Some (found_item answer (Ok (found name (Some number) line)))
+    → item_of answer name number text ≡ Some (file_key_item answer (Ok (file_key_of name (Some number) line)))
 line_item answer name number text line has is_line = line_read answer name number text (Ok line) has is_line
 
 -- an answer has been read off a key line
@@ -57,19 +57,19 @@ same_reply : (name other : List ℕ) (a : Option Answer) (b : Answer) → said n
 same_reply name other None b e = absurd cc
 same_reply name other (Some a) b e = cc
 
-from_line : (answer : Answering) (name : List ℕ) (number : ℕ) (text other : List ℕ) (reply : Answer) → found_item answer (line_found name number (line_at text)) ≡ Answered other reply → FromLine answer name number text reply
+from_line : (answer : Answering) (name : List ℕ) (number : ℕ) (text other : List ℕ) (reply : Answer) → file_key_item answer (key_of_line name number (line_at text)) ≡ Answered other reply → FromLine answer name number text reply
 from_line answer name number text other reply item = of_line (line_at text) refl item
   where
-    of_key : (line : Content) (asked : Subject) (read : Result PublicKey KeyFault) → line_at text ≡ Ok line → subject_of line.blob ≡ Ok asked → key_at asked.plain ≡ read → key_item answer (found name (Some number) line) asked read ≡ Answered other reply → FromLine answer name number text reply
+    of_key : (line : Content) (asked : Subject) (read : Result PublicKey KeyFault) → line_at text ≡ Ok line → subject_of line.blob ≡ Ok asked → key_at asked.plain ≡ read → key_item answer (file_key_of name (Some number) line) asked read ≡ Answered other reply → FromLine answer name number text reply
     of_key line asked (Ok key) is_line is_asked is_key e =
         record { line = line; asked = asked; key = key; is_line = is_line; is_asked = is_asked; is_key = is_key; is_reply = same_reply name other (answer.say name (Some number) line asked key) reply e }
     of_key line asked (Err fault) is_line is_asked is_key e = absurd cc
 
-    of_blob : (line : Content) (read : Result Subject SubjectFault) → line_at text ≡ Ok line → subject_of line.blob ≡ read → subject_item answer (found name (Some number) line) read ≡ Answered other reply → FromLine answer name number text reply
+    of_blob : (line : Content) (read : Result Subject SubjectFault) → line_at text ≡ Ok line → subject_of line.blob ≡ read → subject_item answer (file_key_of name (Some number) line) read ≡ Answered other reply → FromLine answer name number text reply
     of_blob line (Ok asked) is_line is_asked e = of_key line asked (key_at asked.plain) is_line is_asked refl e
     of_blob line (Err fault) is_line is_asked e = absurd cc
 
-    of_line : (read : Result Content LineFault) → line_at text ≡ read → found_item answer (line_found name number read) ≡ Answered other reply → FromLine answer name number text reply
+    of_line : (read : Result Content LineFault) → line_at text ≡ read → file_key_item answer (key_of_line name number read) ≡ Answered other reply → FromLine answer name number text reply
     of_line (Ok line) is_line e = of_blob line (subject_of line.blob) is_line refl e
     of_line (Err fault) is_line e = absurd cc
 

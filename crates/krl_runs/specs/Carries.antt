@@ -1,7 +1,7 @@
 -- What a part of a run does: it says all of its items, or it ends the run.
 use Rattle.std.specs.Prelude.{◌≡◌, ℕ, List, ◌∷◌, ◌++◌, Option, None, Some, Result}
 use Rattle.std.specs.Result.{result_err}
-use Rattle.krl_runs.specs.Done.{IsCutOff, StarvesAfter}
+use Rattle.krl_runs.specs.Done.{IsCutOff, RunsOutAfter}
 use Rattle.krl_runs.specs.Printer.{Printer, HasSaid}
 use Rattle.krl_runs.specs.Run.{Item, Stopped, outcome_of}
 use Rattle.key_files.specs.RunFault.{RunFault, EndedBy, ByOutput, ByMemory, ByInput, ended_by}
@@ -15,10 +15,10 @@ pub record IsStopped (before : Option (List ℕ)) (items : List Item) (stop : Ru
   pub has_said : HasSaid before said now
 
 -- Memory ran out at the next item: all before it was said.
-pub record IsStarved (before : Option (List ℕ)) (items : List Item) (stop : RunFault)
+pub record IsOutOfMemory (before : Option (List ℕ)) (items : List Item) (stop : RunFault)
     (now : Printer) : Type 0 where
   pub said : List Item
-  pub starves : StarvesAfter said items stop
+  pub runs_out : RunsOutAfter said items stop
   pub has_said : HasSaid before said now
 
 -- The output failed within what the first items say.
@@ -32,7 +32,7 @@ pub record IsLost (before : Option (List ℕ)) (items : List Item) (count : ℕ)
 
 abbrev pub IsEnded : EndedBy → Option (List ℕ) → List Item → RunFault → Printer → Type 0
 IsEnded (ByOutput count) before items stop now = IsLost before items count stop now
-IsEnded ByMemory before items stop now = IsStarved before items stop now
+IsEnded ByMemory before items stop now = IsOutOfMemory before items stop now
 IsEnded ByInput before items stop now = IsStopped before items stop now
 
 -- How far a run came: it has said all of these items, or stopped within them.

@@ -4,8 +4,8 @@ use Rattle.std.specs.Io.KnownBytes.{Appends}
 use Rattle.key_files.specs.declared.cause.Cause.TheVariants.{NoMemory}
 use Rattle.krl_runs.specs.Printer.{IsCut}
 use Rattle.krl_runs.specs.Run.{Item, name_of, outcome_of, status_of}
-use Rattle.key_files.specs.RunFault.{RunFault, EndedBy, ByOutput, ByMemory, ByInput, ended_by, output_stop}
-use Rattle.key_files.specs.RunFault.{stop_of}
+use Rattle.key_files.specs.RunFault.{RunFault, EndedBy, ByOutput, ByMemory, ByInput, ended_by, output_run_fault}
+use Rattle.key_files.specs.RunFault.{run_fault_of}
 
 -- All of the run's text was taken, and the run's own end is reported.
 pub record IsWhole (run : List Item) (before after : Option (List ℕ)) (failed : Bool)
@@ -17,22 +17,22 @@ pub record IsWhole (run : List Item) (before after : Option (List ℕ)) (failed 
 -- The writer failed after this many bytes of the run's text.
 pub record IsCutOff (run : List Item) (before after : Option (List ℕ)) (failed : Bool)
     (stop : RunFault) (count : ℕ) : Type 0 where
-  pub named : stop ≡ output_stop count
+  pub named : stop ≡ output_run_fault count
   pub cut : IsCut (outcome_of run).text before after count
   pub broken : failed ≡ true
 
 -- Memory ran out at the next item of a run after these. What is at hand is named, and no line.
-pub record StarvesAfter (said run : List Item) (stop : RunFault) : Type 0 where
+pub record RunsOutAfter (said run : List Item) (stop : RunFault) : Type 0 where
   pub next : Item
   pub later : List Item
   pub parts : run ≡ said ++ next ∷ later
-  pub named : stop ≡ stop_of (name_of next) NoMemory
+  pub named : stop ≡ run_fault_of (name_of next) NoMemory
 
 -- Memory ran out. The whole lines of the run's first answers were taken.
 pub record IsBrokenOff (run : List Item) (before after : Option (List ℕ)) (failed : Bool)
     (stop : RunFault) : Type 0 where
   pub done : List Item
-  pub starves : StarvesAfter done run stop
+  pub runs_out : RunsOutAfter done run stop
   pub unstopped : (outcome_of done).stop ≡ None
   pub taken : Appends before after (outcome_of done).text
   pub working : failed ≡ false

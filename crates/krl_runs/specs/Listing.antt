@@ -53,14 +53,14 @@ describe hash = record {
 }
 
 -- the name of a file and the number of a line
-abbrev pub place_part : List ℕ → ℕ → List ℕ
-place_part name number =
+abbrev pub location_part : List ℕ → ℕ → List ℕ
+location_part name number =
     escaped name ++ (codes ":" ++ (decimal number ++ (codes ":" ++ 10 ∷ [])))
 
 -- the file and the line of a certificate, and its listing
 abbrev pub certificate_text : Hash → ℕ → List ℕ → ℕ → Cert → List ℕ
 certificate_text hash moment name number certificate =
-    place_part name number ++ listing_of hash certificate moment
+    location_part name number ++ listing_of hash certificate moment
 
 abbrev pub listed_certificate : Hash → ℕ → List ℕ → ℕ → Cert → Answer
 listed_certificate hash moment name number certificate =

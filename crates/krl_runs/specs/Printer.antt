@@ -5,7 +5,7 @@ use Rattle.std.specs.Io.KnownBytes.{Appends}
 use Rattle.std.specs.Result.{result_err}
 use Rattle.krl_runs.specs.declared.output.answer.Answer.{Answer}
 use Rattle.krl_runs.specs.Run.{Item, outcome_of}
-use Rattle.key_files.specs.RunFault.{RunFault, output_stop}
+use Rattle.key_files.specs.RunFault.{RunFault, output_run_fault}
 
 -- The end of the text, which waits to be sent; the count of the bytes that were sent; whether some
 -- line says REVOKED; and of the writer what it has taken, whether it has failed, and which it is.
@@ -53,7 +53,7 @@ pub record IsPartSent (stop : RunFault) (old new : Printer) : Type 0 where
   pub count : ℕ
   pub short : count < length old.waiting
   pub counted : new.sent ≡ reported_count (old.sent + count)
-  pub named : stop ≡ output_stop new.sent
+  pub named : stop ≡ output_run_fault new.sent
   pub taken : Appends old.taken new.taken (take count old.waiting)
   pub broken : new.failed ≡ true
 
@@ -64,7 +64,7 @@ Sends (Err stop) old new = IsPartSent stop old new
 -- What has failed answers its fault again, and nothing changes.
 abbrev pub FailsAgain : {A : Type 0} → Result A RunFault → Printer → Printer → Type 0
 FailsAgain result old new = old.failed ≡ true
-    → (result_err result ≡ Some (output_stop old.sent)) × (new ≡ old)
+    → (result_err result ≡ Some (output_run_fault old.sent)) × (new ≡ old)
 
 -- A printer was given just these items, over a writer that had taken some bytes before: the writer
 -- has taken the front of their text, and the rest waits.

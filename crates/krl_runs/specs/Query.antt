@@ -22,7 +22,7 @@ use Rattle.ssh_cert.specs.Escape.{escaped}
 use Rattle.krl_runs.specs.Contents.{Known, contents_items}
 use Rattle.key_files.specs.Keys.{Named}
 use Rattle.krl_runs.specs.Run.{Answering, Item, Passed, Stopped, files_items}
-use Rattle.key_files.specs.RunFault.{krl_cause, stop_of}
+use Rattle.key_files.specs.RunFault.{krl_cause, run_fault_of}
 
 -- a comment after a file's name, where there is one
 abbrev pub comment_part : List ℕ → List ℕ
@@ -88,14 +88,14 @@ IsListRead = IsReadingOf IsHeld
 -- The list's first fault ends the run at once. Else its contents are printed where they are asked
 -- for, and then each key of each file gives one line, up to the first fault.
 unfoldable pub query_run_of : List ℕ → Result Known KrlFault → Bool → List Named → List Item
-query_run_of name (Err fault) dump files = Stopped (stop_of name (krl_cause fault)) ∷ []
+query_run_of name (Err fault) dump files = Stopped (run_fault_of name (krl_cause fault)) ∷ []
 query_run_of name (Ok known) dump files =
     Passed name ∷ (contents_items name dump known ++ files_items (ask known.contents) files)
 
 -- The list's first fault ends the run at once. Else each key of each file gives one line, up to the
 -- first fault.
 unfoldable pub asked_run_of : List ℕ → Result (List Entry) KrlFault → List Named → List Item
-asked_run_of name (Err fault) files = Stopped (stop_of name (krl_cause fault)) ∷ []
+asked_run_of name (Err fault) files = Stopped (run_fault_of name (krl_cause fault)) ∷ []
 asked_run_of name (Ok entries) files =
     Passed name ∷ files_items (ask_by (is_revoked entries)) files
 

@@ -15,8 +15,8 @@ use Rattle.ssh_cert.specs.declared.subject_fault.SubjectFault.TheVariants as sub
 use Rattle.krl_runs.specs.declared.output.answer.Answer.{Answer}
 use Rattle.key_files.specs.declared.cause.Cause.TheVariants as causes
 use Rattle.key_files.specs.declared.file_fault.FileFault.{FileFault}
-use Rattle.key_files.specs.Keys.{Named, FileKey, container_found, key_in, keys_of, stop_in}
-use Rattle.key_files.specs.RunFault.{RunFault, EndedBy, ByOutput, ByMemory, ByInput, ended_by, stop_of}
+use Rattle.key_files.specs.Keys.{Named, FileKey, key_of_container, key_in, keys_of, run_fault_in}
+use Rattle.key_files.specs.RunFault.{RunFault, EndedBy, ByOutput, ByMemory, ByInput, ended_by, run_fault_of}
 
 -- A step of a run. What it is about has a name: that of a file, or of the list.
 pub data Item : Type 0 where
@@ -47,25 +47,25 @@ said name (Some answer) = Answered name answer
 
 -- The plain key of what is asked is always read.
 abbrev pub key_item : Answering → FileKey → Subject → Result PublicKey KeyFault → Item
-key_item answer key asked (Err fault) = Stopped (stop_in key (subjects.Key fault))
+key_item answer key asked (Err fault) = Stopped (run_fault_in key (subjects.Key fault))
 key_item answer key asked (Ok plain) =
     said key.name (answer.say key.name key.number key.line asked plain)
 
 abbrev pub subject_item : Answering → FileKey → Result Subject SubjectFault → Item
-subject_item answer key (Err fault) = Stopped (stop_in key fault)
+subject_item answer key (Err fault) = Stopped (run_fault_in key fault)
 subject_item answer key (Ok asked) = key_item answer key asked (key_at asked.plain)
 
-abbrev pub found_item : Answering → Result FileKey RunFault → Item
-found_item answer (Err stop) = Stopped stop
-found_item answer (Ok key) = subject_item answer key (subject_of key.line.blob)
+abbrev pub file_key_item : Answering → Result FileKey RunFault → Item
+file_key_item answer (Err stop) = Stopped stop
+file_key_item answer (Ok key) = subject_item answer key (subject_of key.line.blob)
 
 -- what a run says of a line by its number: nothing where the line has no key
 unfoldable pub item_of : Answering → List ℕ → ℕ → List ℕ → Option Item
-item_of answer name number line = option_map (found_item answer) (key_in name number line)
+item_of answer name number line = option_map (file_key_item answer) (key_in name number line)
 
 -- what it says of a container
 abbrev pub container_item : Answering → List ℕ → Result Opened PrivateFault → Item
-container_item answer name read = found_item answer (container_found name read)
+container_item answer name read = file_key_item answer (key_of_container name read)
 
 -- something is said, or a fault ends the run
 abbrev pub is_answered : List Item → Bool
@@ -77,14 +77,14 @@ is_answered (Stopped stop ∷ items) = true
 -- a file of which nothing is said ends the run
 abbrev pub unanswered_of : Answering → List ℕ → Bool → List Item
 unanswered_of answer name true = []
-unanswered_of answer name false = Stopped (stop_of name (causes.File answer.unanswered)) ∷ []
+unanswered_of answer name false = Stopped (run_fault_of name (causes.File answer.unanswered)) ∷ []
 
 abbrev pub or_unanswered : Answering → List ℕ → List Item → List Item
 or_unanswered answer name items = items ++ unanswered_of answer name (is_answered items)
 
 -- each key of a file is answered
 unfoldable pub file_items : Answering → Named → List Item
-file_items answer file = or_unanswered answer file.name (map (found_item answer) (keys_of file))
+file_items answer file = or_unanswered answer file.name (map (file_key_item answer) (keys_of file))
 
 unfoldable pub files_items : Answering → List Named → List Item
 files_items answer files = flat_map (file_items answer) files
@@ -121,7 +121,7 @@ status_of false false = 0
 -- The item of a key was not given: it stops the run, or memory ran out.
 abbrev pub IsWithheld : EndedBy → Item → RunFault → Type 0
 IsWithheld ByInput item stop = item ≡ Stopped stop
-IsWithheld ByMemory item stop = stop ≡ stop_of (name_of item) causes.NoMemory
+IsWithheld ByMemory item stop = stop ≡ run_fault_of (name_of item) causes.NoMemory
 IsWithheld (ByOutput count) item stop = ⊥
 
 -- What was found out of a key of a file of this name is its item, unless memory ran out.

@@ -26,9 +26,9 @@ ghost use Rattle.krl_runs.specs.Contents.{Known, dump_text};
 ghost use Rattle.krl_runs.specs.Items.{SpellsKey};
 ghost use Rattle.krl_runs.specs.Listing.{certify, listed_certificate};
 ghost use Rattle.krl_runs.specs.Query.{HasEntries, IsHeld, IsRead, ask, ask_by, query_run_of};
-ghost use Rattle.key_files.specs.Keys.{Named, stop_at};
+ghost use Rattle.key_files.specs.Keys.{Named, run_fault_at};
 ghost use Rattle.krl_runs.specs.Run.{Answered, Answering, Stopped, before, container_item, files_items, item_of, outcome_of, said};
-ghost use Rattle.key_files.specs.RunFault.{stop_of};
+ghost use Rattle.key_files.specs.RunFault.{run_fault_of};
 
 use krl_core::laws::{one_first_fault, one_spelling};
 use krl_held::laws::entries_decide_what_is_held;
@@ -56,11 +56,12 @@ pub fn items_by_what_is_spelled()
         × (Some reply ≡ answer.say name (Some number) line asked key) }
     ensures line_fault { (answer : Answering) (name : List ℕ) (number : ℕ) (text : List ℕ)
         (fault : LineFault) → IsBytes text → has_key text ≡ true → IsFirstLineFault text fault
-        → item_of answer name number text ≡ Some (Stopped (stop_at name number (Line fault))) }
+        → item_of answer name number text ≡ Some (Stopped (run_fault_at name number (Line fault))) }
     ensures blob_fault { (answer : Answering) (name : List ℕ) (number : ℕ)
         (text word blob comment : List ℕ) (fault : SubjectFault)
         → has_key text ≡ true → IsKeyLine text word blob comment → IsSubjectFault blob fault
-        → item_of answer name number text ≡ Some (Stopped (stop_at name number (Subjects fault))) }
+        → item_of answer name number text
+        ≡ Some (Stopped (run_fault_at name number (Subjects fault))) }
 {
     line_read_where_spelled();
     line_refused_by_first_fault();
@@ -79,7 +80,7 @@ pub fn containers_by_what_is_spelled()
     ensures fault { (answer : Answering) (name text : List ℕ) (fault : PrivateFault)
         → IsBytes text → IsPrivateFault text fault
         → container_item answer name (private_at text)
-        ≡ Stopped (stop_of name (Private fault)) }
+        ≡ Stopped (run_fault_of name (Private fault)) }
 {
     private_read_where_spelled();
     private_refused_by_first_fault();

@@ -18,17 +18,17 @@ GrowsBy authority text = GrowsUnder (bytes_under authority) (length text)
 -- The same number of bytes is enough for what stands under another authority, whose bytes are
 -- counted too.
 abbrev pub HasRoom : List ℕ → ℕ → List ℕ → ℕ → Type 0
-HasRoom under size authority bytes =
-    ((authority ≡ under) × (bytes ≤ size)) ⊎ (length authority + bytes ≤ size)
+HasRoom at_hand size authority bytes =
+    ((authority ≡ at_hand) × (bytes ≤ size)) ⊎ (length authority + bytes ≤ size)
 
 -- An entry stores at most this many bytes more, where the bytes of one authority are not counted.
 abbrev pub Fits : List ℕ → ℕ → Entry → Type 0
-Fits under size (RangeEntry authority lo hi) = HasRoom under size authority 0
-Fits under size (IdEntry authority text) = HasRoom under size authority (length text)
-Fits under size (KeyEntry blob) = length blob ≤ size
-Fits under size (Sha1Entry hash) = 20 ≤ size
-Fits under size (Sha256Entry hash) = 32 ≤ size
-Fits under size entry = ⊥
+Fits at_hand size (RangeEntry authority lo hi) = HasRoom at_hand size authority 0
+Fits at_hand size (IdEntry authority text) = HasRoom at_hand size authority (length text)
+Fits at_hand size (KeyEntry blob) = length blob ≤ size
+Fits at_hand size (Sha1Entry hash) = 20 ≤ size
+Fits at_hand size (Sha256Entry hash) = 32 ≤ size
+Fits at_hand size entry = ⊥
 
 -- how many bytes what is asked can store: those of a plain key, or of what names a certificate
 abbrev pub asked_size : List ℕ → Option CertNames → ℕ

@@ -1,4 +1,4 @@
-//! The place of a list that is made, held against other updates of it.
+//! Where a list is written, held against other updates of it.
 
 use crate::names::followed;
 use krl_runs::{Cause, FileFault};
@@ -11,7 +11,7 @@ const NO_LOCKS: i32 = 37;
 
 /// Where a list is written.
 #[derive(Drop)]
-pub enum Place {
+pub enum Target {
     /// Over a list, which no other update reads or writes as long as this is held.
     Held(OldList),
     /// At this path, where nothing stands.
@@ -34,13 +34,13 @@ pub struct OldList {
 /// Where the list of this name is to be written, once no other update holds it; none where the name
 /// leads to another file by then. It is opened as one that is to be written, and read too where
 /// that is asked for, so who may not do that, or may not follow the link to it, is refused.
-pub fn hold(rt: &HostRuntime, name: &str, reads: bool) -> Result<Option<Place>, Cause> {
+pub fn hold(rt: &HostRuntime, name: &str, reads: bool) -> Result<Option<Target>, Cause> {
     let mut options = OpenOptions::new();
     options.read(reads).write(true);
     let file = match options.open(rt, name) {
         Ok(file) => file,
         Err(error) if error.kind() == ErrorKind::NotFound && !name.is_empty() && !reads => {
-            return Ok(Some(Place::Free(path_of(rt, name)?)));
+            return Ok(Some(Target::Free(path_of(rt, name)?)));
         }
         Err(_) => return Err(Cause::File(FileFault::Open)),
     };
@@ -48,12 +48,12 @@ pub fn hold(rt: &HostRuntime, name: &str, reads: bool) -> Result<Option<Place>, 
         return Err(Cause::File(FileFault::Open));
     };
     if !found.is_file() {
-        return Ok(Some(Place::Stream(file)));
+        return Ok(Some(Target::Stream(file)));
     }
     lock(&file)?;
     let path = path_of(rt, name)?;
     if is_at(rt, path.as_str(), Some(&found)) {
-        Ok(Some(Place::Held(OldList { file, found, path })))
+        Ok(Some(Target::Held(OldList { file, found, path })))
     } else {
         Ok(None)
     }

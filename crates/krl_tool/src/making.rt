@@ -6,7 +6,7 @@ ghost use Rattle.std.specs.Option.{ForSome};
 use crate::clock::date;
 use crate::ending::{end, failed, stopped};
 use crate::files::{buffered, open_authority, open_inputs};
-use crate::holding::{Place, hold};
+use crate::holding::{Target, hold};
 use crate::replacing::{Written, write_list};
 use krl_job::{Authority, Job};
 use krl_make::{Old, make_run};
@@ -109,14 +109,14 @@ fn write_once<'a>(
     made: &Option<Vec<u8>>,
     wanted: &'a Wanted<'a>,
 ) -> Result<Written, RunFault<'a>> {
-    let place = match hold(rt, wanted.name, made.is_none()) {
-        Ok(Some(place)) => place,
+    let target = match hold(rt, wanted.name, made.is_none()) {
+        Ok(Some(target)) => target,
         Ok(None) => return Ok(Written::Elsewhere),
         Err(cause) => return Err(RunFault::whole(wanted.name, cause)),
     };
     let written = match made {
-        Some(text) => write_list(rt, &place, text),
-        None => write_list(rt, &place, &updated(rt, &place, wanted)?),
+        Some(text) => write_list(rt, &target, text),
+        None => write_list(rt, &target, &updated(rt, &target, wanted)?),
     };
     match written {
         Ok(written) => Ok(written),
@@ -127,10 +127,10 @@ fn write_once<'a>(
 // The list that is held, with the lines added. What is no file any more is not read.
 fn updated<'a>(
     rt: &HostRuntime,
-    place: &Place,
+    target: &Target,
     wanted: &'a Wanted<'a>,
 ) -> Result<Vec<u8>, RunFault<'a>> {
-    if let Place::Held(old) = place
+    if let Target::Held(old) = target
         && let Ok(file) = old.file.try_clone()
     {
         return text_over(rt, file, wanted);

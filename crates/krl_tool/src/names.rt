@@ -16,14 +16,14 @@ pub fn followed(rt: &HostRuntime, name: &str) -> io::Result<String> {
     let mut path = String::from_str(rt.alloc(), name)?;
     // After the last link the file itself is looked at.
     for _ in 0..=LINKS {
-        let target = match fs::read_link(rt, path.as_str()) {
-            Ok(target) => target,
+        let link = match fs::read_link(rt, path.as_str()) {
+            Ok(link) => link,
             Err(error) if matches!(error.kind(), ErrorKind::InvalidInput | ErrorKind::NotFound) => {
                 return Ok(path);
             }
             Err(error) => return Err(error),
         };
-        path = beside(rt.alloc(), path.as_str(), target.as_str())?;
+        path = beside(rt.alloc(), path.as_str(), link.as_str())?;
     }
     Err(io::Error::from(ErrorKind::FilesystemLoop))
 }

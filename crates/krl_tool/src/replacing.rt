@@ -4,7 +4,7 @@
 ghost use Rattle.std.specs.Prelude.{◌≡◌, ◌↔◌, ◌⊎◌, IsNone, IsSome, IsTrue, bit_and};
 ghost use Rattle.std.specs.Fs.{metadata_mode, permissions_mode};
 
-use crate::holding::{OldList, Place, is_at, unopened};
+use crate::holding::{OldList, Target, is_at, unopened};
 use crate::in_place::{send_all, write_in_place};
 use crate::names::{beside, new_name};
 use krl_runs::Cause;
@@ -33,14 +33,14 @@ pub enum Written {
 }
 
 /// Writes a list. On a fault an old list stands as it was, unless its folder takes no new file.
-pub fn write_list(rt: &HostRuntime, place: &Place, text: &[u8]) -> Result<Written, Cause> {
-    match place {
-        Place::Held(old) => replace(rt, old, text),
-        Place::Free(path) => match create_beside(rt, path, None) {
+pub fn write_list(rt: &HostRuntime, target: &Target, text: &[u8]) -> Result<Written, Cause> {
+    match target {
+        Target::Held(old) => replace(rt, old, text),
+        Target::Free(path) => match create_beside(rt, path, None) {
             Ok(new) => take_its_place(rt, path, None, &new, text),
             Err(error) => Err(unopened(&error)),
         },
-        Place::Stream(file) => match send_all(file, text) {
+        Target::Stream(file) => match send_all(file, text) {
             Ok(()) => Ok(Written::Whole),
             Err(count) => Err(Cause::Output { count }),
         },

@@ -17,12 +17,12 @@ pub enum Then {
     Zeros(usize),
 }
 
-/// Gives its bytes, at most `piece` at a call, once it was interrupted `interruptions` times. It
+/// Gives its bytes, at most `per_call` at a call, once it was interrupted `interruptions` times. It
 /// fails from the call on that is to fail.
 #[derive(Drop)]
 pub struct Giver<'a> {
     pub bytes: &'a [u8],
-    pub piece: usize,
+    pub per_call: usize,
     pub interruptions: usize,
     pub calls_before_failure: usize,
     pub then: Then,
@@ -30,10 +30,10 @@ pub struct Giver<'a> {
 
 impl<'a> Giver<'a> {
     /// A reader that is not interrupted, does not fail, and ends where its bytes end.
-    pub fn new(bytes: &'a [u8], piece: usize) -> Giver<'a> {
+    pub fn new(bytes: &'a [u8], per_call: usize) -> Giver<'a> {
         Giver {
             bytes,
-            piece,
+            per_call,
             interruptions: 0,
             calls_before_failure: usize::MAX,
             then: Then::Ends,
@@ -57,7 +57,7 @@ impl<'a> Giver<'a> {
                 Ok(0)
             }
             Then::Zeros(left) => {
-                let count = left.min(into.len()).min(self.piece);
+                let count = left.min(into.len()).min(self.per_call);
                 into[..count].fill(0);
                 self.then = Then::Zeros(left - count);
                 Ok(count)
@@ -72,7 +72,7 @@ impl<'a> Read for Giver<'a> {
         if self.bytes.is_empty() && !into.is_empty() {
             return self.read_then(into);
         }
-        let count = self.bytes.len().min(into.len()).min(self.piece);
+        let count = self.bytes.len().min(into.len()).min(self.per_call);
         into[..count].copy_from_slice(&self.bytes[..count]);
         self.bytes = &self.bytes[count..];
         Ok(count)

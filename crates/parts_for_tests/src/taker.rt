@@ -4,22 +4,22 @@ use crate::calls::begin;
 use std::alloc::Global;
 use std::io::{self, Write};
 
-/// Takes at most `piece` bytes at a call, once it was interrupted `interruptions` times. It fails
-/// from the call on that is to fail.
+/// Takes at most `per_call` bytes at a call, once it was interrupted `interruptions` times. It
+/// fails from the call on that is to fail.
 #[derive(Drop)]
 pub struct Taker {
     pub taken: Vec<u8>,
-    pub piece: usize,
+    pub per_call: usize,
     pub interruptions: usize,
     pub calls_before_failure: usize,
 }
 
 impl Taker {
     /// A writer that is not interrupted.
-    pub fn new(alloc: Global, piece: usize, calls_before_failure: usize) -> Taker {
+    pub fn new(alloc: Global, per_call: usize, calls_before_failure: usize) -> Taker {
         Taker {
             taken: Vec::new(alloc),
-            piece,
+            per_call,
             interruptions: 0,
             calls_before_failure,
         }
@@ -34,7 +34,7 @@ impl Taker {
 impl Write for Taker {
     fn write(&mut self, bytes: &[u8]) -> io::Result<usize> {
         begin(&mut self.interruptions, &mut self.calls_before_failure)?;
-        let count = bytes.len().min(self.piece);
+        let count = bytes.len().min(self.per_call);
         self.taken.extend_from_slice(&bytes[..count])?;
         Ok(count)
     }

@@ -32,8 +32,8 @@ pub highest_bit : (byte z : ℕ) → 0 < byte → byte < 2 ^ 8 → z ≡ count_l
     → (bit_at byte (7 - z) ≡ 1) × ((i : ℕ) → bit_at byte i ≡ 1 → i ≤ 7 - z)
 highest_bit byte z h k e =
     let top = leading_top 8 byte h k in
-    let place : 7 - z ≡ top.0 = omega (arith, top.1) in (
-      subst (λ i. bit_at byte i ≡ 1) (sym place) (top_bit top.0 byte top.2 top.3),
+    let position : 7 - z ≡ top.0 = omega (arith, top.1) in (
+      subst (λ i. bit_at byte i ≡ 1) (sym position) (top_bit top.0 byte top.2 top.3),
       λ i b. omega (arith, bit_below byte (suc top.0) i top.3 b),
     )
 
@@ -44,11 +44,11 @@ BitNames-split base bits byte s h n =
     elim (cases_lt (s - base) 8) [
       | inl low ↦ inr (n.0, n.1, sym (bit_at_cat_low bits 8 byte (s - base) low) ∙ n.2)
       | inr high ↦ (
-          let place : s - base - 8 ≡ s - (base + 8) = omega arith in
+          let position : s - base - 8 ≡ s - (base + 8) = omega arith in
           inl (
             n.0,
             omega arith,
-            ap (λ i. bit_at bits i) (sym place)
+            ap (λ i. bit_at bits i) (sym position)
                 ∙ sym (bit_at_cat_high bits 8 byte (s - base) h high) ∙ n.2,
           ))
     ]
@@ -58,11 +58,11 @@ pub BitNames-join : (base bits byte s : ℕ) → byte < 256
 BitNames-join base bits byte s h n =
     elim n [
       | inl up ↦ (
-          let place : s - base - 8 ≡ s - (base + 8) = omega arith in (
+          let position : s - base - 8 ≡ s - (base + 8) = omega arith in (
             up.0,
             omega arith,
             bit_at_cat_high bits 8 byte (s - base) h (omega arith)
-                ∙ ap (λ i. bit_at bits i) place ∙ up.2,
+                ∙ ap (λ i. bit_at bits i) position ∙ up.2,
           ))
       | inr here ↦ (
           let low : s - base < 8 = bit_below byte 8 (s - base) h here.2 in

@@ -200,13 +200,13 @@ fed_serials offset len bytes after finished small path s n =
 pub fed_few : (offset len : ℕ) (bytes : List ℕ) (after : BitRuns) (finished : List Span) → All (λ b. b < 256) bytes → FeedsAll (start offset len) bytes after finished → length (runs_after after finished) ≤ 4 * length bytes
 fed_few offset len bytes after finished small path = (fed_from_start offset len bytes after finished small path).0.few
 
-pub fed_place : (offset len : ℕ) (bytes : List ℕ) (after : BitRuns) (finished : List Span) → All (λ b. b < 256) bytes → FeedsAll (start offset len) bytes after finished → (after.bytes_left + length bytes ≡ len) × (after.offset ≡ offset)
-fed_place offset len bytes after finished small path =
+pub fed_position : (offset len : ℕ) (bytes : List ℕ) (after : BitRuns) (finished : List Span) → All (λ b. b < 256) bytes → FeedsAll (start offset len) bytes after finished → (after.bytes_left + length bytes ≡ len) × (after.offset ≡ offset)
+fed_position offset len bytes after finished small path =
     let whole = fed_from_start offset len bytes after finished small path in (whole.1, whole.2)
 
 pub fed_whole : (offset len : ℕ) (bytes : List ℕ) (after : BitRuns) (finished : List Span) → All (λ b. b < 256) bytes → length bytes ≡ len → FeedsAll (start offset len) bytes after finished → IsRunsOf (runs_after after finished) (λ s. BitNames offset (big_endian bytes) s)
 fed_whole offset len bytes after finished small all path =
-    let place = fed_place offset len bytes after finished small path in
+    let position = fed_position offset len bytes after finished small path in
     let low : lowest after ≡ offset = omega arith in
     subst (λ n. IsRunsOf (runs_after after finished) (λ s. BitNames n (big_endian bytes) s)) low (fed_runs offset len bytes after finished small path)
 

@@ -1,4 +1,4 @@
--- Lists in a row: what the lists before a place have, the one there, and those after it.
+-- Lists in a row: what the lists before a position have, the one there, and those after it.
 use Rattle.std.proofs.Common.{◌≡◌, ℕ, ◌+◌, ◌-◌, ◌<◌, ◌≤◌, List, [], ◌∷◌, ◌++◌, length, get_or, take, drop, sym, ap, subst, arith, suc, set, ◌∙◌, add-zero, length-append, length-drop}
 use Rattle.std.specs.List.{All, flat_map, insert}
 use Rattle.std.proofs.lemmas.List.{append_assoc, take-append-drop, drop_more, drop_at, drop-drop, drop-set, drop-set-lt, get_or-drop, length-take-le, set_split, take_more_set, get_or_append_left, get_or-append-add}
@@ -11,7 +11,7 @@ all_left P xs ys h = λ k d q. subst P (get_or_append_left xs ys d k q) (h k d (
 pub all_right : {X : Type 0} (P : X → Type 0) (xs ys : List X) → All P (xs ++ ys) → All P ys
 all_right P xs ys h = λ k d q. subst P (get_or-append-add xs ys k d) (h (length xs + k) d (omega (arith, length-append xs ys)))
 
--- ---- cut at a place
+-- ---- cut at a position
 
 pub flat_cut : {X Y : Type 0} (f : X → List Y) (xs : List X) (at : ℕ) → flat_map f xs ≡ flat_map f (take at xs) ++ flat_map f (drop at xs)
 flat_cut f xs at = ap (flat_map f) (sym (take-append-drop at xs)) ∙ flat_map-append f (take at xs) (drop at xs)
@@ -27,7 +27,7 @@ cut_between : {Y : Type 0} (front l ys zs back : List Y) → l ≡ ys ++ zs → 
 cut_between front l ys zs back is =
     ap (λ t. front ++ (t ++ back)) is ∙ ap (λ t. front ++ t) (append_assoc ys zs back) ∙ sym (append_assoc front ys (zs ++ back))
 
--- the same with the list at the place cut in two
+-- the same with the list at the position cut in two
 pub part_at : {X Y : Type 0} (f : X → List Y) (xs : List X) (at : ℕ) (d : X) (ys zs : List Y) → at < length xs → f (get_or xs at d) ≡ ys ++ zs
     → flat_map f xs ≡ (flat_map f (take at xs) ++ ys) ++ (zs ++ flat_map f (drop (at + 1) xs))
 part_at f xs at d ys zs h is = flat_at f xs at d h ∙ cut_between (flat_map f (take at xs)) (f (get_or xs at d)) ys zs (flat_map f (drop (at + 1) xs)) is
@@ -67,26 +67,26 @@ flat_drop_set f xs at y h = ap (flat_map f) (drop-set xs at y h)
 
 -- ---- what is left where some are removed
 
-pub left_back : {X : Type 0} (xs ys : List X) (from gone : ℕ) → ys ≡ take from xs ++ drop gone (drop from xs) → from ≤ length xs → drop from ys ≡ drop gone (drop from xs)
-left_back xs ys from gone is h = ap (drop from) is ∙ drop_at (take from xs) (drop gone (drop from xs)) from (length-take-le from xs h)
+pub removed_back : {X : Type 0} (xs ys : List X) (from gone : ℕ) → ys ≡ take from xs ++ drop gone (drop from xs) → from ≤ length xs → drop from ys ≡ drop gone (drop from xs)
+removed_back xs ys from gone is h = ap (drop from) is ∙ drop_at (take from xs) (drop gone (drop from xs)) from (length-take-le from xs h)
 
-pub left_more : {X : Type 0} (xs ys : List X) (from gone : ℕ) → drop from ys ≡ drop gone xs → (from < length ys → gone < length xs) × (length ys ≤ from → length xs ≤ gone)
-left_more xs ys from gone is =
+pub removed_more : {X : Type 0} (xs ys : List X) (from gone : ℕ) → drop from ys ≡ drop gone xs → (from < length ys → gone < length xs) × (length ys ≤ from → length xs ≤ gone)
+removed_more xs ys from gone is =
     let same : length ys - from ≡ length xs - gone = sym (length-drop from ys) ∙ (ap length is ∙ length-drop gone xs) in
     (λ h. omega arith, λ h. omega arith)
 
-pub left_at : {X : Type 0} (xs ys : List X) (from gone : ℕ) (d : X) → drop from ys ≡ drop gone xs → get_or ys from d ≡ get_or xs gone d
-left_at xs ys from gone d is =
+pub removed_at : {X : Type 0} (xs ys : List X) (from gone : ℕ) (d : X) → drop from ys ≡ drop gone xs → get_or ys from d ≡ get_or xs gone d
+removed_at xs ys from gone d is =
     ap (λ n. get_or ys n d) (sym (add-zero from)) ∙ sym (get_or-drop from ys 0 d) ∙ ap (λ l. get_or l 0 d) is ∙ get_or-drop gone xs 0 d ∙ ap (λ n. get_or xs n d) (add-zero gone)
 
-pub left_rest : {X : Type 0} (xs ys : List X) (from gone : ℕ) → drop from ys ≡ drop gone xs → drop (from + 1) ys ≡ drop (gone + 1) xs
-left_rest xs ys from gone is = sym (drop-drop 1 from ys) ∙ ap (drop 1) is ∙ drop-drop 1 gone xs
+pub removed_rest : {X : Type 0} (xs ys : List X) (from gone : ℕ) → drop from ys ≡ drop gone xs → drop (from + 1) ys ≡ drop (gone + 1) xs
+removed_rest xs ys from gone is = sym (drop-drop 1 from ys) ∙ ap (drop 1) is ∙ drop-drop 1 gone xs
 
--- the first that was left after the place where some were removed
-pub left_first : {X : Type 0} (xs ys : List X) (from gone : ℕ) (y : X) → ys ≡ take from xs ++ drop gone (drop from xs) → from ≤ length xs → from < length ys → y ≡ get_or ys from y → (gone < length (drop from xs)) × (y ≡ get_or (drop from xs) gone y)
-left_first xs ys from gone y is h some first =
-    let back = left_back xs ys from gone is h in
-    ((left_more (drop from xs) ys from gone back).0 some, first ∙ left_at (drop from xs) ys from gone y back)
+-- the first that was left after the position where some were removed
+pub removed_first : {X : Type 0} (xs ys : List X) (from gone : ℕ) (y : X) → ys ≡ take from xs ++ drop gone (drop from xs) → from ≤ length xs → from < length ys → y ≡ get_or ys from y → (gone < length (drop from xs)) × (y ≡ get_or (drop from xs) gone y)
+removed_first xs ys from gone y is h some first =
+    let back = removed_back xs ys from gone is h in
+    ((removed_more (drop from xs) ys from gone back).0 some, first ∙ removed_at (drop from xs) ys from gone y back)
 
 -- what holds of all of a tail holds of its first
 pub first_of : {X : Type 0} (P : X → Type 0) (xs : List X) (at : ℕ) (d : X) → at < length xs → All P (drop at xs) → P (get_or xs at d)

@@ -4,42 +4,42 @@ use Rattle.std.specs.Prelude.{bit_and, false}
 use Rattle.std.specs.Int.{bit_at, bit_not, trailing_zeros}
 use Rattle.std.proofs.lemmas.Bool.{cases_eq, cases_lt}
 use Rattle.std.proofs.lemmas.Nat.Bits.{bit_at_and, bit_at_not, bit_at-lt, bit_at-zero, bit_at_mask_inside, bit_at_mask_below, bit_at-trailing_zeros}
-use Rattle.serial_set.specs.declared.entry.Entry.{Entry}
+use Rattle.serial_set.specs.declared.chunk.Chunk.{Chunk}
 use Rattle.serial_set.specs.Span.{Covers}
-use Rattle.serial_set.specs.Entry.{is_run, window_of, bits_of, members_in, lo_of}
+use Rattle.serial_set.specs.Chunk.{is_span, window_of, bits_of, members_in, lo_of}
 use Rattle.serial_set.specs.Members.{IsFirst, IsFirstBit, GoesOn}
-use Rattle.serial_set.proofs.InEntry.{in_word, word_ends}
+use Rattle.serial_set.proofs.InChunk.{in_word, word_ends}
 
-pub none_set : (bits place m : ℕ) → m ≡ 2 ^ 64 - 2 ^ place → bit_and bits m ≡ 0 → IsFirstBit bits place None
-none_set bits place m e none i h k =
+pub none_set : (bits bit m : ℕ) → m ≡ 2 ^ 64 - 2 ^ bit → bit_and bits m ≡ 0 → IsFirstBit bits bit None
+none_set bits bit m e none i h k =
     let zero : bit_at (bit_and bits m) i ≡ 0 = ap (λ n. bit_at n i) none ∙ bit_at-zero i in
-    let in' : bit_at m i ≡ 1 = ap (λ n. bit_at n i) e ∙ bit_at_mask_inside place 64 i h k in
+    let in' : bit_at m i ≡ 1 = ap (λ n. bit_at n i) e ∙ bit_at_mask_inside bit 64 i h k in
     omega (arith, zero, in', bit_at_and bits m i)
 
-pub first_set : (bits place m : ℕ) → place < 64 → m ≡ 2 ^ 64 - 2 ^ place → 0 < bit_and bits m → bit_and bits m < 2 ^ 64 → IsFirstBit bits place (Some (trailing_zeros w64 (bit_and bits m)))
-first_set bits place m within e some fits =
+pub first_set : (bits bit m : ℕ) → bit < 64 → m ≡ 2 ^ 64 - 2 ^ bit → 0 < bit_and bits m → bit_and bits m < 2 ^ 64 → IsFirstBit bits bit (Some (trailing_zeros w64 (bit_and bits m)))
+first_set bits bit m within e some fits =
     let rest = bit_and bits m in
     let at = trailing_zeros w64 rest in
     let t = bit_at-trailing_zeros w64 rest some fits in
-    let mask_is : (i : ℕ) → bit_at m i ≡ bit_at (2 ^ 64 - 2 ^ place) i = λ i. ap (λ n. bit_at n i) e in
-    let from : place ≤ at = elim (cases_lt at place) [
-      | inl below ↦ absurd (omega (arith, t.1, bit_at_and bits m at, mask_is at, bit_at_mask_below place 64 at below))
+    let mask_is : (i : ℕ) → bit_at m i ≡ bit_at (2 ^ 64 - 2 ^ bit) i = λ i. ap (λ n. bit_at n i) e in
+    let from : bit ≤ at = elim (cases_lt at bit) [
+      | inl below ↦ absurd (omega (arith, t.1, bit_at_and bits m at, mask_is at, bit_at_mask_below bit 64 at below))
       | inr upto ↦ upto
     ] in
     let low = bit_at-lt bits at in (
       from,
       t.0,
-      omega (arith, t.1, bit_at_and bits m at, mask_is at, bit_at_mask_inside place 64 at from t.0),
-      λ i h k. omega (arith, t.2 i k, bit_at_and bits m i, mask_is i, bit_at_mask_inside place 64 i h (omega (arith, t.0))),
+      omega (arith, t.1, bit_at_and bits m at, mask_is at, bit_at_mask_inside bit 64 at from t.0),
+      λ i h k. omega (arith, t.2 i k, bit_at_and bits m i, mask_is i, bit_at_mask_inside bit 64 i h (omega (arith, t.0))),
     )
 
 -- the first bit that is not set, after one that is
-pub first_clear : (bits place at : ℕ) → bits < 2 ^ 64 → bit_at bits place ≡ 1 → IsFirstBit (bit_not w64 bits) place (Some at) → place < at
-first_clear bits place at fits set k =
+pub first_clear : (bits bit at : ℕ) → bits < 2 ^ 64 → bit_at bits bit ≡ 1 → IsFirstBit (bit_not w64 bits) bit (Some at) → bit < at
+first_clear bits bit at fits set k =
     let not = bit_at_not w64 bits at fits k.1 in
-    elim (cases_eq at place) [
+    elim (cases_eq at bit) [
       | inl same ↦ absurd (let here : bit_at bits at ≡ 1 = subst (λ i. bit_at bits i ≡ 1) (sym same) set in omega (arith, k.2, not))
-      | inr other ↦ elim (cases_lt place at) [ inl below ↦ below | inr upto ↦ absurd (other (omega (arith, k.0))) ]
+      | inr other ↦ elim (cases_lt bit at) [ inl below ↦ below | inr upto ↦ absurd (other (omega (arith, k.0))) ]
     ]
 
 pub set_before : (bits i : ℕ) → bits < 2 ^ 64 → i < 64 → bit_at (bit_not w64 bits) i ≡ 0 → bit_at bits i ≡ 1
@@ -50,14 +50,14 @@ set_before bits i fits within clear =
 
 -- ---- the members of a word
 
-pub word_none : (e : Entry) (number place : ℕ) → is_run e ≡ false → place ≡ number - lo_of e → IsFirstBit (bits_of e) place None → IsFirst (members_in e) number None
-word_none e number place word is k s h n =
+pub word_none : (e : Chunk) (number bit : ℕ) → is_span e ≡ false → bit ≡ number - lo_of e → IsFirstBit (bits_of e) bit None → IsFirst (members_in e) number None
+word_none e number bit word is k s h n =
     let at = (in_word e s word).0 n in
     let ends = word_ends e word in
     omega (arith, at.0, at.1, at.2, k (s - 64 * window_of e) (omega arith) (omega (arith, at.0, at.1)))
 
-pub word_first : (e : Entry) (number place at : ℕ) → is_run e ≡ false → place ≡ number - lo_of e → IsFirstBit (bits_of e) place (Some at) → IsFirst (members_in e) number (Some (lo_of e + at))
-word_first e number place at word is k =
+pub word_first : (e : Chunk) (number bit at : ℕ) → is_span e ≡ false → bit ≡ number - lo_of e → IsFirstBit (bits_of e) bit (Some at) → IsFirst (members_in e) number (Some (lo_of e + at))
+word_first e number bit at word is k =
     let base = 64 * window_of e in
     let ends = word_ends e word in
     let back : lo_of e + at - base ≡ at = omega arith in (
@@ -66,7 +66,7 @@ word_first e number place at word is k =
       λ s h l n. let m = (in_word e s word).0 n in omega (arith, m.0, m.1, m.2, k.3 (s - base) (omega arith) (omega arith)),
     )
 
-pub word_on : (e : Entry) (member last : ℕ) → is_run e ≡ false → Covers (members_in e) member → member - lo_of e ≤ last → last < 64
+pub word_on : (e : Chunk) (member last : ℕ) → is_span e ≡ false → Covers (members_in e) member → member - lo_of e ≤ last → last < 64
     → ((i : ℕ) → member - lo_of e ≤ i → i ≤ last → bit_at (bits_of e) i ≡ 1) → GoesOn (members_in e) member (lo_of e + last)
 word_on e member last word n order within all =
     let at = (in_word e member word).0 n in

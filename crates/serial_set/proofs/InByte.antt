@@ -105,10 +105,10 @@ named_after (Some run) rest s n = inr n
 pub finished_runs : (p : Option Span) (f : List Span) → IsRuns (option_to_list p ++ reverse f) → ((s : ℕ) → Covers (option_to_list p ++ reverse f) s → 0 < s) → All IsInterval f
 finished_runs p f r positive k d h =
     let len = length-reverse f in
-    let place = length f - 1 - k in
-    let within : place < length (reverse f) = omega arith in
-    let turned : get_or (reverse f) place d ≡ get_or f k d =
-    get_or-reverse f place d (omega arith) ∙ ap (λ i. get_or f i d) (omega arith) in
+    let position = length f - 1 - k in
+    let within : position < length (reverse f) = omega arith in
+    let turned : get_or (reverse f) position d ≡ get_or f k d =
+    get_or-reverse f position d (omega arith) ∙ ap (λ i. get_or f i d) (omega arith) in
     let rises = after_pending p (reverse f) r in
-    let named = positive (get_or (reverse f) place d).lo (named_after p (reverse f) _ (names_at 0 (reverse f) place d rises within)) in
-    subst IsInterval turned (named, (runs_at 0 (reverse f) place d rises within).1)
+    let named = positive (get_or (reverse f) position d).lo (named_after p (reverse f) _ (names_at 0 (reverse f) position d rises within)) in
+    subst IsInterval turned (named, (runs_at 0 (reverse f) position d rises within).1)

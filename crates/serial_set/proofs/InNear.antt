@@ -8,7 +8,7 @@ use Rattle.std.proofs.lemmas.Nat.Bits.{bit_at-zero}
 use Rattle.std.proofs.lemmas.List.{take_more}
 use Rattle.std.proofs.lemmas.List.Elements.{All-head, All-tail}
 use Rattle.serial_set.specs.declared.span.Span.{Span}
-use Rattle.serial_set.proofs.InEntry.{in_or}
+use Rattle.serial_set.proofs.InChunk.{in_or}
 use Rattle.serial_set.specs.Span.{SpanCovers, Covers, AddsSpan, IsRuns}
 use Rattle.serial_set.specs.BitRuns.{IsInterval}
 use Rattle.serial_set.specs.Near.{AddsSpans, LiesIn}

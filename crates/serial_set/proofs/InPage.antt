@@ -3,21 +3,21 @@ use Rattle.std.proofs.Common.{◌≡◌, ℕ, ◌+◌, ◌<◌, ◌≤◌, ◌�
 use Rattle.std.specs.List.{All}
 use Rattle.std.proofs.lemmas.List.{take-append-drop, drop-drop, drop_more, set_split}
 use Rattle.std.proofs.lemmas.List.Elements.{All-take, All-drop}
-use Rattle.serial_set.specs.declared.entry.Entry.{Entry}
-use Rattle.serial_set.specs.Entry.{lo_of, hi_of}
-use Rattle.serial_set.specs.Entries.{Replaces}
-use Rattle.serial_set.specs.Places.{CutTo, Widened, WordWidened}
+use Rattle.serial_set.specs.declared.chunk.Chunk.{Chunk}
+use Rattle.serial_set.specs.Chunk.{lo_of, hi_of}
+use Rattle.serial_set.specs.Chunks.{Replaces}
+use Rattle.serial_set.specs.Positions.{CutTo, Widened, WordWidened}
 use Rattle.serial_set.specs.Lawful.{stretch}
 
--- of entries that a number does not cut, those that end past it begin past it
-past_whole : (number n : ℕ) (es : List Entry) → All (λ e. (hi_of e ≤ number) ⊎ (number < lo_of e)) es → All (λ e. number < hi_of e) (drop n es) → All (λ e. number < lo_of e) (drop n es)
+-- of chunks that a number does not cut, those that end past it begin past it
+past_whole : (number n : ℕ) (es : List Chunk) → All (λ e. (hi_of e ≤ number) ⊎ (number < lo_of e)) es → All (λ e. number < hi_of e) (drop n es) → All (λ e. number < lo_of e) (drop n es)
 past_whole number n es whole past = λ k d q. elim (All-drop (λ e. (hi_of e ≤ number) ⊎ (number < lo_of e)) n es whole k d q) [
   | inl upto ↦ (let at = past k d q in absurd (omega arith))
   | inr after ↦ after
 ]
 
 -- what two searches found, as one change
-pub replaced_at : (es few new : List Entry) (lo hi from count : ℕ) → All (λ e. (hi_of e ≤ hi) ⊎ (hi < lo_of e)) es
+pub replaced_at : (es few new : List Chunk) (lo hi from count : ℕ) → All (λ e. (hi_of e ≤ hi) ⊎ (hi < lo_of e)) es
     → All (λ e. hi_of e < lo) (take from es) → All (λ e. lo ≤ hi_of e) (drop from es)
     → All (λ e. hi_of e ≤ hi) (take count (drop from es)) → All (λ e. hi < hi_of e) (drop count (drop from es))
     → new ≡ take from es ++ (few ++ drop (from + count) es) → Replaces es lo hi few new
@@ -36,7 +36,7 @@ replaced_at es few new lo hi from count whole below reach upto past is =
     }
 
 -- what a search found, as a cut
-pub cut_page : (es new : List Entry) (number count : ℕ) → All (λ e. (hi_of e ≤ number) ⊎ (number < lo_of e)) es → All (λ e. hi_of e ≤ number) (take count es) → All (λ e. number < hi_of e) (drop count es) → new ≡ drop count es → CutTo es number new
+pub cut_page : (es new : List Chunk) (number count : ℕ) → All (λ e. (hi_of e ≤ number) ⊎ (number < lo_of e)) es → All (λ e. hi_of e ≤ number) (take count es) → All (λ e. number < hi_of e) (drop count es) → new ≡ drop count es → CutTo es number new
 cut_page es new number count whole upto past is = record {
   gone = take count es;
   were = sym (ap (λ l. take count es ++ l) is ∙ take-append-drop count es);
@@ -45,18 +45,18 @@ cut_page es new number count whole upto past is = record {
 }
 
 -- one word in place of what it was
-pub widened_at : (xs : List Entry) (place window bits : ℕ) (was is : Entry) → place < length xs → was ≡ get_or xs place was → Widened was window bits is
-    → WordWidened xs window bits (set xs place is)
-widened_at xs place window bits was is within read word =
-    let front = take place xs in
-    let back = drop (place + 1) xs in
-    let one : suc place ≡ place + 1 = omega arith in
+pub widened_at : (xs : List Chunk) (position window bits : ℕ) (was is : Chunk) → position < length xs → was ≡ get_or xs position was → Widened was window bits is
+    → WordWidened xs window bits (set xs position is)
+widened_at xs position window bits was is within read word =
+    let front = take position xs in
+    let back = drop (position + 1) xs in
+    let one : suc position ≡ position + 1 = omega arith in
     record {
       front = front;
       back = back;
       was = was;
       is = is;
-      were = sym (take-append-drop place xs) ∙ ap (λ l. front ++ l) (drop_more xs place was within ∙ ap (λ x. x ∷ back) (sym read));
-      are = set_split xs place is within ∙ ap (λ n. front ++ is ∷ drop n xs) one;
+      were = sym (take-append-drop position xs) ∙ ap (λ l. front ++ l) (drop_more xs position was within ∙ ap (λ x. x ∷ back) (sym read));
+      are = set_split xs position is within ∙ ap (λ n. front ++ is ∷ drop n xs) one;
       word = word;
     }

@@ -1,4 +1,4 @@
--- The two ends of a run that is added, and what a set's entries are after the addition.
+-- The two ends of a span that is added, and what a set's chunks are after the addition.
 use Rattle.std.proofs.Common.{◌≡◌, ℕ, ◌+◌, ◌-◌, ◌*◌, ◌/◌, ◌%◌, ◌^◌, ◌<◌, ◌≤◌, ◌⊎◌, List, [], ◌∷◌, get_or, min, sym, subst, ap, ◌∙◌, inl, inr, arith}
 use Rattle.std.specs.Prelude.{Bool, true, false, Option, Some, None, IfSome, ◌↔◌}
 use Rattle.std.specs.List.{All}
@@ -6,65 +6,65 @@ use Rattle.std.proofs.lemmas.Bool.{cases_lt}
 use Rattle.std.proofs.lemmas.Bool.Decides.{leb_tells}
 use Rattle.std.proofs.Math.Logic.{⊎_map}
 use Rattle.std.proofs.lemmas.List.Elements.{All-nil, All-cons, All-append}
-use Rattle.serial_set.specs.declared.entry.Entry.{Entry}
+use Rattle.serial_set.specs.declared.chunk.Chunk.{Chunk}
 use Rattle.serial_set.specs.Span.{Covers, AreSerials}
-use Rattle.serial_set.specs.Entry.{is_run, members_in, members_by, lo_of, lo_by, hi_of, hi_by, EntriesFrom, members_of}
-use Rattle.serial_set.specs.News.{lo_or, hi_or, Has}
+use Rattle.serial_set.specs.Chunk.{is_span, members_in, members_by, lo_of, lo_by, hi_of, hi_by, ChunksFrom, members_of}
+use Rattle.serial_set.specs.Replacement.{lo_or, hi_or, Has}
 use Rattle.serial_set.specs.Additions.{IsAt}
 use Rattle.serial_set.specs.Sides.{IsFront, IsBack}
-use Rattle.serial_set.specs.Places.{IsEntryFrom}
+use Rattle.serial_set.specs.Positions.{IsChunkFrom}
 use Rattle.serial_set.specs.Words.{BitCovers}
 use Rattle.serial_set.specs.Tight.{IsFull, IsTight, Apart, AreTight, KeepsTight}
 use Rattle.serial_set.specs.Lawful.{in_stretch, stretch}
-use Rattle.serial_set.proofs.InEntries.{entries_each}
-use Rattle.serial_set.proofs.InEntry.{in_mask, word_ends}
+use Rattle.serial_set.proofs.InChunks.{chunks_each}
+use Rattle.serial_set.proofs.InChunk.{in_mask, word_ends}
 use Rattle.serial_set.proofs.InSet.{Fills, at_member, ends_before}
 use Rattle.serial_set.proofs.InWords.{members_part, members_own}
 use Rattle.serial_set.proofs.Rising.{names_left, names_right}
-use Rattle.serial_set.proofs.Ordered.{entries_back}
+use Rattle.serial_set.proofs.Ordered.{chunks_back}
 
-run_is_full : (e : Entry) → is_run e ≡ true → IsFull e
-run_is_full e run s a b =
+span_is_full : (e : Chunk) → is_span e ≡ true → IsFull e
+span_is_full e span s a b =
     let P : Bool → Type 0 = λ v. lo_by v e ≤ s → s ≤ hi_by v e → Covers (members_by v e) s in
-    subst P (sym run) (λ from to. inl (from, to)) a b
+    subst P (sym span) (λ from to. inl (from, to)) a b
 
--- what holds of the entries before one, of it, and of those after it holds of all
-pub parts_all : (P : Entry → Type 0) (entries : List Entry) (e : Entry) (n : ℕ) → EntriesFrom 0 entries → IsEntryFrom entries n (Some e)
-    → ((x : Entry) → lo_of x ≤ hi_of x → hi_of x < n → hi_of x < lo_of e → P x) → P e → ((x : Entry) → lo_of x ≤ hi_of x → hi_of e < lo_of x → P x) → All P entries
-parts_all P entries e n order is before here after =
+-- what holds of the chunks before one, of it, and of those after it holds of all
+pub parts_all : (P : Chunk → Type 0) (chunks : List Chunk) (e : Chunk) (n : ℕ) → ChunksFrom 0 chunks → IsChunkFrom chunks n (Some e)
+    → ((x : Chunk) → lo_of x ≤ hi_of x → hi_of x < n → hi_of x < lo_of e → P x) → P e → ((x : Chunk) → lo_of x ≤ hi_of x → hi_of e < lo_of x → P x) → All P chunks
+parts_all P chunks e n order is before here after =
     let front = is.0 in
     let back = is.1.0 in
-    let rise = subst (EntriesFrom 0) is.1.1.0 order in
+    let rise = subst (ChunksFrom 0) is.1.1.0 order in
     let ends = ends_before 0 front e back rise in
-    let begins = entries_each (hi_of e + 1) back (entries_back 0 front (e ∷ back) rise).1 in
+    let begins = chunks_each (hi_of e + 1) back (chunks_back 0 front (e ∷ back) rise).1 in
     subst (All P) (sym is.1.1.0)
     (All-append P front (e ∷ back) (λ k d h. before (get_or front k d) (stretch (get_or front k d)) (is.1.1.1 k d h) (ends k d h))
     (All-cons P e back here (λ k d h. after (get_or back k d) (stretch (get_or back k d)) (let far = begins k d h in omega arith))))
 
--- an entry of a set has what the set has in its stretch
-pub its_own : (entries : List Entry) (e : Entry) (n s : ℕ) → EntriesFrom 0 entries → IsEntryFrom entries n (Some e) → lo_of e ≤ s → s ≤ hi_of e
-    → Covers (members_in e) s ↔ Covers (members_of entries) s
-its_own entries e n s order is from to =
-    let rise = subst (EntriesFrom 0) is.1.1.0 order in
+-- a chunk of a set has what the set has in its stretch
+pub its_own : (chunks : List Chunk) (e : Chunk) (n s : ℕ) → ChunksFrom 0 chunks → IsChunkFrom chunks n (Some e) → lo_of e ≤ s → s ≤ hi_of e
+    → Covers (members_in e) s ↔ Covers (members_of chunks) s
+its_own chunks e n s order is from to =
+    let rise = subst (ChunksFrom 0) is.1.1.0 order in
     let before = ends_before 0 is.0 e is.1.0 rise in (
-      members_part entries is.0 e is.1.0 s is.1.1.0,
-      members_own entries is.0 e is.1.0 (lo_of e) s order is.1.1.0 before from to,
+      members_part chunks is.0 e is.1.0 s is.1.1.0,
+      members_own chunks is.0 e is.1.0 (lo_of e) s order is.1.1.0 before from to,
     )
 
--- a run of tight entries has no other right before it or right after it
-none_before : (old : List Entry) (e : Entry) (n : ℕ) → AreTight old → IsEntryFrom old n (Some e) → is_run e ≡ true → All (λ x. is_run x ≡ true → hi_of x + 1 ≡ lo_of e → ⊥) old
-none_before old e n t is run k d h = λ other same.
-    at_member (Apart (get_or old k d)) old is.0 e is.1.0 is.1.1.0 (t.1 k d h) other run same
+-- a span of tight chunks has no other right before it or right after it
+none_before : (old : List Chunk) (e : Chunk) (n : ℕ) → AreTight old → IsChunkFrom old n (Some e) → is_span e ≡ true → All (λ x. is_span x ≡ true → hi_of x + 1 ≡ lo_of e → ⊥) old
+none_before old e n t is span k d h = λ other same.
+    at_member (Apart (get_or old k d)) old is.0 e is.1.0 is.1.1.0 (t.1 k d h) other span same
 
-none_after : (old : List Entry) (e : Entry) (n : ℕ) → AreTight old → IsEntryFrom old n (Some e) → is_run e ≡ true → All (λ x. is_run x ≡ true → hi_of e + 1 ≡ lo_of x → ⊥) old
-none_after old e n t is run k d h = λ other same.
-    at_member (λ x. All (Apart x) old) old is.0 e is.1.0 is.1.1.0 t.1 k d h run other same
+none_after : (old : List Chunk) (e : Chunk) (n : ℕ) → AreTight old → IsChunkFrom old n (Some e) → is_span e ≡ true → All (λ x. is_span x ≡ true → hi_of e + 1 ≡ lo_of x → ⊥) old
+none_after old e n t is span k d h = λ other same.
+    at_member (λ x. All (Apart x) old) old is.0 e is.1.0 is.1.1.0 t.1 k d h span other same
 
 -- ---- the front
 
--- no run is right before the number
-pub front_open : (old : List Entry) (lo : ℕ) (met : Option Entry) → EntriesFrom 0 old → IsEntryFrom old (lo - 1) met
-    → IfSome met (λ e. (lo ≤ lo_of e) ⊎ ((is_run e ≡ false) × (hi_of e < lo))) → IsFront old lo None lo
+-- no span is right before the number
+pub front_open : (old : List Chunk) (lo : ℕ) (met : Option Chunk) → ChunksFrom 0 old → IsChunkFrom old (lo - 1) met
+    → IfSome met (λ e. (lo ≤ lo_of e) ⊎ ((is_span e ≡ false) × (hi_of e < lo))) → IsFront old lo None lo
 front_open old lo None order is h = record {
   from = omega arith;
   reach = omega arith;
@@ -72,7 +72,7 @@ front_open old lo None order is h = record {
   cut = λ k d q. inl (let end = is k d q in omega arith);
   has = λ s a b. absurd (omega arith);
   joins = λ s a b. absurd (omega arith);
-  apart = λ k d q run same. absurd (let end = is k d q in omega arith);
+  apart = λ k d q span same. absurd (let end = is k d q in omega arith);
 }
 front_open old lo (Some e) order is h =
     let whole = stretch e in
@@ -85,19 +85,19 @@ front_open old lo (Some e) order is h =
           (λ x a b c. inl (omega arith)) (elim h [ inl past ↦ inr past | inr word ↦ inl word.1 ]) (λ x a b. inr (omega arith));
       has = λ s a b. absurd (omega arith);
       joins = λ s a b. absurd (omega arith);
-      apart = parts_all (λ x. is_run x ≡ true → hi_of x + 1 ≡ lo → lo ≤ hi_of x) old e (lo - 1) order is
-          (λ x a b c run same. absurd (omega arith))
-          (λ run same. elim h [ inl past ↦ absurd (omega arith) | inr word ↦ absurd cc ])
-          (λ x a b run same. absurd (omega arith));
+      apart = parts_all (λ x. is_span x ≡ true → hi_of x + 1 ≡ lo → lo ≤ hi_of x) old e (lo - 1) order is
+          (λ x a b c span same. absurd (omega arith))
+          (λ span same. elim h [ inl past ↦ absurd (omega arith) | inr word ↦ absurd cc ])
+          (λ x a b span same. absurd (omega arith));
     }
 
--- a run reaches the number before
-pub front_run : (old : List Entry) (lo : ℕ) (e : Entry) → EntriesFrom 0 old → AreTight old → IsEntryFrom old (lo - 1) (Some e) → is_run e ≡ true → lo_of e < lo
+-- a span reaches the number before
+pub front_span : (old : List Chunk) (lo : ℕ) (e : Chunk) → ChunksFrom 0 old → AreTight old → IsChunkFrom old (lo - 1) (Some e) → is_span e ≡ true → lo_of e < lo
     → IsFront old lo None (lo_of e)
-front_run old lo e order t is run begins =
+front_span old lo e order t is span begins =
     let whole = stretch e in
     let reach = is.1.1.2 in
-    let none = none_before old e (lo - 1) t is run in
+    let none = none_before old e (lo - 1) t is span in
     record {
       from = omega arith;
       reach = omega arith;
@@ -105,20 +105,20 @@ front_run old lo e order t is run begins =
       cut = parts_all (λ x. (hi_of x < lo_of e) ⊎ (lo_of e ≤ lo_of x)) old e (lo - 1) order is
           (λ x a b c. inl c) (inr (omega arith)) (λ x a b. inr (omega arith));
       has = λ s a b. absurd (omega arith);
-      joins = λ s a b. members_part old is.0 e is.1.0 s is.1.1.0 (run_is_full e run s a (omega arith));
+      joins = λ s a b. members_part old is.0 e is.1.0 s is.1.1.0 (span_is_full e span s a (omega arith));
       apart = λ k d q other same. absurd (none k d q other same);
     }
 
 -- a word reaches over the number, and is not full with what is added
-pub front_shared : (old : List Entry) (lo : ℕ) (e w : Entry) → EntriesFrom 0 old → IsEntryFrom old (lo - 1) (Some e) → lo_of e < lo → lo ≤ hi_of e
-    → hi_of e + 1 ≤ 64 * ((lo + 63) / 64) → lo_of w ≡ lo_of e → hi_of w ≡ hi_of e → is_run w ≡ false → (IsFull w → ⊥)
+pub front_shared : (old : List Chunk) (lo : ℕ) (e w : Chunk) → ChunksFrom 0 old → IsChunkFrom old (lo - 1) (Some e) → lo_of e < lo → lo ≤ hi_of e
+    → hi_of e + 1 ≤ 64 * ((lo + 63) / 64) → lo_of w ≡ lo_of e → hi_of w ≡ hi_of e → is_span w ≡ false → (IsFull w → ⊥)
     → ((s : ℕ) → s < hi_of e + 1 → Covers (members_in w) s ↔ (Covers (members_in e) s ⊎ (lo ≤ s)))
     → IsFront old lo (Some w) (hi_of e + 1)
 front_shared old lo e w order is from to reach same_lo same_hi word gap m =
     record {
       from = omega arith;
       reach = reach;
-      shared = (ap (λ n. n + 1) same_hi, word, (λ empty. empty lo ((m lo (omega arith)).1 (inr (omega arith))), λ not_run full. gap full));
+      shared = (ap (λ n. n + 1) same_hi, word, (λ empty. empty lo ((m lo (omega arith)).1 (inr (omega arith))), λ not_span full. gap full));
       cut = parts_all (λ x. (hi_of x < lo_of w) ⊎ (lo_of w ≤ lo_of x)) old e (lo - 1) order is
           (λ x a b c. inl (omega arith)) (inr (omega arith)) (λ x a b. inr (omega arith));
       has = λ s a b.
@@ -128,11 +128,11 @@ front_shared old lo e w order is from to reach same_lo same_hi word gap m =
             λ n. in_w.1 (⊎_map own.1 (λ k. k) n),
           );
       joins = λ s a b. absurd (omega arith);
-      apart = λ k d q run same. omega arith;
+      apart = λ k d q span same. omega arith;
     }
 
 -- all from a lower number on are members
-pub front_further : (old : List Entry) (low lo at : ℕ) → low ≤ lo → ((s : ℕ) → low ≤ s → s < lo → Covers (members_of old) s) → IsFront old low None at → IsFront old lo None at
+pub front_further : (old : List Chunk) (low lo at : ℕ) → low ≤ lo → ((s : ℕ) → low ≤ s → s < lo → Covers (members_of old) s) → IsFront old low None at → IsFront old lo None at
 front_further old low lo at h all f =
     let from = f.from in
     record {
@@ -147,15 +147,15 @@ front_further old low lo at h all f =
 
 -- ---- the back
 
-each_in : (es : List Entry) → All (λ x. (s : ℕ) → Covers (members_in x) s → Covers (members_of es) s) es
+each_in : (es : List Chunk) → All (λ x. (s : ℕ) → Covers (members_in x) s → Covers (members_of es) s) es
 each_in [] = All-nil (λ x. (s : ℕ) → Covers (members_in x) s → Covers (members_of []) s)
 each_in (e ∷ es) =
-    let P : Entry → Type 0 = λ x. (s : ℕ) → Covers (members_in x) s → Covers (members_of (e ∷ es)) s in
+    let P : Chunk → Type 0 = λ x. (s : ℕ) → Covers (members_in x) s → Covers (members_of (e ∷ es)) s in
     All-cons P e es (λ s n. names_left (members_in e) (members_of es) s n) (λ k d h s n. names_right (members_in e) (members_of es) s (each_in es k d h s n))
 
--- no run is right after the number
-pub back_open : (old : List Entry) (hi n : ℕ) (met : Option Entry) → EntriesFrom 0 old → AreSerials (members_of old) → n ≡ min (hi + 1) (2 ^ 64 - 1) → hi < 2 ^ 64 → IsEntryFrom old n met
-    → IfSome met (λ e. ((hi_of e ≤ hi) ⊎ (hi < lo_of e)) × (is_run e ≡ true → hi + 1 < lo_of e)) → IsBack old hi None hi
+-- no span is right after the number
+pub back_open : (old : List Chunk) (hi n : ℕ) (met : Option Chunk) → ChunksFrom 0 old → AreSerials (members_of old) → n ≡ min (hi + 1) (2 ^ 64 - 1) → hi < 2 ^ 64 → IsChunkFrom old n met
+    → IfSome met (λ e. ((hi_of e ≤ hi) ⊎ (hi < lo_of e)) × (is_span e ≡ true → hi + 1 < lo_of e)) → IsBack old hi None hi
 back_open old hi n None order serials same fits is h = record {
   upto = omega arith;
   reach = omega arith;
@@ -163,7 +163,7 @@ back_open old hi n None order serials same fits is h = record {
   cut = λ k d q. inl (let end = is k d q in omega arith);
   has = λ s a b. absurd (omega arith);
   joins = λ s a b. absurd (omega arith);
-  apart = λ k d q run at. absurd (let end = is k d q in let whole = stretch (get_or old k d) in omega arith);
+  apart = λ k d q span at. absurd (let end = is k d q in let whole = stretch (get_or old k d) in omega arith);
 }
 back_open old hi n (Some e) order serials same fits is h =
     let whole = stretch e in
@@ -176,24 +176,24 @@ back_open old hi n (Some e) order serials same fits is h =
           (λ x a b c. inl (omega arith)) h.0 (λ x a b. inr (omega arith));
       has = λ s a b. absurd (omega arith);
       joins = λ s a b. absurd (omega arith);
-      apart = λ k d q run at.
+      apart = λ k d q span at.
           let x = get_or old k d in
           let long = stretch x in
-          let in_set = serials (lo_of x) (each_in old k d q (lo_of x) (run_is_full x run (lo_of x) (omega arith) long)) in
-          let there = parts_all (λ y. is_run y ≡ true → hi + 1 ≡ lo_of y → 2 ^ 64 ≤ hi + 1) old e n order is
+          let in_set = serials (lo_of x) (each_in old k d q (lo_of x) (span_is_full x span (lo_of x) (omega arith) long)) in
+          let there = parts_all (λ y. is_span y ≡ true → hi + 1 ≡ lo_of y → 2 ^ 64 ≤ hi + 1) old e n order is
           (λ y a b c r l. absurd (omega arith))
           (λ r l. absurd (let far = h.1 r in omega arith))
-          (λ y a b r l. omega arith) k d q run at in
+          (λ y a b r l. omega arith) k d q span at in
           absurd (omega (arith, in_set.1));
     }
 
--- a run reaches the number after
-pub back_run : (old : List Entry) (hi n : ℕ) (e : Entry) → EntriesFrom 0 old → AreTight old → n ≡ min (hi + 1) (2 ^ 64 - 1) → IsEntryFrom old n (Some e) → is_run e ≡ true → lo_of e ≤ n → hi < 2 ^ 64
+-- a span reaches the number after
+pub back_span : (old : List Chunk) (hi n : ℕ) (e : Chunk) → ChunksFrom 0 old → AreTight old → n ≡ min (hi + 1) (2 ^ 64 - 1) → IsChunkFrom old n (Some e) → is_span e ≡ true → lo_of e ≤ n → hi < 2 ^ 64
     → IsBack old hi None (hi_of e)
-back_run old hi n e order t same is run begins fits =
+back_span old hi n e order t same is span begins fits =
     let whole = stretch e in
     let reach = is.1.1.2 in
-    let none = none_after old e n t is run in
+    let none = none_after old e n t is span in
     record {
       upto = omega arith;
       reach = omega arith;
@@ -201,13 +201,13 @@ back_run old hi n e order t same is run begins fits =
       cut = parts_all (λ x. (hi_of x ≤ hi_of e) ⊎ (hi_of e < lo_of x)) old e n order is
           (λ x a b c. inl (omega arith)) (inl (omega arith)) (λ x a b. inr b);
       has = λ s a b. absurd (omega arith);
-      joins = λ s a b. members_part old is.0 e is.1.0 s is.1.1.0 (run_is_full e run s (omega arith) b);
+      joins = λ s a b. members_part old is.0 e is.1.0 s is.1.1.0 (span_is_full e span s (omega arith) b);
       apart = λ k d q other at. absurd (none k d q other at);
     }
 
 -- a word reaches over the number, and is not full with what is added
-pub back_shared : (old : List Entry) (hi n at : ℕ) (e w : Entry) → EntriesFrom 0 old → IsEntryFrom old n (Some e) → lo_of e ≤ hi → hi ≤ hi_of e → at + 1 ≡ lo_of e
-    → 64 * ((hi + 1) / 64) ≤ lo_of e → lo_of w ≡ lo_of e → hi_of w ≡ hi_of e → is_run w ≡ false → (IsFull w → ⊥)
+pub back_shared : (old : List Chunk) (hi n at : ℕ) (e w : Chunk) → ChunksFrom 0 old → IsChunkFrom old n (Some e) → lo_of e ≤ hi → hi ≤ hi_of e → at + 1 ≡ lo_of e
+    → 64 * ((hi + 1) / 64) ≤ lo_of e → lo_of w ≡ lo_of e → hi_of w ≡ hi_of e → is_span w ≡ false → (IsFull w → ⊥)
     → ((s : ℕ) → lo_of e ≤ s → Covers (members_in w) s ↔ (Covers (members_in e) s ⊎ (s ≤ hi)))
     → IsBack old hi (Some w) at
 back_shared old hi n at e w order is from to before reach same_lo same_hi word gap m =
@@ -215,7 +215,7 @@ back_shared old hi n at e w order is from to before reach same_lo same_hi word g
     record {
       upto = omega arith;
       reach = omega arith;
-      shared = (omega arith, word, (λ empty. empty hi ((m hi from).1 (inr (omega arith))), λ not_run full. gap full));
+      shared = (omega arith, word, (λ empty. empty hi ((m hi from).1 (inr (omega arith))), λ not_span full. gap full));
       cut = parts_all (λ x. (hi_of x ≤ hi_of w) ⊎ (hi_of w < lo_of x)) old e n order is
           (λ x a b c. inl (omega arith)) (inl (omega arith)) (λ x a b. inr (omega arith));
       has = λ s a b.
@@ -225,10 +225,10 @@ back_shared old hi n at e w order is from to before reach same_lo same_hi word g
             λ q. in_w.1 (⊎_map own.1 (λ k. k) q),
           );
       joins = λ s a b. absurd (omega arith);
-      apart = λ k d q run at_lo. omega arith;
+      apart = λ k d q span at_lo. omega arith;
     }
 
-pub back_further : (old : List Entry) (high hi at : ℕ) → hi ≤ high → ((s : ℕ) → hi < s → s ≤ high → Covers (members_of old) s) → IsBack old high None at → IsBack old hi None at
+pub back_further : (old : List Chunk) (high hi at : ℕ) → hi ≤ high → ((s : ℕ) → hi < s → s ≤ high → Covers (members_of old) s) → IsBack old high None at → IsBack old hi None at
 back_further old high hi at h all f =
     let upto = f.upto in
     record {
@@ -241,20 +241,20 @@ back_further old high hi at h all f =
       apart = f.apart;
     }
 
--- ---- a run between its ends
+-- ---- a span between its ends
 
-front_in : (old : List Entry) (lo at s : ℕ) (w : Option Entry) → IsFront old lo w at → Has w s → (lo_or w at ≤ s) × (s < at)
+front_in : (old : List Chunk) (lo at s : ℕ) (w : Option Chunk) → IsFront old lo w at → Has w s → (lo_or w at ≤ s) × (s < at)
 front_in old lo at s None f n = absurd n
 front_in old lo at s (Some w) f n = let in_w = in_stretch w s n in let end = f.shared.0 in omega (arith, in_w.0, in_w.1)
 
-back_in : (old : List Entry) (hi at s : ℕ) (w : Option Entry) → IsBack old hi w at → Has w s → (at < s) × (s ≤ hi_or w at)
+back_in : (old : List Chunk) (hi at s : ℕ) (w : Option Chunk) → IsBack old hi w at → Has w s → (at < s) × (s ≤ hi_or w at)
 back_in old hi at s None f n = absurd n
 back_in old hi at s (Some w) f n = let in_w = in_stretch w s n in let end = f.shared.0 in omega (arith, in_w.0, in_w.1)
 
-ends_fill : (old news : List Entry) (lo hi at to : ℕ) (front back : Option Entry) → IsFront old lo front at → IsBack old hi back to → lo ≤ hi → (lo + 63) / 64 ≤ (hi + 1) / 64
-    → ((s : ℕ) → Covers (members_of news) s ↔ (Has front s ⊎ (((at ≤ s) × (s ≤ to)) ⊎ Has back s)))
-    → Fills old (lo_or front at) (hi_or back to) news (λ s. (lo ≤ s) × (s ≤ hi))
-ends_fill old news lo hi at to front back f b order windows m =
+ends_fill : (old few : List Chunk) (lo hi at to : ℕ) (front back : Option Chunk) → IsFront old lo front at → IsBack old hi back to → lo ≤ hi → (lo + 63) / 64 ≤ (hi + 1) / 64
+    → ((s : ℕ) → Covers (members_of few) s ↔ (Has front s ⊎ (((at ≤ s) × (s ≤ to)) ⊎ Has back s)))
+    → Fills old (lo_or front at) (hi_or back to) few (λ s. (lo ≤ s) × (s ≤ hi))
+ends_fill old few lo hi at to front back f b order windows m =
     let from = f.from in
     let upto = b.upto in
     let begins = f.reach in
@@ -284,88 +284,88 @@ ends_fill old news lo hi at to front back f b order windows m =
       inside = λ s k. (omega (arith, k.0), omega (arith, k.1));
     }
 
-pub ends_fill_at : (old news : List Entry) (lo hi from upto at to : ℕ) (front back : Option Entry) → IsFront old lo front at → IsBack old hi back to → lo ≤ hi → (lo / 64 < hi / 64) ⊎ ((lo % 64 ≡ 0) × (hi % 64 ≡ 63))
+pub ends_fill_at : (old few : List Chunk) (lo hi from upto at to : ℕ) (front back : Option Chunk) → IsFront old lo front at → IsBack old hi back to → lo ≤ hi → (lo / 64 < hi / 64) ⊎ ((lo % 64 ≡ 0) × (hi % 64 ≡ 63))
     → from ≡ lo_or front at → upto ≡ hi_or back to
-    → ((s : ℕ) → Covers (members_of news) s ↔ (Has front s ⊎ (((at ≤ s) × (s ≤ to)) ⊎ Has back s)))
-    → Fills old from upto news (λ s. (lo ≤ s) × (s ≤ hi))
-ends_fill_at old news lo hi from upto at to front back f b order windows low high m =
+    → ((s : ℕ) → Covers (members_of few) s ↔ (Has front s ⊎ (((at ≤ s) × (s ≤ to)) ⊎ Has back s)))
+    → Fills old from upto few (λ s. (lo ≤ s) × (s ≤ hi))
+ends_fill_at old few lo hi from upto at to front back f b order windows low high m =
     let meet : (lo + 63) / 64 ≤ (hi + 1) / 64 = elim windows [ inl far ↦ omega arith | inr whole ↦ (let x = whole.0 in let y = whole.1 in omega arith) ] in
-    let fills = ends_fill old news lo hi at to front back f b order meet m in
+    let fills = ends_fill old few lo hi at to front back f b order meet m in
     let Added : ℕ → Type 0 = λ s. (lo ≤ s) × (s ≤ hi) in
-    subst (λ n. Fills old n upto news Added) (sym low) (subst (λ n. Fills old (lo_or front at) n news Added) (sym high) fills)
+    subst (λ n. Fills old n upto few Added) (sym low) (subst (λ n. Fills old (lo_or front at) n few Added) (sym high) fills)
 
--- a run that is added touches no other that stays
-pub ends_keep_tight : (old news : List Entry) (lo hi at to : ℕ) (front back : Option Entry) → IsFront old lo front at → IsBack old hi back to
-    → All IsTight news → All (λ e. is_run e ≡ true → (lo_of e ≡ at) × (hi_of e ≡ to)) news → KeepsTight old (lo_or front at) (hi_or back to) news
-ends_keep_tight old news lo hi at to front back f b tight runs = record {
+-- a span that is added touches no other that stays
+pub ends_keep_tight : (old few : List Chunk) (lo hi at to : ℕ) (front back : Option Chunk) → IsFront old lo front at → IsBack old hi back to
+    → All IsTight few → All (λ e. is_span e ≡ true → (lo_of e ≡ at) × (hi_of e ≡ to)) few → KeepsTight old (lo_or front at) (hi_or back to) few
+ends_keep_tight old few lo hi at to front back f b tight spans = record {
   tight = (
     tight,
-    λ i d h j c q run other same.
-        let x = runs i d h run in
-        let y = runs j c q other in
-        let whole = stretch (get_or news j c) in
+    λ i d h j c q span other same.
+        let x = spans i d h span in
+        let y = spans j c q other in
+        let whole = stretch (get_or few j c) in
         omega (arith, x.1, y.0, y.1),
   );
-  low = λ i d h below j c q run other same.
-      let x = runs j c q other in
-      let back = f.apart i d h run (same ∙ x.0) in
+  low = λ i d h below j c q span other same.
+      let x = spans j c q other in
+      let back = f.apart i d h span (same ∙ x.0) in
       omega arith;
-  high = λ i d h above j c q run other same.
-      let x = runs j c q run in
+  high = λ i d h above j c q span other same.
+      let x = spans j c q span in
       let back = b.apart i d h other (ap (λ n. n + 1) (sym x.1) ∙ same) in
       omega arith;
 }
 
 -- ---- a window's bits
 
--- an entry that reaches over a window's beginning is a run
-not_word : (e : Entry) (n : ℕ) → n % 64 ≡ 0 → lo_of e < n → n ≤ hi_of e → is_run e ≡ true
+-- a chunk that reaches over a window's beginning is a span
+not_word : (e : Chunk) (n : ℕ) → n % 64 ≡ 0 → lo_of e < n → n ≤ hi_of e → is_span e ≡ true
 not_word e n edge from to =
     elim (leb_tells e.a e.b) [
-      | inl run ↦ run.0
+      | inl span ↦ span.0
       | inr word ↦ absurd (let ends = word_ends e word.0 in let a = ends.0 in let b = ends.1 in omega arith)
     ]
 
-before_head : (old : List Entry) (first : ℕ) (head : Option Entry) (x : Entry) → All (λ f. Apart x f) old → IsAt old first head → first % 64 ≡ 0 → lo_or head first < first
-    → is_run x ≡ true → hi_of x + 1 ≡ lo_or head first → ⊥
-before_head old first None x t at edge less run same = absurd (omega arith)
-before_head old first (Some h) x t at edge less run same =
-    at_member (Apart x) old at.stands.0 h at.stands.1.0 at.stands.1.1 t run (not_word h first edge less at.to) same
+before_head : (old : List Chunk) (first : ℕ) (head : Option Chunk) (x : Chunk) → All (λ f. Apart x f) old → IsAt old first head → first % 64 ≡ 0 → lo_or head first < first
+    → is_span x ≡ true → hi_of x + 1 ≡ lo_or head first → ⊥
+before_head old first None x t at edge less span same = absurd (omega arith)
+before_head old first (Some h) x t at edge less span same =
+    at_member (Apart x) old at.stands.0 h at.stands.1.0 at.stands.1.1 t span (not_word h first edge less at.to) same
 
-after_tail : (old : List Entry) (last : ℕ) (tail : Option Entry) (x : Entry) → All (λ f. Apart f x) old → IsAt old last tail → (last + 1) % 64 ≡ 0 → last < hi_or tail last
-    → is_run x ≡ true → hi_or tail last + 1 ≡ lo_of x → ⊥
-after_tail old last None x t at edge less run same = absurd (omega arith)
-after_tail old last (Some e) x t at edge less run same =
+after_tail : (old : List Chunk) (last : ℕ) (tail : Option Chunk) (x : Chunk) → All (λ f. Apart f x) old → IsAt old last tail → (last + 1) % 64 ≡ 0 → last < hi_or tail last
+    → is_span x ≡ true → hi_or tail last + 1 ≡ lo_of x → ⊥
+after_tail old last None x t at edge less span same = absurd (omega arith)
+after_tail old last (Some e) x t at edge less span same =
     let from = at.from in
-    at_member (λ f. Apart f x) old at.stands.0 e at.stands.1.0 at.stands.1.1 t (not_word e (last + 1) edge (omega arith) (omega arith)) run same
+    at_member (λ f. Apart f x) old at.stands.0 e at.stands.1.0 at.stands.1.1 t (not_word e (last + 1) edge (omega arith) (omega arith)) span same
 
--- the word of a window, between what is left of the entries at the window's ends, touches no run
-pub bits_keep_tight : (old news : List Entry) (first : ℕ) (head tail : Option Entry) → AreTight old → IsAt old first head → IsAt old (first + 63) tail → first % 64 ≡ 0
-    → All IsTight news
-    → All (λ e. is_run e ≡ true → ((lo_of e ≡ lo_or head first) × (hi_of e < first)) ⊎ ((first + 63 < lo_of e) × (hi_of e ≡ hi_or tail (first + 63)))) news
-    → KeepsTight old (lo_or head first) (hi_or tail (first + 63)) news
-bits_keep_tight old news first head tail t at end edge tight runs =
+-- the word of a window, between what is left of the chunks at the window's ends, touches no span
+pub bits_keep_tight : (old few : List Chunk) (first : ℕ) (head tail : Option Chunk) → AreTight old → IsAt old first head → IsAt old (first + 63) tail → first % 64 ≡ 0
+    → All IsTight few
+    → All (λ e. is_span e ≡ true → ((lo_of e ≡ lo_or head first) × (hi_of e < first)) ⊎ ((first + 63 < lo_of e) × (hi_of e ≡ hi_or tail (first + 63)))) few
+    → KeepsTight old (lo_or head first) (hi_or tail (first + 63)) few
+bits_keep_tight old few first head tail t at end edge tight spans =
     let begins = at.from in
     let ends = end.to in record {
       tight = (
         tight,
-        λ i d h j c q run other same.
-            let whole = stretch (get_or news j c) in
-            let long = stretch (get_or news i d) in
-            elim (runs i d h run) [
-              | inl x ↦ elim (runs j c q other) [ inl y ↦ omega (arith, x.0, x.1, y.0, y.1) | inr y ↦ omega (arith, x.0, x.1, y.0, y.1) ]
-              | inr x ↦ elim (runs j c q other) [ inl y ↦ omega (arith, x.0, x.1, y.0, y.1) | inr y ↦ omega (arith, x.0, x.1, y.0, y.1) ]
+        λ i d h j c q span other same.
+            let whole = stretch (get_or few j c) in
+            let long = stretch (get_or few i d) in
+            elim (spans i d h span) [
+              | inl x ↦ elim (spans j c q other) [ inl y ↦ omega (arith, x.0, x.1, y.0, y.1) | inr y ↦ omega (arith, x.0, x.1, y.0, y.1) ]
+              | inr x ↦ elim (spans j c q other) [ inl y ↦ omega (arith, x.0, x.1, y.0, y.1) | inr y ↦ omega (arith, x.0, x.1, y.0, y.1) ]
             ],
       );
-      low = λ i d h below j c q run other same.
-          let whole = stretch (get_or news j c) in
-          elim (runs j c q other) [
-            | inl y ↦ before_head old first head (get_or old i d) (t.1 i d h) at edge (omega (arith, y.0, y.1)) run (same ∙ y.0)
+      low = λ i d h below j c q span other same.
+          let whole = stretch (get_or few j c) in
+          elim (spans j c q other) [
+            | inl y ↦ before_head old first head (get_or old i d) (t.1 i d h) at edge (omega (arith, y.0, y.1)) span (same ∙ y.0)
             | inr y ↦ omega (arith, y.0)
           ];
-      high = λ i d h above j c q run other same.
-          let whole = stretch (get_or news j c) in
-          elim (runs j c q run) [
+      high = λ i d h above j c q span other same.
+          let whole = stretch (get_or few j c) in
+          elim (spans j c q span) [
             | inl y ↦ omega (arith, y.1)
             | inr y ↦ after_tail old (first + 63) tail (get_or old i d) (λ k b r. t.1 k b r i d h) end (omega arith) (omega (arith, y.0, y.1)) other
                 (ap (λ n. n + 1) (sym y.1) ∙ same)

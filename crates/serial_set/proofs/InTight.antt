@@ -1,4 +1,4 @@
--- Tight entries: at most three for each of their runs.
+-- Tight chunks: at most three for each of their runs.
 use Rattle.std.proofs.Common.{◌≡◌, ℕ, ◌+◌, ◌-◌, ◌*◌, ◌<◌, ◌≤◌, ◌⊎◌, List, [], ◌∷◌, ◌++◌, length, get_or, sym, subst, inl, inr, arith, zero, suc, ◌∙◌}
 use Rattle.std.specs.Prelude.{Bool, true}
 use Rattle.std.specs.List.{All}
@@ -6,16 +6,16 @@ use Rattle.std.proofs.lemmas.Bool.{cases_lt, false≢true}
 use Rattle.std.proofs.lemmas.Bool.Decides.{eqb_tells, leb_tells}
 use Rattle.std.proofs.lemmas.List.Elements.{All-head, All-tail, All-cons, All-append, All-weaker}
 use Rattle.serial_set.specs.declared.span.Span.{Span}
-use Rattle.serial_set.specs.declared.entry.Entry.{Entry}
+use Rattle.serial_set.specs.declared.chunk.Chunk.{Chunk}
 use Rattle.serial_set.specs.Span.{Covers, IsRuns}
 use Rattle.serial_set.specs.Joined.{Rises, glued, glued_by, joined}
-use Rattle.serial_set.specs.Entry.{is_run, members_in, lo_of, hi_of, EntriesFrom, members_of, runs_of}
-use Rattle.serial_set.specs.Entries.{Replaces}
-use Rattle.serial_set.specs.Places.{WordWidened}
+use Rattle.serial_set.specs.Chunk.{is_span, members_in, lo_of, hi_of, ChunksFrom, members_of, runs_of}
+use Rattle.serial_set.specs.Chunks.{Replaces}
+use Rattle.serial_set.specs.Positions.{WordWidened}
 use Rattle.serial_set.specs.Tight.{IsFull, IsTight, Apart, AreTight, KeepsTight}
-use Rattle.serial_set.specs.Lawful.{joined_of, Rises-weaker, in_stretch, stretch, entries_rise}
+use Rattle.serial_set.specs.Lawful.{joined_of, Rises-weaker, in_stretch, stretch, chunks_rise}
 use Rattle.serial_set.proofs.Flat.{all_left, all_right}
-use Rattle.serial_set.proofs.InEntries.{entries_each}
+use Rattle.serial_set.proofs.InChunks.{chunks_each}
 use Rattle.serial_set.proofs.Rising.{names_append}
 use Rattle.serial_set.proofs.Ordered.{has_from}
 
@@ -68,21 +68,21 @@ joined_or_next a (x ∷ xs) ys r =
       ]
     ]
 
--- ---- entries that end no run
+-- ---- chunks that end no run
 
 -- after each member there is another
-abbrev GoesOn : Entry → List Entry → Type 0
-GoesOn e es = (s : ℕ) → Covers (members_in e) s → Covers (members_of (e ∷ es)) (s + 1)
+abbrev EndsNoRun : Chunk → List Chunk → Type 0
+EndsNoRun e es = (s : ℕ) → Covers (members_in e) s → Covers (members_of (e ∷ es)) (s + 1)
 
-more_or_on : (a : ℕ) (e : Entry) (es : List Entry) → EntriesFrom a (e ∷ es)
-    → (length (runs_of es) + 1 ≤ length (runs_of (e ∷ es))) ⊎ GoesOn e es
-more_or_on a e es r = joined_or_next a (members_in e) (members_of es) (entries_rise a (e ∷ es) r)
+more_or_on : (a : ℕ) (e : Chunk) (es : List Chunk) → ChunksFrom a (e ∷ es)
+    → (length (runs_of es) + 1 ≤ length (runs_of (e ∷ es))) ⊎ EndsNoRun e es
+more_or_on a e es r = joined_or_next a (members_in e) (members_of es) (chunks_rise a (e ∷ es) r)
 
-no_fewer : (e : Entry) (es : List Entry) → length (runs_of es) ≤ length (runs_of (e ∷ es))
+no_fewer : (e : Chunk) (es : List Chunk) → length (runs_of es) ≤ length (runs_of (e ∷ es))
 no_fewer e es = joined_more (members_in e) (members_of es)
 
 -- from a member on all are members, up to the end
-climbs : (a : ℕ) (e : Entry) (es : List Entry) (s k : ℕ) → EntriesFrom a (e ∷ es) → GoesOn e es
+climbs : (a : ℕ) (e : Chunk) (es : List Chunk) (s k : ℕ) → ChunksFrom a (e ∷ es) → EndsNoRun e es
     → Covers (members_in e) s → s + k ≤ hi_of e → Covers (members_in e) (s + k)
 climbs a e es s zero r on m h = let same : s ≡ s + zero = omega arith in subst (Covers (members_in e)) same m
 climbs a e es s (suc k) r on m h =
@@ -93,14 +93,14 @@ climbs a e es s (suc k) r on m h =
       | inr later ↦ (let far = has_from (hi_of e + 1) es (s + k + 1) r.1 later in absurd (omega arith))
     ]
 
-goes_to : (a : ℕ) (e : Entry) (es : List Entry) (s t : ℕ) → EntriesFrom a (e ∷ es) → GoesOn e es
+goes_to : (a : ℕ) (e : Chunk) (es : List Chunk) (s t : ℕ) → ChunksFrom a (e ∷ es) → EndsNoRun e es
     → Covers (members_in e) s → s ≤ t → t ≤ hi_of e → Covers (members_in e) t
 goes_to a e es s t r on m h k =
     let same : s + (t - s) ≡ t = omega arith in
     subst (Covers (members_in e)) same (climbs a e es s (t - s) r on m (omega arith))
 
 -- so the number after the end is a member, of those that follow
-after_end : (a : ℕ) (e : Entry) (es : List Entry) (s : ℕ) → EntriesFrom a (e ∷ es) → GoesOn e es
+after_end : (a : ℕ) (e : Chunk) (es : List Chunk) (s : ℕ) → ChunksFrom a (e ∷ es) → EndsNoRun e es
     → Covers (members_in e) s → Covers (members_of es) (hi_of e + 1)
 after_end a e es s r on m =
     let at = in_stretch e s m in
@@ -110,8 +110,8 @@ after_end a e es s r on m =
       | inr later ↦ later
     ]
 
--- and the next entry begins there
-next_begins : (a : ℕ) (e f : Entry) (es : List Entry) (s : ℕ) → EntriesFrom a (e ∷ (f ∷ es)) → GoesOn e (f ∷ es)
+-- and the next chunk begins there
+next_begins : (a : ℕ) (e f : Chunk) (es : List Chunk) (s : ℕ) → ChunksFrom a (e ∷ (f ∷ es)) → EndsNoRun e (f ∷ es)
     → Covers (members_in e) s → (hi_of e + 1 ≡ lo_of f) × Covers (members_in f) (lo_of f)
 next_begins a e f es s r on m =
     let next = after_end a e (f ∷ es) s r on m in
@@ -125,26 +125,26 @@ next_begins a e f es s r on m =
       | inr later ↦ (let far = has_from (hi_of f + 1) es (hi_of e + 1) r.1.1 later in absurd (omega arith))
     ]
 
--- an entry that goes on from its first number is full, and so a run
-is_run_where_full : (e : Entry) → IsTight e → IsFull e → is_run e ≡ true
-is_run_where_full e tight full =
-    elim (leb_tells e.a e.b) [ inl run ↦ run.0 | inr word ↦ absurd (tight.1 word.0 full) ]
+-- a chunk that goes on from its first number is full, and so a span
+is_span_where_full : (e : Chunk) → IsTight e → IsFull e → is_span e ≡ true
+is_span_where_full e tight full =
+    elim (leb_tells e.a e.b) [ inl span ↦ span.0 | inr word ↦ absurd (tight.1 word.0 full) ]
 
-runs_on : (a : ℕ) (e : Entry) (es : List Entry) → EntriesFrom a (e ∷ es) → IsTight e → GoesOn e es
-    → Covers (members_in e) (lo_of e) → is_run e ≡ true
-runs_on a e es r tight on m = is_run_where_full e tight (λ s from to. goes_to a e es (lo_of e) s r on m from to)
+spans_on : (a : ℕ) (e : Chunk) (es : List Chunk) → ChunksFrom a (e ∷ es) → IsTight e → EndsNoRun e es
+    → Covers (members_in e) (lo_of e) → is_span e ≡ true
+spans_on a e es r tight on m = is_span_where_full e tight (λ s from to. goes_to a e es (lo_of e) s r on m from to)
 
 -- ---- how many there are
 
-tail_tight : (e : Entry) (es : List Entry) → AreTight (e ∷ es) → AreTight es
+tail_tight : (e : Chunk) (es : List Chunk) → AreTight (e ∷ es) → AreTight es
 tail_tight e es t = (
   All-tail IsTight e es t.0,
   λ k d h. All-tail (Apart (get_or es k d)) e es (All-tail (λ x. All (Apart x) (e ∷ es)) e es t.1 k d h),
 )
 
 -- three in a row do not all go on
-one_ends : (a : ℕ) (e f g : Entry) (es : List Entry) → EntriesFrom a (e ∷ (f ∷ (g ∷ es))) → AreTight (e ∷ (f ∷ (g ∷ es)))
-    → GoesOn e (f ∷ (g ∷ es)) → GoesOn f (g ∷ es) → GoesOn g es → ⊥
+one_ends : (a : ℕ) (e f g : Chunk) (es : List Chunk) → ChunksFrom a (e ∷ (f ∷ (g ∷ es))) → AreTight (e ∷ (f ∷ (g ∷ es)))
+    → EndsNoRun e (f ∷ (g ∷ es)) → EndsNoRun f (g ∷ es) → EndsNoRun g es → ⊥
 one_ends a e f g es r t on_e on_f on_g =
     let rest = tail_tight e (f ∷ (g ∷ es)) t in
     let last = tail_tight f (g ∷ es) rest in
@@ -156,10 +156,10 @@ one_ends a e f g es r t on_e on_f on_g =
     tight_e.0 (λ s m.
     let at_f = next_begins a e f (g ∷ es) s r on_e m in
     let at_g = next_begins (hi_of e + 1) f g es (lo_of f) r.1 on_f at_f.1 in
-    apart (runs_on (hi_of e + 1) f (g ∷ es) r.1 tight_f on_f at_f.1)
-    (runs_on (hi_of f + 1) g es r.1.1 tight_g on_g at_g.1) at_g.0)
+    apart (spans_on (hi_of e + 1) f (g ∷ es) r.1 tight_f on_f at_f.1)
+    (spans_on (hi_of f + 1) g es r.1.1 tight_g on_g at_g.1) at_g.0)
 
-some_run : (a : ℕ) (e : Entry) (es : List Entry) → EntriesFrom a (e ∷ es) → AreTight (e ∷ es) → 1 ≤ length (runs_of (e ∷ es))
+some_run : (a : ℕ) (e : Chunk) (es : List Chunk) → ChunksFrom a (e ∷ es) → AreTight (e ∷ es) → 1 ≤ length (runs_of (e ∷ es))
 some_run a e [] r t =
     elim (more_or_on a e [] r) [
       | inl more ↦ omega (arith, more)
@@ -167,7 +167,7 @@ some_run a e [] r t =
     ]
 some_run a e (f ∷ es) r t = omega (arith, no_fewer e (f ∷ es), some_run (hi_of e + 1) f es r.1 (tail_tight e (f ∷ es) t))
 
-pub three_a_run : (a : ℕ) (es : List Entry) → EntriesFrom a es → AreTight es → length es ≤ 3 * length (runs_of es)
+pub three_a_run : (a : ℕ) (es : List Chunk) → ChunksFrom a es → AreTight es → length es ≤ 3 * length (runs_of es)
 three_a_run a [] r t = omega arith
 three_a_run a (e ∷ []) r t = omega (arith, some_run a e [] r t)
 three_a_run a (e ∷ (f ∷ [])) r t = omega (arith, some_run a e (f ∷ []) r t)
@@ -192,62 +192,62 @@ three_a_run a (e ∷ (f ∷ (g ∷ es))) r t =
       ]
     ]
 
--- ---- what keeps entries tight
+-- ---- what keeps chunks tight
 
 -- a list of three parts, of which each two have to do with each other in a known way
-all_pairs : (P : Entry → Entry → Type 0) (xs ys zs : List Entry)
+all_pairs : (P : Chunk → Chunk → Type 0) (xs ys zs : List Chunk)
     → All (λ e. All (P e) xs) xs → All (λ e. All (P e) ys) xs → All (λ e. All (P e) zs) xs
     → All (λ e. All (P e) xs) ys → All (λ e. All (P e) ys) ys → All (λ e. All (P e) zs) ys
     → All (λ e. All (P e) xs) zs → All (λ e. All (P e) ys) zs → All (λ e. All (P e) zs) zs
     → All (λ e. All (P e) (xs ++ (ys ++ zs))) (xs ++ (ys ++ zs))
 all_pairs P xs ys zs xx xy xz yx yy yz zx zy zz =
-    let row : (ws : List Entry) → All (λ e. All (P e) xs) ws → All (λ e. All (P e) ys) ws → All (λ e. All (P e) zs) ws
+    let row : (ws : List Chunk) → All (λ e. All (P e) xs) ws → All (λ e. All (P e) ys) ws → All (λ e. All (P e) zs) ws
     → All (λ e. All (P e) (xs ++ (ys ++ zs))) ws =
     λ ws a b c k d h. All-append (P (get_or ws k d)) xs (ys ++ zs) (a k d h) (All-append (P (get_or ws k d)) ys zs (b k d h) (c k d h)) in
-    let Q : Entry → Type 0 = λ e. All (P e) (xs ++ (ys ++ zs)) in
+    let Q : Chunk → Type 0 = λ e. All (P e) (xs ++ (ys ++ zs)) in
     All-append Q xs (ys ++ zs) (row xs xx xy xz) (All-append Q ys zs (row ys yx yy yz) (row zs zx zy zz))
 
-pub replaced_tight : (old news new : List Entry) (lo hi : ℕ) → Replaces old lo hi news new → EntriesFrom lo news → All (λ e. hi_of e ≤ hi) news
-    → AreTight old → KeepsTight old lo hi news → AreTight new
-replaced_tight old news new lo hi r order ends t k =
+pub replaced_tight : (old few new : List Chunk) (lo hi : ℕ) → Replaces old lo hi few new → ChunksFrom lo few → All (λ e. hi_of e ≤ hi) few
+    → AreTight old → KeepsTight old lo hi few → AreTight new
+replaced_tight old few new lo hi r order ends t k =
     let front = r.front in
     let back = r.back in
     let tail = r.middle ++ r.back in
-    let in_front : (P : Entry → Type 0) → All P old → All P front = λ P h. all_left P front tail (subst (All P) r.were h) in
-    let in_back : (P : Entry → Type 0) → All P old → All P back = λ P h. all_right P r.middle back (all_right P front tail (subst (All P) r.were h)) in
+    let in_front : (P : Chunk → Type 0) → All P old → All P front = λ P h. all_left P front tail (subst (All P) r.were h) in
+    let in_back : (P : Chunk → Type 0) → All P old → All P back = λ P h. all_right P r.middle back (all_right P front tail (subst (All P) r.were h)) in
     let of_front : All (λ e. All (Apart e) old) front = in_front (λ e. All (Apart e) old) t.1 in
     let of_back : All (λ e. All (Apart e) old) back = in_back (λ e. All (Apart e) old) t.1 in
-    let low : All (λ e. hi_of e < lo → All (Apart e) news) front = in_front (λ e. hi_of e < lo → All (Apart e) news) k.low in
-    let high : All (λ e. hi < lo_of e → All (λ f. Apart f e) news) back = in_back (λ e. hi < lo_of e → All (λ f. Apart f e) news) k.high in
-    let begins = entries_each lo news order in
-    let pairs = all_pairs Apart front news back
+    let low : All (λ e. hi_of e < lo → All (Apart e) few) front = in_front (λ e. hi_of e < lo → All (Apart e) few) k.low in
+    let high : All (λ e. hi < lo_of e → All (λ f. Apart f e) few) back = in_back (λ e. hi < lo_of e → All (λ f. Apart f e) few) k.high in
+    let begins = chunks_each lo few order in
+    let pairs = all_pairs Apart front few back
     (λ i d h. in_front (Apart (get_or front i d)) (of_front i d h))
     (λ i d h. low i d h (r.below i d h))
     (λ i d h. in_back (Apart (get_or front i d)) (of_front i d h))
-    (λ i d h j c q x y same. let n = begins i d h in let b = r.below j c q in let m = stretch (get_or news i d) in let l = stretch (get_or front j c) in omega arith)
+    (λ i d h j c q x y same. let n = begins i d h in let b = r.below j c q in let m = stretch (get_or few i d) in let l = stretch (get_or front j c) in omega arith)
     k.tight.1
     (λ i d h j c q. high j c q (r.above j c q) i d h)
     (λ i d h. in_front (Apart (get_or back i d)) (of_back i d h))
-    (λ i d h j c q x y same. let n = ends j c q in let b = r.above i d h in let m = stretch (get_or news j c) in let l = stretch (get_or back i d) in omega arith)
+    (λ i d h j c q x y same. let n = ends j c q in let b = r.above i d h in let m = stretch (get_or few j c) in let l = stretch (get_or back i d) in omega arith)
     (λ i d h. in_back (Apart (get_or back i d)) (of_back i d h)) in
-    let each = All-append IsTight front (news ++ back) (in_front IsTight t.0) (All-append IsTight news back k.tight.0 (in_back IsTight t.0)) in
+    let each = All-append IsTight front (few ++ back) (in_front IsTight t.0) (All-append IsTight few back k.tight.0 (in_back IsTight t.0)) in
     subst AreTight (sym r.are) (each, pairs)
 
 -- ---- a word with more bits
 
-swapped_all : (P : Entry → Type 0) (front back : List Entry) (was is : Entry) → P is → All P (front ++ was ∷ back) → All P (front ++ is ∷ back)
+swapped_all : (P : Chunk → Type 0) (front back : List Chunk) (was is : Chunk) → P is → All P (front ++ was ∷ back) → All P (front ++ is ∷ back)
 swapped_all P front back was is p h =
     All-append P front (is ∷ back) (all_left P front (was ∷ back) h) (All-cons P is back p (All-tail P was back (all_right P front (was ∷ back) h)))
 
-pub widened_tight : (old new : List Entry) (window bits : ℕ) → WordWidened old window bits new → AreTight old → AreTight new
+pub widened_tight : (old new : List Chunk) (window bits : ℕ) → WordWidened old window bits new → AreTight old → AreTight new
 widened_tight old new window bits k tight =
     let was = k.was in
     let is = k.is in
     let is_word = k.word.word in
-    let swapped : (P : Entry → Type 0) → P is → All P old → All P new =
+    let swapped : (P : Chunk → Type 0) → P is → All P old → All P new =
     λ P p h. subst (All P) (sym k.are) (swapped_all P k.front k.back was is p (subst (All P) k.were h)) in
     let here : IsTight was = All-head IsTight was k.back (all_right IsTight k.front (was ∷ k.back) (subst (All IsTight) k.were tight.0)) in (
       swapped IsTight (λ empty. here.0 (λ s m. empty s ((k.word.more s).1 (inl m))), λ word. k.word.gap) tight.0,
-      swapped (λ e. All (Apart e) new) (λ i d h run. absurd (false≢true (sym is_word ∙ run)))
-          (All-weaker (λ e. All (Apart e) old) (λ e. All (Apart e) new) (λ e. swapped (Apart e) (λ first run. absurd (false≢true (sym is_word ∙ run)))) old tight.1),
+      swapped (λ e. All (Apart e) new) (λ i d h span. absurd (false≢true (sym is_word ∙ span)))
+          (All-weaker (λ e. All (Apart e) old) (λ e. All (Apart e) new) (λ e. swapped (Apart e) (λ first span. absurd (false≢true (sym is_word ∙ span)))) old tight.1),
     )

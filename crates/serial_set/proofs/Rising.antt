@@ -76,7 +76,7 @@ runs_apart a (x ∷ xs) y ys r =
     All-cons (λ t. t.hi + 2 ≤ y.lo) x xs (runs_reach (x.hi + 2) xs y ys r.2)
     (runs_apart (x.hi + 2) xs y ys r.2)
 
--- two lists joined, where the first ends two below the place from which the second rises
+-- two lists joined, where the first ends two below the number from which the second rises
 pub runs_join : (a b : ℕ) (xs ys : List Span) → a ≤ b → RunsFrom a xs → All (λ t. t.hi + 2 ≤ b) xs
     → RunsFrom b ys → RunsFrom a (xs ++ ys)
 runs_join a b [] ys h r below s = RunsFrom-weaker b a ys h s
@@ -85,7 +85,7 @@ runs_join a b (x ∷ xs) ys h r below s =
     let tail = All-tail (λ t. t.hi + 2 ≤ b) x xs below in
     (r.0, r.1, runs_join (x.hi + 2) b xs ys head r.2 tail s)
 
--- ---- by places
+-- ---- by positions
 
 pub runs_at : (a : ℕ) (xs : List Span) (i : ℕ) (d : Span) → RunsFrom a xs → i < length xs
     → (a ≤ (get_or xs i d).lo) × ((get_or xs i d).lo ≤ (get_or xs i d).hi)

@@ -4,16 +4,16 @@ use Rattle.std.specs.Prelude.{◌↔◌}
 use Rattle.std.specs.List.{All}
 use Rattle.std.proofs.lemmas.Bool.{cases_lt}
 use Rattle.std.proofs.lemmas.List.Elements.{All-append, All-cons, All-head, All-nil, All-tail, All-weaker}
-use Rattle.serial_set.specs.declared.entry.Entry.{Entry}
+use Rattle.serial_set.specs.declared.chunk.Chunk.{Chunk}
 use Rattle.serial_set.specs.declared.span.Span.{Span}
-use Rattle.serial_set.specs.Entry.{hi_of, lo_of, members_of, members_in, runs_of, EntriesFrom}
+use Rattle.serial_set.specs.Chunk.{hi_of, lo_of, members_of, members_in, runs_of, ChunksFrom}
 use Rattle.serial_set.specs.Members.{GoesOn, IsFirst, Reads, Taken}
-use Rattle.serial_set.specs.Places.{IsEntryFrom}
+use Rattle.serial_set.specs.Positions.{IsChunkFrom}
 use Rattle.serial_set.specs.Span.{AddsSpan, Covers, IsRuns, RunsFrom}
 use Rattle.serial_set.specs.Walk.{IsPiece, since}
-use Rattle.serial_set.specs.Lawful.{in_stretch, runs_of_entries, stretch}
+use Rattle.serial_set.specs.Lawful.{in_stretch, runs_of_chunks, stretch}
 use Rattle.serial_set.proofs.InWords.{asked}
-use Rattle.serial_set.proofs.Ordered.{entries_back, entries_front}
+use Rattle.serial_set.proofs.Ordered.{chunks_back, chunks_front}
 use Rattle.serial_set.proofs.Least.{runs_first}
 use Rattle.serial_set.proofs.Rising.{names_append, names_at, names_left, names_right, runs_apart, runs_front, runs_join, runs_middle, runs_reach}
 use Rattle.serial_set.proofs.Walking.{since_from, since_runs, since_to}
@@ -119,21 +119,21 @@ taken_on spans runs n at to t h none = record {
   );
 }
 
--- ---- the members of one entry
+-- ---- the members of one chunk
 
-pub reads_first : (spans : List Span) (e : Entry) (at n lo : ℕ) → Reads spans at e n → IsFirst (members_in e) n (Some lo) → IsFirst spans at (Some lo)
+pub reads_first : (spans : List Span) (e : Chunk) (at n lo : ℕ) → Reads spans at e n → IsFirst (members_in e) n (Some lo) → IsFirst spans at (Some lo)
 reads_first spans e at n lo r f =
     let end = (in_stretch e lo f.1).1 in
     let here = (r.same lo end).1 (f.0, f.1) in
     (here.0, here.1, λ s h l m. let k = (r.same s (omega (arith, l, end))).0 (h, m) in f.2 s k.0 l k.1)
 
-pub reads_goes : (spans : List Span) (e : Entry) (at n lo hi : ℕ) → Reads spans at e n → n ≤ lo → GoesOn (members_in e) lo hi → GoesOn spans lo hi
+pub reads_goes : (spans : List Span) (e : Chunk) (at n lo hi : ℕ) → Reads spans at e n → n ≤ lo → GoesOn (members_in e) lo hi → GoesOn spans lo hi
 reads_goes spans e at n lo hi r h g = record {
   order = g.order;
   all = λ s k l. let m = g.all s k l in ((r.same s (in_stretch e s m).1).1 (omega arith, m)).1;
 }
 
-pub reads_on : (spans : List Span) (e : Entry) (at n lo hi : ℕ) → Reads spans at e n → IsFirst (members_in e) n (Some lo) → GoesOn (members_in e) lo hi → hi < hi_of e → Reads spans (hi + 1) e (hi + 1)
+pub reads_on : (spans : List Span) (e : Chunk) (at n lo hi : ℕ) → Reads spans at e n → IsFirst (members_in e) n (Some lo) → GoesOn (members_in e) lo hi → hi < hi_of e → Reads spans (hi + 1) e (hi + 1)
 reads_on spans e at n lo hi r f g l =
     let from : n ≤ hi + 1 = omega (arith, f.0, g.order) in
     let to : at ≤ hi + 1 = omega (arith, (reads_first spans e at n lo r f).0, g.order) in
@@ -143,33 +143,33 @@ reads_on spans e at n lo hi r f g l =
       same = λ s q. (λ m. (m.0, ((r.same s q).0 (omega (arith, to, m.0), m.1)).1), λ m. (m.0, ((r.same s q).1 (omega (arith, from, m.0), m.1)).1));
     }
 
-pub reads_none : (spans : List Span) (e : Entry) (at n s : ℕ) → Reads spans at e n → IsFirst (members_in e) n None → at ≤ s → s < hi_of e + 1 → Covers spans s → ⊥
+pub reads_none : (spans : List Span) (e : Chunk) (at n s : ℕ) → Reads spans at e n → IsFirst (members_in e) n None → at ≤ s → s < hi_of e + 1 → Covers spans s → ⊥
 reads_none spans e at n s r f h l m = let k = (r.same s (omega arith)).0 (h, m) in f s k.0 k.1
 
-pub taken_run : (spans old new : List Span) (e : Entry) (n at from lo hi : ℕ) → Taken spans n at old → Reads spans at e from → IsFirst (members_in e) from (Some lo) → GoesOn (members_in e) lo hi → AddsSpan old lo hi new → Taken spans n (hi + 1) new
+pub taken_run : (spans old new : List Span) (e : Chunk) (n at from lo hi : ℕ) → Taken spans n at old → Reads spans at e from → IsFirst (members_in e) from (Some lo) → GoesOn (members_in e) lo hi → AddsSpan old lo hi new → Taken spans n (hi + 1) new
 taken_run spans old new e n at from lo hi t r f g adds = taken_more spans old new n at lo hi t (reads_first spans e at from lo r f) (reads_goes spans e at from lo hi r f.0 g) adds
 
-pub goes_within : (e : Entry) (lo hi : ℕ) → GoesOn (members_in e) lo hi → hi ≤ hi_of e
+pub goes_within : (e : Chunk) (lo hi : ℕ) → GoesOn (members_in e) lo hi → hi ≤ hi_of e
 goes_within e lo hi g = (in_stretch e hi (g.all hi g.order (omega arith))).1
 
--- ---- one entry after the other
+-- ---- one chunk after the other
 
--- the entries that are left of some that lie together, where the ones before end below a number
-pub record Rest (es : List Entry) (number at : ℕ) (rest : List Entry) : Type 0 where
-  pub front : List Entry
-  pub back : List Entry
+-- the chunks that are left of some that lie together, where the ones before end below a number
+pub record Rest (es : List Chunk) (number at : ℕ) (rest : List Chunk) : Type 0 where
+  pub front : List Chunk
+  pub back : List Chunk
   pub parts : es ≡ front ++ (rest ++ back)
   pub below : All (λ e. hi_of e < at) front
-  pub order : (at ≡ number) ⊎ EntriesFrom at rest
+  pub order : (at ≡ number) ⊎ ChunksFrom at rest
   pub from : number ≤ at
   pub reach : All (λ e. number ≤ hi_of e) rest
 
-pub rest_first : (es : List Entry) (n at : ℕ) (e : Entry) (rest : List Entry) → EntriesFrom 0 es → Rest es n at (e ∷ rest) → Reads (members_of es) at e n
+pub rest_first : (es : List Chunk) (n at : ℕ) (e : Chunk) (rest : List Chunk) → ChunksFrom 0 es → Rest es n at (e ∷ rest) → Reads (members_of es) at e n
 rest_first es n at e rest order k =
     let whole = stretch e in
     let reach : n ≤ hi_of e = All-head (λ t. n ≤ hi_of t) e rest k.reach in
     let own : (s : ℕ) → n ≤ s → lo_of e ≤ s → at ≤ s = λ s h l. elim k.order [ inl same ↦ omega arith | inr up ↦ omega (arith, up.0) ] in
-    let here : (s : ℕ) → at ≤ s → s ≤ hi_of e → IsEntryFrom es s (Some e) =
+    let here : (s : ℕ) → at ≤ s → s ≤ hi_of e → IsChunkFrom es s (Some e) =
     λ s h l. (k.front, (rest ++ k.back, (k.parts, All-weaker (λ t. hi_of t < at) (λ t. hi_of t < s) (λ t q. omega arith) k.front k.below, l))) in
     record {
       from = reach;
@@ -180,20 +180,20 @@ rest_first es n at e rest order k =
       );
     }
 
-pub rest_on : (es : List Entry) (n at : ℕ) (e : Entry) (rest : List Entry) → EntriesFrom 0 es → Rest es n at (e ∷ rest) → Rest es n (hi_of e + 1) rest
+pub rest_on : (es : List Chunk) (n at : ℕ) (e : Chunk) (rest : List Chunk) → ChunksFrom 0 es → Rest es n at (e ∷ rest) → Rest es n (hi_of e + 1) rest
 rest_on es n at e rest order k =
     let r = rest_first es n at e rest order k in
     let to = r.to in
     let from = r.from in
-    let tail = entries_back 0 k.front (e ∷ (rest ++ k.back)) (subst (EntriesFrom 0) k.parts order) in
-    let P : Entry → Type 0 = λ t. hi_of t < hi_of e + 1 in
+    let tail = chunks_back 0 k.front (e ∷ (rest ++ k.back)) (subst (ChunksFrom 0) k.parts order) in
+    let P : Chunk → Type 0 = λ t. hi_of t < hi_of e + 1 in
     record {
       front = k.front ++ e ∷ [];
       back = k.back;
       parts = k.parts ∙ sym (append_assoc k.front (e ∷ []) (rest ++ k.back));
       below = All-append P k.front (e ∷ []) (All-weaker (λ t. hi_of t < at) P (λ t q. omega arith) k.front k.below)
           (All-cons P e [] (omega arith) (All-nil P));
-      order = inr (entries_front (hi_of e + 1) rest k.back tail.1);
+      order = inr (chunks_front (hi_of e + 1) rest k.back tail.1);
       from = omega arith;
       reach = All-tail (λ t. n ≤ hi_of t) e rest k.reach;
     }
@@ -208,16 +208,16 @@ before_last a (x ∷ front) last s r m =
       | inr later ↦ before_last (x.hi + 2) front last s r.2 later
     ]
 
-first_of_runs : (es : List Entry) (n : ℕ) (runs : List Span) → EntriesFrom 0 es → IsRuns runs → ((s : ℕ) → Covers runs s → (n ≤ s) × Covers (members_of es) s) → ((s t : ℕ) → Covers runs t → s ≤ t + 1 → n ≤ s → Covers (members_of es) s → Covers runs s) → runs ≡ take (length runs) (since n (runs_of es))
+first_of_runs : (es : List Chunk) (n : ℕ) (runs : List Span) → ChunksFrom 0 es → IsRuns runs → ((s : ℕ) → Covers runs s → (n ≤ s) × Covers (members_of es) s) → ((s t : ℕ) → Covers runs t → s ≤ t + 1 → n ≤ s → Covers (members_of es) s → Covers runs s) → runs ≡ take (length runs) (since n (runs_of es))
 first_of_runs es n runs order r to from =
     let xs = runs_of es in
-    let is = runs_of_entries es order in
+    let is = runs_of_chunks es order in
     runs_first 0 (max 0 n) runs (since n xs) r (since_runs 0 n xs is.0)
     (λ s m. let k = to s m in since_from 0 n xs s is.0 ((is.1 s).1 k.1) k.0)
     (λ s t m h k. let there = since_to 0 n xs s is.0 k in from s t m h there.1 ((is.1 s).0 there.0))
 
 -- where the last of them does not go on
-pub all_whole : (es : List Entry) (n at : ℕ) (runs front : List Span) (last : Span) → EntriesFrom 0 es → Taken (members_of es) n at runs → runs ≡ front ++ last ∷ [] → (Covers (members_of es) (last.hi + 1) → ⊥) → runs ≡ take (length runs) (since n (runs_of es))
+pub all_whole : (es : List Chunk) (n at : ℕ) (runs front : List Span) (last : Span) → ChunksFrom 0 es → Taken (members_of es) n at runs → runs ≡ front ++ last ∷ [] → (Covers (members_of es) (last.hi + 1) → ⊥) → runs ≡ take (length runs) (since n (runs_of es))
 all_whole es n at runs front last order t is stops =
     let rise = subst IsRuns is t.are.0 in
     let whole = (runs_middle 0 front last [] rise).0 in
@@ -234,7 +234,7 @@ all_whole es n at runs front last order t is stops =
     ])
 
 -- and else all but that one
-pub all_but_last : (es : List Entry) (n at : ℕ) (runs front : List Span) (last : Span) → EntriesFrom 0 es → Taken (members_of es) n at runs → runs ≡ front ++ last ∷ [] → front ≡ take (length front) (since n (runs_of es))
+pub all_but_last : (es : List Chunk) (n at : ℕ) (runs front : List Span) (last : Span) → ChunksFrom 0 es → Taken (members_of es) n at runs → runs ≡ front ++ last ∷ [] → front ≡ take (length front) (since n (runs_of es))
 all_but_last es n at runs front last order t is =
     let rise = subst IsRuns is t.are.0 in
     let whole = (runs_middle 0 front last [] rise).0 in
@@ -250,7 +250,7 @@ all_but_last es n at runs front last order t is =
 
 -- ---- the first run alone
 
-pub first_alone : (es : List Entry) (n lo hi : ℕ) → EntriesFrom 0 es → IsFirst (members_of es) n (Some lo) → GoesOn (members_of es) lo hi → (Covers (members_of es) (hi + 1) → ⊥) → IsPiece (runs_of es) n (record { lo = lo; hi = hi } ∷ [])
+pub first_alone : (es : List Chunk) (n lo hi : ℕ) → ChunksFrom 0 es → IsFirst (members_of es) n (Some lo) → GoesOn (members_of es) lo hi → (Covers (members_of es) (hi + 1) → ⊥) → IsPiece (runs_of es) n (record { lo = lo; hi = hi } ∷ [])
 first_alone es n lo hi order f g stops = record {
   some = λ h. omega arith;
   front = first_of_runs es n (record { lo = lo; hi = hi } ∷ []) order (omega arith, g.order, tt)
@@ -267,10 +267,10 @@ first_alone es n lo hi order f g stops = record {
       ]);
 }
 
-pub none_left : (es : List Entry) (n : ℕ) → EntriesFrom 0 es → IsFirst (members_of es) n None → IsPiece (runs_of es) n []
+pub none_left : (es : List Chunk) (n : ℕ) → ChunksFrom 0 es → IsFirst (members_of es) n None → IsPiece (runs_of es) n []
 none_left es n order f =
     let xs = runs_of es in
-    let is = runs_of_entries es order in
+    let is = runs_of_chunks es order in
     let d : Span = record { lo = 0; hi = 0 } in
     record {
       some = λ h. let there = since_to 0 n xs (get_or (since n xs) 0 d).lo is.0 (names_at (max 0 n) (since n xs) 0 d (since_runs 0 n xs is.0) h) in

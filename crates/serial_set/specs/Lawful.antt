@@ -1,4 +1,4 @@
--- The runs of entries in order rise, and are serials where the members are. `SpanPages` proves its
+-- The runs of chunks in order rise, and are serials where the members are. `SpanPages` proves its
 -- law by this in the code, which can cite nothing of proofs/.
 use Rattle.std.proofs.Common.{◌≡◌, ℕ, zero, suc, ◌+◌, ◌-◌, ◌*◌, ◌/◌, ◌%◌, ◌<◌, ◌≤◌, ◌⊎◌, List, []}
 use Rattle.std.proofs.Common.{◌∷◌, ◌++◌, sym, subst, ap, ◌∙◌, inl, inr, arith}
@@ -8,11 +8,11 @@ use Rattle.std.proofs.lemmas.Bool.{cases_lt}
 use Rattle.std.proofs.lemmas.Bool.Decides.{eqb_tells, leb_tells}
 use Rattle.std.proofs.lemmas.Nat.Bits.{bit_at-suc, bit_at_lowest}
 use Rattle.serial_set.specs.declared.span.Span.{Span}
-use Rattle.serial_set.specs.declared.entry.Entry.{Entry}
+use Rattle.serial_set.specs.declared.chunk.Chunk.{Chunk}
 use Rattle.serial_set.specs.Span.{SpanCovers, Covers, RunsFrom, IsRunsOf, AreSerials}
 use Rattle.serial_set.specs.Joined.{Rises, glued_by, glued, joined}
-use Rattle.serial_set.specs.Entry.{window_of, bits_of, members_in, members_by, lo_of, lo_by, hi_of}
-use Rattle.serial_set.specs.Entry.{hi_by, EntriesFrom, members_of, runs_of}
+use Rattle.serial_set.specs.Chunk.{window_of, bits_of, members_in, members_by, lo_of, lo_by, hi_of}
+use Rattle.serial_set.specs.Chunk.{hi_by, ChunksFrom, members_of, runs_of}
 use Rattle.serial_set.specs.Words.{single_by, singles, BitCovers}
 
 -- ---- spans that rise, and their runs
@@ -140,48 +140,48 @@ singles_to (suc count) base bits s n =
       | inr not ↦ subst P (sym not.0) later n
     ]
 
--- ---- entries in order
+-- ---- chunks in order
 
-pub in_stretch : (e : Entry) (s : ℕ) → Covers (members_in e) s → (lo_of e ≤ s) × (s ≤ hi_of e)
+pub in_stretch : (e : Chunk) (s : ℕ) → Covers (members_in e) s → (lo_of e ≤ s) × (s ≤ hi_of e)
 in_stretch e s n =
     let P : Bool → Type 0 = λ v. Covers (members_by v e) s → (lo_by v e ≤ s) × (s ≤ hi_by v e) in
     elim (leb_tells e.a e.b) [
-      | inl run ↦ subst P (sym run.0) (λ m. elim m [ inl here ↦ here | inr none ↦ absurd none ]) n
+      | inl span ↦ subst P (sym span.0) (λ m. elim m [ inl here ↦ here | inr none ↦ absurd none ]) n
       | inr word ↦ subst P (sym word.0) (λ m.
           let at = singles_to 64 (64 * window_of e) (bits_of e) s m in (at.0, omega arith)) n
     ]
 
-pub stretch : (e : Entry) → lo_of e ≤ hi_of e
+pub stretch : (e : Chunk) → lo_of e ≤ hi_of e
 stretch e =
     let P : Bool → Type 0 = λ v. lo_by v e ≤ hi_by v e in
     elim (leb_tells e.a e.b) [
-      | inl run ↦ subst P (sym run.0) run.1
+      | inl span ↦ subst P (sym span.0) span.1
       | inr word ↦ subst P (sym word.0) (omega arith)
     ]
 
-pub members_rise : (e : Entry) → Rises (lo_of e) (members_in e)
+pub members_rise : (e : Chunk) → Rises (lo_of e) (members_in e)
 members_rise e =
     let P : Bool → Type 0 = λ v. Rises (lo_by v e) (members_by v e) in
     elim (leb_tells e.a e.b) [
-      | inl run ↦ subst P (sym run.0) (omega arith, run.1, tt)
+      | inl span ↦ subst P (sym span.0) (omega arith, span.1, tt)
       | inr word ↦ subst P (sym word.0) (singles_rise 64 (64 * window_of e) (bits_of e))
     ]
 
-pub entries_rise : (a : ℕ) (es : List Entry) → EntriesFrom a es → Rises a (members_of es)
-entries_rise a [] r = tt
-entries_rise a (e ∷ es) r =
+pub chunks_rise : (a : ℕ) (es : List Chunk) → ChunksFrom a es → Rises a (members_of es)
+chunks_rise a [] r = tt
+chunks_rise a (e ∷ es) r =
     let whole = stretch e in
     Rises-join a (hi_of e + 1) (members_in e) (members_of es) (omega arith)
     (Rises-weaker (lo_of e) a (members_in e) r.0 (members_rise e))
     (λ s n. let at = in_stretch e s n in omega arith)
-    (entries_rise (hi_of e + 1) es r.1)
+    (chunks_rise (hi_of e + 1) es r.1)
 
--- the runs of entries have just the members of these
-pub runs_of_entries : (es : List Entry) → EntriesFrom 0 es
+-- the runs of chunks have just the members of these
+pub runs_of_chunks : (es : List Chunk) → ChunksFrom 0 es
     → IsRunsOf (runs_of es) (λ s. Covers (members_of es) s)
-runs_of_entries es r = joined_of (members_of es) (entries_rise 0 es r)
+runs_of_chunks es r = joined_of (members_of es) (chunks_rise 0 es r)
 
 -- where the members are serials, so are those of the runs
-pub serials_of_runs : (es : List Entry) → EntriesFrom 0 es → AreSerials (members_of es)
+pub serials_of_runs : (es : List Chunk) → ChunksFrom 0 es → AreSerials (members_of es)
     → AreSerials (runs_of es)
-serials_of_runs es r fits s n = let runs = runs_of_entries es r in fits s ((runs.1 s).0 n)
+serials_of_runs es r fits s n = let runs = runs_of_chunks es r in fits s ((runs.1 s).0 n)

@@ -2,16 +2,16 @@
 use Rattle.std.specs.Prelude.{◌≡◌, ℕ, ◌≤◌, ◌<◌, ◌↔◌, List, Option, Some, None}
 use Rattle.std.specs.Int.{bit_at}
 use Rattle.serial_set.specs.declared.span.Span.{Span}
-use Rattle.serial_set.specs.declared.entry.Entry.{Entry}
-use Rattle.serial_set.specs.Entry.{hi_of, members_in}
+use Rattle.serial_set.specs.declared.chunk.Chunk.{Chunk}
+use Rattle.serial_set.specs.Chunk.{hi_of, members_in}
 use Rattle.serial_set.specs.Span.{Covers, IsRunsOf}
 
--- the first of the lowest 64 bits that is set, from a place on
+-- the first of the lowest 64 bits that is set, from a bit on
 abbrev pub IsFirstBit : ℕ → ℕ → Option ℕ → Type 0
-IsFirstBit bits place None = (i : ℕ) → place ≤ i → i < 64 → bit_at bits i ≡ 0
-IsFirstBit bits place (Some at) =
-    (place ≤ at) × (at < 64) × (bit_at bits at ≡ 1)
-    × ((i : ℕ) → place ≤ i → i < at → bit_at bits i ≡ 0)
+IsFirstBit bits bit None = (i : ℕ) → bit ≤ i → i < 64 → bit_at bits i ≡ 0
+IsFirstBit bits bit (Some at) =
+    (bit ≤ at) × (at < 64) × (bit_at bits at ≡ 1)
+    × ((i : ℕ) → bit ≤ i → i < at → bit_at bits i ≡ 0)
 
 -- the first member from a number on
 abbrev pub IsFirst : List Span → ℕ → Option ℕ → Type 0
@@ -30,9 +30,9 @@ pub record Taken (spans : List Span) (number at : ℕ) (runs : List Span) : Type
   pub from : number ≤ at
   pub are : IsRunsOf runs (λ s. (number ≤ s) × (s < at) × Covers spans s)
 
--- the members from one number to the end of an entry are its own from another on
-pub record Reads (spans : List Span) (at : ℕ) (entry : Entry) (number : ℕ) : Type 0 where
-  pub from : number ≤ hi_of entry
-  pub to : at ≤ hi_of entry
-  pub same : (s : ℕ) → s ≤ hi_of entry
-      → ((at ≤ s) × Covers spans s) ↔ ((number ≤ s) × Covers (members_in entry) s)
+-- the members from one number to the end of a chunk are its own from another on
+pub record Reads (spans : List Span) (at : ℕ) (chunk : Chunk) (number : ℕ) : Type 0 where
+  pub from : number ≤ hi_of chunk
+  pub to : at ≤ hi_of chunk
+  pub same : (s : ℕ) → s ≤ hi_of chunk
+      → ((at ≤ s) × Covers spans s) ↔ ((number ≤ s) × Covers (members_in chunk) s)

@@ -3,8 +3,8 @@
 use Rattle.std.specs.Prelude.{ℕ, ◌+◌, List, [], ◌∷◌}
 use Rattle.std.specs.Coded.{Unit-prop, le_prop}
 use Rattle.serial_set.specs.declared.span.Span.{Span}
-use Rattle.serial_set.specs.declared.entry.Entry.{Entry}
-use Rattle.serial_set.specs.Entry.{hi_of, EntriesFrom}
+use Rattle.serial_set.specs.declared.chunk.Chunk.{Chunk}
+use Rattle.serial_set.specs.Chunk.{hi_of, ChunksFrom}
 use Rattle.serial_set.specs.Span.{RunsFrom}
 
 -- a list rises in one way only
@@ -14,9 +14,9 @@ RunsFrom-prop least (span ∷ spans) =
     let rest : IsProp (RunsFrom (span.hi + 2) spans) = RunsFrom-prop (span.hi + 2) spans in
     hlevel (le_prop, rest)
 
--- entries are in order in one way only
-pub order_prop : (least : ℕ) (entries : List Entry) → IsProp (EntriesFrom least entries)
+-- chunks are in order in one way only
+pub order_prop : (least : ℕ) (chunks : List Chunk) → IsProp (ChunksFrom least chunks)
 order_prop least [] = Unit-prop
-order_prop least (e ∷ entries) =
-    let rest : IsProp (EntriesFrom (hi_of e + 1) entries) = order_prop (hi_of e + 1) entries in
+order_prop least (e ∷ chunks) =
+    let rest : IsProp (ChunksFrom (hi_of e + 1) chunks) = order_prop (hi_of e + 1) chunks in
     hlevel (le_prop, rest)

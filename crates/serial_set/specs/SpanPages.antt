@@ -1,9 +1,9 @@
--- A set of serials as its entries.
+-- A set of serials as its chunks.
 use Rattle.std.specs.Prelude.{List}
-use Rattle.serial_set.specs.declared.entry.Entry.{Entry}
+use Rattle.serial_set.specs.declared.chunk.Chunk.{Chunk}
 use Rattle.serial_set.specs.declared.span_pages.SpanPages.{SpanPages}
-use Rattle.serial_set.specs.Kept.{entries_kept}
+use Rattle.serial_set.specs.Storage.{chunks_stored}
 
--- its only entry, if it has one, or the entries of all pages
-abbrev pub entries_held : SpanPages → List Entry
-entries_held set = entries_kept set.kept
+-- its only chunk, if it has one, or the chunks of all pages
+abbrev pub chunks_held : SpanPages → List Chunk
+chunks_held set = chunks_stored set.storage

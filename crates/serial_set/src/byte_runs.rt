@@ -1,4 +1,4 @@
-//! The runs of one byte's bits, read from the highest place to the lowest.
+//! The runs of one byte's bits, read from the highest bit to the lowest.
 ghost use Rattle.std.specs.Prelude.{◌≡◌, ◌+◌, ◌*◌, ◌^◌, ◌≤◌, ◌<◌, ◌⊎◌, ℕ, ◌++◌, [], ◌∷◌, length, reverse, Some, None, MatchOption, IfSome, SomeIff, All, ⊤};
 ghost use Rattle.std.specs.Option.{option_to_list, option_map_or};
 ghost use Rattle.serial_set.specs.Span.{SpanCovers, Covers, IsRunsOf};
@@ -47,31 +47,31 @@ impl ByteRuns {
     }
 }
 
-// The serial that a set bit stands for. The bit's place is `place + bit`, and 0 is no serial.
-fn serial_at(offset: u64, place: u64, byte: u8, bit: u8) -> Option<u64>
-    requires place { place < 2 ^ 63 }
+// The serial that a set bit stands for. The bit's position is `position + bit`, and 0 is no serial.
+fn serial_at(offset: u64, position: u64, byte: u8, bit: u8) -> Option<u64>
+    requires position { position < 2 ^ 63 }
     requires bit { bit < 8 }
-    requires fits { (s : ℕ) → BitNames (offset + place) byte s → s < 2 ^ 64 }
-    ensures { let serial = offset + place + bit in
-        SomeIff result (BitNames (offset + place) byte serial) serial }
+    requires fits { (s : ℕ) → BitNames (offset + position) byte s → s < 2 ^ 64 }
+    ensures { let serial = offset + position + bit in
+        SomeIff result (BitNames (offset + position) byte serial) serial }
 {
     if byte >> bit & 1 == 0 {
         return None;
     }
-    let serial = offset + (place + u64::from(bit));
+    let serial = offset + (position + u64::from(bit));
     if serial == 0 { None } else { Some(serial) }
 }
 
 /// Goes on with the run that is pending after the byte before, by a byte whose lowest bit stands
-/// for `offset + place`.
-pub fn runs_of_byte(pending: Option<Span>, offset: u64, place: u64, byte: u8) -> ByteRuns
-    requires place { place < 2 ^ 63 }
-    requires in_step { IsInStep (offset + place + 8) pending }
-    requires fits { (s : ℕ) → BitNames (offset + place) byte s → s < 2 ^ 64 }
+/// for `offset + position`.
+pub fn runs_of_byte(pending: Option<Span>, offset: u64, position: u64, byte: u8) -> ByteRuns
+    requires position { position < 2 ^ 63 }
+    requires in_step { IsInStep (offset + position + 8) pending }
+    requires fits { (s : ℕ) → BitNames (offset + position) byte s → s < 2 ^ 64 }
     ensures runs { IsRunsOf (option_to_list result.pending ++ reverse (finished_of result.finished))
-        (λ s. Covers (option_to_list pending) s ⊎ BitNames (offset + place) byte s) }
-    ensures in_step { IsInStep (offset + place) result.pending }
-    ensures ends { All (λ run. ¬ SpanCovers run (offset + place)) (finished_of result.finished) }
+        (λ s. Covers (option_to_list pending) s ⊎ BitNames (offset + position) byte s) }
+    ensures in_step { IsInStep (offset + position) result.pending }
+    ensures ends { All (λ run. ¬ SpanCovers run (offset + position)) (finished_of result.finished) }
     ensures four_more { length (finished_of result.finished)
         + length (option_to_list result.pending) ≤ length (option_to_list pending) + 4 }
 {
@@ -83,7 +83,7 @@ pub fn runs_of_byte(pending: Option<Span>, offset: u64, place: u64, byte: u8) ->
         return runs;
     }
     for bit in (0..8).rev() {
-        match serial_at(offset, place, byte, bit) {
+        match serial_at(offset, position, byte, bit) {
             Some(serial) => runs.extend(serial),
             None => runs.close(),
         }

@@ -3,13 +3,13 @@ ghost use Rattle.std.specs.Prelude.{◌≡◌, ◌+◌, ◌*◌, ◌<◌, ◌≤
 ghost use Rattle.serial_set.specs.declared.span.Span.{Span};
 ghost use Rattle.serial_set.specs.Span.{Covers, IsRuns, IsRunsOf, AreSerials};
 ghost use Rattle.serial_set.specs.BitRuns.{BitRuns, start, lowest, BitNames, big_endian, Feeds, FeedsAll, runs_after};
-ghost use Rattle.serial_set.specs.declared.entry.Entry.{Entry};
+ghost use Rattle.serial_set.specs.declared.chunk.Chunk.{Chunk};
 ghost use Rattle.serial_set.specs.declared.span_pages.SpanPages.{SpanPages};
-ghost use Rattle.serial_set.specs.Entry.{EntriesFrom, hi_of, runs_of};
-ghost use Rattle.serial_set.specs.Entries.{Keeps, Replaces};
+ghost use Rattle.serial_set.specs.Chunk.{ChunksFrom, hi_of, runs_of};
+ghost use Rattle.serial_set.specs.Chunks.{Keeps, Replaces};
 ghost use Rattle.serial_set.specs.Joined.{Rises, joined};
 ghost use Rattle.serial_set.specs.Laws.{AfterFeeding};
-ghost use Rattle.serial_set.specs.SpanPages.{entries_held};
+ghost use Rattle.serial_set.specs.SpanPages.{chunks_held};
 
 /// A set has one list of runs.
 pub fn runs_are_unique()
@@ -29,20 +29,20 @@ pub fn joined_are_runs()
         → IsRunsOf (joined spans) (λ s. Covers spans s) }
 {}
 
-/// Where entries give way to others that have their members and some more, the runs are those of
+/// Where chunks give way to others that have their members and some more, the runs are those of
 /// the members before and of those more.
 pub fn replaced_adds()
-    ensures { (old : List Entry) (lo hi : ℕ) (news new : List Entry) (more : List Span)
-        (r : Replaces old lo hi news new) → Keeps r.middle news (λ s. Covers more s) → lo ≤ hi
-        → EntriesFrom 0 old → EntriesFrom lo news → All (λ e. hi_of e < hi + 1) news
+    ensures { (old : List Chunk) (lo hi : ℕ) (few new : List Chunk) (more : List Span)
+        (r : Replaces old lo hi few new) → Keeps r.middle few (λ s. Covers more s) → lo ≤ hi
+        → ChunksFrom 0 old → ChunksFrom lo few → All (λ e. hi_of e < hi + 1) few
         → IsRunsOf (runs_of new) (λ s. Covers (runs_of old) s ⊎ Covers more s) }
 {}
 
-/// A set holds at most three entries for each of its runs, whatever was added to it and in which
+/// A set holds at most three chunks for each of its runs, whatever was added to it and in which
 /// order: so what it takes is bounded by its intervals.
-pub fn three_entries_a_run()
+pub fn three_chunks_a_run()
     ensures { (set : SpanPages)
-        → length (entries_held set) ≤ 3 * length (runs_of (entries_held set)) }
+        → length (chunks_held set) ≤ 3 * length (runs_of (chunks_held set)) }
 {}
 
 /// At each moment the pending run and all that were finished are the runs of the bits that are fed.
@@ -54,7 +54,7 @@ pub fn fed_so_far()
         AreSerials (runs_after after finished)) }
     ensures four_a_byte { AfterFeeding (λ offset len bytes after finished.
         length (runs_after after finished) ≤ 4 * length bytes) }
-    ensures place { AfterFeeding (λ offset len bytes after finished.
+    ensures position { AfterFeeding (λ offset len bytes after finished.
         (after.bytes_left + length bytes ≡ len) × (after.offset ≡ offset)) }
 {}
 

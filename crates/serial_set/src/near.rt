@@ -5,7 +5,7 @@ ghost use Rattle.serial_set.specs.Near.{AreNear, LiesIn};
 ghost use Rattle.serial_set.specs.Span.{Covers};
 ghost use Rattle.serial_set.specs.Words.{BitCovers};
 
-use crate::entry::mask;
+use crate::chunk::mask;
 use crate::span::Span;
 
 /// How many of some spans, from the first on, `Spans::add_near` takes: as many as lie in one window

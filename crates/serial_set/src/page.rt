@@ -1,25 +1,25 @@
-//! A page of entries.
+//! A page of chunks.
 ghost use Rattle.std.specs.Prelude.{◌≡◌, ◌+◌, ◌*◌, ◌^◌, ◌<◌, ◌≤◌, ◌⊎◌, ◌∷◌, ◌++◌, [], length, take, drop, false, All, IsTrue, IfOk, OnOk, OnErr};
 ghost use Rattle.std.specs.Vec.{vec_len};
-ghost use Rattle.serial_set.specs.Entry.{lo_of, hi_of, EntriesFrom};
-ghost use Rattle.serial_set.specs.Entries.{Replaces};
-ghost use Rattle.serial_set.specs.Places.{end_of, CutTo, WordWidened};
+ghost use Rattle.serial_set.specs.Chunk.{lo_of, hi_of, ChunksFrom};
+ghost use Rattle.serial_set.specs.Chunks.{Replaces};
+ghost use Rattle.serial_set.specs.Positions.{end_of, CutTo, WordWidened};
 
-use crate::entry::Entry;
+use crate::chunk::Chunk;
 use crate::row::{insert_at, remove};
 use crate::search::{HasEnd, count_ending_below, count_ending_upto};
 use std::alloc::{AllocError, Global};
 
-/// How many entries a page has at most.
+/// How many chunks a page has at most.
 const PAGE_LEN: usize = 256;
 
-// How many entries a change puts at most in place of others.
+// How many chunks a change puts at most in place of others.
 const MOST_NEW: usize = 3;
 
-/// Entries in a row, from 1 to 256 of them, and where the last one ends.
+/// Chunks in a row, from 1 to 256 of them, and where the last one ends.
 #[derive(Drop)]
 pub struct Page {
-    items: Vec<Entry>,
+    items: Vec<Chunk>,
     end: u64,
     ghost some: { 0 < length items.items },
     ghost most: { length items.items ≤ 256 },
@@ -27,60 +27,60 @@ pub struct Page {
 }
 
 impl Page {
-    ghost use Rattle.serial_set.specs.Pages.{entries_in};
+    ghost use Rattle.serial_set.specs.Pages.{chunks_in};
 
-    /// A page with just these entries.
-    pub fn of(alloc: Global, entries: &[Entry]) -> Result<Page, AllocError>
-        requires some { 0 < length entries.now }
-        requires most { length entries.now ≤ 256 }
-        ensures { IfOk result (λ page. entries_in page ≡ entries.now) }
+    /// A page with just these chunks.
+    pub fn of(alloc: Global, chunks: &[Chunk]) -> Result<Page, AllocError>
+        requires some { 0 < length chunks.now }
+        requires most { length chunks.now ≤ 256 }
+        ensures { IfOk result (λ page. chunks_in page ≡ chunks.now) }
     {
-        let items = Vec::from_slice(alloc, entries)?;
+        let items = Vec::from_slice(alloc, chunks)?;
         let end = last_end(&items);
         Ok(Page { items, end })
     }
 
-    /// Its entries.
-    pub fn as_slice(&self) -> &[Entry]
-        ensures { result.now ≡ entries_in self.now }
+    /// Its chunks.
+    pub fn as_slice(&self) -> &[Chunk]
+        ensures { result.now ≡ chunks_in self.now }
     {
         &self.items
     }
 
     /// Whether it has room for what one change puts in place of others.
     pub fn has_room(&self) -> bool
-        ensures room { IsTrue result → length (entries_in self.now) ≤ 253 }
-        ensures full { result ≡ false → 253 < length (entries_in self.now) }
+        ensures room { IsTrue result → length (chunks_in self.now) ≤ 253 }
+        ensures full { result ≡ false → 253 < length (chunks_in self.now) }
     {
         self.items.len() <= PAGE_LEN - MOST_NEW
     }
 
-    /// Puts at most three entries that rise in place of all that reach into the numbers from `lo`
+    /// Puts at most three chunks that rise in place of all that reach into the numbers from `lo`
     /// to `hi`, which cuts none of them.
-    pub fn put(&mut self, few: &[Entry], lo: u64, hi: u64) -> Result<(), AllocError>
-        requires order { EntriesFrom 0 (entries_in self.old) }
-        requires whole { All (λ e. (hi_of e ≤ hi) ⊎ (hi < lo_of e)) (entries_in self.old) }
-        requires room { length (entries_in self.old) ≤ 253 }
+    pub fn put(&mut self, few: &[Chunk], lo: u64, hi: u64) -> Result<(), AllocError>
+        requires order { ChunksFrom 0 (chunks_in self.old) }
+        requires whole { All (λ e. (hi_of e ≤ hi) ⊎ (hi < lo_of e)) (chunks_in self.old) }
+        requires room { length (chunks_in self.old) ≤ 253 }
         requires few { (0 < length few.now) × (length few.now ≤ 3) }
         ensures put { OnOk result
-            (Replaces (entries_in self.old) lo hi few.now (entries_in self.new)) }
-        ensures refused { OnErr result (entries_in self.new ≡ entries_in self.old) }
+            (Replaces (chunks_in self.old) lo hi few.now (chunks_in self.new)) }
+        ensures refused { OnErr result (chunks_in self.new ≡ chunks_in self.old) }
     {
-        let entries = self.as_slice();
-        let from = count_ending_below(entries, lo);
-        let to = from + count_ending_upto(&entries[from..], hi);
+        let chunks = self.as_slice();
+        let from = count_ending_below(chunks, lo);
+        let to = from + count_ending_upto(&chunks[from..], hi);
         self.splice(from, to, few)
     }
 
-    // Puts entries in place of those from one place to another.
-    fn splice(&mut self, from: usize, to: usize, few: &[Entry]) -> Result<(), AllocError>
+    // Puts chunks in place of those from one position to another.
+    fn splice(&mut self, from: usize, to: usize, few: &[Chunk]) -> Result<(), AllocError>
         requires order { from ≤ to }
-        requires within { to ≤ length (entries_in self.old) }
-        requires room { length (entries_in self.old) ≤ 253 }
+        requires within { to ≤ length (chunks_in self.old) }
+        requires room { length (chunks_in self.old) ≤ 253 }
         requires few { (0 < length few.now) × (length few.now ≤ 3) }
-        ensures put { OnOk result (entries_in self.new
-            ≡ take from (entries_in self.old) ++ (few.now ++ drop to (entries_in self.old))) }
-        ensures refused { OnErr result (entries_in self.new ≡ entries_in self.old) }
+        ensures put { OnOk result (chunks_in self.new
+            ≡ take from (chunks_in self.old) ++ (few.now ++ drop to (chunks_in self.old))) }
+        ensures refused { OnErr result (chunks_in self.new ≡ chunks_in self.old) }
     {
         if from == to && few.len() == 1 {
             return self.put_between(from, few[0]);
@@ -88,13 +88,13 @@ impl Page {
         self.put_more(from, to, few)
     }
 
-    // Puts one entry between others.
-    fn put_between(&mut self, at: usize, new: Entry) -> Result<(), AllocError>
-        requires place { at ≤ length (entries_in self.old) }
-        requires room { length (entries_in self.old) ≤ 253 }
-        ensures put { OnOk result (entries_in self.new
-            ≡ take at (entries_in self.old) ++ new ∷ drop at (entries_in self.old)) }
-        ensures refused { OnErr result (entries_in self.new ≡ entries_in self.old) }
+    // Puts one chunk between others.
+    fn put_between(&mut self, at: usize, new: Chunk) -> Result<(), AllocError>
+        requires within { at ≤ length (chunks_in self.old) }
+        requires room { length (chunks_in self.old) ≤ 253 }
+        ensures put { OnOk result (chunks_in self.new
+            ≡ take at (chunks_in self.old) ++ new ∷ drop at (chunks_in self.old)) }
+        ensures refused { OnErr result (chunks_in self.new ≡ chunks_in self.old) }
     {
         grow(&mut self.items)?;
         insert_at(&mut self.items, at, new)?;
@@ -102,15 +102,15 @@ impl Page {
         Ok(())
     }
 
-    // The same of any entries, in a vector of their own.
-    fn put_more(&mut self, from: usize, to: usize, few: &[Entry]) -> Result<(), AllocError>
+    // The same of any chunks, in a vector of their own.
+    fn put_more(&mut self, from: usize, to: usize, few: &[Chunk]) -> Result<(), AllocError>
         requires order { from ≤ to }
-        requires within { to ≤ length (entries_in self.old) }
-        requires room { length (entries_in self.old) ≤ 253 }
+        requires within { to ≤ length (chunks_in self.old) }
+        requires room { length (chunks_in self.old) ≤ 253 }
         requires few { (0 < length few.now) × (length few.now ≤ 3) }
-        ensures put { OnOk result (entries_in self.new
-            ≡ take from (entries_in self.old) ++ few.now ++ drop to (entries_in self.old)) }
-        ensures refused { OnErr result (entries_in self.new ≡ entries_in self.old) }
+        ensures put { OnOk result (chunks_in self.new
+            ≡ take from (chunks_in self.old) ++ few.now ++ drop to (chunks_in self.old)) }
+        ensures refused { OnErr result (chunks_in self.new ≡ chunks_in self.old) }
     {
         let left = self.items.len() - to;
         let mut items = Vec::with_capacity(*self.items.allocator(), from + few.len() + left)?;
@@ -125,11 +125,11 @@ impl Page {
     /// Sets bits in the word of their window, if there is one that does not get full. Else nothing
     /// changes.
     pub fn set_bits(&mut self, window: u64, bits: u64) -> bool
-        requires order { EntriesFrom 0 (entries_in self.old) }
+        requires order { ChunksFrom 0 (chunks_in self.old) }
         requires window { window < 2 ^ 58 }
         ensures set { IsTrue result
-            → WordWidened (entries_in self.old) window bits (entries_in self.new) }
-        ensures same { result ≡ false → entries_in self.new ≡ entries_in self.old }
+            → WordWidened (chunks_in self.old) window bits (chunks_in self.new) }
+        ensures same { result ≡ false → chunks_in self.new ≡ chunks_in self.old }
     {
         let at = count_ending_below(self.as_slice(), 64 * window);
         if at >= self.items.len() {
@@ -142,69 +142,69 @@ impl Page {
         true
     }
 
-    /// Gives the back as a page of its own. Near an end it is cut where an entry at `lo` would
+    /// Gives the back as a page of its own. Near an end it is cut where a chunk at `lo` would
     /// stand, so that what is filled in order stays full, and else in its middle. Both then have
     /// room.
     pub fn split(&mut self, lo: u64) -> Result<Page, AllocError>
-        requires order { EntriesFrom 0 (entries_in self.old) }
-        requires full { 253 < length (entries_in self.old) }
+        requires order { ChunksFrom 0 (chunks_in self.old) }
+        requires full { 253 < length (chunks_in self.old) }
         ensures whole { IfOk result (λ back.
-            entries_in self.old ≡ entries_in self.new ++ entries_in back) }
-        ensures room { OnOk result (length (entries_in self.new) ≤ 253) }
-        ensures back { IfOk result (λ back. length (entries_in back) ≤ 253) }
-        ensures refused { OnErr result (entries_in self.new ≡ entries_in self.old) }
+            chunks_in self.old ≡ chunks_in self.new ++ chunks_in back) }
+        ensures room { OnOk result (length (chunks_in self.new) ≤ 253) }
+        ensures back { IfOk result (λ back. length (chunks_in back) ≤ 253) }
+        ensures refused { OnErr result (chunks_in self.new ≡ chunks_in self.old) }
     {
-        let entries = self.as_slice();
-        let at = cut_place(count_ending_below(entries, lo), entries.len());
-        let back = Page::of(*self.items.allocator(), &entries[at..])?;
+        let chunks = self.as_slice();
+        let at = cut_position(count_ending_below(chunks, lo), chunks.len());
+        let back = Page::of(*self.items.allocator(), &chunks[at..])?;
         self.keep_front(at);
         Ok(back)
     }
 
-    // Keeps the first entries.
+    // Keeps the first chunks.
     fn keep_front(&mut self, count: usize)
         requires some { 0 < count }
-        requires within { count ≤ length (entries_in self.old) }
-        ensures { entries_in self.new ≡ take count (entries_in self.old) }
+        requires within { count ≤ length (chunks_in self.old) }
+        ensures { chunks_in self.new ≡ take count (chunks_in self.old) }
     {
         self.items.truncate(count);
         self.items.shrink_to_fit();
         self.end = last_end(&self.items);
     }
 
-    /// Cuts off the entries up to a number that cuts none of them, and is not past the last.
+    /// Cuts off the chunks up to a number that cuts none of them, and is not past the last.
     pub fn cut_to(&mut self, number: u64)
-        requires order { EntriesFrom 0 (entries_in self.old) }
+        requires order { ChunksFrom 0 (chunks_in self.old) }
         requires whole { All (λ e. (hi_of e ≤ number) ⊎ (number < lo_of e))
-            (entries_in self.old) }
-        requires past { number < end_of (entries_in self.old) }
-        ensures { CutTo (entries_in self.old) number (entries_in self.new) }
+            (chunks_in self.old) }
+        requires past { number < end_of (chunks_in self.old) }
+        ensures { CutTo (chunks_in self.old) number (chunks_in self.new) }
     {
         let count = count_ending_upto(self.as_slice(), number);
         self.cut_front(count);
     }
 
-    // Removes the first entries.
+    // Removes the first chunks.
     fn cut_front(&mut self, count: usize)
-        requires { count < length (entries_in self.old) }
-        ensures { entries_in self.new ≡ drop count (entries_in self.old) }
+        requires { count < length (chunks_in self.old) }
+        ensures { chunks_in self.new ≡ drop count (chunks_in self.old) }
     {
         remove(&mut self.items, 0, count);
     }
 }
 
 impl HasEnd for Page {
-    ghost use Rattle.serial_set.specs.Pages.{entries_in};
+    ghost use Rattle.serial_set.specs.Pages.{chunks_in};
 
-    ghost end = { λ page. end_of (entries_in page) };
+    ghost end = { λ page. end_of (chunks_in page) };
 
     fn end(&self) -> u64 {
         self.end
     }
 }
 
-// Where the last of some entries ends.
-fn last_end(items: &[Entry]) -> u64
+// Where the last of some chunks ends.
+fn last_end(items: &[Chunk]) -> u64
     requires { 0 < length items.now }
     ensures { result ≡ end_of items.now }
 {
@@ -213,7 +213,7 @@ fn last_end(items: &[Entry]) -> u64
 
 // Makes room for some more where there is none, a quarter of what there is: pages are many, and
 // room in each of them is memory.
-fn grow(items: &mut Vec<Entry>) -> Result<(), AllocError>
+fn grow(items: &mut Vec<Chunk>) -> Result<(), AllocError>
     ensures { items.new.items ≡ items.old.items }
 {
     if items.len() == items.capacity() {
@@ -224,7 +224,7 @@ fn grow(items: &mut Vec<Entry>) -> Result<(), AllocError>
 
 // Where a full page of `len` is cut for what would be at `at`: there, if that is near an end, and
 // else in the middle. Neither side is too long for a change, or empty.
-fn cut_place(at: usize, len: usize) -> usize
+fn cut_position(at: usize, len: usize) -> usize
     requires { 6 ≤ len }
     ensures front { 3 ≤ result }
     ensures back { result + 3 ≤ len }

@@ -6,7 +6,7 @@ ghost use Rattle.std.specs.Vec.{vec_len, vec_capacity};
 use std::alloc::AllocError;
 
 /// What `insert` does, in one move of all that is after it: LLVM makes no such move of `insert`
-/// at a place that it does not know.
+/// at a position that it does not know.
 pub fn insert_at<T: Drop>(items: &mut Vec<T>, at: usize, new: T) -> Result<(), AllocError>
     requires { at ≤ length items.old.items }
     ensures items { items.new.items
@@ -18,7 +18,7 @@ pub fn insert_at<T: Drop>(items: &mut Vec<T>, at: usize, new: T) -> Result<(), A
     Ok(())
 }
 
-// Moves the last of a row to a place, and those from there on by one.
+// Moves the last of a row to a position, and those from there on by one.
 fn move_last<T>(row: &mut [T], at: usize)
     requires { at < length row.old }
     ensures { (xs : List T) → (x : T) → row.old ≡ xs ++ x ∷ [] → row.new ≡ insert xs at x }

@@ -1,12 +1,12 @@
 //! The runs of a set, as a walk comes to them.
 ghost use Rattle.std.specs.Prelude.{◌≡◌, ◌+◌, ◌<◌, ◌≤◌, ◌↔◌, ℕ, length, take, slice_get, false, IsTrue, IfErr, IfOk};
-ghost use Rattle.serial_set.specs.Entry.{hi_of, members_of, runs_of};
+ghost use Rattle.serial_set.specs.Chunk.{hi_of, members_of, runs_of};
 ghost use Rattle.serial_set.specs.Members.{GoesOn, IsFirst, Reads, Taken};
 ghost use Rattle.serial_set.specs.Span.{Covers};
-ghost use Rattle.serial_set.specs.SpanPages.{entries_held};
+ghost use Rattle.serial_set.specs.SpanPages.{chunks_held};
 ghost use Rattle.serial_set.specs.Walk.{IsPiece, piece_of, since};
 
-use crate::entry::Entry;
+use crate::chunk::Chunk;
 use crate::piece::Piece;
 use crate::span::Span;
 use crate::span_pages::SpanPages;
@@ -15,7 +15,7 @@ impl SpanPages {
     // The first runs of the members from a number on, as many as a piece has room for, or as lie
     // together.
     pub(crate) fn runs_from(&self, number: u64) -> Piece
-        ensures { IsPiece (runs_of (entries_held self.now)) number (piece_of result) }
+        ensures { IsPiece (runs_of (chunks_held self.now)) number (piece_of result) }
     {
         let mut piece = Piece::none();
         self.take_whole(&mut piece, number);
@@ -29,7 +29,7 @@ impl SpanPages {
     fn take_whole(&self, piece: &mut Piece, number: u64)
         requires { piece.old.count ≡ 0 }
         ensures { piece_of piece.new ≡ take (length (piece_of piece.new))
-            (since number (runs_of (entries_held self.now))) }
+            (since number (runs_of (chunks_held self.now))) }
     {
         self.take_list(piece, number);
         if let Some(last) = piece.pop() {
@@ -43,32 +43,32 @@ impl SpanPages {
     // what lies together ends. The last of them may go on there.
     fn take_list(&self, piece: &mut Piece, number: u64)
         requires { piece.old.count ≡ 0 }
-        ensures { (at : ℕ) × Taken (members_of (entries_held self.now)) number at
+        ensures { (at : ℕ) × Taken (members_of (chunks_held self.now)) number at
             (piece_of piece.new) }
     {
-        let entries = self.list_from(number);
-        for at in 0..entries.len() {
-            if !self.take_entry(piece, entries[at], number) {
+        let chunks = self.list_from(number);
+        for at in 0..chunks.len() {
+            if !self.take_chunk(piece, chunks[at], number) {
                 return;
             }
         }
     }
 
-    // Takes the runs of an entry's members from a number on, and says whether it took them all.
-    fn take_entry(&self, piece: &mut Piece, entry: Entry, number: u64) -> bool
-        requires { (at : ℕ) × (Taken (members_of (entries_held self.now)) number at
-            (piece_of piece.old) × Reads (members_of (entries_held self.now)) at entry number) }
-        ensures { (at : ℕ) × (Taken (members_of (entries_held self.now)) number at
-            (piece_of piece.new) × (IsTrue result → at ≡ hi_of entry + 1)) }
+    // Takes the runs of a chunk's members from a number on, and says whether it took them all.
+    fn take_chunk(&self, piece: &mut Piece, chunk: Chunk, number: u64) -> bool
+        requires { (at : ℕ) × (Taken (members_of (chunks_held self.now)) number at
+            (piece_of piece.old) × Reads (members_of (chunks_held self.now)) at chunk number) }
+        ensures { (at : ℕ) × (Taken (members_of (chunks_held self.now)) number at
+            (piece_of piece.new) × (IsTrue result → at ≡ hi_of chunk + 1)) }
     {
         let mut from = number;
         while !piece.is_full() {
-            let Some(lo) = entry.first_from(from) else {
+            let Some(lo) = chunk.first_from(from) else {
                 return true;
             };
-            let hi = entry.last_from(lo);
+            let hi = chunk.last_from(lo);
             piece.join(lo, hi);
-            if hi == entry.hi() {
+            if hi == chunk.hi() {
                 return true;
             }
             from = hi + 1;
@@ -79,7 +79,7 @@ impl SpanPages {
     // Takes the first run of the members from a number on, wherever it ends.
     fn take_first(&self, piece: &mut Piece, number: u64)
         requires { piece.old.count ≡ 0 }
-        ensures { IsPiece (runs_of (entries_held self.now)) number (piece_of piece.new) }
+        ensures { IsPiece (runs_of (chunks_held self.now)) number (piece_of piece.new) }
     {
         let Some(lo) = self.first_member(number) else {
             return;
@@ -88,21 +88,21 @@ impl SpanPages {
         piece.push(Span { lo, hi });
     }
 
-    // The first member from a number on, as far as the first entry there says it, and else the
-    // number past that entry.
+    // The first member from a number on, as far as the first chunk there says it, and else the
+    // number past that chunk.
     fn first_or_next(&self, number: u64) -> Result<Option<u64>, u64>
         ensures first { IfOk result
-            (λ first. IsFirst (members_of (entries_held self.now)) number first) }
+            (λ first. IsFirst (members_of (chunks_held self.now)) number first) }
         ensures next { IfErr result (λ next. number < next) }
         ensures none { IfErr result (λ next. (s : ℕ) → number ≤ s → s < next
-            → Covers (members_of (entries_held self.now)) s → ⊥) }
+            → Covers (members_of (chunks_held self.now)) s → ⊥) }
     {
-        let Some(entry) = self.entry_from(number) else {
+        let Some(chunk) = self.chunk_from(number) else {
             return Ok(None);
         };
-        match entry.first_from(number) {
+        match chunk.first_from(number) {
             Some(first) => Ok(Some(first)),
-            None => match entry.hi().checked_add(1) {
+            None => match chunk.hi().checked_add(1) {
                 Some(next) => Err(next),
                 None => Ok(None),
             },
@@ -111,7 +111,7 @@ impl SpanPages {
 
     // The first member from a number on. No word lacks a member, but that is not known here.
     fn first_member(&self, number: u64) -> Option<u64>
-        ensures { IsFirst (members_of (entries_held self.now)) number result }
+        ensures { IsFirst (members_of (chunks_held self.now)) number result }
     {
         let mut at = number;
         loop {
@@ -125,9 +125,9 @@ impl SpanPages {
     // Whether some number from `lo` to `hi` is a member.
     pub(crate) fn has_some(&self, lo: u64, hi: u64) -> bool
         ensures some { IsTrue result → (s : ℕ) × ((lo ≤ s) × (s ≤ hi)
-            × Covers (members_of (entries_held self.now)) s) }
+            × Covers (members_of (chunks_held self.now)) s) }
         ensures none { result ≡ false → (s : ℕ) → lo ≤ s → s ≤ hi
-            → Covers (members_of (entries_held self.now)) s → ⊥ }
+            → Covers (members_of (chunks_held self.now)) s → ⊥ }
     {
         match self.first_member(lo) {
             Some(first) => first <= hi,
@@ -135,26 +135,26 @@ impl SpanPages {
         }
     }
 
-    // The last of the members of one entry that follow a member without a gap.
-    fn last_in_entry(&self, member: u64) -> u64
-        requires { Covers (members_of (entries_held self.now)) member }
-        ensures { GoesOn (members_of (entries_held self.now)) member result }
+    // The last of the members of one chunk that follow a member without a gap.
+    fn last_in_chunk(&self, member: u64) -> u64
+        requires { Covers (members_of (chunks_held self.now)) member }
+        ensures { GoesOn (members_of (chunks_held self.now)) member result }
     {
-        match self.entry_from(member) {
-            Some(entry) => entry.last_from(member),
+        match self.chunk_from(member) {
+            Some(chunk) => chunk.last_from(member),
             None => unreachable!(),
         }
     }
 
     // Where the run of a member ends.
     fn run_end(&self, member: u64) -> u64
-        requires { Covers (members_of (entries_held self.now)) member }
-        ensures on { GoesOn (members_of (entries_held self.now)) member result }
-        ensures stops { Covers (members_of (entries_held self.now)) (result + 1) → ⊥ }
+        requires { Covers (members_of (chunks_held self.now)) member }
+        ensures on { GoesOn (members_of (chunks_held self.now)) member result }
+        ensures stops { Covers (members_of (chunks_held self.now)) (result + 1) → ⊥ }
     {
         let mut from = member;
         loop {
-            let last = self.last_in_entry(from);
+            let last = self.last_in_chunk(from);
             if !self.has_after(last) {
                 return last;
             }
@@ -164,7 +164,7 @@ impl SpanPages {
 
     // Whether the number after a number is a member.
     fn has_after(&self, number: u64) -> bool
-        ensures { IsTrue result ↔ Covers (members_of (entries_held self.now)) (number + 1) }
+        ensures { IsTrue result ↔ Covers (members_of (chunks_held self.now)) (number + 1) }
     {
         if number == u64::MAX {
             return false;
@@ -174,7 +174,7 @@ impl SpanPages {
 
     // How many runs the members are.
     pub(crate) fn count_runs(&self) -> usize
-        ensures { result ≡ length (runs_of (entries_held self.now)) }
+        ensures { result ≡ length (runs_of (chunks_held self.now)) }
     {
         let mut count = 0;
         let mut next = Some(0);
@@ -186,10 +186,10 @@ impl SpanPages {
         count
     }
 
-    // The run at a place of the list of all runs.
+    // The run at a position of the list of all runs.
     pub(crate) fn run_at(&self, at: usize) -> Span
-        requires { at < length (runs_of (entries_held self.now)) }
-        ensures { slice_get (runs_of (entries_held self.now)) at ≡ Some result }
+        requires { at < length (runs_of (chunks_held self.now)) }
+        ensures { slice_get (runs_of (chunks_held self.now)) at ≡ Some result }
     {
         let mut rest = at;
         let mut next = Some(0);

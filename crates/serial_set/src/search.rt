@@ -3,7 +3,7 @@ ghost use Rattle.std.specs.Prelude.{◌≡◌, ◌<◌, ◌≤◌, ℕ, length, 
 ghost use Rattle.std.specs.List.{All};
 ghost use Rattle.std.specs.List.Sorted.{IsNonDecreasingBy};
 
-/// What ends at a number: a span, an entry, a page of entries.
+/// What ends at a number: a span, a chunk, a page of chunks.
 pub trait HasEnd {
     ghost end: { Self → ℕ };
 

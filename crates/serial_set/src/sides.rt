@@ -1,24 +1,24 @@
-//! Where a run that is added begins and ends among the entries of a set.
+//! Where a span that is added begins and ends among the chunks of a set.
 ghost use Rattle.std.specs.Prelude.{◌≡◌, ◌+◌, ◌-◌, ◌*◌, ◌/◌, ◌^◌, ◌<◌, ◌≤◌, ◌⊎◌, None, Some, IfSome, false, min};
-ghost use Rattle.serial_set.specs.Entry.{is_run, lo_of, hi_of};
-ghost use Rattle.serial_set.specs.Places.{IsEntryFrom};
+ghost use Rattle.serial_set.specs.Chunk.{is_span, lo_of, hi_of};
+ghost use Rattle.serial_set.specs.Positions.{IsChunkFrom};
 ghost use Rattle.serial_set.specs.Sides.{IsBack, IsFront};
-ghost use Rattle.serial_set.specs.SpanPages.{entries_held};
+ghost use Rattle.serial_set.specs.SpanPages.{chunks_held};
 
-use crate::entry::{Entry, mask};
-use crate::news::Side;
+use crate::chunk::{Chunk, mask};
+use crate::replacement::Side;
 use crate::span_pages::SpanPages;
 
 impl SpanPages {
-    // The front of a run from `lo` on. `met` is the first entry that ends right before `lo` or past
-    // it.
-    pub(crate) fn front_of(&self, met: Option<Entry>, lo: u64) -> Side
+    // The front of a span from `lo` on. `met` is the first chunk that ends right before `lo` or
+    // past it.
+    pub(crate) fn front_of(&self, met: Option<Chunk>, lo: u64) -> Side
         requires fits { 64 * ((lo + 63) / 64) < 2 ^ 64 }
-        requires met { IsEntryFrom (entries_held self.now) (lo - 1) met }
-        ensures { IsFront (entries_held self.now) lo result.word result.at }
+        requires met { IsChunkFrom (chunks_held self.now) (lo - 1) met }
+        ensures { IsFront (chunks_held self.now) lo result.word result.at }
     {
         match met {
-            Some(word) if !word.is_run() && word.lo() < lo && lo <= word.hi() => {
+            Some(word) if !word.is_span() && word.lo() < lo && lo <= word.hi() => {
                 self.front_in(word, lo)
             }
             _ => Side {
@@ -28,13 +28,13 @@ impl SpanPages {
         }
     }
 
-    // The same where a word reaches over `lo`. One that gets full becomes part of the run.
-    fn front_in(&self, word: Entry, lo: u64) -> Side
+    // The same where a word reaches over `lo`. One that gets full becomes part of the span.
+    fn front_in(&self, word: Chunk, lo: u64) -> Side
         requires fits { 64 * ((lo + 63) / 64) < 2 ^ 64 }
-        requires met { IsEntryFrom (entries_held self.now) (lo - 1) (Some word) }
-        requires word { is_run word ≡ false }
+        requires met { IsChunkFrom (chunks_held self.now) (lo - 1) (Some word) }
+        requires word { is_span word ≡ false }
         requires over { (lo_of word < lo) × (lo ≤ hi_of word) }
-        ensures { IsFront (entries_held self.now) lo result.word result.at }
+        ensures { IsFront (chunks_held self.now) lo result.word result.at }
     {
         match word.with(mask(lo % 64, 63)) {
             Some(more) => Side {
@@ -43,7 +43,7 @@ impl SpanPages {
             },
             None => {
                 let first = word.lo();
-                let met = self.entry_from(first.saturating_sub(1));
+                let met = self.chunk_from(first.saturating_sub(1));
                 Side {
                     word: None,
                     at: self.begin_of(met, first),
@@ -52,29 +52,29 @@ impl SpanPages {
         }
     }
 
-    // Where a run from `lo` on begins, where no word reaches over `lo`: where the run does to which
-    // `met` reaches.
-    fn begin_of(&self, met: Option<Entry>, lo: u64) -> u64
-        requires met { IsEntryFrom (entries_held self.now) (lo - 1) met }
+    // Where a span from `lo` on begins, where no word reaches over `lo`: where the span does to
+    // which `met` reaches.
+    fn begin_of(&self, met: Option<Chunk>, lo: u64) -> u64
+        requires met { IsChunkFrom (chunks_held self.now) (lo - 1) met }
         requires whole { IfSome met
-            (λ e. is_run e ≡ false → (hi_of e < lo) ⊎ (lo ≤ lo_of e)) }
-        ensures { IsFront (entries_held self.now) lo None result }
+            (λ e. is_span e ≡ false → (hi_of e < lo) ⊎ (lo ≤ lo_of e)) }
+        ensures { IsFront (chunks_held self.now) lo None result }
     {
         match met {
-            Some(run) if run.is_run() && run.lo() < lo => run.lo(),
+            Some(span) if span.is_span() && span.lo() < lo => span.lo(),
             _ => lo,
         }
     }
 
-    // The back of a run up to `hi`. `met` is the first entry that ends right after `hi` or past
+    // The back of a span up to `hi`. `met` is the first chunk that ends right after `hi` or past
     // that.
-    pub(crate) fn back_of(&self, met: Option<Entry>, hi: u64) -> Side
+    pub(crate) fn back_of(&self, met: Option<Chunk>, hi: u64) -> Side
         requires past { 63 ≤ hi }
-        requires met { IsEntryFrom (entries_held self.now) (min (hi + 1) (2 ^ 64 - 1)) met }
-        ensures { IsBack (entries_held self.now) hi result.word result.at }
+        requires met { IsChunkFrom (chunks_held self.now) (min (hi + 1) (2 ^ 64 - 1)) met }
+        ensures { IsBack (chunks_held self.now) hi result.word result.at }
     {
         match met {
-            Some(word) if !word.is_run() && word.lo() <= hi && hi < word.hi() => {
+            Some(word) if !word.is_span() && word.lo() <= hi && hi < word.hi() => {
                 self.back_in(word, hi)
             }
             _ => Side {
@@ -85,13 +85,13 @@ impl SpanPages {
     }
 
     // The same where a word reaches over `hi`.
-    fn back_in(&self, word: Entry, hi: u64) -> Side
+    fn back_in(&self, word: Chunk, hi: u64) -> Side
         requires past { 63 ≤ hi }
-        requires met { IsEntryFrom (entries_held self.now) (min (hi + 1) (2 ^ 64 - 1))
+        requires met { IsChunkFrom (chunks_held self.now) (min (hi + 1) (2 ^ 64 - 1))
             (Some word) }
-        requires word { is_run word ≡ false }
+        requires word { is_span word ≡ false }
         requires over { (lo_of word ≤ hi) × (hi < hi_of word) }
-        ensures { IsBack (entries_held self.now) hi result.word result.at }
+        ensures { IsBack (chunks_held self.now) hi result.word result.at }
     {
         match word.with(mask(0, hi % 64)) {
             Some(more) => Side {
@@ -100,7 +100,7 @@ impl SpanPages {
             },
             None => {
                 let last = word.hi();
-                let met = self.entry_from(last.saturating_add(1));
+                let met = self.chunk_from(last.saturating_add(1));
                 Side {
                     word: None,
                     at: self.end_of(met, last),
@@ -109,15 +109,15 @@ impl SpanPages {
         }
     }
 
-    // Where a run up to `hi` ends, where no word reaches over `hi`.
-    fn end_of(&self, met: Option<Entry>, hi: u64) -> u64
-        requires met { IsEntryFrom (entries_held self.now) (min (hi + 1) (2 ^ 64 - 1)) met }
+    // Where a span up to `hi` ends, where no word reaches over `hi`.
+    fn end_of(&self, met: Option<Chunk>, hi: u64) -> u64
+        requires met { IsChunkFrom (chunks_held self.now) (min (hi + 1) (2 ^ 64 - 1)) met }
         requires whole { IfSome met
-            (λ e. is_run e ≡ false → (hi_of e ≤ hi) ⊎ (hi < lo_of e)) }
-        ensures { IsBack (entries_held self.now) hi None result }
+            (λ e. is_span e ≡ false → (hi_of e ≤ hi) ⊎ (hi < lo_of e)) }
+        ensures { IsBack (chunks_held self.now) hi None result }
     {
         match met {
-            Some(run) if run.is_run() && run.lo() <= hi.saturating_add(1) => run.hi(),
+            Some(span) if span.is_span() && span.lo() <= hi.saturating_add(1) => span.hi(),
             _ => hi,
         }
     }

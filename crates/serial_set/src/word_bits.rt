@@ -3,29 +3,29 @@ ghost use Rattle.std.specs.Prelude.{◌≡◌, ◌+◌, ◌<◌, ◌≤◌, ℕ}
 ghost use Rattle.std.specs.Int.{bit_at};
 ghost use Rattle.serial_set.specs.Members.{IsFirstBit};
 
-use crate::entry::mask;
+use crate::chunk::mask;
 
-/// The first bit that is set, from a place on.
-pub fn first_bit(bits: u64, place: u64) -> Option<u64>
-    requires { place < 64 }
-    ensures { IsFirstBit bits place result }
+/// The first bit that is set, from `bit` on.
+pub fn first_bit(bits: u64, bit: u64) -> Option<u64>
+    requires { bit < 64 }
+    ensures { IsFirstBit bits bit result }
 {
-    let rest = bits & mask(place, 63);
+    let rest = bits & mask(bit, 63);
     if rest == 0 {
         return None;
     }
     Some(u64::from(rest.trailing_zeros()))
 }
 
-/// The last of the bits from a place on that are set without a gap.
-pub fn last_bit(bits: u64, place: u64) -> u64
-    requires within { place < 64 }
-    requires set { bit_at bits place ≡ 1 }
-    ensures order { place ≤ result }
+/// The last of the bits from `bit` on that are set without a gap.
+pub fn last_bit(bits: u64, bit: u64) -> u64
+    requires within { bit < 64 }
+    requires set { bit_at bits bit ≡ 1 }
+    ensures order { bit ≤ result }
     ensures within { result < 64 }
-    ensures all { (i : ℕ) → place ≤ i → i ≤ result → bit_at bits i ≡ 1 }
+    ensures all { (i : ℕ) → bit ≤ i → i ≤ result → bit_at bits i ≡ 1 }
 {
-    match first_bit(!bits, place) {
+    match first_bit(!bits, bit) {
         Some(at) => at - 1,
         None => 63,
     }

@@ -3,6 +3,6 @@ pub mod Steps
 pub mod Fields
 pub mod Magnitudes
 pub mod Cut
-pub mod Pieces
+pub mod Parts
 pub mod Pulling
 pub mod Buffered

@@ -1,4 +1,4 @@
--- Pieces that a reader gave, one after the other.
+-- Parts that a reader gave, one after the other.
 use Rattle.std.proofs.Common.{◌≡◌, ℕ, ◌+◌, ◌-◌, ◌<◌, ◌≤◌, Bool, true, false, Result, Ok, Err, rules, List, [], ◌∷◌, ◌++◌, length, take, drop, Option, None, Some, refl, sym, ap, ◌∙◌, subst, le_refl, drop_at, length-take-le, length-append, length-drop, append-nil, slice_set, arith}
 use Rattle.std.proofs.lemmas.Slice.{take-put_mid_below}
 use Rattle.std.proofs.lemmas.List.{drop_all}
@@ -6,7 +6,7 @@ use Rattle.std.specs.Io.KnownBytes.{Consumes, Keeps, prepend_known}
 use Rattle.std.proofs.KnownBytes.{Consumes-kept, Consumes-trans}
 use Rattle.ssh_wire.specs.declared.pull_fault.PullFault.{PullFault}
 use Rattle.ssh_wire.specs.declared.pull_fault.PullFault.TheVariants.{EndsEarly, TooLong, Read, NoMemory}
-use Rattle.ssh_wire.specs.Filling.{Fills, FallsShort, ReportsEnd, pulled}
+use Rattle.ssh_wire.specs.Filling.{Fills, FallsShort, ReportsEnd, pull_of}
 use Rattle.ssh_wire.specs.Pull.{Misses, MissesRest, Pull, Refuses, RefusesRest, Reports, ReportsRest, after_ahead, left_of}
 use borrow.Rule.Slice.PartMut.{put_mid, post_of}
 use lib.Seq.{take-add, take-append-le}
@@ -88,14 +88,14 @@ Misses-memory old new size front before part fits working = record {
   reports = working;
 }
 
-Reports-kept : (fault : PullFault) (new : Pull) (taken limit came : ℕ) → new.taken ≡ taken → new.limit ≡ limit → Reports fault (pulled new.source new.failed new.ahead taken limit) came → Reports fault new came
+Reports-kept : (fault : PullFault) (new : Pull) (taken limit came : ℕ) → new.taken ≡ taken → new.limit ≡ limit → Reports fault (pull_of new.source new.failed new.ahead taken limit) came → Reports fault new came
 Reports-kept EndsEarly new taken limit came taken_is limit_is reports = reports
 Reports-kept TooLong new taken limit came taken_is limit_is reports = (omega (arith, reports.0), reports.1, reports.2)
 Reports-kept Read new taken limit came taken_is limit_is reports = reports
 Reports-kept NoMemory new taken limit came taken_is limit_is reports = reports
 
 -- the fault that was found is kept
-pub Refuses-misses : (old new : Pull) (size : ℕ) (fault : PullFault) → Misses (pulled old.source false old.ahead old.taken old.limit) size fault (pulled new.source new.failed new.ahead old.taken old.limit) → new.taken ≡ old.taken → new.limit ≡ old.limit → new.fault ≡ Some fault → Refuses old size fault new
+pub Refuses-misses : (old new : Pull) (size : ℕ) (fault : PullFault) → Misses (pull_of old.source false old.ahead old.taken old.limit) size fault (pull_of new.source new.failed new.ahead old.taken old.limit) → new.taken ≡ old.taken → new.limit ≡ old.limit → new.fault ≡ Some fault → Refuses old size fault new
 Refuses-misses old new size fault misses taken_is limit_is fault_is = record {
   misses = record {
     came = misses.came;
@@ -112,13 +112,13 @@ Refuses-misses old new size fault misses taken_is limit_is fault_is = record {
 -- ---- all that is left
 
 -- bytes came, and then some more, for which there is no memory
-pub MissesRest-memory : (old new : Pull) (mid : Option (List ℕ)) (front piece : List ℕ) (count : ℕ) → Consumes (left_of old) mid front → Consumes mid new.source (take count piece) → new.ahead ≡ None → 0 < count → count ≤ length piece → old.taken + (length front + count) ≤ old.limit → new.failed ≡ false → MissesRest old NoMemory new
-MissesRest-memory old new mid front piece count before after none_ahead some part within working =
-    let size = length-take-le count piece part in
-    let all = length-append front (take count piece) in
+pub MissesRest-memory : (old new : Pull) (mid : Option (List ℕ)) (front slice : List ℕ) (count : ℕ) → Consumes (left_of old) mid front → Consumes mid new.source (take count slice) → new.ahead ≡ None → 0 < count → count ≤ length slice → old.taken + (length front + count) ≤ old.limit → new.failed ≡ false → MissesRest old NoMemory new
+MissesRest-memory old new mid front slice count before after none_ahead some part within working =
+    let size = length-take-le count slice part in
+    let all = length-append front (take count slice) in
     record {
-      came = front ++ take count piece;
-      bytes = subst (λ (ahead : Option ℕ). Consumes (left_of old) (after_ahead ahead new.source) (front ++ take count piece)) (sym none_ahead) (Consumes-trans (left_of old) mid new.source front (take count piece) before after);
+      came = front ++ take count slice;
+      bytes = subst (λ (ahead : Option ℕ). Consumes (left_of old) (after_ahead ahead new.source) (front ++ take count slice)) (sym none_ahead) (Consumes-trans (left_of old) mid new.source front (take count slice) before after);
       within = omega (arith, size, all);
       reports = (omega (arith, size, all), none_ahead, working);
     }
@@ -146,14 +146,14 @@ pub MissesRest-failed : (old new : Pull) (mid : Option (List ℕ)) (front : List
 MissesRest-failed old new mid front fault before kept within is_read none_ahead failed =
     subst (λ (met : PullFault). MissesRest old met new) (sym is_read) (MissesRest-look old new mid front Read before kept within (none_ahead, failed))
 
-ReportsRest-kept : (fault : PullFault) (new : Pull) (taken limit came : ℕ) → new.taken ≡ taken → new.limit ≡ limit → ReportsRest fault (pulled new.source new.failed new.ahead taken limit) came → ReportsRest fault new came
+ReportsRest-kept : (fault : PullFault) (new : Pull) (taken limit came : ℕ) → new.taken ≡ taken → new.limit ≡ limit → ReportsRest fault (pull_of new.source new.failed new.ahead taken limit) came → ReportsRest fault new came
 ReportsRest-kept EndsEarly new taken limit came taken_is limit_is reports = reports
 ReportsRest-kept TooLong new taken limit came taken_is limit_is reports = (omega (arith, reports.0), reports.1, reports.2)
 ReportsRest-kept Read new taken limit came taken_is limit_is reports = reports
 ReportsRest-kept NoMemory new taken limit came taken_is limit_is reports = reports
 
 -- the fault that was found is kept
-pub RefusesRest-misses : (old new : Pull) (fault : PullFault) → MissesRest (pulled old.source false old.ahead old.taken old.limit) fault (pulled new.source new.failed new.ahead old.taken old.limit) → new.taken ≡ old.taken → new.limit ≡ old.limit → new.fault ≡ Some fault → RefusesRest old fault new
+pub RefusesRest-misses : (old new : Pull) (fault : PullFault) → MissesRest (pull_of old.source false old.ahead old.taken old.limit) fault (pull_of new.source new.failed new.ahead old.taken old.limit) → new.taken ≡ old.taken → new.limit ≡ old.limit → new.fault ≡ Some fault → RefusesRest old fault new
 RefusesRest-misses old new fault misses taken_is limit_is fault_is = record {
   misses = record {
     came = misses.came;

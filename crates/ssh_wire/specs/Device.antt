@@ -1,4 +1,4 @@
--- What a piece of a read or a write is.
+-- What a part of a read or a write is.
 use Rattle.std.specs.Prelude.{ℕ, ◌≤◌, List, length, Result, IfOk}
 
 -- a count of the bytes at the front of a slice

@@ -13,8 +13,8 @@ pub record IsSound (failed : Bool) (taken limit : ℕ) (fault : Option PullFault
   pub working : fault ≡ None → failed ≡ false
 
 -- a reader with these bytes left, which failed or not, of which this many bytes were taken
-abbrev pub pulled : Option (List ℕ) → Bool → Option ℕ → ℕ → ℕ → Pull
-pulled source failed ahead taken limit =
+abbrev pub pull_of : Option (List ℕ) → Bool → Option ℕ → ℕ → ℕ → Pull
+pull_of source failed ahead taken limit =
     record {
       source = source;
       failed = failed;

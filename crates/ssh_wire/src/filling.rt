@@ -3,7 +3,7 @@
 ghost use Rattle.std.specs.Prelude.{◌≡◌, ◌≢◌, ◌<◌, ◌≤◌, ◌+◌, ℕ, [], None, Err, OnOk, OnErr, IfErr};
 ghost use Rattle.std.specs.Prelude.{false, vec_len, vec_capacity};
 ghost use Rattle.std.specs.Io.KnownBytes.{Consumes, Keeps};
-ghost use Rattle.ssh_wire.specs.Filling.{Fills, FindsAhead, pulled};
+ghost use Rattle.ssh_wire.specs.Filling.{Fills, FindsAhead, pull_of};
 ghost use Rattle.ssh_wire.specs.Pull.{Misses, after_ahead};
 ghost use Rattle.ssh_wire.specs.declared.pull_fault.PullFault.TheVariants.{NoMemory};
 
@@ -50,14 +50,14 @@ fn fill_from<R: Source>(reader: &mut R, into: &mut [u8]) -> Result<(), PullFault
     match reader.read(into) {
         Ok(count) if count == into.len() => Ok(()),
         Ok(0) => Err(PullFault::EndsEarly),
-        Ok(count) => fill_pieces(reader, &mut into[count..]),
+        Ok(count) => fill_parts(reader, &mut into[count..]),
         Err(_) => Err(PullFault::Read),
     }
 }
 
 // Fills a slice in as many reads as it takes.
 #[inline(never)]
-fn fill_pieces<R: Source>(reader: &mut R, into: &mut [u8]) -> Result<(), PullFault>
+fn fill_parts<R: Source>(reader: &mut R, into: &mut [u8]) -> Result<(), PullFault>
     requires { R.has_failed reader.old ≡ false }
     ensures { Fills result (R.left reader.old) (R.left reader.new) (R.has_failed reader.new)
         into.new }
@@ -107,8 +107,8 @@ pub(crate) fn refusal<R: Source>(
     requires working { R.has_failed reader.old ≡ false }
     requires within { taken ≤ limit }
     ensures misses { (size : ℕ) → limit < taken + size → Misses
-        (pulled (R.left reader.old) false ahead.old taken limit) size result
-        (pulled (R.left reader.new) (R.has_failed reader.new) ahead.new taken limit) }
+        (pull_of (R.left reader.old) false ahead.old taken limit) size result
+        (pull_of (R.left reader.new) (R.has_failed reader.new) ahead.new taken limit) }
     ensures memory { result ≢ NoMemory }
 {
     let mut chunk = [0; CHUNK];
@@ -142,8 +142,8 @@ pub(crate) fn fill_vec<R: Source>(
     ensures size { OnOk result (vec_len out.new ≡ size) }
     ensures works { OnOk result (R.has_failed reader.new ≡ false) }
     ensures misses { IfErr result (λ fault. (taken limit : ℕ) → taken + size ≤ limit → Misses
-        (pulled (R.left reader.old) false ahead.old taken limit) size fault
-        (pulled (R.left reader.new) (R.has_failed reader.new) ahead.new taken limit)) }
+        (pull_of (R.left reader.old) false ahead.old taken limit) size fault
+        (pull_of (R.left reader.new) (R.has_failed reader.new) ahead.new taken limit)) }
     ensures full { result ≡ Err NoMemory → vec_capacity out.old < size }
 {
     let mut chunk = [0; CHUNK];

@@ -1,4 +1,4 @@
-//! Taking fields from a reader, whatever pieces it gives.
+//! Taking fields from a reader, whatever parts it gives.
 
 ghost use Rattle.std.specs.Prelude.{◌≡◌, ◌≢◌, ◌<◌, ◌∷◌, [], None, Err, length, IfOk, IfErr};
 ghost use Rattle.std.specs.Prelude.{OnOk, OnErr, ◌+◌, ◌≤◌, false, take, vec_capacity, vec_len};
@@ -14,7 +14,7 @@ use std::alloc::Global;
 use std::marker::Model;
 
 /// A reader from which fields are taken one after the other, up to a limit. What it gives does not
-/// depend on the pieces in which the reader gives its bytes. After a fault each call answers that
+/// depend on the parts in which the reader gives its bytes. After a fault each call answers that
 /// fault again, and the reader is not asked any more.
 #[derive(Drop)]
 pub struct Pull<R: Source + Drop> {

@@ -4,7 +4,7 @@ ghost use Rattle.std.specs.Prelude.{◌≡◌, ◌<◌, ◌≤◌, ◌+◌, ℕ,
 ghost use Rattle.std.specs.Prelude.{length, vec_len};
 ghost use Rattle.std.specs.Io.KnownBytes.{Consumes, IsAtEnd, ReadConsumes};
 ghost use Rattle.ssh_wire.specs.Device.{IsPart};
-ghost use Rattle.ssh_wire.specs.Filling.{pulled};
+ghost use Rattle.ssh_wire.specs.Filling.{pull_of};
 ghost use Rattle.ssh_wire.specs.Pull.{MissesRest, after_ahead};
 
 use crate::device::{Failed, Source};
@@ -54,8 +54,8 @@ pub(crate) fn fill_rest<R: Source>(
     ensures ends { OnOk result (IsAtEnd (R.left reader.new)) }
     ensures works { OnOk result (R.has_failed reader.new ≡ false) }
     ensures misses { IfErr result (λ fault. (taken limit : ℕ) → taken + room ≡ limit → MissesRest
-        (pulled (R.left reader.old) false ahead.old taken limit) fault
-        (pulled (R.left reader.new) (R.has_failed reader.new) ahead.new taken limit)) }
+        (pull_of (R.left reader.old) false ahead.old taken limit) fault
+        (pull_of (R.left reader.new) (R.has_failed reader.new) ahead.new taken limit)) }
 {
     let mut chunk = [0; CHUNK];
     while (out.len() as u64) < room {

@@ -1,4 +1,4 @@
-//! Writing all of some bytes, in whatever pieces a writer takes them.
+//! Writing all of some bytes, in whatever parts a writer takes them.
 
 ghost use Rattle.std.specs.Prelude.{◌≡◌, ◌<◌, false, length, take, OnOk, IfErr, is_err};
 ghost use Rattle.std.specs.Io.KnownBytes.{Appends};
@@ -12,7 +12,7 @@ pub struct Sent {
     pub count: usize,
 }
 
-/// Writes all the bytes, in whatever pieces the writer takes them. Where the writer fails, the
+/// Writes all the bytes, in whatever parts the writer takes them. Where the writer fails, the
 /// first `count` bytes went out and no others. A writer that has failed before may not be handed
 /// in.
 pub fn send<W: Sink>(writer: &mut W, bytes: &[u8]) -> Result<(), Sent>

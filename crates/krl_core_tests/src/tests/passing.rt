@@ -157,8 +157,8 @@ fn pass_on<R: Source + Drop>(rt: &impl Abort, alloc: Global, reader: R, most: u6
 type Given = (usize, usize, usize, Then);
 
 fn giver<'a>(text: &'a [u8], given: Given) -> Giver<'a> {
-    let (count, piece, calls, then) = given;
-    let mut giver = Giver::new(&text[..count.min(text.len())], piece);
+    let (count, per_call, calls, then) = given;
+    let mut giver = Giver::new(&text[..count.min(text.len())], per_call);
     giver.calls_before_failure = calls;
     giver.then = then;
     giver
@@ -166,7 +166,7 @@ fn giver<'a>(text: &'a [u8], given: Given) -> Giver<'a> {
 
 // A list that passes ends as one that is held a field at a time, from whichever byte on.
 fn ends_alike(rt: &impl Abort, alloc: Global, text: &[u8], given: Given) {
-    let (count, piece, calls, _) = given;
+    let (count, per_call, calls, _) = given;
     let reader = buffered(rt, alloc, 32, giver(text, given));
     let held = step_on::<_, Buffered<'_>>(Reading::<Held, Buffered<'_>>::new(alloc, reader));
     for most in [0, 60, 130, count as u64, u64::MAX] {
@@ -174,7 +174,7 @@ fn ends_alike(rt: &impl Abort, alloc: Global, text: &[u8], given: Given) {
         let passed = pass_on(rt, alloc, reader, most);
         assert!(rt;
             passed == held,
-            "{count} bytes, {piece} a call, {calls} calls, {most} held"
+            "{count} bytes, {per_call} a call, {calls} calls, {most} held"
         );
     }
 }
@@ -192,13 +192,13 @@ fn cut_at_each_byte(rt: HostRuntime) {
 #[test]
 fn failing_at_each_call(rt: HostRuntime) {
     let text = text(&rt, rt.alloc());
-    for piece in [1, 3, 7] {
-        for calls in 0..=text.len() / piece + 2 {
+    for per_call in [1, 3, 7] {
+        for calls in 0..=text.len() / per_call + 2 {
             ends_alike(
                 &rt,
                 rt.alloc(),
                 &text,
-                (text.len(), piece, calls, Then::Ends),
+                (text.len(), per_call, calls, Then::Ends),
             );
         }
     }

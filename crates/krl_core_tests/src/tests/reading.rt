@@ -16,9 +16,9 @@ fn reported(alloc: Global, giver: Giver<'_>) -> Result<u128, KrlFault> {
 
 // The list of a row gives what the row has, in pieces of each size.
 fn is_reported_in_pieces<S: Spans>(rt: &impl Abort, alloc: Global, text: &[u8], row: &Row) {
-    for piece in [1, 3, 7, 1000] {
-        let found = spans_from::<S, Giver<'_>>(alloc, Giver::new(text, piece));
-        assert!(rt; found == row.1, "in case {piece}");
+    for per_call in [1, 3, 7, 1000] {
+        let found = spans_from::<S, Giver<'_>>(alloc, Giver::new(text, per_call));
+        assert!(rt; found == row.1, "in case {per_call}");
     }
 }
 

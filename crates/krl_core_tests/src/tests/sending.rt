@@ -27,8 +27,8 @@ const ROWS: [(usize, usize, usize, Result<(), WriteFault>); 3] = [
 fn counts_what_went_out(rt: HostRuntime) {
     let text = list_of(&rt, rt.alloc(), FIVE);
     let held = held_of_runs(&rt, rt.alloc(), &[(5, 5)]);
-    for (i, (piece, calls, count, expected)) in ROWS.iter().enumerate() {
-        let mut device = Taker::new(rt.alloc(), *piece, *calls);
+    for (i, (per_call, calls, count, expected)) in ROWS.iter().enumerate() {
+        let mut device = Taker::new(rt.alloc(), *per_call, *calls);
         let done = send(rt.alloc(), &held, &mut device);
         assert!(rt; done == *expected, "in case {i}");
         assert!(rt;

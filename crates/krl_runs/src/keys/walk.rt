@@ -6,7 +6,7 @@ ghost use Rattle.ssh_cert.specs.SubjectReading.{subject_of};
 ghost use Rattle.key_files.specs.Keys.{keys_of};
 ghost use Rattle.krl_runs.specs.Carries.{Carries};
 ghost use Rattle.krl_runs.specs.Expected.{AllExpected, AreExpected};
-ghost use Rattle.krl_runs.specs.Run.{Answering, GivesAnswer, file_items, files_items, found_item, is_answered};
+ghost use Rattle.krl_runs.specs.Run.{Answering, GivesAnswer, file_items, files_items, file_key_item, is_answered};
 
 use crate::keys::answers::Answers;
 use crate::output::answer::Answer;
@@ -61,10 +61,10 @@ fn print_key<'a, A: Answers, W: Sink>(
     requires { IfOk (subject_of key.now.line.blob) (A.expects answers.now) }
     ensures read { OnOk result (IsOk (subject_of key.now.line.blob)) }
     ensures carries { (answering : Answering) → A.answers_as answers.now answering
-        → Carries (found_item answering (Ok key.now) ∷ []) result
+        → Carries (file_key_item answering (Ok key.now) ∷ []) result
         run.old.printer run.new.printer }
     ensures said { (answering : Answering) → A.answers_as answers.now answering
-        → IfOk result (λ said. said ≡ is_answered (found_item answering (Ok key.now) ∷ [])) }
+        → IfOk result (λ said. said ≡ is_answered (file_key_item answering (Ok key.now) ∷ [])) }
 {
     let Some(answer) = answer_key(run.alloc, answers, key)? else {
         return Ok(false);
@@ -83,7 +83,7 @@ fn answer_key<'a, A: Answers>(
     requires { IfOk (subject_of key.now.line.blob) (A.expects answers.now) }
     ensures read { OnOk result (IsOk (subject_of key.now.line.blob)) }
     ensures gives { (answering : Answering) → A.answers_as answers.now answering
-        → GivesAnswer (found_item answering (Ok key.now)) key.now.name result }
+        → GivesAnswer (file_key_item answering (Ok key.now)) key.now.name result }
 {
     let any = key.read()?;
     match answers.answer(alloc, key, &any) {

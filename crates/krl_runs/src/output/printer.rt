@@ -5,7 +5,7 @@ ghost use Rattle.krl_runs.specs.Carries.{Carries, Reaches};
 ghost use Rattle.krl_runs.specs.Done.{Ends};
 ghost use Rattle.krl_runs.specs.Printer.{FailsAgain, Sends, and_answer, chunk, nothing_printed};
 ghost use Rattle.krl_runs.specs.Run.{Answered, Item, status_of};
-ghost use Rattle.key_files.specs.RunFault.{is_lost, output_stop};
+ghost use Rattle.key_files.specs.RunFault.{is_lost, output_run_fault};
 
 use crate::output::done::{Done, FAILED};
 use key_files::{Cause, RunFault};
@@ -82,7 +82,7 @@ impl<'w, W: Sink> Printer<'w, W> {
     // Whether the output still works.
     fn check<'a>(&self) -> Result<(), RunFault<'a>>
         ensures { MatchResult result (λ done. self.now.failed ≡ false)
-            (λ stop. (self.now.failed ≡ true) × (stop ≡ output_stop self.now.sent)) }
+            (λ stop. (self.now.failed ≡ true) × (stop ≡ output_run_fault self.now.sent)) }
     {
         if self.out.failed() {
             return Err(self.lost());
@@ -92,7 +92,7 @@ impl<'w, W: Sink> Printer<'w, W> {
 
     // The fault of an output that has failed.
     fn lost<'a>(&self) -> RunFault<'a>
-        ensures { result ≡ output_stop self.now.sent }
+        ensures { result ≡ output_run_fault self.now.sent }
     {
         RunFault::whole("output", Cause::Output { count: self.sent })
     }

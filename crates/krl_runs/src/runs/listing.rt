@@ -4,7 +4,7 @@ ghost use Rattle.std.specs.Prelude.{◌≡◌, ◌++◌, IfOk, OnOk, Some, false
 ghost use Rattle.ssh_cert.specs.AnyKey.{asked_of, certificate_in, plain_of};
 ghost use Rattle.ssh_key.specs.Kind.{short_name_of};
 ghost use Rattle.krl_runs.specs.Done.{Ends};
-ghost use Rattle.krl_runs.specs.Listing.{certificate_answer, certificate_mark, certificate_text, comment_or_none, description, kind_part, list_line, list_run_of, listing, place_part};
+ghost use Rattle.krl_runs.specs.Listing.{certificate_answer, certificate_mark, certificate_text, comment_or_none, description, kind_part, list_line, list_run_of, listing, location_part};
 
 use crate::keys::answers::Answers;
 use crate::keys::walk::print_file;
@@ -117,15 +117,15 @@ impl Listing {
     {
         let listing = list_cert(alloc, cert, self.hash, self.moment)?;
         let mut text = Vec::new(alloc);
-        push_place(&mut text, name, number)?;
+        push_location(&mut text, name, number)?;
         text.extend_from_slice(listing.as_slice())?;
         Ok(Bytes::from_vec(text))
     }
 }
 
 // Appends the name of a file and the number of a line, each with a colon, and a line feed.
-fn push_place(text: &mut Vec<u8>, name: &str, number: u64) -> Result<(), AllocError>
-    ensures { OnOk result (text.new.items ≡ text.old.items ++ place_part name.now number) }
+fn push_location(text: &mut Vec<u8>, name: &str, number: u64) -> Result<(), AllocError>
+    ensures { OnOk result (text.new.items ≡ text.old.items ++ location_part name.now number) }
 {
     push_escaped(text, name.as_bytes())?;
     text.push(b':')?;

@@ -32,23 +32,23 @@ fn loaded(rt: &impl Abort, alloc: Global, device: Giver<'_>) -> Result<Bytes, Fi
 }
 
 // In pieces of this many bytes the line of the key takes this many calls, all of which are made.
-fn takes(rt: &impl Abort, alloc: Global, piece: usize, calls: usize) {
+fn takes(rt: &impl Abort, alloc: Global, per_call: usize, calls: usize) {
     for calls_before_failure in 0..90 {
-        let mut device = Giver::new(GITHUB_LINE, piece);
+        let mut device = Giver::new(GITHUB_LINE, per_call);
         device.calls_before_failure = calls_before_failure;
         let right = match loaded(rt, alloc, device) {
             Ok(content) => calls_before_failure >= calls && content.as_slice() == GITHUB_LINE,
             Err(fault) => calls_before_failure < calls && fault == FileFault::Read,
         };
-        assert!(rt; right, "{piece} {calls_before_failure}");
+        assert!(rt; right, "{per_call} {calls_before_failure}");
     }
 }
 
 #[test]
 fn loaded_in_pieces(rt: HostRuntime) {
     // the last call gives none: it reports the end
-    for (piece, calls) in [(1, 81), (3, 28), (7, 13), (100, 2)] {
-        takes(&rt, rt.alloc(), piece, calls);
+    for (per_call, calls) in [(1, 81), (3, 28), (7, 13), (100, 2)] {
+        takes(&rt, rt.alloc(), per_call, calls);
     }
 }
 

@@ -16,7 +16,7 @@ const ROWS: [Row; 3] = [
         }],
     ),
     (&[(5, 5, 1), (5, 5, 1), (1, 9, 1)], &[Span { lo: 1, hi: 9 }]),
-    // an only entry, others after and before it, and what joins the first two
+    // an only chunk, others after and before it, and what joins the first two
     (
         &[(1000, 2000, 1), (5, 5, 2), (3000, 3000, 3), (60, 999, 3)],
         &[

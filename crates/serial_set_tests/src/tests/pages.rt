@@ -15,7 +15,7 @@ enum Order {
 }
 
 // Which of `count` numbers is the next.
-fn place(order: Order, index: u64, count: u64) -> u64
+fn position(order: Order, index: u64, count: u64) -> u64
     requires { index < count }
     ensures { result < count }
 {
@@ -39,13 +39,13 @@ fn odd_numbers<S: Spans>(rt: &impl Abort, alloc: Global, order: Order, count: u6
 {
     let mut set: S = empty(rt, alloc);
     for index in 0..count {
-        let serial = 2 * place(order, index, count) + 1;
+        let serial = 2 * position(order, index, count) + 1;
         add(rt, &mut set, serial, serial);
     }
     set
 }
 
-// An interval that is added, the length after it, and a span with its place.
+// An interval that is added, the length after it, and a span with its position.
 const ROWS: [(u64, u64, usize, usize, Span); 3] = [
     (1025, 1025, 1024, 512, Span { lo: 1025, hi: 1025 }),
     (1022, 1022, 1023, 510, Span { lo: 1021, hi: 1023 }),

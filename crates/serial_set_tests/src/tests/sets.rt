@@ -17,7 +17,7 @@ pub fn add<S: Spans>(rt: &impl Abort, set: &mut S, lo: u64, hi: u64) {
     set.add(lo, hi).expect(rt, "there is memory");
 }
 
-/// Whether the set has a span at a place, with its ends and none below them.
+/// Whether the set has a span at a position, with its ends and none below them.
 pub fn has_span<S: Spans>(set: &S, at: usize, span: Span) -> bool {
     at < set.len()
         && set.get(at) == span

@@ -25,8 +25,8 @@ use Step::{Array, AtEnd, Byte, Bytes, BytesInto, Fills, Refuses, Rest, RestRefus
 pub type Reader<'a> = Pull<FromRead<Giver<'a>>>;
 
 /// A reader of some bytes in pieces, and what it does after them.
-pub fn pull(bytes: &[u8], piece: usize, then: Then, limit: u64) -> Reader<'_> {
-    let mut giver = Giver::new(bytes, piece);
+pub fn pull(bytes: &[u8], per_call: usize, then: Then, limit: u64) -> Reader<'_> {
+    let mut giver = Giver::new(bytes, per_call);
     giver.then = then;
     Pull::new(FromRead::new(giver), limit)
 }
@@ -224,8 +224,8 @@ const ROWS: [Row<'static>; 7] = [
 #[test]
 fn answers_do_not_hang_on_the_pieces(rt: HostRuntime) {
     for (i, row) in ROWS.iter().enumerate() {
-        for piece in [1, 3, 7, 64] {
-            let mut reader = pull(TEXT, piece, row.then, row.limit);
+        for per_call in [1, 3, 7, 64] {
+            let mut reader = pull(TEXT, per_call, row.then, row.limit);
             let right = meets_all(&mut reader, rt.alloc(), row.steps).expect(
                 &rt,
                 "there is memory",
@@ -247,9 +247,14 @@ pub fn text_of(alloc: Global, size: u64) -> Result<Vec<u8>, AllocError> {
 }
 
 // Whether these bytes come whole at this many bytes a call.
-fn comes_whole(alloc: Global, text: &[u8], field: &[u8], piece: usize) -> Result<bool, AllocError> {
+fn comes_whole(
+    alloc: Global,
+    text: &[u8],
+    field: &[u8],
+    per_call: usize,
+) -> Result<bool, AllocError> {
     let steps = [AtEnd(Ok(false)), Bytes(field), Taken(field.len() as u64)];
-    let mut reader = pull(text, piece, Then::Ends, 70_000);
+    let mut reader = pull(text, per_call, Then::Ends, 70_000);
     meets_all(&mut reader, alloc, &steps)
 }
 
@@ -258,8 +263,9 @@ fn large_fields_come_whole(rt: HostRuntime) {
     let text = text_of(rt.alloc(), 70_000).expect(&rt, "there is memory");
     for size in [255, 256, 257, 4097, 65_536, 70_000] {
         let field = text.get(..size).expect(&rt, "the text is longer");
-        for piece in [7, 1000, 100_000] {
-            let right = comes_whole(rt.alloc(), &text, field, piece).expect(&rt, "there is memory");
+        for per_call in [7, 1000, 100_000] {
+            let right =
+                comes_whole(rt.alloc(), &text, field, per_call).expect(&rt, "there is memory");
             assert!(rt; right, "in case {size}");
         }
     }

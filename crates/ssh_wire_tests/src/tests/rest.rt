@@ -8,7 +8,12 @@ use std::alloc::{AllocError, Global};
 
 // Whether the rest of a reader of the bytes, so far below the limit, is all of them, and nothing
 // comes after it.
-fn comes_whole(alloc: Global, bytes: &[u8], piece: usize, past: u64) -> Result<bool, AllocError> {
+fn comes_whole(
+    alloc: Global,
+    bytes: &[u8],
+    per_call: usize,
+    past: u64,
+) -> Result<bool, AllocError> {
     let steps = [
         Rest(bytes),
         Taken(bytes.len() as u64),
@@ -17,7 +22,7 @@ fn comes_whole(alloc: Global, bytes: &[u8], piece: usize, past: u64) -> Result<b
         Byte(Err(PullFault::EndsEarly)),
     ];
     let limit = past.saturating_add(bytes.len() as u64);
-    let mut reader = pull(bytes, piece, Then::Ends, limit);
+    let mut reader = pull(bytes, per_call, Then::Ends, limit);
     meets_all(&mut reader, alloc, &steps)
 }
 
@@ -26,8 +31,9 @@ fn the_rest_comes_whole(rt: HostRuntime) {
     let text = text_of(rt.alloc(), 131_073).expect(&rt, "there is memory");
     for size in [0, 1, 65_535, 65_536, 65_537, 131_072, 131_073] {
         let bytes = text.get(..size).expect(&rt, "the text is longer");
-        for (piece, past) in [(7, 0), (65_536, 1), (200_000, u64::MAX)] {
-            let right = comes_whole(rt.alloc(), bytes, piece, past).expect(&rt, "there is memory");
+        for (per_call, past) in [(7, 0), (65_536, 1), (200_000, u64::MAX)] {
+            let right =
+                comes_whole(rt.alloc(), bytes, per_call, past).expect(&rt, "there is memory");
             assert!(rt; right, "in case {size}");
         }
     }

@@ -23,8 +23,8 @@ const ROWS: [(usize, usize, usize, Result<(), Sent>); 4] = [
 
 #[test]
 fn counts_what_went_out(rt: HostRuntime) {
-    for (i, (piece, interruptions, calls, answer)) in ROWS.iter().enumerate() {
-        let mut device = Taker::new(rt.alloc(), *piece, *calls);
+    for (i, (per_call, interruptions, calls, answer)) in ROWS.iter().enumerate() {
+        let mut device = Taker::new(rt.alloc(), *per_call, *calls);
         device.interruptions = *interruptions;
         assert!(rt; sends(&mut device, LINE, *answer), "in case {i}");
         let count = match answer {
@@ -41,9 +41,9 @@ fn counts_what_went_out(rt: HostRuntime) {
 #[test]
 fn sends_long_texts(rt: HostRuntime) {
     let text = vec![in rt.alloc(); 7; 70_000].expect(&rt, "there is memory");
-    for piece in [1000, 4096, 100_000] {
-        let mut device = Taker::new(rt.alloc(), piece, 255);
-        assert!(rt; sends(&mut device, &text, Ok(())), "in case {piece}");
+    for per_call in [1000, 4096, 100_000] {
+        let mut device = Taker::new(rt.alloc(), per_call, 255);
+        assert!(rt; sends(&mut device, &text, Ok(())), "in case {per_call}");
         assert!(rt; device.taken.as_slice() == text.as_slice());
     }
 }

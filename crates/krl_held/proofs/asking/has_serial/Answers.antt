@@ -1,17 +1,17 @@
 use Rattle.std.proofs.Common.{refl}
 use Rattle.std.proofs.Math.Logic.Iff as Iff
 use Rattle.std.proofs.lemmas.Bool.{false≢true}
-use Rattle.krl_held.specs.Shelf.{section_of}
+use Rattle.krl_held.specs.HeldSection.{section_of}
 use Rattle.krl_held.proofs.Finding.{no_serial_under, serial_under}
 use Rattle.krl_held.proofs.asking.has_serial.Goals as goal
 
 pub returns-in-None : goal.returns-in-None
 returns-in-None g c = (
   λ h. absurd (false≢true h),
-  λ h. absurd (no_serial_under c.args.shelves.now c.args.authority.now c.args.serial c.in-None.ensures h),
+  λ h. absurd (no_serial_under c.args.sections.now c.args.authority.now c.args.serial c.in-None.ensures h),
 )
 
 pub returns-in-Some : goal.returns-in-Some
 returns-in-Some g c =
-    let section = section_of g.S.Spans.spans (c.args.authority.now, c.in-Some.shelf.now) in
-    Iff.trans c.has.ensures (Iff.symm (serial_under c.args.shelves.now section c.args.authority.now c.args.serial refl c.in-Some.ensures))
+    let section = section_of g.S.Spans.spans (c.args.authority.now, c.in-Some.section.now) in
+    Iff.trans c.has.ensures (Iff.symm (serial_under c.args.sections.now section c.args.authority.now c.args.serial refl c.in-Some.ensures))

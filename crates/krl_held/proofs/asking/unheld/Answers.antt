@@ -1,12 +1,12 @@
 use Rattle.std.proofs.Common.{refl}
-use Rattle.krl_held.specs.Shelf.{section_of}
+use Rattle.krl_held.specs.HeldSection.{section_of}
 use Rattle.krl_held.proofs.Finding.{no_serial_under, serial_under}
 use Rattle.krl_held.proofs.asking.unheld.Goals as goal
 
 pub returns-in-None-clause-none : goal.returns-in-None-clause-none
-returns-in-None-clause-none g c = λ k _ h. no_serial_under c.args.shelves.now c.args.authority.now _ c.in-None.ensures h
+returns-in-None-clause-none g c = λ k _ h. no_serial_under c.args.sections.now c.args.authority.now _ c.in-None.ensures h
 
 pub returns-in-Some-clause-none : goal.returns-in-Some-clause-none
 returns-in-Some-clause-none g c = λ k fits h.
-    let section = section_of g.S.Spans.spans (c.args.authority.now, c.in-Some.shelf.now) in
-    c.count_others.ensures.none k fits ((serial_under c.args.shelves.now section c.args.authority.now _ refl c.in-Some.ensures).0 h)
+    let section = section_of g.S.Spans.spans (c.args.authority.now, c.in-Some.section.now) in
+    c.count_others.ensures.none k fits ((serial_under c.args.sections.now section c.args.authority.now _ refl c.in-Some.ensures).0 h)

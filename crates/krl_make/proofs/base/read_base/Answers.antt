@@ -1,6 +1,6 @@
 -- The old list is read, or refused.
 use Rattle.std.proofs.Common.{Ok, Err, refl, ap, ◌∙◌}
-use Rattle.key_files.specs.RunFault.{stop_of}
+use Rattle.key_files.specs.RunFault.{run_fault_of}
 use Rattle.krl_make.proofs.MadeLists.{old_read}
 use Rattle.krl_make.proofs.base.read_base.Goals as goal
 
@@ -20,5 +20,5 @@ returns-in-Err g c =
     let read = rw c.in-Err.is at c.read_krl-read.ensures in (
       Err c.in-Err.fault,
       rw c.in-Some.is (record { failure = read.failure; read = read.fault }),
-      (c.in-Err.fault, (refl, c.whole.ensures ∙ ap (stop_of c.args.name.now) c.cause_of.ensures)),
+      (c.in-Err.fault, (refl, c.whole.ensures ∙ ap (run_fault_of c.args.name.now) c.cause_of.ensures)),
     )

@@ -7,4 +7,4 @@ returns-in-Ok g c = text_added _ _ _ _ _ c.in-Ok.ensures.reads
 
 pub returns-in-Err : goal.returns-in-Err
 returns-in-Err g c =
-    rw c.cause_stop.ensures (text_stops _ c.args.name.now c.args.text.now c.in-Err.fault.line c.in-Err.fault.cause _ _ c.in-Err.ensures.reads)
+    rw c.cause_run_fault.ensures (text_stops _ c.args.name.now c.args.text.now c.in-Err.fault.line c.in-Err.fault.cause _ _ c.in-Err.ensures.reads)

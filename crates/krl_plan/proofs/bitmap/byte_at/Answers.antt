@@ -36,5 +36,5 @@ loop-bit-preserved c =
     let more = bits_more runs c.args.base bit (omega arith) (omega arith) in
     record {
       bits = omega arith;
-      above = Above-less runs c.has_serial-set.new.left (c.args.base + c.from.result + 1) (c.args.base + (bit - 1)) (omega arith) c.has_serial-set.ensures.above;
+      above = Above-less runs c.has_serial-set.new.count (c.args.base + c.from.result + 1) (c.args.base + (bit - 1)) (omega arith) c.has_serial-set.ensures.above;
     }

@@ -18,5 +18,5 @@ loop-index-preserved c =
     let out : c.put_byte.new.out.items ≡ c.loop-index.out.items ++ bits_of runs (first + 8 * (index - 1)) 8 ∷ [] = c.in_ok-put_byte.ensures.appends ∙ ap (λ (n : ℕ). c.loop-index.out.items ++ n ∷ []) byte in
     record {
       bytes = ap (λ (t : List ℕ). t ++ bitmap_of runs first (index - 1)) out ∙ bytes_more runs first index c.loop-index.out.items (omega arith) ∙ c.loop-index.invariant.bytes;
-      above = subst (λ (n : ℕ). Above runs c.byte_at-byte.new.left n) base c.byte_at-byte.ensures.above;
+      above = subst (λ (n : ℕ). Above runs c.byte_at-byte.new.count n) base c.byte_at-byte.ensures.above;
     }

@@ -2,7 +2,7 @@
 use Rattle.std.proofs.Common.{None, [], sym, ap, ◌∙◌}
 use Rattle.ssh_key.specs.KeyReading.{key_at}
 use Rattle.ssh_key.specs.LineReading.{content}
-use Rattle.key_files.specs.Keys.{found}
+use Rattle.key_files.specs.Keys.{file_key_of}
 use Rattle.krl_runs.specs.Run.{container_item}
 use Rattle.krl_runs.proofs.Answering.{blob_answered}
 use Rattle.krl_runs.proofs.laws.containers_by_what_is_spelled.Goals as goal
@@ -13,7 +13,7 @@ returns-clause-answered c = λ answer name text blob comment asked key fits byte
     let asks = (c.asked_where_spelled.ensures blob asked bytes).1 is_asked in
     let back = c.blob_read_back.ensures asked.plain key is_key in
     let reads = sym (ap key_at back.0) ∙ back.1 in
-    ap (container_item answer name) read ∙ blob_answered answer (found name None (content [] blob comment)) asked key asks reads
+    ap (container_item answer name) read ∙ blob_answered answer (file_key_of name None (content [] blob comment)) asked key asks reads
 
 pub returns-clause-fault : goal.returns-clause-fault
 returns-clause-fault c = λ answer name text fault fits first.

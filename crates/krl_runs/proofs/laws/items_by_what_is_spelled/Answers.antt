@@ -2,7 +2,7 @@
 use Rattle.std.proofs.Common.{Some, sym, ap, ◌∙◌}
 use Rattle.ssh_key.specs.KeyReading.{key_at}
 use Rattle.ssh_key.specs.LineReading.{content}
-use Rattle.key_files.specs.Keys.{found}
+use Rattle.key_files.specs.Keys.{file_key_of}
 use Rattle.krl_runs.proofs.Answering.{blob_answered, blob_refused}
 use Rattle.krl_runs.proofs.Items.{answered_line, faulty_line, line_item, no_item_of, spelled_line}
 use Rattle.krl_runs.proofs.laws.items_by_what_is_spelled.Goals as goal
@@ -16,7 +16,7 @@ returns-clause-answered c = λ answer name number text line asked key has spells
     let is_asked = (c.asked_where_spelled.ensures line.blob asked spells.is_line.bytes).1 spells.is_asked in
     let read = c.blob_read_back.ensures asked.plain key spells.is_key in
     let is_key = sym (ap key_at read.0) ∙ read.1 in
-    line_item answer name number text line has is_line ∙ ap Some (blob_answered answer (found name (Some number) line) asked key is_asked is_key)
+    line_item answer name number text line has is_line ∙ ap Some (blob_answered answer (file_key_of name (Some number) line) asked key is_asked is_key)
 
 pub returns-clause-only : goal.returns-clause-only
 returns-clause-only c = λ answer name number text other reply bytes item.
@@ -34,4 +34,4 @@ pub returns-clause-blob_fault : goal.returns-clause-blob_fault
 returns-clause-blob_fault c = λ answer name number text word blob comment fault has is_line first.
     let line = content word blob comment in
     let is_fault = (c.not_asked_by_first_fault.ensures blob fault is_line.bytes).1 first in
-    line_item answer name number text line has (c.line_read_where_spelled.ensures.read text word blob comment is_line) ∙ ap Some (blob_refused answer (found name (Some number) line) fault is_fault)
+    line_item answer name number text line has (c.line_read_where_spelled.ensures.read text word blob comment is_line) ∙ ap Some (blob_refused answer (file_key_of name (Some number) line) fault is_fault)

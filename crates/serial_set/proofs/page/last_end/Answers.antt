@@ -1,6 +1,6 @@
 use Rattle.std.proofs.Common.{ap, sym, ◌∙◌}
-use Rattle.serial_set.specs.Entry.{hi_of}
-use Rattle.serial_set.proofs.InEntries.{end_at}
+use Rattle.serial_set.specs.Chunk.{hi_of}
+use Rattle.serial_set.proofs.InChunks.{end_at}
 use Rattle.serial_set.proofs.page.last_end.Goals as goal
 
 pub returns : goal.returns

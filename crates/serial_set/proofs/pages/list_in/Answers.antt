@@ -1,8 +1,8 @@
 use Rattle.std.proofs.Common.{◌<◌, ◌≤◌, take, drop, length, subst, sym, ap, ◌∙◌, arith}
 use Rattle.std.specs.List.{All}
-use Rattle.serial_set.specs.Entry.{hi_of, EntriesFrom}
-use Rattle.serial_set.specs.Pages.{entries_in, entries_of}
-use Rattle.serial_set.specs.Places.{end_of, IsListFrom}
+use Rattle.serial_set.specs.Chunk.{hi_of, ChunksFrom}
+use Rattle.serial_set.specs.Pages.{chunks_in, chunks_of}
+use Rattle.serial_set.specs.Positions.{end_of, IsListFrom}
 use Rattle.serial_set.proofs.Flat.{first_of}
 use Rattle.serial_set.proofs.InRow.{order_page, list_at, list_none}
 use Rattle.serial_set.proofs.pages.list_in.Goals as goal
@@ -15,7 +15,7 @@ returns-then-at-pages c =
 pub list_in_page-requires : goal.list_in_page-requires
 list_in_page-requires c =
     let page = c.index-pages-at in
-    subst (λ p. EntriesFrom 0 (entries_in p)) (sym page.is) (order_page c.args.pages.now c.pages_ending_below-at.result page.result (omega arith) c.requires)
+    subst (λ p. ChunksFrom 0 (chunks_in p)) (sym page.is) (order_page c.args.pages.now c.pages_ending_below-at.result page.result (omega arith) c.requires)
 
 pub returns : goal.returns
 returns c =
@@ -25,8 +25,8 @@ returns c =
     let page = c.index-pages-at in
     let e = c.list_in_page.ensures in
     let within : at.result < length ps = omega arith in
-    let end = first_of (λ p. n ≤ end_of (entries_in p)) ps at.result page.result within at.ensures.reach in
-    let below = subst (λ p. All (λ e. hi_of e < n) (take e.0 (entries_in p))) page.is e.1.1 in
-    let reach = subst (λ p. All (λ e. n ≤ hi_of e) (drop e.0 (entries_in p))) page.is e.1.2 in
-    subst (IsListFrom (entries_of ps) n) (sym (e.1.0 ∙ ap (λ p. drop e.0 (entries_in p)) page.is))
+    let end = first_of (λ p. n ≤ end_of (chunks_in p)) ps at.result page.result within at.ensures.reach in
+    let below = subst (λ p. All (λ e. hi_of e < n) (take e.0 (chunks_in p))) page.is e.1.1 in
+    let reach = subst (λ p. All (λ e. n ≤ hi_of e) (drop e.0 (chunks_in p))) page.is e.1.2 in
+    subst (IsListFrom (chunks_of ps) n) (sym (e.1.0 ∙ ap (λ p. drop e.0 (chunks_in p)) page.is))
     (list_at ps at.result e.0 n page.result within at.ensures.below end below reach)

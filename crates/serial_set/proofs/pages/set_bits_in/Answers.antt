@@ -1,6 +1,6 @@
 use Rattle.std.proofs.Common.{subst, sym, arith}
-use Rattle.serial_set.specs.Entry.{EntriesFrom}
-use Rattle.serial_set.specs.Pages.{entries_in}
+use Rattle.serial_set.specs.Chunk.{ChunksFrom}
+use Rattle.serial_set.specs.Pages.{chunks_in}
 use Rattle.serial_set.proofs.Flat.{flat_same}
 use Rattle.serial_set.proofs.InRow.{order_page, widened_pages}
 use Rattle.serial_set.proofs.pages.set_bits_in.Goals as goal
@@ -8,7 +8,7 @@ use Rattle.serial_set.proofs.pages.set_bits_in.Goals as goal
 pub set_bits-requires-clause-order : goal.set_bits-requires-clause-order
 set_bits-requires-clause-order c =
     let page = c.index_mut.result.now in
-    subst (λ p. EntriesFrom 0 (entries_in p)) (sym c.index_mut.ensures.value) (order_page c.args.pages.now.items c.pages_ending_below-at.result page (omega arith) c.requires.order)
+    subst (λ p. ChunksFrom 0 (chunks_in p)) (sym c.index_mut.ensures.value) (order_page c.args.pages.now.items c.pages_ending_below-at.result page (omega arith) c.requires.order)
 
 pub returns-clause-set : goal.returns-clause-set
 returns-clause-set c t =
@@ -16,4 +16,4 @@ returns-clause-set c t =
 
 pub returns-clause-same : goal.returns-clause-same
 returns-clause-same c f =
-    flat_same entries_in c.args.pages.now.items c.pages_ending_below-at.result c.index_mut.result.now c.set_bits.new.self (omega arith) c.index_mut.ensures.value (c.set_bits.ensures.same f)
+    flat_same chunks_in c.args.pages.now.items c.pages_ending_below-at.result c.index_mut.result.now c.set_bits.new.self (omega arith) c.index_mut.ensures.value (c.set_bits.ensures.same f)

@@ -5,10 +5,10 @@ use Rattle.serial_set.proofs.InBits.{none_set, first_set}
 use Rattle.serial_set.proofs.word_bits.first_bit.Goals as goal
 
 pub returns-then-rest-eq0 : goal.returns-then-rest-eq0
-returns-then-rest-eq0 c = none_set c.args.bits c.args.place c.mask.result c.mask.ensures c.if-rest-eq0.true
+returns-then-rest-eq0 c = none_set c.args.bits c.args.bit c.mask.result c.mask.ensures c.if-rest-eq0.true
 
 pub returns : goal.returns
 returns c =
     let fits = and_le_l c.args.bits c.mask.result in
-    subst (λ n. IsFirstBit c.args.bits c.args.place (Some n)) (sym c.from.ensures)
-    (first_set c.args.bits c.args.place c.mask.result c.requires c.mask.ensures (omega arith) (omega arith))
+    subst (λ n. IsFirstBit c.args.bits c.args.bit (Some n)) (sym c.from.ensures)
+    (first_set c.args.bits c.args.bit c.mask.result c.requires c.mask.ensures (omega arith) (omega arith))

@@ -4,11 +4,11 @@ use Rattle.serial_set.proofs.word_bits.last_bit.Goals as goal
 
 pub returns-in-Some-clause-order : goal.returns-in-Some-clause-order
 returns-in-Some-clause-order c =
-    let past = first_clear c.args.bits c.args.place c.in-Some.at (omega arith) c.requires.set c.in-Some.ensures in omega arith
+    let past = first_clear c.args.bits c.args.bit c.in-Some.at (omega arith) c.requires.set c.in-Some.ensures in omega arith
 
 pub returns-in-Some-clause-all : goal.returns-in-Some-clause-all
 returns-in-Some-clause-all c i h k =
-    let past = first_clear c.args.bits c.args.place c.in-Some.at (omega arith) c.requires.set c.in-Some.ensures in
+    let past = first_clear c.args.bits c.args.bit c.in-Some.at (omega arith) c.requires.set c.in-Some.ensures in
     let e = c.in-Some.ensures in
     set_before c.args.bits i (omega arith) (omega (arith, e.1)) (e.3 i h (omega arith))
 

@@ -1,7 +1,7 @@
 -- What came is what the vector holds, and what came of the chunk.
 use Rattle.std.proofs.Common.{◌≡◌, ◌<◌, ◌≤◌, length, vec_len, false, rules, arith}
 use Rattle.ssh_wire.specs.declared.pull_fault.PullFault.TheVariants.{TooLong}
-use Rattle.ssh_wire.specs.Filling.{pulled}
+use Rattle.ssh_wire.specs.Filling.{pull_of}
 use Rattle.ssh_wire.specs.Pull.{after_ahead}
 use Rattle.ssh_wire.proofs.Pulling.{MissesRest-failed, MissesRest-look, MissesRest-memory, MissesRest-read}
 use Rattle.ssh_wire.proofs.rest.fill_rest.Goals as goal
@@ -12,17 +12,17 @@ returns-then-is_err-clause-misses g c = λ taken limit sum.
     let held : vec_len c.loop-chunk.out ≡ length c.loop-chunk.out.items = search rules in
     let some : 0 < c.in-Ok.count = search rules in
     let within : c.in-Ok.count ≤ length c.read_on.new.into = c.in-Ok.ensures.part in
-    MissesRest-memory (pulled (g.R.Source.left c.args.reader.now) false c.args.ahead.now taken limit) (pulled (g.R.Source.left c.read_on.new.reader) (g.R.Source.has_failed c.read_on.new.reader) c.read_on.new.ahead taken limit) _ c.loop-chunk.out.items c.read_on.new.into c.in-Ok.count c.loop-chunk.invariant.comes c.in-Ok.ensures.bytes.0 c.in-Ok.ensures.none_ahead some within (omega (arith, held, part, within, sum, c.min-part.ensures, c.len-in-loop-chunk.ensures)) c.in-Ok.ensures.failed
+    MissesRest-memory (pull_of (g.R.Source.left c.args.reader.now) false c.args.ahead.now taken limit) (pull_of (g.R.Source.left c.read_on.new.reader) (g.R.Source.has_failed c.read_on.new.reader) c.read_on.new.ahead taken limit) _ c.loop-chunk.out.items c.read_on.new.into c.in-Ok.count c.loop-chunk.invariant.comes c.in-Ok.ensures.bytes.0 c.in-Ok.ensures.none_ahead some within (omega (arith, held, part, within, sum, c.min-part.ensures, c.len-in-loop-chunk.ensures)) c.in-Ok.ensures.failed
 
 pub returns-in_default-clause-misses : goal.returns-in_default-clause-misses
 returns-in_default-clause-misses g c = λ taken limit sum.
     let held : vec_len c.loop-chunk.out ≡ length c.loop-chunk.out.items = search rules in
-    MissesRest-read (pulled (g.R.Source.left c.args.reader.now) false c.args.ahead.now taken limit) (pulled (g.R.Source.left c.read_on.new.reader) (g.R.Source.has_failed c.read_on.new.reader) c.read_on.new.ahead taken limit) (after_ahead c.loop-chunk.ahead (g.R.Source.left c.loop-chunk.reader)) c.loop-chunk.out.items c.loop-chunk.invariant.comes (search rules) (search rules) (omega (arith, held, sum, c.loop-chunk.invariant.within)) (search rules)
+    MissesRest-read (pull_of (g.R.Source.left c.args.reader.now) false c.args.ahead.now taken limit) (pull_of (g.R.Source.left c.read_on.new.reader) (g.R.Source.has_failed c.read_on.new.reader) c.read_on.new.ahead taken limit) (after_ahead c.loop-chunk.ahead (g.R.Source.left c.loop-chunk.reader)) c.loop-chunk.out.items c.loop-chunk.invariant.comes (search rules) (search rules) (omega (arith, held, sum, c.loop-chunk.invariant.within)) (search rules)
 
 pub returns-in-Ok-true-clause-misses : goal.returns-in-Ok-true-clause-misses
 returns-in-Ok-true-clause-misses g c = λ taken limit sum.
     let held : vec_len c.loop-chunk.out ≡ length c.loop-chunk.out.items = search rules in
-    MissesRest-look (pulled (g.R.Source.left c.args.reader.now) false c.args.ahead.now taken limit) (pulled (g.R.Source.left c.look.new.reader) (g.R.Source.has_failed c.look.new.reader) c.look.new.ahead taken limit) (after_ahead c.loop-chunk.ahead (g.R.Source.left c.loop-chunk.reader)) c.loop-chunk.out.items TooLong c.loop-chunk.invariant.comes c.look.ensures.bytes (omega (arith, held, sum, c.loop-chunk.invariant.within)) (search (rules, held, sum))
+    MissesRest-look (pull_of (g.R.Source.left c.args.reader.now) false c.args.ahead.now taken limit) (pull_of (g.R.Source.left c.look.new.reader) (g.R.Source.has_failed c.look.new.reader) c.look.new.ahead taken limit) (after_ahead c.loop-chunk.ahead (g.R.Source.left c.loop-chunk.reader)) c.loop-chunk.out.items TooLong c.loop-chunk.invariant.comes c.look.ensures.bytes (omega (arith, held, sum, c.loop-chunk.invariant.within)) (search (rules, held, sum))
 
 -- where a byte stands past the limit, nothing is said of what was taken
 pub returns-in-Ok-true-clause-ok : goal.returns-in-Ok-true-clause-ok
@@ -37,4 +37,4 @@ returns-in-Ok-true-clause-ends g c = tt
 pub returns-in-Err-clause-misses : goal.returns-in-Err-clause-misses
 returns-in-Err-clause-misses g c = λ taken limit sum.
     let held : vec_len c.loop-chunk.out ≡ length c.loop-chunk.out.items = search rules in
-    MissesRest-failed (pulled (g.R.Source.left c.args.reader.now) false c.args.ahead.now taken limit) (pulled (g.R.Source.left c.look.new.reader) (g.R.Source.has_failed c.look.new.reader) c.look.new.ahead taken limit) (after_ahead c.loop-chunk.ahead (g.R.Source.left c.loop-chunk.reader)) c.loop-chunk.out.items c.in-Err.fault c.loop-chunk.invariant.comes c.look.ensures.bytes (omega (arith, held, sum, c.loop-chunk.invariant.within)) (search rules) (search rules) (search rules)
+    MissesRest-failed (pull_of (g.R.Source.left c.args.reader.now) false c.args.ahead.now taken limit) (pull_of (g.R.Source.left c.look.new.reader) (g.R.Source.has_failed c.look.new.reader) c.look.new.ahead taken limit) (after_ahead c.loop-chunk.ahead (g.R.Source.left c.loop-chunk.reader)) c.loop-chunk.out.items c.in-Err.fault c.loop-chunk.invariant.comes c.look.ensures.bytes (omega (arith, held, sum, c.loop-chunk.invariant.within)) (search rules) (search rules) (search rules)

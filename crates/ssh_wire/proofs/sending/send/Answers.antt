@@ -1,6 +1,6 @@
--- A write took the next piece.
+-- A write took the next part.
 use Rattle.std.proofs.Common.{rules}
-use Rattle.ssh_wire.proofs.Pieces.{Appends-take}
+use Rattle.ssh_wire.proofs.Parts.{Appends-take}
 use Rattle.ssh_wire.proofs.sending.send.Goals as goal
 
 pub loop-count-preserved : goal.loop-count-preserved

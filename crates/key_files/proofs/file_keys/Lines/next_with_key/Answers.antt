@@ -7,11 +7,11 @@ use Rattle.ssh_key.specs.KeyFile.{has_key}
 use Rattle.ssh_key.specs.LineReading.{line_at}
 use Rattle.ssh_key.specs.Lines.{is_newline, lines_left}
 use Rattle.key_files.specs.FileKeys.{line_room}
-use Rattle.key_files.specs.Keys.{key_in, keys_from, line_found}
+use Rattle.key_files.specs.Keys.{key_in, keys_from, key_of_line}
 use Rattle.key_files.proofs.file_keys.Lines.next_with_key.Goals as goal
 
 keyed : (name : List ℕ) (passed : ℕ) (text line : List ℕ) (lines : List (List ℕ)) → slice_split is_newline text ≡ line ∷ lines → has_key line ≡ true
-    → keys_from name (passed + 1) (slice_split is_newline text) ≡ line_found name (passed + 1) (line_at line) ∷ keys_from name (passed + 1 + 1) lines
+    → keys_from name (passed + 1) (slice_split is_newline text) ≡ key_of_line name (passed + 1) (line_at line) ∷ keys_from name (passed + 1 + 1) lines
 unfolding key_in
 keyed name passed text line lines split has = rw (split, has) refl
 

@@ -3,10 +3,10 @@ use Rattle.serial_set.specs.declared.span.Span.{Span}
 use Rattle.serial_set.specs.Span.{IsRuns}
 use Rattle.krl_plan.specs.declared.group.Sort.TheVariants.{Bitmap}
 use Rattle.krl_plan.specs.Bitmaps.{IsBitmapOf, HasBitmaps}
-use Rattle.krl_plan.specs.Search.{IsBestOf, IsCandidate}
+use Rattle.krl_plan.specs.Search.{IsBestOf, IsCell}
 use Rattle.krl_plan.proofs.bitmaps.Bitmaps.best.Given as goal
 
 abbrev pub invariant-loop-remainder : goal.invariant-loop-remainder
 invariant-loop-remainder l =
-    (runs : List Span) (rests : List ℕ) → IsRuns (l.run ∷ runs) → HasBitmaps l.self l.at (l.run ∷ runs) rests → IsCandidate rests (l.run ∷ runs) l.initial.best
+    (runs : List Span) (rests : List ℕ) → IsRuns (l.run ∷ runs) → HasBitmaps l.self l.at (l.run ∷ runs) rests → IsCell rests (l.run ∷ runs) l.initial.best
     → IsBestOf rests (l.run ∷ runs) Bitmap (λ count. (r : ℕ) × ((r < l.remainder) × IsBitmapOf (l.run ∷ runs) r count)) l.initial.best l.best

@@ -1,15 +1,15 @@
 use Rattle.std.proofs.Common.{◌+◌, ◌^◌, ◌<◌, ◌≤◌, ◌-◌, arith, get_or, refl}
-use Rattle.krl_plan.proofs.BitmapMarks.{before_of, bitmap_best, bitmap_is}
+use Rattle.krl_plan.proofs.BitmapCandidates.{before_of, bitmap_best, bitmap_is}
 use Rattle.krl_plan.proofs.bitmaps.Bitmaps.best_of.Goals as goal
 use Rattle.krl_plan.proofs.bitmaps.Bitmaps.best_of.Goals.{After-bytes_before, In-Some}
 
-ends : (c : In-Some) → (c.args.at < c.in-Some.mark.end) × (c.in-Some.mark.end ≤ c.args.at + 1024)
+ends : (c : In-Some) → (c.args.at < c.in-Some.candidate.end) × (c.in-Some.candidate.end ≤ c.args.at + 1024)
 ends c =
     let known = c.requires.bitmaps in
     let r = c.args.remainder in
-    let window = get_or c.args.self.now.windows r c.index-self-remainder.result in
+    let queue = get_or c.args.self.now.queues r c.index-self-remainder.result in
     let before = before_of c.args.run.lo r in
-    let is = bitmap_is window.marks.items c.args.at r before.0 c.args.run known.0 known.1.0 c.in-Some.mark known.1.1.0
+    let is = bitmap_is queue.candidates.items c.args.at r before.0 c.args.run known.0 known.1.0 c.in-Some.candidate known.1.1.0
     (known.1.1.1 r c.index-self-remainder.result c.requires.remainder) c.in-Some.ensures.least.one before.1.0 before.1.1 in
     is.1
 
@@ -19,12 +19,12 @@ overflow_sub-group c = let is = ends (goal.at.overflow_sub-group c).In-Some in o
 pub overflow_cast-group : goal.overflow_cast-group
 overflow_cast-group c = let is = ends (goal.at.overflow_cast-group c).In-Some in omega arith
 
-values : (c : After-bytes_before) → (c.bytes_before.result ≤ c.in-Some.mark.value) × (c.in-Some.mark.value < 2 ^ 101)
+values : (c : After-bytes_before) → (c.bytes_before.result ≤ c.in-Some.candidate.value) × (c.in-Some.candidate.value < 2 ^ 101)
 values c =
     let known = c.requires.bitmaps in
     let r = c.args.remainder in
-    let window = get_or c.args.self.now.windows r c.index-self-remainder.result in
-    let is = bitmap_is window.marks.items c.args.at r c.bytes_before.result c.args.run known.0 known.1.0 c.in-Some.mark known.1.1.0
+    let queue = get_or c.args.self.now.queues r c.index-self-remainder.result in
+    let is = bitmap_is queue.candidates.items c.args.at r c.bytes_before.result c.args.run known.0 known.1.0 c.in-Some.candidate known.1.1.0
     (known.1.1.1 r c.index-self-remainder.result c.requires.remainder) c.in-Some.ensures.least.one c.bytes_before.ensures.less c.bytes_before.ensures.more in
     (is.0, is.2)
 
@@ -35,10 +35,10 @@ pub overflow_add-cost : goal.overflow_add-cost
 overflow_add-cost c = let is = values (goal.at.overflow_add-cost c).After-bytes_before in omega arith
 
 pub returns : goal.returns
-returns c runs rests rises mapped candidate =
+returns c runs rests rises mapped is_cell =
     let r = c.args.remainder in
-    let window = get_or c.args.self.now.windows r c.index-self-remainder.result in
-    bitmap_best window.marks.items c.args.at r c.bytes_before.result c.args.run runs rests c.in-Some.mark c.args.best
-    (record { cost = 18 + (c.in-Some.mark.value - c.bytes_before.result); group = _ }) c.winner.result rises
+    let queue = get_or c.args.self.now.queues r c.index-self-remainder.result in
+    bitmap_best queue.candidates.items c.args.at r c.bytes_before.result c.args.run runs rests c.in-Some.candidate c.args.best
+    (record { cost = 18 + (c.in-Some.candidate.value - c.bytes_before.result); group = _ }) c.winner.result rises
     (mapped r c.index-self-remainder.result c.requires.remainder) c.in-Some.ensures.least c.bytes_before.ensures.less c.bytes_before.ensures.more
-    candidate refl refl c.winner.ensures.one c.winner.ensures.first c.winner.ensures.second
+    is_cell refl refl c.winner.ensures.one c.winner.ensures.first c.winner.ensures.second

@@ -8,13 +8,13 @@ use Rattle.krl_plan.proofs.Best.{best_of_all, group_of}
 use Rattle.krl_plan.proofs.Filling.{bounded_more, choices_more, costs_more}
 use Rattle.krl_plan.proofs.table.Table.add.Goals as goal
 
--- what is known stands past the place of the new run
+-- what is known begins after the new run's index
 known_past : (table : Table) (runs : List Span) (at : ℕ) → (knows : Knows table runs) → at + 1 + length table.choices.items ≡ 2 ^ 64 - 1 → IsKnown table (at + 1) runs knows.1.1.0
 known_past table runs at knows e =
     let one = knows.1.1.1.choices.one_each in
     let here = knows.1.0 in
-    let place : knows.0 ≡ at + 1 = omega arith in
-    subst (λ (n : ℕ). IsKnown table n runs knows.1.1.0) place knows.1.1.1
+    let index : knows.0 ≡ at + 1 = omega arith in
+    subst (λ (n : ℕ). IsKnown table n runs knows.1.1.0) index knows.1.1.1
 
 pub add-requires-clause-lists : goal.add-requires-clause-lists
 add-requires-clause-lists c =
@@ -59,8 +59,8 @@ returns c runs rises knows =
     let mapped = c.in_ok-add-2.ensures runs rests rises was.bitmaps in
     let best : IsBest costs (c.args.run ∷ runs) cell =
     best_of_all costs (c.args.run ∷ runs) (record { cost = 21 + c.args.self.now.least; group = group_of Range 1 }) c.best-listed.result cell (search rules) refl
-    (λ candidate. c.best-listed.ensures (c.args.run ∷ runs) costs listed candidate)
-    (λ candidate. c.best-best.ensures runs costs rises mapped candidate) in (
+    (λ is_cell. c.best-listed.ensures (c.args.run ∷ runs) costs listed is_cell)
+    (λ is_cell. c.best-best.ensures runs costs rises mapped is_cell) in (
       2 ^ 64 - 2 - c.len.result,
       (
         omega arith,

@@ -9,8 +9,8 @@ use Rattle.serial_set.proofs.bit_runs.BitRuns.take.Goals as goal
 pub runs_of_byte-runs-requires-clause-fits : goal.runs_of_byte-runs-requires-clause-fits
 runs_of_byte-runs-requires-clause-fits c =
     let now = c.args.self.now in
-    let base : c.self.inside.offset + 8 * c.from-place.result ≡ now.offset + 8 * (now.bytes_left - 1) =
-    omega (arith, ap (λ p. p.offset) c.self.view_is, ap (λ p. p.bytes_left) c.self.view_is, c.from-place.ensures) in
+    let base : c.self.inside.offset + 8 * c.from-position.result ≡ now.offset + 8 * (now.bytes_left - 1) =
+    omega (arith, ap (λ p. p.offset) c.self.view_is, ap (λ p. p.bytes_left) c.self.view_is, c.from-position.ensures) in
     λ s n. byte_fits now c.args.byte c.requires.good s (subst (λ k. BitNames k c.args.byte s) base n)
 
 pub returns-clause-runs : goal.returns-clause-runs

@@ -1,6 +1,6 @@
 use Rattle.std.proofs.Common.{sym, ap, length, ◌∙◌, arith, length-drop}
-use Rattle.serial_set.specs.Places.{end_of}
-use Rattle.serial_set.proofs.InEntries.{end_drop}
+use Rattle.serial_set.specs.Positions.{end_of}
+use Rattle.serial_set.proofs.InChunks.{end_drop}
 use Rattle.serial_set.proofs.page.Page.cut_front.Goals as goal
 
 pub invariant_of-self-clause-some : goal.invariant_of-self-clause-some

@@ -1,12 +1,12 @@
 use Rattle.std.proofs.Common.{◌<◌, length, sym, ap, subst, arith, ◌∙◌}
 use Rattle.std.proofs.lemmas.List.{length-set}
-use Rattle.serial_set.specs.Entry.{hi_of, EntriesFrom}
-use Rattle.serial_set.proofs.InEntries.{end_set, his_rise}
+use Rattle.serial_set.specs.Chunk.{hi_of, ChunksFrom}
+use Rattle.serial_set.proofs.InChunks.{end_set, his_rise}
 use Rattle.serial_set.proofs.InPage.{widened_at}
 use Rattle.serial_set.proofs.page.Page.set_bits.Goals as goal
 
 pub count_ending_below-at-requires : goal.count_ending_below-at-requires
-count_ending_below-at-requires c = his_rise 0 _ (subst (EntriesFrom 0) (sym c.as_slice.ensures) c.requires.order)
+count_ending_below-at-requires c = his_rise 0 _ (subst (ChunksFrom 0) (sym c.as_slice.ensures) c.requires.order)
 
 pub invariant_of-self-clause-most : goal.invariant_of-self-clause-most
 invariant_of-self-clause-most c =
@@ -18,10 +18,10 @@ invariant_of-self-clause-ending c =
     let page = c.args.self.now in
     let xs = page.items.items in
     let at = c.count_ending_below-at.result in
-    let entry = c.index.result.now in
+    let chunk = c.index.result.now in
     let within : at < length xs = omega arith in
     let word = c.in-Some.ensures in
-    page.ending ∙ sym (end_set xs at c.in-Some.wider entry within (word.hi.1 ∙ sym word.hi.0 ∙ ap hi_of c.index.ensures))
+    page.ending ∙ sym (end_set xs at c.in-Some.wider chunk within (word.hi.1 ∙ sym word.hi.0 ∙ ap hi_of c.index.ensures))
 
 pub returns-clause-set : goal.returns-clause-set
 returns-clause-set c t =

@@ -1,6 +1,6 @@
 use Rattle.std.proofs.Common.{◌*◌, ◌/◌, arith}
-use Rattle.serial_set.specs.Entry.{runs_of}
-use Rattle.serial_set.specs.SpanPages.{entries_held}
+use Rattle.serial_set.specs.Chunk.{runs_of}
+use Rattle.serial_set.specs.SpanPages.{chunks_held}
 use Rattle.serial_set.proofs.InNear.{bits_some}
 use Rattle.serial_set.proofs.InSet.{adds_mask, mask_has}
 use Rattle.serial_set.proofs.Refused.{on_ok}
@@ -14,7 +14,7 @@ add_bits-requires-clause-serials c = λ s n.
 
 pub returns-then-lo-hi-clause-runs : goal.returns-then-lo-hi-clause-runs
 returns-then-lo-hi-clause-runs c =
-    on_ok c.add_bits.result _ _ (λ is. adds_mask (runs_of (entries_held c.args.self.now)) (runs_of (entries_held c.add_bits.new.self)) c.args.lo c.args.hi c.mask.result c.if-lo-hi.true c.requires.ordered c.mask.ensures is) c.add_bits.ensures.runs
+    on_ok c.add_bits.result _ _ (λ is. adds_mask (runs_of (chunks_held c.args.self.now)) (runs_of (chunks_held c.add_bits.new.self)) c.args.lo c.args.hi c.mask.result c.if-lo-hi.true c.requires.ordered c.mask.ensures is) c.add_bits.ensures.runs
 
 pub add_bits-requires-clause-some : goal.add_bits-requires-clause-some
 add_bits-requires-clause-some c =

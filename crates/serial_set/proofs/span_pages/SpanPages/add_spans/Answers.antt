@@ -1,7 +1,7 @@
 use Rattle.std.proofs.Common.{arith}
-use Rattle.serial_set.specs.Entry.{runs_of}
-use Rattle.serial_set.specs.SpanPages.{entries_held}
-use Rattle.serial_set.specs.Lawful.{runs_of_entries}
+use Rattle.serial_set.specs.Chunk.{runs_of}
+use Rattle.serial_set.specs.SpanPages.{chunks_held}
+use Rattle.serial_set.specs.Lawful.{runs_of_chunks}
 use Rattle.serial_set.proofs.InNear.{adds_none, adds_only, bits_some, covered_is_serial, some_covered}
 use Rattle.serial_set.proofs.Refused.{on_ok}
 use Rattle.serial_set.proofs.span_pages.SpanPages.add_spans.Goals as goal
@@ -12,12 +12,12 @@ add_bits-requires-clause-serials c = λ s n.
 
 pub returns-in-empty-clause-runs : goal.returns-in-empty-clause-runs
 returns-in-empty-clause-runs c =
-    let held = entries_held c.args.self.now in
-    adds_none (runs_of held) c.args.near.now (runs_of_entries held c.args.self.now.order).0 (omega arith)
+    let held = chunks_held c.args.self.now in
+    adds_none (runs_of held) c.args.near.now (runs_of_chunks held c.args.self.now.order).0 (omega arith)
 
 pub returns-in-len1-clause-runs : goal.returns-in-len1-clause-runs
 returns-in-len1-clause-runs c =
-    on_ok c.add_numbers.result _ _ (adds_only (runs_of (entries_held c.args.self.now)) c.args.near.now (runs_of (entries_held c.add_numbers.new.self)) (record { lo = 0; hi = 0 }) (omega arith)) c.add_numbers.ensures.runs
+    on_ok c.add_numbers.result _ _ (adds_only (runs_of (chunks_held c.args.self.now)) c.args.near.now (runs_of (chunks_held c.add_numbers.new.self)) (record { lo = 0; hi = 0 }) (omega arith)) c.add_numbers.ensures.runs
 
 pub add_bits-requires-clause-some : goal.add_bits-requires-clause-some
 add_bits-requires-clause-some c =

@@ -1,15 +1,15 @@
 use Rattle.std.proofs.Common.{◌+◌, ◌-◌, ◌^◌, None, min, inl, inr, subst, arith, refl}
-use Rattle.serial_set.specs.Entry.{window_of, bits_of, hi_of}
+use Rattle.serial_set.specs.Chunk.{window_of, bits_of, hi_of}
 use Rattle.serial_set.specs.Sides.{IsBack}
-use Rattle.serial_set.specs.SpanPages.{entries_held}
-use Rattle.serial_set.proofs.InEntry.{word_ends}
-use Rattle.serial_set.proofs.InNews.{back_word}
+use Rattle.serial_set.specs.SpanPages.{chunks_held}
+use Rattle.serial_set.proofs.InChunk.{word_ends}
+use Rattle.serial_set.proofs.InReplacement.{back_word}
 use Rattle.serial_set.proofs.InSides.{back_further, back_shared, its_own, mask_upto}
 use Rattle.serial_set.proofs.span_pages.SpanPages.back_in.Goals as goal
 
 pub returns-in-Some : goal.returns-in-Some
 returns-in-Some c =
-    let old = entries_held c.args.self.now in
+    let old = chunks_held c.args.self.now in
     let e = c.args.word in
     let w = c.in-Some.more in
     let hi = c.args.hi in
@@ -27,7 +27,7 @@ returns-in-Some c =
 
 pub returns-in-None : goal.returns-in-None
 returns-in-None c =
-    let old = entries_held c.args.self.now in
+    let old = chunks_held c.args.self.now in
     let e = c.args.word in
     let hi = c.args.hi in
     let order = c.args.self.now.order in

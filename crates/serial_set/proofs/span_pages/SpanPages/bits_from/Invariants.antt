@@ -1,7 +1,7 @@
 use Rattle.std.proofs.Common.{◌-◌, ◌+◌, ◌*◌, ◌<◌, ◌≤◌, ℕ}
-use Rattle.serial_set.specs.Entry.{members_of}
+use Rattle.serial_set.specs.Chunk.{members_of}
 use Rattle.serial_set.specs.Span.{Covers}
-use Rattle.serial_set.specs.SpanPages.{entries_held}
+use Rattle.serial_set.specs.SpanPages.{chunks_held}
 use Rattle.serial_set.specs.Words.{BitCovers}
 use Rattle.serial_set.proofs.span_pages.SpanPages.bits_from.Given as goal
 
@@ -10,8 +10,8 @@ invariant-loop-found l =
     let first = 64 * l.window in
     record {
       at : l.found.at ≤ 64;
-      sound : (s : ℕ) → BitCovers 64 first l.found.bits s → Covers (members_of (entries_held l.self)) s;
-      done : (s : ℕ) → first ≤ s → s < first + l.found.at → Covers (members_of (entries_held l.self)) s → BitCovers 64 first l.found.bits s;
+      sound : (s : ℕ) → BitCovers 64 first l.found.bits s → Covers (members_of (chunks_held l.self)) s;
+      done : (s : ℕ) → first ≤ s → s < first + l.found.at → Covers (members_of (chunks_held l.self)) s → BitCovers 64 first l.found.bits s;
     }
 
 abbrev pub decreases-loop-found : goal.decreases-loop-found

@@ -1,13 +1,13 @@
 use Rattle.std.proofs.Common.{◌≡◌, ◌+◌, length}
-use Rattle.serial_set.specs.Entry.{runs_of}
-use Rattle.serial_set.specs.SpanPages.{entries_held}
+use Rattle.serial_set.specs.Chunk.{runs_of}
+use Rattle.serial_set.specs.SpanPages.{chunks_held}
 use Rattle.serial_set.specs.Walk.{left, steps}
 use Rattle.serial_set.proofs.span_pages.SpanPages.count_runs.Given as goal
 
 abbrev pub invariant-loop-next : goal.invariant-loop-next
 invariant-loop-next l =
-    l.count + length (left l.next (runs_of (entries_held l.self)))
-    ≡ length (runs_of (entries_held l.self))
+    l.count + length (left l.next (runs_of (chunks_held l.self)))
+    ≡ length (runs_of (chunks_held l.self))
 
 abbrev pub decreases-loop-next : goal.decreases-loop-next
-decreases-loop-next l = steps l.next (runs_of (entries_held l.self))
+decreases-loop-next l = steps l.next (runs_of (chunks_held l.self))

@@ -1,15 +1,15 @@
 use Rattle.std.proofs.Common.{◌+◌, ◌-◌, Some, None, inl, inr, sym, subst, arith, refl}
-use Rattle.serial_set.specs.Entry.{window_of, bits_of, lo_of}
+use Rattle.serial_set.specs.Chunk.{window_of, bits_of, lo_of}
 use Rattle.serial_set.specs.Sides.{IsFront}
-use Rattle.serial_set.specs.SpanPages.{entries_held}
-use Rattle.serial_set.proofs.InEntry.{word_ends}
-use Rattle.serial_set.proofs.InNews.{front_word}
+use Rattle.serial_set.specs.SpanPages.{chunks_held}
+use Rattle.serial_set.proofs.InChunk.{word_ends}
+use Rattle.serial_set.proofs.InReplacement.{front_word}
 use Rattle.serial_set.proofs.InSides.{front_further, front_shared, its_own, mask_from}
 use Rattle.serial_set.proofs.span_pages.SpanPages.front_in.Goals as goal
 
 pub returns-in-Some : goal.returns-in-Some
 returns-in-Some c =
-    let old = entries_held c.args.self.now in
+    let old = chunks_held c.args.self.now in
     let e = c.args.word in
     let w = c.in-Some.more in
     let lo = c.args.lo in
@@ -26,7 +26,7 @@ returns-in-Some c =
 
 pub returns-in-None : goal.returns-in-None
 returns-in-None c =
-    let old = entries_held c.args.self.now in
+    let old = chunks_held c.args.self.now in
     let e = c.args.word in
     let lo = c.args.lo in
     let order = c.args.self.now.order in

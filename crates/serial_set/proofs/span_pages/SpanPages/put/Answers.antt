@@ -1,8 +1,8 @@
 use Rattle.std.proofs.Common.{subst, sym, inl, inr}
 use Rattle.serial_set.specs.Span.{AreSerials}
-use Rattle.serial_set.specs.Entry.{EntriesFrom, members_of}
-use Rattle.serial_set.specs.Entries.{Replaces}
-use Rattle.serial_set.specs.Kept.{entries_kept}
+use Rattle.serial_set.specs.Chunk.{ChunksFrom, members_of}
+use Rattle.serial_set.specs.Chunks.{Replaces}
+use Rattle.serial_set.specs.Storage.{chunks_stored}
 use Rattle.serial_set.specs.Few.{few_of}
 use Rattle.serial_set.proofs.InWords.{ok_or_err, replaced_rise, replaced_serials}
 use Rattle.serial_set.specs.Tight.{AreTight}
@@ -12,8 +12,8 @@ use Rattle.serial_set.proofs.span_pages.SpanPages.put.Goals as goal
 pub invariant_of-self : goal.invariant_of-self
 invariant_of-self c =
     let set = c.args.self.now in
-    let old = entries_kept set.kept in
-    let new = entries_kept c.put.new.self in
+    let old = chunks_stored set.storage in
+    let new = chunks_stored c.put.new.self in
     let few = few_of c.args.few.now in
     let lo = c.args.lo in
     let hi = c.args.hi in
@@ -26,7 +26,7 @@ invariant_of-self c =
             tight = replaced_tight old few new lo hi r c.requires.order.1 c.requires.ends set.tight c.requires.tight;
           }
       | inr same ↦ record {
-        order = subst (EntriesFrom 0) (sym same) set.order;
+        order = subst (ChunksFrom 0) (sym same) set.order;
         serials = subst (λ l. AreSerials (members_of l)) (sym same) set.serials;
         tight = subst AreTight (sym same) set.tight;
       }

@@ -1,11 +1,11 @@
 use Rattle.std.proofs.Common.{◌-◌}
-use Rattle.serial_set.specs.Entry.{members_of}
+use Rattle.serial_set.specs.Chunk.{members_of}
 use Rattle.serial_set.specs.Members.{GoesOn}
-use Rattle.serial_set.specs.SpanPages.{entries_held}
+use Rattle.serial_set.specs.SpanPages.{chunks_held}
 use Rattle.serial_set.proofs.span_pages.SpanPages.run_end.Given as goal
 
 abbrev pub invariant-loop-member : goal.invariant-loop-member
-invariant-loop-member l = GoesOn (members_of (entries_held l.self)) l.fn.member l.from
+invariant-loop-member l = GoesOn (members_of (chunks_held l.self)) l.fn.member l.from
 
 abbrev pub decreases-loop-member : goal.decreases-loop-member
 decreases-loop-member l = 18446744073709551616 - l.from

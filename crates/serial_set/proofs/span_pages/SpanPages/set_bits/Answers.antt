@@ -1,7 +1,7 @@
 use Rattle.std.proofs.Common.{subst, sym, inl, inr}
 use Rattle.serial_set.specs.Span.{AreSerials}
-use Rattle.serial_set.specs.Entry.{EntriesFrom, members_of}
-use Rattle.serial_set.specs.Kept.{entries_kept}
+use Rattle.serial_set.specs.Chunk.{ChunksFrom, members_of}
+use Rattle.serial_set.specs.Storage.{chunks_stored}
 use Rattle.serial_set.specs.Tight.{AreTight}
 use Rattle.serial_set.proofs.InTight.{widened_tight}
 use Rattle.serial_set.proofs.InWords.{true_or_false, widened_order, widened_serials, widened_runs}
@@ -10,8 +10,8 @@ use Rattle.serial_set.proofs.span_pages.SpanPages.set_bits.Goals as goal
 pub invariant_of-self : goal.invariant_of-self
 invariant_of-self c =
     let set = c.args.self.now in
-    let old = entries_kept set.kept in
-    let new = entries_kept c.set_bits.new.self in
+    let old = chunks_stored set.storage in
+    let new = chunks_stored c.set_bits.new.self in
     elim (true_or_false c.set_bits.result _ _ c.set_bits.ensures.set c.set_bits.ensures.same) [
       | inl k ↦ record {
         order = widened_order old new c.args.window c.args.bits k set.order;
@@ -19,7 +19,7 @@ invariant_of-self c =
         tight = widened_tight old new c.args.window c.args.bits k set.tight;
       }
       | inr same ↦ record {
-        order = subst (EntriesFrom 0) (sym same) set.order;
+        order = subst (ChunksFrom 0) (sym same) set.order;
         serials = subst (λ l. AreSerials (members_of l)) (sym same) set.serials;
         tight = subst AreTight (sym same) set.tight;
       }
@@ -28,4 +28,4 @@ invariant_of-self c =
 pub returns-clause-runs : goal.returns-clause-runs
 returns-clause-runs c t =
     let set = c.args.self.now in
-    widened_runs (entries_kept set.kept) (entries_kept c.set_bits.new.self) c.args.window c.args.bits (c.set_bits.ensures.set t) set.order
+    widened_runs (chunks_stored set.storage) (chunks_stored c.set_bits.new.self) c.args.window c.args.bits (c.set_bits.ensures.set t) set.order

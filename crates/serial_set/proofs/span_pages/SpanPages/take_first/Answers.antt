@@ -1,7 +1,7 @@
 use Rattle.std.proofs.Common.{◌≡◌, ◌∙◌, ◌++◌, ◌∷◌, [], ap, subst, sym, take}
 use Rattle.serial_set.specs.declared.span.Span.{Span}
-use Rattle.serial_set.specs.Entry.{runs_of}
-use Rattle.serial_set.specs.SpanPages.{entries_held}
+use Rattle.serial_set.specs.Chunk.{runs_of}
+use Rattle.serial_set.specs.SpanPages.{chunks_held}
 use Rattle.serial_set.specs.Walk.{IsPiece, piece_of}
 use Rattle.serial_set.proofs.Taking.{first_alone, none_left}
 use Rattle.serial_set.proofs.span_pages.SpanPages.take_first.Goals as goal
@@ -9,14 +9,14 @@ use Rattle.serial_set.proofs.span_pages.SpanPages.take_first.Goals as goal
 pub returns-in_default : goal.returns-in_default
 returns-in_default c =
     let set = c.args.self.now in
-    let es = entries_held set in
+    let es = chunks_held set in
     let none : piece_of c.args.piece.now ≡ [] = ap (λ n. take n c.args.piece.now.spans) c.requires in
     subst (IsPiece (runs_of es) c.args.number) (sym none) (none_left es c.args.number set.order c.in_default.ensures)
 
 pub returns : goal.returns
 returns c =
     let set = c.args.self.now in
-    let es = entries_held set in
+    let es = chunks_held set in
     let run : Span = record { lo = c.in-Some.lo; hi = c.run_end-hi.result } in
     let none : piece_of c.args.piece.now ≡ [] = ap (λ n. take n c.args.piece.now.spans) c.requires in
     subst (IsPiece (runs_of es) c.args.number) (sym (c.push.ensures.runs ∙ ap (λ l. l ++ run ∷ []) none))

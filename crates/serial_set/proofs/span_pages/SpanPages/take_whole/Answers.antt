@@ -1,6 +1,6 @@
 use Rattle.std.proofs.Common.{◌≡◌, ◌∙◌, length, subst, sym, take}
-use Rattle.serial_set.specs.Entry.{runs_of}
-use Rattle.serial_set.specs.SpanPages.{entries_held}
+use Rattle.serial_set.specs.Chunk.{runs_of}
+use Rattle.serial_set.specs.SpanPages.{chunks_held}
 use Rattle.serial_set.specs.Walk.{piece_of, since}
 use Rattle.serial_set.proofs.Taking.{all_but_last, all_whole}
 use Rattle.serial_set.proofs.span_pages.SpanPages.take_whole.Goals as goal
@@ -8,7 +8,7 @@ use Rattle.serial_set.proofs.span_pages.SpanPages.take_whole.Goals as goal
 pub returns-then-not-has_after : goal.returns-then-not-has_after
 returns-then-not-has_after c =
     let set = c.args.self.now in
-    let es = entries_held set in
+    let es = chunks_held set in
     let taken = c.take_list.ensures in
     let was = c.in-Some.ensures.runs in
     subst (λ l. l ≡ take (length l) (since c.args.number (runs_of es))) (was ∙ sym c.push.ensures.runs)
@@ -18,4 +18,4 @@ pub returns-else-not-has_after : goal.returns-else-not-has_after
 returns-else-not-has_after c =
     let set = c.args.self.now in
     let taken = c.take_list.ensures in
-    all_but_last (entries_held set) c.args.number taken.0 (piece_of c.take_list.new.piece) (piece_of c.pop.new.self) c.in-Some.last set.order taken.1 c.in-Some.ensures.runs
+    all_but_last (chunks_held set) c.args.number taken.0 (piece_of c.take_list.new.piece) (piece_of c.pop.new.self) c.in-Some.last set.order taken.1 c.in-Some.ensures.runs

@@ -1,0 +1,27 @@
+-- What is held under one authority, as contracts see it.
+use Rattle.std.specs.Prelude.{ℕ, List, map}
+use Rattle.std.specs.Global.{Vec}
+use Rattle.serial_set.specs.declared.span.Span.{Span}
+use Rattle.krl_held.specs.declared.held_section.HeldSection.{HeldSection}
+use Rattle.krl_held.specs.Revocations.{Section}
+
+module _ {S : Type 0} where
+  -- the bytes of the authority that a held section is of
+  abbrev pub name_of : List ℕ × HeldSection S → List ℕ
+  name_of entry = entry.0
+
+  -- the held sections of a map, by the bytes of their authorities
+  abbrev pub named_sections : List (Vec ℕ × HeldSection S) → List (List ℕ × HeldSection S)
+  named_sections entries = map (λ entry. (entry.0.items, entry.1)) entries
+
+module _ {S : Type 0} (spans : S → List Span) where
+  -- the section that contracts see under an authority, where `spans` reads its set of serials
+  abbrev pub section_of : List ℕ × HeldSection S → Section
+  section_of entry = record {
+    authority = entry.0;
+    spans = spans entry.1.spans;
+    ids = entry.1.ids;
+  }
+
+  abbrev pub sections_of : List (List ℕ × HeldSection S) → List Section
+  sections_of named = map section_of named

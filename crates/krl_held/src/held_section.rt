@@ -1,0 +1,51 @@
+//! What is held under one authority.
+ghost use Rattle.std.specs.Prelude.{◌≡◌, ℕ, List, MatchResult, IfOk};
+ghost use Rattle.krl_held.specs.Changes.{TakesAddition, IsOneChange, empty_section};
+
+use crate::addition::Addition;
+use crate::ids::Ids;
+use serial_set::Spans;
+use std::alloc::{AllocError, Global};
+
+/// The serials and key IDs under an authority, or under all.
+#[derive(Drop)]
+pub struct HeldSection<S: Spans> {
+    pub(crate) spans: S,
+    pub(crate) ids: Ids,
+}
+
+impl<S: Spans> HeldSection<S> {
+    ghost use Rattle.krl_held.specs.HeldSection.{section_of};
+
+    // A section that holds what is added and no more.
+    pub(crate) fn with(alloc: Global, addition: Addition<'_>) -> Result<HeldSection<S>, AllocError>
+        requires { IsOneChange addition }
+        ensures { (authority : List ℕ) → IfOk result (λ section. TakesAddition addition.entry
+            (empty_section authority) (section_of S.spans (authority, section))) }
+    {
+        let mut section = HeldSection {
+            spans: S::empty(alloc)?,
+            ids: Ids::new(alloc),
+        };
+        section.add(alloc, addition)?;
+        Ok(section)
+    }
+
+    // Adds to the section. Where memory runs out it holds what it did.
+    pub(crate) fn add(&mut self, alloc: Global, addition: Addition<'_>) -> Result<(), AllocError>
+        requires { IsOneChange addition }
+        ensures { (authority : List ℕ) → MatchResult result
+            (λ _. TakesAddition addition.entry (section_of S.spans (authority, self.old))
+            (section_of S.spans (authority, self.new)))
+            (λ _. section_of S.spans (authority, self.new)
+            ≡ section_of S.spans (authority, self.old)) }
+    {
+        match addition {
+            Addition::Serials(near) => self.spans.add_near(near),
+            Addition::Id(text) => {
+                self.ids.put(alloc, text)?;
+                Ok(())
+            }
+        }
+    }
+}

@@ -1,0 +1,102 @@
+//! What is held under each authority.
+ghost use Rattle.std.specs.Prelude.{◌≡◌, ◌<◌, [], MatchOption, OnErr, OnOk, Some};
+ghost use Rattle.std.specs.Prelude.{length, slice_get};
+ghost use Rattle.krl_held.specs.Inserting.{Stands};
+ghost use Rattle.krl_held.specs.Changes.{IsOneChange, AddsTo};
+ghost use Rattle.krl_held.specs.Revocations.{SomeSection};
+ghost use Rattle.krl_held.specs.HeldSection.{section_of};
+
+use crate::addition::Addition;
+use crate::held_section::HeldSection;
+use crate::listed::{Authorities, Listed};
+use serial_set::Spans;
+use std::alloc::{AllocError, Global};
+use std::collections::BTreeMap;
+use std::marker::Model;
+
+/// The section of each authority, by its bytes. Contracts see them in the order of these.
+#[derive(Drop)]
+pub struct HeldSections<S: Spans> {
+    alloc: Global,
+    map: BTreeMap<Vec<u8>, HeldSection<S>>,
+}
+
+impl<S: Spans> Model for HeldSections<S> {
+    ghost use Rattle.std.specs.Prelude.{List};
+    ghost use Rattle.krl_held.specs.Revocations.{Section};
+    ghost use Rattle.krl_held.specs.Rising.{RisesBy};
+    ghost use Rattle.krl_held.specs.HeldSection.{name_of, sections_of, named_sections};
+
+    ghost Value = { List Section };
+
+    ghost view = { λ s. sections_of S.spans (named_sections s.map.entries) };
+
+    ghost invariant = { λ s. RisesBy name_of (named_sections s.map.entries) };
+}
+
+impl<S: Spans> HeldSections<S> {
+    // No authority has anything. Takes no memory.
+    pub(crate) fn new(alloc: Global) -> HeldSections<S>
+        ensures { result ≡ [] }
+    {
+        HeldSections {
+            alloc,
+            map: BTreeMap::new(alloc),
+        }
+    }
+
+    // How many authorities there are.
+    pub(crate) fn len(&self) -> usize
+        ensures { result ≡ length self.now }
+    {
+        self.map.len()
+    }
+
+    // The section of an authority.
+    pub(crate) fn find(&self, authority: &[u8]) -> Option<&HeldSection<S>>
+        ensures { MatchOption result
+            (¬ SomeSection (λ section. section.authority ≡ authority.now) self.now)
+            (λ section. Stands (λ section. section.authority) self.now
+            (section_of S.spans (authority.now, section.now))) }
+    {
+        self.map.get(authority)
+    }
+
+    // What is held under the authority at an index. It goes over those before it.
+    pub(crate) fn at(&self, index: usize) -> Listed<'_, S>
+        requires { index < length self.now }
+        ensures { slice_get self.now index ≡ Some result }
+    {
+        let mut walk = self.walk();
+        let mut left = index;
+        while let Some(listed) = walk.next() {
+            if left == 0 {
+                return listed;
+            }
+            left -= 1;
+        }
+        unreachable!()
+    }
+
+    // The authorities, in the order of their bytes.
+    pub(crate) fn walk(&self) -> Authorities<'_, S>
+        ensures { result ≡ self.now }
+    {
+        Authorities::over(&self.map)
+    }
+
+    // Adds under an authority. A section that is new is made whole before it is put in.
+    pub(crate) fn add(&mut self, authority: &[u8], addition: Addition<'_>) -> Result<(), AllocError>
+        requires { IsOneChange addition }
+        ensures ok { OnOk result (AddsTo addition.entry authority.now self.old self.new) }
+        ensures refused { OnErr result (self.new ≡ self.old) }
+    {
+        if let Some(section) = self.map.get_mut(authority) {
+            return section.add(self.alloc, addition);
+        }
+        let section = HeldSection::with(self.alloc, addition)?;
+        let name = Vec::from_slice(self.alloc, authority)?;
+        self.map.insert(name, section)?;
+        Ok(())
+    }
+}

@@ -1,7 +1,0 @@
-use Rattle.krl_plan.proofs.Marks.{forgets_back}
-use Rattle.krl_plan.proofs.window.drop_past.Goals as goal
-
-pub returns-then-oldest-limit-clause-forgotten : goal.returns-then-oldest-limit-clause-forgotten
-returns-then-oldest-limit-clause-forgotten c =
-    forgets_back c.args.marks.now.items c.loop-oldest.marks.items c.args.limit c.in-Some.oldest.now c.requires.ordered c.loop-oldest.invariant.back
-    c.loop-oldest.invariant.few c.loop-oldest.invariant.past (λ some. c.in-Some.ensures.lookup) c.if-oldest-limit.true

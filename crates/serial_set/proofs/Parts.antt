@@ -1,0 +1,48 @@
+-- What holds up to a position in a list and from there on, as facts on the two parts.
+use Rattle.std.specs.Borrow.{Bor}
+use denote.Param.Members.{Mut}
+use Rattle.std.specs.Fn.{Called, ComputesKey}
+use Rattle.std.proofs.Common.{◌≡◌, Bool, true, false, leb, ltb, ℕ, ◌+◌, ◌-◌, ◌<◌, ◌≤◌, ap, get_or, List, length, take, drop, sym, subst, arith, length-drop, length-take}
+use Rattle.std.specs.List.{All, AllWithin}
+use Rattle.std.specs.List.Sorted.{IsNonDecreasingBy, IsPartitionedBy, IsPartitionPoint}
+use Rattle.std.proofs.lemmas.Bool.{leb-true, leb-false, ltb-true, ltb-false}
+use Rattle.std.proofs.lemmas.List.Sorted.{IsPartitionPoint-from_clause, IsPartitionedBy-leb, IsPartitionedBy-ltb}
+use Rattle.std.proofs.lemmas.List.{get_or-take, get_or-drop, get_or_default, length-take-le}
+
+All-front : {X : Type 0} (P : X → Type 0) (xs : List X) (i : ℕ) → AllWithin P xs 0 i → All P (take i xs)
+All-front P xs i h k d q =
+    let bound = length-take i xs in
+    let inside : k < i = omega arith in
+    subst P (sym (get_or-take i xs k d inside)) (h k d (omega arith) inside)
+
+All-back : {X : Type 0} (P : X → Type 0) (xs : List X) (i : ℕ) → AllWithin P xs i (length xs) → All P (drop i xs)
+All-back P xs i h k d q =
+    let bound = length-drop i xs in
+    subst P (sym (get_or-drop i xs k d)) (h (i + k) d (omega arith) (omega arith))
+
+-- in a list that rises, what is below a number at a position is before it, and what is not after it
+pub rises_before : {X : Type 0} (f : X → ℕ) (xs : List X) (count n : ℕ) (d : X) → IsNonDecreasingBy f xs → 0 < count → count ≤ length xs → f (get_or xs (count - 1) d) < n → All (λ x. f x < n) (take count xs)
+rises_before f xs count n d rise some within last = λ k e q.
+    let inside : k < count = omega (arith, length-take-le count xs within) in
+    let most = rise k (count - 1) e (omega arith) (omega arith) in
+    let same = ap f (get_or-take count xs k e inside) in
+    let read = ap f (get_or_default xs (count - 1) d e (omega arith)) in
+    omega (arith, most, same, read)
+
+-- ---- where a test says which elements are below a number
+
+pub upto_parts : {X F : Type 0} {g : Mut F (Bor X × Unit {0}) Bool} {s : F} (f : X → ℕ) (n : ℕ) (xs : List X) (i : ℕ)
+    → ((q : X → Bool) → ComputesKey g q s → IsPartitionedBy q xs → IsPartitionPoint (λ y. q y ≡ true) (λ y. q y ≡ false) xs i)
+    → IsNonDecreasingBy f xs → ((a : Bor X × Unit {0}) (r : Bool) (s' : F) → Called g s a r s' → (r ≡ leb (f a.0.now) n) × (s' ≡ s))
+    → All (λ x. f x ≤ n) (take i xs) × All (λ x. n < f x) (drop i xs)
+upto_parts f n xs i clause rise calls =
+    let at = IsPartitionPoint-from_clause (λ x. leb (f x) n) xs i clause (IsPartitionedBy-leb f xs n rise) calls in
+    (All-front (λ x. f x ≤ n) xs i (λ k d a b. leb-true _ _ (at.0 k d a b)), All-back (λ x. n < f x) xs i (λ k d a b. leb-false _ _ (at.1 k d a b)))
+
+pub below_parts : {X F : Type 0} {g : Mut F (Bor X × Unit {0}) Bool} {s : F} (f : X → ℕ) (n : ℕ) (xs : List X) (i : ℕ)
+    → ((q : X → Bool) → ComputesKey g q s → IsPartitionedBy q xs → IsPartitionPoint (λ y. q y ≡ true) (λ y. q y ≡ false) xs i)
+    → IsNonDecreasingBy f xs → ((a : Bor X × Unit {0}) (r : Bool) (s' : F) → Called g s a r s' → (r ≡ ltb (f a.0.now) n) × (s' ≡ s))
+    → All (λ x. f x < n) (take i xs) × All (λ x. n ≤ f x) (drop i xs)
+below_parts f n xs i clause rise calls =
+    let at = IsPartitionPoint-from_clause (λ x. ltb (f x) n) xs i clause (IsPartitionedBy-ltb f xs n rise) calls in
+    (All-front (λ x. f x < n) xs i (λ k d a b. ltb-true _ _ (at.0 k d a b)), All-back (λ x. n ≤ f x) xs i (λ k d a b. ltb-false _ _ (at.1 k d a b)))
