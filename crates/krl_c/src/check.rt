@@ -10,7 +10,7 @@ ghost use Rattle.krl_c.specs.Answer.{Answers, AnswersOfLine, IsListOf};
 use crate::lent::Lent;
 use crate::number::{FINE, REVOKED, of_line, of_list, of_subject};
 use krl_core::{Findings, KrlFault, Questions, Reading};
-use serial_set::Held;
+use span_sets::Held;
 use ssh_cert::{Subject, subject};
 use ssh_key::read_line;
 use std::alloc::Global;

@@ -9,7 +9,7 @@ ghost use Rattle.krl_c.specs.Number.{not_loaded};
 use crate::held::{ask_held, ask_held_of_line};
 use crate::number::NOT_LOADED;
 use krl_core::Revocations;
-use serial_set::Held;
+use span_sets::Held;
 use std::alloc::Global;
 
 /// What is held of a list, and whether one was read.

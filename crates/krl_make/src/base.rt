@@ -11,7 +11,7 @@ ghost use Rattle.krl_make.specs.declared.base.Base.{Base as BaseOf};
 
 use key_files::{RunFault, cause_of};
 use krl_core::{Header, Revocations, read_krl};
-use serial_set::Held;
+use span_sets::Held;
 use ssh_wire::{Bytes, Source};
 use std::alloc::Global;
 

@@ -14,7 +14,7 @@ use key_files::{Cause, Named, RunFault};
 use krl_core::{Header, Revocations};
 use krl_spec::Under;
 use krl_writer::{TextFault, krl_text};
-use serial_set::Held;
+use span_sets::Held;
 use ssh_wire::Source;
 use std::alloc::Global;
 

@@ -1,15 +1,10 @@
 //! What follows from the definitions alone. The functions do nothing.
-ghost use Rattle.std.specs.Prelude.{◌≡◌, ◌+◌, ◌*◌, ◌<◌, ◌≤◌, ◌↔◌, ◌⊎◌, ◌++◌, ◌∷◌, [], ℕ, List, length, All};
+ghost use Rattle.std.specs.Prelude.{◌≡◌, ◌+◌, ◌*◌, ◌≤◌, ◌↔◌, ◌⊎◌, ◌++◌, ◌∷◌, [], ℕ, List, length};
 ghost use Rattle.serial_set.specs.declared.span.Span.{Span};
 ghost use Rattle.serial_set.specs.Span.{Covers, IsRuns, IsRunsOf, AreSerials};
 ghost use Rattle.serial_set.specs.BitRuns.{BitRuns, start, lowest, BitNames, big_endian, Feeds, FeedsAll, runs_after};
-ghost use Rattle.serial_set.specs.declared.chunk.Chunk.{Chunk};
-ghost use Rattle.serial_set.specs.declared.span_pages.SpanPages.{SpanPages};
-ghost use Rattle.serial_set.specs.Chunk.{ChunksFrom, hi_of, runs_of};
-ghost use Rattle.serial_set.specs.Chunks.{Keeps, Replaces};
 ghost use Rattle.serial_set.specs.Joined.{Rises, joined};
 ghost use Rattle.serial_set.specs.Laws.{AfterFeeding};
-ghost use Rattle.serial_set.specs.SpanPages.{chunks_held};
 
 /// A set has one list of runs.
 pub fn runs_are_unique()
@@ -27,22 +22,6 @@ pub fn runs_are_fewest()
 pub fn joined_are_runs()
     ensures { (spans : List Span) → Rises 0 spans
         → IsRunsOf (joined spans) (λ s. Covers spans s) }
-{}
-
-/// Where chunks give way to others that have their members and some more, the runs are those of
-/// the members before and of those more.
-pub fn replaced_adds()
-    ensures { (old : List Chunk) (lo hi : ℕ) (few new : List Chunk) (more : List Span)
-        (r : Replaces old lo hi few new) → Keeps r.middle few (λ s. Covers more s) → lo ≤ hi
-        → ChunksFrom 0 old → ChunksFrom lo few → All (λ e. hi_of e < hi + 1) few
-        → IsRunsOf (runs_of new) (λ s. Covers (runs_of old) s ⊎ Covers more s) }
-{}
-
-/// A set holds at most three chunks for each of its runs, whatever was added to it and in which
-/// order: so what it takes is bounded by its intervals.
-pub fn three_chunks_a_run()
-    ensures { (set : SpanPages)
-        → length (chunks_held set) ≤ 3 * length (runs_of (chunks_held set)) }
 {}
 
 /// At each moment the pending run and all that were finished are the runs of the bits that are fed.

@@ -1,11 +1,7 @@
 //! Spans that lie near each other.
-ghost use Rattle.std.specs.Prelude.{◌≡◌, ◌+◌, ◌*◌, ◌/◌, ◌%◌, ◌<◌, ◌≤◌, ◌↔◌, ℕ, length, take, IsTrue, All};
-ghost use Rattle.serial_set.specs.BitRuns.{IsInterval};
+ghost use Rattle.std.specs.Prelude.{◌/◌, ◌<◌, ◌≤◌, ◌↔◌, length, take, IsTrue};
 ghost use Rattle.serial_set.specs.Near.{AreNear, LiesIn};
-ghost use Rattle.serial_set.specs.Span.{Covers};
-ghost use Rattle.serial_set.specs.Words.{BitCovers};
 
-use crate::chunk::mask;
 use crate::span::Span;
 
 /// How many of some spans, from the first on, `Spans::add_near` takes: as many as lie in one window
@@ -32,17 +28,4 @@ fn lies_in(span: Span, window: u64) -> bool
     ensures { IsTrue result ↔ LiesIn window span }
 {
     span.lo / 64 == window && span.hi / 64 == window
-}
-
-/// The numbers of spans in a window, as its bits.
-pub fn bits_of(spans: &[Span], window: u64) -> u64
-    requires intervals { All IsInterval spans.now }
-    requires near { All (LiesIn window) spans.now }
-    ensures { (s : ℕ) → BitCovers 64 (64 * window) result s ↔ Covers spans.now s }
-{
-    let mut bits = 0;
-    for span in spans {
-        bits |= mask(span.lo % 64, span.hi % 64);
-    }
-    bits
 }

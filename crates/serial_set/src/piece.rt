@@ -16,10 +16,9 @@ impl Piece {
     ghost use Rattle.serial_set.specs.Span.{AddsSpan, Covers, IsRuns};
     ghost use Rattle.serial_set.specs.Walk.{clipped, next_of, piece_of, since};
 
-    // No runs.
-    pub(crate) fn none() -> Piece
-        ensures runs { piece_of result ≡ [] }
-        ensures count { result.count ≡ 0 }
+    /// No runs.
+    pub fn none() -> Piece
+        ensures { piece_of result ≡ [] }
     {
         Piece {
             spans: [Span { lo: 0, hi: 0 }; 32],
@@ -27,39 +26,35 @@ impl Piece {
         }
     }
 
-    // Puts a run after the others.
-    pub(crate) fn push(&mut self, span: Span)
-        requires { self.old.count < 32 }
-        ensures runs { piece_of self.new ≡ piece_of self.old ++ span ∷ [] }
-        ensures count { self.new.count ≡ self.old.count + 1 }
+    /// Puts a run after the others.
+    pub fn push(&mut self, span: Span)
+        requires { length (piece_of self.old) < 32 }
+        ensures { piece_of self.new ≡ piece_of self.old ++ span ∷ [] }
     {
         self.spans[usize::from(self.count)] = span;
         self.count += 1;
     }
 
-    // Whether there is no room for one more.
-    pub(crate) fn is_full(&self) -> bool
-        ensures { IsTrue result ↔ (32 ≤ self.now.count) }
+    /// Whether there is no room for one more.
+    pub fn is_full(&self) -> bool
+        ensures { IsTrue result ↔ (32 ≤ length (piece_of self.now)) }
     {
         self.count >= 32
     }
 
-    // Whether there is no run.
-    pub(crate) fn is_empty(&self) -> bool
-        ensures none { IsTrue result → self.now.count ≡ 0 }
+    /// Whether there is no run.
+    pub fn is_empty(&self) -> bool
+        ensures none { IsTrue result → piece_of self.now ≡ [] }
         ensures some { result ≡ false → 0 < length (piece_of self.now) }
     {
         self.count == 0
     }
 
-    // Takes the last run away.
-    pub(crate) fn pop(&mut self) -> Option<Span>
-        ensures runs { MatchOption result
+    /// Takes the last run away.
+    pub fn pop(&mut self) -> Option<Span>
+        ensures { MatchOption result
             ((piece_of self.old ≡ []) × (piece_of self.new ≡ []))
             (λ last. piece_of self.old ≡ piece_of self.new ++ last ∷ []) }
-        ensures count { MatchOption result
-            (self.new.count ≡ 0)
-            (λ _. self.old.count ≡ self.new.count + 1) }
     {
         if self.count == 0 {
             return None;
@@ -68,9 +63,9 @@ impl Piece {
         Some(self.spans[usize::from(self.count)])
     }
 
-    // Puts a span after the runs. Where it touches the last of them, that one gets longer.
-    pub(crate) fn join(&mut self, lo: u64, hi: u64)
-        requires room { self.old.count < 32 }
+    /// Puts a span after the runs. Where it touches the last of them, that one gets longer.
+    pub fn join(&mut self, lo: u64, hi: u64)
+        requires room { length (piece_of self.old) < 32 }
         requires ordered { lo ≤ hi }
         requires runs { IsRuns (piece_of self.old) }
         requires past { (s : ℕ) → Covers (piece_of self.old) s → s < lo }
@@ -110,8 +105,8 @@ impl Piece {
         }
     }
 
-    // The first of some runs from a number on, where each ends at the number or past it.
-    pub(crate) fn from(runs: &[Span], number: u64) -> Piece
+    /// The first of some runs from a number on, where each ends at the number or past it.
+    pub fn from(runs: &[Span], number: u64) -> Piece
         requires { All (λ t. number ≤ t.hi) runs.now }
         ensures { piece_of result ≡ take 32 (since number runs.now) }
     {

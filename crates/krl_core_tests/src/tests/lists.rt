@@ -3,7 +3,8 @@
 
 use krl_core::{Header, KrlFault, Revocations, read_krl};
 use krl_writer::krl_text;
-use serial_set::{Held, Spans};
+use serial_set::Spans;
+use span_sets::Held;
 use ssh_wire::{Bytes, FromRead};
 use std::alloc::Global;
 use std::io::Read;

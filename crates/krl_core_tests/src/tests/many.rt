@@ -6,7 +6,8 @@ use crate::tests::lists::{list_of, read_from, spans_from, text_of};
 use crate::tests::said::{ALL, Said, hold};
 use krl_core::{Authorities, Listed, Revocations};
 use parts_for_tests::{joined, strings};
-use serial_set::{Held, Spans};
+use serial_set::Spans;
+use span_sets::Held;
 use std::alloc::{AllocError, Global};
 use std::process::Abort;
 

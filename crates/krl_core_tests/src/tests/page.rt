@@ -4,7 +4,7 @@ use krl_core::{Header, Revocations, read_krl};
 use krl_types::KrlFault;
 use krl_writer::{TextFault, krl_text};
 use parts_for_tests::{HEADER, PUBLISHED, joined, strings};
-use serial_set::Held;
+use span_sets::Held;
 use ssh_cert::{Subject, subject};
 use ssh_wire::{Bytes, FromRead};
 use std::alloc::{AllocError, Global};

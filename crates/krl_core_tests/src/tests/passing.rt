@@ -7,7 +7,7 @@ use crate::tests::rows::ROWS;
 use crate::tests::said::{A, ALL, About, B, Said, held_of, subject_of};
 use krl_core::{Findings, KrlFault, Questions, Reading, Store, Walk};
 use parts_for_tests::{Giver, Then};
-use serial_set::Held;
+use span_sets::Held;
 use ssh_key::{sha1_of, sha256_of};
 use ssh_wire::{FromBuffer, Source};
 use std::alloc::Global;

@@ -4,7 +4,8 @@ ghost use Rattle.std.specs.Prelude.{◌≡◌, ◌<◌, ◌≤◌};
 ghost use Rattle.krl_held.specs.Authority.{IsAuthority};
 
 use krl_core::Revocations;
-use serial_set::{Held, Spans};
+use serial_set::Spans;
+use span_sets::Held;
 use ssh_cert::{CertNames, Subject};
 use ssh_wire::Bytes;
 use std::alloc::{AllocError, Global};

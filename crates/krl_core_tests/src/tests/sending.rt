@@ -5,7 +5,7 @@ use crate::tests::said::held_of_runs;
 use krl_core::Revocations;
 use krl_writer::{WriteFault, write_krl};
 use parts_for_tests::{FIVE, Taker};
-use serial_set::Held;
+use span_sets::Held;
 use ssh_wire::ToWrite;
 use std::alloc::Global;
 

@@ -6,7 +6,8 @@ ghost use Rattle.krl_plan.specs.Written.{plan_text};
 ghost use Rattle.krl_plan.specs.declared.group.Group.{Group};
 
 use krl_plan::put_least_plan;
-use serial_set::{Held, Spans};
+use serial_set::Spans;
+use span_sets::Held;
 use std::alloc::{AllocError, Global};
 
 /// The subsections of a list that name just the serials of a set, by its least plan.

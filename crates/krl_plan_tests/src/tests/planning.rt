@@ -2,7 +2,8 @@
 
 use krl_plan::{Group, Sort, least_plan, put_least_plan};
 use parts_for_tests::EIGHT_AND_ONE;
-use serial_set::{Held, Spans};
+use serial_set::Spans;
+use span_sets::Held;
 use std::alloc::{AllocError, Global};
 use std::process::Abort;
 

@@ -10,7 +10,7 @@ ghost use Rattle.krl_runs.specs.Expected.{AllExpected, AreExpected};
 
 use key_files::{Cause, FileKey, Named, keys_of};
 use krl_core::{Questions, Revocations};
-use serial_set::Held;
+use span_sets::Held;
 use std::alloc::{AllocError, Global};
 
 /// Asks a list whose front holds this about each key of each file, up to the file's first fault.

@@ -18,7 +18,7 @@ use crate::output::run::Run;
 use crate::runs::query::{Known, ask_held, query_line};
 use key_files::{Cause, FileFault, FileKey, Named, RunFault, cause_of};
 use krl_core::{Findings, Questions, Reading, Walk};
-use serial_set::Held;
+use span_sets::Held;
 use ssh_cert::AnyKey;
 use ssh_wire::{Sink, Source};
 use std::alloc::{AllocError, Global};

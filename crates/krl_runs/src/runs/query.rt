@@ -19,7 +19,7 @@ use crate::runs::contents::print_contents;
 use crate::runs::passing::ask_passing;
 use key_files::{FileFault, FileKey, Named, RunFault, cause_of};
 use krl_core::{Header, Revocations, read_krl};
-use serial_set::Held;
+use span_sets::Held;
 use ssh_cert::{AnyKey, push_escaped};
 use ssh_wire::{Bytes, Sink, Source};
 use std::alloc::{AllocError, Global};

@@ -7,7 +7,7 @@ use krl_make::{Authority, Old, make_run};
 use krl_runs::{Done, query_run};
 use krl_spec::{SpecFault, Under, read_spec};
 use parts_for_tests::{GITHUB, GITHUB_LINE};
-use serial_set::Held;
+use span_sets::Held;
 use ssh_cert::subject;
 use ssh_wire::{FromRead, ToWrite};
 use std::alloc::Global;

@@ -4,7 +4,7 @@ use crate::tests::answered::{answered, ran_out};
 use crate::tests::parts::{SHA256, blob_of};
 use krl_core::Revocations;
 use parts_for_tests::GITHUB_LINE;
-use serial_set::Held;
+use span_sets::Held;
 use std::alloc::AllocError;
 use std::io::{self, Write};
 use std::process::Abort;

@@ -6,7 +6,7 @@ use krl_core::{Header, KrlFault, Reading, Revocations, read_krl};
 use parts_for_tests::{
     BITMAP, FIVE, Giver, HEADER, ID_A, KEY_SECTION, SHA256_SECTION, Then, joined,
 };
-use serial_set::Held;
+use span_sets::Held;
 use ssh_wire::{FromRead, Pull, PullFault};
 use std::alloc::{AllocError, Global};
 use std::process::Abort;

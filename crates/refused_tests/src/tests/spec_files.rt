@@ -5,7 +5,7 @@ use crate::tests::holding::size;
 use krl_core::Revocations;
 use krl_spec::{SpecCause, Under, read_spec};
 use parts_for_tests::{CERT_LINE, GITHUB_LINE, GITHUB_PRINT, OTHER_LINE, joined};
-use serial_set::Held;
+use span_sets::Held;
 use std::alloc::AllocError;
 
 // Eight lines, of which each names one entry more.

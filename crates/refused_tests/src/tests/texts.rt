@@ -5,7 +5,7 @@ use crate::tests::holding::{Counter, held, one_of_each};
 use krl_core::{Header, Revocations};
 use krl_writer::{TextFault, WriteFault, krl_text, write_krl};
 use parts_for_tests::{HEADER, KEY_SECTION, SHA256_SECTION, joined};
-use serial_set::Held;
+use span_sets::Held;
 use ssh_wire::{Bytes, ToWrite};
 use std::alloc::{AllocError, Global};
 

@@ -1,6 +1,7 @@
 //! Intervals that are added, one after the other.
 use crate::tests::sets::{add, empty, has_just};
-use serial_set::{Span, SpanPages, SpanVec, Spans};
+use serial_set::{Span, Spans};
+use span_sets::{SpanPages, SpanVec};
 use std::alloc::Global;
 use std::process::Abort;
 

@@ -1,6 +1,7 @@
 //! Bitmaps, byte for byte, and why they are refused.
 use crate::tests::sets::{add, empty, has_just};
-use serial_set::{BitFault, BitRuns, Held, Span, Spans};
+use serial_set::{BitFault, BitRuns, Span, Spans};
+use span_sets::Held;
 use std::alloc::Global;
 use std::process::Abort;
 

@@ -4,7 +4,8 @@ ghost use Rattle.std.specs.Prelude.{◌<◌, length, All};
 ghost use Rattle.serial_set.specs.BitRuns.{IsInterval};
 
 use crate::tests::sets::{add, empty, has_just};
-use serial_set::{Span, SpanPages, SpanVec, Spans, count_near};
+use serial_set::{Span, Spans, count_near};
+use span_sets::{SpanPages, SpanVec};
 use std::alloc::{AllocError, Global};
 use std::process::Abort;
 

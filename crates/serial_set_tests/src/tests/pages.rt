@@ -2,7 +2,8 @@
 ghost use Rattle.std.specs.Prelude.{◌≡◌, ◌+◌, ◌*◌, ◌^◌, ◌<◌, ◌≤◌};
 
 use crate::tests::sets::{add, empty, has_just, has_span};
-use serial_set::{Span, SpanPages, SpanVec, Spans};
+use serial_set::{Span, Spans};
+use span_sets::{SpanPages, SpanVec};
 use std::alloc::Global;
 use std::process::Abort;
 

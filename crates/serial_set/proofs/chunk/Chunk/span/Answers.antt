@@ -1,5 +1,0 @@
-use Rattle.serial_set.proofs.InReplacement.{span_tight}
-use Rattle.serial_set.proofs.chunk.Chunk.span.Goals as goal
-
-pub returns-clause-tight : goal.returns-clause-tight
-returns-clause-tight c = span_tight _ c.requires

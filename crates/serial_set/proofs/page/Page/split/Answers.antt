@@ -1,7 +1,0 @@
-use Rattle.std.proofs.Common.{subst, sym}
-use Rattle.serial_set.specs.Chunk.{ChunksFrom}
-use Rattle.serial_set.proofs.InChunks.{his_rise}
-use Rattle.serial_set.proofs.page.Page.split.Goals as goal
-
-pub count_ending_below-requires : goal.count_ending_below-requires
-count_ending_below-requires c = his_rise 0 _ (subst (ChunksFrom 0) (sym c.as_slice-chunks.ensures) c.requires.order)

@@ -1,7 +1,0 @@
--- At most three chunks.
-use Rattle.std.specs.Prelude.{List}
-use Rattle.arrayvec.specs.ArrayVec.{ArrayVec}
-use Rattle.serial_set.specs.declared.chunk.Chunk.{Chunk}
-
-abbrev pub few_of : ArrayVec Chunk → List Chunk
-few_of few = few.items

@@ -1,0 +1,55 @@
+-- A set's only chunk: asked for a number, and after one change.
+use Rattle.std.proofs.Common.{◌≡◌, ℕ, ◌<◌, ◌≤◌, List, [], ◌∷◌, length, get_or, refl, sym, ap, arith}
+use Rattle.std.specs.List.{All}
+use Rattle.std.proofs.lemmas.List.{append-nil}
+use Rattle.std.proofs.lemmas.List.Elements.{All-nil, All-cons}
+use Rattle.span_sets.specs.declared.chunk.Chunk.{Chunk}
+use Rattle.span_sets.specs.Chunk.{lo_of, hi_of}
+use Rattle.span_sets.specs.Chunks.{Replaces}
+use Rattle.span_sets.specs.Positions.{IsListFrom, Widened, WordWidened}
+
+pub list_one : (e : Chunk) (n : ℕ) → n ≤ hi_of e → IsListFrom (e ∷ []) n (e ∷ [])
+list_one e n h = record {
+  front = [];
+  back = [];
+  parts = refl;
+  below = All-nil (λ x. hi_of x < n);
+  reach = All-cons (λ x. n ≤ hi_of x) e [] h (All-nil (λ x. n ≤ hi_of x));
+  some = λ none. refl;
+}
+
+pub list_below : (e : Chunk) (n : ℕ) → hi_of e < n → IsListFrom (e ∷ []) n []
+list_below e n h = record {
+  front = e ∷ [];
+  back = [];
+  parts = refl;
+  below = All-cons (λ x. hi_of x < n) e [] h (All-nil (λ x. hi_of x < n));
+  reach = All-nil (λ x. n ≤ hi_of x);
+  some = λ none. refl;
+}
+
+pub one_widened : (was is : Chunk) (window bits : ℕ) → Widened was window bits is → WordWidened (was ∷ []) window bits (is ∷ [])
+one_widened was is window bits word = record {
+  front = [];
+  back = [];
+  was = was;
+  is = is;
+  were = refl;
+  are = refl;
+  word = word;
+}
+
+-- one chunk in place of all that there was
+pub one_replaced : (old few : List Chunk) (e : Chunk) (lo hi : ℕ) → All (λ x. (lo ≤ hi_of x) × (lo_of x ≤ hi)) old → length few ≡ 1 → e ≡ get_or few 0 e → Replaces old lo hi few (e ∷ [])
+one_replaced old [] e lo hi inside one read = absurd (omega arith)
+one_replaced old (x ∷ (y ∷ few)) e lo hi inside one read = absurd (omega arith)
+one_replaced old (x ∷ []) e lo hi inside one read = record {
+  front = [];
+  middle = old;
+  back = [];
+  were = sym (append-nil old);
+  are = ap (λ z. z ∷ []) read;
+  below = All-nil (λ t. hi_of t < lo);
+  inside = inside;
+  above = All-nil (λ t. hi < lo_of t);
+}

@@ -1,0 +1,44 @@
+use Rattle.std.proofs.Common.{◌≡◌, ◌-◌, ◌+◌, ◌≤◌, ℕ, sym, subst, ap, ◌∙◌, arith}
+use Rattle.std.specs.Prelude.{false}
+use Rattle.std.specs.Int.{bit_at}
+use Rattle.span_sets.specs.Chunk.{is_span, bits_of, members_in}
+use Rattle.span_sets.specs.Members.{GoesOn}
+use Rattle.span_sets.proofs.InChunk.{in_word, word_ends}
+use Rattle.span_sets.proofs.InBits.{word_on}
+use Rattle.span_sets.proofs.chunk.Chunk.last_from.Goals as goal
+
+pub overflow_sub-member : goal.overflow_sub-member
+overflow_sub-member c =
+    let e = c.args.self in
+    let word : is_span e ≡ false = sym c.is_span.ensures ∙ c.if-is_span.false in
+    let at = (in_word e c.args.member word).0 c.requires in
+    let ends = word_ends e word in
+    omega (arith, at.0, c.lo-first.ensures)
+
+pub last_bit-requires-clause-within : goal.last_bit-requires-clause-within
+last_bit-requires-clause-within c =
+    let e = c.args.self in
+    let word : is_span e ≡ false = sym c.is_span.ensures ∙ c.if-is_span.false in
+    let at = (in_word e c.args.member word).0 c.requires in
+    let ends = word_ends e word in
+    omega (arith, at.0, at.1, c.lo-first.ensures)
+
+pub last_bit-requires-clause-set : goal.last_bit-requires-clause-set
+last_bit-requires-clause-set c =
+    let e = c.args.self in
+    let word : is_span e ≡ false = sym c.is_span.ensures ∙ c.if-is_span.false in
+    let at = (in_word e c.args.member word).0 c.requires in
+    let ends = word_ends e word in
+    ap (λ b. bit_at b (c.args.member - c.lo-first.result)) c.bits.ensures
+    ∙ ap (λ (n : ℕ). bit_at (bits_of e) (c.args.member - n)) (c.lo-first.ensures ∙ ends.0)
+    ∙ at.2
+
+pub returns : goal.returns
+returns c =
+    let e = c.args.self in
+    let word : is_span e ≡ false = sym c.is_span.ensures ∙ c.if-is_span.false in
+    let last = c.last_bit in
+    let all = subst (λ n. (i : ℕ) → c.args.member - n ≤ i → i ≤ last.result → bit_at (bits_of e) i ≡ 1) c.lo-first.ensures
+    (subst (λ b. (i : ℕ) → c.args.member - c.lo-first.result ≤ i → i ≤ last.result → bit_at b i ≡ 1) c.bits.ensures last.ensures.all) in
+    subst (λ n. GoesOn (members_in e) c.args.member (n + last.result)) (sym c.lo-first.ensures)
+    (word_on e c.args.member last.result word c.requires (omega (arith, last.ensures.order, c.lo-first.ensures)) last.ensures.within all)

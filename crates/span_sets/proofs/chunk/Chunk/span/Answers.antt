@@ -1,0 +1,5 @@
+use Rattle.span_sets.proofs.InReplacement.{span_tight}
+use Rattle.span_sets.proofs.chunk.Chunk.span.Goals as goal
+
+pub returns-clause-tight : goal.returns-clause-tight
+returns-clause-tight c = span_tight _ c.requires

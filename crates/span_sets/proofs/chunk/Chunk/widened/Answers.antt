@@ -1,0 +1,27 @@
+use Rattle.std.proofs.Common.{◌≡◌, ◌+◌, ◌*◌, refl, sym, ap, subst, ◌∙◌}
+use Rattle.std.specs.Prelude.{false, ◌↔◌, ◌⊎◌, ℕ}
+use Rattle.std.proofs.lemmas.Option.{IfSome_then}
+use Rattle.serial_set.specs.Span.{Covers}
+use Rattle.span_sets.specs.Words.{BitCovers}
+use Rattle.span_sets.specs.Chunk.{is_span, window_of, lo_of, hi_of, members_in}
+use Rattle.span_sets.proofs.InChunk.{word_ends}
+use Rattle.span_sets.proofs.InReplacement.{with_bits}
+use Rattle.span_sets.proofs.chunk.Chunk.widened.Goals as goal
+
+pub returns : goal.returns
+returns c =
+    let chunk = c.args.self in
+    let window = c.args.window in
+    let word : is_span chunk ≡ false = sym c.is_span.ensures ∙ c.if-is_span.false in
+    let same : window_of chunk ≡ window = sym c.window.ensures ∙ c.if-window.false in
+    let ends = word_ends chunk word in
+    let lo : lo_of chunk ≡ 64 * window = ends.0 ∙ ap (λ w. 64 * w) same in
+    let hi : hi_of chunk ≡ 64 * window + 63 = ends.1 ∙ ap (λ w. 64 * w + 63) same in
+    IfSome_then c.with.result c.with.ensures.with (λ is has. record {
+      word = has.word;
+      lo = (lo, has.lo ∙ lo);
+      hi = (hi, has.hi ∙ hi);
+      more = subst (λ w. (s : ℕ) → Covers (members_in is) s ↔ (Covers (members_in chunk) s ⊎ BitCovers 64 (64 * w) c.args.bits s)) same
+          (λ s. with_bits chunk is _ c.args.bits s word has.members refl);
+      gap = has.gap;
+    })

@@ -1,0 +1,8 @@
+use Rattle.std.proofs.Common.{ap, sym, ◌∙◌}
+use Rattle.span_sets.specs.Chunk.{hi_of}
+use Rattle.span_sets.proofs.InChunks.{end_at}
+use Rattle.span_sets.proofs.page.last_end.Goals as goal
+
+pub returns : goal.returns
+returns c =
+    c.hi.ensures ∙ ap hi_of c.index-items-items.is ∙ sym (end_at c.args.items.now 0 c.index-items-items.result c.requires)

@@ -1,0 +1,14 @@
+use Rattle.std.proofs.Common.{arith, subst}
+use Rattle.span_sets.specs.Replacement.{Has}
+use Rattle.span_sets.specs.Lawful.{in_stretch}
+use Rattle.span_sets.proofs.replacement.after.Goals as goal
+
+pub returns-in_default-clause-members : goal.returns-in_default-clause-members
+returns-in_default-clause-members c = λ s. (
+  λ n. absurd n,
+  λ n.
+      let at = in_stretch c.in-Some.chunk s (subst (λ o. Has o s) c.in-Some.is n.0) in
+      let is = c.hi.ensures in
+      let far = c.if-last-hi.false in
+      omega (arith, n.1, at.1),
+)

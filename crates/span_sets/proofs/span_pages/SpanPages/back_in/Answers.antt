@@ -1,0 +1,45 @@
+use Rattle.std.proofs.Common.{◌+◌, ◌-◌, ◌^◌, None, min, inl, inr, subst, arith, refl}
+use Rattle.span_sets.specs.Chunk.{window_of, bits_of, hi_of}
+use Rattle.span_sets.specs.Sides.{IsBack}
+use Rattle.span_sets.specs.SpanPages.{chunks_held}
+use Rattle.span_sets.proofs.InChunk.{word_ends}
+use Rattle.span_sets.proofs.InReplacement.{back_word}
+use Rattle.span_sets.proofs.InSides.{back_further, back_shared, its_own, mask_upto}
+use Rattle.span_sets.proofs.span_pages.SpanPages.back_in.Goals as goal
+
+pub returns-in-Some : goal.returns-in-Some
+returns-in-Some c =
+    let old = chunks_held c.args.self.now in
+    let e = c.args.word in
+    let w = c.in-Some.more in
+    let hi = c.args.hi in
+    let has = c.in-Some.ensures.with in
+    let over = c.requires.over in
+    let from = over.0 in
+    let upto = over.1 in
+    let past = c.requires.past in
+    let ends = word_ends e c.requires.word in
+    let begins = ends.0 in
+    let last = ends.1 in
+    let lo = c.lo.ensures in
+    back_shared old hi (min (hi + 1) (2 ^ 64 - 1)) (c.lo.result - 1) e w c.args.self.now.order c.requires.met over.0 (omega arith) (omega arith) (omega arith) has.lo has.hi has.word has.gap
+    (λ s above. back_word e w hi (bits_of e) c.mask.result s c.requires.word over.0 (omega arith) has.members refl c.mask.ensures above)
+
+pub returns-in-None : goal.returns-in-None
+returns-in-None c =
+    let old = chunks_held c.args.self.now in
+    let e = c.args.word in
+    let hi = c.args.hi in
+    let order = c.args.self.now.order in
+    let over = c.requires.over in
+    let from = over.0 in
+    let upto = over.1 in
+    let ends = word_ends e c.requires.word in
+    let begins = ends.0 in
+    let last = ends.1 in
+    back_further old (hi_of e) hi c.end_of.result (omega arith)
+    (λ s a b. elim (c.with.ensures.full c.in-None.is s (omega arith) b) [
+      | inl m ↦ (its_own old e (min (hi + 1) (2 ^ 64 - 1)) s order c.requires.met (omega arith) b).0 m
+      | inr k ↦ absurd (let at = mask_upto (window_of e) hi c.mask.result s c.mask.ensures (omega arith) (omega arith) k in omega arith)
+    ])
+    (subst (λ n. IsBack old n None c.end_of.result) c.hi-last.ensures c.end_of.ensures)

@@ -1,0 +1,13 @@
+use Rattle.std.proofs.Common.{◌≡◌, ◌+◌, length}
+use Rattle.span_sets.specs.Chunk.{runs_of}
+use Rattle.span_sets.specs.SpanPages.{chunks_held}
+use Rattle.serial_set.specs.Walk.{left, steps}
+use Rattle.span_sets.proofs.span_pages.SpanPages.count_runs.Given as goal
+
+abbrev pub invariant-loop-next : goal.invariant-loop-next
+invariant-loop-next l =
+    l.count + length (left l.next (runs_of (chunks_held l.self)))
+    ≡ length (runs_of (chunks_held l.self))
+
+abbrev pub decreases-loop-next : goal.decreases-loop-next
+decreases-loop-next l = steps l.next (runs_of (chunks_held l.self))

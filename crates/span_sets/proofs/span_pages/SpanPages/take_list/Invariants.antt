@@ -1,0 +1,12 @@
+use Rattle.std.proofs.Common.{ℕ, drop}
+use Rattle.span_sets.specs.Chunk.{members_of}
+use Rattle.span_sets.specs.Members.{Taken}
+use Rattle.span_sets.specs.SpanPages.{chunks_held}
+use Rattle.serial_set.specs.Walk.{piece_of}
+use Rattle.span_sets.proofs.Taking.{Rest}
+use Rattle.span_sets.proofs.span_pages.SpanPages.take_list.Given as goal
+
+abbrev pub invariant-loop-at : goal.invariant-loop-at
+invariant-loop-at l =
+    let es = chunks_held l.self in
+    (at : ℕ) × (Taken (members_of es) l.number at (piece_of l.piece) × Rest es l.number at (drop l.at l.chunks))

@@ -1,0 +1,12 @@
+use Rattle.std.proofs.Common.{◌+◌, ◌≤◌, length, take}
+use Rattle.std.specs.Vec.{vec_len, vec_capacity}
+use Rattle.serial_set.specs.Span.{AreSerials}
+use Rattle.serial_set.specs.Near.{AddsSpans}
+use Rattle.span_sets.proofs.span_vec.add_all.Given as goal
+
+abbrev pub invariant-loop-span : goal.invariant-loop-span
+invariant-loop-span l = record {
+  adds : AddsSpans l.fn.items.items (take l.span-index l.spans) l.items.items;
+  serials : AreSerials l.items.items;
+  room : vec_len l.items + length l.spans ≤ vec_capacity l.items + l.span-index;
+}

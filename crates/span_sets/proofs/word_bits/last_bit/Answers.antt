@@ -1,0 +1,16 @@
+use Rattle.std.proofs.Common.{arith}
+use Rattle.span_sets.proofs.InBits.{first_clear, set_before}
+use Rattle.span_sets.proofs.word_bits.last_bit.Goals as goal
+
+pub returns-in-Some-clause-order : goal.returns-in-Some-clause-order
+returns-in-Some-clause-order c =
+    let past = first_clear c.args.bits c.args.bit c.in-Some.at (omega arith) c.requires.set c.in-Some.ensures in omega arith
+
+pub returns-in-Some-clause-all : goal.returns-in-Some-clause-all
+returns-in-Some-clause-all c i h k =
+    let past = first_clear c.args.bits c.args.bit c.in-Some.at (omega arith) c.requires.set c.in-Some.ensures in
+    let e = c.in-Some.ensures in
+    set_before c.args.bits i (omega arith) (omega (arith, e.1)) (e.3 i h (omega arith))
+
+pub returns-in-None-clause-all : goal.returns-in-None-clause-all
+returns-in-None-clause-all c i h k = set_before c.args.bits i (omega arith) (omega arith) (c.in-None.ensures i h (omega arith))

@@ -1,0 +1,15 @@
+pub mod Additions
+pub mod Chunk
+pub mod Chunks
+pub mod Few
+pub mod Lawful
+pub mod Members
+pub mod OneWay
+pub mod Pages
+pub mod Positions
+pub mod Replacement
+pub mod Sides
+pub mod SpanPages
+pub mod Storage
+pub mod Tight
+pub mod Words

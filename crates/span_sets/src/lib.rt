@@ -1,0 +1,26 @@
+//! Sets of serials: as runs and words of bits in pages, which is the one in use, and as one sorted
+//! vector.
+#![tactic(auto)]
+
+mod additions;
+mod chunk;
+mod few;
+pub mod laws;
+mod page;
+mod pages;
+mod replacement;
+mod row;
+mod runs;
+mod search;
+mod sides;
+mod span_pages;
+mod span_search;
+mod span_vec;
+mod storage;
+mod word_bits;
+
+pub use span_pages::SpanPages;
+pub use span_vec::SpanVec;
+
+/// The representation of a set of serials that is in use.
+pub type Held = SpanPages;
