@@ -3,7 +3,8 @@
 ghost use Rattle.std.specs.Prelude.{◌≡◌, ◌⊎◌, None, Some};
 ghost use Rattle.krl_words.specs.Command.{command_fault_status};
 
-use krl_runs::{Cause, Done, FAILED, RunFault, fault_text};
+use krl_runs::{Cause, Done, FAILED, RunFault};
+use krl_system::report;
 use krl_words::CommandFault;
 use ssh_wire::{ToWrite, send};
 
@@ -35,20 +36,10 @@ pub fn failed(name: &str, cause: Cause) -> Done<'_>
 pub fn end(rt: &HostRuntime, done: &Done) -> u8
     ensures { result ≡ done.now.status }
 {
-    if let Some(fault) = &done.fault
-        && let Ok(text) = fault_text(rt.alloc(), fault)
-    {
-        report(rt, text.as_slice());
+    if let Some(fault) = &done.fault {
+        report(rt, fault);
     }
     done.status
-}
-
-// Prints a line on standard error. A fault of standard error cannot be reported.
-fn report(rt: &HostRuntime, line: &[u8]) {
-    let mut err = ToWrite::new(rt.stderr());
-    if send(&mut err, line).is_ok() {
-        let _ = send(&mut err, b"\n");
-    }
 }
 
 /// Prints help or the version, or why the words are refused, and gives the status. Help that cannot

@@ -1,23 +1,14 @@
 //! Lists keys, and makes, prints and asks key revocation lists, as ssh-keygen(1) does.
 #![tactic(auto)]
 
-mod clock;
 mod ending;
-mod files;
-mod holding;
-mod in_place;
 mod making;
-mod names;
-mod replacing;
-mod streams;
 
-use crate::clock::moment;
 use crate::ending::{end, failed, refuse};
-use crate::files::{open, open_list, open_or_input};
 use crate::making::make_list;
-use crate::streams::{NOTHING, hold_places};
 use krl_job::{Job, Mode};
 use krl_runs::{Cause, FileFault, ListMode, list_run, query_run};
+use krl_system::{NOTHING, hold_places, moment, open, open_list, open_or_input};
 use krl_words::{CommandFault, command_of};
 use ssh_wire::{FromBuffer, ToWrite};
 use std::env;

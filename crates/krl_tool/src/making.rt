@@ -3,14 +3,11 @@
 ghost use Rattle.std.specs.Prelude.{◌≡◌, false};
 ghost use Rattle.std.specs.Option.{ForSome};
 
-use crate::clock::date;
 use crate::ending::{end, failed, stopped};
-use crate::files::{buffered, open_authority, open_inputs};
-use crate::holding::{Target, hold};
-use crate::replacing::{Written, write_list};
 use krl_job::{Authority, Job};
 use krl_make::{Old, make_run};
 use krl_runs::{Cause, FileFault, Named, RunFault};
+use krl_system::{Target, Written, buffered, date, hold, open_authority, open_inputs, write_list};
 use ssh_wire::{FromBuffer, Source};
 use std::fs::{self, File};
 

@@ -1,11 +1,12 @@
-//! The callers of the pages of `krl_spec`, `key_files`, `krl_make` and `krl_runs`.
+//! The callers of the pages of `krl_spec`, `key_files`, `krl_system`, `krl_make` and `krl_runs`.
 
 use crate::tests::runs::holding;
-use key_files::{Named, RunFault, keys_of};
+use key_files::{Cause, Named, RunFault, keys_of};
 use krl_core::Revocations;
 use krl_make::{Authority, Old, make_run};
 use krl_runs::{Done, query_run};
 use krl_spec::{SpecFault, Under, read_spec};
+use krl_system::{Written, hold, write_list};
 use parts_for_tests::{GITHUB, GITHUB_LINE};
 use span_sets::Held;
 use ssh_cert::subject;
@@ -27,6 +28,14 @@ fn first_of<'a>(alloc: Global, file: &'a Named<'a>) -> Result<Option<u64>, RunFa
             Ok(key.number)
         }
         None => Ok(None),
+    }
+}
+
+/// Writes a list under a name, once no other update holds the list that is there.
+fn written(rt: &HostRuntime, name: &str, text: &[u8]) -> Result<Written, Cause> {
+    match hold(rt, name, false)? {
+        Some(target) => write_list(rt, &target, text),
+        None => Ok(Written::Elsewhere),
     }
 }
 
@@ -84,6 +93,14 @@ fn the_first_key_has_its_line(rt: HostRuntime) {
         .err()
         .expect(&rt, "it has no blob");
     assert!(rt; fault.line == Some(2));
+}
+
+#[test]
+fn a_device_takes_a_list(rt: HostRuntime) {
+    let whole = written(&rt, "/dev/null", b"a list").ok();
+    assert!(rt; matches!(whole, Some(Written::Whole)));
+    let fault = written(&rt, "/dev/full", b"a list").err();
+    assert!(rt; fault == Some(Cause::Output { count: 0 }));
 }
 
 #[test]

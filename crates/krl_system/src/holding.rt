@@ -1,7 +1,7 @@
 //! Where a list is written, held against other updates of it.
 
 use crate::names::followed;
-use krl_runs::{Cause, FileFault};
+use key_files::{Cause, FileFault};
 use std::fs::{self, File, Metadata, OpenOptions};
 use std::io::{self, ErrorKind};
 use std::os::unix::fs::MetadataExt;
@@ -74,9 +74,9 @@ fn lock(file: &File) -> Result<(), Cause> {
     }
 }
 
-/// Whether the old list stands at this path, or nothing where there is none. Its name may have led
-/// to it in another way, as one of `/proc` does, or may have got another file meanwhile.
-pub fn is_at(rt: &HostRuntime, path: &str, old: Option<&Metadata>) -> bool {
+// Whether the old list stands at this path, or nothing where there is none. Its name may have led
+// to it in another way, as one of `/proc` does, or may have got another file meanwhile.
+pub(crate) fn is_at(rt: &HostRuntime, path: &str, old: Option<&Metadata>) -> bool {
     match (fs::symlink_metadata(rt, path), old) {
         (Ok(found), Some(old)) => found.dev() == old.dev() && found.ino() == old.ino(),
         (Err(error), None) => error.kind() == ErrorKind::NotFound,
@@ -84,8 +84,8 @@ pub fn is_at(rt: &HostRuntime, path: &str, old: Option<&Metadata>) -> bool {
     }
 }
 
-/// Why a list could not be opened.
-pub fn unopened(error: &io::Error) -> Cause {
+// Why a list could not be opened.
+pub(crate) fn unopened(error: &io::Error) -> Cause {
     if error.kind() == ErrorKind::OutOfMemory {
         Cause::NoMemory
     } else {

@@ -1,7 +1,7 @@
 //! The files that the command names.
 
+use key_files::{Cause, FileFault, Named, RunFault, load};
 use krl_job::Authority;
-use krl_runs::{Cause, FileFault, Named, RunFault, load};
 use ssh_wire::FromRead;
 use std::fs::{self, File};
 use std::io::BufReader;

@@ -7,7 +7,7 @@ ghost use Rattle.std.specs.Fs.{metadata_mode, permissions_mode};
 use crate::holding::{OldList, Target, is_at, unopened};
 use crate::in_place::{send_all, write_in_place};
 use crate::names::{beside, new_name};
-use krl_runs::Cause;
+use key_files::Cause;
 use std::fs::{self, File, Metadata, OpenOptions, Permissions};
 use std::io::{self, ErrorKind};
 use std::os::unix::fs::{MetadataExt, OpenOptionsExt, PermissionsExt, fchown};

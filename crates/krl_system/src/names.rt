@@ -11,8 +11,8 @@ const LINKS: usize = 40;
 // systems that take only 143 bytes.
 const FRONT: usize = 100;
 
-/// The path of the file that the name leads to, over links. There need be none.
-pub fn followed(rt: &HostRuntime, name: &str) -> io::Result<String> {
+// The path of the file that the name leads to, over links. There need be none.
+pub(crate) fn followed(rt: &HostRuntime, name: &str) -> io::Result<String> {
     let mut path = String::from_str(rt.alloc(), name)?;
     // After the last link the file itself is looked at.
     for _ in 0..=LINKS {
@@ -28,16 +28,16 @@ pub fn followed(rt: &HostRuntime, name: &str) -> io::Result<String> {
     Err(io::Error::from(ErrorKind::FilesystemLoop))
 }
 
-/// The path of a name as it is in the folder of another path.
-pub fn beside(alloc: Global, path: &str, name: &str) -> io::Result<String> {
+// The path of a name as it is in the folder of another path.
+pub(crate) fn beside(alloc: Global, path: &str, name: &str) -> io::Result<String> {
     match path.rsplit_once('/') {
         Some((folder, _)) if !name.starts_with('/') => Ok(format!(in alloc; "{folder}/{name}")?),
         _ => Ok(String::from_str(alloc, name)?),
     }
 }
 
-/// A path in the same folder, of a file that is most likely not there.
-pub fn new_name(rt: &HostRuntime, path: &str) -> io::Result<String> {
+// A path in the same folder, of a file that is most likely not there.
+pub(crate) fn new_name(rt: &HostRuntime, path: &str) -> io::Result<String> {
     let last = match path.rsplit_once('/') {
         Some((_, last)) => last,
         None => path,

@@ -14,11 +14,11 @@ const FRONT: usize = 12;
 // Each byte of a format version that no reader of lists takes.
 const NO_VERSION: u8 = 0xff;
 
-/// Writes a list over another file. Until all of it is written and synced, its format version is
-/// one that every reader refuses: so none takes a part of the list for the whole, nor finds it
-/// empty, also where the writing fails or the machine stops. A fault is the count of bytes that
-/// went out.
-pub fn write_in_place(file: &File, text: &[u8]) -> Result<(), u64>
+// Writes a list over another file. Until all of it is written and synced, its format version is
+// one that every reader refuses: so none takes a part of the list for the whole, nor finds it
+// empty, also where the writing fails or the machine stops. A fault is the count of bytes that
+// went out.
+pub(crate) fn write_in_place(file: &File, text: &[u8]) -> Result<(), u64>
     ensures bound { IfErr result (λ count. count ≤ length text.now) }
 {
     let Some((front, rest)) = text.split_first_chunk::<FRONT>() else {
@@ -60,8 +60,8 @@ fn end(file: &File, version: &[u8], length: u64) -> io::Result<()> {
     file.sync_all()
 }
 
-/// Writes the bytes. A fault is the count of those that went out.
-pub fn send_all(file: &File, text: &[u8]) -> Result<(), u64>
+// Writes the bytes. A fault is the count of those that went out.
+pub(crate) fn send_all(file: &File, text: &[u8]) -> Result<(), u64>
     ensures short { IfErr result (λ count. count < length text.now) }
 {
     match send(&mut ToWrite::new(file), text) {

@@ -1,0 +1,19 @@
+//! What the program asks of the system: files are opened, a list is held and replaced, a fault is
+//! printed, and the clock is read.
+#![tactic(auto)]
+
+mod clock;
+mod files;
+mod holding;
+mod in_place;
+mod names;
+mod replacing;
+mod reporting;
+mod streams;
+
+pub use clock::{date, moment};
+pub use files::{buffered, open, open_authority, open_inputs, open_list, open_or_input};
+pub use holding::{OldList, Target, hold};
+pub use replacing::{Written, write_list};
+pub use reporting::report;
+pub use streams::{NOTHING, Places, hold_places};

@@ -1,0 +1,20 @@
+//! The line that says why a run stopped.
+
+use key_files::{RunFault, fault_text};
+use ssh_wire::{ToWrite, send};
+
+/// Prints on standard error why a run stopped. Where there is no memory for the line, nothing is
+/// printed.
+pub fn report(rt: &HostRuntime, fault: &RunFault) {
+    if let Ok(line) = fault_text(rt.alloc(), fault) {
+        print_line(rt, line.as_slice());
+    }
+}
+
+// Prints a line on standard error. A fault of standard error cannot be reported.
+fn print_line(rt: &HostRuntime, line: &[u8]) {
+    let mut err = ToWrite::new(rt.stderr());
+    if send(&mut err, line).is_ok() {
+        let _ = send(&mut err, b"\n");
+    }
+}
