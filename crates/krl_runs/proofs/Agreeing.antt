@@ -9,7 +9,7 @@ use Rattle.krl_types.specs.Subject.{Subject}
 use Rattle.key_files.specs.Keys.{Named, FileKey, keys_of}
 use Rattle.key_files.specs.RunFault.{RunFault}
 use Rattle.krl_runs.specs.Query.{answer_of, ask_by}
-use Rattle.krl_runs.specs.Run.{Item, file_items, files_items, file_key_item, is_answered, key_item, said, subject_item, unanswered_of}
+use Rattle.key_listing.specs.Run.{Item, file_items, files_items, file_key_item, is_answered, key_item, said, subject_item, unanswered_of}
 
 -- of a key
 next_same : (one other : Subject → Bool) → ((asked : Subject) → one asked ≡ other asked) → (next : Result FileKey RunFault) → file_key_item (ask_by one) next ≡ file_key_item (ask_by other) next

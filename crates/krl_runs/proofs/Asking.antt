@@ -19,16 +19,16 @@ use Rattle.krl_held.proofs.NamingTests.{found_tested, meant_tested}
 use Rattle.krl_core.specs.declared.header.Header.{Header}
 use Rattle.krl_types.specs.declared.krl_fault.KrlFault.{KrlFault}
 use Rattle.krl_types.specs.declared.krl_fault.KrlFault.TheVariants as faults
-use Rattle.krl_runs.specs.Carries.{Carries}
-use Rattle.krl_runs.specs.Printer.{Printer}
+use Rattle.key_listing.specs.Carries.{Carries}
+use Rattle.key_listing.specs.Printer.{Printer}
 use Rattle.krl_runs.specs.Contents.{Known, all_said, contents_items, dump_text, known_lines, known_of}
 use Rattle.key_files.specs.RunFault.{krl_cause}
 use Rattle.krl_runs.specs.Query.{AnswersAbout, HasEntries, IsHeld, answer_of, ask, ask_by, asked_run_of, query_run_of}
 use Rattle.key_files.specs.Keys.{Named}
-use Rattle.krl_runs.specs.Run.{Item, Outcome, Passed, Stopped, before, files_items, outcome_of}
+use Rattle.key_listing.specs.Run.{Item, Outcome, Passed, Stopped, before, files_items, outcome_of}
 use Rattle.key_files.specs.RunFault.{RunFault, run_fault_of}
 use Rattle.krl_runs.proofs.Agreeing.{files_same}
-use Rattle.krl_runs.proofs.Carrying.{carries_more, carries_passed, carries_then, carries_withheld}
+use Rattle.key_listing.proofs.Carrying.{carries_more, carries_passed, carries_then, carries_withheld}
 
 -- A list that was read is held.
 pub held : (text : List ℕ) (header : Header) (contents : Revocations)

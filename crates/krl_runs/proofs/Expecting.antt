@@ -1,9 +1,10 @@
 -- Keys that are expected where they are answered for.
-use Rattle.std.proofs.Common.{◌≡◌, ℕ, ◌+◌, ◌<◌, inl, inr, length, get_or, List, [], ◌∷◌, Option, Some, None, Result, Ok, Err, refl, sym, subst, ◌∙◌, arith}
+use Rattle.std.proofs.Common.{◌≡◌, ℕ, ◌+◌, ◌<◌, inl, inr, length, get_or, List, [], ◌∷◌, Option}
+use Rattle.std.proofs.Common.{Some, None, Result, Ok, Err, refl, sym, subst, ◌∙◌, arith}
 use Rattle.std.proofs.lemmas.Bool.{cases_lt}
 use Rattle.std.proofs.lemmas.List.{get_or_default}
 use Rattle.std.specs.Prelude.{◌≢◌, IfOk}
-use Rattle.std.specs.Result.{IsOk, IsErr}
+use Rattle.std.specs.Result.{IsErr}
 use Rattle.krl_types.specs.Subject.{CertNames, Subject}
 use Rattle.ssh_cert.specs.SubjectReading.{subject_of}
 use Rattle.ssh_cert.specs.declared.subject_fault.SubjectFault.{SubjectFault}
@@ -15,33 +16,7 @@ use Rattle.krl_held.specs.Revocations.{Revocations}
 use Rattle.krl_held.specs.Naming.{KeyOf}
 use Rattle.krl_held.specs.Questions.{Asks, AsksMore, HasCert}
 use Rattle.krl_held.proofs.AskedMore.{under_stays}
-use Rattle.krl_runs.specs.Expected.{AreExpected}
-
--- where everything is expected, each key is
-pub all_expected : (Expected : Subject → Type 0) → ((asked : Subject) → Expected asked) → (keys : List (Result FileKey RunFault)) → AreExpected Expected keys
-all_expected Expected all [] = tt
-all_expected Expected all (Err stop ∷ keys) = tt
-all_expected Expected all (Ok key ∷ keys) = by (subject_of key.line.blob) (all_expected Expected all keys)
-  where
-    by : (read : Result Subject SubjectFault) → AreExpected Expected keys → IfOk read (λ asked. Expected asked × AreExpected Expected keys)
-    by (Ok asked) rest = (all asked, rest)
-    by (Err fault) rest = tt
-
--- the first of the keys is expected
-pub first_expected : (Expected : Subject → Type 0) (key : FileKey) (keys : List (Result FileKey RunFault)) → AreExpected Expected (Ok key ∷ keys) → IfOk (subject_of key.line.blob) Expected
-first_expected Expected key keys h = by (subject_of key.line.blob) h
-  where
-    by : (read : Result Subject SubjectFault) → IfOk read (λ asked. Expected asked × AreExpected Expected keys) → IfOk read Expected
-    by (Ok asked) h = h.0
-    by (Err fault) h = tt
-
--- and where it can be read, the others are
-pub rest_expected : (Expected : Subject → Type 0) (key : FileKey) (keys : List (Result FileKey RunFault)) → IsOk (subject_of key.line.blob) → AreExpected Expected (Ok key ∷ keys) → AreExpected Expected keys
-rest_expected Expected key keys ok h = by (subject_of key.line.blob) ok h
-  where
-    by : (read : Result Subject SubjectFault) → IsOk read → IfOk read (λ asked. Expected asked × AreExpected Expected keys) → AreExpected Expected keys
-    by (Ok asked) ok h = h.1
-    by (Err fault) ok h = absurd (cc)
+use Rattle.key_listing.specs.Expected.{AreExpected}
 
 -- a key whose blob cannot be read is the last that counts
 pub unread_expected : (Expected : Subject → Type 0) (key : FileKey) (keys : List (Result FileKey RunFault)) → IsErr (subject_of key.line.blob) → AreExpected Expected (Ok key ∷ keys)

@@ -1,9 +1,4 @@
 pub mod Agreeing
-pub mod Saying
-pub mod Carrying
-pub mod Ending
-pub mod Expecting
-pub mod Answering
-pub mod Items
 pub mod Asking
+pub mod Expecting
 pub mod Printing

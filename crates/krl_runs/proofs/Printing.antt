@@ -9,15 +9,18 @@ use Rattle.serial_set.specs.declared.span.Span.{Span}
 use Rattle.serial_set.specs.Span.{IsRuns, AreSerials}
 use Rattle.serial_set.specs.Walk.{IsPiece, left, next_of, since}
 use Rattle.serial_set.proofs.Walking.{walk_on}
-use Rattle.krl_runs.specs.Carries.{Carries}
+use Rattle.key_listing.specs.Carries.{Carries}
 use Rattle.krl_held.specs.Revocations.{Revocations, Section}
 use Rattle.krl_core.specs.declared.header.Header.{Header}
-use Rattle.krl_runs.specs.Contents.{Known, all_said, authority_line, comment_line, comment_lines, contents_items, contents_lines, date_line, fact_line, header_lines, said_of, section_lines, serials_line, version_line}
-use Rattle.krl_runs.specs.declared.runs.contents.fact.Fact.TheVariants.{Id, Key, Sha1, Hash}
-use Rattle.krl_runs.specs.Printer.{Printer}
-use Rattle.krl_runs.specs.Run.{Item}
+use Rattle.krl_runs.specs.Contents.{Known, all_said, authority_line, comment_line, comment_lines}
+use Rattle.krl_runs.specs.Contents.{contents_items, contents_lines, date_line, fact_line}
+use Rattle.krl_runs.specs.Contents.{header_lines, section_lines, serials_line, version_line}
+use Rattle.key_listing.specs.Run.{said_of}
+use Rattle.krl_runs.specs.declared.contents.fact.Fact.TheVariants.{Id, Key, Sha1, Hash}
+use Rattle.key_listing.specs.Printer.{Printer}
+use Rattle.key_listing.specs.Run.{Item}
 use Rattle.key_files.specs.RunFault.{RunFault}
-use Rattle.krl_runs.proofs.Carrying.{carries_more, carries_none, carries_then}
+use Rattle.key_listing.proofs.Carrying.{carries_more, carries_none, carries_then}
 
 abbrev said : Result (Unit {0}) RunFault
 said = Ok tt

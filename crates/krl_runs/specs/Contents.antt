@@ -12,9 +12,10 @@ use Rattle.ssh_cert.specs.Escape.{escaped}
 use Rattle.ssh_cert.specs.Time.{instant_text}
 use Rattle.krl_held.specs.Revocations.{Revocations, Section}
 use Rattle.krl_core.specs.declared.header.Header.{Header}
-use Rattle.krl_runs.specs.declared.runs.contents.fact.Fact.{Fact}
-use Rattle.krl_runs.specs.declared.runs.contents.fact.Fact.TheVariants.{Id, Key, Sha1, Hash}
-use Rattle.krl_runs.specs.Run.{Item, Answered}
+use Rattle.krl_runs.specs.declared.contents.fact.Fact.{Fact}
+use Rattle.krl_runs.specs.declared.contents.fact.Fact.TheVariants.{Id, Key, Sha1, Hash}
+use Rattle.key_listing.specs.Run.{Item}
+use Rattle.key_listing.specs.Run.{said_of}
 
 -- What was read of a list: its header, and what is held of it.
 pub record Known : Type 0 where
@@ -100,10 +101,6 @@ known_lines known = header_lines known.header ++ contents_lines known.contents
 -- the lines of a list's contents, one after the other
 abbrev pub dump_text : Known → List ℕ
 dump_text known = concat (known_lines known)
-
--- each line is said of the list
-abbrev pub said_of : List ℕ → List ℕ → Item
-said_of name text = Answered name (record { text = text; revoked = false })
 
 abbrev pub all_said : List ℕ → List (List ℕ) → List Item
 all_said name lines = map (said_of name) lines

@@ -1,9 +1,2 @@
-pub mod Run
-pub mod Items
-pub mod Printer
-pub mod Carries
 pub mod Contents
-pub mod Expected
 pub mod Query
-pub mod Done
-pub mod Listing

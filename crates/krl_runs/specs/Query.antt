@@ -16,12 +16,12 @@ use Rattle.krl_held.specs.Tested.{revokes}
 use Rattle.krl_types.specs.declared.krl_fault.KrlFault.{KrlFault}
 use Rattle.krl_types.specs.Subject.{Subject}
 use Rattle.ssh_key.specs.LineReading.{Content}
-use Rattle.krl_runs.specs.declared.output.answer.Answer.{Answer}
+use Rattle.key_listing.specs.declared.answer.Answer.{Answer}
 use Rattle.key_files.specs.declared.file_fault.FileFault.TheVariants as files
 use Rattle.ssh_cert.specs.Escape.{escaped}
 use Rattle.krl_runs.specs.Contents.{Known, contents_items}
 use Rattle.key_files.specs.Keys.{Named}
-use Rattle.krl_runs.specs.Run.{Answering, Item, Passed, Stopped, files_items}
+use Rattle.key_listing.specs.Run.{Answering, Item, Passed, Stopped, files_items}
 use Rattle.key_files.specs.RunFault.{krl_cause, run_fault_of}
 
 -- a comment after a file's name, where there is one

@@ -1,15 +1,10 @@
-//! What the program's runs do: they list keys, and ask key revocation lists about them, as
-//! ssh-keygen(1) does.
+//! The run that asks key revocation lists about keys, as ssh-keygen(1) does.
 #![tactic(auto)]
 
-mod keys;
+mod contents;
 pub mod laws;
-mod output;
-mod runs;
+mod passing;
+mod query;
+mod questions;
 
-pub use key_files::{
-    Cause, FileFault, FileKey, FileKeys, Named, RunFault, cause_of, fault_text, keys_of, load,
-};
-pub use output::done::{Done, FAILED};
-pub use runs::listing::{ListMode, list_run};
-pub use runs::query::query_run;
+pub use query::query_run;

@@ -3,7 +3,8 @@
 ghost use Rattle.std.specs.Prelude.{◌≡◌, ◌⊎◌, None, Some};
 ghost use Rattle.krl_words.specs.Command.{command_fault_status};
 
-use krl_runs::{Cause, Done, FAILED, RunFault};
+use key_files::{Cause, RunFault};
+use key_listing::{Done, FAILED};
 use krl_system::report;
 use krl_words::CommandFault;
 use ssh_wire::{ToWrite, send};

@@ -6,7 +6,7 @@ ghost use Rattle.std.specs.Option.{ForSome};
 use crate::ending::{end, failed, stopped};
 use krl_job::{Authority, Job};
 use krl_make::{Old, make_run};
-use krl_runs::{Cause, FileFault, Named, RunFault};
+use key_files::{Cause, FileFault, Named, RunFault};
 use krl_system::{Target, Written, buffered, date, hold, open_authority, open_inputs, write_list};
 use ssh_wire::{FromBuffer, Source};
 use std::fs::{self, File};

@@ -2,7 +2,7 @@
 
 use crate::tests::runs::same;
 use krl_core::KrlFault;
-use krl_runs::{Cause, FileFault, RunFault, fault_text};
+use key_files::{Cause, FileFault, RunFault, fault_text};
 use krl_spec::SpecCause;
 use ssh_cert::{CertFault, SubjectFault};
 use ssh_key::{KeyFault, LineFault, PrivateFault};

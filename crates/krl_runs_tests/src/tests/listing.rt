@@ -1,7 +1,7 @@
 //! Listing the keys and the certificates of files.
 
 use crate::tests::runs::{CLOSED, File, LONG, Said, joined, listed, named, repeated, says};
-use krl_runs::ListMode;
+use key_listing::ListMode;
 use parts_for_tests::{CERT_LINE, CONTAINER, GITHUB_LINE, OTHER_LINE, Taker};
 use ssh_key::Hash;
 use std::alloc::Global;

@@ -2,7 +2,7 @@
 
 use crate::tests::runs::{CLOSED, File, LONG, all_named, holding, joined, named, repeated, same};
 use krl_make::{Authority, Old, make_run};
-use krl_runs::fault_text;
+use key_files::fault_text;
 use parts_for_tests::{
     CERT_LINE, CONTAINER, FIVE, GITHUB, GITHUB_LINE, HEADER, ID_A, KEY_SECTION, OTHER, OTHER_LINE,
     SHA256_SECTION,

@@ -1,15 +1,18 @@
-//! The callers of the pages of `krl_spec`, `key_files`, `krl_system`, `krl_make` and `krl_runs`.
+//! The callers of the pages of `krl_spec`, `key_files`, `key_listing`, `krl_system`, `krl_make` and
+//! `krl_runs`.
 
 use crate::tests::runs::holding;
 use key_files::{Cause, Named, RunFault, keys_of};
+use key_listing::{Done, ListMode, list_run};
 use krl_core::Revocations;
 use krl_make::{Authority, Old, make_run};
-use krl_runs::{Done, query_run};
+use krl_runs::query_run;
 use krl_spec::{SpecFault, Under, read_spec};
 use krl_system::{Written, hold, write_list};
 use parts_for_tests::{GITHUB, GITHUB_LINE};
 use span_sets::Held;
 use ssh_cert::subject;
+use ssh_key::Hash;
 use ssh_wire::{FromRead, ToWrite};
 use std::alloc::Global;
 
@@ -29,6 +32,12 @@ fn first_of<'a>(alloc: Global, file: &'a Named<'a>) -> Result<Option<u64>, RunFa
         }
         None => Ok(None),
     }
+}
+
+/// Lists the keys of a file, as `-l` does, and appends what is printed.
+fn key_lines<'a>(alloc: Global, file: &'a Named<'a>, text: &mut Vec<u8>) -> Done<'a> {
+    let mut out = ToWrite::new(text);
+    list_run(alloc, ListMode::Keys, Hash::Sha256, file, 0, &mut out)
 }
 
 /// Writes a list under a name, once no other update holds the list that is there.
@@ -93,6 +102,17 @@ fn the_first_key_has_its_line(rt: HostRuntime) {
         .err()
         .expect(&rt, "it has no blob");
     assert!(rt; fault.line == Some(2));
+}
+
+#[test]
+fn a_key_is_listed(rt: HostRuntime) {
+    let line = Vec::from_slice(rt.alloc(), GITHUB_LINE).expect(&rt, "there is memory");
+    let file = holding("keys", line);
+    let mut text = Vec::new(rt.alloc());
+    let done = key_lines(rt.alloc(), &file, &mut text);
+    assert!(rt; done.status == 0 && done.fault.is_none());
+    let want = b"256 SHA256:+DiY3wvvV6TuJJhbpZisF/zLDA0zPMSvHdkr4UvCOqU no comment (ED25519)\n";
+    assert!(rt; text.as_slice() == want.as_slice());
 }
 
 #[test]

@@ -4,9 +4,9 @@ use crate::tests::answered::{answered, ran_out};
 use crate::tests::buffer::Buffer;
 use crate::tests::parts::list_of;
 use krl_make::{Authority, Old, make_run};
-use krl_runs::{
-    Cause, Done, FileFault, ListMode, Named, RunFault, fault_text, list_run, load, query_run,
-};
+use key_files::{Cause, FileFault, Named, RunFault, fault_text, load};
+use key_listing::{Done, ListMode, list_run};
+use krl_runs::query_run;
 use krl_spec::{KeyCause, SpecCause};
 use parts_for_tests::{
     CERT_LINE, CONTAINER, GITHUB_LINE, Giver, ID_A, KEY_SECTION, OTHER_LINE, SHA256_SECTION, Then,

@@ -1,0 +1,7 @@
+pub mod Run
+pub mod Items
+pub mod Printer
+pub mod Carries
+pub mod Expected
+pub mod Done
+pub mod Listing

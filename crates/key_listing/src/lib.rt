@@ -1,0 +1,22 @@
+//! What runs say of the keys of files and how it goes out, and the run that lists keys, as
+//! ssh-keygen(1) does.
+#![tactic(auto)]
+
+mod answer;
+mod answers;
+mod done;
+pub mod laws;
+mod listing;
+mod number;
+mod printer;
+mod run;
+mod walk;
+
+pub use answer::Answer;
+pub use answers::Answers;
+pub use done::{Done, FAILED};
+pub use listing::{ListMode, list_run};
+pub use number::push_number;
+pub use printer::Printer;
+pub use run::Run;
+pub use walk::print_files;

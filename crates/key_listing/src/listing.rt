@@ -1,0 +1,219 @@
+//! Listing the keys or the certificates of a file (ssh-keygen(1), options -l and -L).
+
+ghost use Rattle.std.specs.Prelude.{◌≡◌, ◌++◌, IfOk, OnOk, Some, false, ⊤};
+ghost use Rattle.ssh_cert.specs.AnyKey.{asked_of, certificate_in, plain_of};
+ghost use Rattle.ssh_key.specs.Kind.{short_name_of};
+ghost use Rattle.key_listing.specs.Done.{Ends};
+ghost use Rattle.key_listing.specs.Listing.{certificate_answer, certificate_mark, certificate_text, comment_or_none, description, kind_part, list_line, list_run_of, listing, location_part};
+
+use crate::answers::Answers;
+use crate::walk::print_file;
+use crate::answer::Answer;
+use crate::done::Done;
+use crate::printer::Printer;
+use crate::number::push_number;
+use crate::run::Run;
+use key_files::{FileFault, FileKey, Named};
+use ssh_cert::{AnyKey, Cert, list_cert, push_escaped};
+use ssh_key::{Hash, PublicKey, fingerprint, plain_blob};
+use ssh_wire::{Bytes, Sink};
+use std::alloc::{AllocError, Global};
+
+/// What is listed of a file.
+#[derive(Clone, Copy)]
+pub enum ListMode {
+    /// Each key in a line. Of a certificate, its plain key is described.
+    Keys,
+    /// Each certificate in several lines. Other keys are read and passed over.
+    Certs,
+}
+
+// Lists keys or certificates, with fingerprints by a hash. The moment is in seconds from 1970 on.
+#[derive(Clone, Copy)]
+struct Listing {
+    mode: ListMode,
+    hash: Hash,
+    moment: u64,
+}
+
+impl Answers for Listing {
+    ghost answers_as = { λ l answering. answering ≡ listing l.mode l.hash l.moment };
+
+    ghost expects = { λ _ _. ⊤ };
+
+    fn answer(
+        &self,
+        alloc: Global,
+        key: &FileKey,
+        any: &AnyKey,
+    ) -> Result<Option<Answer>, AllocError> {
+        match self.mode {
+            ListMode::Keys => self.describe(alloc, key, any),
+            ListMode::Certs => self.certify(alloc, key, any),
+        }
+    }
+
+    fn unanswered(&self) -> FileFault {
+        match self.mode {
+            ListMode::Keys => FileFault::NoKeys,
+            ListMode::Certs => FileFault::NoCertificate,
+        }
+    }
+}
+
+impl Listing {
+    // Describes a key, or the plain key of a certificate.
+    fn describe(
+        &self,
+        alloc: Global,
+        key: &FileKey,
+        any: &AnyKey,
+    ) -> Result<Option<Answer>, AllocError>
+        ensures { IfOk result (λ answer. answer ≡ Some (description self.now.hash key.now.line
+            (asked_of any.now) (plain_of any.now))) }
+    {
+        let blob = plain_blob(alloc, any.plain())?;
+        let print = fingerprint(alloc, self.hash, &blob)?;
+        let text = list_line(alloc, any, print.as_slice(), key.comment())?;
+        Ok(Some(Answer {
+            text,
+            revoked: false,
+        }))
+    }
+
+    // Lists the certificate of a line.
+    fn certify(
+        &self,
+        alloc: Global,
+        key: &FileKey,
+        any: &AnyKey,
+    ) -> Result<Option<Answer>, AllocError>
+        ensures { IfOk result (λ answer. answer ≡ certificate_answer self.now.hash
+            self.now.moment key.now.name key.now.number (certificate_in any.now)) }
+    {
+        let Some(number) = key.number else {
+            return Ok(None);
+        };
+        let AnyKey::Certified(cert) = any else {
+            return Ok(None);
+        };
+        let text = self.certificate_text(alloc, key.name, number, cert)?;
+        Ok(Some(Answer {
+            text,
+            revoked: false,
+        }))
+    }
+
+    // The file and the line of a certificate, and its listing.
+    fn certificate_text(
+        &self,
+        alloc: Global,
+        name: &str,
+        number: u64,
+        cert: &Cert,
+    ) -> Result<Bytes, AllocError>
+        ensures { IfOk result (λ text. text
+            ≡ certificate_text self.now.hash self.now.moment name.now number cert.now) }
+    {
+        let listing = list_cert(alloc, cert, self.hash, self.moment)?;
+        let mut text = Vec::new(alloc);
+        push_location(&mut text, name, number)?;
+        text.extend_from_slice(listing.as_slice())?;
+        Ok(Bytes::from_vec(text))
+    }
+}
+
+// Appends the name of a file and the number of a line, each with a colon, and a line feed.
+fn push_location(text: &mut Vec<u8>, name: &str, number: u64) -> Result<(), AllocError>
+    ensures { OnOk result (text.new.items ≡ text.old.items ++ location_part name.now number) }
+{
+    push_escaped(text, name.as_bytes())?;
+    text.push(b':')?;
+    push_number(number, text)?;
+    text.extend_from_slice(b":\n")
+}
+
+// What is after the kind: a mark of certificates.
+fn certificate_mark(any: &AnyKey) -> &'static [u8]
+    ensures { result.now ≡ certificate_mark (asked_of any.now).cert }
+{
+    match any {
+        AnyKey::Certified(_) => b"-CERT",
+        AnyKey::Plain(_) => b"",
+    }
+}
+
+// The line of a key, with its line feed: its size in bits, fingerprint, comment and kind.
+fn list_line(alloc: Global, any: &AnyKey, print: &[u8], comment: &[u8]) -> Result<Bytes, AllocError>
+    ensures { IfOk result (λ text.
+        text ≡ list_line (plain_of any.now).bits print.now comment.now
+        (short_name_of (plain_of any.now).kind ++ certificate_mark (asked_of any.now).cert)) }
+{
+    let key = any.plain();
+    let mut text = Vec::new(alloc);
+    push_number(u64::from(key.bits()), &mut text)?;
+    text.push(b' ')?;
+    text.extend_from_slice(print)?;
+    text.push(b' ')?;
+    push_comment(&mut text, comment)?;
+    push_kind(&mut text, key, certificate_mark(any))?;
+    Ok(Bytes::from_vec(text))
+}
+
+// Appends the kind of a key and a mark, in parentheses, and a line feed.
+fn push_kind(text: &mut Vec<u8>, key: &PublicKey, mark: &[u8]) -> Result<(), AllocError>
+    ensures { OnOk result (text.new.items ≡ text.old.items
+        ++ kind_part (short_name_of key.now.kind ++ mark.now)) }
+{
+    text.extend_from_slice(b" (")?;
+    text.extend_from_slice(key.short_name().as_bytes())?;
+    text.extend_from_slice(mark)?;
+    text.extend_from_slice(b")\n")
+}
+
+// Appends a comment, escaped, or that there is none.
+fn push_comment(text: &mut Vec<u8>, comment: &[u8]) -> Result<(), AllocError>
+    ensures { OnOk result (text.new.items ≡ text.old.items ++ comment_or_none comment.now) }
+{
+    if comment.is_empty() {
+        text.extend_from_slice(b"no comment")
+    } else {
+        push_escaped(text, comment)
+    }
+}
+
+/// Lists each key or each certificate of a file on a writer that has not failed before, with
+/// fingerprints by a hash (ssh-keygen(1), options -l and -L). The moment is in seconds from 1970
+/// on: of a certificate it is said whether it is valid then. The status is 0, or 255 where a fault
+/// stops the run.
+pub fn list_run<'a, W: Sink>(
+    alloc: Global,
+    mode: ListMode,
+    hash: Hash,
+    file: &'a Named<'a>,
+    moment: u64,
+    out: &mut W,
+) -> Done<'a>
+    requires { W.has_failed out.old ≡ false }
+    ensures { Ends (list_run_of mode hash moment file.now) (W.taken out.old) (W.taken out.new)
+        (W.has_failed out.new) result.status result.fault }
+{
+    let mut buffer = Vec::new(alloc);
+    let printer = Printer::new(&mut buffer, out);
+    let line = Vec::new(alloc);
+    let mut run = Run {
+        alloc,
+        printer,
+        line,
+    };
+    let listing = Listing { mode, hash, moment };
+    let stop = print_file(&mut run, &listing, file).err();
+    let Run {
+        mut printer,
+        line: _line,
+        ..
+    } = run;
+    let done = printer.finish(stop);
+    let Printer { out: _out, .. } = printer;
+    done
+}

@@ -1,0 +1,14 @@
+//! The digits of numbers.
+
+ghost use Rattle.std.specs.Prelude.{◌≡◌, ◌++◌, OnOk, decimal};
+
+use itoa::Buffer;
+use std::alloc::AllocError;
+
+/// Appends the decimal digits of a number.
+pub fn push_number(number: u64, line: &mut Vec<u8>) -> Result<(), AllocError>
+    ensures { OnOk result (line.new.items ≡ line.old.items ++ decimal number) }
+{
+    let mut digits = Buffer::new();
+    line.extend_from_slice(digits.format(number).as_bytes())
+}

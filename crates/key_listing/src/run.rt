@@ -1,0 +1,35 @@
+//! What the parts of a run share.
+
+ghost use Rattle.std.specs.Prelude.{◌≡◌, ◌∷◌, [], ℕ, List, OnOk};
+ghost use Rattle.key_listing.specs.Carries.{Carries};
+ghost use Rattle.key_listing.specs.Run.{said_of};
+
+use crate::printer::Printer;
+use key_files::{Cause, RunFault};
+use ssh_wire::Sink;
+use std::alloc::{AllocError, Global};
+
+/// What the parts of a run share: memory, what prints, and a line that is made.
+#[derive(Drop)]
+pub struct Run<'w, W: Sink> {
+    pub alloc: Global,
+    pub printer: Printer<'w, W>,
+    pub line: Vec<u8>,
+}
+
+impl<'w, W: Sink> Run<'w, W> {
+    /// Says the line that was made, unless no memory was left for it.
+    pub fn say_line<'a>(
+        &mut self,
+        name: &'a str,
+        made: Result<(), AllocError>,
+    ) -> Result<(), RunFault<'a>>
+        ensures { (text : List ℕ) → OnOk made (self.old.line.items ≡ text)
+            → Carries (said_of name.now text ∷ []) result self.old.printer self.new.printer }
+    {
+        let Ok(()) = made else {
+            return Err(RunFault::whole(name, Cause::NoMemory));
+        };
+        self.printer.say(name, self.line.as_slice(), false)
+    }
+}

@@ -1,0 +1,16 @@
+-- A comment without bytes has no line, and any other has its own.
+use Rattle.std.proofs.Common.{◌∙◌, sym}
+use Rattle.krl_runs.specs.Contents.{comment_line}
+use Rattle.key_listing.proofs.Carrying.{carries_none}
+use Rattle.krl_runs.proofs.Printing.{no_comment, some_comment}
+use Rattle.krl_runs.proofs.contents.print_comment.Goals as goal
+
+pub returns-then-is_empty : goal.returns-then-is_empty
+returns-then-is_empty g c =
+    rw (no_comment c.args.comment.now (sym c.is_empty.ensures ∙ c.if-is_empty.true)) (carries_none tt _)
+
+pub returns : goal.returns
+returns g c =
+    let comment = comment_line c.args.comment.now in
+    let said = c.say_line.ensures comment c.write_comment-made.ensures in
+    rw (some_comment c.args.comment.now (sym c.is_empty.ensures ∙ c.if-is_empty.false)) said

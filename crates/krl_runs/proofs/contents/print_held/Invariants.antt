@@ -1,0 +1,7 @@
+-- The authorities so far are said, and the others are left, with the keys and the hashes.
+use Rattle.krl_runs.specs.Contents.{contents_lines}
+use Rattle.krl_runs.proofs.Printing.{IsSaid, held_lines}
+use Rattle.krl_runs.proofs.contents.print_held.Given as goal
+
+abbrev pub invariant-loop-listed : goal.invariant-loop-listed
+invariant-loop-listed g l = IsSaid l.name (contents_lines l.list) (held_lines l.listed-iterator l.list) l.initial.run.printer l.run.printer

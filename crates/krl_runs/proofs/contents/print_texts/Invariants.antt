@@ -1,0 +1,8 @@
+-- The texts so far are said, and the others are left.
+use Rattle.std.proofs.Common.{map}
+use Rattle.krl_runs.specs.Contents.{fact_line}
+use Rattle.krl_runs.proofs.Printing.{IsSaid}
+use Rattle.krl_runs.proofs.contents.print_texts.Given as goal
+
+abbrev pub invariant-loop-bytes : goal.invariant-loop-bytes
+invariant-loop-bytes g l = IsSaid l.name (map (fact_line l.fact) l.fn.texts) (map (fact_line l.fact) l.bytes-iterator) l.initial.run.printer l.run.printer

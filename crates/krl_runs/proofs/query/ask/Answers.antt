@@ -1,0 +1,14 @@
+-- The run is one by contents or one by answers.
+use Rattle.std.proofs.Common.{refl}
+use Rattle.krl_runs.specs.Query.{asked, asked_run_of, dumped, query_run_of}
+use Rattle.krl_runs.proofs.query.ask.Goals as goal
+
+pub returns-then-dump : goal.returns-then-dump
+returns-then-dump g c =
+    let run = rw c.if-dump.true at c.ask_list.ensures in
+    (query_run_of c.args.krl_name.now run.0 _ c.args.files.now, dumped run.0 c.if-dump.true run.1 refl, run.2)
+
+pub returns : goal.returns
+returns g c =
+    let run = c.ask_passing.ensures in
+    (asked_run_of c.args.krl_name.now run.0 c.args.files.now, asked run.0 c.if-dump.false run.1 refl, run.2)

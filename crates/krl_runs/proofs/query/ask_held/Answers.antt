@@ -1,0 +1,20 @@
+-- The contents and then the files are answered for.
+use Rattle.std.proofs.Common.{refl, get_or}
+use Rattle.std.proofs.lemmas.Result.{err_from_is_err_and}
+use Rattle.key_files.specs.Keys.{keys_of}
+use Rattle.krl_runs.specs.Contents.{known_of}
+use Rattle.krl_runs.proofs.Asking.{dump_stops, read_run}
+use Rattle.key_listing.proofs.Answerable.{all_expected}
+use Rattle.krl_runs.proofs.query.ask_held.Goals as goal
+
+pub returns : goal.returns
+returns g c =
+    read_run c.args.krl_name.now c.args.dump c.args.files.now (known_of c.args.known.now.header c.args.known.now.list) _ _ _ _ c.in_ok-print_contents.ensures (c.print_files.ensures _ refl)
+
+pub returns-in_err-print_contents : goal.returns-in_err-print_contents
+returns-in_err-print_contents g c =
+    let p = err_from_is_err_and c.from_residual.result c.from_residual.ensures.1 in
+    rw (p.1, p.2) (dump_stops c.args.krl_name.now c.args.dump c.args.files.now (known_of c.args.known.now.header c.args.known.now.list) _ _ _ c.in_err-print_contents.ensures)
+
+pub print_files-requires : goal.print_files-requires
+print_files-requires g c = λ k d lt. all_expected (λ _. Unit {0}) (λ _. tt) (keys_of (get_or c.args.files.now k d))

@@ -1,0 +1,12 @@
+-- The keys of the files so far are asked about.
+use Rattle.std.proofs.Common.{ℕ, ◌<◌}
+use Rattle.key_files.specs.Keys.{Named, keys_of}
+use Rattle.krl_held.specs.Questions.{Asks, FindsIn}
+use Rattle.std.specs.List.{slice_index_or}
+use Rattle.key_listing.specs.Expected.{AreExpected}
+use Rattle.krl_runs.proofs.questions.ask_about.Given as goal
+
+abbrev pub invariant-loop-file : goal.invariant-loop-file
+invariant-loop-file l =
+    FindsIn l.front l.questions
+    × ((k : ℕ) (d : Named) → k < l.file-index → AreExpected (Asks l.questions.topics) (keys_of (slice_index_or l.files k d)))

@@ -1,0 +1,176 @@
+//! Asking a list about the keys of files: past its front, no more of it is held than was asked.
+
+ghost use Rattle.std.specs.Prelude.{◌≡◌, ◌≤◌, ℕ, IfSome, List, None, Option, Result, false};
+ghost use Rattle.key_files.specs.Keys.{Named as NamedOf};
+ghost use Rattle.krl_held.specs.Entry.{Entry as EntryOf};
+ghost use Rattle.krl_held.specs.Questions.{Asks};
+ghost use Rattle.krl_core.specs.Reading.{HasReadOf, IsReadingOf};
+ghost use Rattle.krl_types.specs.declared.krl_fault.KrlFault.{KrlFault as FaultOf};
+ghost use Rattle.key_listing.specs.Carries.{Carries};
+ghost use Rattle.key_listing.specs.Expected.{AllExpected};
+ghost use Rattle.krl_runs.specs.Query.{AnswersAbout, HasEntries, asked_run_of};
+
+use crate::questions::ask_about;
+use crate::query::{Known, ask_held, query_line};
+use key_files::{Cause, FileFault, FileKey, Named, RunFault, cause_of};
+use key_listing::{Answer, Answers, Run, print_files};
+use krl_core::{Findings, Questions, Reading, Walk};
+use span_sets::Held;
+use ssh_cert::AnyKey;
+use ssh_wire::{Sink, Source};
+use std::alloc::{AllocError, Global};
+
+// Says of each key what a list that has passed said of it.
+#[derive(Drop)]
+struct Passed<'q> {
+    findings: &'q Findings<Held>,
+}
+
+impl<'q> Answers for Passed<'q> {
+    ghost answers_as = { λ passed answering.
+        AnswersAbout passed.findings.now.topics passed.findings.now.found answering };
+
+    ghost expects = { λ passed asked. Asks passed.findings.now.topics asked };
+
+    fn answer(
+        &self,
+        alloc: Global,
+        key: &FileKey,
+        any: &AnyKey,
+    ) -> Result<Option<Answer>, AllocError> {
+        let revoked = self.findings.answer(&any.subject(alloc)?);
+        let text = query_line(alloc, key.name, key.comment(), revoked)?;
+        Ok(Some(Answer { text, revoked }))
+    }
+
+    fn unanswered(&self) -> FileFault {
+        FileFault::NoKeys
+    }
+}
+
+// At most so many bytes of a list are held.
+const FRONT: u64 = 262_144;
+
+/// Asks a list about each key of each file, and says of each whether it is revoked. The list's
+/// front is held. A list that goes on past it is asked about all keys at once, and then passes.
+pub(crate) fn ask_passing<'a, R: Source + Drop, W: Sink>(
+    run: &mut Run<W>,
+    krl_name: &'a str,
+    krl: R,
+    files: &'a [Named<'a>],
+) -> (Result<(), RunFault<'a>>, R)
+    requires { R.has_failed krl ≡ false }
+    ensures { (reading : Result (List EntryOf) FaultOf)
+        × IsReadingOf HasEntries (R.left krl) reading (R.has_failed result.1) (R.left result.1)
+        × Carries (asked_run_of krl_name.now reading files.now) result.0
+        run.old.printer run.new.printer }
+{
+    let mut front: Reading<Held, R> = Reading::new(run.alloc, krl);
+    match front.read_to(front_size(files)) {
+        Ok(true) => ask_rest(run, krl_name, front, files),
+        Ok(false) => {
+            let (header, list, reader) = front.done();
+            let known = Known { header, list };
+            (ask_held(run, krl_name, &known, false, files), reader)
+        }
+        Err(fault) => (
+            Err(RunFault::whole(krl_name, cause_of(fault))),
+            front.into_reader(),
+        ),
+    }
+}
+
+// How many bytes of a list are held: no more than the files have, so that a question about few keys
+// takes little memory. Many keys are asked of a short list sooner than they are kept in mind.
+fn front_size(files: &[Named<'_>]) -> u64
+    ensures { result ≤ 262144 }
+{
+    let mut size: u64 = 0;
+    for file in files {
+        if let Ok(content) = &file.content {
+            size = size.saturating_add(content.as_slice().len() as u64);
+        }
+    }
+    size.min(FRONT)
+}
+
+// Asks about the keys of the files, of which a list's front has told its part, and lets the rest of
+// the list pass. Where memory runs out before all of them are in mind, it passes all the same: its
+// fault is first.
+fn ask_rest<'a, R: Source + Drop, W: Sink>(
+    run: &mut Run<W>,
+    krl_name: &'a str,
+    front: Reading<Held, R>,
+    files: &'a [Named<'a>],
+) -> (Result<(), RunFault<'a>>, R)
+    requires { front.fault ≡ None }
+    ensures { (before : Option (List ℕ)) → HasReadOf before front
+        → (reading : Result (List EntryOf) FaultOf)
+        × IsReadingOf HasEntries before reading (R.has_failed result.1) (R.left result.1)
+        × Carries (asked_run_of krl_name.now reading files.now) result.0
+        run.old.printer run.new.printer }
+{
+    let mut questions: Questions<Held> = Questions::new(run.alloc);
+    match ask_about(run.alloc, &mut questions, front.held_so_far(), files) {
+        Ok(()) => {
+            let findings = Findings::of(run.alloc, questions);
+            pass(run, krl_name, front.ask(findings), files)
+        }
+        Err(_) => {
+            let none: Questions<Held> = Questions::new(run.alloc);
+            let findings = Findings::of(run.alloc, none);
+            pass_unasked(run, krl_name, front.ask(findings))
+        }
+    }
+}
+
+// Lets the rest of a list pass, which all keys of the files are asked of, and says of each what it
+// said.
+fn pass<'a, R: Source + Drop, W: Sink>(
+    run: &mut Run<W>,
+    krl_name: &'a str,
+    walk: Walk<Findings<Held>, R>,
+    files: &'a [Named<'a>],
+) -> (Result<(), RunFault<'a>>, R)
+    requires working { walk.fault ≡ None }
+    requires asked { IfSome walk.keeper.scope (λ topics. AllExpected (Asks topics) files.now) }
+    ensures { (before : Option (List ℕ)) → HasReadOf before walk
+        → (reading : Result (List EntryOf) FaultOf)
+        × IsReadingOf HasEntries before reading (R.has_failed result.1) (R.left result.1)
+        × Carries (asked_run_of krl_name.now reading files.now) result.0
+        run.old.printer run.new.printer }
+{
+    let (read, reader) = walk.read_on();
+    match read {
+        Ok((header, findings)) => {
+            let _header = header;
+            let _found = findings.found();
+            let passed = Passed {
+                findings: &findings,
+            };
+            (print_files(run, &passed, files), reader)
+        }
+        Err(fault) => (Err(RunFault::whole(krl_name, cause_of(fault))), reader),
+    }
+}
+
+// Lets the rest of a list pass, of which nothing can be asked for want of memory.
+fn pass_unasked<'a, R: Source + Drop, W: Sink>(
+    run: &mut Run<W>,
+    krl_name: &'a str,
+    walk: Walk<Findings<Held>, R>,
+) -> (Result<(), RunFault<'a>>, R)
+    requires { walk.fault ≡ None }
+    ensures { (files : List NamedOf) (before : Option (List ℕ)) → HasReadOf before walk
+        → (reading : Result (List EntryOf) FaultOf)
+        × IsReadingOf HasEntries before reading (R.has_failed result.1) (R.left result.1)
+        × Carries (asked_run_of krl_name.now reading files) result.0
+        run.old.printer run.new.printer }
+{
+    let (read, reader) = walk.read_on();
+    let cause = match read {
+        Ok(_) => Cause::NoMemory,
+        Err(fault) => cause_of(fault),
+    };
+    (Err(RunFault::whole(krl_name, cause)), reader)
+}

@@ -1,0 +1,90 @@
+//! Asking about the keys of files.
+
+ghost use Rattle.std.specs.Prelude.{◌≡◌, ◌≢◌, IfOk, OnOk, false};
+ghost use Rattle.std.specs.Result.{IsErr};
+ghost use Rattle.ssh_cert.specs.SubjectReading.{subject_of};
+ghost use Rattle.key_files.specs.Keys.{keys_of};
+ghost use Rattle.key_files.specs.declared.cause.Cause.TheVariants.{NoMemory};
+ghost use Rattle.krl_held.specs.Questions.{Asks, AsksMore, FindsIn};
+ghost use Rattle.key_listing.specs.Expected.{AllExpected, AreExpected};
+
+use key_files::{Cause, FileKey, Named, keys_of};
+use krl_core::{Questions, Revocations};
+use span_sets::Held;
+use std::alloc::{AllocError, Global};
+
+/// Asks a list whose front holds this about each key of each file, up to the file's first fault.
+/// Fails only where memory runs out.
+pub fn ask_about<'a>(
+    alloc: Global,
+    questions: &mut Questions<Held>,
+    front: &Revocations<Held>,
+    files: &'a [Named<'a>],
+) -> Result<(), AllocError>
+    requires { FindsIn front.now questions.old }
+    ensures found { OnOk result (FindsIn front.now questions.new) }
+    ensures asked { OnOk result (AllExpected (Asks questions.new.topics) files.now) }
+{
+    for file in files {
+        ask_file(alloc, questions, front, file)?;
+    }
+    Ok(())
+}
+
+// Asks about each key of a file, up to its first fault.
+fn ask_file<'a>(
+    alloc: Global,
+    questions: &mut Questions<Held>,
+    front: &Revocations<Held>,
+    file: &'a Named<'a>,
+) -> Result<(), AllocError>
+    requires { FindsIn front.now questions.old }
+    ensures found { OnOk result (FindsIn front.now questions.new) }
+    ensures more { OnOk result (AsksMore questions.old.topics questions.new.topics) }
+    ensures asked { OnOk result (AreExpected (Asks questions.new.topics) (keys_of file.now)) }
+{
+    for next in keys_of(alloc, file) {
+        match next {
+            Ok(key) => {
+                if !ask_key(alloc, questions, front, &key)? {
+                    return Ok(());
+                }
+            }
+            Err(stop) => return stopped_by(stop.cause),
+        }
+    }
+    Ok(())
+}
+
+// A fault of a file is passed over: whoever goes over its keys again meets it there.
+fn stopped_by(cause: Cause) -> Result<(), AllocError>
+    ensures { OnOk result (cause ≢ NoMemory) }
+{
+    match cause {
+        Cause::NoMemory => Err(AllocError),
+        _ => Ok(()),
+    }
+}
+
+// Asks about a key, and reports whether it can be read.
+fn ask_key(
+    alloc: Global,
+    questions: &mut Questions<Held>,
+    front: &Revocations<Held>,
+    key: &FileKey,
+) -> Result<bool, AllocError>
+    requires { FindsIn front.now questions.old }
+    ensures found { OnOk result (FindsIn front.now questions.new) }
+    ensures more { OnOk result (AsksMore questions.old.topics questions.new.topics) }
+    ensures asked { OnOk result
+        (IfOk (subject_of key.now.line.blob) (Asks questions.new.topics)) }
+    ensures unread { IfOk result (λ read. read ≡ false → IsErr (subject_of key.now.line.blob)) }
+{
+    match key.read() {
+        Ok(any) => {
+            questions.ask(front, &any.subject(alloc)?)?;
+            Ok(true)
+        }
+        Err(_) => Ok(false),
+    }
+}

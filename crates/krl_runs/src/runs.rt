@@ -1,6 +1,0 @@
-//! The runs of the program.
-
-pub(crate) mod contents;
-pub mod listing;
-pub(crate) mod passing;
-pub mod query;
