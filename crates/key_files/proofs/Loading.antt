@@ -4,8 +4,8 @@ use Rattle.std.specs.Io.KnownBytes.{Consumes, prepend_known}
 use Rattle.std.proofs.KnownBytes.{Consumes-trans}
 use Rattle.ssh_wire.specs.declared.pull_fault.PullFault.{PullFault}
 use Rattle.ssh_wire.specs.declared.pull_fault.PullFault.TheVariants.{EndsEarly, TooLong, Read, NoMemory}
-use Rattle.ssh_wire.specs.Pull.{Pull, TakesRest, RefusesRest, after_ahead, untaken}
-use Rattle.ssh_wire.proofs.Pulling.{Consumes-ahead}
+use Rattle.byte_streams.specs.Pull.{Pull, TakesRest, RefusesRest, after_ahead, untaken}
+use Rattle.byte_streams.proofs.Pulling.{Consumes-ahead}
 use Rattle.key_files.specs.Named.{file_limit, IsLoaded, file_fault}
 
 -- no byte stands ahead

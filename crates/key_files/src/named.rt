@@ -4,7 +4,8 @@ ghost use Rattle.std.specs.Prelude.{◌≡◌, false};
 ghost use Rattle.key_files.specs.Named.{IsLoaded, file_fault};
 
 use crate::file_fault::FileFault;
-use ssh_wire::{Bytes, Pull, PullFault, Source};
+use byte_streams::{Pull, Source};
+use ssh_wire::{Bytes, PullFault};
 use std::alloc::Global;
 use std::marker::Model;
 

@@ -6,17 +6,18 @@ ghost use Rattle.ssh_key.specs.Kind.{short_name_of};
 ghost use Rattle.key_listing.specs.Done.{Ends};
 ghost use Rattle.key_listing.specs.Listing.{certificate_answer, certificate_mark, certificate_text, comment_or_none, description, kind_part, list_line, list_run_of, listing, location_part};
 
-use crate::answers::Answers;
-use crate::walk::print_file;
 use crate::answer::Answer;
+use crate::answers::Answers;
 use crate::done::Done;
-use crate::printer::Printer;
 use crate::number::push_number;
+use crate::printer::Printer;
 use crate::run::Run;
+use crate::walk::print_file;
+use byte_streams::Sink;
 use key_files::{FileFault, FileKey, Named};
 use ssh_cert::{AnyKey, Cert, list_cert, push_escaped};
 use ssh_key::{Hash, PublicKey, fingerprint, plain_blob};
-use ssh_wire::{Bytes, Sink};
+use ssh_wire::Bytes;
 use std::alloc::{AllocError, Global};
 
 /// What is listed of a file.

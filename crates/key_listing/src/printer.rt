@@ -8,8 +8,8 @@ ghost use Rattle.key_listing.specs.Run.{Answered, Item, status_of};
 ghost use Rattle.key_files.specs.RunFault.{is_lost, output_run_fault};
 
 use crate::done::{Done, FAILED};
+use byte_streams::{Sink, send};
 use key_files::{Cause, RunFault};
-use ssh_wire::{Sink, send};
 use std::alloc::AllocError;
 use std::marker::Model;
 

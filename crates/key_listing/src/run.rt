@@ -5,8 +5,8 @@ ghost use Rattle.key_listing.specs.Carries.{Carries};
 ghost use Rattle.key_listing.specs.Run.{said_of};
 
 use crate::printer::Printer;
+use byte_streams::Sink;
 use key_files::{Cause, RunFault};
-use ssh_wire::Sink;
 use std::alloc::{AllocError, Global};
 
 /// What the parts of a run share: memory, what prints, and a line that is made.

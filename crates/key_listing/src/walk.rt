@@ -8,11 +8,11 @@ ghost use Rattle.key_listing.specs.Carries.{Carries};
 ghost use Rattle.key_listing.specs.Expected.{AllExpected, AreExpected};
 ghost use Rattle.key_listing.specs.Run.{Answering, GivesAnswer, file_items, files_items, file_key_item, is_answered};
 
-use crate::answers::Answers;
 use crate::answer::Answer;
+use crate::answers::Answers;
 use crate::run::Run;
+use byte_streams::Sink;
 use key_files::{Cause, FileKey, Named, RunFault, keys_of};
-use ssh_wire::Sink;
 use std::alloc::Global;
 
 /// Prints the answers for each key of each file, up to the first fault.

@@ -2,7 +2,7 @@
 
 ghost use Rattle.std.specs.Prelude.{◌≡◌, Some, false};
 
-use ssh_wire::{Failed, Source};
+use byte_streams::{Failed, Source};
 
 // Bytes that are lent, of which the rest is left. It never fails.
 #[derive(Drop)]

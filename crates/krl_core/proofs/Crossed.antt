@@ -8,7 +8,7 @@ use Rattle.std.proofs.lemmas.List.Folds.{concat-append}
 use Rattle.std.proofs.lemmas.Result.{on_ok_weaker}
 use Rattle.std.proofs.Math.Seq.{take-add}
 use Rattle.ssh_wire.specs.Wire.{IsBytes}
-use Rattle.ssh_wire.specs.Pull.{Pull, Takes, left_of}
+use Rattle.byte_streams.specs.Pull.{Pull, Takes, left_of}
 use Rattle.ssh_wire.proofs.Digits.{IsBytes-append, IsBytes-drop, IsBytes-nil, IsBytes-take}
 use Rattle.krl_core.specs.declared.place.Place.{Place}
 use Rattle.krl_core.specs.Crossing.{Crosses, CrossesSome, HasKept}

@@ -6,7 +6,7 @@ use Rattle.std.proofs.lemmas.List.{append-nil, take_all}
 use Rattle.std.proofs.lemmas.Bool.{le-ltb}
 use Rattle.serial_set.specs.declared.span.Span.{Span}
 use Rattle.std.specs.Io.KnownBytes.{IsAtEnd}
-use Rattle.ssh_wire.specs.Pull.{Pull, left_of}
+use Rattle.byte_streams.specs.Pull.{Pull, left_of}
 use Rattle.ssh_wire.specs.Wire.{IsBytes}
 use Rattle.krl_core.specs.declared.header.Header.{Header}
 use Rattle.krl_core.specs.declared.place.Place.{Place}

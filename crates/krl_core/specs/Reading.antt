@@ -4,7 +4,7 @@ use Rattle.std.specs.Prelude.{◌∷◌, ◌++◌, length, Option, Some, None, I
 use Rattle.std.specs.List.{concat}
 use Rattle.std.specs.Io.KnownBytes.{IsAtEnd, Keeps}
 use Rattle.ssh_wire.specs.Wire.{IsBytes}
-use Rattle.ssh_wire.specs.Pull.{Pull, Refuses, left_of}
+use Rattle.byte_streams.specs.Pull.{Pull, Refuses, left_of}
 use Rattle.ssh_wire.specs.declared.pull_fault.PullFault.{PullFault}
 use Rattle.krl_types.specs.KrlFault.{reported_as}
 use Rattle.krl_types.specs.declared.krl_fault.KrlFault.{KrlFault}

@@ -15,10 +15,10 @@ ghost use Rattle.krl_core.specs.Reading.{IsListAs, IsWithinLimit, ReadsMore, Ref
 
 use crate::header::Header;
 use crate::reading::{Reading, Walk};
+use byte_streams::Source;
 use krl_held::{Revocations, Store};
 use krl_types::KrlFault;
 use serial_set::Spans;
-use ssh_wire::Source;
 use std::alloc::Global;
 
 /// Reads a list of at most 67,108,864 bytes to its end (PROTOCOL.krl), a field at a time, and gives

@@ -3,7 +3,7 @@
 ghost use Rattle.std.specs.Prelude.{◌≡◌, ◌+◌, ◌*◌, ◌<◌, ◌≤◌, ◌⊎◌, ℕ, false, true, None, Some, Ok};
 ghost use Rattle.std.specs.Prelude.{Err, List, [], IfOk, IfErr, IfSome, IsTrue, OnOk, length};
 ghost use Rattle.ssh_wire.specs.Wire.{IsBytes};
-ghost use Rattle.ssh_wire.specs.Pull.{Refuses, Takes};
+ghost use Rattle.byte_streams.specs.Pull.{Refuses, Takes};
 ghost use Rattle.ssh_wire.specs.declared.pull_fault.PullFault.TheVariants as pulls;
 ghost use Rattle.krl_types.specs.declared.krl_fault.KrlFault.TheVariants.{NoMemory, Read};
 ghost use Rattle.krl_held.specs.Revocations.{IsOrderly, held, nothing, stored};
@@ -21,10 +21,10 @@ use crate::crossing::cross;
 use crate::header::Header;
 use crate::keeper::Keeper;
 use crate::place::{HeaderPlace, Place};
+use byte_streams::{Pull, Source};
 use krl_held::{Findings, Revocations, Store};
 use krl_types::KrlFault;
 use serial_set::Spans;
-use ssh_wire::{Pull, Source};
 use std::alloc::Global;
 use std::marker::Model;
 

@@ -9,10 +9,11 @@ ghost use Rattle.key_files.specs.RunFault.{krl_cause};
 ghost use Rattle.key_files.specs.RunFault.{run_fault_of};
 ghost use Rattle.krl_make.specs.declared.base.Base.{Base as BaseOf};
 
+use byte_streams::Source;
 use key_files::{RunFault, cause_of};
 use krl_core::{Header, Revocations, read_krl};
 use span_sets::Held;
-use ssh_wire::{Bytes, Source};
+use ssh_wire::Bytes;
 use std::alloc::Global;
 
 /// What an old list holds, or nothing where there is none.

@@ -10,12 +10,12 @@ ghost use Rattle.krl_make.specs.declared.base.Base.{Base as BaseOf};
 use crate::authority::{Authority, first_key};
 use crate::base::{Base, next_version, read_base};
 use crate::files::add_files;
+use byte_streams::Source;
 use key_files::{Cause, Named, RunFault};
 use krl_core::{Header, Revocations};
 use krl_spec::Under;
 use krl_writer::{TextFault, krl_text};
 use span_sets::Held;
-use ssh_wire::Source;
 use std::alloc::Global;
 
 /// The list that is made: its name, and where it is updated the reader of the old one.

@@ -7,15 +7,15 @@ ghost use Rattle.krl_runs.specs.Contents.{all_said, comment_lines, contents_item
 pub(crate) mod fact;
 pub(crate) mod lines;
 
-use key_listing::Run;
 use crate::contents::fact::Fact;
 use crate::contents::lines::{
     write_authority, write_comment, write_date, write_serials, write_version,
 };
+use byte_streams::Sink;
 use key_files::RunFault;
+use key_listing::Run;
 use krl_core::{Header, Listed, Revocations, Texts};
 use serial_set::{Span, Spans};
-use ssh_wire::Sink;
 
 /// Prints what a list holds, where it is asked for: a line for each fact of its header, and then
 /// each authority with its serials and key IDs, the keys and the hashes.

@@ -10,14 +10,14 @@ ghost use Rattle.key_listing.specs.Carries.{Carries};
 ghost use Rattle.key_listing.specs.Expected.{AllExpected};
 ghost use Rattle.krl_runs.specs.Query.{AnswersAbout, HasEntries, asked_run_of};
 
-use crate::questions::ask_about;
 use crate::query::{Known, ask_held, query_line};
+use crate::questions::ask_about;
+use byte_streams::{Sink, Source};
 use key_files::{Cause, FileFault, FileKey, Named, RunFault, cause_of};
 use key_listing::{Answer, Answers, Run, print_files};
 use krl_core::{Findings, Questions, Reading, Walk};
 use span_sets::Held;
 use ssh_cert::AnyKey;
-use ssh_wire::{Sink, Source};
 use std::alloc::{AllocError, Global};
 
 // Says of each key what a list that has passed said of it.

@@ -11,12 +11,13 @@ ghost use Rattle.key_listing.specs.Run.{Item as ItemOf};
 
 use crate::contents::print_contents;
 use crate::passing::ask_passing;
+use byte_streams::{Sink, Source};
 use key_files::{FileFault, FileKey, Named, RunFault, cause_of};
 use key_listing::{Answer, Answers, Done, Printer, Run, print_files};
 use krl_core::{Header, Revocations, read_krl};
 use span_sets::Held;
 use ssh_cert::{AnyKey, push_escaped};
-use ssh_wire::{Bytes, Sink, Source};
+use ssh_wire::Bytes;
 use std::alloc::{AllocError, Global};
 
 /// What was read of a list.

@@ -1,8 +1,8 @@
 //! The files that the command names.
 
+use byte_streams::FromRead;
 use key_files::{Cause, FileFault, Named, RunFault, load};
 use krl_job::Authority;
-use ssh_wire::FromRead;
 use std::fs::{self, File};
 use std::io::BufReader;
 

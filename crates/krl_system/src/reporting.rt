@@ -1,7 +1,7 @@
 //! The line that says why a run stopped.
 
+use byte_streams::{ToWrite, send};
 use key_files::{RunFault, fault_text};
-use ssh_wire::{ToWrite, send};
 
 /// Prints on standard error why a run stopped. Where there is no memory for the line, nothing is
 /// printed.

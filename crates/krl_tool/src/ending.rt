@@ -3,11 +3,11 @@
 ghost use Rattle.std.specs.Prelude.{◌≡◌, ◌⊎◌, None, Some};
 ghost use Rattle.krl_words.specs.Command.{command_fault_status};
 
+use byte_streams::{ToWrite, send};
 use key_files::{Cause, RunFault};
 use key_listing::{Done, FAILED};
 use krl_system::report;
 use krl_words::CommandFault;
-use ssh_wire::{ToWrite, send};
 
 /// The status of a command line that asks for nothing that the program does.
 const MISUSED: u8 = 2;

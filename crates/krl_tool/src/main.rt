@@ -6,13 +6,13 @@ mod making;
 
 use crate::ending::{end, failed, refuse};
 use crate::making::make_list;
-use krl_job::{Job, Mode};
+use byte_streams::{FromBuffer, ToWrite};
 use key_files::{Cause, FileFault};
 use key_listing::{ListMode, list_run};
+use krl_job::{Job, Mode};
 use krl_runs::query_run;
 use krl_system::{NOTHING, hold_places, moment, open, open_list, open_or_input};
 use krl_words::{CommandFault, command_of};
-use ssh_wire::{FromBuffer, ToWrite};
 use std::env;
 use std::io::{self, ErrorKind};
 use std::process::ExitCode;

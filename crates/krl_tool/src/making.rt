@@ -4,11 +4,11 @@ ghost use Rattle.std.specs.Prelude.{◌≡◌, false};
 ghost use Rattle.std.specs.Option.{ForSome};
 
 use crate::ending::{end, failed, stopped};
+use byte_streams::{FromBuffer, Source};
+use key_files::{Cause, FileFault, Named, RunFault};
 use krl_job::{Authority, Job};
 use krl_make::{Old, make_run};
-use key_files::{Cause, FileFault, Named, RunFault};
 use krl_system::{Target, Written, buffered, date, hold, open_authority, open_inputs, write_list};
-use ssh_wire::{FromBuffer, Source};
 use std::fs::{self, File};
 
 // How often a list is opened anew whose name another file has got. Of updates at once each waits

@@ -9,9 +9,10 @@ ghost use Rattle.krl_writer.specs.Within.{AddsWithin, IsWritten, Writes, write_f
 use crate::authorities::add_authorities;
 use crate::strings::{add_listed, add_string};
 use crate::text_fault::TextFault;
+use byte_streams::{Sink, send};
 use krl_core::{Header, MAGIC, Revocations};
 use serial_set::Spans;
-use ssh_wire::{Sink, put_string, put_u32, put_u64, send};
+use ssh_wire::{put_string, put_u32, put_u64};
 use std::alloc::Global;
 
 /// The text of a revocation list (PROTOCOL.krl): its header, then what is held, all authorities

@@ -3,6 +3,3 @@ pub mod Steps
 pub mod Fields
 pub mod Magnitudes
 pub mod Cut
-pub mod Parts
-pub mod Pulling
-pub mod Buffered

@@ -2,8 +2,5 @@ pub mod Wire
 pub mod Reading
 pub mod Fault
 pub mod Put
-pub mod Device
 pub mod Laws
 pub mod PullFault
-pub mod Pull
-pub mod Filling

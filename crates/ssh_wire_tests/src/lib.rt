@@ -1,4 +1,4 @@
-//! The tests of `ssh_wire`, through what it makes public.
+//! The tests of `ssh_wire` and `byte_streams`, through what they make public.
 #![tactic(auto)]
 
 #[cfg(test)]

@@ -1,11 +1,12 @@
 //! The making, reading and writing of lists. What the contracts of these calls say ends here, since
 //! a test only compares values, and its proof is the cheaper for each fact that it does not carry.
 
+use byte_streams::FromRead;
 use krl_core::{Header, KrlFault, Revocations, read_krl};
 use krl_writer::krl_text;
 use serial_set::Spans;
 use span_sets::Held;
-use ssh_wire::{Bytes, FromRead};
+use ssh_wire::Bytes;
 use std::alloc::Global;
 use std::io::Read;
 use std::process::Abort;

@@ -1,12 +1,13 @@
 //! The callers of the pages of `krl_held`, `krl_core`, `krl_types` and `krl_writer`.
 
+use byte_streams::FromRead;
 use krl_core::{Header, Revocations, read_krl};
 use krl_types::KrlFault;
 use krl_writer::{TextFault, krl_text};
 use parts_for_tests::{HEADER, PUBLISHED, joined, strings};
 use span_sets::Held;
 use ssh_cert::{Subject, subject};
-use ssh_wire::{Bytes, FromRead};
+use ssh_wire::Bytes;
 use std::alloc::{AllocError, Global};
 
 /// Whether one revoked key is what is asked about, or its certificate's authority.

@@ -2,11 +2,11 @@
 
 use crate::tests::lists::{header, list_of};
 use crate::tests::said::held_of_runs;
+use byte_streams::ToWrite;
 use krl_core::Revocations;
 use krl_writer::{WriteFault, write_krl};
 use parts_for_tests::{FIVE, Taker};
 use span_sets::Held;
-use ssh_wire::ToWrite;
 use std::alloc::Global;
 
 // What comes of a list at a device.

@@ -3,11 +3,12 @@
 use crate::tests::runs::{
     CLOSED, File, ONE, Ran, Said, all_named, asked, joined, listed, named, says,
 };
+use byte_streams::FromRead;
 use key_files::{FileFault, load};
 use key_listing::ListMode;
 use parts_for_tests::{GITHUB_LINE, Giver, Taker, Then};
 use ssh_key::Hash;
-use ssh_wire::{Bytes, FromRead};
+use ssh_wire::Bytes;
 use std::alloc::Global;
 use std::process::Abort;
 

@@ -1,13 +1,13 @@
 //! Lists that are made and updated.
 
 use crate::tests::runs::{CLOSED, File, LONG, all_named, holding, joined, named, repeated, same};
-use krl_make::{Authority, Old, make_run};
+use byte_streams::FromRead;
 use key_files::fault_text;
+use krl_make::{Authority, Old, make_run};
 use parts_for_tests::{
     CERT_LINE, CONTAINER, FIVE, GITHUB, GITHUB_LINE, HEADER, ID_A, KEY_SECTION, OTHER, OTHER_LINE,
     SHA256_SECTION,
 };
-use ssh_wire::FromRead;
 use std::alloc::Global;
 use std::process::Abort;
 

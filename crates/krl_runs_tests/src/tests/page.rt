@@ -2,6 +2,7 @@
 //! `krl_runs`.
 
 use crate::tests::runs::holding;
+use byte_streams::{FromRead, ToWrite};
 use key_files::{Cause, Named, RunFault, keys_of};
 use key_listing::{Done, ListMode, list_run};
 use krl_core::Revocations;
@@ -13,7 +14,6 @@ use parts_for_tests::{GITHUB, GITHUB_LINE};
 use span_sets::Held;
 use ssh_cert::subject;
 use ssh_key::Hash;
-use ssh_wire::{FromRead, ToWrite};
 use std::alloc::Global;
 
 /// What the lines of a specification file revoke, under all authorities.

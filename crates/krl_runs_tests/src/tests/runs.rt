@@ -1,11 +1,12 @@
 //! Runs over files that the tests make, and what they answer.
 
+use byte_streams::{FromRead, ToWrite};
 use key_files::{FileFault, Named, fault_text};
 use key_listing::{Done, ListMode, list_run};
 use krl_runs::query_run;
 use parts_for_tests::{GITHUB_LINE, Giver, HEADER, KEY_SECTION, Taker};
 use ssh_key::Hash;
-use ssh_wire::{Bytes, FromRead, ToWrite};
+use ssh_wire::Bytes;
 use std::alloc::Global;
 use std::process::Abort;
 

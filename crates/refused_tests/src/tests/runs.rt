@@ -3,9 +3,10 @@
 use crate::tests::answered::{answered, ran_out};
 use crate::tests::buffer::Buffer;
 use crate::tests::parts::list_of;
-use krl_make::{Authority, Old, make_run};
+use byte_streams::{FromRead, ToWrite};
 use key_files::{Cause, FileFault, Named, RunFault, fault_text, load};
 use key_listing::{Done, ListMode, list_run};
+use krl_make::{Authority, Old, make_run};
 use krl_runs::query_run;
 use krl_spec::{KeyCause, SpecCause};
 use parts_for_tests::{
@@ -13,7 +14,7 @@ use parts_for_tests::{
     joined,
 };
 use ssh_key::{Hash, LineFault};
-use ssh_wire::{Bytes, FromRead, ToWrite};
+use ssh_wire::Bytes;
 use std::alloc::{AllocError, Global};
 use std::process::Abort;
 

@@ -2,11 +2,12 @@
 
 use crate::tests::answered::answered;
 use crate::tests::holding::{Counter, held, one_of_each};
+use byte_streams::ToWrite;
 use krl_core::{Header, Revocations};
 use krl_writer::{TextFault, WriteFault, krl_text, write_krl};
 use parts_for_tests::{HEADER, KEY_SECTION, SHA256_SECTION, joined};
 use span_sets::Held;
-use ssh_wire::{Bytes, ToWrite};
+use ssh_wire::Bytes;
 use std::alloc::{AllocError, Global};
 
 // A header of version 1 without a comment.

@@ -1,7 +1,8 @@
 //! Fields from readers that give few bytes at a call, fail, or never end.
 
+use byte_streams::{FromRead, Pull};
 use parts_for_tests::{Giver, Then};
-use ssh_wire::{FromRead, Pull, PullFault};
+use ssh_wire::PullFault;
 use std::alloc::{AllocError, Global};
 
 /// What is asked of a reader, and what it answers.
@@ -264,8 +265,10 @@ fn large_fields_come_whole(rt: HostRuntime) {
     for size in [255, 256, 257, 4097, 65_536, 70_000] {
         let field = text.get(..size).expect(&rt, "the text is longer");
         for per_call in [7, 1000, 100_000] {
-            let right =
-                comes_whole(rt.alloc(), &text, field, per_call).expect(&rt, "there is memory");
+            let right = comes_whole(rt.alloc(), &text, field, per_call).expect(
+                &rt,
+                "there is memory",
+            );
             assert!(rt; right, "in case {size}");
         }
     }

@@ -32,8 +32,10 @@ fn the_rest_comes_whole(rt: HostRuntime) {
     for size in [0, 1, 65_535, 65_536, 65_537, 131_072, 131_073] {
         let bytes = text.get(..size).expect(&rt, "the text is longer");
         for (per_call, past) in [(7, 0), (65_536, 1), (200_000, u64::MAX)] {
-            let right =
-                comes_whole(rt.alloc(), bytes, per_call, past).expect(&rt, "there is memory");
+            let right = comes_whole(rt.alloc(), bytes, per_call, past).expect(
+                &rt,
+                "there is memory",
+            );
             assert!(rt; right, "in case {size}");
         }
     }

@@ -1,6 +1,6 @@
 -- All that was left came, or not.
 use Rattle.std.proofs.Common.{ap, subst}
-use Rattle.ssh_wire.specs.Pull.{Pull, TakesRest, RefusesRest}
+use Rattle.byte_streams.specs.Pull.{Pull, TakesRest, RefusesRest}
 use Rattle.key_files.proofs.Loading.{loads_all, loads_none}
 use Rattle.key_files.proofs.named.load.Goals.{in-Ok, in-Err}
 use Rattle.key_files.proofs.named.load.Goals as goal

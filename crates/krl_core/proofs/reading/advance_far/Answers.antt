@@ -1,7 +1,7 @@
 use Rattle.std.proofs.Common.{◌≡◌, ℕ, List, length, take, inr, refl, sym, subst, arith, ◌∙◌}
 use Rattle.std.proofs.lemmas.Bool.{false≢true}
 use Rattle.std.proofs.lemmas.List.{length-take-le}
-use Rattle.ssh_wire.specs.Pull.{at_hand}
+use Rattle.byte_streams.specs.Pull.{at_hand}
 use Rattle.krl_core.specs.Keeper.{GrowsWithin}
 use Rattle.krl_core.specs.Reading.{working}
 use Rattle.krl_core.proofs.Advancing.{advances_of, late_past_header, more_of}

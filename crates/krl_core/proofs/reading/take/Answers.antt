@@ -1,7 +1,7 @@
 use Rattle.std.proofs.Common.{◌≡◌, ℕ, length, take, subst, arith}
 use Rattle.std.proofs.lemmas.List.{length-take-le}
 use Rattle.std.proofs.lemmas.Result.{err_from_is_err_and}
-use Rattle.ssh_wire.specs.Pull.{Refuses}
+use Rattle.byte_streams.specs.Pull.{Refuses}
 use Rattle.krl_core.specs.Place.{expected}
 use Rattle.krl_core.specs.Reading.{cut}
 use Rattle.krl_core.proofs.reading.take.Goals as goal

@@ -1,0 +1,13 @@
+-- Interruptions and empty writes took no bytes, and each interruption uses up one of the tries.
+use Rattle.std.proofs.Common.{◌≡◌, true, ◌+◌, cond}
+use Rattle.std.specs.Io.KnownBytes.{Keeps}
+use Rattle.byte_streams.proofs.to_write.ToWriteSink.write.Given as goal
+
+abbrev pub invariant-loop-self : goal.invariant-loop-self
+invariant-loop-self g l = record {
+  kept : Keeps (g.W.Write.contents l.initial.self.inner) (g.W.Write.contents l.self.inner);
+  for_good : l.initial.self.failed ≡ true → l.self.failed ≡ true;
+}
+
+abbrev pub decreases-loop-self : goal.decreases-loop-self
+decreases-loop-self g l = l.self.interruptions.left + cond l.self.failed 0 1
