@@ -2,9 +2,9 @@
 use Rattle.std.specs.Prelude.{◌≡◌, ℕ, ◌+◌, ◌^◌, ◌<◌, List, [], ◌∷◌, length, Option, Some, None}
 use Rattle.std.specs.Prelude.{Result, Err}
 use Rattle.std.specs.Borrow.{Bor}
-use Rattle.ssh_key.specs.ContainerReading.{private_at}
-use Rattle.ssh_key.specs.LineReading.{Content, content_of, line_at}
-use Rattle.ssh_key.specs.Lines.{lines_left}
+use Rattle.key_text.specs.ContainerReading.{private_at}
+use Rattle.key_text.specs.LineReading.{Content, content_of, line_at}
+use Rattle.key_text.specs.Lines.{lines_left}
 use Rattle.key_files.specs.declared.file_keys.KeyText.{KeyText}
 use Rattle.key_files.specs.declared.file_keys.KeyText.TheVariants.{Line, Container}
 use Rattle.key_files.specs.declared.file_keys.Left.{Left}

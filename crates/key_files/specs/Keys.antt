@@ -3,17 +3,17 @@ use Rattle.std.specs.Prelude.{◌≡◌, ℕ, ◌+◌, if◌then◌else◌, List
 use Rattle.std.specs.Prelude.{◌++◌, Option, Some, None, Result, Ok, Err}
 use Rattle.std.specs.List.{slice_split}
 use Rattle.std.specs.Option.{option_to_list}
-use Rattle.ssh_key.specs.KeyFile.{has_key}
-use Rattle.ssh_key.specs.Armour.{begins_container}
-use Rattle.ssh_key.specs.ContainerReading.{Opened, private_at}
-use Rattle.ssh_key.specs.LineReading.{Content, content, line_at}
-use Rattle.ssh_key.specs.declared.line_fault.LineFault.{LineFault}
-use Rattle.ssh_key.specs.declared.private_fault.PrivateFault.{PrivateFault}
+use Rattle.key_text.specs.KeyFile.{has_key}
+use Rattle.key_text.specs.Armour.{begins_container}
+use Rattle.key_text.specs.ContainerReading.{Opened, private_at}
+use Rattle.key_text.specs.LineReading.{Content, content, line_at}
+use Rattle.key_text.specs.declared.line_fault.LineFault.{LineFault}
+use Rattle.key_text.specs.declared.private_fault.PrivateFault.{PrivateFault}
 use Rattle.ssh_cert.specs.declared.subject_fault.SubjectFault.{SubjectFault}
 use Rattle.key_files.specs.declared.cause.Cause.{Cause}
 use Rattle.key_files.specs.declared.cause.Cause.TheVariants as causes
 use Rattle.key_files.specs.declared.file_fault.FileFault.{FileFault}
-use Rattle.ssh_key.specs.Lines.{is_newline}
+use Rattle.key_text.specs.Lines.{is_newline}
 use Rattle.key_files.specs.RunFault.{RunFault, EndedBy, ByOutput, ByMemory, ByInput, ended_by, run_fault_of}
 
 -- a file's name, and its bytes or why there are none

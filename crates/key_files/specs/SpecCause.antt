@@ -1,7 +1,7 @@
 -- The numbers and the printed names of the faults of a specification file's line.
 use Rattle.std.specs.Prelude.{ℕ, List, ◌++◌, codes}
-use Rattle.ssh_key.specs.FingerprintFault.{fingerprint_fault_text}
-use Rattle.ssh_key.specs.LineFault.{fault_text}
+use Rattle.key_text.specs.FingerprintFault.{fingerprint_fault_text}
+use Rattle.key_text.specs.LineFault.{fault_text}
 use Rattle.ssh_cert.specs.SubjectFault.{subject_fault_text}
 use Rattle.key_files.specs.declared.spec_cause.KeyCause.{KeyCause}
 use Rattle.key_files.specs.declared.spec_cause.KeyCause.TheVariants.{Line, Subject}

@@ -4,8 +4,8 @@ ghost use Rattle.std.specs.Prelude.{◌≡◌, ◌<◌, ◌+◌, ◌^◌, ℕ, E
 ghost use Rattle.ssh_cert.specs.AnyKey.{IsReadAs};
 ghost use Rattle.ssh_cert.specs.SubjectReading.{subject_of};
 ghost use Rattle.ssh_cert.specs.declared.subject_fault.SubjectFault.{SubjectFault as FaultOf};
-ghost use Rattle.ssh_key.specs.ContainerReading.{private_at};
-ghost use Rattle.ssh_key.specs.LineReading.{line_at};
+ghost use Rattle.key_text.specs.ContainerReading.{private_at};
+ghost use Rattle.key_text.specs.LineReading.{line_at};
 ghost use Rattle.key_files.specs.FileKeys.{HasRoom, IsNextLine, keys_left, line_room};
 ghost use Rattle.key_files.specs.Keys.{GivesKey, GivesNext, key_of_container, keys_of, key_of_line, run_fault_in, text_keys};
 
@@ -13,11 +13,11 @@ use crate::cause::Cause;
 use crate::file_fault::FileFault;
 use crate::named::Named;
 use crate::run_fault::RunFault;
-use ssh_cert::{AnyKey, read_any};
-use ssh_key::{
+use key_text::{
     Line, LineFault, Private, PrivateFault, has_key, is_container, read_line, read_private,
     split_line,
 };
+use ssh_cert::{AnyKey, read_any};
 use std::alloc::Global;
 use std::marker::Model;
 

@@ -4,8 +4,8 @@ ghost use Rattle.std.specs.Prelude.{◌≡◌, Some};
 ghost use Rattle.key_files.specs.SpecCause.{key_cause_text, spec_cause_number, spec_cause_text};
 ghost use Rattle.key_files.specs.declared.spec_cause.SpecCause.TheVariants.{NoMemory};
 
+use key_text::{FingerprintFault, LineFault};
 use ssh_cert::SubjectFault;
-use ssh_key::{FingerprintFault, LineFault};
 use std::alloc::AllocError;
 use std::error::Error;
 use std::fmt;

@@ -5,15 +5,15 @@ use Rattle.std.proofs.lemmas.Bool.{cases_Bool}
 use Rattle.std.proofs.lemmas.Option.{same_Some}
 use Rattle.ssh_wire.proofs.Steps.{ok_is}
 use Rattle.ssh_key.specs.Key.{IsKey, PublicKey}
-use Rattle.ssh_key.specs.KeyFile.{has_key}
-use Rattle.ssh_key.specs.KeyLine.{IsKeyLine}
 use Rattle.ssh_key.specs.KeyReading.{key_at}
-use Rattle.ssh_key.specs.LineReading.{Content, line_at}
 use Rattle.ssh_key.specs.declared.fault.KeyFault.{KeyFault}
-use Rattle.ssh_key.specs.declared.line_fault.LineFault.{LineFault}
+use Rattle.key_text.specs.KeyFile.{has_key}
+use Rattle.key_text.specs.KeyLine.{IsKeyLine}
+use Rattle.key_text.specs.LineReading.{Content, line_at}
+use Rattle.key_text.specs.declared.line_fault.LineFault.{LineFault}
 use Rattle.ssh_cert.specs.Cert.{Cert}
 use Rattle.ssh_cert.specs.declared.fault.CertFault.{CertFault}
-use Rattle.ssh_key.specs.declared.hash.Hash.{Hash}
+use Rattle.key_text.specs.declared.hash.Hash.{Hash}
 use Rattle.key_listing.specs.Listing.{certificate_answer, listed_certificate}
 use Rattle.krl_types.specs.Subject.{Subject}
 use Rattle.ssh_cert.specs.SubjectReading.{IsSubject, subject_of}

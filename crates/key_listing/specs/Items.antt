@@ -1,8 +1,8 @@
 -- When a line is answered, by what it spells.
 use Rattle.std.specs.Prelude.{ℕ, List}
 use Rattle.ssh_key.specs.Key.{IsKey, PublicKey}
-use Rattle.ssh_key.specs.KeyLine.{IsKeyLine}
-use Rattle.ssh_key.specs.LineReading.{Content}
+use Rattle.key_text.specs.KeyLine.{IsKeyLine}
+use Rattle.key_text.specs.LineReading.{Content}
 use Rattle.krl_types.specs.Subject.{Subject}
 use Rattle.ssh_cert.specs.SubjectReading.{IsSubject}
 

@@ -6,11 +6,11 @@ use Rattle.ssh_cert.specs.CertReading.{certificate_at}
 use Rattle.ssh_cert.specs.Cert.{Cert}
 use Rattle.ssh_cert.specs.Listing.{listing_of}
 use Rattle.krl_types.specs.Subject.{CertNames, Subject}
-use Rattle.ssh_key.specs.declared.hash.Hash.{Hash}
-use Rattle.ssh_key.specs.Fingerprints.{fingerprint_text}
 use Rattle.ssh_key.specs.Key.{PublicKey}
 use Rattle.ssh_key.specs.Kind.{short_name_of}
-use Rattle.ssh_key.specs.LineReading.{Content}
+use Rattle.key_text.specs.declared.hash.Hash.{Hash}
+use Rattle.key_text.specs.Fingerprints.{fingerprint_text}
+use Rattle.key_text.specs.LineReading.{Content}
 use Rattle.ssh_cert.specs.Escape.{escaped}
 use Rattle.key_files.specs.declared.file_fault.FileFault.TheVariants as files
 use Rattle.key_listing.specs.declared.answer.Answer.{Answer}

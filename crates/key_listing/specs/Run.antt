@@ -4,10 +4,10 @@ use Rattle.std.specs.Prelude.{None, Result, Ok, Err, map, option_map}
 use Rattle.std.specs.List.{flat_map}
 use Rattle.ssh_key.specs.Key.{PublicKey}
 use Rattle.ssh_key.specs.KeyReading.{key_at}
-use Rattle.ssh_key.specs.ContainerReading.{Opened}
-use Rattle.ssh_key.specs.LineReading.{Content}
 use Rattle.ssh_key.specs.declared.fault.KeyFault.{KeyFault}
-use Rattle.ssh_key.specs.declared.private_fault.PrivateFault.{PrivateFault}
+use Rattle.key_text.specs.ContainerReading.{Opened}
+use Rattle.key_text.specs.LineReading.{Content}
+use Rattle.key_text.specs.declared.private_fault.PrivateFault.{PrivateFault}
 use Rattle.krl_types.specs.Subject.{Subject}
 use Rattle.ssh_cert.specs.SubjectReading.{subject_of}
 use Rattle.ssh_cert.specs.declared.subject_fault.SubjectFault.{SubjectFault}

@@ -4,16 +4,16 @@ ghost use Rattle.std.specs.Prelude.{◌≡◌, ℕ, [], true, false, List, Some,
 ghost use Rattle.ssh_wire.specs.Wire.{IsBytes};
 ghost use Rattle.ssh_cert.specs.Cert.{Cert, IsCertificate};
 ghost use Rattle.krl_types.specs.Subject.{Subject};
-ghost use Rattle.ssh_key.specs.Container.{IsContainer, IsPrivateFault};
-ghost use Rattle.ssh_key.specs.ContainerReading.{private_at};
 ghost use Rattle.ssh_key.specs.Key.{IsKey, PublicKey};
-ghost use Rattle.ssh_key.specs.declared.hash.Hash.{Hash};
-ghost use Rattle.ssh_key.specs.KeyFile.{has_key};
-ghost use Rattle.ssh_key.specs.KeyLine.{IsKeyLine};
-ghost use Rattle.ssh_key.specs.LineFaults.{IsFirstLineFault};
-ghost use Rattle.ssh_key.specs.LineReading.{Content, content};
-ghost use Rattle.ssh_key.specs.declared.line_fault.LineFault.{LineFault};
-ghost use Rattle.ssh_key.specs.declared.private_fault.PrivateFault.{PrivateFault};
+ghost use Rattle.key_text.specs.Container.{IsContainer, IsPrivateFault};
+ghost use Rattle.key_text.specs.ContainerReading.{private_at};
+ghost use Rattle.key_text.specs.declared.hash.Hash.{Hash};
+ghost use Rattle.key_text.specs.KeyFile.{has_key};
+ghost use Rattle.key_text.specs.KeyLine.{IsKeyLine};
+ghost use Rattle.key_text.specs.LineFaults.{IsFirstLineFault};
+ghost use Rattle.key_text.specs.LineReading.{Content, content};
+ghost use Rattle.key_text.specs.declared.line_fault.LineFault.{LineFault};
+ghost use Rattle.key_text.specs.declared.private_fault.PrivateFault.{PrivateFault};
 ghost use Rattle.ssh_cert.specs.SubjectReading.{IsSubject, IsSubjectFault};
 ghost use Rattle.ssh_cert.specs.declared.subject_fault.SubjectFault.{SubjectFault};
 ghost use Rattle.key_listing.specs.declared.answer.Answer.{Answer};
@@ -24,10 +24,12 @@ ghost use Rattle.key_files.specs.Keys.{run_fault_at};
 ghost use Rattle.key_listing.specs.Run.{Answered, Answering, Stopped, container_item, item_of, said};
 ghost use Rattle.key_files.specs.RunFault.{run_fault_of};
 
-use ssh_cert::laws::{asked_where_spelled, not_asked_by_first_fault, read_where_spelled};
-use ssh_key::laws::{
-    blob_read_back, line_read_where_spelled, line_refused_by_first_fault, private_read_where_spelled, private_refused_by_first_fault,
+use key_text::laws::{
+    line_read_where_spelled, line_refused_by_first_fault, private_read_where_spelled,
+    private_refused_by_first_fault,
 };
+use ssh_cert::laws::{asked_where_spelled, not_asked_by_first_fault, read_where_spelled};
+use ssh_key::laws::blob_read_back;
 
 /// Nothing is said of a line without a key. A line with a key is answered, or passed over by the
 /// run, exactly where it spells the key of a plain key or of a certificate; else its first fault,

@@ -15,8 +15,9 @@ use crate::run::Run;
 use crate::walk::print_file;
 use byte_streams::Sink;
 use key_files::{FileFault, FileKey, Named};
+use key_text::{Hash, fingerprint};
 use ssh_cert::{AnyKey, Cert, list_cert, push_escaped};
-use ssh_key::{Hash, PublicKey, fingerprint, plain_blob};
+use ssh_key::{PublicKey, plain_blob};
 use ssh_wire::Bytes;
 use std::alloc::{AllocError, Global};
 

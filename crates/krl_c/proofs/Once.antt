@@ -3,10 +3,10 @@ use Rattle.std.proofs.Common.{◌≡◌, ◌⊎◌, inl, inr, ℕ, ℤ, List, Re
 use Rattle.krl_types.specs.Subject.{Subject}
 use Rattle.ssh_cert.specs.declared.subject_fault.SubjectFault.{SubjectFault}
 use Rattle.ssh_cert.specs.SubjectReading.{IsSubject, IsSubjectFault}
-use Rattle.ssh_key.specs.KeyLine.{IsKeyLine}
-use Rattle.ssh_key.specs.LineFaults.{IsFirstLineFault}
-use Rattle.ssh_key.specs.LineReading.{Content, content}
-use Rattle.ssh_key.specs.declared.line_fault.LineFault.{LineFault}
+use Rattle.key_text.specs.KeyLine.{IsKeyLine}
+use Rattle.key_text.specs.LineFaults.{IsFirstLineFault}
+use Rattle.key_text.specs.LineReading.{Content, content}
+use Rattle.key_text.specs.declared.line_fault.LineFault.{LineFault}
 use Rattle.krl_held.specs.Entry.{Entry}
 use Rattle.krl_c.specs.Answer.{AnswersBlob, AnswersBy, AnswersLine, HasOne, Says, names, spares, said, no_blob, ran_out, answered, no_list, list_ran_out, of_key, no_line, line_ran_out}
 use Rattle.krl_c.specs.Number.{list_number, line_number, no_memory, subject_number}

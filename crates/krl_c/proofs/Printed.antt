@@ -1,11 +1,11 @@
 -- The words for the number of each fault are those that it prints.
 use Rattle.std.proofs.Common.{◌≡◌, refl}
 use Rattle.ssh_wire.specs.declared.fault.WireFault.TheVariants.{Short, Negative, NotShortest}
-use Rattle.ssh_key.specs.LineFault.{fault_text as line_fault_text}
 use Rattle.ssh_key.specs.declared.fault.KeyFault.{KeyFault}
 use Rattle.ssh_key.specs.declared.fault.KeyFault.TheVariants as keys
-use Rattle.ssh_key.specs.declared.line_fault.LineFault.{LineFault}
-use Rattle.ssh_key.specs.declared.line_fault.LineFault.TheVariants as lines
+use Rattle.key_text.specs.LineFault.{fault_text as line_fault_text}
+use Rattle.key_text.specs.declared.line_fault.LineFault.{LineFault}
+use Rattle.key_text.specs.declared.line_fault.LineFault.TheVariants as lines
 use Rattle.ssh_cert.specs.SubjectFault.{subject_fault_text}
 use Rattle.ssh_cert.specs.declared.fault.CertFault.{CertFault}
 use Rattle.ssh_cert.specs.declared.fault.CertFault.TheVariants as certs

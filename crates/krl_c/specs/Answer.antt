@@ -1,9 +1,9 @@
 -- What a list answers about the blob of a key or of a certificate.
 use Rattle.std.specs.Prelude.{◌≡◌, ◌≤◌, ℕ, ℤ, List, length, Some}
 use Rattle.krl_types.specs.Subject.{Subject}
-use Rattle.ssh_key.specs.KeyLine.{IsKeyLine}
-use Rattle.ssh_key.specs.LineFaults.{IsFirstLineFault}
-use Rattle.ssh_key.specs.declared.line_fault.LineFault.{LineFault}
+use Rattle.key_text.specs.KeyLine.{IsKeyLine}
+use Rattle.key_text.specs.LineFaults.{IsFirstLineFault}
+use Rattle.key_text.specs.declared.line_fault.LineFault.{LineFault}
 use Rattle.ssh_cert.specs.SubjectReading.{IsSubject, IsSubjectFault}
 use Rattle.ssh_cert.specs.declared.subject_fault.SubjectFault.{SubjectFault}
 use Rattle.krl_types.specs.declared.krl_fault.KrlFault.{KrlFault}

@@ -3,9 +3,9 @@ use Rattle.std.specs.Prelude.{ℕ, suc, ◌/◌, ◌%◌, ◌==◌, if◌then◌
 use Rattle.std.specs.Prelude.{Option, Some, None, List, ◌++◌, codes}
 use Rattle.ssh_wire.specs.declared.fault.WireFault.TheVariants.{Short, Negative, NotShortest}
 use Rattle.ssh_key.specs.KeyFault.{key_fault_text}
-use Rattle.ssh_key.specs.LineFault.{fault_text as line_fault_text}
 use Rattle.ssh_key.specs.declared.fault.KeyFault.TheVariants as keys
-use Rattle.ssh_key.specs.declared.line_fault.LineFault.TheVariants as lines
+use Rattle.key_text.specs.LineFault.{fault_text as line_fault_text}
+use Rattle.key_text.specs.declared.line_fault.LineFault.TheVariants as lines
 use Rattle.ssh_cert.specs.CertFault.{cert_fault_text}
 use Rattle.ssh_cert.specs.declared.fault.CertFault.TheVariants as certs
 use Rattle.krl_types.specs.KrlFault.{fault_text}

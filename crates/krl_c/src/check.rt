@@ -9,10 +9,10 @@ ghost use Rattle.krl_c.specs.Answer.{Answers, AnswersOfLine, IsListOf};
 
 use crate::lent::Lent;
 use crate::number::{FINE, REVOKED, of_line, of_list, of_subject};
+use key_text::read_line;
 use krl_core::{Findings, KrlFault, Questions, Reading};
 use span_sets::Held;
 use ssh_cert::{Subject, subject};
-use ssh_key::read_line;
 use std::alloc::Global;
 
 // Asks a list about a blob.

@@ -9,10 +9,10 @@ ghost use Rattle.krl_c.specs.Answer.{AnswersBlob, AnswersLine, IsListOf};
 
 use crate::lent::Lent;
 use crate::number::{FINE, REVOKED, of_line, of_subject};
+use key_text::read_line;
 use krl_core::{KrlFault, Revocations, read_krl};
 use span_sets::Held;
 use ssh_cert::subject;
-use ssh_key::read_line;
 use std::alloc::Global;
 
 // What a list revokes.

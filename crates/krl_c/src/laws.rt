@@ -2,9 +2,9 @@
 
 ghost use Rattle.std.specs.Prelude.{◌≡◌, ◌⊎◌, ℕ, ℤ, List};
 ghost use Rattle.ssh_wire.specs.Wire.{IsBytes};
-ghost use Rattle.ssh_key.specs.LineFault.{fault_text as line_fault_text};
-ghost use Rattle.ssh_key.specs.declared.line_fault.LineFault.{LineFault};
-ghost use Rattle.ssh_key.specs.declared.line_fault.LineFault.TheVariants as lines;
+ghost use Rattle.key_text.specs.LineFault.{fault_text as line_fault_text};
+ghost use Rattle.key_text.specs.declared.line_fault.LineFault.{LineFault};
+ghost use Rattle.key_text.specs.declared.line_fault.LineFault.TheVariants as lines;
 ghost use Rattle.ssh_cert.specs.SubjectFault.{subject_fault_text};
 ghost use Rattle.ssh_cert.specs.declared.subject_fault.SubjectFault.{SubjectFault};
 ghost use Rattle.ssh_cert.specs.declared.subject_fault.SubjectFault.TheVariants as subjects;
@@ -15,9 +15,9 @@ ghost use Rattle.krl_c.specs.Answer.{Answers, AnswersOfLine, HasOne};
 ghost use Rattle.krl_c.specs.Number.{line_number, list_number, no_memory, subject_number};
 ghost use Rattle.krl_c.specs.Words.{words};
 
+use key_text::laws::{line_read_where_spelled, line_refused_by_first_fault};
 use krl_core::laws::{no_fault_where_spelled, one_first_fault, one_spelling};
 use ssh_cert::laws::{asked_where_spelled, not_asked_by_first_fault};
-use ssh_key::laws::{line_read_where_spelled, line_refused_by_first_fault};
 
 /// A list has one row of entries or one first fault.
 pub fn one_list()

@@ -7,8 +7,8 @@ use Rattle.std.specs.Char.{is_ascii_digit}
 use Rattle.std.specs.List.{list_all}
 use Rattle.std.specs.Str.{str_eq_ignore_ascii_case}
 use Rattle.std.specs.Str.Parse.{digits_value}
-use Rattle.ssh_key.specs.declared.hash.Hash.{Hash}
-use Rattle.ssh_key.specs.declared.hash.Hash.TheVariants.{Md5, Sha256}
+use Rattle.key_text.specs.declared.hash.Hash.{Hash}
+use Rattle.key_text.specs.declared.hash.Hash.TheVariants.{Md5, Sha256}
 use Rattle.krl_job.specs.declared.job.Authority.{Authority}
 use Rattle.krl_job.specs.declared.job.Authority.TheVariants.{NotGiven, All, File}
 use Rattle.krl_job.specs.declared.job.Job.{Job}

@@ -7,7 +7,7 @@ ghost use Rattle.krl_job.specs.Given.{given_by};
 ghost use Rattle.krl_job.specs.Job.{asked_of, authority_named, authority_of, fits, hash_called, hash_named, is_for_making, job_of, mode_of, number_of, version_named};
 
 use crate::given::Given;
-use ssh_key::Hash;
+use key_text::Hash;
 
 // How many digits a number has at most.
 const MOST_DIGITS: usize = 20;

@@ -8,18 +8,18 @@ use Rattle.ssh_wire.specs.Reading.{◌>>=◌}
 use Rattle.ssh_wire.specs.Wire.{IsBytes}
 use Rattle.ssh_wire.proofs.Fields.{string_again}
 use Rattle.ssh_wire.proofs.Steps.{err_is, ok_is, ok_or_err, ok_or_not}
-use Rattle.ssh_key.specs.Armour.{begins_container}
-use Rattle.ssh_key.specs.Container.{IsContainer, IsPrivateFault}
-use Rattle.ssh_key.specs.ContainerReading.{private_at}
 use Rattle.ssh_key.specs.Key.{IsKey, PublicKey, blob_of}
-use Rattle.ssh_key.specs.KeyFile.{has_key}
 use Rattle.ssh_key.specs.KeyReading.{key_at}
 use Rattle.ssh_key.specs.Kind.{kind_certified, type_name}
-use Rattle.ssh_key.specs.LineReading.{line_at}
-use Rattle.ssh_key.specs.Lines.{is_newline}
 use Rattle.ssh_key.specs.declared.kind.Kind.{Kind}
 use Rattle.ssh_key.specs.declared.kind.Kind.TheVariants.{Rsa, Dsa, Ecdsa256, Ecdsa384, Ecdsa521, Ed25519, EcdsaSk, Ed25519Sk}
-use Rattle.ssh_key.specs.declared.private_fault.PrivateFault.{PrivateFault}
+use Rattle.key_text.specs.Armour.{begins_container}
+use Rattle.key_text.specs.Container.{IsContainer, IsPrivateFault}
+use Rattle.key_text.specs.ContainerReading.{private_at}
+use Rattle.key_text.specs.KeyFile.{has_key}
+use Rattle.key_text.specs.LineReading.{line_at}
+use Rattle.key_text.specs.Lines.{is_newline}
+use Rattle.key_text.specs.declared.private_fault.PrivateFault.{PrivateFault}
 use Rattle.krl_types.specs.Subject.{Subject}
 use Rattle.ssh_cert.specs.SubjectReading.{is_certificate, of_key, subject_of}
 use Rattle.krl_make.proofs.LineBytes.{lines_bytes}

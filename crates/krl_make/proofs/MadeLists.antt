@@ -5,14 +5,14 @@ use Rattle.std.proofs.Math.Logic.Iff as Iff
 use Rattle.std.proofs.lemmas.Bool.{cases_Bool}
 use Rattle.std.specs.List.{slice_split}
 use Rattle.ssh_wire.specs.Reading.{◌>>=◌, in_fault}
-use Rattle.ssh_key.specs.Armour.{begins_container}
-use Rattle.ssh_key.specs.ContainerReading.{Opened, private_at}
 use Rattle.ssh_key.specs.Key.{blob_of}
-use Rattle.ssh_key.specs.KeyFile.{has_key}
-use Rattle.ssh_key.specs.LineReading.{Content, line_at}
-use Rattle.ssh_key.specs.Lines.{is_newline}
-use Rattle.ssh_key.specs.declared.line_fault.LineFault.{LineFault}
-use Rattle.ssh_key.specs.declared.private_fault.PrivateFault.{PrivateFault}
+use Rattle.key_text.specs.Armour.{begins_container}
+use Rattle.key_text.specs.ContainerReading.{Opened, private_at}
+use Rattle.key_text.specs.KeyFile.{has_key}
+use Rattle.key_text.specs.LineReading.{Content, line_at}
+use Rattle.key_text.specs.Lines.{is_newline}
+use Rattle.key_text.specs.declared.line_fault.LineFault.{LineFault}
+use Rattle.key_text.specs.declared.private_fault.PrivateFault.{PrivateFault}
 use Rattle.ssh_cert.specs.AnyKey.{Spells, plain_of}
 use Rattle.ssh_cert.specs.declared.any_key.AnyKey.{AnyKey}
 use Rattle.ssh_cert.specs.declared.any_key.AnyKey.TheVariants.{Plain, Certified}

@@ -2,11 +2,11 @@
 use Rattle.std.specs.Prelude.{◌≡◌, ℕ, ◌+◌, true, false, List, ◌∷◌, ◌++◌, length}
 use Rattle.std.specs.List.{All, slice_split}
 use Rattle.krl_types.specs.Subject.{Subject}
-use Rattle.ssh_key.specs.Armour.{begins_container}
-use Rattle.ssh_key.specs.Container.{IsContainer, IsPrivateFault}
-use Rattle.ssh_key.specs.KeyFile.{has_key}
-use Rattle.ssh_key.specs.Lines.{is_newline}
-use Rattle.ssh_key.specs.declared.private_fault.PrivateFault.{PrivateFault}
+use Rattle.key_text.specs.Armour.{begins_container}
+use Rattle.key_text.specs.Container.{IsContainer, IsPrivateFault}
+use Rattle.key_text.specs.KeyFile.{has_key}
+use Rattle.key_text.specs.Lines.{is_newline}
+use Rattle.key_text.specs.declared.private_fault.PrivateFault.{PrivateFault}
 use Rattle.krl_spec.specs.Keys.{IsKeyFault, IsSubjectLine}
 use Rattle.key_files.specs.declared.spec_cause.KeyCause.{KeyCause}
 use Rattle.key_files.specs.declared.spec_cause.KeyCause.TheVariants as keys

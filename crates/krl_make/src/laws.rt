@@ -7,8 +7,9 @@ ghost use Rattle.krl_make.specs.Making.{first_key_of};
 ghost use Rattle.key_files.specs.RunFault.{RunFault};
 ghost use Rattle.ssh_wire.specs.Wire.{IsBytes};
 
+use key_text::laws::{private_read_where_spelled, private_refused_by_first_fault};
 use krl_spec::laws::key_where_spelled;
-use ssh_key::laws::{blob_read_back, private_read_where_spelled, private_refused_by_first_fault};
+use ssh_key::laws::blob_read_back;
 
 /// A key is read of a file exactly where it is the file's first, and the file stops the run exactly
 /// by its first fault.

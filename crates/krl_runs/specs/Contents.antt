@@ -6,8 +6,8 @@ use Rattle.base64.specs.Engines.{standard}
 use Rattle.base64.specs.GeneralPurpose.{encode_of}
 use Rattle.hex.specs.Hex.{encode_lower}
 use Rattle.serial_set.specs.declared.span.Span.{Span}
-use Rattle.ssh_key.specs.declared.hash.Hash.TheVariants.{Sha256}
-use Rattle.ssh_key.specs.Fingerprints.{fingerprint_text, unpadded}
+use Rattle.key_text.specs.declared.hash.Hash.TheVariants.{Sha256}
+use Rattle.key_text.specs.Fingerprints.{fingerprint_text, unpadded}
 use Rattle.ssh_cert.specs.Escape.{escaped}
 use Rattle.ssh_cert.specs.Time.{instant_text}
 use Rattle.krl_held.specs.Revocations.{Revocations, Section}

@@ -15,7 +15,7 @@ use Rattle.krl_held.specs.Revoked.{Revoked}
 use Rattle.krl_held.specs.Tested.{revokes}
 use Rattle.krl_types.specs.declared.krl_fault.KrlFault.{KrlFault}
 use Rattle.krl_types.specs.Subject.{Subject}
-use Rattle.ssh_key.specs.LineReading.{Content}
+use Rattle.key_text.specs.LineReading.{Content}
 use Rattle.key_listing.specs.declared.answer.Answer.{Answer}
 use Rattle.key_files.specs.declared.file_fault.FileFault.TheVariants as files
 use Rattle.ssh_cert.specs.Escape.{escaped}

@@ -3,10 +3,10 @@ use Rattle.std.proofs.Common.{◌≡◌, ◌↔◌, ℕ, List, Result, Ok, Err, 
 use Rattle.ssh_wire.specs.Reading.{in_fault}
 use Rattle.ssh_wire.specs.Wire.{IsBytes}
 use Rattle.ssh_wire.proofs.Steps.{bind_err, bind_ok, in_fault_err, in_fault_ok}
-use Rattle.ssh_key.specs.KeyLine.{IsKeyLine}
-use Rattle.ssh_key.specs.LineFaults.{IsFirstLineFault}
-use Rattle.ssh_key.specs.LineReading.{Content, content, line_at}
-use Rattle.ssh_key.specs.declared.line_fault.LineFault.{LineFault}
+use Rattle.key_text.specs.KeyLine.{IsKeyLine}
+use Rattle.key_text.specs.LineFaults.{IsFirstLineFault}
+use Rattle.key_text.specs.LineReading.{Content, content, line_at}
+use Rattle.key_text.specs.declared.line_fault.LineFault.{LineFault}
 use Rattle.krl_types.specs.Subject.{Subject}
 use Rattle.ssh_cert.specs.SubjectReading.{IsSubject, IsSubjectFault, subject_of}
 use Rattle.ssh_cert.specs.declared.subject_fault.SubjectFault.{SubjectFault}

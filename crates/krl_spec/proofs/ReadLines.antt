@@ -8,7 +8,7 @@ use Rattle.krl_held.specs.Changes.{MeansMore}
 use Rattle.krl_spec.specs.Adding.{AddsLine, Reports}
 use Rattle.krl_spec.specs.Entries.{line_entry}
 use Rattle.krl_spec.specs.Lines.{LineEntries, ReadsSpec, LacksMemoryAt, StopsAt, before_later, lines_from, lines_of}
-use Rattle.ssh_key.specs.Lines.{is_newline}
+use Rattle.key_text.specs.Lines.{is_newline}
 use Rattle.key_files.specs.declared.spec_cause.SpecCause.{SpecCause}
 use Rattle.key_files.specs.declared.spec_cause.SpecCause.TheVariants as causes
 

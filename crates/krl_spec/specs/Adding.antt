@@ -1,8 +1,8 @@
 -- What reading lines of a specification file adds to what is held.
 use Rattle.std.specs.Prelude.{◌≡◌, ◌+◌, ◌≤◌, [], ◌∷◌, Option, Some, None, Result, Ok}
 use Rattle.std.specs.Prelude.{Err, ⊤}
-use Rattle.ssh_key.specs.declared.fingerprint_fault.FingerprintFault.TheVariants as fingerprints
-use Rattle.ssh_key.specs.declared.line_fault.LineFault.TheVariants as lines
+use Rattle.key_text.specs.declared.fingerprint_fault.FingerprintFault.TheVariants as fingerprints
+use Rattle.key_text.specs.declared.line_fault.LineFault.TheVariants as lines
 use Rattle.krl_held.specs.Changes.{MeansMore}
 use Rattle.krl_held.specs.Revocations.{Revocations, held}
 use Rattle.krl_held.specs.Entry.{Entry}

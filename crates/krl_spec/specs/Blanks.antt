@@ -1,7 +1,7 @@
 -- What counts of a line.
 use Rattle.std.specs.Prelude.{ℕ, ◌-◌, ◌==◌, Bool, List, length, take, drop}
 use Rattle.std.specs.List.{before_first, prefix_len, suffix_len}
-use Rattle.ssh_key.specs.Blanks.{before_ending, is_blank, is_ending}
+use Rattle.key_text.specs.Blanks.{before_ending, is_blank, is_ending}
 
 -- without the blanks and carriage returns at its start
 unfoldable pub after_endings : List ℕ → List ℕ

@@ -4,7 +4,7 @@ use Rattle.std.specs.Prelude.{None, Result, Ok, Err, ⊤}
 use Rattle.sha1.specs.Sha1.{sha1}
 use Rattle.sha2.specs.Sha256.{sha256}
 use Rattle.ssh_wire.specs.Reading.{◌>>=◌, in_fault}
-use Rattle.ssh_key.specs.FingerprintReading.{fingerprint_at}
+use Rattle.key_text.specs.FingerprintReading.{fingerprint_at}
 use Rattle.krl_types.specs.Subject.{CertNames}
 use Rattle.krl_held.specs.Authority.{IsAuthority, authority_bytes}
 use Rattle.krl_held.specs.Entry.{Entry, RangeEntry, IdEntry, KeyEntry, Sha1Entry, Sha256Entry}

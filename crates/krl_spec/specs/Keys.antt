@@ -1,10 +1,10 @@
 -- What the keys of lines ask.
 use Rattle.std.specs.Prelude.{◌≡◌, ℕ, List, Result, Ok}
 use Rattle.ssh_wire.specs.Reading.{◌>>=◌, in_fault}
-use Rattle.ssh_key.specs.KeyLine.{IsKeyLine}
-use Rattle.ssh_key.specs.LineFaults.{IsFirstLineFault}
-use Rattle.ssh_key.specs.LineReading.{line_at}
-use Rattle.ssh_key.specs.declared.line_fault.LineFault.{LineFault}
+use Rattle.key_text.specs.KeyLine.{IsKeyLine}
+use Rattle.key_text.specs.LineFaults.{IsFirstLineFault}
+use Rattle.key_text.specs.LineReading.{line_at}
+use Rattle.key_text.specs.declared.line_fault.LineFault.{LineFault}
 use Rattle.krl_types.specs.Subject.{Subject}
 use Rattle.ssh_cert.specs.SubjectReading.{IsSubject, IsSubjectFault, subject_of}
 use Rattle.ssh_cert.specs.declared.subject_fault.SubjectFault.{SubjectFault}

@@ -6,7 +6,7 @@ use Rattle.krl_held.specs.Revocations.{Revocations}
 use Rattle.krl_held.specs.Entry.{Entry}
 use Rattle.krl_held.specs.Changes.{MeansMore}
 use Rattle.krl_spec.specs.Entries.{line_entry}
-use Rattle.ssh_key.specs.Lines.{is_newline}
+use Rattle.key_text.specs.Lines.{is_newline}
 use Rattle.key_files.specs.declared.spec_cause.SpecCause.{SpecCause}
 use Rattle.key_files.specs.declared.spec_cause.SpecCause.TheVariants.{NoMemory}
 use Rattle.key_files.specs.declared.spec_fault.SpecFault.{SpecFault}

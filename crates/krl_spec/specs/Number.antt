@@ -5,7 +5,7 @@ use Rattle.std.specs.Prelude.{◌∷◌, length, drop, Option, Some, None, Resul
 use Rattle.std.specs.Char.{is_digit}
 use Rattle.std.specs.List.{before_first, list_all, position_or_len}
 use Rattle.std.specs.Str.Parse.{digits_value}
-use Rattle.ssh_key.specs.Blanks.{after_blanks}
+use Rattle.key_text.specs.Blanks.{after_blanks}
 use Rattle.krl_spec.specs.Blanks.{before_blanks}
 use Rattle.krl_spec.specs.declared.number.Bounds.{Bounds}
 use Rattle.key_files.specs.declared.spec_cause.SpecCause.{SpecCause}

@@ -4,7 +4,7 @@ use Rattle.std.specs.Prelude.{codes, slice_index, ⊤}
 use Rattle.std.specs.List.{AllPass, prefix_len, suffix_len}
 use Rattle.std.specs.Str.{byte, str_to_ascii_lowercase}
 use Rattle.std.specs.Str.Parse.{IsNumeral, digits_value}
-use Rattle.ssh_key.specs.Blanks.{BeginsWithNoBlank, is_blank, is_ending}
+use Rattle.key_text.specs.Blanks.{BeginsWithNoBlank, is_blank, is_ending}
 use Rattle.krl_spec.specs.Blanks.{is_hash}
 use Rattle.krl_spec.specs.Directive.{name_of}
 use Rattle.krl_spec.specs.declared.directive.Directive.{Directive}

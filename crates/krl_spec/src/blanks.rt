@@ -2,11 +2,11 @@
 
 ghost use Rattle.std.specs.Prelude.{◌≡◌, ◌==◌, ◌≤◌, length};
 ghost use Rattle.std.specs.List.{position_or_len};
-ghost use Rattle.ssh_key.specs.Blanks.{is_blank};
+ghost use Rattle.key_text.specs.Blanks.{is_blank};
 ghost use Rattle.krl_spec.specs.Blanks.{after_endings, before_blanks};
 ghost use Rattle.krl_spec.specs.Blanks.{bare_line};
 
-use ssh_key::{before_ending, is_blank, is_ending};
+use key_text::{before_ending, is_blank, is_ending};
 
 /// What counts of a line: neither a `#` nor what is after it, nor the blanks and carriage
 /// returns at both ends.

@@ -4,7 +4,7 @@ ghost use Rattle.std.specs.Prelude.{◌≡◌, MatchOption, None, Some};
 ghost use Rattle.krl_spec.specs.Directive.{directive_named, is_named, name_of, order, order_in};
 
 use crate::blanks::position_of;
-use ssh_key::after_blanks;
+use key_text::after_blanks;
 
 const DIRECTIVES: [Directive; 6] = [
     Directive::Serial,

@@ -16,8 +16,8 @@ use crate::keys::{plain_key, read_hash};
 use crate::number::{Bounds, read_serials};
 use crate::under::Under;
 use key_files::SpecCause;
+use key_text::{sha1_of, sha256_of};
 use ssh_cert::Subject;
-use ssh_key::{sha1_of, sha256_of};
 use ssh_wire::Bytes;
 use std::alloc::Global;
 

@@ -2,8 +2,8 @@
 
 ghost use Rattle.std.specs.Prelude.{◌+◌, ◌*◌, ◌≤◌, IfOk, length};
 ghost use Rattle.ssh_wire.specs.Reading.{Answers, in_fault};
-ghost use Rattle.ssh_key.specs.FingerprintReading.{fingerprint_at};
-ghost use Rattle.ssh_key.specs.LineReading.{content_of, line_at};
+ghost use Rattle.key_text.specs.FingerprintReading.{fingerprint_at};
+ghost use Rattle.key_text.specs.LineReading.{content_of, line_at};
 ghost use Rattle.krl_types.specs.Subject.{Subject};
 ghost use Rattle.ssh_cert.specs.SubjectReading.{subject_of};
 ghost use Rattle.krl_spec.specs.Adding.{Reports};
@@ -13,8 +13,8 @@ ghost use Rattle.krl_spec.specs.Stored.{IsWithinBlob};
 ghost use Rattle.key_files.specs.declared.spec_cause.SpecCause.TheVariants.{Fingerprint};
 
 use key_files::{KeyCause, SpecCause};
+use key_text::{FingerprintFault, Line, LineFault, parse_fingerprint, read_line};
 use ssh_cert::{Subject, SubjectFault, subject};
-use ssh_key::{FingerprintFault, Line, LineFault, parse_fingerprint, read_line};
 use ssh_wire::Bytes;
 use std::alloc::Global;
 

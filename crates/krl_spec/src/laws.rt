@@ -14,8 +14,8 @@ ghost use Rattle.krl_spec.specs.declared.directive.Directive.{Directive};
 ghost use Rattle.krl_spec.specs.declared.number.Bounds.{Bounds};
 ghost use Rattle.key_files.specs.declared.spec_cause.SpecCause.{SpecCause};
 
+use key_text::laws::{line_read_where_spelled, line_refused_by_first_fault};
 use ssh_cert::laws::{asked_where_spelled, not_asked_by_first_fault};
-use ssh_key::laws::{line_read_where_spelled, line_refused_by_first_fault};
 
 /// What is read of a line is what counts of it.
 pub fn counted_where_spelled()

@@ -9,9 +9,9 @@ ghost use Rattle.krl_spec.specs.Under.{bytes_under};
 use crate::adding::add_line;
 use crate::under::Under;
 use key_files::SpecFault;
+use key_text::split_line;
 use krl_held::Revocations;
 use serial_set::Spans;
-use ssh_key::split_line;
 use std::alloc::Global;
 
 /// Adds what the lines of a specification file name, up to the first line that is refused or at

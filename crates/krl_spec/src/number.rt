@@ -6,7 +6,7 @@ ghost use Rattle.krl_spec.specs.Number.{bounds_of_text, number_in, number_of_tex
 
 use crate::blanks::{before_blanks, position_of};
 use key_files::SpecCause;
-use ssh_key::after_blanks;
+use key_text::after_blanks;
 use std::str;
 
 /// The first and the last number of a range.

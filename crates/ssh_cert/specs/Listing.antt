@@ -5,10 +5,10 @@ use Rattle.std.specs.Str.{bytes_eq}
 use Rattle.hex.specs.Hex.{encode_lower}
 use Rattle.ssh_wire.specs.Reading.{string_at}
 use Rattle.ssh_wire.specs.declared.fault.WireFault.{WireFault}
-use Rattle.ssh_key.specs.declared.hash.Hash.{Hash}
-use Rattle.ssh_key.specs.Fingerprints.{fingerprint_text}
 use Rattle.ssh_key.specs.Key.{PublicKey, blob_of}
 use Rattle.ssh_key.specs.Kind.{certificate_name, short_name_of}
+use Rattle.key_text.specs.declared.hash.Hash.{Hash}
+use Rattle.key_text.specs.Fingerprints.{fingerprint_text}
 use Rattle.ssh_cert.specs.declared.role.Role.{Role}
 use Rattle.ssh_cert.specs.declared.role.Role.TheVariants.{User, Host}
 use Rattle.ssh_cert.specs.Cert.{Cert}

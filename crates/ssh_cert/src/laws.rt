@@ -13,7 +13,7 @@ ghost use Rattle.ssh_cert.specs.SubjectReading.{IsSubject, IsSubjectFault, subje
 ghost use Rattle.ssh_cert.specs.Time.{IsTimeText, instant_text};
 ghost use Rattle.ssh_cert.specs.declared.fault.CertFault.{CertFault};
 ghost use Rattle.ssh_cert.specs.declared.subject_fault.SubjectFault.{SubjectFault};
-ghost use Rattle.ssh_key.specs.declared.hash.Hash.{Hash};
+ghost use Rattle.key_text.specs.declared.hash.Hash.{Hash};
 ghost use Rattle.ssh_wire.specs.Wire.{IsBytes};
 
 /// Reading gives a certificate exactly where the bytes are its blob.

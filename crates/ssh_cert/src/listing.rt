@@ -12,7 +12,8 @@ use crate::options::{CertOption, Options};
 use crate::role::Role;
 use crate::strings::Strings;
 use crate::time::{time_text, valid_at};
-use ssh_key::{Hash, PublicKey, fingerprint, plain_blob};
+use key_text::{Hash, fingerprint};
+use ssh_key::{PublicKey, plain_blob};
 use ssh_wire::Cursor;
 use std::alloc::{AllocError, Global};
 

@@ -1,4 +1,3 @@
-pub mod Trimmed
 pub mod Names
 pub mod Wire
 pub mod Public
@@ -7,20 +6,3 @@ pub mod Numbers
 pub mod Keys
 pub mod FirstFaults
 pub mod Cuts
-pub mod LineWords
-pub mod LineNames
-pub mod DecodedBytes
-pub mod LineBase64
-pub mod LineOptions
-pub mod TextWords
-pub mod LineLaws
-pub mod LineFaults
-pub mod FingerprintLaws
-pub mod RowLaws
-pub mod ListLaws
-pub mod ContainerLaws
-pub mod ArmourLaws
-pub mod PrivateLaws
-pub mod LineSplits
-pub mod ContainerReads
-pub mod SecretRows

@@ -1,4 +1,4 @@
-//! The tests of `ssh_key`, through what it makes public.
+//! The tests of `ssh_key` and `key_text`, through what they make public.
 #![tactic(auto)]
 
 #[cfg(test)]

@@ -1,9 +1,9 @@
 //! What each entry revokes, over each set of serials.
 
 use crate::tests::said::{A, ALL, About, B, G, Said, held_of, revokes};
+use key_text::{sha1_of, sha256_of};
 use serial_set::Spans;
 use span_sets::{Held, SpanVec};
-use ssh_key::{sha1_of, sha256_of};
 use std::alloc::Global;
 use std::process::Abort;
 

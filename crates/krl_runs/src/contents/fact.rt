@@ -46,7 +46,7 @@ impl Fact {
     }
 
     // Appends the value as it is printed.
-    #[tactic(auto, unfolding(ssh_key::specs::Fingerprints::unpadded))]
+    #[tactic(auto, unfolding(key_text::specs::Fingerprints::unpadded))]
     fn push_text(self, alloc: Global, bytes: &[u8], line: &mut Vec<u8>) -> Result<(), AllocError>
         ensures { OnOk result (line.new.items ≡ line.old.items ++ fact_text self bytes.now) }
     {

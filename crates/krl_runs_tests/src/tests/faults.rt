@@ -1,11 +1,12 @@
 //! The lines that report why a run stopped.
 
 use crate::tests::runs::same;
-use krl_core::KrlFault;
 use key_files::{Cause, FileFault, RunFault, fault_text};
+use key_text::{LineFault, PrivateFault};
+use krl_core::KrlFault;
 use krl_spec::SpecCause;
 use ssh_cert::{CertFault, SubjectFault};
-use ssh_key::{KeyFault, LineFault, PrivateFault};
+use ssh_key::KeyFault;
 use ssh_wire::WireFault;
 
 const SHORT: KeyFault = KeyFault::Wire(WireFault::Short);

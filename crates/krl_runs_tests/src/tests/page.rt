@@ -5,6 +5,7 @@ use crate::tests::runs::holding;
 use byte_streams::{FromRead, ToWrite};
 use key_files::{Cause, Named, RunFault, keys_of};
 use key_listing::{Done, ListMode, list_run};
+use key_text::Hash;
 use krl_core::Revocations;
 use krl_make::{Authority, Old, make_run};
 use krl_runs::query_run;
@@ -13,7 +14,6 @@ use krl_system::{Written, hold, write_list};
 use parts_for_tests::{GITHUB, GITHUB_LINE};
 use span_sets::Held;
 use ssh_cert::subject;
-use ssh_key::Hash;
 use std::alloc::Global;
 
 /// What the lines of a specification file revoke, under all authorities.

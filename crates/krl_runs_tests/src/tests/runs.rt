@@ -3,9 +3,9 @@
 use byte_streams::{FromRead, ToWrite};
 use key_files::{FileFault, Named, fault_text};
 use key_listing::{Done, ListMode, list_run};
+use key_text::Hash;
 use krl_runs::query_run;
 use parts_for_tests::{GITHUB_LINE, Giver, HEADER, KEY_SECTION, Taker};
-use ssh_key::Hash;
 use ssh_wire::Bytes;
 use std::alloc::Global;
 use std::process::Abort;

@@ -1,8 +1,8 @@
 //! The words of the command line.
 
+use key_text::Hash;
 use krl_job::{Authority, Job, Mode};
 use krl_words::{CommandFault, command_of};
-use ssh_key::Hash;
 use std::alloc::{AllocError, Global};
 use std::test::Fail;
 

@@ -1,7 +1,7 @@
 //! What the calls are given, where memory may be refused.
 
 use crate::tests::answered::answered;
-use ssh_key::{LineFault, read_line};
+use key_text::{LineFault, read_line};
 use ssh_wire::Bytes;
 use std::alloc::AllocError;
 use std::process::Abort;

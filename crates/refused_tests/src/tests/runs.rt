@@ -6,6 +6,7 @@ use crate::tests::parts::list_of;
 use byte_streams::{FromRead, ToWrite};
 use key_files::{Cause, FileFault, Named, RunFault, fault_text, load};
 use key_listing::{Done, ListMode, list_run};
+use key_text::{Hash, LineFault};
 use krl_make::{Authority, Old, make_run};
 use krl_runs::query_run;
 use krl_spec::{KeyCause, SpecCause};
@@ -13,7 +14,6 @@ use parts_for_tests::{
     CERT_LINE, CONTAINER, GITHUB_LINE, Giver, ID_A, KEY_SECTION, OTHER_LINE, SHA256_SECTION, Then,
     joined,
 };
-use ssh_key::{Hash, LineFault};
 use ssh_wire::Bytes;
 use std::alloc::{AllocError, Global};
 use std::process::Abort;

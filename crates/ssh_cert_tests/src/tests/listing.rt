@@ -1,9 +1,9 @@
 //! The listing of a certificate, and instants as they are printed.
 
 use crate::tests::parts::{Part, changed, with};
+use key_text::Hash;
 use parts_for_tests::{PUBLISHED, joined, repeated, strings};
 use ssh_cert::{list_cert, push_escaped, read_cert, time_text};
-use ssh_key::Hash;
 use std::alloc::{AllocError, Global};
 
 // The listing of the blob's certificate at the moment 0.

@@ -2,8 +2,9 @@
 
 use crate::tests::made::{Container, PLAIN, armoured, around, is_read};
 use crate::tests::parts::KEYS;
+use key_text::{PrivateFault, is_container, read_private};
 use parts_for_tests::{CONTAINER, GITHUB, joined, strings};
-use ssh_key::{Kind, PrivateFault, is_container, read_private};
+use ssh_key::Kind;
 use ssh_wire::WireFault;
 use std::alloc::{AllocError, Global};
 

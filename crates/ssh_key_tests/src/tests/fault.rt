@@ -1,7 +1,8 @@
 //! The texts of faults.
 
+use key_text::{FingerprintFault, LineFault, PrivateFault};
 use parts_for_tests::misprinted;
-use ssh_key::{FingerprintFault, KeyFault, LineFault, PrivateFault};
+use ssh_key::KeyFault;
 use ssh_wire::WireFault;
 
 const OF_KEYS: [(KeyFault, &str); 8] = [

@@ -1,8 +1,8 @@
 //! The published fingerprint, those of the standards' examples, and fingerprints that are read.
 
 use crate::tests::parts::{has_digits, has_fingerprint};
+use key_text::{FingerprintFault, Hash, parse_fingerprint, sha1_of, sha256_of};
 use parts_for_tests::{GITHUB, GITHUB_PRINT};
-use ssh_key::{FingerprintFault, Hash, parse_fingerprint, sha1_of, sha256_of};
 use std::alloc::Global;
 use std::process::Abort;
 

@@ -1,8 +1,8 @@
 //! Private containers from their parts (OpenSSH's PROTOCOL.key).
 
 use base64::engine::general_purpose::STANDARD;
+use key_text::read_private;
 use parts_for_tests::{GITHUB, joined, strings};
-use ssh_key::read_private;
 use std::alloc::{AllocError, Global};
 
 /// What a container is made of: its cipher, the number of its keys, the blob, the second of the

@@ -1,13 +1,25 @@
-//! The caller of the crate's page.
+//! The callers of the pages of `ssh_key` and `key_text`.
 
 ghost use Rattle.std.specs.Prelude.{◌≡◌, ℕ, List, IfOk};
-ghost use Rattle.ssh_key.specs.Fingerprints.{fingerprint_text};
-ghost use Rattle.ssh_key.specs.KeyLine.{IsKeyLine};
-ghost use Rattle.ssh_key.specs.declared.hash.Hash.TheVariants.{Sha256};
+ghost use Rattle.ssh_key.specs.Key.{IsKey, PublicKey};
+ghost use Rattle.key_text.specs.Fingerprints.{fingerprint_text};
+ghost use Rattle.key_text.specs.KeyLine.{IsKeyLine};
+ghost use Rattle.key_text.specs.declared.hash.Hash.TheVariants.{Sha256};
 
-use parts_for_tests::{GITHUB_LINE, GITHUB_PRINT};
-use ssh_key::{Hash, LineFault, fingerprint, read_line};
+use key_text::{Hash, LineFault, fingerprint, read_line};
+use parts_for_tests::{GITHUB, GITHUB_LINE, GITHUB_PRINT};
+use ssh_key::laws::read_where_spelled;
+use ssh_key::{KeyFault, read_key};
 use std::alloc::Global;
+
+/// The size in bits of the key of a blob, as `ssh-keygen -l` prints it.
+fn key_bits(blob: &[u8]) -> Result<u32, KeyFault>
+    ensures { IfOk result (λ bits. (key : PublicKey) × (IsKey blob.now key × (bits ≡ key.bits))) }
+{
+    read_where_spelled();
+    let key = read_key(blob)?;
+    Ok(key.bits())
+}
 
 /// The SHA-256 fingerprint of the key of a line, as `ssh-keygen -l` prints it.
 fn printed_key(alloc: Global, text: &[u8]) -> Result<Vec<u8>, LineFault>
@@ -20,6 +32,12 @@ fn printed_key(alloc: Global, text: &[u8]) -> Result<Vec<u8>, LineFault>
         Ok(printed) => Ok(printed),
         Err(_) => Err(LineFault::NoMemory),
     }
+}
+
+#[test]
+fn a_key_has_its_bits(rt: HostRuntime) {
+    assert!(rt; key_bits(GITHUB) == Ok(256));
+    assert!(rt; key_bits(b"nothing").is_err());
 }
 
 #[test]

@@ -1,7 +1,8 @@
 //! Keys of each kind, and the fingerprints and digests that are expected.
 
+use key_text::{Hash, fingerprint};
 use parts_for_tests::PUBLISHED;
-use ssh_key::{Hash, KeyFault, Kind, fingerprint, read_key};
+use ssh_key::{KeyFault, Kind, read_key};
 use std::alloc::{AllocError, Global};
 use std::process::Abort;
 

@@ -5,7 +5,7 @@ use Rattle.ssh_cert.specs.Cert.{Cert}
 use Rattle.ssh_cert.specs.CertReading.{certificate_at}
 use Rattle.ssh_cert.specs.SubjectReading.{certified, of_certificate}
 use Rattle.ssh_cert.specs.declared.fault.CertFault.{CertFault}
-use Rattle.ssh_key.specs.LineReading.{content}
+use Rattle.key_text.specs.LineReading.{content}
 use Rattle.key_listing.specs.Items.{SpellsKey}
 use Rattle.key_listing.specs.Listing.{certificate_answer, certify}
 use Rattle.key_listing.specs.Run.{said}

@@ -1,7 +1,7 @@
 -- Each law of reading containers and blobs gives its part.
 use Rattle.std.proofs.Common.{None, [], sym, ap, ◌∙◌}
 use Rattle.ssh_key.specs.KeyReading.{key_at}
-use Rattle.ssh_key.specs.LineReading.{content}
+use Rattle.key_text.specs.LineReading.{content}
 use Rattle.key_files.specs.Keys.{file_key_of}
 use Rattle.key_listing.specs.Run.{container_item}
 use Rattle.key_listing.proofs.Answering.{blob_answered}

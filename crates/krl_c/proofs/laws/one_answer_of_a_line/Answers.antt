@@ -1,6 +1,6 @@
 -- By one spelling, one first fault, and one reading of the line and of its blob.
 use Rattle.ssh_cert.specs.SubjectReading.{subject_of}
-use Rattle.ssh_key.specs.LineReading.{line_at}
+use Rattle.key_text.specs.LineReading.{line_at}
 use Rattle.krl_c.proofs.Once.{blob_once, line_once, list_once}
 use Rattle.krl_c.proofs.laws.one_answer_of_a_line.Goals as goal
 

@@ -1,7 +1,7 @@
 use Rattle.std.proofs.Common.{sym, ◌∙◌, arith}
 use Rattle.std.proofs.lemmas.List.{drop_all, take_rest}
 use Rattle.std.proofs.lemmas.List.Sums.{prefix_len_is}
-use Rattle.ssh_key.specs.Blanks.{is_ending}
+use Rattle.key_text.specs.Blanks.{is_ending}
 use Rattle.krl_spec.specs.Blanks.{after_endings}
 use Rattle.krl_spec.proofs.blanks.after_endings.Goals as goal
 

@@ -1,5 +1,5 @@
 use Rattle.std.proofs.Common.{◌≡◌, ℕ, ◌<◌, true, get_or}
-use Rattle.ssh_key.specs.Blanks.{is_ending}
+use Rattle.key_text.specs.Blanks.{is_ending}
 use Rattle.krl_spec.proofs.blanks.after_endings.Given as goal
 
 -- blanks and carriage returns so far

@@ -1,7 +1,7 @@
 use Rattle.std.proofs.Common.{◌≡◌, ◌-◌, ◌<◌, false, length, get_or, sym, ◌∙◌, arith}
 use Rattle.std.proofs.lemmas.List.Sums.{suffix_len_is}
 use Rattle.std.specs.List.{suffix_len}
-use Rattle.ssh_key.specs.Blanks.{is_blank}
+use Rattle.key_text.specs.Blanks.{is_blank}
 use Rattle.krl_spec.specs.Blanks.{before_blanks}
 use Rattle.krl_spec.proofs.blanks.before_blanks.Goals as goal
 use Rattle.krl_spec.proofs.blanks.before_blanks.Goals.{then-loop-end-test+else-is_blank, else-loop-end-test}

@@ -1,5 +1,5 @@
 use Rattle.std.proofs.Common.{◌≡◌, ℕ, ◌<◌, ◌≤◌, true, length, get_or}
-use Rattle.ssh_key.specs.Blanks.{is_blank}
+use Rattle.key_text.specs.Blanks.{is_blank}
 use Rattle.krl_spec.proofs.blanks.before_blanks.Given as goal
 
 -- what is left out so far are blanks

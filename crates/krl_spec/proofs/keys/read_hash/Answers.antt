@@ -1,6 +1,6 @@
 -- A fingerprint is longer than its digest.
 use Rattle.std.proofs.Common.{arith}
-use Rattle.ssh_key.proofs.FingerprintLaws.{fingerprint_found}
+use Rattle.key_text.proofs.FingerprintLaws.{fingerprint_found}
 use Rattle.krl_spec.proofs.Sizes.{fingerprint_room}
 use Rattle.krl_spec.proofs.keys.read_hash.Goals as goal
 

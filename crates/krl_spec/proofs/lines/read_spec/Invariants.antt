@@ -1,7 +1,7 @@
 -- The lines so far are read, and the others are left.
 use Rattle.std.proofs.Common.{◌+◌, ◌-◌, ◌≤◌, length}
 use Rattle.std.specs.List.{slice_split}
-use Rattle.ssh_key.specs.Lines.{is_newline}
+use Rattle.key_text.specs.Lines.{is_newline}
 use Rattle.krl_spec.specs.Under.{authority_under}
 use Rattle.krl_spec.specs.Stored.{GrowsUnder}
 use Rattle.krl_spec.specs.Under.{bytes_under}

@@ -3,9 +3,9 @@ use Rattle.std.proofs.Common.{◌≡◌, ℕ, ◌+◌, ◌^◌, ◌<◌, ◌≤�
 use Rattle.std.specs.Borrow.{Bor}
 use Rattle.std.specs.List.{slice_split}
 use Rattle.std.specs.Prelude.{IfSome}
-use Rattle.ssh_key.specs.KeyFile.{has_key}
-use Rattle.ssh_key.specs.LineReading.{line_at}
-use Rattle.ssh_key.specs.Lines.{is_newline, lines_left}
+use Rattle.key_text.specs.KeyFile.{has_key}
+use Rattle.key_text.specs.LineReading.{line_at}
+use Rattle.key_text.specs.Lines.{is_newline, lines_left}
 use Rattle.key_files.specs.FileKeys.{line_room}
 use Rattle.key_files.specs.Keys.{key_in, keys_from, key_of_line}
 use Rattle.key_files.proofs.file_keys.Lines.next_with_key.Goals as goal

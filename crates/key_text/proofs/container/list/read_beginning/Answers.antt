@@ -1,0 +1,7 @@
+use Rattle.std.proofs.Common.{rules}
+use Rattle.key_text.specs.Rows.{row_at}
+use Rattle.key_text.proofs.container.list.read_beginning.Goals as goal
+
+pub returns : goal.returns
+unfolding row_at
+returns c = search rules steps 1000000

@@ -1,0 +1,206 @@
+-- The private container of one key that is not encrypted (OpenSSH's PROTOCOL.key).
+use Rattle.std.specs.Prelude.{◌≡◌, ◌≢◌, ℕ, ◌==◌, ◌&&◌, ◌<◌, Bool, List, [], ◌∷◌, ◌++◌, codes, length, slice_index, Option, Some, None, Result, Ok, Err, if◌then◌else◌}
+use Rattle.std.specs.List.{range_with_len}
+use Rattle.std.specs.Str.{bytes_eq}
+use Rattle.ssh_wire.specs.Wire.{IsBytes}
+use Rattle.ssh_wire.specs.Reading.{string_at}
+use Rattle.ssh_wire.specs.declared.fault.WireFault.{WireFault}
+use Rattle.ssh_key.specs.Key.{IsKey, PublicKey, fields_text}
+use Rattle.ssh_key.specs.KeyReading.{key_at}
+use Rattle.ssh_key.specs.Kind.{fields_of, type_name}
+use Rattle.ssh_key.specs.declared.fault.KeyFault.{KeyFault}
+use Rattle.ssh_key.specs.declared.fault.KeyFault.TheVariants as keys
+use Rattle.ssh_key.specs.declared.kind.Kind.{Kind}
+use Rattle.ssh_key.specs.declared.kind.Kind.TheVariants.{Rsa, Dsa, Ecdsa256, Ecdsa384, Ecdsa521, Ed25519, EcdsaSk, Ed25519Sk}
+use Rattle.key_text.specs.Armour.{IsArmour}
+use Rattle.key_text.specs.KeyLine.{base64}
+use Rattle.key_text.specs.Rows.{Fails, Leads, Magnitude, Number, BeginsWithPart, Step, Text, passes, step}
+use Rattle.key_text.specs.declared.private_fault.PrivateFault.{PrivateFault}
+use Rattle.key_text.specs.declared.private_fault.PrivateFault.TheVariants as faults
+
+-- the name of the format, and a zero byte
+unfoldable pub magic : List ℕ
+magic = codes "openssh-key-v1" ++ 0 ∷ []
+
+-- ---- the judgements
+
+abbrev pub fault_unless : PrivateFault → Bool → Option PrivateFault
+fault_unless fault holds = if holds then None else Some fault
+
+-- cipher, derivation and options of a container that is not encrypted
+abbrev pub is_plain : List ℕ → List ℕ → List ℕ → Bool
+is_plain cipher derivation options =
+    bytes_eq cipher (codes "none")
+    && (bytes_eq derivation (codes "none") && length options == 0)
+
+abbrev pub plain : List (List ℕ) → Option PrivateFault
+plain (cipher ∷ derivation ∷ options ∷ []) =
+    fault_unless faults.Encrypted (is_plain cipher derivation options)
+plain values = Some faults.Encrypted
+
+abbrev pub one_key : List (List ℕ) → Option PrivateFault
+one_key (cipher ∷ kdf ∷ options ∷ count ∷ []) =
+    fault_unless faults.KeyCount (slice_index count 0 == 1)
+one_key values = Some faults.KeyCount
+
+abbrev pub why_no_key : Result PublicKey KeyFault → Option PrivateFault
+why_no_key (Ok key) = None
+why_no_key (Err fault) = Some (faults.Key fault)
+
+abbrev pub public_key : List (List ℕ) → Option PrivateFault
+public_key (cipher ∷ kdf ∷ options ∷ count ∷ blob ∷ []) = why_no_key (key_at blob)
+public_key values = Some faults.KeyCount
+
+abbrev pub same_check : List (List ℕ) → Option PrivateFault
+same_check (check ∷ again ∷ []) =
+    fault_unless faults.Check (slice_index check 0 == slice_index again 0)
+same_check values = Some faults.Check
+
+abbrev pub same_type : Kind → List (List ℕ) → Option PrivateFault
+same_type kind (check ∷ again ∷ name ∷ []) =
+    fault_unless faults.PublicDiffers (bytes_eq name (type_name kind))
+same_type kind values = Some faults.PublicDiffers
+
+-- the private part of an Ed25519 key
+abbrev pub of_64_bytes : List (List ℕ) → Option PrivateFault
+of_64_bytes (public ∷ secret ∷ []) = fault_unless (faults.Key keys.Length) (length secret == 64)
+of_64_bytes values = Some (faults.Key keys.Length)
+
+-- ---- the rows
+
+abbrev pub outer : List Step
+outer = step Text passes ∷ step Text passes ∷ step Text plain
+    ∷ step (Number 4) one_key
+    ∷ step Text public_key
+    ∷ step Text passes
+    ∷ []
+
+abbrev pub beginning : Kind → List Step
+beginning kind =
+    step (Number 4) passes ∷ step (Number 4) same_check ∷ step Text (same_type kind) ∷ []
+
+abbrev pub secrets : Kind → List Step
+secrets Rsa =
+    step Magnitude passes ∷ step Magnitude passes ∷ step Magnitude passes
+    ∷ step Magnitude passes ∷ step Magnitude passes ∷ step Magnitude passes ∷ []
+secrets Dsa =
+    step Magnitude passes ∷ step Magnitude passes ∷ step Magnitude passes
+    ∷ step Magnitude passes ∷ step Magnitude passes ∷ []
+secrets Ecdsa256 = step Text passes ∷ step Text passes ∷ step Magnitude passes ∷ []
+secrets Ecdsa384 = step Text passes ∷ step Text passes ∷ step Magnitude passes ∷ []
+secrets Ecdsa521 = step Text passes ∷ step Text passes ∷ step Magnitude passes ∷ []
+secrets Ed25519 = step Text passes ∷ step Text of_64_bytes ∷ []
+secrets EcdsaSk =
+    step Text passes ∷ step Text passes ∷ step Text passes
+    ∷ step (Number 1) passes ∷ step Text passes ∷ step Text passes ∷ []
+secrets Ed25519Sk =
+    step Text passes ∷ step Text passes
+    ∷ step (Number 1) passes ∷ step Text passes ∷ step Text passes ∷ []
+
+-- The public fields among them, in the order of the blob. Of an RSA key the modulus comes first.
+abbrev pub public_values : Kind → List (List ℕ) → List (List ℕ)
+public_values Rsa (n ∷ e ∷ others) = e ∷ n ∷ []
+public_values Dsa (p ∷ q ∷ g ∷ y ∷ others) = p ∷ q ∷ g ∷ y ∷ []
+public_values Ecdsa256 (curve ∷ point ∷ others) = curve ∷ point ∷ []
+public_values Ecdsa384 (curve ∷ point ∷ others) = curve ∷ point ∷ []
+public_values Ecdsa521 (curve ∷ point ∷ others) = curve ∷ point ∷ []
+public_values Ed25519 (public ∷ others) = public ∷ []
+public_values EcdsaSk (curve ∷ point ∷ application ∷ others) = curve ∷ point ∷ application ∷ []
+public_values Ed25519Sk (public ∷ application ∷ others) = public ∷ application ∷ []
+public_values kind values = []
+
+-- the public fields that these values spell
+abbrev pub public_text : Kind → List (List ℕ) → List ℕ
+public_text kind values = fields_text (fields_of kind) (public_values kind values)
+
+-- ---- the container
+
+-- the longest padding
+unfoldable pub all_padding : List ℕ
+all_padding = range_with_len 1 254
+
+-- The text holds these bytes: their base64 between the lines of the armour.
+pub record Holds (text bytes : List ℕ) : Type 0 where
+  pub body : List ℕ
+  pub armour : IsArmour text body
+  pub encoded : body ≡ base64 bytes
+  pub are_bytes : IsBytes bytes
+
+-- The list's check words and type, and the fields of the kind. What follows is left.
+pub record Opens (key : PublicKey) (list : List ℕ) (values : List (List ℕ)) (rest : List ℕ) : Type 0
+  where
+    pub head : List (List ℕ)
+    pub fields : List ℕ
+    pub begun : Leads (beginning key.kind) [] list head fields
+    pub read : Leads (secrets key.kind) [] fields values rest
+
+-- The private list of the key: its fields have the public ones of the key, and after the comment
+-- stands the padding, a front of the bytes 1, 2, 3 and so on up to 254.
+pub record IsPrivateList (key : PublicKey) (list comment : List ℕ) : Type 0 where
+  pub values : List (List ℕ)
+  pub rest : List ℕ
+  pub opens : Opens key list values rest
+  pub padding : List ℕ
+  pub ended : BeginsWithPart Text rest comment padding
+  pub same : public_text key.kind values ≡ key.fields
+  pub unused : List ℕ
+  pub padded : all_padding ≡ padding ++ unused
+
+-- The bytes after the name of the format hold this blob and this private list.
+abbrev pub HasParts : List ℕ → List ℕ → List ℕ → Type 0
+HasParts inside blob list =
+    (cipher : List ℕ) × (kdf : List ℕ) × (options : List ℕ) × (count : List ℕ)
+    × Leads outer [] inside (cipher ∷ kdf ∷ options ∷ count ∷ blob ∷ list ∷ []) []
+
+-- The text is the container of the key of this blob, with this comment.
+pub record IsContainer (text blob comment : List ℕ) : Type 0 where
+  pub inside : List ℕ
+  pub holds : Holds text (magic ++ inside)
+  pub list : List ℕ
+  pub parts : HasParts inside blob list
+  pub key : PublicKey
+  pub is_key : IsKey blob key
+  pub secret : IsPrivateList key list comment
+
+-- ---- the first fault
+
+pub data IsListFault (key : PublicKey) (list : List ℕ) (fault : PrivateFault) : Type 0 where
+  in_beginning : Fails (beginning key.kind) [] list fault → IsListFault key list fault
+  in_secrets : (head : List (List ℕ)) (fields : List ℕ)
+      → Leads (beginning key.kind) [] list head fields → Fails (secrets key.kind) [] fields fault
+      → IsListFault key list fault
+  in_comment : (values : List (List ℕ)) (rest : List ℕ) (why : WireFault)
+      → Opens key list values rest → string_at rest ≡ Err why → fault ≡ faults.Wire why
+      → IsListFault key list fault
+  other_public : (values : List (List ℕ)) (rest comment padding : List ℕ)
+      → Opens key list values rest → BeginsWithPart Text rest comment padding
+      → public_text key.kind values ≢ key.fields → fault ≡ faults.PublicDiffers
+      → IsListFault key list fault
+  other_padding : (values : List (List ℕ)) (rest comment padding : List ℕ)
+      → Opens key list values rest → BeginsWithPart Text rest comment padding
+      → public_text key.kind values ≡ key.fields
+      → ((unused : List ℕ) → all_padding ≢ padding ++ unused) → fault ≡ faults.Padding
+      → IsListFault key list fault
+
+-- The first fault of a text that is no container. `NoMemory` is never the text's.
+pub data IsPrivateFault (text : List ℕ) (fault : PrivateFault) : Type 0 where
+  no_armour : ((body : List ℕ) → ¬ IsArmour text body) → fault ≡ faults.Armour
+      → IsPrivateFault text fault
+  no_base64 : (body : List ℕ) → IsArmour text body
+      → ((bytes : List ℕ) → IsBytes bytes → base64 bytes ≢ body) → fault ≡ faults.Base64
+      → IsPrivateFault text fault
+  no_magic : (bytes : List ℕ) → Holds text bytes → ((rest : List ℕ) → bytes ≢ magic ++ rest)
+      → fault ≡ faults.Magic → IsPrivateFault text fault
+  in_parts : (inside : List ℕ) → Holds text (magic ++ inside) → Fails outer [] inside fault
+      → IsPrivateFault text fault
+  after_parts : (inside rest : List ℕ) (values : List (List ℕ)) → Holds text (magic ++ inside)
+      → Leads outer [] inside values rest → 0 < length rest → fault ≡ faults.Trailing
+      → IsPrivateFault text fault
+  in_list : (inside blob list : List ℕ) (key : PublicKey) → Holds text (magic ++ inside)
+      → HasParts inside blob list → IsKey blob key → IsListFault key list fault
+      → IsPrivateFault text fault
+
+-- What is reported of a text: its fault, or, where it is armoured, that there is no memory.
+abbrev pub IsReportedPrivateFault : List ℕ → PrivateFault → Type 0
+IsReportedPrivateFault text faults.NoMemory = (body : List ℕ) × IsArmour text body
+IsReportedPrivateFault text fault = IsPrivateFault text fault

@@ -1,0 +1,16 @@
+pub mod TypeName
+pub mod LineFault
+pub mod Blanks
+pub mod KeyLine
+pub mod LineReading
+pub mod LineFaults
+pub mod Fingerprints
+pub mod FingerprintFault
+pub mod FingerprintReading
+pub mod KeyFile
+pub mod PrivateFault
+pub mod Lines
+pub mod Armour
+pub mod Rows
+pub mod Container
+pub mod ContainerReading

@@ -1,0 +1,114 @@
+//! Reading private containers (OpenSSH's PROTOCOL.key).
+
+ghost use Rattle.std.specs.Prelude.{◌≡◌, ◌≢◌, ◌≤◌, ℕ, List, Err, IfErr, IfOk, None, Ok, length, replicate};
+ghost use Rattle.base64.specs.Decode.{decoded_estimate};
+ghost use Rattle.key_text.specs.Armour.{armour_at};
+ghost use Rattle.key_text.specs.Container.{IsContainer, IsReportedPrivateFault};
+ghost use Rattle.key_text.specs.ContainerReading.{GivesPrivate, body_at, bytes_at, private_at};
+ghost use Rattle.key_text.specs.declared.private_fault.PrivateFault.TheVariants.{NoMemory};
+
+use crate::private_fault::PrivateFault;
+use base64::decoded_len_estimate;
+use base64::engine::general_purpose::STANDARD;
+use ssh_wire::Bytes;
+use std::alloc::Global;
+
+mod armour;
+mod list;
+mod padding;
+mod parts;
+mod secrets;
+
+pub use armour::is_container;
+use armour::{after_begin, body_size, joined};
+use parts::{Opened, read_bytes};
+
+/// What a private container says in public.
+#[derive(Debug, Drop)]
+pub struct Private {
+    /// The blob of the public key.
+    pub blob: Bytes,
+    /// The comment, which may be empty.
+    pub comment: Bytes,
+}
+
+/// Reads a private key file (OpenSSH's PROTOCOL.key) of one key that is not encrypted, for its
+/// public key and its comment.
+///
+/// The text is the base64 of the container, in lines of any length, between the line that begins a
+/// container and the first line that ends one. Blanks and carriage returns at the end of a line are
+/// passed over, and what follows the end line is not read. The private part has to be of the kind
+/// of the public key, with its public fields; the private numbers themselves are not checked.
+///
+/// Faults come in the order in which their fields come. `Trailing`, that bytes follow the private
+/// list, is reported before the list is read. The bytes are decoded into memory that is asked for
+/// before they are checked, so `NoMemory` may take the place of any answer but `Armour`.
+///
+/// Private bytes are copied no further than the decoded container. The memory that held them is
+/// overwritten before it is given back.
+pub fn read_private(alloc: Global, text: &[u8]) -> Result<Private, PrivateFault>
+    // What is read is a container.
+    ensures found { IfOk result (λ private. IsContainer text.now private.blob private.comment) }
+    // Each container is read, unless memory runs out.
+    ensures only { (blob comment : List ℕ) → IsContainer text.now blob comment
+        → GivesPrivate result (Ok (record { blob = blob; comment = comment })) }
+    // The fault is the first one of the text, unless memory runs out.
+    ensures fault { IfErr result (λ fault. IsReportedPrivateFault text.now fault) }
+    // The same, for those who compute with the answer.
+    ensures exact { GivesPrivate result (private_at text.now) }
+{
+    read_content(alloc, text)
+}
+
+// Reads a container, and overwrites what was joined of its lines.
+#[tactic(auto, unfolding(crate::specs::ContainerReading::private_at))]
+fn read_content(alloc: Global, text: &[u8]) -> Result<Private, PrivateFault>
+    ensures exact { GivesPrivate result (private_at text.now) }
+    ensures armour { result ≡ Err NoMemory → armour_at text.now ≢ None }
+{
+    let lines = after_begin(text).ok_or(PrivateFault::Armour)?;
+    let size = body_size(lines).ok_or(PrivateFault::Armour)?;
+    let mut body = joined(alloc, lines, size)?;
+    let private = read_body(alloc, &body);
+    overwrite(&mut body);
+    private
+}
+
+// The container whose base64 this is.
+fn read_body(alloc: Global, body: &[u8]) -> Result<Private, PrivateFault>
+    ensures { GivesPrivate result (body_at body.now) }
+{
+    let mut bytes = vec![in alloc; 0; decoded_len_estimate(body.len())]?;
+    let private = read_decoded(alloc, body, &mut bytes);
+    overwrite(&mut bytes);
+    private
+}
+
+// The same, decoded into these bytes.
+fn read_decoded(alloc: Global, body: &[u8], bytes: &mut [u8]) -> Result<Private, PrivateFault>
+    requires { decoded_estimate (length body.now) ≤ length bytes.old }
+    ensures { GivesPrivate result (body_at body.now) }
+{
+    match STANDARD.decode_slice_unchecked(body, bytes) {
+        Ok(size) => read_owned(alloc, &bytes[..size]),
+        Err(_) => Err(PrivateFault::Base64),
+    }
+}
+
+// The container that has these bytes, with what it says in public copied out of them.
+fn read_owned(alloc: Global, bytes: &[u8]) -> Result<Private, PrivateFault>
+    ensures { GivesPrivate result (bytes_at bytes.now) }
+{
+    let Opened { blob, comment } = read_bytes(bytes)?;
+    Ok(Private {
+        blob: Bytes::from_vec(Vec::from_slice(alloc, blob)?),
+        comment: Bytes::from_vec(Vec::from_slice(alloc, comment)?),
+    })
+}
+
+// Writes zeros over bytes.
+fn overwrite(bytes: &mut [u8])
+    ensures { bytes.new ≡ replicate (length bytes.old) 0 }
+{
+    bytes.fill(0);
+}

@@ -1,0 +1,92 @@
+//! What holds for every text, each as the contract of a function that does nothing. `read_line`,
+//! `parse_fingerprint` and `read_private` answer what the readers named here give.
+
+ghost use Rattle.std.specs.Prelude.{◌≡◌, ◌<◌, ◌↔◌, ℕ, List, Err, Ok, length};
+ghost use Rattle.sha2.specs.Sha256.{sha256};
+ghost use Rattle.key_text.specs.Blanks.{IsWord};
+ghost use Rattle.key_text.specs.Container.{IsContainer, IsPrivateFault};
+ghost use Rattle.key_text.specs.ContainerReading.{private_at};
+ghost use Rattle.key_text.specs.FingerprintReading.{IsFingerprint, IsFingerprintFault, fingerprint_at};
+ghost use Rattle.key_text.specs.Fingerprints.{fingerprint_text};
+ghost use Rattle.key_text.specs.KeyLine.{IsKeyLine, base64};
+ghost use Rattle.key_text.specs.LineFaults.{IsFirstLineFault};
+ghost use Rattle.key_text.specs.LineReading.{Content, content, line_at};
+ghost use Rattle.key_text.specs.declared.fingerprint_fault.FingerprintFault.{FingerprintFault};
+ghost use Rattle.key_text.specs.declared.hash.Hash.TheVariants.{Sha256};
+ghost use Rattle.key_text.specs.declared.line_fault.LineFault.{LineFault};
+ghost use Rattle.key_text.specs.declared.private_fault.PrivateFault.{PrivateFault};
+ghost use Rattle.ssh_wire.specs.Wire.{IsBytes};
+
+/// Reading gives what a key line holds exactly where the text is one.
+pub fn line_read_where_spelled()
+    ensures read { (text word blob comment : List ℕ) → IsKeyLine text word blob comment
+        → line_at text ≡ Ok (content word blob comment) }
+    ensures spelled { (text : List ℕ) (line : Content) → IsBytes text → line_at text ≡ Ok line
+        → IsKeyLine text line.word line.blob line.comment }
+{}
+
+/// The base64 of a key is always a word, so no key is left out of the key lines for its bytes.
+pub fn base64_is_word()
+    ensures { (blob : List ℕ) → 0 < length blob → IsWord (base64 blob) }
+{}
+
+/// Reading meets a fault exactly where it is the first fault of the text.
+pub fn line_refused_by_first_fault()
+    ensures { (text : List ℕ) (fault : LineFault) → IsBytes text
+        → (line_at text ≡ Err fault) ↔ IsFirstLineFault text fault }
+{}
+
+/// A text has one first fault at most, and a key line has none.
+pub fn one_first_line_fault()
+    ensures one { (text : List ℕ) (a b : LineFault) → IsBytes text → IsFirstLineFault text a
+        → IsFirstLineFault text b → a ≡ b }
+    ensures none { (text word blob comment : List ℕ) (fault : LineFault) → IsBytes text
+        → IsKeyLine text word blob comment → IsFirstLineFault text fault → ⊥ }
+{}
+
+/// Reading a printed fingerprint gives a digest exactly where the text is its fingerprint.
+pub fn fingerprint_read_where_spelled()
+    ensures { (text digest : List ℕ) → IsBytes text
+        → (fingerprint_at text ≡ Ok digest) ↔ IsFingerprint text digest }
+{}
+
+/// Reading meets a fault exactly where it is the first fault of the text as a fingerprint.
+pub fn fingerprint_refused_by_first_fault()
+    ensures { (text : List ℕ) (fault : FingerprintFault) → IsBytes text
+        → (fingerprint_at text ≡ Err fault) ↔ IsFingerprintFault text fault }
+{}
+
+/// A text has one first fault as a fingerprint at most, and a fingerprint has none.
+pub fn one_fingerprint_fault()
+    ensures one { (text : List ℕ) (a b : FingerprintFault) → IsBytes text
+        → IsFingerprintFault text a → IsFingerprintFault text b → a ≡ b }
+    ensures none { (text digest : List ℕ) (fault : FingerprintFault) → IsBytes text
+        → IsFingerprint text digest → IsFingerprintFault text fault → ⊥ }
+{}
+
+/// The printed SHA-256 fingerprint of any bytes names their SHA-256. So `parse_fingerprint` reads
+/// back what `fingerprint` prints.
+pub fn fingerprint_names_its_digest()
+    ensures { (bytes : List ℕ) → IsFingerprint (fingerprint_text Sha256 bytes) (sha256 bytes) }
+{}
+
+/// Reading gives a public blob and a comment exactly where the text is their container.
+pub fn private_read_where_spelled()
+    ensures { (text blob comment : List ℕ) → IsBytes text
+        → (private_at text ≡ Ok (record { blob = blob; comment = comment }))
+        ↔ IsContainer text blob comment }
+{}
+
+/// Reading meets a fault exactly where it is the first fault of the text as a container.
+pub fn private_refused_by_first_fault()
+    ensures { (text : List ℕ) (fault : PrivateFault) → IsBytes text
+        → (private_at text ≡ Err fault) ↔ IsPrivateFault text fault }
+{}
+
+/// A text has one first fault as a container at most, and a container has none.
+pub fn one_private_fault()
+    ensures one { (text : List ℕ) (a b : PrivateFault) → IsBytes text
+        → IsPrivateFault text a → IsPrivateFault text b → a ≡ b }
+    ensures none { (text blob comment : List ℕ) (fault : PrivateFault) → IsBytes text
+        → IsContainer text blob comment → IsPrivateFault text fault → ⊥ }
+{}

@@ -1,0 +1,27 @@
+//! Public keys as text: the lines of key files (sshd(8)), private key files (OpenSSH's
+//! PROTOCOL.key), and the fingerprints that ssh-keygen(1) prints.
+#![tactic(auto)]
+
+mod container;
+mod fingerprint_fault;
+mod fingerprints;
+mod hash;
+mod key_file;
+pub mod laws;
+mod line;
+mod line_fault;
+mod lines;
+mod parsing;
+mod private_fault;
+mod type_name;
+
+pub use container::{Private, is_container, read_private};
+pub use fingerprint_fault::FingerprintFault;
+pub use fingerprints::fingerprint;
+pub use hash::{Hash, sha1_of, sha256_of};
+pub use key_file::has_key;
+pub use line::{Line, after_blanks, before_ending, is_blank, is_ending, read_line};
+pub use line_fault::LineFault;
+pub use lines::split_line;
+pub use parsing::parse_fingerprint;
+pub use private_fault::PrivateFault;

@@ -1,0 +1,50 @@
+//! Why a key line is refused.
+
+ghost use Rattle.std.specs.Prelude.{◌≡◌, Some};
+ghost use Rattle.key_text.specs.LineFault.{fault_number, fault_text};
+
+use std::error::Error;
+use std::fmt;
+
+/// Why a line gives no key. It prints as `line`, its number and its name.
+#[derive(Clone, Copy, Debug, PartialEq, Eq)]
+pub enum LineFault {
+    /// No type name stands where one has to, or no word follows it.
+    NoKey,
+    /// The word after the type name is not base64 with padding, its unused bits zero.
+    Base64,
+    /// The first string of the key is not the type name.
+    WordDiffers,
+    /// There was no memory for the key.
+    NoMemory,
+}
+
+impl LineFault {
+    /// The fault's number, 1 to 4 in the order of the variants.
+    pub fn number(self) -> u8
+        ensures { result ≡ fault_number self }
+    {
+        match self {
+            LineFault::NoKey => 1,
+            LineFault::Base64 => 2,
+            LineFault::WordDiffers => 3,
+            LineFault::NoMemory => 4,
+        }
+    }
+}
+
+impl fmt::Display for LineFault {
+    ghost output = { λ fault. Some (fault_text fault) };
+
+    fn fmt<W: fmt::Write>(&self, f: &mut fmt::Formatter<W>) -> fmt::Result {
+        let text = match self {
+            LineFault::NoKey => "line 1 NoKey",
+            LineFault::Base64 => "line 2 Base64",
+            LineFault::WordDiffers => "line 3 WordDiffers",
+            LineFault::NoMemory => "line 4 NoMemory",
+        };
+        f.write_str(text)
+    }
+}
+
+impl Error for LineFault {}

@@ -1,5 +1,0 @@
-use Rattle.std.proofs.Common.{rules}
-use Rattle.ssh_key.proofs.container.armour.is_end.Goals as goal
-
-pub returns : goal.returns
-returns c = search rules steps 300000

@@ -1,7 +1,0 @@
-use Rattle.std.proofs.Common.{rules}
-use Rattle.ssh_key.specs.Rows.{row_at}
-use Rattle.ssh_key.proofs.container.list.read_beginning.Goals as goal
-
-pub returns : goal.returns
-unfolding row_at
-returns c = search rules steps 1000000

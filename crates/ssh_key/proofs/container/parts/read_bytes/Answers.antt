@@ -1,9 +1,0 @@
--- What follows the name of the format was read.
-use Rattle.std.proofs.Common.{sym, ◌∙◌}
-use Rattle.ssh_key.specs.Container.{magic}
-use Rattle.ssh_key.proofs.ContainerReads.{bytes_inside}
-use Rattle.ssh_key.proofs.container.parts.read_bytes.Goals as goal
-
-pub returns : goal.returns
-unfolding magic
-returns c = c.read_inside.ensures ∙ bytes_inside c.args.bytes.now (sym c.starts_with.ensures.value ∙ c.if-not-starts_with.false)

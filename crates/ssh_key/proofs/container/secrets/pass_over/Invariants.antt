@@ -1,9 +1,0 @@
--- What was passed over stands before what is left, and the rest of the row is still to come.
-use Rattle.std.proofs.Common.{◌≡◌, ℕ, List, ◌++◌, drop}
-use Rattle.ssh_wire.specs.Wire.{IsBytes}
-use Rattle.ssh_key.specs.ContainerReading.{passed_at}
-use Rattle.ssh_key.proofs.SecretRows.{in_all}
-use Rattle.ssh_key.proofs.container.secrets.pass_over.Given as goal
-
-abbrev pub invariant-loop-spelling : goal.invariant-loop-spelling
-invariant-loop-spelling l = (read : List ℕ) × (l.bytes ≡ read ++ l.cursor) × IsBytes l.cursor × (passed_at l.row l.bytes ≡ in_all read (passed_at (drop l.spelling-index l.row) l.cursor))

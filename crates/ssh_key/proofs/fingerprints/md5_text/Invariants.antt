@@ -1,7 +1,0 @@
-use Rattle.std.proofs.Common.{◌≡◌, ◌++◌, take, codes}
-use Rattle.std.specs.List.{flat_map}
-use Rattle.ssh_key.specs.Fingerprints.{colon_pair}
-use Rattle.ssh_key.proofs.fingerprints.md5_text.Given as goal
-
-abbrev pub invariant-loop-byte : goal.invariant-loop-byte
-invariant-loop-byte l = l.text.items ≡ codes "MD5" ++ flat_map colon_pair (take l.byte-index l.digest)

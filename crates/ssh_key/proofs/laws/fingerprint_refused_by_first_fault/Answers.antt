@@ -1,5 +1,0 @@
-use Rattle.ssh_key.proofs.FingerprintLaws.{fingerprint_fault_met, fingerprint_refused}
-use Rattle.ssh_key.proofs.laws.fingerprint_refused_by_first_fault.Goals as goal
-
-pub returns : goal.returns
-returns c = λ text fault fits. (fingerprint_refused text fault fits, fingerprint_fault_met text fault fits)

@@ -1,5 +1,0 @@
-use Rattle.ssh_key.proofs.PrivateLaws.{private_met, private_refused}
-use Rattle.ssh_key.proofs.laws.private_refused_by_first_fault.Goals as goal
-
-pub returns : goal.returns
-returns c = λ text fault fits. (private_refused text fault fits, private_met text fault fits)

@@ -1,7 +1,0 @@
-use Rattle.std.proofs.Common.{rules}
-use Rattle.ssh_key.specs.LineReading.{decoded}
-use Rattle.ssh_key.proofs.line.decoded.Goals as goal
-
-pub returns-clause-exact : goal.returns-clause-exact
-unfolding decoded
-returns-clause-exact c = search rules steps 3000000

@@ -1,7 +1,0 @@
-use Rattle.std.proofs.Common.{◌≡◌, false, drop}
-use Rattle.ssh_key.specs.LineReading.{after_options}
-use Rattle.ssh_key.proofs.line.options.after_options.Given as goal
-
--- what is left of the text gives the answer
-abbrev pub invariant-loop-i : goal.invariant-loop-i
-invariant-loop-i l = after_options l.quoted l.escaped (drop l.i l.text) ≡ after_options false false l.text

@@ -1,5 +1,0 @@
-use Rattle.std.proofs.Common.{rules}
-use Rattle.ssh_key.proofs.line.words.is_blank.Goals as goal
-
-pub returns-else-byte-eq32 : goal.returns-else-byte-eq32
-returns-else-byte-eq32 c = search rules steps 300000
