@@ -4,7 +4,7 @@ use Rattle.std.specs.Prelude.{codes, decimal}
 use Rattle.std.specs.Result.{result_ok}
 use Rattle.ssh_cert.specs.CertReading.{certificate_at}
 use Rattle.ssh_cert.specs.Cert.{Cert}
-use Rattle.ssh_cert.specs.Listing.{listing_of}
+use Rattle.cert_listing.specs.Listing.{listing_of}
 use Rattle.krl_types.specs.Subject.{CertNames, Subject}
 use Rattle.ssh_key.specs.Key.{PublicKey}
 use Rattle.ssh_key.specs.Kind.{short_name_of}

@@ -9,7 +9,7 @@ use Rattle.serial_set.specs.declared.span.Span.{Span}
 use Rattle.key_text.specs.declared.hash.Hash.TheVariants.{Sha256}
 use Rattle.key_text.specs.Fingerprints.{fingerprint_text, unpadded}
 use Rattle.ssh_cert.specs.Escape.{escaped}
-use Rattle.ssh_cert.specs.Time.{instant_text}
+use Rattle.cert_listing.specs.Time.{instant_text}
 use Rattle.krl_held.specs.Revocations.{Revocations, Section}
 use Rattle.krl_core.specs.declared.header.Header.{Header}
 use Rattle.krl_runs.specs.declared.contents.fact.Fact.{Fact}

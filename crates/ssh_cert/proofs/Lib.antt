@@ -7,5 +7,3 @@ pub mod Certs
 pub mod OptionLists
 pub mod Asked
 pub mod Cuts
-pub mod Instants
-pub mod Listings

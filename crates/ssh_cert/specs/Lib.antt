@@ -10,6 +10,5 @@ pub mod Parts
 pub mod SubjectReading
 pub mod AnyKey
 pub mod Laws
-pub mod Time
+pub mod Validity
 pub mod Escape
-pub mod Listing

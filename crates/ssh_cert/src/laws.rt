@@ -1,19 +1,16 @@
 //! What holds for every certificate and every list of bytes, each as the contract of a function
 //! that does nothing. `read_cert` answers what the reader named here gives, and `subject` what is
-//! asked. `time_text` and `list_cert` write the text of an instant and the listing.
+//! asked.
 
 ghost use Rattle.std.specs.Prelude.{◌≡◌, ◌↔◌, ℕ, List, Err, Ok};
 ghost use Rattle.ssh_cert.specs.CertReading.{certificate_at};
 ghost use Rattle.ssh_cert.specs.Cert.{Cert, IsCertificate};
 ghost use Rattle.ssh_cert.specs.FirstFault.{IsFirstFault};
 ghost use Rattle.ssh_cert.specs.Laws.{HasCutFault, IsCut};
-ghost use Rattle.ssh_cert.specs.Listing.{IsListing, listing_of};
 ghost use Rattle.krl_types.specs.Subject.{Subject};
 ghost use Rattle.ssh_cert.specs.SubjectReading.{IsSubject, IsSubjectFault, subject_of};
-ghost use Rattle.ssh_cert.specs.Time.{IsTimeText, instant_text};
 ghost use Rattle.ssh_cert.specs.declared.fault.CertFault.{CertFault};
 ghost use Rattle.ssh_cert.specs.declared.subject_fault.SubjectFault.{SubjectFault};
-ghost use Rattle.key_text.specs.declared.hash.Hash.{Hash};
 ghost use Rattle.ssh_wire.specs.Wire.{IsBytes};
 
 /// Reading gives a certificate exactly where the bytes are its blob.
@@ -64,18 +61,4 @@ pub fn not_asked_by_first_fault()
 /// One thing is asked of a blob.
 pub fn one_subject()
     ensures { (blob : List ℕ) (a b : Subject) → IsSubject blob a → IsSubject blob b → a ≡ b }
-{}
-
-/// A text is that of an instant exactly where it is its date and its time of day in UTC, or from
-/// the year 9999 on its number.
-pub fn text_of_instant()
-    ensures { (seconds : ℕ) (text : List ℕ)
-        → (text ≡ instant_text seconds) ↔ IsTimeText seconds text }
-{}
-
-/// A text lists a certificate at a moment exactly where it is its listing, with such texts of the
-/// instants.
-pub fn one_listing()
-    ensures { (hash : Hash) (certificate : Cert) (moment : ℕ) (text : List ℕ)
-        → (text ≡ listing_of hash certificate moment) ↔ IsListing hash certificate moment text }
 {}

@@ -1,4 +1,4 @@
-//! The tests of `ssh_cert`, through what it makes public.
+//! The tests of `ssh_cert` and `cert_listing`, through what they make public.
 #![tactic(auto)]
 
 #[cfg(test)]

@@ -4,10 +4,11 @@ ghost use Rattle.std.specs.Prelude.{◌≡◌, ◌++◌, OnOk};
 ghost use Rattle.krl_held.specs.Authority.{authority_bytes, IsAuthority};
 ghost use Rattle.krl_runs.specs.Contents.{authority_line, authority_text, comment_line, date_line, serials_line, serials_text, version_line};
 
+use cert_listing::time_text;
 use key_listing::push_number;
 use key_text::{Hash, fingerprint};
 use serial_set::Span;
-use ssh_cert::{push_escaped, time_text};
+use ssh_cert::push_escaped;
 use std::alloc::{AllocError, Global};
 
 /// Makes the line of a list's version.

@@ -2,12 +2,13 @@
 
 use crate::tests::answered::answered;
 use crate::tests::parts::blob_of;
+use cert_listing::{list_cert, time_text};
 use key_text::{
     FingerprintFault, Hash, LineFault, PrivateFault, fingerprint, parse_fingerprint, read_line,
     read_private, sha256_of,
 };
 use parts_for_tests::{CERT_LINE, CONTAINER, GITHUB_LINE, GITHUB_PRINT, joined};
-use ssh_cert::{SubjectFault, list_cert, read_cert, subject, time_text};
+use ssh_cert::{SubjectFault, read_cert, subject};
 use ssh_key::{plain_blob, read_key};
 use std::alloc::AllocError;
 use std::process::Abort;

@@ -1,9 +1,10 @@
 //! The listing of a certificate, and instants as they are printed.
 
 use crate::tests::parts::{Part, changed, with};
+use cert_listing::{list_cert, time_text};
 use key_text::Hash;
 use parts_for_tests::{PUBLISHED, joined, repeated, strings};
-use ssh_cert::{list_cert, push_escaped, read_cert, time_text};
+use ssh_cert::{push_escaped, read_cert};
 use std::alloc::{AllocError, Global};
 
 // The listing of the blob's certificate at the moment 0.

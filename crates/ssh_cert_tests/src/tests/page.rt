@@ -1,12 +1,19 @@
-//! The caller of the page of `ssh_cert`, and what a certificate is asked about.
+//! The callers of the pages of `ssh_cert` and `cert_listing`, and what a certificate is asked
+//! about.
 
-ghost use Rattle.std.specs.Prelude.{IsTrue};
+ghost use Rattle.std.specs.Prelude.{◌≡◌, ◌++◌, ◌∷◌, IfOk, IsTrue, codes};
+ghost use Rattle.cert_listing.specs.Listing.{listing_of};
 ghost use Rattle.ssh_cert.specs.Cert.{Cert, IsCertificate};
-ghost use Rattle.ssh_cert.specs.Time.{IsValidAt};
+ghost use Rattle.ssh_cert.specs.Escape.{escaped};
+ghost use Rattle.ssh_cert.specs.Validity.{IsValidAt};
+ghost use Rattle.key_text.specs.declared.hash.Hash.TheVariants.{Sha256};
 
 use crate::tests::parts::{Part, changed};
+use cert_listing::list_cert;
+use key_text::Hash;
 use ssh_cert::laws::read_where_spelled;
-use ssh_cert::{Subject, read_cert, subject, valid_at};
+use ssh_cert::{Cert, Subject, push_escaped, read_cert, subject, valid_at};
+use std::alloc::{AllocError, Global};
 
 /// Whether a blob is a certificate that is valid at a moment, in seconds from 1970 on.
 fn is_valid_cert(blob: &[u8], moment: u64) -> bool
@@ -18,6 +25,18 @@ fn is_valid_cert(blob: &[u8], moment: u64) -> bool
         Ok(cert) => valid_at(&cert, moment),
         Err(_) => false,
     }
+}
+
+/// The listing of a certificate as `ssh-keygen -L` prints it, after a line that names the file.
+fn listed(alloc: Global, file: &[u8], cert: &Cert, moment: u64) -> Result<Vec<u8>, AllocError>
+    ensures { IfOk result (λ text. text.items
+        ≡ escaped file.now ++ (codes ":" ++ 10 ∷ listing_of Sha256 cert.now moment)) }
+{
+    let mut text = Vec::new(alloc);
+    push_escaped(&mut text, file)?;
+    text.extend_from_slice(b":\n")?;
+    text.extend_from_slice(&list_cert(alloc, cert, Hash::Sha256, moment)?)?;
+    Ok(text)
 }
 
 /// The serial number of what is asked about, where it is a certificate.
@@ -51,4 +70,16 @@ fn a_cert_is_valid_until_it_ends(rt: HostRuntime) {
     assert!(rt; is_valid_cert(&blob, 999));
     assert!(rt; !is_valid_cert(&blob, 1000));
     assert!(rt; !is_valid_cert(b"nothing", 999));
+}
+
+#[test]
+fn a_listing_follows_the_name_of_its_file(rt: HostRuntime) {
+    let serial: u64 = 77;
+    let blob = changed(rt.alloc(), Part::Serial, &serial.to_be_bytes()).expect(
+        &rt,
+        "there is memory",
+    );
+    let cert = read_cert(&blob).ok().expect(&rt, "it is a certificate");
+    let text = listed(rt.alloc(), b"a\n.pub", &cert, 0).expect(&rt, "there is memory");
+    assert!(rt; text.starts_with(b"a\\x0a.pub:\n        Type: "));
 }

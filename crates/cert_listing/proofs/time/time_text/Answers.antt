@@ -1,6 +1,6 @@
 use Rattle.std.proofs.Common.{arith, rules}
-use Rattle.ssh_cert.proofs.Instants.{far_text, of_date}
-use Rattle.ssh_cert.proofs.time.time_text.Goals as goal
+use Rattle.cert_listing.proofs.Instants.{far_text, of_date}
+use Rattle.cert_listing.proofs.time.time_text.Goals as goal
 
 pub returns-then-seconds-ge-YEAR_9999 : goal.returns-then-seconds-ge-YEAR_9999
 returns-then-seconds-ge-YEAR_9999 c =

@@ -14,7 +14,7 @@ use Rattle.ssh_cert.specs.declared.role.Role.TheVariants.{User, Host}
 use Rattle.ssh_cert.specs.Cert.{Cert}
 use Rattle.ssh_cert.specs.Escape.{escaped}
 use Rattle.ssh_cert.specs.Options.{CertOption}
-use Rattle.ssh_cert.specs.Time.{instant_text, IsTimeText}
+use Rattle.cert_listing.specs.Time.{instant_text, IsTimeText}
 
 -- a label and its value
 unfoldable pub line : List ℕ → List ℕ → List ℕ

@@ -1,7 +1,7 @@
 use Rattle.std.proofs.Common.{◌≡◌, ◌++◌, map}
 use Rattle.std.specs.List.{flat_map}
-use Rattle.ssh_cert.specs.Listing.{item, option_item}
-use Rattle.ssh_cert.proofs.listing.push_options.Given as goal
+use Rattle.cert_listing.specs.Listing.{item, option_item}
+use Rattle.cert_listing.proofs.listing.push_options.Given as goal
 
 -- the items so far, and those that are left
 abbrev pub invariant-loop-option : goal.invariant-loop-option

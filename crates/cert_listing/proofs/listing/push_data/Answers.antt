@@ -1,6 +1,6 @@
 use Rattle.std.proofs.Common.{rules}
-use Rattle.ssh_cert.specs.Listing.{data_text}
-use Rattle.ssh_cert.proofs.listing.push_data.Goals as goal
+use Rattle.cert_listing.specs.Listing.{data_text}
+use Rattle.cert_listing.proofs.listing.push_data.Goals as goal
 
 pub returns-then-has_text : goal.returns-then-has_text
 unfolding data_text

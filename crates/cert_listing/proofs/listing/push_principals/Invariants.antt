@@ -1,8 +1,8 @@
 use Rattle.std.proofs.Common.{◌≡◌, ◌++◌, map}
 use Rattle.std.specs.List.{flat_map}
 use Rattle.ssh_cert.specs.Escape.{escaped}
-use Rattle.ssh_cert.specs.Listing.{item}
-use Rattle.ssh_cert.proofs.listing.push_principals.Given as goal
+use Rattle.cert_listing.specs.Listing.{item}
+use Rattle.cert_listing.proofs.listing.push_principals.Given as goal
 
 -- the items so far, and those that are left
 abbrev pub invariant-loop-principal : goal.invariant-loop-principal

@@ -1,8 +1,7 @@
--- Instants as they are printed, and when a certificate is valid.
+-- Instants as they are printed.
 use Rattle.std.specs.Prelude.{◌≡◌, ℕ, zero, suc, ◌+◌, ◌-◌, ◌/◌, ◌%◌, ◌<◌, ◌≤◌, nat_lt, if◌then◌else◌, pos, ◌*ℤ◌, List, [], ◌∷◌, ◌++◌, codes, decimal}
 use Rattle.jiff.specs.Words.{civil_nanos, days_in_month, days_in_year, iso_datetime_text}
 use Rattle.jiff.specs.Types.{DateTime}
-use Rattle.ssh_cert.specs.Cert.{Cert}
 
 -- the first second of the year 9999, counted from 1970
 abbrev pub year_9999 : ℕ
@@ -65,7 +64,3 @@ pub record IsDateText (seconds : ℕ) (text : List ℕ) : Type 0 where
 pub record IsTimeText (seconds : ℕ) (text : List ℕ) : Type 0 where
   pub date : seconds < year_9999 → IsDateText seconds text
   pub far : year_9999 ≤ seconds → text ≡ codes "@" ++ decimal seconds
-
--- from the first second on, and before the last
-abbrev pub IsValidAt : Cert → ℕ → Type 0
-IsValidAt certificate moment = (certificate.after ≤ moment) × (moment < certificate.before)

@@ -1,5 +1,0 @@
-use Rattle.ssh_cert.proofs.Listings.{listing_of_iff}
-use Rattle.ssh_cert.proofs.laws.one_listing.Goals as goal
-
-pub returns : goal.returns
-returns c = λ hash certificate moment text. listing_of_iff hash certificate moment text
