@@ -85,14 +85,13 @@ is_ready() {
   done
 }
 
-# begin CRATE: it fails where there is no tree for another crate. A crate has all processors where at most one
-# other is ready or at work, and else half of them.
+# begin CRATE: it fails where there is no tree for another crate. A crate has its share of the processors among
+# those that are ready or at work: each process more in a crate takes some of its work anew.
 begin() {
-  local tree=$top jobs=$processors
+  local tree=$top jobs=$(((processors + busy - 1) / busy))
   if ((at_once > 1)); then
     make_tree "$1" && tree=$trees/$1 || ((${#process[@]} == 0)) || return
   fi
-  ((busy <= 2)) || jobs=$(((processors + 1) / 2))
   begun[$1]=yes made=$tree/crates/$1/out/$1
   say "proving $1: ${#proved[@]} of ${#crates[@]} are proved"
   prove "$1" "$tree" "$jobs" >"$built/$1.log" 2>&1 </dev/null &

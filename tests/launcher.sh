@@ -146,8 +146,8 @@ waiting=$(said_by 'the program is being built: waiting for that')
 anew "${two[@]}"
 whole 'a first use with two crates at once'
 judge 'crates are proved side by side' "$(differs 'first calls' $'low begins\nside begins' "$(head -n 2 calls | sort)")"
-judge 'two crates have all processors each' \
-  "$(grep -E '^(low|side) ends' calls | grep -v -e "--jobs $(nproc)\$")"
+judge 'two crates share the processors' \
+  "$(grep -E '^(low|side) ends' calls | grep -v -e "--jobs $((($(nproc) + 1) / 2))\$")"
 judge 'what is said of it' "$(differs 'first and last lines' "$(said_by \
   'proving and building the program, this once: 5 crates' 'proving low: 0 of 5 are proved' \
   'proving side: 0 of 5 are proved' 'proving krl_tool: 4 of 5 are proved')" "$(sed -n '1,3p;$p' "$scratch/error")")"
