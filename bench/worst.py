@@ -41,6 +41,18 @@ def three_byte_ids(size):
     )
 
 
+def two_byte_ids(count, falling=False):
+    """Authorities of three bytes, each with so many key IDs, in the order of their bytes or against it."""
+
+    def shape(size):
+        ids = sorted((struct.pack(">H", at) for at in range(count)), reverse=falling)
+        part = b"\x23" + string(b"".join(map(string, ids)))
+        number = size // len(certificates(b"abc", part))
+        return HEADER + b"".join(certificates(struct.pack(">I", at)[1:], part) for at in range(number))
+
+    return shape
+
+
 def empty_keys(size):
     return of_strings(b"\2", [b""] * (size // 4))
 
@@ -136,6 +148,9 @@ SHAPES = {
     **BITMAPS,
     "key IDs of one byte": short_ids,
     "key IDs of three bytes": three_byte_ids,
+    "2,048 key IDs an authority": two_byte_ids(2048),
+    "the same, that fall": two_byte_ids(2048, falling=True),
+    "20,000 key IDs an authority": two_byte_ids(20_000),
     "keys of no byte": empty_keys,
     "keys of three bytes": short_keys,
     "authorities of three bytes": short_authorities,

@@ -90,6 +90,8 @@ holds '128 odd numbers' "$(seq -f 'serial: %.0f\n' -s '' 1 2 255)" \
 holds 'a list and a bitmap' "serial: 1\n$(seq -f 'serial: %.0f\n' -s '' 1000000 2 1000014)" \
   20000000080000000000000001220000000e00000000000f4240000000025555
 holds 'key IDs in order' 'id: b\nid: a\nid: b\n' "23$(string "$(words a b)")"
+holds '3,000 key IDs, the last one first' "$(seq -f 'id: %04.0f\n' -s '' 3000 -1 1)" \
+  "23$(string "$(printf '00000004%s' $(seq -f %04.0f 3000 | sed 's/./3&/g'))")"
 holds 'directives in capitals, and comments' '# none\n\n \t\r\nID:\ta b # c\r\nSERIAL: 5 #6\n' \
   "2000000008000000000000000523$(string "$(words 'a b')")"
 holds 'Windows line ends' 'serial: 5\r\n\tid: id 2\r\n' \

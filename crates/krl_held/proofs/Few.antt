@@ -1,7 +1,7 @@
 -- A few byte strings in order.
-use Rattle.std.proofs.Common.{◌≡◌, false, get_or, ℕ, zero, suc, ◌+◌, ◌<◌, ◌≤◌, List, [], ◌∷◌, ◌++◌, length, take, drop, refl, sym, ap, subst, ◌∙◌, inl, inr, arith}
-use Rattle.std.specs.Prelude.{Some, Result, Ok, Err, MatchOption, insert}
-use Rattle.std.specs.List.{AllByRecursion, AllWithin, Contains, HoldsAt, slice_get}
+use Rattle.std.proofs.Common.{◌≡◌, false, get_or, ℕ, zero, suc, ◌+◌, ◌<◌, ◌≤◌, List, [], ◌∷◌, length, take, drop, map, refl, sym, ap, subst, ◌∙◌, inl, inr, arith}
+use Rattle.std.specs.Prelude.{◌↔◌, Result, Ok, Err, MatchOption, insert}
+use Rattle.std.specs.List.{AllByRecursion, AllWithin, AllZip, Contains, HoldsAt}
 use Rattle.std.specs.List.Sorted.{IsBinarySearchResult, IsSearchInRange, IsSortedBy}
 use Rattle.std.specs.Ordering.{is_lt, ordering_reverse}
 use Rattle.std.specs.Result.{result_err}
@@ -9,13 +9,19 @@ use Rattle.std.specs.declared.cmp.Ordering.TheVariants.{Less}
 use Rattle.std.proofs.lemmas.Cmp.{nat_list_cmp_total}
 use Rattle.std.proofs.lemmas.List.Sorted.{searchable_from_sorted}
 use Rattle.std.proofs.lemmas.Map.Lookups.{exact_bytes}
-use Rattle.std.proofs.lemmas.List.{append-nil, take-append-drop, take_all}
+use Rattle.std.proofs.lemmas.List.{map-id, take-append-drop}
+use Rattle.std.proofs.lemmas.Slice.Zip.{AllZip-map}
+use Rattle.std.proofs.Math.Logic.Iff as Iff
+use Rattle.std.specs.BTreeSet.{BTreeSet, IsFromIterResult, contains}
+use Rattle.std.specs.Vec.{vec_len}
 use Rattle.std.specs.Global.{Vec}
 use Rattle.krl_held.specs.Changes.{Puts}
 use Rattle.krl_held.specs.Ids.{GoesTo}
 use Rattle.krl_held.specs.Inserting.{Inserts}
-use Rattle.krl_held.specs.Rising.{bytes_cmp, AllAbove, AllBelow, RisesBy}
-use Rattle.krl_held.proofs.Ordered.{before_trans, less_apart, turned}
+use Rattle.krl_held.specs.Rising.{bytes_cmp, AllAbove, Rises, RisesBy}
+use Rattle.krl_held.proofs.OneMeaning.{same_texts}
+use Rattle.krl_held.proofs.Ordered.{inserts_map, inserts_rise, turned}
+use Rattle.krl_held.proofs.Sets.{by_read, read_has, read_sorted, rises_sorted}
 use Rattle.krl_held.proofs.Members.{absent_parts}
 use Rattle.krl_held.proofs.Elements.{contains_cases, contains_here, contains_later, contains_none}
 use Rattle.krl_held.specs.Texts.{bytes_of, texts_of}
@@ -64,59 +70,55 @@ not_there at bytes texts g there =
 
 -- ---- one more of a few
 
-pub inserted : (at : ℕ) (x : Vec ℕ) (texts : List (Vec ℕ)) → GoesTo at x.items texts → Inserts bytes_of texts x (insert texts at x)
-inserted at x texts g = record { front = take at texts; back = drop at texts; before = sym (take-append-drop at texts); after = refl; below = g.below; above = g.above }
+pub goes_in : (at : ℕ) (x : Vec ℕ) (texts grown new : List (Vec ℕ)) (id : List ℕ) → RisesBy bytes_of texts → GoesTo at id texts → x.items ≡ id → grown ≡ texts → new ≡ insert grown at x
+    → RisesBy bytes_of new × Puts (texts_of texts) id (texts_of new)
+goes_in at x texts grown new id rise goes is grows made =
+    let made : new ≡ insert texts at x = made ∙ ap (λ l. insert l at x) grows in
+    let goes : GoesTo at x.items texts = subst (λ b. GoesTo at b texts) (sym is) goes in
+    let put : Inserts bytes_of texts x (insert texts at x) =
+    record { front = take at texts; back = drop at texts; before = sym (take-append-drop at texts); after = refl; below = goes.below; above = goes.above } in (
+      subst (RisesBy bytes_of) (sym made) (inserts_rise bytes_of texts x (insert texts at x) rise put),
+      subst (λ l. Puts (texts_of texts) id (texts_of l)) (sym made)
+          (subst (λ b. Puts (texts_of texts) b (texts_of (insert texts at x))) is (inr (inserts_map (λ b. b) bytes_of texts x (insert texts at x) put))),
+    )
 
--- ---- a few put into a set, each after those before it
+-- ---- a few and one more, collected into a set
 
-below_absent : (old : List (List ℕ)) (k : List ℕ) → AllBelow (λ b. b) k old → Contains old k → ⊥
-below_absent [] k b m = contains_none k m
-below_absent (x ∷ xs) k b m =
-    elim (contains_cases x k xs m) [ inl here ↦ less_apart x k b.0 here | inr later ↦ below_absent xs k b.1 later ]
+module _ {X : Type 0} (key : X → List ℕ) where
+  above_shown : (bytes : List ℕ) (xs : List X) → AllAbove key bytes xs ↔ AllAbove (λ b. b) bytes (map key xs)
+  above_shown bytes [] = Iff.rfl
+  above_shown bytes (x ∷ xs) = (λ a. (a.0, (above_shown bytes xs).0 a.1), λ a. (a.0, (above_shown bytes xs).1 a.1))
 
-none_both : (k : List ℕ) (xs : List (List ℕ)) → AllBelow (λ b. b) k xs → AllAbove (λ b. b) k xs → xs ≡ []
-none_both k [] b a = refl
-none_both k (x ∷ xs) b a = absurd (less_apart k k (before_trans k x k a.0 b.0) refl)
+  rises_shown : (xs : List X) → RisesBy key xs ↔ Rises (map key xs)
+  rises_shown [] = Iff.rfl
+  rises_shown (x ∷ xs) =
+      (λ r. ((above_shown (key x) xs).0 r.0, (rises_shown xs).0 r.1), λ r. ((above_shown (key x) xs).1 r.0, (rises_shown xs).1 r.1))
 
-below_right : (k : List ℕ) (xs ys : List (List ℕ)) → AllBelow (λ b. b) k (xs ++ ys) → AllBelow (λ b. b) k ys
-below_right k [] ys b = b
-below_right k (x ∷ xs) ys b = below_right k xs ys b.1
+  shown : (bytes : List ℕ) (xs : List X) → Contains (map key xs) bytes → (x : X) × (key x ≡ bytes)
+  shown bytes [] m = absurd (contains_none bytes m)
+  shown bytes (x ∷ xs) m = elim (contains_cases (key x) bytes (map key xs) m) [ inl here ↦ (x, here) | inr later ↦ shown bytes xs later ]
 
-pub put_last : (old : List (List ℕ)) (k : List ℕ) (new : List (List ℕ)) → Puts old k new → AllBelow (λ b. b) k old → new ≡ old ++ k ∷ []
-put_last old k new p below =
-    elim p [
-      | inl same ↦ absurd (below_absent old k below same.1)
-      | inr i ↦
-          let none : i.back ≡ [] = none_both k i.back (below_right k i.front i.back (subst (AllBelow (λ b. b) k) i.before below)) i.above in
-          let front : old ≡ i.front = i.before ∙ ap (λ b. i.front ++ b) none ∙ append-nil i.front in
-          i.after ∙ ap (λ b. i.front ++ k ∷ b) none ∙ ap (λ f. f ++ k ∷ []) (sym front)
-    ]
+-- clones have the bytes of what they were cloned from
+pub cloned : (texts copies : List (Vec ℕ)) → AllZip (λ (t c : Vec ℕ). AllZip (λ x y. y ≡ x) t.items c.items × (vec_len c ≡ vec_len t)) texts copies → texts_of copies ≡ texts_of texts
+cloned [] [] all = refl
+cloned [] (c ∷ cs) all = absurd all
+cloned (t ∷ ts) [] all = absurd all
+cloned (t ∷ ts) (c ∷ cs) all =
+    ap (λ b. b ∷ texts_of cs) (AllZip-map (λ n. n) t.items c.items all.0.0 ∙ map-id t.items) ∙ ap (λ l. bytes_of t ∷ l) (cloned ts cs all.1)
 
-above_get : (k : List ℕ) (texts : List (Vec ℕ)) (at : ℕ) (x : Vec ℕ) → slice_get texts at ≡ Some x → AllAbove bytes_of k texts → bytes_cmp k x.items ≡ Less
-above_get k [] at x is a = absurd (cc is)
-above_get k (y ∷ ys) zero x is a =
-    let same : y ≡ x = cc is in
-    subst (λ v. bytes_cmp k (bytes_of v) ≡ Less) same a.0
-above_get k (y ∷ ys) (suc at) x is a = above_get k ys at x is a.1
+pub rises_again : (texts copies : List (Vec ℕ)) → texts_of copies ≡ texts_of texts → RisesBy bytes_of texts → RisesBy bytes_of copies
+rises_again texts copies same rise = (rises_shown bytes_of copies).1 (subst Rises (sym same) ((rises_shown bytes_of texts).0 rise))
 
-pub rises_take : (texts : List (Vec ℕ)) (at : ℕ) (x : Vec ℕ) → slice_get texts at ≡ Some x → RisesBy bytes_of texts → AllBelow (λ b. b) x.items (texts_of (take at texts))
-rises_take [] at x is r = absurd (cc is)
-rises_take (y ∷ ys) zero x is r = tt
-rises_take (y ∷ ys) (suc at) x is r = (above_get (bytes_of y) ys at x is r.0, rises_take ys at x is r.1)
-
-take_suc : (texts : List (Vec ℕ)) (at : ℕ) (x : Vec ℕ) → slice_get texts at ≡ Some x → texts_of (take (suc at) texts) ≡ texts_of (take at texts) ++ x.items ∷ []
-take_suc [] at x is = absurd (cc is)
-take_suc (y ∷ ys) zero x is =
-    let same : y ≡ x = cc is in
-    ap (λ (v : Vec ℕ). bytes_of v ∷ []) same
-take_suc (y ∷ ys) (suc at) x is = ap (λ l. bytes_of y ∷ l) (take_suc ys at x is)
-
--- the next of a few is put into a set of those before it
-pub spread_more : (texts : List (Vec ℕ)) (at : ℕ) (x : Vec ℕ) (old new : List (List ℕ)) → slice_get texts at ≡ Some x → RisesBy bytes_of texts → old ≡ texts_of (take at texts) → Puts old x.items new
-    → new ≡ texts_of (take (at + 1) texts)
-spread_more texts at x old new is r so_far puts =
-    put_last (texts_of (take at texts)) x.items new (subst (λ l. Puts l x.items new) so_far puts) (rises_take texts at x is r)
-    ∙ sym (take_suc texts at x is) ∙ ap (λ n. texts_of (take n texts)) (let next : suc at ≡ at + 1 = omega arith in next)
-
-pub spread_end : (texts : List (Vec ℕ)) (at : ℕ) (old : List (List ℕ)) → length texts ≤ at → old ≡ texts_of (take at texts) → old ≡ texts_of texts
-spread_end texts at old h so_far = so_far ∙ ap texts_of (take_all at texts h)
+-- a set that is collected from a list in order has its elements
+pub collected : (texts : List (Vec ℕ)) (set : BTreeSet (Vec ℕ)) → RisesBy bytes_of texts → IsFromIterResult (by_read bytes_of) texts set → texts_of set.keys ≡ texts_of texts
+collected texts set rise made =
+    same_texts (texts_of set.keys) (texts_of texts) (rises_sorted (texts_of set.keys) (read_sorted bytes_of set.keys made.1)) ((rises_shown bytes_of texts).0 rise)
+    (λ bytes. (
+      λ m. let x = shown bytes_of bytes set.keys m in subst (Contains (texts_of texts)) x.1 ((both x.0).0 (subst (Contains (texts_of set.keys)) (sym x.1) m)),
+      λ m. let x = shown bytes_of bytes texts m in subst (Contains (texts_of set.keys)) x.1 ((both x.0).1 (subst (Contains (texts_of texts)) (sym x.1) m)),
+    ))
+  where
+    both : (x : Vec ℕ) → Contains (texts_of set.keys) x.items ↔ Contains (texts_of texts) x.items
+    both x =
+        Iff.trans (Iff.symm (read_has bytes_of x.items set.keys (contains (by_read bytes_of) set x) refl))
+        (read_has bytes_of x.items texts (contains (by_read bytes_of) set x) (made.0 x))

@@ -62,7 +62,7 @@ rest_to x y text xs ys e above to m =
       | inr later ↦ later
     ]
 
-same_texts : (xs ys : List (List ℕ)) → Rises xs → Rises ys → ((text : List ℕ) → Contains xs text ↔ Contains ys text) → xs ≡ ys
+pub same_texts : (xs ys : List (List ℕ)) → Rises xs → Rises ys → ((text : List ℕ) → Contains xs text ↔ Contains ys text) → xs ≡ ys
 same_texts [] [] r t both = refl
 same_texts [] (y ∷ ys) r t both = absurd (contains_none y ((both y).1 (contains_here y ys)))
 same_texts (x ∷ xs) [] r t both = absurd (contains_none x ((both x).0 (contains_here x xs)))

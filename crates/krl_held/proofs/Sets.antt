@@ -18,7 +18,7 @@ use Rattle.krl_held.specs.Rising.{bytes_cmp, Rises}
 use Rattle.krl_held.proofs.Ordered.{back_above, front_below, tied}
 use Rattle.krl_held.proofs.Elements.{contains_here, contains_later, contains_none}
 
-rises_sorted : (ks : List (List ℕ)) → IsStrictlySortedBy bytes_cmp ks → Rises ks
+pub rises_sorted : (ks : List (List ℕ)) → IsStrictlySortedBy bytes_cmp ks → Rises ks
 unfolding IsStrictlySortedBy
 rises_sorted [] h = tt
 rises_sorted (k ∷ ks) h = (h.0, rises_sorted ks h.1)
@@ -84,14 +84,14 @@ set_has k ks b is = subst (λ (x : Bool). IsTrue x ↔ Contains ks k) (sym is) (
 -- ---- byte strings that are read of the keys
 
 module _ {K : Type 0} (read : K → List ℕ) where
-  abbrev by_read : K → K → Ordering
+  abbrev pub by_read : K → K → Ordering
   by_read x y = bytes_cmp (read x) (read y)
 
   all_read : (k : List ℕ) (ks : List K) → AllByRecursion (λ y. bytes_cmp k (read y) ≡ Less) ks → AllByRecursion (λ y. bytes_cmp k y ≡ Less) (map read ks)
   all_read k [] h = tt
   all_read k (x ∷ ks) h = (h.0, all_read k ks h.1)
 
-  read_sorted : (ks : List K) → IsStrictlySortedBy by_read ks → IsStrictlySortedBy bytes_cmp (map read ks)
+  pub read_sorted : (ks : List K) → IsStrictlySortedBy by_read ks → IsStrictlySortedBy bytes_cmp (map read ks)
   unfolding IsStrictlySortedBy
   read_sorted [] h = tt
   read_sorted (k ∷ ks) h = (all_read (read k) ks h.0, read_sorted ks h.1)

@@ -12,9 +12,10 @@ use std::cmp::Ordering;
 use std::collections::BTreeSet;
 use std::marker::Model;
 
-// The most key IDs that lie in one vector. A set takes nearly twice as much memory for as many. Of
-// more than these nearly all have two bytes, so that a list has fewer of them.
-const FEW: usize = 2560;
+// The most key IDs that lie in one vector. A set to which they come in order is half empty, and takes
+// nearly twice as much memory for as many. Of more than these most have two bytes, so that a list
+// has fewer of them.
+const FEW: usize = 256;
 
 // A few key IDs in order, or a set of more.
 #[derive(Drop)]
@@ -155,14 +156,9 @@ fn spread(alloc: Global, few: &[Vec<u8>], id: &[u8]) -> Result<BTreeSet<Vec<u8>>
     requires { RisesBy bytes_of few.now }
     ensures { IfOk result (λ set. Puts (texts_of few.now) id.now (texts_of set.keys)) }
 {
-    let mut set = BTreeSet::new(alloc);
-    let mut at = 0;
-    while at < few.len() {
-        put_text(alloc, &mut set, few[at].as_slice())?;
-        at += 1;
-    }
-    put_text(alloc, &mut set, id)?;
-    Ok(set)
+    let mut texts = few.to_vec(alloc)?;
+    put_few(alloc, &mut texts, id)?;
+    BTreeSet::from_iter(alloc, texts)
 }
 
 // Both at one lifetime, as the comparison of slices asks.

@@ -1,26 +1,30 @@
-use Rattle.std.proofs.Common.{◌≤◌, length, refl, subst, arith}
-use Rattle.std.proofs.lemmas.Option.{slice_get_read}
+use Rattle.std.proofs.Common.{sym, subst, ◌∙◌}
+use Rattle.std.proofs.lemmas.Iterator.{items_from_drains}
+use Rattle.std.proofs.lemmas.Iterator.Adapters.{YieldsList-from_vec}
+use Rattle.std.proofs.lemmas.List.{map-id}
+use Rattle.std.proofs.lemmas.Result.{IfOk-weaker}
+use Rattle.std.specs.BTreeSet.{IsFromIterResult}
 use Rattle.krl_held.specs.Changes.{Puts}
-use Rattle.krl_held.specs.Texts.{texts_of}
-use Rattle.krl_held.proofs.Few.{spread_end, spread_more}
+use Rattle.krl_held.specs.Texts.{bytes_of, texts_of}
+use Rattle.krl_held.proofs.Few.{cloned, collected, rises_again}
+use Rattle.krl_held.proofs.Sets.{by_read}
 use Rattle.krl_held.proofs.ids.spread.Goals as goal
 
-pub loop-at-preserved : goal.loop-at-preserved
-loop-at-preserved c =
+pub put_few-requires : goal.put_few-requires
+put_few-requires c =
     let few = c.args.few.now in
-    let at = c.loop-at.at in
-    let x = c.index-few-at.result in
-    let is = slice_get_read few (length few) at x refl c.loop-at-test.true c.index-few-at.is in
-    let new = texts_of c.put_text.new.set.keys in
-    record {
-      within = omega (arith, c.loop-at-test.true);
-      put = spread_more few at x (texts_of c.loop-at.set.keys) new is c.requires c.loop-at.invariant.put
-          (subst (λ b. Puts (texts_of c.loop-at.set.keys) b new) c.as_slice.ensures.value c.in_ok-put_text.ensures.ok);
-    }
+    let copies = c.in_ok-texts.texts.items in
+    rises_again few copies (cloned few copies c.in_ok-texts.ensures.ok) c.requires
 
 pub returns : goal.returns
 returns c =
     let few = c.args.few.now in
-    let end : length few ≤ c.loop-at.at = omega (arith, c.loop-at-test.false) in
-    let all = spread_end few c.loop-at.at (texts_of c.loop-at.set.keys) end c.loop-at.invariant.put in
-    subst (λ l. Puts l c.args.id.now (texts_of c.put_text-2.new.set.keys)) all c.in_ok-put_text-2.ensures.ok
+    let copies = c.in_ok-texts.texts.items in
+    let texts = c.put_few.new.few in
+    IfOk-weaker c.from_iter.result _ _
+    (λ set ran.
+    let drained = sym (map-id ran.1) ∙ items_from_drains ran.1 ran.3 (YieldsList-from_vec texts.items ran.2.0 (ran.2.1 ∙ texts.ok.0)) in
+    let made = subst (λ xs. IsFromIterResult (by_read bytes_of) xs set) drained ran.4 in
+    subst (Puts (texts_of few) c.args.id.now) (sym (collected texts.items set c.put_few.ensures.rise made))
+    (subst (λ l. Puts l c.args.id.now (texts_of texts.items)) (cloned few copies c.in_ok-texts.ensures.ok) c.in_ok-put_few.ensures.ok))
+    c.from_iter.ensures.ran
