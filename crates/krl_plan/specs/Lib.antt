@@ -5,5 +5,6 @@ pub mod Copies
 pub mod MonotonicQueue
 pub mod Lists
 pub mod Bitmaps
+pub mod Choice
 pub mod Table
 pub mod Written

@@ -5,6 +5,7 @@
 mod bitmap;
 mod bitmaps;
 mod cell;
+mod choice;
 mod copies;
 mod group;
 mod group_text;

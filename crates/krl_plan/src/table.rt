@@ -7,6 +7,7 @@ ghost use Rattle.krl_plan.specs.Plan.{IsLeastPlan};
 
 use crate::bitmaps::Bitmaps;
 use crate::cell::Cell;
+use crate::choice::Choice;
 use crate::group::{Group, Sort};
 use crate::lists::Lists;
 use serial_set::Span;
@@ -21,7 +22,7 @@ pub(crate) struct Table {
     least: u128,
     // The first group of the least plan of the known runs, last, and before it that of all but the
     // first of these runs, and so on.
-    choices: Vec<Group>,
+    choices: Vec<Choice>,
 }
 
 impl Table {
@@ -69,7 +70,7 @@ impl Table {
         let listed = self.lists.best(at, Cell { cost, group });
         let best = self.bitmaps.best(run, at, listed);
         self.least = best.cost;
-        self.choices.push(best.group)?;
+        self.choices.push(Choice::of(best.group))?;
         Ok(())
     }
 
@@ -82,7 +83,7 @@ impl Table {
         let mut plan = Vec::new(alloc);
         let mut left = self.choices.len();
         while left > 0 {
-            let group = self.choices[left - 1];
+            let group = self.choices[left - 1].group();
             plan.push(group)?;
             left -= group.count as usize;
         }

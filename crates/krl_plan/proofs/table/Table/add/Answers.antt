@@ -5,6 +5,7 @@ use Rattle.krl_plan.specs.declared.table.Table.{Table}
 use Rattle.krl_plan.specs.Search.{IsBest}
 use Rattle.krl_plan.specs.Table.{IsKnown, Knows}
 use Rattle.krl_plan.proofs.Best.{best_of_all, group_of}
+use Rattle.krl_plan.proofs.Chosen.{group_few}
 use Rattle.krl_plan.proofs.Filling.{bounded_more, choices_more, costs_more}
 use Rattle.krl_plan.proofs.table.Table.add.Goals as goal
 
@@ -46,6 +47,22 @@ best-best-requires c =
     let rests = knows.1.1.0 in
     record { bitmaps = (runs, (c.args.self.now.least ∷ rests, (c.requires.1.0, c.in_ok-add-2.ensures runs rests c.requires.1.0 was.bitmaps))) }
 
+pub of-requires : goal.of-requires
+of-requires c =
+    let runs = c.requires.0 in
+    let rises = c.requires.1.0 in
+    let knows = c.requires.1.1 in
+    let was = known_past c.args.self.now runs (2 ^ 64 - 2 - c.len.result) knows (let small = c.args.self.now.choices.small in omega arith) in
+    let rests = knows.1.1.0 in
+    let costs = c.args.self.now.least ∷ rests in
+    let listed = c.in_ok-add.ensures runs rests was.lists in
+    let mapped = c.in_ok-add-2.ensures runs rests rises was.bitmaps in
+    let best : IsBest costs (c.args.run ∷ runs) c.best-best.result =
+    best_of_all costs (c.args.run ∷ runs) (record { cost = 21 + c.args.self.now.least; group = group_of Range 1 }) c.best-listed.result c.best-best.result (search rules) refl
+    (λ is_cell. c.best-listed.ensures (c.args.run ∷ runs) costs listed is_cell)
+    (λ is_cell. c.best-best.ensures runs costs rises mapped is_cell) in
+    group_few (c.args.run ∷ runs) c.best-best.result.group rises best.is_cell.is_group
+
 pub returns : goal.returns
 returns c runs rises knows =
     let rests = knows.1.1.0 in
@@ -70,8 +87,8 @@ returns c runs rises knows =
             lists = listed;
             bitmaps = mapped;
             costs = costs_more c.args.run runs costs cell rises was.costs best;
-            bounded = rw c.in_ok-push.ensures.items (bounded_more choices c.args.run runs c.args.self.now.least rests cell was.bounded best);
-            choices = rw c.in_ok-push.ensures.items (choices_more choices c.args.run runs costs cell rises was.costs best was.choices);
+            bounded = rw (c.in_ok-push.ensures.items, c.of.ensures) (bounded_more choices c.args.run runs c.args.self.now.least rests cell was.bounded best);
+            choices = rw (c.in_ok-push.ensures.items, c.of.ensures) (choices_more choices c.args.run runs costs cell rises was.costs best was.choices);
           },
         ),
       ),

@@ -7,21 +7,21 @@ loop-left-init c = record { within = omega arith; walked = Walked-start c.args.s
 
 pub overflow_sub-left-in-loop-left : goal.overflow_sub-left-in-loop-left
 overflow_sub-left-in-loop-left c =
-    (choice_fits c.args.self.now.choices.items c.requires.known.0 c.loop-left.left c.index-group.result.now c.requires.known.1.1.1.1.choices c.index-group.ensures (omega arith) c.loop-left.invariant.within).1
+    rw c.group-group.ensures (choice_fits c.args.self.now.choices.items c.requires.known.0 c.loop-left.left c.index.result.now c.requires.known.1.1.1.1.choices c.index.ensures (omega arith) c.loop-left.invariant.within).1
 
 pub loop-left-smaller : goal.loop-left-smaller
 loop-left-smaller c =
-    let fits = choice_fits c.args.self.now.choices.items c.requires.known.0 c.loop-left.left c.index-group.result.now c.requires.known.1.1.1.1.choices c.index-group.ensures (omega arith) c.loop-left.invariant.within in
-    omega arith
+    let fits = choice_fits c.args.self.now.choices.items c.requires.known.0 c.loop-left.left c.index.result.now c.requires.known.1.1.1.1.choices c.index.ensures (omega arith) c.loop-left.invariant.within in
+    rw c.group-group.ensures (omega arith)
 
 pub loop-left-preserved : goal.loop-left-preserved
 loop-left-preserved c =
     let choices = c.args.self.now.choices.items in
     let within = c.loop-left.invariant.within in
-    let fits = choice_fits choices c.requires.known.0 c.loop-left.left c.index-group.result.now c.requires.known.1.1.1.1.choices c.index-group.ensures (omega arith) within in
+    let fits = choice_fits choices c.requires.known.0 c.loop-left.left c.index.result.now c.requires.known.1.1.1.1.choices c.index.ensures (omega arith) within in
     record {
-      within = omega arith;
-      walked = rw c.in_ok-push.ensures.items (Walked-more choices c.loop-left.plan.items c.loop-left.left c.index-group.result.now c.index-group.ensures (omega arith) within fits.1 c.loop-left.invariant.walked);
+      within = rw c.group-group.ensures (omega arith);
+      walked = rw (c.in_ok-push.ensures.items, c.group-group.ensures) (Walked-more choices c.loop-left.plan.items c.loop-left.left c.index.result.now c.index.ensures (omega arith) within fits.1 c.loop-left.invariant.walked);
     }
 
 pub returns : goal.returns
