@@ -6,7 +6,7 @@ use Rattle.std.proofs.lemmas.Bool.{cases_eq, cases_lt}
 use Rattle.std.proofs.lemmas.Nat.Bits.{bit_at_and, bit_at_not, bit_at-lt, bit_at-zero, bit_at_mask_inside, bit_at_mask_below, bit_at-trailing_zeros}
 use Rattle.span_sets.specs.declared.chunk.Chunk.{Chunk}
 use Rattle.serial_set.specs.Span.{Covers}
-use Rattle.span_sets.specs.Chunk.{is_span, window_of, bits_of, members_in, lo_of}
+use Rattle.span_sets.specs.Chunk.{is_span, window_of, bits_of, members_in, lo_of, hi_of}
 use Rattle.span_sets.specs.Members.{IsFirst, IsFirstBit, GoesOn}
 use Rattle.span_sets.proofs.InChunk.{in_word, word_ends}
 
@@ -75,3 +75,11 @@ word_on e member last word n order within all =
       order = omega (arith, at.0);
       all = λ s h k. (in_word e s word).1 (omega (arith, at.0), omega (arith, at.0), ap (λ (i : ℕ). bit_at (bits_of e) (s - i)) (sym ends.0) ∙ all (s - lo_of e) (omega arith) (omega (arith, at.0)));
     }
+
+-- a word's members stop where the next bit is not set
+pub word_stops : (e : Chunk) (last : ℕ) → is_span e ≡ false → (last < 63 → bit_at (bits_of e) (last + 1) ≡ 0) → lo_of e + last < hi_of e → Covers (members_in e) (lo_of e + last + 1) → ⊥
+word_stops e last word clear h n =
+    let at = (in_word e (lo_of e + last + 1) word).0 n in
+    let ends = word_ends e word in
+    let none = subst (λ i. bit_at (bits_of e) i ≡ 0) {x = last + 1} {y = lo_of e + last + 1 - 64 * window_of e} (omega arith) (clear (omega arith)) in
+    omega (arith, at.2, none)

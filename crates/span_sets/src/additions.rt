@@ -1,8 +1,8 @@
 //! Additions to a set of chunks.
-ghost use Rattle.std.specs.Prelude.{◌≡◌, ◌+◌, ◌*◌, ◌/◌, ◌%◌, ◌^◌, ◌<◌, ◌≤◌, ◌⊎◌, ◌↔◌, ℕ, false, All, IsTrue, IfSome, OnOk, OnErr};
+ghost use Rattle.std.specs.Prelude.{◌≡◌, ◌+◌, ◌*◌, ◌/◌, ◌%◌, ◌^◌, ◌<◌, ◌≤◌, ◌⊎◌, ◌↔◌, ℕ, false, All, IsTrue, IfSome, MatchOption, OnOk, OnErr};
 ghost use Rattle.span_sets.specs.Additions.{IsAt};
 ghost use Rattle.serial_set.specs.BitRuns.{IsInterval};
-ghost use Rattle.span_sets.specs.Chunk.{lo_of, hi_of, members_of, runs_of};
+ghost use Rattle.span_sets.specs.Chunk.{is_span, lo_of, hi_of, members_of, runs_of};
 ghost use Rattle.serial_set.specs.Near.{AddsSpans, AreNear};
 ghost use Rattle.span_sets.specs.Replacement.{lo_or, hi_or, Has};
 ghost use Rattle.span_sets.specs.Positions.{IsChunkFrom};
@@ -164,7 +164,9 @@ impl SpanPages {
 
 // Whether a chunk is a span that has all from one number to another.
 fn holds(chunk: Option<Chunk>, lo: u64, hi: u64) -> bool
-    ensures { IsTrue result → (s : ℕ) → lo ≤ s → s ≤ hi → Has chunk s }
+    ensures all { IsTrue result → (s : ℕ) → lo ≤ s → s ≤ hi → Has chunk s }
+    ensures whole { MatchOption chunk ⊥ (λ e. IsTrue (is_span e) × (lo_of e ≤ lo) × (hi ≤ hi_of e))
+        → IsTrue result }
 {
     match chunk {
         Some(chunk) => chunk.is_span() && chunk.lo() <= lo && hi <= chunk.hi(),

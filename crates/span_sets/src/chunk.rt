@@ -155,7 +155,8 @@ impl Chunk {
     /// The last of the members that follow a member without a gap.
     pub fn last_from(self, member: u64) -> u64
         requires { Covers (members_in self) member }
-        ensures { GoesOn (members_in self) member result }
+        ensures on { GoesOn (members_in self) member result }
+        ensures last { result < hi_of self → Covers (members_in self) (result + 1) → ⊥ }
     {
         if self.is_span() {
             return self.b;

@@ -1,5 +1,5 @@
 //! The runs of a set, as a walk comes to them.
-ghost use Rattle.std.specs.Prelude.{◌≡◌, ◌+◌, ◌<◌, ◌≤◌, ◌↔◌, ℕ, [], length, take, slice_get, false, IsTrue, IfErr, IfOk};
+ghost use Rattle.std.specs.Prelude.{◌≡◌, ◌+◌, ◌<◌, ◌≤◌, ◌↔◌, ℕ, [], length, take, slice_get, false, Contains, IsTrue, IfErr, IfOk};
 ghost use Rattle.span_sets.specs.Chunk.{hi_of, members_of, runs_of};
 ghost use Rattle.span_sets.specs.Members.{GoesOn, IsFirst, Reads, Taken};
 ghost use Rattle.serial_set.specs.Span.{Covers};
@@ -137,7 +137,9 @@ impl SpanPages {
     // The last of the members of one chunk that follow a member without a gap.
     fn last_in_chunk(&self, member: u64) -> u64
         requires { Covers (members_of (chunks_held self.now)) member }
-        ensures { GoesOn (members_of (chunks_held self.now)) member result }
+        ensures on { GoesOn (members_of (chunks_held self.now)) member result }
+        ensures last { Covers (members_of (chunks_held self.now)) (result + 1)
+            → (e : Chunk) × (Contains (chunks_held self.now) e × (hi_of e ≡ result)) }
     {
         match self.chunk_from(member) {
             Some(chunk) => chunk.last_from(member),

@@ -1,5 +1,5 @@
 //! The chunks of a set: its only one, or those of pages.
-ghost use Rattle.std.specs.Prelude.{◌≡◌, ◌^◌, ◌<◌, ◌≤◌, ◌⊎◌, [], length, false, All, IsTrue, IfOk, OnOk, OnErr};
+ghost use Rattle.std.specs.Prelude.{◌≡◌, ◌^◌, ◌<◌, ◌≤◌, ◌⊎◌, ◌↔◌, [], length, false, All, IsTrue, IfOk, OnOk, OnErr};
 ghost use Rattle.std.specs.Option.{option_to_list};
 ghost use Rattle.span_sets.specs.Chunk.{lo_of, hi_of, ChunksFrom};
 ghost use Rattle.span_sets.specs.Chunks.{Replaces};
@@ -124,7 +124,7 @@ fn put_by_one(
 
 // Whether there is a chunk, and it lies beside the numbers from `lo` to `hi`.
 fn lies_beside(only: Option<Chunk>, lo: u64, hi: u64) -> bool
-    ensures { result ≡ false → All (λ e. (lo ≤ hi_of e) × (lo_of e ≤ hi)) (option_to_list only) }
+    ensures { result ≡ false ↔ All (λ e. (lo ≤ hi_of e) × (lo_of e ≤ hi)) (option_to_list only) }
 {
     match only {
         Some(chunk) => chunk.hi() < lo || hi < chunk.lo(),

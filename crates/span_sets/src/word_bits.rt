@@ -1,5 +1,5 @@
 //! The bits of a word.
-ghost use Rattle.std.specs.Prelude.{◌≡◌, ◌*◌, ◌<◌, ◌≤◌, ◌↔◌, ℕ, All};
+ghost use Rattle.std.specs.Prelude.{◌≡◌, ◌+◌, ◌*◌, ◌<◌, ◌≤◌, ◌↔◌, ℕ, All};
 ghost use Rattle.std.specs.Int.{bit_at};
 ghost use Rattle.span_sets.specs.Members.{IsFirstBit};
 ghost use Rattle.serial_set.specs.BitRuns.{IsInterval};
@@ -29,6 +29,7 @@ pub fn last_bit(bits: u64, bit: u64) -> u64
     ensures order { bit ≤ result }
     ensures within { result < 64 }
     ensures all { (i : ℕ) → bit ≤ i → i ≤ result → bit_at bits i ≡ 1 }
+    ensures last { result < 63 → bit_at bits (result + 1) ≡ 0 }
 {
     match first_bit(!bits, bit) {
         Some(at) => at - 1,

@@ -1,4 +1,6 @@
-use Rattle.std.proofs.Common.{arith}
+use Rattle.std.proofs.Common.{◌≡◌, arith, subst, w64}
+use Rattle.std.specs.Int.{bit_at}
+use Rattle.std.proofs.lemmas.Nat.Bits.{bit_at_not}
 use Rattle.span_sets.proofs.InBits.{first_clear, set_before}
 use Rattle.span_sets.proofs.word_bits.last_bit.Goals as goal
 
@@ -14,3 +16,10 @@ returns-in-Some-clause-all c i h k =
 
 pub returns-in-None-clause-all : goal.returns-in-None-clause-all
 returns-in-None-clause-all c i h k = set_before c.args.bits i (omega arith) (omega arith) (c.in-None.ensures i h (omega arith))
+
+pub returns-in-Some-clause-last : goal.returns-in-Some-clause-last
+returns-in-Some-clause-last c h =
+    let e = c.in-Some.ensures in
+    let past = first_clear c.args.bits c.args.bit c.in-Some.at (omega arith) c.requires.set e in
+    let not = bit_at_not w64 c.args.bits c.in-Some.at (omega arith) e.1 in
+    subst (λ i. bit_at c.args.bits i ≡ 0) {x = c.in-Some.at} (omega arith) (omega (arith, not, e.2))

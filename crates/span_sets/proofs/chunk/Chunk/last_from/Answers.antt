@@ -1,10 +1,11 @@
-use Rattle.std.proofs.Common.{◌≡◌, ◌-◌, ◌+◌, ◌≤◌, ℕ, sym, subst, ap, ◌∙◌, arith}
+use Rattle.std.proofs.Common.{◌≡◌, ◌-◌, ◌+◌, ◌<◌, ◌≤◌, ℕ, sym, subst, ap, ◌∙◌, arith}
 use Rattle.std.specs.Prelude.{false}
+use Rattle.serial_set.specs.Span.{Covers}
 use Rattle.std.specs.Int.{bit_at}
-use Rattle.span_sets.specs.Chunk.{is_span, bits_of, members_in}
+use Rattle.span_sets.specs.Chunk.{is_span, bits_of, hi_of, members_in}
 use Rattle.span_sets.specs.Members.{GoesOn}
 use Rattle.span_sets.proofs.InChunk.{in_word, word_ends}
-use Rattle.span_sets.proofs.InBits.{word_on}
+use Rattle.span_sets.proofs.InBits.{word_on, word_stops}
 use Rattle.span_sets.proofs.chunk.Chunk.last_from.Goals as goal
 
 pub overflow_sub-member : goal.overflow_sub-member
@@ -33,8 +34,8 @@ last_bit-requires-clause-set c =
     ∙ ap (λ (n : ℕ). bit_at (bits_of e) (c.args.member - n)) (c.lo-first.ensures ∙ ends.0)
     ∙ at.2
 
-pub returns : goal.returns
-returns c =
+pub returns-clause-on : goal.returns-clause-on
+returns-clause-on c =
     let e = c.args.self in
     let word : is_span e ≡ false = sym c.is_span.ensures ∙ c.if-is_span.false in
     let last = c.last_bit in
@@ -42,3 +43,11 @@ returns c =
     (subst (λ b. (i : ℕ) → c.args.member - c.lo-first.result ≤ i → i ≤ last.result → bit_at b i ≡ 1) c.bits.ensures last.ensures.all) in
     subst (λ n. GoesOn (members_in e) c.args.member (n + last.result)) (sym c.lo-first.ensures)
     (word_on e c.args.member last.result word c.requires (omega (arith, last.ensures.order, c.lo-first.ensures)) last.ensures.within all)
+
+pub returns-clause-last : goal.returns-clause-last
+returns-clause-last c =
+    let e = c.args.self in
+    let word : is_span e ≡ false = sym c.is_span.ensures ∙ c.if-is_span.false in
+    let last = c.last_bit in
+    let clear = subst (λ b. last.result < 63 → bit_at b (last.result + 1) ≡ 0) c.bits.ensures last.ensures.last in
+    subst (λ n. n + last.result < hi_of e → Covers (members_in e) (n + last.result + 1) → ⊥) (sym c.lo-first.ensures) (word_stops e last.result word clear)

@@ -11,7 +11,7 @@ pub returns-then-holds-clause-runs : goal.returns-then-holds-clause-runs
 returns-then-holds-clause-runs c =
     let old = chunks_held c.args.self.now in
     adds_none old (λ s. (c.args.lo ≤ s) × (s ≤ c.args.hi)) (runs_of_chunks old c.args.self.now.order)
-    (λ s k. from_has old (c.args.lo - 1) s c.chunk_from-met.result c.chunk_from-met.ensures (c.if-holds.ensures refl s k.0 k.1))
+    (λ s k. from_has old (c.args.lo - 1) s c.chunk_from-met.result c.chunk_from-met.ensures (c.if-holds.ensures.all refl s k.0 k.1))
 
 pub chunk_on-requires : goal.chunk_on-requires
 chunk_on-requires c =

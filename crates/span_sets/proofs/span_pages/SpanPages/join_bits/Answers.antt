@@ -19,7 +19,7 @@ returns-then-holds-clause-runs c =
     let old = chunks_held c.args.self.now in
     let first = 64 * c.args.window in
     adds_none old (λ s. BitCovers 64 first c.args.bits s) (runs_of_chunks old c.args.self.now.order)
-    (λ s k. from_has old first s c.chunk_from-met.result c.chunk_from-met.ensures (c.if-holds.ensures refl s k.0 (let b = k.1 in omega arith)))
+    (λ s k. from_has old first s c.chunk_from-met.result c.chunk_from-met.ensures (c.if-holds.ensures.all refl s k.0 (let b = k.1 in omega arith)))
 
 pub replacement_of_bits-replacement-requires-clause-head : goal.replacement_of_bits-replacement-requires-clause-head
 replacement_of_bits-replacement-requires-clause-head c = tail_reaches (chunks_held c.args.self.now) (64 * c.args.window) c.at-head.result c.at-head.ensures

@@ -1,4 +1,9 @@
-use Rattle.std.proofs.Common.{arith}
+use Rattle.std.proofs.Common.{◌+◌, ◌∷◌, arith, inl, inr, refl, subst, sym}
+use Rattle.std.specs.List.{Contains}
+use Rattle.std.proofs.lemmas.Bool.{cases_lt}
+use Rattle.std.proofs.lemmas.List.Elements.{Contains-append_right}
+use Rattle.span_sets.specs.Chunk.{hi_of}
+use Rattle.span_sets.proofs.InSides.{its_own}
 use Rattle.span_sets.specs.SpanPages.{chunks_held}
 use Rattle.span_sets.specs.Lawful.{in_stretch}
 use Rattle.span_sets.proofs.InWords.{asked}
@@ -14,10 +19,26 @@ last_from-requires c =
 pub unreachable-requires : goal.unreachable-requires
 unreachable-requires c = none_below (chunks_held c.args.self.now) c.args.member c.in-None.ensures c.requires
 
-pub returns : goal.returns
-returns c =
+pub returns-clause-on : goal.returns-clause-on
+returns-clause-on c =
     let set = c.args.self.now in
     let e = c.in-Some.chunk in
-    let g = c.last_from.ensures in
+    let g = c.last_from.ensures.on in
     let at = in_stretch e c.last_from.result (g.all c.last_from.result g.order (omega arith)) in
     goes_in (chunks_held set) e c.args.member c.last_from.result set.order c.in-Some.ensures at.1 g
+
+pub returns-clause-last : goal.returns-clause-last
+returns-clause-last c more =
+    let set = c.args.self.now in
+    let e = c.in-Some.chunk in
+    let is = c.in-Some.ensures in
+    let last = c.last_from.result in
+    let g = c.last_from.ensures.on in
+    let at = in_stretch e last (g.all last g.order (omega arith)) in
+    elim (cases_lt last (hi_of e)) [
+      | inl below ↦ absurd (c.last_from.ensures.last below ((its_own (chunks_held set) e c.args.member (last + 1) set.order is (omega (arith, at.0)) (omega arith)).1 more))
+      | inr upto ↦ (
+        e,
+        (subst (λ chunks. Contains chunks e) (sym is.1.1.0) (Contains-append_right is.0 (e ∷ is.1.0) e (0, omega arith, refl)), omega (arith, at.1, upto)),
+      )
+    ]

@@ -28,14 +28,14 @@ returns-then-hi c =
       hi + 1,
       (
         taken_run spans (piece_of c.loop-chunk.piece) (piece_of c.join.new.self) e c.args.number was.0 c.loop-chunk.from c.in-Some.lo hi
-            was.1.0 was.1.1 c.in-Some.ensures c.last_from-hi.ensures c.join.ensures,
+            was.1.0 was.1.1 c.in-Some.ensures c.last_from-hi.ensures.on c.join.ensures,
         λ t. ap (λ n. n + 1) (c.if-hi.true ∙ c.hi.ensures),
       ),
     )
 
 pub overflow_add-from : goal.overflow_add-from
 overflow_add-from c =
-    let end = goes_within c.args.chunk c.in-Some.lo c.last_from-hi.result c.last_from-hi.ensures in
+    let end = goes_within c.args.chunk c.in-Some.lo c.last_from-hi.result c.last_from-hi.ensures.on in
     omega (arith, end, c.hi.ensures, c.if-hi.false)
 
 pub loop-chunk-preserved : goal.loop-chunk-preserved
@@ -44,7 +44,7 @@ loop-chunk-preserved c =
     let e = c.args.chunk in
     let was = c.loop-chunk.invariant in
     let hi = c.last_from-hi.result in
-    let g = c.last_from-hi.ensures in
+    let g = c.last_from-hi.ensures.on in
     let f = c.in-Some.ensures in
     let end = goes_within e c.in-Some.lo hi g in
     let new = taken_run spans (piece_of c.loop-chunk.piece) (piece_of c.join.new.self) e c.args.number was.0 c.loop-chunk.from c.in-Some.lo hi
