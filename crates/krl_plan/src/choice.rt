@@ -22,7 +22,7 @@ impl Model for Choice {
 }
 
 impl Choice {
-    // The group's.
+    // The choice of a group.
     pub(crate) fn of(group: Group) -> Choice
         requires { group.count ≤ 1024 }
         ensures { result ≡ group }
@@ -32,7 +32,7 @@ impl Choice {
         }
     }
 
-    // The group.
+    // The group that was chosen.
     pub(crate) fn group(&self) -> Group
         ensures { result ≡ self.now }
     {
