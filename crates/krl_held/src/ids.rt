@@ -12,9 +12,9 @@ use std::cmp::Ordering;
 use std::collections::BTreeSet;
 use std::marker::Model;
 
-// The most key IDs that lie in one vector. A set to which they come in order is half empty, and takes
-// nearly twice as much memory for as many. Of more than these most have two bytes, so that a list
-// has fewer of them.
+// The most key IDs that lie in one vector. A set to which they come in order is half empty, and
+// takes nearly twice as much memory for as many. Of more than these most have two bytes, so that a
+// list has fewer of them.
 const FEW: usize = 256;
 
 // A few key IDs in order, or a set of more.
