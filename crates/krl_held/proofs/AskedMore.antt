@@ -106,10 +106,10 @@ finds_both front old between new Some Other first then = record {
 pub finds_more : (front : Revocations) (Sought : Name → Type 0) (old new : Asked) → FindsIn front old → Finds front Sought old.found new.found → AsksMore old.topics new.topics
     → ((name : Name) → IsTopic new.topics name → IsTopic old.topics name ⊎ Sought name) → ((name : Name) → Sought name → IsTopic new.topics name) → FindsIn front new
 finds_more front Sought old new was finds more only sought = record {
-  orderly = finds.orderly was.orderly;
   held = λ name h. ⊎_elim (was.held name) (λ found. found.0) ((finds.names name).0 h);
   all = λ name is there. (finds.names name).1 (⊎_map (λ topic. was.all name topic there) (λ now. (there, now)) (only name is));
   within = record {
+    orderly = finds.orderly was.within.orderly;
     runs = λ a s begins. elim ((finds.names (SerialOf a s)).0 begins.0) [
       | inl held ↦ more (SerialOf a s) (was.within.runs a s (held, λ before. begins.1 ((finds.names (SerialOf a (s - 1))).1 (inl before))))
       | inr found ↦ sought (SerialOf a s) found.1

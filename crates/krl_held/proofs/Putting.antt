@@ -8,7 +8,7 @@ use Rattle.std.proofs.lemmas.List.{append-nil}
 use Rattle.krl_held.proofs.Runs.{run_entries-append}
 use Rattle.serial_set.specs.declared.span.Span.{Span}
 use Rattle.krl_held.specs.Changes.{MeansMore, run_entries}
-use Rattle.krl_held.specs.Revocations.{Revocations, HoldsSerial, IsOrderly, IsStoredWithin, held}
+use Rattle.krl_held.specs.Revocations.{Revocations, HoldsSerial, IsStoredWithin, held}
 use Rattle.krl_held.specs.Entry.{Entry, RangeEntry}
 use Rattle.krl_held.specs.Naming.{Name, SerialOf, SomeNames}
 use Rattle.krl_held.specs.Questions.{Asked}
@@ -20,9 +20,9 @@ use Rattle.krl_held.proofs.Within.{IsAbout, within_with}
 
 -- an entry that is about a topic was added, or nothing was
 pub within_or_same : (result : Result (Unit {0}) AllocError) (topics old new : Revocations) (entry : Entry) → OnOk result (MeansMore old new (entry ∷ [])) → OnErr result (new ≡ old)
-    → IsOrderly old → IsAbout topics entry → IsWithin topics old → IsWithin topics new
-within_or_same (Ok done) topics old new entry means same orderly about within = within_with topics old new entry orderly within means about
-within_or_same (Err fault) topics old new entry means same orderly about within = subst (IsWithin topics) (sym same) within
+    → IsAbout topics entry → IsWithin topics old → IsWithin topics new
+within_or_same (Ok done) topics old new entry means same about within = within_with topics old new entry within means about
+within_or_same (Err fault) topics old new entry means same about within = subst (IsWithin topics) (sym same) within
 
 -- entries that name the same of what is in scope were added
 more_as : (scope : Scope) (old new : Revocations) (more other : List Entry) → ((name : Name) → InScope scope name → SomeNames more name ↔ SomeNames other name)

@@ -17,12 +17,13 @@ abbrev pub GoesOn : List Entry → Name → Type 0
 GoesOn entries (SerialOf a s) = SomeNames entries (SerialOf a (s - 1))
 GoesOn entries name = ⊥
 
-pub within_more : (topics old new : Revocations) (more : List Entry) → IsOrderly old → IsWithin topics old → MeansMore old new more
+pub within_more : (topics old new : Revocations) (more : List Entry) → IsWithin topics old → MeansMore old new more
     → ((name : Name) → SomeNames more name → IsTopic topics name ⊎ GoesOn more name) → IsWithin topics new
-within_more topics old new more orderly within means about = record {
-  runs = λ a s begins. elim ((now (SerialOf a s)).0 begins.0) [
-    | inl was ↦ within.runs a s (was, λ before. begins.1 ((now (SerialOf a (s - 1))).1 (inl before)))
-    | inr named ↦ ⊎_elim (λ topic. topic) (λ before. absurd (begins.1 ((now (SerialOf a (s - 1))).1 (inr before)))) (about (SerialOf a s) named)
+within_more topics old new more within means about = record {
+  orderly = now.0;
+  runs = λ a s begins. elim ((now.1 (SerialOf a s)).0 begins.0) [
+    | inl was ↦ within.runs a s (was, λ before. begins.1 ((now.1 (SerialOf a (s - 1))).1 (inl before)))
+    | inr named ↦ ⊎_elim (λ topic. topic) (λ before. absurd (begins.1 ((now.1 (SerialOf a (s - 1))).1 (inr before)))) (about (SerialOf a s) named)
   ];
   ids = λ a text. others (IdOf a text) (within.ids a text) (λ no. no);
   keys = λ blob. others (KeyOf blob) (within.keys blob) (λ no. no);
@@ -30,11 +31,11 @@ within_more topics old new more orderly within means about = record {
   sha256s = λ hash. others (Sha256Of hash) (within.sha256s hash) (λ no. no);
 }
   where
-    now : (name : Name) → HoldsName new name ↔ (HoldsName old name ⊎ SomeNames more name)
-    now = (means_more_names old new more orderly means).1
+    now : IsOrderly new × ((name : Name) → HoldsName new name ↔ (HoldsName old name ⊎ SomeNames more name))
+    now = means_more_names old new more within.orderly means
 
     others : (name : Name) → (HoldsName old name → IsTopic topics name) → (GoesOn more name → ⊥) → HoldsName new name → IsTopic topics name
-    others name was none held = ⊎_elim was (λ named. ⊎_elim (λ topic. topic) (λ on. absurd (none on)) (about name named)) ((now name).0 held)
+    others name was none held = ⊎_elim was (λ named. ⊎_elim (λ topic. topic) (λ on. absurd (none on)) (about name named)) ((now.1 name).0 held)
 
 -- ---- one entry more
 
@@ -61,6 +62,6 @@ about_topics topics (SerialsEntry b numbers) name is h = absurd is
 about_topics topics (BitmapEntry b offset number) name is h = absurd is
 about_topics topics entry name is h = absurd h
 
-pub within_with : (topics old new : Revocations) (entry : Entry) → IsOrderly old → IsWithin topics old → MeansMore old new (entry ∷ []) → IsAbout topics entry → IsWithin topics new
-within_with topics old new entry orderly within means is =
-    within_more topics old new (entry ∷ []) orderly within means (λ name h. ⊎_elim (about_topics topics entry name is) (λ no. absurd no) h)
+pub within_with : (topics old new : Revocations) (entry : Entry) → IsWithin topics old → MeansMore old new (entry ∷ []) → IsAbout topics entry → IsWithin topics new
+within_with topics old new entry within means is =
+    within_more topics old new (entry ∷ []) within means (λ name h. ⊎_elim (about_topics topics entry name is) (λ no. absurd no) h)

@@ -19,7 +19,6 @@ asked_in asked = Some asked.topics
 
 -- Of what the front of a list holds, just what is asked about is found.
 pub record FindsIn (front : Revocations) (asked : Asked) : Type 0 where
-  pub orderly : IsOrderly asked.found
   pub held : (name : Name) → HoldsName asked.found name → HoldsName front name
   pub all : (name : Name) → IsTopic asked.topics name → HoldsName front name
       → HoldsName asked.found name

@@ -1,10 +1,11 @@
 -- Which names what is held answers for: all, or those that are asked about.
 use Rattle.std.specs.Prelude.{◌≡◌, ℕ, ◌+◌, ◌-◌, ◌*◌, ◌≤◌, ◌↔◌, List, ◌++◌, take, drop, Option, Some, None}
-use Rattle.std.specs.Prelude.{Contains, ⊤}
+use Rattle.std.specs.Prelude.{Contains, length, ⊤}
 use Rattle.sha1.specs.Sha1.{sha1}
 use Rattle.sha2.specs.Sha256.{sha256}
 use Rattle.ssh_wire.specs.Wire.{number_of}
 use Rattle.krl_held.specs.Revocations.{Revocations, HoldsId, HoldsName, HoldsSerial, IsOrderly}
+use Rattle.krl_held.specs.Revocations.{held, serials_in, stored}
 use Rattle.krl_held.specs.Entry.{Entry}
 use Rattle.krl_held.specs.Naming.{IdOf, KeyOf, Name, SerialOf, Sha1Of, Sha256Of, SomeNames}
 
@@ -44,19 +45,31 @@ MeansMoreWithin scope old new more =
 abbrev pub BeginsRun : Revocations → (authority : List ℕ) (serial : ℕ) → Type 0
 BeginsRun r a s = HoldsSerial r.sections a s × (HoldsSerial r.sections a (s - 1) → ⊥)
 
--- Nothing is held but what is asked about. A run of serial numbers may go on past the one that is
--- asked about, with which it begins.
+-- Nothing is held but what is asked about, in order. A run of serial numbers may go on past the one
+-- that is asked about, with which it begins.
 pub record IsWithin (topics r : Revocations) : Type 0 where
+  pub orderly : IsOrderly r
   pub runs : (a : List ℕ) (s : ℕ) → BeginsRun r a s → HoldsSerial topics.sections a s
   pub ids : (a text : List ℕ) → HoldsId r.sections a text → HoldsId topics.sections a text
   pub keys : (blob : List ℕ) → Contains r.keys blob → Contains topics.keys blob
   pub sha1s : (hash : List ℕ) → Contains r.sha1s hash → IsTopic topics (Sha1Of hash)
   pub sha256s : (hash : List ℕ) → Contains r.sha256s hash → IsTopic topics (Sha256Of hash)
 
+-- What is held is small beside what is asked about: at most a run for each serial number, and no
+-- more bytes than it has and, for each key, its two hashes.
+pub record IsSmall (topics r : Revocations) : Type 0 where
+  pub held_is : held r ≤ serials_in topics.sections
+  pub stored_is : stored r ≤ stored topics + 52 * length topics.keys
+
 -- what is held is within the scope
 abbrev pub WithinScope : Scope → Revocations → Type 0
 WithinScope None r = ⊤
 WithinScope (Some topics) r = IsWithin topics r
+
+-- What is held is small, where just some topics are in scope, which are in order.
+abbrev pub IsSmallIn : Scope → Revocations → Type 0
+IsSmallIn None r = ⊤
+IsSmallIn (Some topics) r = IsOrderly topics → IsSmall topics r
 
 -- ---- serial numbers that nobody asks about
 

@@ -4,7 +4,8 @@ ghost use Rattle.std.specs.Prelude.{◌≡◌, ◌+◌, ◌<◌, ◌≤◌, Cont
 ghost use Rattle.sha1.specs.Sha1.{sha1};
 ghost use Rattle.sha2.specs.Sha256.{sha256};
 ghost use Rattle.krl_held.specs.Authority.{authority_bytes, IsAuthority};
-ghost use Rattle.krl_held.specs.Revocations.{Revocations as RevocationsOf, nothing, serials_in, stored};
+ghost use Rattle.krl_held.specs.Revocations.{IsOrderly, Revocations as RevocationsOf, nothing};
+ghost use Rattle.krl_held.specs.Revocations.{serials_in, stored};
 ghost use Rattle.krl_held.specs.Naming.{IdOf, KeyOf, SerialOf, Sha1Of, Sha256Of};
 ghost use Rattle.krl_held.specs.Questions.{Asks, AsksMore, Finds, FindsIn, HasAll, HasUnder};
 ghost use Rattle.krl_held.specs.Questions.{IsOfKey, names_size, subject_size};
@@ -38,11 +39,14 @@ impl<S: Spans> Questions<S> {
     /// Nothing is asked. Takes no memory.
     pub fn new(alloc: Global) -> Questions<S>
         ensures topics { result.topics ≡ nothing }
+        ensures orderly { IsOrderly result.topics }
         ensures found { result.found ≡ nothing }
         ensures of_any { (front : RevocationsOf) → FindsIn front result }
     {
+        let topics: Revocations<S> = Revocations::new(alloc);
+        let _topics = topics.in_order();
         Questions {
-            topics: Revocations::new(alloc),
+            topics,
             found: Revocations::new(alloc),
         }
     }
@@ -50,6 +54,26 @@ impl<S: Spans> Questions<S> {
     /// Asks about a key or a certificate too, of a list whose front holds this. Fails only where
     /// memory runs out.
     pub fn ask(&mut self, front: &Revocations<S>, subject: &Subject) -> Result<(), AllocError>
+        requires { FindsIn front.now self.old }
+        ensures asked { OnOk result (Asks self.new.topics subject.now) }
+        ensures orderly { IsOrderly self.new.topics }
+        ensures more { OnOk result (AsksMore self.old.topics self.new.topics) }
+        ensures found { OnOk result (FindsIn front.now self.new) }
+        ensures serials { serials_in self.new.topics.sections
+            ≤ serials_in self.old.topics.sections + 2 }
+        ensures stored { stored self.new.topics
+            ≤ stored self.old.topics + subject_size subject.now }
+        ensures keys { length self.new.topics.keys ≤ length self.old.topics.keys + 2 }
+    {
+        let asked = self.ask_names(front, subject);
+        let _topics = self.topics.in_order();
+        asked
+    }
+}
+
+impl<S: Spans> Questions<S> {
+    // Asks about a key, and about the names of its certificate.
+    fn ask_names(&mut self, front: &Revocations<S>, subject: &Subject) -> Result<(), AllocError>
         requires { FindsIn front.now self.old }
         ensures asked { OnOk result (Asks self.new.topics subject.now) }
         ensures more { OnOk result (AsksMore self.old.topics self.new.topics) }
@@ -66,9 +90,7 @@ impl<S: Spans> Questions<S> {
             Some(cert) => self.ask_cert(front, cert),
         }
     }
-}
 
-impl<S: Spans> Questions<S> {
     // Asks about a key by its blob and its hashes.
     fn ask_key(&mut self, front: &Revocations<S>, blob: &[u8]) -> Result<(), AllocError>
         requires { FindsIn front.now self.old }

@@ -1,13 +1,13 @@
 //! Laws of what is asked. Each function does nothing: its contract is the law.
 
-ghost use Rattle.std.specs.Prelude.{◌≡◌, ◌+◌, ◌*◌, ◌≤◌, ◌↔◌, IsTrue, List, Some, length};
+ghost use Rattle.std.specs.Prelude.{◌≡◌, ◌↔◌, IsTrue, List, Some};
 ghost use Rattle.krl_types.specs.Subject.{Subject};
-ghost use Rattle.krl_held.specs.Revocations.{Revocations, IsOrderly, Means, held, serials_in, stored};
+ghost use Rattle.krl_held.specs.Revocations.{Revocations, IsOrderly, Means};
 ghost use Rattle.krl_held.specs.Entry.{Entry};
 ghost use Rattle.krl_held.specs.NamingTests.{is_revoked};
 ghost use Rattle.krl_held.specs.Questions.{Asks};
 ghost use Rattle.krl_held.specs.Revoked.{Revoked};
-ghost use Rattle.krl_held.specs.Scope.{IsWithin, MeansWithin};
+ghost use Rattle.krl_held.specs.Scope.{IsSmall, IsWithin, MeansWithin};
 ghost use Rattle.krl_held.specs.Tested.{revokes};
 
 /// The test of what is held says what is revoked by any entries that it means.
@@ -32,7 +32,6 @@ pub fn revokes_what_was_found()
 /// What is found of some topics is small: at most a run for each serial number that is a topic, and
 /// no more bytes than the topics have and, for each key, its two hashes.
 pub fn what_is_found_is_small()
-    ensures { (topics found : Revocations) → IsOrderly topics → IsOrderly found
-        → IsWithin topics found → (held found ≤ serials_in topics.sections)
-        × (stored found ≤ stored topics + 52 * length topics.keys) }
+    ensures { (topics found : Revocations) → IsOrderly topics → IsWithin topics found
+        → IsSmall topics found }
 {}

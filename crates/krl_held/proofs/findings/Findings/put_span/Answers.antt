@@ -26,4 +26,4 @@ returns-in-Some-clause-within g c =
     let a = authority_bytes c.args.authority in
     let first = rw c.bytes_or_none-bytes.ensures at c.in-Some.ensures in
     let e = c.add_serials.ensures in
-    rw (← c.self.view_is) (within_or_same c.add_serials.result c.self.inside.topics c.self.inside.found c.add_serials.new.self (RangeEntry a c.in-Some.first c.args.span.hi) e.means e.refused e.orderly (omega (arith, first.0, c.requires.interval.0), first.2))
+    rw (← c.self.view_is) (within_or_same c.add_serials.result c.self.inside.topics c.self.inside.found c.add_serials.new.self (RangeEntry a c.in-Some.first c.args.span.hi) e.means e.refused (omega (arith, first.0, c.requires.interval.0), first.2))

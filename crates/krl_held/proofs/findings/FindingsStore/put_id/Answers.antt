@@ -24,4 +24,4 @@ pub returns-clause-within : goal.returns-clause-within
 returns-clause-within g c =
     let e = c.add_id.ensures in
     let has = rw c.bytes_or_none.ensures at c.has_id.ensures in
-    rw (← c.self.view_is) (within_or_same c.add_id.result c.self.inside.topics c.self.inside.found c.add_id.new.self (IdEntry (authority_bytes c.args.authority) c.args.id.now) e.means e.refused e.orderly (has.0 c.if-not-has_id.false))
+    rw (← c.self.view_is) (within_or_same c.add_id.result c.self.inside.topics c.self.inside.found c.add_id.new.self (IdEntry (authority_bytes c.args.authority) c.args.id.now) e.means e.refused (has.0 c.if-not-has_id.false))

@@ -22,4 +22,4 @@ pub returns-clause-within : goal.returns-clause-within
 returns-clause-within g c =
     let e = c.add_key.ensures in
     let has = c.has_blob.ensures in
-    rw (← c.self.view_is) (within_or_same c.add_key.result c.self.inside.topics c.self.inside.found c.add_key.new.self (KeyEntry c.args.blob.now) e.means e.refused e.orderly (has.0 c.if-not-has_blob.false))
+    rw (← c.self.view_is) (within_or_same c.add_key.result c.self.inside.topics c.self.inside.found c.add_key.new.self (KeyEntry c.args.blob.now) e.means e.refused (has.0 c.if-not-has_blob.false))

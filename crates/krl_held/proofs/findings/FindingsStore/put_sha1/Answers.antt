@@ -21,4 +21,4 @@ pub returns-clause-within : goal.returns-clause-within
 returns-clause-within g c =
     let e = c.add_sha1.ensures in
     let about = rw (← c.in_ok-asked.ensures.same, ← c.self.view_is) at (c.in_ok-asked.ensures.asked.0 c.if-not-asked.false) in
-    rw (← c.in_ok-asked.ensures.same, ← c.self.view_is) (within_or_same c.add_sha1.result c.self.inside.topics c.self.inside.found c.add_sha1.new.self (Sha1Entry c.args.hash.now) e.means e.refused e.orderly about)
+    rw (← c.in_ok-asked.ensures.same, ← c.self.view_is) (within_or_same c.add_sha1.result c.self.inside.topics c.self.inside.found c.add_sha1.new.self (Sha1Entry c.args.hash.now) e.means e.refused about)

@@ -3,7 +3,7 @@ use Rattle.std.proofs.Common.{sym, subst}
 use Rattle.krl_held.specs.Naming.{KeyOf}
 use Rattle.krl_held.specs.Questions.{HasCert}
 use Rattle.krl_held.proofs.AskedMore.{on_ok_with}
-use Rattle.krl_held.proofs.questions.Questions.ask.Goals as goal
+use Rattle.krl_held.proofs.questions.Questions.ask_names.Goals as goal
 
 pub returns-in-Some-clause-asked : goal.returns-in-Some-clause-asked
 returns-in-Some-clause-asked g c =
