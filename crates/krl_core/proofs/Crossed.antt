@@ -19,6 +19,7 @@ use Rattle.krl_core.specs.Reading.{HasRead, IsBounded, Leaps, Walk, ReadsMore, w
 use Rattle.krl_core.proofs.Exists.{nearer, weight}
 use Rattle.krl_core.proofs.Keeping.{grows_then}
 use Rattle.krl_core.proofs.Stepping.{consumes_some}
+use Rattle.krl_held.proofs.HeldWithin.{small_in}
 use Rattle.krl_core.proofs.Walks.{Leads-push}
 
 -- ---- rows of fields
@@ -195,6 +196,7 @@ bounded_crossed old new keeper bytes b takes grows = record {
       let was = b.all_is (sym grows.same_scope ∙ every) in
       (omega (arith, grows.held_is, was.0, takes.taken), subst (λ (n : ℕ). StoresWithin keeper n) (sym takes.taken) (grows.stored_is old.pull.taken was.1));
   scope_is = grows.scope_is b.scope_is;
+  asked_is = small_in keeper.scope keeper.contents (grows.scope_is b.scope_is);
 }
 
 pub leaps_crossed : (old : Walk) (new : Pull) (place : Place) (keeper : Keeper) (bytes : List ℕ) → IsBounded old.pull old.keeper → Takes old.pull bytes new

@@ -20,8 +20,8 @@ use Rattle.krl_core.specs.Keeper.{GrowsWithin, IsKept, Keeper, KeepsField, Store
 use Rattle.krl_core.specs.Place.{can_end, expected, names, authority_after, header_after}
 use Rattle.krl_core.specs.Reading.{Walk, working, HasRead, IsBounded, LooksFor, Missed, no_room as room_missed, cut, Says, ran_out, failed_read, first, Refused, is_fixed}
 use Rattle.krl_types.specs.KrlFault.{reported_as}
-use Rattle.krl_core.proofs.Fixed.{late_enough}
 use Rattle.krl_core.proofs.Fronts.{first_fault_is, end_size, end_room}
+use Rattle.krl_held.proofs.HeldWithin.{small_in}
 use Rattle.krl_core.proofs.Walks.{Leads-push}
 use Rattle.krl_core.proofs.Exists.{end_or_early}
 
@@ -161,12 +161,17 @@ says_long old mid new text fields bounded h looks room r =
     not_empty [] h = absurd (h refl)
     not_empty (x ∷ l) h = omega arith
 
--- after the first fields a text has 40 bytes
+-- where the fields that were read lead past the first ones
 pub says_ran_out : (old : Walk) (new : Pull) (text : List ℕ) (fields : List (List ℕ)) (fault : KrlFault) → HasCome text fields old
     → is_fixed old.place ≡ false → fault ≡ faults.NoMemory → new.failed ≡ false → Says fault text new.failed new.source
-says_ran_out old new text fields fault h late is works =
-    let some = late_enough fields h.state h.leads (subst (λ (p : Place). is_fixed p ≡ false) h.place_is late) in
-    ran_out is (omega (arith, some, ap length h.parts, length-append (concat fields) h.rest)) works
+says_ran_out old new text fields fault h late is works = ran_out is (record {
+  fields = fields;
+  state = h.state;
+  rest = h.rest;
+  leads = h.leads;
+  parts = h.parts;
+  past = subst (λ (p : Place). is_fixed p ≡ false) h.place_is late;
+}) works
 
 pub says_cut : (old : Walk) (mid new : Pull) (text : List ℕ) (fields : List (List ℕ)) (why : PullFault) → IsBounded old.pull old.keeper
     → HasCome text fields old → LooksFor old.place old.pull false mid
@@ -247,6 +252,7 @@ bounded_more old mid new keeper field b looks takes grows =
           let was = b.all_is (sym grows.same_scope ∙ every) in
           (omega (arith, grows.held_is, was.0, taken), subst (λ (n : ℕ). StoresWithin keeper n) (sym taken) (grows.stored_is old.pull.taken was.1));
       scope_is = grows.scope_is b.scope_is;
+      asked_is = small_in keeper.scope keeper.contents (grows.scope_is b.scope_is);
     }
 
 -- ---- the parts of a step

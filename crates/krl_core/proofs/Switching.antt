@@ -1,5 +1,5 @@
 -- Where a list is read on with what is asked about alone.
-use Rattle.std.proofs.Common.{◌≡◌, ℕ, ◌∙◌, sym, List, ◌++◌, subst}
+use Rattle.std.proofs.Common.{◌≡◌, ℕ, ◌∙◌, sym, List, ◌++◌, subst, subst₂}
 use Rattle.std.proofs.Math.Logic.Iff as Iff
 use Rattle.std.specs.Option.{option_to_list}
 use Rattle.serial_set.specs.BitRuns.{BitRuns}
@@ -8,14 +8,16 @@ use Rattle.krl_held.specs.Revocations.{Revocations}
 use Rattle.krl_held.specs.Entry.{Entry}
 use Rattle.krl_held.specs.Naming.{NamesSame}
 use Rattle.krl_held.specs.Questions.{Asked, FindsIn, asked_in}
-use Rattle.krl_held.specs.Scope.{all, MeansWithin, Scope}
+use Rattle.krl_held.specs.Scope.{all, MeansWithin, Scope, WithinScope}
+use Rattle.krl_held.proofs.HeldWithin.{small_in}
+use Rattle.byte_streams.specs.Pull.{Pull}
 use Rattle.krl_core.specs.Keeper.{IsKept, Keeper}
-use Rattle.krl_core.specs.Reading.{HasRead, Walk}
+use Rattle.krl_core.specs.Reading.{HasRead, IsBounded, Walk}
 
 -- what is found of what is held means the same, of what is asked about
 found_within : (front : Revocations) (asked : Asked) (entries : List Entry) → FindsIn front asked → MeansWithin all front entries → MeansWithin (asked_in asked) asked.found entries
 found_within front asked entries finds m = record {
-  orderly = finds.orderly;
+  orderly = finds.within.orderly;
   names = λ name is. Iff.trans (finds.held name, finds.all name is) (m.names name tt);
 }
 
@@ -48,3 +50,15 @@ found_read text fields old keeper h kept authority header = record {
   works = h.works;
   faultless = h.faultless;
 }
+
+-- what is held stays bounded where just what is asked about is found
+pub bounded_found : (pull : Pull) (old new : Keeper) (asked : Asked) → IsBounded pull old → FindsIn old.contents asked → new.contents ≡ asked.found → new.scope ≡ asked_in asked → IsBounded pull new
+bounded_found pull old new asked b finds contents scope =
+    let within : WithinScope new.scope new.contents = subst₂ WithinScope (sym scope) (sym contents) finds.within in
+    record {
+      limit_is = b.limit_is;
+      within = b.within;
+      all_is = λ every. absurd (cc (every, scope));
+      scope_is = within;
+      asked_is = small_in new.scope new.contents within;
+    }

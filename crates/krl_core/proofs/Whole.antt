@@ -105,6 +105,7 @@ whole_list text fields p sound off h =
 pub within_limit : (pull : Pull) (keeper : Keeper) → IsBounded pull keeper → IsWithinLimit keeper.scope keeper.contents
 within_limit pull keeper h = record {
   within = h.scope_is;
+  asked_is = h.asked_is;
   bounds = λ every. let b = h.all_is every in (omega (arith, b.0, h.within), omega (arith, b.1.now, h.within));
 }
 

@@ -22,7 +22,7 @@ use Rattle.krl_core.specs.Keeper.{InStep, IsKept, Keeper, KeepsWithin, StoresWit
 use Rattle.krl_core.specs.Keeper.{held_with_open}
 use Rattle.krl_core.specs.Place.{can_end, expected}
 use Rattle.krl_held.specs.Entry.{Entry}
-use Rattle.krl_held.specs.Scope.{MeansWithin, Scope, WithinScope, all}
+use Rattle.krl_held.specs.Scope.{IsSmallIn, MeansWithin, Scope, WithinScope, all}
 
 -- the reader, the place where the next field is expected, what is kept, whether the list's end was
 -- found, and the fault that was met
@@ -107,11 +107,20 @@ is_fixed (places.Header headers.Flags) = true
 is_fixed (places.Header headers.ReservedLength) = true
 is_fixed _ = false
 
+-- These first fields stand at the front of a text, each as it is judged, and maybe more.
+pub record HasFixedFields (text : List ℕ) : Type 0 where
+  pub fields : List (List ℕ)
+  pub state : State
+  pub rest : List ℕ
+  pub leads : Leads start fields state
+  pub parts : text ≡ concat fields ++ rest
+  pub past : is_fixed state.place ≡ false
+
 -- What a fault says of a text, by whether the reader failed and the bytes that it has left. Memory
 -- runs out only after the first fields.
 pub data Says (fault : KrlFault) (text : List ℕ) (failed : Bool) (left : Option (List ℕ))
     : Type 0 where
-  ran_out : fault ≡ NoMemory → 40 ≤ length text → failed ≡ false → Says fault text failed left
+  ran_out : fault ≡ NoMemory → HasFixedFields text → failed ≡ false → Says fault text failed left
   failed_read : fault ≡ Read → FailsAfter text failed left → Says fault text failed left
   first : IsFirstFault text (Some fault) → failed ≡ false → Says fault text failed left
 
@@ -142,13 +151,15 @@ pub data Missed (place : Place) (old : Pull) (fault : KrlFault) (new : Pull) : T
       → fault ≡ reported_as why → Missed place old fault new
 
 -- What was taken is within the limit, and what is held within the scope. Where all names are in
--- scope, what is held and stored is within what was taken.
+-- scope, what is held and stored is within what was taken. Where just some topics are, it is small
+-- beside them.
 pub record IsBounded (pull : Pull) (keeper : Keeper) : Type 0 where
   pub limit_is : pull.limit ≡ limit
   pub within : pull.taken ≤ limit
   pub all_is : keeper.scope ≡ all
       → (held_with_open keeper ≤ 4 * pull.taken) × StoresWithin keeper pull.taken
   pub scope_is : KeepsWithin keeper
+  pub asked_is : IsSmallIn keeper.scope keeper.contents
 
 -- The end of the list was found: it is expected, no byte is left, and no fault was met.
 pub record IsEnded (reading : Walk) : Type 0 where
@@ -173,9 +184,10 @@ pub record HoldsWithin (scope : Scope) (text : List ℕ) (r : Revocations) (entr
   pub bounds : scope ≡ all → (held r ≤ 4 * length text) × (stored r ≤ length text)
 
 -- What is held is within the scope. Where that is all names, it is no more than a list of the most
--- bytes has room for.
+-- bytes has room for. Where it is just some topics, it is small beside them.
 pub record IsWithinLimit (scope : Scope) (r : Revocations) : Type 0 where
   pub within : WithinScope scope r
+  pub asked_is : IsSmallIn scope r
   pub bounds : scope ≡ all → (held r ≤ 4 * limit) × (stored r ≤ limit)
 
 -- All that the entries name is held, and no more than the text has room for.

@@ -6,11 +6,11 @@ ghost use Rattle.ssh_wire.specs.Wire.{IsBytes};
 ghost use Rattle.byte_streams.specs.Pull.{Refuses, Takes};
 ghost use Rattle.ssh_wire.specs.declared.pull_fault.PullFault.TheVariants as pulls;
 ghost use Rattle.krl_types.specs.declared.krl_fault.KrlFault.TheVariants.{NoMemory, Read};
-ghost use Rattle.krl_held.specs.Revocations.{IsOrderly, held, nothing, stored};
+ghost use Rattle.krl_held.specs.Revocations.{IsOrderly, held, nothing, serials_in, stored};
 ghost use Rattle.krl_core.specs.Front.{HasRoom, Passes, limit};
 ghost use Rattle.krl_core.specs.Keeper.{GrowsWithin, InStep, KeepsField, StoresWithin, held_with_open};
 ghost use Rattle.krl_core.specs.Place.{can_end, expected};
-ghost use Rattle.krl_held.specs.Questions.{FindsIn, asked_in};
+ghost use Rattle.krl_held.specs.Questions.{Asks, AsksMore, FindsIn, asked_in, subject_size};
 ghost use Rattle.krl_core.specs.Reading.{Advances, Ends, Follows, HasRead, HoldsWithin, IsBounded, IsReached};
 ghost use Rattle.krl_core.specs.Reading.{ReadsMore};
 ghost use Rattle.krl_core.specs.Reading.{IsList, IsWhole, IsWholeAs, IsWithinLimit, LooksFor, Missed, ReadsOneMore, Refused};
@@ -22,10 +22,10 @@ use crate::header::Header;
 use crate::keeper::Keeper;
 use crate::place::{HeaderPlace, Place};
 use byte_streams::{Pull, Source};
-use krl_held::{Findings, Revocations, Store};
-use krl_types::KrlFault;
+use krl_held::{Findings, Questions, Revocations, Store};
+use krl_types::{KrlFault, Subject};
 use serial_set::Spans;
-use std::alloc::Global;
+use std::alloc::{AllocError, Global};
 use std::marker::Model;
 
 /// At most this many bytes of a list are read.
@@ -78,6 +78,7 @@ impl<S: Spans, R: Source + Drop> Walk<Revocations<S>, R> {
         requires { R.has_failed reader ≡ false }
         ensures start { (text : List ℕ) → R.left reader ≡ Some text → HasRead text [] result }
         ensures bounds { IsBounded result.pull result.keeper }
+        ensures untaken { result.pull.taken ≡ 0 }
         ensures faultless { result.fault ≡ None }
         ensures all { result.keeper.scope ≡ all }
     {
@@ -112,11 +113,26 @@ impl<S: Spans, R: Source + Drop> Walk<Revocations<S>, R> {
 }
 
 impl<S: Spans, R: Source + Drop> Walk<Revocations<S>, R> {
-    /// What is held of the fields so far.
-    pub fn held_so_far(&self) -> &Revocations<S>
-        ensures { result.now ≡ self.now.keeper.contents }
+    /// Asks about a key or a certificate too, of which just what is held so far is found. Fails only
+    /// where memory runs out.
+    pub fn add_question(
+        &self,
+        questions: &mut Questions<S>,
+        subject: &Subject,
+    ) -> Result<(), AllocError>
+        requires { FindsIn self.now.keeper.contents questions.old }
+        ensures asked { OnOk result (Asks questions.new.topics subject.now) }
+        ensures orderly { IsOrderly questions.new.topics }
+        ensures more { OnOk result (AsksMore questions.old.topics questions.new.topics) }
+        ensures found { OnOk result (FindsIn self.now.keeper.contents questions.new) }
+        ensures serials { serials_in questions.new.topics.sections
+            ≤ serials_in questions.old.topics.sections + 2 }
+        ensures stored { stored questions.new.topics
+            ≤ stored questions.old.topics + subject_size subject.now }
+        ensures keys { length questions.new.topics.keys
+            ≤ length questions.old.topics.keys + 2 }
     {
-        self.keeper.held_so_far()
+        questions.ask(self.keeper.held_so_far(), subject)
     }
 
     /// Goes on with what is asked alone, of which just what is held so far is found.
@@ -155,6 +171,7 @@ impl<T: Store, R: Source + Drop> Walk<T, R> {
         requires fresh { R.has_failed reader ≡ false }
         ensures start { (text : List ℕ) → R.left reader ≡ Some text → HasRead text [] result }
         ensures bounds { IsBounded result.pull result.keeper }
+        ensures untaken { result.pull.taken ≡ 0 }
         ensures faultless { result.fault ≡ None }
         ensures scope { result.keeper.scope ≡ T.scope store }
     {

@@ -84,8 +84,8 @@ fn passes<R: Source + Drop>(
         return Ok(list.query(&subject));
     }
     let mut questions: Questions<Held> = Questions::new(alloc);
-    questions
-        .ask(front.held_so_far(), &subject)
+    front
+        .add_question(&mut questions, &subject)
         .expect(rt, "there is memory");
     let (read, _) = front.ask(Findings::of(alloc, questions)).read_on();
     let (_, findings) = read?;
@@ -147,8 +147,8 @@ fn pass_on<R: Source + Drop>(rt: &impl Abort, alloc: Global, reader: R, most: u6
     }
     let mut questions: Questions<Held> = Questions::new(alloc);
     let subject = subject_of(rt, alloc, Some((A, 70, b"x")));
-    questions
-        .ask(front.held_so_far(), &subject)
+    front
+        .add_question(&mut questions, &subject)
         .expect(rt, "there is memory");
     stride_on(front.ask(Findings::of(alloc, questions)))
 }

@@ -1,8 +1,27 @@
-use Rattle.std.proofs.Common.{ap}
-use Rattle.krl_core.proofs.Switching.{found_read}
+use Rattle.std.proofs.Common.{ap, subst, sym}
+use Rattle.serial_set.specs.BitRuns.{BitRuns}
+use Rattle.krl_core.specs.Keeper.{InStep}
+use Rattle.krl_core.proofs.Switching.{bounded_found, found_read}
 use Rattle.krl_core.proofs.reading.Walk+Revocations+S+R.ask.Goals as goal
 
 pub returns-clause-reads : goal.returns-clause-reads
 returns-clause-reads g c =
     rw (← c.self.view_is) (λ text fields h. found_read text fields _ _ h c.ask.ensures.kept
     (ap (λ k. k.authority) c.ask.ensures.same) (ap (λ k. k.header) c.ask.ensures.same))
+
+pub returns-clause-bounds : goal.returns-clause-bounds
+returns-clause-bounds g c =
+    bounded_found c.self.inside.pull c.self.inside.keeper c.ask.result c.args.findings c.self.invariant.bounded
+    (rw (← c.self.view_is) at c.requires) (ap (λ k. k.contents) c.ask.ensures.same) (ap (λ k. k.scope) c.ask.ensures.same)
+
+pub invariant_of-result : goal.invariant_of-result
+invariant_of-result g c =
+    let reached = c.self.invariant in
+    record {
+      in_step = λ none. subst (λ (b : BitRuns). InStep c.self.inside.place b) (sym (ap (λ k. k.bitmap) c.ask.ensures.same)) (reached.in_step none);
+      pull_faultless = reached.pull_faultless;
+      works = reached.works;
+      ends = λ off. let e = reached.ends off in record { may_end = e.may_end; at_end = e.at_end; faultless = e.faultless };
+      bounded = bounded_found c.self.inside.pull c.self.inside.keeper c.ask.result c.args.findings reached.bounded
+          (rw (← c.self.view_is) at c.requires) (ap (λ k. k.contents) c.ask.ensures.same) (ap (λ k. k.scope) c.ask.ensures.same);
+    }
