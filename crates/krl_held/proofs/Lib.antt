@@ -20,6 +20,7 @@ pub mod NamingTests
 pub mod HeldSections
 pub mod SomeSections
 pub mod Tested
+pub mod Reasoned
 pub mod OneMeaning
 pub mod Intervals
 pub mod Canonical

@@ -55,7 +55,7 @@ entry_tested (Sha1Entry of_key) (Sha1Of hash) = bytes_eq-Decides of_key hash
 entry_tested (Sha256Entry of_key) (Sha256Of hash) = bytes_eq-Decides of_key hash
 entry_tested _ _ = none_tested
 
-some_tested : (entries : List Entry) (name : Name) → IsTrue (some_names entries name) ↔ SomeNames entries name
+pub some_tested : (entries : List Entry) (name : Name) → IsTrue (some_names entries name) ↔ SomeNames entries name
 some_tested [] name = none_tested
 some_tested (entry ∷ entries) name = Decides-or (entry_names entry name) (some_names entries name) (entry_tested entry name) (some_tested entries name)
 

@@ -63,10 +63,10 @@ never_zero (entry ∷ entries) a s z (inl h) = not_zero entry a s z h
 never_zero (entry ∷ entries) a s z (inr h) = never_zero entries a s z h
 
 -- two lists of entries name the same topics
-NamesSameTopics : Revocations → (entries others : List Entry) → Type 0
+unfoldable pub NamesSameTopics : Revocations → (entries others : List Entry) → Type 0
 NamesSameTopics topics entries others = (name : Name) → IsTopic topics name → SomeNames entries name ↔ SomeNames others name
 
-same_serials : (topics : Revocations) (kept entries : List Entry) → NamesSameTopics topics kept entries → (a : List ℕ) (s : ℕ) → (s ≡ 0) ⊎ HoldsSerial topics.sections a s
+pub same_serials : (topics : Revocations) (kept entries : List Entry) → NamesSameTopics topics kept entries → (a : List ℕ) (s : ℕ) → (s ≡ 0) ⊎ HoldsSerial topics.sections a s
     → SomeNames kept (SerialOf a s) ↔ SomeNames entries (SerialOf a s)
 unfolding NamesSameTopics
 same_serials topics kept entries same a s (inl z) = (λ h. absurd (never_zero kept a s z h), λ h. absurd (never_zero entries a s z h))

@@ -23,7 +23,7 @@ use Rattle.krl_held.proofs.Elements.{contains_none}
 
 -- ---- texts
 
-among_tested : (texts : List (List ℕ)) (text : List ℕ) → IsTrue (is_among texts text) ↔ Contains texts text
+pub among_tested : (texts : List (List ℕ)) (text : List ℕ) → IsTrue (is_among texts text) ↔ Contains texts text
 among_tested [] text = (λ yes. absurd cc, λ found. absurd (contains_none text found))
 among_tested (first ∷ texts) text =
     Iff.trans (Decides-or (bytes_eq first text) (is_among texts text) (bytes_eq-Decides first text) (among_tested texts text)) (Iff.symm (contains_cons first texts text))

@@ -14,4 +14,5 @@ pub mod Rising
 pub mod HeldSection
 pub mod Texts
 pub mod Tested
+pub mod Reasons
 pub mod Canonical

@@ -12,9 +12,12 @@ ghost use Rattle.krl_held.specs.Naming.{Sha1Of, Sha256Of};
 ghost use Rattle.krl_held.specs.Revoked.{Revoked};
 ghost use Rattle.krl_held.specs.Questions.{AreHashed, Asks, HashesOf, asked_in};
 ghost use Rattle.krl_held.specs.Scope.{IsTopic, IsWithin, MeansMoreWithin, MeansWithin};
+ghost use Rattle.krl_held.specs.Reasons.{IsReason, has_reason, held_reasons};
+ghost use Rattle.krl_held.specs.declared.reasons.Reason.{Reason as ReasonOf};
 ghost use Rattle.krl_held.specs.Tested.{revokes};
 
 use crate::questions::Questions;
+use crate::reasons::Reasons;
 use crate::revocations::{Revocations, bytes_or_none};
 use crate::store::Store;
 use crate::texts::Texts;
@@ -76,6 +79,18 @@ impl<S: Spans> Findings<S> {
         ensures tested { result ≡ revokes self.now.found subject.now }
     {
         self.found.query(subject)
+    }
+
+    /// Why a key or a certificate that is asked about is revoked: each way in which the list does.
+    /// Takes no memory.
+    pub fn reasons(&self, subject: &Subject) -> Reasons
+        requires { Asks self.now.topics subject.now }
+        ensures meant { (entries : List Entry)
+            → MeansWithin (asked_in self.now) self.now.found entries → (reason : ReasonOf)
+            → (IsTrue (has_reason result reason) ↔ IsReason entries subject.now reason) }
+        ensures tested { result ≡ held_reasons self.now.found subject.now }
+    {
+        self.found.reasons(subject)
     }
 
     /// What was found of what is asked.

@@ -6,9 +6,11 @@ ghost use Rattle.krl_held.specs.Revocations.{Revocations, IsOrderly, Means};
 ghost use Rattle.krl_held.specs.Entry.{Entry};
 ghost use Rattle.krl_held.specs.NamingTests.{is_revoked};
 ghost use Rattle.krl_held.specs.Questions.{Asks};
+ghost use Rattle.krl_held.specs.Reasons.{IsReason, any_reason, has_reason, held_reasons, reasons_of};
 ghost use Rattle.krl_held.specs.Revoked.{Revoked};
 ghost use Rattle.krl_held.specs.Scope.{IsSmall, IsWithin, MeansWithin};
 ghost use Rattle.krl_held.specs.Tested.{revokes};
+ghost use Rattle.krl_held.specs.declared.reasons.Reason.{Reason as ReasonOf};
 
 /// The test of what is held says what is revoked by any entries that it means.
 pub fn revokes_what_is_meant()
@@ -34,4 +36,26 @@ pub fn revokes_what_was_found()
 pub fn what_is_found_is_small()
     ensures { (topics found : Revocations) → IsOrderly topics → IsWithin topics found
         → IsSmall topics found }
+{}
+
+/// The tests of reasons find exactly the ways in which the entries revoke.
+pub fn reasons_are_ways()
+    ensures { (entries : List Entry) (subject : Subject) (reason : ReasonOf)
+        → (IsTrue (has_reason (reasons_of entries subject) reason)
+        ↔ IsReason entries subject reason) }
+{}
+
+/// Something is revoked exactly where there is a reason, and the test of one finds so.
+pub fn revoked_for_a_reason()
+    ensures reason { (entries : List Entry) (subject : Subject)
+        → (Revoked entries subject ↔ ((reason : ReasonOf) × IsReason entries subject reason)) }
+    ensures tested { (entries : List Entry) (subject : Subject)
+        → any_reason (reasons_of entries subject) ≡ is_revoked entries subject }
+{}
+
+/// What was found of the topics gives the reasons of the entries for what was asked about.
+pub fn reasons_of_what_was_found()
+    ensures { (topics found : Revocations) (entries : List Entry) (subject : Subject)
+        → MeansWithin (Some topics) found entries → Asks topics subject
+        → held_reasons found subject ≡ reasons_of entries subject }
 {}

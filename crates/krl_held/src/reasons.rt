@@ -1,0 +1,179 @@
+//! Why a key or a certificate is revoked.
+
+ghost use Rattle.std.specs.Prelude.{◌≡◌, ◌↔◌, IsTrue, List};
+ghost use Rattle.krl_held.specs.Entry.{Entry};
+ghost use Rattle.krl_held.specs.Reasons.{IsReason, any_reason, cert_reasons, has_reason, held_reasons, holds_name, id_reasons, key_reasons, serial_reasons};
+ghost use Rattle.krl_held.specs.Revocations.{Means};
+ghost use Rattle.krl_held.specs.declared.reasons.Reason.{Reason as ReasonOf};
+
+use crate::revocations::Revocations;
+use krl_types::{CertNames, Subject};
+use serial_set::Spans;
+
+/// A way in which entries revoke a key or a certificate.
+#[derive(Clone, Copy, PartialEq, Eq)]
+pub enum Reason {
+    /// An entry is the key.
+    Key,
+    /// An entry is the SHA-1 of the key.
+    KeySha1,
+    /// An entry is the SHA-256 of the key.
+    KeySha256,
+    /// An entry is the key of the certificate's authority.
+    Authority,
+    /// An entry is the SHA-1 of that.
+    AuthoritySha1,
+    /// An entry is the SHA-256 of that.
+    AuthoritySha256,
+    /// An entry names the serial number under the certificate's authority.
+    Serial,
+    /// An entry names the serial number under all authorities.
+    SerialOfAll,
+    /// An entry is the key ID under the certificate's authority.
+    KeyId,
+    /// An entry is the key ID under all authorities.
+    KeyIdOfAll,
+}
+
+/// Which entries name a key: its blob, or a hash of it.
+#[derive(Clone, Copy)]
+pub struct KeyReasons {
+    pub blob: bool,
+    pub sha1: bool,
+    pub sha256: bool,
+}
+
+impl KeyReasons {
+    const NONE: KeyReasons = KeyReasons {
+        blob: false,
+        sha1: false,
+        sha256: false,
+    };
+}
+
+/// Under which authority entries name a serial number or a key ID: the certificate's own, and all.
+#[derive(Clone, Copy)]
+pub struct NameReasons {
+    pub own: bool,
+    pub all: bool,
+}
+
+impl NameReasons {
+    const NONE: NameReasons = NameReasons {
+        own: false,
+        all: false,
+    };
+}
+
+/// The ways in which entries revoke a key or a certificate.
+#[derive(Clone, Copy)]
+pub struct Reasons {
+    pub key: KeyReasons,
+    pub authority: KeyReasons,
+    pub serial: NameReasons,
+    pub key_id: NameReasons,
+}
+
+impl Reasons {
+    /// Whether this is one of them.
+    pub fn has(self, reason: Reason) -> bool
+        ensures { result ≡ has_reason self reason }
+    {
+        match reason {
+            Reason::Key => self.key.blob,
+            Reason::KeySha1 => self.key.sha1,
+            Reason::KeySha256 => self.key.sha256,
+            Reason::Authority => self.authority.blob,
+            Reason::AuthoritySha1 => self.authority.sha1,
+            Reason::AuthoritySha256 => self.authority.sha256,
+            Reason::Serial => self.serial.own,
+            Reason::SerialOfAll => self.serial.all,
+            Reason::KeyId => self.key_id.own,
+            Reason::KeyIdOfAll => self.key_id.all,
+        }
+    }
+
+    /// Whether there is one.
+    pub fn any(self) -> bool
+        ensures { result ≡ any_reason self }
+    {
+        if self.key.blob || self.key.sha1 || self.key.sha256 {
+            return true;
+        }
+        if self.authority.blob || self.authority.sha1 || self.authority.sha256 {
+            return true;
+        }
+        if self.key_id.own || self.key_id.all {
+            return true;
+        }
+        self.serial.own || self.serial.all
+    }
+}
+
+impl<S: Spans> Revocations<S> {
+    /// Why a plain key or a certificate is revoked: each way in which entries do. Takes no memory.
+    /// A hash is computed only where there are hashes of its kind.
+    pub fn reasons(&self, subject: &Subject) -> Reasons
+        ensures meant { (entries : List Entry) → Means self.now entries → (reason : ReasonOf)
+            → (IsTrue (has_reason result reason) ↔ IsReason entries subject.now reason) }
+        ensures tested { result ≡ held_reasons self.now subject.now }
+    {
+        let key = self.key_reasons(subject.plain.as_slice());
+        match &subject.cert {
+            None => Reasons {
+                key,
+                authority: KeyReasons::NONE,
+                serial: NameReasons::NONE,
+                key_id: NameReasons::NONE,
+            },
+            Some(cert) => self.cert_reasons(key, cert),
+        }
+    }
+
+    // The names of a certificate that are held, beside its plain key.
+    fn cert_reasons(&self, key: KeyReasons, cert: &CertNames) -> Reasons
+        ensures { result ≡ cert_reasons (holds_name self.now) key cert.now }
+    {
+        let authority = self.key_reasons(cert.authority);
+        let serial = self.serial_reasons(cert.authority, cert.serial);
+        let key_id = self.id_reasons(cert.authority, cert.key_id);
+        Reasons {
+            key,
+            authority,
+            serial,
+            key_id,
+        }
+    }
+
+    // The names of a key that are held.
+    fn key_reasons(&self, blob: &[u8]) -> KeyReasons
+        ensures { result ≡ key_reasons (holds_name self.now) blob.now }
+    {
+        let has = self.has_blob(blob);
+        let sha1 = self.has_sha1(blob);
+        let sha256 = self.has_sha256(blob);
+        KeyReasons {
+            blob: has,
+            sha1,
+            sha256,
+        }
+    }
+
+    // Under which authority a serial number is held.
+    fn serial_reasons(&self, authority: &[u8], serial: u64) -> NameReasons
+        ensures { result ≡ serial_reasons (holds_name self.now) authority.now serial }
+    {
+        let own = self.has_serial(authority, serial);
+        let all = self.has_serial(&[], serial);
+        NameReasons { own, all }
+    }
+
+    // Under which authority a key ID is held.
+    fn id_reasons(&self, authority: &[u8], id: &[u8]) -> NameReasons
+        ensures { result ≡ id_reasons (holds_name self.now) authority.now id.now }
+    {
+        let own = self.has_id(authority, id);
+        let all = self.has_id(&[], id);
+        NameReasons { own, all }
+    }
+}
