@@ -10,6 +10,7 @@ pub mod CopiedRuns
 pub mod BitmapBits
 pub mod Chosen
 pub mod GroupTexts
+pub mod LeastBytes
 pub mod ListTexts
 pub mod Named
 pub mod OnePlan

@@ -13,11 +13,13 @@ pub fn one_least_plan()
         → IsLeastPlan runs other → one ≡ other }
 {}
 
-/// The subsections of a plan have as many bytes as it costs, and those of a cheapest plan at most
-/// 21 a run.
+/// The subsections of a plan have as many bytes as it costs, those of a cheapest plan at most 21 for
+/// a run, and those of any plan at least 17 for 64 runs.
 pub fn plan_has_its_bytes()
     ensures bytes { (runs : List Span) (plan : List Group) → IsRuns runs → IsPlan runs plan
         → length (plan_text runs plan) ≡ cost runs plan }
     ensures few { (runs : List Span) (plan : List Group) → IsCheapest runs plan
         → cost runs plan ≤ 21 * length runs }
+    ensures many { (runs : List Span) (plan : List Group) → IsRuns runs → IsPlan runs plan
+        → 17 * length runs ≤ 64 * cost runs plan }
 {}

@@ -1,8 +1,9 @@
 //! The text of what is held, and its way out.
 
-ghost use Rattle.std.specs.Prelude.{◌≡◌, ◌≤◌, [], false, length};
+ghost use Rattle.std.specs.Prelude.{◌≡◌, ◌*◌, ◌<◌, ◌≤◌, [], IsTrue, false, length};
 ghost use Rattle.krl_core.specs.Front.{limit};
 ghost use Rattle.krl_core.specs.Krl.{header_text};
+ghost use Rattle.krl_held.specs.Revocations.{held};
 ghost use Rattle.krl_writer.specs.KrlText.{texts_text};
 ghost use Rattle.krl_writer.specs.Within.{AddsWithin, IsWritten, Writes, write_fault_number};
 
@@ -10,7 +11,7 @@ use crate::authorities::add_authorities;
 use crate::strings::{add_listed, add_string};
 use crate::text_fault::TextFault;
 use byte_streams::{Sink, send};
-use krl_core::{Header, MAGIC, Revocations};
+use krl_core::{Header, LIMIT, MAGIC, Revocations};
 use serial_set::Spans;
 use ssh_wire::{put_string, put_u32, put_u64};
 use std::alloc::Global;
@@ -28,11 +29,22 @@ pub fn krl_text<S: Spans>(
 ) -> Result<Vec<u8>, TextFault>
     ensures { IsWritten (λ made. made.items) result header.now revocations.now }
 {
+    if is_surely_too_long(revocations.in_order()) {
+        return Err(TextFault::TooLong);
+    }
     let mut out = Vec::new(alloc);
     add_header(&mut out, header)?;
     add_authorities(alloc, &mut out, revocations.walk_authorities())?;
     add_texts(&mut out, revocations)?;
     Ok(out)
+}
+
+// Whether the serials alone take more bytes than the limit, whatever their plan: 64 intervals take
+// at least 17, as in a bitmap of every other serial. Finding the plan would take long.
+fn is_surely_too_long<S: Spans>(revocations: &Revocations<S>) -> bool
+    ensures { IsTrue result → 64 * limit < 17 * held revocations.now }
+{
+    revocations.held() / 64 * 17 > u128::from(LIMIT)
 }
 
 // Appends the header of a list. Its flags are 0 and its reserved string is empty.

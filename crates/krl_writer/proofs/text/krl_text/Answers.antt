@@ -1,9 +1,12 @@
-use Rattle.std.proofs.Common.{[], subst, ap, ◌++◌, List, ℕ, ◌∙◌}
+use Rattle.std.proofs.Common.{[], subst, sym, ap, ◌++◌, ◌<◌, List, ℕ, length, ◌∙◌, arith}
 use Rattle.std.proofs.lemmas.Result.{err_from_is_err_and}
+use Rattle.krl_core.specs.Front.{limit}
 use Rattle.krl_core.specs.Krl.{header_text}
 use Rattle.krl_writer.specs.KrlText.{authorities_text, sections_text, text_of, texts_text}
 use Rattle.krl_writer.specs.Within.{Refuses}
 use Rattle.krl_writer.proofs.Limits.{refuses_front}
+use Rattle.krl_writer.proofs.ReadBack.{are_plans}
+use Rattle.krl_writer.proofs.Sizes.{text_least}
 use Rattle.krl_writer.proofs.WholeTexts.{after_authorities, after_header, any_plans, refuses_list}
 use Rattle.krl_writer.proofs.text.krl_text.Goals as goal
 
@@ -41,3 +44,10 @@ returns g c =
     let under = rw c.walk_authorities.ensures at c.in_ok-add_authorities.ensures in
     let left = after_authorities c.args.header.now c.args.revocations.now under.0 c.new-out.result.items c.add_header.new.out.items c.add_authorities.new.out.items c.new-out.ensures.items c.in_ok-add_header.ensures.0 under.1.1.0 in
     (record { plans = under.0; least = under.1.0; text_is = c.in_ok-add_texts.ensures.0 ∙ left }, c.in_ok-add_texts.ensures.1)
+
+pub returns-then-is_surely_too_long : goal.returns-then-is_surely_too_long
+returns-then-is_surely_too_long g c = λ text is.
+    let r = c.args.revocations.now in
+    let over = rw c.in_order.ensures.same at (c.is_surely_too_long.ensures c.if-is_surely_too_long.true) in
+    let least = text_least c.args.header.now is.plans r c.in_order.ensures.orderly (are_plans is.plans r.sections is.least) in
+    subst (λ (t : List ℕ). limit < length t) (sym is.text_is) (omega (arith, least, over))
