@@ -1,4 +1,5 @@
 pub mod Agreeing
 pub mod Asking
 pub mod Expecting
+pub mod OneReading
 pub mod Printing

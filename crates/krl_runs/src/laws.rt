@@ -5,6 +5,7 @@ ghost use Rattle.krl_held.specs.Entry.{Entry};
 ghost use Rattle.krl_held.specs.NamingTests.{is_revoked};
 ghost use Rattle.krl_types.specs.declared.krl_fault.KrlFault.{KrlFault};
 ghost use Rattle.krl_types.specs.declared.krl_fault.KrlFault.TheVariants.{NoMemory};
+ghost use Rattle.krl_core.specs.Reading.{IsReadAs};
 ghost use Rattle.krl_runs.specs.Contents.{Known, dump_text};
 ghost use Rattle.krl_runs.specs.Query.{HasEntries, IsHeld, IsRead, ask, ask_by, query_run_of};
 ghost use Rattle.key_files.specs.Keys.{Named};
@@ -44,4 +45,16 @@ pub fn one_reading()
     one_spelling();
     one_first_fault();
     entries_decide_what_is_held();
+}
+
+/// The same of a list that is asked: where its reader does not fail, its entries are one, or its
+/// fault is, unless memory runs out.
+pub fn one_asked_reading()
+    ensures { (text : List ℕ) (one other : Result (List Entry) KrlFault)
+        (left later : Option (List ℕ))
+        → IsReadAs HasEntries text one false left → IsReadAs HasEntries text other false later
+        → (one ≡ other) ⊎ ((one ≡ Err NoMemory) ⊎ (other ≡ Err NoMemory)) }
+{
+    one_spelling();
+    one_first_fault();
 }

@@ -4,6 +4,8 @@ ghost use Rattle.std.specs.Prelude.{◌≡◌, ◌≤◌, ℕ, IfSome, List, Non
 ghost use Rattle.key_files.specs.Keys.{Named as NamedOf};
 ghost use Rattle.krl_held.specs.Entry.{Entry as EntryOf};
 ghost use Rattle.krl_held.specs.Questions.{Asks};
+ghost use Rattle.krl_held.specs.Revocations.{IsOrderly};
+ghost use Rattle.krl_held.specs.Scope.{IsSmall};
 ghost use Rattle.krl_core.specs.Reading.{HasReadOf, IsReadingOf};
 ghost use Rattle.krl_types.specs.declared.krl_fault.KrlFault.{KrlFault as FaultOf};
 ghost use Rattle.key_listing.specs.Carries.{Carries};
@@ -20,10 +22,12 @@ use span_sets::Held;
 use ssh_cert::AnyKey;
 use std::alloc::{AllocError, Global};
 
-// Says of each key what a list that has passed said of it.
+// Says of each key what a list that has passed said of it. What was found is small beside what was
+// asked.
 #[derive(Drop)]
 struct Passed<'q> {
     findings: &'q Findings<Held>,
+    ghost small: { IsSmall findings.now.topics findings.now.found },
 }
 
 impl<'q> Answers for Passed<'q> {
@@ -103,7 +107,8 @@ fn ask_rest<'a, R: Source + Drop, W: Sink>(
     front: Reading<Held, R>,
     files: &'a [Named<'a>],
 ) -> (Result<(), RunFault<'a>>, R)
-    requires { front.fault ≡ None }
+    requires working { front.fault ≡ None }
+    requires short { front.pull.taken ≤ 262144 }
     ensures { (before : Option (List ℕ)) → HasReadOf before front
         → (reading : Result (List EntryOf) FaultOf)
         × IsReadingOf HasEntries before reading (R.has_failed result.1) (R.left result.1)
@@ -111,7 +116,7 @@ fn ask_rest<'a, R: Source + Drop, W: Sink>(
         run.old.printer run.new.printer }
 {
     let mut questions: Questions<Held> = Questions::new(run.alloc);
-    match ask_about(run.alloc, &mut questions, front.held_so_far(), files) {
+    match ask_about(run.alloc, &mut questions, &front, files) {
         Ok(()) => {
             let findings = Findings::of(run.alloc, questions);
             pass(run, krl_name, front.ask(findings), files)
@@ -134,6 +139,7 @@ fn pass<'a, R: Source + Drop, W: Sink>(
 ) -> (Result<(), RunFault<'a>>, R)
     requires working { walk.fault ≡ None }
     requires asked { IfSome walk.keeper.scope (λ topics. AllExpected (Asks topics) files.now) }
+    requires orderly { IfSome walk.keeper.scope IsOrderly }
     ensures { (before : Option (List ℕ)) → HasReadOf before walk
         → (reading : Result (List EntryOf) FaultOf)
         × IsReadingOf HasEntries before reading (R.has_failed result.1) (R.left result.1)

@@ -6,23 +6,27 @@ ghost use Rattle.ssh_cert.specs.SubjectReading.{subject_of};
 ghost use Rattle.key_files.specs.Keys.{keys_of};
 ghost use Rattle.key_files.specs.declared.cause.Cause.TheVariants.{NoMemory};
 ghost use Rattle.krl_held.specs.Questions.{Asks, AsksMore, FindsIn};
+ghost use Rattle.krl_held.specs.Revocations.{IsOrderly};
 ghost use Rattle.key_listing.specs.Expected.{AllExpected, AreExpected};
 
+use byte_streams::Source;
 use key_files::{Cause, FileKey, Named, keys_of};
-use krl_core::{Questions, Revocations};
+use krl_core::{Questions, Reading};
 use span_sets::Held;
 use std::alloc::{AllocError, Global};
 
-/// Asks a list whose front holds this about each key of each file, up to the file's first fault.
+/// Asks a list whose front was read about each key of each file, up to the file's first fault.
 /// Fails only where memory runs out.
-pub fn ask_about<'a>(
+pub fn ask_about<'a, R: Source + Drop>(
     alloc: Global,
     questions: &mut Questions<Held>,
-    front: &Revocations<Held>,
+    front: &Reading<Held, R>,
     files: &'a [Named<'a>],
 ) -> Result<(), AllocError>
-    requires { FindsIn front.now questions.old }
-    ensures found { OnOk result (FindsIn front.now questions.new) }
+    requires found { FindsIn front.now.keeper.contents questions.old }
+    requires orderly { IsOrderly questions.old.topics }
+    ensures found { OnOk result (FindsIn front.now.keeper.contents questions.new) }
+    ensures orderly { IsOrderly questions.new.topics }
     ensures asked { OnOk result (AllExpected (Asks questions.new.topics) files.now) }
 {
     for file in files {
@@ -32,14 +36,16 @@ pub fn ask_about<'a>(
 }
 
 // Asks about each key of a file, up to its first fault.
-fn ask_file<'a>(
+fn ask_file<'a, R: Source + Drop>(
     alloc: Global,
     questions: &mut Questions<Held>,
-    front: &Revocations<Held>,
+    front: &Reading<Held, R>,
     file: &'a Named<'a>,
 ) -> Result<(), AllocError>
-    requires { FindsIn front.now questions.old }
-    ensures found { OnOk result (FindsIn front.now questions.new) }
+    requires found { FindsIn front.now.keeper.contents questions.old }
+    requires orderly { IsOrderly questions.old.topics }
+    ensures found { OnOk result (FindsIn front.now.keeper.contents questions.new) }
+    ensures orderly { IsOrderly questions.new.topics }
     ensures more { OnOk result (AsksMore questions.old.topics questions.new.topics) }
     ensures asked { OnOk result (AreExpected (Asks questions.new.topics) (keys_of file.now)) }
 {
@@ -67,14 +73,16 @@ fn stopped_by(cause: Cause) -> Result<(), AllocError>
 }
 
 // Asks about a key, and reports whether it can be read.
-fn ask_key(
+fn ask_key<R: Source + Drop>(
     alloc: Global,
     questions: &mut Questions<Held>,
-    front: &Revocations<Held>,
+    front: &Reading<Held, R>,
     key: &FileKey,
 ) -> Result<bool, AllocError>
-    requires { FindsIn front.now questions.old }
-    ensures found { OnOk result (FindsIn front.now questions.new) }
+    requires found { FindsIn front.now.keeper.contents questions.old }
+    requires orderly { IsOrderly questions.old.topics }
+    ensures found { OnOk result (FindsIn front.now.keeper.contents questions.new) }
+    ensures orderly { IsOrderly questions.new.topics }
     ensures more { OnOk result (AsksMore questions.old.topics questions.new.topics) }
     ensures asked { OnOk result
         (IfOk (subject_of key.now.line.blob) (Asks questions.new.topics)) }
@@ -82,7 +90,7 @@ fn ask_key(
 {
     match key.read() {
         Ok(any) => {
-            questions.ask(front, &any.subject(alloc)?)?;
+            front.add_question(questions, &any.subject(alloc)?)?;
             Ok(true)
         }
         Err(_) => Ok(false),

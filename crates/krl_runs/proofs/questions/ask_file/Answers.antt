@@ -11,31 +11,33 @@ use Rattle.krl_runs.proofs.Expecting.{fault_expected, key_expected}
 use Rattle.krl_runs.proofs.questions.ask_file.Goals as goal
 
 pub loop-next-preserved-else-not-branch : goal.loop-next-preserved-else-not-branch
-loop-next-preserved-else-not-branch c =
+loop-next-preserved-else-not-branch g c =
     let asked = c.in_ok-ask_key-in-Ok.ensures in
     let given = rw c.in-Ok.is at c.in-Some.ensures.steps in
-    let before = rw (given.1.0 ∙ ap (λ (next : Result FileKey RunFault). next ∷ c.next.new.self) given.1.1) at c.loop-next.invariant.2 in (
+    let before = rw (given.1.0 ∙ ap (λ (next : Result FileKey RunFault). next ∷ c.next.new.self) given.1.1) at c.loop-next.invariant.3 in (
       asked.found,
-      (λ name h. asked.more name (c.loop-next.invariant.1 name h)),
+      asked.orderly,
+      (λ name h. asked.more name (c.loop-next.invariant.2 name h)),
       λ later more rest. before later (λ name h. more name (asked.more name h))
           (key_expected c.ask_key.new.questions.topics later c.in-Ok.key c.next.new.self more asked.asked rest),
     )
 
 pub loop-next-preserved : goal.loop-next-preserved
-loop-next-preserved c =
+loop-next-preserved g c =
     let asked = c.in_ok-ask_key-in-Ok.ensures in
     let given = rw c.in-Ok.is at c.in-Some.ensures.steps in
-    let before = rw (given.1.0 ∙ ap (λ (next : Result FileKey RunFault). next ∷ c.next.new.self) given.1.1) at c.loop-next.invariant.2 in (
+    let before = rw (given.1.0 ∙ ap (λ (next : Result FileKey RunFault). next ∷ c.next.new.self) given.1.1) at c.loop-next.invariant.3 in (
       asked.found,
-      (λ name h. asked.more name (c.loop-next.invariant.1 name h)),
+      asked.orderly,
+      (λ name h. asked.more name (c.loop-next.invariant.2 name h)),
       λ later more rest. before later (λ name h. more name (asked.more name h))
           (key_expected c.ask_key.new.questions.topics later c.in-Ok.key c.next.new.self more asked.asked rest),
     )
 
 pub returns-in-Err-clause-asked : goal.returns-in-Err-clause-asked
-returns-in-Err-clause-asked c =
+returns-in-Err-clause-asked g c =
     let given = rw c.in-Err.is at c.in-Some.ensures.steps in
-    let before = rw given.1.0 at c.loop-next.invariant.2 in
+    let before = rw given.1.0 at c.loop-next.invariant.3 in
     let topics = c.loop-next.questions.topics in
     let cause : c.stop.inside.cause ≡ c.in-Err.stop.cause = ap (λ (stop : RunFault). stop.cause) c.stop.view_is in
     let known = rw cause at c.stopped_by.ensures in
@@ -43,6 +45,6 @@ returns-in-Err-clause-asked c =
     (λ known _. before topics (λ name h. h) (fault_expected (Asks topics) given.0 c.in-Err.stop c.next.new.self given.1.1 known)) known known
 
 pub returns-clause-asked : goal.returns-clause-asked
-returns-clause-asked c =
-    let before = rw c.in-None.ensures.steps.0 at c.loop-next.invariant.2 in
+returns-clause-asked g c =
+    let before = rw c.in-None.ensures.steps.0 at c.loop-next.invariant.3 in
     before c.loop-next.questions.topics (λ name h. h) tt
