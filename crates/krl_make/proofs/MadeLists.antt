@@ -1,9 +1,10 @@
 -- Making a list: what is read of the old one, of the authority's file and of the files.
-use Rattle.std.proofs.Common.{◌≡◌, ℕ, ◌+◌, ◌<◌, ◌≤◌, List, [], ◌∷◌, ◌++◌, length, take, drop, get_or, Option, Some, None, Result, Ok, Err, inl, inr, refl, sym, ap, subst, ◌∙◌, arith, append_assoc}
+use Rattle.std.proofs.Common.{◌≡◌, ℕ, ◌+◌, ◌<◌, ◌≤◌, List, [], ◌∷◌, ◌++◌, length, take, drop, get_or, Option, Some, None, Result, Ok, Err, inl, inr, refl, sym, ap, subst, ◌∙◌, arith, append_assoc, length-append}
 use Rattle.std.proofs.lemmas.List.{append-nil, take_more, take-append-drop}
 use Rattle.std.proofs.Math.Logic.Iff as Iff
 use Rattle.std.proofs.lemmas.Bool.{cases_Bool}
 use Rattle.std.specs.List.{slice_split}
+use Rattle.std.specs.Option.{ok_or}
 use Rattle.ssh_wire.specs.Reading.{◌>>=◌, in_fault}
 use Rattle.ssh_key.specs.Key.{blob_of}
 use Rattle.key_text.specs.Armour.{begins_container}
@@ -18,7 +19,7 @@ use Rattle.ssh_cert.specs.declared.any_key.AnyKey.{AnyKey}
 use Rattle.ssh_cert.specs.declared.any_key.AnyKey.TheVariants.{Plain, Certified}
 use Rattle.krl_writer.proofs.ReadBack.{written_spelled}
 use Rattle.krl_held.proofs.Tested.{revokes_meant}
-use Rattle.krl_held.specs.Revocations.{Revocations, Means}
+use Rattle.krl_held.specs.Revocations.{Revocations, Means, held}
 use Rattle.krl_core.specs.Entries.{entries_of}
 use Rattle.krl_held.specs.Entry.{Entry}
 use Rattle.krl_core.specs.Front.{IsFirstFault, limit}
@@ -27,15 +28,15 @@ use Rattle.krl_core.specs.Reading.{IsList}
 use Rattle.krl_core.specs.declared.header.Header.{Header}
 use Rattle.krl_types.specs.declared.krl_fault.KrlFault.{KrlFault}
 use Rattle.krl_make.specs.declared.base.Base.{Base}
-use Rattle.krl_make.specs.Making.{Added, HasNumbers, IsAtHand, IsFileAtHand, authority_file, lines, new_list, old_list, IsOldList, IsRunFault, Made, Makes, NamesSame, Returns, WritesList, WritesMade, WritesMore, after_old, base_of, cause_run_fault, file_entries, file_key, file_run_fault, files_entries, first_blob, first_key_of, header_of, made_of, make_run_of, named_blob, key_blob, text_entries, then_entries, version_of}
+use Rattle.krl_make.specs.Making.{Added, HasNumbers, IsAtHand, IsFileAtHand, authority_file, lines, new_list, old_list, IsOldList, HoldsMore, IsRunFault, Made, Makes, NamesSame, Returns, WritesList, WritesMade, WritesMore, after_old, base_of, cause_run_fault, file_entries, file_key, file_run_fault, files_entries, first_blob, first_key_of, header_of, made_of, make_run_of, named_blob, key_blob, text_entries, then_entries, version_of, paid}
 use Rattle.key_files.specs.RunFault.{krl_cause}
+use Rattle.key_files.specs.declared.cause.Cause.TheVariants as causes
 use Rattle.krl_job.specs.declared.job.Authority.{Authority}
 use Rattle.krl_job.specs.declared.job.Authority.TheVariants.{File as FileOf}
 use Rattle.krl_types.specs.declared.krl_fault.KrlFault.TheVariants as faults
 use Rattle.key_files.specs.Keys.{Named, FileKey, GivesKey, IsRefused, key_of_container, content_keys, file_name, key_in, keys_from, keys_of, key_of_line}
 use Rattle.key_files.specs.declared.file_fault.FileFault.{FileFault}
 use Rattle.key_files.specs.declared.file_fault.FileFault.TheVariants as files
-use Rattle.krl_held.specs.Changes.{MeansMore}
 use Rattle.krl_spec.proofs.KeyRoom.{key_room}
 use Rattle.krl_spec.specs.Lines.{ReadsSpec, StopsAt, lines_of}
 use Rattle.key_files.specs.declared.spec_cause.SpecCause.{SpecCause}
@@ -127,10 +128,10 @@ first_refused file next later stop is refused = rw (file_first file (next ∷ la
 -- ---- the files
 
 pub text_added : (authority : Option (List ℕ)) (name text : List ℕ) (old new : Revocations)
-    → ReadsSpec authority text (Ok (tt {0})) old new
+    → ReadsSpec authority text (Ok (tt {0})) old new → held new ≤ held old + length (lines_of authority text).entries
     → Added (text_entries authority name text) old new
-text_added authority name text old new reads =
-    ((lines_of authority text).entries, (rw reads.0 refl, reads.1))
+text_added authority name text old new reads more =
+    ((lines_of authority text).entries, (rw reads.0 refl, record { means = reads.1; held_is = more }))
 
 -- Where the lines of a text stop, the run stops.
 pub text_stops : (authority : Option (List ℕ)) (name text : List ℕ) (number : ℕ) (cause : SpecCause) (old new : Revocations)
@@ -167,7 +168,7 @@ files_take authority files i file lt item =
     rw more (files_parts authority (take i files) (file ∷ []) ∙ ap (then_entries (files_entries authority (take i files))) (one_file authority file (file_entries authority file)))
 
 pub no_files : (r : Revocations) → Added (Ok []) r r
-no_files r = ([], (refl, λ entries means. rw (append-nil entries) means))
+no_files r = ([], (refl, record { means = λ entries means. rw (append-nil entries) means; held_is = omega arith }))
 
 pub file_added : (authority : Option (List ℕ)) (files : List Named) (i : ℕ) (file : Named) (old mid new : Revocations)
     → i < length files → file ≡ get_or files i file
@@ -178,7 +179,10 @@ file_added authority files i file old mid new lt item (front, (read, adds)) (nam
   front ++ named,
   (
     rw (files_take authority files i file lt item, read, read') refl,
-    λ entries means. rw (← append_assoc entries front named) (adds' (entries ++ front) (adds entries means)),
+    record {
+      means = λ entries means. rw (← append_assoc entries front named) (adds'.means (entries ++ front) (adds.means entries means));
+      held_is = omega (arith, adds.held_is, adds'.held_is, length-append front named);
+    },
   ),
 )
 
@@ -234,14 +238,14 @@ names_same header contents text written within numbers entries means =
     }
 
 pub made_written : {X : Type 0} (view : X → List ℕ) (name : List ℕ) (made : Made) (contents : Revocations) (result : Result X RunFault)
-    → MeansMore made.old contents made.entries → WritesList view name made.header contents result → WritesMade view name made result
+    → HoldsMore made.old contents made.entries → WritesList view name made.header contents result → WritesMade view name made result
 made_written view name made contents (Ok text) adds (written, within, names) =
     record {
       contents = contents;
       adds = adds;
       written = written;
       within = within;
-      names = λ olds means. names (olds ++ made.entries) (adds olds means);
+      names = λ olds means. names (olds ++ made.entries) (adds.means olds means);
     }
 made_written view name made contents (Err stop) adds (inl ran_out) = inl ran_out
 made_written view name made contents (Err stop) adds (inr (reported, long)) =
@@ -307,3 +311,24 @@ list_written view name given authority moment base files version signer result i
     made_read view name given authority base files whole (made_of (header_of version moment base) base.revocations entries) result (rw (is, signed, read) refl) written
 list_written view name given authority moment base files version signer result is signed (inr (stop, (stopped, stops))) =
     rw stopped (inl (files_stop name given authority moment base files version signer stop is signed stops))
+
+-- ---- what is held of it
+
+-- what the list is made of has what the old list held
+old_of : (version : Result ℕ RunFault) (signer : Result (Option (List ℕ)) RunFault) (entries : Option (List ℕ) → Result (List Entry) RunFault) (header : ℕ → Header) (old : Revocations) (made : Made)
+    → (version >>= (λ v. signer >>= (λ s. entries s >>= (λ e. Ok (made_of (header v) old e))))) ≡ Ok made → made.old ≡ old
+old_of (Err fault) signer entries header old made is = absurd (cc)
+old_of (Ok v) (Err fault) entries header old made is = absurd (cc)
+old_of (Ok v) (Ok s) entries header old made is = by (entries s) is
+  where
+    by : (read : Result (List Entry) RunFault) → (read >>= (λ e. Ok (made_of (header v) old e))) ≡ Ok made → made.old ≡ old
+    by (Err fault) same = absurd (cc)
+    by (Ok e) same = cc
+
+pub held_paid : (name text : List ℕ) (base : Base) (authority : Authority Named) (version : Option ℕ) (files : List Named) (moment : ℕ) (made : Made) (contents : Revocations)
+    → IsOldList text base → make_run_of name (Ok base) authority version files moment ≡ Ok made → HoldsMore made.old contents made.entries
+    → held contents ≤ paid (length text) (length made.entries)
+unfolding make_run_of
+held_paid name text base authority version files moment made contents is read more =
+    let old : made.old ≡ base.revocations = old_of (ok_or (version_of version base.version) (run_fault_of name causes.VersionFull)) (named_blob authority) (λ s. files_entries s files) (λ v. header_of v moment base) base.revocations made read in
+    omega (arith, more.held_is, ap held old, is.list.holds.held_is)

@@ -1,10 +1,10 @@
 -- A list that is made or updated (ssh-keygen(1), options -k and -u).
-use Rattle.std.specs.Prelude.{◌≡◌, ◌↔◌, ℕ, ◌+◌, ◌-◌, ◌^◌, ◌<◌, ◌≤◌, ◌==◌, ◌⊎◌, Bool}
+use Rattle.std.specs.Prelude.{◌≡◌, ◌↔◌, ℕ, ◌+◌, ◌-◌, ◌*◌, ◌^◌, ◌<◌, ◌≤◌, ◌==◌, ◌⊎◌, Bool}
 use Rattle.std.specs.Prelude.{if◌then◌else◌, List, [], ◌∷◌, ◌++◌, length, Option, Some, None}
 use Rattle.std.specs.Prelude.{Result, Ok, Err}
 use Rattle.std.specs.Option.{ok_or}
 use Rattle.ssh_wire.specs.Reading.{◌>>=◌, in_fault}
-use Rattle.krl_held.specs.Revocations.{Revocations, Means, nothing}
+use Rattle.krl_held.specs.Revocations.{Revocations, Means, held, nothing}
 use Rattle.krl_core.specs.Entries.{entries_of}
 use Rattle.krl_held.specs.Entry.{Entry}
 use Rattle.krl_core.specs.Front.{IsFirstFault, limit}
@@ -120,6 +120,15 @@ version_of (Some given) old = Some given
 version_of None None = Some 0
 version_of None (Some old) = if old == 2 ^ 64 - 1 then None else Some (old + 1)
 
+-- What entries of lines name is held too, with at most an interval of serials more for each.
+pub record HoldsMore (old new : Revocations) (entries : List Entry) : Type 0 where
+  pub means : MeansMore old new entries
+  pub held_is : held new ≤ held old + length entries
+
+-- how many intervals the bytes of an old list and the lines that gave an entry pay for
+abbrev pub paid : (bytes lines : ℕ) → ℕ
+paid bytes lines = 4 * bytes + lines
+
 -- what a list is made of: its header, what the old list holds, and what the lines name
 pub record Made : Type 0 where
   pub header : Header
@@ -207,7 +216,7 @@ Returns view AtHand read (Err stop) = IsRunFault (ended_by stop.cause) AtHand re
 
 -- what was read of files was added
 abbrev pub Added : Result (List Entry) RunFault → Revocations → Revocations → Type 0
-Added read old new = (entries : List Entry) × ((read ≡ Ok entries) × MeansMore old new entries)
+Added read old new = (entries : List Entry) × ((read ≡ Ok entries) × HoldsMore old new entries)
 
 -- What the files name was added, or the run stopped.
 abbrev pub AddsFiles : {A : Type 0} → (List ℕ → Type 0) → Result (List Entry) RunFault
@@ -226,7 +235,7 @@ pub record NamesSame (header : Header) (text : List ℕ) (entries : List Entry) 
 -- just what any entries that the old list means and those of the lines revoke.
 pub record IsMade (made : Made) (text : List ℕ) : Type 0 where
   pub contents : Revocations
-  pub adds : MeansMore made.old contents made.entries
+  pub adds : HoldsMore made.old contents made.entries
   pub written : IsKrlText made.header contents text
   pub within : length text ≤ limit
   pub names : (olds : List Entry) → Means made.old olds
@@ -235,7 +244,7 @@ pub record IsMade (made : Made) (text : List ℕ) : Type 0 where
 -- The list that would be written is longer than one that can be read.
 pub record IsTooLong (made : Made) : Type 0 where
   pub contents : Revocations
-  pub adds : MeansMore made.old contents made.entries
+  pub adds : HoldsMore made.old contents made.entries
   pub long : (text : List ℕ) → IsKrlText made.header contents text → limit < length text
 
 -- the text of a list was too long

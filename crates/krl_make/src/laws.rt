@@ -1,9 +1,14 @@
-//! What holds for every file that names an authority, as the contract of a function that does
-//! nothing.
+//! What holds for every file that names an authority, and for every list that is made. Each function
+//! does nothing: its contract is the law.
 
-ghost use Rattle.std.specs.Prelude.{◌≡◌, ◌↔◌, ℕ, List, Err, Ok};
+ghost use Rattle.std.specs.Prelude.{◌≡◌, ◌≤◌, ◌↔◌, ℕ, List, Err, Ok, Option, length};
+ghost use Rattle.krl_held.specs.Revocations.{Revocations, held};
+ghost use Rattle.key_files.specs.Keys.{Named};
+ghost use Rattle.krl_job.specs.declared.job.Authority.{Authority};
+ghost use Rattle.krl_make.specs.declared.base.Base.{Base};
 ghost use Rattle.krl_make.specs.FirstKey.{IsFirstKey, IsFirstKeyFault};
-ghost use Rattle.krl_make.specs.Making.{first_key_of};
+ghost use Rattle.krl_make.specs.Making.{HoldsMore, IsOldList, Made, first_key_of};
+ghost use Rattle.krl_make.specs.Making.{make_run_of, paid};
 ghost use Rattle.key_files.specs.RunFault.{RunFault};
 ghost use Rattle.ssh_wire.specs.Wire.{IsBytes};
 
@@ -24,3 +29,14 @@ pub fn first_key_where_spelled()
     private_refused_by_first_fault();
     blob_read_back();
 }
+
+/// While a list is made, at most four intervals of serial numbers are held for each byte of the old
+/// list, and one for each line that gave an entry.
+pub fn held_is_paid()
+    ensures { (name text : List ℕ) (base : Base) (authority : Authority Named)
+        (version : Option ℕ) (files : List Named) (moment : ℕ) (made : Made)
+        (contents : Revocations) → IsOldList text base
+        → make_run_of name (Ok base) authority version files moment ≡ Ok made
+        → HoldsMore made.old contents made.entries
+        → held contents ≤ paid (length text) (length made.entries) }
+{}

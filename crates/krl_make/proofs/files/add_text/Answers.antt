@@ -3,7 +3,7 @@ use Rattle.krl_make.proofs.MadeLists.{text_added, text_stops}
 use Rattle.krl_make.proofs.files.add_text.Goals as goal
 
 pub returns-in-Ok : goal.returns-in-Ok
-returns-in-Ok g c = text_added _ _ _ _ _ c.in-Ok.ensures.reads
+returns-in-Ok g c = text_added _ _ _ _ _ c.in-Ok.ensures.reads c.in-Ok.ensures.held
 
 pub returns-in-Err : goal.returns-in-Err
 returns-in-Err g c =
