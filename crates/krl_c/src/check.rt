@@ -54,7 +54,7 @@ fn revokes(alloc: Global, list: &[u8], asked: &Subject) -> Result<bool, KrlFault
 {
     let reading: Reading<Held, Lent> = Reading::new(alloc, Lent::new(list));
     let mut questions: Questions<Held> = Questions::new(alloc);
-    let Ok(()) = questions.ask(reading.held_so_far(), asked) else {
+    let Ok(()) = reading.add_question(&mut questions, asked) else {
         return Err(KrlFault::NoMemory);
     };
     let (read, _list) = reading.ask(Findings::of(alloc, questions)).read_on();
