@@ -17,185 +17,316 @@ launch 'the launcher by a link to a link' folder/deep
 PATH=$scratch/here/folder:$PATH launch 'the launcher found on the PATH' deep
 PATH=/usr/bin:/bin launch 'the launcher without the toolchain' "$launcher"
 
-# Each case says by itself how many crates are proved at once.
-unset RT_JOBS
-# A repository of empty crates, each of which takes a number of steps.
+# A repository of small crates, in which proving takes a step for each line, and a kit for them.
 away=$scratch/here/away
-mkdir -p away/crates/krl_tool tools
-cp "$launcher" "$top/build.sh" away/
+mkdir -p away kit/bin kit/c
+cp "$launcher" "$top/build.py" away/
+cp -r "$top/library" away/
+cp "$top"/tests/lib/kit/* kit/bin/
+echo 'the kit of the tests' >kit/WHAT
 printf '%s\n' 'low: byteorder' 'low_tests: low' side: 'upper: low side' 'aside: low' 'krl_tool: upper aside' \
-  >away/crates.txt
-for it in low:6 low_tests:1 side:9 upper:6 aside:3 krl_tool:2; do
-  mkdir -p "away/crates/${it%:*}/src" && echo "${it#*:}" >"away/crates/${it%:*}/src/steps"
+  'krl_c staticlib: low' >away/crates.txt
+for it in low:6 low_tests:1 side:4 upper:6 aside:3 krl_tool:2 krl_c:2; do
+  mkdir -p "away/crates/${it%:*}"/{src,specs,proofs}
+  seq "${it#*:}" >"away/crates/${it%:*}/src/lib.rt"
 done
-# A toolchain for them. As rt, it locks the crates of the tree that it works on, makes a library of each
-# anew where it is none of the crate's text, those below first, and keeps each step that it has done.
-cat >tools/rt <<'END'
-#!/bin/bash
-below() {
-  local it
-  for it in $(sed -n "s/^$1://p" ../../crates.txt); do
-    [ ! -d "../$it" ] || { below "$it" && echo "$it"; }
-  done
-}
-name=${PWD##*/}
-all="$(below "$name" | sort -u) $name"
-for it in $all; do
-  exec {lock}<"../$it" && flock "$lock"
-done
-echo "$name begins" >>"$calls"
-[ ! -e src/wrong ] || { echo 'not proved' && exit 1; }
-for it in $all; do
-  out=../$it/out
-  sum=$(cksum <"../$it/src/steps" | tr ' ' -)
-  [ "$(cat "$out/rlib/stamp" 2>/dev/null)" != "$sum" ] || continue
-  rm -rf "$out/rlib" && mkdir -p "$out/rlib" "$out/incremental/$sum"
-  for step in $(seq "$(cat "../$it/src/steps")"); do
-    kept=$out/incremental/$sum/$step
-    # Both at once, or nearly so, since it may be killed.
-    [ -e "$kept" ] || { sleep 0.05 && : >"$kept" && echo "$it" >>"$calls.steps"; }
-  done
-  echo "$sum" >"$out/rlib/stamp"
-done
-[ "$1" != run ] || { printf '#!/bin/sh\necho made\n' >out/krl_tool && chmod +x out/krl_tool; }
-echo "$name ends: $*" >>"$calls"
-END
-chmod +x tools/rt
-export calls=$scratch/here/calls
-every='aside 3, krl_tool 2, low 6, side 9, upper 6, '
+mv away/crates/krl_tool/src/lib.rt away/crates/krl_tool/src/main.rt
+export calls=$scratch/here/calls XDG_CACHE_HOME=$scratch/here/cache
+store=$XDG_CACHE_HOME/krl-keygen
+unset RT_JOBS AFTER_CI
+one=(env RT_JOBS=1)
+two=(env RT_JOBS=2)
 
-# use WORD..: runs the launcher over that toolchain, by the command that the words begin.
+# use WORD..: runs the launcher over that kit, by the command that the words begin.
 use() {
-  PATH=$scratch/here/tools:/usr/bin:/bin exec "$@" "$away/ssh-keygen"
-}
-# build NAME STATUS OUTPUT ERROR WORD..
-build() {
-  local name=$1 status=$2 output=$3 error=$4
-  : >calls
-  (use "${@:5}") >said 2>"$scratch/error"
-  judge "$name" "$(
-    differs 'exit status' "$status" $?
-    differs 'standard output' "$output" "$(cat said)"
-    differs 'standard error' "$error" "$(cat "$scratch/error")"
-  )"
-}
-# steps NAME STEPS: what was done since this was asked before, and that nothing is left at work.
-steps() {
-  judge "$1" "$(
-    differs 'steps' "$2" "$(sort calls.steps | uniq -c | awk '{ printf "%s %d, ", $2, $1 }')"
-    [ ! -e away/built/trees ] || echo '  a tree is left'
-    flock -n away/built/lock true || echo '  something is still at work'
-  )"
-  : >calls.steps
-}
-in_turn() {
-  judge "$1: one crate after the other" "$(awk '
-    /begins$/ && at { print "  " $1 " begins within " at }
-    { at = /begins$/ ? $1 : "" }' calls)"
+  PATH=$scratch/here/kit/bin:/usr/bin:/bin exec "$@" "$away/ssh-keygen"
 }
 # said_by LINE..: what the launcher says.
 said_by() {
   printf 'ssh-keygen: %s\n' "$@"
 }
-
-: >calls.steps
-one=(env RT_JOBS=1)
-two=(env RT_JOBS=2)
-all=$(said_by 'proving and building the program, this once: 5 crates' 'proving low: 0 of 5 are proved' \
+# made_of LOW SIDE: what the program prints, where these are the last lines of the two crates.
+made_of() {
+  echo "made of aside:1,2,3 krl_tool:1,2 low:$(seq -s , "$1") side:$(seq -s , "$2") upper:1,2,3,4,5,6"
+}
+# proved: which crates were proved since this was asked before, in the order of their ends.
+proved() {
+  awk '/ends$/ { printf "%s ", $1 }' calls
+  : >calls
+}
+# build NAME STATUS OUTPUT ERROR PROVED WORD..
+build() {
+  local name=$1 status=$2 output=$3 error=$4 crates=$5
+  : >calls
+  (use "${@:6}") >said 2>"$scratch/error"
+  judge "$name" "$(
+    differs 'exit status' "$status" $?
+    [ "$output" = any ] || differs 'standard output' "$output" "$(cat said)"
+    [ "$error" = any ] || differs 'standard error' "$error" "$(cat "$scratch/error")"
+    differs 'what is proved' "$crates" "$(proved)"
+  )"
+}
+every='low side upper aside krl_tool '
+: >calls
+all=$(said_by 'proving and building, this once: 5 crates' 'proving low: 0 of 5 are proved' \
   'proving side: 1 of 5 are proved' 'proving upper: 2 of 5 are proved' 'proving aside: 3 of 5 are proved' \
   'proving krl_tool: 4 of 5 are proved')
-build 'the first use builds' 0 made "$all" "${one[@]}"
-in_turn 'the first use'
-steps 'the first use does each step' "$every"
-build 'the second use only runs' 0 made ''
-sleep 0.1 && touch away/crates/low_tests/src/steps
-build 'a changed test builds nothing' 0 made ''
-sleep 0.1 && echo 7 >away/crates/low/src/steps
-build 'a changed source is built again' 0 made "$all" "${one[@]}"
-steps 'what did not change is not done again' 'low 7, '
-echo 6 >away/crates/low/src/steps
-sleep 0.1 && touch away/crates/upper/src/wrong
-build 'a crate that is not proved' 255 '' "$(head -n 4 <<<"$all")
-not proved
-$(said_by "upper is not proved: all that was said is in $away/built/upper.log")" "${one[@]}"
-rm away/crates/upper/src/wrong
 
-# anew WORD..: begins a first use, by the command that the words begin, and goes on.
+(use "${one[@]}") >said 2>"$scratch/error"
+judge 'the first use builds' "$(
+  differs 'exit status' 0 $?
+  differs 'standard output' "$(made_of 6 4)" "$(cat said)"
+  differs 'standard error' "$all" "$(cat "$scratch/error")"
+)"
+judge 'one crate after the other' "$(awk '
+  /begins/ && at { print "  " $1 " begins within " at }
+  { at = /begins/ ? $1 : "" }' calls)"
+judge 'one process in each crate' "$(grep begins calls | grep -v ' with 1$')"
+judge 'each crate is proved once' "$(differs crates "$every" "$(proved)")"
+build 'the second use only runs' 0 "$(made_of 6 4)" '' ''
+sleep 0.1 && touch away/crates/low_tests/src/lib.rt
+build 'a changed test builds nothing' 0 "$(made_of 6 4)" '' ''
+sleep 0.1 && touch away/crates/low/src/lib.rt
+build 'a source with a new time proves nothing' 0 "$(made_of 6 4)" '' ''
+
+# What each change leads to. The program that was there is replaced, and not written over.
+ln away/built/ssh-keygen older
+sleep 0.1 && seq 7 >away/crates/low/src/lib.rt
+build 'a changed source' 0 "$(made_of 7 4)" any 'low upper aside krl_tool ' "${one[@]}"
+judge 'a program that runs is not written over' "$(differs program "$(made_of 6 4)" "$(./older)")"
+sleep 0.1 && seq 6 >away/crates/low/src/lib.rt
+build 'a source that is as it was' 0 "$(made_of 6 4)" '' ''
+for it in specs proofs; do
+  sleep 0.1 && echo "the-$it" >"away/crates/upper/$it/Lib.antt"
+  build "a new file of $it" 0 any any 'upper krl_tool '
+  judge "the program is made of the $it" "$(grep -q "the-$it" said || cat said)"
+  sleep 0.1 && rm "away/crates/upper/$it/Lib.antt"
+  build "without the file of $it" 0 "$(made_of 6 4)" '' ''
+done
+sleep 0.1 && sed -i 's/^aside:.*/aside: low side/' away/crates.txt
+build 'a changed list of crates' 0 "$(made_of 6 4)" any 'aside krl_tool '
+sleep 0.1 && sed -i 's/^aside:.*/aside: low/' away/crates.txt
+build 'a list of crates that is as it was' 0 "$(made_of 6 4)" '' ''
+sleep 0.1 && sed -i 's/^low:.*/low: byteorder hex/' away/crates.txt
+build 'a changed list of what the kit has' 0 "$(made_of 6 4)" any 'low '
+sleep 0.1 && echo '// a remark' >>away/crates/low/src/lib.rt
+build 'what a library is made of changes, and the library does not' 0 "$(made_of 6 4)" any 'low '
+sleep 0.1 && touch away/crates/upper/src/wrong && echo 7 >>away/crates/upper/src/lib.rt
+build 'a crate that is not proved' 255 '' "$(said_by 'proving and building, this once: 5 crates' \
+  'proving upper: 3 of 5 are proved')
+not proved
+$(said_by "upper is not proved: all that was said is in $away/built/upper.log")" '' "${one[@]}"
+rm away/crates/upper/src/wrong && seq 6 >away/crates/upper/src/lib.rt
+echo 'another kit' >kit/WHAT
+sleep 0.1 && touch away/crates.txt
+build 'another kit' 0 "$(made_of 6 4)" any "$every" "${one[@]}"
+
+# anew WORD..: begins a first use in the background, by the command that the words begin.
 anew() {
-  rm -rf away/built away/crates/*/out
+  rm -rf away/built "$store"
   : >calls
-  : >calls.steps
   (use "$@") >said 2>"$scratch/error" &
 }
-# whole NAME: the launcher ended with the program, and each step was done once.
-whole() {
+# hold CRATE WORD..: begins such a use, and waits until it proves the crate, which lasts until go.
+hold() {
+  echo "$1" >calls.hold
+  anew "${@:2}"
+  await grep -q "$1 begins" calls
+}
+go() {
+  rm calls.hold
   wait
-  judge "$1" "$(differs 'standard output' made "$(cat said)")"
-  steps "$1: each step" "$every"
 }
-until_steps() {
-  until [ "$(wc -l <calls.steps)" -ge "$1" ]; do sleep 0.02; done
+# await COMMAND..: waits until it succeeds, a minute at most.
+await() {
+  local end=$((SECONDS + 60))
+  until "$@" || ((SECONDS > end)); do sleep 0.02; done
 }
-# again NAME: uses the launcher once more.
-again() {
-  (use "${two[@]}") >said 2>"$scratch/error"
-  whole "$1"
+at_work() {
+  pgrep -f "$scratch/here/kit/bin/rattle" >/dev/null
 }
-waiting=$(said_by 'the program is being built: waiting for that')
+# whole NAME: the launcher ended with the program, and each crate was proved once.
+whole() {
+  judge "$1" "$(
+    differs 'standard output' "$(made_of 6 4)" "$(cat said)"
+    differs 'what is proved' "$(printf '%s\n' $every | sort)" "$(proved | tr ' ' '\n' | sed '/^$/d' | sort)"
+    nothing_left
+  )"
+}
+nothing_left() {
+  [ -z "$(ls -d "$store"/*.new 2>/dev/null)" ] || echo '  half a library is left'
+  flock -n away/built/lock true || echo '  a build is still at work'
+  # What was killed may take a moment to end.
+  ! { sleep 0.3 && at_work; } || echo '  a crate is still being proved'
+}
 
 anew "${two[@]}"
-whole 'a first use with two crates at once'
-judge 'crates are proved side by side' "$(differs 'first calls' $'low begins\nside begins' "$(head -n 2 calls | sort)")"
-judge 'two crates share the processors' \
-  "$(grep -E '^(low|side) ends' calls | grep -v -e "--jobs $((($(nproc) + 1) / 2))\$")"
-judge 'what is said of it' "$(differs 'first and last lines' "$(said_by \
-  'proving and building the program, this once: 5 crates' 'proving low: 0 of 5 are proved' \
-  'proving side: 0 of 5 are proved' 'proving krl_tool: 4 of 5 are proved')" "$(sed -n '1,3p;$p' "$scratch/error")")"
+wait
+judge 'crates are proved side by side' \
+  "$(differs 'first calls' $'low begins with 1\nside begins with 1' "$(head -n 2 calls | sort)")"
+judge 'the last crate has all processors' "$(grep -q 'krl_tool begins with 2' calls || cat calls)"
+whole 'a first use with two processors'
 
-anew "${two[@]}"
-until_steps 1
-(use "${two[@]}") >second 2>"$scratch/waiting"
+waiting=$(said_by 'another build is at work in this folder: waiting for that')
+hold low "${two[@]}"
+(use "${two[@]}") >second 2>"$scratch/waiting" &
+await grep -q . "$scratch/waiting"
+go
 whole 'the first of two uses at once'
 judge 'the second of two uses at once' "$(
-  differs 'standard output' made "$(cat second)"
+  differs 'standard output' "$(made_of 6 4)" "$(cat second)"
   differs 'standard error' "$waiting" "$(cat "$scratch/waiting")"
 )"
 
-anew "${two[@]}"
-until_steps 5
-kill $!
-wait $!
-judge 'an interrupted build' "$(differs 'exit status' 255 $?)"
-judge 'an interrupted build leaves nothing' "$(
-  [ ! -e away/built/trees ] || echo '  a tree is left'
-  flock -n away/built/lock true || echo '  something is still at work'
+# A source that changes while another crate is proved, and one that changes while it is proved itself.
+hold krl_tool "${one[@]}"
+seq 7 >away/crates/low/src/lib.rt
+go
+build 'a source that changed during the build' 0 "$(made_of 7 4)" any 'low upper aside krl_tool ' "${one[@]}"
+hold low "${one[@]}"
+seq 6 >away/crates/low/src/lib.rt
+go
+judge 'a source that changed while it was proved' "$(
+  differs 'standard output' "$(made_of 6 4)" "$(cat said)"
+  differs 'what is proved' "low $every" "$(proved)"
 )"
-again 'an interrupted build that goes on'
 
-anew "${two[@]}"
-until_steps 5
+# goes_on NAME: after a build that ended early, the next one proves what is left.
+goes_on() {
+  judge "$1: no program is there" "$([ ! -e away/built/ssh-keygen ] || echo '  it is there')"
+  rm calls.hold
+  (use "${two[@]}") >said 2>"$scratch/error"
+  whole "$1: the next build continues"
+}
+for it in HUP INT TERM; do
+  hold upper "${two[@]}"
+  kill -$it $!
+  wait $!
+  judge "$it ends a build" "$(differs 'exit status' 255 $?; nothing_left)"
+  goes_on "$it"
+done
+hold upper "${two[@]}"
+{ kill -KILL $(pgrep -P $!) && wait; } 2>/dev/null
+await eval '! at_work'
+goes_on 'a build that is killed'
+hold upper "${two[@]}"
 { kill -KILL $! && wait $!; } 2>/dev/null
-again 'a killed build that goes on'
-judge 'a killed build is waited for' "$(differs 'first line' "$waiting" "$(head -n 1 "$scratch/error")")"
+(use "${two[@]}") >said 2>"$scratch/waiting" &
+await grep -q "$waiting" "$scratch/waiting"
+go
+whole 'a launcher that is killed: the build that it left is waited for'
+
+# A clone finds what was proved here, and waits where both prove the same.
+rm -rf clone && cp -r away clone && rm -rf clone/built
+away=$scratch/here/clone build 'a second clone proves nothing' 0 "$(made_of 6 4)" '' ''
+rm -rf clone/built
+hold low "${one[@]}"
+(away=$scratch/here/clone use "${one[@]}") >second 2>"$scratch/waiting" &
+await grep -q 'another build is proving low: waiting for that' "$scratch/waiting"
+go
+whole 'the first of two clones at once'
+judge 'the second of two clones at once' "$(differs 'standard output' "$(made_of 6 4)" "$(cat second)")"
 
 anew taskset -c "$(taskset -cp $$ | sed 's/.*[ ,-]//')"
+wait
 whole 'one processor'
-in_turn 'one processor'
-judge 'one processor: one job' "$(grep ends calls | grep -v -e '--jobs 1$' -e '--jobs 1 ')"
-anew bash -c 'ulimit -v 6000000 && exec "$@"' limited
-whole 'little memory'
-in_turn 'little memory'
+rm -rf away/built "$store"
+build 'no memory' 255 '' "$(said_by 'proving takes 2,500 MB of memory, and 2,000 MB are free')" '' \
+  bash -c 'ulimit -v 1953125 && exec "$@"' limited
+anew bash -c 'ulimit -v 3000000 && exec "$@"' limited
+wait
+whole 'memory for one process'
+touch away/crates/side/src/killed
+anew "${two[@]}"
+wait
+judge 'it is proved alone' "$(awk '/begins/ && alone { print "  " $1 " begins beside it" }
+  /^side begins/ { alone = ++times == 2 } /^side ends/ { alone = 0 }' calls)"
+whole 'a process that is killed for memory'
+judge 'it is proved once more' \
+  "$(grep -q 'ssh-keygen: the process that proves side was killed' "$scratch/error" || cat "$scratch/error")"
+anew env XDG_CACHE_HOME=/dev/null/cache TMPDIR="$scratch/here"
+wait
+judge 'no cache in the home folder' "$(differs 'standard output' "$(made_of 6 4)" "$(cat said)"
+  differs 'what is proved there' 5 "$(ls -d "krl-keygen-$(id -u)"/*-* | wc -l)")"
 
-# Where no hard link can be made.
-mkdir linkless && cat >linkless/cp <<'END' && chmod +x linkless/cp
-#!/bin/sh
-[ "$1" != -al ] && exec /bin/cp "$@"
-END
-anew env RT_JOBS=2 bash -c 'PATH=$0:$PATH exec "$@"' "$scratch/here/linkless"
-whole 'no hard links'
-in_turn 'no hard links'
+# Kits that take other words.
+other=$(said_by 'this kit takes other words than build.py knows, so rt builds, which takes longer')
+rm -rf away/built "$store"
+touch away/crates/low/src/other_words
+build 'a rattle that takes other words' 0 'made by rt' any '' "${one[@]}"
+judge 'it says so' "$(grep -qxF "$other" "$scratch/error" || cat "$scratch/error")"
+rm -rf away/built "$store" away/crates/low/src/other_words
+sed -i 's/def below/def all_below/' kit/bin/rtlib.py
+build 'an rtlib that has other words' 0 'made by rt' "$other" ''
+rm kit/bin/rtlib.py away/built/ssh-keygen
+build 'a kit without rtlib' 0 'made by rt' "$other" ''
+cp "$top/tests/lib/kit/rtlib.py" kit/bin/
 
 rm -r away/built
 PATH=/usr/bin:/bin program=$away/ssh-keygen expect 'no toolchain and no program' 255 '' "$(said_by \
   'not built yet, and the command rt, which builds it, is not on the PATH' \
   'install the Rattle kit that README.md names, and put its folder bin on the PATH')"$'\n'
+
+# library/build, over the same kit: krl_check answers the number in the source of low.
+for it in 'cc gcc' 'objcopy binutils'; do need $it || judge "${it% *} is there" "  install ${it#* }"; done
+echo 'void *krl_malloc(unsigned long size) { return (void *)size; }' >heap.pic.c
+cc -fPIC -c heap.pic.c && ar rcs kit/c/liblibc_c.a heap.pic.o
+shared=$away/built/libkrl.so.1.0.0
+ask='import ctypes, sys; print(ctypes.CDLL(sys.argv[1]).krl_check(None, 0, None, 0))'
+# library NAME STATUS NUMBER PROVED
+library() {
+  : >calls
+  PATH=$scratch/here/kit/bin:/usr/bin:/bin "$away/library/build" >said 2>"$scratch/error"
+  judge "library/build: $1" "$(
+    differs 'exit status' "$2" $?
+    differs answer "$3" "$(python3 -c "$ask" "$shared")"
+    differs 'what is proved' "$4" "$(proved)"
+  )"
+}
+echo 6 >away/crates/low/src/lib.rt
+library 'the first time' 0 6 'low krl_c '
+judge 'library/build: how far it is' "$(differs 'standard error' 'library/build: proving and building, this once: 2 crates
+library/build: proving low: 0 of 2 are proved
+library/build: proving krl_c: 1 of 2 are proved' "$(cat "$scratch/error")")"
+library 'nothing changed' 0 6 ''
+sleep 0.1 && echo 7 >away/crates/low/src/lib.rt
+library 'a changed source' 0 7 'low krl_c '
+for it in crates/low/specs/Lib.antt crates/low/proofs/Lib.antt crates/krl_c/src/lib.rt; do
+  sleep 0.1 && echo '// a remark' >>"away/$it"
+  library "a changed file $it" 0 7 "$(cut -d / -f 2 <<<"$it") "
+done
+sleep 0.1 && sed -i 's/^krl_c.*/krl_c staticlib: low side/' away/crates.txt
+library 'a changed list of crates' 0 7 'side krl_c '
+sleep 0.1 && sed -i 's/proved_krl_check(bytes/9 + &/' away/library/entry.c
+library 'a changed entry' 0 16 ''
+sleep 0.1 && echo 8 >away/crates/low/src/lib.rt && touch away/crates/low/src/wrong
+library 'a source that is not proved' 255 16 ''
+rm away/crates/low/src/wrong
+sleep 0.1 && echo 9 >away/crates/low/src/lib.rt
+: >calls
+echo krl_c >calls.hold
+PATH=$scratch/here/kit/bin:/usr/bin:/bin away/library/build >said 2>&1 &
+await grep -q 'krl_c begins' calls
+echo 8 >away/crates/low/src/lib.rt
+go
+library 'a source that changed during the build' 0 17 'low krl_c '
+sleep 0.1 && echo 9 >away/crates/low/src/lib.rt
+exec 8>away/built/libkrl.lock && flock 8
+: >"$scratch/error"
+(library 'a build that waits' 0 18 '' >waited) &
+await [ -s "$scratch/error" ]
+flock -u 8
+wait
+exec 8>&-
+report <(cat waited && echo "$(grep -c ^ok waited) passed, $(grep -c '^not ok' waited) failed")
+judge 'library/build: it says that it waits' "$(differs 'first line' \
+  'library/build: libkrl is being built: waiting for that' "$(head -n 1 "$scratch/error")")"
+
+# In make test rt ci has left libraries, without a stamp. Those that rt check keeps have one.
+left=away/crates/low/out/rlib
+mkdir -p $left/low.rlib away/crates/side/out/rlib/side.rlib
+echo low:30 >$left/low.rlib/format && echo side:1 >away/crates/side/out/rlib/side.rlib/format
+sleep 0.1 && touch away/crates.txt
+AFTER_CI=yes library 'after rt ci' 0 39 'krl_c '
+sleep 0.1 && touch $left/stamp away/crates.txt
+AFTER_CI=yes library 'after rt ci, over what rt check keeps' 0 59 'krl_c '

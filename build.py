@@ -1,0 +1,392 @@
+#!/usr/bin/env python3
+"""Proves a crate and all crates below it, and writes the program or the static library that is made of them.
+
+    build.py CALLER CRATE FILE
+
+The launcher and library/build call this. CALLER is the name that each message begins with.
+
+Each library is built as statements, without its proofs, by `rattle build` with the words that rt itself takes from the
+kit's rtlib.py. The user's cache keeps each proved library by a checksum of the kit, of the crate's files and of the
+libraries below. So a build that was interrupted continues where it stopped, and each clone of the repository uses the
+proofs of the others. rt keeps its own work in crates/NAME/out, and build.py writes nothing there.
+"""
+
+import contextlib
+import fcntl
+import glob
+import hashlib
+import importlib.machinery
+import importlib.util
+import os
+import re
+import resource
+import shutil
+import signal
+import stat
+import subprocess
+import sys
+import tempfile
+import time
+
+sys.dont_write_bytecode = True
+TOP = os.path.dirname(os.path.realpath(__file__))
+BUILT = os.path.join(TOP, "built")
+TOOLS = ("rattle", "rattle-link", "rtlib.py")
+# The memory that a process takes which proves a crate, in bytes.
+NEED = 2_500_000_000
+# How many builds of a crate stay in the cache; each stays for this many seconds after its last use.
+STAY, LEAST_AGE = 3, 86400
+
+
+def say(*lines):
+    for line in lines:
+        print(f"{sys.argv[1]}: {line}", file=sys.stderr, flush=True)
+
+
+def refuse(*lines):
+    say(*lines)
+    sys.exit(255)
+
+
+def read(path):
+    with open(path, "rb") as it:
+        return it.read()
+
+
+class OtherWords(Exception):
+    """The kit takes other words than this script knows."""
+
+
+@contextlib.contextmanager
+def words_of_kit():
+    try:
+        yield
+    except (AttributeError, ImportError, KeyError, SyntaxError, TypeError, ValueError) as error:
+        raise OtherWords from error
+
+
+def load_kit():
+    """Returns the kit's folder and its rtlib."""
+    rt = shutil.which("rt")
+    if not rt:
+        refuse(
+            "not built yet, and the command rt, which builds it, is not on the PATH",
+            "install the Rattle kit that README.md names, and put its folder bin on the PATH",
+        )
+    kit = os.path.dirname(os.path.dirname(os.path.realpath(rt)))
+    if not all(os.path.isfile(f"{kit}/bin/{it}") for it in TOOLS):
+        raise OtherWords
+    with words_of_kit():
+        loader = importlib.machinery.SourceFileLoader("rtlib", f"{kit}/bin/rtlib.py")
+        rtlib = importlib.util.module_from_spec(importlib.util.spec_from_loader("rtlib", loader))
+        sys.modules["rtlib"] = rtlib
+        loader.exec_module(rtlib)
+        # Its first call sets a signal's handler.
+        rtlib.guarded()
+    return kit, rtlib
+
+
+def make_store():
+    """Returns the folder that keeps what is proved: in the user's cache, or one of this user's temporary folders."""
+    cache = os.environ.get("XDG_CACHE_HOME") or os.path.expanduser("~/.cache")
+    for folder in (f"{cache}/krl-keygen", f"{tempfile.gettempdir()}/krl-keygen-{os.geteuid()}"):
+        with contextlib.suppress(OSError):
+            os.makedirs(folder, 0o700, exist_ok=True)
+            found = os.lstat(folder)
+            if stat.S_ISDIR(found.st_mode) and found.st_uid == os.geteuid() and os.access(folder, os.W_OK | os.X_OK):
+                return os.path.abspath(folder)
+    return refuse(f"nothing can be kept in {cache}: name another folder in XDG_CACHE_HOME")
+
+
+def shrink(store):
+    """Removes from the cache the builds of each crate that were used before its newest ones."""
+    ages = {}
+    for it in os.scandir(store):
+        found = re.fullmatch(r"(\w+)-[0-9a-f]{32}(\.new)?", it.name)
+        if found:
+            ages.setdefault(found[1], []).append((time.time() - it.stat().st_mtime, it.path))
+    for found in ages.values():
+        for age, path in sorted(found)[STAY:]:
+            if age > LEAST_AGE:
+                shutil.rmtree(path, ignore_errors=True)
+
+
+def free_memory():
+    """Returns the free memory in bytes, also under the limits of the process and of its control group."""
+    free = [1024 * int(re.search(rb"MemAvailable:\s+(\d+)", read("/proc/meminfo"))[1])]
+    limit = resource.getrlimit(resource.RLIMIT_AS)[0]
+    free += [limit] if limit != resource.RLIM_INFINITY else []
+    group = "/sys/fs/cgroup/memory"
+    for limit, held, word in (
+        (f"{group}.max", f"{group}.stat", rb"anon (\d+)"),
+        (f"{group}/memory.limit_in_bytes", f"{group}/memory.stat", rb"total_rss (\d+)"),
+    ):
+        # Where there is no limit, there is no file, or it has a word.
+        with contextlib.suppress(OSError, TypeError, ValueError):
+            free.append(int(read(limit)) - int(re.search(word, read(held))[1]))
+    return min(free)
+
+
+def count_lanes():
+    """Returns how many processes prove at once: one for each processor that has memory, or the number in RT_JOBS."""
+    fixed = os.environ.get("RT_JOBS", "")
+    if re.fullmatch("[1-9][0-9]*", fixed):
+        return int(fixed)
+    free = free_memory()
+    if free < NEED:
+        refuse(f"proving takes {NEED // 1_000_000:,} MB of memory, and {free // 1_000_000:,} MB are free")
+    return min(len(os.sched_getaffinity(0)), free // NEED)
+
+
+class Task:
+    """A crate of the build: the crates that it depends on, and the place of its library in the cache."""
+
+    def __init__(self, crate, below):
+        self.crate, self.name, self.below = crate, crate.name, below
+        self.made = self.place = self.process = self.lock = None
+        self.was_killed = self.is_waiting = False
+        lines = sum(read(it).count(b"\n") for it in self.files() if it.endswith(".rt"))
+        # How many seconds proving it takes, about. Each library below is loaded.
+        self.seconds = 10 + lines / 10 + 5 * len(below)
+
+    def files(self):
+        walked = [it for part in ("src", "specs", "proofs") for it in os.walk(f"{self.crate.folder}/{part}")]
+        return sorted(os.path.join(at, name) for at, _, names in walked for name in names)
+
+    def state(self):
+        """Returns what tells whether a file was changed meanwhile, also where it was changed back."""
+        found = []
+        for it in self.files():
+            with contextlib.suppress(FileNotFoundError):
+                of = os.stat(it)
+                found.append((it, of.st_ino, of.st_size, of.st_mtime_ns, of.st_ctime_ns))
+        return found
+
+    def output(self):
+        if self.crate.is_program:
+            return self.name
+        return f"lib{self.name}.a" if self.crate.is_static else f"{self.name}.rlib"
+
+    def look(self, store, kit_sum):
+        """Finds the place in the cache of these files over these libraries, and returns whether it is filled."""
+        self.read_at = self.state()
+        texts = [(os.path.relpath(it, self.crate.folder), read(it)) for it in self.files()]
+        # A library's file `format` has a checksum of its other files.
+        below = [(it.name, read(f"{it.made}/format")) for it in self.below]
+        told = repr((kit_sum, self.name, sorted(self.crate.said.items()), texts, below))
+        self.place = f"{store}/{self.name}-{hashlib.sha256(told.encode()).hexdigest()[:32]}"
+        return self.take()
+
+    def take(self):
+        if self.place and os.path.isdir(self.place):
+            os.utime(self.place)
+            self.made = self.crate.rlib = f"{self.place}/{self.output()}"
+        return self.made is not None
+
+
+class Build:
+    def __init__(self, top, store):
+        self.store, self.lanes = store, None
+        self.kit, self.rtlib = load_kit()
+        tools = [os.stat(f"{self.kit}/bin/{it}") for it in TOOLS]
+        named = [read(f"{self.kit}/{it}") for it in ("WHAT", "KIT-ID") if os.path.isfile(f"{self.kit}/{it}")]
+        self.kit_sum = repr((named, [(it.st_size, it.st_mtime_ns) for it in tools]))
+        tasks = {}
+        with words_of_kit():
+            last = self.rtlib.Crate(f"{TOP}/crates/{top}", TOP, {})
+            for crate in [*last.below(), last]:
+                tasks[crate.name] = Task(crate, [tasks[it.name] for it in crate.below()])
+        self.tasks, self.last = [*tasks.values()], tasks[top]
+        # Where rt ci has just proved all crates, the libraries that it left are taken.
+        if os.environ.get("AFTER_CI"):
+            for it in self.tasks[:-1]:
+                it.made = it.crate.rlib if os.path.isfile(f"{it.crate.rlib}/format") else None
+        # How many seconds are left from the beginning of a crate to the end of all that waits for it.
+        self.chain = {}
+        for it in reversed(self.tasks):
+            above = [self.chain[other] for other in self.chain if it in other.below]
+            self.chain[it] = it.seconds + max(above, default=0)
+
+    def run(self):
+        """Returns the file that was made, once all is proved."""
+        while self.last.made is None:
+            ready = [it for it in self.tasks if not it.made and not it.process and all(at.made for at in it.below)]
+            if not any([it.take() if it.place else it.look(self.store, self.kit_sum) for it in ready]):
+                self.begin_some(sorted(ready, key=self.chain.get, reverse=True))
+                time.sleep(0.1)
+            for it in self.tasks:
+                if it.process and it.process.poll() is not None:
+                    self.finish(it)
+        return self.last.made
+
+    def begin_some(self, ready):
+        """Begins to prove what is ready, the longest chain first. A second process in a crate does parts of its work
+        anew, so it gets one only where no other crate can use the processor, or will be able to for long."""
+        if self.lanes is None:
+            self.lanes = count_lanes()
+            say(f"proving and building, this once: {len(self.tasks)} crates")
+        busy = [it for it in self.tasks if it.process]
+        idle = self.lanes - sum(it.jobs for it in busy)
+        share = sum(it.seconds for it in self.tasks if not it.made) / self.lanes
+        for number, it in enumerate(ready):
+            if idle < 1 or busy and any(at.was_killed for at in (it, *busy)):
+                return
+            most = 4 if it is self.last else 2
+            jobs = most if self.chain[it] > 1.5 * share else idle // (len(ready) - number)
+            it.jobs = 1 if it.was_killed else max(1, min(jobs, most, self.lanes))
+            if self.begin(it):
+                busy.append(it)
+                idle -= it.jobs
+
+    def begin(self, it):
+        """Begins to prove a crate, and returns whether it did: another build may be proving it, or has proved it."""
+        it.lock = it.lock or open(f"{self.store}/{it.name}.lock", "w")
+        try:
+            fcntl.flock(it.lock, fcntl.LOCK_EX | fcntl.LOCK_NB)
+        except BlockingIOError:
+            if not it.is_waiting:
+                say(f"another build is proving {it.name}: waiting for that")
+            it.is_waiting = True
+            return False
+        if it.look(self.store, self.kit_sum):
+            self.release(it)
+            return False
+        say(f"proving {it.name}: {sum(at.made is not None for at in self.tasks)} of {len(self.tasks)} are proved")
+        self.release_place(it)
+        os.mkdir(f"{it.place}.new")
+        with words_of_kit():
+            words = [*self.rtlib.guarded(), *self.words(it)]
+        with open(f"{BUILT}/{it.name}.log", "w") as log:
+            how = {"cwd": it.crate.folder, "stdin": subprocess.DEVNULL, "stdout": log, "stderr": log}
+            it.process = subprocess.Popen(words, **how)
+        return True
+
+    def words(self, it):
+        made = f"{it.place}.new/{it.output()}"
+        words = [f"{self.kit}/bin/rattle", "build", *it.crate.words(["--jobs", str(it.jobs)])]
+        if it.crate.makes_rlib():
+            return [*words, "--statements", "-o", made]
+        words += ["--backend", "llvm", "--toolchain", f"{self.kit}/toolchain"]
+        if it.crate.is_program:
+            # What is as before is not proved again. A library that is built as statements cannot be built so.
+            return [*words, "--incremental", f"{self.store}/{it.name}.incremental", "-o", f"{made}.o"]
+        return [*words, "-o", made]
+
+    def finish(self, it):
+        """A crate's process has ended: keeps what it made."""
+        status, it.process = it.process.returncode, None
+        if status == 0 and it.crate.is_program:
+            status = self.link(it, f"{it.place}.new/{it.output()}")
+        # A file that was changed meanwhile may be in it or not.
+        if status == 0 and it.state() == it.read_at:
+            os.rename(f"{it.place}.new", it.place)
+            it.take()
+        self.release_place(it)
+        self.release(it)
+        if not it.made:
+            it.place = None
+        if status == -signal.SIGKILL and not it.was_killed:
+            say(f"the process that proves {it.name} was killed, most likely for memory: once more, alone")
+            it.was_killed = True
+        elif status:
+            self.give_up(it, status)
+
+    def link(self, it, program):
+        words = [f"{self.kit}/bin/rattle-link", "--target", "x86_64-unknown-linux-gnu"]
+        words += ["--toolchain", f"{self.kit}/toolchain", "-o", program, f"{program}.o"]
+        words += [f"{self.kit}/c/libos_c.a", f"{self.kit}/c/liblibc_c.a"]
+        with open(f"{BUILT}/{it.name}.log", "a") as log:
+            return subprocess.run(words, stdin=subprocess.DEVNULL, stdout=log, stderr=log).returncode
+
+    def give_up(self, it, status):
+        log = f"{BUILT}/{it.name}.log"
+        said = read(log).decode(errors="replace")
+        if status == 2 and "Usage: rattle" in said:
+            raise OtherWords
+        sys.stderr.write("".join(said.splitlines(True)[-20:]))
+        refuse(f"{it.name} is not proved: all that was said is in {log}")
+
+    def release_place(self, it):
+        shutil.rmtree(f"{it.place}.new", ignore_errors=True)
+
+    def release(self, it):
+        it.lock.close()
+        it.lock, it.is_waiting = None, False
+
+    def end(self):
+        """Ends all processes that are left. Each is in a group of the kit's, with those that it started."""
+        left = [it for it in self.tasks if it.process]
+        for it in left:
+            with contextlib.suppress(ProcessLookupError):
+                group = os.getpgid(it.process.pid)
+                os.kill(it.process.pid, signal.SIGKILL) if group == os.getpgrp() else os.killpg(group, signal.SIGKILL)
+        for it in left:
+            it.process.wait()
+            self.release_place(it)
+
+
+def by_rt(top):
+    """Builds by rt, over what it keeps in out/, and returns the file that was made."""
+    folder = f"{TOP}/crates/{top}"
+    is_program = os.path.isfile(f"{folder}/src/main.rt")
+    # rt builds a program where it runs it, so it runs the one that needs no file.
+    words = ["rt", "run", "--", "-h"] if is_program else ["rt", "lib"]
+    with open(f"{BUILT}/{top}.log", "w") as log:
+        ran = subprocess.run(words, cwd=folder, stdin=subprocess.DEVNULL, stdout=log, stderr=log)
+    if ran.returncode:
+        sys.stderr.write("".join(read(log.name).decode(errors="replace").splitlines(True)[-20:]))
+        refuse(f"{top} is not proved: all that was said is in {log.name}")
+    return f"{folder}/out/{top if is_program else f'lib{top}.a'}"
+
+
+def build(top):
+    """Returns the file that was made of the crate."""
+    # Libraries that rt kept in out/ have a stamp and hold their proofs, so only rt builds over them.
+    if os.environ.get("AFTER_CI") and glob.glob(f"{TOP}/crates/*/out/rlib/stamp"):
+        return by_rt(top)
+    made = None
+    try:
+        made = Build(top, make_store())
+        return made.run()
+    except OtherWords:
+        say("this kit takes other words than build.py knows, so rt builds, which takes longer")
+        if made:
+            made.end()
+        return by_rt(top)
+    finally:
+        for it in (signal.SIGHUP, signal.SIGINT, signal.SIGTERM):
+            signal.signal(it, signal.SIG_IGN)
+        if made:
+            made.end()
+
+
+def main(top, file):
+    for it in (signal.SIGHUP, signal.SIGINT, signal.SIGTERM):
+        signal.signal(it, lambda *_: sys.exit(255))
+    try:
+        os.makedirs(BUILT, exist_ok=True)
+        # Of two builds at once, the second waits, and finds all proved.
+        lock = open(f"{BUILT}/lock", "w")
+    except OSError as error:
+        refuse(f"{error.filename} cannot be made, so nothing can be built: {error.strerror}")
+    try:
+        fcntl.flock(lock, fcntl.LOCK_EX | fcntl.LOCK_NB)
+    except BlockingIOError:
+        say("another build is at work in this folder: waiting for that")
+        fcntl.flock(lock, fcntl.LOCK_EX)
+    # The file's time is that of the build's beginning, so a source that changes meanwhile is newer.
+    with open(f"{BUILT}/begun", "w") as begun:
+        begun.write("\n")
+    begun = os.stat(f"{BUILT}/begun")
+    made = build(top)
+    shutil.copy(made, f"{file}.new")
+    os.utime(f"{file}.new", ns=(begun.st_mtime_ns, begun.st_mtime_ns))
+    os.rename(f"{file}.new", file)
+    shrink(make_store())
+
+
+if __name__ == "__main__":
+    try:
+        main(*sys.argv[2:])
+    except OSError as error:
+        refuse(f"{error.filename or BUILT}: {error.strerror}")
