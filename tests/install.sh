@@ -64,6 +64,58 @@ made 'make install over another program where FORCE says so' 0 install PREFIX=/u
 runs 'the program in place of the other' "$root/usr/bin/ssh-keygen"
 rm -r "$root"
 
+# A link of another's at the place of the program: what it leads to stays as it is.
+mkdir -p "$root/usr/bin" && echo another >"$root/usr/bin/real" && ln -s real "$root/usr/bin/ssh-keygen"
+made 'make install over a link' 2 install PREFIX=/usr NAME=ssh-keygen
+made 'make install over a link where FORCE says so' 0 install PREFIX=/usr NAME=ssh-keygen FORCE=1
+judge 'what the link led to is left' "$(differs content another "$(cat "$root/usr/bin/real")")"
+judge 'the program is in place of the link' "$([ ! -L "$root/usr/bin/ssh-keygen" ] || echo '  a link is there')"
+runs 'the program in place of a link' "$root/usr/bin/ssh-keygen"
+rm -r "$root"
+
+# modes NAME FOLDER: all folders and files there are for everybody to read.
+modes() {
+  judge "$1" "$(find "$2" ! -type l ! \( -type d -perm 755 -o -type f -perm 644 -o -type f -path '*/bin/*' -perm 755 \))"
+}
+mkdir "$root" && chmod 755 "$root"
+umask 077
+made 'make install of a user whose files are private' 0 install
+umask 022
+modes 'everybody may read what is installed' "$root"
+# A file of an older version goes, but not where its user changed it since.
+note=$root/usr/local/share/krl-keygen/krl-keygen.sha256
+for file in older changed; do
+  echo "$file" >"$root/usr/local/share/krl-keygen/$file"
+  (cd "$root/usr/local" && sha256sum "./share/krl-keygen/$file") >>"$note"
+done
+cp "$note" note
+echo mine >"$root/usr/local/share/krl-keygen/changed"
+made 'make install over an older version' 0 install
+holds 'what is installed over an older version' $(of krl-keygen usr/local) ./usr/local/share/krl-keygen/changed
+cp note "$note"
+made 'make uninstall of an older version' 0 uninstall
+holds 'the file that its user changed' ./usr/local/share/krl-keygen/changed
+rm -r "$root"
+
+# A library with the calls of krl.h, each of which answers 7, and one of the C library.
+for it in 'cc gcc' 'pkg-config pkg-config'; do need $it || judge "${it% *} is there" "  install ${it#* }"; done
+version=$(sed -n 's/^#define KRL_VERSION_[A-Z]* //p' "$top/library/krl.h" | paste -s -d .)
+calls=$(sed -n 's/^[a-z].*\(krl_[a-z_]*\)(.*/\1/p' "$top/library/krl.h")
+export LIBRARY=$scratch/library
+mkdir "$LIBRARY" && printf '#include <stdlib.h>\nvoid *room(void) { return malloc(7); }\n' >krl.c
+printf 'long %s(void) { return 7; }\n' $calls >>krl.c
+cc -g -fPIC -c krl.c && ar rcs "$LIBRARY/libkrl.a" krl.o &&
+  cc -shared -o "$LIBRARY/libkrl.so.$version" krl.o -Wl,-soname,"libkrl.so.${version%%.*}"
+mkdir "$root" && chmod 755 "$root"
+umask 077
+made 'make install-library into lib64' 0 -o library install-library LIBDIR=lib64
+umask 022
+modes 'everybody may read the library' "$root"
+judge 'the library is in lib64' "$([ -f "$root/usr/local/lib64/libkrl.a" ] || find "$root")"
+judge 'pkg-config says so' "$(differs words '-L/usr/local/lib64 -lkrl' \
+  "$(PKG_CONFIG_PATH=$root/usr/local/lib64/pkgconfig pkg-config --libs krl | sed 's/ *$//')")"
+rm -r "$root"
+
 need lintian lintian || judge 'lintian is there' '  install it, on Debian by apt-get install lintian'
 need strip binutils || judge 'strip is there' '  install it, on Debian by apt-get install binutils'
 need dpkg-shlibdeps dpkg-dev || judge 'dpkg-shlibdeps is there' '  install it, on Debian by apt-get install dpkg-dev'
@@ -76,7 +128,9 @@ packed() {
 field() {
   dpkg-deb --field "$package" "$1" 2>&1
 }
+umask 077
 packed
+umask 022
 judge 'the name of the package' "$(differs name krl-keygen "$(field Package)")"
 number=$("$binary" --version | sed 's/.* //')
 judge 'its version has the number of the program, the time and the commit' "$(
@@ -90,6 +144,7 @@ judge 'lintian finds nothing in the package, but for the code of the program' \
     grep -v -e '^N:' -e '^I: krl-keygen: hardening-no-' -e '^I: krl-keygen: spelling-error-in-binary')"
 judge 'apt would install it' "$(apt-get --simulate install "$package" >"$scratch/output" 2>&1 || cat "$scratch/output")"
 dpkg-deb --extract "$package" "$root"
+modes 'everybody may read what the package has' "$root/usr"
 runs 'the program of the package' "$root/usr/bin/krl-keygen"
 holds 'what the package holds' \
   $(of krl-keygen usr | grep -v -e sha256 -e /man1/ | sed 's|site-functions|vendor-completions|') \
@@ -107,3 +162,42 @@ packed
 judge 'packages of files that were changed differ' \
   "$([[ $first != *.changed ]] || [ "$first" != "$(field Version)" ] || echo "  both are $first")"
 judge 'the folder has the last package alone' "$(differs packages "$package" "$(echo "$scratch"/*.deb)")"
+rm "$package"
+
+# The static library of the package can be linked.
+umask 077
+"$top/packaging/library_debs" "$scratch" >"$scratch/output" 2>&1
+judge 'Debian packages of the library are made' "$([ $? = 0 ] || cat "$scratch/output")"
+umask 022
+mkdir "$root"
+for package in $(cat "$scratch/output"); do dpkg-deb --extract "$package" "$root"; done
+modes 'everybody may read what these packages have' "$root/usr"
+echo 'int krl_size(void); int main(void) { return krl_size(); }' >caller.c
+cc -o caller caller.c "$root/usr/lib/x86_64-linux-gnu/libkrl.a" && ./caller
+judge 'a caller is linked with the static library' "$(differs answer 7 $?)"
+rm -r "$root" "$scratch"/*.deb
+
+# A repository of two commits: a package has the number, the time and the name of the commit that it is made of.
+mkdir two && cp -r "$top"/{packaging,docs,completions,examples,library,README.md,CHANGELOG.md} two
+commit() {
+  git -C two add . && GIT_COMMITTER_DATE="@$1 +0000" git -C two -c user.name=me -c user.email=me@here commit -q -m "$1"
+}
+git init -q two
+for time in 1000000000 1000000001; do
+  echo "$time" >>two/README.md
+  commit $time
+  PROGRAM=$binary two/packaging/deb "$scratch" >"$scratch/output" 2>&1
+  package=$(tail -n 1 "$scratch/output")
+  wanted=$number+$(date -u -d "@$time" +%Y%m%d.%H%M%S).$(git -C two rev-parse --short HEAD)
+  judge "the package of the commit of $time" "$(
+    differs version "$wanted" "$(field Version)"
+    differs file "krl-keygen_${wanted}_amd64.deb" "$(basename "$package")"
+  )"
+  cp "$package" first
+  PROGRAM=$binary two/packaging/deb "$scratch" >"$scratch/output" 2>&1
+  judge 'a commit makes one package' "$(cmp first "$package" 2>&1)"
+done
+echo more >>two/README.md
+PROGRAM=$binary two/packaging/deb "$scratch" >"$scratch/output" 2>&1
+package=$(tail -n 1 "$scratch/output")
+judge 'the package of files that were changed since says so' "$([[ $(field Version) == *.changed ]] || field Version)"
