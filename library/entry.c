@@ -1,14 +1,15 @@
 /* The calls of krl.h that take bytes, over those that are proved.
  *
  * The proved calls are given no null pointer, whatever the length. So where a length is 0 they
- * get another address, of which nothing is read and nothing written. */
+ * get another address, of which nothing is read and nothing written. A question takes the place
+ * itself, which it only reads, and not the struct around it: many threads may ask at once. */
 #include "krl.h"
 
 int32_t proved_krl_check(const uint8_t *, size_t, const uint8_t *, size_t);
 int32_t proved_krl_check_line(const uint8_t *, size_t, const uint8_t *, size_t);
 int32_t proved_krl_load(krl *, const uint8_t *, size_t);
-int32_t proved_krl_ask(krl *, const uint8_t *, size_t);
-int32_t proved_krl_ask_line(krl *, const uint8_t *, size_t);
+int32_t proved_krl_ask(const void *, const uint8_t *, size_t);
+int32_t proved_krl_ask_line(const void *, const uint8_t *, size_t);
 size_t proved_krl_fault_text(int32_t, char *, size_t);
 
 static uint8_t nothing[1];
@@ -33,12 +34,12 @@ int32_t krl_load(krl *handle, const uint8_t *list, size_t list_length) {
     return proved_krl_load(handle, bytes(list, list_length), list_length);
 }
 
-int32_t krl_ask(krl *handle, const uint8_t *blob, size_t blob_length) {
-    return proved_krl_ask(handle, bytes(blob, blob_length), blob_length);
+int32_t krl_ask(const krl *handle, const uint8_t *blob, size_t blob_length) {
+    return proved_krl_ask(handle->at, bytes(blob, blob_length), blob_length);
 }
 
-int32_t krl_ask_line(krl *handle, const uint8_t *line, size_t line_length) {
-    return proved_krl_ask_line(handle, bytes(line, line_length), line_length);
+int32_t krl_ask_line(const krl *handle, const uint8_t *line, size_t line_length) {
+    return proved_krl_ask_line(handle->at, bytes(line, line_length), line_length);
 }
 
 size_t krl_fault_text(int32_t answer, char *buffer, size_t size) {

@@ -12,9 +12,9 @@
  * The calls read only the bytes that they are given, which may be any bytes. They keep no state
  * of their own, print nothing, never end the process, and take memory from malloc alone. They
  * may overlap in any threads, over the same bytes too, as long as nobody writes these bytes
- * meanwhile; of one handle (struct krl, below) only one call at a time. Call none from a signal
- * handler, nor in the forked child of a process with threads before it calls exec, since they
- * call malloc.
+ * meanwhile. Many threads may ask one handle (struct krl, below) at once; krl_load and krl_unload
+ * need it alone. Call none from a signal handler, nor in the forked child of a process with
+ * threads before it calls exec, since they call malloc.
  *
  * A pointer to bytes may be null where its length is 0. No other pointer is null.
  */
@@ -87,8 +87,11 @@ int32_t krl_check_line(const uint8_t *list, size_t list_length,
  *
  * The place is krl_size() bytes at a multiple of 16, as malloc gives them. From krl_init on they
  * are the library's: neither read, write, copy nor move them until krl_unload. The struct around
- * the place may be copied and moved, but only one call at a time may be given it or a copy of
- * it: put a lock around the calls, or have a handle for each thread. */
+ * the place may be copied and moved.
+ *
+ * krl_ask and krl_ask_line change nothing, so any number of threads may ask one place at once.
+ * While krl_init, krl_load or krl_unload runs, no other call may be given the place: guard it by a
+ * lock for readers and writers, or load a new list into another place. */
 typedef struct krl {
     void *at;
 } krl;
@@ -105,8 +108,8 @@ void krl_init(void *at);
 int32_t krl_load(krl *handle, const uint8_t *list, size_t list_length);
 
 /* As krl_check and krl_check_line, of the list that is held: KRL_NOT_LOADED where none is. */
-int32_t krl_ask(krl *handle, const uint8_t *blob, size_t blob_length);
-int32_t krl_ask_line(krl *handle, const uint8_t *line, size_t line_length);
+int32_t krl_ask(const krl *handle, const uint8_t *blob, size_t blob_length);
+int32_t krl_ask_line(const krl *handle, const uint8_t *line, size_t line_length);
 
 /* Gives back the memory of the list. The place is then as krl_init leaves it, or may be freed. */
 void krl_unload(krl *handle);

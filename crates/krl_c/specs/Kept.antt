@@ -5,13 +5,18 @@ use Rattle.krl_held.specs.Entry.{Entry}
 use Rattle.krl_core.specs.Front.{IsFirstFault}
 use Rattle.krl_types.specs.declared.krl_fault.KrlFault.{KrlFault}
 use Rattle.krl_c.specs.Answer.{IsListOf}
-use Rattle.krl_c.specs.Number.{fine, list_number, no_memory}
+use Rattle.krl_c.specs.Number.{fine, list_number, no_memory, not_loaded}
 use Rattle.krl_c.specs.declared.kept.Kept.{Kept}
 
 -- a list was read, and what is held means these entries
 pub record Holds (loaded : Bool) (contents : Revocations) (entries : List Entry) : Type 0 where
   pub is_loaded : loaded ≡ true
   pub means : Means contents entries
+
+-- What is held answers by the entries that it means, or that no list was read.
+pub record AnswersHeld (Says : List Entry → ℤ → Type 0) (kept : Kept) (number : ℤ) : Type 0 where
+  pub answer : (entries : List Entry) → Holds kept.loaded kept.list entries → Says entries number
+  pub none : kept.loaded ≡ false → number ≡ not_loaded
 
 -- no list was read
 abbrev pub unloaded : Kept

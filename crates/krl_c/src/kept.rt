@@ -1,10 +1,8 @@
 //! What is held of a list, or that none was read.
 
-ghost use Rattle.std.specs.Prelude.{◌≡◌, List, false};
-ghost use Rattle.krl_held.specs.Entry.{Entry};
+ghost use Rattle.std.specs.Prelude.{◌≡◌};
 ghost use Rattle.krl_c.specs.Answer.{AnswersBlob, AnswersLine};
-ghost use Rattle.krl_c.specs.Kept.{Holds, unloaded};
-ghost use Rattle.krl_c.specs.Number.{not_loaded};
+ghost use Rattle.krl_c.specs.Kept.{AnswersHeld, unloaded};
 
 use crate::held::{ask_held, ask_held_of_line};
 use crate::number::NOT_LOADED;
@@ -31,9 +29,7 @@ pub(crate) fn empty(alloc: Global) -> Kept
 
 // Asks what is held about a blob.
 pub(crate) fn ask(alloc: Global, kept: &Kept, blob: &[u8]) -> i32
-    ensures answer { (entries : List Entry) → Holds kept.now.loaded kept.now.list entries
-        → AnswersBlob entries blob.now result }
-    ensures none { kept.now.loaded ≡ false → result ≡ not_loaded }
+    ensures { AnswersHeld (λ entries. AnswersBlob entries blob.now) kept.now result }
 {
     if kept.loaded {
         ask_held(alloc, &kept.list, blob)
@@ -44,9 +40,7 @@ pub(crate) fn ask(alloc: Global, kept: &Kept, blob: &[u8]) -> i32
 
 // Asks what is held about the key of a line.
 pub(crate) fn ask_of_line(alloc: Global, kept: &Kept, line: &[u8]) -> i32
-    ensures answer { (entries : List Entry) → Holds kept.now.loaded kept.now.list entries
-        → AnswersLine entries line.now result }
-    ensures none { kept.now.loaded ≡ false → result ≡ not_loaded }
+    ensures { AnswersHeld (λ entries. AnswersLine entries line.now) kept.now result }
 {
     if kept.loaded {
         ask_held_of_line(alloc, &kept.list, line)

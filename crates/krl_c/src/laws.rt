@@ -1,6 +1,8 @@
 //! Laws of the answers. Each function does nothing: its contract is the law.
 
 ghost use Rattle.std.specs.Prelude.{◌≡◌, ◌⊎◌, ℕ, ℤ, List};
+ghost use base.Shift.{Keyless};
+ghost use denote.RawPtr.{Ptr};
 ghost use Rattle.ssh_wire.specs.Wire.{IsBytes};
 ghost use Rattle.key_text.specs.LineFault.{fault_text as line_fault_text};
 ghost use Rattle.key_text.specs.declared.line_fault.LineFault.{LineFault};
@@ -12,6 +14,7 @@ ghost use Rattle.krl_types.specs.KrlFault.{fault_text};
 ghost use Rattle.krl_types.specs.declared.krl_fault.KrlFault.{KrlFault};
 ghost use Rattle.krl_types.specs.declared.krl_fault.KrlFault.TheVariants as lists;
 ghost use Rattle.krl_c.specs.Answer.{Answers, AnswersOfLine, HasOne};
+ghost use Rattle.krl_c.specs.Loan.{Loan, is_lent};
 ghost use Rattle.krl_c.specs.Number.{line_number, list_number, no_memory, subject_number};
 ghost use Rattle.krl_c.specs.Words.{words};
 
@@ -51,6 +54,11 @@ pub fn one_answer_of_a_line()
     line_read_where_spelled();
     line_refused_by_first_fault();
 }
+
+/// A loan of what a handle holds names no thread, so any thread may have it, and many at once.
+pub fn lent_to_any_thread()
+    ensures { (at : Ptr) (loan : Loan) → Keyless (is_lent at loan) }
+{}
 
 /// The words for a fault's number are those that the fault prints.
 pub fn words_are_printed()

@@ -1,14 +1,14 @@
 //! The question of whether a key is revoked, for programs in other languages.
 #![tactic(auto)]
 
-ghost use Rattle.std.specs.Prelude.{◌≡◌, List, false, length};
+ghost use Rattle.std.specs.Prelude.{◌≡◌, length};
+ghost use Rattle.std.specs.Borrow.{sem};
 ghost use denote.Param.{layout};
 ghost use prog.Memory.{capped, size};
-ghost use Rattle.krl_held.specs.Entry.{Entry};
 ghost use Rattle.krl_c.specs.Answer.{Answers, AnswersBlob, AnswersLine, AnswersOfLine};
-ghost use Rattle.krl_c.specs.Kept.{Holds, Loads, unloaded};
+ghost use Rattle.krl_c.specs.Kept.{AnswersHeld, Loads, unloaded};
+ghost use Rattle.krl_c.specs.Loan.{Loan, is_lent};
 ghost use Rattle.krl_c.specs.contracts.kept.Kept.{the_row};
-ghost use Rattle.krl_c.specs.Number.{not_loaded};
 ghost use Rattle.krl_c.specs.Words.{words};
 ghost use Rattle.krl_c.specs.Written.{written};
 
@@ -24,7 +24,7 @@ mod words;
 mod written;
 
 use check::{ask_list, ask_list_of_line};
-use handle::{Krl, swap};
+use handle::{Handle, Krl, swap};
 use held::held_of;
 use kept::{Kept, ask, ask_of_line, empty};
 use number::{FINE, of_list};
@@ -69,32 +69,27 @@ pub extern "C" fn krl_load(alloc: Global, krl: &mut Krl, list: &[u8]) -> i32
     }
 }
 
-/// Asks the list that was read into a handle about the key or the certificate of a blob.
+/// Asks the list that was read into a handle about the key or the certificate of a blob. The
+/// handle is lent, and nothing of it changes: many calls may read it at once.
 #[unsafe(no_mangle)]
-pub extern "C" fn krl_ask(alloc: Global, krl: &mut Krl, blob: &[u8]) -> i32
-    ensures answer { (entries : List Entry) → Holds krl.old.held.loaded krl.old.held.list entries
-        → AnswersBlob entries blob.now result }
-    ensures none { krl.old.held.loaded ≡ false → result ≡ not_loaded }
-    ensures stays { krl.new.held ≡ krl.old.held }
+pub unsafe extern "C" fn krl_ask(alloc: Global, at: *const Handle, blob: &[u8]) -> i32
+    ghost loan: { Loan }
+    requires* { sem 𝓛 (is_lent at loan) }
+    ensures* stays { sem 𝓛 (is_lent at loan) }
+    ensures answer { AnswersHeld (λ entries. AnswersBlob entries blob.now) loan.kept result }
 {
-    let kept = swap(krl, empty(alloc));
-    let answer = ask(alloc, &kept, blob);
-    let _none = swap(krl, kept);
-    answer
+    ask(alloc, unsafe { &*(at as *const Kept) }, blob)
 }
 
 /// The same about the key or the certificate of a line.
 #[unsafe(no_mangle)]
-pub extern "C" fn krl_ask_line(alloc: Global, krl: &mut Krl, line: &[u8]) -> i32
-    ensures answer { (entries : List Entry) → Holds krl.old.held.loaded krl.old.held.list entries
-        → AnswersLine entries line.now result }
-    ensures none { krl.old.held.loaded ≡ false → result ≡ not_loaded }
-    ensures stays { krl.new.held ≡ krl.old.held }
+pub unsafe extern "C" fn krl_ask_line(alloc: Global, at: *const Handle, line: &[u8]) -> i32
+    ghost loan: { Loan }
+    requires* { sem 𝓛 (is_lent at loan) }
+    ensures* stays { sem 𝓛 (is_lent at loan) }
+    ensures answer { AnswersHeld (λ entries. AnswersLine entries line.now) loan.kept result }
 {
-    let kept = swap(krl, empty(alloc));
-    let answer = ask_of_line(alloc, &kept, line);
-    let _none = swap(krl, kept);
-    answer
+    ask_of_line(alloc, unsafe { &*(at as *const Kept) }, line)
 }
 
 /// Gives back the memory of what a handle holds. The handle stays ready for another list.
