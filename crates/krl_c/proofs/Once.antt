@@ -8,7 +8,7 @@ use Rattle.key_text.specs.LineFaults.{IsFirstLineFault}
 use Rattle.key_text.specs.LineReading.{Content, content}
 use Rattle.key_text.specs.declared.line_fault.LineFault.{LineFault}
 use Rattle.krl_held.specs.Entry.{Entry}
-use Rattle.krl_c.specs.Answer.{AnswersBlob, AnswersBy, AnswersLine, HasOne, Says, names, spares, said, no_blob, ran_out, answered, no_list, list_ran_out, of_key, no_line, line_ran_out}
+use Rattle.krl_c.specs.Answer.{AnswersBlob, AnswersBy, AnswersLine, HasOne, Says, names, spares, said, no_blob, ran_out, answered, other_authority, no_list, list_ran_out, of_key, no_line, line_ran_out}
 use Rattle.krl_c.specs.Number.{list_number, line_number, no_memory, subject_number}
 
 -- the two are one, or memory ran out for one of them
@@ -70,9 +70,14 @@ line_once text read of_line of_fault entries once one other says (line_ran_out f
 pub list_once : {Tells : List Entry → ℤ → Type 0} (list : List ℕ) → HasOne list → ((entries : List Entry) (one other : ℤ) → Tells entries one → Tells entries other → Once one other)
     → (one other : ℤ) → AnswersBy Tells list one → AnswersBy Tells list other → Once one other
 list_once {Tells} list has once one other (answered these is says) (answered others also tells) =
-    once these one other says (subst (λ (es : List Entry). Tells es other) (sym (has.entries these others is also)) tells)
-list_once list has once one other (answered these is says) (no_list fault first e) = absurd (has.none these fault is first)
-list_once list has once one other (no_list fault first e) (answered these is says) = absurd (has.none these fault is first)
+    once these one other says (subst (λ (es : List Entry). Tells es other) (sym (has.entries these others is.is also.is)) tells)
+list_once list has once one other (answered these is says) (other_authority odd e) = absurd (odd.other (has.keys these odd.entries is.is odd.is is.keys))
+list_once list has once one other (answered these is says) (no_list fault first e) = absurd (has.none these fault is.is first)
+list_once list has once one other (other_authority odd e) (answered these is says) = absurd (odd.other (has.keys these odd.entries is.is odd.is is.keys))
+list_once list has once one other (other_authority odd e) (other_authority also f) = inl (e ∙ sym f)
+list_once list has once one other (other_authority odd e) (no_list fault first f) = absurd (has.none odd.entries fault odd.is first)
+list_once list has once one other (no_list fault first e) (answered these is says) = absurd (has.none these fault is.is first)
+list_once list has once one other (no_list fault first e) (other_authority odd f) = absurd (has.none odd.entries fault odd.is first)
 list_once list has once one other (no_list fault first e) (no_list fault' first' f) = numbers_same list_number one other fault fault' (has.fault fault fault' first first') e f
 list_once list has once one other (list_ran_out e) tells = inr (inl e)
 list_once list has once one other says (list_ran_out f) = inr (inr f)

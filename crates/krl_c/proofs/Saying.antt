@@ -18,10 +18,11 @@ use Rattle.krl_held.specs.Entry.{Entry}
 use Rattle.krl_held.specs.Revocations.{Revocations}
 use Rattle.krl_core.specs.Front.{IsFirstFault}
 use Rattle.krl_core.specs.Reading.{IsListAs, Says as ListSays, ran_out as runs_out, failed_read, first}
-use Rattle.krl_c.specs.Answer.{Answers, AnswersBlob, AnswersBy, AnswersLine, AnswersOfLine, IsListOf, answered, of_key, no_list, list_ran_out, no_blob, ran_out, no_line, line_ran_out}
-use Rattle.krl_c.specs.Kept.{Loads, load_ran_out, not_loaded_for}
-use Rattle.krl_c.specs.declared.kept.Kept.{Kept}
-use Rattle.krl_c.specs.Number.{list_number, line_number, subject_number}
+use Rattle.krl_authority.specs.Authority.{AuthoritiesAreKeys}
+use Rattle.krl_c.specs.Answer.{Answers, AnswersBlob, AnswersBy, AnswersLine, AnswersOfLine, HasOtherAuthority, IsCompared, IsListOf, IsRefusal, answered, other_authority, of_key, no_list, list_ran_out, no_blob, ran_out, no_line, line_ran_out}
+use Rattle.krl_c.specs.Number.{line_number, refusal_number, subject_number}
+use Rattle.krl_c.specs.declared.refusal.Refusal.{Refusal}
+use Rattle.krl_c.specs.declared.refusal.Refusal.TheVariants as refusals
 
 -- an answer that was handed over is itself
 pub same : (number : ℤ) → SFits w32 number → to_z w32 (of_z w32 number) ≡ number
@@ -61,22 +62,24 @@ first_of text fault left (runs_out is size works) = inl is
 first_of text fault left (failed_read is after) = let wrong : ⊥ = grind (arith, after.failed_is) in absurd wrong
 first_of text fault left (first is works) = inr is
 
-pub list_refused : {Says : List Entry → ℤ → Type 0} (text : List ℕ) (fault : KrlFault) (number : ℤ)
-    → (fault ≡ lists.NoMemory) ⊎ IsFirstFault text (Some fault)
-    → number ≡ list_number fault → AnswersBy Says text number
-list_refused text fault number (inl is) e = list_ran_out (e ∙ (rw is refl))
-list_refused text fault number (inr is) e = no_list fault is e
+-- a list that gives no answer is answered by why
+pub list_refused : {Says : List Entry → ℤ → Type 0} (text : List ℕ) (refusal : Refusal) (number : ℤ) → IsRefusal text refusal
+    → number ≡ refusal_number refusal → AnswersBy Says text number
+list_refused text (refusals.Fault fault) number (inl is) e = list_ran_out (e ∙ (rw is refl))
+list_refused text (refusals.Fault fault) number (inr is) e = no_list fault is e
+list_refused text refusals.Authority number odd e = other_authority odd e
+
+-- by what its authorities are
+pub compared : (text : List ℕ) (entries : List Entry) (is : IsListOf text entries) → AuthoritiesAreKeys is.sections → IsCompared text entries
+compared text entries is keys = record { is = is; keys = keys }
+
+pub not_compared : (text : List ℕ) (entries : List Entry) (is : IsListOf text entries) → (AuthoritiesAreKeys is.sections → ⊥) → HasOtherAuthority text
+not_compared text entries is other = record { entries = entries; is = is; other = other }
 
 -- what a list answers about the key of a line is what it answers about that key's blob
 pub of_its_blob : (list text word blob comment : List ℕ) (number : ℤ) → IsKeyLine text word blob comment
     → Answers list blob number → AnswersOfLine list text number
 of_its_blob list text word blob comment number line (answered entries is says) = answered entries is (of_key word blob comment line says)
+of_its_blob list text word blob comment number line (other_authority odd is) = other_authority odd is
 of_its_blob list text word blob comment number line (no_list fault is_first is) = no_list fault is_first is
 of_its_blob list text word blob comment number line (list_ran_out is) = list_ran_out is
-
--- a list that is refused is not held, and what was held stays
-pub kept_where_refused : (list : List ℕ) (held : Kept) (fault : KrlFault) (number : ℤ)
-    → (fault ≡ lists.NoMemory) ⊎ IsFirstFault list (Some fault)
-    → number ≡ list_number fault → Loads list held held number
-kept_where_refused list held fault number (inl is) e = load_ran_out (e ∙ (rw is refl)) refl
-kept_where_refused list held fault number (inr is) e = not_loaded_for fault is e refl

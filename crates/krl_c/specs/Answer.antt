@@ -1,5 +1,5 @@
 -- What a list answers about the blob of a key or of a certificate.
-use Rattle.std.specs.Prelude.{◌≡◌, ◌≤◌, ℕ, ℤ, List, length, Some}
+use Rattle.std.specs.Prelude.{◌≡◌, ◌≤◌, ◌⊎◌, ℕ, ℤ, List, length, Some}
 use Rattle.krl_types.specs.Subject.{Subject}
 use Rattle.key_text.specs.KeyLine.{IsKeyLine}
 use Rattle.key_text.specs.LineFaults.{IsFirstLineFault}
@@ -13,7 +13,11 @@ use Rattle.krl_core.specs.Entries.{entries_of}
 use Rattle.krl_core.specs.Front.{IsFirstFault, limit}
 use Rattle.krl_core.specs.Krl.{SpelledSection, Spells}
 use Rattle.krl_held.specs.Revoked.{Revoked}
-use Rattle.krl_c.specs.Number.{fine, revoked, no_memory, list_number, line_number, subject_number}
+use Rattle.krl_authority.specs.Authority.{AuthoritiesAreKeys}
+use Rattle.krl_types.specs.declared.krl_fault.KrlFault.TheVariants.{NoMemory}
+use Rattle.krl_c.specs.declared.refusal.Refusal.{Refusal}
+use Rattle.krl_c.specs.declared.refusal.Refusal.TheVariants as refusals
+use Rattle.krl_c.specs.Number.{authority_number, fine, revoked, no_memory, list_number, line_number, subject_number}
 
 -- A header and sections spell the list, within the limit.
 pub record IsListOf (list : List ℕ) (entries : List Entry) : Type 0 where
@@ -23,10 +27,29 @@ pub record IsListOf (list : List ℕ) (entries : List Entry) : Type 0 where
   pub within : length list ≤ limit
   pub entries_are : entries ≡ entries_of sections
 
+-- Each authority of the list is none or a key in its one spelling, so that of a certificate can be
+-- compared with it.
+pub record IsCompared (list : List ℕ) (entries : List Entry) : Type 0 where
+  pub is : IsListOf list entries
+  pub keys : AuthoritiesAreKeys is.sections
+
+-- Some authority of the list is neither.
+pub record HasOtherAuthority (list : List ℕ) : Type 0 where
+  pub entries : List Entry
+  pub is : IsListOf list entries
+  pub other : AuthoritiesAreKeys is.sections → ⊥
+
+-- why a list gives no answer: its first fault, or that memory ran out, or such an authority
+abbrev pub IsRefusal : List ℕ → Refusal → Type 0
+IsRefusal list (refusals.Fault fault) = (fault ≡ NoMemory) ⊎ IsFirstFault list (Some fault)
+IsRefusal list refusals.Authority = HasOtherAuthority list
+
 -- A list has one row of entries at most, and one first fault, and not both.
 pub record HasOne (list : List ℕ) : Type 0 where
   pub entries : (these others : List Entry) → IsListOf list these → IsListOf list others
       → these ≡ others
+  pub keys : (these others : List Entry) (one : IsListOf list these) (other : IsListOf list others)
+      → AuthoritiesAreKeys one.sections → AuthoritiesAreKeys other.sections
   pub fault : (one other : KrlFault) → IsFirstFault list (Some one)
       → IsFirstFault list (Some other) → one ≡ other
   pub none : (these : List Entry) (fault : KrlFault) → IsListOf list these
@@ -54,9 +77,11 @@ pub data AnswersLine (entries : List Entry) (text : List ℕ) (number : ℤ) : T
   line_ran_out : number ≡ no_memory → AnswersLine entries text number
 
 -- What a list answers, by what its entries answer. Of a list that is refused the first fault is
--- answered.
+-- answered. One that is read, but has an authority that is not compared, has a number of its own.
 pub data AnswersBy (Says : List Entry → ℤ → Type 0) (list : List ℕ) (number : ℤ) : Type 0 where
-  answered : (entries : List Entry) → IsListOf list entries → Says entries number
+  answered : (entries : List Entry) → IsCompared list entries → Says entries number
+      → AnswersBy Says list number
+  other_authority : HasOtherAuthority list → number ≡ authority_number
       → AnswersBy Says list number
   no_list : (fault : KrlFault) → IsFirstFault list (Some fault) → number ≡ list_number fault
       → AnswersBy Says list number

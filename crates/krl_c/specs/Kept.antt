@@ -1,11 +1,11 @@
 -- What is held of a list, by the entries that it means.
-use Rattle.std.specs.Prelude.{◌≡◌, ℕ, ℤ, Bool, true, false, List, Some}
+use Rattle.std.specs.Prelude.{◌≡◌, ℕ, ℤ, Bool, true, false, List}
 use Rattle.krl_held.specs.Revocations.{Revocations, Means, nothing}
 use Rattle.krl_held.specs.Entry.{Entry}
-use Rattle.krl_core.specs.Front.{IsFirstFault}
-use Rattle.krl_types.specs.declared.krl_fault.KrlFault.{KrlFault}
-use Rattle.krl_c.specs.Answer.{IsListOf}
-use Rattle.krl_c.specs.Number.{fine, list_number, no_memory, not_loaded}
+use Rattle.krl_core.specs.Reading.{HoldsAll}
+use Rattle.krl_c.specs.Answer.{IsCompared, IsRefusal}
+use Rattle.krl_c.specs.Number.{fine, not_loaded, refusal_number}
+use Rattle.krl_c.specs.declared.refusal.Refusal.{Refusal}
 use Rattle.krl_c.specs.declared.kept.Kept.{Kept}
 
 -- a list was read, and what is held means these entries
@@ -22,11 +22,11 @@ pub record AnswersHeld (Says : List Entry → ℤ → Type 0) (kept : Kept) (num
 abbrev pub unloaded : Kept
 unloaded = record { loaded = false; list = nothing }
 
--- What reading a list into a handle does: what is held is then what the list names. Where it is
--- refused, by its first fault or for want of memory, what was there stays.
+-- What reading a list into a handle does: what is held is then what the list names, and has at most
+-- four intervals of serials for each of its bytes, and no more bytes than it. Where it is refused,
+-- by its first fault, for want of memory or for an authority, what was there stays.
 pub data Loads (list : List ℕ) (old new : Kept) (number : ℤ) : Type 0 where
-  loaded : (entries : List Entry) → IsListOf list entries → Holds new.loaded new.list entries
-      → number ≡ fine → Loads list old new number
-  not_loaded_for : (fault : KrlFault) → IsFirstFault list (Some fault) → number ≡ list_number fault
+  loaded : (entries : List Entry) → IsCompared list entries → Holds new.loaded new.list entries
+      → HoldsAll list new.list entries → number ≡ fine → Loads list old new number
+  not_loaded_for : (refusal : Refusal) → IsRefusal list refusal → number ≡ refusal_number refusal
       → new ≡ old → Loads list old new number
-  load_ran_out : number ≡ no_memory → new ≡ old → Loads list old new number

@@ -11,7 +11,7 @@ use Rattle.ssh_cert.specs.declared.fault.CertFault.TheVariants as certs
 use Rattle.krl_types.specs.KrlFault.{fault_text}
 use Rattle.krl_types.specs.declared.krl_fault.KrlFault.TheVariants as lists
 
--- by the number of a list's fault
+-- by the last two digits for a list
 abbrev pub list_words : ℕ → Option (List ℕ)
 list_words n =
     if n == 1 then Some (fault_text lists.Magic) else
@@ -28,7 +28,8 @@ list_words n =
     (if n == 12 then Some (fault_text lists.TooLong) else
     (if n == 13 then Some (fault_text lists.Read) else
     (if n == 15 then Some (fault_text lists.CriticalExtension) else
-    None)))))))))))))
+    (if n == 16 then Some (codes "an authority of the list is no key in its one spelling") else
+    None))))))))))))))
 
 -- by the number of a line's fault
 abbrev pub line_words : ℕ → Option (List ℕ)

@@ -4,12 +4,17 @@ ghost use Rattle.std.specs.Prelude.{◌≡◌, ◌⊎◌, ◌↔◌, List, IfOk,
 ghost use Rattle.krl_types.specs.declared.krl_fault.KrlFault.TheVariants.{NoMemory};
 ghost use Rattle.krl_held.specs.Entry.{Entry};
 ghost use Rattle.krl_core.specs.Front.{IsFirstFault};
+ghost use Rattle.krl_held.specs.Questions.{Asks, asked_in};
 ghost use Rattle.krl_held.specs.Revoked.{Revoked};
-ghost use Rattle.krl_c.specs.Answer.{Answers, AnswersOfLine, IsListOf};
+ghost use Rattle.krl_held.specs.Scope.{MeansWithin};
+ghost use Rattle.krl_c.specs.Answer.{Answers, AnswersOfLine, IsCompared, IsListOf, IsRefusal};
+ghost use Rattle.krl_c.specs.Passed.{KeepsAsked};
 
 use crate::lent::Lent;
 use crate::number::{FINE, REVOKED, of_line, of_list, of_subject};
+use crate::refusal::Refusal;
 use key_text::read_line;
+use krl_authority::authorities_are_keys;
 use krl_core::{Findings, KrlFault, Questions, Reading};
 use span_sets::Held;
 use ssh_cert::{Subject, subject};
@@ -23,11 +28,11 @@ pub(crate) fn ask_list(alloc: Global, list: &[u8], blob: &[u8]) -> i32
         Ok(asked) => match revokes(alloc, list, &asked) {
             Ok(true) => REVOKED,
             Ok(false) => FINE,
-            Err(fault) => of_list(fault),
+            Err(refusal) => of_list(refusal),
         },
         Err(fault) => match judge(alloc, list) {
             Ok(()) => of_subject(fault),
-            Err(first) => of_list(first),
+            Err(refusal) => of_list(refusal),
         },
     }
 }
@@ -40,15 +45,35 @@ pub(crate) fn ask_list_of_line(alloc: Global, list: &[u8], line: &[u8]) -> i32
         Ok(read) => ask_list(alloc, list, read.blob.as_slice()),
         Err(fault) => match judge(alloc, list) {
             Ok(()) => of_line(fault),
-            Err(first) => of_list(first),
+            Err(refusal) => of_list(refusal),
         },
     }
 }
 
-// Whether a list revokes what is asked, or its first fault.
-fn revokes(alloc: Global, list: &[u8], asked: &Subject) -> Result<bool, KrlFault>
+// Whether a list revokes what is asked, or why it gives no answer.
+fn revokes(alloc: Global, list: &[u8], asked: &Subject) -> Result<bool, Refusal>
     ensures answer { IfOk result (λ revoked. (entries : List Entry)
-        × IsListOf list.now entries × (IsTrue revoked ↔ Revoked entries asked.now)) }
+        × IsCompared list.now entries × (IsTrue revoked ↔ Revoked entries asked.now)) }
+    ensures refused { IfErr result (λ refusal. IsRefusal list.now refusal) }
+{
+    match pass(alloc, list, asked) {
+        Ok(findings) => {
+            if authorities_are_keys(list) {
+                Ok(findings.answer(asked))
+            } else {
+                Err(Refusal::Authority)
+            }
+        }
+        Err(fault) => Err(Refusal::Fault(fault)),
+    }
+}
+
+// Lets a list pass. Nothing of it is kept but what it says of what is asked.
+fn pass(alloc: Global, list: &[u8], asked: &Subject) -> Result<Findings<Held>, KrlFault>
+    ensures found { IfOk result (λ findings. (entries : List Entry)
+        × IsListOf list.now entries × MeansWithin (asked_in findings) findings.found entries) }
+    ensures asked { IfOk result (λ findings. Asks findings.topics asked.now) }
+    ensures kept { IfOk result (λ findings. KeepsAsked asked.now findings) }
     ensures fault { IfErr result (λ fault.
         (fault ≡ NoMemory) ⊎ IsFirstFault list.now (Some fault)) }
 {
@@ -59,13 +84,30 @@ fn revokes(alloc: Global, list: &[u8], asked: &Subject) -> Result<bool, KrlFault
     };
     let (read, _list) = reading.ask(Findings::of(alloc, questions)).read_on();
     match read {
-        Ok((_header, findings)) => Ok(findings.answer(asked)),
+        Ok((_header, findings)) => Ok(findings),
         Err(fault) => Err(fault),
     }
 }
 
+// Reads a list, of which nothing is asked: why it gives no answer, if it gives none.
+fn judge(alloc: Global, list: &[u8]) -> Result<(), Refusal>
+    ensures list { OnOk result ((entries : List Entry) × IsCompared list.now entries) }
+    ensures refused { IfErr result (λ refusal. IsRefusal list.now refusal) }
+{
+    match pass_unasked(alloc, list) {
+        Ok(()) => {
+            if authorities_are_keys(list) {
+                Ok(())
+            } else {
+                Err(Refusal::Authority)
+            }
+        }
+        Err(fault) => Err(Refusal::Fault(fault)),
+    }
+}
+
 // Reads a list, of which nothing is asked: its first fault, if it has one.
-fn judge(alloc: Global, list: &[u8]) -> Result<(), KrlFault>
+fn pass_unasked(alloc: Global, list: &[u8]) -> Result<(), KrlFault>
     ensures list { OnOk result ((entries : List Entry) × IsListOf list.now entries) }
     ensures fault { IfErr result (λ fault.
         (fault ≡ NoMemory) ⊎ IsFirstFault list.now (Some fault)) }

@@ -1,31 +1,37 @@
 //! Asking about a blob what is held of a list.
 
-ghost use Rattle.std.specs.Prelude.{◌≡◌, ◌⊎◌, List, IfOk, IfErr};
-ghost use Rattle.krl_types.specs.declared.krl_fault.KrlFault.TheVariants.{NoMemory};
+ghost use Rattle.std.specs.Prelude.{List, IfOk, IfErr};
 ghost use Rattle.krl_held.specs.Revocations.{Means};
 ghost use Rattle.krl_held.specs.Entry.{Entry};
-ghost use Rattle.krl_core.specs.Front.{IsFirstFault};
-ghost use Rattle.krl_c.specs.Answer.{AnswersBlob, AnswersLine, IsListOf};
+ghost use Rattle.krl_core.specs.Reading.{HoldsAll};
+ghost use Rattle.krl_c.specs.Answer.{AnswersBlob, AnswersLine, IsCompared, IsRefusal};
 
 use crate::lent::Lent;
 use crate::number::{FINE, REVOKED, of_line, of_subject};
+use crate::refusal::Refusal;
 use key_text::read_line;
-use krl_core::{KrlFault, Revocations, read_krl};
+use krl_authority::authorities_are_keys;
+use krl_core::{Revocations, read_krl};
 use span_sets::Held;
 use ssh_cert::subject;
 use std::alloc::Global;
 
-// What a list revokes.
-pub(crate) fn held_of(alloc: Global, list: &[u8]) -> Result<Revocations<Held>, KrlFault>
+// What a list revokes, where each of its authorities is a key in its one spelling.
+pub(crate) fn held_of(alloc: Global, list: &[u8]) -> Result<Revocations<Held>, Refusal>
     ensures found { IfOk result (λ held. (entries : List Entry)
-        × IsListOf list.now entries × Means held entries) }
-    ensures fault { IfErr result (λ fault.
-        (fault ≡ NoMemory) ⊎ IsFirstFault list.now (Some fault)) }
+        × IsCompared list.now entries × HoldsAll list.now held entries) }
+    ensures refused { IfErr result (λ refusal. IsRefusal list.now refusal) }
 {
     let (read, _source) = read_krl::<Held, _>(alloc, Lent::new(list));
     match read {
-        Ok((_header, held)) => Ok(held),
-        Err(fault) => Err(fault),
+        Ok((_header, held)) => {
+            if authorities_are_keys(list) {
+                Ok(held)
+            } else {
+                Err(Refusal::Authority)
+            }
+        }
+        Err(fault) => Err(Refusal::Fault(fault)),
     }
 }
 

@@ -20,6 +20,7 @@ mod kept;
 pub mod laws;
 mod lent;
 mod number;
+mod refusal;
 mod words;
 mod written;
 
@@ -65,7 +66,7 @@ pub extern "C" fn krl_load(alloc: Global, krl: &mut Krl, list: &[u8]) -> i32
             );
             FINE
         }
-        Err(fault) => of_list(fault),
+        Err(refusal) => of_list(refusal),
     }
 }
 

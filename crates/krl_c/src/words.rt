@@ -73,7 +73,7 @@ fn plain_words(number: u32) -> Option<&'static str>
     }
 }
 
-// Of a list, by the number of its fault.
+// Of a list, by the last two digits.
 fn list_words(number: u32) -> Option<&'static str>
     ensures { MatchOption result (list_words number ≡ None)
         (λ words. list_words number ≡ Some words.now) }
@@ -93,6 +93,7 @@ fn list_words(number: u32) -> Option<&'static str>
         12 => Some("krl 12 TooLong"),
         13 => Some("krl 13 Read"),
         15 => Some("krl 15 CriticalExtension"),
+        16 => Some("an authority of the list is no key in its one spelling"),
         _ => None,
     }
 }

@@ -1,27 +1,15 @@
--- The list passed, or its first fault is reported: bytes that are lent do not fail.
-use Rattle.std.proofs.Common.{[]}
-use Rattle.krl_core.specs.Entries.{entries_of}
-use Rattle.krl_c.proofs.Saying.{first_of, of_list}
+-- A list that is read is judged by its authorities.
+use Rattle.std.proofs.Common.{sym, ◌∙◌}
+use Rattle.std.proofs.lemmas.Bool.{false≢true}
+use Rattle.krl_c.proofs.Saying.{compared, not_compared}
 use Rattle.krl_c.proofs.check.judge.Goals as goal
-use Rattle.krl_c.proofs.check.judge.Goals.{in-Ok, in-Err}
 
-pub ask-requires : goal.ask-requires
-ask-requires c = rw c.of.ensures (c.new-none.ensures.of_any _)
+pub returns-then-authorities_are_keys-clause-list : goal.returns-then-authorities_are_keys-clause-list
+returns-then-authorities_are_keys-clause-list c =
+    let found = c.in-Ok.ensures.list in let is = found.1 in
+    (found.0, compared c.args.list.now found.0 is ((c.authorities_are_keys.ensures is.header is.sections is.spelled).0 c.if-authorities_are_keys.true))
 
-pub returns-clause-list : goal.returns-clause-list
-returns-clause-list c =
-    let text = c.args.list.now in
-    let h = c.ask.ensures.reads text [] (c.new-reading.ensures.start text c.new.ensures.bytes) in
-    elim c.match-read.branch [
-      | in-Ok w ↦ (let list = (rw w.in-Ok.is at c.read_on-read.ensures).found text [] h in rw w.result-is (entries_of list.sections, of_list text _ _ list))
-      | in-Err w ↦ rw w.result-is tt
-    ]
-
-pub returns-clause-fault : goal.returns-clause-fault
-returns-clause-fault c =
-    let text = c.args.list.now in
-    let h = c.ask.ensures.reads text [] (c.new-reading.ensures.start text c.new.ensures.bytes) in
-    elim c.match-read.branch [
-      | in-Ok w ↦ rw w.result-is tt
-      | in-Err w ↦ rw w.result-is (first_of text w.in-Err.fault _ ((rw w.in-Err.is at c.read_on-read.ensures).fault text [] h))
-    ]
+pub returns-else-authorities_are_keys-clause-refused : goal.returns-else-authorities_are_keys-clause-refused
+returns-else-authorities_are_keys-clause-refused c =
+    let found = c.in-Ok.ensures.list in let is = found.1 in
+    not_compared c.args.list.now found.0 is (λ keys. false≢true (sym c.if-authorities_are_keys.false ∙ (c.authorities_are_keys.ensures is.header is.sections is.spelled).1 keys))

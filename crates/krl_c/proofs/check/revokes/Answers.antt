@@ -1,23 +1,16 @@
--- What passed answers what was asked, or the list's first fault is reported: bytes that are lent do not fail.
-use Rattle.std.proofs.Common.{[]}
-use Rattle.krl_core.specs.Entries.{entries_of}
-use Rattle.krl_c.proofs.Saying.{first_of, of_list}
+-- What passed answers what was asked, where the list's authorities can be compared.
+use Rattle.std.proofs.Common.{sym, ◌∙◌}
+use Rattle.std.proofs.lemmas.Bool.{false≢true}
+use Rattle.krl_c.proofs.Saying.{compared, not_compared}
 use Rattle.krl_c.proofs.check.revokes.Goals as goal
 
-pub add_question-requires : goal.add_question-requires
-add_question-requires c = c.new-questions.ensures.of_any _
+pub returns-then-authorities_are_keys-clause-answer : goal.returns-then-authorities_are_keys-clause-answer
+returns-then-authorities_are_keys-clause-answer c =
+    let found = c.in-Ok.ensures.found in let is = found.1 in
+    let keys = (c.authorities_are_keys.ensures is.header is.sections is.spelled).0 c.if-authorities_are_keys.true in
+    (found.0, compared c.args.list.now found.0 is keys, c.answer.ensures.meant found.0 found.2)
 
-pub returns-in-Ok-read-clause-answer : goal.returns-in-Ok-read-clause-answer
-returns-in-Ok-read-clause-answer c =
-    let text = c.args.list.now in
-    let read = rw c.in-Ok-read.is at c.read_on-read.ensures in
-    let h = c.ask.ensures.reads text [] (c.new-reading.ensures.start text c.new.ensures.bytes) in
-    let list = read.found text [] h in
-    (entries_of list.sections, of_list text _ _ list, c.answer.ensures.meant (entries_of list.sections) list.holds.means)
-
-pub returns-in-Err-clause-fault : goal.returns-in-Err-clause-fault
-returns-in-Err-clause-fault c =
-    let text = c.args.list.now in
-    let read = rw c.in-Err.is at c.read_on-read.ensures in
-    let h = c.ask.ensures.reads text [] (c.new-reading.ensures.start text c.new.ensures.bytes) in
-    first_of text c.in-Err.fault _ (read.fault text [] h)
+pub returns-in-Ok-clause-refused : goal.returns-in-Ok-clause-refused
+returns-in-Ok-clause-refused c =
+    let found = c.in-Ok.ensures.found in let is = found.1 in
+    not_compared c.args.list.now found.0 is (λ keys. false≢true (sym c.if-authorities_are_keys.false ∙ (c.authorities_are_keys.ensures is.header is.sections is.spelled).1 keys))

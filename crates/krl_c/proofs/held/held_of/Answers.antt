@@ -1,15 +1,23 @@
--- The list is read, or its first fault is reported, since the bytes that are lent do not fail.
+-- The list is read, and its authorities are judged, or its first fault is reported: bytes that are lent do not fail.
+use Rattle.std.proofs.Common.{sym, ◌∙◌}
+use Rattle.std.proofs.lemmas.Bool.{false≢true}
 use Rattle.krl_core.specs.Entries.{entries_of}
-use Rattle.krl_c.proofs.Saying.{of_list, first_of}
+use Rattle.krl_c.proofs.Saying.{compared, not_compared, of_list}
 use Rattle.krl_c.proofs.held.held_of.Goals as goal
 
-pub returns-in-Ok-clause-found : goal.returns-in-Ok-clause-found
-returns-in-Ok-clause-found c =
+pub returns-then-authorities_are_keys-clause-found : goal.returns-then-authorities_are_keys-clause-found
+returns-then-authorities_are_keys-clause-found c =
+    let text = c.args.list.now in
     let read = rw c.in-Ok.is at c.read_krl-read.ensures in
-    let list = read.found c.args.list.now c.new.ensures.bytes in
-    (entries_of list.sections, of_list c.args.list.now _ _ list, list.holds.means)
+    let list = read.found text c.new.ensures.bytes in
+    let is = of_list text _ _ list in
+    let keys = (c.authorities_are_keys.ensures is.header is.sections is.spelled).0 c.if-authorities_are_keys.true in
+    (entries_of list.sections, compared text (entries_of list.sections) is keys, list.holds)
 
-pub returns-in-Err-clause-fault : goal.returns-in-Err-clause-fault
-returns-in-Err-clause-fault c =
-    let read = rw c.in-Err.is at c.read_krl-read.ensures in
-    first_of c.args.list.now c.in-Err.fault _ (read.fault c.args.list.now c.new.ensures.bytes)
+pub returns-in-Ok-clause-refused : goal.returns-in-Ok-clause-refused
+returns-in-Ok-clause-refused c =
+    let text = c.args.list.now in
+    let read = rw c.in-Ok.is at c.read_krl-read.ensures in
+    let list = read.found text c.new.ensures.bytes in
+    let is = of_list text _ _ list in
+    not_compared text (entries_of list.sections) is (λ keys. false≢true (sym c.if-authorities_are_keys.false ∙ (c.authorities_are_keys.ensures is.header is.sections is.spelled).1 keys))

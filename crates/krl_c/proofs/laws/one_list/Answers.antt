@@ -1,5 +1,6 @@
 -- By one spelling and one first fault.
-use Rattle.std.proofs.Common.{Some, None, sym, ap, ◌∙◌}
+use Rattle.std.proofs.Common.{Some, None, sym, ap, subst, ◌∙◌}
+use Rattle.krl_authority.specs.Authority.{AuthoritiesAreKeys}
 use Rattle.krl_core.specs.Entries.{entries_of}
 use Rattle.krl_c.proofs.laws.one_list.Goals as goal
 
@@ -7,6 +8,8 @@ pub returns : goal.returns
 returns c = λ list fits. record {
   entries = λ these others is also.
       is.entries_are ∙ ap entries_of (c.one_spelling.ensures list is.header also.header is.sections also.sections is.spelled also.spelled).1 ∙ sym also.entries_are;
+  keys = λ these others is also keys.
+      subst AuthoritiesAreKeys (c.one_spelling.ensures list is.header also.header is.sections also.sections is.spelled also.spelled).1 keys;
   fault = λ one other first also. let same = c.one_first_fault.ensures list (Some one) (Some other) first also in cc;
   none = λ these fault is first.
       let none = c.no_fault_where_spelled.ensures.spelled list is.header is.sections fits is.spelled is.within in

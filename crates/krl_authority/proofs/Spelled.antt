@@ -1,0 +1,185 @@
+-- What is at the front of a list, and of each of its sections.
+use Rattle.std.proofs.Common.{◌≡◌, ℕ, ◌+◌, ◌^◌, ◌<◌, ◌≤◌, Bool, true, false, List, [], ◌∷◌, ◌++◌, length, take, drop, ◌-◌, refl, sym, ap, subst, ◌∙◌, arith, length-append, append_assoc}
+use Rattle.std.proofs.lemmas.Bool.{false≢true}
+use Rattle.std.proofs.lemmas.List.{append-nil}
+use Rattle.std.proofs.Math.Seq.{drop-append_seam, take-length}
+use Rattle.std.specs.Prelude.{IsTrue, ◌↔◌, Result, Ok, Err}
+use Rattle.ssh_wire.specs.declared.fault.WireFault.{WireFault}
+use Rattle.ssh_wire.specs.Wire.{number, string}
+use Rattle.ssh_wire.proofs.Fields.{length-number, length-string}
+use Rattle.krl_core.specs.Krl.{Certificates, Extension, Keys, Sha1s, Sha256s, Signature, SpelledSection, Spells, SpellsContent, SpellsEach, SpellsSection, header_text, magic}
+use Rattle.krl_core.specs.declared.header.Header.{Header}
+use Rattle.krl_authority.specs.Authority.{AuthoritiesAreKeys, IsJudged, IsKeyOrAll}
+
+-- ---- what was read
+
+abbrev got : Result (List ℕ × List ℕ) WireFault → List ℕ × List ℕ
+got (Ok read) = read
+got (Err fault) = ([], [])
+
+pub taken_is : (text rest text' rest' : List ℕ) (read : Result (List ℕ × List ℕ) WireFault) → read ≡ Ok (text, rest) → read ≡ Ok (text', rest') → (text ≡ text') × (rest ≡ rest')
+taken_is text rest text' rest' read e f =
+    let same : (text, rest) ≡ (text', rest') = ap got (sym e ∙ f) in
+    (ap (λ (p : List ℕ × List ℕ). p.0) same, ap (λ (p : List ℕ × List ℕ). p.1) same)
+
+pub not_both : {X E : Type 0} (read : Result X E) (fault : E) (x : X) → read ≡ Err fault → read ≡ Ok x → ⊥
+not_both read fault x e f = absurd cc
+
+-- ---- the header
+
+-- its fields of a fixed size
+abbrev pub fixed : Header → ℕ → List ℕ
+fixed header flags = magic ++ (number 4 1 ++ (number 8 header.version ++ (number 8 header.date ++ number 8 flags)))
+
+pub header_parts : (header : Header) (flags : ℕ) (reserved body : List ℕ)
+    → header_text header flags reserved ++ body ≡ fixed header flags ++ (string reserved ++ (string header.comment ++ body))
+header_parts header flags reserved body =
+    let v = number 8 header.version in let d = number 8 header.date in let f = number 8 flags in let four = number 4 1 in
+    let r = string reserved in let s = string header.comment in
+    rw (
+      append_assoc magic (four ++ (v ++ (d ++ (f ++ (r ++ s))))) body,
+      append_assoc four (v ++ (d ++ (f ++ (r ++ s)))) body,
+      append_assoc v (d ++ (f ++ (r ++ s))) body,
+      append_assoc d (f ++ (r ++ s)) body,
+      append_assoc f (r ++ s) body,
+      append_assoc r s body,
+      append_assoc magic (four ++ (v ++ (d ++ f))) (r ++ (s ++ body)),
+      append_assoc four (v ++ (d ++ f)) (r ++ (s ++ body)),
+      append_assoc v (d ++ f) (r ++ (s ++ body)),
+      append_assoc d f (r ++ (s ++ body)),
+    ) refl
+
+pub length-fixed : (header : Header) (flags : ℕ) → length (fixed header flags) ≡ 36
+length-fixed header flags =
+    let v = number 8 header.version in let d = number 8 header.date in let f = number 8 flags in let four = number 4 1 in
+    omega (arith, length-append magic (four ++ (v ++ (d ++ f))), length-append four (v ++ (d ++ f)), length-append v (d ++ f), length-append d f, length-number 4 1, length-number 8 header.version, length-number 8 header.date, length-number 8 flags)
+
+-- behind them are two strings and the sections
+pub left_at : (list : List ℕ) (header : Header) (sections : List SpelledSection) (spells : Spells list header sections)
+    → (36 ≤ length list) × (take (length list - 36) (drop 36 list) ≡ string spells.reserved ++ (string header.comment ++ spells.body))
+left_at list header sections spells =
+    let front = fixed header spells.flags in let behind = string spells.reserved ++ (string header.comment ++ spells.body) in
+    let parts : list ≡ front ++ behind = spells.spelled ∙ header_parts header spells.flags spells.reserved spells.body in
+    let long : length list ≡ 36 + length behind = omega (arith, ap length parts, length-append front behind, length-fixed header spells.flags) in
+    let dropped : drop 36 list ≡ behind = ap (drop 36) parts ∙ sym (ap (λ n. drop n (front ++ behind)) (length-fixed header spells.flags)) ∙ drop-append_seam front behind in
+    let count : length list - 36 ≡ length behind = omega (arith, long) in
+    (omega (arith, long), rw (dropped, count) (take-length behind))
+
+-- ---- a section
+
+abbrev pub type_of : SpelledSection → ℕ
+type_of (Certificates authority subsections) = 1
+type_of (Keys blobs) = 2
+type_of (Sha1s hashes) = 3
+type_of Signature = 4
+type_of (Sha256s hashes) = 5
+type_of Extension = 255
+
+-- its type byte, a string, and what comes after that
+pub record BeginsSo (section : SpelledSection) (first : List ℕ) : Type 0 where
+  pub content : List ℕ
+  pub after : List ℕ
+  pub parts : first ≡ type_of section ∷ (string content ++ after)
+  pub fits : length content < 2 ^ 32
+
+abbrev of_content : {Content : List ℕ → Type 0} (section : SpelledSection) (first : List ℕ) → SpellsContent (type_of section) Content first → BeginsSo section first
+of_content section first is = record {
+  content = is.content;
+  after = [];
+  parts = is.spelled ∙ ap (λ (bytes : List ℕ). type_of section ∷ bytes) (sym (append-nil (string is.content)));
+  fits = is.fits;
+}
+
+abbrev pub begins_so : (section : SpelledSection) (first : List ℕ) → SpellsSection first section → BeginsSo section first
+begins_so (Certificates authority subsections) first is = of_content (Certificates authority subsections) first is
+begins_so (Keys blobs) first is = of_content (Keys blobs) first is
+begins_so (Sha1s hashes) first is = of_content (Sha1s hashes) first is
+begins_so Signature first is = record { content = is.key; after = string is.signature; parts = is.spelled; fits = is.key_fits }
+begins_so (Sha256s hashes) first is = of_content (Sha256s hashes) first is
+begins_so Extension first is = of_content Extension first is
+
+-- what a string that is spelled gives: it, and the bytes after it
+abbrev pub Takes : (from content left : List ℕ) → Type 0
+Takes from content left = (text rest : List ℕ) → from ≡ string text ++ rest → length text < 2 ^ 32 → (content ≡ text) × (left ≡ rest)
+
+abbrev head_of : List ℕ → ℕ
+head_of [] = 0
+head_of (byte ∷ bytes) = byte
+
+abbrev tail_of : List ℕ → List ℕ
+tail_of [] = []
+tail_of (byte ∷ bytes) = bytes
+
+-- the type byte is that of the section, and its string comes next
+pub front_is : (section : SpelledSection) (first rest old after : List ℕ) (byte : ℕ) (begins : BeginsSo section first) → old ≡ first ++ rest → old ≡ byte ∷ after
+    → (byte ≡ type_of section) × (after ≡ string begins.content ++ (begins.after ++ rest))
+front_is section first rest old after byte begins parts front =
+    let more = string begins.content ++ begins.after in
+    let same : byte ∷ after ≡ type_of section ∷ (more ++ rest) = sym front ∙ parts ∙ ap (λ bytes. bytes ++ rest) begins.parts in
+    (ap head_of same, ap tail_of same ∙ append_assoc (string begins.content) begins.after rest)
+
+-- what stands at the front of a content that fits does too
+front_fits : (authority more content : List ℕ) → content ≡ string authority ++ more → length content < 2 ^ 32 → length authority < 2 ^ 32
+front_fits authority more content parts fits = omega (arith, ap length parts, length-append (string authority) more, length-string authority)
+
+-- a section of certificates, by its authority
+pub judged_certificates : (section : SpelledSection) (first rest old after content left : List ℕ) (fine : Bool) → SpellsSection first section → old ≡ first ++ rest → old ≡ 1 ∷ after
+    → Takes after content left → ((authority more : List ℕ) → content ≡ string authority ++ more → length authority < 2 ^ 32 → IsTrue fine ↔ IsKeyOrAll authority)
+    → IsJudged section fine left rest
+judged_certificates (Certificates authority subsections) first rest old after content left fine is parts front takes begins =
+    let so = begins_so (Certificates authority subsections) first is in
+    let taken = takes so.content (so.after ++ rest) (front_is (Certificates authority subsections) first rest old after 1 so parts front).1 so.fits in
+    let held = is.content_is in
+    record {
+      judged = begins authority (string held.reserved ++ held.body) (taken.0 ∙ held.spelled) (front_fits authority (string held.reserved ++ held.body) is.content held.spelled is.fits);
+      left_is = λ _. taken.1;
+    }
+judged_certificates (Keys blobs) first rest old after content left fine is parts front takes begins = absurd (omega (arith, (front_is (Keys blobs) first rest old after 1 (begins_so (Keys blobs) first is) parts front).0))
+judged_certificates (Sha1s hashes) first rest old after content left fine is parts front takes begins = absurd (omega (arith, (front_is (Sha1s hashes) first rest old after 1 (begins_so (Sha1s hashes) first is) parts front).0))
+judged_certificates Signature first rest old after content left fine is parts front takes begins = absurd (omega (arith, (front_is Signature first rest old after 1 (begins_so Signature first is) parts front).0))
+judged_certificates (Sha256s hashes) first rest old after content left fine is parts front takes begins = absurd (omega (arith, (front_is (Sha256s hashes) first rest old after 1 (begins_so (Sha256s hashes) first is) parts front).0))
+judged_certificates Extension first rest old after content left fine is parts front takes begins = absurd (omega (arith, (front_is Extension first rest old after 1 (begins_so Extension first is) parts front).0))
+
+-- ---- all sections
+
+-- Some sections are left, and all of them have a fine authority exactly where all of the list's have.
+pub record Remains (sections : List SpelledSection) (left : List ℕ) : Type 0 where
+  pub todo : List SpelledSection
+  pub spelled : SpellsEach SpellsSection left todo
+  pub same : AuthoritiesAreKeys todo ↔ AuthoritiesAreKeys sections
+
+-- a section at the front was judged, and the bytes after it are left where it is fine
+abbrev pub Judges : (old new : List ℕ) (fine : Bool) → Type 0
+Judges old new fine = (section : SpelledSection) (first rest : List ℕ) → SpellsSection first section → old ≡ first ++ rest → IsJudged section fine new rest
+
+module _ (sections : List SpelledSection) (old new : List ℕ) (some : old ≡ [] → ⊥) where
+  goes_on_to : (todo : List SpelledSection) → SpellsEach SpellsSection old todo → AuthoritiesAreKeys todo ↔ AuthoritiesAreKeys sections → Judges old new true → Remains sections new
+  goes_on_to [] none same judges = absurd (some none)
+  goes_on_to (section ∷ others) (first, (rest, (parts, one, later))) same judges =
+      let is = judges section first rest one parts in
+      record {
+        todo = others;
+        spelled = subst (λ (left : List ℕ). SpellsEach SpellsSection left others) (sym (is.left_is refl)) later;
+        same = (λ all. same.0 (is.judged.0 refl, all), λ all. (same.1 all).1);
+      }
+
+  refuses_at : (todo : List SpelledSection) → SpellsEach SpellsSection old todo → AuthoritiesAreKeys todo ↔ AuthoritiesAreKeys sections → Judges old new false → AuthoritiesAreKeys sections → ⊥
+  refuses_at [] none same judges keys = some none
+  refuses_at (section ∷ others) (first, (rest, (parts, one, later))) same judges keys =
+      false≢true ((judges section first rest one parts).judged.1 (same.1 keys).0)
+
+  pub goes_on : Remains sections old → Judges old new true → Remains sections new
+  goes_on is judges = goes_on_to is.todo is.spelled is.same judges
+
+  pub refuses : Remains sections old → Judges old new false → AuthoritiesAreKeys sections → ⊥
+  refuses is judges keys = refuses_at is.todo is.spelled is.same judges keys
+
+ends_at : (sections todo : List SpelledSection) (left : List ℕ) → left ≡ [] → SpellsEach SpellsSection left todo → AuthoritiesAreKeys todo ↔ AuthoritiesAreKeys sections → AuthoritiesAreKeys sections
+ends_at sections [] left none spelled same = same.0 tt
+ends_at sections (section ∷ others) left none (first, (rest, (parts, one, later))) same =
+    let begins = begins_so section first one in
+    absurd (omega (arith, ap length none, ap length parts, ap length begins.parts, length-append first rest))
+
+-- nothing is left
+pub ends : (sections : List SpelledSection) (left : List ℕ) → Remains sections left → left ≡ [] → AuthoritiesAreKeys sections
+ends sections left is none = ends_at sections is.todo left none is.spelled is.same

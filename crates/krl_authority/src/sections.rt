@@ -1,0 +1,123 @@
+//! Going over the sections of a list for their authorities.
+
+ghost use Rattle.std.specs.Prelude.{◌≡◌, ◌↔◌, ◌<◌, ◌≤◌, ◌^◌, ◌++◌, List, ℕ, IsTrue, MatchOption, length};
+ghost use Rattle.ssh_wire.specs.Wire.{string};
+ghost use Rattle.krl_core.specs.Krl.{SpelledSection, Spells, SpellsSection};
+ghost use Rattle.krl_core.specs.declared.header.Header.{Header as HeaderOf};
+ghost use Rattle.krl_authority.specs.Authority.{AuthoritiesAreKeys, IsJudged, IsKeyOrAll};
+
+use ssh_key::laws::read_where_spelled;
+use ssh_key::read_key;
+use ssh_wire::Cursor;
+
+// The bytes of a list before the two strings of its header.
+const FIXED: usize = 36;
+
+/// Whether each certificate authority that a list names is a key in its one spelling, or no bytes,
+/// for all authorities. The list is one that can be read; of other bytes nothing is said. Takes no
+/// memory.
+pub fn authorities_are_keys(list: &[u8]) -> bool
+    ensures { (header : HeaderOf) (sections : List SpelledSection)
+        → Spells list.now header sections → IsTrue result ↔ AuthoritiesAreKeys sections }
+{
+    let Some(sections) = past_header(list) else {
+        return false;
+    };
+    let mut left = Cursor::new(sections);
+    while !left.at_end() {
+        if !section_is_fine(&mut left) {
+            return false;
+        }
+    }
+    true
+}
+
+/// Whether an authority is a key in its one spelling, or no bytes. Takes no memory.
+pub fn is_key_or_all(authority: &[u8]) -> bool
+    ensures { IsTrue result ↔ IsKeyOrAll authority.now }
+{
+    read_where_spelled();
+    if authority.is_empty() {
+        return true;
+    }
+    match read_key(authority) {
+        Ok(_) => true,
+        Err(_) => false,
+    }
+}
+
+// The bytes behind the header.
+fn past_header(list: &[u8]) -> Option<&[u8]>
+    ensures { (header : HeaderOf) (sections : List SpelledSection)
+        (spells : Spells list.now header sections)
+        → MatchOption result ⊥ (λ rest. rest.now ≡ spells.body) }
+{
+    if list.len() < FIXED {
+        return None;
+    }
+    let mut left = Cursor::new(&list[FIXED..]);
+    let Some(_reserved) = take_string(&mut left) else {
+        return None;
+    };
+    let Some(_comment) = take_string(&mut left) else {
+        return None;
+    };
+    Some(left.rest())
+}
+
+// Goes past a section, and says whether its authority is a key or none, if it has one.
+fn section_is_fine<'a>(left: &mut Cursor<'a>) -> bool
+    ensures goes_on { IsTrue result → length left.new < length left.old }
+    ensures judged { (section : SpelledSection) (first rest : List ℕ)
+        → SpellsSection first section → left.old ≡ first ++ rest
+        → IsJudged section result left.new rest }
+{
+    let Some((type_byte, after)) = left.rest().split_first() else {
+        return false;
+    };
+    *left = Cursor::new(after);
+    let Some(content) = take_string(left) else {
+        return false;
+    };
+    match *type_byte {
+        1 => begins_with_key(content),
+        4 => skips_string(left),
+        _ => true,
+    }
+}
+
+// Whether the content of a section of certificates begins with a key or with no authority.
+fn begins_with_key(content: &[u8]) -> bool
+    ensures { (authority rest : List ℕ) → content.now ≡ string authority ++ rest
+        → length authority < 2 ^ 32 → IsTrue result ↔ IsKeyOrAll authority }
+{
+    match take_string(&mut Cursor::new(content)) {
+        Some(authority) => is_key_or_all(authority),
+        None => false,
+    }
+}
+
+// Goes past the string at the front, if there is one.
+fn skips_string(left: &mut Cursor) -> bool
+    ensures shorter { length left.new ≤ length left.old }
+    ensures text { (text rest : List ℕ) → left.old ≡ string text ++ rest → length text < 2 ^ 32
+        → IsTrue result × (left.new ≡ rest) }
+{
+    match take_string(left) {
+        Some(_) => true,
+        None => false,
+    }
+}
+
+// Takes the string at the front.
+fn take_string<'a>(left: &mut Cursor<'a>) -> Option<&'a [u8]>
+    ensures shorter { MatchOption result (left.new ≡ left.old)
+        (λ _. length left.new < length left.old) }
+    ensures text { (text rest : List ℕ) → left.old ≡ string text ++ rest → length text < 2 ^ 32
+        → MatchOption result ⊥ (λ taken. (taken.now ≡ text) × (left.new ≡ rest)) }
+{
+    match left.string() {
+        Ok(text) => Some(text),
+        Err(_) => None,
+    }
+}
