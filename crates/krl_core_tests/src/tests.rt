@@ -9,6 +9,7 @@ mod many;
 mod page;
 mod passing;
 mod reading;
+mod reasons;
 mod rows;
 mod said;
 mod sending;

@@ -3,11 +3,13 @@
 ghost use Rattle.std.specs.Prelude.{◌≡◌, false};
 
 use crate::tests::lists::{list_of, text_of};
+use crate::tests::reasons::says_only;
 use crate::tests::rows::ROWS;
 use crate::tests::said::{A, ALL, About, B, Said, held_of, subject_of};
 use byte_streams::{FromBuffer, Source};
 use key_text::{sha1_of, sha256_of};
 use krl_core::{Findings, KrlFault, Questions, Reading, Store, Walk};
+use krl_held::{Reason, Reasons};
 use parts_for_tests::{Giver, Then};
 use span_sets::Held;
 use std::alloc::Global;
@@ -21,23 +23,23 @@ const D: &[u8] = b"D, by a SHA-1";
 
 const E: &[u8] = b"E, by a SHA-256";
 
-// What is asked about, and whether the list revokes it.
-const ASKED: [(About<'static>, bool); 15] = [
-    (None, false),
-    (Some((A, 70, b"x")), true),
-    (Some((A, 71, b"x")), false),
-    (Some((B, 70, b"x")), false),
-    (Some((B, 3, b"x")), true),
-    (Some((A, 9, b"x")), true),
-    (Some((B, 10, b"x")), false),
-    (Some((B, 103, b"x")), true),
-    (Some((B, 104, b"x")), false),
-    (Some((B, 0, b"b")), true),
-    (Some((A, 0, b"b")), false),
-    (Some((A, 0, b"all")), true),
-    (Some((C, 0, b"x")), true),
-    (Some((D, 0, b"x")), true),
-    (Some((E, 0, b"x")), true),
+// What is asked about, and the one way in which the list revokes it.
+const ASKED: [(About<'static>, Option<Reason>); 15] = [
+    (None, None),
+    (Some((A, 70, b"x")), Some(Reason::Serial)),
+    (Some((A, 71, b"x")), None),
+    (Some((B, 70, b"x")), None),
+    (Some((B, 3, b"x")), Some(Reason::SerialOfAll)),
+    (Some((A, 9, b"x")), Some(Reason::SerialOfAll)),
+    (Some((B, 10, b"x")), None),
+    (Some((B, 103, b"x")), Some(Reason::SerialOfAll)),
+    (Some((B, 104, b"x")), None),
+    (Some((B, 0, b"b")), Some(Reason::KeyId)),
+    (Some((A, 0, b"b")), None),
+    (Some((A, 0, b"all")), Some(Reason::KeyIdOfAll)),
+    (Some((C, 0, b"x")), Some(Reason::Authority)),
+    (Some((D, 0, b"x")), Some(Reason::AuthoritySha1)),
+    (Some((E, 0, b"x")), Some(Reason::AuthoritySha256)),
 ];
 
 // A list with entries of each kind.
@@ -67,21 +69,21 @@ fn buffered<'a>(rt: &impl Abort, alloc: Global, size: usize, giver: Giver<'a>) -
     FromBuffer::new(BufReader::with_capacity(alloc, size, giver).expect(rt, "there is memory"))
 }
 
-// Whether a list revokes what is asked, where no more of it than `most` bytes is held.
+// Whether a list revokes what is asked, and why, where no more of it than `most` bytes is held.
 fn passes<R: Source + Drop>(
     rt: &impl Abort,
     alloc: Global,
     reader: R,
     most: u64,
     about: About<'_>,
-) -> Result<bool, KrlFault>
+) -> Result<(bool, Reasons), KrlFault>
     requires { R.has_failed reader ≡ false }
 {
     let subject = subject_of(rt, alloc, about);
     let mut front: Reading<Held, R> = Reading::new(alloc, reader);
     if !front.read_to(most)? {
         let (_, list, _) = front.done();
-        return Ok(list.query(&subject));
+        return Ok((list.query(&subject), list.reasons(&subject)));
     }
     let mut questions: Questions<Held> = Questions::new(alloc);
     front
@@ -89,21 +91,23 @@ fn passes<R: Source + Drop>(
         .expect(rt, "there is memory");
     let (read, _) = front.ask(Findings::of(alloc, questions)).read_on();
     let (_, findings) = read?;
-    Ok(findings.answer(&subject))
+    Ok((findings.answer(&subject), findings.reasons(&subject)))
 }
 
 #[test]
 fn from_each_byte_on(rt: HostRuntime) {
     let text = text(&rt, rt.alloc());
     for most in 0..=text.len() {
-        for (i, (about, revoked)) in ASKED.iter().enumerate() {
+        for (i, (about, reason)) in ASKED.iter().enumerate() {
             let giver = Giver::new(&text, 1 + most % 7);
             let reader = buffered(&rt, rt.alloc(), 1 + i * 9, giver);
-            let found = passes(&rt, rt.alloc(), reader, most as u64, *about);
-            assert!(rt;
-                found == Ok(*revoked),
-                "in case {i}, with {most} bytes held"
+            let (revoked, found) = passes(&rt, rt.alloc(), reader, most as u64, *about).expect(
+                &rt,
+                "the list is read",
             );
+            let place = (i, most);
+            assert_eq!(rt; revoked, reason.is_some(), "case and bytes held: {place:?}");
+            says_only(&rt, found, *reason, place);
         }
     }
 }
