@@ -16,3 +16,5 @@ pub mod PrivateLaws
 pub mod LineSplits
 pub mod ContainerReads
 pub mod SecretRows
+pub mod Markers
+pub mod Halves

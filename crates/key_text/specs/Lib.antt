@@ -14,3 +14,5 @@ pub mod Armour
 pub mod Rows
 pub mod Container
 pub mod ContainerReading
+pub mod Marker
+pub mod PublicHalf

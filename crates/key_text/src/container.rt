@@ -14,6 +14,7 @@ use ssh_wire::Bytes;
 use std::alloc::Global;
 
 mod armour;
+mod half;
 mod list;
 mod padding;
 mod parts;
@@ -21,6 +22,7 @@ mod secrets;
 
 pub use armour::is_container;
 use armour::{after_begin, body_size, joined};
+pub use half::read_public_half;
 use parts::{Opened, read_bytes};
 
 /// What a private container says in public.

@@ -1,7 +1,7 @@
 //! What holds for every text, each as the contract of a function that does nothing. `read_line`,
 //! `parse_fingerprint` and `read_private` answer what the readers named here give.
 
-ghost use Rattle.std.specs.Prelude.{◌≡◌, ◌<◌, ◌↔◌, ℕ, List, Err, Ok, length};
+ghost use Rattle.std.specs.Prelude.{◌≡◌, ◌<◌, ◌↔◌, ℕ, List, Err, Ok, Some, length};
 ghost use Rattle.sha2.specs.Sha256.{sha256};
 ghost use Rattle.key_text.specs.Blanks.{IsWord};
 ghost use Rattle.key_text.specs.Container.{IsContainer, IsPrivateFault};
@@ -11,6 +11,8 @@ ghost use Rattle.key_text.specs.Fingerprints.{fingerprint_text};
 ghost use Rattle.key_text.specs.KeyLine.{IsKeyLine, base64};
 ghost use Rattle.key_text.specs.LineFaults.{IsFirstLineFault};
 ghost use Rattle.key_text.specs.LineReading.{Content, content, line_at};
+ghost use Rattle.key_text.specs.Marker.{IsMarkedLine, marked_line_at, marker_of};
+ghost use Rattle.key_text.specs.declared.marker.Marker.{Marker as MarkerOf};
 ghost use Rattle.key_text.specs.declared.fingerprint_fault.FingerprintFault.{FingerprintFault};
 ghost use Rattle.key_text.specs.declared.hash.Hash.TheVariants.{Sha256};
 ghost use Rattle.key_text.specs.declared.line_fault.LineFault.{LineFault};
@@ -23,6 +25,15 @@ pub fn line_read_where_spelled()
         → line_at text ≡ Ok (content word blob comment) }
     ensures spelled { (text : List ℕ) (line : Content) → IsBytes text → line_at text ≡ Ok line
         → IsKeyLine text line.word line.blob line.comment }
+{}
+
+/// A line with a marker is read as the key line after it, and its marker is found.
+pub fn marked_line_is_read()
+    ensures marker { (text : List ℕ) (marker : MarkerOf) (word blob comment : List ℕ)
+        → IsMarkedLine text marker word blob comment → marker_of text ≡ Some marker }
+    ensures read { (text : List ℕ) (marker : MarkerOf) (word blob comment : List ℕ)
+        → IsMarkedLine text marker word blob comment
+        → marked_line_at text ≡ Ok (content word blob comment) }
 {}
 
 /// The base64 of a key is always a word, so no key is left out of the key lines for its bytes.

@@ -20,8 +20,7 @@ mod options;
 mod words;
 
 use options::after_options;
-use words::split_word;
-pub use words::{after_blanks, before_ending, is_blank, is_ending, trimmed};
+pub use words::{after_blanks, before_ending, is_blank, is_ending, split_word, trimmed};
 
 /// What a key line holds.
 #[derive(Debug, Drop)]

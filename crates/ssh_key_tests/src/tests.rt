@@ -8,5 +8,6 @@ mod kind;
 mod large;
 mod lines;
 mod made;
+mod markers;
 mod page;
 mod parts;

@@ -13,8 +13,8 @@ use ssh_key::{PublicKey, read_key};
 use ssh_wire::Cursor;
 use std::marker::Model;
 
-// The name of the format, and a zero byte.
-const MAGIC: &[u8] = b"openssh-key-v1\0";
+/// The name of the format, and a zero byte.
+pub const MAGIC: &[u8] = b"openssh-key-v1\0";
 
 // The cipher and the derivation of a container that is not encrypted.
 const NONE: &[u8] = b"none";

@@ -5,7 +5,7 @@ use crate::tests::parts::blob_of;
 use cert_listing::{list_cert, time_text};
 use key_text::{
     FingerprintFault, Hash, LineFault, PrivateFault, fingerprint, parse_fingerprint, read_line,
-    read_private, sha256_of,
+    read_private, read_public_half, sha256_of,
 };
 use parts_for_tests::{CERT_LINE, CONTAINER, GITHUB_LINE, GITHUB_PRINT, joined};
 use ssh_cert::{SubjectFault, read_cert, subject};
@@ -33,6 +33,14 @@ fn a_private_key(rt: HostRuntime) {
     };
     assert!(rt; private.comment.as_slice() == b"a".as_slice());
     assert!(rt; private.blob.as_slice().len() == 51);
+}
+
+#[test]
+fn the_public_half_of_a_private_key(rt: HostRuntime) {
+    let read = read_public_half(rt.alloc(), CONTAINER);
+    if let Some(blob) = answered(&rt, read, PrivateFault::NoMemory) {
+        assert!(rt; blob.as_slice().len() == 51);
+    }
 }
 
 // The fingerprint of the blob is this one.

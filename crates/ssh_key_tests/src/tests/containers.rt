@@ -2,7 +2,7 @@
 
 use crate::tests::made::{Container, PLAIN, armoured, around, is_read};
 use crate::tests::parts::KEYS;
-use key_text::{PrivateFault, is_container, read_private};
+use key_text::{PrivateFault, is_container, read_private, read_public_half};
 use parts_for_tests::{CONTAINER, GITHUB, joined, strings};
 use ssh_key::Kind;
 use ssh_wire::WireFault;
@@ -150,5 +150,57 @@ fn of_each_kind(rt: HostRuntime) {
     for (i, (kind, list, _)) in KEYS.iter().enumerate() {
         let right = reads(rt.alloc(), *kind, *list).expect(&rt, "there is memory");
         assert!(rt; right, "in case {i}");
+    }
+}
+
+// What the public half of a container is read as: its blob or its fault.
+fn half_of(alloc: Global, bytes: &[u8]) -> Result<Result<Vec<u8>, PrivateFault>, AllocError> {
+    let text = armoured(alloc, bytes)?;
+    Ok(match read_public_half(alloc, &text) {
+        Ok(blob) => Ok(blob.into_vec()),
+        Err(fault) => Err(fault),
+    })
+}
+
+// Of the containers that are refused, those whose public half is read, and the faults of others.
+#[test]
+fn public_halves(rt: HostRuntime) {
+    for (i, (container, more, fault)) in REFUSED.iter().enumerate() {
+        let mut bytes = container.bytes(rt.alloc()).expect(&rt, "there is memory");
+        bytes
+            .extend_from_slice(*more)
+            .expect(&rt, "there is memory");
+        let half = half_of(rt.alloc(), &bytes).expect(&rt, "there is memory");
+        match half {
+            Ok(blob) => {
+                let right = *fault != PrivateFault::KeyCount && blob.as_slice() == GITHUB;
+                assert!(rt; right, "in case {i}");
+            }
+            Err(found) => {
+                let right = *fault == PrivateFault::KeyCount && found == *fault;
+                assert!(rt; right, "in case {i}");
+            }
+        }
+    }
+}
+
+// A container that is encrypted, cut before the end of the blob, has no public half.
+#[test]
+fn a_half_that_is_cut(rt: HostRuntime) {
+    let bytes = REFUSED[1]
+        .0
+        .bytes(rt.alloc())
+        .expect(&rt, "there is memory");
+    // The name of the format; the cipher, the derivation, no options; the count; the blob.
+    let end = 15 + (4 + 10) + (4 + 4) + 4 + 4 + (4 + GITHUB.len());
+    for n in [0, 14, 15, 40, end - 1, end, bytes.len()] {
+        let part = &bytes[..n.min(bytes.len())];
+        let half = half_of(rt.alloc(), part).expect(&rt, "there is memory");
+        let right = match half {
+            Ok(blob) => n >= end && blob.as_slice() == GITHUB,
+            Err(PrivateFault::Magic) => n < 15,
+            Err(fault) => n >= 15 && n < end && fault == PrivateFault::Wire(WireFault::Short),
+        };
+        assert!(rt; right, "with {n} bytes");
     }
 }
