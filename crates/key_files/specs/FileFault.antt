@@ -3,7 +3,7 @@ use Rattle.std.specs.Prelude.{ℕ, List, codes}
 use Rattle.key_files.specs.declared.file_fault.FileFault.{FileFault}
 use Rattle.key_files.specs.declared.file_fault.FileFault.TheVariants.{Open, Read, TooLong}
 use Rattle.key_files.specs.declared.file_fault.FileFault.TheVariants.{NoMemory, NoKeys}
-use Rattle.key_files.specs.declared.file_fault.FileFault.TheVariants.{NoCertificate}
+use Rattle.key_files.specs.declared.file_fault.FileFault.TheVariants.{NoCertificate, Locked}
 
 abbrev pub file_fault_number : FileFault → ℕ
 file_fault_number Open = 1
@@ -12,6 +12,7 @@ file_fault_number TooLong = 3
 file_fault_number NoMemory = 4
 file_fault_number NoKeys = 5
 file_fault_number NoCertificate = 6
+file_fault_number Locked = 7
 
 abbrev pub file_fault_text : FileFault → List ℕ
 file_fault_text Open = codes "file 1 Open"
@@ -20,3 +21,4 @@ file_fault_text TooLong = codes "file 3 TooLong"
 file_fault_text NoMemory = codes "file 4 NoMemory"
 file_fault_text NoKeys = codes "file 5 NoKeys"
 file_fault_text NoCertificate = codes "file 6 NoCertificate"
+file_fault_text Locked = codes "file 7 Locked"

@@ -7,7 +7,7 @@ use Rattle.ssh_wire.specs.declared.pull_fault.PullFault.TheVariants as pulls
 use Rattle.key_files.specs.declared.file_fault.FileFault.{FileFault}
 use Rattle.key_files.specs.declared.file_fault.FileFault.TheVariants.{Open, Read, TooLong}
 use Rattle.key_files.specs.declared.file_fault.FileFault.TheVariants.{NoMemory, NoKeys}
-use Rattle.key_files.specs.declared.file_fault.FileFault.TheVariants.{NoCertificate}
+use Rattle.key_files.specs.declared.file_fault.FileFault.TheVariants.{NoCertificate, Locked}
 
 -- how many bytes a file may have
 abbrev pub file_limit : ℕ
@@ -32,6 +32,7 @@ IsContent taken left failed (Err NoMemory) =
 IsContent taken left failed (Err Open) = ⊥
 IsContent taken left failed (Err NoKeys) = ⊥
 IsContent taken left failed (Err NoCertificate) = ⊥
+IsContent taken left failed (Err Locked) = ⊥
 
 -- A reader had these bytes left, then those, and failed or not; this was made of the bytes between.
 pub record IsLoaded (before after : Option (List ℕ)) (failed : Bool)

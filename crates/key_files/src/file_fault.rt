@@ -21,10 +21,12 @@ pub enum FileFault {
     NoKeys,
     /// It has no certificate.
     NoCertificate,
+    /// Another update of the list did not end.
+    Locked,
 }
 
 impl FileFault {
-    /// The fault's number, 1 to 6 in the order of the variants.
+    /// The fault's number, 1 to 7 in the order of the variants.
     pub fn number(self) -> u8
         ensures { result ≡ file_fault_number self }
     {
@@ -35,6 +37,7 @@ impl FileFault {
             FileFault::NoMemory => 4,
             FileFault::NoKeys => 5,
             FileFault::NoCertificate => 6,
+            FileFault::Locked => 7,
         }
     }
 }
@@ -50,6 +53,7 @@ impl fmt::Display for FileFault {
             FileFault::NoMemory => "file 4 NoMemory",
             FileFault::NoKeys => "file 5 NoKeys",
             FileFault::NoCertificate => "file 6 NoCertificate",
+            FileFault::Locked => "file 7 Locked",
         };
         f.write_str(text)
     }

@@ -14,7 +14,7 @@ const SHORT: KeyFault = KeyFault::Wire(WireFault::Short);
 // A name, a line, a cause, and how the three are printed after the name of the program.
 type Row<'a> = (&'a str, Option<u64>, Cause, &'a str);
 
-const ROWS: [Row<'static>; 15] = [
+const ROWS: [Row<'static>; 16] = [
     (
         "id",
         None,
@@ -94,6 +94,12 @@ const ROWS: [Row<'static>; 15] = [
         None,
         Cause::File(FileFault::NoKeys),
         "k: file 5 NoKeys",
+    ),
+    (
+        "r.krl",
+        None,
+        Cause::File(FileFault::Locked),
+        "r.krl: file 7 Locked",
     ),
 ];
 
