@@ -4,8 +4,7 @@ ghost use Rattle.std.specs.Prelude.{◌<◌, ◌≤◌, IfErr, length};
 
 use byte_streams::{ToWrite, send};
 use std::fs::File;
-use std::io::{self, Seek, SeekFrom};
-use std::os::unix::fs::FileExt;
+use std::io::{Seek, SeekFrom};
 
 // Where the format version of a list stands, after its magic, and where it ends.
 const VERSION: usize = 8;
@@ -28,9 +27,10 @@ pub(crate) fn write_in_place(file: &File, text: &[u8]) -> Result<(), u64>
     if let Err(count) = send_all(file, rest) {
         return Err(FRONT as u64 + count);
     }
-    match end(file, &front[VERSION..], text.len() as u64) {
-        Ok(()) => Ok(()),
-        Err(_) => Err(text.len() as u64),
+    if end(file, &front[VERSION..], text.len() as u64) {
+        Ok(())
+    } else {
+        Err(text.len() as u64)
     }
 }
 
@@ -41,11 +41,7 @@ fn begin(file: &File, front: &[u8; FRONT]) -> Result<(), u64>
 {
     let mut refused = [NO_VERSION; FRONT];
     refused[..VERSION].copy_from_slice(&front[..VERSION]);
-    let mut at_start = file;
-    if at_start.seek(SeekFrom::Start(0)).is_err() {
-        return Err(0);
-    }
-    send_all(file, &refused)?;
+    send_at(file, 0, &refused)?;
     match file.sync_all() {
         Ok(()) => Ok(()),
         Err(_) => Err(FRONT as u64),
@@ -53,11 +49,23 @@ fn begin(file: &File, front: &[u8; FRONT]) -> Result<(), u64>
 }
 
 // Cuts the file to the length of the list, and gives it the true version once the rest is synced.
-fn end(file: &File, version: &[u8], length: u64) -> io::Result<()> {
-    file.set_len(length)?;
-    file.sync_all()?;
-    file.write_all_at(version, VERSION as u64)?;
-    file.sync_all()
+// Says whether that was done.
+fn end(file: &File, version: &[u8], length: u64) -> bool {
+    file.set_len(length).is_ok()
+        && file.sync_all().is_ok()
+        && send_at(file, VERSION as u64, version).is_ok()
+        && file.sync_all().is_ok()
+}
+
+// Writes the bytes from this one of the file on. A fault is the count of those that went out.
+fn send_at(file: &File, at: u64, text: &[u8]) -> Result<(), u64>
+    ensures short { IfErr result (λ count. count ≤ length text.now) }
+{
+    let mut from = file;
+    if from.seek(SeekFrom::Start(at)).is_err() {
+        return Err(0);
+    }
+    send_all(file, text)
 }
 
 // Writes the bytes. A fault is the count of those that went out.

@@ -1,4 +1,4 @@
-//! The names of the list's file and of the new file beside it.
+//! The names of the list's file and of the files beside it.
 
 use std::alloc::Global;
 use std::fs;
@@ -7,8 +7,8 @@ use std::random::RandomSource;
 
 // How many links are followed to a file, as Linux does.
 const LINKS: usize = 40;
-// How many bytes of the list's name are in the new one. So the new one is short enough for file
-// systems that take only 143 bytes.
+// How many bytes of the list's name are in those of the files beside it. So these are short enough
+// for file systems that take only 143 bytes.
 const FRONT: usize = 100;
 
 // The path of the file that the name leads to, over links. There need be none.
@@ -36,16 +36,28 @@ pub(crate) fn beside(alloc: Global, path: &str, name: &str) -> io::Result<String
     }
 }
 
+// The path of the lock beside a list.
+pub(crate) fn lock_name(alloc: Global, path: &str) -> io::Result<String> {
+    let front = front_of(path);
+    let name = format!(in alloc; ".{front}.lock")?;
+    beside(alloc, path, name.as_str())
+}
+
 // A path in the same folder, of a file that is most likely not there.
 pub(crate) fn new_name(rt: &HostRuntime, path: &str) -> io::Result<String> {
-    let last = match path.rsplit_once('/') {
-        Some((_, last)) => last,
-        None => path,
-    };
-    let front = &last[..last.floor_char_boundary(FRONT)];
+    let front = front_of(path);
     let mut bytes = [0u8; 8];
     rt.fill_bytes(&mut bytes)?;
     let number = u64::from_ne_bytes(bytes);
     let name = format!(in rt.alloc(); ".{front}.{number:016x}.new")?;
     beside(rt.alloc(), path, name.as_str())
+}
+
+// The front of the name that a path has in its folder.
+fn front_of(path: &str) -> &str {
+    let last = match path.rsplit_once('/') {
+        Some((_, last)) => last,
+        None => path,
+    };
+    &last[..last.floor_char_boundary(FRONT)]
 }

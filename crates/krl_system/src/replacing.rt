@@ -1,25 +1,17 @@
 //! A list is replaced whole or not at all: its bytes go to a new file beside it, which then takes
 //! its name.
 
-ghost use Rattle.std.specs.Prelude.{◌≡◌, ◌↔◌, ◌⊎◌, IsNone, IsSome, IsTrue, bit_and};
-ghost use Rattle.std.specs.Fs.{metadata_mode, permissions_mode};
-
-use crate::holding::{OldList, Target, is_at, unopened};
+use crate::holding::{Held, OldList, Target, is_at, is_same, unopened};
 use crate::in_place::{send_all, write_in_place};
 use crate::names::{beside, new_name};
+use crate::rights::{first_mode, keep_rights};
 use key_files::Cause;
-use std::fs::{self, File, Metadata, OpenOptions, Permissions};
+use std::fs::{self, File, Metadata, OpenOptions};
 use std::io::{self, ErrorKind};
-use std::os::unix::fs::{MetadataExt, OpenOptionsExt, PermissionsExt, fchown};
+use std::os::unix::fs::{MetadataExt, OpenOptionsExt};
 
 // How many names are tried for the new file.
 const TRIES: usize = 16;
-// The mode of a list that was not there, of which the user's mask takes bits away.
-const USUAL: u32 = 0o666;
-// The mode of the new file until it gets that of the old list.
-const CLOSED: u32 = 0o600;
-// The bits of a mode that are permissions.
-const PERMISSIONS: u32 = 0o7777;
 // Of a new file that does not take the name of the list no byte stands.
 const UNWRITTEN: Cause = Cause::Output { count: 0 };
 
@@ -28,18 +20,47 @@ const UNWRITTEN: Cause = Cause::Output { count: 0 };
 pub enum Written {
     /// All of it stands under its name.
     Whole,
-    /// Its name leads to another file by now, which stands as it was.
+    /// Its name leads to another file by now, or that was changed, and is to be written anew.
     Elsewhere,
 }
 
-/// Writes a list. On a fault an old list stands as it was, unless its folder takes no new file.
-pub fn write_list(rt: &HostRuntime, target: &Target, text: &[u8]) -> Result<Written, Cause> {
-    match target {
-        Target::Held(old) => replace(rt, old, text),
-        Target::Free(path) => match create_beside(rt, path, None) {
-            Ok(new) => take_its_place(rt, path, None, &new, text),
-            Err(error) => Err(unopened(&error)),
-        },
+// Where a list gets its name.
+#[derive(Clone, Copy)]
+struct Place<'a> {
+    // As the user gave it.
+    name: &'a str,
+    // Over links.
+    path: &'a str,
+    old: Option<&'a OldList>,
+}
+
+/// Writes a list under its name. On a fault an old list stands as it was, unless its folder takes no
+/// new file.
+pub fn write_list<'a>(
+    rt: &HostRuntime,
+    name: &'a str,
+    held: &'a Held,
+    text: &[u8],
+) -> Result<Written, Cause> {
+    match &held.target {
+        Target::List(old) if held.lock.is_none() => overwrite(rt, name, old, text),
+        Target::List(old) => {
+            let path = old.path.as_str();
+            let old = Some(old);
+            replace(rt, Place { name, path, old }, text)
+        }
+        Target::Free(path) => {
+            let path = path.as_str();
+            replace(
+                rt,
+                Place {
+                    name,
+                    path,
+                    old: None,
+                },
+                text,
+            )
+        }
         Target::Stream(file) => match send_all(file, text) {
             Ok(()) => Ok(Written::Whole),
             Err(count) => Err(Cause::Output { count }),
@@ -47,36 +68,35 @@ pub fn write_list(rt: &HostRuntime, target: &Target, text: &[u8]) -> Result<Writ
     }
 }
 
-// Replaces a list, or writes it in place where its folder takes no new file.
-fn replace(rt: &HostRuntime, old: &OldList, text: &[u8]) -> Result<Written, Cause> {
-    match create_beside(rt, &old.path, Some(&old.found)) {
-        Ok(new) => take_its_place(rt, &old.path, Some(&old.found), &new, text),
-        Err(error) if takes_no_file(error.kind()) => overwrite(rt, old, text),
-        Err(error) => Err(unopened(&error)),
-    }
-}
-
-// Writes the list in place. What was written there counts only if it still has the name then.
-fn overwrite(rt: &HostRuntime, old: &OldList, text: &[u8]) -> Result<Written, Cause> {
-    if !is_at(rt, &old.path, Some(&old.found)) {
+// Writes the list in place. What was written there counts only if the name still leads to it then.
+fn overwrite(rt: &HostRuntime, name: &str, old: &OldList, text: &[u8]) -> Result<Written, Cause> {
+    if !is_as_opened(rt, old) {
         return Ok(Written::Elsewhere);
     }
     match write_in_place(&old.file, text) {
-        Ok(()) if is_at(rt, &old.path, Some(&old.found)) => Ok(Written::Whole),
-        Ok(()) => Ok(Written::Elsewhere),
+        Ok(()) => looked_at(rt, name, &old.found, None),
         Err(count) => Err(Cause::Output { count }),
     }
 }
 
-// Whether this says that a folder takes no new file, or none with so long a name.
-fn takes_no_file(reason: ErrorKind) -> bool
-    ensures { IsTrue result ↔ ((reason ≡ ErrorKind.PermissionDenied)
-        ⊎ ((reason ≡ ErrorKind.ReadOnlyFilesystem) ⊎ (reason ≡ ErrorKind.InvalidFilename))) }
-{
-    matches!(
-        reason,
-        ErrorKind::PermissionDenied | ErrorKind::ReadOnlyFilesystem | ErrorKind::InvalidFilename
-    )
+// Writes the list to a new file, which takes the place of the old one.
+fn replace(rt: &HostRuntime, place: Place<'_>, text: &[u8]) -> Result<Written, Cause> {
+    let new = match create_beside(rt, place) {
+        Ok(new) => new,
+        Err(error) => return Err(unopened(&error)),
+    };
+    let put = match finish(&new.file, place.old, text) {
+        Ok(found) => match give_name(rt, new.path.as_str(), place) {
+            Ok(Written::Whole) => {
+                sync_folder(rt, place.path);
+                return looked_at(rt, place.name, &found, place.old);
+            }
+            other => other,
+        },
+        Err(cause) => Err(cause),
+    };
+    let _ = fs::remove_file(rt, new.path.as_str());
+    put
 }
 
 // The new file, until it has the name of the list.
@@ -86,13 +106,13 @@ struct NewFile {
     path: String,
 }
 
-// A file that was not there before, in the folder of the path.
-fn create_beside(rt: &HostRuntime, path: &str, old: Option<&Metadata>) -> io::Result<NewFile> {
+// A file that was not there before, in the folder of the list.
+fn create_beside(rt: &HostRuntime, place: Place<'_>) -> io::Result<NewFile> {
     let mut options = OpenOptions::new();
     options.write(true).create_new(true);
-    options.mode(first_mode(old));
+    options.mode(first_mode(place.old.map(|old| &old.found)));
     for _ in 0..TRIES {
-        let path = new_name(rt, path)?;
+        let path = new_name(rt, place.path)?;
         match options.open(rt, path.as_str()) {
             Ok(file) => return Ok(NewFile { file, path }),
             Err(error) if error.kind() == ErrorKind::AlreadyExists => {}
@@ -102,82 +122,69 @@ fn create_beside(rt: &HostRuntime, path: &str, old: Option<&Metadata>) -> io::Re
     Err(io::Error::from(ErrorKind::AlreadyExists))
 }
 
-// The mode with which the new file is made: while it is written, no one else reads what replaces a
-// list.
-fn first_mode(old: Option<&Metadata>) -> u32
-    ensures usual { IsNone old.entry → result ≡ 0o666 }
-    ensures closed { IsSome old.entry → result ≡ 0o600 }
-{
-    if old.is_some() { CLOSED } else { USUAL }
-}
-
-// Writes the new file and gives it the name of the list, or takes it away.
-fn take_its_place(
-    rt: &HostRuntime,
-    path: &str,
-    old: Option<&Metadata>,
-    new: &NewFile,
-    text: &[u8],
-) -> Result<Written, Cause> {
-    let done = match finish(&new.file, old, text) {
-        Ok(()) => give_name(rt, new.path.as_str(), path, old),
-        Err(cause) => Err(cause),
-    };
-    if matches!(done, Ok(Written::Whole)) {
-        sync_folder(rt, path);
-    } else {
-        let _ = fs::remove_file(rt, new.path.as_str());
-    }
-    done
-}
-
-// All of a new file until it takes the name of the list. It is synced, so that what happens when it
-// is closed loses no byte.
-fn finish(file: &File, old: Option<&Metadata>, text: &[u8]) -> Result<(), Cause> {
+// All of a new file until it takes the name of the list, and what the system says of it. It is
+// synced, so that what happens when it is closed loses no byte.
+fn finish(file: &File, old: Option<&OldList>, text: &[u8]) -> Result<Metadata, Cause> {
     if let Some(old) = old
-        && keep_rights(file, old).is_err()
+        && keep_rights(file, &old.found).is_err()
     {
         return Err(UNWRITTEN);
     }
     if send_all(file, text).is_err() || file.sync_all().is_err() {
         return Err(UNWRITTEN);
     }
-    Ok(())
-}
-
-// Gives the file the mode of the old list, and its owner and group where the user may do that.
-fn keep_rights(file: &File, old: &Metadata) -> io::Result<()> {
-    let _ = fchown(file, None, Some(old.gid()));
-    let _ = fchown(file, Some(old.uid()), None);
-    file.set_permissions(kept_mode(old))
-}
-
-// The mode of the old list, with the bits that set an owner or a group.
-fn kept_mode(old: &Metadata) -> Permissions
-    ensures { permissions_mode result ≡ bit_and (metadata_mode old.now) 0o7777 }
-{
-    Permissions::from_mode(old.mode() & PERMISSIONS)
+    file.metadata().map_err(|_| UNWRITTEN)
 }
 
 // Gives the new file the name of the list. Where none had the name, no file is replaced that got it
 // meanwhile: a link is only made to a name that is free. Where there are no links, as on some file
 // systems, and else, the name is looked at right before.
-fn give_name(
-    rt: &HostRuntime,
-    new: &str,
-    path: &str,
-    old: Option<&Metadata>,
-) -> Result<Written, Cause> {
-    if old.is_none() && fs::hard_link(rt, new, path).is_ok() {
+fn give_name(rt: &HostRuntime, new: &str, place: Place<'_>) -> Result<Written, Cause> {
+    if place.old.is_none() && fs::hard_link(rt, new, place.path).is_ok() {
         let _ = fs::remove_file(rt, new);
         return Ok(Written::Whole);
     }
-    if !is_at(rt, path, old) {
+    let is_ready = match place.old {
+        Some(old) => is_as_opened(rt, old),
+        None => is_at(rt, place.path, None),
+    };
+    if !is_ready {
         return Ok(Written::Elsewhere);
     }
-    match fs::rename(rt, new, path) {
+    match fs::rename(rt, new, place.path) {
         Ok(()) => Ok(Written::Whole),
         Err(_) => Err(UNWRITTEN),
+    }
+}
+
+// Whether the old list still stands at its path, and was not written to since it was opened.
+fn is_as_opened(rt: &HostRuntime, old: &OldList) -> bool {
+    match old.file.metadata() {
+        Ok(now) => {
+            let moment = (old.found.mtime(), old.found.mtime_nsec());
+            let is_unchanged = (now.mtime(), now.mtime_nsec()) == moment;
+            is_unchanged && now.size() == old.found.size() && is_at(rt, &old.path, Some(&old.found))
+        }
+        Err(_) => false,
+    }
+}
+
+// Follows the name once more, to the list that was put there. One that leads to another file was
+// turned meanwhile. One that leads to the old list, which has no name any more, is of `/proc`.
+fn looked_at(
+    rt: &HostRuntime,
+    name: &str,
+    put: &Metadata,
+    old: Option<&OldList>,
+) -> Result<Written, Cause> {
+    match fs::metadata(rt, name) {
+        Ok(found) if is_same(&found, put) => Ok(Written::Whole),
+        Ok(found) if found.nlink() == 0 && old.is_some_and(|old| is_same(&found, &old.found)) => {
+            Ok(Written::Whole)
+        }
+        Ok(_) => Ok(Written::Elsewhere),
+        Err(error) if error.kind() == ErrorKind::NotFound => Ok(Written::Elsewhere),
+        Err(error) => Err(unopened(&error)),
     }
 }
 

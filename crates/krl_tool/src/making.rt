@@ -8,7 +8,8 @@ use byte_streams::{FromBuffer, Source};
 use key_files::{Cause, FileFault, Named, RunFault};
 use krl_job::{Authority, Job};
 use krl_make::{Old, make_run};
-use krl_system::{Target, Written, buffered, date, hold, open_authority, open_inputs, write_list};
+use krl_system::{Held, MadeOf, Target, Waiting, Written};
+use krl_system::{buffered, date, hold, open_authority, open_inputs, release, write_list};
 use std::fs::{self, File};
 
 // How often a list is opened anew whose name another file has got. Of updates at once each waits
@@ -24,6 +25,13 @@ enum Base {
     File,
     // A pipe or a device, which is read as it is.
     Stream(File),
+}
+
+// The bytes of the list, where they are made before the list is held.
+#[derive(Drop)]
+struct Made {
+    of: MadeOf,
+    text: Option<Vec<u8>>,
 }
 
 // The list that is wanted, beside what an old one holds.
@@ -76,8 +84,9 @@ fn make_of(rt: &HostRuntime, base: Base, wanted: &Wanted) -> u8 {
         Ok(made) => made,
         Err(fault) => return end(rt, &stopped(fault)),
     };
+    let mut waiting = Waiting::new(wanted.name);
     for _ in 0..TRIES {
-        match write_once(rt, &made, wanted) {
+        match write_once(rt, &made, wanted, &mut waiting) {
             Ok(Written::Whole) => return 0,
             Ok(Written::Elsewhere) => {}
             Err(fault) => return end(rt, &stopped(fault)),
@@ -86,16 +95,25 @@ fn make_of(rt: &HostRuntime, base: Base, wanted: &Wanted) -> u8 {
     end(rt, &failed(wanted.name, Cause::Output { count: 0 }))
 }
 
-// The bytes of the list, where it is not made of one that is to be locked.
+// What is made of the list before it is held: all of it, unless it is made of the one that is there.
 fn made_of<'a>(
     rt: &HostRuntime,
     base: Base,
     wanted: &'a Wanted<'a>,
-) -> Result<Option<Vec<u8>>, RunFault<'a>> {
+) -> Result<Made, RunFault<'a>> {
     match base {
-        Base::Nothing => Ok(Some(text_of(rt, None::<FromBuffer<File>>, wanted)?)),
-        Base::Stream(file) => Ok(Some(text_over(rt, file, wanted)?)),
-        Base::File => Ok(None),
+        Base::Nothing => Ok(Made {
+            of: MadeOf::Lines,
+            text: Some(text_of(rt, None::<FromBuffer<File>>, wanted)?),
+        }),
+        Base::Stream(file) => Ok(Made {
+            of: MadeOf::Stream,
+            text: Some(text_over(rt, file, wanted)?),
+        }),
+        Base::File => Ok(Made {
+            of: MadeOf::List,
+            text: None,
+        }),
     }
 }
 
@@ -103,19 +121,34 @@ fn made_of<'a>(
 // meanwhile.
 fn write_once<'a>(
     rt: &HostRuntime,
-    made: &Option<Vec<u8>>,
+    made: &Made,
     wanted: &'a Wanted<'a>,
+    waiting: &mut Waiting,
 ) -> Result<Written, RunFault<'a>> {
-    let target = match hold(rt, wanted.name, made.is_none()) {
-        Ok(Some(target)) => target,
+    let held = match hold(rt, wanted.name, made.of, waiting) {
+        Ok(Some(held)) => held,
         Ok(None) => return Ok(Written::Elsewhere),
         Err(cause) => return Err(RunFault::whole(wanted.name, cause)),
     };
-    let written = match made {
-        Some(text) => write_list(rt, &target, text),
-        None => write_list(rt, &target, &updated(rt, &target, wanted)?),
+    let written = match &made.text {
+        Some(text) => write_text(rt, &held, text, wanted),
+        None => match updated(rt, &held.target, wanted) {
+            Ok(text) => write_text(rt, &held, &text, wanted),
+            Err(fault) => Err(fault),
+        },
     };
-    match written {
+    release(rt, held);
+    written
+}
+
+// Writes the bytes of the list.
+fn write_text<'a>(
+    rt: &HostRuntime,
+    held: &Held,
+    text: &[u8],
+    wanted: &'a Wanted<'a>,
+) -> Result<Written, RunFault<'a>> {
+    match write_list(rt, wanted.name, held, text) {
         Ok(written) => Ok(written),
         Err(cause) => Err(RunFault::whole(wanted.name, cause)),
     }
@@ -127,7 +160,7 @@ fn updated<'a>(
     target: &Target,
     wanted: &'a Wanted<'a>,
 ) -> Result<Vec<u8>, RunFault<'a>> {
-    if let Target::Held(old) = target
+    if let Target::List(old) = target
         && let Ok(file) = old.file.try_clone()
     {
         return text_over(rt, file, wanted);

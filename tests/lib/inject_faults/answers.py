@@ -81,8 +81,10 @@ def unopened(run, ample, got):
 
 
 def in_place(run, ample, got):
-    """The folder takes no new file, so a list that was there is written in place."""
-    return (unopened if run.before is None else same)(run, ample, got)
+    """The folder takes no lock, and so no new file: a list that was there is written in place. Where
+    it takes the lock, and then not the new file, the list stays."""
+    is_taken = run.before is None or got.counts["CREATE"].called > 1
+    return (unopened if is_taken else same)(run, ample, got)
 
 
 def unwritten(run, ample, got):

@@ -91,9 +91,10 @@ def killed(place, made):
     """The program is killed when half of the list is out."""
     place.enter()
     done = place.update(env={"LD_PRELOAD": place.library, "KILL": "1"})
-    left = [it for it in os.listdir() if it != LIST]
+    lock = ".%s.lock" % LIST
+    left = [it for it in os.listdir() if it not in (LIST, lock)]
     wrong = place.differs(done, -signal.SIGKILL, b"") + place.revoked()
-    wrong += place.stands(OLD, names=[LIST, *left])
+    wrong += place.stands(OLD, names=[LIST, lock, *left])
     if len(left) != 1 or os.path.getsize(left[0]) != len(made) // 2:
         wrong.append("beside it stands %r" % left)
     place.judge("a program that is killed", wrong)

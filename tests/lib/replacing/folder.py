@@ -79,6 +79,7 @@ class Folder(trial.Tests):
                 resource.setrlimit(resource.RLIMIT_FSIZE, (limit, limit))
 
         as_user = {} if user is None else {"user": user, "group": user, "extra_groups": []}
+        as_user |= {it: more.pop(it) for it in ("group", "extra_groups") if it in more}
         return subprocess.run(
             [self.program, *words],
             preexec_fn=prepare,

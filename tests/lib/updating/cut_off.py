@@ -6,7 +6,7 @@ import stat
 import subprocess
 
 from replacing.folder import LIST, OLD
-from updating.steps import REFUSED, Steps, closed, content, same, shown
+from updating.steps import LOCK, REFUSED, Steps, closed, content, same, shown
 
 SIGNALS = (signal.SIGTERM, signal.SIGINT, signal.SIGHUP, signal.SIGKILL)
 OPENSSH = os.environ.get("OPENSSH", "ssh-keygen")
@@ -27,7 +27,8 @@ def is_refused(place):
 
 
 def by_rename(place, made):
-    """The old list or the new one stands, and a file beside it that no one else may read."""
+    """The old list or the new one stands, and beside it the new file and the lock at most, which no
+    one else may read; the next update takes over the lock."""
     steps = Steps(place)
     place.enter()
     calls, _ = steps.calls()
@@ -40,11 +41,13 @@ def by_rename(place, made):
             others = {*os.listdir()} - {LIST}
             modes = {stat.S_IMODE(os.stat(it).st_mode) for it in others}
             is_whole = content() == OLD or same(content(), made)
-            if done.returncode != -sent or not is_whole or len(others) > 1 or modes - {0o600}:
+            is_much = len(others - {LOCK}) > 1
+            if done.returncode != -sent or not is_whole or is_much or modes - {0o600}:
                 wrong.append("%s at call %d, %s: %s" % (sent.name, number, name, shown(done)))
                 wrong.append("%r with the modes %s" % (os.listdir(), modes))
             left += len(others)
             wrong += place.revoked() + place.differs(place.update(), 0, b"") + place.revoked()
+            wrong += ["the lock is left"] if LOCK in os.listdir() else []
     if not left:
         wrong.append("no new file was ever left")
     place.judge("signals at each of %d calls of an update" % len(calls), wrong)

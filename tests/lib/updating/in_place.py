@@ -9,7 +9,7 @@ from updating.moved import ANOTHER, with_lines
 from updating.steps import ANEW, REFUSED, UPDATE, Steps, closed, content, same, shown
 from wire import HEADER
 
-CHANGES = ("write", "ftruncate", "pwrite")
+CHANGES = ("write", "ftruncate")
 
 
 def between(place, name, old, words, wanted):
@@ -84,7 +84,7 @@ def replaced(place, made):
     """Another program, which may make files there, renames its list over the one in place."""
     steps = Steps(place, user=closed(place, OLD))
     calls, _ = steps.calls()
-    last = len(calls) - calls[::-1].index("lstat")
+    last = len(calls) - calls[::-1].index("stat")
     wrong = []
     for number, name in enumerate(calls, 1):
         user = closed(place, OLD)

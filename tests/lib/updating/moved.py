@@ -39,10 +39,9 @@ def replaced(place, made):
         begin(place)
         done = steps.stopped(number, lambda: (os.link("../another", "x"), os.rename("x", LIST)))
         wanted = [(0, with_lines(ANOTHER, made)), (255, ANOTHER)]
-        if "rename" in calls[number - 1 :]:
-            wanted += [(0, made)] if name == "rename" else []
-        else:
-            wanted += [(0, ANOTHER)]
+        # Right before the renaming it is too late to see, and after the last look at the name.
+        wanted += [(0, made)] if name == "rename" else []
+        wanted += [(0, ANOTHER)] if "stat" not in calls[number - 1 :] else []
         found = content()
         if not is_one_of((done.returncode, found), wanted):
             wrong.append("before call %d, %s: %s, %r" % (number, name, shown(done), found[:60]))
@@ -63,8 +62,10 @@ def taken_away(place, made):
         begin(place)
         done = steps.stopped(number, lambda: os.rename(LIST, "../away"))
         is_named = "rename" not in calls[number - 1 :]
-        wanted = [(0, None, made)] if is_named else [(255, None, OLD)]
+        is_done = "stat" not in calls[number - 1 :]
+        wanted = [(255, None, made if is_named else OLD)]
         wanted += [(0, made, OLD)] if name == "rename" else []
+        wanted += [(0, None, made)] if is_done else []
         if not is_one_of((done.returncode, content(), content("../away")), wanted):
             wrong.append("before call %d, %s: %s" % (number, name, shown(done)))
         if content("../old") != OLD or set(os.listdir()) - {LIST}:
@@ -116,9 +117,10 @@ def failing(place, made):
             for error in SORTS:
                 begin(place)
                 done = steps.run(FAIL="%s:%s:%d" % (name, turn, error))
-                # The list of a folder that takes no new file is written in place.
-                in_place = name == "create" and error == errno.EACCES
-                is_whole = done.returncode == 0 and same(content(), made)
+                # Where the lock cannot be made, the folder takes no new file.
+                in_place = (name, error) == ("create", errno.EACCES) and turn.startswith("1-")
+                is_whole = done.returncode == 0 or name == "stat"
+                is_whole = is_whole and same(content(), made)
                 if not is_whole and (done.returncode, content()) != (255, OLD):
                     wrong.append("%s of %s: %s" % (turn, os.strerror(error), shown(done)))
                 if (content("../old") != OLD) != in_place or os.listdir() != [LIST]:
@@ -141,9 +143,15 @@ def without_locks(place, made):
 def unseen(place):
     """A list whose path is never seen is left as it is, at the end of a bounded number of tries."""
     begin(place)
-    done = Steps(place).run(FAIL="lstat:1-%d:%d" % (ALL, errno.EIO))
+    done = Steps(place).run(FAIL="lstat@%s:1-%d:%d" % (LIST, ALL, errno.EIO))
     wrong = place.differs(done, 255, FAULTS[0]) + place.stands(OLD)
     place.judge("a path that cannot be looked at", wrong)
+    # Where no link can be made, a free name is looked at before the renaming.
+    place.enter(old=None)
+    fails = "lstat@%s:1-%d:%d,link:1-%d:%d" % (LIST, ALL, errno.EIO, ALL, errno.EPERM)
+    done = Steps(place, ANEW).run(FAIL=fails)
+    wrong = place.differs(done, 255, FAULTS[0]) + place.stands(None, names=[])
+    place.judge("a free path that cannot be looked at", wrong)
 
 
 def refused_opens(place):

@@ -30,7 +30,7 @@ def clashes(place, made):
             wrong.append("it is written to")
         place.judge("a %s of the new file's name" % ("link" if is_link else "file"), wrong)
     place.enter()
-    done = Steps(place).run(FAIL="create:1-15:%d" % errno.EEXIST)
+    done = Steps(place).run(FAIL="create@.new:1-15:%d" % errno.EEXIST)
     wrong = place.differs(done, 0, b"") + place.stands(made)
     place.judge("names that are taken, fifteen times", wrong)
 

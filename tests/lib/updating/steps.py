@@ -1,5 +1,6 @@
 """Runs of the program over the library that counts its calls on files, and acts at one of them."""
 
+import collections
 import os
 import signal
 import subprocess
@@ -11,6 +12,12 @@ from wire import HEADER
 REFUSED = HEADER[:8] + b"\xff" * 4
 UPDATE = ("-k", "-u", "-f", LIST, "-s", "none", "../spec")
 ANEW = ("-k", "-f", LIST, "-s", "none", "../spec")
+LOCK = ".%s.lock" % LIST
+LOCKED = b"ssh-keygen: %s: file 7 Locked\n" % LIST.encode()
+WAITS = b"ssh-keygen: waiting for another update of %s\n" % LIST.encode()
+
+# A call: its name, the path of its file, from the current folder on where it is there, and more.
+Call = collections.namedtuple("Call", "name path more")
 
 
 class Ended:
@@ -29,24 +36,36 @@ class Steps:
         self.words = words
         self.user = user
 
+    def as_user(self):
+        """The user as whom it runs, in no other group."""
+        return {"user": self.user, "group": self.user, "extra_groups": []}
+
     def run(self, **orders):
         """A run to its end, by the orders that the library is given."""
         environment = {"LD_PRELOAD": self.place.library, **orders}
-        return self.place.run(*self.words, user=self.user, env=environment)
+        as_user = {} if self.user is None else self.as_user()
+        return self.place.run(*self.words, env=environment, **as_user)
 
     def calls(self, **orders):
         """The names of the calls of a run, in their order, and how it ended."""
+        calls, done = self.seen(**orders)
+        return [it.name for it in calls], done
+
+    def seen(self, **orders):
+        """The calls of a run, in their order, and how it ended."""
         log = os.path.join(self.place.scratch, "calls")
         with open(log, "wb") as out:
             os.fchmod(out.fileno(), 0o666)
         done = self.run(CALLS=log, **orders)
-        with open(log, encoding="ascii") as text:
-            return text.read().split(), done
+        with open(log, encoding="utf-8") as text:
+            lines = [line.rstrip("\n").split("\t") for line in text]
+        here = os.getcwd()
+        return [Call(*(it.replace(here + "/", "") for it in line)) for line in lines], done
 
-    def stopped(self, number, meanwhile):
+    def stopped(self, number, meanwhile, **orders):
         """A run that stops before this call; then meanwhile is done, and it goes on."""
-        as_user = {} if self.user is None else {"user": self.user, "extra_groups": []}
-        orders = {"AT": str(number), "SIGNAL": str(int(signal.SIGSTOP))}
+        as_user = {} if self.user is None else self.as_user()
+        orders |= {"AT": str(number), "SIGNAL": str(int(signal.SIGSTOP))}
         process = subprocess.Popen(
             [self.place.program, *self.words],
             stdin=subprocess.DEVNULL,

@@ -10,7 +10,7 @@ use krl_core::Revocations;
 use krl_make::{Authority, Old, make_run};
 use krl_runs::query_run;
 use krl_spec::{SpecFault, Under, read_spec};
-use krl_system::{Written, hold, write_list};
+use krl_system::{MadeOf, Waiting, Written, hold, release, write_list};
 use parts_for_tests::{GITHUB, GITHUB_LINE};
 use span_sets::Held;
 use ssh_cert::subject;
@@ -42,8 +42,13 @@ fn key_lines<'a>(alloc: Global, file: &'a Named<'a>, text: &mut Vec<u8>) -> Done
 
 /// Writes a list under a name, once no other update holds the list that is there.
 fn written(rt: &HostRuntime, name: &str, text: &[u8]) -> Result<Written, Cause> {
-    match hold(rt, name, false)? {
-        Some(target) => write_list(rt, &target, text),
+    let mut waiting = Waiting::new(name);
+    match hold(rt, name, MadeOf::Lines, &mut waiting)? {
+        Some(held) => {
+            let written = write_list(rt, name, &held, text);
+            release(rt, held);
+            written
+        }
         None => Ok(Written::Elsewhere),
     }
 }
