@@ -17,6 +17,12 @@ fails 'a missing file' $'g.pub: REVOKED\n' 'none: file 1 Open' -Q -f r.krl g.pub
 fails 'a missing file, the first' '' 'none: file 1 Open' -Q -f r.krl none g.pub
 fails 'a missing list' '' 'none: file 1 Open' -Q -f none g.pub
 fails 'a missing file to list' '' 'none: file 1 Open' -l -f none
+# Of two faults that of the list comes first, then that of the first file.
+fails 'a missing list and a missing file' '' 'none.krl: file 1 Open' -Q -f none.krl none
+fails 'a list that is none and a missing file' '' 'a: krl 1 Magic' -Q -f a none
+fails 'the same, the contents too' '' 'a: krl 1 Magic' -Q -l -f a none
+fails 'a list that is none and a file without a key' '' 'a: krl 1 Magic' -Q -f a empty
+fails 'two files with faults' '' 'empty: file 5 NoKeys' -Q -f r.krl empty none
 fails 'a path through a file' '' 'g.pub/x: file 1 Open' -l -f g.pub/x
 fails 'a folder for a file' $'a: ok\n' 'folder: file 2 Read' -Q -f r.krl a folder
 fails 'a folder for a list' '' 'folder: krl 13 Read' -Q -f folder g.pub
@@ -140,3 +146,15 @@ cut_off() {
 }
 cut_off 'an output that fails in the first piece' 1
 cut_off 'an output that fails in the second piece' 100
+
+# What the system ends is no answer: the old list stands, and is updated afterwards.
+printf 'serial: 5\n' >spec
+(ulimit -f 0 && "$binary" -k -u -f r.krl -s none spec) >"$scratch/output" 2>&1
+judge 'a signal for a file that is too long' "$(differs 'exit status' 153 $?)"
+judge 'the list after it' "$(differs 'the list' "$H$(section "$G")" "$(digits r.krl)")"
+expect 'an update after it' 0 '' '' -k -u -f r.krl -s none spec
+# A stack of 160 KiB is enough.
+(ulimit -s 160 && "$binary" -Q -l -f r.krl g.pub a) >"$scratch/output" 2>&1
+judge 'a query with a small stack' "$(differs 'exit status' 1 $?)"
+(ulimit -s 160 && "$binary" -k -u -f r.krl -s a g.pub) >"$scratch/output" 2>&1
+judge 'an update with a small stack' "$(differs 'exit status' 0 $?)"

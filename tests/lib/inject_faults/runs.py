@@ -2,7 +2,7 @@
 
 
 class Run:
-    def __init__(self, name, words, given="/dev/null", old=None, is_patient=True):
+    def __init__(self, name, words, given="/dev/null", old=None, is_patient=True, environment=None):
         self.name = name
         self.words = words.split()
         # The file that is standard input.
@@ -11,11 +11,15 @@ class Run:
         self.old = old
         # Whether a thousand interruptions are passed over: not where the standard library prints.
         self.is_patient = is_patient
+        # What the environment has beside what the library is told.
+        self.environment = environment or {}
 
     def makes(self):
         return self.words[0] == "-k"
 
 
+# A number that is so long that its text takes memory of its own.
+EPOCH = {"SOURCE_DATE_EPOCH": "00000000001234567890"}
 KEYS = "g.pub other.pub cert.pub certs.pub keys.pub private private-rsa"
 RUNS = [
     Run("-l of a key", "-l -f g.pub"),
@@ -46,6 +50,8 @@ RUNS = [
     Run("-k of 1,024 intervals", "-k -f made.krl -s none scattered.spec", old="key.krl"),
     Run("-k of 70 KiB", "-k -f made.krl -s none long.spec", old="key.krl"),
     Run("-k of nothing", "-k -f made.krl empty", old="key.krl"),
+    Run("-k at a time of the environment", "-k -f made.krl empty", environment=EPOCH),
+    Run("-k -u at one", "-k -u -f made.krl -s none more.spec", old="key.krl", environment=EPOCH),
     Run("-k of a line that is wrong", "-k -f made.krl -s none more.spec wrong.spec", old="key.krl"),
     Run("-k -u of all sections", "-k -u -f made.krl -s ca.pub spec more.spec", old="whole.krl"),
     Run("-k -u by a certificate", "-k -u -f made.krl -s cert.pub more.spec", old="whole.krl"),

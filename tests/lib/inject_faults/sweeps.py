@@ -84,7 +84,7 @@ class Room(trial.Tests):
 
     def start(self, run, failing):
         self.runs += 1
-        return self.program.run(run.words, run.given, run.before, **failing)
+        return self.program.run(run.words, run.given, run.before, **run.environment, **failing)
 
     def sweep(self, run, sweep):
         ample = self.start(run, sweep.failing(0, 0))
