@@ -1,8 +1,8 @@
 //! Reading a list on, to its end or as far as its front goes.
 
 ghost use Rattle.std.specs.Prelude.{◌≡◌, ◌+◌, ◌*◌, ◌<◌, ◌≤◌, ◌⊎◌, length, false, true, ℕ, List, None};
-ghost use Rattle.std.specs.Prelude.{Some};
-ghost use Rattle.std.specs.Prelude.{IfErr, IfOk, IsTrue, OnOk};
+ghost use Rattle.std.specs.Prelude.{Some, Ok, Err};
+ghost use Rattle.std.specs.Prelude.{IfErr, IfOk, IfSome, IsTrue, OnOk};
 ghost use Rattle.ssh_wire.specs.Wire.{IsBytes};
 ghost use Rattle.krl_core.specs.declared.header.Header.{Header as HeaderOf};
 ghost use Rattle.krl_types.specs.declared.krl_fault.KrlFault.TheVariants.{NoMemory, Read};
@@ -81,7 +81,6 @@ impl<T: Store, R: Source + Drop> Walk<T, R> {
     /// Reads on to the list's end, and answers false there; or to a field that would lead past so
     /// many bytes.
     pub fn read_to(&mut self, most: u64) -> Result<bool, KrlFault>
-        requires { self.old.fault ≡ None }
         ensures more { IfOk result (λ more. IsTrue more → ReadsMore self.old self.new) }
         ensures full { IfOk result (λ more. IsTrue more
             → most < self.new.pull.taken + (expected self.new.place).size) }
@@ -89,13 +88,22 @@ impl<T: Store, R: Source + Drop> Walk<T, R> {
             → self.old.pull.taken ≤ most → self.new.pull.taken ≤ most) }
         ensures ends { IfOk result (λ more. more ≡ false → EndsAfter self.old self.new) }
         ensures ended { IfOk result (λ more. more ≡ false → self.new.ended ≡ true) }
+        ensures rests { self.old.ended ≡ true → (result ≡ Ok false) × (self.new ≡ self.old) }
         ensures scope { OnOk result (self.new.keeper.scope ≡ self.old.keeper.scope) }
         ensures fault { IfErr result (λ fault. Refused fault self.old self.new.pull) }
-        ensures failure { ReportsFailure result self.new.pull.failed }
+        ensures failure { self.old.fault ≡ None → ReportsFailure result self.new.pull.failed }
+        ensures stays { IfErr result (λ fault. self.new.fault ≡ Some fault) }
+        ensures again { IfSome self.old.fault (λ fault.
+            (result ≡ Err fault) × (self.new ≡ self.old)) }
         ensures working { OnOk result (self.new.fault ≡ None) }
         ensures bounds { IsBounded self.new.pull self.new.keeper }
     {
-        let _pull = &self.pull;
+        if let Some(fault) = self.fault {
+            return Err(fault);
+        }
+        if self.ended {
+            return Ok(false);
+        }
         'fields: while self.taken_with_next() <= most {
             match self.step() {
                 Ok(true) => {}

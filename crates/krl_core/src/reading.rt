@@ -43,8 +43,8 @@ pub struct Walk<T: Store, R: Source + Drop> {
     keeper: Keeper<T>,
     // the field at hand, where it is large
     large: Vec<u8>,
-    ended: bool,
-    fault: Option<KrlFault>,
+    pub(crate) ended: bool,
+    pub(crate) fault: Option<KrlFault>,
 }
 
 impl<T: Store, R: Source + Drop> Model for Walk<T, R> {
@@ -233,10 +233,14 @@ impl<T: Store, R: Source + Drop> Walk<T, R> {
         ensures advances { IfOk result (λ more. IsTrue more → Advances self.old self.new) }
         ensures ends { IfOk result (λ more. more ≡ false → Ends self.old self.new) }
         ensures ended { IfOk result (λ more. more ≡ false → self.new.ended ≡ true) }
+        ensures rests { self.old.ended ≡ true → (result ≡ Ok false) × (self.new ≡ self.old) }
         ensures fault { self.old.fault ≡ None
             → IfErr result (λ fault. Refused fault self.old self.new.pull) }
         ensures failure { self.old.fault ≡ None
             → ReportsFailure result self.new.pull.failed }
+        ensures stays { IfErr result (λ fault. self.new.fault ≡ Some fault) }
+        ensures again { IfSome self.old.fault (λ fault.
+            (result ≡ Err fault) × (self.new ≡ self.old)) }
         ensures working { OnOk result (self.new.fault ≡ None) }
         ensures bounds { IsBounded self.new.pull self.new.keeper }
     {
@@ -256,9 +260,9 @@ impl<T: Store, R: Source + Drop> Walk<T, R> {
                 self.ended = !more;
                 Ok(more)
             }
-            Err(fault) => {
-                self.fault = Some(fault);
-                Err(fault)
+            Err(why) => {
+                self.fault = Some(why);
+                Err(why)
             }
         }
     }

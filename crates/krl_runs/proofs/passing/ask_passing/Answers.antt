@@ -18,7 +18,7 @@ returns-in-Ok-false g c =
     (λ text e. let whole = ends.whole text [] (c.new-front.ensures.start text e) in c.done-header.ensures.list text _ whole.1)
     (λ text e. let whole = ends.whole text [] (c.new-front.ensures.start text e) in whole_unfaulted _ text _ _ (c.done-header.ensures.whole text _ whole.1)) in (
       Ok answers.0,
-      record { failure = c.done-header.ensures.failed ∙ c.in-Ok-false.ensures.failure; read = answers.1 },
+      record { failure = c.done-header.ensures.failed ∙ c.in-Ok-false.ensures.failure c.new-front.ensures.faultless; read = answers.1 },
       rw (← held_run c.args.krl_name.now c.args.files.now known answers.0 answers.2) c.ask_held.ensures,
     )
 
@@ -26,6 +26,6 @@ pub returns-in-Err : goal.returns-in-Err
 returns-in-Err g c = (
   Err c.in-Err.fault,
   rw (c.into_reader.ensures.left, c.into_reader.ensures.failed)
-      (record { failure = c.in-Err.ensures.failure; read = λ text e. c.in-Err.ensures.fault text [] (c.new-front.ensures.start text e) }),
+      (record { failure = c.in-Err.ensures.failure c.new-front.ensures.faultless; read = λ text e. c.in-Err.ensures.fault text [] (c.new-front.ensures.start text e) }),
   rw (c.whole.ensures, c.cause_of.ensures) (asked_refused c.args.krl_name.now c.args.files.now c.in-Err.fault _),
 )

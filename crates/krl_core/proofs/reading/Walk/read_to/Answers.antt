@@ -1,11 +1,21 @@
-use Rattle.std.proofs.Common.{arith}
+use Rattle.std.proofs.Common.{◌≡◌, None, ap, arith, ◌∙◌}
 use Rattle.krl_core.proofs.Advancing.{one_or_more}
+use Rattle.krl_core.proofs.Ending.{ends_before}
 use Rattle.krl_core.proofs.Whole.{ends_after, leads_further, leads_on, step_nearer}
 use Rattle.krl_core.proofs.reading.Walk.read_to.Goals as goal
 
 pub fields-init : goal.fields-init
 fields-init g c =
-    (leads_on c.args.self.now c.requires, rw (← c.self.view_is) (c.self.invariant.works (rw (← c.self.view_is) at c.requires)), rw (← c.self.view_is) c.self.invariant.bounded, λ le. le)
+    let none : c.self.inside.fault ≡ None = c.in_default.is in
+    (rw (← c.self.view_is) (leads_on _ none), rw (← c.self.view_is) (c.self.invariant.works none), rw (← c.self.view_is) c.self.invariant.bounded, λ le. le)
+
+pub returns-then-self-clause-ends : goal.returns-then-self-clause-ends
+returns-then-self-clause-ends g c = rw (← c.self.view_is) (λ _. ends_before _ c.self.invariant c.if-self.true)
+
+pub returns-in-Some-clause-fault : goal.returns-in-Some-clause-fault
+returns-in-Some-clause-fault g c = λ text fields h.
+    let none : c.self.inside.fault ≡ None = ap (λ p. p.fault) c.self.view_is ∙ h.faultless in
+    absurd (cc (none, c.in-Some.is))
 
 pub fields-smaller : goal.fields-smaller
 fields-smaller g c = step_nearer c.fields.self c.step.new.self (c.in-Ok-true.ensures.follows c.in-Ok-true.field-0-test)
