@@ -2,7 +2,7 @@
 
 import struct
 
-from lists import BITMAP, HEADER, bitmap, certificates, key, of_strings, shuffled, string
+from lists import BITMAP, HEADER, bitmap, certificates, key, of_strings, shuffled, span, string
 
 
 def large_bitmaps(*contents, order=shuffled):
@@ -78,6 +78,17 @@ def same_authority(size):
     )
 
 
+def under_authority(share):
+    """Ranges that do not touch, in no order, under an authority that has a share of the bytes."""
+
+    def shape(size):
+        count = int(size * (1 - share)) // 21
+        parts = (span(8 * at + 1, 8 * at + 3) for at in shuffled(count))
+        return HEADER + certificates(bytes(int(size * share)), b"".join(parts))
+
+    return shape
+
+
 def merged_ranges(size):
     """Ranges that do not touch, and one at the end that joins them all."""
     count = size // 21 - 1
@@ -137,6 +148,9 @@ BITMAPS = {
     "even bits, then odd ones": large_bitmaps(b"\x55" * BITMAP, b"\x2a" * BITMAP),
 }
 
+# A field that is longer than the reader's buffer is held.
+LONG = {"half of it one authority": under_authority(1 / 2)}
+
 # Lists that are refused at their end.
 LYING = {
     "a section that is not whole": lying_section,
@@ -158,5 +172,6 @@ SHAPES = {
     "ranges that one range joins": merged_ranges,
     "serials that fill gaps": merged_one_by_one,
     "sections of nothing": empty_sections,
+    **LONG,
     **LYING,
 }

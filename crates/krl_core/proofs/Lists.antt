@@ -108,24 +108,6 @@ pub list_of_all : (text : List ℕ) (header : Header) (contents : Revocations) �
 list_of_all text header contents h =
     record { sections = h.sections; spelled = h.spelled; within = h.within; holds = holds_all text contents (entries_of h.sections) h.holds }
 
--- ---- from the first field on
-
--- what is known of each text of which fields were read is known of the one that is read
-pub known_from : {A : Type 0} {Knows Other : A → List ℕ → Type 0} (left : Option (List ℕ)) (begun : Walk) (read : Result A KrlFault)
-    → ((text : List ℕ) → left ≡ Some text → HasRead text [] begun) → ((a : A) (text : List ℕ) → Knows a text → Other a text)
-    → IfOk read (λ a. (text : List ℕ) (fields : List (List ℕ)) → HasRead text fields begun → Knows a text)
-    → IfOk read (λ a. (text : List ℕ) → left ≡ Some text → Other a text)
-known_from left begun (Ok a) starts other h = λ text e. other a text (h text [] (starts text e))
-known_from left begun (Err fault) starts other h = tt
-
--- so it is of a fault
-pub said_from : {A : Type 0} {Said Other : KrlFault → List ℕ → Type 0} (left : Option (List ℕ)) (begun : Walk) (read : Result A KrlFault)
-    → ((text : List ℕ) → left ≡ Some text → HasRead text [] begun) → ((fault : KrlFault) (text : List ℕ) → Said fault text → Other fault text)
-    → IfErr read (λ fault. (text : List ℕ) (fields : List (List ℕ)) → HasRead text fields begun → Said fault text)
-    → IfErr read (λ fault. (text : List ℕ) → left ≡ Some text → Other fault text)
-said_from left begun (Ok a) starts other h = tt
-said_from left begun (Err fault) starts other h = λ text e. other fault text (h text [] (starts text e))
-
 is_end : (p : Place) (rest : List ℕ) (goes_on : Bool) (fault : Option KrlFault) → fault ≡ None → Reported p rest goes_on fault → IsEnd p rest × (goes_on ≡ false)
 is_end p rest goes_on fault e (ended at_end off is) = (at_end, off)
 is_end p rest goes_on fault e (no_room full is) = absurd (cc (e, is))

@@ -152,12 +152,3 @@ pub only_ran_out : (fault : KrlFault) (failed : Bool) (left : Option (List ℕ))
     → (fault ≡ faults.NoMemory) ⊎ (fault ≡ faults.Read)
 only_ran_out fault failed left text header sections says fits h le =
     elim (only_broken_off fault failed left text header sections says fits h le) [ inl memory ↦ inl memory | inr read ↦ inr read.0 ]
-
--- so it is where a text is read from its first field on
-pub only_ran_out_from : {A : Type 0} (left : Option (List ℕ)) (begun : Walk) (read : Result A KrlFault) (failed : Bool) (later : Option (List ℕ))
-    → ((text : List ℕ) → left ≡ Some text → HasRead text [] begun)
-    → IfErr read (λ fault. (text : List ℕ) (fields : List (List ℕ)) → HasRead text fields begun → Says fault text failed later)
-    → IfErr read (λ fault. (text : List ℕ) → (header : Header) → (sections : List SpelledSection) → left ≡ Some text → IsBytes text → Spells text header sections → length text ≤ limit
-    → (fault ≡ faults.NoMemory) ⊎ (fault ≡ faults.Read))
-only_ran_out_from left begun (Ok a) failed later starts says = tt
-only_ran_out_from left begun (Err fault) failed later starts says = λ text header sections e. only_ran_out fault failed later text header sections (says text [] (starts text e))

@@ -57,6 +57,8 @@ impl<T: Store> Model for Keeper<T> {
       scope = T.scope keeper.store;
       bitmap = keeper.bitmap;
     } };
+
+    ghost invariant = { λ keeper. T.is_at keeper.store keeper.authority.items };
 }
 
 impl<T: Store> Keeper<T> {
@@ -72,6 +74,8 @@ impl<T: Store> Keeper<T> {
         ensures stored { StoresWithin result 0 }
         ensures within { KeepsWithin result }
     {
+        let mut store = store;
+        store.leave();
         Keeper {
             version: 0,
             date: 0,
@@ -116,6 +120,7 @@ impl<T: Store> Keeper<T> {
             }
             Place::Header(HeaderPlace::Comment { .. }) => self.set_comment(field),
             Place::SectionType { .. } => {
+                self.store.leave();
                 self.authority.clear();
                 Ok(())
             }
@@ -155,6 +160,7 @@ impl<T: Store> Keeper<T> {
         ensures set { OnOk result (self.new ≡ record self.old { authority = authority.now }) }
         ensures grows { GrowsWithin (length authority.now) self.old self.new }
     {
+        self.store.leave();
         self.authority.clear();
         self.authority.extend_from_slice(authority)
     }

@@ -14,9 +14,9 @@ ghost use Rattle.krl_core.specs.Reading.{EndsAfter, HasRead, HoldsWithin, IsBoun
 ghost use Rattle.krl_core.specs.Reading.{IsListAs, IsWithinLimit, ReadsMore, Refused, ReportsFailure, Says};
 
 use crate::header::Header;
-use crate::reading::{Reading, Walk};
+use crate::reading::Walk;
 use byte_streams::Source;
-use krl_held::{Revocations, Store};
+use krl_held::{Gathered, Revocations, Store};
 use krl_types::KrlFault;
 use serial_set::Spans;
 use std::alloc::Global;
@@ -44,7 +44,11 @@ pub fn read_krl<S: Spans, R: Source + Drop>(
     ensures held { IfOk result.0 (λ list. held list.1 ≤ 4 * limit) }
     ensures stored { IfOk result.0 (λ list. stored list.1 ≤ limit) }
 {
-    Reading::new(alloc, reader).read_on()
+    let (read, reader) = Walk::over(alloc, Gathered::new(alloc), reader).read_on();
+    match read {
+        Ok((header, gathered)) => (Ok((header, gathered.into_held())), reader),
+        Err(fault) => (Err(fault), reader),
+    }
 }
 
 impl<T: Store, R: Source + Drop> Walk<T, R> {

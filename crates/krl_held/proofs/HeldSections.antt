@@ -73,11 +73,11 @@ module _ {S : Type 0} where
       by Equal h = refl
       by Greater h = ap (λ l. (e.0.items, e.1) ∷ l) h
 
-  named_lookup : (bytes : List ℕ) (es : Mapped S) → lookup (is_at (at_name bytes)) es ≡ lookup (is_at (bytes_cmp bytes)) (named_sections es)
+  pub named_lookup : (bytes : List ℕ) (es : Mapped S) → lookup (is_at (at_name bytes)) es ≡ lookup (is_at (bytes_cmp bytes)) (named_sections es)
   named_lookup bytes [] = refl
   named_lookup bytes (e ∷ es) = ap (λ o. cond (is_at (bytes_cmp bytes) e.0.items) (Some e.1) o) (named_lookup bytes es)
 
-  named_set : (bytes : List ℕ) (es : Mapped S) (v : HeldSection S) → named_sections (set_value (is_at (at_name bytes)) es v) ≡ set_value (is_at (bytes_cmp bytes)) (named_sections es) v
+  pub named_set : (bytes : List ℕ) (es : Mapped S) (v : HeldSection S) → named_sections (set_value (is_at (at_name bytes)) es v) ≡ set_value (is_at (bytes_cmp bytes)) (named_sections es) v
   named_set bytes [] v = refl
   named_set bytes (e ∷ es) v = by (bytes_cmp bytes e.0.items) (named_set bytes es v)
     where
@@ -113,7 +113,7 @@ module _ {S : Type 0} where
           record { front = []; back = es; before = ap (λ n. (n, e.1) ∷ es) name ∙ ap (λ x. (k, x) ∷ es) value; after = ap (λ n. (n, w) ∷ es) name }
       by Greater c f h = later (h f)
 
-  none_found : (k : List ℕ) (es : Named S) → lookup (is_at (bytes_cmp k)) es ≡ None → AllByRecursion (λ e. e.0 ≡ k → ⊥) es
+  pub none_found : (k : List ℕ) (es : Named S) → lookup (is_at (bytes_cmp k)) es ≡ None → AllByRecursion (λ e. e.0 ≡ k → ⊥) es
   none_found k [] h = tt
   none_found k (e ∷ es) h = by (bytes_cmp k e.0) refl h (none_found k es)
     where

@@ -37,3 +37,5 @@ pub mod Putting
 pub mod Firsts
 pub mod Unasked
 pub mod AskedMore
+pub mod Apart
+pub mod Gathering

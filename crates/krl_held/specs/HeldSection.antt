@@ -1,7 +1,8 @@
 -- What is held under one authority, as contracts see it.
-use Rattle.std.specs.Prelude.{ℕ, List, map}
+use Rattle.std.specs.Prelude.{ℕ, List, map, Option, Some, None}
 use Rattle.std.specs.Global.{Vec}
 use Rattle.serial_set.specs.declared.span.Span.{Span}
+use Rattle.krl_held.specs.declared.held_section.Apart.{Apart}
 use Rattle.krl_held.specs.declared.held_section.HeldSection.{HeldSection}
 use Rattle.krl_held.specs.Revocations.{Section}
 
@@ -25,3 +26,8 @@ module _ {S : Type 0} (spans : S → List Span) where
 
   abbrev pub sections_of : List (List ℕ × HeldSection S) → List Section
   sections_of named = map section_of named
+
+  -- a section that is held apart, with its authority
+  abbrev pub apart_of : Option (Apart S) → Option Section
+  apart_of None = None
+  apart_of (Some apart) = Some (section_of (apart.name.items, apart.section))

@@ -16,3 +16,4 @@ pub mod Texts
 pub mod Tested
 pub mod Reasons
 pub mod Canonical
+pub mod Gathered

@@ -1,7 +1,7 @@
 //! What a list that passes says of what is asked.
 
 ghost use Rattle.std.specs.Prelude.{◌≡◌, ◌↔◌, ◌+◌, ◌<◌, ◌≤◌, ◌∷◌, [], ℕ, List, true, IfOk};
-ghost use Rattle.std.specs.Prelude.{IsTrue, OnOk};
+ghost use Rattle.std.specs.Prelude.{IsTrue, OnOk, ⊤};
 ghost use Rattle.sha1.specs.Sha1.{sha1};
 ghost use Rattle.sha2.specs.Sha256.{sha256};
 ghost use Rattle.serial_set.specs.BitRuns.{IsInterval};
@@ -209,6 +209,10 @@ impl<S: Spans> Store for Findings<S> {
     ghost contents = { λ findings. findings.found };
 
     ghost scope = { λ findings. asked_in findings };
+
+    ghost is_at = { λ _ _. ⊤ };
+
+    fn leave(&mut self) {}
 
     fn wants(&self, authority: &[u8], lo: u64, hi: u64) -> bool {
         self.topics.may_have(authority, lo, hi)

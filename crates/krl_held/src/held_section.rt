@@ -1,11 +1,13 @@
 //! What is held under one authority.
 ghost use Rattle.std.specs.Prelude.{◌≡◌, ℕ, List, MatchResult, IfOk};
 ghost use Rattle.krl_held.specs.Changes.{TakesAddition, IsOneChange, empty_section};
+ghost use Rattle.krl_held.specs.Gathered.{IsTaken};
 
 use crate::addition::Addition;
 use crate::ids::Ids;
 use serial_set::Spans;
 use std::alloc::{AllocError, Global};
+use std::mem;
 
 /// The serials and key IDs under an authority, or under all.
 #[derive(Drop)]
@@ -14,8 +16,15 @@ pub struct HeldSection<S: Spans> {
     pub(crate) ids: Ids,
 }
 
+// A section that is held apart, with the bytes of its authority.
+#[derive(Drop)]
+pub(crate) struct Apart<S: Spans> {
+    pub(crate) name: Vec<u8>,
+    pub(crate) section: HeldSection<S>,
+}
+
 impl<S: Spans> HeldSection<S> {
-    ghost use Rattle.krl_held.specs.HeldSection.{section_of};
+    ghost use Rattle.krl_held.specs.HeldSection.{apart_of, section_of};
 
     // A section that holds what is added and no more.
     pub(crate) fn with(alloc: Global, addition: Addition<'_>) -> Result<HeldSection<S>, AllocError>
@@ -46,6 +55,31 @@ impl<S: Spans> HeldSection<S> {
                 self.ids.put(alloc, text)?;
                 Ok(())
             }
+        }
+    }
+    // Adds to the section, which is under an authority, and takes it out. One with just the
+    // addition stays in its place.
+    pub(crate) fn take(
+        &mut self,
+        alloc: Global,
+        authority: &[u8],
+        addition: Addition<'_>,
+    ) -> Result<Option<Apart<S>>, AllocError>
+        requires { IsOneChange addition }
+        ensures { MatchResult result
+            (λ apart. IsTaken addition.entry (section_of S.spans (authority.now, self.old))
+            (apart_of S.spans apart) (section_of S.spans (authority.now, self.new)))
+            (λ _. section_of S.spans (authority.now, self.new)
+            ≡ section_of S.spans (authority.now, self.old)) }
+    {
+        let name = Vec::from_slice(alloc, authority)?;
+        let left = HeldSection::with(alloc, addition)?;
+        match self.add(alloc, addition) {
+            Ok(()) => {
+                let section = mem::replace(self, left);
+                Ok(Some(Apart { name, section }))
+            }
+            Err(fault) => Err(fault),
         }
     }
 }

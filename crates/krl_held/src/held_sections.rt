@@ -1,13 +1,14 @@
 //! What is held under each authority.
-ghost use Rattle.std.specs.Prelude.{◌≡◌, ◌<◌, [], MatchOption, OnErr, OnOk, Some};
+ghost use Rattle.std.specs.Prelude.{◌≡◌, ◌<◌, [], IfOk, MatchOption, OnErr, OnOk, Some};
 ghost use Rattle.std.specs.Prelude.{length, slice_get};
 ghost use Rattle.krl_held.specs.Inserting.{Stands};
 ghost use Rattle.krl_held.specs.Changes.{IsOneChange, AddsTo};
 ghost use Rattle.krl_held.specs.Revocations.{SomeSection};
-ghost use Rattle.krl_held.specs.HeldSection.{section_of};
+ghost use Rattle.krl_held.specs.Gathered.{TakesOut, with_section};
+ghost use Rattle.krl_held.specs.HeldSection.{apart_of, section_of};
 
 use crate::addition::Addition;
-use crate::held_section::HeldSection;
+use crate::held_section::{Apart, HeldSection};
 use crate::listed::{Authorities, Listed};
 use serial_set::Spans;
 use std::alloc::{AllocError, Global};
@@ -98,5 +99,37 @@ impl<S: Spans> HeldSections<S> {
         let name = Vec::from_slice(self.alloc, authority)?;
         self.map.insert(name, section)?;
         Ok(())
+    }
+
+    // Adds under an authority. The section that there is is taken out with the addition, and one
+    // with just the addition stays in its place.
+    pub(crate) fn take(
+        &mut self,
+        authority: &[u8],
+        addition: Addition<'_>,
+    ) -> Result<Option<Apart<S>>, AllocError>
+        requires { IsOneChange addition }
+        ensures ok { IfOk result (λ apart. TakesOut addition.entry authority.now self.old
+            (apart_of S.spans apart) self.new) }
+        ensures refused { OnErr result (self.new ≡ self.old) }
+    {
+        if let Some(section) = self.map.get_mut(authority) {
+            return section.take(self.alloc, authority, addition);
+        }
+        let section = HeldSection::with(self.alloc, addition)?;
+        let name = Vec::from_slice(self.alloc, authority)?;
+        self.map.insert(name, section)?;
+        Ok(None)
+    }
+
+    // Puts a section that was taken out in its place.
+    pub(crate) fn put_back(&mut self, apart: Apart<S>)
+        ensures { self.new ≡ with_section (section_of S.spans (apart.name.items, apart.section))
+            self.old }
+    {
+        let Apart { name, section } = apart;
+        if let Some(place) = self.map.get_mut(name.as_slice()) {
+            *place = section;
+        }
     }
 }

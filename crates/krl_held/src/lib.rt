@@ -5,6 +5,7 @@ mod addition;
 mod asking;
 mod field;
 mod findings;
+mod gathered;
 mod getters;
 mod held_section;
 mod held_sections;
@@ -20,6 +21,7 @@ mod texts;
 
 pub use field::{byte_of, u32_of, u64_of};
 pub use findings::Findings;
+pub use gathered::Gathered;
 pub use listed::{Authorities, Listed};
 pub use questions::Questions;
 pub use reasons::{KeyReasons, NameReasons, Reason, Reasons};

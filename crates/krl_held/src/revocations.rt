@@ -1,13 +1,15 @@
 //! What is revoked.
-ghost use Rattle.std.specs.Prelude.{◌≡◌, ◌+◌, ◌<◌, ◌≤◌, ◌∷◌, [], ℕ, List, length, All, OnOk, OnErr};
+ghost use Rattle.std.specs.Prelude.{◌≡◌, ◌+◌, ◌<◌, ◌≤◌, ◌∷◌, [], ℕ, List, length, All, IfOk, OnOk, OnErr, Some};
 ghost use Rattle.serial_set.specs.BitRuns.{IsInterval};
 ghost use Rattle.serial_set.specs.Near.{AreNear};
 ghost use Rattle.krl_held.specs.Authority.{authority_bytes, IsAuthority};
-ghost use Rattle.krl_held.specs.Changes.{MeansMore, run_entries};
+ghost use Rattle.krl_held.specs.Changes.{IsOneChange, MeansMore, run_entries};
+ghost use Rattle.krl_held.specs.Gathered.{HasPlace, TakesOut, whole};
 ghost use Rattle.krl_held.specs.Revocations.{IsNamed, IsOrderly, Means, nothing, held, stored};
 ghost use Rattle.krl_held.specs.Entry.{RangeEntry, IdEntry, KeyEntry, Sha1Entry, Sha256Entry};
 
 use crate::addition::Addition;
+use crate::held_section::Apart;
 use crate::held_sections::HeldSections;
 use crate::texts::put_text;
 use serial_set::{Span, Spans};
@@ -176,6 +178,35 @@ impl<S: Spans> Revocations<S> {
     {
         self.sha256s.insert(*hash)?;
         Ok(())
+    }
+}
+
+impl<S: Spans> Revocations<S> {
+    ghost use Rattle.krl_held.specs.HeldSection.{apart_of};
+
+    // Adds under an authority, with one search for it. The section that there is is taken out with
+    // the addition, and one with just the addition stays in its place.
+    pub(crate) fn take(
+        &mut self,
+        authority: &[u8],
+        addition: Addition<'_>,
+    ) -> Result<Option<Apart<S>>, AllocError>
+        requires { IsOneChange addition }
+        ensures ok { IfOk result (λ apart. TakesOut addition.entry authority.now self.old.sections
+            (apart_of S.spans apart) self.new.sections) }
+        ensures rest { self.new ≡ record self.old { sections = self.new.sections } }
+        ensures refused { OnErr result (self.new ≡ self.old) }
+        ensures orderly { IsOrderly self.old }
+    {
+        self.sections.take(authority, addition)
+    }
+
+    // Puts a section that was taken out in its place.
+    pub(crate) fn put_back(&mut self, apart: Apart<S>)
+        requires { HasPlace (apart_of S.spans (Some apart)) self.old }
+        ensures { self.new ≡ whole (apart_of S.spans (Some apart)) self.old }
+    {
+        self.sections.put_back(apart);
     }
 }
 

@@ -1,7 +1,7 @@
 //! What takes the entries of a list while it is read.
 
 ghost use Rattle.std.specs.Prelude.{◌≡◌, ◌+◌, ◌%◌, ◌<◌, ◌≤◌, ◌∷◌, [], ℕ, List, length, All};
-ghost use Rattle.std.specs.Prelude.{OnOk, false};
+ghost use Rattle.std.specs.Prelude.{OnOk, false, ⊤};
 ghost use Rattle.serial_set.specs.BitRuns.{IsInterval};
 ghost use Rattle.serial_set.specs.Near.{AreNear};
 ghost use Rattle.krl_held.specs.Authority.{authority_bytes, IsAuthority};
@@ -27,6 +27,15 @@ pub trait Store: Drop {
     // which names it answers for
     ghost scope: { Self → Scope };
 
+    // whether it takes entries under this authority, before it is told of another
+    ghost is_at: { Self → List ℕ → Type 0 };
+
+    /// The entries that follow may be under another authority.
+    fn leave(&mut self)
+        ensures contents { contents self.new ≡ contents self.old }
+        ensures scope { scope self.new ≡ scope self.old }
+        ensures any { (authority : List ℕ) → is_at self.new authority };
+
     /// Whether some serial from `lo` to `hi` under this authority may be in scope.
     fn wants(&self, authority: &[u8], lo: u64, hi: u64) -> bool
         requires { lo ≤ hi }
@@ -47,6 +56,8 @@ pub trait Store: Drop {
         requires intervals { All IsInterval near.now }
         requires near { AreNear near.now }
         requires authority { IsAuthority authority }
+        requires at { is_at self.old (authority_bytes authority) }
+        ensures at { is_at self.new (authority_bytes authority.entry) }
         ensures means { OnOk result (MeansMoreWithin (scope self.old) (contents self.old)
             (contents self.new) (run_entries (authority_bytes authority.entry) near.now)) }
         ensures scope { scope self.new ≡ scope self.old }
@@ -59,7 +70,9 @@ pub trait Store: Drop {
 
     /// Takes a key ID under an authority, or under all where there is none.
     fn put_id(&mut self, authority: Option<&[u8]>, id: &[u8]) -> Result<(), AllocError>
-        requires { IsAuthority authority }
+        requires authority { IsAuthority authority }
+        requires at { is_at self.old (authority_bytes authority) }
+        ensures at { is_at self.new (authority_bytes authority.entry) }
         ensures means { OnOk result (MeansMoreWithin (scope self.old) (contents self.old)
             (contents self.new) (IdEntry (authority_bytes authority.entry) id.now ∷ [])) }
         ensures scope { scope self.new ≡ scope self.old }
@@ -73,6 +86,7 @@ pub trait Store: Drop {
 
     /// Takes a key by its blob.
     fn put_key(&mut self, blob: &[u8]) -> Result<(), AllocError>
+        ensures at { (authority : List ℕ) → is_at self.old authority → is_at self.new authority }
         ensures means { OnOk result (MeansMoreWithin (scope self.old) (contents self.old)
             (contents self.new) (KeyEntry blob.now ∷ [])) }
         ensures scope { scope self.new ≡ scope self.old }
@@ -85,6 +99,7 @@ pub trait Store: Drop {
 
     /// Takes a key by the SHA-1 of its blob.
     fn put_sha1(&mut self, hash: &[u8; 20]) -> Result<(), AllocError>
+        ensures at { (authority : List ℕ) → is_at self.old authority → is_at self.new authority }
         ensures means { OnOk result (MeansMoreWithin (scope self.old) (contents self.old)
             (contents self.new) (Sha1Entry hash.now ∷ [])) }
         ensures scope { scope self.new ≡ scope self.old }
@@ -97,6 +112,7 @@ pub trait Store: Drop {
 
     /// Takes a key by the SHA-256 of its blob.
     fn put_sha256(&mut self, hash: &[u8; 32]) -> Result<(), AllocError>
+        ensures at { (authority : List ℕ) → is_at self.old authority → is_at self.new authority }
         ensures means { OnOk result (MeansMoreWithin (scope self.old) (contents self.old)
             (contents self.new) (Sha256Entry hash.now ∷ [])) }
         ensures scope { scope self.new ≡ scope self.old }
@@ -114,6 +130,10 @@ impl<S: Spans> Store for Revocations<S> {
     ghost contents = { λ revocations. revocations };
 
     ghost scope = { λ _. all };
+
+    ghost is_at = { λ _ _. ⊤ };
+
+    fn leave(&mut self) {}
 
     fn wants(&self, _authority: &[u8], _lo: u64, _hi: u64) -> bool {
         true

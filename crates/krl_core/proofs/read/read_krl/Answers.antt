@@ -1,17 +1,26 @@
 -- A list is read from its first field on.
-use Rattle.krl_core.proofs.Lists.{known_from, list_of_all, said_from}
-use Rattle.krl_core.proofs.SpelledLists.{only_ran_out_from}
+use Rattle.std.proofs.Common.{[], refl}
+use Rattle.krl_core.proofs.Lists.{list_of_all}
+use Rattle.krl_core.proofs.SpelledLists.{only_ran_out}
 use Rattle.krl_core.proofs.read.read_krl.Goals as goal
 
-pub returns-clause-found : goal.returns-clause-found
-returns-clause-found g c = known_from _ c.new.result c.read_on.result.0 c.new.ensures.start (λ list text h. list_of_all text list.0 list.1 h) c.read_on.ensures.found
+pub returns-in-Ok-clause-found : goal.returns-in-Ok-clause-found
+returns-in-Ok-clause-found g c = λ text e.
+    let list = (rw c.in-Ok.is at c.read_on-read.ensures.found) text [] (c.over.ensures.start text e) in
+    rw c.into_held.ensures (list_of_all text c.in-Ok.header c.in-Ok.gathered.contents list)
 
-pub returns-clause-no_fault : goal.returns-clause-no_fault
-returns-clause-no_fault g c = known_from _ c.new.result c.read_on.result.0 c.new.ensures.start (λ list text h. h) c.read_on.ensures.no_fault
+pub returns-in-Ok-clause-no_fault : goal.returns-in-Ok-clause-no_fault
+returns-in-Ok-clause-no_fault g c = λ text e. (rw c.in-Ok.is at c.read_on-read.ensures.no_fault) text [] (c.over.ensures.start text e)
 
-pub returns-clause-fault : goal.returns-clause-fault
-returns-clause-fault g c = said_from _ c.new.result c.read_on.result.0 c.new.ensures.start (λ fault text h. h) c.read_on.ensures.fault
+pub returns-in-Ok-clause-held : goal.returns-in-Ok-clause-held
+returns-in-Ok-clause-held g c = rw c.into_held.ensures ((rw c.in-Ok.is at c.read_on-read.ensures.within).bounds refl).0
 
-pub returns-clause-only : goal.returns-clause-only
-returns-clause-only g c =
-    only_ran_out_from _ c.new.result c.read_on.result.0 _ _ c.new.ensures.start c.read_on.ensures.fault
+pub returns-in-Ok-clause-stored : goal.returns-in-Ok-clause-stored
+returns-in-Ok-clause-stored g c = rw c.into_held.ensures ((rw c.in-Ok.is at c.read_on-read.ensures.within).bounds refl).1
+
+pub returns-in-Err-clause-fault : goal.returns-in-Err-clause-fault
+returns-in-Err-clause-fault g c = λ text e. (rw c.in-Err.is at c.read_on-read.ensures.fault) text [] (c.over.ensures.start text e)
+
+pub returns-in-Err-clause-only : goal.returns-in-Err-clause-only
+returns-in-Err-clause-only g c = λ text header sections e.
+    only_ran_out c.in-Err.fault _ _ text header sections ((rw c.in-Err.is at c.read_on-read.ensures.fault) text [] (c.over.ensures.start text e))

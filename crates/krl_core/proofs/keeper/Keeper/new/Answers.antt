@@ -1,9 +1,9 @@
-use Rattle.std.proofs.Common.{[], sym, subst, ap}
+use Rattle.std.proofs.Common.{[], sym, subst, ap, ◌∙◌}
 use Rattle.std.specs.Option.{option_to_list}
 use Rattle.serial_set.specs.BitRuns.{BitRuns}
 use Rattle.krl_held.specs.Changes.{run_entries}
 use Rattle.krl_held.specs.Revocations.{Revocations}
-use Rattle.krl_held.specs.Scope.{MeansWithin, WithinScope}
+use Rattle.krl_held.specs.Scope.{MeansWithin}
 use Rattle.krl_held.proofs.Same.{same_is}
 use Rattle.krl_held.proofs.Scoped.{nothing_within}
 use Rattle.krl_core.proofs.keeper.Keeper.new.Goals as goal
@@ -11,10 +11,10 @@ use Rattle.krl_core.proofs.keeper.Keeper.new.Goals as goal
 pub returns-clause-kept : goal.returns-clause-kept
 returns-clause-kept g c = record {
   closed = [];
-  means = subst (λ (r : Revocations). MeansWithin (g.T.Store.scope c.args.store) r []) (sym c.requires.empty) (nothing_within (g.T.Store.scope c.args.store));
+  means = subst (λ (r : Revocations). MeansWithin (g.T.Store.scope c.leave.new.self) r []) (sym (c.leave.ensures.contents ∙ c.requires.empty)) (nothing_within (g.T.Store.scope c.leave.new.self));
   same = same_is (run_entries c.new-2.result.items (option_to_list c.new-3.result.pending)) []
       (ap (λ (b : BitRuns). run_entries c.new-2.result.items (option_to_list b.pending)) c.new-3.ensures);
 }
 
 pub returns-clause-within : goal.returns-clause-within
-returns-clause-within g c = subst (WithinScope (g.T.Store.scope c.args.store)) (sym c.requires.empty) c.requires.within
+returns-clause-within g c = rw (c.leave.ensures.scope, c.leave.ensures.contents, c.requires.empty) c.requires.within

@@ -1,0 +1,140 @@
+//! What is held of a list that is read to its end.
+
+ghost use Rattle.std.specs.Prelude.{◌≡◌, None, OnErr, OnOk};
+ghost use Rattle.krl_held.specs.Changes.{IsOneChange};
+ghost use Rattle.krl_held.specs.Gathered.{AddsUnder, HasPlace, IsAt, whole};
+ghost use Rattle.krl_held.specs.HeldSection.{apart_of};
+ghost use Rattle.krl_held.specs.Revocations.{IsOrderly, nothing};
+
+use crate::addition::Addition;
+use crate::held_section::Apart;
+use crate::revocations::{Revocations, bytes_or_none};
+use crate::store::Store;
+use serial_set::{Span, Spans};
+use std::alloc::{AllocError, Global};
+use std::marker::Model;
+
+/// What is held of a list that is read to its end. The section of the authority in force is held
+/// apart, so it is found once for each authority in the list, and not once for each entry.
+#[derive(Drop)]
+pub struct Gathered<S: Spans> {
+    alloc: Global,
+    rest: Revocations<S>,
+    apart: Option<Apart<S>>,
+}
+
+impl<S: Spans> Model for Gathered<S> {
+    ghost use Rattle.krl_held.specs.Gathered.{Gathered, HasPlace, name_of, whole};
+    ghost use Rattle.krl_held.specs.HeldSection.{apart_of};
+
+    ghost Value = { Gathered };
+
+    ghost view = { λ g. record {
+      contents = whole (apart_of S.spans g.apart) g.rest;
+      apart = name_of (apart_of S.spans g.apart);
+    } };
+
+    ghost invariant = { λ g. HasPlace (apart_of S.spans g.apart) g.rest };
+}
+
+impl<S: Spans> Gathered<S> {
+    /// Nothing is held yet. Takes no memory.
+    pub fn new(alloc: Global) -> Gathered<S>
+        ensures nothing { result.contents ≡ nothing }
+        ensures none { result.apart ≡ None }
+    {
+        Gathered {
+            alloc,
+            rest: Revocations::new(alloc),
+            apart: None,
+        }
+    }
+
+    /// All that is held.
+    pub fn into_held(self) -> Revocations<S>
+        ensures { result ≡ self.contents }
+    {
+        let Gathered {
+            alloc: _alloc,
+            mut rest,
+            mut apart,
+        } = self;
+        settle(&mut rest, &mut apart);
+        rest
+    }
+
+    // Adds under an authority, where no section is held apart but its own.
+    fn put(&mut self, authority: &[u8], addition: Addition<'_>) -> Result<(), AllocError>
+        requires one { IsOneChange addition }
+        requires at { IsAt self.old authority.now }
+        ensures adds { OnOk result
+            (AddsUnder addition.entry authority.now self.old.contents self.new.contents) }
+        ensures refused { OnErr result (self.new ≡ self.old) }
+        ensures at { IsAt self.new authority.now }
+        ensures orderly { IsOrderly self.old.contents }
+    {
+        let _rest = self.rest.in_order();
+        if let Some(apart) = &mut self.apart {
+            return apart.section.add(self.alloc, addition);
+        }
+        self.apart = self.rest.take(authority, addition)?;
+        Ok(())
+    }
+}
+
+// Puts the section that is held apart in its place.
+fn settle<S: Spans>(rest: &mut Revocations<S>, apart: &mut Option<Apart<S>>)
+    requires { HasPlace (apart_of S.spans apart.old) rest.old }
+    ensures whole { rest.new ≡ whole (apart_of S.spans apart.old) rest.old }
+    ensures none { apart.new ≡ None }
+{
+    if let Some(apart) = apart.take() {
+        rest.put_back(apart);
+    }
+}
+
+impl<S: Spans> Store for Gathered<S> {
+    ghost use Rattle.krl_held.specs.Gathered.{IsAt};
+    ghost use Rattle.krl_held.specs.Scope.{all};
+
+    ghost contents = { λ gathered. gathered.contents };
+
+    ghost scope = { λ _. all };
+
+    ghost is_at = { IsAt };
+
+    fn wants(&self, _authority: &[u8], _lo: u64, _hi: u64) -> bool {
+        true
+    }
+
+    fn unwanted(&self, _authority: &[u8], _serials: &[u8]) -> usize {
+        0
+    }
+
+    fn leave(&mut self) {
+        settle(&mut self.rest, &mut self.apart);
+    }
+
+    fn put_serials(&mut self, authority: Option<&[u8]>, near: &[Span]) -> Result<(), AllocError> {
+        self.put(bytes_or_none(authority), Addition::Serials(near))
+    }
+
+    fn put_id(&mut self, authority: Option<&[u8]>, id: &[u8]) -> Result<(), AllocError> {
+        self.put(bytes_or_none(authority), Addition::Id(id))
+    }
+
+    fn put_key(&mut self, blob: &[u8]) -> Result<(), AllocError> {
+        settle(&mut self.rest, &mut self.apart);
+        self.rest.add_key(blob)
+    }
+
+    fn put_sha1(&mut self, hash: &[u8; 20]) -> Result<(), AllocError> {
+        settle(&mut self.rest, &mut self.apart);
+        self.rest.add_sha1(hash)
+    }
+
+    fn put_sha256(&mut self, hash: &[u8; 32]) -> Result<(), AllocError> {
+        settle(&mut self.rest, &mut self.apart);
+        self.rest.add_sha256(hash)
+    }
+}
