@@ -1,19 +1,19 @@
 -- What is held of a list after an addition under an authority.
-use Rattle.std.proofs.Common.{◌≡◌, ℕ, ◌+◌, ◌<◌, ◌≤◌, List, ◌∷◌, [], ◌++◌, Bor, length, refl, sym, ap, subst, ◌∙◌, inl, inr, arith}
-use Rattle.std.specs.Prelude.{Option, Some, None, Result, Ok, Err, MatchResult, OnOk, OnErr, IfSome, sum_by}
+use Rattle.std.proofs.Common.{◌≡◌, ℕ, ◌+◌, ◌<◌, ◌≤◌, List, ◌∷◌, [], ◌++◌, Bor, length, refl, sym, ap, subst, inl, inr, arith}
+use Rattle.std.specs.Prelude.{Some, Result, Ok, Err, MatchResult, OnOk, OnErr}
 use Rattle.std.specs.declared.alloc.AllocError.{AllocError}
 use Rattle.std.specs.List.{All}
 use Rattle.serial_set.specs.declared.span.Span.{Span}
 use Rattle.serial_set.specs.BitRuns.{IsInterval}
 use Rattle.krl_held.specs.declared.addition.Addition.{Addition}
 use Rattle.krl_held.specs.declared.addition.Addition.TheVariants.{Serials, Id}
-use Rattle.krl_held.specs.Changes.{AddsTo, IsOneChange, MeansMore, TakesAddition, run_entries}
-use Rattle.krl_held.specs.Entry.{Entry, IdEntry}
+use Rattle.krl_held.specs.Changes.{IsOneChange, MeansMore, TakesAddition, run_entries}
+use Rattle.krl_held.specs.Entry.{IdEntry}
 use Rattle.krl_held.specs.Gathered.{AddsUnder, Gathered, HasPlace, whole, with_section}
-use Rattle.krl_held.specs.Revocations.{IsListed, IsNamed, IsOrderly, IsStoredWithin, Means, Revocations, Section, held, revocations_of, section_size, stored}
+use Rattle.krl_held.specs.Revocations.{IsNamed, IsOrderly, IsStoredWithin, Means, Revocations, Section, held, section_size, stored}
 use Rattle.krl_held.proofs.Adding.{id_mean, serials_mean}
 use Rattle.krl_held.proofs.Amounts.{adds_named, empty_size, id_size, serials_size, sum_named, sum_stays}
-use Rattle.krl_held.proofs.Apart.{changed_orderly, in_order, place_of, takes_listed, takes_out_adds}
+use Rattle.krl_held.proofs.Apart.{changed_orderly, in_order, place_of, takes_listed}
 use Rattle.krl_held.proofs.HeldSections.{takes_authority}
 use Rattle.krl_held.proofs.SomeSections.{sum_adds}
 

@@ -1,4 +1,3 @@
-use Rattle.std.specs.Prelude.{Some}
 use Rattle.krl_held.specs.HeldSection.{section_of}
 use Rattle.krl_held.specs.Revocations.{IsOrderly, revocations_of}
 use Rattle.krl_held.specs.Texts.{texts_of}
