@@ -26,7 +26,7 @@ pub use half::read_public_half;
 use parts::{Opened, read_bytes};
 
 /// What a private container says in public.
-#[derive(Debug, Drop)]
+#[derive(Drop)]
 pub struct Private {
     /// The blob of the public key.
     pub blob: Bytes,

@@ -23,7 +23,7 @@ use options::after_options;
 pub use words::{after_blanks, before_ending, is_blank, is_ending, split_word, trimmed};
 
 /// What a key line holds.
-#[derive(Debug, Drop)]
+#[derive(Drop)]
 pub struct Line<'a> {
     /// The name of the key's type, lent from the line.
     pub word: &'a [u8],

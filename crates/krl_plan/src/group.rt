@@ -3,7 +3,7 @@ ghost use Rattle.std.specs.Prelude.{◌≡◌};
 ghost use Rattle.krl_plan.specs.Sorts.{rank};
 
 /// The sort of a serial subsection (PROTOCOL.krl, certificate sections).
-#[derive(Clone, Copy, Debug, PartialEq, Eq)]
+#[derive(Clone, Copy, PartialEq, Eq)]
 pub enum Sort {
     /// Each serial by itself.
     Serials,
@@ -14,7 +14,7 @@ pub enum Sort {
 }
 
 /// Some runs that one subsection names: the first of those that no group before it has.
-#[derive(Clone, Copy, Debug, PartialEq, Eq)]
+#[derive(Clone, Copy, PartialEq, Eq)]
 pub struct Group {
     /// The sort of the subsection.
     pub sort: Sort,

@@ -4,7 +4,7 @@ use ssh_wire::Bytes;
 use std::marker::Model;
 
 /// What a revocation list can name of a certificate, beside its plain key.
-#[derive(Debug, Drop)]
+#[derive(Drop)]
 pub struct CertNames<'a> {
     /// The serial number. Zero names no certificate.
     pub serial: u64,
@@ -27,7 +27,7 @@ impl<'a> Model for CertNames<'a> {
 }
 
 /// What a revocation list is asked about: a plain key, or a certificate and its plain key.
-#[derive(Debug, Drop)]
+#[derive(Drop)]
 pub struct Subject<'a> {
     /// The blob of the plain key.
     pub plain: Bytes,

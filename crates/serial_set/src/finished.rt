@@ -4,7 +4,7 @@ ghost use Rattle.std.specs.Prelude.{◌≡◌, ◌≤◌, ◌<◌, ◌+◌, ◌+
 use crate::span::Span;
 
 /// The runs that a byte of a bitmap finished: the first `count` of `spans`, highest first.
-#[derive(Clone, Copy, Debug)]
+#[derive(Clone, Copy)]
 pub struct Finished {
     /// Of these only the first `count` count.
     pub spans: [Span; 4],

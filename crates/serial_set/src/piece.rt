@@ -5,7 +5,7 @@ use crate::span::Span;
 use crate::walk::next_after;
 
 /// Some runs of a set that follow each other: the first `count` of `spans`.
-#[derive(Clone, Copy, Debug)]
+#[derive(Clone, Copy)]
 pub struct Piece {
     spans: [Span; 32],
     count: u8,

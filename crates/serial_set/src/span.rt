@@ -1,7 +1,7 @@
 //! An interval of serials.
 
 /// The serials from `lo` to `hi`, both among them.
-#[derive(Clone, Copy, Debug, PartialEq, Eq)]
+#[derive(Clone, Copy, PartialEq, Eq)]
 pub struct Span {
     /// The first serial.
     pub lo: u64,

@@ -13,7 +13,7 @@ use ssh_wire::{Bytes, Cursor};
 use std::alloc::{AllocError, Global};
 
 /// A plain key or a certificate, lent from its blob.
-#[derive(Debug, Drop)]
+#[derive(Drop)]
 pub enum AnyKey<'a> {
     /// A plain key.
     Plain(PublicKey<'a>),

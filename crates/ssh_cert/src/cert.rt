@@ -9,7 +9,7 @@ use ssh_key::{Kind, PublicKey};
 use std::marker::Model;
 
 /// A certificate, lent from its blob. Its signature is not checked.
-#[derive(Debug, Drop)]
+#[derive(Drop)]
 pub struct Cert<'a> {
     pub(crate) nonce: &'a [u8],
     pub(crate) key: PublicKey<'a>,

@@ -8,7 +8,7 @@ use std::marker::Model;
 
 /// A critical option or an extension of a certificate: its name and its data, neither of which need
 /// be text.
-#[derive(Debug, Drop)]
+#[derive(Drop)]
 pub struct CertOption<'a> {
     /// The name.
     pub name: &'a [u8],
@@ -26,7 +26,7 @@ impl<'a> Model for CertOption<'a> {
 
 /// The critical options or the extensions of a certificate: an iterator, which lends each from the
 /// blob, in the order in which they come.
-#[derive(Debug, Drop)]
+#[derive(Drop)]
 pub struct Options<'a> {
     parts: Strings<'a>,
 }

@@ -1,7 +1,7 @@
 //! What a certificate is for.
 
 /// What a certificate is for.
-#[derive(Clone, Copy, Debug, PartialEq, Eq)]
+#[derive(Clone, Copy, PartialEq, Eq)]
 pub enum Role {
     /// It names a user.
     User,

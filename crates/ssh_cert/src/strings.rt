@@ -9,7 +9,7 @@ use std::marker::Model;
 
 /// Strings that fill bytes, one after the other (RFC 4251 section 5): an iterator, which lends each
 /// from the bytes.
-#[derive(Debug, Drop)]
+#[derive(Drop)]
 pub struct Strings<'a> {
     left: Cursor<'a>,
 }

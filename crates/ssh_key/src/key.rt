@@ -19,7 +19,7 @@ const LONGEST_BLOB: usize = 65_536;
 
 /// A public key, lent from its blob or from a certificate. Whoever holds one holds a key: see
 /// `has_blob`.
-#[derive(Debug, Drop)]
+#[derive(Drop)]
 pub struct PublicKey<'a> {
     kind: Kind,
     bits: u32,

@@ -4,7 +4,7 @@ ghost use Rattle.std.specs.Prelude.{◌≡◌, IfSome};
 ghost use Rattle.ssh_key.specs.Kind.{certificate_name, kind_certified, kind_named, short_name_of, type_name};
 
 /// The kind of a plain key.
-#[derive(Clone, Copy, Debug, PartialEq, Eq)]
+#[derive(Clone, Copy, PartialEq, Eq)]
 pub enum Kind {
     /// RSA (RFC 4253 section 6.6).
     Rsa,

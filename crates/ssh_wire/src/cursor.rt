@@ -11,7 +11,7 @@ use std::marker::Model;
 
 /// The bytes that are left to read. Each read takes a field from their front (RFC 4251 section 5);
 /// a refusal takes nothing. No read takes memory: strings are lent from the bytes.
-#[derive(Debug, Drop)]
+#[derive(Drop)]
 pub struct Cursor<'a> {
     left: &'a [u8],
 }
