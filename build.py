@@ -221,7 +221,7 @@ class Build:
 
     def begin_some(self, ready):
         """Begins to prove what is ready, the longest chain first. A second process in a crate does parts of its work
-        anew, so it gets one only where no other crate can use the processor, or will be able to for long."""
+        anew, so a crate gets one only where no other can use the processor, or its chain is by far the longest."""
         if self.lanes is None:
             self.lanes = count_lanes()
             say(f"proving and building, this once: {len(self.tasks)} crates")
@@ -232,7 +232,7 @@ class Build:
             if idle < 1 or busy and any(at.was_killed for at in (it, *busy)):
                 return
             most = 4 if it is self.last else 2
-            jobs = most if self.chain[it] > 1.5 * share else idle // (len(ready) - number)
+            jobs = most if self.chain[it] > 1.8 * share else idle // (len(ready) - number)
             it.jobs = 1 if it.was_killed else max(1, min(jobs, most, self.lanes))
             if self.begin(it):
                 busy.append(it)

@@ -131,7 +131,7 @@ anew() {
 hold() {
   echo "$1" >calls.hold
   anew "${@:2}"
-  await grep -q "$1 begins" calls
+  await grep -qs "$1 begins" calls
 }
 go() {
   rm calls.hold
@@ -170,7 +170,7 @@ whole 'a first use with two processors'
 waiting=$(said_by 'another build is at work in this folder: waiting for that')
 hold low "${two[@]}"
 (use "${two[@]}") >second 2>"$scratch/waiting" &
-await grep -q . "$scratch/waiting"
+await grep -qs . "$scratch/waiting"
 go
 whole 'the first of two uses at once'
 judge 'the second of two uses at once' "$(
@@ -212,7 +212,7 @@ goes_on 'a build that is killed'
 hold upper "${two[@]}"
 { kill -KILL $! && wait $!; } 2>/dev/null
 (use "${two[@]}") >said 2>"$scratch/waiting" &
-await grep -q "$waiting" "$scratch/waiting"
+await grep -qs "$waiting" "$scratch/waiting"
 go
 whole 'a launcher that is killed: the build that it left is waited for'
 
@@ -222,7 +222,7 @@ away=$scratch/here/clone build 'a second clone proves nothing' 0 "$(made_of 6 4)
 rm -rf clone/built
 hold low "${one[@]}"
 (away=$scratch/here/clone use "${one[@]}") >second 2>"$scratch/waiting" &
-await grep -q 'another build is proving low: waiting for that' "$scratch/waiting"
+await grep -qs 'another build is proving low: waiting for that' "$scratch/waiting"
 go
 whole 'the first of two clones at once'
 judge 'the second of two clones at once' "$(differs 'standard output' "$(made_of 6 4)" "$(cat second)")"
@@ -306,7 +306,7 @@ sleep 0.1 && echo 9 >away/crates/low/src/lib.rt
 : >calls
 echo krl_c >calls.hold
 PATH=$scratch/here/kit/bin:/usr/bin:/bin away/library/build >said 2>&1 &
-await grep -q 'krl_c begins' calls
+await grep -qs 'krl_c begins' calls
 echo 8 >away/crates/low/src/lib.rt
 go
 library 'a source that changed during the build' 0 17 'low krl_c '
