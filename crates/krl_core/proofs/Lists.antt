@@ -1,7 +1,6 @@
 -- A whole list is spelled, and means what its sections name.
-use Rattle.std.proofs.Common.{◌≡◌, ℕ, ◌<◌, ◌≤◌, ◌^◌, Bool, true, false, ltb, List, [], ◌++◌, length, Option, Some, None, refl, sym, ap, subst, ◌∙◌, append_assoc}
+use Rattle.std.proofs.Common.{◌≡◌, ℕ, ◌<◌, ◌≤◌, ◌^◌, Bool, true, false, ltb, List, ◌++◌, length, Option, None, refl, sym, ap, subst, ◌∙◌, append_assoc}
 use Rattle.std.specs.List.{concat}
-use Rattle.std.specs.Prelude.{Result, Ok, Err, IfOk, IfErr}
 use Rattle.ssh_wire.specs.Wire.{IsBytes, number, string}
 use Rattle.krl_core.specs.declared.header.Header.{Header}
 use Rattle.krl_held.specs.Revocations.{Revocations}
@@ -15,7 +14,7 @@ use Rattle.krl_core.specs.Front.{State, start, Leads, limit, IsEnd, IsFirstFault
 use Rattle.krl_core.specs.Krl.{SpelledSection, Spells, header_text, magic}
 use Rattle.krl_held.specs.Naming.{NamesSame}
 use Rattle.krl_core.specs.Place.{can_end}
-use Rattle.krl_core.specs.Reading.{HasRead, HoldsAll, HoldsWithin, IsList, IsListAs, IsWholeAs, Walk}
+use Rattle.krl_core.specs.Reading.{HoldsAll, HoldsWithin, IsList, IsListAs, IsWholeAs}
 use Rattle.krl_held.specs.Scope.{Scope, all as every_name}
 use Rattle.krl_core.proofs.Fields.{completes}
 use Rattle.krl_core.proofs.Rests.{FromText, FromFormat}

@@ -21,8 +21,7 @@ use Rattle.krl_core.specs.declared.place.extension.ExtensionPlace.TheVariants as
 use Rattle.krl_core.specs.Front.{start, limit, IsFirstFault, Reported, ended}
 use Rattle.krl_core.specs.Krl.{SpelledSection, Certificates, Keys, Sha1s, Sha256s, Signature, Extension, Spells, SpellsEach, SpellsSection, header_text}
 use Rattle.krl_core.specs.Place.{expected, next_item, next_subsection}
-use Rattle.krl_core.specs.Reading.{HasRead, Walk, Says, ran_out, failed_read, first}
-use Rattle.std.specs.Prelude.{Result, Err, IfErr}
+use Rattle.krl_core.specs.Reading.{Says, ran_out, failed_read, first}
 use Rattle.krl_core.proofs.Fronts.{first_fault_is, one_reported}
 use Rattle.krl_core.proofs.Goes.{Goes, goes_none, goes_one, goes_then, goes_from, arrives}
 use Rattle.krl_core.proofs.Rests.{LastFor, IsItem}
