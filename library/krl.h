@@ -1,10 +1,12 @@
 /* krl.h: whether an OpenSSH key revocation list (KRL) revokes a key or a certificate.
  *
  * A RevokedKeys file of sshd can be a KRL or a plain file of public keys. These calls read KRLs:
- * they answer -101 for a plain file, as for anything else that is no KRL. A server that takes
- * plain files too has to look for the keys in them itself.
+ * they answer -101 for a plain file, as for anything else that is no KRL, or -103 where the file
+ * has less than 8 bytes. A server that takes plain files too has to look for the keys in them
+ * itself.
  *
- * Fail closed: let a key in where the answer is KRL_OK, and in no other case.
+ * Fail closed: let a key in where krl_check, krl_check_line, krl_ask or krl_ask_line answers
+ * KRL_OK for it, and in no other case. KRL_OK of krl_load says only that the list was read.
  *
  * What is not checked: the signatures of a list, of a certificate or of a login, whether a
  * certificate's authority is trusted, and when the certificate is valid. Do that too.
@@ -17,6 +19,10 @@
  * threads before it calls exec, since they call malloc.
  *
  * A pointer to bytes may be null where its length is 0. No other pointer is null.
+ *
+ * The promises hold for a program that keeps these rules. One that breaks a rule, as by a wrong
+ * length, or by bytes or a place that change while a call runs, may crash or get a wrong answer,
+ * also KRL_OK for a revoked key.
  */
 #ifndef KRL_H
 #define KRL_H
@@ -33,15 +39,16 @@ extern "C" {
 #endif
 
 /* The answers. Below zero there is no answer, and the number says why. */
-#define KRL_OK 0           /* the list does not revoke the key */
+#define KRL_OK 0           /* the list does not revoke the key; of krl_load: the list was read */
 #define KRL_REVOKED 1      /* the list revokes it */
 #define KRL_NO_MEMORY (-1) /* malloc gave none: the same call may succeed later */
 #define KRL_NOT_LOADED (-2) /* no list was read into the handle */
 
-/* -101 to -115: the list is refused. The last two digits are the number of its first fault. */
+/* -101 to -116: the list is refused. -101 to -115 are its first fault, by the last two digits;
+ * -113 and -114 are never answered. */
 #define KRL_LIST_MAGIC (-101) /* no KRL */
 #define KRL_LIST_FORMAT_VERSION (-102) /* not format version 1 */
-#define KRL_LIST_ENDS_EARLY (-103) /* cut short within a section */
+#define KRL_LIST_ENDS_EARLY (-103) /* cut short, in its header or within a section */
 #define KRL_LIST_UNKNOWN_SECTION (-104) /* it may revoke the key, so the list is refused */
 #define KRL_LIST_UNKNOWN_CERT_SECTION (-105)
 #define KRL_LIST_LENGTH (-106) /* a length does not fit what it is the length of */
@@ -53,18 +60,24 @@ extern "C" {
 #define KRL_LIST_TOO_LONG (-112) /* more than 67,108,864 bytes */
 #define KRL_LIST_CRITICAL_EXTENSION (-115)
 
+/* The list has no fault, but the authority of one of its sections is neither empty, for all
+ * authorities, nor a key in its one spelling. OpenSSH may take it for a key, and so revoke
+ * certificates that a comparison of bytes lets pass. So nobody is let in. */
+#define KRL_LIST_AUTHORITY (-116)
+
 /* -201 to -203: the line has no key. */
 #define KRL_LINE_NO_KEY (-201)
 #define KRL_LINE_BASE64 (-202)
 #define KRL_LINE_WORD_DIFFERS (-203) /* the line names another type than the key has */
 
-/* -302 to -313: the blob is no plain key, -401 to -409: no certificate. -502 to -513: the key of
+/* -302 to -313: the blob is no plain key, -401 to -409: no certificate. -503 to -513: the key of
  * the certificate is none, -602 to -613: the key of its authority is none. The last two digits
  * of the number of a key's fault: 02 its type is not known, 03 another curve than its type says,
  * 04 its point has another form, 05 a length, 06 a number, 07 bytes after it, 08 more than
  * 65,536 bytes, and of a field: 11 it ends early, 12 a negative number, 13 a number with a
- * needless zero byte. */
-#define KRL_IS_LIST_FAULT(answer) ((answer) <= -101 && (answer) >= -115)
+ * needless zero byte. -402, -502 and -507 are never answered: the type of a certificate is known
+ * before it is read, and other fields follow its key. */
+#define KRL_IS_LIST_FAULT(answer) ((answer) <= -101 && (answer) >= -116)
 #define KRL_IS_KEY_FAULT(answer) ((answer) <= -201)
 
 /* Whether a list revokes the key of a blob.
@@ -103,11 +116,13 @@ size_t krl_size(void);
 /* Makes a place ready: no list is held. Takes no memory. */
 void krl_init(void *at);
 
-/* Reads a list: KRL_OK, or why not. Then what was held stays, so a list can be renewed while it
- * is in use. */
+/* Reads a list: KRL_OK where it is held now, or why not. Where it is refused, the list that was
+ * held before stays. Of the list's bytes nothing is used once the call is over: they may be freed
+ * or changed. */
 int32_t krl_load(krl *handle, const uint8_t *list, size_t list_length);
 
-/* As krl_check and krl_check_line, of the list that is held: KRL_NOT_LOADED where none is. */
+/* As krl_check and krl_check_line, of the list that is held: KRL_NOT_LOADED where none is. They
+ * only read the place. */
 int32_t krl_ask(const krl *handle, const uint8_t *blob, size_t blob_length);
 int32_t krl_ask_line(const krl *handle, const uint8_t *line, size_t line_length);
 
@@ -115,8 +130,9 @@ int32_t krl_ask_line(const krl *handle, const uint8_t *line, size_t line_length)
 void krl_unload(krl *handle);
 
 /* The words for an answer: of a fault those that krl-keygen prints, such as "krl 3 EndsEarly",
- * "line 2 Base64" and "subject 1 Key, key 4 Point". Of the others "ok", "revoked", "no memory"
- * and "no list is loaded", and of a number that no call answers "unknown answer".
+ * "line 2 Base64" and "subject 1 Key, key 4 Point". Of the others "ok", "revoked", "no memory",
+ * "no list is loaded" and "an authority of the list is no key in its one spelling", and of a number
+ * that has no words "unknown answer".
  *
  * They are written as snprintf does it: as many bytes as leave room for a zero byte, and that
  * byte; nothing where the size is 0. The result is the length of the words, whatever the size:
