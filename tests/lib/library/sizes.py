@@ -3,6 +3,7 @@
 import ctypes
 import mmap
 import os
+import struct
 from pathlib import Path
 
 import krl
@@ -113,8 +114,9 @@ def of_32_bits(tests):
         handle = krl.Handle(library)
         size = FAR + more + len(small)
         # Behind the list comes a section of the type 0.
+        found = library.krl_check_line(content.at, size, text, len(text))
+        case("krl_check_line, list", found, -104)
         case("krl_check, list", library.krl_check(content.at, size, KEY, len(KEY)), -104)
-        case("krl_check_line, list", library.krl_check_line(content.at, size, text, len(text)), -104)
         case("krl_load", library.krl_load(handle.krl, content.at, size), -104)
         case("krl_load of the list alone", handle.load(small), 0)
         size = FAR + more + len(KEY)
@@ -126,7 +128,7 @@ def of_32_bits(tests):
         case("krl_ask_line", library.krl_ask_line(handle.krl, word.at, size), 1)
         handle.unload()
     # A section that is longer than a list may be.
-    content = Far(HEADER + b"\2" + (1 << 27).to_bytes(4, "big") + ((1 << 27) - 4).to_bytes(4, "big"))
+    content = Far(HEADER + b"\2" + struct.pack(">II", 1 << 27, (1 << 27) - 4))
     case("a long section", library.krl_check(content.at, FAR, KEY, len(KEY)), -112)
     room = Far(b"~" * 80)
     library.krl_fault_text(-103, room.at, FAR + 3)
