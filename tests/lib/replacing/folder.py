@@ -50,8 +50,10 @@ class Folder(trial.Tests):
         path = os.path.join(self.scratch, name)
         os.chdir(self.scratch)
         if os.path.ismount(path):
-            for found in os.listdir(path):
-                os.remove(os.path.join(path, found))
+            os.chmod(path, 0o755)
+            for found in os.scandir(path):
+                is_folder = found.is_dir(follow_symlinks=False)
+                (shutil.rmtree if is_folder else os.remove)(found.path)
         else:
             if os.path.exists(path):
                 os.chmod(path, 0o755)

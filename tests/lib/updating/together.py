@@ -41,7 +41,9 @@ def held(place):
 
 
 def faults(ends):
-    return ["%d: %r" % (status, error) for error, status in ends if status or error][:2]
+    """What is wrong with them. An update that waits for more than a second may say so."""
+    says = b"ssh-keygen: waiting for another update of %s\n" % LIST.encode()
+    return ["%d: %r" % (status, it) for it, status in ends if status or it not in (b"", says)][:2]
 
 
 def updates(place, count, rounds):
