@@ -8,8 +8,10 @@ use byte_streams::{FromBuffer, Source};
 use key_files::{Cause, FileFault, Named, RunFault};
 use krl_job::{Authority, Job};
 use krl_make::{Old, make_run};
-use krl_system::{Held, MadeOf, Target, Waiting, Written};
-use krl_system::{buffered, date, hold, open_authority, open_inputs, release, write_list};
+use krl_system::{
+    Held, MadeOf, Target, Waiting, Written, buffered, date, hold, open_authority, open_inputs,
+    release, write_list,
+};
 use std::fs::{self, File};
 
 // How often a list is opened anew whose name another file has got. Of updates at once each waits
@@ -96,11 +98,7 @@ fn make_of(rt: &HostRuntime, base: Base, wanted: &Wanted) -> u8 {
 }
 
 // What is made of the list before it is held: all of it, unless it is made of the one that is there.
-fn made_of<'a>(
-    rt: &HostRuntime,
-    base: Base,
-    wanted: &'a Wanted<'a>,
-) -> Result<Made, RunFault<'a>> {
+fn made_of<'a>(rt: &HostRuntime, base: Base, wanted: &'a Wanted<'a>) -> Result<Made, RunFault<'a>> {
     match base {
         Base::Nothing => Ok(Made {
             of: MadeOf::Lines,
