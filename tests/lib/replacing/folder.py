@@ -86,7 +86,7 @@ class Folder(trial.Tests):
             [self.program, *words],
             preexec_fn=prepare,
             capture_output=True,
-            timeout=60,
+            timeout=120,
             check=False,
             **as_user,
             **more,

@@ -22,7 +22,7 @@ Call = collections.namedtuple("Call", "name path more")
 
 class Ended:
     def __init__(self, process, was_stopped):
-        self.stdout, self.stderr = process.communicate(timeout=60)
+        self.stdout, self.stderr = process.communicate(timeout=120)
         self.returncode = process.returncode
         # Whether the call was made at which the program was to stop.
         self.was_stopped = was_stopped
