@@ -1,5 +1,5 @@
 -- What is kept of a list that passes.
-use Rattle.std.specs.Prelude.{ℕ, ◌≤◌, length}
+use Rattle.std.specs.Prelude.{◌≤◌, length}
 use Rattle.krl_types.specs.Subject.{Subject}
 use Rattle.krl_held.specs.Questions.{Asked, subject_size}
 use Rattle.krl_held.specs.Revocations.{serials_in, stored}

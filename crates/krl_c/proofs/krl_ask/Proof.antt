@@ -1,5 +1,5 @@
 -- What is lent is asked, and stays lent.
-use Rattle.std.proofs.Common.{◌≡◌, ℕ, ℤ, ◌%◌, ◌+◌, pos, List, [], ◌∷◌, ◌++◌, length, refl, sym, subst}
+use Rattle.std.proofs.Common.{◌≡◌, ℕ, ℤ, List, [], ◌∷◌, ◌++◌, refl, sym, subst}
 use Rattle.std.proofs.raw_atomic.Walks.{proved_at}
 use Rattle.std.proofs.alloc.Calls.{Goes-blank}
 use lib.Dec.{T}
@@ -11,20 +11,19 @@ use prog.Wp.{WpFn}
 use types.Logic.{sem}
 use contract.Monad.{fact}
 use contract.Running.{tables}
-use types.Kit.{‵, raw, ◌⊛◌, some, later, regoal, at_ret, prop, Sq, ◌$◌, ◌∵◌, !, qed, done, move, drop, keep, use1, await, pick, split, join, group, frame, fsplit, fjoin, feq_i, suffices}
-use types.Run.{enter, of_opd, addr, hop, look, stop, first, blocks, exec, assigns_last, no_more, and_then, returns}
+use types.Kit.{‵, raw, ◌⊛◌, some, later, regoal, at_ret, prop, ◌$◌, ◌∵◌, !, qed, done, move, drop, keep, use1, await, pick, split, join, group, frame, fsplit, fjoin, feq_i, suffices}
+use types.Run.{enter, of_opd, addr, stop, first, blocks, exec, no_more, and_then, returns}
 use types.ByLocal.{alloc_all, pass_all, free_all, look_at, get, through, sets, sets_last, lands_as, env}
 use denote.Exit.{yes}
 use denote.RattleType.{owns}
-use denote.Memory.{hidden_shr, lone, shared_of}
+use denote.Memory.{lone, shared_of}
 use denote.Laws.{Is, Typed, shows}
 use denote.Steps.{nothing, peeks, heard, only}
 use denote.Signature.{plain}
 use denote.SharingLaws.{contraction}
 use denote.Opens.{hide}
-use denote.Slice.{ShrSlice, slice_val, shr_slice_vals, shr_slice_Tells}
-use denote.Ref.{Bor, ShrRef}
-use denote.RawPtr.{Ptr, RawPtr, block_ptr, in_a_block, rawptr_vals, rawptr_Tells}
+use denote.Slice.{ShrSlice, shr_slice_vals, shr_slice_Tells}
+use denote.RawPtr.{RawPtr, block_ptr, in_a_block, rawptr_vals, rawptr_Tells}
 use denote.Builtin.{SliceRefOf, u8, i32}
 use denote.Signed.{sint_Lawful}
 use denote.Struct.Lending.{lent_at, lent_at_shr_laws}
@@ -38,7 +37,7 @@ use Rattle.std.specs.contracts.alloc.Global.{the_row as Z}
 use Rattle.std.proofs.alloc.Global.TheLaws.{the_row_laws as heap_laws}
 use Rattle.krl_c.specs.Answer.{AnswersBlob}
 use Rattle.krl_c.specs.Kept.{AnswersHeld}
-use Rattle.krl_c.specs.Loan.{Loan, is_lent}
+use Rattle.krl_c.specs.Loan.{is_lent}
 use Rattle.krl_c.specs.contracts.krl_ask as f
 use Rattle.krl_c.proofs.krl_ask.Statement.{statement}
 use Rattle.krl_c.proofs.krl_ask.Code as code
