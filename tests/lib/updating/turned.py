@@ -109,12 +109,11 @@ def link_for_list(place, made):
     wrong = []
     for number, call in enumerate(calls, 1):
         place.enter()
-        if os.path.exists("../away"):
-            os.remove("../away")
+        os.mkdir("away")
 
         def swap():
-            os.rename(LIST, "../away")
-            os.symlink("../away", LIST)
+            os.rename(LIST, "away/it.krl")
+            os.symlink("away/it.krl", LIST)
 
         done = steps.stopped(number, swap)
         if done.returncode or not same(content(), made):
