@@ -2,6 +2,7 @@
 //! was refused.
 
 mod answered;
+mod audits;
 mod buffer;
 mod holding;
 mod keys;

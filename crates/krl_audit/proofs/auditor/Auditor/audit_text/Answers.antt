@@ -1,0 +1,22 @@
+-- A private key file, a file without a key, or one that is said line after line.
+use Rattle.std.proofs.Common.{sym, ◌∙◌}
+use Rattle.krl_audit.proofs.Files.{told_lines, told_no_memory, told_private, told_whole}
+use Rattle.krl_audit.proofs.auditor.Auditor.audit_text.Goals as goal
+
+pub returns-then-is_container-clause-told : goal.returns-then-is_container-clause-told
+returns-then-is_container-clause-told g c =
+    λ reasons judges. told_private reasons _ c.args.name.now c.args.text.now _ _ _ _ _ (sym c.is_container.ensures ∙ c.if-is_container.true) (c.audit_private.ensures.told reasons judges)
+
+pub returns-in-Ok-Some-clause-told : goal.returns-in-Ok-Some-clause-told
+returns-in-Ok-Some-clause-told g c =
+    let several = rw c.in-Ok-Some.field-0-is at c.in-Ok-Some.ensures in
+    λ reasons judges. told_whole reasons _ c.args.name.now c.args.text.now c.without_mark-text.result.now _ _ _ _ _ _ (sym c.is_container.ensures ∙ c.if-is_container.false) c.without_mark-text.ensures several (c.say_unread.ensures.told reasons judges)
+
+pub returns-in-Ok-None-clause-told : goal.returns-in-Ok-None-clause-told
+returns-in-Ok-None-clause-told g c =
+    let none = rw c.in-Ok-None.field-0-is at c.in-Ok-None.ensures in
+    λ reasons judges. told_lines reasons _ c.args.name.now c.args.text.now c.without_mark-text.result.now _ _ _ _ _ (sym c.is_container.ensures ∙ c.if-is_container.false) c.without_mark-text.ensures none (c.audit_lines.ensures.told reasons judges)
+
+pub returns-in-Err-clause-told : goal.returns-in-Err-clause-told
+returns-in-Err-clause-told g c =
+    λ reasons judges. told_no_memory reasons _ c.args.name.now c.args.text.now c.whole.result _ _ _ (sym c.is_container.ensures ∙ c.if-is_container.false) c.whole.ensures

@@ -1,0 +1,162 @@
+-- Auditing files: what is said of their lines, and what is counted.
+use Rattle.std.specs.Borrow.{Bor}
+use Rattle.std.specs.Prelude.{◌≡◌, ℕ, ◌+◌, Bool, true, false, List, [], ◌∷◌, is_some, map, nat_lt, OnOk, Option, Some, None, Result, Ok, Err, if◌then◌else◌}
+use Rattle.key_text.specs.declared.marker.Marker.{Marker}
+use Rattle.key_text.specs.declared.marker.Marker.TheVariants as markers
+use Rattle.krl_types.specs.Subject.{Subject}
+use Rattle.krl_held.specs.Reasons.{any_reason, held_reasons}
+use Rattle.krl_held.specs.declared.reasons.Reasons.{Reasons}
+use Rattle.key_files.specs.RunFault.{RunFault}
+use Rattle.key_listing.specs.Carries.{Carries}
+use Rattle.key_listing.specs.Done.{Ends}
+use Rattle.key_listing.specs.Printer.{Printer}
+use Rattle.key_listing.specs.Run.{Item, Passed, said_of}
+use Rattle.krl_audit.specs.Counts.{all_counted, audit_status}
+use Rattle.krl_audit.specs.Outcome.{Blank, Key, Outcome, Unread, outcomes}
+use Rattle.krl_audit.specs.Text.{key_line, unread_line}
+use Rattle.krl_audit.specs.declared.counts.Counts.{Counts}
+use Rattle.krl_audit.specs.declared.counts.Kind.{Kind}
+use Rattle.krl_audit.specs.declared.counts.Kind.TheVariants as kinds
+use Rattle.krl_audit.specs.declared.judge.Judge.{Judge}
+use Rattle.krl_audit.specs.declared.judge.Shown.{Shown}
+use Rattle.krl_audit.specs.declared.why.Refusal.{Refusal}
+use Rattle.krl_audit.specs.declared.why.Why.TheVariants as whys
+
+-- ---- a line
+
+abbrev pub revoked_or_fine : Bool → Kind
+revoked_or_fine true = kinds.Revoked
+revoked_or_fine false = kinds.Fine
+
+-- a key that its line calls revoked is no finding
+abbrev pub key_kind : Option Marker → Bool → Kind
+key_kind (Some markers.Revoked) revoked = kinds.Distrusted
+key_kind (Some markers.Authority) revoked = revoked_or_fine revoked
+key_kind None revoked = revoked_or_fine revoked
+
+-- what a line is found to be
+abbrev pub kind_of : (Subject → Reasons) → Outcome → Kind
+kind_of reasons Blank = kinds.Blank
+kind_of reasons (Key found) = key_kind found.marker (any_reason (reasons found.asked))
+kind_of reasons (Unread why) = kinds.Unread
+
+-- whether a line of this kind is named
+abbrev pub says : Shown → Kind → Bool
+says shown kinds.Blank = false
+says shown kinds.Distrusted = false
+says shown kinds.Fine = shown.fine
+says shown kinds.Revoked = shown.findings
+says shown kinds.Unread = shown.findings
+
+-- the line that names it
+abbrev pub outcome_line : (Subject → Reasons) → List ℕ → ℕ → Outcome → List ℕ
+outcome_line reasons name number Blank = []
+outcome_line reasons name number (Key found) =
+    key_line name number found.blob found.comment found.asked (reasons found.asked)
+outcome_line reasons name number (Unread why) = unread_line name number why
+
+abbrev pub said_if : Bool → List ℕ → List ℕ → Item
+said_if true name text = said_of name text
+said_if false name text = Passed name
+
+-- what is said of a line
+abbrev pub line_item : (Subject → Reasons) → Shown → List ℕ → ℕ → Outcome → Item
+line_item reasons shown name number outcome =
+    said_if (says shown (kind_of reasons outcome)) name (outcome_line reasons name number outcome)
+
+-- ---- files
+
+-- what is said of lines, of which the first has this number
+abbrev pub lines_items : (Subject → Reasons) → Shown → List ℕ → ℕ → List Outcome → List Item
+lines_items reasons shown name number [] = []
+lines_items reasons shown name number (line ∷ lines) =
+    line_item reasons shown name number line ∷ lines_items reasons shown name (number + 1) lines
+
+-- so many more
+abbrev pub more_unread : ℕ → Option ℕ → Option ℕ
+more_unread more None = None
+more_unread more (Some count) = Some (more + count)
+
+-- how many lines are not read, or none where one has a key
+abbrev pub unread_alone : List Outcome → Option ℕ
+unread_alone [] = Some 0
+unread_alone (Blank ∷ lines) = unread_alone lines
+unread_alone (Key found ∷ lines) = None
+unread_alone (Unread why ∷ lines) = more_unread 1 (unread_alone lines)
+
+-- the same where so many were counted before, or a key was found
+abbrev pub unread_with : Option ℕ → List Outcome → Option ℕ
+unread_with None lines = None
+unread_with (Some count) lines = more_unread count (unread_alone lines)
+
+abbrev pub many : Option ℕ → Option ℕ
+many None = None
+many (Some count) = if nat_lt 1 count then Some count else None
+
+-- A file without a key, of whose lines several are not read, is as one that is not read: how many
+-- these are.
+unfoldable pub keyless : List Outcome → Option ℕ
+keyless lines = many (unread_alone lines)
+
+-- the lines of a file, or the file as a whole
+abbrev pub or_whole : Option ℕ → List Outcome → List Outcome
+or_whole None lines = lines
+or_whole (Some count) lines = Unread (whys.NoKeys count) ∷ []
+
+-- the number of the first line: 0 stands for the whole file
+abbrev pub first_number : Option ℕ → ℕ
+first_number None = 1
+first_number (Some count) = 0
+
+-- what is said of a file, and what kinds of lines are counted: of its bytes, or why there are none
+unfoldable pub file_items : (Subject → Reasons) → Shown → List ℕ → Result (List ℕ) Refusal
+    → List Item
+file_items reasons shown name (Err refusal) =
+    lines_items reasons shown name 0 (Unread (whys.File refusal) ∷ [])
+file_items reasons shown name (Ok text) =
+    let lines = outcomes text in
+    lines_items reasons shown name (first_number (keyless lines)) (or_whole (keyless lines) lines)
+
+unfoldable pub file_kinds : (Subject → Reasons) → Result (List ℕ) Refusal → List Kind
+file_kinds reasons (Err refusal) = kinds.Unread ∷ []
+file_kinds reasons (Ok text) =
+    let lines = outcomes text in map (kind_of reasons) (or_whole (keyless lines) lines)
+
+-- ---- what was made of a line
+
+pub record IsMade (reasons : Subject → Reasons) (shown : Shown) (name : List ℕ) (number : ℕ)
+    (outcome : Outcome) (kind : Kind) (said : Bool) (text : List ℕ) : Type 0 where
+  pub kind_is : kind ≡ kind_of reasons outcome
+  pub said_is : said ≡ says shown kind
+  pub text_is : said ≡ true → text ≡ outcome_line reasons name number outcome
+
+-- the bytes of a file, or why there are none
+abbrev pub content_of : Result (Bor (List ℕ)) Refusal → Result (List ℕ) Refusal
+content_of (Ok text) = Ok text.now
+content_of (Err refusal) = Err refusal
+
+-- The list gives these reasons.
+abbrev pub JudgesAs : Judge → (Subject → Reasons) → Type 0
+JudgesAs judge reasons = (asked : Subject) → held_reasons judge.list.now asked ≡ reasons asked
+
+-- Of these lines, the first of which has this number, all was said that is to be said after what
+-- was said before, and all were counted; or the audit was stopped within them.
+pub record Told (reasons : Subject → Reasons) (shown : Shown) (name : List ℕ) (number : ℕ)
+    (lines : List Outcome) (result : Result (Unit {0}) RunFault) (old new : Printer)
+    (before after : Counts) : Type 0 where
+  pub carries : Carries (lines_items reasons shown name number lines) result old new
+  pub counts : OnOk result (after ≡ all_counted before (map (kind_of reasons) lines))
+
+-- The same of a file.
+pub record ToldFile (reasons : Subject → Reasons) (shown : Shown) (name : List ℕ)
+    (content : Result (List ℕ) Refusal) (result : Result (Unit {0}) RunFault) (old new : Printer)
+    (before after : Counts) : Type 0 where
+  pub carries : Carries (file_items reasons shown name content) result old new
+  pub counts : OnOk result (after ≡ all_counted before (file_kinds reasons content))
+
+-- The audit ended as a run over its items does, with the status of what was counted.
+pub record EndsAudit (run : List Item) (counts : Counts) (before after : Option (List ℕ))
+    (failed : Bool) (status : ℕ) (fault : Option RunFault) : Type 0 where
+  pub plain : ℕ
+  pub ends : Ends run before after failed plain fault
+  pub status_is : status ≡ audit_status (is_some fault) counts

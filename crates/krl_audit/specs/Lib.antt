@@ -1,0 +1,5 @@
+pub mod Why
+pub mod Outcome
+pub mod Counts
+pub mod Text
+pub mod Audit

@@ -1,0 +1,33 @@
+-- The words for what is not read.
+use Rattle.std.specs.Prelude.{ℕ, List, ◌++◌, codes, decimal}
+use Rattle.ssh_cert.specs.SubjectFault.{subject_fault_text}
+use Rattle.key_text.specs.PrivateFault.{private_fault_text}
+use Rattle.key_text.specs.declared.line_fault.LineFault.{LineFault}
+use Rattle.key_text.specs.declared.line_fault.LineFault.TheVariants as lines
+use Rattle.krl_audit.specs.declared.why.Refusal.{Refusal}
+use Rattle.krl_audit.specs.declared.why.Refusal.TheVariants as refusals
+use Rattle.krl_audit.specs.declared.why.Why.{Why}
+use Rattle.krl_audit.specs.declared.why.Why.TheVariants as whys
+
+abbrev pub line_why : LineFault → List ℕ
+line_why lines.NoKey = codes "no key type stands there"
+line_why lines.Base64 = codes "the key is not whole base64"
+line_why lines.WordDiffers = codes "the key is of another type"
+line_why lines.NoMemory = codes "out of memory"
+
+abbrev pub refusal_why : Refusal → List ℕ
+refusal_why refusals.Missing = codes "No such file or directory"
+refusal_why refusals.Denied = codes "Permission denied"
+refusal_why refusals.Irregular = codes "no regular file"
+refusal_why refusals.Loop = codes "Too many levels of symbolic links"
+refusal_why refusals.Open = codes "it cannot be opened"
+refusal_why refusals.Read = codes "it cannot be read to its end"
+refusal_why refusals.TooLong = codes "it has more than 16 MiB"
+
+abbrev pub why_text : Why → List ℕ
+why_text (whys.Line fault) = line_why fault
+why_text (whys.Subject fault) = codes "the key is cut or misspelt: " ++ subject_fault_text fault
+why_text (whys.Private fault) =
+    codes "the private key file is cut or misspelt: " ++ private_fault_text fault
+why_text (whys.File refusal) = refusal_why refusal
+why_text (whys.NoKeys lines) = codes "none of its " ++ (decimal lines ++ codes " lines is a key")

@@ -1,0 +1,201 @@
+//! Auditing one file after the other.
+
+ghost use Rattle.std.specs.Prelude.{◌≡◌, ◌∷◌, [], ℕ, List, Ok, Option, map};
+ghost use Rattle.std.specs.List.{slice_split};
+ghost use Rattle.key_text.specs.Lines.{is_newline};
+ghost use Rattle.key_listing.specs.Carries.{Carries, Reaches};
+ghost use Rattle.key_listing.specs.Run.{Item};
+ghost use Rattle.krl_types.specs.Subject.{Subject as SubjectOf};
+ghost use Rattle.krl_held.specs.Entry.{Entry};
+ghost use Rattle.krl_held.specs.Reasons.{reasons_of};
+ghost use Rattle.krl_held.specs.Revocations.{Means};
+ghost use Rattle.krl_held.specs.declared.reasons.Reasons.{Reasons as ReasonsOf};
+ghost use Rattle.krl_audit.specs.Audit.{EndsAudit, JudgesAs, Told, ToldFile, content_of, said_if};
+ghost use Rattle.krl_audit.specs.Outcome.{GivesOutcome, Outcome as OutcomeOf, Unread as UnreadOf, opened_at, outcome_of, private_outcome, without_mark};
+
+use crate::counts::Counts;
+use crate::judge::Judge;
+use crate::outcome::{Outcome, checked, open_private, read_outcome};
+use crate::survey::keyless;
+use crate::text::Place;
+use crate::why::{Refusal, Why};
+use byte_streams::Sink;
+use key_files::{Cause, RunFault};
+use key_listing::{Done, Run};
+use key_text::{Private, is_container, split_line};
+
+// The byte order mark of UTF-8.
+const ORDER_MARK: &[u8] = b"\xef\xbb\xbf";
+
+/// What audits files: a list that is asked, what prints, and what was counted.
+#[derive(Drop)]
+pub struct Auditor<'q, 'w, W: Sink> {
+    /// The list, and what is named.
+    pub judge: Judge<'q>,
+    /// What prints.
+    pub run: Run<'w, W>,
+    /// What was counted.
+    pub counts: Counts,
+}
+
+impl<'q, 'w, W: Sink> Auditor<'q, 'w, W> {
+    /// Audits a file, of which these are the bytes or why there are none: says what is to be said
+    /// of each of its lines after what was said before, and counts them. Each fact is one of the
+    /// list's entries and of the bytes.
+    pub fn audit_file<'a>(
+        &mut self,
+        name: &'a str,
+        content: Result<&[u8], Refusal>,
+    ) -> Result<(), RunFault<'a>>
+        ensures told { (entries : List Entry) → Means self.old.judge.list.now entries
+            → ToldFile (reasons_of entries) self.old.judge.shown name.now (content_of content.entry)
+            result self.old.run.printer self.new.run.printer self.old.counts self.new.counts }
+        ensures judge { self.new.judge ≡ self.old.judge }
+    {
+        match content {
+            Ok(text) => self.audit_text(name, text),
+            Err(refusal) => self.say_unread(name, Why::File(refusal)),
+        }
+    }
+
+    // The same of bytes.
+    fn audit_text<'a>(&mut self, name: &'a str, text: &[u8]) -> Result<(), RunFault<'a>>
+        ensures told { (reasons : SubjectOf → ReasonsOf) → JudgesAs self.old.judge reasons
+            → ToldFile reasons self.old.judge.shown name.now (Ok text.now) result
+            self.old.run.printer self.new.run.printer self.old.counts self.new.counts }
+        ensures judge { self.new.judge ≡ self.old.judge }
+    {
+        if is_container(text) {
+            return self.audit_private(name, text);
+        }
+        let text = without_mark(text);
+        match keyless(self.run.alloc, text) {
+            Ok(Some(count)) => self.say_unread(name, Why::NoKeys(count)),
+            Ok(None) => self.audit_lines(name, text),
+            Err(_) => Err(RunFault::whole(name, Cause::NoMemory)),
+        }
+    }
+
+    // The same of each line.
+    fn audit_lines<'a>(&mut self, name: &'a str, text: &[u8]) -> Result<(), RunFault<'a>>
+        ensures told { (reasons : SubjectOf → ReasonsOf) → JudgesAs self.old.judge reasons
+            → Told reasons self.old.judge.shown name.now 1
+            (map outcome_of (slice_split is_newline text.now)) result self.old.run.printer
+            self.new.run.printer self.old.counts self.new.counts }
+        ensures judge { self.new.judge ≡ self.old.judge }
+    {
+        let mut rest = text;
+        let mut passed: usize = 0;
+        loop {
+            let (line, after) = split_line(rest);
+            passed += 1;
+            let number = passed as u64;
+            self.say_line(Place { name, number }, line)?;
+            let Some(after) = after else {
+                return Ok(());
+            };
+            rest = after;
+        }
+    }
+
+    // Says what is to be said of a line, and counts it.
+    fn say_line<'a>(&mut self, place: Place<'a>, line: &[u8]) -> Result<(), RunFault<'a>>
+        ensures told { (reasons : SubjectOf → ReasonsOf) → JudgesAs self.old.judge reasons
+            → Told reasons self.old.judge.shown place.entry.name.now place.entry.number
+            (outcome_of line.now ∷ []) result self.old.run.printer self.new.run.printer
+            self.old.counts self.new.counts }
+        ensures judge { self.new.judge ≡ self.old.judge }
+    {
+        match read_outcome(self.run.alloc, line) {
+            Ok(outcome) => self.say(place, &outcome),
+            Err(_) => Err(RunFault::whole(place.name, Cause::NoMemory)),
+        }
+    }
+
+    // Says what is to be said of an outcome, and counts it.
+    fn say<'a>(&mut self, place: Place<'a>, outcome: &Outcome<'_>) -> Result<(), RunFault<'a>>
+        ensures told { (given : OutcomeOf) → GivesOutcome outcome.now given
+            → (reasons : SubjectOf → ReasonsOf) → JudgesAs self.old.judge reasons
+            → Told reasons self.old.judge.shown place.entry.name.now place.entry.number
+            (given ∷ []) result self.old.run.printer self.new.run.printer self.old.counts
+            self.new.counts }
+        ensures judge { self.new.judge ≡ self.old.judge }
+    {
+        let alloc = self.run.alloc;
+        let made = match self.judge.judge(alloc, place, outcome, &mut self.run.line) {
+            Ok(made) => made,
+            Err(_) => return Err(RunFault::whole(place.name, Cause::NoMemory)),
+        };
+        say_made(&mut self.run, place.name, made.said)?;
+        self.counts = self.counts.with(made.kind);
+        Ok(())
+    }
+
+    // The same of a private key file.
+    fn audit_private<'a>(&mut self, name: &'a str, text: &[u8]) -> Result<(), RunFault<'a>>
+        ensures told { (reasons : SubjectOf → ReasonsOf) → JudgesAs self.old.judge reasons
+            → Told reasons self.old.judge.shown name.now 1
+            (private_outcome (opened_at text.now) ∷ []) result self.old.run.printer
+            self.new.run.printer self.old.counts self.new.counts }
+        ensures judge { self.new.judge ≡ self.old.judge }
+    {
+        let place = Place { name, number: 1 };
+        match open_private(self.run.alloc, text) {
+            Ok(Ok(Private { blob, comment })) => {
+                let outcome = checked(None, blob, comment.as_slice());
+                self.say(place, &outcome)
+            }
+            Ok(Err(fault)) => self.say(place, &Outcome::Unread(Why::Private(fault))),
+            Err(_) => Err(RunFault::whole(name, Cause::NoMemory)),
+        }
+    }
+
+    // Says that a file is not read, and counts it.
+    fn say_unread<'a>(&mut self, name: &'a str, why: Why) -> Result<(), RunFault<'a>>
+        ensures told { (reasons : SubjectOf → ReasonsOf) → JudgesAs self.old.judge reasons
+            → Told reasons self.old.judge.shown name.now 0 (UnreadOf why ∷ []) result
+            self.old.run.printer self.new.run.printer self.old.counts self.new.counts }
+        ensures judge { self.new.judge ≡ self.old.judge }
+    {
+        self.say(Place { name, number: 0 }, &Outcome::Unread(why))
+    }
+
+    /// Ends an audit, which a fault stopped or not: sends what waits.
+    pub fn finish<'a>(&mut self, stop: Option<RunFault<'a>>) -> Done<'a>
+        ensures ends { (before : Option (List ℕ)) (run : List Item)
+            → Reaches before run stop.entry self.old.run.printer
+            → EndsAudit run self.old.counts before self.new.run.printer.taken
+            self.new.run.printer.failed result.status result.fault }
+    {
+        let done = self.run.printer.finish(stop);
+        let fault = done.fault;
+        Done {
+            status: self.counts.status(fault.is_some()),
+            fault,
+        }
+    }
+}
+
+// Says the line that was made, where it is to be said.
+fn say_made<'a, W: Sink>(run: &mut Run<W>, name: &'a str, said: bool) -> Result<(), RunFault<'a>>
+    ensures { Carries (said_if said name.now run.old.line.items ∷ []) result run.old.printer
+        run.new.printer }
+{
+    if said {
+        run.say_line(name, Ok(()))
+    } else {
+        Ok(())
+    }
+}
+
+// The text without a byte order mark at its start.
+#[tactic(auto, unfolding(crate::specs::Outcome::without_mark))]
+fn without_mark(text: &[u8]) -> &[u8]
+    ensures { result.now ≡ without_mark text.now }
+{
+    if text.starts_with(ORDER_MARK) {
+        &text[3..]
+    } else {
+        text
+    }
+}

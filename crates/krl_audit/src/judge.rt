@@ -1,0 +1,144 @@
+//! What a list says of a key, and what is shown of it.
+
+ghost use Rattle.std.specs.Prelude.{◌≡◌, IfOk};
+ghost use Rattle.krl_types.specs.Subject.{Subject as SubjectOf};
+ghost use Rattle.krl_held.specs.declared.reasons.Reasons.{Reasons as ReasonsOf};
+ghost use Rattle.krl_audit.specs.Audit.{IsMade, JudgesAs, key_kind, says};
+ghost use Rattle.krl_audit.specs.Outcome.{GivesOutcome, Outcome as OutcomeOf, Unread};
+ghost use Rattle.krl_audit.specs.declared.outcome.Outcome.TheVariants.{Key};
+
+use crate::counts::Kind;
+use crate::outcome::{Found, Outcome};
+use crate::text::{Place, Verdict, write_key, write_unread};
+use crate::why::Why;
+use key_text::Marker;
+use krl_held::Revocations;
+use span_sets::Held;
+use ssh_cert::read_any;
+use std::alloc::{AllocError, Global};
+
+/// What is named.
+#[derive(Clone, Copy)]
+pub struct Shown {
+    /// Whether revoked keys, and what is not read, are named.
+    pub findings: bool,
+    /// Whether keys that are not revoked are named.
+    pub fine: bool,
+}
+
+/// A list that is asked, and what is named.
+#[derive(Clone, Copy)]
+pub struct Judge<'q> {
+    /// The list.
+    pub list: &'q Revocations<Held>,
+    /// What is named.
+    pub shown: Shown,
+}
+
+/// What a line is found to be, and whether it is named: then its line was made.
+#[derive(Clone, Copy)]
+pub(crate) struct Made {
+    pub(crate) kind: Kind,
+    pub(crate) said: bool,
+}
+
+impl<'q> Judge<'q> {
+    /// Judges an outcome, and makes its line where it is named.
+    pub(crate) fn judge(
+        &self,
+        alloc: Global,
+        place: Place<'_>,
+        outcome: &Outcome<'_>,
+        line: &mut Vec<u8>,
+    ) -> Result<Made, AllocError>
+        ensures { (reasons : SubjectOf → ReasonsOf) → JudgesAs self.now reasons
+            → (given : OutcomeOf) → GivesOutcome outcome.now given
+            → IfOk result (λ made. IsMade reasons self.now.shown place.entry.name.now
+            place.entry.number given made.kind made.said line.new.items) }
+    {
+        match outcome {
+            Outcome::Blank => Ok(Made {
+                kind: Kind::Blank,
+                said: false,
+            }),
+            Outcome::Key(found) => self.judge_key(alloc, place, found, line),
+            Outcome::Unread(why) => self.judge_unread(alloc, place, *why, line),
+        }
+    }
+
+    // The same of what is not read.
+    fn judge_unread(
+        &self,
+        alloc: Global,
+        place: Place<'_>,
+        why: Why,
+        line: &mut Vec<u8>,
+    ) -> Result<Made, AllocError>
+        ensures { (reasons : SubjectOf → ReasonsOf) → IfOk result (λ made. IsMade reasons
+            self.now.shown place.entry.name.now place.entry.number (Unread why) made.kind
+            made.said line.new.items) }
+    {
+        let said = self.shown.findings;
+        if said {
+            write_unread(alloc, place, why, line)?;
+        }
+        Ok(Made {
+            kind: Kind::Unread,
+            said,
+        })
+    }
+
+    // The same of a key.
+    fn judge_key(
+        &self,
+        alloc: Global,
+        place: Place<'_>,
+        found: &Found<'_>,
+        line: &mut Vec<u8>,
+    ) -> Result<Made, AllocError>
+        ensures { (reasons : SubjectOf → ReasonsOf) → JudgesAs self.now reasons
+            → (given : OutcomeOf) → GivesOutcome (Key found.now) given
+            → IfOk result (λ made. IsMade reasons self.now.shown place.entry.name.now
+            place.entry.number given made.kind made.said line.new.items) }
+    {
+        let any = match read_any(found.blob.as_slice()) {
+            Ok(any) => any,
+            Err(fault) => return self.judge_unread(alloc, place, Why::Subject(fault), line),
+        };
+        let subject = any.subject(alloc)?;
+        let reasons = self.list.reasons(&subject);
+        let kind = key_kind(found.marker, reasons.any());
+        let said = says(self.shown, kind);
+        if said {
+            let verdict = Verdict {
+                found,
+                subject: &subject,
+                reasons,
+            };
+            write_key(alloc, place, &verdict, line)?;
+        }
+        Ok(Made { kind, said })
+    }
+}
+
+// What a key is found to be, by what its line says of it and whether there is a reason.
+fn key_kind(marker: Option<Marker>, revoked: bool) -> Kind
+    ensures { result ≡ key_kind marker revoked }
+{
+    match (marker, revoked) {
+        (Some(Marker::Revoked), _) => Kind::Distrusted,
+        (_, true) => Kind::Revoked,
+        (_, false) => Kind::Fine,
+    }
+}
+
+// Whether a line of this kind is named.
+fn says(shown: Shown, kind: Kind) -> bool
+    ensures { result ≡ says shown kind }
+{
+    match kind {
+        Kind::Blank | Kind::Distrusted => false,
+        Kind::Fine => shown.fine,
+        Kind::Revoked | Kind::Unread => shown.findings,
+    }
+}

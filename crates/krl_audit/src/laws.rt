@@ -1,0 +1,52 @@
+//! Laws of what an audit finds lines to be. Each function does nothing: its contract is the law.
+
+ghost use Rattle.std.specs.Prelude.{◌≡◌, ℕ, true, false, List, None, Ok, Some};
+ghost use Rattle.ssh_wire.specs.Wire.{IsBytes};
+ghost use Rattle.ssh_cert.specs.SubjectReading.{IsSubject};
+ghost use Rattle.key_text.specs.KeyFile.{has_key};
+ghost use Rattle.key_text.specs.KeyLine.{IsKeyLine};
+ghost use Rattle.key_text.specs.LineFaults.{IsFirstLineFault};
+ghost use Rattle.key_text.specs.Marker.{IsMarkedLine, marker_of};
+ghost use Rattle.key_text.specs.declared.line_fault.LineFault.{LineFault};
+ghost use Rattle.key_text.specs.declared.marker.Marker.{Marker as MarkerOf};
+ghost use Rattle.krl_types.specs.Subject.{Subject};
+ghost use Rattle.krl_held.specs.Entry.{Entry};
+ghost use Rattle.krl_held.specs.Reasons.{reasons_of};
+ghost use Rattle.krl_held.specs.Revoked.{Revoked};
+ghost use Rattle.krl_audit.specs.Audit.{kind_of};
+ghost use Rattle.krl_audit.specs.Outcome.{Blank, Found, Key, Unread, asked_outcome, outcome_of};
+ghost use Rattle.krl_audit.specs.declared.counts.Kind.TheVariants as kinds;
+ghost use Rattle.krl_audit.specs.declared.why.Why.TheVariants.{Line};
+
+use key_text::laws::{line_read_where_spelled, line_refused_by_first_fault, marked_line_is_read};
+use ssh_cert::laws::asked_where_spelled;
+
+/// A line that is neither blank nor a comment has a key where it spells one, with its marker or
+/// without one; and else its first fault.
+pub fn lines_by_what_is_spelled()
+    ensures none { (text : List ℕ) → has_key text ≡ false → outcome_of text ≡ Blank }
+    ensures plain { (text word blob comment : List ℕ) (asked : Subject) → has_key text ≡ true
+        → marker_of text ≡ None → IsKeyLine text word blob comment → IsSubject blob asked
+        → outcome_of text ≡ asked_outcome None blob comment (Ok asked) }
+    ensures marked { (text : List ℕ) (marker : MarkerOf) (word blob comment : List ℕ)
+        (asked : Subject) → has_key text ≡ true → IsMarkedLine text marker word blob comment
+        → IsSubject blob asked
+        → outcome_of text ≡ asked_outcome (Some marker) blob comment (Ok asked) }
+    ensures fault { (text : List ℕ) (fault : LineFault) → IsBytes text → has_key text ≡ true
+        → marker_of text ≡ None → IsFirstLineFault text fault
+        → outcome_of text ≡ Unread (Line fault) }
+{
+    line_read_where_spelled();
+    line_refused_by_first_fault();
+    marked_line_is_read();
+    asked_where_spelled();
+}
+
+/// A key of a line without a marker is found revoked exactly where the entries revoke it.
+pub fn revoked_where_entries_revoke()
+    ensures revoked { (entries : List Entry) (found : Found) → found.marker ≡ None
+        → Revoked entries found.asked → kind_of (reasons_of entries) (Key found) ≡ kinds.Revoked }
+    ensures fine { (entries : List Entry) (found : Found) → found.marker ≡ None
+        → (Revoked entries found.asked → ⊥)
+        → kind_of (reasons_of entries) (Key found) ≡ kinds.Fine }
+{}

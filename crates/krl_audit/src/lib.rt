@@ -1,0 +1,19 @@
+//! Audits files of keys by a key revocation list: each line has an outcome, and is named where its
+//! key is revoked, with the reasons, or where it cannot be read.
+#![tactic(auto)]
+
+mod auditor;
+mod counts;
+mod judge;
+pub mod laws;
+mod outcome;
+mod reasons;
+mod survey;
+mod text;
+mod why;
+
+pub use auditor::Auditor;
+pub use counts::{Counts, Kind};
+pub use judge::{Judge, Shown};
+pub use outcome::{Found, Outcome, read_outcome};
+pub use why::{Refusal, Why};

@@ -1,0 +1,65 @@
+//! Whether a file has a key at all.
+
+ghost use Rattle.std.specs.Prelude.{◌≡◌, ◌∷◌, ◌+◌, ◌<◌, ◌≤◌, ◌^◌, IfOk, IfSome, List, map};
+ghost use Rattle.std.specs.List.{slice_split};
+ghost use Rattle.key_text.specs.Lines.{is_newline};
+ghost use Rattle.krl_audit.specs.Audit.{keyless, many, more_unread, unread_alone, unread_with};
+ghost use Rattle.krl_audit.specs.Outcome.{Outcome as OutcomeOf, outcome_of};
+
+use crate::outcome::{Outcome, read_outcome};
+use key_text::split_line;
+use std::alloc::{AllocError, Global};
+
+/// How many lines of a text are not read, where none of them has a key and they are several.
+#[tactic(auto, unfolding(crate::specs::Audit::keyless))]
+pub(crate) fn keyless(alloc: Global, text: &[u8]) -> Result<Option<u64>, AllocError>
+    ensures { IfOk result (λ count. count
+        ≡ keyless (map outcome_of (slice_split is_newline text.now))) }
+{
+    Ok(many(unread_alone(alloc, text)?))
+}
+
+// A count above 1.
+fn many(count: Option<u64>) -> Option<u64>
+    ensures { result ≡ many count }
+{
+    match count {
+        Some(count) if count > 1 => Some(count),
+        _ => None,
+    }
+}
+
+// How many lines of a text are not read, where none of them has a key. It ends at the first key.
+fn unread_alone(alloc: Global, text: &[u8]) -> Result<Option<u64>, AllocError>
+    ensures { IfOk result (λ count. count
+        ≡ unread_alone (map outcome_of (slice_split is_newline text.now))) }
+{
+    let mut rest = text;
+    let mut count: u64 = 0;
+    loop {
+        let (line, after) = split_line(rest);
+        let Some(more) = count_line(alloc, line, count)? else {
+            return Ok(None);
+        };
+        count = more;
+        let Some(after) = after else {
+            return Ok(Some(count));
+        };
+        rest = after;
+    }
+}
+
+// The count with a line, where it has no key.
+fn count_line(alloc: Global, line: &[u8], count: u64) -> Result<Option<u64>, AllocError>
+    requires { count + 1 < 2 ^ 64 }
+    ensures counts { IfOk result (λ more. (lines : List OutcomeOf)
+        → more_unread count (unread_alone (outcome_of line.now ∷ lines))
+        ≡ unread_with more lines) }
+    ensures within { IfOk result (λ more. IfSome more (λ more. more ≤ count + 1)) }
+{
+    match read_outcome(alloc, line)? {
+        Outcome::Blank => Ok(Some(count)),
+        Outcome::Key(_) => Ok(None),
+        Outcome::Unread(_) => Ok(Some(count + 1)),
+    }
+}

@@ -1,0 +1,131 @@
+//! The lines of findings.
+
+ghost use Rattle.std.specs.Prelude.{◌≡◌, ◌++◌, OnOk};
+ghost use Rattle.krl_held.specs.Reasons.{any_reason};
+ghost use Rattle.krl_audit.specs.Text.{comment_words, key_line, key_words, place_text, type_of, unread_line, verdict_word};
+
+use crate::outcome::Found;
+use crate::reasons::push_reasons;
+use crate::why::{Why, push_why};
+use key_listing::push_number;
+use key_text::{Hash, fingerprint};
+use krl_held::Reasons;
+use krl_types::Subject;
+use ssh_cert::push_escaped;
+use ssh_wire::Cursor;
+use std::alloc::{AllocError, Global};
+
+/// Where a line is: the name of its file, and its number from 1 on; 0 stands for the whole file.
+#[derive(Clone, Copy)]
+pub(crate) struct Place<'a> {
+    pub(crate) name: &'a str,
+    pub(crate) number: u64,
+}
+
+/// What is known of a key: the bytes, what a list is asked about them, and what it answers.
+#[derive(Clone, Copy)]
+pub(crate) struct Verdict<'a> {
+    pub(crate) found: &'a Found<'a>,
+    pub(crate) subject: &'a Subject<'a>,
+    pub(crate) reasons: Reasons,
+}
+
+/// Makes the line of what is not read, with its line feed.
+pub(crate) fn write_unread(
+    alloc: Global,
+    place: Place<'_>,
+    why: Why,
+    line: &mut Vec<u8>,
+) -> Result<(), AllocError>
+    ensures { OnOk result (line.new.items
+        ≡ unread_line place.entry.name.now place.entry.number why) }
+{
+    line.clear();
+    push_place(line, place)?;
+    line.extend_from_slice(b": unread: ")?;
+    push_why(alloc, line, why)?;
+    line.push(b'\n')?;
+    Ok(())
+}
+
+/// Makes the line of a key, with its line feed.
+pub(crate) fn write_key(
+    alloc: Global,
+    place: Place<'_>,
+    verdict: &Verdict<'_>,
+    line: &mut Vec<u8>,
+) -> Result<(), AllocError>
+    ensures { OnOk result (line.new.items ≡ key_line place.entry.name.now place.entry.number
+        verdict.now.found.now.blob verdict.now.found.now.comment.now verdict.now.subject.now
+        verdict.now.reasons) }
+{
+    line.clear();
+    push_place(line, place)?;
+    line.extend_from_slice(verdict_word(verdict.reasons))?;
+    push_key(alloc, line, verdict.found.blob.as_slice(), verdict.subject)?;
+    push_reasons(alloc, line, verdict.subject, verdict.reasons)?;
+    push_comment(line, verdict.found.comment)?;
+    line.push(b'\n')?;
+    Ok(())
+}
+
+// Whether a key is revoked, as it is printed.
+fn verdict_word(reasons: Reasons) -> &'static [u8]
+    ensures { result.now ≡ verdict_word (any_reason reasons) }
+{
+    if reasons.any() {
+        b": revoked: "
+    } else {
+        b": ok: "
+    }
+}
+
+// Appends the name of a file, and the number of a line of it.
+fn push_place(text: &mut Vec<u8>, place: Place<'_>) -> Result<(), AllocError>
+    ensures { OnOk result (text.new.items
+        ≡ text.old.items ++ place_text place.entry.name.now place.entry.number) }
+{
+    push_escaped(text, place.name.as_bytes())?;
+    if place.number > 0 {
+        text.push(b':')?;
+        push_number(place.number, text)?;
+    }
+    Ok(())
+}
+
+// Appends the type of a key and the fingerprint of its plain key.
+fn push_key(
+    alloc: Global,
+    text: &mut Vec<u8>,
+    blob: &[u8],
+    subject: &Subject<'_>,
+) -> Result<(), AllocError>
+    ensures { OnOk result (text.new.items ≡ text.old.items ++ key_words blob.now subject.now) }
+{
+    let print = fingerprint(alloc, Hash::Sha256, subject.plain.as_slice())?;
+    text.extend_from_slice(type_of(blob))?;
+    text.push(b' ')?;
+    text.extend_from_slice(&print)
+}
+
+// The name of the type of a key, which is its first string.
+#[tactic(auto, unfolding(crate::specs::Text::type_of))]
+fn type_of(blob: &[u8]) -> &[u8]
+    ensures { result.now ≡ type_of blob.now }
+{
+    match Cursor::new(blob).string() {
+        Ok(name) => name,
+        Err(_) => &[],
+    }
+}
+
+// Appends a comment, escaped, where there is one.
+fn push_comment(text: &mut Vec<u8>, comment: &[u8]) -> Result<(), AllocError>
+    ensures { OnOk result (text.new.items ≡ text.old.items ++ comment_words comment.now) }
+{
+    if !comment.is_empty() {
+        text.extend_from_slice(b": ")?;
+        push_escaped(text, comment)?;
+    }
+    Ok(())
+}

@@ -1,0 +1,7 @@
+//! What no contract says: lines as people read them, and calls with ample memory.
+
+mod files;
+mod keys;
+mod lines;
+mod made;
+mod page;

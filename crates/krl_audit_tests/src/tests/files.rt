@@ -1,0 +1,94 @@
+//! Whole files: numbers of lines, files without a key, private key files, and files that are not
+//! read.
+
+use crate::tests::keys::{ALICE, ALICE_PRINT, AUTHORITY_PRINT, BOB, BOB_PRINT};
+use crate::tests::made::{FINDINGS, alice_and_bob, nothing, said_of};
+use krl_audit::Refusal;
+use parts_for_tests::{CONTAINER, GITHUB, GITHUB_PRINT, joined, repeated};
+
+#[test]
+fn an_audit_goes_on_past_what_it_cannot_read(rt: HostRuntime) {
+    let list = alice_and_bob(&rt, rt.alloc());
+    let text = format!(in rt.alloc();
+        "# keys\n\n{ALICE} alice@laptop\r\nnot a key\n{BOB} bob@desk\n"
+    );
+    let text = text.expect(&rt, "there is memory");
+    let files = [
+        ("gone", Err(Refusal::Missing)),
+        ("home/\x1bbob", Ok(text.as_bytes())),
+        ("pipe", Err(Refusal::Irregular)),
+    ];
+    let found = said_of(&rt, rt.alloc(), &list, FINDINGS, &files);
+    let wanted = format!(in rt.alloc();
+        "gone: unread: No such file or directory
+home/\\x1bbob:3: revoked: ssh-ed25519 {ALICE_PRINT} by its key: alice@laptop
+home/\\x1bbob:4: unread: no key type stands there
+home/\\x1bbob:5: revoked: ssh-ed25519-cert-v01@openssh.com {BOB_PRINT} by key ID \"bob\" of CA {AUTHORITY_PRINT}: bob@desk
+pipe: unread: no regular file\n"
+    );
+    let wanted = wanted.expect(&rt, "there is memory");
+    assert_eq!(rt; found.text.as_slice(), wanted.as_bytes());
+    let counts = found.counts;
+    assert!(rt; counts.keys == 2 && counts.revoked == 2 && counts.unread == 3);
+    assert!(rt; found.status == 1);
+}
+
+// Files without a key, and what is said of them.
+const KEYLESS: [(&str, &str); 5] = [
+    ("", ""),
+    ("# nothing\n\n", ""),
+    ("a\n", "f:1: unread: no key type stands there\n"),
+    ("a\nb\n", "f: unread: none of its 2 lines is a key\n"),
+    ("#\na\n\nb\nc", "f: unread: none of its 3 lines is a key\n"),
+];
+
+#[test]
+fn a_file_without_a_key_is_named_once(rt: HostRuntime) {
+    let list = nothing(rt.alloc());
+    for (i, (text, wanted)) in KEYLESS.iter().enumerate() {
+        let files = [("f", Ok(text.as_bytes()))];
+        let found = said_of(&rt, rt.alloc(), &list, FINDINGS, &files);
+        assert_eq!(rt; found.text.as_slice(), wanted.as_bytes(), "file {i}");
+        let status = if wanted.is_empty() { 0 } else { 3 };
+        assert_eq!(rt; found.status, status, "file {i}");
+    }
+}
+
+#[test]
+fn of_a_private_key_file_the_public_half_is_asked_about(rt: HostRuntime) {
+    let mut list = nothing(rt.alloc());
+    list.add_key(GITHUB).expect(&rt, "there is memory");
+    let files = [("id", Ok(CONTAINER)), ("cut", Ok(&CONTAINER[..60]))];
+    let found = said_of(&rt, rt.alloc(), &list, FINDINGS, &files);
+    let wanted = joined(
+        rt.alloc(),
+        &[
+            b"id:1: revoked: ssh-ed25519 ",
+            GITHUB_PRINT,
+            b" by its key: a\ncut:1: unread: the private key file is cut or misspelt: private 1 Armour\n",
+        ],
+    );
+    let wanted = wanted.expect(&rt, "there is memory");
+    assert_eq!(rt; found.text.as_slice(), wanted.as_slice());
+}
+
+// More lines than any page of memory has.
+#[test]
+fn many_lines(rt: HostRuntime) {
+    let list = nothing(rt.alloc());
+    let line = joined(rt.alloc(), &[ALICE.as_bytes(), b"\nx\n"]).expect(&rt, "there is memory");
+    let text = repeated(rt.alloc(), &line, 1_500).expect(&rt, "there is memory");
+    let found = said_of(
+        &rt,
+        rt.alloc(),
+        &list,
+        FINDINGS,
+        &[("f", Ok(text.as_slice()))],
+    );
+    assert!(rt; found.counts.keys == 1_500 && found.counts.unread == 1_500);
+    assert!(rt;
+        found
+            .text
+            .ends_with(b"f:3000: unread: no key type stands there\n")
+    );
+}

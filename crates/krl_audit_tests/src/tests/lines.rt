@@ -1,0 +1,152 @@
+//! The outcome of each line, as people read it.
+
+use crate::tests::keys::{ALICE, ALICE_PRINT, AUTHORITY, AUTHORITY_PRINT, BOB, BOB_PRINT};
+use crate::tests::made::{
+    ALL, FINDINGS, Listed, NOTHING, alice_and_bob, authority_of, blob_of, nothing, said_of,
+};
+use key_text::{sha1_of, sha256_of};
+use std::alloc::Global;
+use std::process::Abort;
+
+// The line of a key, with what is before and after it.
+fn line_of(rt: &impl Abort, alloc: Global, before: &str, key: &str, after: &str) -> String {
+    format!(in alloc; "{before}{key}{after}").expect(rt, "there is memory")
+}
+
+// What is before a key, what is after it, and what is said of Alice's key after its place.
+const LINES: [(&str, &str, &str); 13] = [
+    ("", "", ""),
+    ("", " alice@laptop", ": alice@laptop"),
+    ("", " a b\r", ": a b"),
+    (" \t", "\ta\t \r", ": a"),
+    ("\u{feff}", " a", ": a"),
+    ("command=\"a b\",no-pty ", " a", ": a"),
+    ("cert-authority,principals=\"x y\" ", " a", ": a"),
+    ("host,10.0.0.1 ", "", ""),
+    ("[host]:2222 ", " a", ": a"),
+    ("|1|c2FsdA==|aGFzaA== ", " a", ": a"),
+    ("@cert-authority *.example.net ", " a", ": a"),
+    ("", " \u{1b}[31mred\u{7}", ": \\x1b[31mred\\x07"),
+    ("", " caf\u{e9}", ": caf\u{e9}"),
+];
+
+#[test]
+fn a_revoked_key_is_found_on_each_kind_of_line(rt: HostRuntime) {
+    let list = alice_and_bob(&rt, rt.alloc());
+    for (i, (before, after, said)) in LINES.iter().enumerate() {
+        let line = line_of(&rt, rt.alloc(), *before, ALICE, *after);
+        let found = said_of(
+            &rt,
+            rt.alloc(),
+            &list,
+            FINDINGS,
+            &[("f", Ok(line.as_bytes()))],
+        );
+        let wanted = format!(in rt.alloc();
+            "f:1: revoked: ssh-ed25519 {ALICE_PRINT} by its key{said}\n"
+        );
+        let wanted = wanted.expect(&rt, "there is memory");
+        assert_eq!(rt; found.text.as_slice(), wanted.as_bytes(), "line {i}");
+        assert_eq!(rt; found.status, 1, "line {i}");
+    }
+}
+
+// Lines of which nothing is said, whatever their keys: blank, comments, or distrusted already.
+const SILENT: [&str; 6] = ["", " \t\r", "# ", "#", " \t#", "@revoked * "];
+
+#[test]
+fn nothing_is_said_of_other_lines(rt: HostRuntime) {
+    let list = alice_and_bob(&rt, rt.alloc());
+    for (i, before) in SILENT.iter().enumerate() {
+        let key = if i < 2 { "" } else { ALICE };
+        let line = line_of(&rt, rt.alloc(), *before, key, " a");
+        let line = if i < 2 { *before } else { line.as_str() };
+        let found = said_of(&rt, rt.alloc(), &list, ALL, &[("f", Ok(line.as_bytes()))]);
+        assert!(rt; found.text.is_empty() && found.status == 0, "line {i}");
+    }
+}
+
+// Lines that are not read, and why.
+const UNREAD: [(&str, &str); 8] = [
+    ("garbage", "no key type stands there"),
+    ("host 1024 35 12345", "no key type stands there"),
+    (
+        "ssh-ed448 AAAACXNzaC1lZDQ0OA== a",
+        "no key type stands there",
+    ),
+    ("ssh-ed25519", "no key type stands there"),
+    (
+        "ssh-ed25519 AAAAC3NzaC1lZDI1NTE5AAAA= a",
+        "the key is not whole base64",
+    ),
+    (
+        "ssh-rsa AAAAC3NzaC1lZDI1NTE5 a",
+        "the key is of another type",
+    ),
+    (
+        "ssh-ed25519 AAAAC3NzaC1lZDI1NTE5 a",
+        "the key is cut or misspelt: subject 1 Key, key 1 Wire, wire 1 Short",
+    ),
+    ("@revoked garbage", "no key type stands there"),
+];
+
+#[test]
+fn a_line_that_is_not_read_is_named_with_its_reason(rt: HostRuntime) {
+    let list = nothing(rt.alloc());
+    for (i, (line, why)) in UNREAD.iter().enumerate() {
+        let files = [("f", Ok(line.as_bytes()))];
+        let found = said_of(&rt, rt.alloc(), &list, FINDINGS, &files);
+        let wanted = format!(in rt.alloc(); "f:1: unread: {why}\n").expect(&rt, "there is memory");
+        assert_eq!(rt; found.text.as_slice(), wanted.as_bytes(), "line {i}");
+        assert_eq!(rt; found.status, 3, "line {i}");
+    }
+}
+
+// A list with each entry that names Bob's certificate, in the order of the reasons.
+fn all_of_bob(rt: &impl Abort, alloc: Global, id: &[u8]) -> Listed {
+    let mut list = nothing(alloc);
+    let authority = blob_of(rt, alloc, AUTHORITY);
+    let added = [
+        list.add_key(authority.as_slice()),
+        list.add_sha1(&sha1_of(authority.as_slice())),
+        list.add_sha256(&sha256_of(authority.as_slice())),
+        list.add_serials(authority_of(authority.as_slice()), 8, 8),
+        list.add_serials(None, 1, 8),
+        list.add_id(authority_of(authority.as_slice()), id),
+        list.add_id(None, id),
+    ];
+    for one in added {
+        one.expect(rt, "there is memory");
+    }
+    list
+}
+
+#[test]
+fn all_reasons_are_named_in_their_order(rt: HostRuntime) {
+    let list = all_of_bob(&rt, rt.alloc(), b"bob");
+    let files = [("f", Ok(BOB.as_bytes()))];
+    let found = said_of(&rt, rt.alloc(), &list, FINDINGS, &files);
+    let of_authority = AUTHORITY_PRINT;
+    let wanted = format!(in rt.alloc();
+        "f:1: revoked: ssh-ed25519-cert-v01@openssh.com {BOB_PRINT} by the key of its CA, \
+by the SHA-1 of its CA, by the SHA-256 of its CA, by serial 8 of CA {of_authority}, \
+by serial 8 of all CAs, by key ID \"bob\" of CA {of_authority}, by key ID \"bob\" of all CAs\n"
+    );
+    let wanted = wanted.expect(&rt, "there is memory");
+    assert_eq!(rt; found.text.as_slice(), wanted.as_bytes());
+}
+
+#[test]
+fn keys_that_are_fine_are_named_where_all_are(rt: HostRuntime) {
+    let list = alice_and_bob(&rt, rt.alloc());
+    let files = [("f", Ok(AUTHORITY.as_bytes()))];
+    let wanted = format!(in rt.alloc(); "f:1: ok: ssh-ed25519 {AUTHORITY_PRINT}\n");
+    let wanted = wanted.expect(&rt, "there is memory");
+    let found = said_of(&rt, rt.alloc(), &list, ALL, &files);
+    assert_eq!(rt; found.text.as_slice(), wanted.as_bytes());
+    let found = said_of(&rt, rt.alloc(), &list, FINDINGS, &files);
+    assert!(rt; found.text.is_empty() && found.status == 0);
+    let files = [("f", Ok(ALICE.as_bytes()))];
+    let found = said_of(&rt, rt.alloc(), &list, NOTHING, &files);
+    assert!(rt; found.text.is_empty() && found.status == 1);
+}

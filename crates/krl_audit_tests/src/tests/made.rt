@@ -1,0 +1,120 @@
+//! What is revoked, and what is said of files.
+
+ghost use Rattle.krl_held.specs.Authority.{IsAuthority};
+
+use crate::tests::keys::{ALICE, AUTHORITY, BOB};
+use byte_streams::{Sink, ToWrite};
+use key_listing::{Printer, Run};
+use key_text::read_line;
+use krl_audit::{Auditor, Counts, Judge, Refusal, Shown};
+use krl_held::Revocations;
+use parts_for_tests::Taker;
+use span_sets::Held;
+use ssh_wire::Bytes;
+use std::alloc::Global;
+use std::process::Abort;
+
+/// Revoked keys and what is not read are named.
+pub const FINDINGS: Shown = Shown {
+    findings: true,
+    fine: false,
+};
+
+/// All keys are named.
+pub const ALL: Shown = Shown {
+    findings: true,
+    fine: true,
+};
+
+/// Nothing is named.
+pub const NOTHING: Shown = Shown {
+    findings: false,
+    fine: false,
+};
+
+/// The blob of the key of a line.
+pub fn blob_of(rt: &impl Abort, alloc: Global, line: &str) -> Bytes {
+    read_line(alloc, line.as_bytes())
+        .expect(rt, "there is memory, and the line has a key")
+        .blob
+}
+
+/// What a list revokes.
+pub type Listed = Revocations<Held>;
+
+/// The authority of this key; none stands for all.
+pub fn authority_of(key: &[u8]) -> Option<&[u8]>
+    ensures { IsAuthority result }
+{
+    if key.is_empty() { None } else { Some(key) }
+}
+
+/// Nothing is revoked.
+pub fn nothing(alloc: Global) -> Listed {
+    Revocations::new(alloc)
+}
+
+/// Alice's key, and Bob's key ID under his authority.
+pub fn alice_and_bob(rt: &impl Abort, alloc: Global) -> Listed {
+    let mut list = nothing(alloc);
+    let alice = blob_of(rt, alloc, ALICE);
+    let authority = blob_of(rt, alloc, AUTHORITY);
+    list.add_key(alice.as_slice()).expect(rt, "there is memory");
+    list.add_id(authority_of(authority.as_slice()), b"bob")
+        .expect(rt, "there is memory");
+    list
+}
+
+/// What is said of a file, and counted.
+#[derive(Drop)]
+pub struct Said {
+    pub text: Vec<u8>,
+    pub counts: Counts,
+    pub status: u8,
+}
+
+/// What an audit of these files by a list says, and counts.
+pub fn said_of(
+    rt: &impl Abort,
+    alloc: Global,
+    list: &Listed,
+    shown: Shown,
+    files: &[(&str, Result<&[u8], Refusal>)],
+) -> Said {
+    let mut taker = Taker::whole(alloc);
+    let judge = Judge { list, shown };
+    let (counts, status) = audit_into(rt, alloc, judge, files, &mut ToWrite::new(&mut taker));
+    Said {
+        text: taker.taken,
+        counts,
+        status,
+    }
+}
+
+// Audits files, and gives what was counted and the status.
+fn audit_into<W: Sink>(
+    rt: &impl Abort,
+    alloc: Global,
+    judge: Judge<'_>,
+    files: &[(&str, Result<&[u8], Refusal>)],
+    out: &mut W,
+) -> (Counts, u8) {
+    let mut buffer = Vec::new(alloc);
+    let run = Run {
+        alloc,
+        printer: Printer::new(&mut buffer, out),
+        line: Vec::new(alloc),
+    };
+    let mut auditor = Auditor {
+        judge,
+        run,
+        counts: Counts::NONE,
+    };
+    for (name, content) in files {
+        auditor
+            .audit_file(*name, *content)
+            .expect(rt, "there is memory");
+    }
+    let status = auditor.finish(None).status;
+    (auditor.counts, status)
+}

@@ -1,0 +1,79 @@
+//! Files that are audited.
+
+use crate::tests::answered::{answered, ran_out};
+use crate::tests::buffer::Buffer;
+use byte_streams::{Sink, ToWrite};
+use key_files::{Cause, RunFault};
+use key_listing::{Printer, Run};
+use krl_audit::{Auditor, Counts, Judge, Outcome, Shown, read_outcome};
+use krl_core::Revocations;
+use parts_for_tests::{CERT_LINE, CONTAINER, GITHUB, GITHUB_LINE, joined};
+use span_sets::Held;
+use std::alloc::{AllocError, Global};
+
+// What is said of the lines of `audited`.
+const SAID: &[u8] = b"f:1: unread: no key type stands there
+f:2: revoked: ssh-ed25519 SHA256:+DiY3wvvV6TuJJhbpZisF/zLDA0zPMSvHdkr4UvCOqU by its key: a
+f:3: revoked: ssh-ed25519-cert-v01@openssh.com SHA256:+DiY3wvvV6TuJJhbpZisF/zLDA0zPMSvHdkr4UvCOqU by its key
+id:1: revoked: ssh-ed25519 SHA256:+DiY3wvvV6TuJJhbpZisF/zLDA0zPMSvHdkr4UvCOqU by its key: a
+";
+
+// Audits a file of three lines and a private key file.
+fn audited<W: Sink>(
+    alloc: Global,
+    list: &Revocations<Held>,
+    text: &[u8],
+    out: &mut W,
+) -> Option<RunFault<'static>> {
+    let mut buffer = Vec::new(alloc);
+    let run = Run {
+        alloc,
+        printer: Printer::new(&mut buffer, out),
+        line: Vec::new(alloc),
+    };
+    let shown = Shown {
+        findings: true,
+        fine: false,
+    };
+    let mut auditor = Auditor {
+        judge: Judge { list, shown },
+        run,
+        counts: Counts::NONE,
+    };
+    let stop = match auditor.audit_file("f", Ok(text)) {
+        Ok(()) => auditor.audit_file("id", Ok(CONTAINER)).err(),
+        Err(stop) => Some(stop),
+    };
+    let done = auditor.finish(stop);
+    done.fault
+}
+
+#[test]
+fn files_are_audited(rt: HostRuntime) {
+    let mut list: Revocations<Held> = Revocations::new(rt.alloc());
+    if answered(&rt, list.add_key(GITHUB), AllocError).is_none() {
+        return;
+    }
+    let parts = [b"x\n".as_slice(), GITHUB_LINE, b" a\n", CERT_LINE];
+    let Some(text) = answered(&rt, joined(rt.alloc(), &parts), AllocError) else {
+        return;
+    };
+    let mut said = Buffer::new();
+    let stop = audited(rt.alloc(), &list, &text, &mut ToWrite::new(&mut said));
+    match stop {
+        None => assert!(rt; said.text() == SAID),
+        Some(stop) => {
+            // What was said before memory ran out is right.
+            assert!(rt; stop.cause == Cause::NoMemory && SAID.starts_with(said.text()));
+            ran_out(&rt);
+        }
+    }
+}
+
+#[test]
+fn a_line_has_an_outcome(rt: HostRuntime) {
+    let read = read_outcome(rt.alloc(), GITHUB_LINE);
+    if let Some(outcome) = answered(&rt, read, AllocError) {
+        assert!(rt; matches!(outcome, Outcome::Key(_)));
+    }
+}
