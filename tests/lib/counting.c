@@ -1,11 +1,13 @@
 /* Loaded before the C library of a program, this counts the bytes that it holds, as they are asked
-   for. COUNTED=FILE: the bytes that are held, and the most that were, stand there as 64-bit numbers. */
+   for, and its calls of read. COUNTED=FILE: the bytes that are held, the most that were, and the
+   number of calls are there as 64-bit numbers. */
 #define _GNU_SOURCE
 #include <fcntl.h>
 #include <malloc.h>
 #include <stdint.h>
 #include <stdlib.h>
 #include <sys/mman.h>
+#include <sys/syscall.h>
 #include <unistd.h>
 
 void *__libc_malloc(size_t);
@@ -13,7 +15,7 @@ void *__libc_realloc(void *, size_t);
 void __libc_free(void *);
 
 struct count {
-  uint64_t held, most;
+  uint64_t held, most, reads;
 };
 
 static struct count own;
@@ -54,4 +56,9 @@ void free(void *block) {
   if (block)
     count->held -= malloc_usable_size(block);
   __libc_free(block);
+}
+
+ssize_t read(int file, void *bytes, size_t size) {
+  count->reads++;
+  return syscall(SYS_read, file, bytes, size);
 }
