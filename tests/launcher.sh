@@ -34,8 +34,9 @@ mv away/crates/krl_tool/src/lib.rt away/crates/krl_tool/src/main.rt
 export calls=$scratch/here/calls XDG_CACHE_HOME=$scratch/here/cache
 store=$XDG_CACHE_HOME/krl-keygen
 unset RT_JOBS AFTER_CI
-one=(env RT_JOBS=1)
-two=(env RT_JOBS=2)
+# What runs in the background of a script has some signals ignored, as a user's shell has not.
+one=(env --default-signal=HUP,INT,TERM RT_JOBS=1)
+two=(env --default-signal=HUP,INT,TERM RT_JOBS=2)
 
 # use WORD..: runs the launcher over that kit, by the command that the words begin.
 use() {
