@@ -1,4 +1,4 @@
--- Spellings that are cut.
+-- Spellings that are truncated.
 use Rattle.std.proofs.Common.{◌≡◌, ℕ, ◌+◌, ◌-◌, ◌^◌, ◌<◌, ◌≤◌, List, ◌++◌, length, take, drop, Err}
 use Rattle.std.proofs.Common.{refl, sym, ap, ◌∙◌, arith, inl, inr}
 use Rattle.std.proofs.Math.Seq.{take-append-add}
@@ -30,7 +30,7 @@ number-cut k n front rest parts some =
       length-append front rest,
     ))
 
--- a cut after the front
+-- a prefix that ends after the front
 pub take-after : (front after : List ℕ) (n : ℕ) → length front ≤ n
     → take n (front ++ after) ≡ front ++ take (n - length front) after
 take-after front after n le =
@@ -38,7 +38,7 @@ take-after front after n le =
     ap (λ (k : ℕ). take k (front ++ after)) size
     ∙ take-append-add front after (n - length front)
 
--- what follows a front of a text in the longer front of another
+-- of two fronts of one list, the longer begins with the shorter
 after_front : (head text front rest : List ℕ) → head ++ text ≡ front ++ rest
     → length head ≤ length front → front ≡ head ++ drop (length head) front
 after_front head text front rest parts long =

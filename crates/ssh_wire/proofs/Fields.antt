@@ -1,5 +1,4 @@
--- Fields at the front of bytes: what a reader took is spelled as its value, and what is spelled so
--- is read again.
+-- Fields at the front of bytes: what a reader took is the spelling of its value, and each spelling is read.
 use Rattle.std.proofs.Common.{◌≡◌, ℕ, zero, suc, ◌+◌, ◌-◌, ◌*◌, ◌^◌, ◌<◌, ◌≤◌, false}
 use Rattle.std.proofs.Common.{ltb, List, [], ◌∷◌, ◌++◌, length, take, drop, Result, Ok, Err, refl}
 use Rattle.std.proofs.Common.{sym, ap, subst, ◌∙◌, append_assoc, arith, inl, inr}
@@ -66,7 +65,7 @@ number_takes k bytes n rest fits e =
     subst (λ (p : ℕ × List ℕ). HasFront bytes (number k p.0) p.1 × (p.0 < 256 ^ k)) g.1
     (whole, big_from-lt 0 k bytes fits)
 
--- bytes by the number of the first k and the slice after them
+-- bytes split into the number of the first k and the slice after them
 pub number_front : (k : ℕ) (bytes : List ℕ) (n : ℕ) → IsBytes bytes → k ≤ length bytes
     → n ≡ big_number k bytes → bytes ≡ number k n ++ take (length bytes - k) (drop k bytes)
 unfolding number
@@ -132,7 +131,7 @@ front_again text rest =
     le-ltb _ _ (omega (arith, length-append text rest)) in
     rw (long, take_at text rest (length text) refl, drop_at text rest (length text) refl) refl
 
--- bytes by their string and the slice after it
+-- bytes split into their string and the slice after it
 pub string_front : (size : ℕ) (bytes text rest : List ℕ) → IsBytes bytes → 4 ≤ length bytes
     → size ≡ big_number 4 bytes → size ≤ length (take (length bytes - 4) (drop 4 bytes))
     → text ≡ take size (take (length bytes - 4) (drop 4 bytes))
@@ -213,7 +212,7 @@ magnitude_again (suc byte ∷ bytes) h =
       | inr le ↦ let test = le-ltb (suc byte) 128 le in rw (test, test) refl
     ]
 
--- bytes by the magnitude of their string
+-- bytes split into the magnitude of their string and the slice after it
 pub mpint_front : (bytes text rest : List ℕ) (lent : Result (Bor (List ℕ)) WireFault)
     → bytes ≡ string text ++ rest → Lends lent (magnitude_of text)
     → IfOk lent (λ magnitude. (bytes ≡ mpint magnitude.now ++ rest) × IsMagnitude magnitude.now)

@@ -11,7 +11,7 @@ use Rattle.ssh_wire.specs.Laws.{HasMpint}
 use Rattle.ssh_wire.proofs.Digits.{IsBytes-tail, same_bytes}
 use Rattle.ssh_wire.proofs.Fields.{IsBytes-in_string}
 
--- the number of a first byte and the bytes after it
+-- the number of a first byte followed by bytes
 pub number_of-cons : (byte : ℕ) (bytes : List ℕ)
     → number_of (byte ∷ bytes) ≡ byte * 256 ^ length bytes + number_of bytes
 unfolding number_of
@@ -33,7 +33,7 @@ number_of-complement (byte ∷ bytes) =
       | inr le ↦ rw (le-ltb byte 128 le) (omega (arith, number_of-cons 0 (byte ∷ bytes)))
     ]
 
--- a leading zero byte is one byte more
+-- a leading zero byte makes it one byte longer
 pub complement_fits : (magnitude : List ℕ) → length magnitude + 1 < 2 ^ 32
     → length (complement magnitude) < 2 ^ 32
 unfolding complement
@@ -44,7 +44,7 @@ complement_fits (byte ∷ bytes) fits =
       | inr le ↦ rw (le-ltb byte 128 le) (omega arith)
     ]
 
--- a number is as large as its length says
+-- a number is at least as large as its length implies
 pub number_of-ge : (byte : ℕ) (bytes : List ℕ) → 0 < byte
     → 256 ^ length bytes ≤ number_of (byte ∷ bytes)
 number_of-ge byte bytes h =
@@ -72,7 +72,7 @@ shorter small (byte ∷ bytes) fits h lt =
     ap (λ (k : ℕ). 256 ^ k) (omega arith) in
     omega (arith, number_of-lt small fits, number_of-ge byte bytes h, grows, same)
 
--- one magnitude a number
+-- a number has one magnitude
 pub same_magnitude : (one other : List ℕ) → IsBytes one → IsBytes other → IsMagnitude one
     → IsMagnitude other → number_of one ≡ number_of other → one ≡ other
 unfolding number_of
@@ -106,7 +106,7 @@ IsShortest-complement (byte ∷ next ∷ bytes) h =
       | inr le ↦ rw (le-ltb byte 128 le) (omega arith, λ e. le)
     ]
 
--- the magnitude that a shortest spelling has
+-- the magnitude of a shortest spelling
 record HasMagnitude (bytes : List ℕ) : Type 0 where
   pub magnitude : List ℕ
   pub is_magnitude : IsMagnitude magnitude
@@ -138,7 +138,7 @@ has_magnitude (suc byte ∷ next ∷ bytes) h = record {
       rw (lt-ltb (suc byte) 128 h.0) refl;
 }
 
--- the spelling of a magnitude is the shortest of its number
+-- the spelling of a magnitude is the shortest spelling of its number
 pub mpint-is : (magnitude : List ℕ) → IsMagnitude magnitude
     → length (complement magnitude) < 2 ^ 32 → IsMpint (mpint magnitude) (number_of magnitude)
 unfolding mpint
@@ -178,7 +178,7 @@ mpint-has text n fits is =
       spelled = spelled;
     }
 
--- and is the spelling of each magnitude that has its number
+-- and is the spelling of each magnitude of its number
 pub mpint-only : (text magnitude : List ℕ) → IsBytes text → IsBytes magnitude
     → IsMagnitude magnitude → IsMpint text (number_of magnitude) → text ≡ mpint magnitude
 mpint-only text magnitude text_fits fits h is =

@@ -1,29 +1,29 @@
--- Steps that may fail, and what is known where they did not, or did.
+-- Steps that may fail, and what follows if they succeed or fail.
 use Rattle.std.proofs.Common.{◌≡◌, ◌≢◌, ℕ, ◌<◌, Bool, true, false, cond, eqb, Option, Some, None}
 use Rattle.std.proofs.Common.{Result, Ok, Err, refl, ap, arith, ◌⊎◌, inl, inr}
 use Rattle.std.specs.Option.{ok_or}
 use Rattle.std.proofs.lemmas.Bool.{eqb-false}
 use Rattle.ssh_wire.specs.Reading.{◌>>=◌, in_fault}
 
--- ---- a step that did not fail
+-- ---- a step that succeeded
 
 pub bind_ok : {A B E : Type 0} (r : Result A E) (f : A → Result B E) (y : B) → (r >>= f) ≡ Ok y
     → (x : A) × (r ≡ Ok x) × (f x ≡ Ok y)
 bind_ok (Ok x) f y e = (x, refl, e)
 bind_ok (Err d) f y e = absurd cc
 
--- a step whose fault is reported in other words
+-- a step whose fault is reported as another fault
 pub in_fault_ok : {A E F : Type 0} (words : E → F) (r : Result A E) (x : A)
     → in_fault words r ≡ Ok x → r ≡ Ok x
 in_fault_ok words (Ok y) x e = let same : y ≡ x = cc in cc
 in_fault_ok words (Err fault) x e = absurd cc
 
--- a value that there is
+-- a value that exists
 pub some_ok : {A E : Type 0} (o : Option A) (d : E) (x : A) → ok_or o d ≡ Ok x → o ≡ Some x
 some_ok None d x e = absurd cc
 some_ok (Some y) d x e = let same : y ≡ x = cc in cc
 
--- a test that did not fail
+-- a test that passed
 pub passed_ok : {A E : Type 0} (b : Bool) (d : E) (x y : A) → cond b (Ok x) (Err d) ≡ Ok y
     → (b ≡ true) × (x ≡ y)
 passed_ok true d x y e = (refl, cc)

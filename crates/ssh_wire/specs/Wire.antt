@@ -16,7 +16,7 @@ number k n = big_bytes k n
 unfoldable pub number_of : List ℕ → ℕ
 number_of bytes = big_number (length bytes) bytes
 
--- four bytes of length, and the bytes
+-- four bytes of length, followed by the bytes
 unfoldable pub string : List ℕ → List ℕ
 string bytes = number 4 (length bytes) ++ bytes
 
@@ -26,25 +26,25 @@ pub record BeginsWith (bytes value : List ℕ) : Type 0 where
   pub spelled : bytes ≡ string value ++ rest
   pub fits : length value < 2 ^ 32
 
--- strings, one after the other
+-- strings, one after another
 abbrev pub strings : List (List ℕ) → List ℕ
 strings list = flat_map string list
 
--- no zero byte leads
+-- no leading zero byte
 abbrev pub IsMagnitude : List ℕ → Type 0
 IsMagnitude [] = Unit {0}
 IsMagnitude (byte ∷ bytes) = 0 < byte
 
--- A magnitude as two's complement: a zero byte leads where the top bit is set.
+-- A magnitude as two's complement, with a leading zero byte if the top bit is set.
 unfoldable pub complement : List ℕ → List ℕ
 complement [] = []
 complement (byte ∷ bytes) = if nat_lt byte 128 then byte ∷ bytes else 0 ∷ byte ∷ bytes
 
--- a number that is not negative, by its magnitude
+-- a number that is not negative, spelled by its magnitude
 unfoldable pub mpint : List ℕ → List ℕ
 mpint magnitude = string (complement magnitude)
 
--- Two's complement of a number that is not negative, with no byte that could be left out.
+-- Two's complement of a number that is not negative, without a byte that could be omitted.
 abbrev pub IsShortest : List ℕ → Type 0
 IsShortest [] = Unit {0}
 IsShortest (byte ∷ []) = (0 < byte) × (byte < 128)

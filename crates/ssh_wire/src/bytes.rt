@@ -4,7 +4,7 @@ ghost use Rattle.std.specs.Prelude.{◌≡◌};
 
 use std::marker::Model;
 
-/// Bytes that are owned: a vector that contracts see as its list.
+/// Owned bytes: a vector that contracts see as its list.
 #[derive(Drop)]
 pub struct Bytes {
     items: Vec<u8>,
@@ -19,21 +19,21 @@ impl Model for Bytes {
 }
 
 impl Bytes {
-    /// The bytes of a vector. Takes no memory.
+    /// The bytes of a vector. Does not allocate.
     pub fn from_vec(items: Vec<u8>) -> Self
         ensures { result ≡ items.items }
     {
         Bytes { items }
     }
 
-    /// The vector that holds the bytes. Takes no memory.
+    /// The vector of the bytes. Does not allocate.
     pub fn into_vec(self) -> Vec<u8>
         ensures { result.items ≡ self }
     {
         self.items
     }
 
-    /// The bytes, lent.
+    /// The bytes, borrowed.
     pub fn as_slice(&self) -> &[u8]
         ensures { result.now ≡ self.now }
     {

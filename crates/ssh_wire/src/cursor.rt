@@ -9,8 +9,8 @@ use crate::fault::WireFault;
 use byteorder::{BigEndian, ByteOrder};
 use std::marker::Model;
 
-/// The bytes that are left to read. Each read takes a field from their front (RFC 4251 section 5);
-/// a refusal takes nothing. No read takes memory: strings are lent from the bytes.
+/// The bytes that are left to read. Each read takes a field from their front (RFC 4251 section 5).
+/// An error takes nothing. No read allocates: strings are borrowed from the bytes.
 #[derive(Drop)]
 pub struct Cursor<'a> {
     left: &'a [u8],
@@ -28,14 +28,14 @@ impl<'a> Model for Cursor<'a> {
 }
 
 impl<'a> Cursor<'a> {
-    /// Begins at the first of the bytes.
+    /// Starts at the first byte.
     pub fn new(bytes: &'a [u8]) -> Self
         ensures { result ≡ bytes.entry.now }
     {
         Cursor { left: bytes }
     }
 
-    /// A `byte`. `Short` where none is left.
+    /// Reads a `byte`. Returns `Short` if none is left.
     #[tactic(auto, unfolding(crate::specs::Reading::number_at))]
     pub fn byte(&mut self) -> Result<u8, WireFault>
         ensures exact { Reads (λ n. n) result self.old self.new (number_at 1 self.old) }
@@ -48,7 +48,7 @@ impl<'a> Cursor<'a> {
         Ok(*first)
     }
 
-    /// A `uint32`: four bytes, the highest first. `Short` where fewer are left.
+    /// Reads a `uint32`: four bytes, the highest first. Returns `Short` if fewer are left.
     #[tactic(auto, unfolding(crate::specs::Reading::number_at))]
     pub fn u32(&mut self) -> Result<u32, WireFault>
         ensures exact { Reads (λ n. n) result self.old self.new (number_at 4 self.old) }
@@ -62,7 +62,7 @@ impl<'a> Cursor<'a> {
         Ok(n)
     }
 
-    /// A `uint64`: eight bytes, the highest first. `Short` where fewer are left.
+    /// Reads a `uint64`: eight bytes, the highest first. Returns `Short` if fewer are left.
     #[tactic(auto, unfolding(crate::specs::Reading::number_at))]
     pub fn u64(&mut self) -> Result<u64, WireFault>
         ensures exact { Reads (λ n. n) result self.old self.new (number_at 8 self.old) }
@@ -76,8 +76,8 @@ impl<'a> Cursor<'a> {
         Ok(n)
     }
 
-    /// A `string`: four bytes of length, and that many bytes, which are lent. `Short` where fewer
-    /// than four or than that many are left.
+    /// Reads a `string`: four bytes of length, and that many bytes, which are borrowed. Returns
+    /// `Short` if fewer than four bytes are left, or fewer than the length says.
     #[tactic(auto, unfolding(crate::specs::Reading::number_at, crate::specs::Reading::front_at, crate::specs::Reading::string_at))]
     pub fn string(&mut self) -> Result<&'a [u8], WireFault>
         ensures exact { Reads (λ text. text.now) result self.old self.new (string_at self.old) }
@@ -96,9 +96,10 @@ impl<'a> Cursor<'a> {
         Ok(string)
     }
 
-    /// An `mpint` that is not negative: its magnitude, the highest byte first, with no leading zero
-    /// byte. Zero gives the empty slice. `Short` as for a string; then `Negative` where the first
-    /// byte is 128 or more; then `NotShortest` where it is 0 and no byte of 128 or more follows it.
+    /// Reads an `mpint` that is not negative: its magnitude, the highest byte first, with no
+    /// leading zero byte. Zero gives the empty slice. Returns `Short` as `string` does; then
+    /// `Negative` if the first byte is 128 or more; then `NotShortest` if it is 0 and the next byte
+    /// is below 128 or missing.
     #[tactic(auto, unfolding(crate::specs::Reading::mpint_at))]
     pub fn mpint(&mut self) -> Result<&'a [u8], WireFault>
         ensures exact { Reads (λ magnitude. magnitude.now) result self.old self.new

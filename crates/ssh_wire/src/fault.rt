@@ -1,4 +1,4 @@
-//! Why bytes on the wire are refused.
+//! Why a field could not be read.
 
 ghost use Rattle.std.specs.Prelude.{◌≡◌, Some};
 ghost use Rattle.ssh_wire.specs.Fault.{fault_number, fault_text};
@@ -11,9 +11,9 @@ use std::fmt;
 pub enum WireFault {
     /// Fewer bytes are left than the field takes.
     Short,
-    /// A multiple precision integer is below zero.
+    /// A multiple precision integer is negative.
     Negative,
-    /// A multiple precision integer has a leading byte that could be left out.
+    /// A multiple precision integer has a leading byte that could be omitted.
     NotShortest,
 }
 

@@ -1,5 +1,5 @@
-//! The wire: numbers, strings and multiple precision integers (RFC 4251 section 5), and why a field
-//! could not be read, from bytes or from a reader.
+//! The wire format: numbers, strings and multiple precision integers (RFC 4251 section 5), and why
+//! a field could not be read from bytes or from a reader.
 #![tactic(auto)]
 
 mod bytes;

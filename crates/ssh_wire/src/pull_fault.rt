@@ -1,4 +1,4 @@
-//! Why bytes could not be pulled from a reader.
+//! Why bytes could not be taken from a reader.
 
 ghost use Rattle.std.specs.Prelude.{◌≡◌, Some};
 ghost use Rattle.ssh_wire.specs.PullFault.{pull_fault_number, pull_fault_text};
@@ -9,13 +9,13 @@ use std::fmt;
 /// Why the next field of a reader could not be taken.
 #[derive(Clone, Copy, Debug, PartialEq, Eq)]
 pub enum PullFault {
-    /// The reader ended within the field, at the limit at the latest.
+    /// The reader ended within the field, at or before the limit.
     EndsEarly,
-    /// The field goes past the limit, and so does the reader.
+    /// The field exceeds the limit, and the reader has bytes past it.
     TooLong,
     /// The reader failed.
     Read,
-    /// Memory for the field was refused.
+    /// An allocation for the field failed.
     NoMemory,
 }
 

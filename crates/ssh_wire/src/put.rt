@@ -1,5 +1,6 @@
-//! Appending fields to a vector (RFC 4251 section 5). Each growth comes before the first byte, so a
-//! refusal leaves the vector as it was. Memory is refused only where the vector lacks the room.
+//! Appending fields to a vector (RFC 4251 section 5). Each function reserves the room before it
+//! writes the first byte, so an error leaves the vector unchanged. An allocation fails only if the
+//! vector lacks the room.
 
 ghost use Rattle.std.specs.Prelude.{◌≡◌, ◌+◌, ◌∷◌, ◌++◌, ◌<◌, ◌≤◌, ◌^◌, [], length};
 ghost use Rattle.std.specs.Prelude.{OnErr, vec_capacity, vec_len};
@@ -9,7 +10,7 @@ ghost use Rattle.ssh_wire.specs.Wire.{IsMagnitude, complement, mpint, number, st
 use byteorder::{BigEndian, ByteOrder};
 use std::alloc::AllocError;
 
-/// Appends a `byte`. Where memory is refused the vector is unchanged.
+/// Appends a `byte`. If an allocation fails, the vector is unchanged.
 pub fn put_byte(out: &mut Vec<u8>, byte: u8) -> Result<(), AllocError>
     ensures appends { Appends result out.old.items out.new.items (byte ∷ []) }
     ensures full { OnErr result (vec_capacity out.old ≤ vec_len out.old) }
@@ -18,7 +19,7 @@ pub fn put_byte(out: &mut Vec<u8>, byte: u8) -> Result<(), AllocError>
     Ok(())
 }
 
-/// Appends a `uint32`: four bytes, the highest first. Where memory is refused the vector is
+/// Appends a `uint32`: four bytes, the highest first. If an allocation fails, the vector is
 /// unchanged.
 pub fn put_u32(out: &mut Vec<u8>, n: u32) -> Result<(), AllocError>
     ensures appends { Appends result out.old.items out.new.items (number 4 n) }
@@ -27,7 +28,7 @@ pub fn put_u32(out: &mut Vec<u8>, n: u32) -> Result<(), AllocError>
     out.extend_from_slice(&four_bytes(n))
 }
 
-/// Appends a `uint64`: eight bytes, the highest first. Where memory is refused the vector is
+/// Appends a `uint64`: eight bytes, the highest first. If an allocation fails, the vector is
 /// unchanged.
 #[tactic(auto, unfolding(crate::specs::Wire::number))]
 pub fn put_u64(out: &mut Vec<u8>, n: u64) -> Result<(), AllocError>
@@ -39,8 +40,8 @@ pub fn put_u64(out: &mut Vec<u8>, n: u64) -> Result<(), AllocError>
     out.extend_from_slice(&bytes)
 }
 
-/// Appends a `string` of at most 2^32 - 1 bytes: four bytes of length, and the bytes. Where memory
-/// is refused the vector is unchanged.
+/// Appends a `string` of at most 2^32 - 1 bytes: four bytes of length, and the bytes. If an
+/// allocation fails, the vector is unchanged.
 #[tactic(auto, unfolding(crate::specs::Wire::string))]
 pub fn put_string(out: &mut Vec<u8>, bytes: &[u8]) -> Result<(), AllocError>
     requires { length bytes.now < 2 ^ 32 }
@@ -53,9 +54,9 @@ pub fn put_string(out: &mut Vec<u8>, bytes: &[u8]) -> Result<(), AllocError>
     out.extend_from_slice(bytes)
 }
 
-/// Appends an `mpint` that is not negative, by its magnitude: the highest byte first, no zero byte
-/// in front, nothing for zero. A zero byte leads where the top bit is set, and the string has at
-/// most 2^32 - 1 bytes with it. Where memory is refused the vector is unchanged.
+/// Appends an `mpint` that is not negative, given by its magnitude: the highest byte first, no
+/// leading zero byte, empty for zero. A zero byte is put in front if the top bit is set; with it,
+/// the string has at most 2^32 - 1 bytes. If an allocation fails, the vector is unchanged.
 #[tactic(auto, unfolding(crate::specs::Wire::complement, crate::specs::Wire::mpint, crate::specs::Wire::string))]
 pub fn put_mpint(out: &mut Vec<u8>, magnitude: &[u8]) -> Result<(), AllocError>
     requires magnitude { IsMagnitude magnitude.now }

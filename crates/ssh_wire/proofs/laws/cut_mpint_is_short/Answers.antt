@@ -1,4 +1,4 @@
--- A front of its string is short.
+-- Each proper prefix of its string is short.
 use Rattle.ssh_wire.proofs.Cut.{mpint-cut}
 use Rattle.ssh_wire.proofs.laws.cut_mpint_is_short.Goals as goal
 

@@ -1,4 +1,4 @@
--- A front is shorter than the number.
+-- Each proper prefix is shorter than the number.
 use Rattle.ssh_wire.proofs.Cut.{number-cut}
 use Rattle.ssh_wire.proofs.laws.cut_number_is_short.Goals as goal
 

@@ -1,4 +1,4 @@
--- A front is cut within the length, or after it.
+-- A proper prefix ends within the length or after it.
 use Rattle.ssh_wire.proofs.Cut.{string-cut}
 use Rattle.ssh_wire.proofs.laws.cut_string_is_short.Goals as goal
 

@@ -1,4 +1,4 @@
--- The bytes without the zero byte that may lead them.
+-- The magnitude is the bytes without the leading zero byte, if there is one.
 use Rattle.ssh_wire.proofs.Magnitudes.{mpint-has}
 use Rattle.ssh_wire.proofs.laws.mpint_has_magnitude.Goals as goal
 

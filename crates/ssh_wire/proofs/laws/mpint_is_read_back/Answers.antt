@@ -1,4 +1,4 @@
--- What was taken is spelled so, and what is spelled so is read again.
+-- The value that was taken is spelled by the bytes, and each spelling is read.
 use Rattle.std.proofs.Common.{ap, ◌∙◌}
 use Rattle.ssh_wire.specs.Reading.{mpint_at}
 use Rattle.ssh_wire.proofs.Fields.{mpint_takes, mpint_again}

@@ -1,4 +1,4 @@
--- A magnitude is determined by its number.
+-- The number determines its magnitude.
 use Rattle.std.proofs.Common.{List, ℕ, sym, subst}
 use Rattle.ssh_wire.specs.Wire.{IsMpint, number_of}
 use Rattle.ssh_wire.proofs.Magnitudes.{mpint-is, mpint-only}

@@ -1,4 +1,4 @@
--- The first byte counts as often as the others have values.
+-- The weight of the first byte is the number of values of the other bytes.
 use Rattle.std.proofs.Common.{refl}
 use Rattle.ssh_wire.specs.Wire.{number_of}
 use Rattle.ssh_wire.proofs.Magnitudes.{number_of-cons}

@@ -1,4 +1,4 @@
--- The magnitude's string is spelled at the front.
+-- The string of the magnitude is at the front.
 use Rattle.ssh_wire.proofs.Fields.{mpint_front}
 use Rattle.ssh_wire.proofs.cursor.Cursor.mpint.Goals as goal
 

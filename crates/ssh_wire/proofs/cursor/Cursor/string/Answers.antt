@@ -1,4 +1,4 @@
--- The string is spelled at the front, and what is left are bytes.
+-- The string is at the front, and the elements left are bytes.
 use Rattle.std.proofs.Common.{sym, subst, ◌∙◌}
 use Rattle.ssh_wire.specs.Wire.{IsBytes}
 use Rattle.ssh_wire.proofs.Digits.{IsBytes-after, IsBytes-drop}

@@ -1,4 +1,4 @@
--- The number is spelled at the front, and what is left are bytes.
+-- The number is at the front, and the elements left are bytes.
 use Rattle.std.proofs.Common.{sym, ◌∙◌}
 use Rattle.ssh_wire.proofs.Digits.{IsBytes-after}
 use Rattle.ssh_wire.proofs.Fields.{number_front}
