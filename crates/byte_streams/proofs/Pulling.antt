@@ -1,4 +1,4 @@
--- Parts that a reader gave, one after the other.
+-- Parts that a reader gave, one after another.
 use Rattle.std.proofs.Common.{◌≡◌, ℕ, ◌+◌, ◌-◌, ◌<◌, ◌≤◌, Bool, true, false, Result, Ok, Err, rules, List, [], ◌∷◌, ◌++◌, length, take, drop, Option, None, Some, refl, sym, ap, ◌∙◌, subst, le_refl, drop_at, length-take-le, length-append, length-drop, append-nil, slice_set, arith}
 use Rattle.std.proofs.lemmas.Slice.{take-put_mid_below}
 use Rattle.std.proofs.lemmas.List.{drop_all}
@@ -17,7 +17,7 @@ pub Consumes-ahead : (byte : ℕ) (source : Option (List ℕ))
 Consumes-ahead byte None = tt
 Consumes-ahead byte (Some xs) = refl
 
--- the front of a slice whose part from a place on was written to
+-- the front of a slice after a part was written into it at an offset
 pub take-put_mid-part : (a k n : ℕ) (xs ys : List ℕ) → a ≤ length xs → n ≤ length ys → take (a + n) (put_mid a k xs ys) ≡ take a xs ++ take n ys
 take-put_mid-part a k n xs ys within fits =
     let front : take a (put_mid a k xs ys) ≡ take a xs = take-put_mid_below a k xs ys a (le_refl a) within in
@@ -25,18 +25,18 @@ take-put_mid-part a k n xs ys within fits =
     let part : take n (drop a (put_mid a k xs ys)) ≡ take n ys = ap (take n) back ∙ take-append-le n ys (post_of a k xs) fits in
     take-add a n (put_mid a k xs ys) ∙ ap (λ (l : List ℕ). l ++ take n (drop a (put_mid a k xs ys))) front ∙ ap (λ (l : List ℕ). take a xs ++ l) part
 
--- the front of a slice was filled, and then the next of it
+-- the front of a slice was filled, and then the next part of it
 pub Consumes-filled : (first second third : Option (List ℕ)) (into part : List ℕ) (count more : ℕ) → count ≤ length into → more ≤ length part → Consumes first second (take count into) → Consumes second third (take more part) → Consumes first third (take (count + more) (put_mid count (length into - count) into part))
 Consumes-filled first second third into part count more within fits before after =
     subst (Consumes first third) (sym (take-put_mid-part count (length into - count) more into part within fits)) (Consumes-trans first second third (take count into) (take more part) before after)
 
--- a count rose from its start by as many bytes as came
+-- a count rose by as many bytes as came
 pub record Comes (before after : Option (List ℕ)) (start now : ℕ) : Type 0 where
   pub came : List ℕ
   pub bytes : Consumes before after came
   pub count : start + length came ≡ now
 
--- a front came, and then less than what was left to come
+-- a front came, followed by less than what was missing
 pub FallsShort-after : (fault : PullFault) (before mid after : Option (List ℕ)) (failed : Bool) (front : List ℕ) (part size : ℕ) → Consumes before mid front → FallsShort fault mid after failed part → length front + part ≤ size → FallsShort fault before after failed size
 FallsShort-after fault before mid after failed front part size came stops fits = record {
   came = front ++ stops.came;
@@ -54,7 +54,7 @@ FallsShort-front fault before mid after failed front size came kept part reports
   reports = reports;
 }
 
--- a slice was filled since, so all of its bytes came
+-- a slice was filled in between, so all of its bytes came
 pub Comes-more : (before mid after : Option (List ℕ)) (start now : ℕ) (slice : List ℕ) (part : ℕ) → Comes before mid start now → Consumes mid after slice → length slice ≡ part → Comes before after start (now + part)
 Comes-more before mid after start now slice part comes more size = record {
   came = comes.came ++ slice;
@@ -68,7 +68,7 @@ Reports-end TooLong pull came reports none_ahead = absurd reports
 Reports-end Read pull came reports none_ahead = (none_ahead, reports)
 Reports-end NoMemory pull came reports none_ahead = absurd reports
 
--- what came is less than a field that has room
+-- less came than the field has room for
 pub Misses-short : (old new : Pull) (fault : PullFault) (room size : ℕ) → FallsShort fault (left_of old) (left_of new) new.failed room → new.ahead ≡ None → room ≤ size → old.taken + room ≤ old.limit → Misses old size fault new
 Misses-short old new fault room size stops none_ahead fits within = record {
   came = stops.came;
@@ -78,7 +78,7 @@ Misses-short old new fault room size stops none_ahead fits within = record {
   reports = Reports-end fault new (length stops.came) stops.reports none_ahead;
 }
 
--- bytes came, and then there was no memory for the rest of the field
+-- bytes came, and then an allocation for the rest of the field failed
 pub Misses-memory : (old new : Pull) (size : ℕ) (front : List ℕ) → Consumes (left_of old) (left_of new) front → length front < size → old.taken + size ≤ old.limit → new.failed ≡ false → Misses old size NoMemory new
 Misses-memory old new size front before part fits working = record {
   came = front;
@@ -94,7 +94,7 @@ Reports-kept TooLong new taken limit came taken_is limit_is reports = (omega (ar
 Reports-kept Read new taken limit came taken_is limit_is reports = reports
 Reports-kept NoMemory new taken limit came taken_is limit_is reports = reports
 
--- the fault that was found is kept
+-- the fault is kept
 pub Refuses-misses : (old new : Pull) (size : ℕ) (fault : PullFault) → Misses (pull_of old.source false old.ahead old.taken old.limit) size fault (pull_of new.source new.failed new.ahead old.taken old.limit) → new.taken ≡ old.taken → new.limit ≡ old.limit → new.fault ≡ Some fault → Refuses old size fault new
 Refuses-misses old new size fault misses taken_is limit_is fault_is = record {
   misses = record {
@@ -111,7 +111,7 @@ Refuses-misses old new size fault misses taken_is limit_is fault_is = record {
 
 -- ---- all that is left
 
--- bytes came, and then some more, for which there is no memory
+-- bytes came, and then an allocation for some more failed
 pub MissesRest-memory : (old new : Pull) (mid : Option (List ℕ)) (front slice : List ℕ) (count : ℕ) → Consumes (left_of old) mid front → Consumes mid new.source (take count slice) → new.ahead ≡ None → 0 < count → count ≤ length slice → old.taken + (length front + count) ≤ old.limit → new.failed ≡ false → MissesRest old NoMemory new
 MissesRest-memory old new mid front slice count before after none_ahead some part within working =
     let size = length-take-le count slice part in
@@ -132,7 +132,7 @@ MissesRest-read old new mid front before kept none_ahead within failed = record 
   reports = (none_ahead, failed);
 }
 
--- bytes came, and then a look at the next one met the fault
+-- bytes came, and then looking at the next one met the fault
 pub MissesRest-look : (old new : Pull) (mid : Option (List ℕ)) (front : List ℕ) (fault : PullFault) → Consumes (left_of old) mid front → Keeps mid (left_of new) → old.taken + length front ≤ old.limit → ReportsRest fault new (length front) → MissesRest old fault new
 MissesRest-look old new mid front fault before kept within reports = record {
   came = front;
@@ -141,7 +141,7 @@ MissesRest-look old new mid front fault before kept within reports = record {
   reports = reports;
 }
 
--- the look met that the reader failed
+-- looking at the next byte met the failure of the reader
 pub MissesRest-failed : (old new : Pull) (mid : Option (List ℕ)) (front : List ℕ) (fault : PullFault) → Consumes (left_of old) mid front → Keeps mid (left_of new) → old.taken + length front ≤ old.limit → fault ≡ Read → new.ahead ≡ None → new.failed ≡ true → MissesRest old fault new
 MissesRest-failed old new mid front fault before kept within is_read none_ahead failed =
     subst (λ (met : PullFault). MissesRest old met new) (sym is_read) (MissesRest-look old new mid front Read before kept within (none_ahead, failed))
@@ -152,7 +152,7 @@ ReportsRest-kept TooLong new taken limit came taken_is limit_is reports = (omega
 ReportsRest-kept Read new taken limit came taken_is limit_is reports = reports
 ReportsRest-kept NoMemory new taken limit came taken_is limit_is reports = reports
 
--- the fault that was found is kept
+-- the fault is kept
 pub RefusesRest-misses : (old new : Pull) (fault : PullFault) → MissesRest (pull_of old.source false old.ahead old.taken old.limit) fault (pull_of new.source new.failed new.ahead old.taken old.limit) → new.taken ≡ old.taken → new.limit ≡ old.limit → new.fault ≡ Some fault → RefusesRest old fault new
 RefusesRest-misses old new fault misses taken_is limit_is fault_is = record {
   misses = record {
@@ -168,7 +168,7 @@ RefusesRest-misses old new fault misses taken_is limit_is fault_is = record {
 
 -- ---- the byte ahead, in front of a slice
 
--- a slice that was written to from a place on
+-- a slice that was written to from an offset on
 put_mid-last : (count : ℕ) (s part : List ℕ) → put_mid count (length s - count) s part ≡ take count s ++ part
 put_mid-last count s part =
     let all : length (drop count s) ≤ length s - count = omega (arith, length-drop count s) in

@@ -7,12 +7,12 @@ use Rattle.ssh_wire.specs.declared.pull_fault.PullFault.TheVariants.{EndsEarly, 
 use Rattle.ssh_wire.specs.declared.pull_fault.PullFault.TheVariants.{NoMemory}
 use Rattle.byte_streams.specs.Pull.{Pull}
 
--- what always holds of the fields of a `Pull`
+-- what always holds for the fields of a `Pull`
 pub record IsSound (failed : Bool) (taken limit : ℕ) (fault : Option PullFault) : Type 0 where
   pub within : taken ≤ limit
   pub working : fault ≡ None → failed ≡ false
 
--- a reader with these bytes left, which failed or not, of which this many bytes were taken
+-- a reader with these bytes left, which has failed or not, of which this many bytes were taken
 abbrev pub pull_of : Option (List ℕ) → Bool → Option ℕ → ℕ → ℕ → Pull
 pull_of source failed ahead taken limit =
     record {
@@ -40,13 +40,13 @@ pub record FallsShort
   pub part : length came < size
   pub reports : ReportsEnd fault after failed
 
--- A slice was filled, or the reader ended or failed before that.
+-- A slice was filled, or the reader ended or failed first.
 abbrev pub Fills
     : {A : Type 0} → Result A PullFault → Option (List ℕ) → Option (List ℕ) → Bool → List ℕ → Type 0
 Fills (Ok filled) before after failed slice = Consumes before after slice × (failed ≡ false)
 Fills (Err fault) before after failed slice = FallsShort fault before after failed (length slice)
 
--- Whether a byte stands ahead, unless the reader failed.
+-- Whether a byte is ahead, unless the reader failed.
 abbrev pub FindsAhead : Result Bool PullFault → Option (List ℕ) → Bool → Option ℕ → Type 0
 FindsAhead (Ok true) after failed ahead = IsSome ahead × (failed ≡ false)
 FindsAhead (Ok false) after failed ahead = (ahead ≡ None) × IsAtEnd after × (failed ≡ false)

@@ -6,9 +6,9 @@ use Rattle.ssh_wire.specs.declared.pull_fault.PullFault.{PullFault}
 use Rattle.ssh_wire.specs.declared.pull_fault.PullFault.TheVariants.{EndsEarly, TooLong, Read}
 use Rattle.ssh_wire.specs.declared.pull_fault.PullFault.TheVariants.{NoMemory}
 
--- What the reader has left, where it knows that, whether it failed, and what stands in its buffer;
--- the byte that was looked at and not taken; how many bytes were taken, and how many may be; the
--- fault that was met.
+-- The bytes that the reader has left, if it knows them, whether it failed, and the bytes in its
+-- buffer; the byte that was looked at and not taken; how many bytes were taken, and how many may
+-- be; the fault that was met.
 pub record Pull : Type 0 where
   pub source : Option (List ℕ)
   pub failed : Bool
@@ -18,16 +18,17 @@ pub record Pull : Type 0 where
   pub limit : ℕ
   pub fault : Option PullFault
 
--- the byte that was looked at, and then what the reader has left
+-- the byte that was looked at, followed by what the reader has left
 abbrev pub after_ahead : Option ℕ → Option (List ℕ) → Option (List ℕ)
 after_ahead None source = source
 after_ahead (Some byte) source = prepend_known (byte ∷ []) source
 
--- The bytes that were not taken yet. The reader gave at most one of them: the one looked at.
+-- The bytes that were not taken yet. The reader gave at most one of them: the one that was looked
+-- at.
 abbrev pub left_of : Pull → Option (List ℕ)
 left_of pull = after_ahead pull.ahead pull.source
 
--- nothing was taken of a reader that has these bytes left, and these in its buffer
+-- nothing was taken from a reader that has these bytes left and these in its buffer
 abbrev pub untaken : Option (List ℕ) → (buffered : List ℕ) → ℕ → Pull
 untaken source buffered limit =
     record {
@@ -40,7 +41,7 @@ untaken source buffered limit =
       fault = None;
     }
 
--- the bytes that can be taken from the reader's buffer: none where a byte stands before them
+-- the bytes that can be taken from the reader's buffer: none if a byte is ahead of them
 abbrev pub front_of : Option ℕ → (buffered : List ℕ) → (room : ℕ) → List ℕ
 front_of None buffered room = take room buffered
 front_of (Some byte) buffered room = []
@@ -59,9 +60,9 @@ pub record Takes (old : Pull) (field : List ℕ) (new : Pull) : Type 0 where
   pub was_faultless : old.fault ≡ None
   pub is_faultless : new.fault ≡ None
 
--- What a fault says, where this many bytes of a field came. EndsEarly: no byte is left. TooLong:
--- the limit is reached, and a byte stands past it. Read: the reader failed, and no byte stands
--- ahead.
+-- The meaning of a fault after this many bytes of a field came. EndsEarly: no byte is left.
+-- TooLong: the limit is reached, and there is a byte past it. Read: the reader failed, and no byte
+-- is ahead.
 abbrev pub Reports : PullFault → Pull → ℕ → Type 0
 Reports EndsEarly pull came = IsAtEnd (left_of pull) × (pull.failed ≡ false)
 Reports TooLong pull came =
@@ -69,7 +70,7 @@ Reports TooLong pull came =
 Reports Read pull came = (pull.ahead ≡ None) × (pull.failed ≡ true)
 Reports NoMemory pull came = pull.failed ≡ false
 
--- Of a field of this many bytes not all came, within the limit, and the fault says why.
+-- Fewer than `size` bytes came within the limit, and the fault says why.
 pub record Misses (old : Pull) (size : ℕ) (fault : PullFault) (new : Pull) : Type 0 where
   pub came : List ℕ
   pub bytes : Consumes (left_of old) (left_of new) came
@@ -77,7 +78,7 @@ pub record Misses (old : Pull) (size : ℕ) (fault : PullFault) (new : Pull) : T
   pub within : old.taken + length came ≤ old.limit
   pub reports : Reports fault new (length came)
 
--- A field of this many bytes was refused. What came of it does not count as taken.
+-- A field of this many bytes could not be taken. The bytes of it that came do not count as taken.
 pub record Refuses (old : Pull) (size : ℕ) (fault : PullFault) (new : Pull) : Type 0 where
   pub misses : Misses old size fault new
   pub taken : new.taken ≡ old.taken
@@ -88,14 +89,14 @@ pub record Refuses (old : Pull) (size : ℕ) (fault : PullFault) (new : Pull) : 
 abbrev pub RefusesAgain : {A : Type 0} → Result A PullFault → Pull → Pull → Type 0
 RefusesAgain result old new = IfSome old.fault (λ fault. (result ≡ Err fault) × (new ≡ old))
 
--- All that was left was taken, within the limit.
+-- All that was left within the limit was taken.
 pub record TakesRest (old : Pull) (rest : List ℕ) (new : Pull) : Type 0 where
   pub takes : Takes old rest new
   pub none_ahead : new.ahead ≡ None
   pub ends : IsAtEnd new.source
 
--- What a fault says, where this many of the bytes to the reader's end came. Each byte that came is
--- among them, but for one that stands past the limit. Memory is not refused before a byte came.
+-- The meaning of a fault after this many of the bytes up to the reader's end came. Each byte that
+-- came is among them, except one past the limit. An allocation fails only after a byte came.
 abbrev pub ReportsRest : PullFault → Pull → ℕ → Type 0
 ReportsRest EndsEarly pull came = ⊥
 ReportsRest TooLong pull came =
@@ -103,21 +104,21 @@ ReportsRest TooLong pull came =
 ReportsRest Read pull came = (pull.ahead ≡ None) × (pull.failed ≡ true)
 ReportsRest NoMemory pull came = (0 < came) × (pull.ahead ≡ None) × (pull.failed ≡ false)
 
--- Of the bytes to the reader's end these came, within the limit, and the fault says why not all.
+-- These bytes came within the limit, but not all up to the reader's end, and the fault says why.
 pub record MissesRest (old : Pull) (fault : PullFault) (new : Pull) : Type 0 where
   pub came : List ℕ
   pub bytes : Consumes (left_of old) (left_of new) came
   pub within : old.taken + length came ≤ old.limit
   pub reports : ReportsRest fault new (length came)
 
--- What was left was refused. What came of it does not count as taken.
+-- The bytes that were left could not be taken. Those that came do not count as taken.
 pub record RefusesRest (old : Pull) (fault : PullFault) (new : Pull) : Type 0 where
   pub misses : MissesRest old fault new
   pub taken : new.taken ≡ old.taken
   pub limit : new.limit ≡ old.limit
   pub fault_is : new.fault ≡ Some fault
 
--- Whether the end is reached was found out, and no byte was taken.
+-- It was found out whether the end is reached, and no byte was taken.
 pub record Looks (old : Pull) (ended : Bool) (new : Pull) : Type 0 where
   pub bytes : Keeps (left_of old) (left_of new)
   pub answer : MatchBool ended (IsAtEnd (left_of new)) (IsSome new.ahead)

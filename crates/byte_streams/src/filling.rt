@@ -1,4 +1,4 @@
-//! Reading on until a slice or a vector is full.
+//! Reading until a slice or a vector is full.
 
 ghost use Rattle.std.specs.Prelude.{◌≡◌, ◌≢◌, ◌<◌, ◌≤◌, ◌+◌, ℕ, [], None, Err, OnOk, OnErr, IfErr};
 ghost use Rattle.std.specs.Prelude.{false, vec_len, vec_capacity};
@@ -10,11 +10,11 @@ ghost use Rattle.ssh_wire.specs.declared.pull_fault.PullFault.TheVariants.{NoMem
 use crate::device::Source;
 use ssh_wire::PullFault;
 
-// How many bytes are read at once, so that a length that is not true takes no memory.
+// How many bytes are read at a time, so that a false length takes no memory.
 const CHUNK: usize = 256;
 
-// Fills a slice with the byte that was looked at and what the reader gives. It is `EndsEarly`
-// where the reader ends before that, and `Read` where it fails.
+// Fills a slice with the byte that was looked at and with what the reader gives. Returns
+// `EndsEarly` if the reader ends first, and `Read` if it fails.
 #[inline(always)]
 pub(crate) fn fill<R: Source>(
     reader: &mut R,
@@ -37,7 +37,7 @@ pub(crate) fn fill<R: Source>(
     }
 }
 
-// Fills a slice with what the reader gives, which mostly is all of it at once.
+// Fills a slice with what the reader gives. One read is usually enough.
 #[inline(always)]
 fn fill_from<R: Source>(reader: &mut R, into: &mut [u8]) -> Result<(), PullFault>
     requires { R.has_failed reader.old ≡ false }
@@ -73,7 +73,7 @@ fn fill_parts<R: Source>(reader: &mut R, into: &mut [u8]) -> Result<(), PullFaul
     Ok(())
 }
 
-// Whether a byte is left, which then stands ahead. It is `Read` where the reader fails.
+// Whether a byte is left, which is then ahead. Returns `Read` if the reader fails.
 pub(crate) fn look<R: Source>(reader: &mut R, ahead: &mut Option<u8>) -> Result<bool, PullFault>
     requires { R.has_failed reader.old ≡ false }
     ensures bytes { Keeps (after_ahead ahead.old (R.left reader.old))
@@ -95,8 +95,8 @@ pub(crate) fn look<R: Source>(reader: &mut R, ahead: &mut Option<u8>) -> Result<
     }
 }
 
-// Why no more bytes than the limit leaves can be taken: the reader goes on past them, or it ends
-// or fails before.
+// Why no more bytes than the limit leaves can be taken: the reader has bytes past the limit, or it
+// ends or fails first.
 #[inline(never)]
 pub(crate) fn refusal<R: Source>(
     reader: &mut R,

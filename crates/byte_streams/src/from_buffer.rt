@@ -7,15 +7,15 @@ use crate::device::{Failed, Source};
 use crate::from_read::FromRead;
 use std::io::{BufRead, BufReader, Read};
 
-/// A buffered reader of the standard library, as `FromRead` makes a source of any reader. Bytes
-/// that the buffer holds are taken without a call of the reader.
+/// A buffered reader of the standard library, made a source as `FromRead` does with any reader.
+/// Bytes in the buffer are taken without a call of the inner reader.
 #[derive(Drop)]
 pub struct FromBuffer<R: Read + Drop> {
     reader: FromRead<BufReader<R>>,
 }
 
 impl<R: Read + Drop> FromBuffer<R> {
-    /// A reader that has not failed, over the one inside.
+    /// A reader that has not failed, around `inner`.
     pub fn new(inner: BufReader<R>) -> Self
         ensures bytes { ⟦<FromBuffer<R> as Source>⟧.left result
             ≡ reader_remaining R.remaining inner }

@@ -6,9 +6,9 @@ use crate::device::{Failed, Source};
 use crate::interruptions::Interruptions;
 use std::io::Read;
 
-/// A reader of the standard library. It gives just the bytes that the reader inside gives. A read
+/// A reader of the standard library. It gives exactly the bytes that the inner reader gives. A read
 /// that is interrupted is tried again, 1,000 times in all; the next interruption and any other
-/// error are a failure, and after a failure the reader inside is not asked again.
+/// error are a failure, and after a failure the inner reader is not called again.
 #[derive(Drop)]
 pub struct FromRead<R: Read + Drop> {
     pub(crate) inner: R,
@@ -17,7 +17,7 @@ pub struct FromRead<R: Read + Drop> {
 }
 
 impl<R: Read + Drop> FromRead<R> {
-    /// A reader that has not failed, over the one inside.
+    /// A reader that has not failed, around `inner`.
     pub fn new(inner: R) -> Self
         ensures bytes { ⟦<FromRead<R> as Source>⟧.left result ≡ R.remaining inner }
         ensures fresh { ⟦<FromRead<R> as Source>⟧.has_failed result ≡ false }

@@ -1,5 +1,5 @@
-//! Where bytes come from and where they go: readers and writers that fail for good, and fields that
-//! are taken from a reader up to a limit.
+//! Where bytes come from and where they go: readers and writers that stay failed once they have
+//! failed, and fields that are taken from a reader up to a limit.
 #![tactic(auto)]
 
 mod device;

@@ -12,9 +12,9 @@ use ssh_wire::{Bytes, PullFault};
 use std::alloc::Global;
 use std::marker::Model;
 
-/// A reader from which fields are taken one after the other, up to a limit. What it gives does not
-/// depend on the parts in which the reader gives its bytes. After a fault each call answers that
-/// fault again, and the reader is not asked any more.
+/// A reader from which fields are taken one after another, up to a limit. The fields do not depend
+/// on the parts in which the reader gives its bytes. After a fault each call reports that fault
+/// again, and the reader is not called any more.
 #[derive(Drop)]
 pub struct Pull<R: Source + Drop> {
     reader: R,
@@ -45,7 +45,7 @@ impl<R: Source + Drop> Model for Pull<R> {
 }
 
 impl<R: Source + Drop> Pull<R> {
-    /// Takes nothing yet, and at most `limit` bytes in all. The reader has not failed before.
+    /// Nothing is taken yet, and at most `limit` bytes will be. The reader must not have failed.
     pub fn new(reader: R, limit: u64) -> Self
         requires { R.has_failed reader ≡ false }
         ensures { result ≡ untaken (R.left reader) (R.buffered reader) limit }
@@ -59,16 +59,16 @@ impl<R: Source + Drop> Pull<R> {
         }
     }
 
-    /// How many bytes were taken. One that was only looked at is not counted, nor are those of a
-    /// field that was refused.
+    /// How many bytes were taken. A byte that was only looked at is not counted, nor are those of a
+    /// field that could not be taken.
     pub fn taken(&self) -> u64
         ensures { result ≡ self.now.taken }
     {
         self.taken
     }
 
-    /// Whether no byte is left. It looks at most one byte ahead, which may be one past the limit.
-    /// `Read` where the reader fails.
+    /// Whether no byte is left. It looks at most one byte ahead, which may be past the limit.
+    /// Returns `Read` if the reader fails.
     pub fn at_end(&mut self) -> Result<bool, PullFault>
         ensures ok { IfOk result (λ ended. Looks self.old ended self.new) }
         ensures err { self.old.fault ≡ None → IfErr result (λ fault.
@@ -87,9 +87,9 @@ impl<R: Source + Drop> Pull<R> {
         }
     }
 
-    /// Takes bytes to fill a slice. `EndsEarly` where the reader ends before that, `TooLong` where
-    /// that would pass the limit and the reader goes on past it, `Read` where it fails. A refusal
-    /// may have written to the slice.
+    /// Takes bytes to fill a slice. Returns `EndsEarly` if the reader ends first, `TooLong` if the
+    /// slice would exceed the limit and the reader has bytes past it, and `Read` if the reader
+    /// fails. On an error the slice may have been written to.
     #[inline(always)]
     pub fn fill(&mut self, into: &mut [u8]) -> Result<(), PullFault>
         ensures ok { OnOk result (Takes self.old into.new self.new) }
@@ -110,8 +110,8 @@ impl<R: Source + Drop> Pull<R> {
         }
     }
 
-    /// Bytes that can be taken by `consume`: those that stand in the reader's buffer, within the
-    /// limit. They come next.
+    /// The bytes that can be taken by `consume`: those in the reader's buffer, within the limit.
+    /// They come next.
     #[inline(always)]
     pub fn buffer(&self) -> &[u8]
         ensures { result.now ≡ at_hand self.now }
@@ -128,7 +128,7 @@ impl<R: Source + Drop> Pull<R> {
         }
     }
 
-    /// Takes bytes from the front of those that `buffer` lends. No fault was met before.
+    /// Takes bytes from the front of those that `buffer` returns. No fault may have been met.
     #[inline(always)]
     pub fn consume(&mut self, count: usize)
         requires there { count ≤ length (at_hand self.old) }
@@ -139,7 +139,7 @@ impl<R: Source + Drop> Pull<R> {
         self.taken += count as u64;
     }
 
-    /// Takes a byte. It is refused as `fill` is.
+    /// Takes a byte. The errors are those of `fill`.
     pub fn byte(&mut self) -> Result<u8, PullFault>
         ensures ok { IfOk result (λ byte. Takes self.old (byte ∷ []) self.new) }
         ensures err { self.old.fault ≡ None → IfErr result (λ fault.
@@ -151,7 +151,7 @@ impl<R: Source + Drop> Pull<R> {
         Ok(into[0])
     }
 
-    /// Takes as many bytes as an array has. They are refused as by `fill`.
+    /// Takes as many bytes as an array has. The errors are those of `fill`.
     pub fn array<const N: usize>(&mut self) -> Result<[u8; N], PullFault>
         ensures ok { IfOk result (λ field. Takes self.old field self.new) }
         ensures size { IfOk result (λ field. length field ≡ N) }
@@ -164,16 +164,16 @@ impl<R: Source + Drop> Pull<R> {
         Ok(into)
     }
 
-    /// Takes this many bytes into a vector, in place of what it holds. The vector grows only as
-    /// bytes come, so a false length takes no memory. They are refused as by `fill`, or with
-    /// `NoMemory` where a growth is; the vector is empty then.
+    /// Takes this many bytes into a vector, replacing its content. The vector grows only as bytes
+    /// come, so a false length takes no memory. The errors are those of `fill`, and `NoMemory` if
+    /// an allocation fails; the vector is empty then.
     pub fn bytes_into(&mut self, out: &mut Vec<u8>, size: usize) -> Result<(), PullFault>
         ensures ok { OnOk result (Takes self.old out.new.items self.new) }
         ensures size { OnOk result (vec_len out.new ≡ size) }
         ensures empty { OnErr result (out.new.items ≡ []) }
         ensures err { self.old.fault ≡ None → IfErr result (λ fault.
             Refuses self.old size fault self.new) }
-        // Where the vector has room, no growth is refused.
+        // If the vector has room, no allocation fails.
         ensures full { self.old.fault ≡ None → result ≡ Err NoMemory
             → vec_capacity out.old < size }
         ensures again { RefusesAgain result self.old self.new }
@@ -193,13 +193,13 @@ impl<R: Source + Drop> Pull<R> {
         }
     }
 
-    /// Takes this many bytes, as `bytes_into` does, into a vector of their own.
+    /// Takes this many bytes into a new vector, as `bytes_into` does.
     pub fn bytes(&mut self, alloc: Global, size: usize) -> Result<Bytes, PullFault>
         ensures ok { IfOk result (λ field. Takes self.old field self.new) }
         ensures size { IfOk result (λ field. length field ≡ size) }
         ensures err { self.old.fault ≡ None → IfErr result (λ fault.
             Refuses self.old size fault self.new) }
-        // No bytes take no memory.
+        // Taking no bytes does not allocate.
         ensures full { self.old.fault ≡ None → result ≡ Err NoMemory → 0 < size }
         ensures again { RefusesAgain result self.old self.new }
     {
@@ -208,9 +208,9 @@ impl<R: Source + Drop> Pull<R> {
         Ok(Bytes::from_vec(out))
     }
 
-    /// Takes all that is left, within the limit. Memory is taken only as bytes come. `TooLong`
-    /// where the reader goes on past the limit, `Read` where it fails, `NoMemory` where a growth is
-    /// refused.
+    /// Takes all that is left, within the limit. It allocates only as bytes come. Returns `TooLong`
+    /// if the reader has bytes past the limit, `Read` if it fails, and `NoMemory` if an allocation
+    /// fails.
     pub fn rest(&mut self, alloc: Global) -> Result<Bytes, PullFault>
         ensures ok { IfOk result (λ rest. TakesRest self.old rest self.new) }
         ensures err { self.old.fault ≡ None → IfErr result (λ fault.
@@ -234,7 +234,7 @@ impl<R: Source + Drop> Pull<R> {
         }
     }
 
-    /// The reader, which goes on after the last byte that was taken or looked at.
+    /// The reader, which continues after the last byte that was taken or looked at.
     pub fn into_inner(self) -> R
         ensures left { R.left result ≡ self.source }
         ensures failed { R.has_failed result ≡ self.failed }
@@ -242,7 +242,7 @@ impl<R: Source + Drop> Pull<R> {
         self.reader
     }
 
-    // Answers an earlier fault, or the one of a field that is larger than what the limit leaves.
+    // Returns an earlier fault, or that of a field larger than what the limit leaves.
     #[inline(always)]
     fn refuse_past_limit(&mut self, size: u64) -> Result<(), PullFault>
         ensures ok { OnOk result (self.new ≡ self.old) }

@@ -1,4 +1,4 @@
-//! Reading on to the reader's end.
+//! Reading up to the reader's end.
 
 ghost use Rattle.std.specs.Prelude.{◌≡◌, ◌<◌, ◌≤◌, ◌+◌, ℕ, [], None, OnOk, IfErr, false, is_err};
 ghost use Rattle.std.specs.Prelude.{length, vec_len};
@@ -11,11 +11,11 @@ use crate::device::{Failed, Source};
 use crate::filling::look;
 use ssh_wire::PullFault;
 
-// How many bytes are read at once.
+// How many bytes are read at a time.
 const CHUNK: usize = 65_536;
 
-// Reads to the front of a slice that has room: the byte that was looked at, or else what the
-// reader gives at once.
+// Reads into the front of a slice that has room: the byte that was looked at, or otherwise what one
+// read gives.
 fn read_on<R: Source>(
     reader: &mut R,
     ahead: &mut Option<u8>,
@@ -37,8 +37,8 @@ fn read_on<R: Source>(
     reader.read(into)
 }
 
-// Fills an empty vector with the byte that was looked at and all that the reader gives, where
-// there is room for this many bytes. The vector grows only as they come.
+// Fills an empty vector with the byte that was looked at and all that the reader gives, up to
+// `room` bytes. The vector grows only as they come.
 pub(crate) fn fill_rest<R: Source>(
     reader: &mut R,
     ahead: &mut Option<u8>,

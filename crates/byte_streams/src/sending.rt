@@ -5,16 +5,15 @@ ghost use Rattle.std.specs.Io.KnownBytes.{Appends};
 
 use crate::device::Sink;
 
-/// A writer failed once it had taken that many bytes.
+/// A writer failed after this many bytes.
 #[derive(Clone, Copy, PartialEq, Eq)]
 pub struct Sent {
-    /// The bytes that went out, counted from the first of those that were to be sent.
+    /// How many bytes were written, from the first byte on.
     pub count: usize,
 }
 
-/// Writes all the bytes, in whatever parts the writer takes them. Where the writer fails, the
-/// first `count` bytes went out and no others. A writer that has failed before may not be handed
-/// in.
+/// Writes all the bytes, in whatever parts the writer takes them. If the writer fails, the first
+/// `count` bytes were written and no others. The writer must not have failed before.
 pub fn send<W: Sink>(writer: &mut W, bytes: &[u8]) -> Result<(), Sent>
     requires { W.has_failed writer.old ≡ false }
     ensures ok { OnOk result (Appends (W.taken writer.old) (W.taken writer.new) bytes.now) }

@@ -6,10 +6,10 @@ use crate::device::{Failed, Sink};
 use crate::interruptions::Interruptions;
 use std::io::Write;
 
-/// A writer of the standard library. It hands just its bytes to the writer inside. A write that is
-/// interrupted is tried again, 1,000 times in all; the next interruption, any other error, and a
-/// write that takes none of some bytes are a failure, and after a failure the writer inside is not
-/// asked again.
+/// A writer of the standard library. It passes exactly its bytes to the inner writer. A write that
+/// is interrupted is tried again, 1,000 times in all; the next interruption, any other error, and a
+/// write that takes none of some bytes are a failure, and after a failure the inner writer is not
+/// called again.
 #[derive(Drop)]
 pub struct ToWrite<W: Write + Drop> {
     inner: W,
@@ -18,7 +18,7 @@ pub struct ToWrite<W: Write + Drop> {
 }
 
 impl<W: Write + Drop> ToWrite<W> {
-    /// A writer that has not failed, over the one inside.
+    /// A writer that has not failed, around `inner`.
     pub fn new(inner: W) -> Self
         ensures bytes { ⟦<ToWrite<W> as Sink>⟧.taken result ≡ W.contents inner }
         ensures fresh { ⟦<ToWrite<W> as Sink>⟧.has_failed result ≡ false }

@@ -1,4 +1,4 @@
--- The byte ahead stands first in the slice, and the rest came from the reader.
+-- The byte ahead is first in the slice, and the rest came from the reader.
 use Rattle.std.proofs.Common.{◌<◌, length, rules, arith, length-set, slice_set}
 use Rattle.byte_streams.proofs.Pulling.{Fills-ahead, take-set_first}
 use Rattle.byte_streams.proofs.filling.fill.Goals as goal

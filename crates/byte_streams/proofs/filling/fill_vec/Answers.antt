@@ -1,4 +1,4 @@
--- What came is what the vector holds, and what came of the chunk.
+-- The vector holds the bytes that came before, followed by those in the chunk.
 use Rattle.std.proofs.Common.{◌≡◌, length, vec_len, false, le_refl, rules, arith}
 use Rattle.std.proofs.lemmas.Result.{err_from_is_err_and}
 use Rattle.byte_streams.specs.Filling.{FallsShort, pull_of}

@@ -1,4 +1,4 @@
--- What came until the reader ended or failed is less than the limit leaves.
+-- Fewer bytes came before the reader ended or failed than the limit leaves.
 use Rattle.std.proofs.Common.{◌≡◌, ℕ, ◌-◌, length, false, rules, arith}
 use Rattle.byte_streams.specs.Filling.{FallsShort, pull_of}
 use Rattle.byte_streams.specs.Pull.{after_ahead}

@@ -1,4 +1,4 @@
--- What came since the start is what lies between the count at the start and now.
+-- The bytes that came since the start are those between the count at the start and the current one.
 use Rattle.std.proofs.Common.{◌≡◌, ◌≤◌, ◌-◌, false}
 use Rattle.byte_streams.specs.Pull.{after_ahead}
 use Rattle.byte_streams.proofs.Pulling.{Comes}

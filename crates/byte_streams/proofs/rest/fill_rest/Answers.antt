@@ -1,4 +1,4 @@
--- What came is what the vector holds, and what came of the chunk.
+-- The vector holds the bytes that came before, followed by those in the chunk.
 use Rattle.std.proofs.Common.{◌≡◌, ◌<◌, ◌≤◌, length, vec_len, false, rules, arith}
 use Rattle.ssh_wire.specs.declared.pull_fault.PullFault.TheVariants.{TooLong}
 use Rattle.byte_streams.specs.Filling.{pull_of}
@@ -24,7 +24,7 @@ returns-in-Ok-true-clause-misses g c = λ taken limit sum.
     let held : vec_len c.loop-chunk.out ≡ length c.loop-chunk.out.items = search rules in
     MissesRest-look (pull_of (g.R.Source.left c.args.reader.now) false c.args.ahead.now taken limit) (pull_of (g.R.Source.left c.look.new.reader) (g.R.Source.has_failed c.look.new.reader) c.look.new.ahead taken limit) (after_ahead c.loop-chunk.ahead (g.R.Source.left c.loop-chunk.reader)) c.loop-chunk.out.items TooLong c.loop-chunk.invariant.comes c.look.ensures.bytes (omega (arith, held, sum, c.loop-chunk.invariant.within)) (search (rules, held, sum))
 
--- where a byte stands past the limit, nothing is said of what was taken
+-- if there is a byte past the limit, the clause promises nothing about what was taken
 pub returns-in-Ok-true-clause-ok : goal.returns-in-Ok-true-clause-ok
 returns-in-Ok-true-clause-ok g c = tt
 

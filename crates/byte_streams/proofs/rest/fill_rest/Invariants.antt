@@ -1,4 +1,4 @@
--- The vector holds what came, within the room, and the reader has not failed.
+-- The vector holds the bytes that came, within its room, and the reader has not failed.
 use Rattle.std.proofs.Common.{◌≡◌, ◌≤◌, ◌-◌, false, length, vec_len}
 use Rattle.std.specs.Io.KnownBytes.{Consumes}
 use Rattle.byte_streams.specs.Pull.{after_ahead}

@@ -1,4 +1,4 @@
--- The byte ahead is the first of what is left.
+-- The byte ahead is the first byte left.
 use Rattle.std.proofs.Common.{sym, subst, arith}
 use Rattle.std.specs.Io.KnownBytes.{Consumes}
 use Rattle.byte_streams.proofs.Pulling.{take-set_first, Consumes-ahead}

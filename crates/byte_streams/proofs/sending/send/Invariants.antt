@@ -1,4 +1,4 @@
--- The bytes up to the count went out, and the writer has not failed.
+-- The bytes up to the count were written, and the writer has not failed.
 use Rattle.std.proofs.Common.{length, ◌-◌, ◌≡◌, ◌≤◌, false, take}
 use Rattle.std.specs.Io.KnownBytes.{Appends}
 use Rattle.byte_streams.proofs.sending.send.Given as goal

@@ -1,4 +1,4 @@
--- What was consumed is the front of the buffer.
+-- The bytes that were consumed are the front of the buffer.
 use Rattle.std.specs.Io.Buffered.{reader_buffer, reader_inner, reader_remaining}
 use Rattle.byte_streams.proofs.Buffered.{Consumes-held}
 use Rattle.byte_streams.proofs.from_buffer.FromBufferSource.consume.Goals as goal

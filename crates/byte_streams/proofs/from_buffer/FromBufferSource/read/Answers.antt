@@ -1,4 +1,4 @@
--- What was copied is the front of the buffer, and is consumed.
+-- The bytes that were copied are the front of the buffer, and are consumed.
 use Rattle.std.proofs.Common.{◌≡◌, ℕ, length, take, sym, subst, rules}
 use Rattle.std.specs.Io.Buffered.{reader_buffer, reader_remaining}
 use Rattle.byte_streams.proofs.Buffered.{take-copied}

@@ -1,4 +1,4 @@
--- The fault that was met is kept.
+-- The fault is kept.
 use Rattle.std.proofs.Common.{◌+◌, ◌≤◌, refl, sym, subst, ◌∙◌}
 use Rattle.byte_streams.specs.Pull.{Pull}
 use Rattle.byte_streams.proofs.Pulling.{Refuses-misses}

@@ -1,4 +1,4 @@
--- The fault that was found is kept.
+-- The fault is kept.
 use Rattle.std.proofs.Common.{refl, arith}
 use Rattle.byte_streams.proofs.Pulling.{Refuses-misses}
 use Rattle.byte_streams.proofs.pull.Pull.refuse_past_limit.Goals as goal

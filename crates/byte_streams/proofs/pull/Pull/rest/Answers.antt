@@ -1,4 +1,4 @@
--- The fault that was met is kept.
+-- The fault is kept.
 use Rattle.std.proofs.Common.{◌≡◌, ◌+◌, ◌-◌, refl, arith}
 use Rattle.byte_streams.proofs.Pulling.{RefusesRest-misses}
 use Rattle.byte_streams.proofs.pull.Pull.rest.Goals as goal
