@@ -1,4 +1,4 @@
--- A blob that is cut short: what is left of it, and its fault.
+-- A blob that is truncated: the part that is left, and its fault.
 use Rattle.std.proofs.Common.{◌≡◌, ℕ, ◌+◌, ◌-◌, ◌^◌, ◌<◌, ◌≤◌, List, [], ◌∷◌, ◌++◌, length, take, Err, refl, ap, ◌∙◌, arith, inl, inr, Result, drop, sym}
 use Rattle.std.proofs.lemmas.Bool.{cases_lt}
 use Rattle.std.proofs.lemmas.List.{length-append, length-drop, length-take, take-append-drop, take-append-le}
@@ -19,7 +19,7 @@ use Rattle.ssh_key.proofs.Refusals.{RefusedIn, refused_first, refused_later}
 
 -- ---- strings
 
--- a front is cut where bytes are missing
+-- reading fails if the front ends before the string does
 cut_at : (read : List ℕ → Result (List ℕ × List ℕ) WireFault) (text rest : List ℕ) (n : ℕ) → IsShortWhereCut read text → n < length text → read (take n (text ++ rest)) ≡ Err Short
 cut_at read text rest n short lt =
     let front : take n (text ++ rest) ≡ take n text = take-append-le n text rest (omega arith) in

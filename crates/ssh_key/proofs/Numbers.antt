@@ -1,4 +1,4 @@
--- A number has one magnitude, and its bits hold it.
+-- A number has one magnitude, and fits in its bits.
 use Rattle.std.proofs.Common.{◌≡◌, ℕ, suc, ◌+◌, ◌*◌, ◌^◌, ◌<◌, ◌≤◌, List, [], ◌∷◌, length, refl, sym, ap, ◌∙◌, arith}
 use Rattle.std.proofs.lemmas.Nat.{pow-add, leading_top}
 use Rattle.std.proofs.Math.Nat.{pow-suc, mul-le-mul_left}
@@ -17,7 +17,7 @@ IsBytes-mpint : (m : List ℕ) → IsBytes (mpint m) → IsBytes m
 unfolding mpint
 IsBytes-mpint m h = IsBytes-complement m (IsBytes-in_string (complement m) h)
 
--- ---- values that say the same
+-- ---- values that are equal
 
 value_same : (field : Field) (a b : List ℕ) → IsBytes (field_text field a) → IsBytes (field_text field b) → IsValue field a → IsValue field b → SameValue field a b → a ≡ b
 value_same Positive a b h k p q same = same_magnitude a b (IsBytes-mpint a h) (IsBytes-mpint b k) (positive_is_magnitude a p) (positive_is_magnitude b q) same

@@ -1,5 +1,5 @@
--- A test of bytes, numbers above zero, the length of what is at the front of bytes, and the content of a
--- string there.
+-- A test of bytes, numbers above zero, the length of what is at the front of bytes, and the content of a string at the
+-- front.
 use Rattle.std.proofs.Common.{◌≡◌, ℕ, ◌+◌, ◌^◌, ◌<◌, ◌≤◌, true, List, [], ◌∷◌, ◌++◌, length, Result, Ok, Err, refl, ap, ◌∙◌, arith, inl, inr, ◌⊎◌}
 use Rattle.std.specs.Prelude.{nat_lt}
 use Rattle.std.specs.List.{list_all}
@@ -48,7 +48,7 @@ mpint_within bytes magnitude rest e =
     let whole : length bytes ≡ length (mpint magnitude) + length rest = ap length e ∙ length-append (mpint magnitude) rest in
     omega (arith, whole, length-mpint magnitude, length-complement magnitude)
 
--- ---- a string at the front, and what its content is read as
+-- ---- a string at the front, and the value that its content is read as
 
 abbrev pub content_read : {V W F : Type 0} → (WireFault → F) → (List ℕ → Result V F) → (List ℕ → V → W) → List ℕ → Result (W × List ℕ) F
 content_read words judge with_value bytes =

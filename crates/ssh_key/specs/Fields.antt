@@ -11,7 +11,7 @@ abbrev pub bits_of_size : Size → ℕ
 bits_of_size (Bits bits) = bits
 bits_of_size (Magnitude bytes) = bit_count bytes.now
 
--- a magnitude is at most so long
+-- a magnitude is at most `limit` bytes long
 abbrev pub IsWithin : Size → ℕ → Type 0
 IsWithin (Bits bits) limit = Unit {0}
 IsWithin (Magnitude bytes) limit = length bytes.now ≤ limit

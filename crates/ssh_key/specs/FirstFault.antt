@@ -1,4 +1,4 @@
--- Why a blob is no key: its first fault, by what is in the blob before it.
+-- Why a blob is not a key: its first fault, determined by the fields before it.
 use Rattle.std.specs.Prelude.{◌≡◌, ◌≢◌, ℕ, ◌+◌, ◌<◌, ◌≤◌, List, [], ◌∷◌, ◌++◌, length, Err}
 use Rattle.ssh_wire.specs.Wire.{BeginsWith, string}
 use Rattle.ssh_wire.specs.Reading.{mpint_at, string_at}
@@ -15,8 +15,8 @@ pub record BeginsWithOther (field : Field) (bytes : List ℕ) : Type 0 where
   pub begins : BeginsWith bytes value
   pub other : ¬ IsValue field value
 
--- What is at the front of the bytes is no value of the field: it is misspelt, or a number that
--- is zero, or a string that may not stand there.
+-- The bytes at the front are no value of the field: misspelt, or a number that is zero, or a string
+-- that may not be in the field.
 abbrev pub Refuses : Field → List ℕ → KeyFault → Type 0
 Refuses Positive bytes (faults.Wire fault) = mpint_at bytes ≡ Err fault
 Refuses Positive bytes faults.Number = BeginsWith bytes []
@@ -27,8 +27,8 @@ Refuses (Sized size) bytes faults.Length = BeginsWithOther (Sized size) bytes
 Refuses Application bytes faults.Length = BeginsWithOther Application bytes
 Refuses field bytes fault = ⊥
 
--- The bytes are the public fields before the later ones, with values that may stand there, and then
--- the rest.
+-- The bytes are the public fields before the later ones, with values that are allowed, and then the
+-- rest.
 pub record Reaches (kind : Kind) (bytes : List ℕ) (later : List Field) (rest : List ℕ) : Type 0
   where
     pub before : List Field
@@ -37,8 +37,8 @@ pub record Reaches (kind : Kind) (bytes : List ℕ) (later : List Field) (rest :
     pub allowed : AreValues before values
     pub spelled : bytes ≡ fields_text before values ++ rest
 
--- The first fault of the public fields at the front of bytes. Where each may stand there, the blob
--- of the type name and the fields, without the rest, is too long.
+-- The first fault of the public fields at the front of bytes. If each value is allowed, it is that
+-- the blob of the type name and the fields, without the rest, is too long.
 pub data IsFieldsFault (kind : Kind) (bytes : List ℕ) (fault : KeyFault) : Type 0 where
   in_field : (field : Field) (later : List Field) (rest : List ℕ)
       → Reaches kind bytes (field ∷ later) rest → Refuses field rest fault

@@ -1,4 +1,4 @@
--- What a public key is, and the one spelling of its blob (RFC 4253 section 6.6, RFC 5656, RFC 8709
+-- Public keys, and the one spelling of their blobs (RFC 4253 section 6.6, RFC 5656, RFC 8709
 -- and OpenSSH's PROTOCOL.u2f).
 use Rattle.std.specs.Prelude.{◌≡◌, ◌≢◌, ℕ, ◌+◌, ◌^◌, ◌<◌, ◌≤◌, List, [], ◌∷◌, ◌++◌, length}
 use Rattle.ssh_wire.specs.Wire.{mpint, string}
@@ -15,7 +15,7 @@ pub record PublicKey : Type 0 where
 abbrev pub longest_blob : ℕ
 longest_blob = 65536
 
--- the type name, and the public fields
+-- the type name, followed by the public fields
 abbrev pub blob_of : PublicKey → List ℕ
 blob_of key = string (type_name key.kind) ++ key.fields
 
@@ -29,13 +29,13 @@ abbrev pub IsUncompressed : List ℕ → Type 0
 IsUncompressed [] = ⊥
 IsUncompressed (byte ∷ bytes) = byte ≡ 4
 
--- An application has no zero byte, as OpenSSH writes it: a zero byte ends its texts, and it drops
--- one that stands last.
+-- An application has no zero byte, as OpenSSH writes it: a zero byte ends its texts, and it drops a
+-- zero byte at the end.
 abbrev pub IsApplication : List ℕ → Type 0
 IsApplication [] = Unit {0}
 IsApplication (byte ∷ bytes) = (byte ≢ 0) × IsApplication bytes
 
--- The value may be in the field. A number stands there by its magnitude.
+-- The value may be in the field. A number is given by its magnitude.
 abbrev pub IsValue : Field → List ℕ → Type 0
 IsValue Positive value = IsPositive value
 IsValue (Curve name) value = value ≡ name
@@ -48,7 +48,7 @@ abbrev pub field_text : Field → List ℕ → List ℕ
 field_text Positive value = mpint value
 field_text field value = string value
 
--- Four bytes of length can say it: a string with its length has fewer than 2^32 bytes more.
+-- The length fits in four bytes: a string and its length take fewer than 2^32 bytes more.
 abbrev pub HasLength : List ℕ → Type 0
 HasLength text = length text < 4 + 2 ^ 32
 
@@ -60,7 +60,7 @@ AreValues (field ∷ fields) [] = ⊥
 AreValues (field ∷ fields) (value ∷ values) =
     IsValue field value × HasLength (field_text field value) × AreValues fields values
 
--- their spellings, one after the other
+-- their spellings, one after another
 abbrev pub fields_text : List Field → List (List ℕ) → List ℕ
 fields_text [] values = []
 fields_text (field ∷ fields) [] = []

@@ -1,4 +1,4 @@
--- Reading a key from left to right, with the first fault that is met.
+-- Reading a key from left to right, up to the first fault.
 use Rattle.std.specs.Prelude.{◌≡◌, ℕ, ◌-◌, Bool, List, [], ◌∷◌, length, take, Option, Some, None, Result, Ok, Err, nat_lt, ◌==◌, ◌&&◌, if◌then◌else◌}
 use Rattle.std.specs.List.{list_any}
 use Rattle.std.specs.Option.{ok_or}
@@ -10,7 +10,7 @@ use Rattle.ssh_key.specs.declared.kind.Kind.{Kind}
 use Rattle.ssh_key.specs.Kind.{Field, Positive, Curve, Point, Sized, Application, fields_of, bits_of, kind_named}
 use Rattle.ssh_key.specs.Key.{PublicKey, blob_of, longest_blob}
 
--- the value at the front, whether or not it may stand there, and the bytes after it
+-- the value at the front, whether or not it is allowed, and the bytes after it
 abbrev pub value_at : Field → List ℕ → Result (List ℕ × List ℕ) KeyFault
 value_at Positive bytes = in_fault faults.Wire (mpint_at bytes)
 value_at field bytes = in_fault faults.Wire (string_at bytes)
@@ -40,7 +40,7 @@ field_at field bytes = do
   read ← value_at field bytes
   unless (fault_in field read.0) read
 
--- the values of the fields, one after the other, and the bytes after them
+-- the values of the fields, one after another, and the bytes after them
 unfoldable pub fields_at : List Field → List ℕ → Result (List (List ℕ) × List ℕ) KeyFault
 fields_at [] bytes = Ok ([], bytes)
 fields_at (field ∷ fields) bytes = do
@@ -54,7 +54,7 @@ kind_at bytes = do
   kind ← ok_or (kind_named name.0) faults.UnknownType
   Ok (kind, name.1)
 
--- the size in bits that the public fields give, and the bytes after them
+-- the size in bits by the public fields, and the bytes after them
 unfoldable pub bits_at : Kind → List ℕ → Result (ℕ × List ℕ) KeyFault
 bits_at kind bytes = do
   values ← fields_at (fields_of kind) bytes
@@ -73,7 +73,7 @@ abbrev pub not_too_long : PublicKey → List ℕ → Result (PublicKey × List �
 not_too_long key rest =
     if nat_lt longest_blob (length (blob_of key)) then Err faults.TooLong else Ok (key, rest)
 
--- the key whose public fields stand at the front, and the bytes after them
+-- the key whose public fields are at the front, and the bytes after them
 unfoldable pub public_at : Kind → List ℕ → Result (PublicKey × List ℕ) KeyFault
 public_at kind bytes = do
   size ← bits_at kind bytes

@@ -41,7 +41,7 @@ certificate_name Ed25519Sk = codes "sk-ssh-ed25519-cert-v01@openssh.com"
 abbrev pub kinds : List Kind
 kinds = Rsa ∷ Dsa ∷ Ecdsa256 ∷ Ecdsa384 ∷ Ecdsa521 ∷ Ed25519 ∷ EcdsaSk ∷ Ed25519Sk ∷ []
 
--- the kind of a type name
+-- the kind with this type name
 unfoldable pub kind_named : List ℕ → Option Kind
 kind_named name = find (λ kind. bytes_eq (type_name kind) name) kinds
 
@@ -49,8 +49,8 @@ kind_named name = find (λ kind. bytes_eq (type_name kind) name) kinds
 unfoldable pub kind_certified : List ℕ → Option Kind
 kind_certified name = find (λ kind. bytes_eq (certificate_name kind) name) kinds
 
--- What is in a public field: a number above zero; the name of the curve; an uncompressed point
--- of this many bytes; any string of this many bytes; what a key of a device is for.
+-- The content of a public field: a number above zero; the name of the curve; an uncompressed point
+-- of this many bytes; any string of this many bytes; the application of a security key.
 pub data Field : Type 0 where
   Positive : Field
   Curve : (name : List ℕ) → Field
@@ -68,13 +68,13 @@ fields_of Ed25519 = Sized 32 ∷ []
 fields_of EcdsaSk = Curve (codes "nistp256") ∷ Point 65 ∷ Application ∷ []
 fields_of Ed25519Sk = Sized 32 ∷ Application ∷ []
 
--- eight for each byte of a magnitude, less the leading zero bits of the first
+-- eight for each byte of a magnitude, minus the leading zero bits of the first
 abbrev pub bit_count : List ℕ → ℕ
 bit_count [] = 0
 bit_count (byte ∷ bytes) = 8 * length (byte ∷ bytes) - leading_zeros w8 byte
 
--- The size of a key in bits: of n for RSA (the second number), of p for DSA (the first), and else
--- of the kind.
+-- The size of a key in bits: that of n for RSA (the second number), that of p for DSA (the first),
+-- and otherwise that of the kind.
 abbrev pub bits_of : Kind → List (List ℕ) → ℕ
 bits_of Rsa values = bit_count (slice_index_or values 1 [])
 bits_of Dsa values = bit_count (slice_index_or values 0 [])

@@ -7,8 +7,8 @@ use crate::key::PublicKey;
 use ssh_wire::put_string;
 use std::alloc::{AllocError, Global};
 
-/// The blob of a key: the string of the type name (RFC 4251 section 5), and the public fields. Of a
-/// key that was read it is the blob that it was read from. Fails only where memory runs out.
+/// The blob of a key: the string of the type name (RFC 4251 section 5), and the public fields. For
+/// a key that was read, it is the blob that it was read from. Fails only if an allocation fails.
 pub fn plain_blob(alloc: Global, key: &PublicKey) -> Result<Vec<u8>, AllocError>
     ensures { IfOk result (λ blob. blob.items ≡ blob_of key.now) }
 {

@@ -1,4 +1,4 @@
-//! Why blobs are refused.
+//! Why blobs are not keys.
 
 ghost use Rattle.std.specs.Prelude.{◌≡◌, Some};
 ghost use Rattle.ssh_key.specs.KeyFault.{key_fault_number, key_fault_text};
@@ -8,15 +8,15 @@ use ssh_wire::WireFault;
 use std::error::Error;
 use std::fmt;
 
-/// Why a blob is not a key. Of several faults the first is reported, in the order of the fields. It
-/// prints as `key`, its number and its name; after `Wire` comes the fault of the wire.
+/// Why a blob is not a key. If there are several faults, the first is reported, in the order of the
+/// fields. It prints as `key`, its number and its name; after `Wire` comes the fault of the field.
 #[derive(Clone, Copy, Debug, PartialEq, Eq)]
 pub enum KeyFault {
-    /// A field is cut short or misspelt.
+    /// A field is truncated or misspelt.
     Wire(WireFault),
-    /// The type name is not that of a plain key. That of a certificate is not.
+    /// The type name is not that of a plain key. The name of a certificate type is not.
     UnknownType,
-    /// The name of the curve is not that of the kind.
+    /// The curve's name is not that of the kind.
     Curve,
     /// A point is not as long as the curve's, or is not uncompressed.
     Point,
@@ -26,7 +26,7 @@ pub enum KeyFault {
     Number,
     /// Bytes follow the last field.
     Trailing,
-    /// The blob is longer than 65,536 bytes. Reported before all else.
+    /// The blob is longer than 65,536 bytes. Reported before all other faults.
     TooLong,
 }
 

@@ -10,15 +10,15 @@ use crate::fault::KeyFault;
 use crate::kind::Kind;
 use ssh_wire::Cursor;
 
-// The bytes of an Ed25519 key (RFC 8709 section 4).
+// The length of an Ed25519 key in bytes (RFC 8709 section 4).
 const ED25519_SIZE: usize = 32;
 
 /// How large a key is.
 #[derive(Drop)]
 pub enum Size<'a> {
-    /// As every key of its kind: this many bits.
+    /// The size of every key of its kind, in bits.
     Bits(u32),
-    /// As large as the number of this magnitude.
+    /// The size of the number with this magnitude.
     Magnitude(&'a [u8]),
 }
 
@@ -40,7 +40,7 @@ pub fn read_size<'a>(kind: Kind, cursor: &mut Cursor<'a>) -> Result<Size<'a>, Ke
     }
 }
 
-// Reads the public fields of an RSA key: the exponent, and the modulus, which is answered.
+// Reads the public fields of an RSA key: the exponent, and the modulus, which is returned.
 #[tactic(auto, unfolding(crate::specs::KeyReading::bits_at, crate::specs::KeyReading::fields_at))]
 fn read_modulus<'a>(cursor: &mut Cursor<'a>) -> Result<Size<'a>, KeyFault>
     ensures read { Gives bits_of_size result cursor.new (bits_at Kind.Rsa cursor.old) }
@@ -51,7 +51,7 @@ fn read_modulus<'a>(cursor: &mut Cursor<'a>) -> Result<Size<'a>, KeyFault>
     Ok(Size::Magnitude(modulus))
 }
 
-// Reads the public fields of a DSA key: the prime, which is answered, and three numbers more.
+// Reads the public fields of a DSA key: the prime, which is returned, and three more numbers.
 #[tactic(auto, unfolding(crate::specs::KeyReading::bits_at, crate::specs::KeyReading::fields_at))]
 fn read_prime<'a>(cursor: &mut Cursor<'a>) -> Result<Size<'a>, KeyFault>
     ensures read { Gives bits_of_size result cursor.new (bits_at Kind.Dsa cursor.old) }
@@ -91,7 +91,7 @@ fn read_ed25519<'a>(cursor: &mut Cursor<'a>) -> Result<Size<'a>, KeyFault>
     Ok(Size::Bits(256))
 }
 
-// Reads the public fields of an ECDSA key of a device.
+// Reads the public fields of an ECDSA security key.
 #[tactic(auto, unfolding(crate::specs::KeyReading::bits_at, crate::specs::KeyReading::fields_at))]
 fn read_ecdsa_device<'a>(cursor: &mut Cursor<'a>) -> Result<Size<'a>, KeyFault>
     ensures read { Gives bits_of_size result cursor.new (bits_at Kind.EcdsaSk cursor.old) }
@@ -103,7 +103,7 @@ fn read_ecdsa_device<'a>(cursor: &mut Cursor<'a>) -> Result<Size<'a>, KeyFault>
     Ok(Size::Bits(256))
 }
 
-// Reads the public fields of an Ed25519 key of a device.
+// Reads the public fields of an Ed25519 security key.
 #[tactic(auto, unfolding(crate::specs::KeyReading::bits_at, crate::specs::KeyReading::fields_at))]
 fn read_ed25519_device<'a>(cursor: &mut Cursor<'a>) -> Result<Size<'a>, KeyFault>
     ensures read { Gives bits_of_size result cursor.new (bits_at Kind.Ed25519Sk cursor.old) }
@@ -167,8 +167,8 @@ fn read_sized<'a>(cursor: &mut Cursor<'a>, size: usize) -> Result<&'a [u8], KeyF
     Ok(string)
 }
 
-// What a key of a device is for (PROTOCOL.u2f): a string without a zero byte. OpenSSH drops such a
-// byte where it stands last, so with it a key would have a second spelling.
+// The application of a security key (PROTOCOL.u2f): a string without a zero byte. OpenSSH drops a
+// zero byte at the end, so a key with one would have a second spelling.
 #[tactic(auto, unfolding(crate::specs::KeyReading::field_at))]
 fn read_application<'a>(cursor: &mut Cursor<'a>) -> Result<&'a [u8], KeyFault>
     ensures { Gives (λ value. value.now) result cursor.new (field_at Application cursor.old) }

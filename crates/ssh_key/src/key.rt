@@ -14,11 +14,11 @@ use crate::kind::Kind;
 use ssh_wire::Cursor;
 use std::marker::Model;
 
-// The longest blob that is read, in bytes.
+// The length of the longest blob that is read, in bytes.
 const LONGEST_BLOB: usize = 65_536;
 
-/// A public key, lent from its blob or from a certificate. Whoever holds one holds a key: see
-/// `has_blob`.
+/// A public key, borrowed from its blob or from a certificate. Each value of this type is a valid
+/// key: see `has_blob`.
 #[derive(Drop)]
 pub struct PublicKey<'a> {
     kind: Kind,
@@ -48,7 +48,7 @@ impl<'a> PublicKey<'a> {
     }
 
     /// The size of the key in bits, as listings print it: that of the modulus of an RSA key, of the
-    /// prime of a DSA key, and else the one size of the kind.
+    /// prime of a DSA key, and otherwise the one size of the kind.
     pub fn bits(&self) -> u32
         ensures { result ≡ self.now.bits }
     {
@@ -69,8 +69,8 @@ impl<'a> PublicKey<'a> {
         self.fields
     }
 
-    /// The key is one: the string of its type name and its public fields are its blob. Does
-    /// nothing.
+    /// The value is a valid key: the string of its type name and its public fields are its blob.
+    /// Does nothing.
     pub fn has_blob(&self)
         ensures { IsKey (blob_of self.now) self.now }
     {
@@ -80,14 +80,14 @@ impl<'a> PublicKey<'a> {
 
 /// The key that a blob spells (RFC 4253 section 6.6, RFC 5656, RFC 8709, PROTOCOL.u2f): the string
 /// of the type name of a plain key, and the public fields of that kind, in at most 65,536 bytes.
-/// Each number is above zero and spelled in as few bytes as can be, so a key has one blob. Takes no
-/// memory: the key is lent from the blob.
+/// Each number is above zero and spelled in as few bytes as possible, so a key has one blob. Does
+/// not allocate: the key is borrowed from the blob.
 ///
-/// Of several faults the first is reported: `TooLong` before all else, then those of the type name
-/// and of each field, in the order in which they come, and `Trailing` last.
+/// If there are several faults, the first is reported: `TooLong` before all others, then those of
+/// the type name and of each field, in the order in which they come, and `Trailing` last.
 #[tactic(auto, unfolding(crate::specs::KeyReading::key_at))]
 pub fn read_key<'a>(blob: &'a [u8]) -> Result<PublicKey<'a>, KeyFault>
-    // The key that is spelled (`laws::read_where_spelled`), else the first fault
+    // The key that is spelled (`laws::read_where_spelled`), otherwise the first fault
     // (`laws::refused_by_first_fault`).
     ensures exact { result ≡ key_at blob.now }
 {
@@ -113,16 +113,16 @@ fn read_kind(cursor: &mut Cursor) -> Result<Kind, KeyFault>
 }
 
 /// Reads the public fields of a key of this kind from the front of the bytes, without the string of
-/// the type name, as they are in a certificate (OpenSSH's PROTOCOL.certkeys). What follows them
-/// is left. A refusal takes nothing. Takes no memory.
+/// the type name, as they are in a certificate (OpenSSH's PROTOCOL.certkeys). The bytes after them
+/// are left. An error takes nothing. Does not allocate.
 ///
-/// Of several faults the first is reported: those of each field, in the order in which they come,
-/// and then `TooLong` where the blob of the type name and these fields would be longer than 65,536
-/// bytes.
+/// If there are several faults, the first is reported: those of each field, in the order in which
+/// they come, and then `TooLong` if the blob of the type name and these fields would be longer than
+/// 65,536 bytes.
 #[tactic(auto, unfolding(crate::specs::KeyReading::public_at))]
 pub fn read_fields<'a>(kind: Kind, cursor: &mut Cursor<'a>) -> Result<PublicKey<'a>, KeyFault>
-    // The key whose public fields stand at the front (`laws::fields_read_where_spelled`), else the
-    // first fault, and then nothing is taken (`laws::fields_refused_by_first_fault`).
+    // The key whose public fields are at the front (`laws::fields_read_where_spelled`), otherwise
+    // the first fault, and then nothing is taken (`laws::fields_refused_by_first_fault`).
     ensures exact { Reads (λ key. key) result cursor.old cursor.new (public_at kind cursor.old) }
 {
     let bytes = cursor.rest();
@@ -147,7 +147,7 @@ fn are_bytes(bytes: &[u8])
     ensures { IsBytes bytes.now }
 {}
 
-// How many bytes the public fields of this kind have in the longest blob.
+// How many bytes the public fields of this kind take at most in the longest blob.
 fn longest_fields(kind: Kind) -> usize
     ensures { length (string (type_name kind)) + result ≡ longest_blob }
 {
@@ -165,7 +165,7 @@ fn bits(size: Size) -> u32
     }
 }
 
-// The number of bits of a number, by its magnitude.
+// The number of bits of a number, given by its magnitude.
 fn bit_count(magnitude: &[u8]) -> u32
     requires { length magnitude.now ≤ LONGEST_BLOB }
     ensures { result ≡ bit_count magnitude.now }

@@ -36,8 +36,8 @@ const KINDS: [Kind; 8] = [
 ];
 
 impl Kind {
-    /// The name of the key type, as blobs and lines have it (RFC 4253 section 6.6, RFC 5656 section
-    /// 3.1, RFC 8709 section 4, PROTOCOL.u2f).
+    /// The name of the key type, as it is in blobs and key lines (RFC 4253 section 6.6, RFC 5656
+    /// section 3.1, RFC 8709 section 4, PROTOCOL.u2f).
     pub fn name(self) -> &'static str
         ensures { result.now ≡ type_name self }
     {
@@ -53,7 +53,7 @@ impl Kind {
         }
     }
 
-    /// The kind of this type name. The type name of a certificate has none.
+    /// The kind with this type name. None for the type name of a certificate.
     pub fn of_name(name: &[u8]) -> Option<Kind>
         ensures found { IfSome result (λ kind. type_name kind ≡ name.now) }
         ensures only { (kind : Kind) → type_name kind ≡ name.now → result ≡ Some kind }
@@ -77,7 +77,7 @@ impl Kind {
         }
     }
 
-    /// The kind whose certificates have this type name. The type name of a plain key has none.
+    /// The kind whose certificates have this type name. None for the type name of a plain key.
     pub fn of_cert_name(name: &[u8]) -> Option<Kind>
         ensures found { IfSome result (λ kind. certificate_name kind ≡ name.now) }
         ensures only { (kind : Kind) → certificate_name kind ≡ name.now → result ≡ Some kind }
@@ -113,7 +113,7 @@ fn find(name: &[u8]) -> Option<Kind>
         .find(|kind| kind.name().as_bytes() == name)
 }
 
-// The kind of key with this type name of certificates.
+// The kind of key whose certificates have this type name.
 #[tactic(auto, unfolding(crate::specs::Kind::kind_certified))]
 fn find_certified(name: &[u8]) -> Option<Kind>
     ensures { result ≡ kind_certified name.now }

@@ -1,5 +1,5 @@
-//! What holds for every key and every list of bytes, each as the contract of a function that does
-//! nothing. `read_key` answers what the reader named here gives, and `plain_blob` the blob.
+//! Laws about every key and every list of bytes, each as the contract of a function that does
+//! nothing. `read_key` returns what the reader named here gives, and `plain_blob` the blob.
 
 ghost use Rattle.std.specs.Prelude.{◌≡◌, ◌≢◌, ◌*◌, ◌^◌, ◌<◌, ◌≤◌, ◌↔◌, ℕ, List, Err, Ok, length, take};
 ghost use Rattle.ssh_key.specs.FirstFault.{IsFieldsFault, IsFirstFault};
@@ -13,8 +13,8 @@ ghost use Rattle.ssh_key.specs.declared.fault.KeyFault.TheVariants.{Wire};
 ghost use Rattle.ssh_wire.specs.Wire.{IsBytes, number_of};
 ghost use Rattle.ssh_wire.specs.declared.fault.WireFault.TheVariants.{Short};
 
-/// No two kinds have one type name, nor one name of their certificates, and no name is both a key's
-/// and a certificate's.
+/// No two kinds have the same type name, nor the same name for their certificates, and no name is
+/// both a key's and a certificate's.
 pub fn names_differ()
     ensures plain { (a b : Kind) → type_name a ≡ type_name b → a ≡ b }
     ensures certified { (a b : Kind) → certificate_name a ≡ certificate_name b → a ≡ b }
@@ -33,7 +33,7 @@ pub fn refused_by_first_fault()
         → (key_at blob ≡ Err fault) ↔ IsFirstFault blob fault }
 {}
 
-/// Bytes have one first fault at most, and a blob of a key has none.
+/// Bytes have at most one first fault, and a blob of a key has none.
 pub fn one_first_fault()
     ensures one { (blob : List ℕ) (a b : KeyFault) → IsFirstFault blob a → IsFirstFault blob b
         → a ≡ b }
@@ -42,7 +42,7 @@ pub fn one_first_fault()
 {}
 
 /// Reading public fields gives a key and the rest exactly where the bytes are its public fields and
-/// the rest.
+/// then the rest.
 pub fn fields_read_where_spelled()
     ensures { (kind : Kind) (bytes rest : List ℕ) (key : PublicKey) → IsBytes bytes
         → (public_at kind bytes ≡ Ok (key, rest))
@@ -55,7 +55,7 @@ pub fn fields_refused_by_first_fault()
         → (public_at kind bytes ≡ Err fault) ↔ IsFieldsFault kind bytes fault }
 {}
 
-/// Public fields have one first fault at most, and those of a key have none.
+/// Public fields have at most one first fault, and those of a key have none.
 pub fn one_fields_fault()
     ensures one { (kind : Kind) (bytes : List ℕ) (a b : KeyFault)
         → IsFieldsFault kind bytes a → IsFieldsFault kind bytes b → a ≡ b }
@@ -63,8 +63,8 @@ pub fn one_fields_fault()
         → BeginsWithFields bytes key rest → IsFieldsFault key.kind bytes fault → ⊥ }
 {}
 
-/// A blob that is cut short, at whatever byte, is refused as such: its fault is that of a field
-/// that ends too early, and no other. So are public fields alone.
+/// A blob that is truncated, at whatever byte, is reported as such: its fault is that of a field
+/// that ends too early, and no other. The same holds for public fields alone.
 pub fn cut_key_is_short()
     ensures blob { (blob : List ℕ) (key : PublicKey) (n : ℕ) → IsKey blob key → n < length blob
         → IsFirstFault (take n blob) (Wire Short) }
@@ -72,27 +72,27 @@ pub fn cut_key_is_short()
         → IsFieldsFault key.kind (take n key.fields) (Wire Short) }
 {}
 
-/// A blob is that of one key.
+/// A blob is the blob of one key.
 pub fn one_key()
     ensures { (blob : List ℕ) (a b : PublicKey) → IsKey blob a → IsKey blob b → a ≡ b }
 {}
 
-/// A key has one blob: where the kind is the same, and the numbers and strings of the public fields
-/// are, so is the blob.
+/// A key has one blob: if the kinds are equal, and so are the numbers and strings of the public
+/// fields, the blobs are equal.
 pub fn one_blob()
     ensures { (a b : List ℕ) (k l : PublicKey) → IsBytes a → IsBytes b
         → (p : IsKey a k) (q : IsKey b l)
         → k.kind ≡ l.kind → SameValues (fields_of k.kind) p.values q.values → a ≡ b }
 {}
 
-/// The size in bits is the least in which the number is held.
+/// The size in bits is the smallest that holds the number.
 pub fn bits_hold_number()
     ensures { (magnitude : List ℕ) → IsBytes magnitude → IsPositive magnitude
         → (number_of magnitude < 2 ^ bit_count magnitude)
         × (2 ^ bit_count magnitude ≤ 2 * number_of magnitude) }
 {}
 
-/// The blob that is made of a key is the one that it was read from, and is read as that key.
+/// The blob that is made from a key is the one that it was read from, and is read as that key.
 pub fn blob_read_back()
     ensures { (blob : List ℕ) (key : PublicKey) → IsKey blob key
         → (blob_of key ≡ blob) × (key_at (blob_of key) ≡ Ok key) }
