@@ -12,7 +12,7 @@ use Rattle.serial_set.specs.BitRuns.{BitNames}
 zero_is_not_one : (n : ℕ) → n ≡ 0 → n ≡ 1 → ⊥
 zero_is_not_one n a b = omega arith
 
--- a number that is no less than 2 ^ j and below twice that has bit j set
+-- a number from 2 ^ j up to twice that has bit j set
 top_bit : (j a : ℕ) → 2 ^ j ≤ a → a < 2 ^ suc j → bit_at a j ≡ 1
 top_bit j a h k =
     let one_in : 1 * 2 ^ j ≤ a = omega arith in
@@ -20,7 +20,7 @@ top_bit j a h k =
     let below_two : a < (1 + 1) * 2 ^ j = omega arith in
     ap (λ q. q % 2) (div-eq_of_lt-le {k = 1} (2 ^ j) {m = a} one_in below_two)
 
--- a set bit is no higher than the highest
+-- a set bit is at most the highest
 pub bit_below : (byte k i : ℕ) → byte < 2 ^ k → bit_at byte i ≡ 1 → i < k
 bit_below byte k i h b =
     elim (cases_lt i k) [
@@ -37,7 +37,7 @@ highest_bit byte z h k e =
       λ i b. omega (arith, bit_below byte (suc top.0) i top.3 b),
     )
 
--- one byte more: its eight bits are the lowest, and the others move up by eight
+-- one more byte: its eight bits are the lowest, and the others move up by eight
 pub BitNames-split : (base bits byte s : ℕ) → byte < 256 → BitNames base (bits * 256 + byte) s
     → BitNames (base + 8) bits s ⊎ BitNames base byte s
 BitNames-split base bits byte s h n =

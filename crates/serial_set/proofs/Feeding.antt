@@ -52,9 +52,9 @@ none_named (x ∷ xs) s free n =
       | inr later ↦ none_named xs s (All-tail (λ run. SpanCovers run s → ⊥) x xs free) later
     ]
 
--- ---- one byte more
+-- ---- one more byte
 
--- the runs of the number fed so far, whose lowest bit stands for n
+-- the runs of the number fed so far, whose lowest bit represents n
 record Fed (n number count : ℕ) (p : Option Span) (z : List Span) : Type 0 where
   on : OnFrom n p z
   only : (s : ℕ) → Covers (option_to_list p ++ z) s → BitNames n number s
@@ -62,7 +62,7 @@ record Fed (n number count : ℕ) (p : Option Span) (z : List Span) : Type 0 whe
   top : (s : ℕ) → Covers (option_to_list p ++ z) s → s < 2 ^ 64
   few : length (option_to_list p ++ z) ≤ count
 
--- what was fed before rises from past all that the next byte can name
+-- what was fed before begins past all that the next byte can name
 record Above (m c : ℕ) (p : Option Span) (z : List Span) : Type 0 where
   rises : RunsFrom c z
   past : m + 1 ≤ c

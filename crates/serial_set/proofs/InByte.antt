@@ -26,7 +26,7 @@ pub one_at_most : (o : Option Span) → length (option_to_list o) ≤ 1
 one_at_most None = omega arith
 one_at_most (Some x) = omega arith
 
--- a run that is closed stays where it is in the list
+-- a run that is closed keeps its place in the list
 pub closed-list : (p : Option Span) (f : List Span) → reverse (f ++ option_to_list p) ≡ option_to_list p ++ reverse f
 closed-list None f = ap reverse (append-nil f)
 closed-list (Some run) f = reverse-append f (run ∷ [])

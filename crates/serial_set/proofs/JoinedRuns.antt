@@ -18,7 +18,7 @@ glued_runs a x (y ∷ ys) h k r =
       | inr other ↦ subst P (sym other.0) (h, k, (omega arith, r.1, r.2))
     ]
 
--- what the glued spans have is in one of them
+-- the members of the glued spans are in one of them
 glued_to : (x : Span) (ys : List Span) (s : ℕ) → Covers (glued x ys) s
     → SpanCovers x s ⊎ Covers ys s
 glued_to x [] s n = n
@@ -71,7 +71,7 @@ joined_from a (x ∷ xs) s r n =
           glued_from x (joined xs) s r.1 rest (inr (joined_from (x.hi + 1) xs s r.2 later))
     ]
 
--- joining changes no member
+-- joining does not change the members
 pub joined_of : (xs : List Span) → Rises 0 xs → IsRunsOf (joined xs) (λ s. Covers xs s)
 joined_of xs r = (joined_runs 0 xs r, λ s. (joined_to xs s, joined_from 0 xs s r))
 

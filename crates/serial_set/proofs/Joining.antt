@@ -1,4 +1,4 @@
--- A span that is put after runs, beside the last of them or past it.
+-- A span that is put after runs, touching the last of them or past it.
 use Rattle.std.proofs.Common.{◌≡◌, ℕ, ◌+◌, ◌<◌, ◌≤◌, ◌⊎◌, List, [], ◌∷◌, ◌++◌, sym, subst, inl, inr}
 use Rattle.std.proofs.Common.{arith}
 use Rattle.std.specs.Prelude.{◌↔◌}
@@ -38,7 +38,7 @@ joined_first old new lo hi none is h =
     adds_end old new [] [] (record { lo = lo; hi = hi } ∷ []) 0 lo hi none is (subst IsRuns (sym none) tt) (All-nil (λ t. t.hi + 2 ≤ 0)) (omega arith, h, tt)
     (λ s. (λ n. elim n [ inl here ↦ inr here | inr none ↦ absurd none ], λ m. elim m [ inl none ↦ absurd none | inr here ↦ inl here ]))
 
--- the last of the runs ends below what lies past them all
+-- the last of the runs ends below what is past all of them
 pub ends_below : (old front : List Span) (last : Span) (lo : ℕ) → old ≡ front ++ last ∷ [] → IsRuns old → ((s : ℕ) → Covers old s → s < lo) → last.hi < lo
 ends_below old front last lo was r past = past last.hi (subst (λ l. Covers l last.hi) (sym was) (names_right front (last ∷ []) last.hi (inl ((runs_middle 0 front last [] (subst IsRuns was r)).0, omega arith))))
 

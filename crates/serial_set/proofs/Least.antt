@@ -13,7 +13,7 @@ same_span : (x y : Span) → x.lo ≡ y.lo → x.hi ≡ y.hi → x ≡ y
 same_span x y p q =
     ap (λ (n : ℕ). record { lo = n; hi = x.hi }) p ∙ ap (λ (n : ℕ). record { lo = y.lo; hi = n }) q
 
--- the number after the first span is not named
+-- the number after the first span is not a member
 not_after : (a : ℕ) (x : Span) (xs : List Span) → RunsFrom a (x ∷ xs)
     → Covers (x ∷ xs) (x.hi + 1) → ⊥
 not_after a x xs r n =
@@ -60,8 +60,8 @@ pub runs_unique : (xs ys : List Span) → IsRuns xs → IsRuns ys
     → ((s : ℕ) → Covers xs s ↔ Covers ys s) → xs ≡ ys
 runs_unique xs ys r t same = unique_from 0 0 xs ys r t (λ s. (same s).0) (λ s. (same s).1)
 
--- runs that are among others, and have each number of these up to the one after their own, are the
--- first of them
+-- runs that are among others, and have each number of these up to the one after their own, are the first of those
+-- others
 pub runs_first : (a b : ℕ) (xs ys : List Span) → RunsFrom a xs → RunsFrom b ys
     → ((s : ℕ) → Covers xs s → Covers ys s)
     → ((s t : ℕ) → Covers xs t → s ≤ t + 1 → Covers ys s → Covers xs s) → xs ≡ take (length xs) ys
@@ -87,7 +87,7 @@ runs_first a b (x ∷ xs) (y ∷ ys) r t to from =
 
 -- ---- the shortest list
 
--- a span that holds a named number, taken out of the list
+-- a span that covers a member, taken out of the list
 record Found (xs : List Span) (s : ℕ) : Type 0 where
   front : List Span
   span : Span

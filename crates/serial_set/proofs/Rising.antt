@@ -1,4 +1,4 @@
--- Rising lists of spans: what they name, and how they are cut and joined.
+-- Rising lists of spans: their members, and how they are split and joined.
 use Rattle.std.proofs.Common.{ℕ, ◌+◌, ◌-◌, ◌<◌, ◌≤◌, List, [], ◌∷◌, ◌++◌, ◌⊎◌, length, get_or, inl}
 use Rattle.std.proofs.Common.{inr, arith, zero, suc, leb}
 use Rattle.std.specs.Prelude.{◌↔◌, ◌&&◌}
@@ -44,7 +44,7 @@ pub RunsFrom-weaker : (a b : ℕ) (xs : List Span) → b ≤ a → RunsFrom a xs
 RunsFrom-weaker a b [] h r = tt
 RunsFrom-weaker a b (x ∷ xs) h r = (omega arith, r.1, r.2)
 
--- what is named is no less than where the list may begin
+-- a member is at least the number from which the list may begin
 pub names_from : (a : ℕ) (xs : List Span) (s : ℕ) → RunsFrom a xs → Covers xs s → a ≤ s
 names_from a [] s r n = absurd n
 names_from a (x ∷ xs) s r n =
@@ -57,7 +57,7 @@ pub runs_front : (a : ℕ) (xs ys : List Span) → RunsFrom a (xs ++ ys) → Run
 runs_front a [] ys r = tt
 runs_front a (x ∷ xs) ys r = (r.0, r.1, runs_front (x.hi + 2) xs ys r.2)
 
--- a later span is past where the list may begin
+-- a later span is past that number
 pub runs_reach : (a : ℕ) (xs : List Span) (y : Span) (ys : List Span) → RunsFrom a (xs ++ y ∷ ys)
     → a ≤ y.lo
 runs_reach a [] y ys r = r.0
@@ -76,7 +76,7 @@ runs_apart a (x ∷ xs) y ys r =
     All-cons (λ t. t.hi + 2 ≤ y.lo) x xs (runs_reach (x.hi + 2) xs y ys r.2)
     (runs_apart (x.hi + 2) xs y ys r.2)
 
--- two lists joined, where the first ends two below the number from which the second rises
+-- two lists joined: the first ends two below the number from which the second rises
 pub runs_join : (a b : ℕ) (xs ys : List Span) → a ≤ b → RunsFrom a xs → All (λ t. t.hi + 2 ≤ b) xs
     → RunsFrom b ys → RunsFrom a (xs ++ ys)
 runs_join a b [] ys h r below s = RunsFrom-weaker b a ys h s

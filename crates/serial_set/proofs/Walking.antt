@@ -58,7 +58,7 @@ since_from a n (x ∷ xs) s r m h =
       ])
     ]
 
--- all is left from where the runs begin
+-- everything is left from where the runs begin
 pub since_same : (n : ℕ) (xs : List Span) → RunsFrom n xs → since n xs ≡ xs
 since_same n [] r = refl
 since_same n (x ∷ xs) r =
@@ -71,7 +71,7 @@ since_same n (x ∷ xs) r =
           )
     ]
 
--- a span that ends before a number is passed over
+-- a span that ends before a number is skipped
 pub since_past : (n : ℕ) (x : Span) (xs : List Span) → x.hi < n
     → since n (x ∷ xs) ≡ since n xs
 since_past n x xs h =
@@ -81,7 +81,7 @@ since_past n x xs h =
       | inl goes ↦ absurd (omega arith)
     ]
 
--- from a further number on, what is left of what was left
+-- from a later number on: what is left of what was left
 pub since_again : (a m n : ℕ) (xs : List Span) → RunsFrom a xs → m ≤ n
     → since n (since m xs) ≡ since n xs
 since_again a m n xs r h =
@@ -109,7 +109,7 @@ past_in a (suc k) x (y ∷ ys) r =
     let rest = past_in (x.hi + 2) k y ys r.2 in
     omega (arith, rest, r.2.0, r.2.1)
 
--- from the number after the first spans on, the others are left
+-- after the first spans, the others are left
 since_drop : (a k : ℕ) (xs : List Span) → RunsFrom a xs → since (past (take k xs)) xs ≡ drop k xs
 since_drop a zero xs r = since_same 0 xs (RunsFrom-weaker a 0 xs (omega arith) r)
 since_drop a (suc k) [] r = refl
@@ -143,7 +143,7 @@ none_past e zs r h =
     no_member (max 0 e) (since e zs) (since_runs 0 e zs r)
     (λ s m. let there = since_to 0 e zs s r m in omega (arith, there.1, h s there.0))
 
--- after a piece, the others of what was left are left
+-- after a piece, the rest of what was left is left
 pub walk_on : (spans piece : List Span) (n : ℕ) → IsRuns spans → AreSerials spans
     → IsPiece spans n piece → left (next_of piece) spans ≡ drop (length piece) (since n spans)
 walk_on spans [] n r fits p = none_of (since n spans) p.some
@@ -213,7 +213,7 @@ next_is (x ∷ xs) d next h is =
     next_by_is (past (x ∷ xs)) next
     (subst (λ (m : ℕ). SomeIff next (m < 2 ^ 64) m) (sym (past_last (x ∷ xs) d h)) is)
 
--- no run, no number
+-- if there is no run, there is no number
 pub next_none : (xs : List Span) → length xs ≡ 0 → None ≡ next_of xs
 next_none [] e = refl
 next_none (x ∷ xs) e = absurd (omega arith)
@@ -235,7 +235,7 @@ clipped_take n zero xs = refl
 clipped_take n (suc k) [] = refl
 clipped_take n (suc k) (x ∷ xs) = refl
 
--- the first of what is left are a piece
+-- the first runs of what is left are a piece
 pub piece_first : (spans rest piece : List Span) (n : ℕ) → since n spans ≡ rest
     → piece ≡ take 32 rest → IsPiece spans n piece
 piece_first spans rest piece n e p =
@@ -247,7 +247,7 @@ piece_first spans rest piece n e p =
           ∙ ap (λ (l : List Span). take (length piece) l) (sym e);
     }
 
--- what is left is among those after spans that end before the number
+-- what is left is among the spans after those that end before the number
 pub since_after : (n k : ℕ) (xs : List Span) → All (λ t. t.hi < n) (take k xs)
     → since n xs ≡ since n (drop k xs)
 since_after n zero xs h = refl
@@ -269,7 +269,7 @@ few_from a (x ∷ (y ∷ ys)) r fits h =
     (omega arith) in
     omega arith
 
--- runs of serials are fewer than the numbers of 64 bits
+-- there are fewer runs of serials than numbers of 64 bits
 pub runs_few : (spans : List Span) → IsRuns spans → AreSerials spans → length spans < 2 ^ 64
 runs_few [] r fits = omega arith
 runs_few (x ∷ xs) r fits =

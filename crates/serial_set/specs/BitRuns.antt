@@ -7,8 +7,8 @@ use Rattle.serial_set.specs.declared.bit_fault.BitFault.{BitFault}
 use Rattle.serial_set.specs.declared.bit_fault.BitFault.TheVariants.{Negative, Wraps}
 use Rattle.serial_set.specs.Span.{SpanCovers, Covers, IsRunsOf}
 
--- how far a bitmap of `len` bytes is fed: how many of them are left, the run that may still grow,
--- and the fault that was met
+-- the state of a bitmap of `len` bytes: how many of them are left, the run that may still grow, and
+-- the fault that was met
 pub record BitRuns : Type 0 where
   pub offset : ℕ
   pub len : ℕ
@@ -16,16 +16,16 @@ pub record BitRuns : Type 0 where
   pub pending : Option Span
   pub fault : Option BitFault
 
--- nothing is fed
+-- no byte was fed
 abbrev pub start : ℕ → ℕ → BitRuns
 start offset len =
     record { offset = offset; len = len; bytes_left = len; pending = None; fault = None }
 
--- the number for which the lowest bit stands that is fed so far
+-- the number that the lowest bit fed so far represents
 abbrev pub lowest : BitRuns → ℕ
 lowest p = p.offset + 8 * p.bytes_left
 
--- s is a serial, and its bit of `bits` is set, where the lowest bit stands for `base`
+-- s is a serial, and its bit of `bits` is set, when the lowest bit represents `base`
 abbrev pub BitNames : ℕ → ℕ → ℕ → Type 0
 BitNames base bits s = (0 < s) × (base ≤ s) × (bit_at bits (s - base) ≡ 1)
 
@@ -40,22 +40,22 @@ big_endian (byte ∷ bytes) = byte * 256 ^ length bytes + big_endian bytes
 abbrev pub IsNegative : BitRuns → ℕ → Type 0
 IsNegative p byte = (p.bytes_left ≡ p.len) × (128 ≤ byte)
 
--- a set bit of the byte stands for a number past 2^64-1
+-- a set bit of the byte represents a number past 2^64-1
 abbrev pub PassesEnd : BitRuns → ℕ → Type 0
 PassesEnd p byte = (s : ℕ) × ((2 ^ 64 ≤ s) × BitNames (p.offset + 8 * (p.bytes_left - 1)) byte s)
 
--- the fault that a byte shows, of two the first
+-- the fault that a byte shows: the first if there are two
 abbrev pub ShowsFault : BitRuns → ℕ → BitFault → Type 0
 ShowsFault p byte Negative = IsNegative p byte
 ShowsFault p byte Wraps = ¬ IsNegative p byte × PassesEnd p byte
 
--- the fault of feeding a byte: an earlier one again, else the one that the byte shows
+-- the fault of feeding a byte: an earlier one again, otherwise the one that the byte shows
 abbrev pub HasFault : BitRuns → ℕ → BitFault → Type 0
 HasFault p byte fault = MatchOption p.fault (ShowsFault p byte fault) (λ earlier. fault ≡ earlier)
 
 -- ---- runs
 
--- the pending run, and then the finished ones from the last to the first
+-- the pending run, followed by the finished ones from the last to the first
 abbrev pub runs_after : BitRuns → List Span → List Span
 runs_after p finished = option_to_list p.pending ++ reverse finished
 
@@ -68,12 +68,12 @@ pub record Feeds (before : BitRuns) (byte : ℕ) (after : BitRuns) (finished : L
   -- the runs of what was pending and of the byte's serials
   pub runs : IsRunsOf (runs_after after finished)
       (λ s. Covers (option_to_list before.pending) s ⊎ BitNames (lowest after) byte s)
-  -- a run that has the byte's lowest number in it may go on in the next byte, and no other
+  -- a run that contains the byte's lowest number may continue in the next byte, and no other may
   pub goes_on : IfSome after.pending (λ run. SpanCovers run (lowest after))
   pub ends : All (λ run. ¬ SpanCovers run (lowest after)) finished
   pub four_more : length (runs_after after finished) ≤ length (option_to_list before.pending) + 4
 
--- these bytes, fed one after the other, lead from one state to another and finish these runs
+-- feeding these bytes, one after another, leads from one state to another and finishes these runs
 abbrev pub FeedsAll : BitRuns → List ℕ → BitRuns → List Span → Type 0
 FeedsAll before [] after finished = (after ≡ before) × (finished ≡ [])
 FeedsAll before (byte ∷ bytes) after finished =

@@ -1,13 +1,13 @@
--- Spans that rise and may touch, and the runs that they are when those that touch are joined.
+-- Spans that rise and may touch, and their runs, in which those that touch are joined.
 use Rattle.std.specs.Prelude.{ℕ, ◌+◌, ◌≤◌, Bool, true, false, nat_eq, ⊤, List, [], ◌∷◌}
 use Rattle.serial_set.specs.declared.span.Span.{Span}
 
--- the spans begin at `least` or above, and each next one past the last one's end
+-- the spans begin at `least` or above, and each next one past the end of the one before
 abbrev pub Rises : ℕ → List Span → Type 0
 Rises least [] = ⊤
 Rises least (span ∷ spans) = (least ≤ span.lo) × (span.lo ≤ span.hi) × Rises (span.hi + 1) spans
 
--- a span before runs, where it touches the first of them or where it does not
+-- a span before runs, by whether it touches the first of them
 abbrev pub glued_by : Bool → Span → Span → List Span → List Span
 glued_by true span run runs = record { lo = span.lo; hi = run.hi } ∷ runs
 glued_by false span run runs = span ∷ run ∷ runs

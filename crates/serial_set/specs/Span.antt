@@ -1,13 +1,13 @@
--- Intervals of serials, and the one rising list of them that stands for a set.
+-- Intervals of serials, and the one rising list of them that represents a set.
 use Rattle.std.specs.Prelude.{ℕ, ◌+◌, ◌^◌, ◌≤◌, ◌<◌, ◌⊎◌, ◌↔◌, List, [], ◌∷◌, ⊤}
 use Rattle.std.specs.Prelude.{nat_le, Bool, false, ◌&&◌, ◌||◌}
 use Rattle.serial_set.specs.declared.span.Span.{Span}
 
--- the span has the number s in it
+-- the span covers the number s
 abbrev pub SpanCovers : Span → ℕ → Type 0
 SpanCovers span s = (span.lo ≤ s) × (s ≤ span.hi)
 
--- some span of the list has the number s in it
+-- some span of the list covers the number s
 abbrev pub Covers : List Span → ℕ → Type 0
 Covers [] s = ⊥
 Covers (span ∷ spans) s = SpanCovers span s ⊎ Covers spans s
@@ -17,7 +17,8 @@ abbrev pub has : List Span → ℕ → Bool
 has [] s = false
 has (span ∷ spans) s = (nat_le span.lo s && nat_le s span.hi) || has spans s
 
--- the spans begin at `least` or above, and each next one at least two above the last one's end
+-- the spans begin at `least` or above, and each next one at least two above the end of the one
+-- before
 abbrev pub RunsFrom : ℕ → List Span → Type 0
 RunsFrom least [] = ⊤
 RunsFrom least (span ∷ spans) =

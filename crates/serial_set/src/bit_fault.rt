@@ -1,13 +1,13 @@
-//! Why a bitmap is refused.
+//! The faults of a bitmap.
 ghost use Rattle.std.specs.Prelude.{◌≡◌};
 ghost use Rattle.serial_set.specs.BitFault.{fault_number};
 
-/// Why a bitmap is refused.
+/// Why a bitmap cannot be read.
 #[derive(Clone, Copy, PartialEq, Eq)]
 pub enum BitFault {
-    /// The first byte is 0x80 or more, so the bitmap's number is below zero.
+    /// The first byte is 0x80 or more, so the bitmap's number is negative.
     Negative,
-    /// A set bit stands for a number past 2^64-1.
+    /// A set bit represents a number past 2^64-1.
     Wraps,
 }
 

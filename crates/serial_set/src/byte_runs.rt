@@ -16,7 +16,7 @@ pub struct ByteRuns {
 }
 
 impl ByteRuns {
-    // A set bit: its serial is one below the pending run, or begins one.
+    // A set bit: its serial extends the pending run by one below it, or begins a run.
     fn extend(&mut self, serial: u64)
         ensures pending { self.new.pending ≡ Some (record {
           lo = serial;
@@ -47,7 +47,7 @@ impl ByteRuns {
     }
 }
 
-// The serial that a set bit stands for. The bit's position is `position + bit`, and 0 is no serial.
+// The serial of a set bit. The bit's position is `position + bit`, and 0 is not a serial.
 fn serial_at(offset: u64, position: u64, byte: u8, bit: u8) -> Option<u64>
     requires position { position < 2 ^ 63 }
     requires bit { bit < 8 }
@@ -62,8 +62,8 @@ fn serial_at(offset: u64, position: u64, byte: u8, bit: u8) -> Option<u64>
     if serial == 0 { None } else { Some(serial) }
 }
 
-/// Goes on with the run that is pending after the byte before, by a byte whose lowest bit stands
-/// for `offset + position`.
+/// Continues the run that is pending after the byte before, with a byte whose lowest bit represents
+/// `offset + position`.
 pub fn runs_of_byte(pending: Option<Span>, offset: u64, position: u64, byte: u8) -> ByteRuns
     requires position { position < 2 ^ 63 }
     requires in_step { IsInStep (offset + position + 8) pending }

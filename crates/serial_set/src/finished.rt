@@ -6,7 +6,7 @@ use crate::span::Span;
 /// The runs that a byte of a bitmap finished: the first `count` of `spans`, highest first.
 #[derive(Clone, Copy)]
 pub struct Finished {
-    /// Of these only the first `count` count.
+    /// Only the first `count` are valid.
     pub spans: [Span; 4],
     /// How many runs are finished, at most four.
     pub count: u8,
@@ -27,7 +27,7 @@ impl Finished {
         }
     }
 
-    // Puts a run after the others.
+    // Appends a run.
     pub(crate) fn push(&mut self, span: Span)
         requires { self.old.count < 4 }
         ensures spans { finished_of self.new ≡ finished_of self.old ++ span ∷ [] }

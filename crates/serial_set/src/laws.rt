@@ -1,4 +1,4 @@
-//! What follows from the definitions alone. The functions do nothing.
+//! Laws of the definitions. Each function does nothing: its contract is the law.
 ghost use Rattle.std.specs.Prelude.{◌≡◌, ◌+◌, ◌*◌, ◌≤◌, ◌↔◌, ◌⊎◌, ◌++◌, ◌∷◌, [], ℕ, List, length};
 ghost use Rattle.serial_set.specs.declared.span.Span.{Span};
 ghost use Rattle.serial_set.specs.Span.{Covers, IsRuns, IsRunsOf, AreSerials};
@@ -18,14 +18,15 @@ pub fn runs_are_fewest()
         → length runs ≤ length others }
 {}
 
-/// Spans that rise and may touch have the same members as the runs that they are when joined.
+/// Spans that rise and may touch have the same members as their runs, in which those that touch are
+/// joined.
 pub fn joined_are_runs()
     ensures { (spans : List Span) → Rises 0 spans
         → IsRunsOf (joined spans) (λ s. Covers spans s) }
 {}
 
-/// At each moment the pending run and all that were finished are the runs of the bits that are fed.
-/// They are at most four for each byte.
+/// At each moment the pending run and all finished ones are the runs of the bits that were fed.
+/// There are at most four for each byte.
 pub fn fed_so_far()
     ensures runs { AfterFeeding (λ offset len bytes after finished.
         IsRunsOf (runs_after after finished) (λ s. BitNames (lowest after) (big_endian bytes) s)) }
@@ -37,8 +38,8 @@ pub fn fed_so_far()
         (after.bytes_left + length bytes ≡ len) × (after.offset ≡ offset)) }
 {}
 
-/// Feeding all bytes of a bitmap gives just the runs of `offset` + N for each set bit N of its
-/// big-endian number, 0 left out.
+/// Feeding all bytes of a bitmap gives exactly the runs of `offset` + N for each set bit N of its
+/// big-endian number, except 0.
 pub fn whole_bitmap()
     ensures { AfterFeeding (λ offset len bytes after finished. length bytes ≡ len
         → IsRunsOf (runs_after after finished) (λ s. BitNames offset (big_endian bytes) s)) }

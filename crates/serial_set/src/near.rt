@@ -4,8 +4,8 @@ ghost use Rattle.serial_set.specs.Near.{AreNear, LiesIn};
 
 use crate::span::Span;
 
-/// How many of some spans, from the first on, `Spans::add_near` takes: as many as lie in one window
-/// of 64 numbers, and at least one.
+/// How many spans, from the first on, `Spans::add_near` takes: as many as lie in one window of 64
+/// numbers, and at least one.
 pub fn count_near(spans: &[Span]) -> usize
     requires { 0 < length spans.now }
     ensures some { 0 < result }

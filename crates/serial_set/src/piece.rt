@@ -1,10 +1,10 @@
-//! Some runs of a set that follow each other.
+//! Some consecutive runs of a set.
 ghost use Rattle.std.specs.Prelude.{◌≡◌, ◌≤◌, ◌<◌, ◌+◌, ◌++◌, ◌↔◌, ℕ, [], ◌∷◌, length, take, All, MatchOption, IsTrue, false};
 
 use crate::span::Span;
 use crate::walk::next_after;
 
-/// Some runs of a set that follow each other: the first `count` of `spans`.
+/// Some consecutive runs of a set: the first `count` of `spans`.
 #[derive(Clone, Copy)]
 pub struct Piece {
     spans: [Span; 32],
@@ -26,7 +26,7 @@ impl Piece {
         }
     }
 
-    /// Puts a run after the others.
+    /// Appends a run.
     pub fn push(&mut self, span: Span)
         requires { length (piece_of self.old) < 32 }
         ensures { piece_of self.new ≡ piece_of self.old ++ span ∷ [] }
@@ -35,7 +35,7 @@ impl Piece {
         self.count += 1;
     }
 
-    /// Whether there is no room for one more.
+    /// Whether there is no room for another run.
     pub fn is_full(&self) -> bool
         ensures { IsTrue result ↔ (32 ≤ length (piece_of self.now)) }
     {
@@ -50,7 +50,7 @@ impl Piece {
         self.count == 0
     }
 
-    /// Takes the last run away.
+    /// Removes the last run.
     pub fn pop(&mut self) -> Option<Span>
         ensures { MatchOption result
             ((piece_of self.old ≡ []) × (piece_of self.new ≡ []))
@@ -63,7 +63,7 @@ impl Piece {
         Some(self.spans[usize::from(self.count)])
     }
 
-    /// Puts a span after the runs. Where it touches the last of them, that one gets longer.
+    /// Appends a span. If it touches the last run, it extends that run.
     pub fn join(&mut self, lo: u64, hi: u64)
         requires room { length (piece_of self.old) < 32 }
         requires ordered { lo ≤ hi }
@@ -94,7 +94,7 @@ impl Piece {
         piece
     }
 
-    // Lets the first run begin at a number, where it begins before it.
+    // Makes the first run begin at a number, if it begins before it.
     fn clip(&mut self, number: u64)
         ensures { piece_of self.new ≡ clipped number (piece_of self.old) }
     {
@@ -105,7 +105,7 @@ impl Piece {
         }
     }
 
-    /// The first of some runs from a number on, where each ends at the number or past it.
+    /// The first runs from a number on. Each of `runs` ends at the number or past it.
     pub fn from(runs: &[Span], number: u64) -> Piece
         requires { All (λ t. number ≤ t.hi) runs.now }
         ensures { piece_of result ≡ take 32 (since number runs.now) }
@@ -123,7 +123,7 @@ impl Piece {
         &self.spans[..usize::from(self.count)]
     }
 
-    /// Where a walk goes on after these runs, as `next_after` says.
+    /// Where a walk continues after these runs, as `next_after` says.
     pub fn next(&self) -> Option<u64>
         ensures { result ≡ next_of (piece_of self.now) }
     {

@@ -1,6 +1,6 @@
 //! An interval of serials.
 
-/// The serials from `lo` to `hi`, both among them.
+/// The serials from `lo` to `hi`, both included.
 #[derive(Clone, Copy, PartialEq, Eq)]
 pub struct Span {
     /// The first serial.

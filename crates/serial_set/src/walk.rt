@@ -1,11 +1,11 @@
-//! How a walk over runs goes on.
+//! How a walk over runs continues.
 ghost use Rattle.std.specs.Prelude.{◌≡◌};
 ghost use Rattle.serial_set.specs.Walk.{next_of};
 
 use crate::span::Span;
 
-/// The number at which a walk goes on after some runs, or none where it has come to its end: where
-/// there is no run, or where the last one ends at the last number.
+/// The number at which a walk continues after some runs, or none if it has come to its end: if
+/// there is no run, or if the last one ends at the last number.
 pub fn next_after(runs: &[Span]) -> Option<u64>
     ensures { result ≡ next_of runs.now }
 {
