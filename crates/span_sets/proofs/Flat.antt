@@ -1,4 +1,4 @@
--- Lists in a row: what the lists before a position have, the one there, and those after it.
+-- A list of lists: what the lists before a position have, the one at the position, and those after it.
 use Rattle.std.proofs.Common.{◌≡◌, ℕ, ◌+◌, ◌-◌, ◌<◌, ◌≤◌, List, [], ◌∷◌, ◌++◌, length, get_or, take, drop, sym, ap, subst, arith, suc, set, ◌∙◌, add-zero, length-append, length-drop}
 use Rattle.std.specs.List.{All, flat_map, insert}
 use Rattle.std.proofs.lemmas.List.{append_assoc, take-append-drop, drop_more, drop_at, drop-drop, drop-set, drop-set-lt, get_or-drop, length-take-le, set_split, take_more_set, get_or_append_left, get_or-append-add}
@@ -11,7 +11,7 @@ all_left P xs ys h = λ k d q. subst P (get_or_append_left xs ys d k q) (h k d (
 pub all_right : {X : Type 0} (P : X → Type 0) (xs ys : List X) → All P (xs ++ ys) → All P ys
 all_right P xs ys h = λ k d q. subst P (get_or-append-add xs ys k d) (h (length xs + k) d (omega (arith, length-append xs ys)))
 
--- ---- cut at a position
+-- ---- split at a position
 
 pub flat_cut : {X Y : Type 0} (f : X → List Y) (xs : List X) (at : ℕ) → flat_map f xs ≡ flat_map f (take at xs) ++ flat_map f (drop at xs)
 flat_cut f xs at = ap (flat_map f) (sym (take-append-drop at xs)) ∙ flat_map-append f (take at xs) (drop at xs)
@@ -22,17 +22,17 @@ flat_drop f xs at d h = ap (flat_map f) (drop_more xs at d h)
 pub flat_at : {X Y : Type 0} (f : X → List Y) (xs : List X) (at : ℕ) (d : X) → at < length xs → flat_map f xs ≡ flat_map f (take at xs) ++ (f (get_or xs at d) ++ flat_map f (drop (at + 1) xs))
 flat_at f xs at d h = flat_cut f xs at ∙ ap (λ l. flat_map f (take at xs) ++ l) (flat_drop f xs at d h)
 
--- a cut within the list between two others
+-- a split within the list between two others
 cut_between : {Y : Type 0} (front l ys zs back : List Y) → l ≡ ys ++ zs → front ++ (l ++ back) ≡ (front ++ ys) ++ (zs ++ back)
 cut_between front l ys zs back is =
     ap (λ t. front ++ (t ++ back)) is ∙ ap (λ t. front ++ t) (append_assoc ys zs back) ∙ sym (append_assoc front ys (zs ++ back))
 
--- the same with the list at the position cut in two
+-- the same with the list at the position split in two
 pub part_at : {X Y : Type 0} (f : X → List Y) (xs : List X) (at : ℕ) (d : X) (ys zs : List Y) → at < length xs → f (get_or xs at d) ≡ ys ++ zs
     → flat_map f xs ≡ (flat_map f (take at xs) ++ ys) ++ (zs ++ flat_map f (drop (at + 1) xs))
 part_at f xs at d ys zs h is = flat_at f xs at d h ∙ cut_between (flat_map f (take at xs)) (f (get_or xs at d)) ys zs (flat_map f (drop (at + 1) xs)) is
 
--- ---- one in place of another, and one after it
+-- ---- one list replaced by another, and one inserted after it
 
 pub flat_set : {X Y : Type 0} (f : X → List Y) (xs : List X) (at : ℕ) (y : X) → at < length xs → flat_map f (set xs at y) ≡ flat_map f (take at xs) ++ (f y ++ flat_map f (drop (at + 1) xs))
 flat_set f xs at y h =
@@ -65,7 +65,7 @@ flat_split f xs at x y z h read whole =
 pub flat_drop_set : {X Y : Type 0} (f : X → List Y) (xs : List X) (at : ℕ) (y : X) → at < length xs → flat_map f (drop at (set xs at y)) ≡ f y ++ flat_map f (drop (at + 1) xs)
 flat_drop_set f xs at y h = ap (flat_map f) (drop-set xs at y h)
 
--- ---- what is left where some are removed
+-- ---- what is left after some are removed
 
 pub removed_back : {X : Type 0} (xs ys : List X) (from gone : ℕ) → ys ≡ take from xs ++ drop gone (drop from xs) → from ≤ length xs → drop from ys ≡ drop gone (drop from xs)
 removed_back xs ys from gone is h = ap (drop from) is ∙ drop_at (take from xs) (drop gone (drop from xs)) from (length-take-le from xs h)
@@ -82,12 +82,12 @@ removed_at xs ys from gone d is =
 pub removed_rest : {X : Type 0} (xs ys : List X) (from gone : ℕ) → drop from ys ≡ drop gone xs → drop (from + 1) ys ≡ drop (gone + 1) xs
 removed_rest xs ys from gone is = sym (drop-drop 1 from ys) ∙ ap (drop 1) is ∙ drop-drop 1 gone xs
 
--- the first that was left after the position where some were removed
+-- the first that is left after the position where some were removed
 pub removed_first : {X : Type 0} (xs ys : List X) (from gone : ℕ) (y : X) → ys ≡ take from xs ++ drop gone (drop from xs) → from ≤ length xs → from < length ys → y ≡ get_or ys from y → (gone < length (drop from xs)) × (y ≡ get_or (drop from xs) gone y)
 removed_first xs ys from gone y is h some first =
     let back = removed_back xs ys from gone is h in
     ((removed_more (drop from xs) ys from gone back).0 some, first ∙ removed_at (drop from xs) ys from gone y back)
 
--- what holds of all of a tail holds of its first
+-- what holds for all of a tail holds for its first element
 pub first_of : {X : Type 0} (P : X → Type 0) (xs : List X) (at : ℕ) (d : X) → at < length xs → All P (drop at xs) → P (get_or xs at d)
 first_of P xs at d h all = All-head P (get_or xs at d) (drop (at + 1) xs) (subst (All P) (drop_more xs at d h) all)

@@ -1,4 +1,4 @@
--- Bits in a row, and the members for which they stand.
+-- Consecutive bits, and the members that they represent.
 use Rattle.std.proofs.Common.{◌≡◌, ℕ, ◌+◌, ◌-◌, ◌*◌, ◌^◌, ◌<◌, ◌≤◌, inl, inr, Some, None, arith, ap, sym, subst, ◌∙◌, w64}
 use Rattle.std.specs.Prelude.{bit_and, false}
 use Rattle.std.specs.Int.{bit_at, bit_not, trailing_zeros}
@@ -76,7 +76,7 @@ word_on e member last word n order within all =
       all = λ s h k. (in_word e s word).1 (omega (arith, at.0), omega (arith, at.0), ap (λ (i : ℕ). bit_at (bits_of e) (s - i)) (sym ends.0) ∙ all (s - lo_of e) (omega arith) (omega (arith, at.0)));
     }
 
--- a word's members stop where the next bit is not set
+-- the consecutive members of a word end where the next bit is not set
 pub word_stops : (e : Chunk) (last : ℕ) → is_span e ≡ false → (last < 63 → bit_at (bits_of e) (last + 1) ≡ 0) → lo_of e + last < hi_of e → Covers (members_in e) (lo_of e + last + 1) → ⊥
 word_stops e last word clear h n =
     let at = (in_word e (lo_of e + last + 1) word).0 n in

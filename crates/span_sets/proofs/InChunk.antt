@@ -84,7 +84,7 @@ in_clipped base lo hi s first last bits e a b c d f from to =
       λ n. mask.1 (omega arith, omega arith),
     )
 
--- the bits of two numbers are those of one and those of the other
+-- the bits of two numbers together are those of either
 pub in_or : (base a b s : ℕ) → BitCovers 64 base (bit_or a b) s ↔ (BitCovers 64 base a s ⊎ BitCovers 64 base b s)
 in_or base a b s =
     let i = s - base in

@@ -45,7 +45,7 @@ end_at (e ∷ (f ∷ es)) (suc from) d h =
     let step : length (e ∷ (f ∷ es)) - 1 ≡ suc (length (f ∷ es) - 1) = omega arith in
     end_at (f ∷ es) from d (omega arith) ∙ ap (λ n. hi_of (get_or (e ∷ (f ∷ es)) n d)) (sym step)
 
--- a list ends where its back does
+-- a list ends where its second part does
 pub end_back : (xs ys : List Chunk) → 0 < length ys → end_of (xs ++ ys) ≡ end_of ys
 end_back [] ys h = refl
 end_back (x ∷ []) [] h = absurd (omega arith)
@@ -69,14 +69,14 @@ end_most a (e ∷ (f ∷ es)) r =
     let begins : hi_of e + 1 ≤ lo_of f = r.1.0 in
     All-cons (λ t. hi_of t ≤ end_of (f ∷ es)) e (f ∷ es) (omega arith) rest
 
--- where each chunk ends at a number or below it, the last does
+-- if each chunk ends at a number or below it, so does the last
 pub end_upto : (n : ℕ) (es : List Chunk) → All (λ e. hi_of e ≤ n) es → end_of es ≤ n
 end_upto n [] h = omega arith
 end_upto n (e ∷ []) h = All-head (λ t. hi_of t ≤ n) e [] h
 end_upto n (e ∷ (f ∷ es)) h =
     end_upto n (f ∷ es) (All-tail (λ t. hi_of t ≤ n) e (f ∷ es) h)
 
--- what is after a list begins past its end
+-- chunks after a list begin past its end
 pub chunks_past : (a : ℕ) (xs ys : List Chunk) → 0 < length xs → ChunksFrom a (xs ++ ys)
     → ChunksFrom (end_of xs + 1) ys
 chunks_past a [] ys some r = absurd (omega arith)
@@ -84,7 +84,7 @@ chunks_past a (x ∷ []) ys some r = r.1
 chunks_past a (x ∷ (z ∷ xs)) ys some r =
     chunks_past (hi_of x + 1) (z ∷ xs) ys (omega arith) r.1
 
--- ---- cut at a position
+-- ---- split at a position
 
 pub order_drop : (a : ℕ) (es : List Chunk) (n : ℕ) → ChunksFrom a es → ChunksFrom a (drop n es)
 order_drop a es n r =
@@ -98,7 +98,7 @@ count_less number count es upto past =
       | inr all ↦ absurd (omega (arith, end_upto number es (subst (All (λ e. hi_of e ≤ number)) (take_all count es all) upto)))
     ]
 
--- one chunk in place of another that ends where it does
+-- one chunk replaced by another that ends at the same number
 pub end_set : (es : List Chunk) (at : ℕ) (x d : Chunk) → at < length es → hi_of x ≡ hi_of (get_or es at d) → end_of (set es at x) ≡ end_of es
 end_set es at x d h same =
     let long = length-set es at x in

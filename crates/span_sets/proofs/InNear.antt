@@ -1,4 +1,4 @@
--- Spans that lie near each other, and the bits that they are.
+-- Spans that lie near each other, and their bits.
 use Rattle.std.proofs.Common.{◌≡◌, ℕ, ◌+◌, ◌-◌, ◌*◌, ◌%◌, ◌^◌, ◌<◌, ◌≤◌, ◌⊎◌, List, [], ◌∷◌, ◌++◌, length, length-append, get_or, take, ap, sym, subst, inl, inr, arith}
 use Rattle.std.specs.Prelude.{◌↔◌, bit_or}
 use Rattle.std.specs.Int.{bit_at}
@@ -17,7 +17,7 @@ use Rattle.span_sets.proofs.InSet.{mask_has}
 use Rattle.serial_set.proofs.Least.{runs_least}
 use Rattle.serial_set.proofs.Rising.{names_append, names_left, names_right}
 
--- one span more
+-- one more span
 pub covers_more : (spans : List Span) (i : ℕ) (d : Span) (s : ℕ) → i < length spans → Covers (take (i + 1) spans) s ↔ (Covers (take i spans) s ⊎ SpanCovers (get_or spans i d) s)
 covers_more spans i d s h =
     let last : List Span = get_or spans i d ∷ [] in
@@ -39,7 +39,7 @@ bits_more spans i window bits mask d h intervals near is so s =
       λ n. both.1 (elim (more.0 n) [ inl x ↦ inl ((so s).1 x) | inr y ↦ inr (has.1 y) ]),
     )
 
--- ---- an addition makes the list longer by at most as many runs as it adds spans
+-- ---- an addition makes the list longer by at most as many runs as there are spans
 
 pub adds_more : (old more new : List Span) → AddsSpans old more new → length new ≤ length old + length more
 adds_more old more new adds =
@@ -65,7 +65,7 @@ covered_is_serial (x ∷ xs) s h n =
     let first = (All-head IsInterval x xs h).0 in
     elim n [ inl here ↦ omega (arith, here.0) | inr later ↦ covered_is_serial xs s (All-tail IsInterval x xs h) later ]
 
--- ---- none, or just one
+-- ---- none, or only one
 
 pub adds_none : (runs none : List Span) → IsRuns runs → length none ≤ 0 → AddsSpans runs none runs
 adds_none runs [] r h = (r, λ s. (λ n. inl n, λ n. elim n [ inl was ↦ was | inr nothing ↦ absurd nothing ]))
@@ -76,7 +76,7 @@ adds_only old [] new d one adds = absurd (omega arith)
 adds_only old (x ∷ []) new d one adds = adds_one old new x.lo x.hi adds
 adds_only old (x ∷ (y ∷ ys)) new d one adds = absurd (omega arith)
 
--- one span after others
+-- one span added after others
 pub adds_next : (old mid new spans : List Span) (i : ℕ) (d : Span) → i < length spans → AddsSpans old (take i spans) mid → AddsSpan mid (get_or spans i d).lo (get_or spans i d).hi new → AddsSpans old (take (i + 1) spans) new
 adds_next old mid new spans i d h before adds = (
   adds.0,
@@ -93,12 +93,12 @@ adds_next old mid new spans i d h before adds = (
       ),
 )
 
--- where there is a span, there is a number in it
+-- a span covers some number
 pub some_covered : (spans : List Span) → 0 < length spans → All IsInterval spans → (s : ℕ) × Covers spans s
 some_covered [] some h = absurd (omega arith)
 some_covered (x ∷ xs) some h = let first = All-head IsInterval x xs h in (x.lo, inl (omega arith, first.1))
 
--- and a bit that stands for it
+-- and a bit that represents it
 pub bits_some : (base bits s : ℕ) → BitCovers 64 base bits s → 0 < bits
 bits_some base bits s n =
     elim (cases_lt 0 bits) [

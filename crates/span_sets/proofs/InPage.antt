@@ -1,4 +1,4 @@
--- A page: what one change puts in place of others.
+-- A page: the chunks that one change replaces.
 use Rattle.std.proofs.Common.{◌≡◌, ℕ, ◌+◌, ◌<◌, ◌≤◌, ◌⊎◌, List, ◌∷◌, ◌++◌, length, get_or, set, suc, take, drop, sym, ap, subst, inl, inr, arith, ◌∙◌}
 use Rattle.std.specs.List.{All}
 use Rattle.std.proofs.lemmas.List.{take-append-drop, drop-drop, drop_more, set_split}
@@ -9,14 +9,14 @@ use Rattle.span_sets.specs.Chunks.{Replaces}
 use Rattle.span_sets.specs.Positions.{CutTo, Widened, WordWidened}
 use Rattle.span_sets.specs.Lawful.{stretch}
 
--- of chunks that a number does not cut, those that end past it begin past it
+-- among chunks that a number does not split, those that end past it begin past it
 past_whole : (number n : ℕ) (es : List Chunk) → All (λ e. (hi_of e ≤ number) ⊎ (number < lo_of e)) es → All (λ e. number < hi_of e) (drop n es) → All (λ e. number < lo_of e) (drop n es)
 past_whole number n es whole past = λ k d q. elim (All-drop (λ e. (hi_of e ≤ number) ⊎ (number < lo_of e)) n es whole k d q) [
   | inl upto ↦ (let at = past k d q in absurd (omega arith))
   | inr after ↦ after
 ]
 
--- what two searches found, as one change
+-- the result of two searches, as one change
 pub replaced_at : (es few new : List Chunk) (lo hi from count : ℕ) → All (λ e. (hi_of e ≤ hi) ⊎ (hi < lo_of e)) es
     → All (λ e. hi_of e < lo) (take from es) → All (λ e. lo ≤ hi_of e) (drop from es)
     → All (λ e. hi_of e ≤ hi) (take count (drop from es)) → All (λ e. hi < hi_of e) (drop count (drop from es))
@@ -35,7 +35,7 @@ replaced_at es few new lo hi from count whole below reach upto past is =
       above = past_whole hi count rest (All-drop (λ e. (hi_of e ≤ hi) ⊎ (hi < lo_of e)) from es whole) past;
     }
 
--- what a search found, as a cut
+-- the result of a search, as a removal of the chunks before it
 pub cut_page : (es new : List Chunk) (number count : ℕ) → All (λ e. (hi_of e ≤ number) ⊎ (number < lo_of e)) es → All (λ e. hi_of e ≤ number) (take count es) → All (λ e. number < hi_of e) (drop count es) → new ≡ drop count es → CutTo es number new
 cut_page es new number count whole upto past is = record {
   gone = take count es;
@@ -44,7 +44,7 @@ cut_page es new number count whole upto past is = record {
   above = subst (All (λ e. number < lo_of e)) (sym is) (past_whole number count es whole past);
 }
 
--- one word in place of what it was
+-- one word replaced by a wider one
 pub widened_at : (xs : List Chunk) (position window bits : ℕ) (was is : Chunk) → position < length xs → was ≡ get_or xs position was → Widened was window bits is
     → WordWidened xs window bits (set xs position is)
 widened_at xs position window bits was is within read word =

@@ -1,4 +1,4 @@
--- What chunks have that an addition puts in place of others.
+-- Members of the chunks by which an addition replaces others.
 use Rattle.std.proofs.Common.{◌≡◌, ℕ, ◌+◌, ◌-◌, ◌*◌, ◌%◌, ◌^◌, ◌<◌, ◌≤◌, ◌⊎◌, List, [], ◌++◌, length, sym, subst, ap, ◌∙◌, inl, inr, arith, length-append, w64}
 use Rattle.std.specs.Prelude.{true, false, Option, Some, None, IfSome, bit_or, ◌↔◌}
 use Rattle.std.specs.Int.{bit_at, trailing_zeros, trailing_ones}
@@ -89,7 +89,7 @@ opt_ends : (o : Option Chunk) (from to : ℕ) → IfSome o (λ e. (from ≤ lo_o
 opt_ends None from to h = All-nil (λ e. hi_of e < to)
 opt_ends (Some e) from to h = All-cons (λ e. hi_of e < to) e [] h.1 (All-nil (λ e. hi_of e < to))
 
--- up to three chunks that rise
+-- up to three chunks in rising order
 pub three_lie : (few : List Chunk) (a b c : Option Chunk) (lo at past hi : ℕ) → few ≡ option_to_list a ++ (option_to_list b ++ option_to_list c)
     → IfSome a (λ e. (lo ≤ lo_of e) × (hi_of e < at)) → IfSome b (λ e. (at ≤ lo_of e) × (hi_of e < past)) → IfSome c (λ e. (past ≤ lo_of e) × (hi_of e < hi + 1))
     → lo ≤ at → at ≤ past → past ≤ hi + 1 → lo ≤ hi → 0 < length few → IsReplacement few lo hi
@@ -112,7 +112,7 @@ three_lie few a b c lo at past hi e ha hb hc p q r between some =
       between = between;
     }
 
--- one of three, each of them said in another way
+-- one of three, each of them restated
 pub either_of : {X A B C P Q R : Type 0} → X ↔ (A ⊎ (B ⊎ C)) → A ↔ P → B ↔ Q → C ↔ R → X ↔ (P ⊎ (Q ⊎ R))
 either_of x a b c = (
   λ n. ⊎_map a.0 (⊎_map b.0 c.0) (x.0 n),
@@ -151,7 +151,7 @@ span_tight e h =
     let span : is_span e ≡ true = le-leb e.a e.b h in
     (λ empty. empty e.a ((in_span e e.a span).1 (omega arith, h)), λ word full. absurd cc)
 
--- where all bits are set, all numbers are
+-- if all bits are set, all numbers are covered
 pub all_set : (base bits s : ℕ) → bits ≡ 2 ^ 64 - 1 → base ≤ s → s < base + 64 → BitCovers 64 base bits s
 all_set base bits s all from to = (from, to, ap (λ n. bit_at n (s - base)) all ∙ bit_at_ones 64 (s - base) (omega arith))
 
@@ -159,14 +159,14 @@ opt_all : (P : Chunk → Type 0) (o : Option Chunk) → IfSome o P → All P (op
 opt_all P None h = All-nil P
 opt_all P (Some e) h = All-cons P e [] h (All-nil P)
 
--- what holds of each of up to three chunks holds of all
+-- what holds for each of up to three chunks holds for all
 pub three_all : (P : Chunk → Type 0) (few : List Chunk) (a b c : Option Chunk) → few ≡ option_to_list a ++ (option_to_list b ++ option_to_list c)
     → IfSome a P → IfSome b P → IfSome c P → All P few
 three_all P few a b c e ha hb hc =
     subst (All P) (sym e)
     (All-append P (option_to_list a) (option_to_list b ++ option_to_list c) (opt_all P a ha) (All-append P (option_to_list b) (option_to_list c) (opt_all P b hb) (opt_all P c hc)))
 
--- the words at a span's ends lie beside the rest of the span
+-- the words at the ends of a span are beside the rest of the span
 pub front_lies : (w : Option Chunk) (at : ℕ) → IfSome w (λ e. (hi_of e + 1 ≡ at) × (is_span e ≡ false) × IsTight e)
     → IfSome w (λ e. (lo_or w at ≤ lo_of e) × (hi_of e < at)) × (lo_or w at ≤ at)
 front_lies None at h = (tt, omega arith)
@@ -183,7 +183,7 @@ some_of None b None at to h some = let one = some h in omega arith
 some_of (Some x) b c at to h some = omega arith
 some_of None b (Some y) at to h some = omega arith
 
--- there is a word, or the rest has a number
+-- there is a word, or the rest covers a number
 pub some_rest : (few : List Chunk) (a b c : Option Chunk) (at to : ℕ) → few ≡ option_to_list a ++ (option_to_list b ++ option_to_list c) → lo_or a at ≤ hi_or c to
     → (at ≤ to → 0 < length (option_to_list b)) → 0 < length few
 some_rest few a b c at to e h some =
@@ -193,7 +193,7 @@ some_rest few a b c at to e h some =
     let one : 0 < length (option_to_list a) + (length (option_to_list b) + length (option_to_list c)) = some_of a b c at to h some in
     omega arith
 
--- a word that has all bits with some more
+-- a word that has all bits once some are added
 pub all_with : (e : Chunk) (bits more s : ℕ) → is_span e ≡ false → bits ≡ bits_of e → bit_or bits more ≡ 2 ^ 64 - 1 → lo_of e ≤ s → s ≤ hi_of e
     → Covers (members_in e) s ⊎ BitCovers 64 (64 * window_of e) more s
 all_with e bits more s word b all from to =

@@ -1,4 +1,4 @@
--- Pages in a row.
+-- A list of pages.
 use Rattle.std.proofs.Common.{◌≡◌, ℕ, ◌+◌, ◌-◌, ◌<◌, ◌≤◌, ◌⊎◌, List, [], ◌∷◌, ◌++◌, length, get_or, take, drop, refl, sym, ap, subst, inl, inr, arith, zero, suc, min, set, ◌∙◌, length-append, length-drop, add-zero}
 use Rattle.std.specs.List.{All, insert}
 use Rattle.std.specs.List.Sorted.{IsNonDecreasingBy}
@@ -33,7 +33,7 @@ pub order_page : (ps : List Page) (at : ℕ) (d : Page) → at < length ps → C
 order_page ps at d h r =
     chunks_front 0 (chunks_in (get_or ps at d)) (chunks_of (drop (at + 1) ps)) (subst (ChunksFrom 0) (flat_drop chunks_in ps at d h) (order_right 0 ps at r))
 
--- what is after a page begins past its end
+-- pages after a page begin past its end
 pub past_page : (ps : List Page) (at : ℕ) (d : Page) → at < length ps → ChunksFrom 0 (chunks_of ps)
     → All (λ e. end_of (chunks_in (get_or ps at d)) + 1 ≤ lo_of e) (chunks_of (drop (at + 1) ps))
 past_page ps at d h r =
@@ -44,7 +44,7 @@ past_page ps at d h r =
 
 -- ---- ends
 
--- what holds of where each chunk ends holds of where a page does
+-- what holds for the end of each chunk holds for the end of a page
 end_holds : (P : ℕ → Type 0) (es : List Chunk) → 0 < length es → All (λ e. P (hi_of e)) es → P (end_of es)
 end_holds P [] some h = absurd (omega arith)
 end_holds P (e ∷ []) some h = All-head (λ t. P (hi_of t)) e [] h
@@ -87,7 +87,7 @@ fewer_pages P ps m n h all =
     subst (λ l. All P (chunks_of l)) same
     (all_left P (chunks_of (take m (take n ps))) (chunks_of (drop m (take n ps))) (subst (All P) (flat_cut chunks_in (take n ps) m) all))
 
--- what is after the page for a number ends at the number or past it
+-- pages after the one for a number end at the number or past it
 pub rest_after : (ps : List Page) (n at lo : ℕ) → ChunksFrom 0 (chunks_of ps) → n ≤ length ps → All (λ p. lo ≤ end_of (chunks_in p)) (drop n ps) → at ≡ min n (length ps - 1)
     → All (λ e. lo ≤ hi_of e) (chunks_of (drop (at + 1) ps))
 rest_after [] n at lo r within ends is =
@@ -103,7 +103,7 @@ rest_after (p ∷ ps) n at lo r within ends is =
           subst (λ l. All (λ e. lo ≤ hi_of e) (chunks_of l)) (sym none) (All-nil (λ e. lo ≤ hi_of e)))
     ]
 
--- ---- where a number stands
+-- ---- where a number is
 
 pub list_at : (ps : List Page) (at position number : ℕ) (d : Page) → at < length ps → All (λ e. hi_of e < number) (chunks_of (take at ps)) → number ≤ end_of (chunks_in (get_or ps at d))
     → All (λ e. hi_of e < number) (take position (chunks_in (get_or ps at d))) → All (λ e. number ≤ hi_of e) (drop position (chunks_in (get_or ps at d)))
@@ -136,7 +136,7 @@ list_none ps at number h before =
       some = λ none. refl;
     }
 
--- ---- what is cut off
+-- ---- removal from the front
 
 pub cut_all : (ps : List Page) (gone number : ℕ) → length ps ≤ gone → All (λ e. hi_of e ≤ number) (chunks_of (take gone ps)) → CutTo (chunks_of ps) number []
 cut_all ps gone number h by =
@@ -170,7 +170,7 @@ all_page P ps at d h all =
 
 -- ---- one change
 
--- a change of one page and a cut of those after it, as one change of all
+-- a change of one page and a removal from those after it, as one change of all
 joined_by : (front a m c gone left : List Chunk) → (gone ≡ []) ⊎ (c ≡ [])
     → front ++ ((a ++ (m ++ c)) ++ (gone ++ left)) ≡ (front ++ a) ++ ((m ++ gone) ++ (c ++ left))
 joined_by front a m c gone left either =
@@ -181,7 +181,7 @@ joined_by front a m c gone left either =
     ap (λ l. front ++ l) (append_assoc a (m ++ c) (gone ++ left) ∙ ap (λ l. a ++ l) (append_assoc m c (gone ++ left) ∙ ap (λ l. m ++ l) swap ∙ sym (append_assoc m gone (c ++ left))))
     ∙ sym (append_assoc front a ((m ++ gone) ++ (c ++ left)))
 
--- of chunks past a number and chunks cut off after them there are not both
+-- either there are no chunks past a number, or no chunks were removed after them
 either_none : (back gone left : List Chunk) (hi a : ℕ) → ChunksFrom a (back ++ (gone ++ left)) → All (λ e. hi < lo_of e) back → All (λ e. lo_of e ≤ hi) gone → (gone ≡ []) ⊎ (back ≡ [])
 either_none [] gone left hi a r above inside = inr refl
 either_none (b ∷ bs) [] left hi a r above inside = inl refl
@@ -229,7 +229,7 @@ past_by a m (c ∷ cs) page rest few new hi order some ends were are above past 
     let later = all_right (λ e. hi_of c + 1 ≤ lo_of e) cs rest (chunks_each (hi_of c + 1) (cs ++ rest) tail.1) in
     λ k d q. let at = later k d q in omega arith
 
--- a changed page that ends past a number had chunks past it, and all that is after is
+-- if a changed page ends past a number, all chunks after the page are past it
 pub past_put : (page rest few new : List Chunk) (lo hi : ℕ) → ChunksFrom 0 (page ++ rest) → 0 < length few → All (λ e. hi_of e ≤ hi) few → Replaces page lo hi few new → hi < end_of new → All (λ e. hi < lo_of e) rest
 past_put page rest few new lo hi order some ends r past = past_by r.front r.middle r.back page rest few new hi order some ends r.were r.are r.above past
 
@@ -269,7 +269,7 @@ pub all_before : (ps : List Page) (count number : ℕ) (d : Page) → ChunksFrom
 all_before ps count number d r some within last =
     pages_below number 0 (take count ps) (order_left 0 ps count r) (rises_before (λ p. end_of (chunks_in p)) ps count number d (pages_rise 0 ps r) some within last)
 
--- two pages that stand for one
+-- two pages that replace one
 pub split_is : (old new : List Page) (at : ℕ) (y z : Page) → at < length old → new ≡ insert (set old at y) (at + 1) z → length (chunks_in y) ≤ 253 → length (chunks_in z) ≤ 253 → IsSplit old at new
 split_is old new at y z h is front back =
     let rest = drop (at + 1) old in

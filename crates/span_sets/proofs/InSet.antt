@@ -1,4 +1,4 @@
--- Chunks of a set: the one in which a number stands, and what a change makes of the set's runs.
+-- Chunks of a set: the one at a number, and how a change affects the set's runs.
 use Rattle.std.proofs.Common.{◌≡◌, ℕ, ◌+◌, ◌-◌, ◌*◌, ◌/◌, ◌%◌, ◌^◌, ◌<◌, ◌≤◌, ◌⊎◌, List, [], ◌∷◌, ◌++◌, length, sym, subst, inl, inr, arith}
 use Rattle.std.specs.Prelude.{Option, Some, None, IfSome, bit_or, ◌↔◌}
 use Rattle.std.specs.List.{All}
@@ -94,14 +94,13 @@ from_owns chunks n last s (Some e) order is from to m = members_own chunks is.0 
 
 -- ---- one change
 
--- what each of some chunks says of its members holds of all theirs
+-- a fact that follows for a member of each chunk follows for a member of all
 members_each : (P : Chunk → Type 0) (Q : Type 0) (es : List Chunk) (s : ℕ) → ((e : Chunk) → P e → Covers (members_in e) s → Q) → All P es → Covers (members_of es) s → Q
 members_each P Q [] s f h m = absurd m
 members_each P Q (e ∷ es) s f h m =
     ⊎_elim (f e (All-head P e es h)) (members_each P Q es s f (All-tail P e es h)) (names_append (members_in e) (members_of es) s m)
 
--- The new chunks are all that the set has between two numbers, which cut none of its chunks, and what is
--- added.
+-- The new chunks cover what the set covers between two numbers, which split none of its chunks, and what is added.
 pub record Fills (old : List Chunk) (from to : ℕ) (few : List Chunk) (Added : ℕ → Type 0) : Type 0 where
   pub low : All (λ e. (hi_of e < from) ⊎ (from ≤ lo_of e)) old
   pub high : All (λ e. (hi_of e ≤ to) ⊎ (to < lo_of e)) old
@@ -148,7 +147,7 @@ fills_runs old from to few new Added order n f r =
     let after = replaced_order old from to few new r n.between order n.order (λ k d h. (let end = n.ends k d h in omega arith)) in
     replaced_runs old from to few new Added r (fills_keeps old from to few new Added r n f) order after
 
--- where what is added are serials, so are the members of the few
+-- if the added numbers are serials, so are the members of the new chunks
 pub fills_serials : (old : List Chunk) (from to : ℕ) (few : List Chunk) (Added : ℕ → Type 0) → IsReplacement few from to → Fills old from to few Added → AreSerials (members_of old)
     → ((s : ℕ) → Added s → (0 < s) × (s < 2 ^ 64)) → AreSerials (members_of few)
 fills_serials old from to few Added n f serials added = λ s m.
@@ -156,7 +155,7 @@ fills_serials old from to few Added n f serials added = λ s m.
     let b = members_each (λ e. hi_of e ≤ to) (s ≤ to) few s (λ e h k. let at = in_stretch e s k in omega arith) n.ends m in
     elim ((f.all s a b).0 m) [ inl o ↦ serials s o | inr k ↦ added s k ]
 
--- ---- what is added fills
+-- ---- the added numbers
 
 low_of : (chunks : List Chunk) (n : ℕ) (o : Option Chunk) → IsAt chunks n o → All (λ e. (hi_of e < lo_or o n) ⊎ (lo_or o n ≤ lo_of e)) chunks
 low_of chunks n o at = λ k d h. ⊎_map (λ x. x) (⊎_elim (λ y. y.0) (λ z. let a = at.from in let b = at.to in omega arith)) (at.apart k d h)
@@ -197,7 +196,7 @@ bits_fill old few first from to bits more head tail at end e f b m =
       inside = λ s k. (let a = k.0 in omega arith, let c = k.1 in omega arith);
     }
 
--- what is added already changes nothing
+-- adding what is a member already changes nothing
 pub adds_none : (old : List Chunk) (Added : ℕ → Type 0) → IsRunsOf (runs_of old) (λ s. Covers (members_of old) s) → ((s : ℕ) → Added s → Covers (members_of old) s) → IsRunsOf (runs_of old) (λ s. Covers (runs_of old) s ⊎ Added s)
 adds_none old Added is a = (is.0, λ s. (λ n. inl n, λ n. elim n [ inl x ↦ x | inr y ↦ (is.1 s).1 (a s y) ]))
 
@@ -207,7 +206,7 @@ one_more old new lo hi adds =
     let most = runs_least new (x ∷ old) adds.0 (λ s. (λ n. ⊎_swap ((adds.1 s).0 n), λ n. (adds.1 s).1 (⊎_swap n))) in
     omega (arith, most)
 
--- ---- what the calls ask
+-- ---- queries of the calls
 
 pub at_member : (P : Chunk → Type 0) (chunks front : List Chunk) (e : Chunk) (back : List Chunk) → chunks ≡ front ++ e ∷ back → All P chunks → P e
 at_member P chunks front e back parts h = All-head P e back (all_right P front (e ∷ back) (subst (All P) parts h))
@@ -216,7 +215,7 @@ pub tail_reaches : (chunks : List Chunk) (hi : ℕ) (tail : Option Chunk) → Is
 tail_reaches chunks hi None at = tt
 tail_reaches chunks hi (Some t) at = (at.from, at.to)
 
--- bits that a window had, and more
+-- the bits that a window had, and some more
 pub bits_both : (old : List Chunk) (first was more s : ℕ) → BitCovers 64 first was s ↔ Covers (members_of old) s → BitCovers 64 first (bit_or more was) s ↔ (BitCovers 64 first more s ⊎ Covers (members_of old) s)
 bits_both old first was more s h =
     let both = in_or first more was s in (
@@ -224,7 +223,7 @@ bits_both old first was more s h =
       λ n. both.1 (⊎_map (λ x. x) h.1 n),
     )
 
--- a mask has the numbers from one to another of its window
+-- a mask has the numbers from one to another in its window
 pub mask_has : (lo hi mask s : ℕ) → lo / 64 ≡ hi / 64 → lo ≤ hi → mask ≡ 2 ^ (hi % 64 + 1) - 2 ^ (lo % 64) → BitCovers 64 (64 * (lo / 64)) mask s ↔ ((lo ≤ s) × (s ≤ hi))
 mask_has lo hi mask s w h e =
     let base = 64 * (lo / 64) in
@@ -243,7 +242,7 @@ adds_mask old new lo hi mask w h e is = (
   ),
 )
 
--- where a window gets full, what is added is all of it that the set has not
+-- if a window gets full, the addition is every number of it that is not in the set
 pub fills_window : (old : List Chunk) (first was more s : ℕ) → bit_or more was ≡ 2 ^ 64 - 1 → ((t : ℕ) → first ≤ t → t < first + 64 → BitCovers 64 first was t ↔ Covers (members_of old) t)
     → first ≤ s → s < first + 64 → BitCovers 64 first more s ⊎ Covers (members_of old) s
 fills_window old first was more s all has from to =

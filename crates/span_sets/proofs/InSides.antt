@@ -1,4 +1,4 @@
--- The two ends of a span that is added, and what a set's chunks are after the addition.
+-- The two ends of an added span, and the set's chunks after the addition.
 use Rattle.std.proofs.Common.{◌≡◌, ℕ, ◌+◌, ◌-◌, ◌*◌, ◌/◌, ◌%◌, ◌^◌, ◌<◌, ◌≤◌, ◌⊎◌, List, [], ◌∷◌, get_or, min, sym, subst, ap, ◌∙◌, inl, inr, arith}
 use Rattle.std.specs.Prelude.{Bool, true, false, Option, Some, None, IfSome, ◌↔◌}
 use Rattle.std.specs.List.{All}
@@ -28,7 +28,7 @@ span_is_full e span s a b =
     let P : Bool → Type 0 = λ v. lo_by v e ≤ s → s ≤ hi_by v e → Covers (members_by v e) s in
     subst P (sym span) (λ from to. inl (from, to)) a b
 
--- what holds of the chunks before one, of it, and of those after it holds of all
+-- what holds for the chunks before one, for it, and for those after it holds for all
 pub parts_all : (P : Chunk → Type 0) (chunks : List Chunk) (e : Chunk) (n : ℕ) → ChunksFrom 0 chunks → IsChunkFrom chunks n (Some e)
     → ((x : Chunk) → lo_of x ≤ hi_of x → hi_of x < n → hi_of x < lo_of e → P x) → P e → ((x : Chunk) → lo_of x ≤ hi_of x → hi_of e < lo_of x → P x) → All P chunks
 parts_all P chunks e n order is before here after =
@@ -41,7 +41,7 @@ parts_all P chunks e n order is before here after =
     (All-append P front (e ∷ back) (λ k d h. before (get_or front k d) (stretch (get_or front k d)) (is.1.1.1 k d h) (ends k d h))
     (All-cons P e back here (λ k d h. after (get_or back k d) (stretch (get_or back k d)) (let far = begins k d h in omega arith))))
 
--- a chunk of a set has what the set has in its stretch
+-- a chunk of a set covers what the set covers in its stretch
 pub its_own : (chunks : List Chunk) (e : Chunk) (n s : ℕ) → ChunksFrom 0 chunks → IsChunkFrom chunks n (Some e) → lo_of e ≤ s → s ≤ hi_of e
     → Covers (members_in e) s ↔ Covers (members_of chunks) s
 its_own chunks e n s order is from to =
@@ -51,7 +51,7 @@ its_own chunks e n s order is from to =
       members_own chunks is.0 e is.1.0 (lo_of e) s order is.1.1.0 before from to,
     )
 
--- a span of tight chunks has no other right before it or right after it
+-- a span of tight chunks has no other directly before it or after it
 none_before : (old : List Chunk) (e : Chunk) (n : ℕ) → AreTight old → IsChunkFrom old n (Some e) → is_span e ≡ true → All (λ x. is_span x ≡ true → hi_of x + 1 ≡ lo_of e → ⊥) old
 none_before old e n t is span k d h = λ other same.
     at_member (Apart (get_or old k d)) old is.0 e is.1.0 is.1.1.0 (t.1 k d h) other span same
@@ -62,7 +62,7 @@ none_after old e n t is span k d h = λ other same.
 
 -- ---- the front
 
--- no span is right before the number
+-- no span ends directly before the number
 pub front_open : (old : List Chunk) (lo : ℕ) (met : Option Chunk) → ChunksFrom 0 old → IsChunkFrom old (lo - 1) met
     → IfSome met (λ e. (lo ≤ lo_of e) ⊎ ((is_span e ≡ false) × (hi_of e < lo))) → IsFront old lo None lo
 front_open old lo None order is h = record {
@@ -109,7 +109,7 @@ front_span old lo e order t is span begins =
       apart = λ k d q other same. absurd (none k d q other same);
     }
 
--- a word reaches over the number, and is not full with what is added
+-- a word reaches over the number, and is not full with the added bits
 pub front_shared : (old : List Chunk) (lo : ℕ) (e w : Chunk) → ChunksFrom 0 old → IsChunkFrom old (lo - 1) (Some e) → lo_of e < lo → lo ≤ hi_of e
     → hi_of e + 1 ≤ 64 * ((lo + 63) / 64) → lo_of w ≡ lo_of e → hi_of w ≡ hi_of e → is_span w ≡ false → (IsFull w → ⊥)
     → ((s : ℕ) → s < hi_of e + 1 → Covers (members_in w) s ↔ (Covers (members_in e) s ⊎ (lo ≤ s)))
@@ -131,7 +131,7 @@ front_shared old lo e w order is from to reach same_lo same_hi word gap m =
       apart = λ k d q span same. omega arith;
     }
 
--- all from a lower number on are members
+-- all numbers from a lower one on are members
 pub front_further : (old : List Chunk) (low lo at : ℕ) → low ≤ lo → ((s : ℕ) → low ≤ s → s < lo → Covers (members_of old) s) → IsFront old low None at → IsFront old lo None at
 front_further old low lo at h all f =
     let from = f.from in
@@ -153,7 +153,7 @@ each_in (e ∷ es) =
     let P : Chunk → Type 0 = λ x. (s : ℕ) → Covers (members_in x) s → Covers (members_of (e ∷ es)) s in
     All-cons P e es (λ s n. names_left (members_in e) (members_of es) s n) (λ k d h s n. names_right (members_in e) (members_of es) s (each_in es k d h s n))
 
--- no span is right after the number
+-- no span begins directly after the number
 pub back_open : (old : List Chunk) (hi n : ℕ) (met : Option Chunk) → ChunksFrom 0 old → AreSerials (members_of old) → n ≡ min (hi + 1) (2 ^ 64 - 1) → hi < 2 ^ 64 → IsChunkFrom old n met
     → IfSome met (λ e. ((hi_of e ≤ hi) ⊎ (hi < lo_of e)) × (is_span e ≡ true → hi + 1 < lo_of e)) → IsBack old hi None hi
 back_open old hi n None order serials same fits is h = record {
@@ -205,7 +205,7 @@ back_span old hi n e order t same is span begins fits =
       apart = λ k d q other at. absurd (none k d q other at);
     }
 
--- a word reaches over the number, and is not full with what is added
+-- a word reaches over the number, and is not full with the added bits
 pub back_shared : (old : List Chunk) (hi n at : ℕ) (e w : Chunk) → ChunksFrom 0 old → IsChunkFrom old n (Some e) → lo_of e ≤ hi → hi ≤ hi_of e → at + 1 ≡ lo_of e
     → 64 * ((hi + 1) / 64) ≤ lo_of e → lo_of w ≡ lo_of e → hi_of w ≡ hi_of e → is_span w ≡ false → (IsFull w → ⊥)
     → ((s : ℕ) → lo_of e ≤ s → Covers (members_in w) s ↔ (Covers (members_in e) s ⊎ (s ≤ hi)))
@@ -294,7 +294,7 @@ ends_fill_at old few lo hi from upto at to front back f b order windows low high
     let Added : ℕ → Type 0 = λ s. (lo ≤ s) × (s ≤ hi) in
     subst (λ n. Fills old n upto few Added) (sym low) (subst (λ n. Fills old (lo_or front at) n few Added) (sym high) fills)
 
--- a span that is added touches no other that stays
+-- an added span touches no span that stays
 pub ends_keep_tight : (old few : List Chunk) (lo hi at to : ℕ) (front back : Option Chunk) → IsFront old lo front at → IsBack old hi back to
     → All IsTight few → All (λ e. is_span e ≡ true → (lo_of e ≡ at) × (hi_of e ≡ to)) few → KeepsTight old (lo_or front at) (hi_or back to) few
 ends_keep_tight old few lo hi at to front back f b tight spans = record {
@@ -316,9 +316,9 @@ ends_keep_tight old few lo hi at to front back f b tight spans = record {
       omega arith;
 }
 
--- ---- a window's bits
+-- ---- the bits of a window
 
--- a chunk that reaches over a window's beginning is a span
+-- a chunk that reaches over the beginning of a window is a span
 not_word : (e : Chunk) (n : ℕ) → n % 64 ≡ 0 → lo_of e < n → n ≤ hi_of e → is_span e ≡ true
 not_word e n edge from to =
     elim (leb_tells e.a e.b) [
@@ -339,7 +339,7 @@ after_tail old last (Some e) x t at edge less span same =
     let from = at.from in
     at_member (λ f. Apart f x) old at.stands.0 e at.stands.1.0 at.stands.1.1 t (not_word e (last + 1) edge (omega arith) (omega arith)) span same
 
--- the word of a window, between what is left of the chunks at the window's ends, touches no span
+-- the word of a window, between what is left of the chunks at its ends, touches no span
 pub bits_keep_tight : (old few : List Chunk) (first : ℕ) (head tail : Option Chunk) → AreTight old → IsAt old first head → IsAt old (first + 63) tail → first % 64 ≡ 0
     → All IsTight few
     → All (λ e. is_span e ≡ true → ((lo_of e ≡ lo_or head first) × (hi_of e < first)) ⊎ ((first + 63 < lo_of e) × (hi_of e ≡ hi_or tail (first + 63)))) few

@@ -1,4 +1,4 @@
--- A set's only chunk: asked for a number, and after one change.
+-- A set with only one chunk: queries, and the result of one change.
 use Rattle.std.proofs.Common.{◌≡◌, ℕ, ◌<◌, ◌≤◌, List, [], ◌∷◌, length, get_or, refl, sym, ap, arith}
 use Rattle.std.specs.List.{All}
 use Rattle.std.proofs.lemmas.List.{append-nil}
@@ -39,7 +39,7 @@ one_widened was is window bits word = record {
   word = word;
 }
 
--- one chunk in place of all that there was
+-- all chunks replaced by one
 pub one_replaced : (old few : List Chunk) (e : Chunk) (lo hi : ℕ) → All (λ x. (lo ≤ hi_of x) × (lo_of x ≤ hi)) old → length few ≡ 1 → e ≡ get_or few 0 e → Replaces old lo hi few (e ∷ [])
 one_replaced old [] e lo hi inside one read = absurd (omega arith)
 one_replaced old (x ∷ (y ∷ few)) e lo hi inside one read = absurd (omega arith)

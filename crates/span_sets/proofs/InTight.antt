@@ -31,12 +31,12 @@ glued_more x (y ∷ ys) =
       | inr other ↦ subst P (sym other.0) (omega arith)
     ]
 
--- spans before others make the runs no fewer
+-- putting spans before others does not reduce the number of runs
 joined_more : (xs ys : List Span) → length (joined ys) ≤ length (joined (xs ++ ys))
 joined_more [] ys = omega arith
 joined_more (x ∷ xs) ys = omega (arith, joined_more xs ys, glued_more x (joined (xs ++ ys)))
 
--- a span before runs makes them one more, or the number after it is in them
+-- putting a span before runs adds one run, or the number after it is covered by them
 glued_or_next : (x : Span) (ys : List Span) → IsRuns ys → (length ys + 1 ≤ length (glued x ys)) ⊎ Covers ys (x.hi + 1)
 glued_or_next x [] r = inl (omega arith)
 glued_or_next x (y ∷ ys) r =
@@ -46,7 +46,7 @@ glued_or_next x (y ∷ ys) r =
       | inr other ↦ inl (subst P (sym other.0) (omega arith))
     ]
 
--- spans before others make one run more, or after each of their numbers there is another
+-- putting spans before others adds one run, or the number after each of theirs is covered
 joined_or_next : (a : ℕ) (xs ys : List Span) → Rises a (xs ++ ys)
     → (length (joined ys) + 1 ≤ length (joined (xs ++ ys))) ⊎ ((s : ℕ) → Covers xs s → Covers (xs ++ ys) (s + 1))
 joined_or_next a [] ys r = inr (λ s n. absurd n)
@@ -82,7 +82,7 @@ more_or_on a e es r = joined_or_next a (members_in e) (members_of es) (chunks_ri
 no_fewer : (e : Chunk) (es : List Chunk) → length (runs_of es) ≤ length (runs_of (e ∷ es))
 no_fewer e es = joined_more (members_in e) (members_of es)
 
--- from a member on all are members, up to the end
+-- from a member on all numbers are members, up to the end
 climbs : (a : ℕ) (e : Chunk) (es : List Chunk) (s k : ℕ) → ChunksFrom a (e ∷ es) → EndsNoRun e es
     → Covers (members_in e) s → s + k ≤ hi_of e → Covers (members_in e) (s + k)
 climbs a e es s zero r on m h = let same : s ≡ s + zero = omega arith in subst (Covers (members_in e)) same m
@@ -100,7 +100,7 @@ goes_to a e es s t r on m h k =
     let same : s + (t - s) ≡ t = omega arith in
     subst (Covers (members_in e)) same (climbs a e es s (t - s) r on m (omega arith))
 
--- so the number after the end is a member, of those that follow
+-- so the number after the end is a member, covered by the chunks that follow
 after_end : (a : ℕ) (e : Chunk) (es : List Chunk) (s : ℕ) → ChunksFrom a (e ∷ es) → EndsNoRun e es
     → Covers (members_in e) s → Covers (members_of es) (hi_of e + 1)
 after_end a e es s r on m =
@@ -126,7 +126,7 @@ next_begins a e f es s r on m =
       | inr later ↦ (let far = has_from (hi_of f + 1) es (hi_of e + 1) r.1.1 later in absurd (omega arith))
     ]
 
--- a chunk that goes on from its first number is full, and so a span
+-- a tight chunk that is full is a span
 is_span_where_full : (e : Chunk) → IsTight e → IsFull e → is_span e ≡ true
 is_span_where_full e tight full =
     elim (leb_tells e.a e.b) [ inl span ↦ span.0 | inr word ↦ absurd (tight.1 word.0 full) ]
@@ -143,7 +143,7 @@ tail_tight e es t = (
   λ k d h. All-tail (Apart (get_or es k d)) e es (All-tail (λ x. All (Apart x) (e ∷ es)) e es t.1 k d h),
 )
 
--- three in a row do not all go on
+-- of three consecutive chunks one ends a run
 one_ends : (a : ℕ) (e f g : Chunk) (es : List Chunk) → ChunksFrom a (e ∷ (f ∷ (g ∷ es))) → AreTight (e ∷ (f ∷ (g ∷ es)))
     → EndsNoRun e (f ∷ (g ∷ es)) → EndsNoRun f (g ∷ es) → EndsNoRun g es → ⊥
 one_ends a e f g es r t on_e on_f on_g =
@@ -193,9 +193,9 @@ three_a_run a (e ∷ (f ∷ (g ∷ es))) r t =
       ]
     ]
 
--- ---- what keeps chunks tight
+-- ---- chunks stay tight
 
--- a list of three parts, of which each two have to do with each other in a known way
+-- a list of three parts, each two of which are related in a known way
 all_pairs : (P : Chunk → Chunk → Type 0) (xs ys zs : List Chunk)
     → All (λ e. All (P e) xs) xs → All (λ e. All (P e) ys) xs → All (λ e. All (P e) zs) xs
     → All (λ e. All (P e) xs) ys → All (λ e. All (P e) ys) ys → All (λ e. All (P e) zs) ys

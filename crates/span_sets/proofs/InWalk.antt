@@ -1,4 +1,4 @@
--- Members that are found one after the other, and the runs that they are.
+-- Members that are found one after another, and their runs.
 use Rattle.std.proofs.Common.{ℕ, ◌≤◌, List, Some, None, arith}
 use Rattle.span_sets.specs.declared.chunk.Chunk.{Chunk}
 use Rattle.serial_set.specs.Span.{AreSerials, Covers}
@@ -9,7 +9,7 @@ use Rattle.span_sets.specs.Lawful.{runs_of_chunks}
 use Rattle.span_sets.proofs.InWords.{asked}
 use Rattle.span_sets.proofs.Ordered.{none_below}
 
--- the chunk that is first from a number on is so from each further one that it reaches
+-- the first chunk from a number on is also the first from each later number that it reaches
 pub from_on : (es : List Chunk) (e : Chunk) (n s : ℕ) → IsChunkFrom es n (Some e) → n ≤ s → s ≤ hi_of e → IsChunkFrom es s (Some e)
 from_on es e n s k h reach =
     (k.0, (k.1.0, (k.1.1.0, (λ i d q. let at = k.1.1.1 i d q in omega arith), reach)))

@@ -1,4 +1,4 @@
--- A set's chunks: asked for a number, and after one change.
+-- A set's chunks: queries, and the result of one change.
 use Rattle.std.proofs.Common.{◌≡◌, ℕ, ◌+◌, ◌*◌, ◌^◌, ◌<◌, ◌≤◌, ◌⊎◌, ◌↔◌, List, [], ◌∷◌, ◌++◌, Some, Result, Ok, Err, OnOk, OnErr, sym, subst, inl, inr, arith, ◌∙◌, refl}
 use Rattle.std.specs.List.{All}
 use Rattle.std.proofs.Math.Logic.{⊎_elim, ⊎_map}
@@ -15,12 +15,12 @@ use Rattle.serial_set.proofs.Rising.{names_append, names_left}
 use Rattle.span_sets.proofs.Ordered.{has_append, has_left, has_right, has_from, none_below, chunks_back}
 use Rattle.span_sets.proofs.Replaced.{replaced_order}
 
--- a member of one chunk is one of all
+-- a member of one chunk is a member of all
 pub members_part : (chunks front : List Chunk) (e : Chunk) (back : List Chunk) (s : ℕ) → chunks ≡ front ++ e ∷ back → Covers (members_in e) s → Covers (members_of chunks) s
 members_part chunks front e back s parts n =
     subst (λ (l : List Chunk). Covers (members_of l) s) (sym parts) (has_right front (e ∷ back) s (names_left (members_in e) (members_of back) s n))
 
--- and a member that the chunks before do not reach, and no later than its end, is its own
+-- and a member past the chunks before, and at most the end of a chunk, is the chunk's own
 pub members_own : (chunks front : List Chunk) (e : Chunk) (back : List Chunk) (n s : ℕ) → ChunksFrom 0 chunks → chunks ≡ front ++ e ∷ back → All (λ x. hi_of x < n) front → n ≤ s → s ≤ hi_of e
     → Covers (members_of chunks) s → Covers (members_in e) s
 members_own chunks front e back n s order parts below from to m =
@@ -35,12 +35,12 @@ members_own chunks front e back n s order parts below from to m =
       ]
     ]
 
--- whether the number is a member is asked of the chunk that reaches it
+-- the chunk that reaches a number decides whether it is a member
 pub asked : (es : List Chunk) (e : Chunk) (s : ℕ) → ChunksFrom 0 es → IsChunkFrom es s (Some e) → Covers (members_in e) s ↔ Covers (members_of es) s
 asked es e s order k =
     (members_part es k.0 e k.1.0 s k.1.1.0, members_own es k.0 e k.1.0 s s order k.1.1.0 k.1.1.1 (omega arith) k.1.1.2)
 
--- where some chunks stand in place of others, a member is one of before or one of theirs
+-- if some chunks replace others, each member was one before or is one of theirs
 parts_only : (old new front middle few back : List Chunk) (s : ℕ) → old ≡ front ++ (middle ++ back) → new ≡ front ++ (few ++ back)
     → Covers (members_of new) s → Covers (members_of old) s ⊎ Covers (members_of few) s
 parts_only old new front middle few back s were are n =
@@ -77,7 +77,7 @@ replaced_none few lo hi = record {
   above = All-nil (λ e. hi < lo_of e);
 }
 
--- what a clause says of each answer
+-- what a clause promises for each result
 pub ok_or_err : {A E : Type 0} (r : Result A E) (P Q : Type 0) → OnOk r P → OnErr r Q → P ⊎ Q
 ok_or_err (Ok x) P Q p q = inl p
 ok_or_err (Err e) P Q p q = inr q

@@ -1,4 +1,4 @@
--- Chunks in order: how they are cut and joined, and which members they have.
+-- Chunks in order: how they are split and joined, and which members they have.
 use Rattle.std.proofs.Common.{ℕ, ◌+◌, ◌<◌, ◌≤◌, ◌⊎◌, List, [], ◌∷◌, ◌++◌, sym, subst, inl, inr}
 use Rattle.std.proofs.Common.{arith}
 use Rattle.std.specs.List.{All}
@@ -10,7 +10,7 @@ use Rattle.span_sets.specs.Chunk.{members_in, lo_of, hi_of, ChunksFrom, members_
 use Rattle.span_sets.specs.Lawful.{in_stretch, stretch}
 use Rattle.serial_set.proofs.Rising.{names_append, names_left, names_right}
 
--- ---- cut and joined
+-- ---- split and joined
 
 pub chunks_weaker : (a b : ℕ) (es : List Chunk) → b ≤ a → ChunksFrom a es → ChunksFrom b es
 chunks_weaker a b [] h r = tt
@@ -25,7 +25,7 @@ pub chunks_front : (a : ℕ) (xs ys : List Chunk) → ChunksFrom a (xs ++ ys) �
 chunks_front a [] ys r = tt
 chunks_front a (x ∷ xs) ys r = (r.0, chunks_front (hi_of x + 1) xs ys r.1)
 
--- what is after others begins past them
+-- chunks after others begin past them
 pub chunks_back : (a : ℕ) (xs ys : List Chunk) → ChunksFrom a (xs ++ ys) → ChunksFrom a ys
 chunks_back a [] ys r = r
 chunks_back a (x ∷ xs) ys r =
@@ -62,7 +62,7 @@ has_right xs ys s n =
     subst (λ l. Covers l s) (sym (flat_map-append members_in xs ys))
     (names_right (members_of xs) (members_of ys) s n)
 
--- no member of chunks that end below a number is that number or past it
+-- chunks that end below a number have no member at the number or past it
 pub none_below : (es : List Chunk) (s : ℕ) → All (λ e. hi_of e < s) es
     → Covers (members_of es) s → ⊥
 none_below [] s below n = n
@@ -73,7 +73,7 @@ none_below (e ∷ es) s below n =
       | inr later ↦ none_below es s (All-tail (λ t. hi_of t < s) e es below) later
     ]
 
--- what chunks from a number on have is not below it
+-- chunks from a number on have no member below it
 pub has_from : (a : ℕ) (es : List Chunk) (s : ℕ) → ChunksFrom a es → Covers (members_of es) s
     → a ≤ s
 has_from a [] s r n = absurd n

@@ -1,4 +1,4 @@
--- What holds up to a position in a list and from there on, as facts on the two parts.
+-- Facts that hold up to a position in a list, or from it on, as facts on the two parts.
 use Rattle.std.specs.Borrow.{Bor}
 use denote.Param.Members.{Mut}
 use Rattle.std.specs.Fn.{Called, ComputesKey}
@@ -20,7 +20,7 @@ All-back P xs i h k d q =
     let bound = length-drop i xs in
     subst P (sym (get_or-drop i xs k d)) (h (i + k) d (omega arith) (omega arith))
 
--- in a list that rises, what is below a number at a position is before it, and what is not after it
+-- in a rising list, elements below the number at a position are before the position, and others after it
 pub rises_before : {X : Type 0} (f : X → ℕ) (xs : List X) (count n : ℕ) (d : X) → IsNonDecreasingBy f xs → 0 < count → count ≤ length xs → f (get_or xs (count - 1) d) < n → All (λ x. f x < n) (take count xs)
 rises_before f xs count n d rise some within last = λ k e q.
     let inside : k < count = omega (arith, length-take-le count xs within) in
@@ -29,7 +29,7 @@ rises_before f xs count n d rise some within last = λ k e q.
     let read = ap f (get_or_default xs (count - 1) d e (omega arith)) in
     omega (arith, most, same, read)
 
--- ---- where a test says which elements are below a number
+-- ---- a test that decides which elements are below a number
 
 pub upto_parts : {X F : Type 0} {g : Mut F (Bor X × Unit {0}) Bool} {s : F} (f : X → ℕ) (n : ℕ) (xs : List X) (i : ℕ)
     → ((q : X → Bool) → ComputesKey g q s → IsPartitionedBy q xs → IsPartitionPoint (λ y. q y ≡ true) (λ y. q y ≡ false) xs i)

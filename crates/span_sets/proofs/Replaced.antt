@@ -1,4 +1,4 @@
--- What one change makes of the order, the members and the runs of chunks.
+-- The effect of one change on the order, the members and the runs of chunks.
 use Rattle.std.proofs.Common.{ℕ, ◌+◌, ◌<◌, ◌≤◌, ◌⊎◌, List, ◌++◌, sym, subst, inl, inr, arith}
 use Rattle.std.specs.List.{All}
 use Rattle.std.proofs.lemmas.List.Elements.{All-weaker}
@@ -63,7 +63,7 @@ replaced_from old lo hi few new Added r k s n =
       | inr added ↦ new_here (k.added s added)
     ]
 
--- the runs after a change are those of the members before and of what is added
+-- the runs after a change are those of the members before and the added numbers
 pub replaced_runs : (old : List Chunk) (lo hi : ℕ) (few new : List Chunk) (Added : ℕ → Type 0)
     → (r : Replaces old lo hi few new) → Keeps r.middle few Added → ChunksFrom 0 old
     → ChunksFrom 0 new → IsRunsOf (runs_of new) (λ s. Covers (runs_of old) s ⊎ Added s)

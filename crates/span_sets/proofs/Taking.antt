@@ -1,4 +1,4 @@
--- Runs that are taken one after the other.
+-- Runs that are taken one after another.
 use Rattle.std.proofs.Common.{◌≡◌, ℕ, ◌+◌, ◌<◌, ◌≤◌, ◌⊎◌, List, [], ◌∷◌, ◌++◌, Some, None, get_or}
 use Rattle.std.proofs.Common.{length, take, max, refl, sym, subst, inl, inr, arith, ◌∙◌}
 use Rattle.std.proofs.Common.{append_assoc}
@@ -97,9 +97,9 @@ taken_run spans old new e n at from lo hi t r f g adds = taken_more spans old ne
 pub goes_within : (e : Chunk) (lo hi : ℕ) → GoesOn (members_in e) lo hi → hi ≤ hi_of e
 goes_within e lo hi g = (in_stretch e hi (g.all hi g.order (omega arith))).1
 
--- ---- one chunk after the other
+-- ---- one chunk after another
 
--- the chunks that are left of some that lie together, where the ones before end below a number
+-- the chunks that are left in a slice, if the ones before end below a number
 pub record Rest (es : List Chunk) (number at : ℕ) (rest : List Chunk) : Type 0 where
   pub front : List Chunk
   pub back : List Chunk
@@ -143,7 +143,7 @@ rest_on es n at e rest order k =
       reach = All-tail (λ t. n ≤ hi_of t) e rest k.reach;
     }
 
--- ---- which of the runs taken are whole
+-- ---- which of the runs taken are complete
 
 before_last : (a : ℕ) (front : List Span) (last : Span) (s : ℕ) → RunsFrom a (front ++ last ∷ []) → Covers front s → s + 2 ≤ last.lo
 before_last a [] last s r m = absurd m
@@ -161,7 +161,7 @@ first_of_runs es n runs order r to from =
     (λ s m. let k = to s m in since_from 0 n xs s is.0 ((is.1 s).1 k.1) k.0)
     (λ s t m h k. let there = since_to 0 n xs s is.0 k in from s t m h there.1 ((is.1 s).0 there.0))
 
--- where the last of them does not go on
+-- all, if the last of them does not continue
 pub all_whole : (es : List Chunk) (n at : ℕ) (runs front : List Span) (last : Span) → ChunksFrom 0 es → Taken (members_of es) n at runs → runs ≡ front ++ last ∷ [] → (Covers (members_of es) (last.hi + 1) → ⊥) → runs ≡ take (length runs) (since n (runs_of es))
 all_whole es n at runs front last order t is stops =
     let rise = subst IsRuns is t.are.0 in
@@ -178,7 +178,7 @@ all_whole es n at runs front last order t is stops =
       | inr upto ↦ (t.are.1 s).1 (k, omega arith, l)
     ])
 
--- and else all but that one
+-- otherwise all but that one
 pub all_but_last : (es : List Chunk) (n at : ℕ) (runs front : List Span) (last : Span) → ChunksFrom 0 es → Taken (members_of es) n at runs → runs ≡ front ++ last ∷ [] → front ≡ take (length front) (since n (runs_of es))
 all_but_last es n at runs front last order t is =
     let rise = subst IsRuns is t.are.0 in

@@ -1,4 +1,4 @@
--- The chunk of a set in whose stretch a number stands.
+-- The chunk of a set whose stretch contains a number.
 use Rattle.std.specs.Prelude.{◌≡◌, ℕ, ◌≤◌, ◌<◌, ◌⊎◌, List, ◌∷◌, ◌++◌, Option, Some, None, All, ⊤}
 use Rattle.span_sets.specs.declared.chunk.Chunk.{Chunk}
 use Rattle.serial_set.specs.Span.{Covers}
@@ -11,8 +11,8 @@ IsOneOf chunks None = ⊤
 IsOneOf chunks (Some e) =
     (front : List Chunk) × ((back : List Chunk) × (chunks ≡ front ++ e ∷ back))
 
--- The chunk, if there is one, has the number in its stretch, and each other lies before it or past
--- it. What the chunks have in its stretch it has.
+-- The stretch of the chunk, if there is one, contains the number, and every other chunk is before
+-- it or past it. The chunk covers what the set covers in its stretch.
 pub record IsAt (chunks : List Chunk) (number : ℕ) (o : Option Chunk) : Type 0 where
   pub stands : IsOneOf chunks o
   pub from : lo_or o number ≤ number

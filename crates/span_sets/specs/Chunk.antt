@@ -7,7 +7,7 @@ use Rattle.span_sets.specs.declared.chunk.Chunk.{Chunk}
 use Rattle.serial_set.specs.Joined.{joined}
 use Rattle.span_sets.specs.Words.{singles}
 
--- a span has its ends in order, and a word has not
+-- a span has its ends in order, a word does not
 abbrev pub is_span : Chunk → Bool
 is_span e = nat_le e.a e.b
 
@@ -22,7 +22,7 @@ bits_by false a = a - 2 ^ 63
 abbrev pub bits_of : Chunk → ℕ
 bits_of e = bits_by (nat_eq (e.b % 2) 1) e.a
 
--- the members, where the chunk is a span and where it is a word
+-- the members of a chunk, by whether it is a span
 abbrev pub members_by : Bool → Chunk → List Span
 members_by true e = record { lo = e.a; hi = e.b } ∷ []
 members_by false e = singles 64 (64 * window_of e) (bits_of e)
@@ -39,14 +39,14 @@ abbrev pub hi_by : Bool → Chunk → ℕ
 hi_by true e = e.b
 hi_by false e = 64 * window_of e + 63
 
--- the stretch of numbers that is the chunk's alone: a span's own, and a word's window
+-- the stretch of numbers that belongs to the chunk alone: a span itself, and the window of a word
 abbrev pub lo_of : Chunk → ℕ
 lo_of e = lo_by (is_span e) e
 
 abbrev pub hi_of : Chunk → ℕ
 hi_of e = hi_by (is_span e) e
 
--- the stretches begin at `least` or above, and each next one past the last one's end
+-- the stretches begin at `least` or above, and each next one past the end of the one before
 abbrev pub ChunksFrom : ℕ → List Chunk → Type 0
 ChunksFrom least [] = ⊤
 ChunksFrom least (e ∷ chunks) = (least ≤ lo_of e) × ChunksFrom (hi_of e + 1) chunks

@@ -1,11 +1,11 @@
--- What one change puts in place of chunks, and what it keeps of their members.
+-- How one change replaces chunks, and which members it keeps.
 use Rattle.std.specs.Prelude.{◌≡◌, ℕ, ◌<◌, ◌≤◌, ◌⊎◌, List, ◌++◌}
 use Rattle.std.specs.List.{All}
 use Rattle.span_sets.specs.declared.chunk.Chunk.{Chunk}
 use Rattle.serial_set.specs.Span.{Covers}
 use Rattle.span_sets.specs.Chunk.{lo_of, hi_of, members_of}
 
--- chunks in the place of all that reach into the numbers from lo to hi
+-- the chunks `few` replace all that reach into the numbers from lo to hi
 pub record Replaces (old : List Chunk) (lo hi : ℕ) (few new : List Chunk) : Type 0 where
   pub front : List Chunk
   pub middle : List Chunk
@@ -16,8 +16,7 @@ pub record Replaces (old : List Chunk) (lo hi : ℕ) (few new : List Chunk) : Ty
   pub inside : All (λ e. (lo ≤ hi_of e) × (lo_of e ≤ hi)) middle
   pub above : All (λ e. hi < lo_of e) back
 
--- the chunks that give way have no member that the new ones have not, and these have none more but
--- those that are added
+-- the new chunks cover all members of those that they replace, and no others except the added ones
 pub record Keeps (middle few : List Chunk) (Added : ℕ → Type 0) : Type 0 where
   pub still : (s : ℕ) → Covers (members_of middle) s → Covers (members_of few) s
   pub added : (s : ℕ) → Added s → Covers (members_of few) s

@@ -1,5 +1,5 @@
--- The runs of chunks in order rise, and are serials where the members are. `SpanPages` proves its
--- law by this in the code, which can cite nothing of proofs/.
+-- The runs of chunks in order rise, and are serials if the members are. `SpanPages` proves its law
+-- by this in the code, which cannot cite proofs/.
 use Rattle.std.proofs.Common.{◌≡◌, ℕ, zero, suc, ◌+◌, ◌-◌, ◌*◌, ◌/◌, ◌%◌, ◌≤◌, List, []}
 use Rattle.std.proofs.Common.{◌∷◌, sym, subst, ap, ◌∙◌, inl, inr, arith}
 use Rattle.std.specs.Prelude.{Bool}
@@ -97,12 +97,12 @@ chunks_rise a (e ∷ es) r =
     (λ s n. let at = in_stretch e s n in omega arith)
     (chunks_rise (hi_of e + 1) es r.1)
 
--- the runs of chunks have just the members of these
+-- the runs of chunks have exactly the members of the chunks
 pub runs_of_chunks : (es : List Chunk) → ChunksFrom 0 es
     → IsRunsOf (runs_of es) (λ s. Covers (members_of es) s)
 runs_of_chunks es r = joined_of (members_of es) (chunks_rise 0 es r)
 
--- where the members are serials, so are those of the runs
+-- if the members are serials, so are those of the runs
 pub serials_of_runs : (es : List Chunk) → ChunksFrom 0 es → AreSerials (members_of es)
     → AreSerials (runs_of es)
 serials_of_runs es r fits s n = let runs = runs_of_chunks es r in fits s ((runs.1 s).0 n)

@@ -20,17 +20,17 @@ IsFirst spans number (Some first) =
     (number ≤ first) × Covers spans first
     × ((s : ℕ) → number ≤ s → s < first → Covers spans s → ⊥)
 
--- all from one number to another are members
+-- all numbers from one to another are members
 pub record GoesOn (spans : List Span) (from to : ℕ) : Type 0 where
   pub order : from ≤ to
   pub all : (s : ℕ) → from ≤ s → s ≤ to → Covers spans s
 
--- runs that are those of the members from one number up to another
+-- the runs of the members from one number up to another
 pub record Taken (spans : List Span) (number at : ℕ) (runs : List Span) : Type 0 where
   pub from : number ≤ at
   pub are : IsRunsOf runs (λ s. (number ≤ s) × (s < at) × Covers spans s)
 
--- the members from one number to the end of a chunk are its own from another on
+-- up to the end of a chunk, the members from `at` on are the chunk's own from `number` on
 pub record Reads (spans : List Span) (at : ℕ) (chunk : Chunk) (number : ℕ) : Type 0 where
   pub from : number ≤ hi_of chunk
   pub to : at ≤ hi_of chunk

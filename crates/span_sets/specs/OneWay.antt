@@ -1,5 +1,5 @@
--- What ghost fields ask of their facts: that each holds in one way only. The code cites this, and
--- can cite nothing of proofs/.
+-- The facts of ghost fields have at most one proof each, as ghost fields require. The code cites
+-- this, and it cannot cite proofs/.
 use Rattle.std.specs.Prelude.{ℕ, ◌+◌, List, [], ◌∷◌}
 use Rattle.std.specs.Coded.{Unit-prop, le_prop}
 use Rattle.serial_set.specs.declared.span.Span.{Span}

@@ -9,7 +9,7 @@ use Rattle.span_sets.specs.Chunk.{hi_of}
 abbrev pub chunks_in : Page → List Chunk
 chunks_in page = page.items.items
 
--- the chunks of pages in a row
+-- the chunks of a list of pages
 abbrev pub chunks_of : List Page → List Chunk
 chunks_of pages = flat_map chunks_in pages
 
@@ -20,7 +20,7 @@ pub record IsPageFor (pages : List Page) (lo at : ℕ) : Type 0 where
   pub after : All (λ e. lo ≤ hi_of e) (chunks_of (drop (at + 1) pages))
   pub room : (d : Page) → length (chunks_in (slice_index_or pages at d)) ≤ 253
 
--- one page is two now, and each of them has room
+-- one page is split into two, and each of them has room
 pub record IsSplit (old : List Page) (at : ℕ) (new : List Page) : Type 0 where
   pub within : at + 1 < length new
   pub before : take at new ≡ take at old

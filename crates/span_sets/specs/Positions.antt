@@ -1,4 +1,5 @@
--- Positions in a list of chunks: where a number stands, where the list ends, what is cut off.
+-- Positions in a list of chunks: where a number is, where the list ends, and which chunks are
+-- removed.
 use Rattle.std.specs.Prelude.{◌≡◌, ℕ, ◌+◌, ◌*◌, ◌≤◌, ◌<◌, ◌⊎◌, ◌↔◌, List, [], ◌∷◌, ◌++◌}
 use Rattle.std.specs.Prelude.{Option, Some, None, All, false}
 use Rattle.span_sets.specs.declared.chunk.Chunk.{Chunk}
@@ -7,7 +8,7 @@ use Rattle.serial_set.specs.Span.{Covers}
 use Rattle.span_sets.specs.Tight.{IsFull}
 use Rattle.span_sets.specs.Words.{BitCovers}
 
--- where the last chunk ends, and 0 where there is none
+-- the end of the last chunk, and 0 if there is none
 abbrev pub end_of : List Chunk → ℕ
 end_of [] = 0
 end_of (e ∷ []) = hi_of e
@@ -20,8 +21,8 @@ IsChunkFrom chunks number (Some chunk) =
     (front : List Chunk) × ((back : List Chunk) × ((chunks ≡ front ++ chunk ∷ back)
     × All (λ e. hi_of e < number) front × (number ≤ hi_of chunk)))
 
--- chunks that lie together, from the first that ends at a number or past it on; none only where
--- there is no such chunk
+-- consecutive chunks in one slice, from the first that ends at a number or past it on; the slice is
+-- empty only if there is no such chunk
 pub record IsListFrom (chunks : List Chunk) (number : ℕ) (part : List Chunk) : Type 0 where
   pub front : List Chunk
   pub back : List Chunk
@@ -30,14 +31,14 @@ pub record IsListFrom (chunks : List Chunk) (number : ℕ) (part : List Chunk) :
   pub reach : All (λ e. number ≤ hi_of e) part
   pub some : part ≡ [] → back ≡ []
 
--- what is left where the chunks that begin at a number or below it are cut off
+-- what is left after removing the chunks that begin at a number or below it
 pub record CutTo (old : List Chunk) (number : ℕ) (new : List Chunk) : Type 0 where
   pub gone : List Chunk
   pub were : old ≡ gone ++ new
   pub inside : All (λ e. lo_of e ≤ number) gone
   pub above : All (λ e. number < lo_of e) new
 
--- the word of a window gets more bits, and not all
+-- the word of a window gets more bits, but not all
 pub record Widened (was : Chunk) (window bits : ℕ) (is : Chunk) : Type 0 where
   pub word : is_span is ≡ false
   pub lo : (lo_of was ≡ 64 * window) × (lo_of is ≡ 64 * window)

@@ -1,4 +1,4 @@
--- Chunks that an addition puts in place of those that it meets.
+-- Chunks that replace those that an addition meets.
 use Rattle.std.specs.Prelude.{ℕ, ◌≤◌, ◌<◌, List, Option, Some, None, All, length}
 use Rattle.span_sets.specs.declared.chunk.Chunk.{Chunk}
 use Rattle.serial_set.specs.Span.{Covers}
@@ -9,12 +9,12 @@ abbrev pub Has : Option Chunk → ℕ → Type 0
 Has None s = ⊥
 Has (Some e) s = Covers (members_in e) s
 
--- where the chunk begins, or a number where there is none
+-- where the chunk begins, or a number if there is none
 abbrev pub lo_or : Option Chunk → ℕ → ℕ
 lo_or None number = number
 lo_or (Some e) number = lo_of e
 
--- where the chunk ends, or a number where there is none
+-- where the chunk ends, or a number if there is none
 abbrev pub hi_or : Option Chunk → ℕ → ℕ
 hi_or None number = number
 hi_or (Some e) number = hi_of e

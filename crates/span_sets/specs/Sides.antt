@@ -7,9 +7,8 @@ use Rattle.span_sets.specs.Chunk.{is_span, lo_of, hi_of, members_of}
 use Rattle.span_sets.specs.Replacement.{lo_or, hi_or, Has}
 use Rattle.span_sets.specs.Tight.{IsTight}
 
--- Where a span from `lo` on begins that is added: at `at`, and before that with a word, if it
--- shares its first window with one and does not fill it. No chunk is cut there, and no span ends
--- right before.
+-- Where an added span from `lo` on begins: at `at`, with a word before it if it shares its first
+-- window with one and does not fill it. No chunk is split there, and no span ends directly before.
 pub record IsFront (chunks : List Chunk) (lo : ℕ) (word : Option Chunk) (at : ℕ) : Type 0 where
   pub from : lo_or word at ≤ lo
   pub reach : at ≤ 64 * ((lo + 63) / 64)
@@ -20,7 +19,7 @@ pub record IsFront (chunks : List Chunk) (lo : ℕ) (word : Option Chunk) (at : 
   pub joins : (s : ℕ) → at ≤ s → s < lo → Covers (members_of chunks) s
   pub apart : All (λ e. is_span e ≡ true → hi_of e + 1 ≡ at → lo_or word at ≤ hi_of e) chunks
 
--- the same of where it ends
+-- the same for the end of the span
 pub record IsBack (chunks : List Chunk) (hi : ℕ) (word : Option Chunk) (at : ℕ) : Type 0 where
   pub upto : hi ≤ hi_or word at
   pub reach : 64 * ((hi + 1) / 64) ≤ at + 1

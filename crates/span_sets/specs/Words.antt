@@ -4,12 +4,12 @@ use Rattle.std.specs.Prelude.{nat_eq, List, [], ◌∷◌}
 use Rattle.std.specs.Int.{bit_at}
 use Rattle.serial_set.specs.declared.span.Span.{Span}
 
--- a number alone before a list, if its bit is set
+-- a single number before a list, if its bit is set
 abbrev pub single_by : Bool → ℕ → List Span → List Span
 single_by true base rest = record { lo = base; hi = base } ∷ rest
 single_by false base rest = rest
 
--- each of the lowest `count` bits that is set, as the number for which it stands
+-- each of the lowest `count` bits that is set, as the number that it represents
 unfoldable pub singles : ℕ → ℕ → ℕ → List Span
 singles zero base bits = []
 singles (suc count) base bits =

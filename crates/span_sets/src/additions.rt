@@ -73,7 +73,7 @@ impl SpanPages {
         self.join_bits(window, bits)
     }
 
-    // The same, where the window has no word, or one that gets full.
+    // The same, if the window has no word, or if its word gets full.
     fn join_bits(&mut self, window: u64, bits: u64) -> Result<(), AllocError>
         requires window { window < 2 ^ 58 }
         requires some { 0 < bits }
@@ -98,7 +98,7 @@ impl SpanPages {
         self.put(&replacement.few, replacement.lo, replacement.hi)
     }
 
-    // Adds the numbers from `lo` to `hi`, which are those of a window or lie in several.
+    // Adds the numbers from `lo` to `hi`, which fill a window or lie in several.
     fn add_wide(&mut self, lo: u64, hi: u64) -> Result<(), AllocError>
         requires from_one { 0 < lo }
         requires ordered { lo ≤ hi }
@@ -118,7 +118,8 @@ impl SpanPages {
         self.put(&replacement.few, replacement.lo, replacement.hi)
     }
 
-    // The chunk that has a number in its stretch. `met` is the first that ends there or past it.
+    // The chunk whose stretch contains a number. `met` is the first that ends at the number or past
+    // it.
     fn at(&self, met: Option<Chunk>, number: u64) -> Option<Chunk>
         requires { IsChunkFrom (chunks_held self.now) number met }
         ensures { IsAt (chunks_held self.now) number result }
@@ -129,8 +130,8 @@ impl SpanPages {
         }
     }
 
-    // The first chunk that ends at a number or past it. `met` is that of a lower number, and mostly
-    // of this one too.
+    // The first chunk that ends at a number or past it. `met` is that of a lower number, and
+    // usually of this one too.
     fn chunk_on(&self, met: Option<Chunk>, number: u64) -> Option<Chunk>
         requires { (lower : ℕ) × ((lower ≤ number)
             × IsChunkFrom (chunks_held self.now) lower met) }
@@ -162,7 +163,7 @@ impl SpanPages {
     }
 }
 
-// Whether a chunk is a span that has all from one number to another.
+// Whether a chunk is a span that covers all numbers from one to another.
 fn holds(chunk: Option<Chunk>, lo: u64, hi: u64) -> bool
     ensures all { IsTrue result → (s : ℕ) → lo ≤ s → s ≤ hi → Has chunk s }
     ensures whole { MatchOption chunk ⊥ (λ e. IsTrue (is_span e) × (lo_of e ≤ lo) × (hi ≤ hi_of e))
@@ -174,7 +175,7 @@ fn holds(chunk: Option<Chunk>, lo: u64, hi: u64) -> bool
     }
 }
 
-// What a chunk has in a window, from a position of the window on.
+// The members of a chunk in a window, from a position of the window on.
 fn part_in(chunk: Option<Chunk>, window: u64, at: u64) -> WindowBits
     requires window { window < 2 ^ 58 }
     requires at { at < 64 }

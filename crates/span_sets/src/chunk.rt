@@ -1,4 +1,4 @@
-//! What a page holds: a span, or the members in one window of 64 serials.
+//! An element of a page: a span, or the members in one window of 64 serials.
 ghost use Rattle.std.specs.Prelude.{◌≡◌, ◌+◌, ◌-◌, ◌*◌, ◌^◌, ◌<◌, ◌≤◌, ◌∷◌, [], ℕ, ◌↔◌, ◌⊎◌, IfSome, IsTrue, None, false};
 ghost use Rattle.std.specs.Int.{bit_at};
 ghost use Rattle.span_sets.specs.Words.{BitCovers};
@@ -6,8 +6,8 @@ ghost use Rattle.span_sets.specs.Words.{BitCovers};
 use crate::search::HasEnd;
 use crate::word_bits::{first_bit, last_bit};
 
-/// A span where `a` is at most `b`, and else a word: the window `b / 2`, whose bits are those of
-/// `a`, but for the highest, which is the lowest of `b`. So a chunk takes 16 bytes and no tag.
+/// A span if `a` is at most `b`, otherwise a word: the window `b / 2`, whose bits are those of `a`,
+/// except that the highest is the lowest bit of `b`. So a chunk takes 16 bytes and no tag.
 #[derive(Clone, Copy)]
 pub struct Chunk {
     a: u64,
@@ -81,7 +81,7 @@ impl Chunk {
         }
     }
 
-    /// Where its stretch of numbers begins.
+    /// The start of its stretch of numbers.
     pub fn lo(self) -> u64
         ensures { result ≡ lo_of self }
     {
@@ -92,7 +92,7 @@ impl Chunk {
         }
     }
 
-    /// Where its stretch of numbers ends.
+    /// The end of its stretch of numbers.
     pub fn hi(self) -> u64
         ensures { result ≡ hi_of self }
     {
@@ -113,7 +113,7 @@ impl Chunk {
         serial / 64 == self.window() && has_bit(self.bits(), serial % 64)
     }
 
-    /// The word with more bits, if it is that of their window and does not get full.
+    /// The word with more bits, if they belong to its window and do not fill it.
     pub fn widened(self, window: u64, bits: u64) -> Option<Chunk>
         ensures { IfSome result (λ is. Widened self window bits is) }
     {
@@ -123,7 +123,7 @@ impl Chunk {
         self.with(bits)
     }
 
-    /// The word with more bits of its window, unless that has all of them then.
+    /// The word with more bits of its window, unless they fill it.
     pub fn with(self, bits: u64) -> Option<Chunk>
         requires { self.b < self.a }
         ensures with { IfSome result (λ is. HasBits self bits is) }
@@ -200,7 +200,7 @@ fn has_bit(bits: u64, bit: u64) -> bool
     bits >> bit & 1 == 1
 }
 
-/// The bits from `lo` to `hi`, both among them and below 64.
+/// The bits from `lo` to `hi`, both included and below 64.
 pub fn mask(lo: u64, hi: u64) -> u64
     requires ordered { lo ≤ hi }
     requires within { hi < 64 }

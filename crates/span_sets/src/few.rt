@@ -1,4 +1,4 @@
-//! At most three chunks, which take the place of others.
+//! At most three chunks, which replace others.
 ghost use Rattle.std.specs.Prelude.{◌≡◌, ◌++◌};
 ghost use Rattle.std.specs.Option.{option_to_list};
 
@@ -8,7 +8,7 @@ use arrayvec::ArrayVec;
 /// At most three chunks.
 pub type Few = ArrayVec<Chunk, 3>;
 
-/// Up to three chunks, one after the other.
+/// Up to three chunks, one after another.
 pub fn few_chunks(first: Option<Chunk>, second: Option<Chunk>, third: Option<Chunk>) -> Few
     ensures { result.items
         ≡ option_to_list first ++ (option_to_list second ++ option_to_list third) }

@@ -1,4 +1,4 @@
-//! What follows from the definitions alone. The functions do nothing.
+//! Laws of the definitions. Each function does nothing: its contract is the law.
 ghost use Rattle.std.specs.Prelude.{◌+◌, ◌*◌, ◌<◌, ◌≤◌, ◌⊎◌, ℕ, List, length, All};
 ghost use Rattle.serial_set.specs.declared.span.Span.{Span};
 ghost use Rattle.span_sets.specs.declared.chunk.Chunk.{Chunk};
@@ -8,8 +8,8 @@ ghost use Rattle.span_sets.specs.Chunks.{Keeps, Replaces};
 ghost use Rattle.serial_set.specs.Span.{Covers, IsRunsOf};
 ghost use Rattle.span_sets.specs.SpanPages.{chunks_held};
 
-/// Where chunks give way to others that have their members and some more, the runs are those of
-/// the members before and of those more.
+/// If chunks are replaced by others that have their members and some more, the runs are those of
+/// the members before and of the additional ones.
 pub fn replaced_adds()
     ensures { (old : List Chunk) (lo hi : ℕ) (few new : List Chunk) (more : List Span)
         (r : Replaces old lo hi few new) → Keeps r.middle few (λ s. Covers more s) → lo ≤ hi
@@ -17,8 +17,8 @@ pub fn replaced_adds()
         → IsRunsOf (runs_of new) (λ s. Covers (runs_of old) s ⊎ Covers more s) }
 {}
 
-/// A set holds at most three chunks for each of its runs, whatever was added to it and in which
-/// order: so what it takes is bounded by its intervals.
+/// A set has at most three chunks for each of its runs, whatever was added and in which order: so a
+/// bound on its intervals bounds its memory.
 pub fn three_chunks_a_run()
     ensures { (set : SpanPages)
         → length (chunks_held set) ≤ 3 * length (runs_of (chunks_held set)) }

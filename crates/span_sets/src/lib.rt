@@ -1,5 +1,5 @@
-//! Sets of serials: as runs and words of bits in pages, which is the one in use, and as one sorted
-//! vector.
+//! Sets of serials: as runs and words of bits in pages, which is the representation in use, and as
+//! one sorted vector.
 #![tactic(auto)]
 
 mod additions;

@@ -10,13 +10,13 @@ use crate::row::{insert_at, remove};
 use crate::search::{HasEnd, count_ending_below, count_ending_upto};
 use std::alloc::{AllocError, Global};
 
-/// How many chunks a page has at most.
+/// The maximum number of chunks of a page.
 const PAGE_LEN: usize = 256;
 
-// How many chunks a change puts at most in place of others.
+// The maximum number of chunks that replace others in one change.
 const MOST_NEW: usize = 3;
 
-/// Chunks in a row, from 1 to 256 of them, and where the last one ends.
+/// From 1 to 256 chunks, and the end of the last one.
 #[derive(Drop)]
 pub struct Page {
     items: Vec<Chunk>,
@@ -29,7 +29,7 @@ pub struct Page {
 impl Page {
     ghost use Rattle.span_sets.specs.Pages.{chunks_in};
 
-    /// A page with just these chunks.
+    /// A page with exactly these chunks.
     pub fn of(alloc: Global, chunks: &[Chunk]) -> Result<Page, AllocError>
         requires some { 0 < length chunks.now }
         requires most { length chunks.now ≤ 256 }
@@ -47,7 +47,7 @@ impl Page {
         &self.items
     }
 
-    /// Whether it has room for what one change puts in place of others.
+    /// Whether it has room for the chunks that one change adds.
     pub fn has_room(&self) -> bool
         ensures room { IsTrue result → length (chunks_in self.now) ≤ 253 }
         ensures full { result ≡ false → 253 < length (chunks_in self.now) }
@@ -55,8 +55,8 @@ impl Page {
         self.items.len() <= PAGE_LEN - MOST_NEW
     }
 
-    /// Puts at most three chunks that rise in place of all that reach into the numbers from `lo`
-    /// to `hi`, which cuts none of them.
+    /// Replaces all chunks that reach into the numbers from `lo` to `hi` with at most three chunks
+    /// that rise. `hi` splits no chunk.
     pub fn put(&mut self, few: &[Chunk], lo: u64, hi: u64) -> Result<(), AllocError>
         requires order { ChunksFrom 0 (chunks_in self.old) }
         requires whole { All (λ e. (hi_of e ≤ hi) ⊎ (hi < lo_of e)) (chunks_in self.old) }
@@ -72,7 +72,7 @@ impl Page {
         self.splice(from, to, few)
     }
 
-    // Puts chunks in place of those from one position to another.
+    // Replaces the chunks from one position to another.
     fn splice(&mut self, from: usize, to: usize, few: &[Chunk]) -> Result<(), AllocError>
         requires order { from ≤ to }
         requires within { to ≤ length (chunks_in self.old) }
@@ -88,7 +88,7 @@ impl Page {
         self.put_more(from, to, few)
     }
 
-    // Puts one chunk between others.
+    // Inserts one chunk.
     fn put_between(&mut self, at: usize, new: Chunk) -> Result<(), AllocError>
         requires within { at ≤ length (chunks_in self.old) }
         requires room { length (chunks_in self.old) ≤ 253 }
@@ -102,7 +102,7 @@ impl Page {
         Ok(())
     }
 
-    // The same of any chunks, in a vector of their own.
+    // Replaces chunks as `splice` does, for any number of them, by building a new vector.
     fn put_more(&mut self, from: usize, to: usize, few: &[Chunk]) -> Result<(), AllocError>
         requires order { from ≤ to }
         requires within { to ≤ length (chunks_in self.old) }
@@ -122,8 +122,8 @@ impl Page {
         Ok(())
     }
 
-    /// Sets bits in the word of their window, if there is one that does not get full. Else nothing
-    /// changes.
+    /// Sets bits in the word of their window, if there is one that they do not fill. Otherwise
+    /// nothing changes.
     pub fn set_bits(&mut self, window: u64, bits: u64) -> bool
         requires order { ChunksFrom 0 (chunks_in self.old) }
         requires window { window < 2 ^ 58 }
@@ -142,9 +142,9 @@ impl Page {
         true
     }
 
-    /// Gives the back as a page of its own. Near an end it is cut where a chunk at `lo` would
-    /// stand, so that what is filled in order stays full, and else in its middle. Both then have
-    /// room.
+    /// Moves the back of the page into a new page. Near an end the page is split at the place of a
+    /// chunk at `lo`, so that pages that are filled in order stay full, and otherwise in the
+    /// middle. Both have room then.
     pub fn split(&mut self, lo: u64) -> Result<Page, AllocError>
         requires order { ChunksFrom 0 (chunks_in self.old) }
         requires full { 253 < length (chunks_in self.old) }
@@ -172,7 +172,7 @@ impl Page {
         self.end = last_end(&self.items);
     }
 
-    /// Cuts off the chunks up to a number that cuts none of them, and is not past the last.
+    /// Removes the chunks up to a number that splits none of them and is not past the last.
     pub fn cut_to(&mut self, number: u64)
         requires order { ChunksFrom 0 (chunks_in self.old) }
         requires whole { All (λ e. (hi_of e ≤ number) ⊎ (number < lo_of e))
@@ -203,7 +203,7 @@ impl HasEnd for Page {
     }
 }
 
-// Where the last of some chunks ends.
+// The end of the last chunk.
 fn last_end(items: &[Chunk]) -> u64
     requires { 0 < length items.now }
     ensures { result ≡ end_of items.now }
@@ -211,8 +211,8 @@ fn last_end(items: &[Chunk]) -> u64
     items[items.len() - 1].hi()
 }
 
-// Makes room for some more where there is none, a quarter of what there is: pages are many, and
-// room in each of them is memory.
+// Makes room for a quarter more if there is none: there are many pages, and unused room in each of
+// them costs memory.
 fn grow(items: &mut Vec<Chunk>) -> Result<(), AllocError>
     ensures { items.new.items ≡ items.old.items }
 {
@@ -222,8 +222,8 @@ fn grow(items: &mut Vec<Chunk>) -> Result<(), AllocError>
     Ok(())
 }
 
-// Where a full page of `len` is cut for what would be at `at`: there, if that is near an end, and
-// else in the middle. Neither side is too long for a change, or empty.
+// Where to split a full page of `len` chunks for a new one at `at`: there, if that is near an end,
+// and otherwise in the middle. Both sides have room for a change, and neither is empty.
 fn cut_position(at: usize, len: usize) -> usize
     requires { 6 ≤ len }
     ensures front { 3 ≤ result }

@@ -1,4 +1,4 @@
-//! Pages of chunks in a row, one after the other.
+//! A vector of pages of chunks.
 ghost use Rattle.std.specs.Prelude.{◌≡◌, ◌+◌, ◌*◌, ◌^◌, ◌<◌, ◌≤◌, ◌⊎◌, ◌++◌, [], ℕ, length, take, drop, slice_index_or, false, All, IsTrue, IfOk, OnOk, OnErr};
 ghost use Rattle.std.specs.Vec.{vec_len};
 ghost use Rattle.span_sets.specs.declared.page.Page.{Page};
@@ -33,7 +33,7 @@ fn pages_ending_upto(pages: &[Page], number: u64) -> usize
     count_ending_upto(pages, number)
 }
 
-/// The chunks from the first that ends at a number or past it on, as many as lie together.
+/// The consecutive chunks in one page from the first that ends at a number or past it on.
 pub fn list_in(pages: &[Page], number: u64) -> &[Chunk]
     requires { ChunksFrom 0 (chunks_of pages.now) }
     ensures { IsListFrom (chunks_of pages.now) number result.now }
@@ -56,7 +56,7 @@ fn list_in_page(page: &Page, number: u64) -> &[Chunk]
     &chunks[count_ending_below(chunks, number)..]
 }
 
-// The page in which chunks from `lo` on belong: the first that does not end before, or the last.
+// The page for chunks from `lo` on: the first that does not end before, or the last.
 fn page_for(pages: &[Page], lo: u64) -> usize
     requires order { ChunksFrom 0 (chunks_of pages.now) }
     requires some { 0 < length pages.now }
@@ -67,8 +67,8 @@ fn page_for(pages: &[Page], lo: u64) -> usize
     pages_ending_below(pages, lo).min(pages.len() - 1)
 }
 
-/// Puts at most three chunks that rise in place of all that reach into the numbers from `lo` to
-/// `hi`. Where memory runs out nothing changes.
+/// Replaces all chunks that reach into the numbers from `lo` to `hi` with at most three chunks that
+/// rise. If an allocation fails, nothing changes.
 pub fn put_chunks(pages: &mut Vec<Page>, few: &[Chunk], lo: u64, hi: u64) -> Result<(), AllocError>
     requires order { ChunksFrom 0 (chunks_of pages.old.items) }
     requires whole { All (λ e. (hi_of e ≤ hi) ⊎ (hi < lo_of e)) (chunks_of pages.old.items) }
@@ -99,7 +99,7 @@ pub fn put_first(pages: &mut Vec<Page>, few: &[Chunk]) -> Result<(), AllocError>
     Ok(())
 }
 
-// Puts chunks into the page where they belong, which has room, and in place of all after it.
+// Puts chunks into the page where they belong, which has room, replacing those after it up to `hi`.
 fn put_in(
     pages: &mut Vec<Page>,
     at: usize,
@@ -122,7 +122,8 @@ fn put_in(
     Ok(())
 }
 
-// Cuts off the chunks up to a number after a page, if that does not reach past it.
+// Removes the chunks up to a number from the pages after one, unless this page reaches past the
+// number.
 fn cut_after(pages: &mut Vec<Page>, at: usize, number: u64)
     requires within { at < length pages.old.items }
     requires order { ChunksFrom 0 (chunks_of (drop (at + 1) pages.old.items)) }
@@ -141,7 +142,7 @@ fn cut_after(pages: &mut Vec<Page>, at: usize, number: u64)
     cut_from(pages, at + 1, number);
 }
 
-// Cuts off the chunks up to a number from the pages from `from` on.
+// Removes the chunks up to a number from the pages from `from` on.
 fn cut_from(pages: &mut Vec<Page>, from: usize, number: u64)
     requires within { from ≤ vec_len pages.old }
     requires order { ChunksFrom 0 (chunks_of (drop from pages.old.items)) }
@@ -158,7 +159,7 @@ fn cut_from(pages: &mut Vec<Page>, from: usize, number: u64)
     }
 }
 
-// Gives the page in which chunks from `lo` on belong, split before if it was full.
+// The position of the page for chunks from `lo` on. A full page is split first.
 fn make_room(pages: &mut Vec<Page>, lo: u64) -> Result<usize, AllocError>
     requires some { 0 < length pages.old.items }
     requires order { ChunksFrom 0 (chunks_of pages.old.items) }
@@ -173,7 +174,7 @@ fn make_room(pages: &mut Vec<Page>, lo: u64) -> Result<usize, AllocError>
     Ok(page_of_two(pages, at, lo))
 }
 
-// Makes two pages of one.
+// Splits a page into two.
 fn split_at(pages: &mut Vec<Page>, at: usize, lo: u64) -> Result<(), AllocError>
     requires within { at < length pages.old.items }
     requires order { ChunksFrom 0 (chunks_of pages.old.items) }
@@ -187,7 +188,7 @@ fn split_at(pages: &mut Vec<Page>, at: usize, lo: u64) -> Result<(), AllocError>
     Ok(())
 }
 
-// In which of two pages chunks from `lo` on belong.
+// Which of two pages is the one for chunks from `lo` on.
 fn page_of_two(pages: &[Page], at: usize, lo: u64) -> usize
     requires order { ChunksFrom 0 (chunks_of pages.now) }
     requires within { at + 1 < length pages.now }
@@ -200,7 +201,7 @@ fn page_of_two(pages: &[Page], at: usize, lo: u64) -> usize
     if pages[at].end() < lo { at + 1 } else { at }
 }
 
-/// Sets bits in the word of their window, if there is one that does not get full. Else nothing
+/// Sets bits in the word of their window, if there is one that they do not fill. Otherwise nothing
 /// changes.
 pub fn set_bits_in(pages: &mut Vec<Page>, window: u64, bits: u64) -> bool
     requires order { ChunksFrom 0 (chunks_of pages.old.items) }

@@ -1,4 +1,4 @@
-//! Which chunks an addition puts in place of those that it meets.
+//! The chunks by which an addition replaces those that it meets.
 ghost use Rattle.std.specs.Prelude.{◌≡◌, ◌+◌, ◌*◌, ◌/◌, ◌%◌, ◌^◌, ◌<◌, ◌≤◌, ◌⊎◌, ◌↔◌, ◌∷◌, ◌++◌, [], ℕ, IfSome, All, length, true, false};
 ghost use Rattle.std.specs.Option.{option_to_list};
 ghost use Rattle.span_sets.specs.Chunk.{is_span, lo_of, hi_of, members_of, members_in};
@@ -11,7 +11,7 @@ ghost use Rattle.span_sets.specs.Words.{BitCovers};
 use crate::chunk::Chunk;
 use crate::few::{Few, few_chunks};
 
-/// Chunks that rise, and the numbers from `lo` to `hi`, in which they lie.
+/// Chunks that rise within the numbers from `lo` to `hi`.
 #[derive(Drop)]
 pub struct Replacement {
     pub few: Few,
@@ -19,15 +19,15 @@ pub struct Replacement {
     pub hi: u64,
 }
 
-/// One end of a span that is added: a word, where the span ends in a window that has one and does
-/// not fill it, and the number to which the rest of the span reaches on this side.
+/// One end of an added span: a word, if the span ends in a window that has one and does not fill
+/// it, and the number to which the rest of the span reaches on this side.
 #[derive(Clone, Copy)]
 pub struct Side {
     pub word: Option<Chunk>,
     pub at: u64,
 }
 
-/// What takes the place of the chunks that a span meets, which has these ends.
+/// The chunks that replace those that a span with these ends meets.
 pub fn replacement_of_span(front: Side, back: Side) -> Replacement
     requires front { IfSome front.word
         (λ w. (hi_of w + 1 ≡ front.at) × (is_span w ≡ false) × IsTight w) }
@@ -52,9 +52,9 @@ pub fn replacement_of_span(front: Side, back: Side) -> Replacement
     }
 }
 
-/// What takes the place of the chunks that a window meets, where the window has just these bits,
-/// which are some and not all. `head` is the chunk that has the window's first number in its
-/// stretch, and `tail` the one that has its last.
+/// The chunks that replace those that a window meets, if the window has exactly these bits, which
+/// are some and not all. `head` is the chunk whose stretch contains the window's first number, and
+/// `tail` the one whose stretch contains its last.
 pub fn replacement_of_bits(
     window: u64,
     bits: u64,
@@ -88,7 +88,7 @@ pub fn replacement_of_bits(
     }
 }
 
-// The span from `lo` to `hi`, if it has a number.
+// The span from `lo` to `hi`, unless it is empty.
 fn span_between(lo: u64, hi: u64) -> Option<Chunk>
     ensures some { lo ≤ hi → 0 < length (option_to_list result) }
     ensures ends { IfSome result (λ e. (lo_of e ≡ lo) × (hi_of e ≡ hi) × IsTight e) }
@@ -101,7 +101,7 @@ fn span_between(lo: u64, hi: u64) -> Option<Chunk>
     }
 }
 
-// The part of a span before a number that its chunk has in its stretch.
+// The part of a span before a number in the stretch of its chunk.
 fn before(head: Option<Chunk>, first: u64) -> Option<Chunk>
     requires window { first / 64 * 64 ≡ first }
     requires head { IfSome head (λ e. (lo_of e ≤ first) × (first ≤ hi_of e)) }
@@ -115,7 +115,7 @@ fn before(head: Option<Chunk>, first: u64) -> Option<Chunk>
     }
 }
 
-// The part of a span after a number that its chunk has in its stretch.
+// The part of a span after a number in the stretch of its chunk.
 fn after(tail: Option<Chunk>, last: u64) -> Option<Chunk>
     requires window { last % 64 ≡ 63 }
     requires tail { IfSome tail (λ e. (lo_of e ≤ last) × (last ≤ hi_of e)) }
@@ -129,7 +129,7 @@ fn after(tail: Option<Chunk>, last: u64) -> Option<Chunk>
     }
 }
 
-// Where a chunk begins, or a number where there is none.
+// Where a chunk begins, or a number if there is none.
 fn lo_or(chunk: Option<Chunk>, number: u64) -> u64
     ensures { result ≡ lo_or chunk number }
 {
@@ -139,7 +139,7 @@ fn lo_or(chunk: Option<Chunk>, number: u64) -> u64
     }
 }
 
-// Where a chunk ends, or a number where there is none.
+// Where a chunk ends, or a number if there is none.
 fn hi_or(chunk: Option<Chunk>, number: u64) -> u64
     ensures { result ≡ hi_or chunk number }
 {

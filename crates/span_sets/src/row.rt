@@ -1,12 +1,12 @@
-//! Elements put into a vector, and taken out of it.
+//! Inserting elements into a vector, and removing them.
 ghost use Rattle.std.specs.Prelude.{◌≡◌, ◌+◌, ◌<◌, ◌≤◌, List, [], ◌∷◌, ◌++◌, length, take, drop, is_ok, if◌then◌else◌, IsOk};
 ghost use Rattle.std.specs.List.{insert};
 ghost use Rattle.std.specs.Vec.{vec_len, vec_capacity};
 
 use std::alloc::AllocError;
 
-/// What `insert` does, in one move of all that is after it: LLVM makes no such move of `insert`
-/// at a position that it does not know.
+/// Does what `insert` does, but moves all elements after the position at once: LLVM makes no single
+/// move of `insert` at a position that it does not know.
 pub fn insert_at<T: Drop>(items: &mut Vec<T>, at: usize, new: T) -> Result<(), AllocError>
     requires { at ≤ length items.old.items }
     ensures items { items.new.items
@@ -18,7 +18,7 @@ pub fn insert_at<T: Drop>(items: &mut Vec<T>, at: usize, new: T) -> Result<(), A
     Ok(())
 }
 
-// Moves the last of a row to a position, and those from there on by one.
+// Moves the last element of a slice to a position, and those from there on by one.
 fn move_last<T>(row: &mut [T], at: usize)
     requires { at < length row.old }
     ensures { (xs : List T) → (x : T) → row.old ≡ xs ++ x ∷ [] → row.new ≡ insert xs at x }
@@ -26,7 +26,7 @@ fn move_last<T>(row: &mut [T], at: usize)
     row[at..].rotate_right(1);
 }
 
-/// Takes `count` elements out, from `from` on.
+/// Removes `count` elements, from `from` on.
 pub fn remove<T: Drop>(items: &mut Vec<T>, from: usize, count: usize)
     requires { from + count ≤ vec_len items.old }
     ensures { items.new.items

@@ -1,4 +1,4 @@
-//! The runs of a set, as a walk comes to them.
+//! The runs of a set, in the order of a walk.
 ghost use Rattle.std.specs.Prelude.{◌≡◌, ◌+◌, ◌<◌, ◌≤◌, ◌↔◌, ℕ, [], length, take, slice_get, false, Contains, IsTrue, IfErr, IfOk};
 ghost use Rattle.span_sets.specs.Chunk.{hi_of, members_of, runs_of};
 ghost use Rattle.span_sets.specs.Members.{GoesOn, IsFirst, Reads, Taken};
@@ -11,8 +11,8 @@ use crate::span_pages::SpanPages;
 use serial_set::{Piece, Span};
 
 impl SpanPages {
-    // The first runs of the members from a number on, as many as a piece has room for, or as lie
-    // together.
+    // The first runs of the members from a number on: as many as a piece has room for, or as are
+    // complete in one slice of chunks, and at least one if there are any.
     pub(crate) fn runs_from(&self, number: u64) -> Piece
         ensures { IsPiece (runs_of (chunks_held self.now)) number (piece_of result) }
     {
@@ -24,7 +24,7 @@ impl SpanPages {
         piece
     }
 
-    // Takes the runs that lie together, but for one that goes on past them.
+    // Takes the runs that are complete in one slice, without one that continues past it.
     fn take_whole(&self, piece: &mut Piece, number: u64)
         requires { piece_of piece.old ≡ [] }
         ensures { piece_of piece.new ≡ take (length (piece_of piece.new))
@@ -38,8 +38,8 @@ impl SpanPages {
         }
     }
 
-    // Takes the runs of the members from a number on up to one where the piece is full or where
-    // what lies together ends. The last of them may go on there.
+    // Takes the runs of the members from a number on, until the piece is full or the slice of
+    // chunks ends. The last of them may continue there.
     fn take_list(&self, piece: &mut Piece, number: u64)
         requires { piece_of piece.old ≡ [] }
         ensures { (at : ℕ) × Taken (members_of (chunks_held self.now)) number at
@@ -53,7 +53,7 @@ impl SpanPages {
         }
     }
 
-    // Takes the runs of a chunk's members from a number on, and says whether it took them all.
+    // Takes the runs of a chunk's members from a number on, and returns whether it took them all.
     fn take_chunk(&self, piece: &mut Piece, chunk: Chunk, number: u64) -> bool
         requires { (at : ℕ) × (Taken (members_of (chunks_held self.now)) number at
             (piece_of piece.old) × Reads (members_of (chunks_held self.now)) at chunk number) }
@@ -87,8 +87,8 @@ impl SpanPages {
         piece.push(Span { lo, hi });
     }
 
-    // The first member from a number on, as far as the first chunk there says it, and else the
-    // number past that chunk.
+    // The first member from a number on, if the first chunk there has it, otherwise the number past
+    // that chunk.
     fn first_or_next(&self, number: u64) -> Result<Option<u64>, u64>
         ensures first { IfOk result
             (λ first. IsFirst (members_of (chunks_held self.now)) number first) }
@@ -108,7 +108,7 @@ impl SpanPages {
         }
     }
 
-    // The first member from a number on. No word lacks a member, but that is not known here.
+    // The first member from a number on. No word is empty, but that is not known here.
     fn first_member(&self, number: u64) -> Option<u64>
         ensures { IsFirst (members_of (chunks_held self.now)) number result }
     {
@@ -173,7 +173,7 @@ impl SpanPages {
         self.has_number(number + 1)
     }
 
-    // How many runs the members are.
+    // The number of runs of the members.
     pub(crate) fn count_runs(&self) -> usize
         ensures { result ≡ length (runs_of (chunks_held self.now)) }
     {

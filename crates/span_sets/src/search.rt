@@ -1,9 +1,9 @@
-//! Where a number is among things that rise, by binary search.
+//! Binary search for a number among elements whose ends rise.
 ghost use Rattle.std.specs.Prelude.{◌≡◌, ◌<◌, ◌≤◌, ℕ, length, take, drop, nat_lt, nat_le};
 ghost use Rattle.std.specs.List.{All};
 ghost use Rattle.std.specs.List.Sorted.{IsNonDecreasingBy};
 
-/// What ends at a number: a span, a chunk, a page of chunks.
+/// An element with an end: a span, a chunk, a page of chunks.
 pub trait HasEnd {
     ghost end: { Self → ℕ };
 
@@ -11,7 +11,7 @@ pub trait HasEnd {
         ensures { result ≡ end self.now };
 }
 
-/// How many things end below a number, where their ends rise.
+/// How many elements end below a number. Their ends must rise.
 pub fn count_ending_below<T: HasEnd>(items: &[T], number: u64) -> usize
     requires { IsNonDecreasingBy T.end items.now }
     ensures within { result ≤ length items.now }
@@ -25,7 +25,8 @@ pub fn count_ending_below<T: HasEnd>(items: &[T], number: u64) -> usize
     )
 }
 
-/// How many of them end at a number or below it. It goes over these, which a caller then takes out.
+/// How many of them end at a number or below it. It counts them one by one, since a caller removes
+/// each of them afterwards.
 pub fn count_ending_upto<T: HasEnd>(items: &[T], number: u64) -> usize
     requires { IsNonDecreasingBy T.end items.now }
     ensures within { result ≤ length items.now }

@@ -1,4 +1,4 @@
-//! Where a span that is added begins and ends among the chunks of a set.
+//! Where an added span begins and ends among the chunks of a set.
 ghost use Rattle.std.specs.Prelude.{◌≡◌, ◌+◌, ◌-◌, ◌*◌, ◌/◌, ◌^◌, ◌<◌, ◌≤◌, ◌⊎◌, None, Some, IfSome, false, min};
 ghost use Rattle.span_sets.specs.Chunk.{is_span, lo_of, hi_of};
 ghost use Rattle.span_sets.specs.Positions.{IsChunkFrom};
@@ -10,8 +10,8 @@ use crate::replacement::Side;
 use crate::span_pages::SpanPages;
 
 impl SpanPages {
-    // The front of a span from `lo` on. `met` is the first chunk that ends right before `lo` or
-    // past it.
+    // The front of a span from `lo` on. `met` is the first chunk that ends directly before `lo` or
+    // past that.
     pub(crate) fn front_of(&self, met: Option<Chunk>, lo: u64) -> Side
         requires fits { 64 * ((lo + 63) / 64) < 2 ^ 64 }
         requires met { IsChunkFrom (chunks_held self.now) (lo - 1) met }
@@ -28,7 +28,7 @@ impl SpanPages {
         }
     }
 
-    // The same where a word reaches over `lo`. One that gets full becomes part of the span.
+    // The same if a word reaches over `lo`. A word that gets full becomes part of the span.
     fn front_in(&self, word: Chunk, lo: u64) -> Side
         requires fits { 64 * ((lo + 63) / 64) < 2 ^ 64 }
         requires met { IsChunkFrom (chunks_held self.now) (lo - 1) (Some word) }
@@ -52,8 +52,8 @@ impl SpanPages {
         }
     }
 
-    // Where a span from `lo` on begins, where no word reaches over `lo`: where the span does to
-    // which `met` reaches.
+    // Where a span from `lo` on begins, if no word reaches over `lo`: at the beginning of `met` if
+    // that is a span that begins before `lo`, otherwise at `lo`.
     fn begin_of(&self, met: Option<Chunk>, lo: u64) -> u64
         requires met { IsChunkFrom (chunks_held self.now) (lo - 1) met }
         requires whole { IfSome met
@@ -66,7 +66,7 @@ impl SpanPages {
         }
     }
 
-    // The back of a span up to `hi`. `met` is the first chunk that ends right after `hi` or past
+    // The back of a span up to `hi`. `met` is the first chunk that ends directly after `hi` or past
     // that.
     pub(crate) fn back_of(&self, met: Option<Chunk>, hi: u64) -> Side
         requires past { 63 ≤ hi }
@@ -84,7 +84,7 @@ impl SpanPages {
         }
     }
 
-    // The same where a word reaches over `hi`.
+    // The same if a word reaches over `hi`.
     fn back_in(&self, word: Chunk, hi: u64) -> Side
         requires past { 63 ≤ hi }
         requires met { IsChunkFrom (chunks_held self.now) (min (hi + 1) (2 ^ 64 - 1))
@@ -109,7 +109,7 @@ impl SpanPages {
         }
     }
 
-    // Where a span up to `hi` ends, where no word reaches over `hi`.
+    // Where a span up to `hi` ends, if no word reaches over `hi`.
     fn end_of(&self, met: Option<Chunk>, hi: u64) -> u64
         requires met { IsChunkFrom (chunks_held self.now) (min (hi + 1) (2 ^ 64 - 1)) met }
         requires whole { IfSome met

@@ -17,9 +17,9 @@ use crate::storage::Storage;
 use serial_set::{Piece, Span, Spans};
 use std::alloc::{AllocError, Global};
 
-/// The members as spans and as words of 64 serials: one in the set itself, or more in pages of at
-/// most 256 of these. An addition moves the chunks of one page, whatever the order of the
-/// additions, and a page that is filled in order stays full.
+/// The members as spans and as words of 64 serials: one of them in the set itself, or more in pages
+/// of at most 256. An addition moves the chunks of one page, whatever the order of the additions,
+/// and a page that is filled in order stays full.
 #[derive(Drop)]
 pub struct SpanPages {
     alloc: Global,
@@ -35,7 +35,7 @@ const _: () = prove!(size_of::<SpanPages>() <= 40);
 impl SpanPages {
     ghost use Rattle.span_sets.specs.SpanPages.{chunks_held};
 
-    // A set with no member, which takes no memory.
+    // A set with no member. Does not allocate.
     pub(crate) fn none(alloc: Global) -> SpanPages
         ensures { chunks_held result ≡ [] }
     {
@@ -45,7 +45,7 @@ impl SpanPages {
         }
     }
 
-    // The chunks from the first that ends at a number or past it on, as many as lie together.
+    // The consecutive chunks in one slice from the first that ends at a number or past it on.
     pub(crate) fn list_from(&self, number: u64) -> &[Chunk]
         ensures { IsListFrom (chunks_held self.now) number result.now }
     {
@@ -70,8 +70,8 @@ impl SpanPages {
         }
     }
 
-    // Puts at most three chunks in place of all that reach into the numbers from `lo` to `hi`.
-    // Where memory runs out nothing changes.
+    // Replaces all chunks that reach into the numbers from `lo` to `hi` with at most three chunks.
+    // If an allocation fails, nothing changes.
     pub(crate) fn put(&mut self, few: &Few, lo: u64, hi: u64) -> Result<(), AllocError>
         requires some { 0 < length (few_of few.now) }
         requires order { (lo ≤ hi) × ChunksFrom lo (few_of few.now) }
@@ -86,8 +86,8 @@ impl SpanPages {
         self.storage.put(self.alloc, few.as_slice(), lo, hi)
     }
 
-    // Sets bits in the word of their window, if there is one that does not get full. Else nothing
-    // changes.
+    // Sets bits in the word of their window, if there is one that they do not fill. Otherwise
+    // nothing changes.
     pub(crate) fn set_bits(&mut self, window: u64, bits: u64) -> bool
         requires window { window < 2 ^ 58 }
         requires serials { (s : ℕ) → BitCovers 64 (64 * window) bits s → 0 < s }

@@ -1,4 +1,4 @@
-//! Where a number is in a rising list of spans, by binary search.
+//! Binary search for a number in an ascending list of spans.
 ghost use Rattle.std.specs.Prelude.{◌+◌, ◌<◌, ◌≤◌, length, take, drop, nat_le, ◌≡◌, ◌-◌};
 ghost use Rattle.std.specs.List.{All};
 ghost use Rattle.serial_set.specs.Span.{IsRuns};
@@ -31,7 +31,7 @@ pub fn count_beginning_by(spans: &[Span], number: u64) -> usize
     ensures by { All (λ t. t.lo ≤ number + 1) (take result spans.now) }
     ensures rest { All (λ t. number + 1 < t.lo) (drop result spans.now) }
 {
-    // The number after the largest one cannot be written, so the beginning is moved instead.
+    // `number + 1` overflows at the largest number, so the beginning is lowered instead.
     spans.partition_point(
         |span: &Span| -> bool
             ensures { result ≡ nat_le (span.now.lo - 1) number }

@@ -10,8 +10,8 @@ use crate::span_search::{count_beginning_by, count_ending_before};
 use serial_set::{Piece, Span, Spans};
 use std::alloc::{AllocError, Global};
 
-/// The runs in one sorted vector. A member and where an addition goes are found by binary search;
-/// an addition moves the spans after it once.
+/// The runs in one sorted vector. A binary search finds a member and the place of an addition; an
+/// addition moves the spans after it once.
 #[derive(Drop)]
 pub struct SpanVec {
     items: Vec<Span>,
@@ -30,7 +30,7 @@ impl Spans for SpanVec {
         })
     }
 
-    // A refusal is the vector's own: it had no room for one more.
+    // Fails only if the vector has no room for one more.
     fn add(&mut self, lo: u64, hi: u64) -> Result<(), AllocError>
         requires from_one { 0 < lo }
         requires ordered { lo ≤ hi }
@@ -42,7 +42,7 @@ impl Spans for SpanVec {
         add_to(&mut self.items, lo, hi)
     }
 
-    // There is room for all before the first is added.
+    // Room for all spans is reserved before the first is added.
     fn add_near(&mut self, near: &[Span]) -> Result<(), AllocError> {
         self.items.reserve(near.len())?;
         add_all(&mut self.items, near);
@@ -73,7 +73,7 @@ impl Spans for SpanVec {
     }
 }
 
-// Adds spans one after the other, within the capacity.
+// Adds spans one after another, within the capacity.
 fn add_all(items: &mut Vec<Span>, spans: &[Span])
     requires runs { IsRuns items.old.items }
     requires serials { AreSerials items.old.items }
@@ -87,8 +87,8 @@ fn add_all(items: &mut Vec<Span>, spans: &[Span])
     }
 }
 
-// The spans from `first` up to `end` are those that the new one touches. Where it touches none, the
-// list grows, and nothing is changed before it has.
+// The spans from `first` up to `end` are those that the new one touches. If it touches none, the
+// list grows, and nothing changes before it has grown.
 fn add_to(items: &mut Vec<Span>, lo: u64, hi: u64) -> Result<(), AllocError>
     requires runs { IsRuns items.old.items }
     requires from_one { 0 < lo }
@@ -112,7 +112,7 @@ fn add_to(items: &mut Vec<Span>, lo: u64, hi: u64) -> Result<(), AllocError>
     Ok(())
 }
 
-/// Puts one span in place of those from `first` up to `end`, and moves those after them once.
+/// Replaces the spans from `first` up to `end` with one, and moves those after them once.
 pub fn join(items: &mut Vec<Span>, first: usize, end: usize, span: Span)
     requires some { first < end }
     requires within { end ≤ vec_len items.old }

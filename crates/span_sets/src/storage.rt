@@ -13,7 +13,7 @@ use crate::pages::{list_in, put_chunks, put_first, set_bits_in};
 use std::alloc::{AllocError, Global};
 use std::slice;
 
-/// At most one chunk, which takes no memory of its own, or those of pages.
+/// At most one chunk, which is stored without an allocation, or pages of chunks.
 #[derive(Drop)]
 pub enum Storage {
     Only(Option<Chunk>),
@@ -21,7 +21,7 @@ pub enum Storage {
 }
 
 impl Storage {
-    /// The chunks from the first that ends at a number or past it on, as many as lie together.
+    /// The consecutive chunks in one slice from the first that ends at a number or past it on.
     pub fn list_from(&self, number: u64) -> &[Chunk]
         requires { ChunksFrom 0 (chunks_stored self.now) }
         ensures { IsListFrom (chunks_stored self.now) number result.now }
@@ -32,8 +32,8 @@ impl Storage {
         }
     }
 
-    /// Puts at most three chunks that rise in place of all that reach into the numbers from `lo`
-    /// to `hi`. Where memory runs out nothing changes.
+    /// Replaces all chunks that reach into the numbers from `lo` to `hi` with at most three chunks
+    /// that rise. If an allocation fails, nothing changes.
     pub fn put(&mut self, alloc: Global, few: &[Chunk], lo: u64, hi: u64) -> Result<(), AllocError>
         requires order { ChunksFrom 0 (chunks_stored self.old) }
         requires whole { All (λ e. (hi_of e ≤ hi) ⊎ (hi < lo_of e)) (chunks_stored self.old) }
@@ -52,8 +52,8 @@ impl Storage {
         }
     }
 
-    /// Sets bits in the word of their window, if there is one that does not get full. Else nothing
-    /// changes.
+    /// Sets bits in the word of their window, if there is one that they do not fill. Otherwise
+    /// nothing changes.
     pub fn set_bits(&mut self, window: u64, bits: u64) -> bool
         requires order { ChunksFrom 0 (chunks_stored self.old) }
         requires window { window < 2 ^ 58 }
@@ -68,7 +68,7 @@ impl Storage {
     }
 }
 
-// The only chunk, if there is one and it ends at a number or past it.
+// The only chunk, if it ends at a number or past it.
 fn list_of(only: &Option<Chunk>, number: u64) -> &[Chunk]
     ensures { IsListFrom (option_to_list only.now) number result.now }
 {
@@ -81,8 +81,7 @@ fn list_of(only: &Option<Chunk>, number: u64) -> &[Chunk]
     slice::from_ref(chunk)
 }
 
-// Sets bits in the only chunk, if there is one, and it is the word of their window and does not
-// get full.
+// Sets bits in the only chunk, if it is the word of their window and they do not fill it.
 fn set_bits_of(only: &mut Option<Chunk>, window: u64, bits: u64) -> bool
     ensures set { IsTrue result
         → WordWidened (option_to_list only.old) window bits (option_to_list only.new) }
@@ -98,8 +97,8 @@ fn set_bits_of(only: &mut Option<Chunk>, window: u64, bits: u64) -> bool
     true
 }
 
-// Puts chunks that rise in place of the only one where that reaches into the numbers from `lo` to
-// `hi`, and else beside it.
+// Adds chunks that rise to the only one. If that one reaches into the numbers from `lo` to `hi`,
+// they replace it.
 fn put_by_one(
     alloc: Global,
     only: Option<Chunk>,
@@ -122,7 +121,7 @@ fn put_by_one(
     Ok(Storage::Pages(pages))
 }
 
-// Whether there is a chunk, and it lies beside the numbers from `lo` to `hi`.
+// Whether the only chunk lies beside the numbers from `lo` to `hi`.
 fn lies_beside(only: Option<Chunk>, lo: u64, hi: u64) -> bool
     ensures { result ≡ false ↔ All (λ e. (lo ≤ hi_of e) × (lo_of e ≤ hi)) (option_to_list only) }
 {

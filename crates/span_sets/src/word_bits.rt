@@ -22,7 +22,7 @@ pub fn first_bit(bits: u64, bit: u64) -> Option<u64>
     Some(u64::from(rest.trailing_zeros()))
 }
 
-/// The last of the bits from `bit` on that are set without a gap.
+/// The last of the consecutive set bits from `bit` on.
 pub fn last_bit(bits: u64, bit: u64) -> u64
     requires within { bit < 64 }
     requires set { bit_at bits bit ≡ 1 }
