@@ -1,4 +1,4 @@
--- The best of a cell and of others, and of all sorts.
+-- The best of a cell and of others, and the best of all sorts.
 use Rattle.std.proofs.Common.{◌≡◌, ℕ, ◌+◌, ◌≤◌, ◌<◌, ◌⊎◌, inl, inr, List, length, take, refl, sym, ap, subst, ◌∙◌, arith}
 use Rattle.std.proofs.lemmas.List.{length-take-le}
 use Rattle.serial_set.specs.declared.span.Span.{Span}
@@ -22,7 +22,7 @@ same_cell a b cost group =
     let made : ℕ → Group → Cell = λ c g. record { cost = c; group = g } in
     ap (λ (c : ℕ). made c a.group) cost ∙ ap (made b.cost) group
 
--- one cell more, which wins against all that it stands for
+-- one more cell, which wins against all that it represents
 pub one_better : (rests : List ℕ) (runs : List Span) (sort : Sort) (Is : ℕ → Type 0) (old cell best : Cell) (count : ℕ) → IsCell rests runs old → IsGroup runs (group_of sort count)
     → cell ≡ cell_with rests runs (group_of sort count) → ((other : ℕ) → Is other → Wins (cell_with rests runs (group_of sort count)) (cell_with rests runs (group_of sort other)))
     → (best ≡ old) ⊎ (best ≡ cell) → ((other : Cell) → Wins old other → Wins best other) → ((other : Cell) → Wins cell other → Wins best other) → IsBestOf rests runs sort Is old best
@@ -58,7 +58,7 @@ best_of_all rests runs start listed best some is lists bitmaps =
     ] in
     record { is_cell = by_bitmaps.is_cell; wins = λ g is. one g.sort g.count is }
 
--- the best costs no more than a range before the rest
+-- the best group costs no more than a range before the rest
 pub best_bounded : (rests : List ℕ) (runs : List Span) (best : Cell) → 0 < length runs → IsBest rests runs best → best.cost ≤ 21 + rest_cost rests 1
 best_bounded rests runs best some b =
     let group : IsGroup runs (group_of Range 1) = record { some = omega arith; within = omega arith; allowed = length-take-le 1 runs (omega arith) } in

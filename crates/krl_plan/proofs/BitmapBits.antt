@@ -80,7 +80,7 @@ bits_of_lt runs first (suc count) =
     [ true ↦ omega arith | false ↦ omega arith ] in
     omega arith
 
--- one bit more, below those that stand
+-- one more bit, below those that are set already
 pub bits_more : (runs : List Span) (base bit : ℕ) → 0 < bit → bit ≤ 8
     → 2 * bits_of runs (base + bit) (8 - bit) + cond (has runs (base + (bit - 1)))
     1 0 ≡ bits_of runs (base + (bit - 1)) (8 - (bit - 1))
@@ -104,7 +104,7 @@ bytes_more runs first index out some =
     (bitmap_of runs first (index - 1))
     ∙ ap (λ (n : ℕ). out ++ bitmap_of runs first n) (sym at)
 
--- before the last bit a byte is not full
+-- before its last bit, a byte is not full
 pub byte_small : (runs : List Span) (first count : ℕ) → count ≤ 7 → bits_of runs first count < 128
 byte_small runs first count few =
     let lt = bits_of_lt runs first count in

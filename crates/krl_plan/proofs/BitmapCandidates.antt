@@ -1,4 +1,4 @@
--- The bitmaps that the first of some runs may begin, with one run more.
+-- The bitmaps that begin at the first run, after one more run in front.
 use Rattle.std.proofs.Common.{◌≡◌, ℕ, zero, suc, ◌+◌, ◌-◌, ◌/◌, ◌%◌, ◌^◌, ◌<◌, ◌≤◌, ◌⊎◌, inl, inr, List, [], ◌∷◌, get_or, length, take, refl, sym, ap, ◌∙◌, arith}
 use Rattle.std.specs.List.{All, Contains}
 use Rattle.std.proofs.lemmas.Bool.{cases_lt}
@@ -28,7 +28,7 @@ last_above least (suc (suc count)) (run ∷ (next ∷ runs)) r some le =
     let later : run.hi + 2 ≤ last_of (take (suc count) (next ∷ runs)) = last_above (run.hi + 2) (suc count) (next ∷ runs) r.2 (omega arith) (omega arith) in
     omega arith
 
--- more runs end farther
+-- more runs end later
 last_rises : (least few many : ℕ) (runs : List Span) → RunsFrom least runs → 0 < few → few < many → many ≤ length runs → last_of (take few runs) < last_of (take many runs)
 last_rises least zero many runs r some lt le = absurd (omega arith)
 last_rises least (suc few) zero runs r some lt le = absurd (omega arith)
@@ -41,9 +41,9 @@ last_rises least (suc zero) (suc (suc many)) (run ∷ (next ∷ runs)) r some lt
 last_rises least (suc (suc few)) (suc (suc many)) (run ∷ (next ∷ runs)) r some lt le =
     last_rises (run.hi + 2) (suc few) (suc many) (next ∷ runs) r.2 (omega arith) (omega arith) (omega arith)
 
--- ---- one run more
+-- ---- one more run
 
--- the bitmaps of one run more, before those that reach too far are forgotten
+-- the bitmaps with one more run, before those that reach too far are forgotten
 abbrev pub IsLonger : Span → List Span → ℕ → ℕ → Type 0
 IsLonger run runs r zero = ⊥
 IsLonger run runs r (suc zero) = (run.hi + 1) % 8 ≡ r
@@ -98,7 +98,7 @@ bitmap_more at rest r (suc count) run [] rests is = let within : suc count ≤ 0
 bitmap_more at rest r (suc count) run (next ∷ runs) rests is =
     same_candidate (bitmap_candidate at (run ∷ (next ∷ runs)) (rest ∷ rests) (suc (suc count))) (bitmap_candidate (at + 1) (next ∷ runs) rests (suc count)) refl refl (omega arith)
 
--- the queue of the run's remainder, with the run
+-- the queue of the run's remainder, with the run added
 pub bitmap_pushed : (old candidates : List Candidate) (candidate : Candidate) (at rest r : ℕ) (run : Span) (runs : List Span) (rests : List ℕ) → IsFilled old (IsBitmapOf runs r) (bitmap_candidate (at + 1) runs rests) → Pushes candidate old candidates
     → (run.hi + 1) % 8 ≡ r → candidate.position ≡ run.hi → candidate.value ≡ (run.hi + 1) / 8 + rest → candidate.end ≡ at + 1 → candidate.value < 2 ^ 101 → IsFilled candidates (IsLonger run runs r) (bitmap_candidate at (run ∷ runs) (rest ∷ rests))
 bitmap_pushed old candidates candidate at rest r run runs rests f p e position value end fits =
@@ -118,7 +118,7 @@ bitmap_forgot old candidates at r run runs rests rises f g =
     forgets_filled old candidates (run.lo + 2047) (IsLonger run runs r) (IsBitmapOf (run ∷ runs) r) (bitmap_candidate at (run ∷ runs) rests) f g
     (bitmap_near run runs r) (λ count is. bitmap_back run runs r count rises is)
 
--- all candidates lie past a new one
+-- all candidates are past a new one
 pub bitmap_past : (candidates : List Candidate) (at r : ℕ) (run : Span) (runs : List Span) (rests : List ℕ) → IsRuns (run ∷ runs) → IsFilled candidates (IsBitmapOf runs r) (bitmap_candidate at runs rests) → All (λ other. run.hi < other.position) candidates
 bitmap_past candidates at r run runs rests rises f k d lt =
     let candidate : Candidate = get_or candidates k d in
@@ -130,7 +130,7 @@ bitmap_past candidates at r run runs rests rises f k d lt =
 
 -- ---- the best
 
--- the eighth of the first serial that a remainder asks for
+-- an eighth of the first serial, rounded as a remainder requires
 pub before_of : (first r : ℕ) → (before : ℕ) × ((r < first % 8 → before ≡ first / 8 + 1) × (first % 8 ≤ r → before ≡ first / 8))
 before_of first r = elim (cases_lt r (first % 8)) [
   | inl lt ↦ (first / 8 + 1, ((λ h. refl), (λ h. absurd (omega arith))))
@@ -146,7 +146,7 @@ reach_is : (run : Span) (runs : List Span) (count : ℕ) → 0 < count → reach
 reach_is run runs zero some = absurd (omega arith)
 reach_is run runs (suc count) some = refl
 
--- what is known of a candidate
+-- the facts about a candidate
 pub bitmap_is : (candidates : List Candidate) (at r before : ℕ) (run : Span) (runs : List Span) (rests : List ℕ) (candidate : Candidate) → IsRuns (run ∷ runs)
     → IsFilled candidates (IsBitmapOf (run ∷ runs) r) (bitmap_candidate at (run ∷ runs) rests) → Contains candidates candidate → (r < run.lo % 8 → before ≡ run.lo / 8 + 1) → (run.lo % 8 ≤ r → before ≡ run.lo / 8)
     → (before ≤ candidate.value) × ((at < candidate.end) × (candidate.end ≤ at + 1024)) × (candidate.value < 2 ^ 101)
@@ -162,7 +162,7 @@ bitmap_is candidates at r before run runs rests candidate rises f c less more =
     let end : candidate.end ≡ at + count = ap (λ (m : Candidate). m.end) is.1.1 in
     (omega arith, (omega arith, omega arith), f.small candidate c)
 
--- what the bitmap costs
+-- the cost of the bitmap
 bitmap_cost : (at r before count : ℕ) (run : Span) (runs : List Span) (rests : List ℕ) → IsRuns (run ∷ runs) → IsBitmapOf (run ∷ runs) r count
     → (r < run.lo % 8 → before ≡ run.lo / 8 + 1) → (run.lo % 8 ≤ r → before ≡ run.lo / 8)
     → Cell.cost (cell_with rests (run ∷ runs) (group_of Bitmap count)) + before ≡ 18 + Candidate.value (bitmap_candidate at (run ∷ runs) rests count)

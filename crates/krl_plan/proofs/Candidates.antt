@@ -1,4 +1,4 @@
--- Monotonic queues: a candidate more, the farthest dropped, and the least.
+-- Monotonic queues: a candidate added, the farthest dropped, and the least.
 use Rattle.std.proofs.lemmas.Grind.{common_steps}
 use Rattle.std.proofs.Common.{◌≡◌, ℕ, ◌+◌, ◌-◌, ◌^◌, ◌<◌, ◌≤◌, ◌⊎◌, inl, inr, suc, List, [], ◌∷◌, ◌++◌, length, take, drop, get_or, refl, sym, ap, subst, ◌∙◌, arith, length-drop, length-take}
 use Rattle.std.specs.List.{All, Contains}
@@ -36,7 +36,7 @@ pub front_dropped : (old candidates : List Candidate) (value : ℕ) → candidat
     → (candidate : Candidate) → Contains old candidate → Contains candidates candidate ⊎ (value < candidate.value)
 front_dropped old candidates value front past candidate c = grind (arith, common_steps, get_or-take)
 
--- ---- a candidate more
+-- ---- a candidate added
 
 contains_front : (old candidates : List Candidate) (candidate : Candidate) → candidates ≡ take (length candidates) old → Contains candidates candidate → Contains old candidate
 contains_front old candidates candidate front c =
@@ -44,7 +44,7 @@ contains_front old candidates candidate front c =
     let at : get_or candidates c.0 candidate ≡ get_or old c.0 candidate = ap (λ (xs : List Candidate). get_or xs c.0 candidate) front ∙ get_or-take (length candidates) old c.0 candidate c.1 in
     (c.0, omega arith, sym at ∙ c.2)
 
--- what dropped candidates answered for, the new one does
+-- the new candidate answers for all that a dropped one answered for
 answers_more : (candidates : List Candidate) (candidate one other : Candidate) → candidate.value < one.value → candidate.position < one.position → (one ≡ other) ⊎ ((one.value < other.value) × (one.position ≤ other.position)) → AnswersFor (candidates ++ candidate ∷ []) other
 answers_more candidates candidate one other value position is =
     let below : (candidate.value < other.value) × (candidate.position ≤ other.position) = grind arith in
@@ -68,7 +68,7 @@ push_pushes old candidates candidate before front dropped = record {
 
 -- ---- the farthest dropped
 
--- candidates that lie after one lie no farther
+-- a later candidate is no farther than an earlier one
 ordered_near : (candidates : List Candidate) (i j limit : ℕ) (d : Candidate) → AreOrdered candidates → i ≤ j → j < length candidates → (get_or candidates i d).position ≤ limit → (get_or candidates j d).position ≤ limit
 ordered_near candidates i j limit d s le lt near = elim (cases_lt i j) [
   | inl before ↦ (let nearer = s.positions i j d before lt in omega arith)
@@ -140,7 +140,7 @@ same_candidate a b position value end =
     let made : ℕ → ℕ → ℕ → Candidate = λ p v e. record { position = p; value = v; end = e } in
     ap (λ (p : ℕ). made p a.value a.end) position ∙ ap (λ (v : ℕ). made b.position v a.end) value ∙ ap (made b.position b.value) end
 
--- those within a limit
+-- the candidates within a limit
 pub forgets_filled : (old candidates : List Candidate) (limit : ℕ) (Is Near : ℕ → Type 0) (candidate_of : ℕ → Candidate) → IsFilled old Is candidate_of → Forgets limit old candidates
     → ((count : ℕ) → Is count → (candidate_of count).position ≤ limit → Near count) → ((count : ℕ) → Near count → Is count × ((candidate_of count).position ≤ limit)) → IsFilled candidates Near candidate_of
 forgets_filled old candidates limit Is Near candidate_of f g near back = record {
@@ -153,7 +153,7 @@ forgets_filled old candidates limit Is Near candidate_of f g near back = record 
   small = λ candidate c. f.small candidate (g.only candidate c).0;
 }
 
--- one run more in each, and one by itself
+-- each candidate extended by one run, and a new one with this run alone
 pub pushes_filled : (old candidates : List Candidate) (candidate : Candidate) (Is More : ℕ → Type 0) (candidate_of more_of : ℕ → Candidate) → IsFilled old Is candidate_of → Pushes candidate old candidates → candidate.value < 2 ^ 101
     → More 1 → more_of 1 ≡ candidate → ((count : ℕ) → Is count → More (suc count) × (more_of (suc count) ≡ candidate_of count))
     → ((count : ℕ) → More count → (count ≡ 1) ⊎ ((before : ℕ) × ((count ≡ suc before) × Is before))) → IsFilled candidates More more_of
@@ -178,7 +178,7 @@ pushes_filled old candidates candidate Is More candidate_of more_of f p small on
   ];
 }
 
--- one run more in each
+-- each candidate extended by one run
 pub longer_filled : (candidates : List Candidate) (Is More : ℕ → Type 0) (candidate_of more_of : ℕ → Candidate) → IsFilled candidates Is candidate_of
     → ((count : ℕ) → Is count → More (suc count) × (more_of (suc count) ≡ candidate_of count))
     → ((count : ℕ) → More count → (before : ℕ) × ((count ≡ suc before) × Is before)) → IsFilled candidates More more_of

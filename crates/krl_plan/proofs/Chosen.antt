@@ -1,4 +1,4 @@
--- The best groups, one after the other, are the least plan.
+-- The best groups, one after another, are the least plan.
 use Rattle.std.proofs.Common.{◌≡◌, ℕ, zero, suc, ◌+◌, ◌-◌, ◌*◌, ◌<◌, ◌≤◌, inl, inr, List, [], ◌∷◌}
 use Rattle.std.proofs.Common.{length, take, drop, refl, sym, ap, subst, ◌∙◌, arith}
 use Rattle.std.proofs.lemmas.Bool.{cases_lt}
@@ -27,7 +27,7 @@ IsRuns-drop a zero runs r = RunsFrom-weaker a 0 runs (omega arith) r
 IsRuns-drop a (suc n) [] r = tt
 IsRuns-drop a (suc n) (run ∷ runs) r = IsRuns-drop (run.hi + 2) n runs r.2
 
--- each further run ends two above the one before at least
+-- each further run ends at least two above the one before
 end_far : (a : ℕ) (run : Span) (runs : List Span) → RunsFrom a (run ∷ runs)
     → run.lo + 2 * length runs ≤ end_of run runs
 end_far a run [] r = omega arith
@@ -57,7 +57,7 @@ group_few runs group r g =
 
 -- ---- plans
 
--- the cost of what follows each group is known
+-- the least cost of the runs after each group is known
 abbrev pub Rests : List ℕ → List Span → Type 0
 Rests costs runs = (count : ℕ) → 0 < count → count ≤ length runs → count ≤ 1024 → IsLeastCost
     (drop count runs) (rest_cost costs count)
@@ -113,7 +113,7 @@ group_one a b e f =
     let made : Sort → ℕ → Group = λ s n. record { sort = s; count = n } in
     ap (λ (s : Sort). made s a.count) (rank_one a.sort b.sort e) ∙ ap (made b.sort) f
 
--- what follows the first group of a cheapest plan is a cheapest plan
+-- the rest of a cheapest plan after its first group is a cheapest plan
 tail_cheapest : (runs : List Span) (group : Group) (groups : List Group)
     → IsCheapest runs (group ∷ groups) → IsCheapest (drop group.count runs) groups
 tail_cheapest runs group groups c = record {

@@ -23,7 +23,7 @@ pub copied_more : (spans old new piece whole : List Span) (n : ℕ) (before next
     → new ≡ old ++ piece → old ++ left before spans ≡ whole → new ++ left next spans ≡ whole
 copied_more spans old new piece whole n before next r fits p b m e w = grind (arith, common_steps, append_assoc, piece_then)
 
--- where as many are left, as many are copied, and they are the first
+-- if `count` runs are left, `count` are copied, and they are the first
 copied_enough : (spans old new : List Span) (count : ℕ) (from next : Option ℕ) → Copies spans count from old new next → count ≤ length (old ++ left from spans) → count ≤ length new
 copied_enough spans old new count from next c le = grind (arith, common_steps, append-nil)
 
@@ -58,7 +58,7 @@ chunk_piece spans chunk n e =
 pub chunk_ends : (spans chunk : List Span) (n : ℕ) → IsRuns spans → AreSerials spans → chunk ≡ take 1024 (since n spans) → steps (next_of chunk) spans < steps (Some n) spans
 chunk_ends spans chunk n r fits e = walk_ends spans chunk n r fits (chunk_piece spans chunk n e)
 
--- after a chunk the walk goes on at the next
+-- after a chunk the walk continues at the next
 pub chunk_passed : (spans chunk : List Span) (starts : List ℕ) (n : ℕ) → IsRuns spans → AreSerials spans → chunk ≡ take 1024 (since n spans) → since n spans ≡ drop (1024 * length starts) spans
     → left (next_of chunk) spans ≡ drop (1024 * length (starts ++ n ∷ [])) spans
 chunk_passed spans chunk starts n r fits e at =
@@ -72,7 +72,7 @@ starts_more spans starts n begin at = grind (arith, common_steps, get_or_append_
 starts_pop : (spans : List Span) (starts rest : List ℕ) (n : ℕ) → starts ≡ rest ++ n ∷ [] → BeginChunks spans starts → BeginChunks spans rest × (since n spans ≡ drop (1024 * length rest) spans)
 starts_pop spans starts rest n e begin = grind (arith, common_steps, get_or_append_left, get_or_push, length_push)
 
--- the last chunk before those that follow it
+-- the last chunk, followed by the runs after it
 pub last_chunk : (spans chunk : List Span) (starts rest : List ℕ) (n : ℕ) → IsRuns spans → starts ≡ rest ++ n ∷ [] → BeginChunks spans starts → chunk ≡ take 1024 (since n spans)
     → BeginChunks spans rest × IsRuns (chunk ++ drop (1024 * length starts) spans) × (chunk ++ drop (1024 * length starts) spans ≡ drop (1024 * length rest) spans)
 last_chunk spans chunk starts rest n r e begin is =

@@ -1,4 +1,4 @@
--- The table of costs and choices: one run more in front, and the walk that gives the plan.
+-- The table of costs and choices: one more run in front, and the walk that gives the plan.
 use Rattle.std.proofs.Common.{◌≡◌, ℕ, zero, suc, ◌+◌, ◌-◌, ◌*◌, ◌<◌, ◌≤◌, List, [], ◌∷◌, ◌++◌, length, drop, get_or, slice_index, refl, sym, ap, subst, ◌∙◌, arith, append_assoc, length-drop}
 use Rattle.std.proofs.lemmas.List.{append-nil, drop-drop, drop_all, get_or_append_left, get_or_push, length_push}
 use Rattle.serial_set.specs.declared.span.Span.{Span}
@@ -29,7 +29,7 @@ none_least = record {
   preferred = λ other c. subst (λ (o : List Group). Prefers [] o) (sym (none_first other c.is_plan)) tt;
 }
 
--- what the runs after this many at the front cost at least
+-- the least cost of the runs after this many at the front
 abbrev pub AreCosts : List Span → List ℕ → Type 0
 AreCosts runs costs = (k : ℕ) → k ≤ length runs → IsLeastCost (drop k runs) (slice_index costs k)
 
@@ -89,7 +89,7 @@ bounded_more choices run runs least rests cell le best =
 
 -- ---- the walk
 
--- the groups so far, before the least plan of what is left, are the least plan
+-- the groups so far, followed by the least plan of the runs left, are the least plan
 abbrev pub Walked : List Group → List Group → ℕ → Type 0
 Walked choices plan left =
     (runs : List Span) → AreChoices runs choices → (done : ℕ) (rest : List Group) → done + left ≡ length choices → IsLeastPlan (drop done runs) rest → IsLeastPlan runs (plan ++ rest)

@@ -1,4 +1,4 @@
--- The bytes of a subsection, put one field after the other.
+-- The bytes of a subsection, put one field after another.
 use Rattle.std.proofs.Common.{◌≡◌, ℕ, zero, suc, ◌+◌, ◌-◌, ◌<◌, List, [], ◌∷◌, ◌++◌, length, take}
 use Rattle.std.proofs.Common.{get_or, refl, sym, ap, ◌∙◌, arith, append_assoc, length-append}
 use Rattle.std.proofs.lemmas.List.{take_all}
@@ -27,7 +27,7 @@ pub length-bitmap_of : (runs : List Span) (first size : ℕ)
 length-bitmap_of runs first zero = refl
 length-bitmap_of runs first (suc size) = omega (arith, length-bitmap_of runs first size)
 
--- a type byte and a string, put one after the other
+-- a type byte and a string, put one after another
 pub subsection_put : (out : List ℕ) (kind size : ℕ) (content : List ℕ) → length content ≡ size
     → ((out ++ kind ∷ []) ++ number 4 size) ++ content ≡ out ++ kind ∷ string content
 unfolding string

@@ -1,5 +1,4 @@
--- The runs of a plan take at least 17 bytes for every 64 of them, as those of a bitmap of every
--- other serial do.
+-- The runs of a plan take at least 17 bytes for every 64 of them, as in a bitmap of every other serial.
 use Rattle.std.proofs.Common.{◌≡◌, ℕ, ◌+◌, ◌*◌, ◌≤◌, List, [], ◌∷◌, length, take, drop, arith, zero, suc}
 use Rattle.std.proofs.lemmas.List.{length-drop, length-take-le}
 use Rattle.serial_set.specs.declared.span.Span.{Span}

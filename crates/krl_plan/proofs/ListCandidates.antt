@@ -1,4 +1,4 @@
--- The lists that the first of some runs may begin, with one run more.
+-- The lists that begin at the first run, after one more run in front.
 use Rattle.std.proofs.Common.{◌≡◌, ℕ, zero, suc, ◌+◌, ◌-◌, ◌*◌, ◌^◌, ◌<◌, ◌≤◌, ◌⊎◌, inl, inr, List, [], ◌∷◌, get_or, length, take, refl, ap, ◌∙◌, arith}
 use Rattle.std.specs.List.{All, Contains}
 use Rattle.std.proofs.lemmas.List.{length-take-le}
@@ -67,7 +67,7 @@ list_more base more at rest zero run runs rests e some = absurd (omega arith)
 list_more base more at rest (suc count) run runs rests e some =
     same_candidate (list_candidate more at (run ∷ runs) (rest ∷ rests) (suc (suc count))) (list_candidate base (at + 1) runs rests (suc count)) (omega arith) (omega arith) (omega arith)
 
--- the queue with one run more
+-- the queue after one more run
 pub list_filled : (old near candidates : List Candidate) (candidate : Candidate) (base more at rest : ℕ) (run : Span) (runs : List Span) (rests : List ℕ)
     → IsFilled old (IsList runs) (list_candidate base (at + 1) runs rests) → Forgets (at + 1024) old near → Pushes candidate near candidates → IsSmall run → more + 8 * (run.hi + 1 - run.lo) ≡ base
     → candidate.position ≡ at + 1 → candidate.value ≡ base + rest → candidate.end ≡ at + 1 → candidate.value < 2 ^ 101 → IsFilled candidates (IsList (run ∷ runs)) (list_candidate more at (run ∷ runs) (rest ∷ rests))
@@ -83,7 +83,7 @@ list_filled old near candidates candidate base more at rest run runs rests f g p
 
 -- ---- the best
 
--- what is known of a candidate
+-- the facts about a candidate
 pub list_is : (candidates : List Candidate) (base at : ℕ) (runs : List Span) (rests : List ℕ) (candidate : Candidate) → IsFilled candidates (IsList runs) (list_candidate base at runs rests) → Contains candidates candidate
     → (base ≤ candidate.value) × ((at < candidate.end) × (candidate.end ≤ at + 1024)) × (candidate.value < 2 ^ 101)
 list_is candidates base at runs rests candidate f c =
@@ -111,7 +111,7 @@ list_best candidates base at runs rests least old cell best f l c cost group one
     λ other it. (let first = l.first (list_candidate base at runs rests other) (f.all other it) in grind arith) in
     one_better rests runs Serials (IsList runs) old cell best count c is.1.0 same wins one first second
 
--- all candidates that were not forgotten lie past a new one
+-- all candidates that were not forgotten are past a new one
 pub list_past : (old near : List Candidate) (base at limit : ℕ) (runs : List Span) (rests : List ℕ) → IsFilled old (IsList runs) (list_candidate base at runs rests) → Forgets limit old near
     → All (λ other. at < other.position) near
 list_past old near base at limit runs rests f g k d lt =

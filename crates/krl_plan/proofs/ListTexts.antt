@@ -37,7 +37,7 @@ small_few (run ∷ runs) all =
     let rest = small_few runs (λ k d lt. all (suc k) d (omega arith)) in
     omega arith
 
--- one run more
+-- one more run
 pub listed_more : (out : List ℕ) (runs : List Span) (run : Span)
     → (out ++ flat_map (number 8) (serials_of runs)) ++ flat_map (number 8) (serials_of (run ∷ []))
     ≡ out ++ flat_map (number 8) (serials_of (runs ++ run ∷ []))
@@ -49,14 +49,14 @@ listed_more out runs run =
     ∙ ap (flat_map (number 8))
     (sym (flat_map-append (λ (r : Span). serials_from r.lo (r.hi + 1 - r.lo)) runs (run ∷ []))))
 
--- all runs are put
+-- all runs were put
 pub all_listed : (runs : List Span) (i : ℕ) (begun out : List ℕ) → length runs ≤ i
     → out ≡ begun ++ flat_map (number 8) (serials_of (take i runs))
     → out ≡ begun ++ flat_map (number 8) (serials_of runs)
 all_listed runs i begun out le e =
     e ∙ ap (λ (xs : List Span). begun ++ flat_map (number 8) (serials_of xs)) (take_all i runs le)
 
--- ---- a type byte, and a string whose length comes last
+-- ---- a type byte, and a string whose length is put last
 
 pub length-begun : (old begun content out : List ℕ) (kind : ℕ) → begun ≡ old ++ kind ∷ number 4 0
     → out ≡ begun ++ content → length out ≡ length old + 5 + length content

@@ -1,4 +1,4 @@
--- What runs name: where they are cut in two, from the first serial to the last, and bit by bit.
+-- The serials of runs: split at a position, from the first serial to the last, and bit by bit.
 use Rattle.std.proofs.Common.{◌≡◌, ℕ, zero, suc, ◌+◌, ◌*◌, ◌/◌, ◌^◌, ◌<◌, ◌≤◌, ◌⊎◌, inl, inr, Bool}
 use Rattle.std.proofs.Common.{true, false, cond, List, [], ◌∷◌, length, take, drop, refl, sym, ap}
 use Rattle.std.proofs.Common.{subst, ◌∙◌, arith}
@@ -20,7 +20,7 @@ use Rattle.krl_plan.specs.Written.{bitmap_of, bits_of, first_of}
 use Rattle.krl_plan.proofs.BitmapBits.{bits_of_lt}
 use Rattle.krl_plan.proofs.GroupTexts.{length-bitmap_of}
 
--- ---- cut in two
+-- ---- split in two
 
 pub names_parts : (n : ℕ) (runs : List Span) (s : ℕ)
     → (Covers (take n runs) s ⊎ Covers (drop n runs) s) ↔ Covers runs s
@@ -56,7 +56,7 @@ end_named : (a : ℕ) (run : Span) (runs : List Span) → RunsFrom a (run ∷ ru
 end_named a run [] r = inl (r.1, omega arith)
 end_named a run (next ∷ runs) r = inr (end_named (run.hi + 2) next runs r.2)
 
--- a serial of the runs is not below the first, and not above the last
+-- a serial of the runs is neither below the first nor above the last
 pub names_within : (runs : List Span) (s : ℕ) → IsRuns runs → Covers runs s
     → (first_of runs ≤ s) × (s ≤ first_of runs + reach runs)
 names_within [] s r n = absurd n

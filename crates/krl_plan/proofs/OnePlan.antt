@@ -1,4 +1,4 @@
--- A list of runs has one least plan, and a plan's text has the bytes that it costs.
+-- A list of runs has one least plan, and the length of a plan's text is its cost.
 use Rattle.std.proofs.Common.{◌≡◌, ℕ, ◌+◌, ◌^◌, ◌<◌, inl, inr, List, [], ◌∷◌, length, take, drop, refl, sym}
 use Rattle.std.proofs.Common.{ap, subst, ◌∙◌, arith, length-append}
 use Rattle.serial_set.specs.declared.span.Span.{Span}

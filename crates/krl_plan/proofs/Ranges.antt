@@ -1,4 +1,4 @@
--- The plan that has a range for each run: no least plan costs more.
+-- The plan that has a range for each run. No least plan costs more.
 use Rattle.std.proofs.Common.{◌≡◌, ◌*◌, ◌≤◌, List, [], ◌∷◌, length, refl, arith}
 use Rattle.serial_set.specs.declared.span.Span.{Span}
 use Rattle.krl_plan.specs.declared.group.Sort.TheVariants.{Range}

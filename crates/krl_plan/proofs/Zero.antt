@@ -1,4 +1,4 @@
--- The span that stands for the items that a list does not have.
+-- The default span, used for positions outside a list.
 use Rattle.serial_set.specs.declared.span.Span.{Span}
 
 abbrev pub zero_span : Span

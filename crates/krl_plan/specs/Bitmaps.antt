@@ -1,4 +1,4 @@
--- The bitmaps that the first of some runs may begin.
+-- The bitmaps that begin at the first run.
 use Rattle.std.specs.Prelude.{◌≡◌, ℕ, ◌+◌, ◌/◌, ◌%◌, ◌<◌, List, [], ◌∷◌, take}
 use Rattle.std.specs.Prelude.{slice_index_or as get_or}
 use Rattle.serial_set.specs.declared.span.Span.{Span}
@@ -24,7 +24,7 @@ pub record IsBitmapOf (runs : List Span) (remainder count : ℕ) : Type 0 where
   pub is_bitmap : IsBitmap runs count
   pub leaves : (last_of (take count runs) + 1) % 8 ≡ remainder
 
--- that bitmap as a candidate, where the first run is at an index of the set
+-- that bitmap as a candidate, if the first run is at an index of the set
 abbrev pub bitmap_candidate : ℕ → List Span → List ℕ → ℕ → Candidate
 bitmap_candidate at runs rests count = record {
   position = last_of (take count runs);

@@ -1,4 +1,4 @@
--- A group in two bytes.
+-- A group stored in two bytes.
 use Rattle.std.specs.Prelude.{ℕ, ◌/◌, ◌%◌, zero, suc}
 use Rattle.krl_plan.specs.declared.group.Group.{Group}
 use Rattle.krl_plan.specs.declared.group.Sort.{Sort}

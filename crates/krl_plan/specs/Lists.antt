@@ -1,4 +1,4 @@
--- The lists of serials that the first of some runs may begin.
+-- The lists of serials that begin at the first run.
 use Rattle.std.specs.Prelude.{ℕ, ◌+◌, ◌*◌, ◌^◌, ◌<◌, ◌≤◌, List, take}
 use Rattle.serial_set.specs.declared.span.Span.{Span}
 use Rattle.krl_plan.specs.declared.group.Sort.TheVariants.{Serials}
@@ -12,7 +12,7 @@ use Rattle.krl_plan.specs.MonotonicQueue.{IsFilled}
 abbrev pub IsList : List Span → ℕ → Type 0
 IsList runs count = IsGroup runs (record { sort = Serials; count = count })
 
--- that list as a candidate, where the first run is at an index of the set
+-- that list as a candidate, if the first run is at an index of the set
 abbrev pub list_candidate : ℕ → ℕ → List Span → List ℕ → ℕ → Candidate
 list_candidate base at runs rests count = record {
   position = at + count;

@@ -28,19 +28,19 @@ reach (run ∷ runs) = end_of run runs - run.lo
 abbrev pub IsSmall : Span → Type 0
 IsSmall run = run.hi ≤ run.lo + 1
 
--- a subsection of the sort may name just these runs
+-- a subsection of this sort may name exactly these runs
 abbrev pub Allows : Sort → List Span → Type 0
 Allows Serials runs = (length runs ≤ 1024) × All IsSmall runs
 Allows Range runs = length runs ≡ 1
 Allows Bitmap runs = reach runs < 2048
 
--- the bytes of a subsection that names these runs, its type byte and lengths counted
+-- the length of a subsection that names these runs, including its type byte and lengths
 abbrev pub bytes_of : Sort → List Span → ℕ
 bytes_of Serials runs = 5 + 8 * serial_count runs
 bytes_of Range runs = 21
 bytes_of Bitmap runs = 18 + (reach runs + 1) / 8
 
--- the group can stand at the front of the runs
+-- the group can be at the front of the runs
 pub record IsGroup (runs : List Span) (group : Group) : Type 0 where
   pub some : 0 < group.count
   pub within : group.count ≤ length runs
@@ -52,12 +52,12 @@ group_cost runs group = bytes_of group.sort (take group.count runs)
 
 -- ---- plans
 
--- the groups name the runs, one group after the other
+-- the groups name the runs, one group after another
 abbrev pub IsPlan : List Span → List Group → Type 0
 IsPlan runs [] = length runs ≡ 0
 IsPlan runs (group ∷ groups) = IsGroup runs group × IsPlan (drop group.count runs) groups
 
--- the bytes of all subsections
+-- the length of all subsections
 abbrev pub cost : List Span → List Group → ℕ
 cost runs [] = 0
 cost runs (group ∷ groups) = group_cost runs group + cost (drop group.count runs) groups
@@ -67,11 +67,11 @@ pub record IsCheapest (runs : List Span) (plan : List Group) : Type 0 where
   pub is_plan : IsPlan runs plan
   pub least : (other : List Group) → IsPlan runs other → cost runs plan ≤ cost runs other
 
--- The first group is of a sort that comes first, or of the same sort and longer.
+-- The first group's sort comes first, or the sorts are equal and it is longer.
 abbrev pub Before : Group → Group → Type 0
 Before a b = (rank a.sort < rank b.sort) ⊎ ((rank a.sort ≡ rank b.sort) × (b.count < a.count))
 
--- At the first group that differs, the first plan's comes before the second's.
+-- Where the plans first differ, the first plan's group comes before the second's.
 abbrev pub Prefers : List Group → List Group → Type 0
 Prefers [] [] = ⊤
 Prefers [] (b ∷ others) = ⊥

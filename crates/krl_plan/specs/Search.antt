@@ -7,22 +7,22 @@ use Rattle.krl_plan.specs.declared.cell.Cell.{Cell}
 use Rattle.krl_plan.specs.Sorts.{rank}
 use Rattle.krl_plan.specs.Plan.{IsGroup, IsPlan, IsLeastPlan, cost, group_cost}
 
--- the one group comes before the other or is the same
+-- the first group comes before the second or is the same
 abbrev pub IsAtOrBefore : Group → Group → Type 0
 IsAtOrBefore a b =
     (rank a.sort < rank b.sort) ⊎ ((rank a.sort ≡ rank b.sort) × (b.count ≤ a.count))
 
--- the one costs less, or as much with a group that does not come after the other's
+-- the first cell costs less, or the same and its group does not come after the other's
 abbrev pub Wins : Cell → Cell → Type 0
 Wins a b = (a.cost < b.cost) ⊎ ((a.cost ≡ b.cost) × IsAtOrBefore a.group b.group)
 
--- what the runs after the first `count` ones cost at least, where the rests begin with what all but
--- the first run cost
+-- the least cost of the runs after the first `count` ones; the rests begin with the least cost of
+-- all runs except the first
 abbrev pub rest_cost : List ℕ → ℕ → ℕ
 rest_cost rests zero = 0
 rest_cost rests (suc count) = slice_index rests count
 
--- the cost of a plan that begins with the group and goes on as cheaply as it can
+-- the cost of the cheapest plan that begins with the group
 abbrev pub cost_with : List ℕ → List Span → Group → ℕ
 cost_with rests runs group = group_cost runs group + rest_cost rests group.count
 
@@ -39,7 +39,7 @@ pub record IsBest (rests : List ℕ) (runs : List Span) (cell : Cell) : Type 0 w
   pub is_cell : IsCell rests runs cell
   pub wins : (group : Group) → IsGroup runs group → Wins cell (cell_with rests runs group)
 
--- the best of a cell and of the groups of a sort with the counts for which something holds
+-- the best of a cell and of the groups of a sort with the counts for which `Is` holds
 pub record IsBestOf (rests : List ℕ) (runs : List Span) (sort : Sort) (Is : ℕ → Type 0)
     (old best : Cell) : Type 0 where
   pub is_cell : IsCell rests runs best
@@ -47,12 +47,12 @@ pub record IsBestOf (rests : List ℕ) (runs : List Span) (sort : Sort) (Is : �
   pub beats : (count : ℕ) → Is count
       → Wins best (cell_with rests runs (record { sort = sort; count = count }))
 
--- some plan of the runs costs so much, and none costs less
+-- some plan of the runs has this cost, and none costs less
 pub record IsLeastCost (runs : List Span) (least : ℕ) : Type 0 where
   pub below : (plan : List Group) → IsPlan runs plan → least ≤ cost runs plan
   pub reached : (plan : List Group) × (IsPlan runs plan × (cost runs plan ≡ least))
 
--- Whatever least plan goes on after the group, with the group it is the least plan of the runs.
+-- The group, followed by any least plan of the remaining runs, is the least plan of the runs.
 abbrev pub IsFirst : List Span → Group → Type 0
 IsFirst runs group =
     (rest : List Group) → IsLeastPlan (drop group.count runs) rest → IsLeastPlan runs (group ∷ rest)

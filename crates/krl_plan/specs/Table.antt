@@ -1,4 +1,4 @@
--- What the table knows of the last runs of a set.
+-- The state of the table after the last runs of a set.
 use Rattle.std.specs.Prelude.{◌≡◌, ℕ, ◌+◌, ◌-◌, ◌*◌, ◌^◌, ◌≤◌, List, ◌∷◌, length, drop}
 use Rattle.std.specs.Prelude.{slice_index, slice_index_or as get_or}
 use Rattle.serial_set.specs.declared.span.Span.{Span}
@@ -9,17 +9,18 @@ use Rattle.krl_plan.specs.Lists.{HasLists}
 use Rattle.krl_plan.specs.Plan.{IsGroup}
 use Rattle.krl_plan.specs.Search.{IsFirst, IsLeastCost}
 
--- The group can stand at the front of the runs, and the least plan begins with it.
+-- The group can be at the front of the runs, and the least plan begins with it.
 abbrev pub IsChoice : List Span → Group → Type 0
 IsChoice runs group = IsGroup runs group × IsFirst runs group
 
--- The choices are one for each run, that of the first run last.
+-- There is one choice for each run, and that of the first run is last.
 pub record AreChoices (runs : List Span) (choices : List Group) : Type 0 where
   pub one_each : length choices ≡ length runs
   pub each : (j k : ℕ) (d : Group) → j + k + 1 ≡ length choices
       → IsChoice (drop j runs) (get_or choices k d)
 
--- The rests are what all runs but the first cost at least, then all but the first two, and so on.
+-- The rests are the least costs of all runs except the first, of all except the first two, and so
+-- on.
 pub record IsKnown (table : Table) (at : ℕ) (runs : List Span) (rests : List ℕ) : Type 0 where
   pub lists : HasLists table.lists at runs rests
   pub bitmaps : HasBitmaps table.bitmaps at runs rests

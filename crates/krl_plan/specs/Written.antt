@@ -1,4 +1,4 @@
--- The bytes of a list that is written: its subsections by a plan for each authority.
+-- The bytes of a list that is written: the subsections of a plan for each certificate authority.
 use Rattle.std.specs.Prelude.{ℕ, zero, suc, ◌+◌, ◌-◌, ◌*◌, ◌/◌, ◌≤◌, ◌<◌, if◌then◌else◌}
 use Rattle.std.specs.Prelude.{List, [], ◌∷◌, ◌++◌, length, take, drop}
 use Rattle.std.specs.Prelude.{slice_index_or}
@@ -13,7 +13,7 @@ use Rattle.krl_plan.specs.Plan.{reach}
 
 -- ---- serials
 
--- this many serials, from the first on
+-- `count` serials, from the first on
 abbrev pub serials_from : ℕ → ℕ → List ℕ
 serials_from first zero = []
 serials_from first (suc count) = first ∷ serials_from (first + 1) count
@@ -27,8 +27,7 @@ abbrev pub first_of : List Span → ℕ
 first_of [] = 0
 first_of (run ∷ runs) = run.lo
 
--- the number, of this many bits, whose bit N says whether the runs have the serial that is N above
--- the first
+-- a number of this many bits: bit N is set if the runs have the serial that is N above the first
 abbrev pub bits_of : List Span → ℕ → ℕ → ℕ
 bits_of runs first zero = 0
 bits_of runs first (suc count) =
@@ -39,7 +38,7 @@ abbrev pub bitmap_of : List Span → ℕ → ℕ → List ℕ
 bitmap_of runs first zero = []
 bitmap_of runs first (suc size) = bits_of runs (first + 8 * size) 8 ∷ bitmap_of runs first size
 
--- How many bytes a bitmap has. The highest bit of the first byte is never set.
+-- The length of a bitmap. The highest bit of the first byte is never set.
 abbrev pub bitmap_size : List Span → ℕ
 bitmap_size runs = (reach runs + 1) / 8 + 1
 
@@ -50,7 +49,7 @@ type_byte Serials = 0x20
 type_byte Range = 0x21
 type_byte Bitmap = 0x22
 
--- what a subsection that names these runs has in it
+-- the content of a subsection that names these runs
 abbrev pub content_of : Sort → List Span → List ℕ
 content_of Serials runs = flat_map (number 8) (serials_of runs)
 content_of Range runs = number 8 (first_of runs) ++ number 8 (first_of runs + reach runs)
@@ -61,13 +60,13 @@ content_of Bitmap runs =
 abbrev pub group_text : Sort → List Span → List ℕ
 group_text sort runs = type_byte sort ∷ string (content_of sort runs)
 
--- the subsections of a plan, one after the other
+-- the subsections of a plan, one after another
 abbrev pub plan_text : List Span → List Group → List ℕ
 plan_text runs [] = []
 plan_text runs (group ∷ groups) =
     group_text group.sort (take group.count runs) ++ plan_text (drop group.count runs) groups
 
--- All but the first `count` of the runs begin at the serial or above.
+-- All but the first `count` runs begin at the serial or above.
 pub record Above (runs : List Span) (count serial : ℕ) : Type 0 where
   pub within : count ≤ length runs
   pub above : (k : ℕ) (d : Span) → count ≤ k → k < length runs

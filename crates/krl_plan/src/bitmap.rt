@@ -24,7 +24,7 @@ pub(crate) fn put_bits(out: &mut Vec<u8>, runs: &[Span], size: u32) -> Result<()
     Ok(())
 }
 
-// The bits of the eight serials from one on. All but the first `count` runs begin above them.
+// The bits of eight consecutive serials. All but the first `count` runs begin above them.
 fn byte_at(runs: &[Span], count: &mut usize, base: u128) -> u8
     requires rising { IsRuns runs.now }
     requires base { base < 2 ^ 100 }
@@ -40,7 +40,7 @@ fn byte_at(runs: &[Span], count: &mut usize, base: u128) -> u8
     byte
 }
 
-// Whether the runs have a serial. All but the first `count` of them begin above it.
+// Whether the runs have a serial. All but the first `count` runs begin above it.
 fn has_serial(runs: &[Span], count: &mut usize, serial: u128) -> bool
     requires rising { IsRuns runs.now }
     requires above { Above runs.now count.old (serial + 1) }

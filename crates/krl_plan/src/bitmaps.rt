@@ -16,13 +16,13 @@ use crate::monotonic_queue::{Candidate, MonotonicQueue};
 use serial_set::Span;
 use std::alloc::{AllocError, Global};
 
-// How far the bitmap's last serial may be from the first.
+// The maximum distance of the bitmap's last serial from its first.
 const FARTHEST: u128 = 2047;
 
-// The bitmaps that the first of the known runs may begin. A bitmap costs 18 and the whole bytes
-// from its first serial to its last. With `after` the serial after these, they are `after / 8` less
-// `first / 8`, and one less where `after` leaves the smaller remainder. So bitmaps whose `after`
-// leaves the same remainder are compared by themselves.
+// The bitmaps that begin at the first of the known runs. A bitmap costs 18 bytes and the whole
+// bytes from its first serial to its last. If `after` is the serial after the last, these are
+// `after / 8` minus `first / 8`, and one less if `after` has the smaller remainder. So only bitmaps
+// whose `after` has the same remainder are compared with each other.
 #[derive(Drop)]
 pub(crate) struct Bitmaps {
     queues: [MonotonicQueue; 8],
@@ -31,7 +31,7 @@ pub(crate) struct Bitmaps {
 impl Bitmaps {
     ghost use Rattle.krl_plan.specs.Bitmaps.{IsBitmap, IsBitmapOf, HasBitmaps};
 
-    // The bitmaps of no run.
+    // The state before any run.
     pub(crate) fn new(alloc: Global) -> Bitmaps
         ensures { (at : ℕ) → HasBitmaps result at [] [] }
     {
@@ -49,7 +49,7 @@ impl Bitmaps {
         }
     }
 
-    // Takes the run at an index of the set, and what the runs after it cost at least.
+    // Adds the run at an index of the set, with the least cost of the runs after it.
     pub(crate) fn add(&mut self, run: Span, at: usize, rest: u128) -> Result<(), AllocError>
         requires below { at < usize.MAX }
         requires small { rest < 2 ^ 100 }
@@ -84,7 +84,7 @@ impl Bitmaps {
         best
     }
 
-    // The best of a cell and of the bitmaps with a remainder.
+    // The best of a cell and of the bitmaps of one remainder.
     fn best_of(&self, remainder: usize, run: Span, at: usize, best: Cell) -> Cell
         requires remainder { remainder < 8 }
         requires bitmaps { (runs : List Span) × ((rests : List ℕ)
@@ -105,7 +105,7 @@ impl Bitmaps {
     }
 }
 
-// An eighth of the first serial, and one more where `after` leaves the smaller remainder.
+// An eighth of the first serial, plus one if `after` has the smaller remainder.
 fn bytes_before(first: u64, remainder: u64) -> u64
     ensures less { remainder < first % 8 → result ≡ first / 8 + 1 }
     ensures more { first % 8 ≤ remainder → result ≡ first / 8 }
@@ -117,7 +117,7 @@ fn bytes_before(first: u64, remainder: u64) -> u64
     }
 }
 
-// Forgets the candidates of each queue that lie past a limit.
+// Forgets the candidates of each queue that are past a limit.
 fn forget_past(queues: &mut [MonotonicQueue], limit: u128)
     ensures { (k : ℕ) (d : MonotonicQueue) → k < length queues.old
         → Forgets limit (get_or queues.old k d).candidates.items

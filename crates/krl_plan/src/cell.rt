@@ -13,7 +13,7 @@ pub(crate) struct Cell {
     pub(crate) group: Group,
 }
 
-// The cheaper of two cells, and of equals the one whose group comes first.
+// The cheaper of two cells; if they cost the same, the one whose group comes first.
 pub(crate) fn winner(a: Cell, b: Cell) -> Cell
     ensures one { (result ≡ a) ⊎ (result ≡ b) }
     ensures first { (other : Cell) → Wins a other → Wins result other }
@@ -22,7 +22,7 @@ pub(crate) fn winner(a: Cell, b: Cell) -> Cell
     if wins(a, b) { a } else { b }
 }
 
-// Whether the first group is chosen: it costs less, or as much and comes first.
+// Whether the first cell is chosen: it costs less, or the same and its group comes first.
 fn wins(a: Cell, b: Cell) -> bool
     ensures { IsTrue result ↔ Wins a b }
 {
@@ -33,7 +33,7 @@ fn wins(a: Cell, b: Cell) -> bool
     }
 }
 
-// Whether the first group comes first of two that cost the same: by sort, then by more runs.
+// Whether the first of two groups with the same cost comes first: by sort, then by more runs.
 fn is_at_or_before(a: Group, b: Group) -> bool
     ensures { IsTrue result ↔ IsAtOrBefore a b }
 {

@@ -5,10 +5,10 @@ ghost use Rattle.std.specs.Prelude.{◌≡◌, ◌≤◌};
 use crate::group::{Group, Sort};
 use std::marker::Model;
 
-// A group in two bytes, since a table keeps one for each run. Contracts see it as the group.
+// A group stored in two bytes, since a table has one for each run. Contracts see the group.
 #[derive(Drop)]
 pub(crate) struct Choice {
-    // Four times the count, and the rank of the sort.
+    // Four times the count, plus the rank of the sort.
     code: u16,
 }
 

@@ -7,8 +7,8 @@ ghost use Rattle.krl_plan.specs.Copies.{Copies};
 use serial_set::{Span, Spans};
 use std::alloc::AllocError;
 
-// Copies runs from where a walk goes on, until there are this many or all are there. Gives where
-// the walk goes on then.
+// Copies runs from where a walk continues, until there are `count` or the walk ends. Returns where
+// the walk continues then.
 pub(crate) fn copy_runs<S: Spans>(
     set: &S,
     from: Option<u64>,
@@ -27,7 +27,7 @@ pub(crate) fn copy_runs<S: Spans>(
     Ok(next)
 }
 
-// Copies the runs from a number on, this many or all.
+// Copies the runs from a number on: `count`, or all if there are fewer.
 pub(crate) fn copy_chunk<S: Spans>(
     set: &S,
     number: u64,
@@ -42,7 +42,7 @@ pub(crate) fn copy_chunk<S: Spans>(
     Ok(())
 }
 
-// Drops the first of some runs, this many.
+// Removes the first `count` runs.
 pub(crate) fn drop_first(runs: &mut Vec<Span>, count: usize)
     requires { count ≤ length runs.old.items }
     ensures { runs.new.items ≡ drop count runs.old.items }

@@ -1,4 +1,4 @@
-//! Groups of runs, each of which one subsection names (PROTOCOL.krl).
+//! Groups of runs, each named by one subsection (PROTOCOL.krl).
 ghost use Rattle.std.specs.Prelude.{◌≡◌};
 ghost use Rattle.krl_plan.specs.Sorts.{rank};
 
@@ -9,11 +9,11 @@ pub enum Sort {
     Serials,
     /// A first and a last serial.
     Range,
-    /// A first serial, and a bit for it and for each that follows.
+    /// A first serial, and a bit for it and for each serial after it.
     Bitmap,
 }
 
-/// Some runs that one subsection names: the first of those that no group before it has.
+/// Runs that one subsection names: the first ones that no earlier group has.
 #[derive(Clone, Copy, PartialEq, Eq)]
 pub struct Group {
     /// The sort of the subsection.
@@ -23,7 +23,7 @@ pub struct Group {
 }
 
 impl Sort {
-    // Of plans that cost the same, the sort that comes first here is taken.
+    // Among plans that cost the same, the sort with the lowest rank is preferred.
     pub(crate) fn rank(self) -> u8
         ensures { result ≡ rank self }
     {

@@ -15,7 +15,7 @@ use serial_set::Span;
 use ssh_wire::{put_byte, put_u32, put_u64};
 use std::alloc::AllocError;
 
-// Appends a subsection of the sort that names just these runs.
+// Appends a subsection of this sort that names exactly these runs.
 pub(crate) fn put_group(out: &mut Vec<u8>, sort: Sort, runs: &[Span]) -> Result<(), AllocError>
     requires some { 0 < length runs.now }
     requires rising { IsRuns runs.now }
@@ -43,7 +43,7 @@ fn put_listed(out: &mut Vec<u8>, runs: &[Span]) -> Result<(), AllocError>
     Ok(())
 }
 
-// Appends the one serial of a run, or both.
+// Appends the one or two serials of a run.
 fn put_serials(out: &mut Vec<u8>, run: Span) -> Result<(), AllocError>
     requires ordered { run.lo ≤ run.hi }
     requires small { IsSmall run }

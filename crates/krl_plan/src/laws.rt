@@ -13,8 +13,8 @@ pub fn one_least_plan()
         → IsLeastPlan runs other → one ≡ other }
 {}
 
-/// The subsections of a plan have as many bytes as it costs, those of a cheapest plan at most 21 for
-/// a run, and those of any plan at least 17 for 64 runs.
+/// The length of a plan's subsections is its cost. A cheapest plan takes at most 21 bytes for a
+/// run, and any plan at least 17 for 64 runs.
 pub fn plan_has_its_bytes()
     ensures bytes { (runs : List Span) (plan : List Group) → IsRuns runs → IsPlan runs plan
         → length (plan_text runs plan) ≡ cost runs plan }

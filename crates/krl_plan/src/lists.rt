@@ -11,12 +11,12 @@ use crate::monotonic_queue::{Candidate, MonotonicQueue};
 use serial_set::Span;
 use std::alloc::{AllocError, Global};
 
-// The runs that a list may have (any more go into another).
+// The maximum number of runs in a list; any more go into another.
 pub(crate) const MOST: usize = 1024;
 
-// The lists that the first of the known runs may begin. With what follows it, a list costs 5 and by
-// how much its candidate's value is above the base. The base falls by the bytes of each serial that
-// is taken, so that values stay as they are.
+// The lists that begin at the first of the known runs. Together with the runs after it, a list
+// costs 5 bytes plus the amount by which its candidate's value is above the base. The base
+// decreases by the bytes of each serial that is added, so that the values stay unchanged.
 #[derive(Drop)]
 pub(crate) struct Lists {
     queue: MonotonicQueue,
@@ -26,7 +26,7 @@ pub(crate) struct Lists {
 impl Lists {
     ghost use Rattle.krl_plan.specs.Lists.{IsList, HasLists};
 
-    // The lists of no run, where this many are to come. None has more than two serials.
+    // The state before any of `runs` runs. None of these has more than two serials.
     pub(crate) fn new(alloc: Global, runs: usize) -> Lists
         ensures { HasLists result runs [] [] }
     {
@@ -36,7 +36,7 @@ impl Lists {
         }
     }
 
-    // Takes the run at an index of the set, and what the runs after it cost at least.
+    // Adds the run at an index of the set, with the least cost of the runs after it.
     pub(crate) fn add(&mut self, run: Span, at: usize, rest: u128) -> Result<(), AllocError>
         requires ordered { run.lo ≤ run.hi }
         requires below { at < usize.MAX }
@@ -46,7 +46,7 @@ impl Lists {
         ensures { (runs : List Span) (rests : List ℕ) → HasLists self.old (at + 1) runs rests
             → OnOk result (HasLists self.new at (run ∷ runs) (rest ∷ rests)) }
     {
-        // No list has a run of more than two serials.
+        // A list cannot have a run of more than two serials.
         let more = run.hi - run.lo;
         if more > 1 {
             self.queue.clear();

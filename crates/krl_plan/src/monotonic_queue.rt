@@ -12,16 +12,17 @@ use std::collections::VecDeque;
 // A group of runs that is compared with others of its sort.
 #[derive(Clone, Copy)]
 pub(crate) struct Candidate {
-    // Where it ends on the line: by runs for a list, by serials for a bitmap.
+    // Where the group ends on the line: counted in runs for a list, in serials for a bitmap.
     pub(crate) position: u64,
-    // What is to be least.
+    // The value to minimize.
     pub(crate) value: u128,
-    // How many of the set's runs come before the end of the group.
+    // How many of the set's runs are before the end of the group.
     pub(crate) end: usize,
 }
 
 // A candidate that is greater than a later one is never the least again, since it is forgotten
-// sooner. So only those are kept that no later one is below, and the oldest of them is the least.
+// sooner. So a candidate is kept only as long as no later one is below it, and the oldest is the
+// least.
 #[derive(Drop)]
 pub(crate) struct MonotonicQueue {
     candidates: VecDeque<Candidate>,
@@ -29,7 +30,7 @@ pub(crate) struct MonotonicQueue {
 }
 
 impl MonotonicQueue {
-    // The queue of no candidate.
+    // An empty queue.
     pub(crate) fn new(alloc: Global) -> MonotonicQueue
         ensures { result.candidates.items ≡ [] }
     {
@@ -38,7 +39,7 @@ impl MonotonicQueue {
         }
     }
 
-    // Takes a candidate that lies before all others.
+    // Adds a candidate that is before all others.
     pub(crate) fn push(&mut self, candidate: Candidate) -> Result<(), AllocError>
         requires { All (λ other. candidate.position < other.position) self.old.candidates.items }
         ensures { OnOk result
@@ -47,7 +48,7 @@ impl MonotonicQueue {
         push_to(&mut self.candidates, candidate)
     }
 
-    // Forgets the candidates that lie past the limit.
+    // Forgets the candidates that are past the limit.
     pub(crate) fn forget_past(&mut self, limit: u128)
         ensures { Forgets limit self.old.candidates.items self.new.candidates.items }
     {
@@ -61,7 +62,7 @@ impl MonotonicQueue {
         self.candidates.clear();
     }
 
-    // The least of all candidates that were taken and not forgotten, and of equals the farthest.
+    // The least of all candidates that were added and not forgotten; among equals, the farthest.
     pub(crate) fn least(&self) -> Option<Candidate>
         ensures some { IsSome result ↔ (0 < length self.now.candidates.items) }
         ensures least { IfSome result (IsLeastOf self.now.candidates.items) }
@@ -71,7 +72,7 @@ impl MonotonicQueue {
     }
 }
 
-// Puts a candidate before all others, and drops those that are no longer the least.
+// Adds a candidate before all others, and drops those that can no longer be the least.
 fn push_to(candidates: &mut VecDeque<Candidate>, candidate: Candidate) -> Result<(), AllocError>
     requires ordered { AreOrdered candidates.old.items }
     requires before { All (λ other. candidate.position < other.position) candidates.old.items }
@@ -99,7 +100,7 @@ fn drop_greater(candidates: &mut VecDeque<Candidate>, value: u128)
     }
 }
 
-// Drops the oldest candidates, which lie past a limit.
+// Drops the oldest candidates, which are past a limit.
 fn drop_past(candidates: &mut VecDeque<Candidate>, limit: u128)
     requires ordered { AreOrdered candidates.old.items }
     ensures ordered { AreOrdered candidates.new.items }

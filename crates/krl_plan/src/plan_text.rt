@@ -12,7 +12,7 @@ use crate::planner::least_plan;
 use serial_set::Spans;
 use std::alloc::{AllocError, Global};
 
-// Appends the subsections of a plan of a set's runs, one after the other.
+// Appends the subsections of a plan of a set's runs, one after another.
 pub(crate) fn put_plan<S: Spans>(
     alloc: Global,
     out: &mut Vec<u8>,
@@ -34,7 +34,7 @@ pub(crate) fn put_plan<S: Spans>(
 }
 
 /// Appends the subsections of a set's least plan (PROTOCOL.krl, certificate sections). Fails only
-/// where memory runs out.
+/// if an allocation fails.
 pub fn put_least_plan<S: Spans>(alloc: Global, out: &mut Vec<u8>, set: &S) -> Result<(), AllocError>
     ensures { OnOk result ((plan : List Group) × (IsLeastPlan (S.spans set.now) plan
         × (out.new.items ≡ out.old.items ++ plan_text (S.spans set.now) plan))) }

@@ -13,15 +13,15 @@ use std::alloc::{AllocError, Global};
 // How many runs are copied from a set at a time.
 const CHUNK: usize = 1024;
 
-/// The plan of a set's runs that costs least. Of plans that cost the same it is the one whose group
-/// comes first where they differ: a list of serials, a range, a bitmap, and of one sort the longer.
-/// Fails only where memory runs out.
+/// The plan of a set's runs that costs least. Among plans that cost the same it is the one whose
+/// group comes first where they differ: a list of serials, a range, a bitmap, and of the same sort
+/// the longer. Fails only if an allocation fails.
 pub fn least_plan<S: Spans>(alloc: Global, set: &S) -> Result<Vec<Group>, AllocError>
     ensures least { IfOk result (λ plan. IsLeastPlan (S.spans set.now) plan.items) }
     ensures small { IfOk result
         (λ plan. cost (S.spans set.now) plan.items ≤ 21 * length (S.spans set.now)) }
 {
-    // A set gives its runs from the first on, and they are planned from the last on.
+    // A set returns its runs from the first on, but they are planned from the last on.
     let mut starts = chunk_starts(alloc, set)?;
     let mut table = Table::new(alloc);
     let mut chunk = Vec::new(alloc);
@@ -32,7 +32,7 @@ pub fn least_plan<S: Spans>(alloc: Global, set: &S) -> Result<Vec<Group>, AllocE
     table.plan(alloc)
 }
 
-// The number from which on a set gives the runs of each chunk, the first chunk's first.
+// For each chunk, the number from which on a set returns its runs, in ascending order.
 fn chunk_starts<S: Spans>(alloc: Global, set: &S) -> Result<Vec<u64>, AllocError>
     ensures { IfOk result (λ starts. AreStarts (S.spans set.now) starts.items) }
 {

@@ -1,4 +1,4 @@
-//! Strings whose length is known only once their bytes stand.
+//! Strings whose length is known only after their bytes are written.
 
 ghost use Rattle.std.specs.Prelude.{◌≡◌, ◌+◌, ◌-◌, ◌^◌, ◌<◌, ◌≤◌, ◌∷◌, ◌++◌, IfOk, length, take, drop};
 ghost use Rattle.std.specs.Vec.{vec_len};
@@ -8,8 +8,8 @@ use byteorder::{BigEndian, ByteOrder};
 use ssh_wire::{put_byte, put_u32};
 use std::alloc::AllocError;
 
-/// Appends a type byte and, for the length of the string that follows, four bytes that are zero.
-/// Gives where the four begin, which `end_string` is told.
+/// Appends a type byte and four zero bytes for the length of the string that follows. Returns the
+/// position of the four bytes, for `end_string`.
 pub fn begin_string(out: &mut Vec<u8>, type_byte: u8) -> Result<usize, AllocError>
     ensures { IfOk result (λ at. (at ≡ length out.old.items + 1)
         × (out.new.items ≡ out.old.items ++ type_byte ∷ number 4 0)) }
@@ -20,8 +20,8 @@ pub fn begin_string(out: &mut Vec<u8>, type_byte: u8) -> Result<usize, AllocErro
     Ok(at)
 }
 
-/// Makes a string (RFC 4251 section 5) of the four bytes at `at`, which are there, and all bytes
-/// after them: the four get the length, which is below 2^32.
+/// Completes a string (RFC 4251 section 5) that consists of the four bytes at `at`, which are
+/// there, and all bytes after them: the length, below 2^32, is written into the four.
 #[tactic(auto, unfolding(ssh_wire::specs::Wire::string, ssh_wire::specs::Wire::number))]
 pub fn end_string(out: &mut Vec<u8>, at: usize)
     requires within { at + 4 ≤ vec_len out.old }

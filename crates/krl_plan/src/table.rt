@@ -13,22 +13,22 @@ use crate::lists::Lists;
 use serial_set::Span;
 use std::alloc::{AllocError, Global};
 
-// What is known of the last runs of a set.
+// The best groups and costs of the last runs of a set.
 #[derive(Drop)]
 pub(crate) struct Table {
     lists: Lists,
     bitmaps: Bitmaps,
-    // What the known runs cost at least.
+    // The least cost of the known runs.
     least: u128,
-    // The first group of the least plan of the known runs, last, and before it that of all but the
-    // first of these runs, and so on.
+    // The first groups of the least plans: last that of all known runs, before it that of all but
+    // the first of these, and so on.
     choices: Vec<Choice>,
 }
 
 impl Table {
     ghost use Rattle.krl_plan.specs.Table.{Knows};
 
-    // The table of no run.
+    // The table of no runs.
     pub(crate) fn new(alloc: Global) -> Table
         ensures { Knows result [] }
     {
@@ -40,7 +40,7 @@ impl Table {
         }
     }
 
-    // Takes the runs before those that it knows.
+    // Adds the runs before those that it knows.
     pub(crate) fn add_all(&mut self, more: &[Span]) -> Result<(), AllocError>
         requires { (runs : List Span) × (IsRuns (more.now ++ runs) × Knows self.old runs) }
         ensures { (runs : List Span) → IsRuns (more.now ++ runs) → Knows self.old runs
@@ -52,13 +52,13 @@ impl Table {
         Ok(())
     }
 
-    // Takes the run before those that it knows.
+    // Adds the run before those that it knows.
     fn add(&mut self, run: Span) -> Result<(), AllocError>
         requires { (runs : List Span) × (IsRuns (run ∷ runs) × Knows self.old runs) }
         ensures { (runs : List Span) → IsRuns (run ∷ runs) → Knows self.old runs
             → OnOk result (Knows self.new (run ∷ runs)) }
     {
-        // Their indexes are counted down, however many there are.
+        // The indexes are counted down, whatever the number of runs.
         let at = usize::MAX - 1 - self.choices.len();
         self.lists.add(run, at, self.least)?;
         self.bitmaps.add(run, at, self.least)?;

@@ -9,7 +9,7 @@ use Rattle.krl_plan.proofs.Chosen.{group_few}
 use Rattle.krl_plan.proofs.Filling.{bounded_more, choices_more, costs_more}
 use Rattle.krl_plan.proofs.table.Table.add.Goals as goal
 
--- what is known begins after the new run's index
+-- the known runs begin after the new run's index
 known_past : (table : Table) (runs : List Span) (at : ℕ) → (knows : Knows table runs) → at + 1 + length table.choices.items ≡ 2 ^ 64 - 1 → IsKnown table (at + 1) runs knows.1.1.0
 known_past table runs at knows e =
     let one = knows.1.1.1.choices.one_each in

@@ -7,7 +7,7 @@ use Rattle.krl_plan.specs.Table.{Knows}
 use Rattle.krl_plan.proofs.Zero.{zero_span}
 use Rattle.krl_plan.proofs.table.Table.add_all.Goals as goal
 
--- the runs from one on, and those after it
+-- the runs from one on, followed by the known ones
 from_on : (more runs : List Span) (i : ℕ) → 0 < i → i - 1 < length more → drop (i - 1) more ++ runs ≡ get_or more (i - 1) zero_span ∷ (drop i more ++ runs)
 from_on more runs i some lt =
     let one : (i - 1) + 1 ≡ i = omega arith in
