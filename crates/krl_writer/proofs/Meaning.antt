@@ -1,4 +1,4 @@
--- What the sections of a list that is written name is what is held.
+-- The sections of a written list name exactly the stored revocations.
 use Rattle.std.proofs.Common.{◌≡◌, ℕ, ◌+◌, ◌-◌, ◌*◌, ◌≤◌, ◌↔◌, inl, List, [], ◌∷◌, length, take, drop, subst, arith}
 use Rattle.std.specs.List.{flat_map}
 use Rattle.serial_set.specs.declared.span.Span.{Span}

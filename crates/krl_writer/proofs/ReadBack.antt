@@ -1,4 +1,4 @@
--- What is read of a list that was written.
+-- Reading a list that was written.
 use Rattle.std.proofs.Common.{◌≡◌, ℕ, ◌<◌, ◌≤◌, ◌^◌, List, [], ◌∷◌, length, sym, subst}
 use Rattle.krl_core.specs.declared.header.Header.{Header}
 use Rattle.krl_plan.specs.declared.group.Group.{Group}
@@ -21,7 +21,7 @@ are_plans [] (first ∷ listed) each = absurd each
 are_plans (plan ∷ plans) [] each = absurd each
 are_plans (plan ∷ plans) (first ∷ listed) each = (each.0.is_cheapest.is_plan, are_plans plans listed each.1)
 
--- a list that was written: the sections that it spells, which mean what is held
+-- a list that was written: the sections that it spells, which mean the stored revocations
 pub record SpelledOf (header : Header) (r : Revocations) (text : List ℕ) : Type 0 where
   pub sections : List SpelledSection
   pub spelled : Spells text header sections

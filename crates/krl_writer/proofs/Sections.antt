@@ -1,4 +1,4 @@
--- The sections of a list that is written are spelled, one after the other.
+-- The sections of a written list are spelled, one after another.
 use Rattle.std.proofs.Common.{◌≡◌, ℕ, ◌+◌, ◌^◌, ◌<◌, ◌≤◌, List, [], ◌∷◌, ◌++◌, length, refl, arith, length-append}
 use Rattle.std.specs.List.{All}
 use Rattle.std.proofs.lemmas.List.Elements.{All-tail, recursion_from_All}

@@ -1,4 +1,4 @@
--- The text of a list that is written is spelled.
+-- The text of a written list is spelled as one.
 use Rattle.std.proofs.Common.{◌≡◌, ℕ, zero, suc, ◌+◌, ◌-◌, ◌*◌, ◌/◌, ◌^◌, ◌<◌, ◌≤◌, ◌↔◌, inl, inr, List, [], ◌∷◌, ◌++◌, length, take, drop, refl, sym, ap, subst, ◌∙◌, arith, append_assoc}
 use Rattle.std.specs.List.{AllByRecursion, Contains}
 use Rattle.std.proofs.lemmas.Bool.{cases_lt}
@@ -80,7 +80,7 @@ each_append Spelling a b (x ∷ xs) ys p q =
     let same : a ++ b ≡ first ++ (rest ++ b) = ap (λ (t : List ℕ). t ++ b) p.1.1.0 ∙ append_assoc first rest b in
     (first, (rest ++ b, (same, p.1.1.1, each_append Spelling rest b xs ys p.1.1.2 q)))
 
--- the item of some texts, where there are any
+-- the item of texts, if there are any
 pub listed_spelled : {X : Type 0} (Spelling : List ℕ → X → Type 0) (kind : ℕ) (item : List (List ℕ) → X) (texts : List (List ℕ)) → (length (strings texts) < 2 ^ 32 → Spelling (kind ∷ string (strings texts)) (item texts))
     → length (listed_text kind texts) < 2 ^ 32 → SpellsEach Spelling (listed_text kind texts) (listed_as item texts)
 listed_spelled Spelling kind item [] spelled lt = refl

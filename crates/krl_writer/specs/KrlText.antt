@@ -1,4 +1,4 @@
--- The text of a list that is written, and the sections that it spells.
+-- The text of a written list, and the sections that it spells.
 use Rattle.std.specs.Prelude.{◌≡◌, ℕ, ◌+◌, ◌*◌, List, [], ◌∷◌, ◌++◌, take, drop}
 use Rattle.serial_set.specs.declared.span.Span.{Span}
 use Rattle.ssh_wire.specs.Wire.{string, strings}
@@ -14,12 +14,12 @@ use Rattle.krl_plan.specs.Written.{bitmap_size, bits_of, first_of, plan_text, se
 
 -- ---- texts
 
--- a type byte and strings as a string, where there are any
+-- a type byte and strings as one string, if there are any
 abbrev pub listed_text : ℕ → List (List ℕ) → List ℕ
 listed_text type_byte [] = []
 listed_text type_byte (text ∷ texts) = type_byte ∷ string (strings (text ∷ texts))
 
--- what the section of an authority has in it
+-- the content of the section of a certificate authority
 abbrev pub authority_content : List Group → Section → List ℕ
 authority_content plan listed =
     string listed.authority
@@ -29,7 +29,7 @@ authority_content plan listed =
 abbrev pub authority_text : List Group → Section → List ℕ
 authority_text plan listed = 1 ∷ string (authority_content plan listed)
 
--- the sections of some authorities, with a plan for each
+-- the sections of authorities, with a plan for each
 abbrev pub authorities_text : List (List Group) → List Section → List ℕ
 authorities_text [] listed = []
 authorities_text (plan ∷ plans) [] = []
@@ -44,7 +44,7 @@ texts_text r = listed_text 2 r.keys ++ (listed_text 3 r.sha1s ++ listed_text 5 r
 abbrev pub sections_text : List (List Group) → Revocations → List ℕ
 sections_text plans r = authorities_text plans r.sections ++ texts_text r
 
--- the list of a header and of what is held, with a plan for each authority
+-- the list with a header and the stored revocations, with a plan for each authority
 abbrev pub text_of : Header → List (List Group) → Revocations → List ℕ
 text_of header plans r = header_text header 0 [] ++ sections_text plans r
 
@@ -56,7 +56,8 @@ EachPlan Holds (plan ∷ plans) [] = ⊥
 EachPlan Holds (plan ∷ plans) (first ∷ listed) =
     Holds first.spans plan × EachPlan Holds plans listed
 
--- The text is the list that is written: each authority's serials by the least plan of its runs.
+-- The text is the list that is written: the serials of each authority by the least plan of its
+-- runs.
 pub record IsKrlText (header : Header) (r : Revocations) (text : List ℕ) : Type 0 where
   pub plans : List (List Group)
   pub least : EachPlan IsLeastPlan plans r.sections
@@ -77,7 +78,7 @@ plan_subsections runs (group ∷ groups) =
     group_subsection group.sort (take group.count runs)
     ∷ plan_subsections (drop group.count runs) groups
 
--- the item of some texts, where there are any
+-- the item of texts, if there are any
 abbrev pub listed_as : {X : Type 0} → (List (List ℕ) → X) → List (List ℕ) → List X
 listed_as item [] = []
 listed_as item (text ∷ texts) = item (text ∷ texts) ∷ []

@@ -1,21 +1,21 @@
--- How many bytes a list that is written has.
+-- The length of a written list in bytes.
 use Rattle.std.specs.Prelude.{ℕ, ◌+◌, ◌*◌, List, [], ◌∷◌, length}
 use Rattle.krl_core.specs.declared.header.Header.{Header}
 use Rattle.krl_plan.specs.declared.group.Group.{Group}
 use Rattle.krl_held.specs.Revocations.{Revocations, Section}
 use Rattle.krl_plan.specs.Plan.{cost}
 
--- strings one after the other, each with four bytes of length
+-- strings one after another, each with four bytes of length
 abbrev pub strings_size : List (List ℕ) → ℕ
 strings_size [] = 0
 strings_size (text ∷ texts) = 4 + length text + strings_size texts
 
--- a type byte, a length and strings, where there are any
+-- a type byte, a length and strings, if there are any
 abbrev pub listed_size : List (List ℕ) → ℕ
 listed_size [] = 0
 listed_size (text ∷ texts) = 5 + strings_size (text ∷ texts)
 
--- a type byte, a length and hashes that take this many bytes each, where there are any
+-- a type byte, a length and hashes that take this many bytes each, if there are any
 abbrev pub hashes_size : ℕ → List (List ℕ) → ℕ
 hashes_size each [] = 0
 hashes_size each (hash ∷ hashes) = 5 + each * length (hash ∷ hashes)
@@ -25,7 +25,7 @@ abbrev pub authority_size : List Group → Section → ℕ
 authority_size plan listed =
     13 + length listed.authority + cost listed.spans plan + listed_size listed.ids
 
--- the sections of some authorities, with a plan for each
+-- the sections of authorities, with a plan for each
 abbrev pub authorities_size : List (List Group) → List Section → ℕ
 authorities_size [] listed = 0
 authorities_size (plan ∷ plans) [] = 0

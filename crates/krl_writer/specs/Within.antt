@@ -1,4 +1,4 @@
--- Text that is added to a list that is written, within the limit.
+-- Text that is appended to a list, within the limit.
 use Rattle.std.specs.Prelude.{◌≡◌, ℕ, ◌<◌, ◌≤◌, Bool, true, false, List, ◌++◌, length, take}
 use Rattle.std.specs.Prelude.{Option, Result, Ok, Err, ⊤}
 use Rattle.std.specs.Io.KnownBytes.{Appends}
@@ -19,12 +19,12 @@ abbrev pub text_fault_number : TextFault → ℕ
 text_fault_number NoMemory = 1
 text_fault_number TooLong = 2
 
--- what the fault says of the whole text
+-- the meaning of the fault for the whole text
 abbrev pub Refuses : TextFault → List ℕ → Type 0
 Refuses NoMemory text = ⊤
 Refuses TooLong text = limit < length text
 
--- The text was added and the whole is within the limit, or with the text it would not be.
+-- The text was appended and the whole is within the limit, or it would exceed the limit.
 abbrev pub AddsWithin : {A : Type 0} → Result A TextFault → List ℕ → List ℕ → List ℕ → Type 0
 AddsWithin (Ok done) old new text = (new ≡ old ++ text) × (length new ≤ limit)
 AddsWithin (Err fault) old new text = Refuses fault (old ++ text)
@@ -38,7 +38,7 @@ AddsAuthority (Err fault) old new listed =
     (plan : List Group) → IsLeastPlan listed.spans plan
     → Refuses fault (old ++ authority_text plan listed)
 
--- The same for the sections of some authorities.
+-- The same for the sections of several authorities.
 abbrev pub AddsAuthorities : {A : Type 0}
     → Result A TextFault → List ℕ → List ℕ → List Section → Type 0
 AddsAuthorities (Ok done) old new listed =
@@ -48,11 +48,11 @@ AddsAuthorities (Err fault) old new listed =
     (plans : List (List Group)) → EachPlan IsLeastPlan plans listed
     → Refuses fault (old ++ authorities_text plans listed)
 
--- the text is the list that is written, and within the limit
+-- the text is the list to be written, and within the limit
 abbrev pub IsTextWithin : Header → Revocations → List ℕ → Type 0
 IsTextWithin header r text = IsKrlText header r text × (length text ≤ limit)
 
--- The bytes are those of the list that is written, and within the limit, or the list is too long.
+-- The bytes are those of the list to be written, and within the limit, or the list is too long.
 abbrev pub IsWritten : {A : Type 0} → (A → List ℕ) → Result A TextFault → Header → Revocations
     → Type 0
 IsWritten bytes (Ok made) header r = IsTextWithin header r (bytes made)
@@ -65,9 +65,9 @@ write_fault_number (Write count) = 1
 write_fault_number NoMemory' = 2
 write_fault_number TooLong' = 3
 
--- The list went out, or on a fault of the writer its first bytes and no others, and it is within
--- the limit. Or it has no text, and nothing went out. The writer has failed just where it is at
--- fault.
+-- The list is within the limit and was written; if the writer failed, its first bytes were, and no
+-- others. Or the list has no text, and nothing was written. The writer has failed exactly if the
+-- fault is `Write`.
 abbrev pub Writes : {A : Type 0} → Result A WriteFault → Header → Revocations
     → Option (List ℕ) → Option (List ℕ) → Bool → Type 0
 Writes (Ok done) header r old new failed =

@@ -1,4 +1,4 @@
-//! The sections of all authorities.
+//! The sections of all certificate authorities.
 
 ghost use Rattle.std.specs.Prelude.{◌≤◌, length};
 ghost use Rattle.krl_core.specs.Front.{limit};
@@ -12,7 +12,7 @@ use serial_set::Spans;
 use ssh_wire::put_string;
 use std::alloc::Global;
 
-// Appends the sections of authorities, one after the other.
+// Appends the sections of authorities, one after another.
 pub(crate) fn add_authorities<S: Spans>(
     alloc: Global,
     out: &mut Vec<u8>,
@@ -27,8 +27,8 @@ pub(crate) fn add_authorities<S: Spans>(
     Ok(())
 }
 
-// Appends the section of an authority, by its bytes: its serials by their least plan, and its key
-// IDs.
+// Appends the section of an authority, identified by its bytes: its serials by their least plan,
+// and its key IDs.
 fn add_authority<S: Spans>(
     alloc: Global,
     out: &mut Vec<u8>,

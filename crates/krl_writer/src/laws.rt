@@ -1,4 +1,4 @@
-//! Laws of the lists that are written. Each function does nothing: its contract is the law.
+//! Laws about the lists that are written. Each function does nothing: its contract is the law.
 
 ghost use Rattle.std.specs.Prelude.{◌≡◌, ◌≤◌, ◌<◌, ◌^◌, ◌⊎◌, ℕ, Bool, true, List, Option, None, length};
 ghost use Rattle.ssh_wire.specs.Wire.{IsBytes};
@@ -15,7 +15,7 @@ ghost use Rattle.krl_core.specs.Entries.{entries_of};
 ghost use Rattle.krl_core.specs.Reading.{IsList, Says};
 ghost use Rattle.krl_writer.specs.Size.{text_size};
 
-/// The text of a list within the limit is spelled, whatever plans its serials are written by.
+/// The text of a list within the limit is spelled as a list, whatever the plans for its serials.
 pub fn text_is_spelled()
     ensures { (header : Header) (plans : List (List Group)) (r : Revocations)
         → header.version < 2 ^ 64 → header.date < 2 ^ 64 → IsOrderly r
@@ -23,15 +23,15 @@ pub fn text_is_spelled()
         → Spells (text_of header plans r) header (sections_of plans r) }
 {}
 
-/// What the sections of a written list name is what is held, whatever plans its serials are written
-/// by.
+/// The sections of a written list name exactly the stored revocations, whatever the plans for the
+/// serials.
 pub fn sections_mean_what_is_held()
     ensures { (plans : List (List Group)) (r : Revocations) → IsOrderly r
         → EachPlan IsPlan plans r.sections → Means r (entries_of (sections_of plans r)) }
 {}
 
-/// The list that is written of what is held is spelled, where it is within the limit, and what its
-/// sections name is what is held.
+/// The list that is written is spelled as a list if it is within the limit, and its sections name
+/// exactly the stored revocations.
 pub fn written_list_names_what_is_held()
     ensures { (header : Header) (r : Revocations) (text : List ℕ) → IsKrlText header r text
         → length text ≤ limit → header.version < 2 ^ 64 → header.date < 2 ^ 64 → IsOrderly r
@@ -39,7 +39,7 @@ pub fn written_list_names_what_is_held()
         × Means r (entries_of sections)) }
 {}
 
-/// Whatever is read of a list that was written is its header and just what was held.
+/// Reading a written list gives its header and exactly the stored revocations.
 pub fn written_list_is_read_back()
     ensures { (header read : Header) (r held : Revocations) (text : List ℕ)
         → IsKrlText header r text
@@ -47,8 +47,8 @@ pub fn written_list_is_read_back()
         → IsList text read held → (read ≡ header) × (held ≡ r) }
 {}
 
-/// A list that was written has no fault. What is said of it where it is not read is that memory ran
-/// out, or that the reader failed.
+/// A written list has no fault. If it cannot be read, the fault is that an allocation or the reader
+/// failed.
 pub fn written_list_has_no_fault()
     ensures unfaulted { (header : Header) (r : Revocations) (text : List ℕ)
         → IsKrlText header r text → length text ≤ limit
@@ -62,7 +62,7 @@ pub fn written_list_has_no_fault()
         → (fault ≡ NoMemory) ⊎ ((fault ≡ Read) × (failed ≡ true)) }
 {}
 
-/// The exact length of a list that is written: its parts and what its plans cost.
+/// The exact length of a written list: its parts and the cost of its plans.
 pub fn text_has_its_size()
     ensures { (header : Header) (plans : List (List Group)) (r : Revocations) → IsOrderly r
         → EachPlan IsPlan plans r.sections

@@ -1,4 +1,4 @@
-//! Key revocation lists that are written (PROTOCOL.krl).
+//! Writing key revocation lists (PROTOCOL.krl).
 #![tactic(auto)]
 
 mod authorities;

@@ -1,4 +1,4 @@
-//! Strings one after the other, as long as the whole stays within the limit.
+//! Strings one after another, as long as the whole stays within the limit.
 
 ghost use Rattle.std.specs.Prelude.{◌≤◌, length};
 ghost use Rattle.ssh_wire.specs.Wire.{string, strings};
@@ -11,7 +11,7 @@ use krl_core::Texts;
 use krl_plan::{begin_string, end_string};
 use ssh_wire::put_string;
 
-// The most bytes that a list has.
+// The maximum length of a list in bytes.
 pub(crate) const LIMIT: usize = krl_core::LIMIT as usize;
 
 // Appends a string.
@@ -28,7 +28,7 @@ pub(crate) fn add_string(out: &mut Vec<u8>, text: &[u8]) -> Result<(), TextFault
     Ok(())
 }
 
-// Appends strings, one after the other.
+// Appends strings, one after another.
 fn add_strings(out: &mut Vec<u8>, texts: Texts<'_>) -> Result<(), TextFault>
     requires { length out.old.items ≤ limit }
     ensures { AddsWithin result out.old.items out.new.items (strings texts.entry) }
@@ -39,7 +39,7 @@ fn add_strings(out: &mut Vec<u8>, texts: Texts<'_>) -> Result<(), TextFault>
     Ok(())
 }
 
-// Appends a type byte and a string of strings, where there are any.
+// Appends a type byte and a string of strings, if there are any.
 pub(crate) fn add_listed(
     out: &mut Vec<u8>,
     type_byte: u8,

@@ -1,4 +1,4 @@
-//! The text of what is held, and its way out.
+//! The text of the stored revocations, and writing it.
 
 ghost use Rattle.std.specs.Prelude.{◌≡◌, ◌*◌, ◌<◌, ◌≤◌, [], IsTrue, false, length};
 ghost use Rattle.krl_core.specs.Front.{limit};
@@ -16,12 +16,13 @@ use serial_set::Spans;
 use ssh_wire::{put_string, put_u32, put_u64};
 use std::alloc::Global;
 
-/// The text of a revocation list (PROTOCOL.krl): its header, then what is held, all authorities
-/// first and each authority by its bytes, then keys and hashes. Each authority's serials take the
-/// fewest bytes of all plans that `krl_plan` has for them. What would be empty is left out.
+/// The text of a revocation list (PROTOCOL.krl): its header, then the stored revocations, all
+/// certificate authorities first, in the order of their bytes, then keys and hashes. Each
+/// authority's serials take the fewest bytes of all plans that `krl_plan` has for them. Sections
+/// that would be empty are omitted.
 ///
-/// `TooLong` where the text would be longer than 67,108,864 bytes, which is what `read_krl` reads,
-/// and `NoMemory` where memory runs out.
+/// Returns `TooLong` if the text would be longer than 67,108,864 bytes, the limit of `read_krl`,
+/// and `NoMemory` if an allocation fails.
 pub fn krl_text<S: Spans>(
     alloc: Global,
     header: &Header,
@@ -40,7 +41,7 @@ pub fn krl_text<S: Spans>(
 }
 
 // Whether the serials alone take more bytes than the limit, whatever their plan: 64 intervals take
-// at least 17, as in a bitmap of every other serial. Finding the plan would take long.
+// at least 17, as in a bitmap of every other serial. Finding the plan first would take long.
 fn is_surely_too_long<S: Spans>(revocations: &Revocations<S>) -> bool
     ensures { IsTrue result → 64 * limit < 17 * held revocations.now }
 {
@@ -75,9 +76,9 @@ fn add_texts<S: Spans>(out: &mut Vec<u8>, revocations: &Revocations<S>) -> Resul
 /// Why a list was not written.
 #[derive(Clone, Copy, Debug, PartialEq, Eq)]
 pub enum WriteFault {
-    /// The writer failed once it had taken that many bytes.
+    /// The writer failed after this many bytes.
     Write { count: usize },
-    /// There was no memory. Nothing was written.
+    /// An allocation failed. Nothing was written.
     NoMemory,
     /// The text is longer than 67,108,864 bytes, so it could not be read. Nothing was written.
     TooLong,
@@ -97,8 +98,8 @@ impl WriteFault {
 }
 
 /// Writes the text of `krl_text` to a writer that has not failed before. The whole text is in
-/// memory before the first byte goes out: after `NoMemory` and `TooLong` none did, and after
-/// `Write` the first `count` bytes and no others.
+/// memory before the first byte is written: after `NoMemory` and `TooLong` none was written, and
+/// after `Write` the first `count` bytes and no others.
 pub fn write_krl<S: Spans, W: Sink>(
     alloc: Global,
     header: &Header,

@@ -9,7 +9,7 @@ use std::alloc::AllocError;
 /// Why a list has no text.
 #[derive(Clone, Copy, Debug, PartialEq, Eq)]
 pub enum TextFault {
-    /// There was no memory.
+    /// An allocation failed.
     NoMemory,
     /// The text is longer than 67,108,864 bytes, so it could not be read.
     TooLong,
