@@ -1,5 +1,5 @@
--- The numbers and the printed names of the faults of a revocation list, and what a fault of its
--- reader is.
+-- The numbers and the printed names of the faults of a revocation list, and how a fault of its
+-- reader is reported.
 use Rattle.std.specs.Prelude.{ℕ, List, codes}
 use Rattle.ssh_wire.specs.declared.pull_fault.PullFault.{PullFault}
 use Rattle.ssh_wire.specs.declared.pull_fault.PullFault.TheVariants as pulls
@@ -46,7 +46,7 @@ fault_text Read = codes "krl 13 Read"
 fault_text NoMemory = codes "krl 14 NoMemory"
 fault_text CriticalExtension = codes "krl 15 CriticalExtension"
 
--- what a fault of a reader is reported as
+-- the fault of the list for a fault of its reader
 abbrev pub reported_as : PullFault → KrlFault
 reported_as pulls.EndsEarly = EndsEarly
 reported_as pulls.TooLong = TooLong

@@ -1,7 +1,7 @@
--- What a revocation list is asked about (ssh-keygen(1), KEY REVOCATION LISTS).
+-- The subject of a query of a revocation list (ssh-keygen(1), KEY REVOCATION LISTS).
 use Rattle.std.specs.Prelude.{ℕ, List, Option}
 
--- what a list can name of a certificate, beside its plain key
+-- the parts of a certificate that a list can name, besides its plain key
 pub record CertNames : Type 0 where
   pub serial : ℕ
   pub key_id : List ℕ

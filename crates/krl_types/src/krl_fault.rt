@@ -1,4 +1,4 @@
-//! Why a revocation list is refused.
+//! Why a revocation list cannot be read.
 
 ghost use Rattle.std.specs.Prelude.{◌≡◌, Some};
 ghost use Rattle.krl_types.specs.KrlFault.{fault_number, fault_text, reported_as};
@@ -9,8 +9,8 @@ use std::alloc::{AllocError, AllocFailed};
 use std::error::Error;
 use std::fmt;
 
-/// Why a key revocation list is refused: the first fault in reading order. It prints as `krl`, its
-/// number and its name.
+/// Why a key revocation list cannot be read: the first fault in reading order. It prints as `krl`,
+/// its number and its name.
 #[derive(Clone, Copy, Debug, PartialEq, Eq)]
 pub enum KrlFault {
     /// The first eight bytes are not those of a revocation list.
@@ -19,29 +19,29 @@ pub enum KrlFault {
     FormatVersion,
     /// The bytes end where more are expected.
     EndsEarly,
-    /// A section has a type that is not known.
+    /// A section has an unknown type.
     UnknownSection,
-    /// A subsection of a certificate section has a type that is not known.
+    /// A subsection of a certificate section has an unknown type.
     UnknownCertSection,
     /// A length does not fit what is left of its section or subsection.
     Length,
     /// A range ends before it begins.
     RangeReversed,
-    /// A bitmap is a number below zero.
+    /// A bitmap is a negative number.
     BitmapNegative,
-    /// A bitmap names a serial number past the greatest one.
+    /// A bitmap names a serial number past the largest one.
     BitmapWraps,
-    /// A hash has another length than its section's hashes have.
+    /// A hash does not have the length of its section's hashes.
     HashLength,
-    /// Another section stands after a signature.
+    /// Another section follows a signature.
     AfterSignature,
     /// The list is longer than 67,108,864 bytes.
     TooLong,
     /// The list's reader failed.
     Read,
-    /// There was no memory.
+    /// An allocation failed.
     NoMemory,
-    /// An extension is critical, and none is known.
+    /// An extension is critical; no extension is known.
     CriticalExtension,
 }
 

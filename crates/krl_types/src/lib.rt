@@ -1,4 +1,4 @@
-//! What a revocation list is asked about a key, and why a list is refused (ssh-keygen(1), KEY
+//! The subject of a query of a revocation list, and why a list cannot be read (ssh-keygen(1), KEY
 //! REVOCATION LISTS; PROTOCOL.krl).
 #![tactic(auto)]
 

@@ -1,16 +1,16 @@
-//! What a revocation list is asked about a key.
+//! The subject of a query of a revocation list.
 
 use ssh_wire::Bytes;
 use std::marker::Model;
 
-/// What a revocation list can name of a certificate, beside its plain key.
+/// The parts of a certificate that a revocation list can name, besides its plain key.
 #[derive(Drop)]
 pub struct CertNames<'a> {
     /// The serial number. Zero names no certificate.
     pub serial: u64,
     /// The key ID. It need not be text.
     pub key_id: &'a [u8],
-    /// The blob of the authority's key.
+    /// The blob of the certificate authority's key.
     pub authority: &'a [u8],
 }
 
@@ -26,12 +26,12 @@ impl<'a> Model for CertNames<'a> {
     } };
 }
 
-/// What a revocation list is asked about: a plain key, or a certificate and its plain key.
+/// The subject of a query of a revocation list: a plain key, or a certificate and its plain key.
 #[derive(Drop)]
 pub struct Subject<'a> {
     /// The blob of the plain key.
     pub plain: Bytes,
-    /// The names of the certificate, where it is one.
+    /// The names of the certificate, if it is one.
     pub cert: Option<CertNames<'a>>,
 }
 
