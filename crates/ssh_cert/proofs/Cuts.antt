@@ -1,4 +1,4 @@
--- What is cut is refused as cut short.
+-- A truncated certificate has the fault of a truncated field.
 use Rattle.std.proofs.Common.{◌≡◌, ℕ, ◌+◌, ◌^◌, ◌<◌, ◌≤◌, List, [], ◌∷◌, ◌++◌, length, Result, Ok, Err, refl, sym, ap, subst, ◌∙◌, append_assoc, arith, inl, inr}
 use Rattle.std.proofs.lemmas.Bool.{cases_lt}
 use Rattle.std.proofs.lemmas.List.{append-nil, length-append}
@@ -23,7 +23,7 @@ use Rattle.ssh_cert.specs.Options.{options_text}
 use Rattle.ssh_cert.proofs.Certs.{kind_again, length-certificate_name, values_allowed, values_of}
 use Rattle.ssh_cert.proofs.FieldReads.{field_again}
 
--- two ways to part one list: the shorter front begins the longer
+-- two ways to split one list: the longer front begins with the shorter one
 pub record Longer (a x b y : List ℕ) : Type 0 where
   pub between : List ℕ
   pub front : b ≡ a ++ between
@@ -39,11 +39,11 @@ longer (n ∷ a) x (m ∷ b) y e le =
     let rest = longer a x b y tails fewer in
     record { between = rest.between; front = ap (λ (k : ℕ). k ∷ b) (sym heads) ∙ ap (λ (l : List ℕ). n ∷ l) rest.front; after = rest.after }
 
--- nothing stands after all of a text
+-- nothing is missing after all of a text
 none_after : (p q : List ℕ) → [] ≡ p ++ q → 0 < length q → ⊥
 none_after p q e some = let lengths : 0 ≡ length p + length q = ap length e ∙ length-append p q in omega arith
 
--- a refusal that is reported as a field cut short
+-- an error that reports a truncated field
 pub record Cut {A : Type 0} (read : Result A CertFault) : Type 0 where
   pub fault : CertFault
   pub refused : read ≡ Err fault

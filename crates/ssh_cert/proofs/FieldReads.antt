@@ -1,4 +1,4 @@
--- A field that is read is spelled as its value, and what is spelled so is read.
+-- A field that is read is the spelling of its value, and each spelling is read.
 use Rattle.std.proofs.Common.{◌≡◌, ℕ, ◌^◌, ◌<◌, List, ◌++◌, length, Ok, refl, ap, subst, ◌∙◌, arith}
 use Rattle.std.specs.Option.{ok_or}
 use Rattle.ssh_wire.specs.Wire.{IsBytes, number, string, strings}
@@ -27,7 +27,7 @@ pub record TakesField (field : Field) (bytes : List ℕ) (x : ValueOf field × L
 taken : (field : Field) (bytes : List ℕ) (value : ValueOf field) (rest : List ℕ) (x : ValueOf field × List ℕ) → (value, rest) ≡ x → HasFront bytes (field_text field value) rest → IsValue field value → TakesField field bytes x
 taken field bytes value rest x e t allowed = subst (λ (y : ValueOf field × List ℕ). TakesField field bytes y) e (record { takes = t; allowed = allowed })
 
--- a string at the front whose content is this text
+-- a string at the front with this content
 respelled : (bytes content text rest : List ℕ) → HasFront bytes (string content) rest → content ≡ text → HasFront bytes (string text) rest
 respelled bytes content text rest t e = subst (λ (s : List ℕ). HasFront bytes (string s) rest) e t
 

@@ -1,5 +1,5 @@
--- Fields in a row: what is read is spelled so, what is spelled so is read, and the first that is
--- refused is the fault.
+-- A sequence of fields: what is read is the spelling, each spelling is read, and the fault is that of the first wrong
+-- field.
 use Rattle.std.proofs.Common.{◌≡◌, ℕ, List, [], ◌∷◌, ◌++◌, Ok, Err, refl, sym, ap, subst, ◌∙◌, append_assoc, inl, inr}
 use Rattle.ssh_wire.specs.Wire.{IsBytes}
 use Rattle.ssh_wire.specs.Reading.{◌>>=◌}
@@ -38,7 +38,7 @@ fields_again (field ∷ fields) values rest allowed =
     ap (fields_at (field ∷ fields)) (append_assoc (field_text field values.0) (fields_text fields values.1) rest)
     ∙ rw (field_again field values.0 (fields_text fields values.1 ++ rest) allowed.0, fields_again fields values.1 rest allowed.1) refl
 
--- the fields up to the one that is refused
+-- the fields up to the one that is wrong
 pub record RefusedIn (fields : List Field) (bytes : List ℕ) (fault : CertFault) : Type 0 where
   pub before : List Field
   pub field : Field

@@ -1,4 +1,4 @@
--- A blob that was read: of a plain key, or of a certificate.
+-- A blob that was read: that of a plain key, or of a certificate.
 use Rattle.std.specs.Prelude.{◌≡◌, ℕ, List, Option, Some, None, Ok, option_map}
 use Rattle.std.specs.Result.{result_ok}
 use Rattle.ssh_key.specs.Key.{IsKey, PublicKey, blob_of}
@@ -19,7 +19,7 @@ abbrev pub certificate_in : AnyKey → Option Cert
 certificate_in (Plain key) = None
 certificate_in (Certified certificate) = Some certificate
 
--- what a list is asked about it
+-- the subject of a query for it
 abbrev pub asked_of : AnyKey → Subject
 asked_of any =
     record { plain = blob_of (plain_of any); cert = option_map names_of (certificate_in any) }
@@ -28,7 +28,7 @@ abbrev pub Spells : List ℕ → AnyKey → Type 0
 Spells blob (Plain key) = IsKey blob key
 Spells blob (Certified certificate) = IsCertificate blob certificate
 
--- The blob is that of the key or of the certificate, and each reader of blobs reads the same.
+-- The blob is that of the key or of the certificate, and each reader of blobs reads it so.
 pub record IsReadAs (blob : List ℕ) (any : AnyKey) : Type 0 where
   pub spelled : Spells blob any
   pub asked : subject_of blob ≡ Ok (asked_of any)

@@ -1,4 +1,4 @@
--- What a certificate says, and how its blob is spelled (PROTOCOL.certkeys).
+-- The content of a certificate, and how its blob is spelled (PROTOCOL.certkeys).
 use Rattle.std.specs.Prelude.{◌≡◌, ℕ, ◌<◌, ◌^◌, List, [], ◌∷◌, length}
 use Rattle.std.specs.List.{concat}
 use Rattle.ssh_wire.specs.Wire.{BeginsWith, number, string, strings}
@@ -8,8 +8,8 @@ use Rattle.ssh_cert.specs.declared.role.Role.{Role}
 use Rattle.ssh_cert.specs.declared.role.Role.TheVariants.{User, Host}
 use Rattle.ssh_cert.specs.Options.{CertOption, options_text}
 
--- A certificate's fields, without the reserved one; of the signature only the name of its
--- algorithm.
+-- The fields of a certificate, without the reserved one; only the algorithm's name of the
+-- signature.
 pub record Cert : Type 0 where
   pub nonce : List ℕ
   pub key : PublicKey
@@ -30,7 +30,7 @@ abbrev pub role_number : Role → ℕ
 role_number User = 1
 role_number Host = 2
 
--- the fields in their order: the type name first, the signature last
+-- the fields in order: the type name first, the signature last
 abbrev pub certificate_parts : Cert → List ℕ → List ℕ → List (List ℕ)
 certificate_parts certificate reserved signature =
     string (certificate_name certificate.key.kind)
@@ -53,7 +53,7 @@ abbrev pub certificate_text : Cert → List ℕ → List ℕ → List ℕ
 certificate_text certificate reserved signature =
     concat (certificate_parts certificate reserved signature)
 
--- Four bytes hold the length of each string, and eight bytes each number.
+-- The length of each string fits in four bytes, and each number in eight.
 pub record HasLengths (certificate : Cert) (reserved signature : List ℕ) : Type 0 where
   pub nonce_fits : length certificate.nonce < 2 ^ 32
   pub serial_fits : certificate.serial < 2 ^ 64
@@ -66,8 +66,8 @@ pub record HasLengths (certificate : Cert) (reserved signature : List ℕ) : Typ
   pub reserved_fits : length reserved < 2 ^ 32
   pub signature_fits : length signature < 2 ^ 32
 
--- The blob is that of the certificate: its fields in their order, and nothing more. The plain key
--- and the signature key are keys, and the signature begins with the name of its algorithm.
+-- The blob is that of the certificate: its fields in order, and nothing more. The plain key and the
+-- signature key are keys, and the signature begins with the name of its algorithm.
 pub record IsCertificate (blob : List ℕ) (certificate : Cert) : Type 0 where
   pub reserved : List ℕ
   pub signature : List ℕ

@@ -1,4 +1,4 @@
--- Reading a certificate from left to right, with the first fault that is met.
+-- Reading a certificate from left to right, up to the first fault.
 use Rattle.std.specs.Prelude.{ℕ, List, [], ◌∷◌, length, Option, Some, None, Result, Ok, Err, ◌==◌, if◌then◌else◌}
 use Rattle.std.specs.Option.{ok_or, option_and_then}
 use Rattle.ssh_wire.specs.Reading.{◌>>=◌, in_fault, number_at, string_at}
@@ -16,7 +16,7 @@ use Rattle.ssh_cert.specs.Field.{Field, TextField, PublicField, NumberField, Rol
 use Rattle.ssh_cert.specs.Options.{CertOption, pairs_of}
 use Rattle.ssh_cert.specs.Strings.{strings_of}
 
--- a field that is cut short, whatever the fault of the wire
+-- a field that is truncated, whatever the fault of the wire
 abbrev pub cut_short : WireFault → CertFault
 cut_short fault = faults.Wire
 
@@ -32,7 +32,7 @@ authority_of blob key = record { blob = blob; key = key }
 abbrev pub signature_of : List ℕ → List ℕ × List ℕ → Signature
 signature_of text first = record { text = text; algorithm = first.0 }
 
--- the name of the algorithm stands first
+-- the name of the algorithm comes first
 abbrev pub named : List ℕ → Result (List ℕ × List ℕ) WireFault → Option Signature
 named text (Ok first) = Some (signature_of text first)
 named text (Err fault) = None
@@ -63,7 +63,7 @@ field_at SignatureField bytes = do
   signature ← ok_or (named text.0 (string_at text.0)) faults.Signature
   Ok (signature, text.1)
 
--- the values of the fields, one after the other, and the bytes after them
+-- the values of the fields, one after another, and the bytes after them
 unfoldable pub fields_at : (fields : List Field) → List ℕ
     → Result (ValuesOf fields × List ℕ) CertFault
 fields_at [] bytes = Ok (tt, bytes)
@@ -79,7 +79,7 @@ kind_at bytes = do
   kind ← ok_or (kind_certified name.0) faults.UnknownType
   Ok (kind, name.1)
 
--- the certificate of the values, without those of the reserved field and the signature
+-- the certificate with these values, without those of the reserved field and the signature
 abbrev pub certificate_of : (kind : Kind) → ValuesOf (fields_of kind) → Cert
 certificate_of kind (
   nonce,
@@ -124,7 +124,7 @@ certificate_of kind (
   algorithm = signature.algorithm;
 }
 
--- the certificate whose fields after the type name stand at the front, and the bytes after them
+-- the certificate whose fields after the type name are at the front, and the bytes after them
 unfoldable pub body_at : Kind → List ℕ → Result (Cert × List ℕ) CertFault
 body_at kind bytes = do
   values ← fields_at (fields_of kind) bytes

@@ -1,4 +1,4 @@
--- Texts as they are printed: each byte below 32, and 127, stands as its hexadecimal digits.
+-- Texts as they are printed: each byte below 32, and 127, as its hexadecimal digits.
 use Rattle.std.specs.Prelude.{ℕ, ◌/◌, ◌%◌, ◌==◌, ◌||◌, nat_lt, if◌then◌else◌, List, [], ◌∷◌, slice_index, codes}
 use Rattle.std.specs.List.{flat_map}
 

@@ -1,4 +1,4 @@
--- The fields of a certificate after its type name: what is in each, and how it is spelled.
+-- The fields of a certificate after its type name: their content, and how it is spelled.
 use Rattle.std.specs.Prelude.{◌≡◌, ℕ, ◌<◌, ◌^◌, List, [], ◌∷◌, ◌++◌, length}
 use Rattle.ssh_wire.specs.Wire.{BeginsWith, number, string, strings}
 use Rattle.ssh_key.specs.Key.{IsKey, PublicKey, blob_of}
@@ -7,8 +7,8 @@ use Rattle.ssh_cert.specs.declared.role.Role.{Role}
 use Rattle.ssh_cert.specs.Cert.{role_number}
 use Rattle.ssh_cert.specs.Options.{CertOption, options_text}
 
--- a string; the public fields of a key of the kind; a number of eight bytes; what the certificate
--- is for; the principals; options or extensions; the signature key; the signature
+-- a string; the public fields of a key of the kind; a number of eight bytes; the role of the
+-- certificate; the principals; options or extensions; the signature key; the signature
 pub data Field : Type 0 where
   TextField : Field
   PublicField : Kind → Field
@@ -63,7 +63,7 @@ IsValue AuthorityField authority = IsKey authority.blob authority.key
 IsValue SignatureField signature =
     (length signature.text < 2 ^ 32) × BeginsWith signature.text signature.algorithm
 
--- how it is spelled there
+-- how the value is spelled in the field
 abbrev pub field_text : (field : Field) → ValueOf field → List ℕ
 field_text TextField text = string text
 field_text (PublicField kind) key = key.fields
@@ -83,7 +83,7 @@ abbrev pub AreValues : (fields : List Field) → ValuesOf fields → Type 0
 AreValues [] values = Unit {0}
 AreValues (field ∷ fields) values = IsValue field values.0 × AreValues fields values.1
 
--- their spellings, one after the other
+-- their spellings, one after another
 abbrev pub fields_text : (fields : List Field) → ValuesOf fields → List ℕ
 fields_text [] values = []
 fields_text (field ∷ fields) values = field_text field values.0 ++ fields_text fields values.1

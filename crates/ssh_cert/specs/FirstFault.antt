@@ -1,4 +1,4 @@
--- Why a blob is no certificate: its first fault, by what is in the blob before it.
+-- Why a blob is not a certificate: its first fault, determined by the fields before it.
 use Rattle.std.specs.Prelude.{◌≡◌, ◌≢◌, ℕ, ◌<◌, ◌^◌, List, [], ◌∷◌, ◌++◌, length, Err}
 use Rattle.ssh_wire.specs.Wire.{BeginsWith, number, string, strings}
 use Rattle.ssh_wire.specs.Reading.{string_at}
@@ -11,7 +11,7 @@ use Rattle.ssh_cert.specs.declared.fault.CertFault.TheVariants as faults
 use Rattle.ssh_cert.specs.Field.{Field, PublicField, NumberField, RoleField, PrincipalsField, OptionsField, AuthorityField, SignatureField, ValuesOf, AreValues, fields_of, fields_text}
 use Rattle.ssh_cert.specs.Options.{CertOption, options_text}
 
--- a number of four bytes at the front, which is neither a user's nor a host's
+-- a number of four bytes at the front that is neither a user's nor a host's
 pub record HasOtherRole (bytes : List ℕ) : Type 0 where
   pub role : ℕ
   pub rest : List ℕ
@@ -20,8 +20,8 @@ pub record HasOtherRole (bytes : List ℕ) : Type 0 where
   pub no_user : role ≢ 1
   pub no_host : role ≢ 2
 
--- What is at the front of the bytes is no value of the field: it is cut short, or a string
--- whose content may not stand there.
+-- The bytes at the front are no value of the field: it is truncated, or a string whose content is
+-- not allowed in the field.
 abbrev pub Refuses : Field → List ℕ → CertFault → Type 0
 Refuses (PublicField kind) bytes (faults.Key fault) = IsFieldsFault kind bytes fault
 Refuses (PublicField kind) bytes fault = ⊥
@@ -44,8 +44,8 @@ Refuses SignatureField bytes faults.Signature =
     × ((algorithm : List ℕ) → ¬ BeginsWith signature algorithm)
 Refuses field bytes fault = ⊥
 
--- The blob has its type name and, with values that may stand there, its fields before the later
--- ones. These bytes are left.
+-- The blob has its type name and, with allowed values, its fields before the later ones. These
+-- bytes are left.
 pub record Reaches (blob : List ℕ) (kind : Kind) (later : List Field) (rest : List ℕ) : Type 0 where
   pub before : List Field
   pub values : ValuesOf before

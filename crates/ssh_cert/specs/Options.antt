@@ -14,11 +14,11 @@ pub record CertOption : Type 0 where
 abbrev pub parts_of : List CertOption → List (List ℕ)
 parts_of options = flat_map (λ option. option.name ∷ option.content ∷ []) options
 
--- the strings of the names and of the data, one after the other
+-- the strings of the names and of the data, one after another
 abbrev pub options_text : List CertOption → List ℕ
 options_text options = strings (parts_of options)
 
--- strings by two, where none is left over
+-- pairs of consecutive strings, if none is left over
 abbrev pub pairs_of : List (List ℕ) → Option (List CertOption)
 pairs_of [] = Some []
 pairs_of (name ∷ []) = None
@@ -28,6 +28,6 @@ pairs_of (name ∷ content ∷ rest) =
 abbrev pub pairs_in : List (List ℕ) → List CertOption
 pairs_in parts = unwrap_or (pairs_of parts) []
 
--- Nothing is left over.
+-- No string is left over.
 abbrev pub ArePairs : List (List ℕ) → Type 0
 ArePairs parts = parts ≡ parts_of (pairs_in parts)

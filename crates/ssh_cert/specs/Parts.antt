@@ -1,4 +1,4 @@
--- The values of the fields that a reader of a part found.
+-- The values of the fields that a part's reader found.
 use Rattle.ssh_cert.specs.declared.reading.Closing.{Closing}
 use Rattle.std.specs.Prelude.{ℕ, List, ◌∷◌}
 use Rattle.ssh_cert.specs.declared.reading.Naming.{Naming}
@@ -22,7 +22,7 @@ naming_values part =
 abbrev pub numbered_values : Numbered → ValuesOf numbered_fields
 numbered_values part = (part.serial, (part.role, naming_values part.naming))
 
--- the certificate of its nonce, its key and what follows them
+-- the certificate with this nonce, key and further fields
 abbrev pub of_fields : List ℕ → PublicKey → Numbered → Cert
 of_fields nonce key part = record {
   nonce = nonce;

@@ -1,4 +1,4 @@
--- What a blob asks of a revocation list, and why it asks nothing.
+-- The subject of a blob, and why it has none.
 use Rattle.std.specs.Prelude.{◌≡◌, ℕ, Bool, false, List, Some, None, Result, Ok, Err, is_some, if◌then◌else◌}
 use Rattle.ssh_wire.specs.Reading.{Answers, string_at}
 use Rattle.ssh_wire.specs.declared.fault.WireFault.{WireFault}
@@ -24,7 +24,7 @@ names_of certificate = record {
   authority = certificate.authority;
 }
 
--- a certificate is asked about by its plain key, never by its own blob
+-- the subject of a certificate has its plain key, never its own blob
 abbrev pub of_certificate : Cert → Subject
 of_certificate certificate =
     record { plain = blob_of certificate.key; cert = Some (names_of certificate) }
@@ -32,7 +32,7 @@ of_certificate certificate =
 abbrev pub of_key : List ℕ → Subject
 of_key blob = record { plain = blob; cert = None }
 
--- The blob is that of a plain key or of a certificate, and this is asked of it.
+-- The blob is that of a plain key or of a certificate, and has this subject.
 pub data IsSubject (blob : List ℕ) (subject : Subject) : Type 0 where
   plain_key : (key : PublicKey) → IsKey blob key → subject ≡ of_key blob → IsSubject blob subject
   certified : (certificate : Cert) → IsCertificate blob certificate
@@ -43,20 +43,20 @@ pub record HasCertificateName (blob : List ℕ) : Type 0 where
   pub kind : Kind
   pub begins : BeginsWith blob (certificate_name kind)
 
--- The first fault of a blob, as that of a certificate where its first string is the type name of
--- one, and else as that of a plain key.
+-- The first fault of a blob: that of a certificate if its first string is the type name of one,
+-- otherwise that of a plain key.
 pub data IsSubjectFault (blob : List ℕ) (fault : SubjectFault) : Type 0 where
   no_key : (why : KeyFault) → ¬ HasCertificateName blob → IsKeyFault blob why
       → fault ≡ faults.Key why → IsSubjectFault blob fault
   no_certificate : (why : CertFault) → HasCertificateName blob → IsFirstFault blob why
       → fault ≡ faults.Cert why → IsSubjectFault blob fault
 
--- a plain key or a certificate
+-- the blob of a plain key or of a certificate
 pub record HasSubject (blob : List ℕ) : Type 0 where
   pub subject : Subject
   pub is : IsSubject blob subject
 
--- What is reported of a blob: its fault, or that there is no memory for what is asked of it.
+-- The reported fault of a blob: its first one, or that an allocation for its subject failed.
 abbrev pub IsReportedFault : List ℕ → SubjectFault → Type 0
 IsReportedFault blob faults.NoMemory = HasSubject blob
 IsReportedFault blob fault = IsSubjectFault blob fault
@@ -82,12 +82,12 @@ subject_of blob =
     if is_certificate blob then certificate_subject (certificate_at blob)
     else key_subject blob (key_at blob)
 
--- something is asked
+-- reading gives a subject
 pub record IsAsked (read : Result Subject SubjectFault) : Type 0 where
   pub subject : Subject
   pub read_as : read ≡ Ok subject
 
--- A fault is the one that reading gives, or there was no memory for what it gives.
+-- The fault is the one that reading gives, or an allocation for the subject failed.
 abbrev pub ReportsFault : SubjectFault → Result Subject SubjectFault → Type 0
 ReportsFault faults.NoMemory read = IsAsked read
 ReportsFault fault read = read ≡ Err fault

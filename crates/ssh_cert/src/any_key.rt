@@ -12,7 +12,7 @@ use ssh_key::{Kind, PublicKey, plain_blob, read_key};
 use ssh_wire::{Bytes, Cursor};
 use std::alloc::{AllocError, Global};
 
-/// A plain key or a certificate, lent from its blob.
+/// A plain key or a certificate, borrowed from its blob.
 #[derive(Drop)]
 pub enum AnyKey<'a> {
     /// A plain key.
@@ -22,13 +22,13 @@ pub enum AnyKey<'a> {
 }
 
 /// The plain key or the certificate that a blob spells. A blob whose first string is the type name
-/// of a certificate is read as a certificate, any other as a plain key. Takes no memory.
+/// of a certificate is read as a certificate, any other as a plain key. Does not allocate.
 pub fn read_any<'a>(blob: &'a [u8]) -> Result<AnyKey<'a>, SubjectFault>
-    // What is read is spelled so.
+    // The blob spells what is read.
     ensures found { IfOk result (λ any. IsReadAs blob.now any) }
     // The fault is the first one.
     ensures fault { IfErr result (λ fault. IsSubjectFault blob.now fault) }
-    // The same, for those who compute with the answer.
+    // The same as a function, for callers that compute with the result.
     ensures exact { IfErr result (λ fault. subject_of blob.now ≡ Err fault) }
 {
     if is_certificate(blob) {
@@ -66,8 +66,8 @@ impl<'a> AnyKey<'a> {
         }
     }
 
-    /// What a revocation list is asked about it (ssh-keygen(1), KEY REVOCATION LISTS). Fails only
-    /// where memory runs out.
+    /// The subject of a query for it (ssh-keygen(1), KEY REVOCATION LISTS). Fails only if an
+    /// allocation fails.
     pub fn subject(&self, alloc: Global) -> Result<Subject<'a>, AllocError>
         ensures { IfOk result (λ asked. asked ≡ asked_of self.now) }
     {
@@ -78,7 +78,7 @@ impl<'a> AnyKey<'a> {
         })
     }
 
-    // The names of the certificate, where it is one.
+    // The names of the certificate, if it is one.
     fn names(&self) -> Option<CertNames<'a>>
         ensures { result ≡ (asked_of self.now).cert }
     {

@@ -1,4 +1,4 @@
-//! Certificates, lent from their blobs.
+//! Certificates, borrowed from their blobs.
 
 ghost use Rattle.std.specs.Prelude.{◌≡◌};
 
@@ -8,7 +8,7 @@ use crate::strings::Strings;
 use ssh_key::{Kind, PublicKey};
 use std::marker::Model;
 
-/// A certificate, lent from its blob. Its signature is not checked.
+/// A certificate, borrowed from its blob. Its signature is not checked.
 #[derive(Drop)]
 pub struct Cert<'a> {
     pub(crate) nonce: &'a [u8],
@@ -56,7 +56,7 @@ impl<'a> Cert<'a> {
         self.key.kind()
     }
 
-    /// Random bytes of the authority's, against collisions of the signature's hash.
+    /// The certificate authority's random bytes, which prevent collisions of the signature's hash.
     pub fn nonce(&self) -> &'a [u8]
         ensures { result.now ≡ self.now.nonce }
     {
@@ -70,28 +70,28 @@ impl<'a> Cert<'a> {
         &self.key
     }
 
-    /// The serial number. Authorities that do not number their certificates write zero.
+    /// The serial number. Certificate authorities that do not number their certificates write zero.
     pub fn serial(&self) -> u64
         ensures { result ≡ self.now.serial }
     {
         self.serial
     }
 
-    /// What the certificate is for.
+    /// Whether the certificate is for a user or a host.
     pub fn role(&self) -> Role
         ensures { result ≡ self.now.role }
     {
         self.role
     }
 
-    /// The key ID, by which the authority's logs name the certificate. It need not be text.
+    /// The key ID, which identifies the certificate in the authority's logs. It need not be text.
     pub fn key_id(&self) -> &'a [u8]
         ensures { result.now ≡ self.now.key_id }
     {
         self.key_id
     }
 
-    /// The users or hosts for which the certificate is valid. None means any.
+    /// The users or hosts for which the certificate is valid. An empty list means any.
     pub fn principals(&self) -> Strings<'a>
         ensures { result ≡ self.now.principals }
     {
@@ -105,7 +105,7 @@ impl<'a> Cert<'a> {
         self.after
     }
 
-    /// The first second at which the certificate is no more valid, counted from 1970.
+    /// The first second at which the certificate is no longer valid, counted from 1970.
     pub fn before(&self) -> u64
         ensures { result ≡ self.now.before }
     {
@@ -119,21 +119,21 @@ impl<'a> Cert<'a> {
         self.critical.again()
     }
 
-    /// The extensions, which a server may pass over.
+    /// The extensions, which a server may ignore.
     pub fn extensions(&self) -> Options<'a>
         ensures { result ≡ self.now.extensions }
     {
         self.extensions.again()
     }
 
-    /// The blob of the authority's key.
+    /// The blob of the certificate authority's key.
     pub fn authority(&self) -> &'a [u8]
         ensures { result.now ≡ self.now.authority }
     {
         self.authority
     }
 
-    /// The authority's key, which is a plain key.
+    /// The certificate authority's key, which is a plain key.
     pub fn authority_key(&self) -> &PublicKey<'a>
         ensures { result.now ≡ self.now.authority_key }
     {

@@ -1,4 +1,4 @@
-//! Texts of others as they are printed.
+//! Printing text that others wrote.
 
 ghost use Rattle.std.specs.Prelude.{◌≡◌, ◌++◌, OnOk};
 ghost use Rattle.ssh_cert.specs.Escape.{escaped, escaped_byte};
@@ -8,7 +8,7 @@ use std::alloc::AllocError;
 const DIGITS: &[u8; 16] = b"0123456789abcdef";
 
 /// Appends the text with each byte below 0x20 and byte 0x7f as `\x` and two hexadecimal digits, so
-/// that no line feed and no escape byte is printed. Bytes from 0x80 on stand as they are.
+/// that no line feed and no escape byte is printed. Bytes from 0x80 on are unchanged.
 #[tactic(auto, unfolding(crate::specs::Escape::escaped))]
 pub fn push_escaped(out: &mut Vec<u8>, text: &[u8]) -> Result<(), AllocError>
     ensures { OnOk result (out.new.items ≡ out.old.items ++ escaped text.now) }

@@ -1,4 +1,4 @@
-//! Why blobs are refused.
+//! Why blobs are not certificates.
 
 ghost use Rattle.std.specs.Prelude.{◌≡◌, Some};
 ghost use Rattle.ssh_cert.specs.CertFault.{cert_fault_number, cert_fault_text};
@@ -9,16 +9,16 @@ use ssh_wire::WireFault;
 use std::error::Error;
 use std::fmt;
 
-/// Why a blob is not a certificate. Of several faults the first is reported, in the order of the
-/// fields. It prints as `cert`, its number and its name; after `Key` and `Authority` comes the
-/// fault of the key.
+/// Why a blob is not a certificate. If there are several faults, the first is reported, in the
+/// order of the fields. It prints as `cert`, its number and its name; after `Key` and `Authority`
+/// comes the fault of the key.
 #[derive(Clone, Copy, Debug, PartialEq, Eq)]
 pub enum CertFault {
-    /// A field outside the public fields of the key is cut short.
+    /// A field outside the public fields of the key is truncated.
     Wire,
-    /// The type name is not that of a certificate. That of a plain key is not.
+    /// The type name is not that of a certificate. The name of a plain key's type is not.
     UnknownType,
-    /// The public fields of the key are not those of its kind, or are cut short.
+    /// The public fields of the key are not those of its kind, or are truncated.
     Key(KeyFault),
     /// The certificate is neither a user's nor a host's.
     CertType,

@@ -1,6 +1,5 @@
-//! What holds for every certificate and every list of bytes, each as the contract of a function
-//! that does nothing. `read_cert` answers what the reader named here gives, and `subject` what is
-//! asked.
+//! Laws about every certificate and every list of bytes, each as the contract of a function that
+//! does nothing. `read_cert` returns what the reader named here gives, and `subject` the subject.
 
 ghost use Rattle.std.specs.Prelude.{◌≡◌, ◌↔◌, ℕ, List, Err, Ok};
 ghost use Rattle.ssh_cert.specs.CertReading.{certificate_at};
@@ -25,7 +24,7 @@ pub fn refused_by_first_fault()
         → (certificate_at blob ≡ Err fault) ↔ IsFirstFault blob fault }
 {}
 
-/// Bytes have one first fault at most, and a blob of a certificate has none.
+/// Bytes have at most one first fault, and a blob of a certificate has none.
 pub fn one_first_fault()
     ensures one { (blob : List ℕ) (a b : CertFault) → IsBytes blob
         → IsFirstFault blob a → IsFirstFault blob b → a ≡ b }
@@ -33,32 +32,32 @@ pub fn one_first_fault()
         → IsCertificate blob certificate → IsFirstFault blob fault → ⊥ }
 {}
 
-/// A blob is that of one certificate.
+/// A blob is the blob of one certificate.
 pub fn one_certificate()
     ensures { (blob : List ℕ) (a b : Cert)
         → IsCertificate blob a → IsCertificate blob b → a ≡ b }
 {}
 
-/// A blob of a certificate that is cut anywhere has the fault that a field is cut short.
+/// A blob of a certificate that is truncated anywhere has the fault that a field is truncated.
 pub fn cut_certificate()
     ensures { (blob front : List ℕ) (certificate : Cert) → IsBytes blob
         → IsCertificate blob certificate → IsCut front blob → HasCutFault front }
 {}
 
-/// Reading gives what is asked exactly where the bytes are those of a plain key or of a certificate
-/// of which it is asked.
+/// Reading gives a subject exactly where the bytes are those of a plain key or of a certificate
+/// with this subject.
 pub fn asked_where_spelled()
     ensures { (blob : List ℕ) (asked : Subject) → IsBytes blob
         → (subject_of blob ≡ Ok asked) ↔ IsSubject blob asked }
 {}
 
-/// Nothing is asked exactly where the bytes have a first fault.
+/// Bytes have no subject exactly where they have a first fault.
 pub fn not_asked_by_first_fault()
     ensures { (blob : List ℕ) (fault : SubjectFault) → IsBytes blob
         → (subject_of blob ≡ Err fault) ↔ IsSubjectFault blob fault }
 {}
 
-/// One thing is asked of a blob.
+/// A blob has one subject.
 pub fn one_subject()
     ensures { (blob : List ℕ) (a b : Subject) → IsSubject blob a → IsSubject blob b → a ≡ b }
 {}

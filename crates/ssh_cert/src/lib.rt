@@ -1,4 +1,4 @@
-//! Certificates (PROTOCOL.certkeys), and what a revocation list is asked about a key.
+//! Certificates (PROTOCOL.certkeys), and the subject of a query of a revocation list.
 #![tactic(auto)]
 
 mod any_key;

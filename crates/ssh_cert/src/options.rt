@@ -6,13 +6,13 @@ ghost use Rattle.ssh_cert.specs.CertReading.{options_of};
 use crate::strings::{Strings, count_of, strings_in};
 use std::marker::Model;
 
-/// A critical option or an extension of a certificate: its name and its data, neither of which need
-/// be text.
+/// A critical option or an extension of a certificate: its name and its data. Neither need be text.
 #[derive(Drop)]
 pub struct CertOption<'a> {
     /// The name.
     pub name: &'a [u8],
-    /// The data. Of an option with a text it is the text's string; else it is mostly empty.
+    /// The data. For an option with a text it is the string of the text; otherwise it is usually
+    /// empty.
     pub data: &'a [u8],
 }
 
@@ -24,8 +24,8 @@ impl<'a> Model for CertOption<'a> {
     ghost view = { λ option. record { name = option.name.now; content = option.data.now } };
 }
 
-/// The critical options or the extensions of a certificate: an iterator, which lends each from the
-/// blob, in the order in which they come.
+/// The critical options or the extensions of a certificate: an iterator that borrows each from the
+/// blob, in order.
 #[derive(Drop)]
 pub struct Options<'a> {
     parts: Strings<'a>,
@@ -59,7 +59,7 @@ impl<'a> Iterator for Options<'a> {
 }
 
 impl<'a> Options<'a> {
-    // The same options, from the same one on.
+    // The same options, from the current one on.
     pub(crate) fn again(&self) -> Options<'a>
         ensures { result ≡ self.now }
     {
@@ -69,7 +69,7 @@ impl<'a> Options<'a> {
     }
 }
 
-/// The options whose strings fill the bytes, if some do.
+/// The options whose strings fill the bytes, if the bytes are such strings.
 pub fn options_in<'a>(bytes: &'a [u8]) -> Option<Options<'a>>
     ensures { result ≡ options_of bytes.entry.now }
 {

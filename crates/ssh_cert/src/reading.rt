@@ -76,15 +76,15 @@ struct Numbered<'a> {
     naming: Naming<'a>,
 }
 
-/// The certificate that a blob spells (PROTOCOL.certkeys): its fields in their order, and nothing
-/// more. The plain key and the signature key are plain keys as `read_key` knows them. Takes no
-/// memory: every part is lent from the blob. The signature is not checked.
+/// The certificate that a blob spells (PROTOCOL.certkeys): its fields in order, and nothing more.
+/// The plain key and the signature key are plain keys as `read_key` reads them. Does not allocate:
+/// every part is borrowed from the blob. The signature is not checked.
 ///
-/// Of several faults the first is reported, in the order in which the fields come, and `Trailing`
+/// If there are several faults, the first is reported, in the order of the fields, and `Trailing`
 /// last.
 #[tactic(auto, unfolding(crate::specs::CertReading::certificate_at))]
 pub fn read_cert<'a>(blob: &'a [u8]) -> Result<Cert<'a>, CertFault>
-    // The certificate that is spelled (`laws::read_where_spelled`), else the first fault
+    // The certificate that is spelled (`laws::read_where_spelled`), otherwise the first fault
     // (`laws::refused_by_first_fault`).
     ensures exact { result ≡ certificate_at blob.now }
 {
@@ -117,7 +117,7 @@ fn read_body<'a>(kind: Kind, cursor: &mut Cursor<'a>) -> Result<Cert<'a>, CertFa
     Ok(of_fields(nonce, key, numbered))
 }
 
-// The certificate of its fields.
+// The certificate with these fields.
 fn of_fields<'a>(nonce: &'a [u8], key: PublicKey<'a>, numbered: Numbered<'a>) -> Cert<'a>
     ensures { result ≡ of_fields nonce.entry.now key.entry numbered.entry }
 {
@@ -220,7 +220,7 @@ fn read_number(cursor: &mut Cursor) -> Result<u64, CertFault>
     Ok(cursor.u64()?)
 }
 
-// What the certificate is for.
+// The role: a user's or a host's certificate.
 #[tactic(auto, unfolding(crate::specs::CertReading::field_at))]
 fn read_role(cursor: &mut Cursor) -> Result<Role, CertFault>
     ensures { Gives (λ role. role) result cursor.new (field_at RoleField cursor.old) }
@@ -263,7 +263,7 @@ fn read_authority<'a>(cursor: &mut Cursor<'a>) -> Result<Authority<'a>, CertFaul
     }
 }
 
-// The signature, of which the name of its algorithm is read.
+// The signature. Only the name of its algorithm is read.
 #[tactic(auto, unfolding(crate::specs::CertReading::field_at))]
 fn read_signature<'a>(cursor: &mut Cursor<'a>) -> Result<Signature<'a>, CertFault>
     ensures { Gives (λ signature. signature) result cursor.new

@@ -1,10 +1,10 @@
-//! What a certificate is for.
+//! The role of a certificate.
 
-/// What a certificate is for.
+/// Whether a certificate is for a user or a host.
 #[derive(Clone, Copy, PartialEq, Eq)]
 pub enum Role {
-    /// It names a user.
+    /// It is for a user.
     User,
-    /// It names a host.
+    /// It is for a host.
     Host,
 }

@@ -1,4 +1,4 @@
-//! Strings that fill bytes, one after the other.
+//! Strings that fill bytes, one after another.
 
 ghost use Rattle.std.specs.Prelude.{◌≡◌, length};
 ghost use Rattle.std.specs.Option.{option_map};
@@ -7,7 +7,7 @@ ghost use Rattle.ssh_cert.specs.Strings.{strings_of};
 use ssh_wire::Cursor;
 use std::marker::Model;
 
-/// Strings that fill bytes, one after the other (RFC 4251 section 5): an iterator, which lends each
+/// Strings that fill bytes, one after another (RFC 4251 section 5): an iterator that borrows each
 /// from the bytes.
 #[derive(Drop)]
 pub struct Strings<'a> {
@@ -40,7 +40,7 @@ impl<'a> Iterator for Strings<'a> {
 }
 
 impl<'a> Strings<'a> {
-    // The same strings, from the same one on.
+    // The same strings, from the current one on.
     pub(crate) fn again(&self) -> Strings<'a>
         ensures { result ≡ self.now }
     {
@@ -50,7 +50,7 @@ impl<'a> Strings<'a> {
     }
 }
 
-/// The strings that fill the bytes, if some do.
+/// The strings that fill the bytes, if the bytes are such strings.
 pub fn strings_in<'a>(bytes: &'a [u8]) -> Option<Strings<'a>>
     ensures { result ≡ strings_of bytes.entry.now }
 {
@@ -60,7 +60,7 @@ pub fn strings_in<'a>(bytes: &'a [u8]) -> Option<Strings<'a>>
     })
 }
 
-/// How many strings fill the bytes, if some do.
+/// How many strings fill the bytes, if the bytes are such strings.
 pub fn count_of(bytes: &[u8]) -> Option<usize>
     ensures { result ≡ option_map length (strings_of bytes.now) }
 {

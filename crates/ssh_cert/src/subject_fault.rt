@@ -1,4 +1,4 @@
-//! Why a revocation list cannot be asked about a blob.
+//! Why a blob has no subject.
 
 ghost use Rattle.std.specs.Prelude.{◌≡◌, Some};
 ghost use Rattle.ssh_cert.specs.SubjectFault.{subject_fault_number, subject_fault_text};
@@ -10,15 +10,15 @@ use std::alloc::AllocError;
 use std::error::Error;
 use std::fmt;
 
-/// Why a revocation list cannot be asked about a blob. It prints as `subject`, its number and its
+/// Why a revocation list cannot be queried for a blob. It prints as `subject`, its number and its
 /// name; after `Key` and `Cert` comes the fault of the key or of the certificate.
 #[derive(Clone, Copy, Debug, PartialEq, Eq)]
 pub enum SubjectFault {
-    /// Its first string is not the type name of a certificate, and it is no plain key.
+    /// Its first string is not the type name of a certificate, and it is not a plain key.
     Key(KeyFault),
-    /// Its first string is the type name of a certificate, and it is none.
+    /// Its first string is the type name of a certificate, but it is not a certificate.
     Cert(CertFault),
-    /// No memory was left for the plain key.
+    /// The allocation for the plain key failed.
     NoMemory,
 }
 

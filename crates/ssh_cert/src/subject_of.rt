@@ -1,4 +1,4 @@
-//! What is asked about a blob.
+//! The subject of a blob.
 
 ghost use Rattle.std.specs.Prelude.{◌≡◌, IfErr, IfOk, Ok};
 ghost use Rattle.krl_types.specs.Subject.{Subject};
@@ -9,24 +9,24 @@ use crate::subject_fault::SubjectFault;
 use krl_types::Subject;
 use std::alloc::Global;
 
-/// What a revocation list is asked about a blob (ssh-keygen(1), KEY REVOCATION LISTS): of a plain
-/// key the blob, and of a certificate the blob of its plain key, its serial number, its key ID and
-/// its authority's blob. A blob whose first string is the type name of a certificate is read as a
-/// certificate, any other as a plain key.
+/// The subject of a blob, for a query of a revocation list (ssh-keygen(1), KEY REVOCATION LISTS):
+/// for a plain key the blob, and for a certificate the blob of its plain key, its serial number,
+/// its key ID and the blob of its certificate authority. A blob whose first string is the type name
+/// of a certificate is read as a certificate, any other as a plain key.
 pub fn subject<'a>(alloc: Global, blob: &'a [u8]) -> Result<Subject<'a>, SubjectFault>
-    // What is asked is that of a plain key or of a certificate.
+    // The subject is that of a plain key or of a certificate.
     ensures found { IfOk result (λ asked. IsSubject blob.now asked) }
-    // What is asked of a plain key or of a certificate is answered, unless memory runs out.
+    // Each plain key and certificate gives its subject, unless an allocation fails.
     ensures only { (asked : Subject) → IsSubject blob.now asked → AnswersSubject result (Ok asked) }
-    // The fault is the first one, or memory ran out.
+    // The fault is the first one, or an allocation failed.
     ensures fault { IfErr result (λ fault. IsReportedFault blob.now fault) }
-    // The same, for those who compute with the answer.
+    // The same as a function, for callers that compute with the result.
     ensures exact { AnswersSubject result (subject_of blob.now) }
 {
     asked(alloc, blob)
 }
 
-// What is asked about a blob, by what it is read as.
+// The subject of a blob, by what it is read as.
 fn asked<'a>(alloc: Global, blob: &'a [u8]) -> Result<Subject<'a>, SubjectFault>
     ensures { AnswersSubject result (subject_of blob.now) }
 {

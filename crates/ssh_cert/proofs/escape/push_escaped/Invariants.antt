@@ -1,4 +1,4 @@
--- The bytes so far stand escaped.
+-- The bytes so far were appended, escaped.
 use Rattle.std.proofs.Common.{◌≡◌, ◌++◌, take}
 use Rattle.std.specs.List.{flat_map}
 use Rattle.ssh_cert.specs.Escape.{escaped_byte}

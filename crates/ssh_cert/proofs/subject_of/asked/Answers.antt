@@ -1,4 +1,4 @@
--- What is read is asked, or the first fault is met.
+-- The key or the certificate that was read gives the subject, or the first fault is met.
 use Rattle.std.proofs.lemmas.Result.{err_from_is_err_and}
 use Rattle.ssh_cert.proofs.Asked.{nothing_asked}
 use Rattle.ssh_cert.proofs.subject_of.asked.Goals as goal
