@@ -50,11 +50,11 @@ authority_value hash certificate =
 abbrev pub id_value : List ℕ → List ℕ
 id_value id = codes "\"" ++ (escaped id ++ codes "\"")
 
--- the greatest number of eight bytes, which stands for no end
+-- the greatest number of eight bytes, which means no end
 abbrev pub endless : ℕ
 endless = 2 ^ 64 - 1
 
--- The time between two instants, by their texts.
+-- The time between two instants, given by their texts.
 abbrev pub period_of : ℕ → ℕ → List ℕ → List ℕ → List ℕ
 period_of after before after_text before_text =
     if after == 0
@@ -71,7 +71,7 @@ valid_value certificate moment =
 abbrev pub has_text : List ℕ → Bool
 has_text name = bytes_eq name (codes "force-command") || bytes_eq name (codes "source-address")
 
--- the data as text, where it is just one string
+-- the data as text, if it is exactly one string
 abbrev pub string_or_hex : List ℕ → Result (List ℕ × List ℕ) WireFault → List ℕ
 string_or_hex content (Ok (text, [])) = codes " " ++ escaped text
 string_or_hex content (Ok (text, byte ∷ rest)) = codes " hex:" ++ encode_lower content
@@ -92,7 +92,7 @@ valid_period certificate =
     period_of certificate.after certificate.before
     (instant_text certificate.after) (instant_text certificate.before)
 
--- The text is the time in which the certificate is valid, by some texts of its two instants.
+-- The text is the time in which the certificate is valid, with given texts of its two instants.
 pub record IsPeriod (certificate : Cert) (text : List ℕ) : Type 0 where
   pub after : List ℕ
   pub before : List ℕ
@@ -100,7 +100,7 @@ pub record IsPeriod (certificate : Cert) (text : List ℕ) : Type 0 where
   pub before_is : IsTimeText certificate.before before
   pub period : text ≡ period_of certificate.after certificate.before after before
 
--- the lines in their order, in three parts
+-- the lines in order, in three parts
 unfoldable pub identity_text : Hash → Cert → List ℕ
 identity_text hash certificate =
     line (codes "Type") (type_value certificate)
@@ -125,12 +125,12 @@ listing_text hash certificate moment period =
     identity_text hash certificate
     ++ (terms_text certificate moment period ++ lists_text certificate)
 
--- The listing of the certificate at the moment, with the fingerprints by the hash.
+-- The listing of the certificate at the moment, with fingerprints by this hash.
 unfoldable pub listing_of : Hash → Cert → ℕ → List ℕ
 listing_of hash certificate moment =
     listing_text hash certificate moment (valid_period certificate)
 
--- The text lists the certificate at the moment, with the fingerprints by the hash.
+-- The text lists the certificate at the moment, with fingerprints by this hash.
 pub record IsListing (hash : Hash) (certificate : Cert) (moment : ℕ) (text : List ℕ)
     : Type 0 where
   pub period : List ℕ

@@ -7,16 +7,16 @@ use Rattle.jiff.specs.Types.{DateTime}
 abbrev pub year_9999 : ℕ
 year_9999 = 253_370_764_800
 
--- Days from 1 January of a year on: the year in which they end, and how many are left for it.
--- Each step takes off one year.
+-- The year that is reached some days after 1 January of a year, and how many of the days are in it.
+-- Each step subtracts one year.
 unfoldable pub year_at : ℕ → ℕ → ℕ → ℕ × ℕ
 year_at zero year days = (year, days)
 year_at (suc steps) year days =
     if nat_lt days (days_in_year (pos year)) then (year, days)
     else year_at steps (year + 1) (days - days_in_year (pos year))
 
--- Days from the first of a month of this year on: the month in which they end, and how many are
--- left for it. Each step takes off one month.
+-- The month that is reached some days after the first of a month of this year, and how many of the
+-- days are in it. Each step subtracts one month.
 unfoldable pub month_at : ℕ → ℕ → ℕ → ℕ → ℕ × ℕ
 month_at year zero month days = (month, days)
 month_at year (suc steps) month days =
@@ -27,25 +27,25 @@ month_at year (suc steps) month days =
 abbrev pub two_digits : ℕ → List ℕ
 two_digits n = (48 + n / 10) ∷ (48 + n % 10) ∷ []
 
--- `1970-01-01`, by a year, a month, and how many days of the month have passed
+-- `1970-01-01`, given a year, a month, and how many days of the month have passed
 unfoldable pub date_digits : ℕ → ℕ × ℕ → List ℕ
 date_digits year (month, passed) =
     two_digits (year / 100) ++ (two_digits (year % 100) ++ (codes "-"
     ++ (two_digits month ++ (codes "-" ++ two_digits (passed + 1)))))
 
--- the date this many days from the first of 1970 on
+-- the date this many days after the first of 1970
 unfoldable pub day_text : ℕ → List ℕ
 day_text days =
     let year = year_at days 1970 days in
     date_digits year.0 (month_at year.0 11 1 year.1)
 
--- `00:00:00`, by the seconds of a day
+-- `00:00:00`, given the seconds of a day
 unfoldable pub clock_text : ℕ → List ℕ
 clock_text seconds =
     two_digits (seconds / 3_600) ++ (codes ":"
     ++ (two_digits (seconds / 60 % 60) ++ (codes ":" ++ two_digits (seconds % 60))))
 
--- The text of an instant, by its seconds from the first of 1970 on.
+-- The text of an instant, given in seconds since the first of 1970.
 unfoldable pub instant_text : ℕ → List ℕ
 instant_text seconds =
     if nat_lt seconds year_9999
@@ -53,7 +53,7 @@ instant_text seconds =
     ++ (codes "T" ++ (clock_text (seconds % 86_400) ++ codes "Z"))
     else codes "@" ++ decimal seconds
 
--- The text is the date and the time of day, in UTC, at this many seconds from the first of 1970 on.
+-- The text is the date and the time of day, in UTC, this many seconds after the first of 1970.
 pub record IsDateText (seconds : ℕ) (text : List ℕ) : Type 0 where
   pub datetime : DateTime
   pub instant : civil_nanos datetime ≡ pos seconds *ℤ pos 1_000_000_000

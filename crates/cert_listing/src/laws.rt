@@ -1,4 +1,4 @@
-//! What holds for every instant and every certificate, each as the contract of a function that does
+//! Laws about every instant and every certificate, each as the contract of a function that does
 //! nothing. `time_text` and `list_cert` write the text of an instant and the listing.
 
 ghost use Rattle.std.specs.Prelude.{◌≡◌, ◌↔◌, ℕ, List};

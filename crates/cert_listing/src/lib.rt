@@ -1,4 +1,4 @@
-//! How a certificate is listed (ssh-keygen(1), option -L), and how an instant is printed.
+//! The listing of a certificate (ssh-keygen(1), option -L), and the text of an instant.
 #![tactic(auto)]
 
 pub mod laws;

@@ -47,7 +47,7 @@ fn push_item(out: &mut Vec<u8>, text: &[u8]) -> Result<(), AllocError>
     Ok(())
 }
 
-// The type name, and for whom the certificate is.
+// The type name, and whether the certificate is for a user or a host.
 fn type_value(alloc: Global, cert: &Cert) -> Result<Vec<u8>, AllocError>
     ensures { IfOk result (λ text. text.items ≡ type_value cert.now) }
 {
@@ -68,7 +68,7 @@ fn both(alloc: Global, first: &[u8], second: &[u8]) -> Result<Vec<u8>, AllocErro
     Ok(text)
 }
 
-// Three texts, one after the other.
+// Three texts, one after another.
 fn joined(alloc: Global, first: &[u8], second: &[u8], third: &[u8]) -> Result<Vec<u8>, AllocError>
     ensures { IfOk result (λ text. text.items ≡ first.now ++ (second.now ++ third.now)) }
 {
@@ -96,7 +96,8 @@ fn push_algorithm(out: &mut Vec<u8>, algorithm: &[u8]) -> Result<(), AllocError>
     out.extend_from_slice(b")")
 }
 
-// The short name and the fingerprint of the authority, and the algorithm of its signature.
+// The short name and the fingerprint of the certificate authority, and the algorithm of its
+// signature.
 fn authority_value(alloc: Global, hash: Hash, cert: &Cert) -> Result<Vec<u8>, AllocError>
     ensures { IfOk result (λ text. text.items ≡ authority_value hash cert.now) }
 {
@@ -126,7 +127,7 @@ fn escaped_text(alloc: Global, bytes: &[u8]) -> Result<Vec<u8>, AllocError>
     Ok(text)
 }
 
-// Whether the certificate is valid at a moment, as it is printed.
+// The printed value for whether the certificate is valid at a moment.
 fn valid_value(cert: &Cert, moment: u64) -> &'static [u8]
     ensures { result.now ≡ valid_value cert.now moment }
 {
@@ -137,8 +138,8 @@ fn valid_value(cert: &Cert, moment: u64) -> &'static [u8]
     }
 }
 
-// The data of an option as it is printed after its name: nothing where it is empty, the text of
-// the options that have one, and else its hexadecimal digits.
+// The data of an option as it is printed after the name: nothing if it is empty, the text for
+// options that have one, and otherwise its hexadecimal digits.
 #[tactic(auto, unfolding(crate::specs::Listing::data_text))]
 fn push_data(
     alloc: Global,
@@ -164,7 +165,7 @@ fn has_text(name: &[u8]) -> bool
     name == b"force-command".as_slice() || name == b"source-address".as_slice()
 }
 
-// The text of the data where it is just one string, else its hexadecimal digits.
+// Appends the text of the data if it is exactly one string, otherwise its hexadecimal digits.
 fn push_text_or_hex(alloc: Global, out: &mut Vec<u8>, content: &[u8]) -> Result<(), AllocError>
     ensures { OnOk result (out.new.items
         ≡ out.old.items ++ string_or_hex content.now (string_at content.now)) }
@@ -257,7 +258,7 @@ fn push_options<'a>(
     Ok(())
 }
 
-// The time between two instants, by their texts.
+// The time between two instants, given by their texts.
 fn period_text(
     alloc: Global,
     after: u64,
@@ -299,7 +300,7 @@ fn period(alloc: Global, cert: &Cert) -> Result<Vec<u8>, AllocError>
     period_text(alloc, cert.after(), cert.before(), &after, &before)
 }
 
-// What the certificate is, and whose.
+// The lines for the type, the key and the certificate authority.
 #[tactic(auto, unfolding(crate::specs::Listing::identity_text))]
 fn push_identity(
     alloc: Global,
@@ -346,7 +347,7 @@ fn push_authority(
     push_line(out, b"Signing CA", &value)
 }
 
-// How the certificate is named, and when it is valid.
+// The lines for the key ID, the serial and the validity.
 #[tactic(auto, unfolding(crate::specs::Listing::terms_text))]
 fn push_terms(
     alloc: Global,
@@ -382,7 +383,7 @@ fn push_serial(alloc: Global, out: &mut Vec<u8>, serial: u64) -> Result<(), Allo
     push_line(out, b"Serial", digits.as_bytes())
 }
 
-// For whom the certificate is valid, and for what.
+// The lines for the principals and the options.
 #[tactic(auto, unfolding(crate::specs::Listing::lists_text))]
 fn push_lists(alloc: Global, out: &mut Vec<u8>, cert: &Cert) -> Result<(), AllocError>
     ensures { OnOk result (out.new.items ≡ out.old.items ++ lists_text cert.now) }
@@ -392,7 +393,7 @@ fn push_lists(alloc: Global, out: &mut Vec<u8>, cert: &Cert) -> Result<(), Alloc
     push_options(alloc, out, b"Extensions", cert.extensions())
 }
 
-// The lines after the first one, with the time in which the certificate is valid.
+// The lines after the first one, given the text of the validity.
 fn listing(
     alloc: Global,
     cert: &Cert,
@@ -410,9 +411,9 @@ fn listing(
     Ok(text)
 }
 
-/// The listing of a certificate, in the lines after its first one, which names the file. The
-/// fingerprints are by this hash, the moment is in seconds from 1970 on, and what others wrote
-/// stands escaped. Fails only where memory runs out.
+/// The listing of a certificate: the lines after the first one, which names the file. The
+/// fingerprints are by this hash, the moment is in seconds since 1970, and text that others wrote
+/// is escaped. Fails only if an allocation fails.
 #[tactic(auto, unfolding(crate::specs::Listing::listing_of))]
 pub fn list_cert(alloc: Global, cert: &Cert, hash: Hash, moment: u64) -> Result<Vec<u8>, AllocError>
     ensures { IfOk result (λ text. text.items ≡ listing_of hash cert.now moment) }
