@@ -1,4 +1,4 @@
--- What is at the front of a list, and of each of its sections.
+-- The front of a list, and of each of its sections.
 use Rattle.std.proofs.Common.{◌≡◌, ℕ, ◌+◌, ◌^◌, ◌<◌, ◌≤◌, Bool, true, false, List, [], ◌∷◌, ◌++◌, length, take, drop, ◌-◌, refl, sym, ap, subst, ◌∙◌, arith, length-append, append_assoc}
 use Rattle.std.proofs.lemmas.Bool.{false≢true}
 use Rattle.std.proofs.lemmas.List.{append-nil}
@@ -54,7 +54,7 @@ length-fixed header flags =
     let v = number 8 header.version in let d = number 8 header.date in let f = number 8 flags in let four = number 4 1 in
     omega (arith, length-append magic (four ++ (v ++ (d ++ f))), length-append four (v ++ (d ++ f)), length-append v (d ++ f), length-append d f, length-number 4 1, length-number 8 header.version, length-number 8 header.date, length-number 8 flags)
 
--- behind them are two strings and the sections
+-- after them are two strings and the sections
 pub left_at : (list : List ℕ) (header : Header) (sections : List SpelledSection) (spells : Spells list header sections)
     → (36 ≤ length list) × (take (length list - 36) (drop 36 list) ≡ string spells.reserved ++ (string header.comment ++ spells.body))
 left_at list header sections spells =
@@ -75,7 +75,7 @@ type_of Signature = 4
 type_of (Sha256s hashes) = 5
 type_of Extension = 255
 
--- its type byte, a string, and what comes after that
+-- its type byte, a string, and the bytes after that
 pub record BeginsSo (section : SpelledSection) (first : List ℕ) : Type 0 where
   pub content : List ℕ
   pub after : List ℕ
@@ -98,7 +98,7 @@ begins_so Signature first is = record { content = is.key; after = string is.sign
 begins_so (Sha256s hashes) first is = of_content (Sha256s hashes) first is
 begins_so Extension first is = of_content Extension first is
 
--- what a string that is spelled gives: it, and the bytes after it
+-- reading a string that is spelled gives it and the bytes after it
 abbrev pub Takes : (from content left : List ℕ) → Type 0
 Takes from content left = (text rest : List ℕ) → from ≡ string text ++ rest → length text < 2 ^ 32 → (content ≡ text) × (left ≡ rest)
 
@@ -110,7 +110,7 @@ abbrev tail_of : List ℕ → List ℕ
 tail_of [] = []
 tail_of (byte ∷ bytes) = bytes
 
--- the type byte is that of the section, and its string comes next
+-- the type byte is that of the section, and its string is next
 pub front_is : (section : SpelledSection) (first rest old after : List ℕ) (byte : ℕ) (begins : BeginsSo section first) → old ≡ first ++ rest → old ≡ byte ∷ after
     → (byte ≡ type_of section) × (after ≡ string begins.content ++ (begins.after ++ rest))
 front_is section first rest old after byte begins parts front =
@@ -118,11 +118,11 @@ front_is section first rest old after byte begins parts front =
     let same : byte ∷ after ≡ type_of section ∷ (more ++ rest) = sym front ∙ parts ∙ ap (λ bytes. bytes ++ rest) begins.parts in
     (ap head_of same, ap tail_of same ∙ append_assoc (string begins.content) begins.after rest)
 
--- what stands at the front of a content that fits does too
+-- if a content fits, so does a string at its front
 front_fits : (authority more content : List ℕ) → content ≡ string authority ++ more → length content < 2 ^ 32 → length authority < 2 ^ 32
 front_fits authority more content parts fits = omega (arith, ap length parts, length-append (string authority) more, length-string authority)
 
--- a section of certificates, by its authority
+-- a section of certificates, judged by its authority
 pub judged_certificates : (section : SpelledSection) (first rest old after content left : List ℕ) (fine : Bool) → SpellsSection first section → old ≡ first ++ rest → old ≡ 1 ∷ after
     → Takes after content left → ((authority more : List ℕ) → content ≡ string authority ++ more → length authority < 2 ^ 32 → IsTrue fine ↔ IsKeyOrAll authority)
     → IsJudged section fine left rest
@@ -142,13 +142,13 @@ judged_certificates Extension first rest old after content left fine is parts fr
 
 -- ---- all sections
 
--- Some sections are left, and all of them have a fine authority exactly where all of the list's have.
+-- Some sections are left, and all of them have a valid authority exactly if all of the list's sections do.
 pub record Remains (sections : List SpelledSection) (left : List ℕ) : Type 0 where
   pub todo : List SpelledSection
   pub spelled : SpellsEach SpellsSection left todo
   pub same : AuthoritiesAreKeys todo ↔ AuthoritiesAreKeys sections
 
--- a section at the front was judged, and the bytes after it are left where it is fine
+-- a section at the front was judged, and the bytes after it are left if it is valid
 abbrev pub Judges : (old new : List ℕ) (fine : Bool) → Type 0
 Judges old new fine = (section : SpelledSection) (first rest : List ℕ) → SpellsSection first section → old ≡ first ++ rest → IsJudged section fine new rest
 

@@ -1,4 +1,4 @@
-//! Going over the sections of a list for their authorities.
+//! The walk over the sections of a list that checks their authorities.
 
 ghost use Rattle.std.specs.Prelude.{◌≡◌, ◌↔◌, ◌<◌, ◌≤◌, ◌^◌, ◌++◌, List, ℕ, IsTrue, MatchOption, length};
 ghost use Rattle.ssh_wire.specs.Wire.{string};
@@ -10,12 +10,12 @@ use ssh_key::laws::read_where_spelled;
 use ssh_key::read_key;
 use ssh_wire::Cursor;
 
-// The bytes of a list before the two strings of its header.
+// The length of a list's header before its two strings, in bytes.
 const FIXED: usize = 36;
 
-/// Whether each certificate authority that a list names is a key in its one spelling, or no bytes,
-/// for all authorities. The list is one that can be read; of other bytes nothing is said. Takes no
-/// memory.
+/// Whether each certificate authority that a list names is a key in its one spelling, or empty,
+/// which means all authorities. The list must be one that can be read; for other bytes nothing is
+/// promised. Does not allocate.
 pub fn authorities_are_keys(list: &[u8]) -> bool
     ensures { (header : HeaderOf) (sections : List SpelledSection)
         → Spells list.now header sections → IsTrue result ↔ AuthoritiesAreKeys sections }
@@ -32,7 +32,7 @@ pub fn authorities_are_keys(list: &[u8]) -> bool
     true
 }
 
-/// Whether an authority is a key in its one spelling, or no bytes. Takes no memory.
+/// Whether an authority is a key in its one spelling, or empty. Does not allocate.
 pub fn is_key_or_all(authority: &[u8]) -> bool
     ensures { IsTrue result ↔ IsKeyOrAll authority.now }
 {
@@ -46,7 +46,7 @@ pub fn is_key_or_all(authority: &[u8]) -> bool
     }
 }
 
-// The bytes behind the header.
+// The bytes after the header.
 fn past_header(list: &[u8]) -> Option<&[u8]>
     ensures { (header : HeaderOf) (sections : List SpelledSection)
         (spells : Spells list.now header sections)
@@ -65,7 +65,7 @@ fn past_header(list: &[u8]) -> Option<&[u8]>
     Some(left.rest())
 }
 
-// Goes past a section, and says whether its authority is a key or none, if it has one.
+// Skips a section, and returns whether its authority, if it has one, is a key or empty.
 fn section_is_fine<'a>(left: &mut Cursor<'a>) -> bool
     ensures goes_on { IsTrue result → length left.new < length left.old }
     ensures judged { (section : SpelledSection) (first rest : List ℕ)
@@ -86,7 +86,7 @@ fn section_is_fine<'a>(left: &mut Cursor<'a>) -> bool
     }
 }
 
-// Whether the content of a section of certificates begins with a key or with no authority.
+// Whether the content of a section of certificates begins with a key or with an empty authority.
 fn begins_with_key(content: &[u8]) -> bool
     ensures { (authority rest : List ℕ) → content.now ≡ string authority ++ rest
         → length authority < 2 ^ 32 → IsTrue result ↔ IsKeyOrAll authority }
@@ -97,7 +97,7 @@ fn begins_with_key(content: &[u8]) -> bool
     }
 }
 
-// Goes past the string at the front, if there is one.
+// Skips the string at the front, if there is one.
 fn skips_string(left: &mut Cursor) -> bool
     ensures shorter { length left.new ≤ length left.old }
     ensures text { (text rest : List ℕ) → left.old ≡ string text ++ rest → length text < 2 ^ 32

@@ -1,4 +1,4 @@
--- Section by section.
+-- One section after another.
 use Rattle.std.proofs.Common.{refl, sym, subst, ◌∙◌}
 use Rattle.std.proofs.lemmas.Bool.{false≢true}
 use Rattle.krl_core.specs.Krl.{SpellsEach, SpellsSection}

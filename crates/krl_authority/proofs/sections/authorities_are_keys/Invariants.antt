@@ -4,7 +4,7 @@ use Rattle.krl_core.specs.declared.header.Header.{Header}
 use Rattle.krl_authority.proofs.Spelled.{Remains}
 use Rattle.krl_authority.proofs.sections.authorities_are_keys.Given as goal
 
--- what is left are sections, and all is well with them exactly where it is with all
+-- the sections that are left are valid exactly if all sections are
 abbrev pub invariant-loop-left : goal.invariant-loop-left
 invariant-loop-left l = (header : Header) (sections : List SpelledSection) → Spells l.list header sections → Remains sections l.left
 

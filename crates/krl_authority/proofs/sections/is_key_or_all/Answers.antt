@@ -1,4 +1,4 @@
--- What is no key and has some bytes is neither.
+-- Bytes that are not empty and not a key are neither.
 use Rattle.std.proofs.Common.{inl, inr, ap, sym, ◌∙◌, length}
 use Rattle.std.specs.Prelude.{◌==◌}
 use Rattle.std.proofs.lemmas.Bool.{false≢true}

@@ -1,4 +1,4 @@
--- The fixed fields and two strings stand before the sections.
+-- The fixed fields and two strings are before the sections.
 use Rattle.std.proofs.Common.{◌++◌, ◌∙◌, arith}
 use Rattle.ssh_wire.specs.Wire.{string}
 use Rattle.krl_authority.proofs.Spelled.{left_at}
