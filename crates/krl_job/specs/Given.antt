@@ -1,9 +1,9 @@
--- What words hold of the options (ssh-keygen(1), SYNOPSIS).
+-- The options on a parsed command line (ssh-keygen(1), SYNOPSIS).
 use Rattle.std.specs.Prelude.{ℕ, Bool, List, Option, map, option_map}
 use Rattle.krl_job.specs.declared.given.Given.{Given as GivenOf}
 
--- What words hold: which of the options without a value are given, the values of the others, and
--- the files.
+-- A parsed command line: which of the options without a value are given, the values of the others,
+-- and the files.
 pub record Given : Type 0 where
   pub list : Bool
   pub certificates : Bool
@@ -16,7 +16,7 @@ pub record Given : Type 0 where
   pub version : Option (List ℕ)
   pub files : List (List ℕ)
 
--- the same, as the program keeps it
+-- the same, as the program stores it
 abbrev pub given_by : GivenOf → Given
 given_by given = record {
   list = given.list;

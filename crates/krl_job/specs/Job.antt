@@ -1,4 +1,4 @@
--- The job that words ask for by what they hold of the options (ssh-keygen(1), SYNOPSIS).
+-- The job that the options of a command line ask for (ssh-keygen(1), SYNOPSIS).
 use Rattle.std.specs.Prelude.{ℕ, ◌^◌, ◌==◌, ◌&&◌, ◌||◌, not, Bool, true, false, nat_le, nat_lt}
 use Rattle.std.specs.Prelude.{if◌then◌else◌, List, length, map, Option, None, Some, is_some}
 use Rattle.std.specs.Prelude.{option_and_then, option_map, codes}
@@ -33,7 +33,7 @@ authority_of NotGiven = NotGiven
 authority_of All = All
 authority_of (File name) = File name.now
 
--- what a job asks for
+-- the model of a job
 abbrev pub asked_of : Job → Asked
 asked_of job = record {
   mode = job.mode;
@@ -54,7 +54,7 @@ hash_called text =
     else if str_eq_ignore_ascii_case text (codes "sha256") then Some Sha256
     else None
 
--- SHA-256 where no hash is named
+-- SHA-256 if no hash is named
 abbrev pub hash_named : Option (List ℕ) → Option Hash
 hash_named None = Some Sha256
 hash_named (Some text) = hash_called text
@@ -89,7 +89,7 @@ mode_by false false true false = Some Make
 mode_by list false false true = Some Query
 mode_by list certificates make query = None
 
--- an option of -k alone
+-- an option that belongs to -k alone
 abbrev pub is_for_making : Given → Bool
 is_for_making given = given.update || (is_some given.authority || is_some given.version)
 
@@ -107,7 +107,7 @@ is_query mode = false
 abbrev pub where_fit : Given → Mode → Option Mode
 where_fit given mode = if fits mode given then Some mode else None
 
--- the mode, where the options go together
+-- the mode, if the options go together
 abbrev pub mode_of : Given → Option Mode
 mode_of given = option_and_then (where_fit given)
     (mode_by given.list given.certificates given.make given.query)
@@ -126,8 +126,8 @@ job_with given (Some mode) (Some file) (Some hash) (Some version) = Some (record
 })
 job_with given mode file hash version = None
 
--- The job that words ask for: none where the options do not go together, -f is missing, or the
--- value of -E or -z is none of theirs.
+-- The job of a command line: none if the options do not go together, -f is missing, or the value of
+-- -E or -z is not valid.
 unfoldable pub job_of : Given → Option Asked
 job_of given =
     job_with given (mode_of given) given.file (hash_named given.hash) (version_named given.version)

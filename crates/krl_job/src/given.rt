@@ -1,7 +1,7 @@
-//! What words hold of the options.
+//! The options on a parsed command line.
 
-/// What words hold: which of the options without a value are given, the values of the others, and
-/// the files.
+/// A parsed command line: which of the options without a value are given, the values of the others,
+/// and the files.
 #[derive(Drop)]
 pub struct Given<'a> {
     /// Whether `-l` is given.

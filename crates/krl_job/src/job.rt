@@ -1,4 +1,4 @@
-//! The job that words ask for (ssh-keygen(1), SYNOPSIS).
+//! The job that the options of a command line ask for (ssh-keygen(1), SYNOPSIS).
 
 ghost use Rattle.std.specs.Prelude.{◌≡◌, option_map};
 ghost use Rattle.std.specs.Char.{is_ascii_digit};
@@ -9,10 +9,10 @@ ghost use Rattle.krl_job.specs.Job.{asked_of, authority_named, authority_of, fit
 use crate::given::Given;
 use key_text::Hash;
 
-// How many digits a number has at most.
+// The maximum number of digits of a number.
 const MOST_DIGITS: usize = 20;
 
-/// What a run of the program does.
+/// The task of a run of the program.
 #[derive(Clone, Copy, PartialEq, Eq)]
 pub enum Mode {
     /// Lists the keys of a file.
@@ -21,44 +21,45 @@ pub enum Mode {
     Certs,
     /// Makes a list.
     Make,
-    /// Asks a list about the keys of files.
+    /// Queries a list for the keys of files.
     Query,
 }
 
-/// What `-s` gives: under which authority a list that is made names serials and key IDs.
+/// The value of `-s`: the certificate authority whose serials and key IDs a new list names.
 #[derive(Drop)]
 pub enum Authority<T> {
     /// `-s` is not given.
     NotGiven,
     /// All authorities.
     All,
-    /// That of the first key of a file: by the file's name, then by the file.
+    /// The authority of the first key in a file, given as the file's name and later as the open
+    /// file.
     File(T),
 }
 
-/// What the words of the command ask for.
+/// The job that the options ask for.
 #[derive(Drop)]
 pub struct Job<'a> {
-    /// What the run does.
+    /// The task of the run.
     pub mode: Mode,
     /// The file of `-f`.
     pub file: &'a str,
-    /// Whether the list that is made adds to the one that there is.
+    /// Whether the list is updated instead of created.
     pub update: bool,
     /// The authority of `-s`.
     pub authority: Authority<&'a str>,
     /// The version of `-z`.
     pub version: Option<u64>,
-    /// Whether the contents of the list are printed.
+    /// Whether the content of the list is printed.
     pub dump: bool,
-    /// How fingerprints are printed.
+    /// The hash of printed fingerprints.
     pub hash: Hash,
     /// The files that follow the options.
     pub files: Vec<&'a str>,
 }
 
-/// The job that words ask for by what they hold: none where the options do not go together, `-f` is
-/// missing, or the value of `-E` or `-z` is none of theirs.
+/// The job of a command line: none if the options do not go together, `-f` is missing, or the value
+/// of `-E` or `-z` is not valid.
 #[tactic(auto, unfolding(crate::specs::Job::job_of))]
 pub fn job_of<'a>(given: Given<'a>) -> Option<Job<'a>>
     ensures { option_map asked_of result ≡ job_of (given_by given.entry) }
@@ -79,7 +80,7 @@ pub fn job_of<'a>(given: Given<'a>) -> Option<Job<'a>>
     })
 }
 
-// The mode, where the options go together.
+// The mode, if the options go together.
 fn mode_of(given: &Given) -> Option<Mode>
     ensures { result ≡ mode_of (given_by given.now) }
 {
@@ -104,14 +105,14 @@ fn fits(mode: Mode, given: &Given) -> bool
     }
 }
 
-// Whether some option is for making lists alone.
+// Whether there is an option that is only for making lists.
 fn is_for_making(given: &Given) -> bool
     ensures { result ≡ is_for_making (given_by given.now) }
 {
     given.update || given.authority.is_some() || given.version.is_some()
 }
 
-// The hash of `-E`, SHA-256 where it is not given. None where no hash has the name.
+// The hash of `-E`, SHA-256 if it is not given. None if no hash has this name.
 fn hash_named(name: Option<&str>) -> Option<Hash>
     ensures { result ≡ hash_named (option_map (λ text. text.now) name.entry) }
 {
@@ -121,7 +122,7 @@ fn hash_named(name: Option<&str>) -> Option<Hash>
     }
 }
 
-// The hash of this name, in either case.
+// The hash with this name, in upper or lower case.
 fn hash_called(name: &str) -> Option<Hash>
     ensures { result ≡ hash_called name.now }
 {
@@ -134,7 +135,7 @@ fn hash_called(name: &str) -> Option<Hash>
     }
 }
 
-// The version that is asked for, if one is: none at all where the text is no version.
+// The version of `-z`, if it is given. The outer option is `None` if the text is not a version.
 fn version_named(text: Option<&str>) -> Option<Option<u64>>
     ensures { result ≡ version_named (option_map (λ text. text.now) text.entry) }
 {
@@ -144,7 +145,7 @@ fn version_named(text: Option<&str>) -> Option<Option<u64>>
     }
 }
 
-/// The number that a text of one to twenty decimal digits is, if it is below 2^64.
+/// The number of a text of one to twenty decimal digits, if it is below 2^64.
 pub fn number_of(text: &str) -> Option<u64>
     ensures { result ≡ number_of text.now }
 {
@@ -164,7 +165,7 @@ fn are_digits(bytes: &[u8]) -> bool
     bytes.iter().all(|byte| byte.is_ascii_digit())
 }
 
-// The authority of `-s`: none is given, `none` means all, else a file.
+// The authority of `-s`, if it is given: `none` means all, any other value is a file.
 fn authority_named(name: Option<&str>) -> Authority<&str>
     ensures { authority_of result ≡ authority_named (option_map (λ text. text.now) name.entry) }
 {

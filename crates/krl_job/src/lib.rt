@@ -1,4 +1,4 @@
-//! The job that options ask for, or that they ask for none (ssh-keygen(1), SYNOPSIS).
+//! The job that options ask for, if they ask for one (ssh-keygen(1), SYNOPSIS).
 #![tactic(auto)]
 
 mod given;

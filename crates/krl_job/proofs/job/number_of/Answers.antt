@@ -1,4 +1,4 @@
--- The text is short and has digits alone, and its number is read, or not.
+-- The text is short and has only digits, and its number fits or does not.
 use Rattle.std.proofs.Common.{◌∙◌, ◌≤◌, arith, length, sym}
 use Rattle.krl_job.proofs.Numbers.{no_digits, not_parsed, is_read, too_long}
 use Rattle.krl_job.proofs.job.number_of.Goals as goal
